@@ -1,0 +1,4 @@
+pub mod Cells
+pub mod Names
+pub mod Padding
+pub mod Rows

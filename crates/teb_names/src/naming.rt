@@ -1,0 +1,85 @@
+//! Distinct names, numbered from 0 in the order in which they were added.
+
+ghost use Rattle.std.specs.Prelude.{◌≡◌, ◌<◌, ◌++◌, [], ◌∷◌, List, ℕ, length, not, Some, IfOk, OnErr, slice_get, if◌then◌else◌};
+ghost use Rattle.std.specs.List.{IsDistinct};
+ghost use Rattle.std.specs.Str.{bytes_eq};
+ghost use Rattle.teb_names.specs.Names.{has, number_of};
+
+use indexmap::IndexSet;
+use std::alloc::{AllocError, Global};
+use std::marker::Model;
+
+/// Distinct names, each with its number from 0.
+#[derive(Drop)]
+pub struct Names {
+    alloc: Global,
+    set: IndexSet<String>,
+}
+
+impl Model for Names {
+    ghost use Rattle.std.specs.Prelude.{List, ℕ, length, ◌≤◌};
+    ghost use Rattle.teb_names.specs.Names.{texts};
+
+    ghost Value = { List (List ℕ) };
+
+    ghost view = { λ s. texts s.set.keys };
+
+    ghost invariant = { λ s. length s.set.keys ≤ 255 };
+}
+
+#[tactic(auto, using(crate::proofs::Texts::has_texts, crate::proofs::Texts::number_texts, crate::proofs::Texts::texts_push))]
+impl Names {
+    pub fn new(alloc: Global) -> Names
+        ensures { result ≡ [] }
+    {
+        Names {
+            alloc,
+            set: IndexSet::new(alloc),
+        }
+    }
+
+    /// Adds a name at the end, and answers false where it is there.
+    pub fn add(&mut self, name: &str) -> Result<bool, AllocError>
+        requires { length self.old < 255 }
+        ensures added { IfOk result (λ new. (new ≡ not (has self.old name.now))
+            × (self.new ≡ (if new then self.old ++ name.now ∷ [] else self.old))) }
+        ensures err { OnErr result (self.new ≡ self.old) }
+    {
+        if self.set.contains(name) {
+            return Ok(false);
+        }
+        let key = String::from_str(self.alloc, name)?;
+        self.set.insert(key)?;
+        Ok(true)
+    }
+
+    pub fn len(&self) -> u8
+        ensures { result ≡ length self.now }
+    {
+        self.set.len() as u8
+    }
+
+    pub fn name(&self, i: u8) -> &str
+        requires { i < length self.now }
+        ensures { slice_get self.now i ≡ Some result.now }
+    {
+        self.set.as_slice()[usize::from(i)].as_str()
+    }
+
+    pub fn number(&self, name: &str) -> Option<u8>
+        ensures { result ≡ number_of self.now name.now }
+    {
+        match self.set.get_index_of(name) {
+            Some(i) => Some(i as u8),
+            None => None,
+        }
+    }
+}
+
+/// The names of a tree: of its tables, its types and its nodes, each by its number.
+#[derive(Drop)]
+pub struct NameBook {
+    pub tables: Names,
+    pub types: Names,
+    pub nodes: Names,
+}
