@@ -1,8 +1,8 @@
 -- What was read of a source, and what was written to a sink, piece by piece.
-use Rattle.std.proofs.Common.{◌≡◌, ℕ, ◌+◌, ◌≤◌, List, ◌++◌, [], length, take, drop, Option, None, Some, IfSome, refl, sym, ap, ◌∙◌, append_assoc, append-nil, arith, length-append, length-drop, take-append-drop}
+use Rattle.std.proofs.Common.{◌≡◌, ℕ, ◌+◌, ◌≤◌, List, ◌++◌, length, take, drop, Option, None, Some, IfSome, sym, ap, ◌∙◌, append_assoc, append-nil, arith, length-append, length-drop, take-append-drop}
 use Rattle.std.proofs.Math.Seq.{take-add, drop-append_seam}
 use Rattle.std.proofs.lemmas.List.{drop-drop, take_at, length-take-le}
-use Rattle.std.specs.Io.KnownBytes.{Appends, Consumes, Keeps, IsAtEnd}
+use Rattle.std.specs.Io.KnownBytes.{Appends, Consumes, IsAtEnd}
 use Rattle.teb_io.specs.Bytes.{Takes, TakesUpTo}
 
 pub taken : (a b : Option (List ℕ)) (bs : List ℕ) → Consumes a b bs → Takes a b (length bs)
