@@ -13,7 +13,7 @@ use Rattle.teb_history.specs.OwnEvents.{event_txn, links}
 use Rattle.teb_history.specs.Live.{number_of, mentioned, live_txns}
 use Rattle.teb_history.specs.Standings.{standing_number, standing_of, standing_after, standings, stands_live, IsKept}
 use Rattle.teb_history.proofs.Counting.{count_begin, count_other}
-use Rattle.teb_history.proofs.Standings.{standing_of-own, live-standing}
+use Rattle.teb_history.proofs.Standings.{standing_of-own, live_standing}
 use Rattle.teb_history.proofs.Mentioned.{standings-cons, live-cons}
 
 -- beside no events
@@ -54,7 +54,7 @@ module _ (events events' : List Event) (event : Event) (pushed : events' ≡ eve
       record {
         links = p ∙ (λ j. was.links j ++ (b j).end ∷ []) ∙ sym (reverse-append ((standing_of H t).end ∷ []) (links H)) ∙ ap (λ (es : List Event). reverse (links es)) (sym pushed_back);
         standings = k ∙ (λ j. put_by standing_number ((then ∙ ap (λ (es : List Event). standing_of es t) pushed_back) j) (was.standings j)) ∙ sym (standings-cons event H) ∙ ap standings (sym pushed_back);
-        live = l ∙ (λ j. cond ((ap stands_live (then ∙ ap (λ (es : List Event). standing_of es t) pushed_back) ∙ live-standing (event ∷ H) t) j) (put_by number_of (event_txn event) (was.live j)) (filter (λ u. not (eqb u.0 (event_txn event).0)) (was.live j)))
+        live = l ∙ (λ j. cond ((ap stands_live (then ∙ ap (λ (es : List Event). standing_of es t) pushed_back) ∙ live_standing (event ∷ H) t) j) (put_by number_of (event_txn event) (was.live j)) (filter (λ u. not (eqb u.0 (event_txn event).0)) (was.live j)))
             ∙ sym (live-cons event H) ∙ ap live_txns (sym pushed_back);
         begun = c ∙ ap (λ (m : ℕ). m + from_bool (is_begin event)) was.begun ∙ counted (is_begin event) refl ∙ ap begun_count (sym pushed_back)
       }

@@ -12,7 +12,7 @@ use Rattle.teb_history.specs.Live.{number_of, mentioned, is_live, live_txns}
 use Rattle.teb_history.specs.Standings.{standing_number, standing_of, blank, standings, stands_live}
 use Rattle.teb_history.proofs.Tests.{ltb_tells}
 use Rattle.teb_history.proofs.AscendingLists.{above-mono, ascending-put, ascending-filter, filter-put_in, filter-put_away}
-use Rattle.teb_history.proofs.Standings.{standing_of-other, standing_of-nothing, live-standing}
+use Rattle.teb_history.proofs.Standings.{standing_of-other, standing_of-nothing, live_standing}
 
 -- a transaction is its number
 one_of : (t u : Txn) → number_of t ≡ number_of u → t ≡ u
@@ -54,7 +54,7 @@ module _ (H : List Event) where
   standing-found t i d h = at_place (mentioned H) t i d h
 
 -- t is among the transactions
-has : ℕ → List Txn → Bool
+unfoldable pub has : ℕ → List Txn → Bool
 has t ts = list_any (λ u. eqb u.0 t) ts
 
 has-put : (t : ℕ) (u : Txn) (ts : List Txn) → has t (put_by number_of u ts) ≡ false → (eqb u.0 t ≡ false) × (has t ts ≡ false)
@@ -77,7 +77,7 @@ has-put t u (x ∷ xs) h = go (ltb x.0 u.0) (eqb x.0 u.0) refl h (has-put t u xs
     go false false q h ih = either _ _ h
 
 -- a transaction that is not mentioned has no event
-unmentioned : (H : List Event) (t : Txn) → has t.0 (mentioned H) ≡ false → standing_of H t.0 ≡ blank t
+pub unmentioned : (H : List Event) (t : Txn) → has t.0 (mentioned H) ≡ false → standing_of H t.0 ≡ blank t
 unfolding mentioned
 unmentioned [] t h = standing_of-nothing t
 unmentioned (e ∷ P) t h = let two = has-put t.0 (event_txn e) (mentioned P) h in standing_of-other e P t.0 two.0 ∙ unmentioned P t two.1
@@ -112,7 +112,7 @@ module _ (e : Event) (P : List Event) where
   same_stand u h = standing_of-other e P u.0 (ne_eqb (event_txn e).0 u.0 (λ q. h (sym q)))
 
   same_live : (u : Txn) → number_of u ≢ (event_txn e).0 → is_live (e ∷ P) u.0 ≡ is_live P u.0
-  same_live u h = sym (live-standing (e ∷ P) u.0) ∙ ap stands_live (same_stand u h) ∙ live-standing P u.0
+  same_live u h = sym (live_standing (e ∷ P) u.0) ∙ ap stands_live (same_stand u h) ∙ live_standing P u.0
 
   map-above : (n : ℕ) (ts : List Txn) → (event_txn e).0 ≤ n → AllAbove number_of n ts → map (λ u. standing_of (e ∷ P) u.0) ts ≡ map (λ u. standing_of P u.0) ts
   map-above n [] l h = refl

@@ -12,7 +12,7 @@ use Rattle.teb_history.specs.Phases.{is_began, is_ready, is_done, is_gone, is_to
 use Rattle.teb_history.specs.Written.{phase_of, begun_spot, begun_kind, begun_session}
 use Rattle.teb_history.specs.OwnEvents.{is_of, own_end}
 use Rattle.teb_history.specs.Live.{is_live}
-use Rattle.teb_history.specs.Standings.{start_of, standing_of, blank, standing_after, stands_unfinished, stands_live, stands_session, standing_phase}
+use Rattle.teb_history.specs.Standings.{start_of, standing_of, blank, standing_after, stands_unfinished, stands_live, stands_prepared, stands_session, standing_phase}
 use Rattle.teb_history.proofs.Any.{came_any}
 
 came-cons : (q : Event → Bool) (e : Event) (P : List Event) → came (e ∷ P) (first_event q (e ∷ P)) ≡ (q e || came P (first_event q P))
@@ -122,51 +122,51 @@ aborted-gone : (H : List Event) (t : ℕ) → aborted H t ≡ is_some (cause_of 
 unfolding aborted gone_at
 aborted-gone H t = came_any (is_gone t) H ∙ any-gone H t
 
-pub has_begun-standing : (H : List Event) (t : ℕ) → is_some (standing_of H t).start ≡ begun H t
-has_begun-standing H t = sym (begun-start H t)
+pub has_begun_standing : (H : List Event) (t : ℕ) → is_some (standing_of H t).start ≡ begun H t
+has_begun_standing H t = sym (begun-start H t)
 
-pub is_aborted-standing : (H : List Event) (t : ℕ) → is_some (standing_of H t).gone ≡ aborted H t
-is_aborted-standing H t = sym (aborted-gone H t)
+pub is_aborted_standing : (H : List Event) (t : ℕ) → is_some (standing_of H t).gone ≡ aborted H t
+is_aborted_standing H t = sym (aborted-gone H t)
 
-pub unfinished-standing : (H : List Event) (t : ℕ) → stands_unfinished (standing_of H t) ≡ unfinished H t
+pub unfinished_standing : (H : List Event) (t : ℕ) → stands_unfinished (standing_of H t) ≡ unfinished H t
 unfolding unfinished
-unfinished-standing H t = λ j. has_begun-standing H t j && not (committed H t) && not (is_aborted-standing H t j)
+unfinished_standing H t = λ j. has_begun_standing H t j && not (committed H t) && not (is_aborted_standing H t j)
 
-pub live-standing : (H : List Event) (t : ℕ) → stands_live (standing_of H t) ≡ is_live H t
+pub live_standing : (H : List Event) (t : ℕ) → stands_live (standing_of H t) ≡ is_live H t
 unfolding untold
-live-standing H t = ap (λ b. b || untold H t) (unfinished-standing H t)
+live_standing H t = ap (λ b. b || untold H t) (unfinished_standing H t)
 
-pub prepared-standing : (H : List Event) (t : ℕ) → (stands_unfinished (standing_of H t) && (standing_of H t).ready) ≡ prepared H t
+pub prepared_standing : (H : List Event) (t : ℕ) → stands_prepared (standing_of H t) ≡ prepared H t
 unfolding prepared
-prepared-standing H t = ap (λ b. b && came H (ready_at H t)) (unfinished-standing H t)
+prepared_standing H t = ap (λ b. b && came H (ready_at H t)) (unfinished_standing H t)
 
-pub phase-standing : (H : List Event) (t : ℕ) → standing_phase (standing_of H t) ≡ phase_of H t
-phase-standing H t = λ j. cond (committed H t) phase.Committed (cond (is_aborted-standing H t j) phase.Aborted (cond (not (has_begun-standing H t j)) phase.NotBegun (cond (came H (ready_at H t)) phase.Ready phase.Running)))
+pub phase_standing : (H : List Event) (t : ℕ) → standing_phase (standing_of H t) ≡ phase_of H t
+phase_standing H t = λ j. cond (committed H t) phase.Committed (cond (is_aborted_standing H t j) phase.Aborted (cond (not (has_begun_standing H t j)) phase.NotBegun (cond (came H (ready_at H t)) phase.Ready phase.Running)))
 
 -- the start, part by part
-pub spot-start : (H : List Event) (t : ℕ) → option_map (λ s. s.spot) (standing_of H t).start ≡ begun_spot H t
-spot-start H t = go (begun H t)
+pub start_spot : (H : List Event) (t : ℕ) → option_map (λ s. s.spot) (standing_of H t).start ≡ begun_spot H t
+start_spot H t = go (begun H t)
   where
     go : (b : Bool) → option_map (λ (s : Start). s.spot) (cond b (Some (record { session = record { 0 = session_of H t }; spot = spot_of H t })) None) ≡ cond b (Some (spot_of H t)) None
     go true = refl
     go false = refl
 
-pub kind-start : (H : List Event) (t : ℕ) → option_map (λ s. s.spot.kind) (standing_of H t).start ≡ begun_kind H t
-kind-start H t = go (begun H t)
+pub start_kind : (H : List Event) (t : ℕ) → option_map (λ s. s.spot.kind) (standing_of H t).start ≡ begun_kind H t
+start_kind H t = go (begun H t)
   where
     go : (b : Bool) → option_map (λ (s : Start). s.spot.kind) (cond b (Some (record { session = record { 0 = session_of H t }; spot = spot_of H t })) None) ≡ cond b (Some (spot_of H t).kind) None
     go true = refl
     go false = refl
 
-pub session-start : (H : List Event) (t : ℕ) → option_map (λ s. s.session) (standing_of H t).start ≡ begun_session H t
-session-start H t = go (begun H t)
+pub start_session : (H : List Event) (t : ℕ) → option_map (λ s. s.session) (standing_of H t).start ≡ begun_session H t
+start_session H t = go (begun H t)
   where
     go : (b : Bool) → option_map (λ (s : Start). s.session) (cond b (Some (record { session = record { 0 = session_of H t }; spot = spot_of H t })) None) ≡ cond b (Some (record { 0 = session_of H t })) None
     go true = refl
     go false = refl
 
-pub session_of-start : (H : List Event) (t : ℕ) → stands_session (standing_of H t) ≡ session_of H t
-session_of-start H t = go (begun H t) (unbegun-session H t)
+pub session_standing : (H : List Event) (t : ℕ) → stands_session (standing_of H t) ≡ session_of H t
+session_standing H t = go (begun H t) (unbegun-session H t)
   where
     go : (b : Bool) → (b ≡ false → session_of H t ≡ 0) → option_map_or (λ (s : Start). s.session.0) (cond b (Some (record { session = record { 0 = session_of H t }; spot = spot_of H t })) None) 0 ≡ session_of H t
     go true h = refl

@@ -1,8 +1,8 @@
 -- The transactions that are live: unfinished, or aborted by a cascade with a session that was not told of it.
-use Rattle.std.specs.Prelude.{ℕ, Bool, ◌||◌, List, [], ◌∷◌, filter}
+use Rattle.std.specs.Prelude.{ℕ, Bool, ◌&&◌, ◌||◌, ltb, leb, eqb, List, [], ◌∷◌, filter}
 use Rattle.teb_names.specs.declared.Txn.{Txn}
 use Rattle.teb_history.specs.declared.Event.{Event}
-use Rattle.teb_history.specs.Phases.{unfinished, untold}
+use Rattle.teb_history.specs.Phases.{begun_count, session_of, unfinished, untold}
 use Rattle.teb_history.specs.Ascending.{put_by}
 use Rattle.teb_history.specs.OwnEvents.{event_txn}
 
@@ -22,3 +22,7 @@ is_live H t = unfinished H t || untold H t
 -- those that are live
 abbrev pub live_txns : List Event → List Txn
 live_txns H = filter (λ t. is_live H t.0) (mentioned H)
+
+-- t is one of the numbers of those that have begun, and s began it
+abbrev pub is_begun_by : List Event → ℕ → Txn → Bool
+is_begun_by H s t = ltb 0 t.0 && leb t.0 (begun_count H) && eqb (session_of H t.0) s

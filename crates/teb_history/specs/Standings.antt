@@ -44,6 +44,9 @@ standing_after (event.Told t) n r = record r { told = true; end = n }
 abbrev pub stands_unfinished : Standing → Bool
 stands_unfinished r = is_some r.start && not r.done && not (is_some r.gone)
 
+abbrev pub stands_prepared : Standing → Bool
+stands_prepared r = stands_unfinished r && r.ready
+
 abbrev pub stands_live : Standing → Bool
 stands_live r = stands_unfinished r || (is_after r.gone && not r.told)
 

@@ -28,7 +28,7 @@ pub struct Standing {
 }
 
 impl Standing {
-    ghost use Rattle.teb_history.specs.Standings.{blank, standing_after, stands_unfinished, stands_live, standing_phase};
+    ghost use Rattle.teb_history.specs.Standings.{blank, standing_after, stands_unfinished, stands_live, stands_prepared, stands_session, standing_phase};
 
     /// That of a transaction with no event.
     pub fn blank(txn: Txn) -> Standing
@@ -98,6 +98,20 @@ impl Standing {
         ensures { result ≡ stands_unfinished self.now }
     {
         self.start.is_some() && !self.done && self.gone.is_none()
+    }
+
+    /// Unfinished, and it has Ready.
+    pub fn is_prepared(&self) -> bool
+        ensures { result ≡ stands_prepared self.now }
+    {
+        self.is_unfinished() && self.ready
+    }
+
+    /// The number of the session that began it, 0 where none has.
+    pub fn session_number(&self) -> u8
+        ensures { result ≡ stands_session self.now }
+    {
+        self.start.map_or(0, |start| start.session.0)
     }
 
     /// Unfinished, or aborted by a cascade with a session that was not told of it.
