@@ -1,1 +1,11 @@
 pub mod PastWalks
+pub mod PlainFacts
+pub mod PlainSteps
+pub mod PlainStops
+pub mod Backwards
+pub mod FirstTxn
+pub mod PlainVersions
+pub mod PlainFalls
+pub mod NewestVersion
+pub mod PlainReads
+pub mod Deciding

@@ -8,11 +8,16 @@ use teb_history::{Event, History};
 use teb_names::{Cell, Txn};
 
 /// Whether a transaction has put a cell.
-#[tactic(auto, using(crate::proofs::PastWalks::wrote_walk))]
 pub fn wrote(history: &History, t: Txn, cell: Cell) -> bool
     ensures { result ≡ wrote history.now.events t.0 cell }
 {
-    history.events().iter().any(|event| is_put(event, t, cell))
+    some_put(history.events(), t, cell)
+}
+
+fn some_put(events: &[Event], t: Txn, cell: Cell) -> bool
+    ensures { result ≡ list_any (is_put t.0 cell) events.now }
+{
+    events.iter().any(|event| is_put(event, t, cell))
 }
 
 fn is_put(event: &Event, t: Txn, cell: Cell) -> bool
@@ -22,11 +27,16 @@ fn is_put(event: &Event, t: Txn, cell: Cell) -> bool
 }
 
 /// Whether a transaction has read a cell.
-#[tactic(auto, using(crate::proofs::PastWalks::got_walk))]
 pub fn got(history: &History, t: Txn, cell: Cell) -> bool
     ensures { result ≡ got history.now.events t.0 cell }
 {
-    history.events().iter().any(|event| is_got(event, t, cell))
+    some_got(history.events(), t, cell)
+}
+
+fn some_got(events: &[Event], t: Txn, cell: Cell) -> bool
+    ensures { result ≡ list_any (is_got t.0 cell) events.now }
+{
+    events.iter().any(|event| is_got(event, t, cell))
 }
 
 fn is_got(event: &Event, t: Txn, cell: Cell) -> bool
@@ -36,11 +46,13 @@ fn is_got(event: &Event, t: Txn, cell: Cell) -> bool
 }
 
 /// The value of a transaction's last Put of a cell.
+#[tactic(auto, unfolding(teb_history::specs::Accesses::last_put))]
 pub fn last_put(history: &History, t: Txn, cell: Cell) -> Option<Option<i64>>
     ensures { result ≡ last_put history.now.events t.0 cell }
 {
-    let mut events = history.events();
-    while let [older @ .., event] = events {
+    let events = history.events();
+    for i in (0..events.len()).rev() {
+        let event = &events[i];
         if let Event::Put {
             txn,
             cell: of,
@@ -51,17 +63,18 @@ pub fn last_put(history: &History, t: Txn, cell: Cell) -> Option<Option<i64>>
         {
             return Some(*value);
         }
-        events = older;
     }
     None
 }
 
 /// What a transaction last read of a cell.
+#[tactic(auto, unfolding(teb_history::specs::Accesses::last_got))]
 pub fn last_got(history: &History, t: Txn, cell: Cell) -> Option<Option<i64>>
     ensures { result ≡ last_got history.now.events t.0 cell }
 {
-    let mut events = history.events();
-    while let [older @ .., event] = events {
+    let events = history.events();
+    for i in (0..events.len()).rev() {
+        let event = &events[i];
         if let Event::Got {
             txn,
             cell: of,
@@ -73,7 +86,6 @@ pub fn last_got(history: &History, t: Txn, cell: Cell) -> Option<Option<i64>>
         {
             return Some(*value);
         }
-        events = older;
     }
     None
 }

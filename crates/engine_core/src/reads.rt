@@ -30,12 +30,11 @@ pub fn read(history: &History, t: Txn, cell: Cell) -> (Txn, Option<i64>)
 fn newest_version(history: &History, cell: Cell) -> Option<(Txn, Option<i64>)>
     ensures { result ≡ newest_version history.now.events history.now.events cell }
 {
-    let mut events = history.events();
-    while let [older @ .., event] = events {
-        if let Some(version) = version_in(history, cell, event) {
+    let events = history.events();
+    for i in (0..events.len()).rev() {
+        if let Some(version) = version_in(history, cell, &events[i]) {
             return Some(version);
         }
-        events = older;
     }
     None
 }

@@ -26,6 +26,7 @@ pub fn access_stop(history: &History, t: Txn, cell: Cell, write: bool) -> Stop
 }
 
 /// The least unfinished transaction that is in the way of an access.
+#[tactic(auto, using(teb_history::proofs::Held::none_first, teb_history::proofs::Held::next_none, crate::proofs::FirstTxn::first_found, crate::proofs::FirstTxn::nobody_found))]
 fn blocker(history: &History, t: Txn, cell: Cell, write: bool) -> Option<Txn>
     ensures { result ≡ txn_of (find (blocks plain_store.setup history.now.events 0 t.0 cell write) (txns history.now.events)) }
 {
@@ -38,11 +39,12 @@ fn blocker(history: &History, t: Txn, cell: Cell, write: bool) -> Option<Txn>
     None
 }
 
+#[tactic(auto, using(crate::proofs::PlainStops::plain_blocks))]
 fn blocks(history: &History, t: Txn, u: Txn, cell: Cell, write: bool) -> bool
     ensures { result ≡ blocks plain_store.setup history.now.events 0 t.0 cell write u.0 }
 {
-    u != t
-        && history.is_unfinished(u)
+    history.is_unfinished(u)
+        && u != t
         && (wrote(history, u, cell) || (write && got(history, u, cell)))
 }
 
