@@ -9,3 +9,5 @@ pub mod PlainFalls
 pub mod NewestVersion
 pub mod PlainReads
 pub mod Deciding
+pub mod Adding
+pub mod Gathering

@@ -1,5 +1,5 @@
 -- A decision, and the answer that it carries out.
-use Rattle.std.specs.Prelude.{◌≡◌, ◌≤◌, ◌<◌, ◌+◌, ◌^◌, ℕ, List, ◌∷◌, Option, Some, None, unwrap_or, IsTrue}
+use Rattle.std.specs.Prelude.{◌≡◌, ◌≤◌, ◌<◌, ◌+◌, ◌^◌, ℕ, List, ◌∷◌, Option, Some, None, unwrap_or, cond, ℤ, ◌+ℤ◌, IsTrue}
 use Rattle.teb_names.specs.declared.Cause.TheVariants.{Asked}
 use Rattle.teb_names.specs.declared.Reply.TheVariants.{Aborted}
 use Rattle.teb_names.specs.declared.Cell.{Cell}
@@ -12,7 +12,7 @@ use Rattle.teb_rules.specs.Setup.{Store}
 use Rattle.teb_rules.specs.declared.Stop.{Stop}
 use Rattle.teb_rules.specs.declared.Stop.TheVariants as stop
 use Rattle.teb_rules.specs.Cascade.{txn}
-use Rattle.teb_rules.specs.Answer.{Answered, cells_from, read_all, got_values, broken_off, refuse, or_stop, or_refused}
+use Rattle.teb_rules.specs.Answer.{Answered, cells_from, read_all, got_values, broken_off, refuse, or_stop, or_refused, fits}
 use Rattle.engine_core.specs.declared.decision.Decision.{Decision}
 use Rattle.engine_core.specs.declared.decision.Decision.TheVariants.{Answer, Grant, Gather, Fall}
 
@@ -38,6 +38,10 @@ IsRefusal X H t x (Some r) = (granted : Answered) → or_refused X H t x granted
 abbrev pub IsStopped : Store → List Event → ℕ → Stop → Option Decision → Type 0
 IsStopped X H t s None = s ≡ stop.Go
 IsStopped X H t s (Some d) = ((granted : Answered) → carried X H d ≡ or_stop H t s granted) × IsBounded H d
+
+-- the sum of two numbers, where it fits
+abbrev pub sum_of : ℤ → ℤ → Option ℤ
+sum_of b v = cond (fits (b +ℤ v)) (Some (b +ℤ v)) None
 
 -- the notice to the session of an aborted t
 abbrev pub told : List Event → ℕ → Answered

@@ -7,7 +7,7 @@ ghost use Rattle.teb_history.specs.Accesses.{last_put, last_got};
 ghost use Rattle.teb_rules.specs.Answer.{answer_of, or_refused, put_value, add_base, is_scan};
 ghost use Rattle.engine_core.specs.Plain.{plain_store};
 ghost use Rattle.engine_core.specs.State.{IsRun};
-ghost use Rattle.engine_core.specs.Decisions.{carried, IsBounded, IsRefusal};
+ghost use Rattle.engine_core.specs.Decisions.{carried, sum_of, IsBounded, IsRefusal};
 
 use crate::decision::Decision;
 use crate::outcomes::{is_prepared, refused, stopped};
@@ -70,7 +70,7 @@ pub fn decide_add(history: &History, t: Txn, cell: Cell, number: i64) -> Decisio
     let Some(base) = add_base(history, t, cell) else {
         return refused(Refusal::NotRead);
     };
-    match base.checked_add(number) {
+    match sum_of(base, number) {
         Some(sum) => put(history, t, cell, Some(sum)),
         None => refused(Refusal::Overflow),
     }
@@ -114,6 +114,13 @@ fn add_base(history: &History, t: Txn, cell: Cell) -> Option<i64>
             None => None,
         },
     }
+}
+
+/// The sum of two numbers, where it is an `i64`.
+fn sum_of(base: i64, number: i64) -> Option<i64>
+    ensures { result ≡ sum_of base number }
+{
+    base.checked_add(number)
 }
 
 /// A Put that is not refused.
