@@ -1,0 +1,71 @@
+//! Where a request stops, in the plain store: its one node is a leaf of locks.
+
+ghost use Rattle.std.specs.Prelude.{◌≡◌, find};
+ghost use Rattle.teb_history.specs.Phases.{txns};
+ghost use Rattle.teb_history.specs.Written.{txn_of};
+ghost use Rattle.teb_rules.specs.Controls.{blocks};
+ghost use Rattle.teb_rules.specs.Stops.{access_stop, prepare_stop, commit_stop, begin_stop};
+ghost use Rattle.engine_core.specs.Plain.{plain_store};
+ghost use Rattle.engine_core.specs.State.{IsRun};
+
+use crate::past::{got, wrote};
+use teb_history::History;
+use teb_names::{Cell, Node, Spot, Txn};
+use teb_rules::Stop;
+
+const ROOT: Node = Node(0);
+
+/// Where an access stops: a read waits for an unfinished writer of the cell, a write also for an unfinished reader.
+pub fn access_stop(history: &History, t: Txn, cell: Cell, write: bool) -> Stop
+    ensures { result ≡ access_stop plain_store.setup history.now.events t.0 cell write }
+{
+    match blocker(history, t, cell, write) {
+        Some(who) => Stop::Wait { who, node: ROOT },
+        None => Stop::Go,
+    }
+}
+
+/// The least unfinished transaction that is in the way of an access.
+#[tactic(auto, using(teb_history::proofs::Held::none_first, teb_history::proofs::Held::next_none, crate::proofs::FirstTxn::first_found, crate::proofs::FirstTxn::nobody_found))]
+fn blocker(history: &History, t: Txn, cell: Cell, write: bool) -> Option<Txn>
+    ensures { result ≡ txn_of (find (blocks plain_store.setup history.now.events 0 t.0 cell write) (txns history.now.events)) }
+{
+    for n in 0..history.begun() {
+        let u = Txn(n + 1);
+        if blocks(history, t, u, cell, write) {
+            return Some(u);
+        }
+    }
+    None
+}
+
+#[tactic(auto, using(crate::proofs::PlainStops::plain_blocks))]
+fn blocks(history: &History, t: Txn, u: Txn, cell: Cell, write: bool) -> bool
+    ensures { result ≡ blocks plain_store.setup history.now.events 0 t.0 cell write u.0 }
+{
+    history.is_unfinished(u)
+        && u != t
+        && (wrote(history, u, cell) || (write && got(history, u, cell)))
+}
+
+/// A Prepare stops nowhere: locks validate nothing.
+pub fn prepare_stop(_history: &History, _t: Txn) -> Stop
+    ensures { result ≡ prepare_stop plain_store.setup _history.now.events _t.0 }
+{
+    Stop::Go
+}
+
+/// A Commit stops nowhere: locks have no gate, and nobody has read from an unfinished other.
+pub fn commit_stop(_history: &History, _t: Txn) -> Stop
+    requires { IsRun _history.now.events }
+    ensures { result ≡ commit_stop plain_store.setup _history.now.events _t.0 }
+{
+    Stop::Go
+}
+
+/// A Begin stops nowhere: a leaf keeps no batches.
+pub fn begin_stop(_history: &History, _spot: Spot) -> Stop
+    ensures { result ≡ begin_stop plain_store.setup _history.now.events _spot }
+{
+    Stop::Go
+}
