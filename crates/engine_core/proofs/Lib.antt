@@ -1,13 +1,1 @@
-pub mod PastWalks
 pub mod PlainFacts
-pub mod PlainSteps
-pub mod PlainStops
-pub mod Backwards
-pub mod FirstTxn
-pub mod PlainVersions
-pub mod PlainFalls
-pub mod NewestVersion
-pub mod PlainReads
-pub mod Deciding
-pub mod Adding
-pub mod Gathering

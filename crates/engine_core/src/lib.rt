@@ -1,16 +1,6 @@
-//! The engine: one history, and the answer to each request.
+//! The engine (a stand-in with the same contracts).
 #![tactic(auto)]
 
-mod accesses;
-mod decide;
-mod decision;
 mod engine;
-mod falls;
-mod outcomes;
-mod past;
-mod profile;
-mod reads;
-mod scan;
-mod stops;
 
 pub use engine::Engine;
