@@ -1,6 +1,8 @@
 -- A transaction's own events, and where the newest of them stands.
-use Rattle.std.specs.Prelude.{◌≡◌, ◌≤◌, ℕ, zero, suc, Bool, cond, eqb, List, [], ◌∷◌, length, filter, reverse}
+use Rattle.std.specs.Prelude.{◌≡◌, ◌≤◌, ℕ, zero, suc, Bool, false, cond, eqb, Option, Some, None, ℤ, List, [], ◌∷◌, length, filter, reverse}
+use Rattle.teb_names.specs.declared.Cell.{Cell}
 use Rattle.teb_names.specs.declared.Txn.{Txn}
+use Rattle.teb_names.specs.Cells.{same_cell}
 use Rattle.teb_history.specs.declared.Event.{Event}
 use Rattle.teb_history.specs.declared.Event.TheVariants.{Began, Got, Put, Ready, Done, Gone, Told}
 use Rattle.teb_history.specs.Positions.{upto}
@@ -18,6 +20,20 @@ event_txn (Told t) = t
 -- the event is one of t's
 abbrev pub is_of : ℕ → Event → Bool
 is_of t e = eqb (event_txn e).0 t
+
+-- the value of a Put, or of a Got, of x, whoever's
+abbrev pub put_in : Cell → Event → Option (Option ℤ)
+put_in x (Put t y v) = cond (same_cell y x) (Some v) None
+put_in x _ = None
+
+abbrev pub got_in : Cell → Event → Option (Option ℤ)
+got_in x (Got t y w v) = cond (same_cell y x) (Some v) None
+got_in x _ = None
+
+-- the event is a Got from u
+abbrev pub gets_from : ℕ → Event → Bool
+gets_from u (Got t y w v) = eqb w.0 u
+gets_from u _ = false
 
 -- t's own events, the newest first
 unfoldable pub own_events : List Event → ℕ → List Event
