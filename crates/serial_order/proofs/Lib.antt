@@ -1,3 +1,3 @@
-pub mod Commits
-pub mod Tables
+pub mod CommitOrder
+pub mod LastValues
 pub mod Values

@@ -1,7 +1,7 @@
 //! The final tables.
 
 ghost use Rattle.std.specs.Prelude.{◌≡◌, IfOk, OnOk, Some};
-ghost use Rattle.std.specs.BTreeMap.{get};
+ghost use Rattle.std.specs.BTreeMap.{get, IsOrdered};
 ghost use Rattle.teb_names.specs.declared.Cell.{Cell};
 ghost use Rattle.teb_names.specs.Cells.{cell_cmp};
 ghost use Rattle.teb_names.specs.Rows.{row_of, IsAscending};
@@ -45,7 +45,8 @@ fn rows_of(
     alloc: Global,
     values: &BTreeMap<Cell, Option<i64>>,
 ) -> Result<Vec<(Cell, i64)>, AllocError>
-    ensures { IfOk result (λ v. v.items ≡ rows_in values.now.entries) }
+    ensures ordered { IsOrdered cell_cmp values.now }
+    ensures rows { IfOk result (λ v. v.items ≡ rows_in values.now.entries) }
 {
     let mut rows = Vec::with_capacity(alloc, values.len())?;
     for (cell, value) in values {

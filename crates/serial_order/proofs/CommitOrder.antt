@@ -1,8 +1,9 @@
 -- The commits of a history, by a walk from the oldest event on.
-use Rattle.std.proofs.Common.{◌≡◌, ℕ, zero, suc, List, [], ◌∷◌, ◌++◌, reverse, refl, sym, ◌∙◌, ap, inl}
+use Rattle.std.proofs.Common.{◌≡◌, ℕ, zero, suc, List, [], ◌∷◌, ◌++◌, reverse, refl, sym, ◌∙◌, ap, subst, inl}
 use Rattle.std.proofs.lemmas.List.{reverse-append}
 use Rattle.teb_history.specs.declared.Event.{Event}
 use Rattle.teb_history.specs.declared.Event.TheVariants.{Began, Got, Put, Ready, Done, Gone, Told}
+use Rattle.teb_rules.specs.Setup.{Store}
 use Rattle.teb_rules.specs.Ranks.{serial_order}
 use Rattle.teb_laws.specs.Lawful.{Lawful}
 use Rattle.teb_laws.proofs.Commits.{committed_in, RanksByCommits, order_of_commits}
@@ -43,5 +44,8 @@ plain_ranks zero = inl refl
 plain_ranks (suc n) = inl refl
 
 -- the plain store's serial order is that of its commits
-pub plain_order : (H : List Event) → Lawful plain_store.setup H → commits_in (reverse H) ≡ serial_order plain_store.setup H
+plain_order : (H : List Event) → Lawful plain_store.setup H → commits_in (reverse H) ≡ serial_order plain_store.setup H
 plain_order H l = commits_walk H ∙ sym (order_of_commits plain_store.setup plain_tree H l plain_ranks)
+
+pub order_of_plain : (X : Store) (H : List Event) → X ≡ plain_store → Lawful X.setup H → commits_in (reverse H) ≡ serial_order X.setup H
+order_of_plain X H e l = subst (λ (Y : Store). Lawful Y.setup H → commits_in (reverse H) ≡ serial_order Y.setup H) (sym e) (plain_order H) l
