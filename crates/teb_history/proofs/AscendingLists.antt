@@ -63,7 +63,6 @@ module _ {A : Type 0} (key : A → ℕ) where
       let both = parted (comparisons_rise xs h n) in
       gap_at xs n i l (λ k d lt. ranked _ n _ (sym (both.0 k d (omega arith) lt))) (λ k d le lt. ranked _ n _ (sym (both.1 k d le lt)))
 
-
   -- what stands at the place has the key
   pub place_in : (xs : List A) (n i : ℕ) → place_of key xs n ≡ Ok i → i < length xs
   place_in [] n i h = absurd (cc)

@@ -1,7 +1,6 @@
 -- The events of one transaction, along the links between them.
 use Rattle.std.proofs.Common.{◌≡◌, ℕ, zero, suc, ◌+◌, ◌-◌, ◌<◌, ◌≤◌, Bool, true, false, cond, ltb, eqb, List, [], ◌∷◌, ◌++◌, length, filter, get_or, reverse, refl, sym, ◌∙◌, ap, subst, arith, lt-ltb, le-ltb, ◌⊎◌, inl, inr}
 use Rattle.std.proofs.lemmas.Bool.{eqb-true, eq-eqb}
-
 use Rattle.std.proofs.lemmas.List.{reverse-append, reverse-reverse, length-reverse, get_or_append_left}
 use Rattle.std.proofs.Math.Seq.{get_or-append_seam}
 use Rattle.teb_history.specs.declared.Event.{Event}
@@ -78,7 +77,7 @@ upto-suc i (e ∷ P) d h = go (ltb_tells i (length P)) (upto-suc i P d)
         let last : length P ≡ i = omega arith in
         let more : suc (length P) ≡ length P + 1 = omega arith in
         let this : upto (length P + 1) (e ∷ P) ≡ get_or (reverse (e ∷ P)) (length P) d ∷ upto (length P) (e ∷ P) =
-            ap (λ n. upto n (e ∷ P)) (sym more) ∙ upto-newest e P ∙ (λ j. sym (get_or-reverse_newest e P d) j ∷ sym (upto-older (length P) e P (omega arith) ∙ upto-all P) j) in
+        ap (λ n. upto n (e ∷ P)) (sym more) ∙ upto-newest e P ∙ (λ j. sym (get_or-reverse_newest e P d) j ∷ sym (upto-older (length P) e P (omega arith) ∙ upto-all P) j) in
         subst (λ (n : ℕ). upto (n + 1) (e ∷ P) ≡ get_or (reverse (e ∷ P)) n d ∷ upto n (e ∷ P)) last this
 
     go : ((ltb i (length P) ≡ true) × (i < length P)) ⊎ ((ltb i (length P) ≡ false) × (length P ≤ i)) → (i < length P → upto (i + 1) P ≡ get_or (reverse P) i d ∷ upto i P)
@@ -103,8 +102,8 @@ links-at i (e ∷ P) d h = go (ltb_tells i (length P)) (links-at i P d)
     newest l =
         let last : length P ≡ i = omega arith in
         let this : get_or (reverse (link ∷ links P)) (length P) 0 ≡ own_end (upto (length P) (e ∷ P)) (event_txn (get_or (reverse (e ∷ P)) (length P) d)).0 =
-            ap (λ n. get_or (reverse (link ∷ links P)) n 0) (sym (length-links P)) ∙ get_or-reverse_newest link (links P) 0
-            ∙ (λ j. own_end (sym (upto-older (length P) e P (omega arith) ∙ upto-all P) j) (event_txn (sym (get_or-reverse_newest e P d) j)).0) in
+        ap (λ n. get_or (reverse (link ∷ links P)) n 0) (sym (length-links P)) ∙ get_or-reverse_newest link (links P) 0
+        ∙ (λ j. own_end (sym (upto-older (length P) e P (omega arith) ∙ upto-all P) j) (event_txn (sym (get_or-reverse_newest e P d) j)).0) in
         subst (λ (n : ℕ). get_or (reverse (link ∷ links P)) n 0 ≡ own_end (upto n (e ∷ P)) (event_txn (get_or (reverse (e ∷ P)) n d)).0) last this
 
     go : ((ltb i (length P) ≡ true) × (i < length P)) ⊎ ((ltb i (length P) ≡ false) × (length P ≤ i)) → (i < length P → get_or (reverse (links P)) i 0 ≡ own_end (upto i P) (event_txn (get_or (reverse P) i d)).0)

@@ -20,11 +20,11 @@ use Rattle.teb_history.proofs.Mentioned.{standings-cons, live-cons}
 pub kept_none : (events : List Event) (previous : List ℕ) (kept : List Standing) (live : List Txn) → events ≡ [] → previous ≡ [] → kept ≡ [] → live ≡ [] → IsKept events previous kept live 0
 unfolding links mentioned begun_count
 kept_none events previous kept live e p k l = record {
-    links = p ∙ ap (λ (es : List Event). reverse (links (reverse es))) (sym e);
-    standings = k ∙ ap (λ (es : List Event). standings (reverse es)) (sym e);
-    live = l ∙ ap (λ (es : List Event). live_txns (reverse es)) (sym e);
-    begun = ap (λ (es : List Event). begun_count (reverse es)) (sym e)
-  }
+  links = p ∙ ap (λ (es : List Event). reverse (links (reverse es))) (sym e);
+  standings = k ∙ ap (λ (es : List Event). standings (reverse es)) (sym e);
+  live = l ∙ ap (λ (es : List Event). live_txns (reverse es)) (sym e);
+  begun = ap (λ (es : List Event). begun_count (reverse es)) (sym e);
+}
 
 module _ (events events' : List Event) (event : Event) (pushed : events' ≡ events ++ event ∷ []) where
   pushed_back : reverse events' ≡ event ∷ reverse events
@@ -56,7 +56,7 @@ module _ (events events' : List Event) (event : Event) (pushed : events' ≡ eve
         standings = k ∙ (λ j. put_by standing_number ((then ∙ ap (λ (es : List Event). standing_of es t) pushed_back) j) (was.standings j)) ∙ sym (standings-cons event H) ∙ ap standings (sym pushed_back);
         live = l ∙ (λ j. cond ((ap stands_live (then ∙ ap (λ (es : List Event). standing_of es t) pushed_back) ∙ live_standing (event ∷ H) t) j) (put_by number_of (event_txn event) (was.live j)) (filter (λ u. not (eqb u.0 (event_txn event).0)) (was.live j)))
             ∙ sym (live-cons event H) ∙ ap live_txns (sym pushed_back);
-        begun = c ∙ ap (λ (m : ℕ). m + from_bool (is_begin event)) was.begun ∙ counted (is_begin event) refl ∙ ap begun_count (sym pushed_back)
+        begun = c ∙ ap (λ (m : ℕ). m + from_bool (is_begin event)) was.begun ∙ counted (is_begin event) refl ∙ ap begun_count (sym pushed_back);
       }
     where
       counted : (x : Bool) → is_begin event ≡ x → begun_count (reverse events) + from_bool x ≡ begun_count (event ∷ reverse events)

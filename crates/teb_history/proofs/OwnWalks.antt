@@ -102,15 +102,6 @@ abbrev pub newest_in : {A : Type 0} → (Event → Option A) → List Event → 
 newest_in f [] = None
 newest_in f (e ∷ P) = let r = newest_in f P in option_or (f e) r
 
-pub newest_found : {A : Type 0} (f : Event → Option A) (es es' : List Event) (e : Event) (v : A) → es ≡ e ∷ es' → f e ≡ Some v → newest_in f es ≡ Some v
-newest_found f es es' e v h k = ap (newest_in f) h ∙ ap (λ o. option_or o (newest_in f es')) k
-
-pub newest_passed : {A : Type 0} (f : Event → Option A) (es es' : List Event) (e : Event) → es ≡ e ∷ es' → f e ≡ None → newest_in f es' ≡ newest_in f es
-newest_passed f es es' e h k = sym (ap (newest_in f) h ∙ ap (λ o. option_or o (newest_in f es')) k)
-
-pub newest_none : {A : Type 0} (f : Event → Option A) (es : List Event) → es ≡ [] → newest_in f es ≡ None
-newest_none f es h = ap (newest_in f) h
-
 newest_own_in : {A : Type 0} (t : ℕ) (f : Event → Option A) (last : List Event → Option A) → last [] ≡ None → ((e : Event) (P : List Event) → last (e ∷ P) ≡ cond (is_of t e) (option_or (f e) (last P)) (last P))
     → (H : List Event) → newest_in f (own_events H t) ≡ last H
 unfolding own_events

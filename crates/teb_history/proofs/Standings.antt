@@ -36,23 +36,23 @@ told-cons e P t = came-cons (is_told t) e P
 
 -- what each part says of the newest event
 parts : (e : Event) (P : List Event) (t : ℕ) → standing_of (e ∷ P) t ≡ record {
-    txn = record { 0 = t };
-    start = cond (is_began t e || begun P t) (Some (record { session = record { 0 = session_of (e ∷ P) t }; spot = spot_of (e ∷ P) t })) None;
-    ready = is_ready t e || came P (ready_at P t);
-    done = is_done t e || committed P t;
-    gone = cause_of (e ∷ P) t;
-    told = is_told t e || came P (told_at P t);
-    end = own_end (e ∷ P) t
-  }
+  txn = record { 0 = t };
+  start = cond (is_began t e || begun P t) (Some (record { session = record { 0 = session_of (e ∷ P) t }; spot = spot_of (e ∷ P) t })) None;
+  ready = is_ready t e || came P (ready_at P t);
+  done = is_done t e || committed P t;
+  gone = cause_of (e ∷ P) t;
+  told = is_told t e || came P (told_at P t);
+  end = own_end (e ∷ P) t;
+}
 parts e P t = λ j. record {
-    txn = record { 0 = t };
-    start = cond (begun-cons e P t j) (Some (record { session = record { 0 = session_of (e ∷ P) t }; spot = spot_of (e ∷ P) t })) None;
-    ready = ready-cons e P t j;
-    done = committed-cons e P t j;
-    gone = cause_of (e ∷ P) t;
-    told = told-cons e P t j;
-    end = own_end (e ∷ P) t
-  }
+  txn = record { 0 = t };
+  start = cond (begun-cons e P t j) (Some (record { session = record { 0 = session_of (e ∷ P) t }; spot = spot_of (e ∷ P) t })) None;
+  ready = ready-cons e P t j;
+  done = committed-cons e P t j;
+  gone = cause_of (e ∷ P) t;
+  told = told-cons e P t j;
+  end = own_end (e ∷ P) t;
+}
 
 -- one more event changes where its own transaction stands
 pub standing_of-own : (e : Event) (P : List Event) (t : ℕ) → is_of t e ≡ true → standing_of (e ∷ P) t ≡ standing_after e (suc (length P)) (standing_of P t)

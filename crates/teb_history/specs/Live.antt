@@ -23,6 +23,10 @@ is_live H t = unfinished H t || untold H t
 abbrev pub live_txns : List Event → List Txn
 live_txns H = filter (λ t. is_live H t.0) (mentioned H)
 
--- t is one of the numbers of those that have begun, and s began it
+-- t is one of the numbers from 1 on of those that have begun
+abbrev pub is_numbered : List Event → Txn → Bool
+is_numbered H t = ltb 0 t.0 && leb t.0 (begun_count H)
+
+-- and s began it
 abbrev pub is_begun_by : List Event → ℕ → Txn → Bool
-is_begun_by H s t = ltb 0 t.0 && leb t.0 (begun_count H) && eqb (session_of H t.0) s
+is_begun_by H s t = is_numbered H t && eqb (session_of H t.0) s

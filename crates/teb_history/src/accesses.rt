@@ -9,7 +9,6 @@ use teb_names::{Cell, Txn};
 /// Each call costs what the transaction's own events are.
 impl History {
     /// Whether a transaction has put a cell.
-    #[tactic(auto, using(crate::proofs::OwnWalks::wrote_own))]
     pub fn wrote(&self, t: Txn, cell: Cell) -> bool
         ensures { result ≡ wrote self.now.events t.0 cell }
     {
@@ -17,7 +16,6 @@ impl History {
     }
 
     /// Whether a transaction has read a cell.
-    #[tactic(auto, using(crate::proofs::OwnWalks::got_own))]
     pub fn got(&self, t: Txn, cell: Cell) -> bool
         ensures { result ≡ got self.now.events t.0 cell }
     {

@@ -1,10 +1,11 @@
 -- What was read of a source, and what was written to a sink, piece by piece.
-use Rattle.std.proofs.Common.{◌≡◌, ℕ, ◌+◌, ◌≤◌, List, ◌++◌, [], length, take, drop, Option, None, Some, IfSome, refl, sym, ap, ◌∙◌, append_assoc, append-nil, arith, length-append, length-drop, take-append-drop}
+use Rattle.std.proofs.Common.{◌≡◌, ℕ, ◌+◌, ◌≤◌, List, ◌++◌, length, take, drop, Option, None, Some, sym, ap, ◌∙◌, append_assoc, arith, length-append, length-drop, take-append-drop}
 use Rattle.std.proofs.Math.Seq.{take-add, drop-append_seam}
 use Rattle.std.proofs.lemmas.List.{drop-drop, take_at, length-take-le}
-use Rattle.std.specs.Io.KnownBytes.{Appends, Consumes, Keeps, IsAtEnd}
+use Rattle.std.specs.Io.KnownBytes.{Appends, Consumes}
 use Rattle.teb_io.specs.Bytes.{Takes, TakesUpTo}
 
+-- bytes that were consumed are the first of those that were left
 pub taken : (a b : Option (List ℕ)) (bs : List ℕ) → Consumes a b bs → Takes a b (length bs)
 taken None b bs p = tt
 taken (Some xs) None bs p = p
@@ -12,12 +13,6 @@ taken (Some xs) (Some ys) bs p = (omega (arith, ap length p, length-append bs ys
 
 pub taken_up_to : (n : ℕ) (a b : Option (List ℕ)) (bs : List ℕ) → Consumes a b bs → length bs ≤ n → TakesUpTo n a b
 taken_up_to n a b bs p within = (length bs, within, taken a b bs p)
-
--- what was read to the end is all that there was
-pub all_taken : (a b : Option (List ℕ)) (bs : List ℕ) → Consumes a b bs → IsAtEnd b → IfSome a (λ xs. bs ≡ xs)
-all_taken None b bs p e = tt
-all_taken (Some xs) None bs p e = absurd p
-all_taken (Some xs) (Some ys) bs p e = sym (p ∙ ap (λ l. bs ++ l) e ∙ append-nil bs)
 
 -- one more piece was written
 pub appends_more : (a b c : Option (List ℕ)) (text : List ℕ) (at n : ℕ) → Appends a b (take at text) → Appends b c (take n (drop at text)) → Appends a c (take (at + n) text)

@@ -1,5 +1,5 @@
 -- A source and a sink in memory: what they hold, and what one call answers and leaves.
-use Rattle.std.specs.Prelude.{◌≡◌, ℕ, ◌+◌, ◌-◌, ◌==◌, min, Bool, not, ◌&&◌, ◌||◌, List, [], ◌++◌, length, take, drop, Result, Ok, Err, if◌then◌else◌}
+use Rattle.std.specs.Prelude.{ℕ, ◌-◌, ◌==◌, min, Bool, not, ◌&&◌, ◌||◌, List, ◌++◌, length, take, drop, Result, Ok, Err, if◌then◌else◌}
 use Rattle.std.specs.List.{list_any}
 use Rattle.teb_io.specs.declared.Failed.{Failed}
 use Rattle.teb_io.specs.Faults.{next}

@@ -35,6 +35,7 @@ pub enum ReadError {
     /// There are more bytes than the limit.
     #[error("the input is too long")]
     TooLong,
+    /// Memory was wanting.
     #[error("out of memory")]
     OutOfMemory,
 }
@@ -64,15 +65,18 @@ impl From<Failed> for ReadError {
 /// How many bytes one read asks for.
 const PIECE: usize = 16384;
 
-/// Reads to the end of input, where at most `limit` bytes are left.
+/// Reads all the bytes that are left, where these are at most `limit`.
 ///
 /// After `TooLong` the first `limit + 1` bytes are taken, after `ReadFault` at most `limit`, and after `OutOfMemory` at
 /// most `limit + 1`.
 pub fn read_all<S: Source>(alloc: Global, input: &mut S, limit: usize) -> Result<Vec<u8>, ReadError>
     ensures ok { IfOk result (λ v. IfSome (S.left input.old) (λ bytes. v.items ≡ bytes)
         × IsAtEnd (S.left input.new) × (length v.items ≤ limit)) }
+
+    // Where more are left, and no read fails, they are too many, and only there.
     ensures long { IfSome (S.left input.old) (λ bytes. limit < length bytes → IsErr result) }
     ensures too_long { IsErrOf result ReadError.TooLong → Takes (S.left input.old) (S.left input.new) (limit + 1) }
+
     ensures fault { IsErrOf result ReadError.ReadFault → Rose (S.faults input.old) (S.faults input.new)
         × TakesUpTo limit (S.left input.old) (S.left input.new) }
     ensures memory { IsErrOf result ReadError.OutOfMemory → TakesUpTo (limit + 1) (S.left input.old) (S.left input.new) }

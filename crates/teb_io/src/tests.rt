@@ -1,5 +1,7 @@
 //! Reading and writing, whole and cut short.
 
+ghost use Rattle.std.specs.Prelude.{◌<◌};
+
 use crate::{MemSink, MemSource, ReadError, StdSink, StdSource, WriteFault, read_all, write_whole};
 use std::alloc::{AllocError, Global};
 use std::test::Fail;

@@ -1,4 +1,4 @@
-use Rattle.std.proofs.Common.{ℕ, List, ◌+◌, ◌≤◌, length, take, drop, arith, length-drop, subst}
+use Rattle.std.proofs.Common.{ℕ, List, ◌≤◌, length, take, drop, arith, length-drop, subst}
 use Rattle.std.proofs.lemmas.List.{take_rest}
 use Rattle.std.specs.Io.KnownBytes.{Appends}
 use Rattle.teb_io.proofs.Taking.{appends_more}
