@@ -2,22 +2,24 @@
 
 ghost use Rattle.std.specs.Prelude.{◌≡◌, [], IsTrue, true, false, IfOk, OnOk, OnErr};
 ghost use Rattle.teb_rules.specs.Answer.{answer};
-ghost use Rattle.engine_core.specs.Plain.{plain_store};
 ghost use Rattle.teb_laws.specs.Lawful.{Lawful};
+ghost use Rattle.engine_core.specs.Plain.{plain_store};
 
+use crate::carry_out::carry_out;
+use crate::decide::decide;
 use std::alloc::{AllocError, Global};
-use std::convert::Infallible;
 use std::marker::Model;
 use teb_history::History;
 use teb_names::{Reply, Request, Session};
 
+/// Room for the most events of one answer: an abort takes at most 31 others with it, and a scan reads 16 cells.
+const ROOM: usize = 33;
 
 /// A history, and the answers that go on with it. Contracts see the store, the events, the newest first, and whether there is room for an answer.
 #[derive(Drop)]
 pub struct Engine {
     history: History,
     ready: bool,
-    never: Infallible,
 }
 
 impl Model for Engine {
@@ -38,8 +40,10 @@ impl Engine {
         ensures events { IfOk result (λ e. e.events ≡ []) }
         ensures ready { IfOk result (λ e. e.ready ≡ false) }
     {
-        let _ = alloc;
-        Err(AllocError)
+        Ok(Engine {
+            history: History::new(alloc),
+            ready: false,
+        })
     }
 
     /// Makes room for the events of one answer. An `Err` leaves all as it was.
@@ -49,7 +53,9 @@ impl Engine {
         ensures ok { OnOk result (self.new.ready ≡ true) }
         ensures err { OnErr result (self.new ≡ self.old) }
     {
-        match self.never {}
+        self.history.reserve(ROOM)?;
+        self.ready = true;
+        Ok(())
     }
 
     /// Answers a request. It uses up the room, and takes no memory.
@@ -60,23 +66,24 @@ impl Engine {
         ensures store { self.new.store ≡ self.old.store }
         ensures ready { self.new.ready ≡ false }
     {
-        let _ = (session, request);
-        match self.never {}
+        self.ready = false;
+        let decision = decide(&self.history, session, request);
+        carry_out(decision, &mut self.history)
     }
 
-    /// What has happened so far.
+    /// What has happened so far: a history of the plain store, each event of which the rules granted.
     pub fn history(&self) -> &History
         ensures events { result.now.events ≡ self.now.events }
         ensures store { self.now.store ≡ plain_store }
         ensures lawful { Lawful self.now.store.setup self.now.events }
     {
-        match self.never {}
+        &self.history
     }
 
     /// The history alone.
     pub fn into_history(self) -> History
         ensures { result.events ≡ self.events }
     {
-        match self.never {}
+        self.history
     }
 }
