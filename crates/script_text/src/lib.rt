@@ -1,0 +1,26 @@
+//! The text of scripts, replies, events and reports.
+#![tactic(auto)]
+
+mod error;
+mod grammar;
+mod input;
+mod lines;
+mod names;
+mod numbers;
+mod script;
+mod words;
+
+pub use error::{LineWhy, ScriptError};
+pub use input::{count_lines, split_input};
+pub use script::parse_script;
+
+use teb_names::{Request, Session};
+
+/// A line that asks something.
+#[derive(Clone, Copy, Debug, PartialEq, Eq)]
+pub struct Line {
+    /// Its place among all lines of the script, from 1.
+    pub number: u32,
+    pub session: Session,
+    pub request: Request,
+}
