@@ -6,3 +6,4 @@ pub mod NameBytes
 pub mod ScriptSteps
 pub mod LineWords
 pub mod InputSteps
+pub mod Wholes

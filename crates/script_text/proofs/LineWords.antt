@@ -3,8 +3,8 @@ use Rattle.std.proofs.Common.{◌≡◌, ℕ, List, [], ◌∷◌, Option, None,
 use Rattle.std.specs.Option.{ok_or}
 use Rattle.teb_names.specs.declared.naming.NameBook.{NameBook}
 use Rattle.script_text.specs.Words.{words_of}
-use Rattle.script_text.specs.declared.grammar.Verb.{Verb}
-use Rattle.script_text.specs.declared.grammar.Verb.TheVariants as verb
+use Rattle.script_text.specs.declared.script.grammar.Verb.{Verb}
+use Rattle.script_text.specs.declared.script.grammar.Verb.TheVariants as verb
 use Rattle.script_text.specs.declared.error.LineWhy.TheVariants as why
 use Rattle.script_text.specs.Grammar.{arguments, after_session, verb_of, line_in, line_of, spot_in, cell_in, cell_and_value_in, cell_and_count_in, nothing_in, ◌>>=◌}
 

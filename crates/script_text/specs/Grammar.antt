@@ -14,8 +14,8 @@ use Rattle.script_text.specs.Lines.{lines_of}
 use Rattle.script_text.specs.Words.{words_of}
 use Rattle.script_text.specs.Numbers.{number_upto, number_from_one, integer_of}
 use Rattle.script_text.specs.NameWords.{is_name}
-use Rattle.script_text.specs.declared.grammar.Verb.{Verb}
-use Rattle.script_text.specs.declared.grammar.Verb.TheVariants as verb
+use Rattle.script_text.specs.declared.script.grammar.Verb.{Verb}
+use Rattle.script_text.specs.declared.script.grammar.Verb.TheVariants as verb
 use Rattle.script_text.specs.declared.error.LineWhy.{LineWhy}
 use Rattle.script_text.specs.declared.error.LineWhy.TheVariants as why
 use Rattle.script_text.specs.declared.Line.{Line}

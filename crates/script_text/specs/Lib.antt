@@ -4,3 +4,6 @@ pub mod Numbers
 pub mod NameWords
 pub mod Grammar
 pub mod Input
+pub mod Texts
+pub mod Named
+pub mod Puts

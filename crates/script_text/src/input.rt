@@ -4,7 +4,7 @@ ghost use Rattle.std.specs.Prelude.{◌≡◌, ◌≤◌, length, drop, option_m
 ghost use Rattle.script_text.specs.Input.{is_separator, parts_of};
 ghost use Rattle.script_text.specs.Lines.{lines_of};
 
-use super::lines::{Lines, after_line, line_len, without_return};
+use super::script::lines::{Lines, after_line, line_len, without_return};
 
 /// The bytes before the first line that is exactly `%%`, and the bytes after its line feed. `None` where there
 /// is no such line.

@@ -2,19 +2,15 @@
 #![tactic(auto)]
 
 mod error;
-mod grammar;
 mod input;
-mod lines;
-mod names;
-mod numbers;
 mod script;
-mod words;
+mod text;
 
 pub use error::{LineWhy, ScriptError};
 pub use input::{count_lines, split_input};
 pub use script::parse_script;
 
-use teb_names::{Request, Session};
+use teb_names::{Reply, Request, Session};
 
 /// A line that asks something.
 #[derive(Clone, Copy, Debug, PartialEq, Eq)]
@@ -23,4 +19,11 @@ pub struct Line {
     pub number: u32,
     pub session: Session,
     pub request: Request,
+}
+
+/// A reply, with the session that it is for.
+#[derive(Clone, Copy, Debug, PartialEq, Eq)]
+pub struct Answered {
+    pub session: Session,
+    pub reply: Reply,
 }

@@ -4,9 +4,15 @@ ghost use Rattle.std.specs.Prelude.{◌≡◌, ◌<◌, ◌^◌, ◌++◌, lengt
 ghost use Rattle.script_text.specs.Lines.{lines_of};
 ghost use Rattle.script_text.specs.Grammar.{script_of, at_line, line_of, Answers};
 
-use super::grammar::parse_line;
-use super::lines::Lines;
+mod grammar;
+pub mod lines;
+mod names;
+mod numbers;
+mod words;
+
 use super::{Line, ScriptError};
+use grammar::parse_line;
+use lines::Lines;
 use std::alloc::{AllocError, Global};
 use teb_names::NameBook;
 

@@ -1,7 +1,7 @@
 use Rattle.std.proofs.Common.{◌≡◌, ◌==◌, ◌∷◌, sym, ◌∙◌, ap, arith, length}
 use Rattle.script_text.specs.Lines.{lines_of}
 use Rattle.script_text.proofs.LineSteps.{lines_none, lines_next}
-use Rattle.script_text.proofs.lines.LinesIterator.next.Goals as goal
+use Rattle.script_text.proofs.script.lines.LinesIterator.next.Goals as goal
 
 pub returns-then-len-text-clause-steps : goal.returns-then-len-text-clause-steps
 returns-then-len-text-clause-steps c =

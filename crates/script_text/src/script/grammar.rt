@@ -9,7 +9,7 @@ ghost use Rattle.script_text.specs.Grammar.{verb_of, name_at, number_at, session
 use super::names::name_text;
 use super::numbers::{integer, number};
 use super::words::first_words;
-use super::{Line, LineWhy};
+use crate::{Line, LineWhy};
 use teb_names::{Cell, Kind, NameBook, Names, Request, Session, Spot, Table};
 
 /// The words that may follow a session.

@@ -1,6 +1,6 @@
 use Rattle.std.proofs.Common.{arith, length-set}
 use Rattle.script_text.proofs.WordSteps.{words_more, words_all, words_full}
-use Rattle.script_text.proofs.words.first_words.Goals as goal
+use Rattle.script_text.proofs.script.words.first_words.Goals as goal
 
 pub loop-word-preserved : goal.loop-word-preserved
 loop-word-preserved c = record {

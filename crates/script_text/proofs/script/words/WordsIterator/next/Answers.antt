@@ -1,7 +1,7 @@
 use Rattle.std.proofs.Common.{◌≡◌, ◌==◌, ◌∷◌, sym, ◌∙◌, ap, arith, length, take}
 use Rattle.script_text.specs.Words.{words_of}
 use Rattle.script_text.proofs.WordSteps.{word_next, word_none}
-use Rattle.script_text.proofs.words.WordsIterator.next.Goals as goal
+use Rattle.script_text.proofs.script.words.WordsIterator.next.Goals as goal
 
 pub returns-then-is_empty-clause-steps : goal.returns-then-is_empty-clause-steps
 returns-then-is_empty-clause-steps c =

@@ -1,6 +1,6 @@
 use Rattle.std.proofs.Common.{◌≡◌, ◌≤◌, ◌++◌, take, length}
 use Rattle.script_text.specs.Words.{nows, words_of}
-use Rattle.script_text.proofs.words.first_words.Given as goal
+use Rattle.script_text.proofs.script.words.first_words.Given as goal
 
 abbrev pub invariant-loop-word : goal.invariant-loop-word
 invariant-loop-word l = record {
