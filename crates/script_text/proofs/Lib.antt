@@ -7,3 +7,4 @@ pub mod ScriptSteps
 pub mod LineWords
 pub mod InputSteps
 pub mod Wholes
+pub mod SessionLists

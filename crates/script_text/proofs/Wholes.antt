@@ -38,14 +38,6 @@ line_ends old one two new w ws (Ok u) first others end =
 line_ends old one two new w ws (Err e) first others end =
     front_front (record { more = w; grown = first }) (front_front (record { more = spaced ws; grown = others }) end)
 
--- one more word of those that a function tells
-pub spaced_more : {X : Type 0} (f : X → List ℕ) (xs : List X) (i : ℕ) (x : X) (out new all : List ℕ) → slice_get xs i ≡ Some x → out ++ spaced (map f (drop i xs)) ≡ all
-    → new ≡ out ++ (codes " " ++ f x) → new ++ spaced (map f (drop (i + 1) xs)) ≡ all
-spaced_more f xs i x out new all at so_far put =
-    let here : drop i xs ≡ x ∷ drop (i + 1) xs = drop_more xs i x (slice_get_within xs i x at) ∙ ap (λ y. y ∷ drop (i + 1) xs) (get_or_from_slice_get xs i x x at) in
-    ap (λ l. l ++ spaced (map f (drop (i + 1) xs))) put ∙ append_assoc out (codes " " ++ f x) (spaced (map f (drop (i + 1) xs)))
-    ∙ ap (λ l. out ++ spaced (map f l)) (sym here) ∙ so_far
-
 spaced-append : (xs ys : List (List ℕ)) → spaced (xs ++ ys) ≡ spaced xs ++ spaced ys
 spaced-append [] ys = refl
 spaced-append (x ∷ xs) ys = ap (λ l. 32 ∷ (x ++ l)) (spaced-append xs ys) ∙ ap (λ l. 32 ∷ l) (sym (append_assoc x (spaced xs) (spaced ys)))
@@ -54,6 +46,3 @@ spaced-append (x ∷ xs) ys = ap (λ l. 32 ∷ (x ++ l)) (spaced-append xs ys) �
 pub two_parts : (one two three : List ℕ) (xs ys : List (List ℕ)) → two ≡ one ++ spaced xs → three ≡ two ++ spaced ys → three ≡ one ++ spaced (xs ++ ys)
 two_parts one two three xs ys first second =
     second ∙ ap (λ l. l ++ spaced ys) first ∙ append_assoc one (spaced xs) (spaced ys) ∙ ap (λ l. one ++ l) (sym (spaced-append xs ys))
-
-pub front_text : {old mid new text : List ℕ} → IsFront old mid → new ≡ mid ++ text → IsFront old new
-front_text {text = text} f put = front_front f (record { more = text; grown = put })

@@ -7,3 +7,5 @@ pub mod Input
 pub mod Texts
 pub mod Named
 pub mod Puts
+pub mod Scripts
+pub mod Lists

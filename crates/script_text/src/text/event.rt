@@ -23,7 +23,6 @@ pub fn put_event(out: &mut Vec<u8>, names: &NameBook, event: &Event) -> Result<(
     whole(out, start, written)
 }
 
-#[tactic(auto, using(crate::proofs::Wholes::line_behind))]
 fn put_event_line(out: &mut Vec<u8>, names: &NameBook, event: &Event) -> Result<(), AllocError>
     requires { EventNamed names.now event.now }
     ensures { Puts out.old.items (event_text names.now event.now) out.new.items result }

@@ -22,7 +22,6 @@ pub fn put_reply(out: &mut Vec<u8>, names: &NameBook, answered: &Answered) -> Re
     whole(out, start, written)
 }
 
-#[tactic(auto, using(crate::proofs::Wholes::line_behind))]
 fn put_answered(out: &mut Vec<u8>, names: &NameBook, answered: &Answered) -> Result<(), AllocError>
     requires { ReplyNamed names.now answered.now.reply }
     ensures { Puts out.old.items (reply_text names.now answered.now) out.new.items result }
@@ -62,8 +61,8 @@ fn put_reply_words(out: &mut Vec<u8>, names: &NameBook, reply: &Reply) -> Result
 fn put_values(out: &mut Vec<u8>, values: &ScanList) -> Result<(), AllocError>
     ensures { Puts out.old.items (spaced (map value_text values.now)) out.new.items result }
 {
-    for i in 0..values.len() {
-        put_spaced(out, &Word::Value(values.at(i)))?;
+    for value in values.values() {
+        put_spaced(out, &Word::Value(*value))?;
     }
     Ok(())
 }

@@ -72,7 +72,6 @@ pub fn put_words(out: &mut Vec<u8>, words: &[Word]) -> Result<(), AllocError>
 }
 
 /// Appends a line: a first word, and others behind it.
-#[tactic(auto, using(crate::proofs::Wholes::line_ends))]
 pub fn put_line<'a>(out: &mut Vec<u8>, first: &'a str, words: &'a [Word<'a>]) -> Result<(), AllocError>
     ensures { Puts out.old.items (line_text (first.now ∷ map word_text words.now)) out.new.items result }
 {

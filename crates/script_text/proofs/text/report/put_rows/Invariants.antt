@@ -3,8 +3,8 @@ use Rattle.script_text.specs.Texts.{rows_text}
 use Rattle.script_text.specs.Puts.{IsFront}
 use Rattle.script_text.proofs.text.report.put_rows.Given as goal
 
-abbrev pub invariant-loop-cell : goal.invariant-loop-cell
-invariant-loop-cell l = record {
+abbrev pub invariant-loop-row : goal.invariant-loop-row
+invariant-loop-row l = record {
   front : IsFront l.initial.out.items l.out.items;
-  rest : l.out.items ++ rows_text l.names l.word (drop l.cell-index l.rows) ≡ l.initial.out.items ++ rows_text l.names l.word l.rows;
+  rest : l.out.items ++ rows_text l.names l.word (drop l.row-index l.rows) ≡ l.initial.out.items ++ rows_text l.names l.word l.rows;
 }
