@@ -1,8 +1,7 @@
 -- Digits from the left.
-use Rattle.std.proofs.Common.{◌≡◌, ℕ, ◌+◌, ◌*◌, ◌<◌, ◌≤◌, ◌&&◌, List, [], ◌∷◌, length, get_or, drop, arith}
-use Rattle.std.specs.Str.{all_ascii_digits}
+use Rattle.std.proofs.Common.{◌≡◌, ℕ, ◌+◌, ◌*◌, ◌<◌, ◌≤◌, List, [], ◌∷◌, length, get_or, drop, arith}
 use Rattle.std.specs.Str.Parse.{digits_value_after}
-use Rattle.std.specs.Char.{is_ascii_digit, digit_value}
+use Rattle.std.specs.Char.{digit_value}
 use Rattle.std.proofs.lemmas.List.{drop_more}
 
 -- more digits make no smaller number

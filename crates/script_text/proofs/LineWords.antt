@@ -1,12 +1,12 @@
 -- No line that asks something has more than five words.
-use Rattle.std.proofs.Common.{◌≡◌, ℕ, List, [], ◌∷◌, Option, None, Some, take, refl, ap, ◌==◌, slice_index, if◌then◌else◌}
+use Rattle.std.proofs.Common.{◌≡◌, ℕ, List, [], ◌∷◌, Option, None, Some, take, refl}
 use Rattle.std.specs.Option.{ok_or}
 use Rattle.teb_names.specs.declared.naming.NameBook.{NameBook}
 use Rattle.script_text.specs.Words.{words_of}
 use Rattle.script_text.specs.declared.script.grammar.Verb.{Verb}
 use Rattle.script_text.specs.declared.script.grammar.Verb.TheVariants as verb
 use Rattle.script_text.specs.declared.error.LineWhy.TheVariants as why
-use Rattle.script_text.specs.Grammar.{arguments, after_session, verb_of, line_in, line_of, spot_in, cell_in, cell_and_value_in, cell_and_count_in, nothing_in, ◌>>=◌}
+use Rattle.script_text.specs.Grammar.{arguments, verb_of, line_in, line_of, spot_in, cell_in, cell_and_value_in, cell_and_count_in, nothing_in, ◌>>=◌}
 
 module _ (names : NameBook) (format : ℕ) where
   arguments_many : (v : Verb) (c d e f : List ℕ) (more : List (List ℕ)) → arguments names format v (c ∷ d ∷ e ∷ f ∷ []) ≡ arguments names format v (c ∷ d ∷ e ∷ f ∷ more)

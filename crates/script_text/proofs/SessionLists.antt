@@ -1,5 +1,5 @@
 -- A list of lines for each number of a session.
-use Rattle.std.proofs.Common.{◌≡◌, ◌≢◌, ℕ, zero, suc, ◌+◌, ◌<◌, ◌≤◌, ◌==◌, Bool, true, false, not, cond, if◌then◌else◌, List, [], ◌∷◌, ◌++◌, length, map, filter, replicate, take, get_or, set, take, Vec, Option, Some, option_map, slice_get, refl, sym, ap, ◌∙◌, arith, inl, inr}
+use Rattle.std.proofs.Common.{◌≡◌, ◌≢◌, ℕ, zero, suc, ◌+◌, ◌<◌, ◌≤◌, ◌==◌, Bool, true, false, not, cond, if◌then◌else◌, List, [], ◌∷◌, ◌++◌, length, map, filter, replicate, take, get_or, set, take, Vec, Some, option_map, slice_get, refl, sym, ap, ◌∙◌, arith, inl, inr}
 use Rattle.std.specs.declared.alloc.Global.{Global}
 use Rattle.std.specs.List.{range_with_len}
 use Rattle.std.proofs.lemmas.Bool.{cases_eq}
@@ -7,7 +7,7 @@ use Rattle.std.proofs.lemmas.Bool.Decides.{nat_tests}
 use Rattle.std.proofs.lemmas.List.{same_lists, get_or-set_same, get_or-set_other, length-set, length-map, length-replicate, get_or-replicate, get_or-map, map-set, append-nil, take_more}
 use Rattle.std.proofs.lemmas.Option.{slice_get-map, slice_get_read}
 use Rattle.std.proofs.lemmas.List.Elements.{filter-append}
-use Rattle.std.proofs.lemmas.List.FromFn.{length-range_with_len, length-map-range_with_len, get_or-map-range_with_len, filter_of_map_range_with_len_more}
+use Rattle.std.proofs.lemmas.List.FromFn.{length-map-range_with_len, get_or-map-range_with_len, filter_of_map_range_with_len_more}
 use Rattle.teb_names.specs.declared.Session.{Session}
 use Rattle.script_text.specs.declared.Line.{Line}
 use Rattle.script_text.specs.Scripts.{session, session_numbers, lines_for, scripts_of}
@@ -64,8 +64,8 @@ module _ (count : ℕ) where
   one_line ls l =
       same_lists _ _ (length-set (all_for ls) l.session.0 (list_at (all_for ls) l.session.0 ++ l ∷ []) ∙ long ls ∙ sym (long (ls ++ l ∷ [])))
       (λ k d h.
-          let within : k < count = omega (arith, h, length-set (all_for ls) l.session.0 (list_at (all_for ls) l.session.0 ++ l ∷ []), long ls) in
-          set_at ls l k d within ∙ sym (at (ls ++ l ∷ []) k d within))
+      let within : k < count = omega (arith, h, length-set (all_for ls) l.session.0 (list_at (all_for ls) l.session.0 ++ l ∷ []), long ls) in
+      set_at ls l k d within ∙ sym (at (ls ++ l ∷ []) k d within))
 
   pairs_from : (ls : List Line) (a m : ℕ) → a + m ≤ count → paired (map session (range_with_len a m)) (all_for ls) ≡ map (λ n. (session n, lines_for ls n)) (range_with_len a m)
   pairs_from ls a zero h = refl

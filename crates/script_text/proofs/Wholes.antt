@@ -1,9 +1,8 @@
 -- Whole lines, and whole texts or none.
-use Rattle.std.proofs.Common.{◌≡◌, ℕ, if◌then◌else◌, List, [], ◌∷◌, ◌++◌, codes, Result, Ok, Err, is_ok, take, drop, length, map, Option, Some, slice_get, ◌+◌, refl, sym, ap, ◌∙◌, append_assoc}
+use Rattle.std.proofs.Common.{◌≡◌, ℕ, if◌then◌else◌, List, [], ◌∷◌, ◌++◌, codes, Result, Ok, Err, is_ok, take, length, refl, sym, ap, ◌∙◌, append_assoc}
 use Rattle.std.specs.Result.{OnOk, OnErr}
 use Rattle.std.specs.List.{join_with_byte}
-use Rattle.std.proofs.lemmas.List.{take_at, append-nil, drop_more}
-use Rattle.std.proofs.lemmas.Option.{slice_get_within, get_or_from_slice_get}
+use Rattle.std.proofs.lemmas.List.{take_at, append-nil}
 use Rattle.script_text.specs.Texts.{line_text}
 use Rattle.script_text.specs.Puts.{Puts, IsFront, spaced}
 

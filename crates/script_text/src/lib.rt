@@ -11,9 +11,8 @@ pub use error::{LineWhy, ScriptError};
 pub use input::{count_lines, split_input};
 pub use script::parse_script;
 pub use scripts::{Scripts, scripts_of};
-pub use text::{put_event, put_reply, put_report, put_starts};
-
 use teb_names::{Reply, Request, Session};
+pub use text::{put_event, put_reply, put_report, put_starts};
 
 /// A line that asks something.
 #[derive(Clone, Copy, Debug, PartialEq, Eq)]

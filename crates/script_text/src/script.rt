@@ -8,6 +8,8 @@ mod grammar;
 pub mod lines;
 mod names;
 mod numbers;
+#[cfg(test)]
+mod tests;
 mod words;
 
 use super::{Line, ScriptError};
@@ -20,7 +22,12 @@ use teb_names::NameBook;
 /// have an instance, from 3 on there are `delete` and `scan`. A name that the tree does not have becomes the
 /// number 255. `BadLine` names the first bad line by its number, from 1, and the first of its faults in the
 /// order of `LineWhy`, name and number from left to right.
-pub fn parse_script(alloc: Global, script: &[u8], names: &NameBook, format: u8) -> Result<Vec<Line>, ScriptError>
+pub fn parse_script(
+    alloc: Global,
+    script: &[u8],
+    names: &NameBook,
+    format: u8,
+) -> Result<Vec<Line>, ScriptError>
     requires { length (lines_of script.now) < 2 ^ 32 }
     ensures { Answers result (script_of names.now format script.now) }
 {
@@ -34,7 +41,12 @@ pub fn parse_script(alloc: Global, script: &[u8], names: &NameBook, format: u8) 
     Ok(lines)
 }
 
-fn numbered_line(names: &NameBook, format: u8, number: u32, text: &[u8]) -> Result<Option<Line>, ScriptError>
+fn numbered_line(
+    names: &NameBook,
+    format: u8,
+    number: u32,
+    text: &[u8],
+) -> Result<Option<Line>, ScriptError>
     ensures { result ≡ at_line number (line_of names.now format number text.now) }
 {
     match parse_line(names, format, number, text) {

@@ -28,7 +28,12 @@ pub enum Verb {
 
 /// What a line asks: nothing where it is blank or a comment.
 #[tactic(auto, using(crate::proofs::LineWords::line_of_first))]
-pub fn parse_line(names: &NameBook, format: u8, number: u32, text: &[u8]) -> Result<Option<Line>, LineWhy>
+pub fn parse_line(
+    names: &NameBook,
+    format: u8,
+    number: u32,
+    text: &[u8],
+) -> Result<Option<Line>, LineWhy>
     ensures { result ≡ line_of names.now format number text.now }
 {
     let (words, len) = first_words(text);
@@ -36,7 +41,12 @@ pub fn parse_line(names: &NameBook, format: u8, number: u32, text: &[u8]) -> Res
 }
 
 #[tactic(auto, unfolding(crate::specs::Grammar::line_in))]
-fn line_in(names: &NameBook, format: u8, number: u32, words: &[&[u8]]) -> Result<Option<Line>, LineWhy>
+fn line_in(
+    names: &NameBook,
+    format: u8,
+    number: u32,
+    words: &[&[u8]],
+) -> Result<Option<Line>, LineWhy>
     ensures { result ≡ line_in names.now format number (nows words.now) }
 {
     match words {
@@ -47,7 +57,11 @@ fn line_in(names: &NameBook, format: u8, number: u32, words: &[&[u8]]) -> Result
             }
             let session = session(first)?;
             let request = request(names, format, rest)?;
-            Ok(Some(Line { number, session, request }))
+            Ok(Some(Line {
+                number,
+                session,
+                request,
+            }))
         }
     }
 }
@@ -219,7 +233,11 @@ fn cell_and_count(tables: &Names, words: &[&[u8]]) -> Result<(Cell, u8), LineWhy
 fn nothing(words: &[&[u8]]) -> Result<(), LineWhy>
     ensures { result ≡ nothing_in (nows words.now) }
 {
-    if words.is_empty() { Ok(()) } else { Err(LineWhy::Count) }
+    if words.is_empty() {
+        Ok(())
+    } else {
+        Err(LineWhy::Count)
+    }
 }
 
 #[tactic(auto, unfolding(crate::specs::Grammar::cell_at))]

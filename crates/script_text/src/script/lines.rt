@@ -23,7 +23,11 @@ impl<'a> Iterator for Lines<'a> {
         let len = line_len(text);
         let line = without_return(&text[..len]);
         self.0 = after_line(text, len);
-        if line.is_empty() && len == text.len() { None } else { Some(line) }
+        if line.is_empty() && len == text.len() {
+            None
+        } else {
+            Some(line)
+        }
     }
 }
 
@@ -47,7 +51,11 @@ pub fn after_line(text: &[u8], len: usize) -> &[u8]
     requires { len ≤ length text.now }
     ensures { result.now ≡ drop (len + 1) text.now }
 {
-    if len < text.len() { &text[len + 1..] } else { &text[len..] }
+    if len < text.len() {
+        &text[len + 1..]
+    } else {
+        &text[len..]
+    }
 }
 
 /// The line without the one carriage return at its end.

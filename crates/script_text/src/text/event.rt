@@ -28,16 +28,30 @@ fn put_event_line(out: &mut Vec<u8>, names: &NameBook, event: &Event) -> Result<
     ensures { Puts out.old.items (event_text names.now event.now) out.new.items result }
 {
     match event {
-        Event::Began { txn, session, kind: of, instance } => {
+        Event::Began {
+            txn,
+            session,
+            kind: of,
+            instance,
+        } => {
             let of = kind(names, *of);
             put_text(out, "began")?;
             put_words(out, &[Word::Txn(*txn), Word::Session(*session), of])?;
             put_instance(out, *instance)?;
             put_feed(out)
         }
-        Event::Got { txn, cell, from, value } => {
+        Event::Got {
+            txn,
+            cell,
+            from,
+            value,
+        } => {
             let table = table(names, cell.table);
-            put_line(out, "got", &[Word::Txn(*txn),
+            put_line(
+                out,
+                "got",
+                &[
+                    Word::Txn(*txn),
                     table,
                     Word::Natural(cell.key),
                     Word::Txn(*from),
@@ -47,7 +61,15 @@ fn put_event_line(out: &mut Vec<u8>, names: &NameBook, event: &Event) -> Result<
         }
         Event::Put { txn, cell, value } => {
             let table = table(names, cell.table);
-            put_line(out, "put", &[Word::Txn(*txn), table, Word::Natural(cell.key), Word::Value(*value)],
+            put_line(
+                out,
+                "put",
+                &[
+                    Word::Txn(*txn),
+                    table,
+                    Word::Natural(cell.key),
+                    Word::Value(*value),
+                ],
             )
         }
         Event::Ready(txn) => put_line(out, "ready", &[Word::Txn(*txn)]),

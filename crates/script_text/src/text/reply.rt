@@ -38,7 +38,10 @@ fn put_reply_words(out: &mut Vec<u8>, names: &NameBook, reply: &Reply) -> Result
     match reply {
         Reply::Begun(txn) => put_words(out, &[Word::Text("begun"), Word::Txn(*txn)]),
         Reply::Value(None) => put_words(out, &[Word::Text("none")]),
-        Reply::Value(Some(value)) => put_words(out, &[Word::Text("value"), Word::Value(Some(*value))]),
+        Reply::Value(Some(value)) => put_words(
+            out,
+            &[Word::Text("value"), Word::Value(Some(*value))],
+        ),
         Reply::Values(values) => {
             put_words(out, &[Word::Text("values")])?;
             put_values(out, values)
@@ -48,7 +51,10 @@ fn put_reply_words(out: &mut Vec<u8>, names: &NameBook, reply: &Reply) -> Result
         Reply::Committed => put_words(out, &[Word::Text("committed")]),
         Reply::Again { who, node: at } => {
             let at = node(names, *at);
-            put_words(out, &[Word::Text("again"), Word::Txn(*who), Word::Text("at"), at])
+            put_words(
+                out,
+                &[Word::Text("again"), Word::Txn(*who), Word::Text("at"), at],
+            )
         }
         Reply::Aborted(cause) => {
             put_words(out, &[Word::Text("aborted")])?;
@@ -73,21 +79,60 @@ pub fn put_cause(out: &mut Vec<u8>, names: &NameBook, cause: &Cause) -> Result<(
     ensures { Puts out.old.items (spaced (cause_words names.now cause.now)) out.new.items result }
 {
     match cause {
-        Cause::Late { node: at, reader, cell } => {
+        Cause::Late {
+            node: at,
+            reader,
+            cell,
+        } => {
             let at = node(names, *at);
             let table = table(names, cell.table);
-            put_words(out, &[Word::Text("late"), at, Word::Txn(*reader), table, Word::Natural(cell.key)])
+            put_words(
+                out,
+                &[
+                    Word::Text("late"),
+                    at,
+                    Word::Txn(*reader),
+                    table,
+                    Word::Natural(cell.key),
+                ],
+            )
         }
-        Cause::First { node: at, writer, cell } => {
+        Cause::First {
+            node: at,
+            writer,
+            cell,
+        } => {
             let at = node(names, *at);
             let table = table(names, cell.table);
-            put_words(out, &[Word::Text("first"), at, Word::Txn(*writer), table, Word::Natural(cell.key)])
+            put_words(
+                out,
+                &[
+                    Word::Text("first"),
+                    at,
+                    Word::Txn(*writer),
+                    table,
+                    Word::Natural(cell.key),
+                ],
+            )
         }
-        Cause::Pivot { node: at, a, b, c, d } => {
+        Cause::Pivot {
+            node: at,
+            a,
+            b,
+            c,
+            d,
+        } => {
             let at = node(names, *at);
             put_words(
                 out,
-                &[Word::Text("pivot"), at, Word::Txn(*a), Word::Txn(*b), Word::Txn(*c), Word::Txn(*d)],
+                &[
+                    Word::Text("pivot"),
+                    at,
+                    Word::Txn(*a),
+                    Word::Txn(*b),
+                    Word::Txn(*c),
+                    Word::Txn(*d),
+                ],
             )
         }
         Cause::Newer { node: at, other } => {

@@ -11,7 +11,12 @@ use teb_names::{Cell, NameBook, Rows, Txn};
 
 /// Appends a report: the serial order, the final rows, and the end. For want of memory it appends nothing.
 #[tactic(auto, using(crate::proofs::Wholes::kept, crate::proofs::Wholes::taken_back))]
-pub fn put_report(out: &mut Vec<u8>, names: &NameBook, order: &[Txn], rows: &[(Cell, i64)]) -> Result<(), AllocError>
+pub fn put_report(
+    out: &mut Vec<u8>,
+    names: &NameBook,
+    order: &[Txn],
+    rows: &[(Cell, i64)],
+) -> Result<(), AllocError>
     requires { RowsNamed names.now rows.now }
     ensures ok { OnOk result (out.new.items ≡ out.old.items ++ report_text names.now order.now rows.now) }
     ensures err { OnErr result (out.new.items ≡ out.old.items) }
@@ -33,7 +38,12 @@ pub fn put_starts(out: &mut Vec<u8>, names: &NameBook, rows: &Rows) -> Result<()
     whole(out, start, written)
 }
 
-fn put_report_lines(out: &mut Vec<u8>, names: &NameBook, order: &[Txn], rows: &[(Cell, i64)]) -> Result<(), AllocError>
+fn put_report_lines(
+    out: &mut Vec<u8>,
+    names: &NameBook,
+    order: &[Txn],
+    rows: &[(Cell, i64)],
+) -> Result<(), AllocError>
     requires { RowsNamed names.now rows.now }
     ensures { Puts out.old.items (report_text names.now order.now rows.now) out.new.items result }
 {
@@ -75,11 +85,20 @@ fn put_rows<'a>(
     Ok(())
 }
 
-fn put_row<'a>(out: &mut Vec<u8>, names: &'a NameBook, word: &'a str, row: &(Cell, i64)) -> Result<(), AllocError>
+fn put_row<'a>(
+    out: &mut Vec<u8>,
+    names: &'a NameBook,
+    word: &'a str,
+    row: &(Cell, i64),
+) -> Result<(), AllocError>
     requires { CellNamed names.now row.now.0 }
     ensures { Puts out.old.items (row_text names.now word.now row.now) out.new.items result }
 {
     let (cell, value) = row;
     let table = table(names, cell.table);
-    put_line(out, word, &[table, Word::Natural(cell.key), Word::Value(Some(*value))])
+    put_line(
+        out,
+        word,
+        &[table, Word::Natural(cell.key), Word::Value(Some(*value))],
+    )
 }

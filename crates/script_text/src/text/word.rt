@@ -72,7 +72,11 @@ pub fn put_words(out: &mut Vec<u8>, words: &[Word]) -> Result<(), AllocError>
 }
 
 /// Appends a line: a first word, and others behind it.
-pub fn put_line<'a>(out: &mut Vec<u8>, first: &'a str, words: &'a [Word<'a>]) -> Result<(), AllocError>
+pub fn put_line<'a>(
+    out: &mut Vec<u8>,
+    first: &'a str,
+    words: &'a [Word<'a>],
+) -> Result<(), AllocError>
     ensures { Puts out.old.items (line_text (first.now ∷ map word_text words.now)) out.new.items result }
 {
     put_text(out, first)?;
@@ -117,7 +121,11 @@ fn put_value(out: &mut Vec<u8>, n: i64) -> Result<(), AllocError>
 }
 
 /// Passes on how a text was written that began at this length, and takes it back where memory ran out.
-pub fn whole(out: &mut Vec<u8>, start: usize, written: Result<(), AllocError>) -> Result<(), AllocError>
+pub fn whole(
+    out: &mut Vec<u8>,
+    start: usize,
+    written: Result<(), AllocError>,
+) -> Result<(), AllocError>
     ensures same { result ≡ written }
     ensures out { out.new.items ≡ (if is_ok written then out.old.items else take start out.old.items) }
 {

@@ -1,4 +1,4 @@
-use Rattle.std.proofs.Common.{◌≡◌, ◌+◌, ◌≤◌, length, drop, sym, ◌∙◌, ap, arith, length-drop}
+use Rattle.std.proofs.Common.{length, sym, ◌∙◌, ap, arith, length-drop}
 use Rattle.script_text.proofs.InputSteps.{turn_found, turn_none, turn_more}
 use Rattle.script_text.proofs.input.split_input.Goals as goal
 

@@ -1,5 +1,4 @@
-use Rattle.std.proofs.Common.{◌≡◌, ℕ, [], List, map, replicate, vec_len}
-use Rattle.script_text.specs.declared.Line.{Line}
+use Rattle.std.proofs.Common.{◌≡◌, [], replicate, vec_len}
 use Rattle.script_text.specs.Lists.{lists_in}
 use Rattle.script_text.proofs.scripts.empty_lists.Given as goal
 
