@@ -1,18 +1,21 @@
 -- What a refusal, a stop and a grant come to in the answer rule.
-use Rattle.std.proofs.Common.{◌≡◌, ℕ, suc, ◌+◌, ◌<◌, ◌≤◌, Bool, true, false, cond, not, ltb, leb, List, [], ◌∷◌, Option, Some, None, refl, sym, ◌∙◌, ap, subst, arith}
+use Rattle.std.proofs.Common.{◌≡◌, ◌⊎◌, inl, inr, ◌&&◌, ℕ, suc, ◌+◌, ◌<◌, ◌≤◌, Bool, true, false, cond, not, ltb, leb, List, [], ◌∷◌, Option, Some, None, refl, sym, ◌∙◌, ap, subst, arith}
 use Rattle.teb_names.specs.declared.Cell.{Cell}
-use Rattle.std.proofs.lemmas.Bool.{le-leb, lt-leb}
+use Rattle.std.proofs.lemmas.Bool.{le-leb, lt-leb, both_ways, and_parts, or_cases}
 use Rattle.teb_names.specs.declared.Node.{Node}
 use Rattle.teb_names.specs.declared.Txn.{Txn}
 use Rattle.teb_names.specs.declared.Session.{Session}
 use Rattle.teb_names.specs.declared.Spot.{Spot}
 use Rattle.teb_names.specs.declared.Refusal.{Refusal}
-use Rattle.teb_names.specs.declared.Refusal.TheVariants.{UnknownType, Full, NoTxn}
+use Rattle.teb_names.specs.declared.Refusal.TheVariants.{UnknownType, Full, NoTxn, Range, BadSession}
 use Rattle.teb_names.specs.declared.Request.{Request}
 use Rattle.teb_names.specs.declared.Request.TheVariants.{Begin, Read, Write, Add, Delete, Scan, Prepare, Commit, Abort, End}
 use Rattle.teb_names.specs.declared.Reply.TheVariants.{Refused, Again, Begun}
 use Rattle.teb_history.specs.declared.Event.TheVariants.{Began}
-use Rattle.teb_history.specs.Phases.{begun_count}
+use Rattle.teb_history.specs.Phases.{begun_count, held, aborted, unfinished}
+use Rattle.teb_history.specs.Written.{held_txn, txn_of}
+use Rattle.teb_laws.proofs.Outcomes.{held_holds}
+use Rattle.teb_laws.proofs.Reachable.{untold_gone}
 use Rattle.teb_rules.specs.Cascade.{txn}
 use Rattle.teb_rules.specs.Setup.{Setup}
 use Rattle.teb_rules.specs.Stops.{begin_stop}
@@ -20,10 +23,10 @@ use Rattle.teb_history.specs.declared.Event.{Event}
 use Rattle.teb_rules.specs.Setup.{Store}
 use Rattle.teb_rules.specs.declared.Stop.{Stop}
 use Rattle.teb_rules.specs.declared.Stop.TheVariants as stop
-use Rattle.teb_rules.specs.Answer.{Answered, or_stop, or_refused, refuse, answer_new, begin_or_wait}
+use Rattle.teb_rules.specs.Answer.{Answered, or_stop, or_refused, refuse, is_scan, answer, answer_to, answer_of, answer_new, begin_or_wait}
 use Rattle.engine_core.specs.declared.decision.Decision.{Decision}
 use Rattle.engine_core.specs.declared.decision.Decision.TheVariants.{Answer}
-use Rattle.engine_core.specs.Decisions.{carried, IsBounded, IsRefusal, IsStopped}
+use Rattle.engine_core.specs.Decisions.{carried, told, IsBounded, IsRefusal, IsStopped}
 
 -- a request of t that is stopped, and one that is not
 pub stops : (X : Store) (H : List Event) (t : ℕ) (s r : Stop) (o : Option Decision) (d : Decision) (granted : Answered) → s ≡ r → IsStopped X H t s o → o ≡ Some d → carried X H d ≡ or_stop H t r granted
@@ -69,3 +72,50 @@ pub holds_nothing : (S : Setup) (H : List Event) (s : Session) (r : Request) →
 unfolding answer_new
 holds_nothing S H s (Begin k) f = absurd (f k refl)
 holds_nothing S H s _ f = refl
+
+-- a scan that has no keys for its cells, or too many cells, and one that has
+pub out_of_range : (H : List Event) (x : Cell) (n : ℕ) (granted : Answered) → is_scan x n ≡ false → cond (is_scan x n) granted (refuse H Range) ≡ refuse H Range
+out_of_range H x n granted e = rw e refl
+
+pub in_range : (H : List Event) (x : Cell) (n : ℕ) (granted : Answered) → is_scan x n ≡ true → cond (is_scan x n) granted (refuse H Range) ≡ granted
+in_range H x n granted e = rw e refl
+
+-- what a session is answered by what it holds
+pub bad_session : (X : Store) (H : List Event) (s : Session) (r : Request) → (s.0 < 1) ⊎ (32 < s.0) → answer X H s r ≡ refuse H BadSession
+unfolding answer
+bad_session X H s r o = elim o [ inl h ↦ rw (lt-leb 1 s.0 h) refl | inr h ↦ rw (lt-leb s.0 32 h) (no (leb 1 s.0)) ]
+  where
+    no : (b : Bool) → cond (b && false) (answer_to X H s r (held H s.0)) (refuse H BadSession) ≡ refuse H BadSession
+    no true = refl
+    no false = refl
+
+good_session : (X : Store) (H : List Event) (s : Session) (r : Request) → 1 ≤ s.0 → s.0 ≤ 32 → answer X H s r ≡ answer_to X H s r (held H s.0)
+unfolding answer
+good_session X H s r h k = rw (le-leb 1 s.0 h, le-leb s.0 32 k) refl
+
+nobody_held : (H : List Event) (s : Session) → held_txn H s ≡ None → held H s.0 ≡ None
+nobody_held H s e = go (held H s.0) e
+  where
+    go : (o : Option ℕ) → txn_of o ≡ None → o ≡ None
+    go None e = refl
+    go (Some t) e = absurd (cc)
+
+somebody_held : (H : List Event) (s : Session) (t : Txn) → held_txn H s ≡ Some t → held H s.0 ≡ Some t.0
+somebody_held H s t e = go (held H s.0) e
+  where
+    go : (o : Option ℕ) → txn_of o ≡ Some t → o ≡ Some t.0
+    go None e = absurd (cc)
+    go (Some u) e = let q : record { 0 = u } ≡ t = cc in ap (λ (v : Txn). Some v.0) q
+
+pub nothing_held : (X : Store) (H : List Event) (s : Session) (r : Request) → 1 ≤ s.0 → s.0 ≤ 32 → held_txn H s ≡ None → answer X H s r ≡ answer_new X.setup H s r
+nothing_held X H s r h k e = good_session X H s r h k ∙ ap (answer_to X H s r) (nobody_held H s e)
+
+pub aborted_held : (X : Store) (H : List Event) (s : Session) (r : Request) (t : Txn) → 1 ≤ s.0 → s.0 ≤ 32 → held_txn H s ≡ Some t → aborted H t.0 ≡ true → answer X H s r ≡ told H t.0
+aborted_held X H s r t h k e a = good_session X H s r h k ∙ ap (answer_to X H s r) (somebody_held H s t e) ∙ rw a refl
+
+pub running_held : (X : Store) (H : List Event) (s : Session) (r : Request) (t : Txn) → 1 ≤ s.0 → s.0 ≤ 32 → held_txn H s ≡ Some t → aborted H t.0 ≡ false → answer X H s r ≡ answer_of X H t.0 r
+running_held X H s r t h k e a = good_session X H s r h k ∙ ap (answer_to X H s r) (somebody_held H s t e) ∙ rw a refl
+
+-- who is held and not aborted is unfinished
+pub held_unfinished : (H : List Event) (s : Session) (t : Txn) → held_txn H s ≡ Some t → aborted H t.0 ≡ false → unfinished H t.0 ≡ true
+held_unfinished H s t e a = elim (or_cases _ _ (and_parts _ _ (held_holds H s.0 t.0 (somebody_held H s t e))).1) [ inl u ↦ u | inr u ↦ absurd (both_ways _ a (untold_gone H t.0 u)) ]

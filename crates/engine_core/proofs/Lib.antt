@@ -11,3 +11,4 @@ pub mod PlainReads
 pub mod Deciding
 pub mod Adding
 pub mod Gathering
+pub mod Carrying

@@ -31,8 +31,13 @@ pub fn decide(history: &History, session: Session, request: Request) -> Decision
     }
     match history.held(session) {
         None => decide_new(history, session, request),
-        Some(t) if history.is_aborted(t) => tell(history, t),
-        Some(t) => decide_of(history, t, request),
+        Some(t) => {
+            if history.is_aborted(t) {
+                tell(history, t)
+            } else {
+                decide_of(history, t, request)
+            }
+        }
     }
 }
 
