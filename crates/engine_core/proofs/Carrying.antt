@@ -19,7 +19,7 @@ use Rattle.teb_laws.proofs.Reachable.{answer_good, empty_good}
 use Rattle.engine_core.specs.Plain.{plain_store}
 use Rattle.engine_core.specs.State.{IsRun, IsEngine}
 use Rattle.engine_core.specs.declared.decision.Decision.{Decision}
-use Rattle.engine_core.specs.declared.decision.Decision.TheVariants.{Answer, Grant, Gather, Fall}
+use Rattle.engine_core.specs.declared.decision.Decision.TheVariants.{Answer, Grant, Scan, Fall}
 use Rattle.engine_core.specs.Decisions.{carried, IsBounded}
 use Rattle.engine_core.proofs.PlainFacts.{plain_sound, plain_tree}
 
@@ -61,7 +61,7 @@ grant_begun H (Told t) h f = h
 carried_few : (X : Store) (H : List Event) (d : Decision) → begun_count H ≤ 8192 → IsBounded H d → begun_count (carried X H d).1 ≤ 8192
 carried_few X H (Answer r) h b = h
 carried_few X H (Grant r e) h b = grant_begun H e h b
-carried_few X H (Gather t x n) h b = let e = all_begun X H t.0 (cells_from x n) in omega arith
+carried_few X H (Scan t x n) h b = let e = all_begun X H t.0 (cells_from x n) in omega arith
 carried_few X H (Fall t c) h b = let e = abort_begun H t.0 c in omega arith
 
 -- the history of a run goes on with an answer

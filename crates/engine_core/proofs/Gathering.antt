@@ -13,7 +13,7 @@ use Rattle.teb_rules.specs.Cascade.{txn}
 use Rattle.teb_rules.specs.Versions.{read}
 use Rattle.teb_rules.specs.Answer.{cells_from, read_all}
 use Rattle.teb_laws.specs.Lawful.{Lawful}
-use Rattle.engine_core.specs.Scans.{cell_at}
+use Rattle.engine_core.specs.Cells.{cell_at}
 
 -- the cells of a scan that are left after the first i
 abbrev pub rest_of : Cell → ℕ → ℕ → List Cell
@@ -84,7 +84,7 @@ pub read_one : (X : Store) (H : List Event) (t : Txn) (x : Cell) (n : ℕ) (valu
 read_one X H t x n values G F i from v r h e q s =
     let w = read X.setup X.rows G.events t.0 (cell_at x i) in
     let step : read_all X G.events t.0 (rest_of x n i) ≡ (w.1 ∷ (read_all X (Got t (cell_at x i) (txn w.0) w.1 ∷ G.events) t.0 (rest_of x n (i + 1))).0, (read_all X (Got t (cell_at x i) (txn w.0) w.1 ∷ G.events) t.0 (rest_of x n (i + 1))).1) =
-        ap (read_all X G.events t.0) (rest_more x n i h) ∙ all_cons X G.events t.0 (cell_at x i) (rest_of x n (i + 1)) in
+    ap (read_all X G.events t.0) (rest_more x n i h) ∙ all_cons X G.events t.0 (cell_at x i) (rest_of x n (i + 1)) in
     let to : (z : ℕ × Option ℤ) → List (Option ℤ) × List Event = λ z. (z.1 ∷ (read_all X (Got t (cell_at x i) (txn z.0) z.1 ∷ G.events) t.0 (rest_of x n (i + 1))).0, (read_all X (Got t (cell_at x i) (txn z.0) z.1 ∷ G.events) t.0 (rest_of x n (i + 1))).1) in
     let same : read_all X G.events t.0 (rest_of x n i) ≡ to (from.0, v) = step ∙ ap to (sym e) in
     record {

@@ -59,7 +59,7 @@ record IsSplit (H : List Event) (x : Cell) (u : Txn) (Q : List Event) : Type 0 w
 others : (H later Q : List Event) (x : Cell) (u : Txn) (v : Option ℤ) (b : ℕ) → H ≡ later ++ Put u x v ∷ Q → list_any (is_put b x) later ≡ false → b ≢ u.0 → wrote H b x ≡ true → wrote Q b x ≡ true
 others H later Q x u v b e n ne w =
     let h : (list_any (is_put b x) later || ((eqb u.0 b && same_cell x x) || list_any (is_put b x) Q)) ≡ true =
-        sym (any-append (is_put b x) later (Put u x v ∷ Q)) ∙ ap (list_any (is_put b x)) (sym e) ∙ sym (wrote_any H b x) ∙ w in
+    sym (any-append (is_put b x) later (Put u x v ∷ Q)) ∙ ap (list_any (is_put b x)) (sym e) ∙ sym (wrote_any H b x) ∙ w in
     elim (or_cases (list_any (is_put b x) later) _ h) [
       | inl p ↦ absurd (both_ways _ n p)
       | inr p ↦ elim (or_cases (eqb u.0 b && same_cell x x) (list_any (is_put b x) Q) p) [

@@ -14,19 +14,19 @@ use Rattle.teb_rules.specs.declared.Stop.TheVariants as stop
 use Rattle.teb_rules.specs.Cascade.{txn}
 use Rattle.teb_rules.specs.Answer.{Answered, cells_from, read_all, got_values, broken_off, refuse, or_stop, or_refused, fits}
 use Rattle.engine_core.specs.declared.decision.Decision.{Decision}
-use Rattle.engine_core.specs.declared.decision.Decision.TheVariants.{Answer, Grant, Gather, Fall}
+use Rattle.engine_core.specs.declared.decision.Decision.TheVariants.{Answer, Grant, Scan, Fall}
 
 -- the reply and the history after a decision
 abbrev pub carried : Store → List Event → Decision → Answered
 carried X H (Answer r) = (r, H)
 carried X H (Grant r e) = (r, e ∷ H)
-carried X H (Gather t x n) = got_values (read_all X H t.0 (cells_from x n))
+carried X H (Scan t x n) = got_values (read_all X H t.0 (cells_from x n))
 carried X H (Fall t c) = broken_off H t.0 c
 
 -- a transaction begins only where fewer than 8,192 have begun, and at most 16 cells are read, each of which has a key
 abbrev pub IsBounded : List Event → Decision → Type 0
 IsBounded H (Grant r e) = IsTrue (is_begin e) → begun_count H < 8192
-IsBounded H (Gather t x n) = (n ≤ 16) × (x.key + n ≤ 2 ^ 32)
+IsBounded H (Scan t x n) = (n ≤ 16) × (x.key + n ≤ 2 ^ 32)
 IsBounded H _ = Unit {0}
 
 -- the refusal of an access, if there is one

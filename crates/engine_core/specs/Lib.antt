@@ -2,4 +2,4 @@ pub mod Plain
 pub mod State
 pub mod Decisions
 pub mod Reading
-pub mod Scans
+pub mod Cells

@@ -9,13 +9,10 @@ ghost use Rattle.engine_core.specs.Plain.{plain_store};
 ghost use Rattle.engine_core.specs.State.{IsRun};
 ghost use Rattle.engine_core.specs.Decisions.{carried, sum_of, IsBounded, IsRefusal};
 
-use crate::decision::Decision;
-use crate::outcomes::{is_prepared, refused, stopped};
-use crate::past::{last_got, last_put};
-use crate::profile::{has_step, has_table};
-use crate::reads::read;
-use crate::scan::scan_stop;
-use crate::stops::access_stop;
+use crate::decision::{Decision, refused, stopped};
+use crate::past::{is_prepared, last_got, last_put};
+use crate::plain::{access_stop, has_step, has_table, read};
+use crate::scans::scan_stop;
 use teb_history::{Event, History};
 use teb_names::{Cell, Refusal, Reply, Txn};
 
@@ -92,7 +89,7 @@ pub fn decide_scan(history: &History, t: Txn, first: Cell, count: u8) -> Decisio
     if let Some(decision) = stopped(t, scan_stop(history, t, first, count)) {
         return decision;
     }
-    Decision::Gather(t, first, count)
+    Decision::Scan(t, first, count)
 }
 
 /// Whether there are 1 to 16 cells, the last of which has a key.

@@ -8,10 +8,9 @@ ghost use Rattle.engine_core.specs.State.{IsRun};
 ghost use Rattle.engine_core.specs.Decisions.{carried, told, IsBounded};
 
 use crate::accesses::{decide_add, decide_read, decide_scan, decide_write};
-use crate::decision::Decision;
-use crate::outcomes::{is_prepared, refused, stopped};
-use crate::profile::has_type;
-use crate::stops::{begin_stop, commit_stop, prepare_stop};
+use crate::decision::{Decision, refused, stopped};
+use crate::past::is_prepared;
+use crate::plain::{begin_stop, commit_stop, has_type, prepare_stop};
 use teb_history::{Event, History};
 use teb_names::{Cause, Refusal, Reply, Request, Session, Spot, Txn};
 use teb_rules::Stop;

@@ -1,15 +1,14 @@
-//! What the engine does with a request, and how it is carried out.
+//! What the engine does with a request.
 
-ghost use Rattle.std.specs.Prelude.{◌≡◌, ◌≤◌};
-ghost use Rattle.teb_laws.specs.Lawful.{Lawful};
-ghost use Rattle.engine_core.specs.Plain.{plain_store};
-ghost use Rattle.engine_core.specs.State.{IsRun};
-ghost use Rattle.engine_core.specs.Decisions.{carried, IsBounded};
+ghost use Rattle.std.specs.Prelude.{◌≡◌, List};
+ghost use Rattle.teb_history.specs.declared.Event.{Event};
+ghost use Rattle.teb_rules.specs.Setup.{Store};
+ghost use Rattle.teb_rules.specs.Verdicts.{cause_at};
+ghost use Rattle.engine_core.specs.Decisions.{IsStopped};
 
-use crate::falls::fall;
-use crate::scan::read_cells;
-use teb_history::{Event, History};
-use teb_names::{Cause, Cell, Reply, Txn};
+use teb_history::Event;
+use teb_names::{Cause, Cell, Node, Refusal, Reply, Txn};
+use teb_rules::{Broken, Stop};
 
 /// What the engine does with a request.
 #[derive(Clone, Copy)]
@@ -19,30 +18,39 @@ pub enum Decision {
     /// It replies, and writes one event.
     Grant(Reply, Event),
     /// The transaction reads so many cells from this one on.
-    Gather(Txn, Cell, u8),
+    Scan(Txn, Cell, u8),
     /// The transaction is aborted, and all that have to fall with it.
     Fall(Txn, Cause),
 }
 
-/// Writes the events of a decision, and gives the reply.
-pub fn carry_out(decision: Decision, history: &mut History) -> Reply
-    requires room { 33 ≤ history.old.spare }
-    requires run { IsRun history.old.events }
-    requires leads { Lawful plain_store.setup (carried plain_store history.old.events decision).1 }
-    requires bounded { IsBounded history.old.events decision }
-    ensures reply { result ≡ (carried plain_store history.old.events decision).0 }
-    ensures events { history.new.events ≡ (carried plain_store history.old.events decision).1 }
+/// A refusal.
+pub fn refused(why: Refusal) -> Decision
+    ensures { result ≡ Decision.Answer (Reply.Refused why) }
 {
-    match decision {
-        Decision::Answer(reply) => reply,
-        Decision::Grant(reply, event) => {
-            history.push(event);
-            reply
+    Decision::Answer(Reply::Refused(why))
+}
+
+/// What a stop makes of a request of t, if it stops it. Nobody waits for a transaction of greater number.
+pub fn stopped(t: Txn, stop: Stop) -> Option<Decision>
+    ensures { (X : Store) (H : List Event) → IsStopped X H t.0 stop result }
+{
+    match stop {
+        Stop::Go => None,
+        Stop::Wait { who, node } if t.0 < who.0 => {
+            Some(Decision::Fall(t, Cause::Newer { node, other: who }))
         }
-        Decision::Gather(t, first, count) => Reply::Values(read_cells(history, t, first, count)),
-        Decision::Fall(t, cause) => {
-            fall(history, t, cause);
-            Reply::Aborted(cause)
-        }
+        Stop::Wait { who, node } => Some(Decision::Answer(Reply::Again { who, node })),
+        Stop::Break { node, broken } => Some(Decision::Fall(t, cause_at(node, broken))),
+    }
+}
+
+/// The cause that a break at a node gives.
+fn cause_at(node: Node, broken: Broken) -> Cause
+    ensures { result ≡ cause_at node broken }
+{
+    match broken {
+        Broken::Late { reader, cell } => Cause::Late { node, reader, cell },
+        Broken::First { writer, cell } => Cause::First { node, writer, cell },
+        Broken::Pivot { a, b, c, d } => Cause::Pivot { node, a, b, c, d },
     }
 }

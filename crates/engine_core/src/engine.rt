@@ -4,8 +4,8 @@ ghost use Rattle.std.specs.Prelude.{◌≡◌, [], IsTrue, true, false, IfOk, On
 ghost use Rattle.teb_rules.specs.Answer.{answer};
 ghost use Rattle.engine_core.specs.Plain.{plain_store};
 
+use crate::carry_out::carry_out;
 use crate::decide::decide;
-use crate::decision::carry_out;
 use std::alloc::{AllocError, Global};
 use std::marker::Model;
 use teb_history::History;

@@ -2,15 +2,15 @@
 #![tactic(auto)]
 
 mod accesses;
+mod carry_out;
 mod decide;
 mod decision;
 mod engine;
-mod falls;
-mod outcomes;
 mod past;
-mod profile;
-mod reads;
-mod scan;
-mod stops;
+mod plain;
+mod scans;
 
 pub use engine::Engine;
+
+#[cfg(test)]
+mod tests;

@@ -2,10 +2,19 @@
 
 ghost use Rattle.std.specs.Prelude.{◌≡◌};
 ghost use Rattle.std.specs.List.{list_any};
+ghost use Rattle.teb_history.specs.Phases.{prepared};
 ghost use Rattle.teb_history.specs.Accesses.{wrote, got, is_put, is_got, last_put, last_got};
 
 use teb_history::{Event, History};
 use teb_names::{Cell, Txn};
+
+/// Whether a transaction is prepared.
+#[tactic(auto, unfolding(teb_history::specs::Phases::prepared))]
+pub fn is_prepared(history: &History, t: Txn) -> bool
+    ensures { result ≡ prepared history.now.events t.0 }
+{
+    history.is_unfinished(t) && history.is_ready(t)
+}
 
 /// Whether a transaction has put a cell.
 pub fn wrote(history: &History, t: Txn, cell: Cell) -> bool
