@@ -1,9 +1,7 @@
-pub mod PastWalks
 pub mod PlainFacts
 pub mod PlainSteps
 pub mod PlainStops
 pub mod Backwards
-pub mod FirstTxn
 pub mod PlainVersions
 pub mod PlainFalls
 pub mod NewestVersion

@@ -1,11 +1,15 @@
 -- What stops a request in the plain store.
-use Rattle.std.proofs.Common.{◌≡◌, ℕ, zero, suc, ◌<◌, Bool, true, false, cond, not, ◌&&◌, ◌||◌, eqb, List, [], ◌∷◌, Option, Some, None, find, refl, sym, ◌∙◌, ap}
+use Rattle.std.proofs.Common.{◌≡◌, ℕ, zero, suc, ◌<◌, Bool, true, false, cond, not, ◌&&◌, ◌||◌, eqb, List, [], ◌∷◌, Option, Some, None, find, refl, sym, ◌∙◌, ap, lt-ltb}
 use Rattle.teb_names.specs.declared.Spot.{Spot}
 use Rattle.teb_names.specs.declared.Cell.{Cell}
 use Rattle.teb_history.specs.declared.Event.{Event}
-use Rattle.teb_history.specs.Phases.{txns, spot_of, unfinished}
+use Rattle.teb_history.specs.Phases.{txns, begun_count, spot_of, unfinished, untold}
+use Rattle.teb_history.specs.Live.{is_live, is_numbered, live_txns}
+use Rattle.teb_history.proofs.FirstLive.{first_live}
+use Rattle.teb_laws.proofs.Cascades.{unfinished_times}
+use Rattle.teb_laws.proofs.Timeline.{begun_counted}
 use Rattle.teb_history.specs.Accesses.{wrote, got, read_from}
-use Rattle.std.proofs.lemmas.Bool.{both_ways, false_from_ne_true, and_parts}
+use Rattle.std.proofs.lemmas.Bool.{both_ways, false_from_ne_true, and_parts, or_left, le-leb}
 use Rattle.teb_laws.specs.Lawful.{Lawful}
 use Rattle.teb_rules.specs.Tree.{meets}
 use Rattle.engine_core.proofs.PlainVersions.{reads_from_no_unfinished}
@@ -61,3 +65,29 @@ holds_up H t u l = false_from_ne_true _ (λ h. let p = and_parts _ _ h in both_w
 pub plain_commit : (H : List Event) (t : ℕ) → Lawful plain_store.setup H → commit_stop plain_store.setup H t ≡ Go
 unfolding commit_stop stop_of
 plain_commit H t l = rw (plain_path (spot_of H t)) (unfold on_commit validate gate in rw plain_locks (ap (λ (o : Option ℕ). stop_with 0 (wait_for o) Go) (find_nobody _ (txns H) (λ u. holds_up H t u l))))
+
+-- whoever is in the way is unfinished, and so one of the live transactions
+in_the_way : (H : List Event) (t : ℕ) (x : Cell) (write : Bool) (u : ℕ) → blocks plain_store.setup H 0 t x write u ≡ true → unfinished H u ≡ true
+in_the_way H t x write u h = (and_parts _ _ (and_parts _ _ (sym (plain_blocks H t x write u) ∙ h)).0).0
+
+in_the_way_live : (H : List Event) (t : ℕ) (x : Cell) (write : Bool) (u : ℕ) → blocks plain_store.setup H 0 t x write u ≡ true → is_live H u ≡ true
+in_the_way_live H t x write u h = or_left (unfinished H u) (untold H u) (in_the_way H t x write u h)
+
+numbered : (H : List Event) (t : ℕ) (x : Cell) (write : Bool) (u : Txn) → Lawful plain_store.setup H → (is_numbered H u && blocks plain_store.setup H 0 t x write u.0) ≡ blocks plain_store.setup H 0 t x write u.0
+numbered H t x write u l = go (blocks plain_store.setup H 0 t x write u.0) refl
+  where
+    go : (b : Bool) → blocks plain_store.setup H 0 t x write u.0 ≡ b → (is_numbered H u && b) ≡ b
+    go true e =
+        let p = begun_counted plain_store.setup H u.0 l (unfinished_times H u.0 (in_the_way H t x write u.0 e)).0 in
+        rw (lt-ltb 0 u.0 p.0, le-leb u.0 (begun_count H) p.1) refl
+    go false e = and_no (is_numbered H u)
+
+    and_no : (b : Bool) → (b && false) ≡ false
+    and_no true = refl
+    and_no false = refl
+
+-- the first of the live transactions that is in the way is the least of all
+pub first_in_the_way : (H : List Event) (t : ℕ) (x : Cell) (write : Bool) → Lawful plain_store.setup H → find (λ (u : Txn). blocks plain_store.setup H 0 t x write u.0) (live_txns H) ≡ txn_of (find (blocks plain_store.setup H 0 t x write) (txns H))
+first_in_the_way H t x write l =
+    ap (λ (p : Txn → Bool). find p (live_txns H)) (λ i u. sym (numbered H t x write u l) i)
+    ∙ first_live H (blocks plain_store.setup H 0 t x write) (in_the_way_live H t x write)

@@ -7,10 +7,11 @@ ghost use Rattle.engine_core.specs.Plain.{plain_store};
 ghost use Rattle.engine_core.specs.State.{IsRun};
 ghost use Rattle.engine_core.specs.Decisions.{carried, told, IsBounded};
 
-use crate::accesses::{decide_add, decide_read, decide_scan, decide_write};
+use crate::accesses::{decide_read, decide_write};
+use crate::additions::decide_add;
 use crate::decision::{Decision, refused, stopped};
-use crate::past::is_prepared;
 use crate::plain::{begin_stop, commit_stop, has_type, prepare_stop};
+use crate::scans::decide_scan;
 use teb_history::{Event, History};
 use teb_names::{Cause, Refusal, Reply, Request, Session, Spot, Txn};
 use teb_rules::Stop;
@@ -114,7 +115,7 @@ fn decide_prepare(history: &History, t: Txn) -> Decision
     ensures answer { carried plain_store history.now.events result ≡ answer_of plain_store history.now.events t.0 Request.Prepare }
     ensures bounded { IsBounded history.now.events result }
 {
-    if is_prepared(history, t) {
+    if history.is_prepared(t) {
         return refused(Refusal::Prepared);
     }
     match stopped(t, prepare_stop(history, t)) {

@@ -2,11 +2,11 @@
 #![tactic(auto)]
 
 mod accesses;
+mod additions;
 mod carry_out;
 mod decide;
 mod decision;
 mod engine;
-mod past;
 mod plain;
 mod scans;
 

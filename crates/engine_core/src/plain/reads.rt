@@ -6,7 +6,6 @@ ghost use Rattle.teb_rules.specs.Versions.{read};
 ghost use Rattle.engine_core.specs.Plain.{plain_store};
 ghost use Rattle.engine_core.specs.Reading.{newest_version, version_in};
 
-use crate::past::last_put;
 use teb_history::{Event, History};
 use teb_names::{Cell, Txn};
 
@@ -17,7 +16,7 @@ pub fn read(history: &History, t: Txn, cell: Cell) -> (Txn, Option<i64>)
     requires { Lawful plain_store.setup history.now.events }
     ensures { (result.0.0, result.1) ≡ read plain_store.setup plain_store.rows history.now.events t.0 cell }
 {
-    if let Some(value) = last_put(history, t, cell) {
+    if let Some(value) = history.last_put(t, cell) {
         return (t, value);
     }
     match newest_version(history, cell) {

@@ -8,7 +8,6 @@ ghost use Rattle.teb_rules.specs.Stops.{access_stop, prepare_stop, commit_stop, 
 ghost use Rattle.engine_core.specs.Plain.{plain_store};
 ghost use Rattle.engine_core.specs.State.{IsRun};
 
-use crate::past::{got, wrote};
 use teb_history::History;
 use teb_names::{Cell, Node, Spot, Txn};
 use teb_rules::Stop;
@@ -17,6 +16,7 @@ const ROOT: Node = Node(0);
 
 /// Where an access stops: a read waits for an unfinished writer of the cell, a write also for an unfinished reader.
 pub fn access_stop(history: &History, t: Txn, cell: Cell, write: bool) -> Stop
+    requires { IsRun history.now.events }
     ensures { result ≡ access_stop plain_store.setup history.now.events t.0 cell write }
 {
     match blocker(history, t, cell, write) {
@@ -26,26 +26,22 @@ pub fn access_stop(history: &History, t: Txn, cell: Cell, write: bool) -> Stop
 }
 
 /// The least unfinished transaction that is in the way of an access.
-#[tactic(auto, using(teb_history::proofs::Held::none_first, teb_history::proofs::Held::next_none, crate::proofs::FirstTxn::first_found, crate::proofs::FirstTxn::nobody_found))]
 fn blocker(history: &History, t: Txn, cell: Cell, write: bool) -> Option<Txn>
+    requires { IsRun history.now.events }
     ensures { result ≡ txn_of (find (blocks plain_store.setup history.now.events 0 t.0 cell write) (txns history.now.events)) }
 {
-    for n in 0..history.begun() {
-        let u = Txn(n + 1);
-        if blocks(history, t, u, cell, write) {
-            return Some(u);
-        }
-    }
-    None
+    let live = history.live();
+    live.iter().copied().find(|u| blocks(history, t, *u, cell, write))
 }
 
+/// Whether u is in the way of an access of t.
 #[tactic(auto, using(crate::proofs::PlainStops::plain_blocks))]
 fn blocks(history: &History, t: Txn, u: Txn, cell: Cell, write: bool) -> bool
     ensures { result ≡ blocks plain_store.setup history.now.events 0 t.0 cell write u.0 }
 {
     history.is_unfinished(u)
         && u != t
-        && (wrote(history, u, cell) || (write && got(history, u, cell)))
+        && (history.wrote(u, cell) || (write && history.got(u, cell)))
 }
 
 /// A Prepare stops nowhere: locks validate nothing.

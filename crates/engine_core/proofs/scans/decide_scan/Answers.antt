@@ -3,7 +3,7 @@ use Rattle.teb_rules.specs.Answer.{answer_of}
 use Rattle.engine_core.specs.Decisions.{carried}
 use Rattle.engine_core.specs.Plain.{plain_store}
 use Rattle.engine_core.proofs.Deciding.{stops, stops_bounded, goes, is_refused, is_not_refused, out_of_range, in_range}
-use Rattle.engine_core.proofs.accesses.decide_scan.Goals as goal
+use Rattle.engine_core.proofs.scans.decide_scan.Goals as goal
 
 pub returns-in-Some-clause-answer : goal.returns-in-Some-clause-answer
 unfolding answer_of

@@ -1,6 +1,6 @@
 use Rattle.std.proofs.lemmas.Int.{to_z-of_z}
 use Rattle.engine_core.proofs.Adding.{sums}
-use Rattle.engine_core.proofs.accesses.sum_of.Goals as goal
+use Rattle.engine_core.proofs.additions.sum_of.Goals as goal
 
 pub returns : goal.returns
 returns c =

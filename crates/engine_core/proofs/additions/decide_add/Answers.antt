@@ -6,7 +6,7 @@ use Rattle.engine_core.specs.Decisions.{carried}
 use Rattle.engine_core.specs.Plain.{plain_store}
 use Rattle.engine_core.proofs.Adding.{adds, adds_to_nothing, overflows, summed}
 use Rattle.engine_core.proofs.Deciding.{is_refused, is_not_refused}
-use Rattle.engine_core.proofs.accesses.decide_add.Goals as goal
+use Rattle.engine_core.proofs.additions.decide_add.Goals as goal
 
 pub returns-in-Some-clause-answer : goal.returns-in-Some-clause-answer
 unfolding answer_of
