@@ -1,0 +1,73 @@
+-- What is kept of each transaction that has an event.
+use Rattle.std.specs.Prelude.{◌≡◌, ℕ, suc, Bool, true, false, cond, not, ◌&&◌, ◌||◌, eqb, List, [], ◌∷◌, length, map, filter, reverse, is_some, Option, Some, None}
+use Rattle.std.specs.Option.{option_map_or}
+use Rattle.teb_names.specs.declared.Txn.{Txn}
+use Rattle.teb_history.specs.declared.Event.{Event}
+use Rattle.teb_history.specs.declared.Event.TheVariants as event
+use Rattle.teb_history.specs.declared.Phase.{Phase}
+use Rattle.teb_history.specs.declared.Phase.TheVariants as phase
+use Rattle.teb_history.specs.declared.standing.Start.{Start}
+use Rattle.teb_history.specs.declared.standing.Standing.{Standing}
+use Rattle.teb_history.specs.Positions.{came}
+use Rattle.teb_history.specs.Phases.{begun, committed, ready_at, told_at, spot_of, session_of, cause_of, is_after, begun_count}
+use Rattle.teb_history.specs.Ascending.{put_by}
+use Rattle.teb_history.specs.OwnEvents.{event_txn, own_end, links}
+use Rattle.teb_history.specs.Live.{mentioned, live_txns}
+
+-- the number of a standing's transaction
+abbrev pub standing_number : Standing → ℕ
+standing_number r = r.txn.0
+
+-- with what t began, if it has
+abbrev pub start_of : List Event → ℕ → Option Start
+start_of H t = cond (begun H t) (Some (record { session = record { 0 = session_of H t }; spot = spot_of H t })) None
+
+-- where t stands
+abbrev pub standing_of : List Event → ℕ → Standing
+standing_of H t = record { txn = record { 0 = t }; start = start_of H t; ready = came H (ready_at H t); done = committed H t; gone = cause_of H t; told = came H (told_at H t); end = own_end H t }
+
+-- where t stands while it has no event
+abbrev pub blank : Txn → Standing
+blank t = record { txn = t; start = None; ready = false; done = false; gone = None; told = false; end = 0 }
+
+-- where a transaction stands after one more event of its own, with n events in the history
+abbrev pub standing_after : Event → ℕ → Standing → Standing
+standing_after (event.Began t s k i) n r = record r { start = Some (record { session = s; spot = record { kind = k; instance = i } }); end = n }
+standing_after (event.Got t x w v) n r = record r { end = n }
+standing_after (event.Put t x v) n r = record r { end = n }
+standing_after (event.Ready t) n r = record r { ready = true; end = n }
+standing_after (event.Done t) n r = record r { done = true; end = n }
+standing_after (event.Gone t c) n r = record r { gone = Some c; end = n }
+standing_after (event.Told t) n r = record r { told = true; end = n }
+
+-- what a standing tells
+abbrev pub stands_unfinished : Standing → Bool
+stands_unfinished r = is_some r.start && not r.done && not (is_some r.gone)
+
+abbrev pub stands_prepared : Standing → Bool
+stands_prepared r = stands_unfinished r && r.ready
+
+abbrev pub stands_live : Standing → Bool
+stands_live r = stands_unfinished r || (is_after r.gone && not r.told)
+
+-- the number of the session that began it, and 0 where none has
+abbrev pub stands_session : Standing → ℕ
+stands_session r = option_map_or (λ s. s.session.0) r.start 0
+
+abbrev pub standing_phase : Standing → Phase
+standing_phase r =
+    cond r.done phase.Committed
+    (cond (is_some r.gone) phase.Aborted
+    (cond (not (is_some r.start)) phase.NotBegun
+    (cond r.ready phase.Ready phase.Running)))
+
+-- the standings of those that have an event, by ascending number
+abbrev pub standings : List Event → List Standing
+standings H = map (λ t. standing_of H t.0) (mentioned H)
+
+-- what is kept beside the events, which have the oldest first
+pub record IsKept (events : List Event) (positions : List ℕ) (kept : List Standing) (txns : List Txn) (count : ℕ) : Type 0 where
+  pub links : positions ≡ reverse (links (reverse events))
+  pub standings : kept ≡ standings (reverse events)
+  pub live : txns ≡ live_txns (reverse events)
+  pub begun : count ≡ begun_count (reverse events)

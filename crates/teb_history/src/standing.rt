@@ -1,0 +1,123 @@
+//! Where a transaction stands: what its events say of it, kept as they come.
+
+ghost use Rattle.std.specs.Prelude.{◌≡◌, ◌+◌, ◌≤◌, ◌<◌};
+
+use super::{Event, Phase};
+use teb_names::{Cause, Session, Spot, Txn};
+
+/// The session that began a transaction, and the type and instance with which it did.
+#[derive(Clone, Copy, Debug, PartialEq, Eq)]
+pub struct Start {
+    pub session: Session,
+    pub spot: Spot,
+}
+
+/// What the events of one transaction say of it.
+#[derive(Clone, Copy)]
+pub struct Standing {
+    pub txn: Txn,
+    /// By its latest Began.
+    pub start: Option<Start>,
+    pub ready: bool,
+    pub done: bool,
+    /// By its latest Gone.
+    pub gone: Option<Cause>,
+    pub told: bool,
+    /// How many events the history has up to its newest, that one included. 0 where it has none.
+    pub end: usize,
+}
+
+impl Standing {
+    ghost use Rattle.teb_history.specs.Standings.{blank, standing_after, stands_unfinished, stands_live, stands_prepared, stands_session, standing_phase};
+
+    /// That of a transaction with no event.
+    pub fn blank(txn: Txn) -> Standing
+        ensures { result ≡ blank txn }
+    {
+        Standing {
+            txn,
+            start: None,
+            ready: false,
+            done: false,
+            gone: None,
+            told: false,
+            end: 0,
+        }
+    }
+
+    /// That after one more event of the transaction, with `end` events in the history.
+    pub fn after(self, event: Event, end: usize) -> Standing
+        ensures { result ≡ standing_after event end self }
+    {
+        let same = Standing { end, ..self };
+        match event {
+            Event::Began {
+                session,
+                kind,
+                instance,
+                ..
+            } => Standing {
+                start: Some(Start {
+                    session,
+                    spot: Spot { kind, instance },
+                }),
+                ..same
+            },
+            Event::Got { .. } | Event::Put { .. } => same,
+            Event::Ready(_) => Standing {
+                ready: true,
+                ..same
+            },
+            Event::Done(_) => Standing { done: true, ..same },
+            Event::Gone { cause, .. } => Standing {
+                gone: Some(cause),
+                ..same
+            },
+            Event::Told(_) => Standing { told: true, ..same },
+        }
+    }
+
+    pub fn phase(&self) -> Phase
+        ensures { result ≡ standing_phase self.now }
+    {
+        if self.done {
+            Phase::Committed
+        } else if self.gone.is_some() {
+            Phase::Aborted
+        } else if self.start.is_none() {
+            Phase::NotBegun
+        } else if self.ready {
+            Phase::Ready
+        } else {
+            Phase::Running
+        }
+    }
+
+    /// Begun, and neither committed nor aborted.
+    pub fn is_unfinished(&self) -> bool
+        ensures { result ≡ stands_unfinished self.now }
+    {
+        self.start.is_some() && !self.done && self.gone.is_none()
+    }
+
+    /// Unfinished, and it has Ready.
+    pub fn is_prepared(&self) -> bool
+        ensures { result ≡ stands_prepared self.now }
+    {
+        self.is_unfinished() && self.ready
+    }
+
+    /// The number of the session that began it, 0 where none has.
+    pub fn session_number(&self) -> u8
+        ensures { result ≡ stands_session self.now }
+    {
+        self.start.map_or(0, |start| start.session.0)
+    }
+
+    /// Unfinished, or aborted by a cascade with a session that was not told of it.
+    pub fn is_live(&self) -> bool
+        ensures { result ≡ stands_live self.now }
+    {
+        self.is_unfinished() || matches!(self.gone, Some(Cause::After(_))) && !self.told
+    }
+}
