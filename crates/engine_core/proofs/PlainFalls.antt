@@ -1,5 +1,6 @@
 -- In the plain store nobody falls with an aborted transaction.
 use Rattle.std.proofs.Common.{◌≡◌, ℕ, zero, suc, Bool, true, false, not, ◌&&◌, ◌||◌, eqb, List, [], ◌∷◌, filter, refl, ◌∙◌, ap}
+use Rattle.std.proofs.Math.Bool.{and-false}
 use Rattle.std.specs.List.{list_any}
 use Rattle.teb_names.specs.declared.Cause.{Cause}
 use Rattle.teb_history.specs.declared.Event.{Event}
@@ -16,11 +17,7 @@ filter_nobody p [] f = refl
 filter_nobody p (u ∷ us) f = rw (f u) (filter_nobody p us f)
 
 falls_not : (H : List Event) (t u : ℕ) → Lawful plain_store.setup H → unfinished H t ≡ true → (not (aborted H u) && not (eqb u t) && list_any (read_from H u) (t ∷ [])) ≡ false
-falls_not H t u l h = rw (reads_from_no_unfinished H u t l h) (and_no (not (aborted H u) && not (eqb u t)))
-  where
-    and_no : (b : Bool) → (b && false) ≡ false
-    and_no true = refl
-    and_no false = refl
+falls_not H t u l h = rw (reads_from_no_unfinished H u t l h) (and-false (not (aborted H u) && not (eqb u t)))
 
 nobody_falls : (H : List Event) (t d : ℕ) → Lawful plain_store.setup H → unfinished H t ≡ true → fallen H t d [] ≡ []
 unfolding fallen

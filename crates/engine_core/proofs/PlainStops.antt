@@ -10,6 +10,7 @@ use Rattle.teb_laws.proofs.Cascades.{unfinished_times}
 use Rattle.teb_laws.proofs.Timeline.{begun_counted}
 use Rattle.teb_history.specs.Accesses.{wrote, got, read_from}
 use Rattle.std.proofs.lemmas.Bool.{both_ways, false_from_ne_true, and_parts, or_left, le-leb}
+use Rattle.std.proofs.Math.Bool.{and-false}
 use Rattle.teb_laws.specs.Lawful.{Lawful}
 use Rattle.teb_rules.specs.Tree.{meets}
 use Rattle.engine_core.proofs.PlainVersions.{reads_from_no_unfinished}
@@ -80,11 +81,7 @@ numbered H t x write u l = go (blocks plain_store.setup H 0 t x write u.0) refl
     go true e =
         let p = begun_counted plain_store.setup H u.0 l (unfinished_times H u.0 (in_the_way H t x write u.0 e)).0 in
         rw (lt-ltb 0 u.0 p.0, le-leb u.0 (begun_count H) p.1) refl
-    go false e = and_no (is_numbered H u)
-
-    and_no : (b : Bool) → (b && false) ≡ false
-    and_no true = refl
-    and_no false = refl
+    go false e = and-false (is_numbered H u)
 
 -- the first of the live transactions that is in the way is the least of all
 pub first_in_the_way : (H : List Event) (t : ℕ) (x : Cell) (write : Bool) → Lawful plain_store.setup H → find (λ (u : Txn). blocks plain_store.setup H 0 t x write u.0) (live_txns H) ≡ txn_of (find (blocks plain_store.setup H 0 t x write) (txns H))

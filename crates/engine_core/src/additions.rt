@@ -37,13 +37,10 @@ pub fn decide_add(history: &History, t: Txn, cell: Cell, number: i64) -> Decisio
 fn add_base(history: &History, t: Txn, cell: Cell) -> Option<i64>
     ensures { result ≡ add_base (last_put history.now.events t.0 cell) (last_got history.now.events t.0 cell) }
 {
-    match history.last_put(t, cell) {
-        Some(value) => Some(value.unwrap_or(0)),
-        None => match history.last_got(t, cell) {
-            Some(value) => Some(value.unwrap_or(0)),
-            None => None,
-        },
-    }
+    let value = history
+        .last_put(t, cell)
+        .or_else(|| history.last_got(t, cell));
+    value.map(|value| value.unwrap_or(0))
 }
 
 /// The sum of two numbers, where it is an `i64`.

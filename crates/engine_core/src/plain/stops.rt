@@ -30,8 +30,16 @@ fn blocker(history: &History, t: Txn, cell: Cell, write: bool) -> Option<Txn>
     requires { IsRun history.now.events }
     ensures { result ≡ txn_of (find (blocks plain_store.setup history.now.events 0 t.0 cell write) (txns history.now.events)) }
 {
-    let live = history.live();
-    live.iter().copied().find(|u| blocks(history, t, *u, cell, write))
+    first_blocker(history.live(), history, t, cell, write)
+}
+
+/// The first of some transactions that is in the way.
+fn first_blocker(txns: &[Txn], history: &History, t: Txn, cell: Cell, write: bool) -> Option<Txn>
+    ensures { result ≡ find (λ u. blocks plain_store.setup history.now.events 0 t.0 cell write u.0) txns.now }
+{
+    txns.iter()
+        .copied()
+        .find(|u| blocks(history, t, *u, cell, write))
 }
 
 /// Whether u is in the way of an access of t.
