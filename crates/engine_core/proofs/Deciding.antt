@@ -1,5 +1,5 @@
 -- What a refusal, a stop and a grant come to in the answer rule.
-use Rattle.std.proofs.Common.{◌≡◌, ◌⊎◌, inl, inr, ◌&&◌, ℕ, suc, ◌+◌, ◌<◌, ◌≤◌, Bool, true, false, cond, not, ltb, leb, List, [], ◌∷◌, Option, Some, None, refl, sym, ◌∙◌, ap, subst, arith}
+use Rattle.std.proofs.Common.{◌≡◌, ◌⊎◌, inl, inr, ◌&&◌, ℕ, suc, ◌<◌, ◌≤◌, Bool, true, false, cond, ltb, leb, List, ◌∷◌, Option, Some, None, refl, sym, ◌∙◌, ap, subst}
 use Rattle.teb_names.specs.declared.Cell.{Cell}
 use Rattle.std.proofs.lemmas.Bool.{le-leb, lt-leb, both_ways, and_parts, or_cases}
 use Rattle.teb_names.specs.declared.Node.{Node}
@@ -9,7 +9,7 @@ use Rattle.teb_names.specs.declared.Spot.{Spot}
 use Rattle.teb_names.specs.declared.Refusal.{Refusal}
 use Rattle.teb_names.specs.declared.Refusal.TheVariants.{UnknownType, Full, NoTxn, Range, BadSession}
 use Rattle.teb_names.specs.declared.Request.{Request}
-use Rattle.teb_names.specs.declared.Request.TheVariants.{Begin, Read, Write, Add, Delete, Scan, Prepare, Commit, Abort, End}
+use Rattle.teb_names.specs.declared.Request.TheVariants.{Begin}
 use Rattle.teb_names.specs.declared.Reply.TheVariants.{Refused, Again, Begun}
 use Rattle.teb_history.specs.declared.Event.TheVariants.{Began}
 use Rattle.teb_history.specs.Phases.{begun_count, held, aborted, unfinished}

@@ -1,5 +1,5 @@
 -- The plain store: it is sound, its one node is on every path, and all transactions meet there.
-use Rattle.std.proofs.Common.{◌≡◌, ℕ, zero, suc, ◌<◌, Bool, true, false, cond, not, eqb, List, [], ◌∷◌, Option, Some, None, unwrap_or, length, refl, sym, ◌∙◌, ap, arith, get_or}
+use Rattle.std.proofs.Common.{◌≡◌, ℕ, zero, suc, ◌<◌, Bool, true, false, cond, not, eqb, List, [], ◌∷◌, Some, None, unwrap_or, length, refl, arith, get_or}
 use Rattle.teb_names.specs.declared.Spot.{Spot}
 use Rattle.teb_names.specs.declared.ControlKind.TheVariants.{Locks}
 use Rattle.teb_history.specs.declared.Event.{Event}

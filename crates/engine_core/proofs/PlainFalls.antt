@@ -1,5 +1,5 @@
 -- In the plain store nobody falls with an aborted transaction.
-use Rattle.std.proofs.Common.{◌≡◌, ℕ, zero, suc, Bool, true, false, not, ◌&&◌, ◌||◌, eqb, List, [], ◌∷◌, filter, refl, ◌∙◌, ap}
+use Rattle.std.proofs.Common.{◌≡◌, ℕ, zero, suc, Bool, true, false, not, ◌&&◌, eqb, List, [], ◌∷◌, filter, refl, ◌∙◌, ap}
 use Rattle.std.proofs.Math.Bool.{and-false}
 use Rattle.std.specs.List.{list_any}
 use Rattle.teb_names.specs.declared.Cause.{Cause}

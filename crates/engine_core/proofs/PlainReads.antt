@@ -1,19 +1,18 @@
 -- In the plain store a transaction reads its own version, or else the newest one that is committed.
-use Rattle.std.proofs.Common.{◌≡◌, ◌≢◌, ℕ, zero, suc, ◌<◌, ◌≤◌, Bool, true, false, cond, not, ◌&&◌, ◌||◌, eqb, ltb, List, [], ◌∷◌, ◌++◌, Option, Some, None, unwrap_or, ℤ, length, find, filter, refl, sym, ◌∙◌, ap, ap₂, subst, inl, inr, arith, append_assoc, eq-eqb, eqb-true, ne_eqb, le_refl, le-ltb, lt-ltb, ltb-true, ltb-false, length-append}
-use Rattle.std.proofs.lemmas.Bool.{both_ways, cases_Bool, cases_eq, cases_lt, false_from_ne_true, and_parts, and_from, or_cases, or_left, or_right, not-true, not_from_false}
+use Rattle.std.proofs.Common.{◌≡◌, ◌≢◌, ℕ, zero, suc, ◌<◌, ◌≤◌, Bool, true, false, cond, not, ◌&&◌, ◌||◌, eqb, List, [], ◌∷◌, ◌++◌, Option, Some, None, unwrap_or, ℤ, length, find, filter, refl, sym, ◌∙◌, ap, subst, inl, inr, arith, append_assoc, eq-eqb, eqb-true, ne_eqb, le-ltb, lt-ltb, ltb-true, ltb-false, length-append}
+use Rattle.std.proofs.lemmas.Bool.{both_ways, cases_eq, cases_lt, false_from_ne_true, and_parts, and_from, or_cases, or_left, or_right, not-true, not_from_false}
 use Rattle.std.specs.List.{list_all, list_any}
 use Rattle.teb_names.specs.declared.Cell.{Cell}
 use Rattle.teb_names.specs.declared.Txn.{Txn}
 use Rattle.teb_names.specs.Cells.{same_cell}
 use Rattle.teb_history.specs.declared.Event.{Event}
 use Rattle.teb_history.specs.declared.Event.TheVariants.{Put}
-use Rattle.teb_history.specs.Phases.{txns, committed, aborted, unfinished, done_at, gone_at, began_at}
+use Rattle.teb_history.specs.Phases.{txns, committed, aborted, unfinished, done_at, began_at}
 use Rattle.teb_history.specs.Accesses.{is_put, last_put, put_at, wrote}
-use Rattle.teb_history.specs.Positions.{upto, first_event}
+use Rattle.teb_history.specs.Positions.{upto}
 use Rattle.teb_rules.specs.Serializes.{In}
-use Rattle.teb_rules.specs.Versions.{precedes, sees, latest, source, version, value_left, read}
+use Rattle.teb_rules.specs.Versions.{precedes, sees, latest, source, version, read}
 use Rattle.teb_laws.specs.Lawful.{Lawful}
-use Rattle.teb_laws.proofs.Cascades.{unfinished_times}
 use Rattle.teb_laws.proofs.Locks.{In-txns, locks_writes}
 use Rattle.teb_laws.proofs.ReadRule.{last_put-none, last_put-some, list_all_at, list_all_from, sees_parts, sees_from}
 use Rattle.teb_laws.proofs.Serial.{filter-In, In-filter}

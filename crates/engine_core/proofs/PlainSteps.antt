@@ -1,5 +1,5 @@
 -- In the plain store every transaction stands at the one step of its profile.
-use Rattle.std.proofs.Common.{◌≡◌, ℕ, zero, suc, ◌<◌, Bool, true, false, cond, ◌&&◌, ◌||◌, eqb, ltb, leb, List, [], ◌∷◌, Option, Some, None, unwrap_or, is_some, get_or, find, refl, sym, ◌∙◌, ap, arith, le-ltb, lt-ltb, ne_eqb, IsTrue, ◌≤◌}
+use Rattle.std.proofs.Common.{◌≡◌, ℕ, zero, suc, ◌<◌, Bool, true, false, cond, ◌&&◌, ◌||◌, eqb, ltb, leb, List, [], ◌∷◌, Some, None, unwrap_or, is_some, refl, sym, arith, le-ltb, ne_eqb}
 use Rattle.teb_history.specs.declared.Event.{Event}
 use Rattle.teb_history.specs.declared.Event.TheVariants.{Began, Got, Put, Ready, Done, Gone, Told}
 use Rattle.teb_history.specs.Phases.{kind_of, unfinished}

@@ -1,5 +1,5 @@
 -- What stops a request in the plain store.
-use Rattle.std.proofs.Common.{◌≡◌, ℕ, zero, suc, ◌<◌, Bool, true, false, cond, not, ◌&&◌, ◌||◌, eqb, List, [], ◌∷◌, Option, Some, None, find, refl, sym, ◌∙◌, ap, lt-ltb}
+use Rattle.std.proofs.Common.{◌≡◌, ℕ, Bool, true, false, not, ◌&&◌, ◌||◌, eqb, List, [], ◌∷◌, Option, Some, None, find, refl, sym, ◌∙◌, ap, lt-ltb}
 use Rattle.teb_names.specs.declared.Spot.{Spot}
 use Rattle.teb_names.specs.declared.Cell.{Cell}
 use Rattle.teb_history.specs.declared.Event.{Event}
@@ -20,7 +20,7 @@ use Rattle.teb_rules.specs.Verdicts.{wait_for}
 use Rattle.teb_rules.specs.declared.Stop.TheVariants.{Go, Wait}
 use Rattle.teb_names.specs.declared.Txn.{Txn}
 use Rattle.teb_history.specs.Written.{txn_of}
-use Rattle.engine_core.specs.Plain.{plain_setup, plain_store}
+use Rattle.engine_core.specs.Plain.{plain_store}
 use Rattle.engine_core.proofs.PlainFacts.{plain_path, plain_locks, plain_meets}
 
 -- an access stops at the root, for the least transaction that is in its way

@@ -1,22 +1,22 @@
 -- In the plain store the committed versions are seen, in the order of their first Puts, and only they are read.
-use Rattle.std.proofs.Common.{◌≡◌, ◌≢◌, ◌⊎◌, ℕ, zero, suc, ◌<◌, ◌≤◌, Bool, true, false, cond, not, ◌&&◌, ◌||◌, eqb, ltb, List, [], ◌∷◌, Option, Some, None, unwrap_or, length, find, filter, refl, sym, ◌∙◌, ap, subst, inl, inr, arith, ltb-true, eqb-true}
-use Rattle.std.proofs.lemmas.Bool.{both_ways, false_from_ne_true, and_parts, or_cases, or_left, or_right, not-true, eqb-false}
+use Rattle.std.proofs.Common.{◌≡◌, ℕ, zero, suc, ◌<◌, true, false, ltb, List, [], ◌∷◌, length, refl, sym, ◌∙◌, subst, inl, inr, arith, ltb-true, eqb-true}
+use Rattle.std.proofs.lemmas.Bool.{false_from_ne_true, and_parts, or_cases, or_right, not-true, eqb-false}
 use Rattle.std.specs.List.{list_any}
 use Rattle.teb_names.specs.declared.Cell.{Cell}
 use Rattle.teb_names.specs.declared.ControlKind.TheVariants.{Locks}
 use Rattle.teb_history.specs.declared.Event.{Event}
-use Rattle.teb_history.specs.declared.Event.TheVariants.{Began, Got, Put, Ready, Done, Gone, Told}
-use Rattle.teb_history.specs.Phases.{txns, is_done, committed, aborted, unfinished, begun, done_at}
-use Rattle.teb_history.specs.Accesses.{wrote, put_at, is_put, is_from, read_from}
+use Rattle.teb_history.specs.declared.Event.TheVariants.{Got}
+use Rattle.teb_history.specs.Phases.{txns, is_done, committed, unfinished, done_at}
+use Rattle.teb_history.specs.Accesses.{put_at, is_from, read_from}
 use Rattle.teb_history.proofs.Any.{came_any}
 use Rattle.teb_rules.specs.Tree.{row, meet}
-use Rattle.teb_rules.specs.Versions.{orders, precedes, sees_by, sees, latest, source}
+use Rattle.teb_rules.specs.Versions.{orders, precedes, sees_by, sees}
 use Rattle.teb_laws.specs.Lawful.{Granted, Lawful}
 use Rattle.teb_laws.proofs.Cascades.{unfinished_times}
 use Rattle.teb_laws.proofs.Timeline.{begun_counted}
 use Rattle.teb_laws.proofs.Serial.{filter-In}
 use Rattle.teb_laws.proofs.ReadRule.{read_case, from_own, from_seen, from_row, latest-some, sees_parts}
-use Rattle.engine_core.specs.Plain.{plain_setup, plain_store}
+use Rattle.engine_core.specs.Plain.{plain_store}
 
 -- every node number stands for a locks node: the root, or no node
 pub all_locks : (n : ℕ) → (row plain_store.setup.tree n).control ≡ Locks

@@ -1,5 +1,5 @@
 -- The last committed version of a cell, by a walk over the history.
-use Rattle.std.specs.Prelude.{ℕ, cond, ◌&&◌, List, [], ◌∷◌, Option, Some, None, ℤ}
+use Rattle.std.specs.Prelude.{cond, ◌&&◌, List, [], ◌∷◌, Option, Some, None, ℤ}
 use Rattle.teb_names.specs.declared.Cell.{Cell}
 use Rattle.teb_names.specs.declared.Txn.{Txn}
 use Rattle.teb_names.specs.Cells.{same_cell}

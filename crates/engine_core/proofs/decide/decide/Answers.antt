@@ -1,4 +1,4 @@
-use Rattle.std.proofs.Common.{◌≡◌, ◌⊎◌, ◌<◌, ◌≤◌, inl, inr, sym, ◌∙◌, ap, arith}
+use Rattle.std.proofs.Common.{◌⊎◌, ◌<◌, inl, inr, sym, ◌∙◌, ap, arith}
 use Rattle.engine_core.specs.Decisions.{carried}
 use Rattle.engine_core.specs.Plain.{plain_store}
 use Rattle.engine_core.proofs.Deciding.{bad_session, nothing_held, aborted_held, running_held, held_unfinished}

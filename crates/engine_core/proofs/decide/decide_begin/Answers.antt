@@ -1,5 +1,4 @@
-use Rattle.std.proofs.Common.{◌≡◌, ◌+◌, ◌<◌, ◌≤◌, true, false, sym, ◌∙◌, ap, arith}
-use Rattle.teb_history.specs.Phases.{begun_count}
+use Rattle.std.proofs.Common.{◌+◌, sym, ◌∙◌, ap, arith}
 use Rattle.engine_core.specs.Decisions.{carried}
 use Rattle.engine_core.specs.Plain.{plain_store}
 use Rattle.engine_core.proofs.Deciding.{begins_unknown, begins_full, begins_late, begins}

@@ -1,4 +1,4 @@
-use Rattle.std.proofs.Common.{sym, ◌∙◌, ap, refl}
+use Rattle.std.proofs.Common.{◌∙◌, ap, refl}
 use Rattle.teb_rules.specs.Answer.{answer_of}
 use Rattle.engine_core.specs.Decisions.{carried}
 use Rattle.engine_core.specs.Plain.{plain_store}

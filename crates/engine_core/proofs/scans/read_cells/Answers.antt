@@ -1,7 +1,4 @@
-use Rattle.std.proofs.Common.{◌≡◌, ℕ, sym, ◌∙◌, subst, arith}
-use Rattle.teb_history.specs.declared.Event.{Event}
-use Rattle.std.proofs.Common.{List}
-use Rattle.teb_rules.specs.Answer.{cells_from}
+use Rattle.std.proofs.Common.{◌≡◌, subst, arith}
 use Rattle.teb_laws.specs.Lawful.{Lawful}
 use Rattle.engine_core.specs.Plain.{plain_store}
 use Rattle.engine_core.proofs.Gathering.{HasRead, rest_of, read_next, read_whole, lawful_before}

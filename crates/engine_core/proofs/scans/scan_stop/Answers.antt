@@ -1,4 +1,4 @@
-use Rattle.std.proofs.Common.{◌≡◌, ◌<◌, ℕ, false, sym, ◌∙◌, ap, arith}
+use Rattle.std.proofs.Common.{◌≡◌, ℕ, false, sym, ◌∙◌, ap, arith}
 use Rattle.teb_names.specs.declared.Cell.{Cell}
 use Rattle.teb_rules.specs.Stops.{access_stop, scan_stop}
 use Rattle.engine_core.specs.Plain.{plain_store}
