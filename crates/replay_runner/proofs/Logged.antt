@@ -1,5 +1,7 @@
 -- Logs of lists of requests, one after another.
 use Rattle.std.proofs.Common.{◌≡◌, List, [], ◌∷◌, ◌++◌, append_assoc, refl, sym, ap, ap₂, ◌∙◌}
+use Rattle.teb_names.specs.declared.Session.{Session}
+use Rattle.teb_names.specs.declared.Request.{Request}
 use Rattle.teb_history.specs.declared.Event.{Event}
 use Rattle.teb_rules.specs.Setup.{Store}
 use Rattle.teb_rules.specs.Answer.{answer}
@@ -23,6 +25,14 @@ pub history_is : (X : Store) (H : List Event) (xs : Requests) → history_after 
 unfolding history_after
 history_is X H [] = refl
 history_is X H (x ∷ xs) = history_is X (answer X H x.0 x.1).1 xs
+
+pub history_step : (X : Store) (H : List Event) (x : Session × Request) (xs : Requests) → history_after X H (x ∷ xs) ≡ history_after X (answer X H x.0 x.1).1 xs
+unfolding history_after
+history_step X H x xs = refl
+
+pub history_none : (X : Store) (H : List Event) → history_after X H [] ≡ H
+unfolding history_after
+history_none X H = refl
 
 pub history_append : (X : Store) (H : List Event) (xs ys : Requests) → history_after X H (xs ++ ys) ≡ history_after X (history_after X H xs) ys
 history_append = history_after-append

@@ -1,8 +1,7 @@
-use Rattle.std.proofs.Common.{◌≡◌, ◌∙◌, ap, List, Option, ℤ}
+use Rattle.std.proofs.Common.{◌∙◌, ap}
 use Rattle.std.specs.Option.{option_or}
 use Rattle.std.specs.BTreeMap.{get}
 use Rattle.teb_names.specs.Cells.{cell_cmp}
-use Rattle.teb_history.specs.declared.Event.{Event}
 use Rattle.teb_history.proofs.OwnWalks.{last_put_own}
 use Rattle.serial_order.proofs.Values.{newest_put}
 use Rattle.serial_order.proofs.puts.add_puts.Goals as goal
