@@ -1,7 +1,7 @@
 pub mod Lines
 pub mod Words
 pub mod Numbers
-pub mod NameWords
+pub mod Names
 pub mod Grammar
 pub mod Input
 pub mod Texts

@@ -2,7 +2,7 @@
 
 ghost use Rattle.std.specs.Prelude.{◌≡◌, MatchOption, true, false};
 ghost use Rattle.std.specs.List.{list_all};
-ghost use Rattle.script_text.specs.NameWords.{is_name, is_name_byte};
+ghost use Rattle.script_text.specs.Names.{is_name, is_name_byte};
 
 /// The word as a text, where it is a name.
 pub fn name_text(word: &[u8]) -> Option<&str>
@@ -17,7 +17,7 @@ pub fn name_text(word: &[u8]) -> Option<&str>
     }
 }
 
-#[tactic(auto, unfolding(crate::specs::NameWords::is_name))]
+#[tactic(auto, unfolding(crate::specs::Names::is_name))]
 fn is_name(word: &[u8]) -> bool
     ensures { result ≡ is_name word.now }
 {
