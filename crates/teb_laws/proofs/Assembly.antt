@@ -226,7 +226,7 @@ all_well S a R H t l law ord c (Gone u b ∷ P) rr h q = all_well S a R H t l la
 all_well S a R H t l law ord c (Told u ∷ P) rr h q = all_well S a R H t l law ord c P rr (omega arith) (suffix_next H (Told u) P q)
 
 -- the final table
-final_right : (X : Store) (a : TreeFacts X.setup) (H : List Event) → Lawful X.setup H → ((n : ℕ) → NodeLaw X.setup H n) → IsOrdered X.setup H → (x : Cell) → table_after H (serial_order X.setup H) (row_of X.rows) x ≡ final_table X H x
+pub final_right : (X : Store) (a : TreeFacts X.setup) (H : List Event) → Lawful X.setup H → ((n : ℕ) → NodeLaw X.setup H n) → IsOrdered X.setup H → (x : Cell) → table_after H (serial_order X.setup H) (row_of X.rows) x ≡ final_table X H x
 unfolding final_table
 final_right X a H l law ord x = go (latest X.setup H x ws) refl
   where

@@ -1,2 +1,4 @@
+pub mod Ascending
+pub mod CellOrder
 mod Padding
 mod Texts

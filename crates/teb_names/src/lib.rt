@@ -2,9 +2,11 @@
 #![tactic(auto)]
 
 mod naming;
+mod rows;
 mod scan;
 
 pub use naming::{NameBook, Names};
+pub use rows::Rows;
 pub use scan::ScanList;
 
 /// A transaction, numbered from 1 in order of beginning. 0 stands for the starting rows.
@@ -27,7 +29,7 @@ pub struct Kind(pub u8);
 #[derive(Clone, Copy, Debug, PartialEq, Eq, PartialOrd, Ord)]
 pub struct Node(pub u8);
 
-/// A row's place.
+/// A row's place. Cells are ordered by table, and in one table by key.
 #[derive(Clone, Copy, Debug, PartialEq, Eq, PartialOrd, Ord)]
 pub struct Cell {
     pub table: Table,
@@ -44,54 +46,79 @@ pub struct Spot {
 /// How a node regulates transactions of different children.
 #[derive(Clone, Copy, Debug, PartialEq, Eq)]
 pub enum ControlKind {
+    /// Two-phase locks.
     Locks,
+    /// Runtime pipelining: a step may run where those before it have passed its tables.
     Pipeline,
+    /// Multiversion timestamp ordering.
     Timestamp,
+    /// Serializable snapshots.
     Snapshot,
 }
 
 /// What a session asks.
 #[derive(Clone, Copy, Debug, PartialEq, Eq)]
 pub enum Request {
+    /// Begins a transaction.
     Begin(Spot),
+    /// Reads a row's value.
     Read(Cell),
+    /// Puts a value into a row.
     Write(Cell, i64),
+    /// Adds a number to the value that the transaction last put or read there; a row that is absent counts as 0.
     Add(Cell, i64),
+    /// Takes a row away.
     Delete(Cell),
+    /// Reads `count` rows, 1 to 16, whose keys follow one another from the cell's on.
     Scan { cell: Cell, count: u8 },
+    /// Makes sure that the transaction can commit.
     Prepare,
+    /// Commits the transaction.
     Commit,
+    /// Aborts the transaction.
     Abort,
+    /// Aborts what is left, at the end of a session.
     End,
 }
 
 /// What a session is answered.
 #[derive(Clone, Copy, Debug, PartialEq, Eq)]
 pub enum Reply {
+    /// The transaction that began.
     Begun(Txn),
+    /// The value that was read; none where there is no row.
     Value(Option<i64>),
+    /// The values of a scan, in ascending order of keys.
     Values(ScanList),
+    /// The write, addition or deletion is done.
     Done,
     Prepared,
     Committed,
+    /// The request has to wait for `who` at `node`, and nothing has changed: ask again.
     Again { who: Txn, node: Node },
+    /// The transaction was aborted.
     Aborted(Cause),
+    /// The request can't be answered here, and nothing has changed.
     Refused(Refusal),
 }
 
 /// Why a transaction was aborted.
 #[derive(Clone, Copy, Debug, PartialEq, Eq)]
 pub enum Cause {
+    /// It would write before what `reader` has read already.
     Late {
         node: Node,
         reader: Txn,
         cell: Cell,
     },
+    /// It would write what a concurrent `writer` has committed.
     First {
         node: Node,
         writer: Txn,
         cell: Cell,
     },
+    /// It would make a batch that reads behind one concurrent batch and writes before another: `a` read what `b`
+    /// overwrote, `c` read what `d` overwrote, and `b` and `c` are of one batch.
     Pivot {
         node: Node,
         a: Txn,
@@ -99,28 +126,43 @@ pub enum Cause {
         c: Txn,
         d: Txn,
     },
+    /// It would wait for a transaction that began later.
     Newer {
         node: Node,
         other: Txn,
     },
+    /// It read from a transaction that was aborted.
     After(Txn),
+    /// The session asked for it.
     Asked,
+    /// The session ended.
     Ended,
 }
 
 /// Why a request was refused.
 #[derive(Clone, Copy, Debug, PartialEq, Eq)]
 pub enum Refusal {
+    /// The session's number is not 1 to 32.
     BadSession,
+    /// A Begin while the session holds a transaction.
     InTxn,
+    /// The tree has no such type.
     UnknownType,
+    /// No further transaction may begin.
     Full,
+    /// The session holds no transaction.
     NoTxn,
+    /// The tree has no such table.
     UnknownTable,
+    /// The transaction is prepared.
     Prepared,
+    /// No step that is left of the transaction's type has the table.
     NotInProfile,
+    /// A scan of no rows, of more than 16, or past the last key.
     Range,
+    /// An Add to a row that the transaction has neither put nor read.
     NotRead,
+    /// The sum of an Add is not an `i64`.
     Overflow,
 }
 

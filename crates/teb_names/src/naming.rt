@@ -1,6 +1,6 @@
 //! Distinct names, numbered from 0 in the order in which they were added.
 
-ghost use Rattle.std.specs.Prelude.{◌≡◌, ◌<◌, ◌++◌, [], ◌∷◌, List, ℕ, length, not, Some, IfOk, OnErr, slice_get, if◌then◌else◌};
+ghost use Rattle.std.specs.Prelude.{◌≡◌, ◌==◌, ◌<◌, ◌++◌, [], ◌∷◌, List, ℕ, length, not, Some, IfOk, OnErr, slice_get, if◌then◌else◌};
 ghost use Rattle.std.specs.List.{IsDistinct};
 ghost use Rattle.std.specs.Str.{bytes_eq};
 ghost use Rattle.teb_names.specs.Names.{has, number_of};
@@ -9,7 +9,7 @@ use indexmap::IndexSet;
 use std::alloc::{AllocError, Global};
 use std::marker::Model;
 
-/// Distinct names, each with its number from 0.
+/// At most 255 distinct names, each with its number from 0. Contracts see the list of their bytes.
 #[derive(Drop)]
 pub struct Names {
     alloc: Global,
@@ -18,17 +18,20 @@ pub struct Names {
 
 impl Model for Names {
     ghost use Rattle.std.specs.Prelude.{List, ℕ, length, ◌≤◌};
+    ghost use Rattle.std.specs.List.{IsDistinct};
+    ghost use Rattle.std.specs.Str.{bytes_eq};
     ghost use Rattle.teb_names.specs.Names.{texts};
 
     ghost Value = { List (List ℕ) };
 
     ghost view = { λ s. texts s.set.keys };
 
-    ghost invariant = { λ s. length s.set.keys ≤ 255 };
+    ghost invariant = { λ s. (length s.set.keys ≤ 255) × IsDistinct bytes_eq (texts s.set.keys) };
 }
 
-#[tactic(auto, using(crate::proofs::Texts::has_texts, crate::proofs::Texts::number_texts, crate::proofs::Texts::texts_push))]
+#[tactic(auto, using(crate::proofs::Texts::has_texts, crate::proofs::Texts::number_texts, crate::proofs::Texts::texts_push, crate::proofs::Texts::number_of_itself))]
 impl Names {
+    /// No names. Takes no memory.
     pub fn new(alloc: Global) -> Names
         ensures { result ≡ [] }
     {
@@ -38,7 +41,8 @@ impl Names {
         }
     }
 
-    /// Adds a name at the end, and answers false where it is there.
+    /// Adds a name behind the others, and answers true; answers false where it is there. Then, and where memory is
+    /// wanting, the names stay as they were.
     pub fn add(&mut self, name: &str) -> Result<bool, AllocError>
         requires { length self.old < 255 }
         ensures added { IfOk result (λ new. (new ≡ not (has self.old name.now))
@@ -53,19 +57,30 @@ impl Names {
         Ok(true)
     }
 
+    /// How many names there are. No two of them are the same.
     pub fn len(&self) -> u8
-        ensures { result ≡ length self.now }
+        ensures count { result ≡ length self.now }
+        ensures distinct { IsDistinct bytes_eq self.now }
     {
         self.set.len() as u8
     }
 
+    pub fn is_empty(&self) -> bool
+        ensures { result ≡ (length self.now == 0) }
+    {
+        self.set.is_empty()
+    }
+
+    /// The name of a number.
     pub fn name(&self, i: u8) -> &str
         requires { i < length self.now }
-        ensures { slice_get self.now i ≡ Some result.now }
+        ensures name { slice_get self.now i ≡ Some result.now }
+        ensures number { number_of self.now result.now ≡ Some i }
     {
         self.set.as_slice()[usize::from(i)].as_str()
     }
 
+    /// The number of a name; none where it is not there.
     pub fn number(&self, name: &str) -> Option<u8>
         ensures { result ≡ number_of self.now name.now }
     {
@@ -82,4 +97,26 @@ pub struct NameBook {
     pub tables: Names,
     pub types: Names,
     pub nodes: Names,
+}
+
+#[cfg(test)]
+mod tests {
+    use super::*;
+    use std::test::Fail;
+
+    #[test]
+    fn names_have_the_numbers_of_their_coming(rt: HostRuntime) -> Result<(), Fail> {
+        let mut names = Names::new(rt.alloc());
+        assert!(rt; names.is_empty());
+        assert!(rt; names.add("stock")?);
+        assert_eq!(rt; names.len(), 1);
+        assert!(rt; names.add("orders")?);
+        assert_eq!(rt; names.len(), 2);
+        assert!(rt; !names.add("stock")?);
+        assert_eq!(rt; names.len(), 2);
+        assert_eq!(rt; names.name(1), "orders");
+        assert_eq!(rt; names.number("stock"), Some(0));
+        assert_eq!(rt; names.number("Stock"), None);
+        Ok(())
+    }
 }

@@ -1,0 +1,158 @@
+//! The rows of tables: a map from cells to values, in ascending order of cells.
+
+ghost use Rattle.std.specs.Prelude.{◌≡◌, ◌==◌, ◌<◌, ◌≤◌, [], List, ℤ, false, length, is_none, IsSome, Some, None, IfOk, IfErr, OnOk, OnErr, slice_get, slice_index_or, insert, unwrap_or, if◌then◌else◌};
+ghost use Rattle.teb_names.specs.Cells.{same_cell};
+ghost use Rattle.teb_names.specs.declared.Cell.{Cell};
+ghost use Rattle.teb_names.specs.Rows.{row_of, insert_row, IsAscending};
+
+use crate::Cell;
+use std::alloc::{AllocError, Global};
+use std::marker::Model;
+
+/// Rows, each a cell with its value, at most one of a cell. Contracts see the list of them, which ascends by cell:
+/// by table, and in one table by key.
+#[derive(Drop)]
+pub struct Rows {
+    rows: Vec<(Cell, i64)>,
+}
+
+impl Model for Rows {
+    ghost use Rattle.std.specs.Prelude.{List, ℤ};
+    ghost use Rattle.teb_names.specs.declared.Cell.{Cell};
+    ghost use Rattle.teb_names.specs.Rows.{IsAscending};
+
+    ghost Value = { List (Cell × ℤ) };
+
+    ghost view = { λ s. s.rows.items };
+
+    ghost invariant = { λ s. IsAscending s.rows.items };
+}
+
+#[tactic(auto, using(crate::proofs::Ascending::ascending_after, crate::proofs::Ascending::row_of_new, crate::proofs::Ascending::row_of_other))]
+impl Rows {
+    /// No rows. Takes no memory.
+    pub fn new(alloc: Global) -> Rows
+        ensures { result ≡ [] }
+    {
+        Rows {
+            rows: Vec::new(alloc),
+        }
+    }
+
+    /// The rows of a list that ascends by cell.
+    pub fn from_sorted(rows: Vec<(Cell, i64)>) -> Rows
+        requires { IsAscending rows.items }
+        ensures { result ≡ rows.items }
+    {
+        Rows { rows }
+    }
+
+    /// Adds a row, and answers true; answers false where the cell has a row, which then stays as it is.
+    /// A row of a cell behind all others costs the search alone.
+    pub fn insert(&mut self, cell: Cell, value: i64) -> Result<bool, AllocError>
+        ensures added { IfOk result (λ new. new ≡ is_none (row_of self.old cell)) }
+        ensures rows { IfOk result (λ new. self.new ≡ (if new then insert_row self.old cell value else self.old)) }
+        ensures err { OnErr result (self.new ≡ self.old) }
+
+        // What the rows then tell of each cell.
+        ensures ascending { IsAscending self.new }
+        ensures found { OnOk result (row_of self.new cell ≡ Some (unwrap_or (row_of self.old cell) value)) }
+        ensures others { (x : Cell) → same_cell cell x ≡ false → row_of self.new x ≡ row_of self.old x }
+    {
+        match self.place(cell) {
+            Ok(_) => Ok(false),
+            Err(i) => {
+                self.rows.insert(i, (cell, value))?;
+                Ok(true)
+            }
+        }
+    }
+
+    /// The value of the cell's row; none where it has no row.
+    pub fn get(&self, cell: Cell) -> Option<i64>
+        ensures { result ≡ row_of self.now cell }
+    {
+        match self.place(cell) {
+            Ok(i) => Some(self.rows[i].1),
+            Err(_) => None,
+        }
+    }
+
+    /// How many rows there are.
+    pub fn len(&self) -> usize
+        ensures { result ≡ length self.now }
+    {
+        self.rows.len()
+    }
+
+    pub fn is_empty(&self) -> bool
+        ensures { result ≡ (length self.now == 0) }
+    {
+        self.rows.is_empty()
+    }
+
+    /// The row at a place, from 0, in ascending order of cells.
+    pub fn at(&self, i: usize) -> (Cell, i64)
+        requires { i < length self.now }
+        ensures { slice_get self.now i ≡ Some result }
+    {
+        self.rows[i]
+    }
+
+    /// All rows, in ascending order of cells.
+    pub fn rows(&self) -> &[(Cell, i64)]
+        ensures rows { result.now ≡ self.now }
+        ensures ascending { IsAscending result.now }
+    {
+        &self.rows
+    }
+
+    // Where the cell's row stands, or where it belongs.
+    fn place(&self, cell: Cell) -> Result<usize, usize>
+        ensures there { IfOk result (λ i. (i < length self.now) × IsSome (row_of self.now cell)
+            × ((d : Cell × ℤ) → row_of self.now cell ≡ Some (slice_index_or self.now i d).1)) }
+        ensures absent { IfErr result (λ i. (i ≤ length self.now) × (row_of self.now cell ≡ None)
+            × ((v : ℤ) → insert self.now i (cell, v) ≡ insert_row self.now cell v)) }
+    {
+        self.rows.binary_search_by_key(&cell, |row| row.0)
+    }
+}
+
+#[cfg(test)]
+mod tests {
+    use super::*;
+    use crate::Table;
+    use std::test::Fail;
+
+    fn cell(table: u8, key: u32) -> Cell {
+        Cell {
+            table: Table(table),
+            key,
+        }
+    }
+
+    #[test]
+    fn cells_are_ordered_by_table_and_then_by_key(rt: HostRuntime) {
+        assert!(rt; cell(1, 9) < cell(2, 0));
+        assert!(rt; cell(1, 8) < cell(1, 9));
+        assert!(rt; cell(1, 9) == cell(1, 9));
+    }
+
+    #[test]
+    fn rows_ascend_whatever_the_order_of_their_insertion(rt: HostRuntime) -> Result<(), Fail> {
+        let mut rows = Rows::new(rt.alloc());
+        assert!(rt; rows.is_empty());
+        assert!(rt; rows.insert(cell(1, 0), 3)?);
+        assert!(rt; rows.insert(cell(0, 7), -2)?);
+        assert!(rt; rows.insert(cell(0, 2), 1)?);
+        assert!(rt; !rows.insert(cell(0, 7), 5)?);
+        assert_eq!(rt;
+            rows.rows(),
+            [(cell(0, 2), 1), (cell(0, 7), -2), (cell(1, 0), 3)].as_slice()
+        );
+        assert_eq!(rt; rows.get(cell(0, 7)), Some(-2));
+        assert_eq!(rt; rows.get(cell(0, 3)), None);
+        assert_eq!(rt; rows.len(), 3);
+        Ok(())
+    }
+}
