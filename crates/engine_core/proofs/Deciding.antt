@@ -1,5 +1,5 @@
 -- What a refusal, a stop and a grant come to in the answer rule.
-use Rattle.std.proofs.Common.{◌≡◌, ◌⊎◌, inl, inr, ◌&&◌, ℕ, suc, ◌<◌, ◌≤◌, Bool, true, false, cond, ltb, leb, List, ◌∷◌, Option, Some, None, refl, sym, ◌∙◌, ap, subst}
+use Rattle.std.proofs.Common.{◌≡◌, inl, inr, ◌&&◌, ℕ, suc, ◌<◌, ◌≤◌, true, false, cond, ltb, leb, List, ◌∷◌, Option, Some, None, refl, sym, ◌∙◌, ap, subst}
 use Rattle.teb_names.specs.declared.Cell.{Cell}
 use Rattle.std.proofs.lemmas.Bool.{le-leb, lt-leb, both_ways, and_parts, or_cases}
 use Rattle.teb_names.specs.declared.Node.{Node}
@@ -81,17 +81,13 @@ pub in_range : (H : List Event) (x : Cell) (n : ℕ) (granted : Answered) → is
 in_range H x n granted e = rw e refl
 
 -- what a session is answered by what it holds
-pub bad_session : (X : Store) (H : List Event) (s : Session) (r : Request) → (s.0 < 1) ⊎ (32 < s.0) → answer X H s r ≡ refuse H BadSession
+pub bad_session : (X : Store) (H : List Event) (s : Session) (r : Request) → (leb 1 s.0 && leb s.0 32) ≡ false → answer X H s r ≡ refuse H BadSession
 unfolding answer
-bad_session X H s r o = elim o [ inl h ↦ rw (lt-leb 1 s.0 h) refl | inr h ↦ rw (lt-leb s.0 32 h) (no (leb 1 s.0)) ]
-  where
-    no : (b : Bool) → cond (b && false) (answer_to X H s r (held H s.0)) (refuse H BadSession) ≡ refuse H BadSession
-    no true = refl
-    no false = refl
+bad_session X H s r b = rw b refl
 
-good_session : (X : Store) (H : List Event) (s : Session) (r : Request) → 1 ≤ s.0 → s.0 ≤ 32 → answer X H s r ≡ answer_to X H s r (held H s.0)
+good_session : (X : Store) (H : List Event) (s : Session) (r : Request) → (leb 1 s.0 && leb s.0 32) ≡ true → answer X H s r ≡ answer_to X H s r (held H s.0)
 unfolding answer
-good_session X H s r h k = rw (le-leb 1 s.0 h, le-leb s.0 32 k) refl
+good_session X H s r b = rw b refl
 
 nobody_held : (H : List Event) (s : Session) → held_txn H s ≡ None → held H s.0 ≡ None
 nobody_held H s e = go (held H s.0) e
@@ -107,14 +103,14 @@ somebody_held H s t e = go (held H s.0) e
     go None e = absurd (cc)
     go (Some u) e = let q : record { 0 = u } ≡ t = cc in ap (λ (v : Txn). Some v.0) q
 
-pub nothing_held : (X : Store) (H : List Event) (s : Session) (r : Request) → 1 ≤ s.0 → s.0 ≤ 32 → held_txn H s ≡ None → answer X H s r ≡ answer_new X.setup H s r
-nothing_held X H s r h k e = good_session X H s r h k ∙ ap (answer_to X H s r) (nobody_held H s e)
+pub nothing_held : (X : Store) (H : List Event) (s : Session) (r : Request) → (leb 1 s.0 && leb s.0 32) ≡ true → held_txn H s ≡ None → answer X H s r ≡ answer_new X.setup H s r
+nothing_held X H s r b e = good_session X H s r b ∙ ap (answer_to X H s r) (nobody_held H s e)
 
-pub aborted_held : (X : Store) (H : List Event) (s : Session) (r : Request) (t : Txn) → 1 ≤ s.0 → s.0 ≤ 32 → held_txn H s ≡ Some t → aborted H t.0 ≡ true → answer X H s r ≡ told H t.0
-aborted_held X H s r t h k e a = good_session X H s r h k ∙ ap (answer_to X H s r) (somebody_held H s t e) ∙ rw a refl
+pub aborted_held : (X : Store) (H : List Event) (s : Session) (r : Request) (t : Txn) → (leb 1 s.0 && leb s.0 32) ≡ true → held_txn H s ≡ Some t → aborted H t.0 ≡ true → answer X H s r ≡ told H t.0
+aborted_held X H s r t b e a = good_session X H s r b ∙ ap (answer_to X H s r) (somebody_held H s t e) ∙ rw a refl
 
-pub running_held : (X : Store) (H : List Event) (s : Session) (r : Request) (t : Txn) → 1 ≤ s.0 → s.0 ≤ 32 → held_txn H s ≡ Some t → aborted H t.0 ≡ false → answer X H s r ≡ answer_of X H t.0 r
-running_held X H s r t h k e a = good_session X H s r h k ∙ ap (answer_to X H s r) (somebody_held H s t e) ∙ rw a refl
+pub running_held : (X : Store) (H : List Event) (s : Session) (r : Request) (t : Txn) → (leb 1 s.0 && leb s.0 32) ≡ true → held_txn H s ≡ Some t → aborted H t.0 ≡ false → answer X H s r ≡ answer_of X H t.0 r
+running_held X H s r t b e a = good_session X H s r b ∙ ap (answer_to X H s r) (somebody_held H s t e) ∙ rw a refl
 
 -- who is held and not aborted is unfinished
 pub held_unfinished : (H : List Event) (s : Session) (t : Txn) → held_txn H s ≡ Some t → aborted H t.0 ≡ false → unfinished H t.0 ≡ true

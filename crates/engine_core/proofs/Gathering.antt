@@ -65,6 +65,7 @@ pub record HasRead (X : Store) (H : List Event) (t : ℕ) (x : Cell) (n : ℕ) (
   pub count : length values ≡ i
   pub room : n ≤ G.spare + i
 
+-- a scan before its first read
 pub read_none : (X : Store) (H : Written) (t : ℕ) (x : Cell) (n : ℕ) → n ≤ H.spare → HasRead X H.events t x n [] H 0
 read_none X H t x n h = record {
   found = ap (λ (cs : List Cell). (read_all X H.events t cs).0) (sym (rest_first x n));
@@ -79,7 +80,7 @@ all_cons : (X : Store) (H : List Event) (t : ℕ) (x : Cell) (xs : List Cell) �
 unfolding read_all
 all_cons X H t x xs = refl
 
-pub read_one : (X : Store) (H : List Event) (t : Txn) (x : Cell) (n : ℕ) (values : List (Option ℤ)) (G F : Written) (i : ℕ) (from : Txn) (v : Option ℤ) → HasRead X H t.0 x n values G i → i < n →
+read_one : (X : Store) (H : List Event) (t : Txn) (x : Cell) (n : ℕ) (values : List (Option ℤ)) (G F : Written) (i : ℕ) (from : Txn) (v : Option ℤ) → HasRead X H t.0 x n values G i → i < n →
     (from.0, v) ≡ read X.setup X.rows G.events t.0 (cell_at x i) → F.events ≡ Got t (cell_at x i) from v ∷ G.events → F.spare + 1 ≡ G.spare → HasRead X H t.0 x n (values ++ v ∷ []) F (i + 1)
 read_one X H t x n values G F i from v r h e q s =
     let w = read X.setup X.rows G.events t.0 (cell_at x i) in
@@ -94,6 +95,14 @@ read_one X H t x n values G F i from v r h e q s =
       room = (let z = r.room in omega arith);
     }
 
+-- a scan after one more read
+pub read_next : (X : Store) (H : List Event) (t : Txn) (x : Cell) (n : ℕ) (values after : List (Option ℤ)) (G F : Written) (i : ℕ) (y : Cell) (from : Txn) (v : Option ℤ) → HasRead X H t.0 x n values G i → i < n → y ≡ cell_at x i →
+    (from.0, v) ≡ read X.setup X.rows G.events t.0 y → F.events ≡ Got t y from v ∷ G.events → F.spare + 1 ≡ G.spare → after ≡ values ++ v ∷ [] → HasRead X H t.0 x n after F (i + 1)
+read_next X H t x n values after G F i y from v r h c e q s a =
+    subst (λ (vs : List (Option ℤ)). HasRead X H t.0 x n vs F (i + 1)) (sym a)
+    (read_one X H t x n values G F i from v r h (e ∙ ap (read X.setup X.rows G.events t.0) c) (q ∙ ap (λ (z : Cell). Got t z from v ∷ G.events) c) s)
+
+-- a scan after its last read
 pub read_whole : (X : Store) (H : List Event) (t : ℕ) (x : Cell) (n : ℕ) (values : List (Option ℤ)) (G : Written) → HasRead X H t x n values G n → (values ≡ (read_all X H t (cells_from x n)).0) × (G.events ≡ (read_all X H t (cells_from x n)).1)
 unfolding read_all
 read_whole X H t x n values G r =
@@ -104,9 +113,3 @@ pub lawful_before : (X : Store) (H : List Event) (t : ℕ) (xs : List Cell) → 
 unfolding read_all Lawful
 lawful_before X H t [] l = l
 lawful_before X H t (x ∷ xs) l = let r = read X.setup X.rows H t x in (lawful_before X (Got (txn t) x (txn r.0) r.1 ∷ H) t xs l).1
-
-pub read_next : (X : Store) (H : List Event) (t : Txn) (x : Cell) (n : ℕ) (values after : List (Option ℤ)) (G F : Written) (i : ℕ) (y : Cell) (from : Txn) (v : Option ℤ) → HasRead X H t.0 x n values G i → i < n → y ≡ cell_at x i →
-    (from.0, v) ≡ read X.setup X.rows G.events t.0 y → F.events ≡ Got t y from v ∷ G.events → F.spare + 1 ≡ G.spare → after ≡ values ++ v ∷ [] → HasRead X H t.0 x n after F (i + 1)
-read_next X H t x n values after G F i y from v r h c e q s a =
-    subst (λ (vs : List (Option ℤ)). HasRead X H t.0 x n vs F (i + 1)) (sym a)
-    (read_one X H t x n values G F i from v r h (e ∙ ap (read X.setup X.rows G.events t.0) c) (q ∙ ap (λ (z : Cell). Got t z from v ∷ G.events) c) s)

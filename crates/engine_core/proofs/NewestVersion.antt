@@ -16,7 +16,8 @@ use Rattle.teb_laws.proofs.Positions.{upto_all, upto_cons}
 use Rattle.teb_laws.proofs.ReadRule.{put_skip}
 use Rattle.teb_laws.proofs.Timeline.{same_cell-true}
 use Rattle.teb_rules.specs.Setup.{Setup}
-use Rattle.engine_core.specs.Reading.{version_in, found_or, newest_version}
+use Rattle.std.specs.Option.{option_or}
+use Rattle.engine_core.specs.Reading.{version_in, newest_version}
 
 pub wrote_any : (H : List Event) (t : ℕ) (x : Cell) → wrote H t x ≡ list_any (is_put t x) H
 unfolding wrote put_at
@@ -40,7 +41,7 @@ no_version H (Done u) x w n c = refl
 no_version H (Gone u d) x w n c = refl
 no_version H (Told u) x w n c = refl
 
-found_none : {A : Type 0} (o r : Option A) → found_or o r ≡ None → (o ≡ None) × (r ≡ None)
+found_none : {A : Type 0} (o r : Option A) → option_or o r ≡ None → (o ≡ None) × (r ≡ None)
 found_none None r h = (refl, h)
 found_none (Some a) r h = absurd (cc)
 
@@ -88,7 +89,7 @@ pub found : (H P : List Event) (x : Cell) (r : Txn × Option ℤ) → newest_ver
 found H [] x r h = absurd (cc)
 found H (e ∷ P) x r h = go (version_in H x e) refl h (found H P x r)
   where
-    go : (o : Option (Txn × Option ℤ)) → version_in H x e ≡ o → found_or o (newest_version H P x) ≡ Some r → (newest_version H P x ≡ Some r → IsNewest H P x r) → IsNewest H (e ∷ P) x r
+    go : (o : Option (Txn × Option ℤ)) → version_in H x e ≡ o → option_or o (newest_version H P x) ≡ Some r → (newest_version H P x ≡ Some r → IsNewest H P x r) → IsNewest H (e ∷ P) x r
     go None q k ih = found_later H e P x r q (ih k)
     go (Some a) q k ih = found_here H e P x r (q ∙ k)
 

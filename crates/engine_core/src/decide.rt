@@ -1,6 +1,6 @@
 //! What a request is answered, before anything is written.
 
-ghost use Rattle.std.specs.Prelude.{◌≡◌, ◌≤◌, IsTrue};
+ghost use Rattle.std.specs.Prelude.{◌≡◌, ◌&&◌, leb, IsTrue};
 ghost use Rattle.teb_history.specs.Phases.{unfinished};
 ghost use Rattle.teb_rules.specs.Answer.{answer, answer_new, answer_of};
 ghost use Rattle.engine_core.specs.Plain.{plain_store};
@@ -26,7 +26,7 @@ pub fn decide(history: &History, session: Session, request: Request) -> Decision
     ensures answer { carried plain_store history.now.events result ≡ answer plain_store history.now.events session request }
     ensures bounded { IsBounded history.now.events result }
 {
-    if session.0 < 1 || session.0 > SESSIONS {
+    if !is_session(session) {
         return refused(Refusal::BadSession);
     }
     match history.held(session) {
@@ -39,6 +39,13 @@ pub fn decide(history: &History, session: Session, request: Request) -> Decision
             }
         }
     }
+}
+
+/// Whether a session's number is one of 1 to 32.
+fn is_session(session: Session) -> bool
+    ensures { result ≡ (leb 1 session.0 && leb session.0 32) }
+{
+    (1..=SESSIONS).contains(&session.0)
 }
 
 /// What a session is answered that holds nothing.
@@ -83,10 +90,7 @@ fn tell(history: &History, t: Txn) -> Decision
     ensures answer { carried plain_store history.now.events result ≡ told history.now.events t.0 }
     ensures bounded { IsBounded history.now.events result }
 {
-    let cause = match history.cause(t) {
-        Some(cause) => cause,
-        None => Cause::Asked,
-    };
+    let cause = history.cause(t).unwrap_or(Cause::Asked);
     Decision::Grant(Reply::Aborted(cause), Event::Told(t))
 }
 

@@ -9,7 +9,7 @@ mod text;
 
 pub use error::{LineWhy, ScriptError};
 pub use input::{count_lines, split_input};
-pub use script::parse_script;
+pub use script::{number, parse_script};
 pub use scripts::{Scripts, scripts_of};
 use teb_names::{Reply, Request, Session};
 pub use text::{put_event, put_reply, put_report, put_starts};

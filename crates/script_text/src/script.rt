@@ -12,6 +12,8 @@ mod numbers;
 mod tests;
 mod words;
 
+pub use numbers::number;
+
 use super::{Line, ScriptError};
 use grammar::parse_line;
 use lines::Lines;
