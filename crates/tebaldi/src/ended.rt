@@ -1,13 +1,9 @@
-//! How a command ends.
+//! How a command ends, and the writing of what it tells.
 
-ghost use Rattle.std.specs.Prelude.{◌≡◌, ◌≢◌, ◌++◌, ◌∷◌, [], None, IfOk};
-ghost use Rattle.tebaldi.specs.Tellings.{Telling, IsTold, events_of, why_text, bad_line, fault};
-ghost use Rattle.teb_io.specs.Faults.{HasCause, Rose};
+ghost use Rattle.std.specs.Prelude.{◌≡◌, ◌≢◌, None};
+ghost use Rattle.teb_io.specs.Faults.{Rose};
+ghost use Rattle.tebaldi.specs.Tellings.{IsTold, events_of};
 
-use itoa::Buffer;
-use script_text::LineWhy;
-use std::alloc::{AllocError, Global};
-use std::marker::Model;
 use teb_history::History;
 use teb_io::{Sink, write_whole};
 
@@ -20,20 +16,30 @@ pub struct Ended {
     pub history: Option<History>,
 }
 
-/// What is to be told. Contracts see the status, the bytes of the text, and the events of the history.
-#[derive(Drop)]
-pub struct Telling {
-    pub status: u8,
-    pub text: Vec<u8>,
-    pub history: Option<History>,
+pub const WRITE_FAULT: u8 = 4;
+
+/// Ends with a status where there is nothing to write.
+pub fn silent(status: u8) -> Ended
+    ensures { (result.status ≡ status) × (result.history ≡ None) }
+{
+    Ended {
+        status,
+        history: None,
+    }
 }
 
-impl Model for Telling {
-    ghost use Rattle.tebaldi.specs.Tellings.{Telling, events_of};
-
-    ghost Value = { Telling };
-
-    ghost view = { λ t. record { status = t.status; text = t.text.items; history = events_of t.history } };
+/// Writes the text, and ends with the status, or, where the text can't be written whole, with that of a write fault.
+pub fn tell<K: Sink>(out: &mut K, status: u8, text: &[u8], history: Option<History>) -> Ended
+    requires { status ≢ 4 }
+    ensures told { IsTold (record { status = status; text = text.now; history = events_of history }) result.status result.history (K.written out.old) (K.written out.new) }
+    ensures history { result.history ≡ history }
+    ensures fault { result.status ≡ 4 → Rose (K.faults out.old) (K.faults out.new) }
+{
+    match write_whole(out, text) {
+        Ok(()) => Ended { status, history },
+        Err(_) => Ended {
+            status: WRITE_FAULT,
+            history,
+        },
+    }
 }
-
-const WRITE_FAULT: u8 = 4;

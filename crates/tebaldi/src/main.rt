@@ -26,5 +26,5 @@ fn main(rt: HostRuntime) -> ExitCode {
     ExitCode::from(ended.status)
 }
 
-#[cfg(test)]
-mod tests;
+
+
