@@ -1,5 +1,5 @@
 -- The commands, by the words of the command line.
-use Rattle.std.specs.Prelude.{ℕ, ◌-◌, ◌^◌, if◌then◌else◌, nat_le, ◌&&◌, List, [], ◌∷◌, length, map, codes, String, string_bytes, Option, Some, None, option_map, option_and_then}
+use Rattle.std.specs.Prelude.{ℕ, ◌-◌, ◌^◌, if◌then◌else◌, nat_le, List, [], ◌∷◌, length, map, codes, String, string_bytes, Option, Some, None, option_map, option_and_then}
 use Rattle.std.specs.declared.alloc.Global.{Global}
 use Rattle.std.specs.Str.{bytes_eq}
 use Rattle.script_text.specs.Numbers.{number_upto}

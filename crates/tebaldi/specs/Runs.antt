@@ -1,5 +1,5 @@
 -- What `replay` tells, by the bytes of its input.
-use Rattle.std.specs.Prelude.{◌≡◌, ℕ, ◌++◌, ◌||◌, ◌==◌, Bool, nat_lt, MatchBool, MatchOption, IfSome, List, [], ◌∷◌, length, ℤ, Option, Some, None, Result, Ok, Err}
+use Rattle.std.specs.Prelude.{◌≡◌, ℕ, ◌++◌, ◌||◌, ◌==◌, Bool, nat_lt, MatchBool, MatchOption, IfSome, List, [], length, ℤ, Option, Some, None, Result, Ok, Err}
 use Rattle.std.specs.List.{flat_map, list_all}
 use Rattle.teb_names.specs.declared.Txn.{Txn}
 use Rattle.teb_names.specs.declared.Cell.{Cell}

@@ -1,6 +1,6 @@
 -- What a command tells: a status, a text, and the history where there was a run.
-use Rattle.std.specs.Prelude.{◌≡◌, ◌≢◌, ◌⊎◌, ℕ, List, [], ◌∷◌, ◌++◌, codes, decimal, Option, Some, None, option_map}
-use Rattle.std.specs.Io.KnownBytes.{Appends, Keeps}
+use Rattle.std.specs.Prelude.{◌≡◌, ◌≢◌, ◌⊎◌, ℕ, List, [], ◌∷◌, ◌++◌, codes, decimal, Option, None, option_map}
+use Rattle.std.specs.Io.KnownBytes.{Appends}
 use Rattle.teb_history.specs.declared.Event.{Event}
 use Rattle.teb_history.specs.Written.{Written}
 use Rattle.teb_io.specs.Bytes.{AppendsFront}

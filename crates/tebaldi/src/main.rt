@@ -25,6 +25,3 @@ fn main(rt: HostRuntime) -> ExitCode {
     let ended = run_tebaldi(rt.alloc(), &words, &mut input, &mut out);
     ExitCode::from(ended.status)
 }
-
-
-

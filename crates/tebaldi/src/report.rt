@@ -56,11 +56,7 @@ fn report_of(
     Ok(text)
 }
 
-fn put_replies(
-    out: &mut Vec<u8>,
-    names: &NameBook,
-    log: &[Answered],
-) -> Result<(), AllocError>
+fn put_replies(out: &mut Vec<u8>, names: &NameBook, log: &[Answered]) -> Result<(), AllocError>
     requires { All (λ a. ReplyNamed names.now a.reply) log.now }
     ensures { OnOk result (out.new.items ≡ out.old.items ++ flat_map (reply_text names.now) log.now) }
 {

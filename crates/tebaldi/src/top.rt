@@ -64,11 +64,13 @@ fn replay_source<S: Source, K: Sink>(alloc: Global, input: &mut S, out: &mut K) 
         Err(ReadError::OutOfMemory) => return silent(OUT_OF_MEMORY),
     };
     match replay_input(alloc, &bytes) {
-        Ok(Telling {
-            status,
-            text,
-            history,
-        }) => tell(out, status, &text, history),
+        Ok(
+            Telling {
+                status,
+                text,
+                history,
+            },
+        ) => tell(out, status, &text, history),
         Err(_) => silent(OUT_OF_MEMORY),
     }
 }
