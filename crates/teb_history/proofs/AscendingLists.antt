@@ -1,12 +1,12 @@
 -- Lists that ascend by a key: what a search finds in them, and what an edit at that place makes.
-use Rattle.std.proofs.Common.{◌≡◌, ◌≢◌, ℕ, zero, suc, ◌+◌, ◌<◌, ◌≤◌, Bool, true, false, cond, not, ltb, eqb, List, [], ◌∷◌, ◌++◌, length, map, filter, get_or, set, take, drop, Result, Ok, Err, refl, sym, ◌∙◌, ap, subst, arith, lt-ltb, le-ltb, ◌⊎◌, inl, inr, ltb-true, eq-eqb}
+use Rattle.std.proofs.Common.{◌≡◌, ◌≢◌, ℕ, zero, suc, ◌<◌, ◌≤◌, Bool, true, false, cond, not, ltb, eqb, List, [], ◌∷◌, length, filter, get_or, set, Result, Ok, Err, refl, sym, ◌∙◌, ap, subst, arith, lt-ltb, le-ltb, ◌⊎◌, inl, inr, eq-eqb}
 use Rattle.std.specs.List.{insert}
 use Rattle.std.specs.List.Sorted.{IsSearchInRange, IsBinarySearchResult, IsNonDecreasingBy}
 use Rattle.std.specs.Ordering.{nat_cmp, ordering_index}
 use Rattle.std.proofs.lemmas.Cmp.{ranked}
 use Rattle.std.proofs.lemmas.Bool.{ne_eqb, eqb-true}
 use Rattle.std.proofs.lemmas.Bool.Decides.{nat_tests, eqb_tells}
-use Rattle.teb_history.proofs.Tests.{ltb_tells}
+use Rattle.teb_history.proofs.Comparisons.{ltb_tells}
 use Rattle.teb_history.specs.Ascending.{AllAbove, IsAscendingBy, next_place, place_of, put_by}
 
 module _ {A : Type 0} (key : A → ℕ) where

@@ -1,17 +1,17 @@
 -- The lists that are kept of the transactions, after one more event.
-use Rattle.std.proofs.Common.{◌≡◌, ◌≢◌, ℕ, suc, ◌<◌, ◌≤◌, Bool, true, false, cond, not, ◌||◌, ltb, eqb, List, [], ◌∷◌, length, map, filter, get_or, Result, Ok, Err, ◌⊎◌, inl, inr, refl, sym, ◌∙◌, ap, subst, arith}
+use Rattle.std.proofs.Common.{◌≡◌, ◌≢◌, ℕ, suc, ◌<◌, ◌≤◌, Bool, true, false, cond, not, ◌||◌, ltb, eqb, List, [], ◌∷◌, map, filter, get_or, Result, Ok, Err, ◌⊎◌, inl, inr, refl, sym, ◌∙◌, ap, subst, arith}
 use Rattle.std.specs.List.{list_any}
-use Rattle.std.proofs.lemmas.Bool.{eq-eqb, eqb-true, eqb-false, ne_eqb}
+use Rattle.std.proofs.lemmas.Bool.{eqb-true, ne_eqb}
 use Rattle.std.proofs.lemmas.Bool.Decides.{eqb_tells}
 use Rattle.teb_names.specs.declared.Txn.{Txn}
 use Rattle.teb_history.specs.declared.Event.{Event}
 use Rattle.teb_history.specs.declared.standing.Standing.{Standing}
 use Rattle.teb_history.specs.Ascending.{AllAbove, IsAscendingBy, next_place, place_of, put_by}
-use Rattle.teb_history.specs.OwnEvents.{event_txn, is_of}
+use Rattle.teb_history.specs.OwnEvents.{event_txn}
 use Rattle.teb_history.specs.Live.{number_of, mentioned, is_live, live_txns}
 use Rattle.teb_history.specs.Standings.{standing_number, standing_of, blank, standings, stands_live}
-use Rattle.teb_history.proofs.Tests.{ltb_tells}
-use Rattle.teb_history.proofs.AscendingLists.{above-mono, ascending-put, ascending-filter, filter-put_in, filter-put_away}
+use Rattle.teb_history.proofs.Comparisons.{ltb_tells}
+use Rattle.teb_history.proofs.AscendingLists.{ascending-put, ascending-filter, filter-put_in, filter-put_away}
 use Rattle.teb_history.proofs.Standings.{standing_of-other, standing_of-nothing, live_standing}
 
 -- a transaction is its number

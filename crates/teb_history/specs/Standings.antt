@@ -1,5 +1,5 @@
 -- What is kept of each transaction that has an event.
-use Rattle.std.specs.Prelude.{◌≡◌, ℕ, suc, Bool, true, false, cond, not, ◌&&◌, ◌||◌, eqb, List, [], ◌∷◌, length, map, filter, reverse, is_some, Option, Some, None}
+use Rattle.std.specs.Prelude.{◌≡◌, ℕ, Bool, true, false, cond, not, ◌&&◌, ◌||◌, List, map, reverse, is_some, Option, Some, None}
 use Rattle.std.specs.Option.{option_map_or}
 use Rattle.teb_names.specs.declared.Txn.{Txn}
 use Rattle.teb_history.specs.declared.Event.{Event}
@@ -10,8 +10,7 @@ use Rattle.teb_history.specs.declared.standing.Start.{Start}
 use Rattle.teb_history.specs.declared.standing.Standing.{Standing}
 use Rattle.teb_history.specs.Positions.{came}
 use Rattle.teb_history.specs.Phases.{begun, committed, ready_at, told_at, spot_of, session_of, cause_of, is_after, begun_count}
-use Rattle.teb_history.specs.Ascending.{put_by}
-use Rattle.teb_history.specs.OwnEvents.{event_txn, own_end, links}
+use Rattle.teb_history.specs.OwnEvents.{own_end, links}
 use Rattle.teb_history.specs.Live.{mentioned, live_txns}
 
 -- the number of a standing's transaction

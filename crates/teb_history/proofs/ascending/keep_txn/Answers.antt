@@ -1,4 +1,4 @@
-use Rattle.std.proofs.Common.{◌≡◌, ◌∙◌, not, eqb, sym, ap, rules, arith, List}
+use Rattle.std.proofs.Common.{◌∙◌, not, eqb, sym, ap, rules, arith, List}
 use Rattle.std.proofs.lemmas.Fn.{filter_same}
 use Rattle.teb_names.specs.declared.Txn.{Txn}
 use Rattle.teb_history.specs.Ascending.{place_of}

@@ -1,4 +1,4 @@
-use Rattle.std.proofs.Common.{◌≡◌, ◌∙◌, sym, ap, arith, List}
+use Rattle.std.proofs.Common.{◌∙◌, sym, ap, arith, List}
 use Rattle.teb_history.specs.declared.standing.Standing.{Standing}
 use Rattle.teb_history.specs.Ascending.{place_of}
 use Rattle.teb_history.specs.Standings.{standing_number}

@@ -1,4 +1,4 @@
-use Rattle.std.proofs.Common.{◌≡◌, ◌∙◌, ℕ, List, sym, ap, subst, arith, get_or}
+use Rattle.std.proofs.Common.{◌∙◌, List, sym, ap, subst, arith, get_or}
 use Rattle.teb_history.specs.declared.standing.Standing.{Standing}
 use Rattle.teb_history.specs.Ascending.{IsAscendingBy, place_of}
 use Rattle.teb_history.specs.Standings.{standing_number, standing_of}

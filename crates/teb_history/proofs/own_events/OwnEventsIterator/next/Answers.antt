@@ -1,4 +1,4 @@
-use Rattle.std.proofs.Common.{◌≡◌, ◌<◌, ◌∙◌, sym, rules, arith}
+use Rattle.std.proofs.Common.{◌∙◌, sym, rules, arith}
 use Rattle.teb_history.proofs.Chains.{own_before-none, own_before-step, linked_before, links_within}
 use Rattle.teb_history.proofs.own_events.OwnEventsIterator.next.Goals as goal
 

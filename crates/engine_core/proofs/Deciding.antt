@@ -1,0 +1,117 @@
+-- What a refusal, a stop and a grant come to in the answer rule.
+use Rattle.std.proofs.Common.{◌≡◌, inl, inr, ◌&&◌, ℕ, suc, ◌<◌, ◌≤◌, true, false, cond, ltb, leb, List, ◌∷◌, Option, Some, None, refl, sym, ◌∙◌, ap, subst}
+use Rattle.teb_names.specs.declared.Cell.{Cell}
+use Rattle.std.proofs.lemmas.Bool.{le-leb, lt-leb, both_ways, and_parts, or_cases}
+use Rattle.teb_names.specs.declared.Node.{Node}
+use Rattle.teb_names.specs.declared.Txn.{Txn}
+use Rattle.teb_names.specs.declared.Session.{Session}
+use Rattle.teb_names.specs.declared.Spot.{Spot}
+use Rattle.teb_names.specs.declared.Refusal.{Refusal}
+use Rattle.teb_names.specs.declared.Refusal.TheVariants.{UnknownType, Full, NoTxn, Range, BadSession}
+use Rattle.teb_names.specs.declared.Request.{Request}
+use Rattle.teb_names.specs.declared.Request.TheVariants.{Begin}
+use Rattle.teb_names.specs.declared.Reply.TheVariants.{Refused, Again, Begun}
+use Rattle.teb_history.specs.declared.Event.TheVariants.{Began}
+use Rattle.teb_history.specs.Phases.{begun_count, held, aborted, unfinished}
+use Rattle.teb_history.specs.Written.{held_txn, txn_of}
+use Rattle.teb_laws.proofs.Outcomes.{held_holds}
+use Rattle.teb_laws.proofs.Reachable.{untold_gone}
+use Rattle.teb_rules.specs.Cascade.{txn}
+use Rattle.teb_rules.specs.Setup.{Setup}
+use Rattle.teb_rules.specs.Stops.{begin_stop}
+use Rattle.teb_history.specs.declared.Event.{Event}
+use Rattle.teb_rules.specs.Setup.{Store}
+use Rattle.teb_rules.specs.declared.Stop.{Stop}
+use Rattle.teb_rules.specs.declared.Stop.TheVariants as stop
+use Rattle.teb_rules.specs.Answer.{Answered, or_stop, or_refused, refuse, is_scan, answer, answer_to, answer_of, answer_new, begin_or_wait}
+use Rattle.engine_core.specs.declared.decision.Decision.{Decision}
+use Rattle.engine_core.specs.declared.decision.Decision.TheVariants.{Answer}
+use Rattle.engine_core.specs.Decisions.{carried, told, IsBounded, IsRefusal, IsStopped}
+
+-- a request of t that is stopped, and one that is not
+pub stops : (X : Store) (H : List Event) (t : ℕ) (s r : Stop) (o : Option Decision) (d : Decision) (granted : Answered) → s ≡ r → IsStopped X H t s o → o ≡ Some d → carried X H d ≡ or_stop H t r granted
+stops X H t s r o d granted e k q = let f = subst (IsStopped X H t s) q k in f.0 granted ∙ ap (λ (z : Stop). or_stop H t z granted) e
+
+pub stops_bounded : (X : Store) (H : List Event) (t : ℕ) (s : Stop) (o : Option Decision) (d : Decision) → IsStopped X H t s o → o ≡ Some d → IsBounded H d
+stops_bounded X H t s o d k q = (subst (IsStopped X H t s) q k).1
+
+pub goes : (X : Store) (H : List Event) (t : ℕ) (s r : Stop) (o : Option Decision) (granted : Answered) → s ≡ r → IsStopped X H t s o → o ≡ None → granted ≡ or_stop H t r granted
+goes X H t s r o granted e k q = let f : s ≡ stop.Go = subst (IsStopped X H t s) q k in ap (λ (z : Stop). or_stop H t z granted) (sym f ∙ e)
+
+-- an access that is refused, and one that is not
+pub is_refused : (X : Store) (H : List Event) (t : ℕ) (x : Cell) (o : Option Refusal) (why : Refusal) (d : Decision) (granted : Answered) → IsRefusal X H t x o → o ≡ Some why → d ≡ Answer (Refused why) → carried X H d ≡ or_refused X H t x granted
+is_refused X H t x o why d granted k q e = let f = subst (IsRefusal X H t x) q k in ap (carried X H) e ∙ sym (f granted)
+
+pub is_not_refused : (X : Store) (H : List Event) (t : ℕ) (x : Cell) (o : Option Refusal) (granted : Answered) → IsRefusal X H t x o → o ≡ None → or_refused X H t x granted ≡ granted
+is_not_refused X H t x o granted k q = let f = subst (IsRefusal X H t x) q k in f granted
+
+-- what a session that holds nothing is answered
+pub begins_unknown : (S : Setup) (H : List Event) (s : Session) (k : Spot) → ltb k.kind.0 S.types ≡ false → answer_new S H s (Begin k) ≡ refuse H UnknownType
+unfolding answer_new
+begins_unknown S H s k e = rw e refl
+
+pub begins_full : (S : Setup) (H : List Event) (s : Session) (k : Spot) → ltb k.kind.0 S.types ≡ true → 8192 ≤ begun_count H → answer_new S H s (Begin k) ≡ refuse H Full
+unfolding answer_new
+begins_full S H s k e f = rw (e, le-leb 8192 (begun_count H) f) refl
+
+pub begins_late : (S : Setup) (H : List Event) (s : Session) (k : Spot) (u : Txn) (n : Node) → ltb k.kind.0 S.types ≡ true → begun_count H < 8192 → stop.Wait u n ≡ begin_stop S H k → answer_new S H s (Begin k) ≡ (Again u n, H)
+unfolding answer_new
+begins_late S H s k u n e f w = rw (e, lt-leb 8192 (begun_count H) f, ← w) refl
+
+pub begins : (S : Setup) (H : List Event) (s : Session) (k : Spot) (t : Txn) → ltb k.kind.0 S.types ≡ true → begun_count H < 8192 → ((u : Txn) (n : Node) → begin_stop S H k ≡ stop.Wait u n → ⊥) → t.0 ≡ suc (begun_count H) →
+    answer_new S H s (Begin k) ≡ (Begun t, Began t s k.kind k.instance ∷ H)
+unfolding answer_new
+begins S H s k t e f w q = rw (e, lt-leb 8192 (begun_count H) f) (go (begin_stop S H k) w ∙ ap (λ (n : ℕ). (Begun (txn n), Began (txn n) s k.kind k.instance ∷ H)) (sym q))
+  where
+    go : (o : Stop) → ((u : Txn) (n : Node) → o ≡ stop.Wait u n → ⊥) → begin_or_wait H s k o ≡ (Begun (txn (suc (begun_count H))), Began (txn (suc (begun_count H))) s k.kind k.instance ∷ H)
+    go stop.Go w = refl
+    go (stop.Wait u n) w = absurd (w u n refl)
+    go (stop.Break n b) w = refl
+
+pub holds_nothing : (S : Setup) (H : List Event) (s : Session) (r : Request) → ((k : Spot) → r ≡ Begin k → ⊥) → answer_new S H s r ≡ refuse H NoTxn
+unfolding answer_new
+holds_nothing S H s (Begin k) f = absurd (f k refl)
+holds_nothing S H s _ f = refl
+
+-- a scan that has no keys for its cells, or too many cells, and one that has
+pub out_of_range : (H : List Event) (x : Cell) (n : ℕ) (granted : Answered) → is_scan x n ≡ false → cond (is_scan x n) granted (refuse H Range) ≡ refuse H Range
+out_of_range H x n granted e = rw e refl
+
+pub in_range : (H : List Event) (x : Cell) (n : ℕ) (granted : Answered) → is_scan x n ≡ true → cond (is_scan x n) granted (refuse H Range) ≡ granted
+in_range H x n granted e = rw e refl
+
+-- what a session is answered by what it holds
+pub bad_session : (X : Store) (H : List Event) (s : Session) (r : Request) → (leb 1 s.0 && leb s.0 32) ≡ false → answer X H s r ≡ refuse H BadSession
+unfolding answer
+bad_session X H s r b = rw b refl
+
+good_session : (X : Store) (H : List Event) (s : Session) (r : Request) → (leb 1 s.0 && leb s.0 32) ≡ true → answer X H s r ≡ answer_to X H s r (held H s.0)
+unfolding answer
+good_session X H s r b = rw b refl
+
+nobody_held : (H : List Event) (s : Session) → held_txn H s ≡ None → held H s.0 ≡ None
+nobody_held H s e = go (held H s.0) e
+  where
+    go : (o : Option ℕ) → txn_of o ≡ None → o ≡ None
+    go None e = refl
+    go (Some t) e = absurd (cc)
+
+somebody_held : (H : List Event) (s : Session) (t : Txn) → held_txn H s ≡ Some t → held H s.0 ≡ Some t.0
+somebody_held H s t e = go (held H s.0) e
+  where
+    go : (o : Option ℕ) → txn_of o ≡ Some t → o ≡ Some t.0
+    go None e = absurd (cc)
+    go (Some u) e = let q : record { 0 = u } ≡ t = cc in ap (λ (v : Txn). Some v.0) q
+
+pub nothing_held : (X : Store) (H : List Event) (s : Session) (r : Request) → (leb 1 s.0 && leb s.0 32) ≡ true → held_txn H s ≡ None → answer X H s r ≡ answer_new X.setup H s r
+nothing_held X H s r b e = good_session X H s r b ∙ ap (answer_to X H s r) (nobody_held H s e)
+
+pub aborted_held : (X : Store) (H : List Event) (s : Session) (r : Request) (t : Txn) → (leb 1 s.0 && leb s.0 32) ≡ true → held_txn H s ≡ Some t → aborted H t.0 ≡ true → answer X H s r ≡ told H t.0
+aborted_held X H s r t b e a = good_session X H s r b ∙ ap (answer_to X H s r) (somebody_held H s t e) ∙ rw a refl
+
+pub running_held : (X : Store) (H : List Event) (s : Session) (r : Request) (t : Txn) → (leb 1 s.0 && leb s.0 32) ≡ true → held_txn H s ≡ Some t → aborted H t.0 ≡ false → answer X H s r ≡ answer_of X H t.0 r
+running_held X H s r t b e a = good_session X H s r b ∙ ap (answer_to X H s r) (somebody_held H s t e) ∙ rw a refl
+
+-- who is held and not aborted is unfinished
+pub held_unfinished : (H : List Event) (s : Session) (t : Txn) → held_txn H s ≡ Some t → aborted H t.0 ≡ false → unfinished H t.0 ≡ true
+held_unfinished H s t e a = elim (or_cases _ _ (and_parts _ _ (held_holds H s.0 t.0 (somebody_held H s t e))).1) [ inl u ↦ u | inr u ↦ absurd (both_ways _ a (untold_gone H t.0 u)) ]

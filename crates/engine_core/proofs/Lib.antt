@@ -1,0 +1,12 @@
+pub mod PlainFacts
+pub mod PlainSteps
+pub mod PlainStops
+pub mod Backwards
+pub mod PlainVersions
+pub mod PlainFalls
+pub mod NewestVersion
+pub mod PlainReads
+pub mod Deciding
+pub mod Adding
+pub mod Gathering
+pub mod Carrying

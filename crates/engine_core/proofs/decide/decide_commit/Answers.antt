@@ -1,0 +1,15 @@
+use Rattle.teb_rules.specs.Answer.{answer_of}
+use Rattle.engine_core.specs.Plain.{plain_store}
+use Rattle.engine_core.proofs.Deciding.{stops, stops_bounded, goes}
+use Rattle.engine_core.proofs.decide.decide_commit.Goals as goal
+
+pub returns-in-Some-clause-answer : goal.returns-in-Some-clause-answer
+unfolding answer_of
+returns-in-Some-clause-answer c = stops plain_store c.args.history.now.events c.args.t.0 _ _ _ c.in-Some.decision _ c.commit_stop.ensures (c.stopped.ensures plain_store c.args.history.now.events) c.in-Some.is
+
+pub returns-in-Some-clause-bounded : goal.returns-in-Some-clause-bounded
+returns-in-Some-clause-bounded c = stops_bounded plain_store c.args.history.now.events c.args.t.0 _ _ c.in-Some.decision (c.stopped.ensures plain_store c.args.history.now.events) c.in-Some.is
+
+pub returns-in-None-clause-answer : goal.returns-in-None-clause-answer
+unfolding answer_of
+returns-in-None-clause-answer c = goes plain_store c.args.history.now.events c.args.t.0 _ _ _ _ c.commit_stop.ensures (c.stopped.ensures plain_store c.args.history.now.events) c.in-None.is

@@ -1,0 +1,7 @@
+-- The cells of a scan.
+use Rattle.std.specs.Prelude.{ℕ, ◌+◌}
+use Rattle.teb_names.specs.declared.Cell.{Cell}
+
+-- the cell that stands so many keys after x
+abbrev pub cell_at : Cell → ℕ → Cell
+cell_at x i = record { table = x.table; key = x.key + i }

@@ -1,0 +1,48 @@
+-- A decision, and the answer that it carries out.
+use Rattle.std.specs.Prelude.{◌≡◌, ◌≤◌, ◌<◌, ◌+◌, ◌^◌, ℕ, List, ◌∷◌, Option, Some, None, unwrap_or, cond, ℤ, ◌+ℤ◌, IsTrue}
+use Rattle.teb_names.specs.declared.Cause.TheVariants.{Asked}
+use Rattle.teb_names.specs.declared.Reply.TheVariants.{Aborted}
+use Rattle.teb_names.specs.declared.Cell.{Cell}
+use Rattle.teb_names.specs.declared.Refusal.{Refusal}
+use Rattle.teb_history.specs.declared.Event.{Event}
+use Rattle.teb_history.specs.declared.Event.TheVariants.{Told}
+use Rattle.teb_history.specs.Phases.{begun_count, cause_of}
+use Rattle.teb_history.specs.Written.{is_begin}
+use Rattle.teb_rules.specs.Setup.{Store}
+use Rattle.teb_rules.specs.declared.Stop.{Stop}
+use Rattle.teb_rules.specs.declared.Stop.TheVariants as stop
+use Rattle.teb_rules.specs.Cascade.{txn}
+use Rattle.teb_rules.specs.Answer.{Answered, cells_from, read_all, got_values, broken_off, refuse, or_stop, or_refused, fits}
+use Rattle.engine_core.specs.declared.decision.Decision.{Decision}
+use Rattle.engine_core.specs.declared.decision.Decision.TheVariants.{Answer, Grant, Scan, Fall}
+
+-- the reply and the history after a decision
+abbrev pub carried : Store → List Event → Decision → Answered
+carried X H (Answer r) = (r, H)
+carried X H (Grant r e) = (r, e ∷ H)
+carried X H (Scan t x n) = got_values (read_all X H t.0 (cells_from x n))
+carried X H (Fall t c) = broken_off H t.0 c
+
+-- a transaction begins only where fewer than 8,192 have begun, and at most 16 cells are read, each of which has a key
+abbrev pub IsBounded : List Event → Decision → Type 0
+IsBounded H (Grant r e) = IsTrue (is_begin e) → begun_count H < 8192
+IsBounded H (Scan t x n) = (n ≤ 16) × (x.key + n ≤ 2 ^ 32)
+IsBounded H _ = Unit {0}
+
+-- the refusal of an access, if there is one
+abbrev pub IsRefusal : Store → List Event → ℕ → Cell → Option Refusal → Type 0
+IsRefusal X H t x None = (granted : Answered) → or_refused X H t x granted ≡ granted
+IsRefusal X H t x (Some r) = (granted : Answered) → or_refused X H t x granted ≡ refuse H r
+
+-- what a stop makes of a request of t, if it stops it
+abbrev pub IsStopped : Store → List Event → ℕ → Stop → Option Decision → Type 0
+IsStopped X H t s None = s ≡ stop.Go
+IsStopped X H t s (Some d) = ((granted : Answered) → carried X H d ≡ or_stop H t s granted) × IsBounded H d
+
+-- the sum of two numbers, where it fits
+abbrev pub sum_of : ℤ → ℤ → Option ℤ
+sum_of b v = cond (fits (b +ℤ v)) (Some (b +ℤ v)) None
+
+-- the notice to the session of an aborted t
+abbrev pub told : List Event → ℕ → Answered
+told H t = (Aborted (unwrap_or (cause_of H t) Asked), Told (txn t) ∷ H)

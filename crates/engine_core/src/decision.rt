@@ -1,0 +1,56 @@
+//! What the engine does with a request.
+
+ghost use Rattle.std.specs.Prelude.{◌≡◌, List};
+ghost use Rattle.teb_history.specs.declared.Event.{Event};
+ghost use Rattle.teb_rules.specs.Setup.{Store};
+ghost use Rattle.teb_rules.specs.Verdicts.{cause_at};
+ghost use Rattle.engine_core.specs.Decisions.{IsStopped};
+
+use teb_history::Event;
+use teb_names::{Cause, Cell, Node, Refusal, Reply, Txn};
+use teb_rules::{Broken, Stop};
+
+/// What the engine does with a request.
+#[derive(Clone, Copy)]
+pub enum Decision {
+    /// It replies, and writes nothing.
+    Answer(Reply),
+    /// It replies, and writes one event.
+    Grant(Reply, Event),
+    /// The transaction reads so many cells from this one on.
+    Scan(Txn, Cell, u8),
+    /// The transaction is aborted, and all that have to fall with it.
+    Fall(Txn, Cause),
+}
+
+/// A refusal.
+pub fn refused(why: Refusal) -> Decision
+    ensures { result ≡ Decision.Answer (Reply.Refused why) }
+{
+    Decision::Answer(Reply::Refused(why))
+}
+
+/// What a stop makes of a request of t, if it stops it. Nobody waits for a transaction of greater number.
+pub fn stopped(t: Txn, stop: Stop) -> Option<Decision>
+    ensures { (X : Store) (H : List Event) → IsStopped X H t.0 stop result }
+{
+    match stop {
+        Stop::Go => None,
+        Stop::Wait { who, node } if t.0 < who.0 => {
+            Some(Decision::Fall(t, Cause::Newer { node, other: who }))
+        }
+        Stop::Wait { who, node } => Some(Decision::Answer(Reply::Again { who, node })),
+        Stop::Break { node, broken } => Some(Decision::Fall(t, cause_at(node, broken))),
+    }
+}
+
+/// The cause that a break at a node gives.
+fn cause_at(node: Node, broken: Broken) -> Cause
+    ensures { result ≡ cause_at node broken }
+{
+    match broken {
+        Broken::Late { reader, cell } => Cause::Late { node, reader, cell },
+        Broken::First { writer, cell } => Cause::First { node, writer, cell },
+        Broken::Pivot { a, b, c, d } => Cause::Pivot { node, a, b, c, d },
+    }
+}

@@ -1,0 +1,71 @@
+//! The end of each session that holds a transaction.
+
+ghost use Rattle.std.specs.Prelude.{◌≡◌, ◌++◌, IfOk, OnOk, map};
+ghost use Rattle.teb_rules.specs.Run.{history_after, ends_of};
+ghost use Rattle.replay_runner.specs.Logs.{log_of};
+ghost use Rattle.replay_runner.specs.Holders.{holder_at, holders_from, end_of};
+
+use crate::lines::ask;
+use engine_core::Engine;
+use script_text::Answered;
+use std::alloc::{AllocError, Global};
+use teb_history::History;
+use teb_names::{Request, Session};
+
+/// How many sessions there are. They are numbered from 1.
+const SESSIONS: u8 = 32;
+
+/// Asks End for each session that holds a transaction, in ascending number, and logs the replies.
+#[tactic(auto, using(crate::proofs::Holders::ends_of_holders))]
+pub fn end_sessions(
+    alloc: Global,
+    engine: &mut Engine,
+    log: &mut Vec<Answered>,
+) -> Result<(), AllocError>
+    ensures store { engine.new.store ≡ engine.old.store }
+    ensures log { OnOk result (log.new.items ≡ log.old.items ++ log_of engine.old.store engine.old.events (ends_of engine.old.events)) }
+    ensures events { OnOk result (engine.new.events ≡ history_after engine.old.store engine.old.events (ends_of engine.old.events)) }
+{
+    let holders = holders(alloc, engine.history())?;
+    ask_ends(engine, &holders, log)
+}
+
+fn ask_ends(
+    engine: &mut Engine,
+    holders: &[Session],
+    log: &mut Vec<Answered>,
+) -> Result<(), AllocError>
+    ensures store { engine.new.store ≡ engine.old.store }
+    ensures log { OnOk result (log.new.items ≡ log.old.items ++ log_of engine.old.store engine.old.events (map end_of holders.now)) }
+    ensures events { OnOk result (engine.new.events ≡ history_after engine.old.store engine.old.events (map end_of holders.now)) }
+{
+    for session in holders {
+        ask(engine, *session, Request::End, log)?;
+    }
+    Ok(())
+}
+
+/// The sessions that hold a transaction, in ascending number.
+fn holders(alloc: Global, history: &History) -> Result<Vec<Session>, AllocError>
+    ensures { IfOk result (λ v. v.items ≡ holders_from 32 1 history.now.events) }
+{
+    let mut holders = Vec::new(alloc);
+    for s in 1..SESSIONS + 1 {
+        add_holder(&mut holders, history, Session(s))?;
+    }
+    Ok(holders)
+}
+
+#[tactic(auto, using(crate::proofs::Holders::held_or_not))]
+fn add_holder(
+    holders: &mut Vec<Session>,
+    history: &History,
+    session: Session,
+) -> Result<(), AllocError>
+    ensures { OnOk result (holders.new.items ≡ holders.old.items ++ holder_at history.now.events session.0) }
+{
+    if history.held(session).is_some() {
+        holders.push(session)?;
+    }
+    Ok(())
+}

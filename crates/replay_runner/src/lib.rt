@@ -1,0 +1,8 @@
+//! The replay of a script: its lines as one interleaving of sessions.
+#![tactic(auto)]
+
+mod ends;
+mod lines;
+mod run;
+
+pub use run::replay;

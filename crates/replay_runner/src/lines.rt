@@ -1,0 +1,45 @@
+//! The requests of a script, in order.
+
+ghost use Rattle.std.specs.Prelude.{◌≡◌, ◌++◌, ◌∷◌, [], OnOk};
+ghost use Rattle.teb_rules.specs.Answer.{answer};
+ghost use Rattle.teb_rules.specs.Run.{history_after};
+ghost use Rattle.replay_runner.specs.Logs.{log_of, requests_of};
+
+use engine_core::Engine;
+use script_text::{Answered, Line};
+use std::alloc::AllocError;
+use teb_names::{Request, Session};
+
+/// Asks each line, and logs the replies.
+pub fn ask_lines(
+    engine: &mut Engine,
+    lines: &[Line],
+    log: &mut Vec<Answered>,
+) -> Result<(), AllocError>
+    ensures store { engine.new.store ≡ engine.old.store }
+    ensures log { OnOk result (log.new.items ≡ log.old.items ++ log_of engine.old.store engine.old.events (requests_of lines.now)) }
+    ensures events { OnOk result (engine.new.events ≡ history_after engine.old.store engine.old.events (requests_of lines.now)) }
+{
+    for line in lines {
+        ask(engine, line.session, line.request, log)?;
+    }
+    Ok(())
+}
+
+/// Asks one request, and logs the reply.
+pub fn ask(
+    engine: &mut Engine,
+    session: Session,
+    request: Request,
+    log: &mut Vec<Answered>,
+) -> Result<(), AllocError>
+    ensures store { engine.new.store ≡ engine.old.store }
+    ensures log { OnOk result (log.new.items ≡ log.old.items
+        ++ record { session = session; reply = (answer engine.old.store engine.old.events session request).0 } ∷ []) }
+    ensures events { OnOk result (engine.new.events ≡ (answer engine.old.store engine.old.events session request).1) }
+{
+    engine.ready()?;
+    let reply = engine.ask(session, request);
+    log.push(Answered { session, reply })?;
+    Ok(())
+}

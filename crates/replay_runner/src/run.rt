@@ -1,0 +1,30 @@
+//! The replay.
+
+ghost use Rattle.std.specs.Prelude.{◌≡◌, ◌++◌, OnOk};
+ghost use Rattle.teb_rules.specs.Run.{history_after};
+ghost use Rattle.replay_runner.specs.Logs.{log_of, replayed};
+
+use crate::ends::end_sessions;
+use crate::lines::ask_lines;
+use engine_core::Engine;
+use script_text::{Answered, Line};
+use std::alloc::{AllocError, Global};
+
+/// Asks each line once, in order, and then End for each session that holds a transaction, in ascending number. The
+/// replies are added to the log, each with its session. After an `Err` some of the lines have been asked.
+#[tactic(auto, using(crate::proofs::Logged::history_append, crate::proofs::Logged::log_append))]
+pub fn replay(
+    alloc: Global,
+    engine: &mut Engine,
+    lines: &[Line],
+    log: &mut Vec<Answered>,
+) -> Result<(), AllocError>
+    ensures store { engine.new.store ≡ engine.old.store }
+    ensures log { OnOk result (log.new.items ≡ log.old.items
+        ++ log_of engine.old.store engine.old.events (replayed engine.old.store engine.old.events lines.now)) }
+    ensures events { OnOk result (engine.new.events
+        ≡ history_after engine.old.store engine.old.events (replayed engine.old.store engine.old.events lines.now)) }
+{
+    ask_lines(engine, lines, log)?;
+    end_sessions(alloc, engine, log)
+}

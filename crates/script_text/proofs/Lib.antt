@@ -1,0 +1,10 @@
+pub mod Places
+pub mod LineSteps
+pub mod WordSteps
+pub mod Digits
+pub mod NameBytes
+pub mod ScriptSteps
+pub mod LineWords
+pub mod InputSteps
+pub mod Wholes
+pub mod SessionLists

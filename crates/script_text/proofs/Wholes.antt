@@ -1,0 +1,47 @@
+-- Whole lines, and whole texts or none.
+use Rattle.std.proofs.Common.{◌≡◌, ℕ, if◌then◌else◌, List, [], ◌∷◌, ◌++◌, codes, Result, Ok, Err, is_ok, take, length, refl, sym, ap, ◌∙◌, append_assoc}
+use Rattle.std.specs.Result.{OnOk, OnErr}
+use Rattle.std.specs.List.{join_with_byte}
+use Rattle.std.proofs.lemmas.List.{take_at, append-nil}
+use Rattle.script_text.specs.Texts.{line_text}
+use Rattle.script_text.specs.Puts.{Puts, IsFront, spaced}
+
+joined : (w : List ℕ) (ws : List (List ℕ)) → join_with_byte 32 (w ∷ ws) ≡ w ++ spaced ws
+joined w [] = sym (append-nil w)
+joined w (v ∷ vs) = ap (λ l. w ++ 32 ∷ l) (joined v vs)
+
+-- the first word of a line, the other words, and the feed
+pub line_behind : (old w : List ℕ) (ws : List (List ℕ)) → old ++ w ++ spaced ws ++ codes "\n" ≡ old ++ line_text (w ∷ ws)
+line_behind old w ws =
+    append_assoc (old ++ w) (spaced ws) (codes "\n") ∙ append_assoc old w (spaced ws ++ codes "\n")
+    ∙ ap (λ l. old ++ l) (sym (append_assoc w (spaced ws) (codes "\n")) ∙ ap (λ l. l ++ codes "\n") (sym (joined w ws)))
+
+pub kept : {E : Type 0} (old text new out : List ℕ) (written : Result (Unit {0}) E) → out ≡ (if is_ok written then new else take (length old) new) → Puts old text new written
+    → OnOk written (out ≡ old ++ text)
+kept old text new out (Ok u) is put = is ∙ put
+kept old text new out (Err e) is put = tt
+
+pub taken_back : {E : Type 0} (old text new out : List ℕ) (written : Result (Unit {0}) E) → out ≡ (if is_ok written then new else take (length old) new) → Puts old text new written
+    → OnErr written (out ≡ old)
+taken_back old text new out (Ok u) is put = tt
+taken_back old text new out (Err e) is put = is ∙ ap (take (length old)) put.grown ∙ take_at old put.more (length old) refl
+
+pub front_front : {old mid new : List ℕ} → IsFront old mid → IsFront mid new → IsFront old new
+front_front {old = old} f g = record { more = f.more ++ g.more; grown = g.grown ∙ ap (λ l. l ++ g.more) f.grown ∙ append_assoc old f.more g.more }
+
+-- a line that ends, its first word and its other words written
+pub line_ends : {E : Type 0} (old one two new w : List ℕ) (ws : List (List ℕ)) (r : Result (Unit {0}) E) → one ≡ old ++ w → two ≡ one ++ spaced ws → Puts two (codes "\n") new r
+    → Puts old (line_text (w ∷ ws)) new r
+line_ends old one two new w ws (Ok u) first others end =
+    end ∙ ap (λ l. l ++ codes "\n") (others ∙ ap (λ l. l ++ spaced ws) first) ∙ line_behind old w ws
+line_ends old one two new w ws (Err e) first others end =
+    front_front (record { more = w; grown = first }) (front_front (record { more = spaced ws; grown = others }) end)
+
+spaced-append : (xs ys : List (List ℕ)) → spaced (xs ++ ys) ≡ spaced xs ++ spaced ys
+spaced-append [] ys = refl
+spaced-append (x ∷ xs) ys = ap (λ l. 32 ∷ (x ++ l)) (spaced-append xs ys) ∙ ap (λ l. 32 ∷ l) (sym (append_assoc x (spaced xs) (spaced ys)))
+
+-- the words of a line in two parts
+pub two_parts : (one two three : List ℕ) (xs ys : List (List ℕ)) → two ≡ one ++ spaced xs → three ≡ two ++ spaced ys → three ≡ one ++ spaced (xs ++ ys)
+two_parts one two three xs ys first second =
+    second ∙ ap (λ l. l ++ spaced ys) first ∙ append_assoc one (spaced xs) (spaced ys) ∙ ap (λ l. one ++ l) (sym (spaced-append xs ys))

@@ -1,0 +1,11 @@
+pub mod Lines
+pub mod Words
+pub mod Numbers
+pub mod Names
+pub mod Grammar
+pub mod Input
+pub mod Texts
+pub mod Named
+pub mod Puts
+pub mod Scripts
+pub mod Lists

@@ -1,0 +1,67 @@
+//! The lines of a script that ask something.
+
+ghost use Rattle.std.specs.Prelude.{◌≡◌, ◌<◌, ◌^◌, ◌++◌, length, IfSome, OnOk, option_to_list};
+ghost use Rattle.script_text.specs.Lines.{lines_of};
+ghost use Rattle.script_text.specs.Grammar.{script_of, at_line, line_of, Answers};
+
+mod grammar;
+pub mod lines;
+mod names;
+mod numbers;
+#[cfg(test)]
+mod tests;
+mod words;
+
+pub use numbers::number;
+
+use super::{Line, ScriptError};
+use grammar::parse_line;
+use lines::Lines;
+use std::alloc::{AllocError, Global};
+use teb_names::NameBook;
+
+/// The lines of a script that ask something, in order. `format` is that of the tree: from 2 on `begin` may
+/// have an instance, from 3 on there are `delete` and `scan`. A name that the tree does not have becomes the
+/// number 255. `BadLine` names the first bad line by its number, from 1, and the first of its faults in the
+/// order of `LineWhy`, name and number from left to right.
+pub fn parse_script(
+    alloc: Global,
+    script: &[u8],
+    names: &NameBook,
+    format: u8,
+) -> Result<Vec<Line>, ScriptError>
+    requires { length (lines_of script.now) < 2 ^ 32 }
+    ensures { Answers result (script_of names.now format script.now) }
+{
+    let mut lines = Vec::new(alloc);
+    let mut number = 0;
+    for text in Lines(script) {
+        number += 1;
+        let line = numbered_line(names, format, number, text)?;
+        add_line(&mut lines, line)?;
+    }
+    Ok(lines)
+}
+
+fn numbered_line(
+    names: &NameBook,
+    format: u8,
+    number: u32,
+    text: &[u8],
+) -> Result<Option<Line>, ScriptError>
+    ensures { result ≡ at_line number (line_of names.now format number text.now) }
+{
+    match parse_line(names, format, number, text) {
+        Ok(line) => Ok(line),
+        Err(why) => Err(ScriptError::BadLine { number, why }),
+    }
+}
+
+fn add_line(lines: &mut Vec<Line>, line: Option<Line>) -> Result<(), AllocError>
+    ensures { OnOk result (lines.new.items ≡ lines.old.items ++ option_to_list line) }
+{
+    if let Some(line) = line {
+        lines.push(line)?;
+    }
+    Ok(())
+}

@@ -1,0 +1,79 @@
+//! Numbers in a script.
+
+ghost use Rattle.std.specs.Prelude.{◌≡◌, ◌<◌, ◌≤◌, ◌+◌, ◌*◌, ◌^◌, MatchOption, IfSome, IsTrue, pos, neg_ℤ};
+ghost use Rattle.std.specs.Str.{all_ascii_digits};
+ghost use Rattle.std.specs.Str.Parse.{digits_value};
+ghost use Rattle.script_text.specs.Numbers.{number_upto, integer_of};
+
+/// The value of one to twenty digits, which is at most `most`.
+#[tactic(auto, unfolding(crate::specs::Numbers::number_upto))]
+pub fn number(word: &[u8], most: u64) -> Option<u64>
+    ensures value { result ≡ number_upto most word.now }
+    ensures bound { IfSome result (λ n. n ≤ most) }
+{
+    if word.is_empty() || word.len() > 20 {
+        return None;
+    }
+    let value = value_of(word)?;
+    if value <= most { Some(value) } else { None }
+}
+
+/// The same with one `-` before the digits or none, in 64 bits.
+#[tactic(auto, unfolding(crate::specs::Numbers::integer_of))]
+pub fn integer(word: &[u8]) -> Option<i64>
+    ensures { result ≡ integer_of word.now }
+{
+    if !word.is_empty() && word[0] == b'-' {
+        match number(&word[1..], 1 << 63) {
+            None => None,
+            Some(n) => Some(negative(n)),
+        }
+    } else {
+        match number(word, (1 << 63) - 1) {
+            None => None,
+            Some(n) => Some(positive(n)),
+        }
+    }
+}
+
+/// The value of these digits, where there are only digits and it has 64 bits.
+fn value_of(word: &[u8]) -> Option<u64>
+    ensures { MatchOption result
+        (IsTrue (all_ascii_digits word.now) → 2 ^ 64 ≤ digits_value 10 word.now)
+        (λ n. IsTrue (all_ascii_digits word.now) × (n ≡ digits_value 10 word.now)) }
+{
+    let mut total = 0u64;
+    for b in word {
+        if !b.is_ascii_digit() {
+            return None;
+        }
+        match with_digit(total, *b - b'0') {
+            Some(next) => total = next,
+            None => return None,
+        }
+    }
+    Some(total)
+}
+
+fn with_digit(total: u64, digit: u8) -> Option<u64>
+    ensures { MatchOption result (2 ^ 64 ≤ total * 10 + digit) (λ n. n ≡ total * 10 + digit) }
+{
+    match total.checked_mul(10) {
+        Some(tens) => tens.checked_add(u64::from(digit)),
+        None => None,
+    }
+}
+
+fn positive(n: u64) -> i64
+    requires { n < 2 ^ 63 }
+    ensures { result ≡ pos n }
+{
+    n as i64
+}
+
+fn negative(n: u64) -> i64
+    requires { n ≤ 2 ^ 63 }
+    ensures { result ≡ neg_ℤ (pos n) }
+{
+    if n == 1 << 63 { i64::MIN } else { -(n as i64) }
+}

@@ -1,0 +1,79 @@
+//! The words of a line.
+
+ghost use Rattle.std.specs.Prelude.{◌≡◌, ◌≤◌, not, length, drop, take, position};
+ghost use Rattle.std.specs.Iterator.{YieldsFirstRef, item_count};
+ghost use Rattle.std.specs.List.{position_or_len};
+ghost use Rattle.script_text.specs.Words.{is_blank, nows, words_of};
+
+/// The words of a line, which stand between spaces and tabs.
+#[derive(Clone, Copy)]
+pub struct Words<'a>(pub &'a [u8]);
+
+impl<'a> Iterator for Words<'a> {
+    type Item = &'a [u8];
+
+    ghost next_gives = { YieldsFirstRef (λ s. words_of s.0.now) };
+
+    ghost remaining = { item_count (λ s. words_of s.0.now) };
+
+    fn next(&mut self) -> Option<&'a [u8]> {
+        let text = without_blanks(self.0);
+        let (word, rest) = text.split_at(word_len(text));
+        self.0 = rest;
+        if word.is_empty() { None } else { Some(word) }
+    }
+}
+
+/// The first six words of a line, and how many of the six there are. No line that asks something has more
+/// than five.
+pub fn first_words(line: &[u8]) -> ([&[u8]; 6], usize)
+    ensures words { nows (take result.1 result.0) ≡ take 6 (words_of line.now) }
+    ensures within { result.1 ≤ 6 }
+{
+    let mut words: [&[u8]; 6] = [b""; 6];
+    let mut len = 0;
+    for word in Words(line) {
+        if len == 6 {
+            return (words, len);
+        }
+        words[len] = word;
+        len += 1;
+    }
+    (words, len)
+}
+
+fn is_blank(b: u8) -> bool
+    ensures { result ≡ is_blank b }
+{
+    b == b' ' || b == b'\t'
+}
+
+/// What is left behind the spaces and tabs at the front.
+#[tactic(auto, using(crate::proofs::Places::unwrap_position, crate::proofs::Places::position_within))]
+fn without_blanks(text: &[u8]) -> &[u8]
+    ensures { result.now ≡ drop (position_or_len (λ b. not (is_blank b)) text.now) text.now }
+{
+    let len = first_inside(text).unwrap_or(text.len());
+    &text[len..]
+}
+
+fn first_inside(text: &[u8]) -> Option<usize>
+    ensures { result ≡ position (λ b. not (is_blank b)) text.now }
+{
+    text.iter().position(|b| !is_blank(*b))
+}
+
+/// The length of the word at the front.
+#[tactic(auto, using(crate::proofs::Places::unwrap_position, crate::proofs::Places::position_within))]
+fn word_len(text: &[u8]) -> usize
+    ensures end { result ≡ position_or_len is_blank text.now }
+    ensures within { result ≤ length text.now }
+{
+    first_blank(text).unwrap_or(text.len())
+}
+
+fn first_blank(text: &[u8]) -> Option<usize>
+    ensures { result ≡ position is_blank text.now }
+{
+    text.iter().position(|b| is_blank(*b))
+}

@@ -1,0 +1,13 @@
+//! The texts of replies, events and reports.
+
+mod event;
+mod reply;
+mod report;
+mod word;
+
+pub use event::put_event;
+pub use reply::put_reply;
+pub use report::{put_report, put_starts};
+
+#[cfg(test)]
+mod tests;

@@ -1,0 +1,104 @@
+//! The texts of rows and reports.
+
+ghost use Rattle.std.specs.Prelude.{◌≡◌, ◌++◌, ◌∷◌, OnOk, OnErr, codes, map};
+ghost use Rattle.script_text.specs.Texts.{line_text, report_text, row_text, rows_text, starts_text, txn_text};
+ghost use Rattle.script_text.specs.Named.{CellNamed, RowsNamed};
+ghost use Rattle.script_text.specs.Puts.{Puts, spaced};
+
+use super::word::{Word, put_feed, put_line, put_spaced, put_text, table, whole};
+use std::alloc::AllocError;
+use teb_names::{Cell, NameBook, Rows, Txn};
+
+/// Appends a report: the serial order, the final rows, and the end. For want of memory it appends nothing.
+#[tactic(auto, using(crate::proofs::Wholes::kept, crate::proofs::Wholes::taken_back))]
+pub fn put_report(
+    out: &mut Vec<u8>,
+    names: &NameBook,
+    order: &[Txn],
+    rows: &[(Cell, i64)],
+) -> Result<(), AllocError>
+    requires { RowsNamed names.now rows.now }
+    ensures ok { OnOk result (out.new.items ≡ out.old.items ++ report_text names.now order.now rows.now) }
+    ensures err { OnErr result (out.new.items ≡ out.old.items) }
+{
+    let start = out.len();
+    let written = put_report_lines(out, names, order, rows);
+    whole(out, start, written)
+}
+
+/// Appends a line for each starting row, or, for want of memory, nothing.
+#[tactic(auto, using(crate::proofs::Wholes::kept, crate::proofs::Wholes::taken_back))]
+pub fn put_starts(out: &mut Vec<u8>, names: &NameBook, rows: &Rows) -> Result<(), AllocError>
+    requires { RowsNamed names.now rows.now }
+    ensures ok { OnOk result (out.new.items ≡ out.old.items ++ starts_text names.now rows.now) }
+    ensures err { OnErr result (out.new.items ≡ out.old.items) }
+{
+    let start = out.len();
+    let written = put_rows(out, names, "start", rows.rows());
+    whole(out, start, written)
+}
+
+fn put_report_lines(
+    out: &mut Vec<u8>,
+    names: &NameBook,
+    order: &[Txn],
+    rows: &[(Cell, i64)],
+) -> Result<(), AllocError>
+    requires { RowsNamed names.now rows.now }
+    ensures { Puts out.old.items (report_text names.now order.now rows.now) out.new.items result }
+{
+    put_order(out, order)?;
+    put_rows(out, names, "row", rows)?;
+    put_line(out, "end", &[])
+}
+
+fn put_order(out: &mut Vec<u8>, order: &[Txn]) -> Result<(), AllocError>
+    ensures { Puts out.old.items (line_text (codes "order" ∷ map txn_text order.now)) out.new.items result }
+{
+    put_text(out, "order")?;
+    put_numbers(out, order)?;
+    put_feed(out)
+}
+
+fn put_numbers(out: &mut Vec<u8>, txns: &[Txn]) -> Result<(), AllocError>
+    ensures { Puts out.old.items (spaced (map txn_text txns.now)) out.new.items result }
+{
+    for txn in txns {
+        put_spaced(out, &Word::Txn(*txn))?;
+    }
+    Ok(())
+}
+
+/// Appends the lines of these rows, each of which begins with this word.
+fn put_rows<'a>(
+    out: &mut Vec<u8>,
+    names: &'a NameBook,
+    word: &'a str,
+    rows: &[(Cell, i64)],
+) -> Result<(), AllocError>
+    requires { RowsNamed names.now rows.now }
+    ensures { Puts out.old.items (rows_text names.now word.now rows.now) out.new.items result }
+{
+    for row in rows {
+        put_row(out, names, word, row)?;
+    }
+    Ok(())
+}
+
+fn put_row<'a>(
+    out: &mut Vec<u8>,
+    names: &'a NameBook,
+    word: &'a str,
+    row: &(Cell, i64),
+) -> Result<(), AllocError>
+    requires { CellNamed names.now row.now.0 }
+    ensures { Puts out.old.items (row_text names.now word.now row.now) out.new.items result }
+{
+    let (cell, value) = row;
+    let table = table(names, cell.table);
+    put_line(
+        out,
+        word,
+        &[table, Word::Natural(cell.key), Word::Value(Some(*value))],
+    )
+}

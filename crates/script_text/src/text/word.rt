@@ -1,0 +1,136 @@
+//! Words of a line.
+
+ghost use Rattle.std.specs.Prelude.{◌≡◌, ◌<◌, length, ◌++◌, ◌∷◌, codes, decimal, is_ok, if◌then◌else◌, map, take};
+ghost use Rattle.std.specs.Fmt.{signed_decimal};
+ghost use Rattle.script_text.specs.Texts.{line_text, name_of};
+ghost use Rattle.script_text.specs.Named.{NodeNamed};
+ghost use Rattle.script_text.specs.Puts.{Puts, word_text, spaced_words};
+
+use itoa::Buffer;
+use std::alloc::AllocError;
+use teb_names::{Kind, NameBook, Node, Session, Table, Txn};
+
+/// A word of a line.
+#[derive(Clone, Copy)]
+pub enum Word<'a> {
+    Text(&'a str),
+    Session(Session),
+    Txn(Txn),
+    Natural(u32),
+    Value(Option<i64>),
+}
+
+/// The name of a node.
+pub fn node<'a>(names: &'a NameBook, node: Node) -> Word<'a>
+    requires { NodeNamed names.now node }
+    ensures { word_text result ≡ name_of names.now.nodes node.0 }
+{
+    Word::Text(names.nodes.name(node.0))
+}
+
+/// The name of a table.
+pub fn table<'a>(names: &'a NameBook, table: Table) -> Word<'a>
+    requires { table.0 < length names.now.tables }
+    ensures { word_text result ≡ name_of names.now.tables table.0 }
+{
+    Word::Text(names.tables.name(table.0))
+}
+
+/// The name of a type.
+pub fn kind<'a>(names: &'a NameBook, kind: Kind) -> Word<'a>
+    requires { kind.0 < length names.now.types }
+    ensures { word_text result ≡ name_of names.now.types kind.0 }
+{
+    Word::Text(names.types.name(kind.0))
+}
+
+/// Appends a word.
+pub fn put_word(out: &mut Vec<u8>, word: &Word) -> Result<(), AllocError>
+    ensures { Puts out.old.items (word_text word.now) out.new.items result }
+{
+    match word {
+        Word::Text(text) => put_text(out, text),
+        Word::Session(session) => put_natural(out, u32::from(session.0)),
+        Word::Natural(n) => put_natural(out, *n),
+        Word::Txn(txn) => {
+            put_text(out, "t")?;
+            put_natural(out, txn.0)
+        }
+        Word::Value(None) => put_text(out, "none"),
+        Word::Value(Some(value)) => put_value(out, *value),
+    }
+}
+
+/// Appends words, each behind a space.
+pub fn put_words(out: &mut Vec<u8>, words: &[Word]) -> Result<(), AllocError>
+    ensures { Puts out.old.items (spaced_words words.now) out.new.items result }
+{
+    for word in words {
+        put_spaced(out, word)?;
+    }
+    Ok(())
+}
+
+/// Appends a line: a first word, and others behind it.
+pub fn put_line<'a>(
+    out: &mut Vec<u8>,
+    first: &'a str,
+    words: &'a [Word<'a>],
+) -> Result<(), AllocError>
+    ensures { Puts out.old.items (line_text (first.now ∷ map word_text words.now)) out.new.items result }
+{
+    put_text(out, first)?;
+    put_words(out, words)?;
+    put_feed(out)
+}
+
+/// Appends a space and a word.
+pub fn put_spaced(out: &mut Vec<u8>, word: &Word) -> Result<(), AllocError>
+    ensures { Puts out.old.items (codes " " ++ word_text word.now) out.new.items result }
+{
+    put_text(out, " ")?;
+    put_word(out, word)
+}
+
+/// Appends a line feed.
+pub fn put_feed(out: &mut Vec<u8>) -> Result<(), AllocError>
+    ensures { Puts out.old.items (codes "\n") out.new.items result }
+{
+    put_text(out, "\n")
+}
+
+/// Appends a text.
+pub fn put_text(out: &mut Vec<u8>, text: &str) -> Result<(), AllocError>
+    ensures { Puts out.old.items text.now out.new.items result }
+{
+    out.extend_from_slice(text.as_bytes())
+}
+
+fn put_natural(out: &mut Vec<u8>, n: u32) -> Result<(), AllocError>
+    ensures { Puts out.old.items (decimal n) out.new.items result }
+{
+    let mut buffer = Buffer::new();
+    out.extend_from_slice(buffer.format(n).as_bytes())
+}
+
+fn put_value(out: &mut Vec<u8>, n: i64) -> Result<(), AllocError>
+    ensures { Puts out.old.items (signed_decimal n) out.new.items result }
+{
+    let mut buffer = Buffer::new();
+    out.extend_from_slice(buffer.format(n).as_bytes())
+}
+
+/// Passes on how a text was written that began at this length, and takes it back where memory ran out.
+pub fn whole(
+    out: &mut Vec<u8>,
+    start: usize,
+    written: Result<(), AllocError>,
+) -> Result<(), AllocError>
+    ensures same { result ≡ written }
+    ensures out { out.new.items ≡ (if is_ok written then out.old.items else take start out.old.items) }
+{
+    if written.is_err() {
+        out.truncate(start);
+    }
+    written
+}

@@ -1,0 +1,4 @@
+pub mod CommitOrder
+pub mod LastValues
+pub mod Values
+pub mod Within

@@ -1,0 +1,57 @@
+-- The rows of the final tables are of tables of the store.
+use Rattle.std.proofs.Common.{◌≡◌, ℕ, Bool, true, false, cond, ◌&&◌, List, [], ◌∷◌, get_or, Option, Some, None, unwrap_or, ℤ, eqb, refl, sym, ◌∙◌, subst}
+use Rattle.std.proofs.lemmas.Cmp.{tied_itself}
+use Rattle.std.specs.Prelude.{All}
+use Rattle.teb_names.specs.declared.Cell.{Cell}
+use Rattle.teb_names.specs.Cells.{same_cell}
+use Rattle.teb_names.specs.Rows.{row_of}
+use Rattle.teb_names.proofs.CellOrder.{cell_cmp_total}
+use Rattle.teb_names.proofs.Ascending.{row_of_tied}
+use Rattle.teb_history.specs.declared.Event.{Event}
+use Rattle.teb_history.specs.declared.Event.TheVariants.{Began, Got, Put, Ready, Done, Gone, Told}
+use Rattle.teb_history.specs.Accesses.{last_put}
+use Rattle.teb_rules.specs.Setup.{Store}
+use Rattle.teb_rules.specs.Versions.{value_left}
+use Rattle.teb_rules.specs.Serializes.{final_table, value_of}
+use Rattle.teb_laws.specs.Within.{CellWithin, AllWithin}
+use Rattle.teb_laws.proofs.Timeline.{same_cell-true}
+use Rattle.serial_order.specs.Tables.{IsFinalRows}
+
+module _ (X : Store) where
+  put_within : (H : List Event) (t : ℕ) (x : Cell) (v : Option ℤ) → AllWithin X H → last_put H t x ≡ Some v → CellWithin X x
+  unfolding last_put
+  put_within [] t x v h e = absurd (cc)
+  put_within (Put u y w ∷ P) t x v h e = here (put_within P t x v h.1) (eqb u.0 t) (same_cell y x) refl e
+    where
+      here : (last_put P t x ≡ Some v → CellWithin X x) → (a b : Bool) → same_cell y x ≡ b → cond (a && b) (Some w) (last_put P t x) ≡ Some v → CellWithin X x
+      here below true true s p = subst (λ (z : Cell). CellWithin X z) (same_cell-true y x s) h.0
+      here below true false s p = below p
+      here below false b s p = below p
+  put_within (Began u s k i ∷ P) t x v h e = put_within P t x v h.1 e
+  put_within (Got u y w z ∷ P) t x v h e = put_within P t x v h.1 e
+  put_within (Ready u ∷ P) t x v h e = put_within P t x v h.1 e
+  put_within (Done u ∷ P) t x v h e = put_within P t x v h.1 e
+  put_within (Gone u c ∷ P) t x v h e = put_within P t x v h.1 e
+  put_within (Told u ∷ P) t x v h e = put_within P t x v h.1 e
+
+  left_within : (H : List Event) (w : ℕ) (x : Cell) (v : ℤ) → AllWithin X H → value_left H w x ≡ Some v → CellWithin X x
+  left_within H w x v h e = go (last_put H w x) refl e
+    where
+      go : (o : Option (Option ℤ)) → last_put H w x ≡ o → unwrap_or o None ≡ Some v → CellWithin X x
+      go None p q = absurd (cc)
+      go (Some u) p q = put_within H w x u h p
+
+  value_within : (H : List Event) (x : Cell) (o : Option ℕ) (v : ℤ) → AllWithin X H → (row_of X.rows x ≡ Some v → CellWithin X x) → value_of X H x o ≡ Some v → CellWithin X x
+  value_within H x (Some w) v h start e = left_within H w x v h e
+  value_within H x None v h start e = start e
+
+  final_within : (H : List Event) (x : Cell) (v : ℤ) → AllWithin X H → (row_of X.rows x ≡ Some v → CellWithin X x) → final_table X H x ≡ Some v → CellWithin X x
+  unfolding final_table
+  final_within H x v h start e = value_within H x _ v h start e
+
+  -- where the starting rows are of the store's tables and all events are
+  pub rows_within : (H : List Event) (rows : List (Cell × ℤ)) → ((x : Cell) (v : ℤ) → row_of X.rows x ≡ Some v → CellWithin X x)
+      → AllWithin X H → IsFinalRows X H rows → All (λ (r : Cell × ℤ). CellWithin X r.0) rows
+  rows_within H rows start h f k d low =
+      let r = get_or rows k d in
+      final_within H r.0 r.1 h (start r.0 r.1) (sym (f.each r.0) ∙ row_of_tied rows k d r.0 f.ascending low (tied_itself cell_cmp_total r.0))

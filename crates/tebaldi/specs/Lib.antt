@@ -1,0 +1,4 @@
+pub mod Commands
+pub mod PlainNames
+pub mod Runs
+pub mod Tellings

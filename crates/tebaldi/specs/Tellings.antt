@@ -1,0 +1,58 @@
+-- What a command tells: a status, a text, and the history where there was a run.
+use Rattle.std.specs.Prelude.{◌≡◌, ◌≢◌, ◌⊎◌, ℕ, List, [], ◌∷◌, ◌++◌, codes, decimal, Option, None, option_map}
+use Rattle.std.specs.Io.KnownBytes.{Appends}
+use Rattle.teb_history.specs.declared.Event.{Event}
+use Rattle.teb_history.specs.Written.{Written}
+use Rattle.teb_io.specs.Bytes.{AppendsFront}
+use Rattle.tebaldi.specs.declared.replay.Telling.{Telling}
+use Rattle.script_text.specs.declared.error.LineWhy.{LineWhy}
+use Rattle.script_text.specs.declared.error.LineWhy.TheVariants as why
+
+pub record Told : Type 0 where
+  pub status : ℕ
+  pub text : List ℕ
+  pub history : Option (List Event)
+
+-- one line, where there was no run
+abbrev pub fault : ℕ → List ℕ → Told
+fault status text = record { status = status; text = text ++ 10 ∷ []; history = None }
+
+abbrev pub bad_words : Told
+bad_words = fault 2 (codes "bad words")
+
+abbrev pub too_long : Told
+too_long = fault 5 (codes "too long")
+
+abbrev pub no_separator : Told
+no_separator = fault 6 (codes "bad tree: no separator")
+
+abbrev pub not_built : Told
+not_built = fault 9 (codes "not built")
+
+abbrev pub why_text : LineWhy → List ℕ
+why_text why.Session = codes "session"
+why_text why.Verb = codes "verb"
+why_text why.Count = codes "count"
+why_text why.Name = codes "name"
+why_text why.Number = codes "number"
+
+abbrev pub bad_line : ℕ → LineWhy → Told
+bad_line n w = fault 7 (codes "bad script: line " ++ decimal n ++ codes " " ++ why_text w)
+
+abbrev pub events_of : Option Written → Option (List Event)
+events_of h = option_map (λ w. w.events) h
+
+-- what is told, as contracts see it
+abbrev pub told_by : Telling → Told
+told_by t = record { status = t.status; text = t.text.items; history = events_of t.history }
+
+-- the text was written whole and the status is its own, or the status is 4 and a part of the text was written; the history is its own either way
+pub record IsTold (d : Told) (status : ℕ) (kept : Option Written) (before now : Option (List ℕ)) : Type 0 where
+  pub written : ((status ≡ d.status) × Appends before now d.text) ⊎ ((status ≡ 4) × AppendsFront before now d.text)
+  pub history : events_of kept ≡ d.history
+
+-- a status with which something is told
+pub record IsTellable (status : ℕ) : Type 0 where
+  pub no_read_fault : status ≢ 3
+  pub no_write_fault : status ≢ 4
+  pub no_want_of_memory : status ≢ 8

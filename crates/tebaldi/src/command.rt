@@ -1,0 +1,88 @@
+//! The commands, by the words of the command line.
+
+ghost use Rattle.std.specs.Prelude.{◌≡◌, ◌≤◌, IfSome};
+ghost use Rattle.tebaldi.specs.Commands.{command_of, lone_command, threads_command, load_command, number_within, texts};
+
+use script_text::number;
+
+/// What the words ask for.
+#[derive(Clone, Copy, Debug, PartialEq, Eq)]
+pub enum Command {
+    /// Runs the script as one interleaving.
+    Replay,
+    /// Runs one script for each session, in turns.
+    Turns,
+    /// Runs one script for each session, by so many workers.
+    Threads(u8),
+    /// Runs a generated input, from a number, of a size.
+    Load { number: u32, size: u32 },
+    /// Checks what `threads` has written.
+    Audit,
+}
+
+/// The command of these words; none where they have no command's shape.
+pub fn command_of(words: &[String]) -> Option<Command>
+    ensures { result ≡ command_of (texts words.now) }
+{
+    match words {
+        [word] => lone_command(word.as_str()),
+        [word, count] => threads_command(word.as_str(), count.as_str()),
+        [word, number, size] => load_command(word.as_str(), number.as_str(), size.as_str()),
+        _ => None,
+    }
+}
+
+#[tactic(auto, unfolding(crate::specs::Commands::lone_command))]
+fn lone_command(word: &str) -> Option<Command>
+    ensures { result ≡ lone_command word.now }
+{
+    if word == "replay" {
+        Some(Command::Replay)
+    } else if word == "turns" {
+        Some(Command::Turns)
+    } else if word == "audit" {
+        Some(Command::Audit)
+    } else {
+        None
+    }
+}
+
+#[tactic(auto, unfolding(crate::specs::Commands::threads_command))]
+fn threads_command(word: &str, count: &str) -> Option<Command>
+    ensures { result ≡ threads_command word.now count.now }
+{
+    if word != "threads" {
+        return None;
+    }
+    let count = number_within(count, 1, 16)?;
+    Some(Command::Threads(count as u8))
+}
+
+#[tactic(auto, unfolding(crate::specs::Commands::load_command))]
+fn load_command(word: &str, number: &str, size: &str) -> Option<Command>
+    ensures { result ≡ load_command word.now number.now size.now }
+{
+    if word != "load" {
+        return None;
+    }
+    let number = number_within(number, 0, 2_147_483_647)?;
+    let size = number_within(size, 1, 2_000)?;
+    Some(Command::Load { number, size })
+}
+
+/// The value of one to ten digits, where it is from `low` to `high`.
+#[tactic(auto, unfolding(crate::specs::Commands::number_within))]
+fn number_within(digits: &str, low: u32, high: u32) -> Option<u32>
+    ensures value { result ≡ number_within low high digits.now }
+    ensures bound { IfSome result (λ n. n ≤ high) }
+{
+    if digits.len() > 10 {
+        return None;
+    }
+    let value = number(digits.as_bytes(), u64::from(high))?;
+    if value >= u64::from(low) {
+        Some(value as u32)
+    } else {
+        None
+    }
+}
