@@ -12,11 +12,10 @@ mod numbers;
 mod tests;
 mod words;
 
-pub use numbers::number;
-
 use super::{Line, ScriptError};
 use grammar::parse_line;
 use lines::Lines;
+pub use numbers::number;
 use std::alloc::{AllocError, Global};
 use teb_names::NameBook;
 

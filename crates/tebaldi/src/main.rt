@@ -25,3 +25,6 @@ fn main(rt: HostRuntime) -> ExitCode {
     let ended = run_tebaldi(rt.alloc(), &words, &mut input, &mut out);
     ExitCode::from(ended.status)
 }
+
+#[cfg(test)]
+mod tests;
