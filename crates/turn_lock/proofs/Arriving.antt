@@ -74,13 +74,16 @@ module _ {T E B : Type 0} (entries : T → List E) (owner : E → ℕ) (note : T
           } (λ j u _ e. h.each j u e);
           place = inr record { away = ap (λ (hs : Homes T). set hs 0 none) a.home; holder = id; view = w; there = set_same vs id v w at; inside = refl };
         },
-        ((λ _. record {
-          value = x;
-          notes = k.notes;
-          follows = record { has_base = (know.live alive).0 ∙ ap Some (sym a.has_base); goes = subst (λ l. GoesOn owner v.seen l v.owners) (sym a.has_left) know.goes; known = λ i some_. a.has_notes i ∙ know.known i some_ };
-          has_notes = a.has_notes;
-          is = refl;
-        }), λ n. absurd (n (has ∙ ap Some (here ∙ sym now)))),
+        (
+          (λ _. record {
+            value = x;
+            notes = k.notes;
+            follows = record { has_base = (know.live alive).0 ∙ ap Some (sym a.has_base); goes = subst (λ l. GoesOn owner v.seen l v.owners) (sym a.has_left) know.goes; known = λ i some_. a.has_notes i ∙ know.known i some_ };
+            has_notes = a.has_notes;
+            is = refl;
+          }),
+          λ n. absurd (n (has ∙ ap Some (here ∙ sym now))),
+        ),
       )
 
       served : t ≡ k.serving → Goal

@@ -122,8 +122,8 @@ module _ {T E B : Type 0} (g : Ghosts T E B) (t : Turn T E B) where
     is = inv.is ∙ (ap (λ l. l ++ inv.popped) e ∙ append_assoc front (other ∷ []) inv.popped);
     tells = λ x end. let k : Ends g.entries g.owner g.note g.base (both_views (view_of first) (view_of other)) x = subst (λ v. Ends g.entries g.owner g.note g.base v x) is end in
         let P : Heard E B → Type 0 = λ h. FollowsHeard g.entries g.owner g.note g.base h x in
-          All_cons (Tells x) other inv.popped (heard_follows x other (k.heard 0 (heard_of (view_of other)) (omega arith)))
-          (inv.tells x record { follows = heard_follows x first (k.heard 1 (heard_of (view_of other)) (omega arith)); heard = All_left P (view_of first).heard (view_of other).heard (λ i d l. k.heard (suc (suc i)) d (omega arith)) });
+        All_cons (Tells x) other inv.popped (heard_follows x other (k.heard 0 (heard_of (view_of other)) (omega arith)))
+        (inv.tells x record { follows = heard_follows x first (k.heard 1 (heard_of (view_of other)) (omega arith)); heard = All_left P (view_of first).heard (view_of other).heard (λ i d l. k.heard (suc (suc i)) d (omega arith)) });
   }
 
   pub finishes : (n : ℕ) (whole items : List S) (first : S) (x : T) → length items ≡ 0 → EndsWith first x → Joined n whole items first → All (Tells x) whole

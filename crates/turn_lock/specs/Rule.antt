@@ -73,14 +73,11 @@ module _ {T E B : Type 0} (entries : T → List E) (owner : E → ℕ) (note : T
     -- the entries that the value was last left with, each of an owner of the turn
     pub left : List E
     pub of_owners : All (λ e. (1 ≤ owner e) × (owner e ≤ owners)) left
-
     -- no ticket wraps: those drawn and the turns still to come are 2 ^ 45
     pub turns : next + total turns_of views ≡ 35184372088832
-
     -- the tickets out are those from the one served to the next one, each in one view
     pub in_order : serving ≤ next
     pub tickets : (k : ℕ) → IsOnceWithin serving next k (total (has_ticket k) views)
-
     -- each number from 1 to `owners` is an owner in one view
     pub owned : (o : ℕ) → IsOnceWithin 1 (suc owners) o (total (has_owner o) views)
     pub each : (j : ℕ) (v : View E B) → get_elem? views j ≡ some v → Knows owner base left notes serving v

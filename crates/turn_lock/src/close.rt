@@ -6,13 +6,13 @@ ghost use Rattle.turn_lock.specs.Calls.{AreOwned, Follows, Ends};
 ghost use Rattle.turn_lock.specs.Seats.{base_in, owner_count, view_of, all_owners, IsOf, IsOutside};
 
 use crate::member::Member;
-use crate::turn::{Seat, Turn};
+use crate::turn::{Seat, SeatOf, Turn};
 
 impl<T: Member> Turn<T> {
     /// The last value. The seats, none of them in the turn, have all owners together.
     ///
     /// For each seat the value begins with all that it had seen, and goes on by entries of other owners.
-    pub fn close(self, mut seats: Vec<Seat<T, T::Entry, T::Base>>) -> T
+    pub fn close(self, mut seats: Vec<SeatOf<T>>) -> T
         requires seats { All (λ s. IsOf self s × IsOutside s) seats.items }
         requires all { HasAll (owner_count self) (all_owners seats.items) }
         ensures follows { All (λ s. Follows T.entries T.owner T.note T.base (view_of s) result) seats.items }
@@ -28,7 +28,7 @@ impl<T: Member> Turn<T> {
     }
 
     /// The last value, where one seat has all owners. It tells the same of each seat that was joined into it, too.
-    pub fn end(self, seat: Seat<T, T::Entry, T::Base>) -> T
+    pub fn end(self, seat: SeatOf<T>) -> T
         requires seat { IsOf self seat × IsOutside seat }
         requires all { HasAll (owner_count self) (view_of seat).owners }
         ensures ends { Ends T.entries T.owner T.note T.base (view_of seat) result }

@@ -56,7 +56,7 @@ mod turn;
 mod view;
 
 pub use member::Member;
-pub use turn::{Seat, Start, Turn, TurnRule};
+pub use turn::{Seat, SeatOf, Turn};
 pub use view::{Heard, View};
 
 #[cfg(test)]

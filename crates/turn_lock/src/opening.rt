@@ -4,7 +4,7 @@ ghost use Rattle.turn_lock.specs.Views.{first_view};
 ghost use Rattle.turn_lock.specs.Seats.{base_in, owner_count, note_count, view_of, IsOf, IsOutside};
 
 use crate::member::Member;
-use crate::turn::{Seat, Start, Turn};
+use crate::turn::{Seat, SeatOf, Start, Turn};
 use atomic_table::{Refused, Table};
 use std::alloc::Global;
 use std::snapshot::Snapshot;
@@ -13,12 +13,7 @@ impl<T: Member> Turn<T> {
     /// A turn with this value, and its first seat, which has the owners 1 to `owners` and 2^45 turns.
     ///
     /// At `Err` there was no memory, and the value comes back.
-    pub fn new(
-        alloc: Global,
-        value: T,
-        notes: u32,
-        owners: u8,
-    ) -> Result<(Turn<T>, Seat<T, T::Entry, T::Base>), T>
+    pub fn new(alloc: Global, value: T, notes: u32, owners: u8) -> Result<(Turn<T>, SeatOf<T>), T>
         requires empty { (T.entries value ≡ []) × ((i : ℕ) → T.note value i ≡ 0) }
         requires owners { (1 ≤ owners) × (owners ≤ 32) }
         ensures turn { IfOk result (λ t. (note_count t.0 ≡ notes) × (owner_count t.0 ≡ owners) × (base_in T.base t.0 ≡ T.base value)) }

@@ -6,7 +6,7 @@ ghost use Rattle.turn_lock.specs.Seats.{view_of, IsOf, IsOutside, IsInside};
 
 use crate::member::Member;
 use crate::steps::{Draw, Look, Move};
-use crate::turn::{Seat, Turn};
+use crate::turn::{SeatOf, Turn};
 use std::sync::Wait;
 use std::thread;
 
@@ -15,7 +15,7 @@ impl<T: Member> Turn<T> {
     ///
     /// The value begins with all that the seat had seen, and goes on by entries of other owners. Afterwards the seat
     /// has seen all its entries and knows all its notes. It draws a ticket and looks at serving until it is that.
-    pub fn enter<R: Wait>(&self, rt: &R, seat: &mut Seat<T, T::Entry, T::Base>) -> T
+    pub fn enter<R: Wait>(&self, rt: &R, seat: &mut SeatOf<T>) -> T
         requires seat { IsOf self.now seat.old × IsOutside seat.old }
         requires turns { 0 < (view_of seat.old).turns }
         ensures seat { IsOf self.now seat.new × IsInside seat.new }
@@ -38,7 +38,7 @@ impl<T: Member> Turn<T> {
     ///
     /// The value is the one that `enter` gave, with further entries of this seat's owners alone; its notes are those
     /// that it had and those that this seat has published since.
-    pub fn leave(&self, seat: &mut Seat<T, T::Entry, T::Base>, value: T)
+    pub fn leave(&self, seat: &mut SeatOf<T>, value: T)
         requires seat { IsOf self.now seat.old × IsInside seat.old }
         requires adds { Adds T.entries T.owner T.note T.base (view_of seat.old) value }
         ensures seat { IsOf self.now seat.new × IsOutside seat.new }

@@ -6,17 +6,12 @@ ghost use Rattle.turn_lock.specs.Seats.{view_of, IsOf, IsOutside};
 
 use crate::member::Member;
 use crate::steps::{Cut, Deal, Merge};
-use crate::turn::{Seat, Turn};
+use crate::turn::{Seat, SeatOf, Turn};
 use std::marker::Brand;
 
 impl<T: Member> Turn<T> {
     /// A new seat with one owner and some turns of this seat, which has seen the same. At least one owner stays.
-    pub fn split(
-        &self,
-        seat: &mut Seat<T, T::Entry, T::Base>,
-        owner: u8,
-        turns: u64,
-    ) -> Seat<T, T::Entry, T::Base>
+    pub fn split(&self, seat: &mut SeatOf<T>, owner: u8, turns: u64) -> SeatOf<T>
         requires seat { IsOf self.now seat.old × IsOutside seat.old }
         requires owner { Has (view_of seat.old).owners owner × (without owner (view_of seat.old).owners ≢ []) }
         requires turns { turns ≤ (view_of seat.old).turns }
@@ -27,12 +22,7 @@ impl<T: Member> Turn<T> {
     }
 
     // A step has no operands for its view, so they go in by a type parameter that exists in proofs alone.
-    fn deal<D: Deal>(
-        &self,
-        seat: &mut Seat<T, T::Entry, T::Base>,
-        owner: u8,
-        turns: u64,
-    ) -> Seat<T, T::Entry, T::Base>
+    fn deal<D: Deal>(&self, seat: &mut SeatOf<T>, owner: u8, turns: u64) -> SeatOf<T>
         requires deal { (D.owner ≡ owner) × (D.turns ≡ turns) }
         requires seat { IsOf self.now seat.old × IsOutside seat.old }
         requires owner { Has (view_of seat.old).owners owner × (without owner (view_of seat.old).owners ≢ []) }
@@ -46,7 +36,7 @@ impl<T: Member> Turn<T> {
     }
 
     /// Joins a seat into another, which has the owners and turns of both then, and knows what both knew.
-    pub fn join(&self, seat: &mut Seat<T, T::Entry, T::Base>, other: Seat<T, T::Entry, T::Base>)
+    pub fn join(&self, seat: &mut SeatOf<T>, other: SeatOf<T>)
         requires seats { IsOf self.now seat.old × IsOf self.now other }
         requires outside { IsOutside seat.old × IsOutside other }
         ensures seat { IsOf self.now seat.new × IsOutside seat.new }

@@ -47,3 +47,6 @@ pub struct Seat<T, E, B> {
     pub(crate) seat: atomic_table::Seat<Option<T>, View<E, B>>,
     ghost live: { seat.me.0.owners ≢ [] },
 }
+
+/// A seat of a turn whose value is a `T`.
+pub type SeatOf<T> = Seat<T, <T as Member>::Entry, <T as Member>::Base>;
