@@ -1,7 +1,6 @@
 -- To draw a ticket keeps the rule.
-use Rattle.std.proofs.Common.{◌≡◌, ◌≢◌, ℕ, suc, ◌+◌, ◌-◌, ◌%◌, ◌^◌, ◌<◌, ◌≤◌, true, false, true≢false, List, [], ◌∷◌, set, get_or, sym, refl, ap, ◌∙◌, subst, arith, Option, Some, None}
-use lib.ListN.{get_elem?}
-use Rattle.atomic_table.specs.Table.{State, Act, keeps, stepped, homes_after, Allows}
+use Rattle.std.proofs.Common.{◌≡◌, ℕ, suc, ◌+◌, ◌%◌, ◌^◌, ◌<◌, false, true≢false, List, ◌∷◌, set, get_or, sym, refl, ap, ◌∙◌, subst, arith, Option, None}
+use Rattle.atomic_table.specs.Table.{State, keeps, stepped, Allows}
 use Rattle.turn_lock.specs.declared.view.View.{View}
 use Rattle.turn_lock.specs.Counts.{IsOnceWithin}
 use Rattle.turn_lock.specs.Views.{drawn}

@@ -1,13 +1,13 @@
 -- To join a seat into another keeps the rule.
-use Rattle.std.proofs.Common.{◌≡◌, ◌≢◌, ℕ, suc, ◌+◌, ◌<◌, ◌≤◌, true, false, true≢false, List, [], ◌∷◌, ◌++◌, set, length, sym, refl, ap, ◌∙◌, subst, arith, Option, Some, None, All}
+use Rattle.std.proofs.Common.{◌≡◌, ◌≢◌, ℕ, suc, ◌+◌, false, true≢false, List, [], ◌∷◌, ◌++◌, set, sym, refl, ◌∙◌, subst, arith, None, All}
 use mathlib.Core.Option.{some}
 use lib.ListN.{get_elem?}
 use Rattle.std.proofs.lemmas.List.Elements.{All-append}
-use Rattle.atomic_table.specs.Table.{State, Joins}
+use Rattle.atomic_table.specs.Table.{Joins}
 use Rattle.atomic_table.proofs.Lists.{set_else}
 use Rattle.turn_lock.specs.declared.view.View.{View}
 use Rattle.turn_lock.specs.declared.view.Heard.{Heard}
-use Rattle.turn_lock.specs.Counts.{total, times, IsOnceWithin}
+use Rattle.turn_lock.specs.Counts.{total, IsOnceWithin}
 use Rattle.turn_lock.specs.Views.{spent_view, heard_of, both_views}
 use Rattle.turn_lock.specs.Rule.{has_ticket, has_owner, turns_of, IsHeard, Knows, Stands, Holds}
 use Rattle.turn_lock.proofs.Counts.{total_set, times_append}

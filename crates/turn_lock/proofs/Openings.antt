@@ -1,7 +1,6 @@
 -- A new turn meets its rule.
-use Rattle.std.proofs.Common.{◌≡◌, ◌≢◌, ℕ, zero, suc, ◌+◌, ◌<◌, ◌≤◌, true, false, true≢false, List, [], ◌∷◌, length, sym, refl, ap, ◌∙◌, subst, inl, arith, Option, Some, None, replicate}
+use Rattle.std.proofs.Common.{◌≡◌, ◌≢◌, ℕ, zero, suc, ◌≤◌, false, true≢false, List, [], ◌∷◌, length, sym, refl, ap, ◌∙◌, subst, inl, arith, Some, replicate}
 use Rattle.atomic_table.specs.Table.{opening}
-use Rattle.turn_lock.specs.declared.view.View.{View}
 use Rattle.turn_lock.specs.Counts.{times, up_to, IsOnceWithin}
 use Rattle.turn_lock.specs.Views.{first_view}
 use Rattle.turn_lock.specs.Rule.{IsHeard, Knows, Holds}

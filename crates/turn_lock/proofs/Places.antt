@@ -1,5 +1,5 @@
 -- Where the value is, and who is at the turn.
-use Rattle.std.proofs.Common.{◌≡◌, ◌≢◌, ◌⊎◌, ℕ, suc, ◌+◌, ◌<◌, ◌≤◌, Bool, true, false, true≢false, List, [], ◌∷◌, set, get_or, sym, refl, ap, ◌∙◌, subst, ⊎_elim, inl, inr, arith, Option, Some, None}
+use Rattle.std.proofs.Common.{◌≡◌, ◌≢◌, ◌⊎◌, ℕ, Bool, true, false, true≢false, List, set, get_or, sym, refl, ap, ◌∙◌, ⊎_elim, inl, inr, arith, Option, Some, None}
 use mathlib.Core.Option as mathlib_option
 use mathlib.Core.Option.{some, some-injective}
 use mathlib.Core.Logic.{dite}

@@ -1,7 +1,6 @@
 -- To publish a note keeps the rule.
-use Rattle.std.proofs.Common.{◌≡◌, ◌≢◌, ℕ, suc, ◌+◌, ◌-◌, ◌<◌, ◌≤◌, true, false, true≢false, List, [], ◌∷◌, set, length, get_or, sym, refl, ap, ◌∙◌, subst, arith, Option, Some, All, length-set, get_or-set_same}
+use Rattle.std.proofs.Common.{◌≡◌, ◌≢◌, ℕ, suc, ◌+◌, ◌-◌, ◌<◌, ◌≤◌, true, true≢false, List, [], set, length, get_or, sym, refl, ap, ◌∙◌, subst, arith, Option, Some, All, length-set, get_or-set_same}
 use mathlib.Core.Option.{none}
-use lib.ListN.{get_elem?}
 use Rattle.atomic_table.specs.Table.{State, step, keeps, stepped, Allows}
 use Rattle.turn_lock.specs.declared.view.View.{View}
 use Rattle.turn_lock.specs.Counts.{IsOnceWithin}

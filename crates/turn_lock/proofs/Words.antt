@@ -1,5 +1,5 @@
 -- The words of the notes, and what is known of them.
-use Rattle.std.proofs.Common.{◌≡◌, ◌≢◌, ℕ, zero, suc, ◌+◌, ◌<◌, ◌≤◌, max, List, [], ◌∷◌, set, length, get_or, sym, refl, ap, ◌∙◌, arith, length-set, get_or-set_same, get_or-set_other, replicate}
+use Rattle.std.proofs.Common.{◌≡◌, ◌≢◌, ℕ, zero, suc, ◌<◌, max, List, [], ◌∷◌, set, length, get_or, sym, refl, ap, ◌∙◌, arith, length-set, get_or-set_same, get_or-set_other, replicate}
 use mathlib.Core.Logic.{dite}
 use native.Mathlib.Decide.{ℕ_discrete, dec_le}
 use lib.Seq.{set-get_or}

@@ -1,5 +1,5 @@
 -- The views of seats, and what each step makes of them.
-use Rattle.std.specs.Prelude.{◌≡◌, ℕ, zero, suc, ◌+◌, ◌-◌, ◌<◌, leb, max, true, false, if◌then◌else◌, List, [], ◌∷◌, ◌++◌, Some, None, slice_index, slice_set, length, replicate}
+use Rattle.std.specs.Prelude.{ℕ, zero, suc, ◌+◌, ◌-◌, leb, max, true, false, if◌then◌else◌, List, [], ◌∷◌, ◌++◌, Some, None, slice_set, length, replicate}
 use Rattle.turn_lock.specs.declared.view.View.{View}
 use Rattle.turn_lock.specs.declared.view.Heard.{Heard}
 use Rattle.turn_lock.specs.Counts.{up_to, without}

@@ -40,8 +40,8 @@ pub struct Turn<T: Member> {
 
 /// A right to take part in a turn: to enter it, and to add entries of its owners. It has no bytes.
 ///
-/// A seat is for one turn, and every call that takes one needs a seat of this turn. A seat that is dropped takes its
-/// owners with it, so that the turn cannot be closed any more; one that is dropped inside keeps the value.
+/// A seat is for one turn, and every call that takes one needs a seat of this turn. Where a seat is dropped, its owners
+/// are gone, and the turn cannot be closed; where it is dropped in the turn, nobody enters any more.
 #[derive(Drop)]
 pub struct Seat<T, E, B> {
     pub(crate) seat: atomic_table::Seat<Option<T>, View<E, B>>,

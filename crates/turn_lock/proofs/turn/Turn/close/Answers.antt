@@ -1,4 +1,4 @@
-use Rattle.std.proofs.Common.{rules, ◌≡◌, ap, ◌∙◌, ◌++◌, arith, length}
+use Rattle.std.proofs.Common.{rules, ap, ◌∙◌, ◌++◌}
 use Rattle.std.specs.Option.{option_to_list}
 use Rattle.turn_lock.proofs.Closing.{begins, goes_on, finishes}
 use Rattle.turn_lock.proofs.turn.Turn.close.Goals as goal

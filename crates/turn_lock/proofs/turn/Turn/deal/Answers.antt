@@ -1,4 +1,4 @@
-use Rattle.std.proofs.Common.{rules, ◌≡◌, ap, sym, ◌∙◌, subst, ℕ, ◌+◌, ◌≤◌, ◌<◌, arith}
+use Rattle.std.proofs.Common.{sym, subst, ℕ, arith}
 use Rattle.atomic_table.specs.Table.{Splits}
 use Rattle.turn_lock.specs.Views.{given, remaining}
 use Rattle.turn_lock.specs.Rule.{Holds}

@@ -1,4 +1,4 @@
-use Rattle.std.proofs.Common.{rules, arith, ap, ◌∙◌, sym}
+use Rattle.std.proofs.Common.{arith, ap, ◌∙◌, sym}
 use Rattle.turn_lock.proofs.Lists.{nil_left}
 use Rattle.turn_lock.proofs.Joining.{joins}
 use Rattle.turn_lock.proofs.turn.Turn.join.Goals as goal

@@ -1,4 +1,4 @@
-use Rattle.std.proofs.Common.{rules, ◌+◌, arith}
+use Rattle.std.proofs.Common.{◌+◌, arith}
 use Rattle.turn_lock.proofs.Peeking.{peeks}
 use Rattle.turn_lock.proofs.turn.Turn.look.Goals as goal
 

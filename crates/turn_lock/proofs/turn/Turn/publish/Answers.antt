@@ -1,4 +1,4 @@
-use Rattle.std.proofs.Common.{rules, ◌≡◌, ap, ◌∙◌, ℕ, ◌+◌, ◌-◌, get_or, arith}
+use Rattle.std.proofs.Common.{◌≡◌, ap, ◌∙◌, ℕ, ◌+◌, ◌-◌, get_or, arith}
 use Rattle.turn_lock.proofs.Publishing.{publishes}
 use Rattle.turn_lock.proofs.turn.Turn.publish.Goals as goal
 
