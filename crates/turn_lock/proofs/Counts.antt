@@ -4,7 +4,7 @@ use mathlib.Core.Option.{some, some-injective, some-ne-none}
 use mathlib.Core.Logic.{dite}
 use native.Mathlib.Decide.{ℕ_discrete, dec_le}
 use lib.ListN.{get_elem?}
-use Rattle.turn_lock.specs.Counts.{total, same, times, up_to, without, IsOnceWithin}
+use Rattle.turn_lock.specs.Counts.{total, same, times, count_from, without, IsOnceWithin}
 
 module _ {A : Type 0} (f : A → ℕ) where
   pub total_set : (l : List A) (i : ℕ) (a b : A) → get_elem? l i ≡ some a → total f (set l i b) + f a ≡ total f l + f b
@@ -69,8 +69,8 @@ once_low a b k t s some_ = dite (dec_le a k) (λ le. le) (λ n. let z = s.1 (ome
 pub once_high : (a b k t : ℕ) → IsOnceWithin a b k t → 0 < t → k < b
 once_high a b k t s some_ = dite (dec_le b k) (λ le. let z = s.2 le in absurd (omega arith)) (λ n. omega arith)
 
-pub times-up_to : (n o : ℕ) → IsOnceWithin 1 (n + 1) o (times o (up_to n))
-times-up_to zero o = ((λ a b. absurd (omega arith)), (λ _. refl), λ _. refl)
-times-up_to (suc n) o = let r = times-up_to n o in let in_ = r.0 in let below = r.1 in let above = r.2 in dite (ℕ_discrete o (suc n))
-    (λ (here : o ≡ suc n). let one = same_yes o (suc n) here in let none_ = above (omega arith) in ((λ _ _. omega arith), (λ h. absurd (omega arith)), λ h. absurd (omega arith)))
-    (λ (other : o ≢ suc n). let zero_ = same_no o (suc n) other in ((λ a b. let one = in_ a (omega arith) in omega arith), (λ h. let z = below h in omega arith), λ h. let z = above (omega arith) in omega arith))
+pub times-count_from : (n a o : ℕ) → IsOnceWithin a (a + n) o (times o (count_from a n))
+times-count_from zero a o = ((λ h i. absurd (omega arith)), (λ _. refl), λ _. refl)
+times-count_from (suc n) a o = let r = times-count_from n (suc a) o in let in_ = r.0 in let below = r.1 in let above = r.2 in dite (ℕ_discrete o a)
+    (λ (here : o ≡ a). let one = same_yes o a here in let none_ = below (omega arith) in ((λ _ _. omega arith), (λ h. absurd (omega arith)), λ h. absurd (omega arith)))
+    (λ (other : o ≢ a). let zero_ = same_no o a other in ((λ h i. let one = in_ (omega arith) (omega arith) in omega arith), (λ h. let z = below (omega arith) in omega arith), λ h. let z = above (omega arith) in omega arith))

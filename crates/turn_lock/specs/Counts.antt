@@ -26,10 +26,10 @@ HasAll n ys = (x : ℕ) → 1 ≤ x → x ≤ n → Has ys x
 abbrev pub IsOnceWithin : ℕ → ℕ → ℕ → ℕ → Type 0
 IsOnceWithin a b k count = (a ≤ k → k < b → count ≡ 1) × (k < a → count ≡ 0) × (b ≤ k → count ≡ 0)
 
--- the numbers from n down to 1
-abbrev pub up_to : ℕ → List ℕ
-up_to zero = []
-up_to (suc n) = suc n ∷ up_to n
+-- n numbers, from a upwards
+abbrev pub count_from : ℕ → ℕ → List ℕ
+count_from a zero = []
+count_from a (suc n) = a ∷ count_from (suc a) n
 
 -- the list without the first x
 abbrev pub without : ℕ → List ℕ → List ℕ

@@ -2,7 +2,7 @@
 use Rattle.std.specs.Prelude.{ℕ, zero, suc, ◌+◌, ◌-◌, leb, max, true, false, if◌then◌else◌, List, [], ◌∷◌, ◌++◌, Some, None, slice_set, length, replicate}
 use Rattle.turn_lock.specs.declared.view.View.{View}
 use Rattle.turn_lock.specs.declared.view.Heard.{Heard}
-use Rattle.turn_lock.specs.Counts.{up_to, without}
+use Rattle.turn_lock.specs.Counts.{count_from, without}
 
 -- a word is noted unless it is 0
 abbrev pub noted : ℕ → ℕ → List ℕ → List ℕ
@@ -21,7 +21,7 @@ longer xs ys = if leb (length ys) (length xs) then xs else ys
 module _ {E B : Type 0} where
   -- the first seat of a turn has all owners and all 2 ^ 45 turns
   abbrev pub first_view : B → ℕ → ℕ → View E B
-  first_view base notes owners = record { base = Some base; owners = up_to owners; turns = 35184372088832; ticket = None; inside = false; seen = []; notes = replicate notes 0; looked = []; heard = [] }
+  first_view base notes owners = record { base = Some base; owners = count_from 1 owners; turns = 35184372088832; ticket = None; inside = false; seen = []; notes = replicate notes 0; looked = []; heard = [] }
 
   -- what is left of a seat that was joined into another
   abbrev pub spent_view : View E B
