@@ -1,0 +1,1 @@
+use Rattle.chain_pool.proofs.heads.put.Goals as goal
