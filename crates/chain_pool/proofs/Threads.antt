@@ -22,22 +22,22 @@ module _ (mine mine' : ℕ → Type 0) (next next' : ℕ → ℕ) (first len : �
     (fresh : mine q → ⊥) (now : mine' q) (kept : (p : ℕ) → mine p → mine' p) (only : (p : ℕ) → mine' p → (mine p) ⊎ (p ≡ q))
     (before : 0 < i → next' (get_or t.places (i - 1) 0) ≡ q) (after : i < len → next' q ≡ get_or t.places i 0)
     (others : (j : ℕ) → j + 1 < len → j + 1 ≢ i → next' (get_or t.places j 0) ≡ next (get_or t.places j 0)) where
-  w : i ≤ length t.places
-  w = omega (arith, t.count)
+  pub insert_within : i ≤ length t.places
+  insert_within = omega (arith, t.count)
 
   old_is_fresh : (j : ℕ) → j < len → get_or t.places j 0 ≡ q → ⊥
   old_is_fresh j lt is = fresh (subst mine is (t.inside j lt))
 
-  distinct' : (a b : ℕ) → a < len + 1 → b < len + 1 → get_or (insert t.places i q) a 0 ≡ get_or (insert t.places i q) b 0 → a ≡ b
+  pub distinct' : (a b : ℕ) → a < len + 1 → b < len + 1 → get_or (insert t.places i q) a 0 ≡ get_or (insert t.places i q) b 0 → a ≡ b
   distinct' a b la lb is =
       grind (
         arith,
-        below t.places i q w a,
-        here t.places i q w a,
-        above t.places i q w a,
-        below t.places i q w b,
-        here t.places i q w b,
-        above t.places i q w b,
+        below t.places i q insert_within a,
+        here t.places i q insert_within a,
+        above t.places i q insert_within a,
+        below t.places i q insert_within b,
+        here t.places i q insert_within b,
+        above t.places i q insert_within b,
         t.distinct a b,
         t.distinct a (b - 1),
         t.distinct (a - 1) b,
@@ -48,46 +48,46 @@ module _ (mine mine' : ℕ → Type 0) (next next' : ℕ → ℕ) (first len : �
         old_is_fresh (b - 1),
       )
 
-  link' : (j : ℕ) → j + 1 < len + 1 → next' (get_or (insert t.places i q) j 0) ≡ get_or (insert t.places i q) (j + 1) 0
+  pub link' : (j : ℕ) → j + 1 < len + 1 → next' (get_or (insert t.places i q) j 0) ≡ get_or (insert t.places i q) (j + 1) 0
   link' j lt = elim (cases_lt j i) [
     | inl lo ↦ elim (cases_eq (j + 1) i) [
-      | inl e ↦ ap next' (below t.places i q w j lo) ∙ (ap (λ k. next' (get_or t.places k 0)) (omega arith) ∙ before (omega arith)) ∙ sym (here t.places i q w (j + 1) e)
-      | inr ne ↦ ap next' (below t.places i q w j lo) ∙ others j (omega arith) ne ∙ t.link j (omega arith) ∙ sym (below t.places i q w (j + 1) (omega arith))
+      | inl e ↦ ap next' (below t.places i q insert_within j lo) ∙ (ap (λ k. next' (get_or t.places k 0)) (omega arith) ∙ before (omega arith)) ∙ sym (here t.places i q insert_within (j + 1) e)
+      | inr ne ↦ ap next' (below t.places i q insert_within j lo) ∙ others j (omega arith) ne ∙ t.link j (omega arith) ∙ sym (below t.places i q insert_within (j + 1) (omega arith))
     ]
     | inr hi ↦ elim (cases_eq j i) [
-      | inl e ↦ ap next' (here t.places i q w j e) ∙ after (omega arith) ∙ ap (λ k. get_or t.places k 0) (omega arith) ∙ sym (above t.places i q w (j + 1) (omega arith))
-      | inr ne ↦ ap next' (above t.places i q w j (omega arith)) ∙ others (j - 1) (omega arith) (omega arith) ∙ t.link (j - 1) (omega arith) ∙ ap (λ k. get_or t.places k 0) (omega arith) ∙ sym (above t.places i q w (j + 1) (omega arith))
+      | inl e ↦ ap next' (here t.places i q insert_within j e) ∙ after (omega arith) ∙ ap (λ k. get_or t.places k 0) (omega arith) ∙ sym (above t.places i q insert_within (j + 1) (omega arith))
+      | inr ne ↦ ap next' (above t.places i q insert_within j (omega arith)) ∙ others (j - 1) (omega arith) (omega arith) ∙ t.link (j - 1) (omega arith) ∙ ap (λ k. get_or t.places k 0) (omega arith) ∙ sym (above t.places i q insert_within (j + 1) (omega arith))
     ]
   ]
 
-  inside' : (j : ℕ) → j < len + 1 → mine' (get_or (insert t.places i q) j 0)
+  pub inside' : (j : ℕ) → j < len + 1 → mine' (get_or (insert t.places i q) j 0)
   inside' j lt = elim (cases_lt j i) [
-    | inl lo ↦ subst mine' (sym (below t.places i q w j lo)) (kept _ (t.inside j (omega arith)))
+    | inl lo ↦ subst mine' (sym (below t.places i q insert_within j lo)) (kept _ (t.inside j (omega arith)))
     | inr hi ↦ elim (cases_eq j i) [
-      | inl e ↦ subst mine' (sym (here t.places i q w j e)) now
-      | inr ne ↦ subst mine' (sym (above t.places i q w j (omega arith))) (kept _ (t.inside (j - 1) (omega arith)))
+      | inl e ↦ subst mine' (sym (here t.places i q insert_within j e)) now
+      | inr ne ↦ subst mine' (sym (above t.places i q insert_within j (omega arith))) (kept _ (t.inside (j - 1) (omega arith)))
     ]
   ]
 
   shifted : (p j : ℕ) → j < len → get_or t.places j 0 ≡ p → (k : ℕ) × ((k < len + 1) × (get_or (insert t.places i q) k 0 ≡ p))
   shifted p j lt is = elim (cases_lt j i) [
-    | inl lo ↦ (j, (omega arith, below t.places i q w j lo ∙ is))
-    | inr hi ↦ (j + 1, (omega arith, above t.places i q w (j + 1) (omega arith) ∙ (ap (λ k. get_or t.places k 0) (omega arith) ∙ is)))
+    | inl lo ↦ (j, (omega arith, below t.places i q insert_within j lo ∙ is))
+    | inr hi ↦ (j + 1, (omega arith, above t.places i q insert_within (j + 1) (omega arith) ∙ (ap (λ k. get_or t.places k 0) (omega arith) ∙ is)))
   ]
 
-  complete' : (p : ℕ) → mine' p → (k : ℕ) × ((k < len + 1) × (get_or (insert t.places i q) k 0 ≡ p))
+  pub complete' : (p : ℕ) → mine' p → (k : ℕ) × ((k < len + 1) × (get_or (insert t.places i q) k 0 ≡ p))
   complete' p m = elim (only p m) [
     | inl old ↦ let at = t.complete p old in shifted p at.0 at.1.0 at.1.1
-    | inr e ↦ (i, (omega arith, here t.places i q w i refl ∙ sym e))
+    | inr e ↦ (i, (omega arith, here t.places i q insert_within i refl ∙ sym e))
   ]
 
-  pub thread-insert : (first' : ℕ) → (i ≡ 0 → first' ≡ q) → (0 < i → first' ≡ first) → Thread mine' next' first' (len + 1)
+  unfoldable pub thread-insert : (first' : ℕ) → (i ≡ 0 → first' ≡ q) → (0 < i → first' ≡ first) → Thread mine' next' first' (len + 1)
   thread-insert first' new_first old_first = record {
     places = insert t.places i q;
-    count = let n = length-insert t.places i q w in omega (arith, n, t.count);
+    count = let n = length-insert t.places i q insert_within in omega (arith, n, t.count);
     head = λ _. elim (cases_eq i 0) [
-      | inl e ↦ new_first e ∙ sym (here t.places i q w 0 (sym e))
-      | inr ne ↦ old_first (omega arith) ∙ t.head (omega arith) ∙ sym (below t.places i q w 0 (omega arith))
+      | inl e ↦ new_first e ∙ sym (here t.places i q insert_within 0 (sym e))
+      | inr ne ↦ old_first (omega arith) ∙ t.head (omega arith) ∙ sym (below t.places i q insert_within 0 (omega arith))
     ];
     link = link';
     inside = inside';
@@ -96,7 +96,7 @@ module _ (mine mine' : ℕ → Type 0) (next next' : ℕ → ℕ) (first len : �
   }
 
 -- the same list, where nothing of it changed
-pub thread-keep : (mine mine' : ℕ → Type 0) (next next' : ℕ → ℕ) (first len : ℕ) (t : Thread mine next first len)
+unfoldable pub thread-keep : (mine mine' : ℕ → Type 0) (next next' : ℕ → ℕ) (first len : ℕ) (t : Thread mine next first len)
     → ((p : ℕ) → mine p → mine' p) → ((p : ℕ) → mine' p → mine p) → ((p : ℕ) → mine p → next' p ≡ next p) → Thread mine' next' first len
 thread-keep mine mine' next next' first len t kept only same = record {
   places = t.places;
@@ -120,49 +120,49 @@ module _ (mine mine' : ℕ → Type 0) (next next' : ℕ → ℕ) (first len : �
     (kept : (r : ℕ) → mine r → r ≢ p → mine' r) (only : (r : ℕ) → mine' r → mine r × (r ≢ p))
     (over : 0 < i → i + 1 < len → next' (get_or t.places (i - 1) 0) ≡ get_or t.places (i + 1) 0)
     (others : (j : ℕ) → j + 1 < len → j + 1 ≢ i → j ≢ i → next' (get_or t.places j 0) ≡ next (get_or t.places j 0)) where
-  v : i < length t.places
-  v = omega (arith, t.count)
+  pub remove_within : i < length t.places
+  remove_within = omega (arith, t.count)
 
   other_place : (j : ℕ) → j < len → j ≢ i → get_or t.places j 0 ≢ p
   other_place j lt ne e = ne (t.distinct j i lt within (e ∙ sym is))
 
-  link_less : (j : ℕ) → j + 1 < len - 1 → next' (get_or (remove t.places i) j 0) ≡ get_or (remove t.places i) (j + 1) 0
+  pub link_less : (j : ℕ) → j + 1 < len - 1 → next' (get_or (remove t.places i) j 0) ≡ get_or (remove t.places i) (j + 1) 0
   link_less j lt = elim (cases_lt j i) [
     | inl lo ↦ elim (cases_eq (j + 1) i) [
-      | inl e ↦ ap next' (low t.places i v j lo) ∙ (ap (λ k. next' (get_or t.places k 0)) (omega arith) ∙ over (omega arith) (omega arith)) ∙ ap (λ k. get_or t.places k 0) (omega arith) ∙ sym (high t.places i v (j + 1) (omega arith))
-      | inr ne ↦ ap next' (low t.places i v j lo) ∙ others j (omega arith) ne (omega arith) ∙ t.link j (omega arith) ∙ sym (low t.places i v (j + 1) (omega arith))
+      | inl e ↦ ap next' (low t.places i remove_within j lo) ∙ (ap (λ k. next' (get_or t.places k 0)) (omega arith) ∙ over (omega arith) (omega arith)) ∙ ap (λ k. get_or t.places k 0) (omega arith) ∙ sym (high t.places i remove_within (j + 1) (omega arith))
+      | inr ne ↦ ap next' (low t.places i remove_within j lo) ∙ others j (omega arith) ne (omega arith) ∙ t.link j (omega arith) ∙ sym (low t.places i remove_within (j + 1) (omega arith))
     ]
-    | inr hi ↦ ap next' (high t.places i v j hi) ∙ others (j + 1) (omega arith) (omega arith) (omega arith) ∙ t.link (j + 1) (omega arith) ∙ sym (high t.places i v (j + 1) (omega arith))
+    | inr hi ↦ ap next' (high t.places i remove_within j hi) ∙ others (j + 1) (omega arith) (omega arith) (omega arith) ∙ t.link (j + 1) (omega arith) ∙ sym (high t.places i remove_within (j + 1) (omega arith))
   ]
 
-  inside_less : (j : ℕ) → j < len - 1 → mine' (get_or (remove t.places i) j 0)
+  pub inside_less : (j : ℕ) → j < len - 1 → mine' (get_or (remove t.places i) j 0)
   inside_less j lt = elim (cases_lt j i) [
-    | inl lo ↦ subst mine' (sym (low t.places i v j lo)) (kept _ (t.inside j (omega arith)) (other_place j (omega arith) (omega arith)))
-    | inr hi ↦ subst mine' (sym (high t.places i v j hi)) (kept _ (t.inside (j + 1) (omega arith)) (other_place (j + 1) (omega arith) (omega arith)))
+    | inl lo ↦ subst mine' (sym (low t.places i remove_within j lo)) (kept _ (t.inside j (omega arith)) (other_place j (omega arith) (omega arith)))
+    | inr hi ↦ subst mine' (sym (high t.places i remove_within j hi)) (kept _ (t.inside (j + 1) (omega arith)) (other_place (j + 1) (omega arith) (omega arith)))
   ]
 
-  distinct_less : (a b : ℕ) → a < len - 1 → b < len - 1 → get_or (remove t.places i) a 0 ≡ get_or (remove t.places i) b 0 → a ≡ b
+  pub distinct_less : (a b : ℕ) → a < len - 1 → b < len - 1 → get_or (remove t.places i) a 0 ≡ get_or (remove t.places i) b 0 → a ≡ b
   distinct_less a b la lb e =
-      grind (arith, low t.places i v a, high t.places i v a, low t.places i v b, high t.places i v b, t.distinct a b, t.distinct a (b + 1), t.distinct (a + 1) b, t.distinct (a + 1) (b + 1))
+      grind (arith, low t.places i remove_within a, high t.places i remove_within a, low t.places i remove_within b, high t.places i remove_within b, t.distinct a b, t.distinct a (b + 1), t.distinct (a + 1) b, t.distinct (a + 1) (b + 1))
 
   found_less : (r j : ℕ) → j < len → get_or t.places j 0 ≡ r → r ≢ p → (k : ℕ) × ((k < len - 1) × (get_or (remove t.places i) k 0 ≡ r))
   found_less r j lt e ne =
       let apart : j ≢ i = λ same. ne (sym e ∙ ap (λ k. get_or t.places k 0) same ∙ is) in
       elim (cases_lt j i) [
-        | inl lo ↦ (j, (omega arith, low t.places i v j lo ∙ e))
-        | inr hi ↦ (j - 1, (omega arith, high t.places i v (j - 1) (omega arith) ∙ (ap (λ k. get_or t.places k 0) (omega arith) ∙ e)))
+        | inl lo ↦ (j, (omega arith, low t.places i remove_within j lo ∙ e))
+        | inr hi ↦ (j - 1, (omega arith, high t.places i remove_within (j - 1) (omega arith) ∙ (ap (λ k. get_or t.places k 0) (omega arith) ∙ e)))
       ]
 
-  complete_less : (r : ℕ) → mine' r → (k : ℕ) × ((k < len - 1) × (get_or (remove t.places i) k 0 ≡ r))
+  pub complete_less : (r : ℕ) → mine' r → (k : ℕ) × ((k < len - 1) × (get_or (remove t.places i) k 0 ≡ r))
   complete_less r m = let old = only r m in let at = t.complete r old.0 in found_less r at.0 at.1.0 at.1.1 old.1
 
-  pub thread-remove : (first' : ℕ) → (i ≡ 0 → 1 < len → first' ≡ get_or t.places 1 0) → (0 < i → first' ≡ first) → Thread mine' next' first' (len - 1)
+  unfoldable pub thread-remove : (first' : ℕ) → (i ≡ 0 → 1 < len → first' ≡ get_or t.places 1 0) → (0 < i → first' ≡ first) → Thread mine' next' first' (len - 1)
   thread-remove first' new_first old_first = record {
     places = remove t.places i;
-    count = let n = length-remove t.places i v in omega (arith, n, t.count);
+    count = let n = length-remove t.places i remove_within in omega (arith, n, t.count);
     head = λ some. elim (cases_eq i 0) [
-      | inl e ↦ new_first e (omega arith) ∙ sym (high t.places i v 0 (omega arith))
-      | inr ne ↦ old_first (omega arith) ∙ t.head (omega arith) ∙ sym (low t.places i v 0 (omega arith))
+      | inl e ↦ new_first e (omega arith) ∙ sym (high t.places i remove_within 0 (omega arith))
+      | inr ne ↦ old_first (omega arith) ∙ t.head (omega arith) ∙ sym (low t.places i remove_within 0 (omega arith))
     ];
     link = link_less;
     inside = inside_less;

@@ -58,7 +58,7 @@ pub(crate) fn put<K: Ord + Copy>(
     ensures len { vec_len heads.new ≤ vec_len heads.old + 1 }
 {
     match at {
-        Ok(i) => set(heads, i, key, head),
+        Ok(i) => heads[i] = (key, head),
         Err(i) => {
             let _ = heads.insert(i, (key, head));
         }
