@@ -5,3 +5,7 @@ pub mod Rings
 pub mod Slots
 pub mod Sizes
 pub mod Placing
+pub mod Freeing
+pub mod Chains
+pub mod Growing
+pub mod Rewriting

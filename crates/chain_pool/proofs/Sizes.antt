@@ -1,5 +1,5 @@
 -- No list is longer than there are places, and a walk along a chain stays in it.
-use Rattle.std.proofs.Common.{◌≡◌, ℕ, suc, ◌<◌, ◌≤◌, ◌-◌, List, length, refl, sym, ◌∙◌, ap, subst, arith, IsSome, Option, Some, None}
+use Rattle.std.proofs.Common.{◌≡◌, ℕ, suc, ◌<◌, ◌≤◌, List, length, refl, sym, ◌∙◌, ap, subst, arith, IsSome, Option, Some, None}
 use Rattle.std.specs.Option.{option_map}
 use Rattle.teb_names.specs.declared.Cell.{Cell}
 use Rattle.teb_names.specs.declared.Txn.{Txn}
@@ -8,9 +8,9 @@ use Rattle.chain_pool.specs.declared.places.Place.{Place}
 use Rattle.chain_pool.specs.declared.places.Head.{Head}
 use Rattle.chain_pool.specs.Threads.{steps}
 use Rattle.chain_pool.specs.Places.{slot_at, next_at, previous_at, sibling_at, InChain, IsOwned, IsFree}
-use Rattle.chain_pool.specs.Linked.{Linked, nth_place}
+use Rattle.chain_pool.specs.Linked.{Linked}
 use Rattle.chain_pool.proofs.Threads.{len-le, len-lt}
-use Rattle.chain_pool.proofs.Rings.{steps-mine, steps-at}
+use Rattle.chain_pool.proofs.Rings.{steps-mine, mine_next, mine_previous}
 use Rattle.chain_pool.proofs.Slots.{free_chain, free_owned}
 
 -- a place that is in a chain holds a version
@@ -51,3 +51,16 @@ module _ (ps : List Place) (chain : Cell → Head) (own : Txn → Head) (unused 
   -- where one is not
   pub free_short : (x : Cell) (p : ℕ) → InChain ps x p → unused.len < length ps
   free_short x p m = len-lt (IsFree ps) (sibling_at ps) _ _ (length ps) S.frees (λ q f. f.within) p m.within (λ f. free_chain ps p x f m)
+
+  -- the first place of a writer's list, and its neighbours in its chain
+  pub owned_first : (t : Txn) → 0 < (own t).len → IsOwned ps t (own t).first
+  owned_first t some = subst (IsOwned ps t) (sym ((S.owners t).head some)) ((S.owners t).inside 0 some)
+
+  pub previous_within : (x : Cell) (p : ℕ) → InChain ps x p → previous_at ps p < length ps
+  previous_within x p m = let n = mine_previous _ _ _ _ _ (S.chains x) p m in n.within
+
+  pub next_within : (x : Cell) (p : ℕ) → InChain ps x p → next_at ps p < length ps
+  next_within x p m = let n = mine_next _ _ _ _ _ (S.chains x) p m in n.within
+
+  pub chain_some : (x : Cell) (p : ℕ) → InChain ps x p → 0 < (chain x).len
+  chain_some x p m = let at = (S.chains x).thread.complete p m in omega (arith, at.1.0)

@@ -1,5 +1,5 @@
 -- A slot that is written: what stays of the other places, and what a chain shows.
-use Rattle.std.proofs.Common.{true, false, ◌≡◌, ◌==◌, ℕ, zero, suc, ◌<◌, ◌≢◌, List, [], ◌∷◌, ◌++◌, length, get_or, take, drop, map, refl, sym, ◌∙◌, ap, arith, if◌then◌else◌, Option, Some, None, eq-eqb}
+use Rattle.std.proofs.Common.{true, false, ◌≡◌, ◌==◌, ℕ, zero, suc, ◌<◌, ◌≢◌, List, [], ◌∷◌, ◌++◌, length, get_or, take, drop, map, refl, sym, ◌∙◌, ap, arith, if◌then◌else◌, Option, Some, None, ℤ, unwrap_or, eq-eqb}
 use Rattle.std.specs.List.{insert, remove}
 use Rattle.std.specs.Option.{option_map}
 use Rattle.std.proofs.lemmas.Bool.Decides.{nat_tests}
@@ -45,6 +45,21 @@ module _ (ps : List Place) (p : ℕ) where
 
   pub free_owned : (t : Txn) → IsFree ps p → IsOwned ps t p → ⊥
   free_owned t f m = let e : None ≡ Some t = sym (ap (option_map (λ (v : Stored). v.writer)) f.free) ∙ m.is_mine in cc
+
+-- the writer that a chain shows is the one whose list has the place
+pub pair_owner : (ps : List Place) (t : Txn) (p : ℕ) → IsOwned ps t p → (pair_at ps p).0 ≡ t
+pair_owner ps t p m = from (slot_at ps p).version m.is_mine
+  where
+    from : (o : Option Stored) → option_map (λ v. v.writer) o ≡ Some t → (unwrap_or {T = Txn × Option ℤ} (option_map (λ v. (v.writer, v.value)) o) (record { 0 = 0 }, None)).0 ≡ t
+    from None e = let z : None ≡ Some t = e in cc
+    from (Some v) e = let z : Some v.writer ≡ Some t = e in cc
+
+pub owner_pair : (ps : List Place) (x : Cell) (t : Txn) (p : ℕ) → InChain ps x p → (pair_at ps p).0 ≡ t → IsOwned ps t p
+owner_pair ps x t p m is = record { within = m.within; is_mine = from (slot_at ps p).version m.is_mine is }
+  where
+    from : (o : Option Stored) → option_map (λ v. v.cell) o ≡ Some x → (unwrap_or {T = Txn × Option ℤ} (option_map (λ v. (v.writer, v.value)) o) (record { 0 = 0 }, None)).0 ≡ t → option_map (λ v. v.writer) o ≡ Some t
+    from None e is = let z : None ≡ Some x = e in cc
+    from (Some v) e is = ap Some is
 
 -- a ring with given places
 abbrev pub RingWith : (ℕ → Type 0) → (ℕ → ℕ) → (ℕ → ℕ) → Head → List ℕ → Type 0

@@ -28,6 +28,15 @@ pub(crate) fn find<K: Ord + Copy>(heads: &[(K, Head)], key: K) -> Found
     Found { at, head }
 }
 
+/// The head at a place.
+pub(crate) fn at<K: Ord + Copy>(heads: &[(K, Head)], i: usize) -> Head
+    requires rises { Rises K.cmp heads.now }
+    requires within { i < length heads.now }
+    ensures { (k : K) → IsAt K.cmp heads.now k i → result ≡ look K.cmp heads.now k empty }
+{
+    heads[i].1
+}
+
 /// Gives a key that is there another head.
 pub(crate) fn set<K: Ord + Copy>(heads: &mut [(K, Head)], i: usize, key: K, head: Head)
     requires rises { Rises K.cmp heads.old }

@@ -110,7 +110,7 @@ fn take_first(
     ensures others { (j : ℕ) (d : Txn × Head) → j ≢ w → slice_index_or writers.new j d ≡ slice_index_or writers.old j d }
     ensures kept { (x : Cell) → without t.0 (versions places.new (chain_head cells.new x)) ≡ without t.0 (versions places.old (chain_head cells.old x)) }
 {
-    let own = writers[w].1;
+    let own = heads::at(writers, w);
     let place = own.first;
     let taken = places[place];
     match taken.slot.version {
@@ -153,7 +153,7 @@ fn take_all(
     ensures taken { (x : Cell) → versions places.new (chain_head cells.new x) ≡ without t.0 (versions places.old (chain_head cells.old x)) }
 {
     let mut free = unused;
-    for _round in 0..writers[w].1.len {
+    for _round in 0..heads::at(writers, w).len {
         free = take_first(places, cells, writers, free, w, t);
     }
     free
