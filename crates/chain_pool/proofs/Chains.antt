@@ -60,7 +60,7 @@ module _ (ps : List Place) (chain : Cell → Head) (own : Txn → Head) (unused 
           let in_len : j < (chain x).len = omega (arith, versions_len x, lt) in
           let m = (S.chains x).thread.inside j in_len in
           let apart : (pair_at ps (get_or (S.chains x).thread.places j 0)).0.0 ≢ t.0 = λ e.
-            let at = (S.owners t).complete _ (owner_pair ps x t _ m (let made : ℕ → Txn = λ k. record { 0 = k } in ap made e)) in omega (arith, at.1.0, none) in
+          let at = (S.owners t).complete _ (owner_pair ps x t _ m (let made : ℕ → Txn = λ k. record { 0 = k } in ap made e)) in omega (arith, at.1.0, none) in
           ap (λ (v : Version). not (eqb v.0.0 t.0)) (versions_get x j (pair_at ps 0) in_len) ∙ ap not (ne_eqb _ _ apart)
 
   -- one that is none of the writers owns no place of the chain
@@ -69,7 +69,7 @@ module _ (ps : List Place) (chain : Cell → Head) (own : Txn → Head) (unused 
       let at = (S.chains x).thread.complete p m in
       let lt : at.0 < length (versions ps (chain x)) = omega (arith, versions_len x, at.1.0) in
       let is : (get_or (versions ps (chain x)) at.0 (pair_at ps 0)).0.0 ≡ t.0 =
-        ap (λ (v : Version). v.0.0) (versions_get x at.0 (pair_at ps 0) at.1.0) ∙ (ap (λ k. (pair_at ps k).0.0) at.1.1 ∙ ap (λ (u : Txn). u.0) (pair_owner ps t p o)) in
+      ap (λ (v : Version). v.0.0) (versions_get x at.0 (pair_at ps 0) at.1.0) ∙ (ap (λ k. (pair_at ps k).0.0) at.1.1 ∙ ap (λ (u : Txn). u.0) (pair_owner ps t p o)) in
       let there = is_writer-at (versions ps (chain x)) at.0 (pair_at ps 0) lt in
       let z : true ≡ false = sym there ∙ (ap (is_writer (versions ps (chain x))) is ∙ off) in
       cc
@@ -86,7 +86,7 @@ module _ (ps : List Place) (chain : Cell → Head) (own : Txn → Head) (unused 
       owned k lt e =
           let low : k < length (versions ps (chain x)) = omega (arith, versions_len x, lt) in
           let is : (pair_at ps (get_or (S.chains x).thread.places k 0)).0.0 ≡ t =
-            sym (writer_at _ k (pair_at ps 0) low ∙ ap (λ (v : Version). v.0.0) (versions_get x k (pair_at ps 0) lt)) ∙ eqb-true _ t e in
+          sym (writer_at _ k (pair_at ps 0) low ∙ ap (λ (v : Version). v.0.0) (versions_get x k (pair_at ps 0) lt)) ∙ eqb-true _ t e in
           owner_pair ps x (record { 0 = t }) _ ((S.chains x).thread.inside k lt) (let made : ℕ → Txn = λ k. record { 0 = k } in ap made is)
 
   pub find_last : (x : Cell) (t : ℕ) → unless_below 0 (last_place (λ w. eqb w t) (writers_of (versions ps (chain x)))) ≡ first_place (λ w. eqb w t) (writers_of (versions ps (chain x)))
@@ -95,20 +95,20 @@ module _ (ps : List Place) (chain : Cell → Head) (own : Txn → Head) (unused 
   -- where a writer's list has no version of the cell, the chain has none of the writer
   pub find_none : (x : Cell) (t : Txn) → ((n : ℕ) → n < (own t).len → cell_in (slot_at ps (steps (sibling_at ps) n (own t).first)) ≡ Some x → ⊥) → None ≡ first_place (λ w. eqb w t.0) (writers_of (versions ps (chain x)))
   find_none x t none = first_of_writer (versions ps (chain x)) t None (λ j d lt is.
-    let in_len : j < (chain x).len = omega (arith, versions_len x, lt) in
-    let m = (S.chains x).thread.inside j in_len in
-    let o = owner_pair ps x t _ m (ap (λ (v : Version). v.0) (sym (versions_get x j d in_len)) ∙ is) in
-    let at = (S.owners t).complete _ o in
-    none at.0 at.1.0 (ap (λ p. cell_in (slot_at ps p)) (thread-steps _ _ _ _ (S.owners t) at.0 at.1.0 ∙ at.1.1) ∙ m.is_mine))
+      let in_len : j < (chain x).len = omega (arith, versions_len x, lt) in
+      let m = (S.chains x).thread.inside j in_len in
+      let o = owner_pair ps x t _ m (ap (λ (v : Version). v.0) (sym (versions_get x j d in_len)) ∙ is) in
+      let at = (S.owners t).complete _ o in
+      none at.0 at.1.0 (ap (λ p. cell_in (slot_at ps p)) (thread-steps _ _ _ _ (S.owners t) at.0 at.1.0 ∙ at.1.1) ∙ m.is_mine))
 
   -- a search from the chain's end
   pub last_found : (x : Cell) (h : Head) → h ≡ chain x → (p : ℕ → Bool) (Answers : Txn → Bool → Type 0) → ((u : Txn) (b : Bool) → IsTrue (is_writer (versions ps (chain x)) u.0) → Answers u b → b ≡ p u.0)
       → (from : ℕ) (r : Option ℕ)
       → MatchOption r ((j : ℕ) → from ≤ j → j < h.len → Answers (pair_at ps (nth_place ps h j)).0 false)
-          (λ i. (from ≤ i) × (i < h.len) × Answers (pair_at ps (nth_place ps h i)).0 true × ((j : ℕ) → i < j → j < h.len → Answers (pair_at ps (nth_place ps h j)).0 false))
+      (λ i. (from ≤ i) × (i < h.len) × Answers (pair_at ps (nth_place ps h i)).0 true × ((j : ℕ) → i < j → j < h.len → Answers (pair_at ps (nth_place ps h j)).0 false))
       → r ≡ unless_below from (last_place p (writers_of (versions ps (chain x))))
   last_found x h is p Answers agrees from r found = last_where_is (versions ps (chain x)) p Answers agrees from r (places r (subst (λ (g : Head). MatchOption r ((j : ℕ) → from ≤ j → j < g.len → Answers (pair_at ps (nth_place ps g j)).0 false)
-          (λ i. (from ≤ i) × (i < g.len) × Answers (pair_at ps (nth_place ps g i)).0 true × ((j : ℕ) → i < j → j < g.len → Answers (pair_at ps (nth_place ps g j)).0 false))) is found))
+      (λ i. (from ≤ i) × (i < g.len) × Answers (pair_at ps (nth_place ps g i)).0 true × ((j : ℕ) → i < j → j < g.len → Answers (pair_at ps (nth_place ps g j)).0 false))) is found))
     where
       n : length (versions ps (chain x)) ≡ (chain x).len
       n = versions_len x
@@ -118,9 +118,9 @@ module _ (ps : List Place) (chain : Cell → Head) (own : Txn → Head) (unused 
 
       places : (r : Option ℕ)
           → MatchOption r ((j : ℕ) → from ≤ j → j < (chain x).len → Answers (pair_at ps (nth_place ps (chain x) j)).0 false)
-              (λ i. (from ≤ i) × (i < (chain x).len) × Answers (pair_at ps (nth_place ps (chain x) i)).0 true × ((j : ℕ) → i < j → j < (chain x).len → Answers (pair_at ps (nth_place ps (chain x) j)).0 false))
+          (λ i. (from ≤ i) × (i < (chain x).len) × Answers (pair_at ps (nth_place ps (chain x) i)).0 true × ((j : ℕ) → i < j → j < (chain x).len → Answers (pair_at ps (nth_place ps (chain x) j)).0 false))
           → MatchOption r ((j : ℕ) (d : Version) → from ≤ j → j < length (versions ps (chain x)) → Answers (get_or (versions ps (chain x)) j d).0 false)
-              (λ i. (from ≤ i) × (i < length (versions ps (chain x))) × ((d : Version) → Answers (get_or (versions ps (chain x)) i d).0 true) × ((j : ℕ) (d : Version) → i < j → j < length (versions ps (chain x)) → Answers (get_or (versions ps (chain x)) j d).0 false))
+          (λ i. (from ≤ i) × (i < length (versions ps (chain x))) × ((d : Version) → Answers (get_or (versions ps (chain x)) i d).0 true) × ((j : ℕ) (d : Version) → i < j → j < length (versions ps (chain x)) → Answers (get_or (versions ps (chain x)) j d).0 false))
       places None found = λ j d le lt. let low : j < (chain x).len = omega (arith, n, lt) in said false j d low (found j le low)
       places (Some i) found = (found.0, omega (arith, n, found.1), λ d. said true i d found.1 found.2, λ j d above lt. let low : j < (chain x).len = omega (arith, n, lt) in said false j d low (found.3 j above low))
 

@@ -195,11 +195,11 @@ module _ (ps ps' : List Place) (chain chain' : Cell → Head) (own own' : Txn �
             let new : versions ps' (without_place (chain cell) p b) ≡ map (pair_at ps') (remove L p_place.0) = ring-versions ps' cell (without_place (chain cell) p b) _ here_shorter in
             let count : length (remove L p_place.0) ≡ (chain cell).len - 1 = ap length (sym here_shorter.1) ∙ here_shorter.0.thread.count in
             let same : map (pair_at ps') (remove L p_place.0) ≡ map (pair_at ps) (remove L p_place.0) =
-              map-agree (pair_at ps') (pair_at ps) _ (λ j lt. same_pair _ (not_p cell _ (subst (λ l. InChain ps' cell (get_or l j 0)) here_shorter.1 (here_shorter.0.thread.inside j (omega (arith, count, lt)))))) in
+            map-agree (pair_at ps') (pair_at ps) _ (λ j lt. same_pair _ (not_p cell _ (subst (λ l. InChain ps' cell (get_or l j 0)) here_shorter.1 (here_shorter.0.thread.inside j (omega (arith, count, lt)))))) in
             let old : versions ps (chain cell) ≡ map (pair_at ps) L = ring-versions ps cell (chain cell) _ (S.chains cell, refl) in
             let at : get_or (map (pair_at ps) L) p_place.0 (pair_at ps 0) ≡ pair_at ps p = get_or-map (pair_at ps) L p_place.0 0 (pair_at ps 0) in_L ∙ ap (pair_at ps) p_place.1.1 in
             let gone : not (eqb (get_or (map (pair_at ps) L) p_place.0 (pair_at ps 0)).0.0 t.0) ≡ false =
-              ap (λ (v : Version). not (eqb v.0.0 t.0)) at ∙ ap not (eq-eqb _ _ (ap (λ (w : Txn). w.0) (pair_owner ps t p p_owned))) in
+            ap (λ (v : Version). not (eqb v.0.0 t.0)) at ∙ ap not (eq-eqb _ _ (ap (λ (w : Txn). w.0) (pair_owner ps t p p_owned))) in
             let n : length (map (pair_at ps) L) ≡ length L = length-map _ (pair_at ps) in
             ap (λ g. without t.0 (versions ps' g)) chain_here ∙ (ap (without t.0) (new ∙ (same ∙ map-remove (pair_at ps) L p_place.0))
             ∙ (filter-remove (λ v. not (eqb v.0.0 t.0)) (map (pair_at ps) L) p_place.0 (pair_at ps 0) (omega (arith, in_L, n)) gone ∙ ap (without t.0) (sym old)))

@@ -9,3 +9,5 @@ pub mod Freeing
 pub mod Chains
 pub mod Growing
 pub mod Rewriting
+pub mod Emptied
+pub mod Seen

@@ -137,7 +137,7 @@ module _ {K V : Type 0} (R : K → K → Ordering) (total : IsTotalOrder R) wher
     rises_changed v a b d lt within =
         let n : length (set es i (k, v)) ≡ length es = length-set es i (k, v) in
         let right : R (get_or es a d).0 (get_or (set es i (k, v)) b d).0 ≡ R (get_or es a d).0 (get_or es b d).0 =
-          total.antisymm _ _ ∙ (ap ordering_reverse (same_left v b d (get_or es a d).0) ∙ sym (total.antisymm _ _)) in
+        total.antisymm _ _ ∙ (ap ordering_reverse (same_left v b d (get_or es a d).0) ∙ sym (total.antisymm _ _)) in
         same_left v a d _ ∙ (right ∙ rises a b d lt (omega (arith, within, n)))
 
     pub at_changed : (v : V) → IsAt R (set es i (k, v)) k i
@@ -235,4 +235,17 @@ busy_removed {K} es was i within same others busy j d lt =
     elim (cases_lt j i) [
       | inl lo ↦ subst (λ n. 0 < n) (ap len (sym (get_or-remove_below es i d j lo within ∙ others j d (omega (arith, lo))))) (busy j d (omega (arith, lo, within, same)))
       | inr ge ↦ subst (λ n. 0 < n) (ap len (sym (get_or-remove_above es i d j ge within ∙ others (j + 1) d (omega (arith, ge))))) (busy (j + 1) d (omega (arith, lt, n, same)))
+    ]
+
+-- a key taken out is not found
+pub look_removed_same : {K : Type 0} (R : K → K → Ordering) (total : IsTotalOrder R) (es : List (K × Head)) (k : K) (i : ℕ) (d : Head) → Rises R es → IsAt R es k i → look R (remove es i) k d ≡ d
+look_removed_same {K} R total es k i d rises at = look_absent R total (remove es i) k d apart
+  where
+    apart : Apart R total (remove es i) k (length (remove es i))
+    apart j z lt = elim (cases_lt j i) [
+      | inl lo ↦ less_apart _ (ap (λ (x : K × Head). R x.0 k) (get_or-remove_below es i z j lo at.within) ∙ (sym (tied_right R total _ _ k (at.has_key z)) ∙ rises j i z lo at.within))
+      | inr ge ↦
+          let n = length-remove es i at.within in
+          let up : R k (get_or es (j + 1) z).0 ≡ Less = sym (total.congr _ k _ (at.has_key z)) ∙ rises i (j + 1) z (omega (arith, ge)) (omega (arith, lt, n)) in
+          greater_apart _ (ap (λ (x : K × Head). R x.0 k) (get_or-remove_above es i z j ge at.within) ∙ (total.antisymm _ k ∙ ap ordering_reverse up))
     ]

@@ -269,5 +269,5 @@ placing ps ps' chain chain' own own' unused S v i first two h g h_is g_is some w
     absent len next previous
     (subst (λ (z : Head). (r : ℕ) → slot_at ps' r ≡ (if r == unused.first then record { version = Some v; sibling = z.first } else slot_at ps r)) g_is slots)
     (subst (λ (z : Head). (y : Cell) → chain' y ≡ (if is_eq (cell_cmp v.cell y) then record { first = (if i == 0 then unused.first else z.first); len = z.len + 1 } else chain y)) h_is
-      (subst (λ (n : ℕ). (y : Cell) → chain' y ≡ (if is_eq (cell_cmp v.cell y) then record { first = n; len = h.len + 1 } else chain y)) first_is chains))
+    (subst (λ (n : ℕ). (y : Cell) → chain' y ≡ (if is_eq (cell_cmp v.cell y) then record { first = n; len = h.len + 1 } else chain y)) first_is chains))
     (subst (λ (z : Head). (u : Txn) → own' u ≡ (if is_eq (txn_cmp v.writer u) then record { first = unused.first; len = z.len + 1 } else own u)) g_is owners)

@@ -31,11 +31,11 @@ set_map f g (x ∷ L) (suc i) v lt here other =
     ap (λ (w : Version). w ∷ map g L) (other 0 (omega arith) (omega arith)) ∙ ap (λ l. f x ∷ l) (set_map f g L i v (omega (arith, lt)) here (λ j l ne. other (suc j) (omega (arith, l)) (omega (arith, ne))))
 
 -- what the value does not change
-same_cell_in : (o : Option Stored) (v : Option ℤ) → option_map (λ w. w.cell) (option_map (λ (w : Stored). record { cell = w.cell; writer = w.writer; value = v }) o) ≡ option_map (λ w. w.cell) o
+same_cell_in : (o : Option Stored) (v : Option ℤ) → option_map (λ (w : Stored). w.cell) (option_map (λ (w : Stored). record { cell = w.cell; writer = w.writer; value = v }) o) ≡ option_map (λ (w : Stored). w.cell) o
 same_cell_in None v = refl
 same_cell_in (Some w) v = refl
 
-same_writer_in : (o : Option Stored) (v : Option ℤ) → option_map (λ w. w.writer) (option_map (λ (w : Stored). record { cell = w.cell; writer = w.writer; value = v }) o) ≡ option_map (λ w. w.writer) o
+same_writer_in : (o : Option Stored) (v : Option ℤ) → option_map (λ (w : Stored). w.writer) (option_map (λ (w : Stored). record { cell = w.cell; writer = w.writer; value = v }) o) ≡ option_map (λ (w : Stored). w.writer) o
 same_writer_in None v = refl
 same_writer_in (Some w) v = refl
 
@@ -70,7 +70,7 @@ module _ (ps ps' : List Place) (chain : Cell → Head) (own : Txn → Head) (unu
   owned_from : (t : Txn) (p : ℕ) → IsOwned ps' t p → IsOwned ps t p
   owned_from t p m = record { within = omega (arith, m.within, len); is_mine = sym (writer_same p) ∙ m.is_mine }
 
-  none_none : (o : Option Stored) → option_map (λ w. w.cell) o ≡ None → o ≡ None
+  none_none : (o : Option Stored) → option_map (λ (w : Stored). w.cell) o ≡ None → o ≡ None
   none_none None e = refl
   none_none (Some w) e = let z : Some w.cell ≡ None = e in cc
 
@@ -110,9 +110,9 @@ module _ (ps ps' : List Place) (chain : Cell → Head) (own : Txn → Head) (unu
     q_mine : InChain ps cell q
     q_mine = subst (InChain ps cell) at_q ((S.chains cell).thread.inside i in_len)
 
-    new_pair : (o : Option Stored) → option_map (λ w. w.cell) o ≡ Some cell
-        → unwrap_or {T = Version} (option_map (λ w. (w.writer, w.value)) (option_map (λ (w : Stored). record { cell = w.cell; writer = w.writer; value = v }) o)) (record { 0 = 0 }, None)
-          ≡ ((unwrap_or {T = Version} (option_map (λ w. (w.writer, w.value)) o) (record { 0 = 0 }, None)).0, v)
+    new_pair : (o : Option Stored) → option_map (λ (w : Stored). w.cell) o ≡ Some cell
+        → unwrap_or {T = Version} (option_map (λ (w : Stored). (w.writer, w.value)) (option_map (λ (w : Stored). record { cell = w.cell; writer = w.writer; value = v }) o)) (record { 0 = 0 }, None)
+        ≡ ((unwrap_or {T = Version} (option_map (λ (w : Stored). (w.writer, w.value)) o) (record { 0 = 0 }, None)).0, v)
     new_pair None e = let z : None ≡ Some cell = e in cc
     new_pair (Some w) e = refl
 

@@ -9,7 +9,7 @@ use Rattle.chain_pool.specs.declared.places.Head.{Head}
 use Rattle.chain_pool.specs.Threads.{steps}
 use Rattle.chain_pool.specs.Places.{slot_at, next_at, previous_at, sibling_at, InChain, IsOwned, IsFree}
 use Rattle.chain_pool.specs.Linked.{Linked}
-use Rattle.chain_pool.proofs.Threads.{len-le, len-lt}
+use Rattle.chain_pool.proofs.Threads.{len-le, len-lt, thread-steps}
 use Rattle.chain_pool.proofs.Rings.{steps-mine, mine_next, mine_previous}
 use Rattle.chain_pool.proofs.Slots.{free_chain, free_owned}
 
@@ -64,3 +64,23 @@ module _ (ps : List Place) (chain : Cell → Head) (own : Txn → Head) (unused 
 
   pub chain_some : (x : Cell) (p : ℕ) → InChain ps x p → 0 < (chain x).len
   chain_some x p m = let at = (S.chains x).thread.complete p m in omega (arith, at.1.0)
+
+  -- the same of a chain whose places and head were read
+  module _ (qs : List Place) (same : qs ≡ ps) (x : Cell) (h : Head) (is : h ≡ chain x) where
+    pub read_within : (n : ℕ) → 0 < h.len → steps (previous_at qs) n h.first < length qs
+    read_within n some =
+        subst (λ (rs : List Place). steps (previous_at rs) n h.first < length rs) (sym same)
+        (subst (λ (g : Head). steps (previous_at ps) n g.first < length ps) (sym is) (walk_within x n (subst (λ (g : Head). 0 < g.len) is some)))
+
+    pub read_used : (n : ℕ) → 0 < h.len → IsSome (slot_at qs (steps (previous_at qs) n h.first)).version
+    read_used n some =
+        subst (λ (rs : List Place). IsSome (slot_at rs (steps (previous_at rs) n h.first)).version) (sym same)
+        (subst (λ (g : Head). IsSome (slot_at ps (steps (previous_at ps) n g.first)).version) (sym is) (walk_used x n (subst (λ (g : Head). 0 < g.len) is some)))
+
+  -- the places of a writer's list
+  pub owned_steps : (qs : List Place) → qs ≡ ps → (t : Txn) (h : Head) → h ≡ own t → (n : ℕ) → n < h.len → steps (sibling_at qs) n h.first < length qs
+  owned_steps qs same t h is n lt =
+      let low : n < (own t).len = subst (λ (g : Head). n < g.len) is lt in
+      let m = (S.owners t).inside n low in
+      let here : steps (sibling_at ps) n (own t).first < length ps = subst (λ p. p < length ps) (sym (thread-steps _ _ _ _ (S.owners t) n low)) m.within in
+      subst (λ (rs : List Place). steps (sibling_at rs) n h.first < length rs) (sym same) (subst (λ (g : Head). steps (sibling_at ps) n g.first < length ps) (sym is) here)

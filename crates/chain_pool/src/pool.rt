@@ -12,9 +12,8 @@ ghost use Rattle.chain_pool.specs.Heads.{Rises, IsAt, IsBusy, chain_head, writer
 ghost use Rattle.chain_pool.specs.Linked.{Sound, versions};
 ghost use Rattle.chain_pool.specs.Pools.{IsSound, chain_of, HasRoom};
 
-use crate::heads;
 use crate::places::{self, Head, Place, Slot, Version};
-use crate::walks;
+use crate::{heads, walks};
 use std::alloc::{AllocError, Global};
 use teb_names::{Cell, Txn};
 

@@ -1,10 +1,10 @@
 //! A few calls over two cells and three writers.
 
 use crate::PooledChains;
-use version_chain::Chains;
 use std::alloc::AllocError;
 use std::test::Fail;
 use teb_names::{Cell, Table, Txn};
+use version_chain::Chains;
 
 const X: Cell = Cell {
     table: Table(0),

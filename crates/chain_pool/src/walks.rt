@@ -82,7 +82,7 @@ pub(crate) fn last_accepted<F: Fn(Txn) -> bool>(
     ensures { MatchOption result
         ((j : ℕ) → from ≤ j → j < chain.len → F.post f.now (spec_pair_at places.now (nth_place places.now chain j)).0 false)
         (λ i. (from ≤ i) × (i < chain.len) × F.post f.now (spec_pair_at places.now (nth_place places.now chain i)).0 true
-            × ((j : ℕ) → i < j → j < chain.len → F.post f.now (spec_pair_at places.now (nth_place places.now chain j)).0 false)) }
+        × ((j : ℕ) → i < j → j < chain.len → F.post f.now (spec_pair_at places.now (nth_place places.now chain j)).0 false)) }
 {
     let mut place = chain.first;
     for above in 0..chain.len.saturating_sub(from) {

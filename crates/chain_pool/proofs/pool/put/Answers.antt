@@ -27,11 +27,11 @@ overflow_add-longer-2 c =
 pub returns : goal.returns
 returns c =
     let p = placing c.args.places.now c.link.new.places (chain_head c.args.cells.now.items) (chain_head c.put.new.heads.items) (writer_head c.args.writers.now.items) (writer_head c.put-2.new.heads.items) c.args.unused c.requires.sound.linked
-      c.args.version c.args.i c.chosen.result c.neighbours-before.result c.find-chain.result.head c.find-own.result.head
-      (c.find-chain.ensures.head ∙ ap (λ l. chain_head l c.args.version.cell) c.deref.ensures.value)
-      (c.find-own.ensures.head ∙ ap (λ l. writer_head l c.args.version.writer) c.deref-2.ensures.value)
-      c.requires.some c.requires.within c.requires.absent c.neighbours-before.ensures.alone c.neighbours-before.ensures.before c.neighbours-before.ensures.after c.chosen.ensures
-      c.link.auto.places c.link.ensures.next c.link.ensures.previous c.link.ensures.slot c.put.ensures.heads c.put-2.ensures.heads in
+    c.args.version c.args.i c.chosen.result c.neighbours-before.result c.find-chain.result.head c.find-own.result.head
+    (c.find-chain.ensures.head ∙ ap (λ l. chain_head l c.args.version.cell) c.deref.ensures.value)
+    (c.find-own.ensures.head ∙ ap (λ l. writer_head l c.args.version.writer) c.deref-2.ensures.value)
+    c.requires.some c.requires.within c.requires.absent c.neighbours-before.ensures.alone c.neighbours-before.ensures.before c.neighbours-before.ensures.after c.chosen.ensures
+    c.link.auto.places c.link.ensures.next c.link.ensures.previous c.link.ensures.slot c.put.ensures.heads c.put-2.ensures.heads in
     record {
       sound = record { linked = p.linked; cells_rise = c.put.ensures.rises; writers_rise = c.put-2.ensures.rises };
       busy = λ busy. c.put-2.ensures.busy busy (omega arith);

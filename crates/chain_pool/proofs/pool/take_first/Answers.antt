@@ -62,8 +62,8 @@ unreachable-requires c =
 pub returns : goal.returns
 returns c =
     let f = freeing c.args.places.now c.unlink.new.places (chain_head c.args.cells.now) (chain_head c.shorten.new.cells) (writer_head c.args.writers.now) (writer_head c.set.new.heads) c.args.unused c.requires.sound.linked
-      c.in-Some.version c.args.t c.at-own.result (c.at-own.ensures c.args.t c.requires.w_at) c.requires.some c.in-Some.is
-      c.unlink.auto.places c.unlink.ensures.next c.unlink.ensures.previous c.unlink.ensures.slot c.shorten.ensures.heads c.set.ensures.heads in
+    c.in-Some.version c.args.t c.at-own.result (c.at-own.ensures c.args.t c.requires.w_at) c.requires.some c.in-Some.is
+    c.unlink.auto.places c.unlink.ensures.next c.unlink.ensures.previous c.unlink.ensures.slot c.shorten.ensures.heads c.set.ensures.heads in
     record {
       sound = record { linked = f.linked; cells_rise = c.shorten.ensures.rises; writers_rise = c.set.ensures.rises };
       fewer = f.fewer;

@@ -32,8 +32,8 @@ returns-then-accepts g c =
       lt,
       subst (λ (u : Txn). g.F.Fn.post c.args.f.now (u, tt) true) (ap (λ v. v.0) same ∙ sym (ap (λ k. (pair_at ps (steps (previous_at ps) k c.args.chain.first)).0) n)) c.if-accepts.ensures,
       λ k above low.
-        let m : c.args.chain.len - 1 - k + 1 ≡ c.args.chain.len - k = omega (arith, low) in
-        subst (λ i. g.F.Fn.post c.args.f.now ((pair_at ps (steps (previous_at ps) i c.args.chain.first)).0, tt) false) m (c.loop-above.invariant.refused (c.args.chain.len - 1 - k) (omega (arith, above, low, c.loop-above-test.true))),
+          let m : c.args.chain.len - 1 - k + 1 ≡ c.args.chain.len - k = omega (arith, low) in
+          subst (λ i. g.F.Fn.post c.args.f.now ((pair_at ps (steps (previous_at ps) i c.args.chain.first)).0, tt) false) m (c.loop-above.invariant.refused (c.args.chain.len - 1 - k) (omega (arith, above, low, c.loop-above-test.true))),
     )
 
 pub returns : goal.returns
