@@ -1,11 +1,11 @@
 -- What the versions of a chain say of its places, and the other way round.
-use Rattle.std.proofs.Common.{true, false, Bool, eqb, not, ◌≡◌, ◌≢◌, ℕ, zero, suc, ◌+◌, ◌-◌, ◌<◌, ◌≤◌, List, [], ◌∷◌, length, get_or, map, filter, refl, sym, ◌∙◌, ap, subst, arith, Option, Some, None, MatchOption, eq-eqb, eqb-true, ne_eqb, slice_get, IsTrue}
+use Rattle.std.proofs.Common.{true, false, Bool, eqb, not, ◌≡◌, ◌≢◌, ℕ, zero, suc, ◌<◌, ◌≤◌, List, [], ◌∷◌, length, get_or, map, filter, refl, sym, ◌∙◌, ap, subst, arith, Option, Some, None, MatchOption, eqb-true, ne_eqb, slice_get, IsTrue}
 use Rattle.std.proofs.lemmas.Bool.{false_from_ne_true, le-leb}
 use Rattle.std.proofs.lemmas.List.{get_or-map, length-map}
 use Rattle.teb_names.specs.declared.Cell.{Cell}
 use Rattle.teb_names.specs.declared.Txn.{Txn}
 use Rattle.version_chain.specs.Lists.{Version, without, writers_of, is_writer, first_place, last_place, unless_below}
-use Rattle.version_chain.proofs.Places.{IsFirst, IsLast, first_place_is, last_place-found, writer_at, length-writers, is_writer-at, last_where_is, first_of_writer}
+use Rattle.version_chain.proofs.Places.{IsLast, first_place_is, last_place-found, writer_at, length-writers, is_writer-at, last_where_is, first_of_writer}
 use Rattle.chain_pool.specs.declared.places.Place.{Place}
 use Rattle.chain_pool.specs.declared.places.Head.{Head}
 use Rattle.chain_pool.specs.Threads.{steps}

@@ -15,7 +15,7 @@ use Rattle.chain_pool.specs.declared.places.Place.{Place}
 use Rattle.chain_pool.specs.declared.places.Slot.{Slot}
 use Rattle.chain_pool.specs.declared.places.Head.{Head}
 use Rattle.chain_pool.specs.Threads.{Thread, Ring}
-use Rattle.chain_pool.specs.Places.{slot_at, next_at, previous_at, sibling_at, cell_in, writer_in, pair_in, pair_at, InChain, IsOwned, IsFree}
+use Rattle.chain_pool.specs.Places.{slot_at, next_at, previous_at, sibling_at, cell_in, pair_at, InChain, IsOwned, IsFree}
 use Rattle.chain_pool.specs.Heads.{txn_cmp, without_place}
 use Rattle.chain_pool.specs.Linked.{Linked, versions}
 use Rattle.chain_pool.proofs.Keys.{txns_total, txns_exact, key_cases, key_itself, key_apart, key_other}

@@ -5,10 +5,7 @@ use Rattle.std.specs.declared.cmp.Ordering.TheVariants.{Less, Equal, Greater}
 use Rattle.std.specs.Ordering.{is_eq}
 use Rattle.std.specs.Cmp.{IsTotalOrder}
 use Rattle.std.proofs.lemmas.Cmp.{nat_cmp_total, on_total, ranked, tied_itself}
-use Rattle.teb_names.specs.declared.Cell.{Cell}
 use Rattle.teb_names.specs.declared.Txn.{Txn}
-use Rattle.version_chain.specs.CellOrder.{cell_cmp}
-use Rattle.version_chain.proofs.Cells.{cells_total, cells_exact}
 use Rattle.chain_pool.specs.Heads.{txn_cmp}
 
 pub txns_total : IsTotalOrder txn_cmp

@@ -1,5 +1,5 @@
 -- A version that is put into the first free place: the links are sound again, and its chain has it at its place.
-use Rattle.std.proofs.Common.{true, false, Bool, ◌≡◌, ◌==◌, ℕ, ◌+◌, ◌-◌, ◌<◌, ◌≤◌, ◌≢◌, ◌⊎◌, List, length, get_or, map, refl, sym, ◌∙◌, ap, subst, inl, inr, arith, if◌then◌else◌, Some}
+use Rattle.std.proofs.Common.{true, Bool, ◌≡◌, ◌==◌, ℕ, ◌+◌, ◌-◌, ◌<◌, ◌≤◌, ◌≢◌, ◌⊎◌, List, length, get_or, map, refl, sym, ◌∙◌, ap, subst, inl, inr, arith, if◌then◌else◌, Some}
 use Rattle.std.specs.Ordering.{is_eq}
 use Rattle.std.specs.List.{insert}
 use Rattle.std.proofs.lemmas.Bool.{cases_eq, cases_lt}

@@ -1,5 +1,5 @@
 -- A slot that is written: what stays of the other places, and what a chain shows.
-use Rattle.std.proofs.Common.{true, false, ◌≡◌, ◌==◌, ℕ, zero, suc, ◌<◌, ◌≢◌, List, [], ◌∷◌, ◌++◌, length, get_or, take, drop, map, refl, sym, ◌∙◌, ap, arith, if◌then◌else◌, Option, Some, None, ℤ, unwrap_or, eq-eqb}
+use Rattle.std.proofs.Common.{true, false, ◌≡◌, ◌==◌, ℕ, suc, ◌<◌, ◌≢◌, List, [], ◌∷◌, ◌++◌, length, get_or, take, drop, map, refl, sym, ◌∙◌, ap, arith, if◌then◌else◌, Option, Some, None, ℤ, unwrap_or, eq-eqb}
 use Rattle.std.specs.List.{insert, remove}
 use Rattle.std.specs.Option.{option_map}
 use Rattle.std.proofs.lemmas.Bool.Decides.{nat_tests}
@@ -10,7 +10,7 @@ use Rattle.chain_pool.specs.declared.places.Version.{Version as Stored}
 use Rattle.chain_pool.specs.declared.places.Place.{Place}
 use Rattle.chain_pool.specs.declared.places.Slot.{Slot}
 use Rattle.chain_pool.specs.declared.places.Head.{Head}
-use Rattle.chain_pool.specs.Threads.{Thread, Ring}
+use Rattle.chain_pool.specs.Threads.{Ring}
 use Rattle.chain_pool.specs.Places.{slot_at, next_at, previous_at, cell_in, writer_in, pair_in, pair_at, InChain, IsOwned, IsFree}
 use Rattle.chain_pool.specs.Linked.{versions}
 use Rattle.chain_pool.proofs.Threads.{thread-walk}

@@ -1,6 +1,5 @@
-use Rattle.std.proofs.Common.{◌≡◌, sym, ap, subst, ◌∙◌, arith, List, is_ok, true}
-use Rattle.chain_pool.specs.declared.places.Head.{Head}
-use Rattle.chain_pool.specs.Heads.{empty, look, Rises, IsAt, IsGap, IsFound, IsBusy}
+use Rattle.std.proofs.Common.{◌≡◌, sym, ap, subst, ◌∙◌, is_ok, true}
+use Rattle.chain_pool.specs.Heads.{empty, look, Rises, IsBusy}
 use Rattle.chain_pool.proofs.Lookups.{look_changed, rises_changed, busy_changed, look_made, rises_made, busy_made}
 use Rattle.chain_pool.proofs.heads.put.Goals as goal
 

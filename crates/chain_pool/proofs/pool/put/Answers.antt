@@ -1,4 +1,4 @@
-use Rattle.std.proofs.Common.{◌∙◌, ap, subst, sym, arith, ◌<◌, ◌-◌, length, ◌+◌, ℕ}
+use Rattle.std.proofs.Common.{◌∙◌, ap, subst, sym, arith, ◌<◌, length, ℕ}
 use Rattle.chain_pool.specs.declared.places.Head.{Head}
 use Rattle.chain_pool.specs.Heads.{chain_head, writer_head}
 use Rattle.chain_pool.specs.Places.{previous_at}

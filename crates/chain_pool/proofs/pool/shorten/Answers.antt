@@ -1,4 +1,4 @@
-use Rattle.std.proofs.Common.{◌≡◌, ◌∙◌, ap, sym, arith}
+use Rattle.std.proofs.Common.{ap, arith}
 use Rattle.version_chain.specs.CellOrder.{cell_cmp}
 use Rattle.version_chain.proofs.Cells.{cells_total}
 use Rattle.chain_pool.specs.declared.places.Head.{Head}

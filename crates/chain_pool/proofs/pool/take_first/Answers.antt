@@ -1,9 +1,9 @@
-use Rattle.std.proofs.Common.{◌≡◌, ◌<◌, ◌∙◌, ap, subst, sym, refl, arith, length}
+use Rattle.std.proofs.Common.{ap, subst, sym, arith}
 use Rattle.std.specs.Option.{option_map}
 use Rattle.chain_pool.specs.declared.places.Version.{Version}
 use Rattle.chain_pool.specs.declared.places.Head.{Head}
 use Rattle.chain_pool.specs.Heads.{chain_head, writer_head}
-use Rattle.chain_pool.specs.Places.{IsOwned, InChain, slot_at, cell_in}
+use Rattle.chain_pool.specs.Places.{IsOwned, InChain}
 use Rattle.chain_pool.proofs.Freeing.{freeing}
 use Rattle.chain_pool.proofs.Slots.{free_owned}
 use Rattle.chain_pool.proofs.Sizes.{owned_first, previous_within, next_within, chain_some, free_short}

@@ -1,4 +1,4 @@
-use Rattle.std.proofs.Common.{◌≡◌, ◌+◌, ap, refl, subst, arith, ℕ}
+use Rattle.std.proofs.Common.{◌≡◌, ◌+◌, refl, subst, arith, ℕ}
 use Rattle.chain_pool.specs.Heads.{chain_head, writer_head}
 use Rattle.chain_pool.specs.Linked.{Linked}
 use Rattle.chain_pool.proofs.Growing.{grown, grown_versions}

@@ -1,5 +1,4 @@
-use Rattle.std.proofs.Common.{◌∙◌, ap, eqb, rules, Some, List, ℕ, ◌<◌, ◌≡◌, subst, sym}
-use Rattle.chain_pool.specs.declared.places.Place.{Place}
+use Rattle.std.proofs.Common.{◌∙◌, ap, eqb, rules, Some, ℕ, ◌<◌, ◌≡◌, subst}
 use Rattle.chain_pool.specs.declared.places.Head.{Head}
 use Rattle.chain_pool.specs.Heads.{writer_head}
 use Rattle.chain_pool.specs.Threads.{steps}

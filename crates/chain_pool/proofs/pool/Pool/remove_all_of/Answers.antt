@@ -1,4 +1,4 @@
-use Rattle.std.proofs.Common.{◌≡◌, ◌∙◌, ap, sym, subst, arith, length, List, ◌++◌, take, drop, remove}
+use Rattle.std.proofs.Common.{◌∙◌, ap, sym, subst, length, List, ◌++◌, take, drop, remove}
 use Rattle.teb_names.specs.declared.Cell.{Cell}
 use Rattle.teb_names.specs.declared.Txn.{Txn}
 use Rattle.chain_pool.specs.declared.places.Place.{Place}
