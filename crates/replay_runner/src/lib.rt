@@ -6,3 +6,6 @@ mod lines;
 mod run;
 
 pub use run::replay;
+
+#[cfg(test)]
+mod tests;

@@ -7,3 +7,6 @@ mod puts;
 
 pub use commits::order;
 pub use final_tables::tables;
+
+#[cfg(test)]
+mod tests;

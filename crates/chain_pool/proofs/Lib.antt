@@ -1,0 +1,13 @@
+pub mod Keys
+pub mod Lookups
+pub mod Threads
+pub mod Rings
+pub mod Slots
+pub mod Sizes
+pub mod Placing
+pub mod Freeing
+pub mod Chains
+pub mod Growing
+pub mod Rewriting
+pub mod Emptied
+pub mod Seen

@@ -1,0 +1,27 @@
+-- A pool as contracts see it.
+use Rattle.std.proofs.Common.{true, false, ◌≡◌, ◌≢◌, ℕ, ◌≤◌, sym, ◌∙◌, ap, arith, IsFalse, max}
+use Rattle.teb_names.specs.declared.Cell.{Cell}
+use Rattle.teb_names.specs.Cells.{same_cell}
+use Rattle.version_chain.specs.CellOrder.{cell_cmp}
+use Rattle.version_chain.proofs.Cells.{cells_total, same_cell-itself}
+use Rattle.chain_pool.specs.declared.pool.Pool.{Pool}
+use Rattle.chain_pool.specs.Heads.{empty}
+use Rattle.chain_pool.specs.Linked.{versions}
+use Rattle.chain_pool.specs.Pools.{chain_of, HasRoom}
+use Rattle.chain_pool.specs.View.{View, list_in, view_of}
+use Rattle.chain_pool.proofs.Lookups.{look_map}
+
+pub view_list : (p : Pool) (n : ℕ) (x : Cell) → list_in (view_of p n) x ≡ chain_of p x
+view_list p n x = look_map cell_cmp cells_total (versions p.places.items) p.cells.items x empty
+
+pub seen : (v : View) (p : Pool) (n : ℕ) → view_of p n ≡ v → (x : Cell) → chain_of p x ≡ list_in v x
+seen v p n is x = sym (view_list p n x) ∙ ap (λ w. list_in w x) is
+
+pub apart_from : (x cell : Cell) → IsFalse (same_cell x cell) → cell ≢ x
+apart_from x cell differs e = let z : true ≡ false = sym (same_cell-itself x) ∙ (ap (same_cell x) (sym e) ∙ differs) in cc
+
+pub less_room : (p : Pool) (m n : ℕ) → n ≤ m → HasRoom p m → HasRoom p n
+less_room p m n le r = record { places = omega (arith, le, r.places); cells = omega (arith, le, r.cells); writers = omega (arith, le, r.writers) }
+
+pub max_room : (p : Pool) (a m : ℕ) → m ≡ max a 1 → HasRoom p a → HasRoom p 1 → HasRoom p m
+max_room p a m is r one = record { places = omega (arith, is, r.places, one.places); cells = omega (arith, is, r.cells, one.cells); writers = omega (arith, is, r.writers, one.writers) }

@@ -1,0 +1,12 @@
+use Rattle.chain_pool.proofs.Seen.{seen}
+use Rattle.chain_pool.proofs.pooled.PooledChainsChains.last_where_from.Goals as goal
+
+pub last_where_from-requires-clause-callable : goal.last_where_from-requires-clause-callable
+last_where_from-requires-clause-callable g c =
+    let was = seen c.args.self.now c.self.inside.pool c.self.inside.spare c.self.view_is in
+    rw (was c.args.cell) c.requires
+
+pub returns : goal.returns
+returns g c =
+    let was = seen c.args.self.now c.self.inside.pool c.self.inside.spare c.self.view_is in
+    rw (was c.args.cell) at c.last_where_from.ensures

@@ -1,0 +1,30 @@
+use Rattle.std.proofs.Common.{◌∙◌, ap, arith, length, List, insert}
+use Rattle.chain_pool.specs.View.{View}
+use Rattle.version_chain.specs.Lists.{Version, is_writer}
+use Rattle.chain_pool.proofs.Seen.{seen, view_list, apart_from, less_room}
+use Rattle.chain_pool.proofs.Chains.{absent_from, versions_len}
+use Rattle.chain_pool.proofs.pooled.PooledChainsChains.place.Goals as goal
+
+pub place-requires-clause-within : goal.place-requires-clause-within
+place-requires-clause-within c =
+    let was = seen c.args.self.now c.self.inside.pool c.self.inside.spare c.self.view_is in
+    let n = versions_len _ _ _ _ c.self.invariant.sound.sound.linked c.args.cell in
+    omega (arith, n, ap length (was c.args.cell), c.requires.within)
+
+pub place-requires-clause-absent : goal.place-requires-clause-absent
+place-requires-clause-absent c =
+    let was = seen c.args.self.now c.self.inside.pool c.self.inside.spare c.self.view_is in
+    absent_from _ _ _ _ c.self.invariant.sound.sound.linked c.args.cell c.args.t (ap (λ (l : List Version). is_writer l c.args.t.0) (was c.args.cell) ∙ c.requires.absent)
+
+pub invariant_of-self : goal.invariant_of-self
+invariant_of-self c = record { sound = c.place.ensures.sound; room = c.place.ensures.room _ (less_room _ c.self.inside.spare _ (omega (arith, ap (λ (v : View). v.spare) c.self.view_is, c.requires.room)) c.self.invariant.room) }
+
+pub returns-clause-here : goal.returns-clause-here
+returns-clause-here c =
+    let was = seen c.args.self.now c.self.inside.pool c.self.inside.spare c.self.view_is in
+    view_list c.place.new.self 0 c.args.cell ∙ (c.place.ensures.here ∙ ap (λ (l : List Version). insert l c.args.i (c.args.t, c.args.value)) (was c.args.cell))
+
+pub returns-clause-elsewhere : goal.returns-clause-elsewhere
+returns-clause-elsewhere c x differs =
+    let was = seen c.args.self.now c.self.inside.pool c.self.inside.spare c.self.view_is in
+    view_list c.place.new.self 0 x ∙ (c.place.ensures.elsewhere x (apart_from x c.args.cell differs) ∙ was x)

@@ -1,0 +1,43 @@
+use Rattle.std.proofs.Common.{◌≡◌, ◌<◌, ◌-◌, ◌+◌, suc, ap, sym, subst, ◌∙◌, arith, length, true, false, IsSome}
+use Rattle.teb_names.specs.declared.Txn.{Txn}
+use Rattle.chain_pool.specs.Threads.{steps}
+use Rattle.chain_pool.specs.Places.{previous_at, slot_at, pair_at}
+use Rattle.chain_pool.proofs.walks.last_accepted.Goals as goal
+
+pub pair_at-requires-clause-within : goal.pair_at-requires-clause-within
+pair_at-requires-clause-within g c =
+    subst (λ p. previous_at c.args.places.now p < length c.args.places.now) (sym c.loop-above.invariant.place) (c.requires.safe (suc c.loop-above.above) (omega (arith, c.loop-above-test.true, c.saturating_sub-above-end.ensures)))
+
+pub pair_at-requires-clause-used : goal.pair_at-requires-clause-used
+pair_at-requires-clause-used g c =
+    subst (λ p. IsSome (slot_at c.args.places.now (previous_at c.args.places.now p)).version) (sym c.loop-above.invariant.place) (c.requires.used (suc c.loop-above.above) (omega (arith, c.loop-above-test.true, c.saturating_sub-above-end.ensures)))
+
+pub accepts-requires : goal.accepts-requires
+accepts-requires g c =
+    let ps = c.args.places.now in
+    let j = c.args.chain.len - 1 - c.loop-above.above in
+    let lt : j < c.args.chain.len = omega (arith, c.loop-above-test.true, c.saturating_sub-above-end.ensures) in
+    let n : c.args.chain.len - j ≡ suc c.loop-above.above = omega (arith, c.loop-above-test.true, c.saturating_sub-above-end.ensures) in
+    let same = c.pair_at.ensures ∙ ap (λ p. pair_at ps (previous_at ps p)) c.loop-above.invariant.place in
+    subst (λ (u : Txn). g.F.Fn.pre c.args.f.now (u, tt)) (ap (λ k. (pair_at ps (steps (previous_at ps) k c.args.chain.first)).0) n ∙ sym (ap (λ v. v.0) same)) (c.requires.callable j lt)
+
+pub returns-then-accepts : goal.returns-then-accepts
+returns-then-accepts g c =
+    let ps = c.args.places.now in
+    let j = c.args.chain.len - 1 - c.loop-above.above in
+    let lt : j < c.args.chain.len = omega (arith, c.loop-above-test.true, c.saturating_sub-above-end.ensures) in
+    let n : c.args.chain.len - j ≡ suc c.loop-above.above = omega (arith, c.loop-above-test.true, c.saturating_sub-above-end.ensures) in
+    let same = c.pair_at.ensures ∙ ap (λ p. pair_at ps (previous_at ps p)) c.loop-above.invariant.place in (
+      omega (arith, c.loop-above-test.true, c.saturating_sub-above-end.ensures),
+      lt,
+      subst (λ (u : Txn). g.F.Fn.post c.args.f.now (u, tt) true) (ap (λ v. v.0) same ∙ sym (ap (λ k. (pair_at ps (steps (previous_at ps) k c.args.chain.first)).0) n)) c.if-accepts.ensures,
+      λ k above low.
+          let m : c.args.chain.len - 1 - k + 1 ≡ c.args.chain.len - k = omega (arith, low) in
+          subst (λ i. g.F.Fn.post c.args.f.now ((pair_at ps (steps (previous_at ps) i c.args.chain.first)).0, tt) false) m (c.loop-above.invariant.refused (c.args.chain.len - 1 - k) (omega (arith, above, low, c.loop-above-test.true))),
+    )
+
+pub returns : goal.returns
+returns g c k above low =
+    let ps = c.args.places.now in
+    let m : c.args.chain.len - 1 - k + 1 ≡ c.args.chain.len - k = omega (arith, low) in
+    subst (λ i. g.F.Fn.post c.args.f.now ((pair_at ps (steps (previous_at ps) i c.args.chain.first)).0, tt) false) m (c.loop-above.invariant.refused (c.args.chain.len - 1 - k) (omega (arith, above, low, c.loop-above-test.false, c.saturating_sub-above-end.ensures)))

@@ -1,0 +1,6 @@
+pub mod Threads
+pub mod Places
+pub mod Heads
+pub mod Linked
+pub mod Pools
+pub mod View

@@ -1,0 +1,54 @@
+-- What stands at a place, and whose it is.
+use Rattle.std.specs.Prelude.{◌≡◌, ℕ, ◌<◌, List, length, slice_index_or, Option, Some, None, ℤ, unwrap_or, option_map}
+use Rattle.teb_names.specs.declared.Cell.{Cell}
+use Rattle.teb_names.specs.declared.Txn.{Txn}
+use Rattle.chain_pool.specs.declared.places.Version.{Version}
+use Rattle.chain_pool.specs.declared.places.Slot.{Slot}
+use Rattle.chain_pool.specs.declared.places.Place.{Place}
+
+-- what is read where there is no place
+abbrev pub blank : Place
+blank = record { previous = 0; next = 0; slot = record { version = None; sibling = 0 } }
+
+abbrev pub slot_at : List Place → ℕ → Slot
+slot_at ps p = (slice_index_or ps p blank).slot
+
+abbrev pub next_at : List Place → ℕ → ℕ
+next_at ps p = (slice_index_or ps p blank).next
+
+abbrev pub previous_at : List Place → ℕ → ℕ
+previous_at ps p = (slice_index_or ps p blank).previous
+
+abbrev pub sibling_at : List Place → ℕ → ℕ
+sibling_at ps p = (slot_at ps p).sibling
+
+-- the cell and the writer of what a slot holds
+abbrev pub cell_in : Slot → Option Cell
+cell_in s = option_map (λ v. v.cell) s.version
+
+abbrev pub writer_in : Slot → Option Txn
+writer_in s = option_map (λ v. v.writer) s.version
+
+-- the writer and the value, as a chain shows them
+abbrev pub pair_in : Slot → Txn × Option ℤ
+pair_in s = unwrap_or (option_map (λ v. (v.writer, v.value)) s.version) (record { 0 = 0 }, None)
+
+abbrev pub pair_at : List Place → ℕ → Txn × Option ℤ
+pair_at ps p = pair_in (slot_at ps p)
+
+-- the slot, its version with another value
+abbrev pub with_value : Slot → Option ℤ → Slot
+with_value s value = record { version = option_map (λ (v : Version). record { cell = v.cell; writer = v.writer; value = value }) s.version; sibling = s.sibling }
+
+-- a place of a cell's chain, of a writer's list, and of the list of free places
+pub record InChain (ps : List Place) (x : Cell) (p : ℕ) : Type 0 where
+  pub within : p < length ps
+  pub is_mine : cell_in (slot_at ps p) ≡ Some x
+
+pub record IsOwned (ps : List Place) (t : Txn) (p : ℕ) : Type 0 where
+  pub within : p < length ps
+  pub is_mine : writer_in (slot_at ps p) ≡ Some t
+
+pub record IsFree (ps : List Place) (p : ℕ) : Type 0 where
+  pub within : p < length ps
+  pub free : (slot_at ps p).version ≡ None

@@ -1,0 +1,88 @@
+//! Chains in a pool of places.
+
+ghost use Rattle.std.specs.Prelude.{◌≡◌, []};
+ghost use Rattle.teb_names.specs.declared.Cell.{Cell};
+ghost use Rattle.chain_pool.specs.View.{list_in};
+
+use crate::places::Version;
+use crate::pool::Pool;
+use std::alloc::{AllocError, Global};
+use std::marker::Model;
+use teb_names::{Cell, Txn};
+use version_chain::Chains;
+
+/// Versions by cell, each linked by index into its cell's chain and its writer's list. A cell and a writer are found by binary
+/// search; a place of a chain costs its way from the chain's end, and an abort its own versions.
+#[derive(Drop)]
+pub struct PooledChains {
+    pool: Pool,
+    spare: usize,
+}
+
+impl Model for PooledChains {
+    ghost use Rattle.chain_pool.specs.View.{View, view_of, Holds};
+
+    ghost Value = { View };
+
+    ghost view = { λ c. view_of c.pool c.spare };
+
+    ghost invariant = { λ c. Holds c.pool c.spare };
+}
+
+impl PooledChains {
+    /// No versions, and no room.
+    pub fn new(alloc: Global) -> Self
+        ensures { (x : Cell) → list_in result x ≡ [] }
+    {
+        PooledChains {
+            pool: Pool::new(alloc),
+            spare: 0,
+        }
+    }
+}
+
+impl Chains for PooledChains {
+    ghost lists = { λ c x. list_in c x };
+
+    ghost spare = { λ c. c.spare };
+
+    fn reserve(&mut self) -> Result<(), AllocError> {
+        self.pool.reserve()?;
+        self.spare = self.spare.max(1);
+        Ok(())
+    }
+
+    fn len_of(&self, cell: Cell) -> usize {
+        self.pool.len_of(cell)
+    }
+
+    fn at(&self, cell: Cell, i: usize) -> (Txn, Option<i64>) {
+        self.pool.at(cell, i)
+    }
+
+    fn find(&self, cell: Cell, t: Txn) -> Option<usize> {
+        self.pool.find(cell, t)
+    }
+
+    fn place(&mut self, cell: Cell, i: usize, t: Txn, value: Option<i64>) {
+        let version = Version {
+            cell,
+            writer: t,
+            value,
+        };
+        self.pool.place(i, version);
+        self.spare -= 1;
+    }
+
+    fn overwrite(&mut self, cell: Cell, i: usize, value: Option<i64>) {
+        self.pool.overwrite(cell, i, value);
+    }
+
+    fn remove_all_of(&mut self, t: Txn) {
+        self.pool.remove_all_of(t);
+    }
+
+    fn last_where_from<F: Fn(Txn) -> bool>(&self, cell: Cell, from: usize, f: &F) -> Option<usize> {
+        self.pool.last_where_from(cell, from, f)
+    }
+}

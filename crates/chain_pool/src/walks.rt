@@ -1,0 +1,121 @@
+//! Walks along the links.
+
+ghost use Rattle.std.specs.Prelude.{◌≡◌, ◌<◌, ◌≤◌, ◌+◌, ◌-◌, ℕ, length, MatchOption, IsSome, Some, true, false};
+ghost use Rattle.std.specs.Bool.{OnFalse};
+ghost use Rattle.chain_pool.specs.Threads.{steps};
+ghost use Rattle.chain_pool.specs.Places.{slot_at, previous_at, sibling_at, cell_in, pair_at as spec_pair_at};
+ghost use Rattle.chain_pool.specs.Linked.{nth_place};
+
+use crate::places::{Head, Place, Slot};
+use teb_names::{Cell, Txn};
+
+/// The place that many steps back.
+fn step_back(places: &[Place], first: usize, count: usize) -> usize
+    requires { (n : ℕ) → n < count → steps (previous_at places.now) n first < length places.now }
+    ensures { result ≡ steps (previous_at places.now) count first }
+{
+    let mut place = first;
+    for _step in 0..count {
+        place = places[place].previous;
+    }
+    place
+}
+
+/// The place of the i-th version of a chain. The walk starts at the chain's end.
+pub(crate) fn place_of(places: &[Place], chain: Head, i: usize) -> usize
+    requires safe { (n : ℕ) → 0 < chain.len → steps (previous_at places.now) n chain.first < length places.now }
+    requires within { i < chain.len }
+    ensures place { result ≡ nth_place places.now chain i }
+    ensures within { result < length places.now }
+{
+    step_back(places, chain.first, chain.len - i)
+}
+
+/// The places between which one goes that is to be the i-th of a chain; alone it stands beside itself.
+pub(crate) fn neighbours(places: &[Place], chain: Head, i: usize, place: usize) -> (usize, usize)
+    requires safe { (n : ℕ) → 0 < chain.len → steps (previous_at places.now) n chain.first < length places.now }
+    requires within { i ≤ chain.len }
+    requires place { place < length places.now }
+    ensures alone { chain.len ≡ 0 → (result.0 ≡ place) × (result.1 ≡ place) }
+    ensures before { 0 < chain.len → result.0 ≡ previous_at places.now result.1 }
+    ensures after { 0 < chain.len → result.1 ≡ nth_place places.now chain i }
+    ensures before_within { result.0 < length places.now }
+    ensures after_within { result.1 < length places.now }
+{
+    if chain.len == 0 {
+        (place, place)
+    } else {
+        let after = step_back(places, chain.first, chain.len - i);
+        (places[after].previous, after)
+    }
+}
+
+/// The writer and the value at a place that is not free.
+pub(crate) fn pair_at(places: &[Place], place: usize) -> (Txn, Option<i64>)
+    requires within { place < length places.now }
+    requires used { IsSome (slot_at places.now place).version }
+    ensures { result ≡ spec_pair_at places.now place }
+{
+    match places[place].slot.version {
+        Some(version) => (version.writer, version.value),
+        None => unreachable!(),
+    }
+}
+
+fn accepts<F: Fn(Txn) -> bool>(f: &F, t: Txn) -> bool
+    requires { F.pre f.now t }
+    ensures { F.post f.now t result }
+{
+    f(t)
+}
+
+/// The last version of a chain whose writer f accepts, where it is `from` or above.
+pub(crate) fn last_accepted<F: Fn(Txn) -> bool>(
+    places: &[Place],
+    chain: Head,
+    from: usize,
+    f: &F,
+) -> Option<usize>
+    requires safe { (n : ℕ) → 0 < chain.len → steps (previous_at places.now) n chain.first < length places.now }
+    requires used { (n : ℕ) → 0 < chain.len → IsSome (slot_at places.now (steps (previous_at places.now) n chain.first)).version }
+    requires callable { (j : ℕ) → j < chain.len → F.pre f.now (spec_pair_at places.now (nth_place places.now chain j)).0 }
+    ensures { MatchOption result
+        ((j : ℕ) → from ≤ j → j < chain.len → F.post f.now (spec_pair_at places.now (nth_place places.now chain j)).0 false)
+        (λ i. (from ≤ i) × (i < chain.len) × F.post f.now (spec_pair_at places.now (nth_place places.now chain i)).0 true
+        × ((j : ℕ) → i < j → j < chain.len → F.post f.now (spec_pair_at places.now (nth_place places.now chain j)).0 false)) }
+{
+    let mut place = chain.first;
+    for above in 0..chain.len.saturating_sub(from) {
+        place = places[place].previous;
+        let (writer, _) = pair_at(places, place);
+        if accepts(f, writer) {
+            return Some(chain.len - 1 - above);
+        }
+    }
+    None
+}
+
+fn is_of(slot: Slot, cell: Cell) -> bool
+    ensures { OnFalse result (cell_in slot ≡ Some cell → ⊥) }
+{
+    match slot.version {
+        Some(version) => version.cell == cell,
+        None => false,
+    }
+}
+
+/// Whether a writer's list has a version of the cell.
+pub(crate) fn has_cell(places: &[Place], own: Head, cell: Cell) -> bool
+    requires { (n : ℕ) → n < own.len → steps (sibling_at places.now) n own.first < length places.now }
+    ensures { OnFalse result ((n : ℕ) → n < own.len → cell_in (slot_at places.now (steps (sibling_at places.now) n own.first)) ≡ Some cell → ⊥) }
+{
+    let mut place = own.first;
+    for _step in 0..own.len {
+        let slot = places[place].slot;
+        if is_of(slot, cell) {
+            return true;
+        }
+        place = slot.sibling;
+    }
+    false
+}

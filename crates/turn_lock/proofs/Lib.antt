@@ -1,0 +1,14 @@
+pub mod Counts
+pub mod Lists
+pub mod Prefixes
+pub mod Words
+pub mod Places
+pub mod Openings
+pub mod Drawing
+pub mod Arriving
+pub mod Moving
+pub mod Publishing
+pub mod Peeking
+pub mod Splitting
+pub mod Joining
+pub mod Closing

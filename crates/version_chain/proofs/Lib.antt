@@ -1,0 +1,4 @@
+pub mod Cells
+pub mod Middle
+pub mod Ranges
+pub mod Places

@@ -1,0 +1,4 @@
+pub mod Lists
+pub mod CellOrder
+pub mod Stored
+pub mod Plain

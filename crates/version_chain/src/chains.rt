@@ -1,0 +1,75 @@
+//! What a store of versions is asked.
+
+ghost use Rattle.std.specs.Prelude.{◌≡◌, ◌<◌, ◌≤◌, ◌+◌, ℕ, ℤ, Option, List, Bool, length, insert, slice_get, eqb, OnOk, IsTrue, IsFalse, Some};
+ghost use Rattle.teb_names.specs.declared.Cell.{Cell};
+ghost use Rattle.teb_names.specs.declared.Txn.{Txn};
+ghost use Rattle.teb_names.specs.Cells.{same_cell};
+ghost use Rattle.version_chain.specs.Lists.{writers_of, is_writer, first_place, last_place, unless_below, set_value, without};
+
+use std::alloc::AllocError;
+use teb_names::{Cell, Txn};
+
+/// Versions by cell. A version is its writer and a value, None where the row is deleted; those of a cell stand in version
+/// order, the oldest at place 0. Contracts see a list for each cell, and how many versions may be placed without memory.
+pub trait Chains: Drop {
+    ghost lists: { Self → Cell → List (Txn × Option ℤ) };
+
+    ghost spare: { Self → ℕ };
+
+    /// Makes room for one version. An `Err` leaves the lists as they were.
+    fn reserve(&mut self) -> Result<(), AllocError>
+        ensures lists { (x : Cell) → lists self.new x ≡ lists self.old x }
+        ensures room { OnOk result (1 ≤ spare self.new) }
+        ensures kept { spare self.old ≤ spare self.new };
+
+    /// How many versions a cell has.
+    fn len_of(&self, cell: Cell) -> usize
+        ensures { result ≡ length (lists self.now cell) };
+
+    /// The version at a place.
+    fn at(&self, cell: Cell, i: usize) -> (Txn, Option<i64>)
+        requires { i < length (lists self.now cell) }
+        ensures { slice_get (lists self.now cell) i ≡ Some result };
+
+    /// The place of a writer's version.
+    fn find(&self, cell: Cell, t: Txn) -> Option<usize>
+        ensures { result ≡ first_place (λ w. eqb w t.0) (writers_of (lists self.now cell)) };
+
+    /// Puts in a version of a writer that has none, at place i. The versions from there on move up by one.
+    fn place(&mut self, cell: Cell, i: usize, t: Txn, value: Option<i64>)
+        requires room { 0 < spare self.old }
+        requires within { i ≤ length (lists self.old cell) }
+        requires absent { IsFalse (is_writer (lists self.old cell) t.0) }
+        ensures here { lists self.new cell ≡ insert (lists self.old cell) i (t, value) }
+        ensures elsewhere { (x : Cell) → IsFalse (same_cell x cell) → lists self.new x ≡ lists self.old x }
+        ensures spare { spare self.old ≤ spare self.new + 1 };
+
+    /// Gives the version at a place another value.
+    fn overwrite(&mut self, cell: Cell, i: usize, value: Option<i64>)
+        requires { i < length (lists self.old cell) }
+        ensures here { lists self.new cell ≡ set_value i value (lists self.old cell) }
+        ensures elsewhere { (x : Cell) → IsFalse (same_cell x cell) → lists self.new x ≡ lists self.old x }
+        ensures spare { spare self.new ≡ spare self.old };
+
+    /// Takes out every version of a writer. The others keep their order.
+    fn remove_all_of(&mut self, t: Txn)
+        ensures lists { (x : Cell) → lists self.new x ≡ without t.0 (lists self.old x) }
+        ensures spare { spare self.old ≤ spare self.new };
+
+    /// The last place whose writer f accepts. It is looked for from the last place down.
+    fn last_where<F: Fn(Txn) -> bool>(&self, cell: Cell, f: &F) -> Option<usize>
+        requires { (u : Txn) → IsTrue (is_writer (lists self.now cell) u.0) → F.pre f.now u }
+        ensures { (p : ℕ → Bool)
+            → ((u : Txn) (b : Bool) → IsTrue (is_writer (lists self.now cell) u.0) → F.post f.now u b → b ≡ p u.0)
+            → result ≡ last_place p (writers_of (lists self.now cell)) }
+    {
+        self.last_where_from(cell, 0, f)
+    }
+
+    /// The last place whose writer f accepts, where it is `from` or above. Nothing below `from` is looked at.
+    fn last_where_from<F: Fn(Txn) -> bool>(&self, cell: Cell, from: usize, f: &F) -> Option<usize>
+        requires { (u : Txn) → IsTrue (is_writer (lists self.now cell) u.0) → F.pre f.now u }
+        ensures { (p : ℕ → Bool)
+            → ((u : Txn) (b : Bool) → IsTrue (is_writer (lists self.now cell) u.0) → F.post f.now u b → b ≡ p u.0)
+            → result ≡ unless_below from (last_place p (writers_of (lists self.now cell))) };
+}
