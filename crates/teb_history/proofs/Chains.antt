@@ -33,20 +33,20 @@ own_end-le (e ∷ P) t = go (is_of t e) (own_end-le P t)
     go true h = omega arith
     go false h = omega arith
 
-upto-older : (n : ℕ) (e : Event) (P : List Event) → n ≤ length P → upto n (e ∷ P) ≡ upto n P
+pub upto-older : (n : ℕ) (e : Event) (P : List Event) → n ≤ length P → upto n (e ∷ P) ≡ upto n P
 unfolding upto
 upto-older n e P h = rw (le-ltb (length P) n h) refl
 
-upto-newest : (e : Event) (P : List Event) → upto (suc (length P)) (e ∷ P) ≡ e ∷ P
+pub upto-newest : (e : Event) (P : List Event) → upto (suc (length P)) (e ∷ P) ≡ e ∷ P
 unfolding upto
 upto-newest e P = rw (lt-ltb (length P) (suc (length P)) (let l : length P < suc (length P) = omega arith in l)) refl
 
-upto-all : (H : List Event) → upto (length H) H ≡ H
+pub upto-all : (H : List Event) → upto (length H) H ≡ H
 unfolding upto
 upto-all [] = refl
 upto-all (e ∷ P) = upto-newest e P
 
-upto-upto : (n m : ℕ) (H : List Event) → n ≤ m → upto n (upto m H) ≡ upto n H
+pub upto-upto : (n m : ℕ) (H : List Event) → n ≤ m → upto n (upto m H) ≡ upto n H
 unfolding upto
 upto-upto n m [] h = refl
 upto-upto n m (e ∷ P) h = go (ltb_tells (length P) m) (upto-upto n m P h)
@@ -134,7 +134,7 @@ newest_own-step i H d h =
     ∙ ap (λ (b : Bool). cond b (e ∷ filter (is_of t) (upto i H)) (filter (is_of t) (upto i H))) (eq-eqb t t refl)
     ∙ ap (λ (es : List Event). e ∷ es) (sym (newest_own-end (upto i H) t) ∙ ap newest_own (upto-upto (own_end (upto i H) t) i H short) ∙ ap (λ (n : ℕ). newest_own (upto n H)) (sym (links-at i H d h)))
 
-upto-zero : (H : List Event) → upto 0 H ≡ []
+pub upto-zero : (H : List Event) → upto 0 H ≡ []
 unfolding upto
 upto-zero [] = refl
 upto-zero (e ∷ P) = rw (le-ltb (length P) 0 (omega arith)) (upto-zero P)

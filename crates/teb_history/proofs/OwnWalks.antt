@@ -40,7 +40,7 @@ found_there true true v = refl
 found_there true false v = refl
 found_there false c v = refl
 
-put_own : (t : ℕ) (x : Cell) (e : Event) → is_put t x e ≡ (is_of t e && is_some (put_in x e))
+pub put_own : (t : ℕ) (x : Cell) (e : Event) → is_put t x e ≡ (is_of t e && is_some (put_in x e))
 put_own t x (Put u y v) = found_there (eqb u.0 t) (same_cell y x) v
 put_own t x (Began u s k i) = nothing (eqb u.0 t)
 put_own t x (Got u y w v) = nothing (eqb u.0 t)

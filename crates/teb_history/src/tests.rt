@@ -80,6 +80,12 @@ fn strangers_and_late_begins(rt: HostRuntime) -> Result<(), Fail> {
     assert_eq!(rt; history.last_put(Txn(2), cell(1)), None);
     assert_eq!(rt; history.last_got(Txn(2), cell(1)), Some(Some(5)));
     assert!(rt; history.wrote(Txn(9), cell(1)));
+    assert_eq!(rt; history.put_at(Txn(4), cell(1)), 5);
+    assert_eq!(rt; history.put_at(Txn(9), cell(1)), 0);
+    assert_eq!(rt; history.put_at(Txn(2), cell(1)), 8);
+    assert!(rt; history.is_earlier(Txn(9), Txn(2)));
+    assert!(rt; history.is_earlier(Txn(2), Txn(4)));
+    assert!(rt; !history.is_earlier(Txn(2), Txn(9)));
     assert!(rt; history.got(Txn(2), cell(1)));
     assert!(rt; history.read_from(Txn(2), Txn(9)));
     assert_eq!(rt; history.own_events(Txn(4)).next(), Some(put(4, 1, 7)));
