@@ -1,0 +1,9 @@
+pub mod Facts
+pub mod Paths
+pub mod Meets
+pub mod Stored
+pub mod Below
+pub mod Climbing
+pub mod HomeCounts
+pub mod Parts
+pub mod Building

@@ -1,0 +1,33 @@
+-- What contracts see of a tree, and how numbers stand in it.
+use Rattle.std.specs.Prelude.{ℕ, List, map, Option, Some, None}
+use Rattle.teb_names.specs.declared.Kind.{Kind}
+use Rattle.teb_names.specs.declared.Node.{Node}
+use Rattle.teb_rules.specs.Setup.{NodeRow}
+use Rattle.cc_tree.specs.declared.rows.NodeRow.{NodeRow as Row}
+
+-- the rows of a tree, and for how many types it was built
+pub record Grown : Type 0 where
+  pub rows : List NodeRow
+  pub types : ℕ
+
+abbrev pub node_numbers : List Node → List ℕ
+node_numbers ns = map (λ n. n.0) ns
+
+abbrev pub kind_numbers : List Kind → List ℕ
+kind_numbers ks = map (λ k. k.0) ks
+
+abbrev pub parent_number : Option Node → Option ℕ
+parent_number None = None
+parent_number (Some p) = Some p.0
+
+-- a row as the rules see it
+abbrev pub row_of : Row → NodeRow
+row_of r = record { control = r.control; parent = parent_number r.parent; types = kind_numbers r.types.items; batch = r.batch; ordered = r.ordered; part = r.part; parts = r.of }
+
+abbrev pub rows_of : List Row → List NodeRow
+rows_of rs = map row_of rs
+
+-- the number of a side: the child's, or the transaction's own
+abbrev pub side_number : Option Node → ℕ → ℕ
+side_number None own = own
+side_number (Some m) own = m.0

@@ -1,0 +1,22 @@
+//! All that is asked of a list of nodes, in order.
+
+ghost use Rattle.std.specs.Prelude.{◌≡◌, ◌≤◌, length};
+ghost use Rattle.cc_tree.specs.Answers.{Finds};
+ghost use Rattle.cc_tree.specs.Grown.{rows_of};
+ghost use Rattle.teb_rules.specs.Accepted.{tree_fault};
+
+use crate::homes::check_homes;
+use crate::placement::check_placement;
+use crate::shape::check_shape;
+use crate::{NodeRow, TreeError};
+
+/// The first fault: of the shape of each node, of a type without its leaves, or of the placement of each node.
+#[tactic(auto, unfolding(teb_rules::specs::Accepted::tree_fault))]
+pub fn check(rows: &[NodeRow], types: u8) -> Result<(), TreeError>
+    requires { length rows.now ≤ 64 }
+    ensures { Finds result (tree_fault (rows_of rows.now) types) }
+{
+    check_shape(rows)?;
+    check_homes(rows, types)?;
+    check_placement(rows)
+}

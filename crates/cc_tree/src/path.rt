@@ -1,0 +1,46 @@
+//! Paths, as lists of nodes from the root down.
+
+ghost use Rattle.std.specs.Prelude.{◌≡◌, ℕ, length};
+ghost use Rattle.cc_tree.specs.Grown.{node_numbers, side_number};
+ghost use Rattle.cc_tree.specs.Meets.{last_shared};
+ghost use Rattle.teb_rules.specs.Setup.{among};
+ghost use Rattle.teb_rules.specs.Tree.{next_of};
+
+use teb_names::Node;
+
+/// Whether a node is on the path.
+#[tactic(auto, using(crate::proofs::Paths::among_numbers))]
+pub fn has(path: &[Node], n: Node) -> bool
+    ensures { result ≡ among n.0 (node_numbers path.now) }
+{
+    path.contains(&n)
+}
+
+/// The node that follows n on the path.
+#[tactic(auto, unfolding(teb_rules::specs::Tree::next_of))]
+pub fn next_on(path: &[Node], n: Node) -> Option<Node>
+    ensures { (own : ℕ) → side_number result own ≡ next_of n.0 own (node_numbers path.now) }
+{
+    match path {
+        [m, l, ..] if *m == n => Some(*l),
+        [_, rest @ ..] => next_on(rest, n),
+        [] => None,
+    }
+}
+
+/// The last node that both paths share from their beginning on, and `above` where their first nodes differ.
+pub fn last_shared(a: &[Node], b: &[Node], above: Node) -> Node
+    ensures { result.0 ≡ last_shared above.0 (node_numbers a.now) (node_numbers b.now) }
+{
+    let [m, a @ ..] = a else {
+        return above;
+    };
+    let [n, b @ ..] = b else {
+        return above;
+    };
+    if *m == *n {
+        last_shared(a, b, *m)
+    } else {
+        above
+    }
+}

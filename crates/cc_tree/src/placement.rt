@@ -1,0 +1,52 @@
+//! The placement of controls: which may stand above which.
+
+ghost use Rattle.std.specs.Prelude.{◌≡◌, ◌<◌, ◌≤◌, length};
+ghost use Rattle.cc_tree.specs.Answers.{Finds, rule_name};
+ghost use Rattle.cc_tree.specs.Grown.{rows_of};
+ghost use Rattle.cc_tree.specs.Rows.{is_kind};
+ghost use Rattle.teb_rules.specs.Accepted.{breaks_P1, breaks_P2, breaks_P3, first_at, placement_fault, some_above};
+ghost use Rattle.teb_rules.specs.Tree.{below};
+
+use crate::way::some_above;
+use crate::{NodeRow, Rule, TreeError};
+use teb_names::{ControlKind, Node};
+
+/// The first node that stands where a rule forbids it.
+pub fn check_placement(rows: &[NodeRow]) -> Result<(), TreeError>
+    requires { length rows.now ≤ 64 }
+    ensures { Finds result (first_at (placement_fault (rows_of rows.now)) (below (length rows.now))) }
+{
+    for n in 0..rows.len() as u8 {
+        if let Some(rule) = broken_at(rows, Node(n)) {
+            return Err(TreeError::Misplaced {
+                node: Node(n),
+                rule,
+            });
+        }
+    }
+    Ok(())
+}
+
+// The first rule that one node breaks.
+fn broken_at(rows: &[NodeRow], n: Node) -> Option<Rule>
+    requires { n.0 < length rows.now }
+    ensures { rule_name result ≡ placement_fault (rows_of rows.now) n.0 }
+{
+    let row = &rows[usize::from(n.0)];
+    match row.control {
+        ControlKind::Snapshot if n.0 != 0 => Some(Rule::P1),
+        ControlKind::Timestamp if !row.ordered && is_below(rows, n, ControlKind::Locks) => Some(
+            Rule::P2,
+        ),
+        ControlKind::Timestamp if is_below(rows, n, ControlKind::Pipeline) => Some(Rule::P3),
+        _ => None,
+    }
+}
+
+// Whether a node of this control stands above n, at any height.
+#[tactic(auto, unfolding(teb_rules::specs::Tree::way))]
+fn is_below(rows: &[NodeRow], n: Node, control: ControlKind) -> bool
+    ensures { result ≡ some_above (rows_of rows.now) n.0 (λ r. is_kind control r.control) }
+{
+    some_above(rows, n, n.0, n, control)
+}

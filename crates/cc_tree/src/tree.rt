@@ -1,0 +1,124 @@
+//! An accepted tree with the path to each leaf.
+
+ghost use Rattle.std.specs.Prelude.{◌≡◌, ◌↔◌, ◌<◌, ◌≤◌, ℕ, length, None, IfSome, IsTrue};
+ghost use Rattle.std.specs.List.{All};
+ghost use Rattle.cc_tree.specs.Answers.{Answers};
+ghost use Rattle.cc_tree.specs.Grown.{node_numbers, row_of, rows_of, side_number};
+ghost use Rattle.cc_tree.specs.Meets.{IsLowest, IsMeet};
+ghost use Rattle.cc_tree.specs.Sound.{IsAccepted};
+ghost use Rattle.teb_rules.specs.Tree.{leaf, on_path, path, row, side_at};
+
+use crate::check::check;
+use crate::homes::all_paths;
+use crate::{NodeRow, TreeError, path};
+use std::alloc::Global;
+use std::marker::Model;
+use teb_names::{Node, Spot};
+
+/// An accepted tree. Contracts see its rows, and for how many types it was built.
+#[derive(Drop)]
+pub struct Tree {
+    rows: Vec<NodeRow>,
+    // For each type the paths to its leaves, in order of their parts.
+    paths: Vec<Vec<Vec<Node>>>,
+}
+
+impl Model for Tree {
+    ghost use Rattle.cc_tree.specs.Grown.{Grown};
+
+    ghost Value = { Grown };
+
+    ghost use Rattle.cc_tree.specs.Stored.{grown, IsStored};
+
+    ghost view = { grown };
+
+    ghost invariant = { IsStored };
+}
+
+impl Tree {
+    /// The tree of these rows, for so many types.
+    ///
+    /// # Errors
+    /// The first fault of the rows: `Shape` at the first node whose shape is wrong, or else at node 0 where a type has
+    /// not a leaf for each of its parts; or else `Misplaced` at the first node that stands where a rule forbids it. Rows
+    /// without a fault make a tree, unless memory is wanting: then the error is `OutOfMemory`.
+    pub fn build(alloc: Global, rows: Vec<NodeRow>, types: u8) -> Result<Tree, TreeError>
+        requires some { 0 < length rows.items }
+        requires few { length rows.items ≤ 64 }
+        requires few_types { types ≤ 64 }
+        requires kinds { All (λ r. All (λ k. k.0 < types) r.types.items) rows.items }
+        requires batches { All (λ r. (1 ≤ r.batch) × (r.batch ≤ 1024)) rows.items }
+        requires parts { All (λ r. (1 ≤ r.of) × (r.of ≤ 16) × (r.part < r.of)) rows.items }
+        ensures { Answers result (rows_of rows.items) types }
+    {
+        check(&rows, types)?;
+        let paths = all_paths(alloc, &rows, types)?;
+        Ok(Tree { rows, paths })
+    }
+
+    /// The row of a node.
+    pub fn row(&self, n: Node) -> &NodeRow
+        requires { n.0 < length self.now.rows }
+        ensures { row_of result.now ≡ row self.now.rows n.0 }
+    {
+        &self.rows[usize::from(n.0)]
+    }
+
+    /// How many nodes there are, 1 to 64. The tree has no fault.
+    pub fn len(&self) -> u8
+        ensures count { result ≡ length self.now.rows }
+        ensures accepted { IsAccepted self.now }
+    {
+        self.rows.len() as u8
+    }
+
+    /// For how many types the tree was built, at most 64.
+    pub fn types(&self) -> u8
+        ensures { result ≡ self.now.types }
+    {
+        self.paths.len() as u8
+    }
+
+    /// The nodes from the root to the leaf of a type and an instance. Costs a look-up.
+    pub fn path(&self, s: Spot) -> &[Node]
+        requires { s.kind.0 < self.now.types }
+        ensures nodes { node_numbers result.now ≡ path self.now.rows s }
+        ensures within { All (λ n. n.0 < length self.now.rows) result.now }
+        ensures accepted { IsAccepted self.now }
+    {
+        let parts = &self.paths[usize::from(s.kind.0)];
+        &parts[s.instance as usize % parts.len()]
+    }
+
+    /// Whether a node is on the path of a type and an instance.
+    #[tactic(auto, unfolding(teb_rules::specs::Tree::on_path))]
+    pub fn is_on(&self, n: Node, s: Spot) -> bool
+        requires { s.kind.0 < self.now.types }
+        ensures { result ≡ on_path self.now.rows n.0 s }
+    {
+        path::has(self.path(s), n)
+    }
+
+    /// The child of a node on the path of a type and an instance; none exactly at their leaf.
+    #[tactic(auto, unfolding(teb_rules::specs::Tree::on_path, teb_rules::specs::Tree::side_at))]
+    pub fn side(&self, n: Node, s: Spot) -> Option<Node>
+        requires kind { s.kind.0 < self.now.types }
+        requires on { IsTrue (on_path self.now.rows n.0 s) }
+        ensures side { (own : ℕ) → side_number result own ≡ side_at self.now.rows n.0 s own }
+        ensures none { (result ≡ None) ↔ (n.0 ≡ leaf self.now.rows s) }
+        ensures within { IfSome result (λ m. m.0 < length self.now.rows) }
+    {
+        path::next_on(self.path(s), n)
+    }
+
+    /// The lowest node on the paths of two spots: the node at which two transactions with these spots meet.
+    pub fn meet(&self, a: Spot, b: Spot) -> Node
+        requires first { a.kind.0 < self.now.types }
+        requires second { b.kind.0 < self.now.types }
+        ensures lowest { IsLowest self.now.rows a b result.0 }
+        ensures meet { IsMeet self.now.rows a b result.0 }
+        ensures within { result.0 < length self.now.rows }
+    {
+        path::last_shared(self.path(a), self.path(b), Node(0))
+    }
+}

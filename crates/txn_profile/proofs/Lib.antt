@@ -1,0 +1,2 @@
+pub mod LeastStep
+pub mod Faultless
