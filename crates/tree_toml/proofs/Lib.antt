@@ -1,0 +1,12 @@
+mod Bound
+mod Documents
+mod Each
+mod NodeFacts
+mod Numbers
+mod Placed
+mod PlainFacts
+mod Profiles
+mod RowFacts
+mod TypeFacts
+mod Views
+mod Whole

@@ -1,0 +1,32 @@
+-- The tree of the plain setup.
+use Rattle.std.proofs.Common.{◌≡◌, ◌<◌, List, [], ◌∷◌, length, Result, Ok, refl, arith, ap, ◌∙◌, sym}
+use Rattle.std.proofs.lemmas.List.Elements.{All-nil, All-cons}
+use Rattle.std.proofs.lemmas.List.{length-map}
+use Rattle.teb_rules.specs.Tree.{below, climb, way}
+use Rattle.teb_rules.specs.Accepted.{tree_fault, homes}
+use Rattle.cc_tree.specs.Grown.{Grown, row_of, rows_of}
+use Rattle.cc_tree.specs.declared.rows.NodeRow.{NodeRow as Row}
+use Rattle.tree_toml.specs.Reading.{Answers}
+use Rattle.tree_toml.specs.Meaning.{grown, plain, plain_row}
+use Rattle.tree_toml.specs.Kept.{IsRow, AreRows}
+use Rattle.tree_toml.specs.declared.fault.TreeText.{TreeText}
+
+plain_kept : AreRows 1 (plain_row ∷ [])
+plain_kept = All-cons (IsRow 1) plain_row [] (record {
+  kinds = All-cons (λ k. k < 1) 0 [] (omega arith) (All-nil (λ k. k < 1));
+  batch = (omega arith, omega arith);
+  parts = (omega arith, omega arith, omega arith);
+}) (All-nil (IsRow 1))
+
+pub rows_kept : (rows : List Row) → rows_of rows ≡ plain_row ∷ [] → AreRows 1 (rows_of rows)
+rows_kept rows is = rw is plain_kept
+
+pub one_row : (rows : List Row) → rows_of rows ≡ plain_row ∷ [] → length rows ≡ 1
+one_row rows is = sym (length-map rows row_of) ∙ ap length is
+
+plain_grown : grown (plain_row ∷ []) 1 ≡ Ok plain.tree
+unfolding tree_fault homes below way climb
+plain_grown = refl
+
+pub grown_plain : (rows : List Row) (r : Result Grown TreeText) → rows_of rows ≡ plain_row ∷ [] → Answers (λ t. t) r (grown (rows_of rows) 1) → Answers (λ t. t) r (Ok plain.tree)
+grown_plain rows r is read = rw (is, plain_grown) at read

@@ -1,0 +1,12 @@
+pub mod Reading
+pub mod Names
+pub mod Fields
+pub mod Tables
+pub mod Types
+pub mod Nodes
+pub mod Rows
+pub mod Meaning
+pub mod Seen
+pub mod Kept
+pub mod Sound
+pub mod Texts

@@ -1,0 +1,110 @@
+//! The control of a node, its parent, its batch and its order of commits.
+
+ghost use Rattle.std.specs.Prelude.{◌≡◌, ◌≤◌, ◌&&◌, IfOk};
+ghost use Rattle.toml.specs.View.{table_view};
+ghost use Rattle.cc_tree.specs.Grown.{parent_number};
+ghost use Rattle.tree_toml.specs.Reading.{Gives};
+ghost use Rattle.tree_toml.specs.Nodes.{control_named as spec_control_named, control_of, has_key as spec_has_key, is_foreign as spec_is_foreign, own_keys as spec_own_keys, parent_of, batch_of, commit_named as spec_commit_named, commit_of};
+
+use crate::fault::FieldWhy;
+use crate::fields::{found, integer_at, numbered, required, text_at, within};
+use teb_names::{ControlKind, Names, Node};
+use toml::Table;
+
+/// How many transactions a batch admits where it is not given.
+const USUAL_BATCH: u16 = 64;
+
+/// How a node regulates.
+pub fn read_control(entry: &Table) -> Result<ControlKind, FieldWhy>
+    ensures { result ≡ control_of (table_view entry.now) }
+{
+    control_named(required(text_at(entry, "control")?)?)
+}
+
+fn control_named(word: &str) -> Result<ControlKind, FieldWhy>
+    ensures { result ≡ spec_control_named word.now }
+{
+    if word == "locks" {
+        Ok(ControlKind::Locks)
+    } else if word == "pipeline" {
+        Ok(ControlKind::Pipeline)
+    } else if word == "timestamp" {
+        Ok(ControlKind::Timestamp)
+    } else if word == "snapshot" {
+        Ok(ControlKind::Snapshot)
+    } else {
+        Err(FieldWhy::NoSuch)
+    }
+}
+
+/// Whether the keys are those of this control: `batch` only of timestamp and snapshot nodes, `commit` only of timestamp
+/// nodes.
+pub fn own_keys(control: ControlKind, entry: &Table) -> Result<(), FieldWhy>
+    ensures { result ≡ spec_own_keys control (table_view entry.now) }
+{
+    if is_foreign(control, entry) {
+        return Err(FieldWhy::Unknown);
+    }
+    Ok(())
+}
+
+fn is_foreign(control: ControlKind, entry: &Table) -> bool
+    ensures { result ≡ spec_is_foreign control (table_view entry.now) }
+{
+    match control {
+        ControlKind::Timestamp => false,
+        ControlKind::Snapshot => has_key(entry, "commit"),
+        ControlKind::Locks | ControlKind::Pipeline => {
+            has_key(entry, "batch") || has_key(entry, "commit")
+        }
+    }
+}
+
+/// Whether a key is there.
+pub fn has_key(entry: &Table, key: &str) -> bool
+    ensures { result ≡ spec_has_key key.now (table_view entry.now) }
+{
+    found(entry, key).is_some()
+}
+
+/// The parent; none where it is not given.
+pub fn read_parent(nodes: &Names, entry: &Table) -> Result<Option<Node>, FieldWhy>
+    ensures { Gives parent_number result (parent_of nodes.now (table_view entry.now)) }
+{
+    match text_at(entry, "parent")? {
+        None => Ok(None),
+        Some(name) => Ok(Some(Node(numbered(nodes, name)?))),
+    }
+}
+
+/// How many transactions a batch admits.
+pub fn read_batch(entry: &Table) -> Result<u16, FieldWhy>
+    ensures { result ≡ batch_of (table_view entry.now) }
+{
+    match integer_at(entry, "batch")? {
+        None => Ok(USUAL_BATCH),
+        Some(n) => Ok(within(1, 1024, n)? as u16),
+    }
+}
+
+/// Whether commits are ordered.
+pub fn read_commit(entry: &Table) -> Result<bool, FieldWhy>
+    ensures { result ≡ commit_of (table_view entry.now) }
+{
+    match text_at(entry, "commit")? {
+        None => Ok(false),
+        Some(word) => commit_named(word),
+    }
+}
+
+fn commit_named(word: &str) -> Result<bool, FieldWhy>
+    ensures { result ≡ spec_commit_named word.now }
+{
+    if word == "free" {
+        Ok(false)
+    } else if word == "ordered" {
+        Ok(true)
+    } else {
+        Err(FieldWhy::NoSuch)
+    }
+}

@@ -1,0 +1,110 @@
+//! The setup that a text is.
+
+ghost use Rattle.std.specs.Prelude.{◌≡◌, IfOk};
+ghost use Rattle.toml.specs.View.{table_view};
+ghost use Rattle.tree_toml.specs.Reading.{Answers};
+ghost use Rattle.tree_toml.specs.Meaning.{lists_in, setup_in, document_of, setup_of, is_blank as spec_is_blank, is_blank_byte as spec_is_blank_byte};
+ghost use Rattle.tree_toml.specs.Sound.{IsWhole};
+ghost use Rattle.tree_toml.specs.Seen.{setup_view};
+
+use crate::fault::{FieldWhy, Key, ListName, TreeText, at};
+use crate::fields::{all_known, place};
+use crate::nodes::read_nodes;
+use crate::plain::plain;
+use crate::rows::read_rows;
+use crate::tables::{read_format, read_tables};
+use crate::trees::grow;
+use crate::types::read_types;
+use cc_tree::Tree;
+use std::alloc::Global;
+use teb_names::{NameBook, Rows};
+use toml::Table;
+use txn_profile::Profile;
+
+/// What a store is set up with: the names, for each type its profile, the tree of controls, and the starting rows.
+#[derive(Drop)]
+pub struct Setup {
+    pub names: NameBook,
+    pub profiles: Vec<Profile>,
+    pub tree: Tree,
+    pub rows: Rows,
+    /// The format of the text, 1 to 3.
+    pub format: u8,
+}
+
+/// The setup that a text is. A text of spaces, tabs, carriage returns and line feeds alone is the plain setup: the table
+/// `t`, the type `any`, one locks leaf `root`, and no rows.
+///
+/// # Errors
+/// `NotToml` where the text is not UTF-8, or no TOML; else the first fault of its keys and values, `Field`; else the first
+/// fault of the nodes as a tree, `Shape` or `Misplaced`. At any text that is not refused before, memory may be wanting:
+/// then the error is `OutOfMemory`.
+pub fn read_tree(alloc: Global, text: &[u8]) -> Result<Setup, TreeText>
+    ensures setup { Answers setup_view result (setup_of text.now) }
+    ensures whole { IfOk result (λ s. IsWhole (setup_view s)) }
+{
+    if is_blank(text) {
+        return plain(alloc);
+    }
+    read_document(alloc, text)
+}
+
+fn read_document(alloc: Global, text: &[u8]) -> Result<Setup, TreeText>
+    ensures { Answers setup_view result (document_of text.now) }
+{
+    match toml::table_from_slice(alloc, text) {
+        Ok(table) => read_setup(alloc, &table),
+        Err(error) => {
+            if error.is_memory() {
+                Err(TreeText::OutOfMemory)
+            } else {
+                Err(TreeText::NotToml)
+            }
+        }
+    }
+}
+
+fn is_blank(text: &[u8]) -> bool
+    ensures { result ≡ spec_is_blank text.now }
+{
+    text.iter().all(|b| is_blank_byte(*b))
+}
+
+fn is_blank_byte(b: u8) -> bool
+    ensures { result ≡ spec_is_blank_byte b }
+{
+    b == b' ' || b == b'\t' || b == b'\r' || b == b'\n'
+}
+
+#[tactic(auto, unfolding(crate::specs::Meaning::setup_in))]
+fn read_setup(alloc: Global, table: &Table) -> Result<Setup, TreeText>
+    ensures { Answers setup_view result (setup_in (table_view table.now)) }
+{
+    if !all_known(ListName::Top, 1, table) {
+        return Err(place(ListName::Top, 0, Key::Whole).fault(FieldWhy::Unknown));
+    }
+    let format = at(place(ListName::Top, 0, Key::Format), read_format(table))?;
+    read_lists(alloc, format, table)
+}
+
+#[tactic(auto, unfolding(crate::specs::Meaning::lists_in))]
+fn read_lists(alloc: Global, format: u8, table: &Table) -> Result<Setup, TreeText>
+    ensures { Answers setup_view result (lists_in format (table_view table.now)) }
+{
+    let tables = read_tables(alloc, table)?;
+    let types = read_types(alloc, &tables, table)?;
+    let nodes = read_nodes(alloc, format, &types.names, table)?;
+    let rows = read_rows(alloc, &tables, table)?;
+    let tree = grow(alloc, nodes.rows, types.names.len())?;
+    Ok(Setup {
+        names: NameBook {
+            tables,
+            types: types.names,
+            nodes: nodes.names,
+        },
+        profiles: types.profiles,
+        tree,
+        rows,
+        format,
+    })
+}

@@ -1,0 +1,28 @@
+//! The tree of rows that were read.
+
+ghost use Rattle.std.specs.Prelude.{◌≡◌, ◌<◌, ◌≤◌, length};
+ghost use Rattle.std.specs.List.{All};
+ghost use Rattle.cc_tree.specs.Grown.{rows_of};
+ghost use Rattle.tree_toml.specs.Reading.{Answers};
+ghost use Rattle.tree_toml.specs.Meaning.{grown};
+ghost use Rattle.tree_toml.specs.Kept.{AreRows};
+
+use crate::fault::TreeText;
+use cc_tree::{NodeRow, Tree, TreeError};
+use std::alloc::Global;
+
+/// The tree of these rows, for so many types.
+pub fn grow(alloc: Global, rows: Vec<NodeRow>, types: u8) -> Result<Tree, TreeText>
+    requires rows { AreRows types (rows_of rows.items) }
+    requires some { 0 < length rows.items }
+    requires few { length rows.items ≤ 64 }
+    requires types { types ≤ 64 }
+    ensures { Answers (λ t. t) result (grown (rows_of rows.items) types) }
+{
+    match Tree::build(alloc, rows, types) {
+        Ok(tree) => Ok(tree),
+        Err(TreeError::Shape { node, why }) => Err(TreeText::Shape { node, why }),
+        Err(TreeError::Misplaced { node, rule }) => Err(TreeText::Misplaced { node, rule }),
+        Err(TreeError::OutOfMemory) => Err(TreeText::OutOfMemory),
+    }
+}
