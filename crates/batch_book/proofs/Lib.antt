@@ -1,0 +1,12 @@
+pub mod Numbered
+pub mod Intervals
+pub mod Lists
+pub mod Idle
+pub mod Joining
+pub mod Finishing
+pub mod Fullness
+pub mod Elements
+pub mod Entering
+pub mod Leaving
+pub mod Telling
+pub mod Worked

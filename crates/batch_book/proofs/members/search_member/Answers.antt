@@ -1,0 +1,18 @@
+use Rattle.std.proofs.Common.{◌∙◌, sym, rules}
+use Rattle.std.proofs.lemmas.List.Sorted.{answers_always}
+use Rattle.teb_history.proofs.AscendingLists.{searched}
+use Rattle.batch_book.specs.Fields.{member_number}
+use Rattle.batch_book.proofs.Elements.{placed, unplaced}
+use Rattle.batch_book.proofs.members.search_member.Goals as goal
+
+pub returns-in-Ok : goal.returns-in-Ok
+returns-in-Ok c =
+    let facts = c.binary_search_by_key.ensures in
+    let place = searched member_number c.args.members.now c.requires c.args.t.0 c.binary_search_by_key.result facts.bound (facts.position member_number (answers_always _ _ _ (λ f a r g called. search rules))) in
+    sym (placed member_number c.args.t.0 c.in-Ok.i _ c.args.members.now (sym place ∙ c.in-Ok.is))
+
+pub returns-in-Err : goal.returns-in-Err
+returns-in-Err c =
+    let facts = c.binary_search_by_key.ensures in
+    let place = searched member_number c.args.members.now c.requires c.args.t.0 c.binary_search_by_key.result facts.bound (facts.position member_number (answers_always _ _ _ (λ f a r g called. search rules))) in
+    sym (unplaced member_number c.args.t.0 c.in-Err.field-0 c.args.members.now c.requires (sym place ∙ c.in-Err.is))

@@ -1,0 +1,139 @@
+//! The batches of one node.
+
+ghost use Rattle.std.specs.Prelude.{◌≡◌, ◌<◌, ◌≤◌, ◌+◌, ◌∷◌, ℕ, [], List, length, OnOk, IsTrue, Some};
+ghost use Rattle.teb_history.specs.declared.Event.{Event};
+ghost use Rattle.teb_history.specs.Written.{txn_of};
+ghost use Rattle.teb_rules.specs.Setup.{Setup};
+ghost use Rattle.teb_rules.specs.Batches.{start};
+ghost use Rattle.batch_book.specs.Histories.{BatchesOf, full_at, closing, Joins, Finishes, MayCome};
+ghost use Rattle.batch_book.specs.Book.{has_joined, IsNew};
+
+use crate::members::{
+    Batch, Member, enter, find_member, first_on, is_any_of, search_member, take_out,
+};
+use std::alloc::{AllocError, Global};
+use std::marker::Model;
+use teb_names::Txn;
+
+/// The batches of one node, as far as a history goes.
+#[derive(Drop)]
+pub struct Batches {
+    size: u16,
+    // All that have joined, in ascending number.
+    joined: Vec<Member>,
+    // The unfinished ones, in ascending number.
+    running: Vec<Member>,
+    batches: Vec<Batch>,
+}
+
+impl Model for Batches {
+    ghost use Rattle.batch_book.specs.Book.{Book};
+
+    ghost Value = { Book };
+
+    ghost use Rattle.std.specs.Prelude.{map, min, ◌-◌, vec_len, vec_capacity};
+    ghost use Rattle.batch_book.specs.Fields.{row_shown, running_shown, IsHeld};
+
+    ghost view = { λ b. record {
+      size = b.size;
+      rows = map (row_shown b.batches.items) b.joined.items;
+      running = map (running_shown b.batches.items) b.running.items;
+      spare = min (vec_capacity b.joined - vec_len b.joined) (min (vec_capacity b.running - vec_len b.running) (vec_capacity b.batches - vec_len b.batches));
+    } };
+
+    ghost invariant = { λ b. IsHeld b.joined.items b.running.items b.batches.items };
+}
+
+/// `join`, `finish` and `full` cost what the unfinished members are, `start` and `close` a binary search.
+impl Batches {
+    /// The batches of an empty history. A batch is full where it has admitted `size`.
+    pub fn new(alloc: Global, size: u16) -> Self
+        ensures batches { (S : Setup) (n : ℕ) → BatchesOf result S [] n }
+        ensures size { result.size ≡ size }
+    {
+        Batches {
+            size,
+            joined: Vec::new(alloc),
+            running: Vec::new(alloc),
+            batches: Vec::new(alloc),
+        }
+    }
+
+    /// Makes room for 32 joins. The batches stay, also after an `Err`.
+    pub fn reserve(&mut self) -> Result<(), AllocError>
+        ensures batches { (S : Setup) (H : List Event) (n : ℕ) → BatchesOf self.old S H n → BatchesOf self.new S H n }
+        ensures size { self.new.size ≡ self.old.size }
+        ensures room { OnOk result (32 ≤ self.new.spare) }
+    {
+        self.joined.reserve(32)?;
+        self.running.reserve(32)?;
+        self.batches.reserve(32)?;
+        Ok(())
+    }
+
+    /// The least unfinished member of a side's open batch, where that has admitted its size.
+    pub fn full(&self, side: u32) -> Option<Txn>
+        ensures { (S : Setup) (H : List Event) (n : ℕ) → BatchesOf self.now S H n → result ≡ txn_of (full_at S H n side self.now.size) }
+    {
+        match first_on(&self.running, &self.batches, side) {
+            Some(first) if self.batches[first.batch].admitted >= self.size as usize => {
+                Some(first.txn)
+            }
+            _ => None,
+        }
+    }
+
+    /// Notes the Began of t on a side, at position `at`. It takes one place of the room at most.
+    pub fn join(&mut self, side: u32, t: Txn, at: usize)
+        requires new { IsNew self.old t.0 }
+        requires room { 0 < self.old.spare }
+        ensures batches { (S : Setup) (P : List Event) (n : ℕ) (e : Event) → BatchesOf self.old S P n → MayCome P e → Joins S n side t.0 e → at ≡ length P → BatchesOf self.new S (e ∷ P) n }
+        ensures size { self.new.size ≡ self.old.size }
+        ensures spare { self.old.spare ≤ self.new.spare + 1 }
+    {
+        let batch = enter(&self.running, &mut self.batches, side, at);
+        let member = Member { txn: t, batch };
+        let _ = self.joined.push(member);
+        let _ = self.running.push(member);
+    }
+
+    /// Notes the Done or the Gone of t at position `at`. Where t has not joined nothing changes.
+    pub fn finish(&mut self, t: Txn, at: usize)
+        ensures batches { (S : Setup) (P : List Event) (n : ℕ) (e : Event) → BatchesOf self.old S P n → MayCome P e → Finishes t.0 e → at ≡ length P → BatchesOf self.new S (e ∷ P) n }
+        ensures size { self.new.size ≡ self.old.size }
+        ensures spare { self.old.spare ≤ self.new.spare }
+    {
+        if let Some(member) = find_member(&self.running, t) {
+            take_out(&mut self.running, t);
+            if !is_any_of(&self.running, member.batch) {
+                self.batches[member.batch].close = Some(at);
+            }
+        }
+    }
+
+    /// Where the batch of t starts.
+    pub fn start(&self, t: Txn) -> usize
+        requires { IsTrue (has_joined self.now t.0) }
+        ensures { (S : Setup) (H : List Event) (n : ℕ) → BatchesOf self.now S H n → result ≡ start S H n t.0 }
+    {
+        self.batch(t).start
+    }
+
+    /// Where the batch of t closed; None while it is open.
+    pub fn close(&self, t: Txn) -> Option<usize>
+        requires { IsTrue (has_joined self.now t.0) }
+        ensures { (S : Setup) (H : List Event) (n : ℕ) → BatchesOf self.now S H n → result ≡ closing S H n t.0 }
+    {
+        self.batch(t).close
+    }
+
+    // The batch of t.
+    fn batch(&self, t: Txn) -> Batch
+        requires { IsTrue (has_joined self.now t.0) }
+        ensures start { (S : Setup) (H : List Event) (n : ℕ) → BatchesOf self.now S H n → result.start ≡ start S H n t.0 }
+        ensures close { (S : Setup) (H : List Event) (n : ℕ) → BatchesOf self.now S H n → result.close ≡ closing S H n t.0 }
+    {
+        let member = search_member(&self.joined, t).unwrap();
+        self.batches[member.batch]
+    }
+}

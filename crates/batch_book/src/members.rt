@@ -1,0 +1,106 @@
+//! Those that have joined, and their batches.
+
+ghost use Rattle.std.specs.Prelude.{◌≡◌, ◌<◌, ◌≤◌, ℕ, Bool, eqb, not, find, filter, length, map, option_map, IfSome, vec_len, vec_capacity, List, None, ◌+◌, ◌-◌, ◌^◌};
+ghost use Rattle.std.specs.List.{All, list_any};
+ghost use Rattle.teb_history.specs.Ascending.{IsAscendingBy};
+ghost use Rattle.batch_book.specs.declared.members.Member.{Member};
+ghost use Rattle.batch_book.specs.Fields.{batch_at, member_number, running_shown, Entered, IsHeld, Has};
+
+use teb_names::Txn;
+
+/// A transaction, and the number of its batch.
+#[derive(Clone, Copy)]
+pub(crate) struct Member {
+    pub(crate) txn: Txn,
+    pub(crate) batch: usize,
+}
+
+/// A batch of a side: where it starts, where it closes, None while it is open, and how many it has admitted.
+#[derive(Clone, Copy)]
+pub(crate) struct Batch {
+    pub(crate) side: u32,
+    pub(crate) start: usize,
+    pub(crate) close: Option<usize>,
+    pub(crate) admitted: usize,
+}
+
+/// The first of the members whose batch is one of a side.
+pub(crate) fn first_on(members: &[Member], batches: &[Batch], side: u32) -> Option<Member>
+    requires { All (λ m. m.batch < length batches.now) members.now }
+    ensures { result ≡ find (λ m. eqb (batch_at batches.now m).side side) members.now }
+{
+    for member in members {
+        if batches[member.batch].side == side {
+            return Some(*member);
+        }
+    }
+    None
+}
+
+/// The first of the members that is a transaction.
+pub(crate) fn find_member(members: &[Member], t: Txn) -> Option<Member>
+    ensures { result ≡ find (λ m. eqb m.txn.0 t.0) members.now }
+{
+    for member in members {
+        if member.txn == t {
+            return Some(*member);
+        }
+    }
+    None
+}
+
+/// The same among members in ascending number, by binary search.
+pub(crate) fn search_member(members: &[Member], t: Txn) -> Option<Member>
+    requires { IsAscendingBy member_number members.now }
+    ensures { result ≡ find (λ m. eqb m.txn.0 t.0) members.now }
+{
+    match members.binary_search_by_key(&t.0, |member| member.txn.0) {
+        Ok(i) => Some(members[i]),
+        Err(_) => None,
+    }
+}
+
+/// Enters one more into the open batch of a side, or opens one at a position. It answers the number of the batch.
+pub(crate) fn enter(running: &[Member], batches: &mut Vec<Batch>, side: u32, at: usize) -> usize
+    requires within { All (λ m. m.batch < length batches.old.items) running.now }
+    requires unclosed { (m : Member) → Has m running.now → (batch_at batches.old.items m).close ≡ None }
+    requires one_side { (m o : Member) → Has m running.now → Has o running.now → (batch_at batches.old.items m).side ≡ (batch_at batches.old.items o).side → m.batch ≡ o.batch }
+    requires few { (m : Member) → Has m running.now → (batch_at batches.old.items m).admitted < 2 ^ 64 - 1 }
+    requires room { vec_len batches.old < vec_capacity batches.old }
+    ensures entered { Entered running.now batches.old.items batches.new.items side at result }
+    ensures len { vec_len batches.new ≤ vec_len batches.old + 1 }
+    ensures capacity { vec_capacity batches.old ≤ vec_capacity batches.new }
+{
+    match first_on(running, batches, side) {
+        Some(first) => {
+            batches[first.batch].admitted += 1;
+            first.batch
+        }
+        None => {
+            let number = batches.len();
+            let _ = batches.push(Batch {
+                side,
+                start: at,
+                close: None,
+                admitted: 1,
+            });
+            number
+        }
+    }
+}
+
+/// Takes a transaction out.
+pub(crate) fn take_out(members: &mut Vec<Member>, t: Txn)
+    ensures items { members.new.items ≡ filter (λ m. not (eqb m.txn.0 t.0)) members.old.items }
+    ensures len { vec_len members.new ≤ vec_len members.old }
+    ensures capacity { vec_capacity members.new ≡ vec_capacity members.old }
+{
+    members.retain(|member| member.txn != t);
+}
+
+/// Whether some member is of a batch.
+pub(crate) fn is_any_of(members: &[Member], batch: usize) -> bool
+    ensures { result ≡ list_any (λ m. eqb m.batch batch) members.now }
+{
+    members.iter().any(|member| member.batch == batch)
+}

@@ -1,0 +1,110 @@
+//! Where each transaction stands in its profile.
+#![tactic(auto)]
+
+ghost use Rattle.std.specs.Prelude.{◌≡◌, ◌<◌, ◌≤◌, ◌+◌, ◌∷◌, ◌++◌, [], length, OnOk, OnErr};
+ghost use Rattle.cursor_book.specs.Cursors.{cursor_in, moved};
+
+use std::alloc::{AllocError, Global};
+use std::marker::Model;
+use teb_names::{Table, Txn};
+use txn_profile::Profile;
+
+/// The cursor of each transaction that has begun, by its number. Contracts see the list of them, that of transaction 1
+/// first, and for how many more there is room.
+#[derive(Drop)]
+pub struct Cursors {
+    cursors: Vec<u8>,
+    spare: usize,
+}
+
+impl Model for Cursors {
+    ghost use Rattle.std.specs.Prelude.{vec_len, vec_capacity, ◌+◌, ◌≤◌};
+    ghost use Rattle.cursor_book.specs.Cursors.{Kept};
+
+    ghost Value = { Kept };
+
+    ghost view = { λ c. record { cursors = c.cursors.items; spare = c.spare } };
+
+    ghost invariant = { λ c. vec_len c.cursors + c.spare ≤ vec_capacity c.cursors };
+}
+
+impl Cursors {
+    /// No transaction. Takes no memory.
+    pub fn new(alloc: Global) -> Cursors
+        ensures { result.cursors ≡ [] }
+    {
+        Cursors {
+            cursors: Vec::new(alloc),
+            spare: 0,
+        }
+    }
+
+    /// Makes room for n more transactions. An `Err` leaves all as it was.
+    pub fn reserve(&mut self, n: usize) -> Result<(), AllocError>
+        ensures cursors { self.new.cursors ≡ self.old.cursors }
+        ensures ok { OnOk result (n ≤ self.new.spare) }
+        ensures err { OnErr result (self.new ≡ self.old) }
+        ensures kept { self.old.spare ≤ self.new.spare }
+    {
+        self.cursors.reserve(n)?;
+        self.spare = self.spare.max(n);
+        Ok(())
+    }
+
+    /// The next transaction begins: it stands at step 0.
+    pub fn begin(&mut self)
+        requires { 0 < self.old.spare }
+        ensures cursors { self.new.cursors ≡ self.old.cursors ++ 0 ∷ [] }
+        ensures spare { self.new.spare + 1 ≡ self.old.spare }
+    {
+        let _ = self.cursors.push(0);
+        self.spare -= 1;
+    }
+
+    /// A transaction accesses a table: it moves to the least step, from where it stands, that has the table.
+    pub fn access(&mut self, t: Txn, table: Table, profile: &Profile)
+        requires above { 0 < t.0 }
+        requires begun { t.0 ≤ length self.old.cursors }
+        ensures cursors { self.new.cursors ≡ moved self.old.cursors t.0 profile.now table.0 }
+        ensures spare { self.new.spare ≡ self.old.spare }
+    {
+        let at = self.cursor(t);
+        let i = (t.0 - 1) as usize;
+        self.cursors[i] = profile.cursor_after(at, table).unwrap_or(at);
+    }
+
+    /// The step at which a transaction stands.
+    pub fn cursor(&self, t: Txn) -> u8
+        requires above { 0 < t.0 }
+        requires begun { t.0 ≤ length self.now.cursors }
+        ensures { result ≡ cursor_in self.now.cursors t.0 }
+    {
+        self.cursors[(t.0 - 1) as usize]
+    }
+}
+
+#[cfg(test)]
+mod tests {
+    use super::*;
+    use std::test::Fail;
+
+    #[test]
+    fn transactions_move_along_their_steps(rt: HostRuntime) -> Result<(), Fail> {
+        let mut stock = Vec::new(rt.alloc());
+        stock.push(Table(0))?;
+        let mut orders = Vec::new(rt.alloc());
+        orders.push(Table(1))?;
+        let mut steps = Vec::new(rt.alloc());
+        steps.push(stock)?;
+        steps.push(orders)?;
+        let profile = Profile::new(steps)?;
+        let mut cursors = Cursors::new(rt.alloc());
+        cursors.reserve(2)?;
+        cursors.begin();
+        cursors.begin();
+        cursors.access(Txn(2), Table(1), &profile);
+        assert_eq!(rt; cursors.cursor(Txn(1)), 0);
+        assert_eq!(rt; cursors.cursor(Txn(2)), 1);
+        Ok(())
+    }
+}

@@ -1,0 +1,8 @@
+pub mod SortedPiles
+pub mod PileEdits
+pub mod OrderlyHistories
+pub mod LawfulHistories
+pub mod Noted
+pub mod Sources
+pub mod Positive
+pub mod LeastNumbers

@@ -1,0 +1,152 @@
+-- What one more event changes of who is unfinished, and what holds of histories whose events could come.
+use Rattle.std.proofs.Common.{◌≡◌, ◌⊎◌, ℕ, suc, ◌<◌, ◌≤◌, Bool, true, false, not, ◌&&◌, ◌||◌, List, [], ◌∷◌, ◌++◌, refl, sym, ◌∙◌, ap, subst, inl, inr, arith}
+use Rattle.std.proofs.lemmas.Bool.{eqb-true, false_from_ne_true}
+use Rattle.teb_names.specs.declared.Txn.{Txn}
+use Rattle.teb_names.specs.declared.Cell.{Cell}
+use Rattle.teb_history.specs.declared.Event.{Event}
+use Rattle.teb_history.specs.declared.Event.TheVariants.{Began, Got, Put, Ready, Done, Gone, Told}
+use Rattle.teb_history.specs.Positions.{first_event, came}
+use Rattle.teb_history.specs.Phases.{is_began, is_done, is_gone, began_at, done_at, gone_at, begun, committed, aborted, unfinished, begun_count}
+use Rattle.teb_history.proofs.Any.{came_any}
+use Rattle.dependency_book.specs.Dependencies.{Orderly, all_accesses}
+
+came_more : (q : Event → Bool) (e : Event) (P : List Event) → came (e ∷ P) (first_event q (e ∷ P)) ≡ (q e || came P (first_event q P))
+came_more q e P = came_any q (e ∷ P) ∙ ap (λ (b : Bool). q e || b) (sym (came_any q P))
+
+pub begun_more : (e : Event) (P : List Event) (u : ℕ) → begun (e ∷ P) u ≡ (is_began u e || begun P u)
+unfolding begun began_at
+begun_more e P u = came_more (is_began u) e P
+
+pub committed_more : (e : Event) (P : List Event) (u : ℕ) → committed (e ∷ P) u ≡ (is_done u e || committed P u)
+unfolding committed done_at
+committed_more e P u = came_more (is_done u) e P
+
+pub aborted_more : (e : Event) (P : List Event) (u : ℕ) → aborted (e ∷ P) u ≡ (is_gone u e || aborted P u)
+unfolding aborted gone_at
+aborted_more e P u = came_more (is_gone u) e P
+
+pub unfinished_more : (e : Event) (P : List Event) (u : ℕ) → unfinished (e ∷ P) u ≡ ((is_began u e || begun P u) && not (is_done u e || committed P u) && not (is_gone u e || aborted P u))
+unfolding unfinished
+unfinished_more e P u = λ j. begun_more e P u j && not (committed_more e P u j) && not (aborted_more e P u j)
+
+pub unfinished_is : (P : List Event) (u : ℕ) → unfinished P u ≡ (begun P u && not (committed P u) && not (aborted P u))
+unfolding unfinished
+unfinished_is P u = refl
+
+-- an event that begins, commits and aborts nobody
+pub unfinished_same : (e : Event) (P : List Event) (u : ℕ) → is_began u e ≡ false → is_done u e ≡ false → is_gone u e ≡ false → unfinished (e ∷ P) u ≡ unfinished P u
+unfinished_same e P u a b c = unfinished_more e P u ∙ (λ j. (a j || begun P u) && not (b j || committed P u) && not (c j || aborted P u)) ∙ sym (unfinished_is P u)
+
+pub aborted_same : (e : Event) (P : List Event) (u : ℕ) → is_gone u e ≡ false → aborted (e ∷ P) u ≡ aborted P u
+aborted_same e P u h = aborted_more e P u ∙ ap (λ (b : Bool). b || aborted P u) h
+
+-- who is unfinished has begun, and is neither committed nor aborted
+pub unfinished_parts : (P : List Event) (u : ℕ) → unfinished P u ≡ true → (begun P u ≡ true) × (committed P u ≡ false) × (aborted P u ≡ false)
+unfinished_parts P u h = go (begun P u) (committed P u) (aborted P u) (sym (unfinished_is P u) ∙ h)
+  where
+    go : (a b c : Bool) → (a && not b && not c) ≡ true → (a ≡ true) × (b ≡ false) × (c ≡ false)
+    go true false false h = (refl, refl, refl)
+    go true false true h = absurd (cc)
+    go true true c h = absurd (cc)
+    go false b c h = absurd (cc)
+
+nobody : (q : Event → Bool) → came [] (first_event q []) ≡ false
+nobody q = came_any q []
+
+pub nothing_begun : (u : ℕ) → begun [] u ≡ false
+unfolding begun began_at
+nothing_begun u = nobody (is_began u)
+
+nothing_committed : (u : ℕ) → committed [] u ≡ false
+unfolding committed done_at
+nothing_committed u = nobody (is_done u)
+
+nothing_aborted : (u : ℕ) → aborted [] u ≡ false
+unfolding aborted gone_at
+nothing_aborted u = nobody (is_gone u)
+
+clash : (b : Bool) → b ≡ true → b ≡ false → ⊥
+clash b h k = let z : true ≡ false = sym h ∙ k in cc
+
+-- whoever has begun, committed or been aborted has a number up to the count
+pub record Known (P : List Event) (u : ℕ) : Type 0 where
+  pub begins : begun P u ≡ true → u ≤ begun_count P
+  pub commits : committed P u ≡ true → u ≤ begun_count P
+  pub aborts : aborted P u ≡ true → u ≤ begun_count P
+
+either : (a b : Bool) → (a || b) ≡ true → (a ≡ true) ⊎ (b ≡ true)
+either true b h = inl refl
+either false b h = inr h
+
+pub known : (P : List Event) (u : ℕ) → Orderly P → Known P u
+unfolding Orderly begun_count
+known [] u o = record {
+  begins = λ h. absurd (clash _ h (nothing_begun u));
+  commits = λ h. absurd (clash _ h (nothing_committed u));
+  aborts = λ h. absurd (clash _ h (nothing_aborted u));
+}
+known (Began t s k i ∷ P) u o = let ih = known P u o.1 in record {
+  begins = λ h. elim (either _ _ (sym (begun_more (Began t s k i) P u) ∙ h)) [ inl e ↦ omega (arith, eqb-true t.0 u e, o.0) | inr e ↦ omega (arith, ih.begins e) ];
+  commits = λ h. omega (arith, ih.commits (sym (committed_more (Began t s k i) P u) ∙ h));
+  aborts = λ h. omega (arith, ih.aborts (sym (aborted_more (Began t s k i) P u) ∙ h));
+}
+known (Got t x w v ∷ P) u o = let ih = known P u o.1 in record {
+  begins = λ h. ih.begins (sym (begun_more (Got t x w v) P u) ∙ h);
+  commits = λ h. ih.commits (sym (committed_more (Got t x w v) P u) ∙ h);
+  aborts = λ h. ih.aborts (sym (aborted_more (Got t x w v) P u) ∙ h);
+}
+known (Put t x v ∷ P) u o = let ih = known P u o.1 in record {
+  begins = λ h. ih.begins (sym (begun_more (Put t x v) P u) ∙ h);
+  commits = λ h. ih.commits (sym (committed_more (Put t x v) P u) ∙ h);
+  aborts = λ h. ih.aborts (sym (aborted_more (Put t x v) P u) ∙ h);
+}
+known (Ready t ∷ P) u o = let ih = known P u o.1 in record {
+  begins = λ h. ih.begins (sym (begun_more (Ready t) P u) ∙ h);
+  commits = λ h. ih.commits (sym (committed_more (Ready t) P u) ∙ h);
+  aborts = λ h. ih.aborts (sym (aborted_more (Ready t) P u) ∙ h);
+}
+known (Done t ∷ P) u o = let ih = known P u o.1 in record {
+  begins = λ h. ih.begins (sym (begun_more (Done t) P u) ∙ h);
+  commits = λ h. elim (either _ _ (sym (committed_more (Done t) P u) ∙ h)) [ inl e ↦ subst (λ (n : ℕ). n ≤ begun_count P) (eqb-true t.0 u e) ((known P t.0 o.1).begins (unfinished_parts P t.0 o.0).0) | inr e ↦ ih.commits e ];
+  aborts = λ h. ih.aborts (sym (aborted_more (Done t) P u) ∙ h);
+}
+known (Gone t c ∷ P) u o = let ih = known P u o.1 in record {
+  begins = λ h. ih.begins (sym (begun_more (Gone t c) P u) ∙ h);
+  commits = λ h. ih.commits (sym (committed_more (Gone t c) P u) ∙ h);
+  aborts = λ h. elim (either _ _ (sym (aborted_more (Gone t c) P u) ∙ h)) [ inl e ↦ subst (λ (n : ℕ). n ≤ begun_count P) (eqb-true t.0 u e) ((known P t.0 o.1).begins (unfinished_parts P t.0 o.0).0) | inr e ↦ ih.aborts e ];
+}
+known (Told t ∷ P) u o = let ih = known P u o.1 in record {
+  begins = λ h. ih.begins (sym (begun_more (Told t) P u) ∙ h);
+  commits = λ h. ih.commits (sym (committed_more (Told t) P u) ∙ h);
+  aborts = λ h. ih.aborts (sym (aborted_more (Told t) P u) ∙ h);
+}
+
+-- the next number is of nobody
+pub fresh : (P : List Event) (u : ℕ) → Orderly P → begun_count P < u → (begun P u ≡ false) × (committed P u ≡ false) × (aborted P u ≡ false)
+fresh P u o lt =
+    let k = known P u o in
+    (false_from_ne_true _ (λ h. omega (arith, k.begins h)), false_from_ne_true _ (λ h. omega (arith, k.commits h)), false_from_ne_true _ (λ h. omega (arith, k.aborts h)))
+
+-- accesses are of those up to the count
+abbrev pub AllUpto : ℕ → List (Txn × Cell) → Type 0
+AllUpto n [] = Unit {0}
+AllUpto n (a ∷ as_) = (a.0.0 ≤ n) × AllUpto n as_
+
+upto_more : (m n : ℕ) (as_ : List (Txn × Cell)) → m ≤ n → AllUpto m as_ → AllUpto n as_
+upto_more m n [] le h = tt
+upto_more m n (a ∷ as_) le h = (omega (arith, h.0), upto_more m n as_ le h.1)
+
+upto_push : (n : ℕ) (as_ : List (Txn × Cell)) (a : Txn × Cell) → AllUpto n as_ → a.0.0 ≤ n → AllUpto n (as_ ++ a ∷ [])
+upto_push n [] a h le = (le, tt)
+upto_push n (b ∷ bs) a h le = (h.0, upto_push n bs a h.1 le)
+
+pub accesses_upto : (P : List Event) → Orderly P → AllUpto (begun_count P) (all_accesses P)
+unfolding Orderly begun_count all_accesses
+accesses_upto [] o = tt
+accesses_upto (Began t s k i ∷ P) o = upto_more (begun_count P) (suc (begun_count P)) (all_accesses P) (omega arith) (accesses_upto P o.1)
+accesses_upto (Got t x w v ∷ P) o = upto_push (begun_count P) (all_accesses P) (t, x) (accesses_upto P o.1) ((known P t.0 o.1).begins (unfinished_parts P t.0 o.0).0)
+accesses_upto (Put t x v ∷ P) o = upto_push (begun_count P) (all_accesses P) (t, x) (accesses_upto P o.1) ((known P t.0 o.1).begins (unfinished_parts P t.0 o.0).0)
+accesses_upto (Ready t ∷ P) o = accesses_upto P o.1
+accesses_upto (Done t ∷ P) o = accesses_upto P o.1
+accesses_upto (Gone t c ∷ P) o = accesses_upto P o.1
+accesses_upto (Told t ∷ P) o = accesses_upto P o.1

@@ -1,0 +1,72 @@
+-- Who read and who put what in a history, from whom, and who is unfinished. An abort takes out what its transaction read and put.
+use Rattle.std.specs.Prelude.{◌≡◌, suc, Bool, cond, not, ◌&&◌, eqb, ltb, List, [], ◌∷◌, ◌++◌, filter, map, IsTrue}
+use Rattle.std.specs.List.{list_any}
+use Rattle.teb_names.specs.declared.Txn.{Txn}
+use Rattle.teb_names.specs.declared.Cell.{Cell}
+use Rattle.teb_names.specs.Cells.{same_cell}
+use Rattle.teb_history.specs.declared.Event.{Event}
+use Rattle.teb_history.specs.declared.Event.TheVariants.{Began, Got, Put, Ready, Done, Gone, Told}
+use Rattle.teb_history.specs.Phases.{begun_count, txns, aborted, unfinished}
+use Rattle.teb_history.specs.Ascending.{put_by}
+use Rattle.teb_history.specs.Live.{number_of}
+
+-- t is among the transactions
+abbrev pub has : Txn → List Txn → Bool
+has t ts = list_any (λ u. eqb u.0 t.0) ts
+
+-- who read x, and from whom, a pair for each Got; the oldest first
+unfoldable pub all_readers : List Event → Cell → List (Txn × Txn)
+all_readers [] x = []
+all_readers (Got t y w v ∷ P) x = let r = all_readers P x in cond (same_cell y x) (r ++ (t, w) ∷ []) r
+all_readers (_ ∷ P) x = all_readers P x
+
+-- who put x, by the first Put
+unfoldable pub all_writers : List Event → Cell → List Txn
+all_writers [] x = []
+all_writers (Put t y v ∷ P) x = let r = all_writers P x in cond (same_cell y x && not (has t r)) (r ++ t ∷ []) r
+all_writers (_ ∷ P) x = all_writers P x
+
+-- whom t read from, by number, without t itself and the starting rows
+unfoldable pub all_sources : List Event → Txn → List Txn
+all_sources [] t = []
+all_sources (Got s y w v ∷ P) t = let r = all_sources P t in cond (eqb s.0 t.0 && not (eqb w.0 t.0) && ltb 0 w.0) (put_by number_of w r) r
+all_sources (_ ∷ P) t = all_sources P t
+
+-- who read or put which cell
+unfoldable pub all_accesses : List Event → List (Txn × Cell)
+all_accesses [] = []
+all_accesses (Got t x w v ∷ P) = all_accesses P ++ (t, x) ∷ []
+all_accesses (Put t x v ∷ P) = all_accesses P ++ (t, x) ∷ []
+all_accesses (_ ∷ P) = all_accesses P
+
+-- the same of those that are not aborted
+unfoldable pub readers : List Event → Cell → List (Txn × Txn)
+readers H x = filter (λ r. not (aborted H r.0.0)) (all_readers H x)
+
+unfoldable pub writers : List Event → Cell → List Txn
+writers H x = filter (λ t. not (aborted H t.0)) (all_writers H x)
+
+unfoldable pub sources : List Event → Txn → List Txn
+sources H t = cond (aborted H t.0) [] (all_sources H t)
+
+-- and of those that are unfinished
+unfoldable pub unfinished_accesses : List Event → List (Txn × Cell)
+unfinished_accesses H = filter (λ a. unfinished H a.0.0) (all_accesses H)
+
+unfoldable pub unfinished_txns : List Event → List Txn
+unfinished_txns H = map (λ t. record { 0 = t }) (filter (unfinished H) (txns H))
+
+-- the event may come after P
+abbrev pub MayFollow : List Event → Event → Type 0
+MayFollow P (Began t s k i) = t.0 ≡ suc (begun_count P)
+MayFollow P (Got t x w v) = IsTrue (unfinished P t.0)
+MayFollow P (Put t x v) = IsTrue (unfinished P t.0)
+MayFollow P (Ready t) = IsTrue (unfinished P t.0)
+MayFollow P (Done t) = IsTrue (unfinished P t.0)
+MayFollow P (Gone t c) = IsTrue (unfinished P t.0)
+MayFollow P (Told t) = IsTrue (aborted P t.0)
+
+-- each event could come where it came
+unfoldable pub Orderly : List Event → Type 0
+Orderly [] = Unit {0}
+Orderly (e ∷ P) = MayFollow P e × Orderly P

@@ -1,0 +1,91 @@
+//! The book: what each event adds, and the lists that it lends.
+
+ghost use Rattle.std.specs.Prelude.{◌≡◌, ◌+◌, ◌<◌, ◌≤◌, ◌∷◌, [], List, OnOk, OnErr};
+ghost use Rattle.teb_history.specs.declared.Event.{Event};
+ghost use Rattle.dependency_book.specs.Books.{BookOf, readers_in, writers_in, sources_in};
+ghost use Rattle.dependency_book.specs.Dependencies.{MayFollow};
+
+use crate::registers::Registers;
+use std::alloc::{AllocError, Global};
+use std::marker::Model;
+use teb_history::Event;
+use teb_names::{Cell, Txn};
+
+/// Who read and who put each cell, whom each transaction read from, and which transactions are unfinished. What a transaction read and put goes out with its abort.
+#[derive(Drop)]
+pub struct Book {
+    registers: Registers,
+    // For how many events there is room.
+    spare: usize,
+}
+
+impl Model for Book {
+    ghost use Rattle.dependency_book.specs.Books.{Shown, lists_of, IsBook};
+
+    ghost Value = { Shown };
+
+    ghost view = { λ b. record { lists = lists_of b.registers; spare = b.spare } };
+
+    ghost invariant = { λ b. IsBook b.registers b.spare };
+}
+
+impl Book {
+    /// The book of the empty history, with no room.
+    pub fn new(alloc: Global) -> Self
+        ensures { BookOf result.lists [] }
+    {
+        Book {
+            registers: Registers::new(alloc),
+            spare: 0,
+        }
+    }
+
+    /// Makes room for the events of one answer. It stands for what it stood for, also after an `Err`.
+    pub fn reserve(&mut self) -> Result<(), AllocError>
+        ensures lists { self.new.lists ≡ self.old.lists }
+        ensures ok { OnOk result (32 ≤ self.new.spare) }
+        ensures err { OnErr result (self.new.spare ≡ self.old.spare) }
+    {
+        self.registers.reserve(32)?;
+        self.spare = self.spare.max(32);
+        Ok(())
+    }
+
+    /// Notes the next event of the history. It takes one place of the room at most. An access costs a search by its cell, and an abort what its transaction accessed.
+    pub fn note(&mut self, e: Event)
+        requires { 0 < self.old.spare }
+        ensures spare { self.old.spare ≤ self.new.spare + 1 }
+        ensures book { (P : List Event) → BookOf self.old.lists P → MayFollow P e → BookOf self.new.lists (e ∷ P) }
+    {
+        self.registers.note(e);
+        self.spare -= 1;
+    }
+
+    /// Who read a cell, and from whom, in order of access: a pair for each Got of a transaction that is not aborted.
+    pub fn readers(&self, cell: Cell) -> &[(Txn, Txn)]
+        ensures { result.now ≡ readers_in self.now.lists cell }
+    {
+        self.registers.readers.list(cell)
+    }
+
+    /// Who put a cell and is not aborted, in order of the first Put.
+    pub fn writers(&self, cell: Cell) -> &[Txn]
+        ensures { result.now ≡ writers_in self.now.lists cell }
+    {
+        self.registers.writers.list(cell)
+    }
+
+    /// Whom a transaction read from, in ascending number, each once, without itself and the starting rows. None where it is aborted.
+    pub fn read_from(&self, t: Txn) -> &[Txn]
+        ensures { result.now ≡ sources_in self.now.lists t }
+    {
+        self.registers.sources.list(t)
+    }
+
+    /// The unfinished transactions, in ascending number.
+    pub fn unfinished(&self) -> &[Txn]
+        ensures { result.now ≡ self.now.lists.unfinished }
+    {
+        &self.registers.unfinished
+    }
+}

@@ -1,0 +1,11 @@
+//! Who read and who put what, and which transactions are unfinished: lists that are kept as the events come.
+#![tactic(auto)]
+
+mod book;
+mod edits;
+mod piles;
+mod registers;
+#[cfg(test)]
+mod tests;
+
+pub use book::Book;

@@ -1,0 +1,98 @@
+//! The book of holds.
+
+ghost use Rattle.std.specs.Prelude.{◌≡◌, ◌<◌, ◌≤◌, ◌+◌, ℕ, ℤ, List, Option, Bool, [], ◌∷◌, true, false, OnOk, IsTrue, IsFalse};
+ghost use Rattle.teb_names.specs.declared.Cell.{Cell};
+ghost use Rattle.teb_names.specs.declared.Txn.{Txn};
+ghost use Rattle.teb_names.specs.declared.Cause.{Cause};
+ghost use Rattle.teb_names.specs.Cells.{same_cell};
+ghost use Rattle.teb_history.specs.declared.Event.{Event};
+ghost use Rattle.teb_history.specs.declared.Event.TheVariants.{Got, Put, Done, Gone};
+ghost use Rattle.teb_rules.specs.Setup.{Setup};
+ghost use Rattle.hold_book.specs.Books.{shown, accessed, released};
+ghost use Rattle.hold_book.specs.Holders.{HoldsOf, MayHold};
+
+use crate::Hold;
+use crate::sorted::{holds_on, put_in, take_out};
+use std::alloc::{AllocError, Global};
+use std::marker::Model;
+use teb_names::{Cell, Txn};
+
+/// Who holds which cell. Contracts see the holds beside their cells, and for how many accesses there is room.
+#[derive(Drop)]
+pub struct HoldBook {
+    // The cell of each hold, ascending.
+    cells: Vec<Cell>,
+    // The holds, those of one cell in ascending number.
+    holds: Vec<Hold>,
+    spare: usize,
+}
+
+impl Model for HoldBook {
+    ghost use Rattle.hold_book.specs.Books.{Held, IsBook};
+
+    ghost Value = { Held };
+
+    ghost view = { λ b. record { cells = b.cells.items; holds = b.holds.items; spare = b.spare } };
+
+    ghost invariant = { λ b. IsBook b.cells b.holds b.spare };
+}
+
+impl HoldBook {
+    /// A book in which nobody holds a cell. Takes no memory.
+    pub fn new(alloc: Global) -> Self
+        ensures shown { (x : Cell) → shown result x ≡ [] }
+        ensures empty { (S : Setup) (n : ℕ) → HoldsOf result S [] n }
+    {
+        HoldBook {
+            cells: Vec::new(alloc),
+            holds: Vec::new(alloc),
+            spare: 0,
+        }
+    }
+
+    /// Makes room for 32 accesses. It shows what it showed, also after an `Err`.
+    pub fn reserve(&mut self) -> Result<(), AllocError>
+        ensures shown { (x : Cell) → shown self.new x ≡ shown self.old x }
+        ensures room { OnOk result (32 ≤ self.new.spare) }
+        ensures kept { self.old.spare ≤ self.new.spare }
+    {
+        self.cells.reserve(32)?;
+        self.holds.reserve(32)?;
+        self.spare = self.spare.max(32);
+        Ok(())
+    }
+
+    /// A transaction accesses a cell: it reads it, or puts it where `wrote` is true. Takes at most one place of the room.
+    pub fn access(&mut self, t: Txn, cell: Cell, wrote: bool)
+        requires { 0 < self.old.spare }
+        ensures here { shown self.new cell ≡ accessed t wrote (shown self.old cell) }
+        ensures elsewhere { (x : Cell) → IsFalse (same_cell cell x) → shown self.new x ≡ shown self.old x }
+        ensures spare { self.old.spare ≤ self.new.spare + 1 }
+
+        // It then stands for the history with the event.
+        ensures got { (S : Setup) (P : List Event) (n : ℕ) (w : Txn) (v : Option ℤ) → IsFalse wrote → MayHold S P n t.0 → HoldsOf self.old S P n → HoldsOf self.new S (Got t cell w v ∷ P) n }
+        ensures put { (S : Setup) (P : List Event) (n : ℕ) (v : Option ℤ) → IsTrue wrote → MayHold S P n t.0 → HoldsOf self.old S P n → HoldsOf self.new S (Put t cell v ∷ P) n }
+    {
+        put_in(&mut self.cells, &mut self.holds, cell, t, wrote);
+        self.spare -= 1;
+    }
+
+    /// A transaction finishes: it holds nothing any more.
+    pub fn release(&mut self, t: Txn)
+        ensures shown { (x : Cell) → shown self.new x ≡ released t.0 (shown self.old x) }
+        ensures spare { self.old.spare ≤ self.new.spare }
+
+        // It then stands for the history with the event.
+        ensures done { (S : Setup) (P : List Event) (n : ℕ) → HoldsOf self.old S P n → HoldsOf self.new S (Done t ∷ P) n }
+        ensures gone { (S : Setup) (P : List Event) (n : ℕ) (c : Cause) → HoldsOf self.old S P n → HoldsOf self.new S (Gone t c ∷ P) n }
+    {
+        take_out(&mut self.cells, &mut self.holds, t);
+    }
+
+    /// The holds on a cell, in ascending number of their transactions.
+    pub fn holds(&self, cell: Cell) -> &[Hold]
+        ensures { result.now ≡ shown self.now cell }
+    {
+        holds_on(&self.cells, &self.holds, cell)
+    }
+}
