@@ -1,0 +1,124 @@
+//! The control of a locks node: a read waits for whoever has put the cell, and a write for whoever has accessed it.
+
+ghost use Rattle.std.specs.Prelude.{◌≡◌, [], IfOk, find};
+ghost use Rattle.teb_names.specs.declared.ControlKind.TheVariants.{Locks as IsLocks};
+ghost use Rattle.teb_history.specs.Phases.{txns};
+ghost use Rattle.teb_rules.specs.Tree.{row};
+ghost use Rattle.teb_rules.specs.Controls.{blocks};
+ghost use Rattle.phase_api.specs.Told.{setup_of, events_of};
+ghost use Rattle.phase_api.specs.Calls.{IsHere};
+ghost use Rattle.hold_book.specs.Holders.{holds_in};
+ghost use Rattle.hold_register.specs.Waits.{some_txn};
+ghost use Rattle.nexus_locks.specs.Standing.{LocksStand};
+
+use hold_book::Hold;
+use hold_register::{Register, wait_for};
+use phase_api::{Control, Facts};
+use std::alloc::{AllocError, Global};
+use teb_history::Event;
+use teb_names::{Cell, Node, Spot, Txn};
+use teb_rules::Verdict;
+use version_chain::Chains;
+
+/// The locks control of a node.
+#[derive(Drop)]
+pub struct Locks {
+    register: Register,
+}
+
+impl Locks {
+    /// The control of a locks node for an empty history. Takes no memory.
+    pub fn new(alloc: Global, node: Node, facts: &Facts) -> Result<Self, AllocError>
+        requires kind { (row (setup_of facts.now).tree node.0).control ≡ IsLocks }
+        requires empty { events_of facts.now ≡ [] }
+        ensures node { IfOk result (λ c. c.register.node ≡ node) }
+        ensures stands { IfOk result (λ c. LocksStand c.register.node.0 c.register.book (setup_of facts.now) (events_of facts.now)) }
+    {
+        let _ = facts;
+        Ok(Locks {
+            register: Register::new(alloc, node),
+        })
+    }
+
+    /// Who holds a cell: the unfinished transactions on whose path the node stands that have accessed it, in ascending number.
+    pub fn holds(&self, facts: &Facts, cell: Cell) -> &[Hold]
+        requires { LocksStand self.now.register.node.0 self.now.register.book (setup_of facts.now) (events_of facts.now) }
+        ensures { result.now ≡ holds_in (setup_of facts.now) (events_of facts.now) self.now.register.node.0 cell }
+    {
+        self.register.holds(facts, cell)
+    }
+
+    // The least-numbered transaction that an access waits for.
+    fn blocker(&self, facts: &Facts, t: Txn, cell: Cell, write: bool) -> Option<Txn>
+        requires stands { LocksStand self.now.register.node.0 self.now.register.book (setup_of facts.now) (events_of facts.now) }
+        requires here { IsHere facts.now self.now.register.node.0 t.0 }
+        ensures { result ≡ some_txn (find (blocks (setup_of facts.now) (events_of facts.now) self.now.register.node.0 t.0 cell write) (txns (events_of facts.now))) }
+    {
+        let node = self.register.node();
+        for hold in self.holds(facts, cell) {
+            if (write || hold.wrote) && facts.meet_at(node, t, hold.txn) {
+                return Some(hold.txn);
+            }
+        }
+        None
+    }
+}
+
+impl Control for Locks {
+    ghost use Rattle.nexus_locks.specs.Standing.{LocksStand};
+
+    ghost stands = { λ c S H. LocksStand c.register.node.0 c.register.book S H };
+
+    ghost place = { λ c. c.register.node.0 };
+
+    ghost spare = { λ c. c.register.book.spare };
+
+    ghost sound = { λ c S H s. s.register.orderly };
+
+    fn node(&self) -> Node {
+        self.register.node()
+    }
+
+    fn reserve(&mut self) -> Result<(), AllocError> {
+        self.register.reserve()
+    }
+
+    fn note(&mut self, facts: &Facts, e: Event) {
+        self.register.note(facts, e);
+    }
+
+    fn start(&self, _facts: &Facts, _s: Spot) -> Verdict {
+        Verdict::Go
+    }
+
+    fn before_read(&self, facts: &Facts, t: Txn, cell: Cell) -> Verdict {
+        wait_for(self.blocker(facts, t, cell, false))
+    }
+
+    fn before_write<C: Chains>(
+        &self,
+        facts: &Facts,
+        _chains: &C,
+        _at: usize,
+        t: Txn,
+        cell: Cell,
+    ) -> Verdict {
+        wait_for(self.blocker(facts, t, cell, true))
+    }
+
+    fn sees(&self, facts: &Facts, _reader: Txn, writer: Txn, _cell: Cell) -> bool {
+        facts.history.is_committed(writer)
+    }
+
+    fn orders(&self, facts: &Facts, u: Txn, w: Txn, cell: Cell) -> bool {
+        facts.history.put_at(u, cell) < facts.history.put_at(w, cell)
+    }
+
+    fn validate(&self, _facts: &Facts, _t: Txn) -> Verdict {
+        Verdict::Go
+    }
+
+    fn gate(&self, _facts: &Facts, _t: Txn) -> Verdict {
+        Verdict::Go
+    }
+}

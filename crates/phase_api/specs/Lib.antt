@@ -1,0 +1,4 @@
+pub mod Told
+pub mod Versions
+pub mod Calls
+pub mod Standing

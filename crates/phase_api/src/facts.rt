@@ -1,0 +1,66 @@
+//! What controls are told.
+
+ghost use Rattle.std.specs.Prelude.{◌≡◌, IfSome, IsSome, IsNone, IsTrue, ◌↔◌};
+
+use cc_tree::Tree;
+use teb_history::History;
+use teb_names::{Node, Spot, Txn};
+use txn_profile::Profile;
+
+/// The history, and what the setup says of types: the tree, and the profile of each type.
+#[derive(Drop)]
+pub struct Facts<'a> {
+    pub history: &'a History,
+    pub tree: &'a Tree,
+    pub profiles: &'a [Profile],
+}
+
+#[tactic(auto, unfolding(teb_rules::specs::Tree::on, teb_rules::specs::Tree::side, teb_rules::specs::Tree::meets))]
+impl<'a> Facts<'a> {
+    ghost use Rattle.teb_history.specs.Phases.{begun, spot_of};
+    ghost use Rattle.teb_rules.specs.Tree.{on, side, meets};
+    ghost use Rattle.phase_api.specs.Told.{setup_of, events_of, IsTyped};
+
+    /// The type and the instance with which a transaction began.
+    pub fn spot(&self, t: Txn) -> Option<Spot>
+        ensures begun { IsSome result ↔ IsTrue (begun (events_of self.now) t.0) }
+        ensures spot { IfSome result (λ s. s ≡ spot_of (events_of self.now) t.0) }
+    {
+        self.history.spot(t)
+    }
+
+    /// Whether a node is on the path of a transaction.
+    pub fn is_on(&self, n: Node, t: Txn) -> bool
+        requires { IsTyped self.now t.0 }
+        ensures { result ≡ on (setup_of self.now) (events_of self.now) n.0 t.0 }
+    {
+        match self.spot(t) {
+            Some(spot) => self.tree.is_on(n, spot),
+            None => false,
+        }
+    }
+
+    /// The number of the side of a node on which a transaction is: the child's above its leaf, and its own at the leaf.
+    pub fn side(&self, n: Node, t: Txn) -> u32
+        requires typed { IsTyped self.now t.0 }
+        requires on { IsTrue (on (setup_of self.now) (events_of self.now) n.0 t.0) }
+        ensures { result ≡ side (setup_of self.now) (events_of self.now) n.0 t.0 }
+    {
+        match self.spot(t) {
+            Some(spot) => match self.tree.side(n, spot) {
+                Some(child) => u32::from(child.0),
+                None => t.0,
+            },
+            None => 0,
+        }
+    }
+
+    /// Whether two transactions meet at a node: it is on the paths of both, and they are on different sides of it.
+    pub fn meet_at(&self, n: Node, t: Txn, u: Txn) -> bool
+        requires left { IsTyped self.now t.0 }
+        requires right { IsTyped self.now u.0 }
+        ensures { result ≡ meets (setup_of self.now) (events_of self.now) n.0 t.0 u.0 }
+    {
+        self.is_on(n, t) && self.is_on(n, u) && self.side(n, t) != self.side(n, u)
+    }
+}

@@ -1,0 +1,8 @@
+//! What every control of a node is told and asked: the facts, and the trait of its calls.
+#![tactic(auto)]
+
+mod control;
+mod facts;
+
+pub use control::Control;
+pub use facts::Facts;

@@ -1,0 +1,4 @@
+pub mod Said
+pub mod Noting
+pub mod Ways
+pub mod Ranks

@@ -1,0 +1,31 @@
+use Rattle.std.proofs.Common.{◌≡◌, ◌∙◌, ap, sym, ℕ, Some, ltb, find, lt-ltb, le-ltb}
+use Rattle.teb_history.specs.Phases.{txns}
+use Rattle.teb_rules.specs.Steps.{rank_of_table}
+use Rattle.phase_api.specs.Told.{setup_of, events_of}
+use Rattle.hold_register.specs.Waits.{some_txn, wait_for_txn}
+use Rattle.runtime_pipeline.specs.Standing.{holds_up}
+use Rattle.runtime_pipeline.proofs.Said.{access_stays, access_enters, access_held}
+use Rattle.runtime_pipeline.proofs.pipeline.Pipeline.before_access.Goals as goal
+use Rattle.runtime_pipeline.proofs.pipeline.Pipeline.before_access.Goals.{then-current_rank-rank+in_default, else-current_rank-rank}
+
+pub returns-in-Some : goal.returns-in-Some
+returns-in-Some c =
+    let S = setup_of c.args.facts.now in
+    let H = events_of c.args.facts.now in
+    let n = c.args.self.now.register.node.0 in
+    let rank : c.rank-rank.result ≡ rank_of_table S n c.args.cell.table.0 = c.rank-rank.ensures ∙ c.requires.stands.ranks c.args.cell.table.0 in
+    let less = (λ j. ltb (sym c.current_rank.ensures j) (sym rank j)) ∙ lt-ltb _ _ c.if-current_rank-rank.true in
+    access_held S H n c.requires.stands.kind c.args.t.0 c.args.cell c.args.write c.in-Some.u less
+    (sym c.in-Some.is ∙ c.first_ahead.ensures ∙ ap (λ (k : ℕ). some_txn (find (holds_up S H n c.args.t.0 (Some k)) (txns H))) rank)
+
+pub returns : goal.returns
+returns c =
+    let S = setup_of c.args.facts.now in
+    let H = events_of c.args.facts.now in
+    let n = c.args.self.now.register.node.0 in
+    let rank : c.rank-rank.result ≡ rank_of_table S n c.args.cell.table.0 = c.rank-rank.ensures ∙ c.requires.stands.ranks c.args.cell.table.0 in
+    c.wait_for.ensures ∙ ap wait_for_txn c.first_holder.ensures ∙ elim c.if-current_rank-rank.branch [
+      | then-current_rank-rank+in_default w ↦ access_enters S H n c.requires.stands.kind c.args.t.0 c.args.cell c.args.write ((λ j. ltb (sym c.current_rank.ensures j) (sym rank j)) ∙ lt-ltb _ _ w.if-current_rank-rank.true)
+          (sym w.in_default.is ∙ w.first_ahead.ensures ∙ ap (λ (k : ℕ). some_txn (find (holds_up S H n c.args.t.0 (Some k)) (txns H))) rank)
+      | else-current_rank-rank w ↦ access_stays S H n c.requires.stands.kind c.args.t.0 c.args.cell c.args.write ((λ j. ltb (sym c.current_rank.ensures j) (sym rank j)) ∙ le-ltb _ _ w.if-current_rank-rank.false)
+    ]

@@ -1,0 +1,8 @@
+use Rattle.std.proofs.Common.{◌≡◌, filter}
+use Rattle.cc_tree.specs.Grown.{kind_numbers}
+use Rattle.teb_rules.specs.Tree.{below}
+use Rattle.teb_rules.specs.Steps.{stands_under}
+use Rattle.runtime_pipeline.proofs.under.kinds_under.Given as goal
+
+abbrev pub invariant-loop-k : goal.invariant-loop-k
+invariant-loop-k l = kind_numbers l.kinds.items ≡ filter (stands_under l.fn.tree.rows l.fn.node.0) (below l.k)

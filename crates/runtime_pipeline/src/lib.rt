@@ -1,0 +1,8 @@
+//! Runtime pipelining: the control of a pipeline node.
+#![tactic(auto)]
+
+mod node_ranks;
+mod pipeline;
+mod under;
+
+pub use pipeline::Pipeline;

@@ -1,0 +1,240 @@
+//! The control of a pipeline node: an access waits for whoever has accessed the cell and has not passed its rank, and a
+//! transaction enters a step, and commits, behind those that are earlier.
+
+ghost use Rattle.std.specs.Prelude.{◌≡◌, ◌<◌, ◌≤◌, ◌&&◌, not, min, [], ℕ, Option, Some, None, IfOk, IsTrue, find, slice_index, slice_index_or, length};
+ghost use Rattle.teb_names.specs.declared.ControlKind.TheVariants.{Pipeline as IsPipeline};
+ghost use Rattle.teb_history.specs.Phases.{txns, unfinished, kind_of};
+ghost use Rattle.teb_rules.specs.Setup.{above_profiles};
+ghost use Rattle.teb_rules.specs.Tree.{row};
+ghost use Rattle.teb_rules.specs.Steps.{passed, rank_of_table, rank_of_step, cursor};
+ghost use Rattle.teb_rules.specs.Controls.{blocks, on_access};
+ghost use Rattle.phase_api.specs.Told.{setup_of, events_of, IsTyped};
+ghost use Rattle.phase_api.specs.Calls.{IsHere};
+ghost use Rattle.hold_book.specs.Holders.{holds_in};
+ghost use Rattle.hold_register.specs.Waits.{some_txn, wait_for_txn};
+ghost use Rattle.runtime_pipeline.specs.Standing.{PipelineStands, RanksOf, passed_some, holds_up};
+
+use crate::node_ranks::NodeRanks;
+use cursor_book::Cursors;
+use hold_book::Hold;
+use hold_register::{Register, wait_for};
+use phase_api::{Control, Facts};
+use std::alloc::{AllocError, Global};
+use teb_history::Event;
+use teb_names::{Cell, Node, Spot, Table, Txn};
+use teb_rules::Verdict;
+use txn_profile::Profile;
+use version_chain::Chains;
+
+/// The pipeline control of a node.
+#[derive(Drop)]
+pub struct Pipeline {
+    register: Register,
+    ranks: NodeRanks,
+    cursors: Cursors,
+}
+
+impl Pipeline {
+    /// The control of a pipeline node for an empty history.
+    pub fn new(alloc: Global, node: Node, facts: &Facts) -> Result<Self, AllocError>
+        requires kind { (row (setup_of facts.now).tree node.0).control ≡ IsPipeline }
+        requires empty { events_of facts.now ≡ [] }
+        requires profiled { facts.now.tree.now.types ≤ length facts.now.profiles.now }
+        requires few { above_profiles facts.now.profiles.now ≤ 64 }
+        ensures node { IfOk result (λ c. c.register.node ≡ node) }
+        ensures stands { IfOk result (λ c. PipelineStands c.register.node.0 c.register.book c.ranks c.cursors.cursors (setup_of facts.now) (events_of facts.now)) }
+    {
+        let ranks = NodeRanks::of(alloc, node, facts.tree, facts.profiles)?;
+        Ok(Pipeline {
+            register: Register::new(alloc, node),
+            ranks,
+            cursors: Cursors::new(alloc),
+        })
+    }
+
+    /// Who holds a cell: the unfinished transactions on whose path the node stands that have accessed it, in ascending number.
+    pub fn holds(&self, facts: &Facts, cell: Cell) -> &[Hold]
+        requires { PipelineStands self.now.register.node.0 self.now.register.book self.now.ranks self.now.cursors.cursors (setup_of facts.now) (events_of facts.now) }
+        ensures { result.now ≡ holds_in (setup_of facts.now) (events_of facts.now) self.now.register.node.0 cell }
+    {
+        self.register.holds(facts, cell)
+    }
+
+    // The rank of the step at which a transaction stands.
+    fn current_rank(&self, facts: &Facts, u: Txn) -> u8
+        requires stands { PipelineStands self.now.register.node.0 self.now.register.book self.now.ranks self.now.cursors.cursors (setup_of facts.now) (events_of facts.now) }
+        requires typed { IsTyped facts.now u.0 }
+        ensures { result ≡ rank_of_step (setup_of facts.now) self.now.register.node.0 (kind_of (events_of facts.now) u.0) (cursor (setup_of facts.now) (events_of facts.now) u.0) }
+    {
+        match facts.history.kind(u) {
+            Some(kind) => {
+                let step = self.cursors.cursor(u);
+                self.ranks
+                    .rank(first_table(&facts.profiles[usize::from(kind.0)], step))
+            }
+            None => unreachable!(),
+        }
+    }
+
+    // Whether a transaction has passed a rank.
+    fn has_passed(&self, facts: &Facts, u: Txn, rank: u8) -> bool
+        requires stands { PipelineStands self.now.register.node.0 self.now.register.book self.now.ranks self.now.cursors.cursors (setup_of facts.now) (events_of facts.now) }
+        requires typed { IsTyped facts.now u.0 }
+        ensures { result ≡ passed (setup_of facts.now) (events_of facts.now) self.now.register.node.0 u.0 rank }
+    {
+        facts.history.is_prepared(u)
+            || facts.history.is_committed(u)
+            || facts.history.is_aborted(u)
+            || rank < self.current_rank(facts, u)
+    }
+
+    // Whether a transaction holds up t, which is behind it, unless it has passed the rank that is given.
+    fn holds_up(&self, facts: &Facts, t: Txn, rank: Option<u8>, u: Txn) -> bool
+        requires stands { PipelineStands self.now.register.node.0 self.now.register.book self.now.ranks self.now.cursors.cursors (setup_of facts.now) (events_of facts.now) }
+        requires typed { IsTyped facts.now t.0 }
+        ensures { result ≡ holds_up (setup_of facts.now) (events_of facts.now) self.now.register.node.0 t.0 rank u.0 }
+    {
+        if !facts.history.is_unfinished(u) {
+            return false;
+        }
+        let passed = match rank {
+            Some(k) => self.has_passed(facts, u, k),
+            None => false,
+        };
+        !passed && facts.meet_at(self.register.node(), t, u) && facts.history.is_earlier(u, t)
+    }
+
+    // The least-numbered transaction that holds up t. A walk over the live ones.
+    fn first_ahead(&self, facts: &Facts, t: Txn, rank: Option<u8>) -> Option<Txn>
+        requires stands { PipelineStands self.now.register.node.0 self.now.register.book self.now.ranks self.now.cursors.cursors (setup_of facts.now) (events_of facts.now) }
+        requires typed { IsTyped facts.now t.0 }
+        ensures { result ≡ some_txn (find (holds_up (setup_of facts.now) (events_of facts.now) self.now.register.node.0 t.0 rank) (txns (events_of facts.now))) }
+    {
+        for u in facts.history.live() {
+            if self.holds_up(facts, t, rank, *u) {
+                return Some(*u);
+            }
+        }
+        None
+    }
+
+    // The least-numbered transaction that is in the way of an access and has not passed the cell's rank.
+    fn first_holder(&self, facts: &Facts, t: Txn, cell: Cell, write: bool) -> Option<Txn>
+        requires stands { PipelineStands self.now.register.node.0 self.now.register.book self.now.ranks self.now.cursors.cursors (setup_of facts.now) (events_of facts.now) }
+        requires typed { IsTyped facts.now t.0 }
+        ensures { let S = setup_of facts.now in let H = events_of facts.now in let n = self.now.register.node.0 in
+            result ≡ some_txn (find (λ u. blocks S H n t.0 cell write u && not (passed S H n u (rank_of_table S n cell.table.0))) (txns H)) }
+    {
+        let rank = self.ranks.rank(cell.table);
+        let node = self.register.node();
+        for hold in self.holds(facts, cell) {
+            if (write || hold.wrote)
+                && facts.meet_at(node, t, hold.txn)
+                && !self.has_passed(facts, hold.txn, rank)
+            {
+                return Some(hold.txn);
+            }
+        }
+        None
+    }
+
+    // What an access meets: first those that are earlier, where it would enter a step of a greater rank, and then the holders.
+    fn before_access(&self, facts: &Facts, t: Txn, cell: Cell, write: bool) -> Verdict
+        requires stands { PipelineStands self.now.register.node.0 self.now.register.book self.now.ranks self.now.cursors.cursors (setup_of facts.now) (events_of facts.now) }
+        requires typed { IsTyped facts.now t.0 }
+        ensures { result ≡ on_access (row (setup_of facts.now).tree self.now.register.node.0).control (setup_of facts.now) (events_of facts.now) self.now.register.node.0 t.0 cell write }
+    {
+        let rank = self.ranks.rank(cell.table);
+        if self.current_rank(facts, t) < rank {
+            if let Some(u) = self.first_ahead(facts, t, Some(rank)) {
+                return Verdict::Wait(u);
+            }
+        }
+        wait_for(self.first_holder(facts, t, cell, write))
+    }
+}
+
+impl Control for Pipeline {
+    ghost use Rattle.std.specs.Prelude.{min};
+    ghost use Rattle.runtime_pipeline.specs.Standing.{PipelineStands};
+
+    ghost stands = { λ c S H. PipelineStands c.register.node.0 c.register.book c.ranks c.cursors.cursors S H };
+
+    ghost place = { λ c. c.register.node.0 };
+
+    ghost spare = { λ c. min c.register.book.spare c.cursors.spare };
+
+    ghost sound = { λ c S H s. s.register.orderly };
+
+    fn node(&self) -> Node {
+        self.register.node()
+    }
+
+    fn reserve(&mut self) -> Result<(), AllocError> {
+        self.register.reserve()?;
+        self.cursors.reserve(32)
+    }
+
+    fn note(&mut self, facts: &Facts, e: Event) {
+        self.register.note(facts, e);
+        match e {
+            Event::Began { .. } => self.cursors.begin(),
+            Event::Got { txn, cell, .. } | Event::Put { txn, cell, .. } => {
+                if let Some(kind) = facts.history.kind(txn) {
+                    let profile = &facts.profiles[usize::from(kind.0)];
+                    self.cursors.access(txn, cell.table, profile);
+                }
+            }
+            Event::Ready(_) | Event::Done(_) | Event::Gone { .. } | Event::Told(_) => {}
+        }
+    }
+
+    fn start(&self, _facts: &Facts, _s: Spot) -> Verdict {
+        Verdict::Go
+    }
+
+    fn before_read(&self, facts: &Facts, t: Txn, cell: Cell) -> Verdict {
+        self.before_access(facts, t, cell, false)
+    }
+
+    fn before_write<C: Chains>(
+        &self,
+        facts: &Facts,
+        _chains: &C,
+        _at: usize,
+        t: Txn,
+        cell: Cell,
+    ) -> Verdict {
+        self.before_access(facts, t, cell, true)
+    }
+
+    fn sees(&self, facts: &Facts, _reader: Txn, writer: Txn, cell: Cell) -> bool {
+        facts.history.is_committed(writer)
+            || self.has_passed(facts, writer, self.ranks.rank(cell.table))
+    }
+
+    fn orders(&self, facts: &Facts, u: Txn, w: Txn, cell: Cell) -> bool {
+        facts.history.put_at(u, cell) < facts.history.put_at(w, cell)
+    }
+
+    fn validate(&self, _facts: &Facts, _t: Txn) -> Verdict {
+        Verdict::Go
+    }
+
+    fn gate(&self, facts: &Facts, t: Txn) -> Verdict {
+        wait_for(self.first_ahead(facts, t, None))
+    }
+}
+
+// The first table of a step; table 0 where there is no such step.
+fn first_table(profile: &Profile, step: u8) -> Table
+    ensures { result.0 ≡ slice_index_or (slice_index_or profile.now step []) 0 0 }
+{
+    if profile.len() <= step {
+        return Table(0);
+    }
+    match profile.step(step) {
+        [first, ..] => *first,
+        [] => Table(0),
+    }
+}

@@ -1,0 +1,43 @@
+-- Nobody has put anything in the empty history.
+use Rattle.std.proofs.Common.{◌≡◌, ℕ, Bool, true, false, ◌&&◌, List, [], sym, ◌∙◌, ap, subst}
+use Rattle.std.proofs.lemmas.Bool.{and_right}
+use Rattle.teb_names.specs.declared.Cell.{Cell}
+use Rattle.teb_names.specs.declared.Txn.{Txn}
+use Rattle.teb_history.specs.declared.Event.{Event}
+use Rattle.teb_history.specs.Phases.{unfinished, committed}
+use Rattle.teb_history.specs.Accesses.{is_put, put_at, wrote}
+use Rattle.teb_history.specs.Ascending.{IsAscendingBy}
+use Rattle.teb_history.specs.Live.{number_of}
+use Rattle.teb_history.proofs.Any.{came_any}
+use Rattle.teb_rules.specs.Setup.{Setup}
+use Rattle.teb_rules.specs.Tree.{row, on}
+use Rattle.teb_names.specs.declared.ControlKind.TheVariants.{Snapshot}
+use Rattle.batch_book.specs.Book.{Book}
+use Rattle.batch_book.specs.Histories.{BatchesOf}
+use Rattle.hold_register.proofs.Orderly.{orderly_none}
+use Rattle.key_piles.specs.declared.piles.Piles.{Piles}
+use Rattle.key_piles.specs.Piles.{pile, pile_in, IsPiled}
+use Rattle.snapshot_node.specs.declared.writers.Slot.{Slot}
+use Rattle.snapshot_node.specs.Slots.{slot_cmp, is_among}
+use Rattle.snapshot_node.specs.Standing.{SnapshotStand, puts_in}
+
+wrote_none : (u : ℕ) (x : Cell) → wrote [] u x ≡ false
+unfolding wrote put_at
+wrote_none u x = came_any (is_put u x) []
+
+puts_none : (phase : List Event → ℕ → Bool) (S : Setup) (n : ℕ) (x : Cell) (u : ℕ) → puts_in phase S [] n x u ≡ false
+puts_none phase S n x u = and_right (on S [] n u && phase [] u) (wrote [] u x) (wrote_none u x)
+
+pub stands_none : (S : Setup) (H : List Event) (n : ℕ) (b : Book) (p : Piles Slot Txn) → H ≡ [] → (row S.tree n).control ≡ Snapshot → b.size ≡ (row S.tree n).batch → BatchesOf b S [] n → IsPiled slot_cmp p → p.keys.items ≡ [] → SnapshotStand n b p S H
+stands_none S H n b p e k z h f q = subst (λ (G : List Event). SnapshotStand n b p S G) (sym e) (record {
+  kind = k;
+  size = z;
+  orderly = orderly_none S;
+  batches = h;
+  filed = record { piled = f; ascending = λ s. subst (IsAscendingBy number_of) (sym (bare s)) tt };
+  unfinished = λ x u. ap (is_among u) (bare (record { cell = x; committed = false })) ∙ sym (puts_none unfinished S n x u);
+  committed = λ x u. ap (is_among u) (bare (record { cell = x; committed = true })) ∙ sym (puts_none committed S n x u);
+})
+  where
+    bare : (s : Slot) → pile_in slot_cmp p s ≡ []
+    bare s = ap (λ (ks : List Slot). pile slot_cmp ks p.values.items s) q

@@ -1,0 +1,189 @@
+-- An edge is found without a comparison of versions.
+use Rattle.std.proofs.Common.{◌≡◌, ℕ, ◌<◌, ◌≤◌, Bool, true, false, not, ◌&&◌, ◌||◌, eqb, ltb, List, [], ◌∷◌, filter, cond, Option, refl, sym, ◌∙◌, ap, subst, inl, inr, arith, ℤ, length, lt-ltb, le-ltb, le_refl, eqb-true, ltb-true}
+use Rattle.std.specs.List.{list_any}
+use Rattle.std.proofs.lemmas.Bool.{cases_lt, cases_Bool, both_ways, and_parts, or_cases, or_left, or_right, false_from_ne_true, ltb-false}
+use Rattle.teb_names.specs.declared.Txn.{Txn}
+use Rattle.teb_names.specs.declared.Cell.{Cell}
+use Rattle.teb_names.specs.declared.ControlKind.TheVariants.{Snapshot}
+use Rattle.teb_history.specs.declared.Event.{Event}
+use Rattle.teb_history.specs.declared.Event.TheVariants.{Began, Got, Put, Ready, Done, Gone, Told}
+use Rattle.teb_history.specs.Accesses.{wrote, put_at}
+use Rattle.teb_history.specs.OwnEvents.{is_of, own_events}
+use Rattle.teb_history.specs.Phases.{began_at, gone_at, begun, aborted, committed, prepared, unfinished, ready_at}
+use Rattle.teb_history.specs.Positions.{upto, came}
+use Rattle.teb_rules.specs.Setup.{Setup}
+use Rattle.teb_rules.specs.Tree.{row, on, side, meets}
+use Rattle.teb_rules.specs.Batches.{start, close, concurrent, one_batch}
+use Rattle.teb_rules.specs.Versions.{precedes}
+use Rattle.teb_rules.specs.Controls.{reads_past, edge}
+use Rattle.teb_laws.specs.Lawful.{Lawful}
+use Rattle.teb_laws.specs.TreeFacts.{TreeFacts}
+use Rattle.teb_laws.proofs.Positions.{upto_all}
+use Rattle.teb_laws.proofs.ReadRule.{GotAt}
+use Rattle.teb_laws.proofs.Assembly.{suffix_next, suffix_got}
+use Rattle.teb_laws.proofs.Pivots.{past_at}
+use Rattle.teb_laws.proofs.Intervals.{start_not_close}
+use Rattle.teb_laws.proofs.Ranks.{commits}
+use Rattle.teb_laws.proofs.Serial.{commits_from}
+use Rattle.batch_book.proofs.Numbered.{unfinished_parts}
+use Rattle.snapshot_node.specs.Pivots.{gets_put, is_at_stake}
+use Rattle.snapshot_node.proofs.ReadsPast.{read_before}
+
+-- the event is a Got by a of a cell that b has put
+abbrev is_touch : List Event → ℕ → ℕ → Event → Bool
+is_touch H a b e = is_of a e && gets_put H b e
+
+touch_own : (H : List Event) (a b : ℕ) (P : List Event) → list_any (gets_put H b) (own_events P a) ≡ list_any (is_touch H a b) P
+unfolding own_events
+touch_own H a b [] = refl
+touch_own H a b (e ∷ P) = go (is_of a e) (touch_own H a b P)
+  where
+    go : (z : Bool) → list_any (gets_put H b) (filter (is_of a) P) ≡ list_any (is_touch H a b) P → list_any (gets_put H b) (cond z (e ∷ filter (is_of a) P) (filter (is_of a) P)) ≡ ((z && gets_put H b e) || list_any (is_touch H a b) P)
+    go true ih = ap (λ (z : Bool). gets_put H b e || z) ih
+    go false ih = ih
+
+past_touch : (S : Setup) (H : List Event) (a b : ℕ) (P : List Event) → reads_past S H P a b ≡ true → list_any (is_touch H a b) P ≡ true
+unfolding reads_past
+past_touch S H a b [] h = absurd (cc)
+past_touch S H a b (Got s x w v ∷ P) h = elim (or_cases ((eqb s.0 a && wrote H b x) && precedes S H x w.0 b) (reads_past S H P a b) h) [
+  | inl e ↦ or_left (eqb s.0 a && wrote H b x) _ (and_parts (eqb s.0 a && wrote H b x) (precedes S H x w.0 b) e).0
+  | inr e ↦ or_right (eqb s.0 a && wrote H b x) _ (past_touch S H a b P e)
+]
+past_touch S H a b (Began s z k i ∷ P) h = or_right (eqb s.0 a && false) _ (past_touch S H a b P h)
+past_touch S H a b (Put s x v ∷ P) h = or_right (eqb s.0 a && false) _ (past_touch S H a b P h)
+past_touch S H a b (Ready s ∷ P) h = or_right (eqb s.0 a && false) _ (past_touch S H a b P h)
+past_touch S H a b (Done s ∷ P) h = or_right (eqb s.0 a && false) _ (past_touch S H a b P h)
+past_touch S H a b (Gone s z ∷ P) h = or_right (eqb s.0 a && false) _ (past_touch S H a b P h)
+past_touch S H a b (Told s ∷ P) h = or_right (eqb s.0 a && false) _ (past_touch S H a b P h)
+
+record Touch (H : List Event) (a b : ℕ) : Type 0 where
+  place : ℕ
+  txn : Txn
+  cell : Cell
+  from : Txn
+  value : Option ℤ
+  is : GotAt H place txn cell from value
+  reader : txn.0 ≡ a
+  put : wrote H b cell ≡ true
+
+no_touch : (z : Bool) → (z && false) ≡ false
+no_touch true = refl
+no_touch false = refl
+
+touch_is : (H : List Event) (a b : ℕ) (P : List Event) → length P ≤ length H → upto (length P) H ≡ P → list_any (is_touch H a b) P ≡ true → Touch H a b
+touch_is H a b [] h q e = absurd (cc)
+touch_is H a b (Got s x w v ∷ P) h q e = elim (or_cases (eqb s.0 a && wrote H b x) _ e) [
+  | inl f ↦ (let r = and_parts (eqb s.0 a) (wrote H b x) f in record { place = length P; txn = s; cell = x; from = w; value = v; is = suffix_got H s x w v P h q; reader = eqb-true s.0 a r.0; put = r.1 })
+  | inr f ↦ touch_is H a b P (omega arith) (suffix_next H (Got s x w v) P q) f
+]
+touch_is H a b (Began s z k i ∷ P) h q e = touch_is H a b P (omega arith) (suffix_next H (Began s z k i) P q) (sym (ap (λ (t : Bool). t || list_any (is_touch H a b) P) (no_touch (eqb s.0 a))) ∙ e)
+touch_is H a b (Put s x v ∷ P) h q e = touch_is H a b P (omega arith) (suffix_next H (Put s x v) P q) (sym (ap (λ (t : Bool). t || list_any (is_touch H a b) P) (no_touch (eqb s.0 a))) ∙ e)
+touch_is H a b (Ready s ∷ P) h q e = touch_is H a b P (omega arith) (suffix_next H (Ready s) P q) (sym (ap (λ (t : Bool). t || list_any (is_touch H a b) P) (no_touch (eqb s.0 a))) ∙ e)
+touch_is H a b (Done s ∷ P) h q e = touch_is H a b P (omega arith) (suffix_next H (Done s) P q) (sym (ap (λ (t : Bool). t || list_any (is_touch H a b) P) (no_touch (eqb s.0 a))) ∙ e)
+touch_is H a b (Gone s z ∷ P) h q e = touch_is H a b P (omega arith) (suffix_next H (Gone s z) P q) (sym (ap (λ (t : Bool). t || list_any (is_touch H a b) P) (no_touch (eqb s.0 a))) ∙ e)
+touch_is H a b (Told s ∷ P) h q e = touch_is H a b P (omega arith) (suffix_next H (Told s) P q) (sym (ap (λ (t : Bool). t || list_any (is_touch H a b) P) (no_touch (eqb s.0 a))) ∙ e)
+
+pub stays : (H : List Event) (u : ℕ) → aborted H u ≡ false → length H ≤ gone_at H u
+unfolding aborted
+stays H u h = ltb-false _ _ h
+
+prepared_runs : (H : List Event) (u : ℕ) → prepared H u ≡ true → unfinished H u ≡ true
+unfolding prepared
+prepared_runs H u p = (and_parts (unfinished H u) (came H (ready_at H u)) p).0
+
+-- who is at stake is not aborted
+pub stake_stands : (S : Setup) (H : List Event) (t u : ℕ) → Lawful S H → aborted H t ≡ false → is_at_stake H t u ≡ true → aborted H u ≡ false
+stake_stands S H t u l n h = elim (or_cases (eqb u t || prepared H u) (committed H u) h) [
+  | inr c ↦ (unfold aborted in le-ltb _ _ (commits S H u l (commits_from H u c)).1)
+  | inl o ↦ elim (or_cases (eqb u t) (prepared H u) o) [
+    | inl e ↦ ap (aborted H) (eqb-true u t e) ∙ n
+    | inr p ↦ (unfinished_parts H u (prepared_runs H u p)).2
+  ]
+]
+
+pub begun_place : (H : List Event) (u : ℕ) → begun H u ≡ true → began_at H u < length H
+unfolding begun
+begun_place H u h = ltb-true _ _ h
+
+module _ (S : Setup) (H : List Event) (n : ℕ) (l : Lawful S H) where
+  -- two batches of different sides are concurrent where neither is closed before the other starts
+  pub concurrent_unless : (u w : ℕ) → began_at H u < length H → began_at H w < length H → on S H n u ≡ true → on S H n w ≡ true → (not (ltb (close S H n w) (start S H n u)) && not (ltb (close S H n u) (start S H n w))) ≡ concurrent S H n u w
+  unfolding concurrent
+  concurrent_unless u w bu bw ou ow = λ j. open_ w u (start_not_close S H n u w l ou ow bu bw) j && open_ u w (start_not_close S H n w u l ow ou bw bu) j
+    where
+      open_ : (w u : ℕ) → (start S H n u ≡ close S H n w → ⊥) → not (ltb (close S H n w) (start S H n u)) ≡ ltb (start S H n u) (close S H n w)
+      open_ w u ne = elim (cases_lt (close S H n w) (start S H n u)) [
+        | inl r ↦ ap not (lt-ltb _ _ r) ∙ sym (le-ltb _ _ (omega arith))
+        | inr r ↦ ap not (le-ltb _ _ r) ∙ sym (lt-ltb _ _ (omega arith))
+      ]
+
+module _ (S : Setup) (a : TreeFacts S) (H : List Event) (n : ℕ) (l : Lawful S H) (c : (row S.tree n).control ≡ Snapshot) where
+  pub edge_found : (u w : ℕ) → aborted H w ≡ false → (meets S H n u w && concurrent S H n u w && list_any (gets_put H w) (own_events H u)) ≡ edge S H n u w
+  unfolding edge concurrent
+  edge_found u w s = go (meets S H n u w) refl (ltb (start S H n u) (close S H n w)) refl (ltb (start S H n w) (close S H n u)) refl
+    where
+      same : meets S H n u w ≡ true → ltb (start S H n u) (close S H n w) ≡ true → ltb (start S H n w) (close S H n u) ≡ true → list_any (gets_put H w) (own_events H u) ≡ reads_past S H H u w
+      same m p q = touch_own H u w H ∙ elim (cases_Bool (list_any (is_touch H u w) H)) [
+        | inl e ↦ (let r = touch_is H u w H (le_refl _) (upto_all (length H) H (le_refl _)) e in
+            let m2 = subst (λ (z : ℕ). meets S H n z w ≡ true) (sym r.reader) m in
+            let p2 = subst (λ (z : ℕ). start S H n z < close S H n w) (sym r.reader) (ltb-true _ _ p) in
+            let q2 = subst (λ (z : ℕ). start S H n w < close S H n z) (sym r.reader) (ltb-true _ _ q) in
+            let before = read_before S a H n l c r.place r.txn r.cell r.from r.value w r.is m2 (put_there r.cell r.put) (stays H w s) p2 q2 in
+            e ∙ sym (subst (λ (z : ℕ). reads_past S H H z w ≡ true) r.reader (past_at S H H r.place r.txn r.cell r.from r.value w r.is.place r.is.is r.put before)))
+        | inr e ↦ e ∙ sym (false_from_ne_true _ (λ k. both_ways _ e (past_touch S H u w H k)))
+      ]
+        where
+          put_there : (x : Cell) → wrote H w x ≡ true → put_at H w x < length H
+          put_there x k = ltb-true _ _ (unfold wrote in k)
+
+      go : (m : Bool) → meets S H n u w ≡ m → (p : Bool) → ltb (start S H n u) (close S H n w) ≡ p → (q : Bool) → ltb (start S H n w) (close S H n u) ≡ q
+          → ((m && (p && q)) && list_any (gets_put H w) (own_events H u)) ≡ ((m && (p && q)) && reads_past S H H u w)
+      go true e true f true g = same e f g
+      go true e true f false g = refl
+      go true e false f q g = refl
+      go false e p f q g = refl
+
+-- two that are not of one batch, and two that are where their batches start at one place
+module _ (S : Setup) (H : List Event) (n b c : ℕ) where
+  false_last : (z : Bool) → false ≡ (z && false)
+  false_last true = refl
+  false_last false = refl
+
+  pub off_left : on S H n b ≡ false → false ≡ one_batch S H n b c
+  unfolding one_batch
+  off_left h = rw h refl
+
+  pub off_right : on S H n c ≡ false → false ≡ one_batch S H n b c
+  unfolding one_batch
+  off_right h = go (on S H n b) (on S H n c) h
+    where
+      go : (x y : Bool) → y ≡ false → false ≡ (((x && y) && eqb (side S H n b) (side S H n c)) && eqb (start S H n b) (start S H n c))
+      go true true h = absurd (cc)
+      go true false h = refl
+      go false y h = refl
+
+  pub off_side : eqb (side S H n b) (side S H n c) ≡ false → false ≡ one_batch S H n b c
+  unfolding one_batch
+  off_side h = go (on S H n b && on S H n c) (eqb (side S H n b) (side S H n c)) h
+    where
+      go : (x y : Bool) → y ≡ false → false ≡ ((x && y) && eqb (start S H n b) (start S H n c))
+      go true true h = absurd (cc)
+      go true false h = refl
+      go false y h = refl
+
+  pub one_start : on S H n b ≡ true → on S H n c ≡ true → eqb (side S H n b) (side S H n c) ≡ true → eqb (start S H n b) (start S H n c) ≡ one_batch S H n b c
+  unfolding one_batch
+  one_start x y z = λ j. ((sym x j && sym y j) && sym z j) && eqb (start S H n b) (start S H n c)
+
+  pub no_meeting : meets S H n b c ≡ false → false ≡ edge S H n b c
+  unfolding edge
+  no_meeting h = rw h refl
+
+  pub not_concurrent : concurrent S H n b c ≡ false → false ≡ edge S H n b c
+  unfolding edge
+  not_concurrent h = go (meets S H n b c) (concurrent S H n b c) h
+    where
+      go : (x y : Bool) → y ≡ false → false ≡ ((x && y) && reads_past S H H b c)
+      go true true h = absurd (cc)
+      go true false h = refl
+      go false y h = refl

@@ -1,0 +1,13 @@
+pub mod Among
+pub mod SlotOrder
+pub mod Leaving
+pub mod Said
+pub mod Listed
+pub mod Writing
+pub mod Found
+pub mod Begins
+pub mod Noting
+pub mod Rooms
+pub mod ReadsPast
+pub mod Edges
+pub mod Searching

@@ -1,0 +1,112 @@
+-- What a snapshot node says.
+use Rattle.std.proofs.Common.{◌≡◌, ℕ, zero, suc, ◌<◌, Bool, true, false, cond, not, ◌&&◌, eqb, ltb, List, [], ◌∷◌, length, find, Option, Some, None, refl, sym, ◌∙◌, ap, arith}
+use Rattle.std.proofs.lemmas.Bool.{ltb-false, le-ltb, eq-eqb, ne_eqb}
+use Rattle.teb_names.specs.declared.Cell.{Cell}
+use Rattle.teb_names.specs.declared.Txn.{Txn}
+use Rattle.teb_names.specs.declared.Spot.{Spot}
+use Rattle.teb_names.specs.declared.ControlKind.TheVariants.{Snapshot}
+use Rattle.teb_history.specs.declared.Event.{Event}
+use Rattle.teb_history.specs.Phases.{txns, begun, unfinished}
+use Rattle.teb_history.specs.Accesses.{put_at, wrote}
+use Rattle.teb_history.specs.Written.{txn_of}
+use Rattle.teb_history.specs.Positions.{came}
+use Rattle.teb_rules.specs.Setup.{Setup, NodeRow}
+use Rattle.teb_rules.specs.Tree.{row, leaf, meets, has_batches, side_at}
+use Rattle.teb_rules.specs.Batches.{start, close}
+use Rattle.teb_rules.specs.Versions.{sees_by, orders}
+use Rattle.teb_rules.specs.Verdicts.{wait_for, break_for, or_else}
+use Rattle.teb_rules.specs.declared.Verdict.TheVariants.{Go, Break}
+use Rattle.teb_rules.specs.declared.Broken.TheVariants.{First}
+use Rattle.teb_rules.specs.Controls.{on_access, gate, is_first}
+use Rattle.teb_rules.specs.Stops.{on_begin}
+use Rattle.batch_book.specs.Histories.{closing, full_at}
+use Rattle.batch_book.proofs.Telling.{begin_waits}
+use Rattle.batch_book.proofs.Intervals.{start-lt}
+use Rattle.hold_register.specs.Waits.{some_txn, wait_for_txn}
+
+-- a node that is a snapshot node is one of the tree
+pub row_there : (T : List NodeRow) (n : ℕ) → (row T n).control ≡ Snapshot → n < length T
+row_there [] n h = absurd (cc)
+row_there (r ∷ rs) zero h = omega arith
+row_there (r ∷ rs) (suc n) h = let z = row_there rs n h in omega arith
+
+waits : (o : Option ℕ) → wait_for_txn (some_txn o) ≡ wait_for o
+waits None = refl
+waits (Some u) = refl
+
+pub snapshot_read : (S : Setup) (H : List Event) (n t : ℕ) (x : Cell) → (row S.tree n).control ≡ Snapshot → Go ≡ on_access (row S.tree n).control S H n t x false
+unfolding on_access
+snapshot_read S H n t x e = rw e refl
+
+pub snapshot_gate : (S : Setup) (H : List Event) (n t : ℕ) → (row S.tree n).control ≡ Snapshot → Go ≡ wait_for (find (gate (row S.tree n).control S H n t) (txns H))
+unfolding gate
+snapshot_gate S H n t e = rw (e, nobody (txns H)) refl
+  where
+    nobody : (us : List ℕ) → find (λ (u : ℕ). false) us ≡ None
+    nobody [] = refl
+    nobody (u ∷ us) = nobody us
+
+pub snapshot_sees : (S : Setup) (H : List Event) (n t w : ℕ) (x : Cell) → (row S.tree n).control ≡ Snapshot → ltb (close S H n w) (start S H n t) ≡ sees_by (row S.tree n).control S H n x t w
+unfolding sees_by
+snapshot_sees S H n t w x e = rw e refl
+
+pub snapshot_orders : (S : Setup) (H : List Event) (n u w : ℕ) (x : Cell) → (row S.tree n).control ≡ Snapshot → ltb (put_at H u x) (put_at H w x) ≡ orders S H n x u w
+unfolding orders
+snapshot_orders S H n u w x e = rw e refl
+
+-- a Begin at the leaf goes on, and above it waits for whoever is found where the batch is full
+pub snapshot_start_leaf : (S : Setup) (H : List Event) (s : Spot) (n : ℕ) → n ≡ leaf S.tree s → Go ≡ on_begin S H s n
+snapshot_start_leaf S H s n e = sym (begin_waits S H s n ∙ go (has_batches S.tree n))
+  where
+    go : (b : Bool) → cond (b && not (eqb n (leaf S.tree s))) (wait_for (full_at S H n (side_at S.tree n s 0) (row S.tree n).batch)) Go ≡ Go
+    go true = rw (eq-eqb n (leaf S.tree s) e) refl
+    go false = refl
+
+pub snapshot_start : (S : Setup) (H : List Event) (s : Spot) (n side size : ℕ) → (row S.tree n).control ≡ Snapshot → (n ≡ leaf S.tree s → ⊥) → side ≡ side_at S.tree n s 0 → size ≡ (row S.tree n).batch
+    → wait_for_txn (txn_of (full_at S H n side size)) ≡ on_begin S H s n
+snapshot_start S H s n side size k inner a b =
+    (λ j. waited (full_at S H n (a j) (b j)) j)
+    ∙ sym (begin_waits S H s n ∙ rw (k, ne_eqb n (leaf S.tree s) inner) refl)
+  where
+    waited : (o : Option ℕ) → wait_for_txn (txn_of o) ≡ wait_for o
+    waited None = refl
+    waited (Some u) = refl
+
+-- whether a batch is closed before another starts, told by where it closed
+closed : (b : Bool) (c : ℕ) (s : ℕ) (k : ℕ) → cond b (Some c) None ≡ Some k → ltb k s ≡ ltb c s
+closed true c s k h = let e : c ≡ k = cc in ap (λ (m : ℕ). ltb m s) (sym e)
+closed false c s k h = absurd (cc)
+
+open_ : (b : Bool) (c : ℕ) → cond b (Some c) None ≡ None → b ≡ false
+open_ true c h = absurd (cc)
+open_ false c h = refl
+
+pub closed_some : (S : Setup) (H : List Event) (n u t k s : ℕ) → Some k ≡ closing S H n u → s ≡ start S H n t → ltb k s ≡ ltb (close S H n u) (start S H n t)
+unfolding closing
+closed_some S H n u t k s h e = closed (came H (close S H n u)) (close S H n u) s k (sym h) ∙ ap (ltb (close S H n u)) e
+
+pub closed_none : (S : Setup) (H : List Event) (n u t : ℕ) → None ≡ closing S H n u → begun H t ≡ true → false ≡ ltb (close S H n u) (start S H n t)
+unfolding closing
+closed_none S H n u t h b =
+    let z = ltb-false _ _ (open_ (came H (close S H n u)) (close S H n u) (sym h)) in
+    let y = start-lt S H n t b in
+    sym (le-ltb _ _ (omega arith))
+
+-- what it says of a write
+pub snapshot_first : (S : Setup) (H : List Event) (n t : ℕ) (x : Cell) (u : Txn) → (row S.tree n).control ≡ Snapshot → Some u ≡ some_txn (find (is_first S H n t x) (txns H)) → Break (First u x) ≡ on_access (row S.tree n).control S H n t x true
+unfolding on_access
+snapshot_first S H n t x u k h = rw k (go (find (is_first S H n t x) (txns H)) h)
+  where
+    go : (o : Option ℕ) → Some u ≡ some_txn o → Break (First u x) ≡ or_else (break_for o (λ u. First (record { 0 = u }) x)) (wait_for (find (λ u. unfinished H u && meets S H n t u && wrote H u x) (txns H)))
+    go (Some w) h = let e : u ≡ (let v : Txn = record { 0 = w } in v) = cc in ap (λ (v : Txn). Break (First v x)) e
+    go None h = absurd (cc)
+
+pub snapshot_write : (S : Setup) (H : List Event) (n t : ℕ) (x : Cell) (o : Option Txn) → (row S.tree n).control ≡ Snapshot → None ≡ some_txn (find (is_first S H n t x) (txns H)) → o ≡ some_txn (find (λ u. unfinished H u && meets S H n t u && wrote H u x) (txns H))
+    → wait_for_txn o ≡ on_access (row S.tree n).control S H n t x true
+unfolding on_access
+snapshot_write S H n t x o k h w = rw k (ap wait_for_txn w ∙ waits _ ∙ go (find (is_first S H n t x) (txns H)) h)
+  where
+    go : (p : Option ℕ) → None ≡ some_txn p → wait_for (find (λ u. unfinished H u && meets S H n t u && wrote H u x) (txns H))
+        ≡ or_else (break_for p (λ u. First (record { 0 = u }) x)) (wait_for (find (λ u. unfinished H u && meets S H n t u && wrote H u x) (txns H)))
+    go (Some v) h = absurd (cc)
+    go None h = refl

@@ -1,0 +1,7 @@
+pub mod LeastNumbers
+pub mod Readers
+pub mod Here
+pub mod Noting
+pub mod Forgetting
+pub mod Late
+pub mod Said

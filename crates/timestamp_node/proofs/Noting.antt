@@ -1,0 +1,295 @@
+-- The reads, the batches and the order of a history after one more event.
+use Rattle.std.proofs.Common.{◌≡◌, ℕ, ℤ, suc, ◌≤◌, ◌+◌, zero, Bool, true, false, cond, not, ◌&&◌, ◌||◌, ◌-◌, eqb, List, [], ◌∷◌, ◌++◌, Option, drop, length, filter, refl, sym, ◌∙◌, ap, subst, arith, IsTrue}
+use Rattle.std.proofs.lemmas.Bool.{and_from, or_left, both_ways, eqb-true, false_from_ne_true}
+use Rattle.teb_names.specs.declared.Txn.{Txn}
+use Rattle.teb_names.specs.declared.Cell.{Cell}
+use Rattle.teb_names.specs.declared.Spot.{Spot}
+use Rattle.teb_names.specs.declared.Session.{Session}
+use Rattle.teb_names.specs.declared.Kind.{Kind}
+use Rattle.teb_names.specs.declared.Cause.{Cause}
+use Rattle.teb_names.specs.Cells.{cell_cmp, same_cell}
+use Rattle.teb_history.specs.declared.Event.{Event}
+use Rattle.teb_history.specs.declared.Event.TheVariants.{Began, Got, Put, Ready, Done, Gone, Told}
+use Rattle.teb_history.specs.Phases.{is_began, is_gone, begun, unfinished, aborted, spot_of}
+use Rattle.teb_history.specs.Accesses.{is_got, got_at, got}
+use Rattle.teb_history.proofs.Any.{came_any}
+use Rattle.teb_rules.specs.Setup.{Setup}
+use Rattle.teb_rules.specs.Tree.{on, side, on_path, side_at}
+use Rattle.phase_api.specs.Told.{IsOrderly}
+use Rattle.phase_api.specs.Calls.{MayNote}
+use Rattle.hold_register.proofs.Orderly.{orderly_next, unfinished_begun, begun_kept}
+use Rattle.batch_book.specs.Book.{Book}
+use Rattle.batch_book.specs.Histories.{BatchesOf, IsNumbered, MayCome, Joins, Finishes, Passes}
+use Rattle.batch_book.proofs.Numbered.{begins_once, begun_step, aborted_step, on_kept, unfinished_parts, spot_began}
+use Rattle.batch_book.proofs.Telling.{batches_passed}
+use Rattle.key_piles.specs.Piles.{pile, pile_in, IsPiled, HasRoom}
+use Rattle.timestamp_node.specs.Reads.{all_reads, reads}
+use Rattle.timestamp_node.specs.Standing.{ReadPiles, ReadsOf, StampsStand, room_of}
+use Rattle.timestamp_node.proofs.Readers.{all_map, filter_agree, filter_alike, filter_all, all_got, IsRead, reads_are, from_got}
+
+may_come : (S : Setup) (P : List Event) (n : ℕ) (e : Event) → MayNote S P n e → MayCome P e
+may_come S P n (Began t s k i) m = m.0
+may_come S P n (Got t x w v) m = tt
+may_come S P n (Put t x v) m = tt
+may_come S P n (Ready t) m = tt
+may_come S P n (Done t) m = m
+may_come S P n (Gone t c) m = m
+may_come S P n (Told t) m = tt
+
+module _ {A : Type 0} where
+  filter_push : (p : A → Bool) (xs : List A) (a : A) → p a ≡ true → filter p (xs ++ a ∷ []) ≡ filter p xs ++ a ∷ []
+  filter_push p [] a h = ap (λ (b : Bool). cond b (a ∷ []) []) h
+  filter_push p (x ∷ xs) a h = go (p x) (filter_push p xs a h)
+    where
+      go : (b : Bool) → filter p (xs ++ a ∷ []) ≡ filter p xs ++ a ∷ [] → cond b (x ∷ filter p (xs ++ a ∷ [])) (filter p (xs ++ a ∷ [])) ≡ cond b (x ∷ filter p xs) (filter p xs) ++ a ∷ []
+      go true ih = ap (λ (ys : List A). x ∷ ys) ih
+      go false ih = ih
+
+  filter_skip : (p : A → Bool) (xs : List A) (a : A) → p a ≡ false → filter p (xs ++ a ∷ []) ≡ filter p xs
+  filter_skip p [] a h = ap (λ (b : Bool). cond b (a ∷ []) []) h
+  filter_skip p (x ∷ xs) a h = ap (λ (ys : List A). cond (p x) (x ∷ ys) ys) (filter_skip p xs a h)
+
+  -- one filter after another
+  filter_both : (p r q : A → Bool) → ((x : A) → q x ≡ (r x && p x)) → (xs : List A) → filter q xs ≡ filter r (filter p xs)
+  filter_both p r q same [] = refl
+  filter_both p r q same (x ∷ xs) = ap (λ (b : Bool). cond b (x ∷ filter q xs) (filter q xs)) (same x) ∙ go (r x) refl (p x) (filter_both p r q same xs)
+    where
+      go : (b : Bool) → r x ≡ b → (c : Bool) → filter q xs ≡ filter r (filter p xs) → cond (b && c) (x ∷ filter q xs) (filter q xs) ≡ filter r (cond c (x ∷ filter p xs) (filter p xs))
+      go true e true ih = ap (λ (ys : List A). x ∷ ys) ih ∙ sym (ap (λ (o : Bool). cond o (x ∷ filter r (filter p xs)) (filter r (filter p xs))) e)
+      go true e false ih = ih
+      go false e true ih = ih ∙ sym (ap (λ (o : Bool). cond o (x ∷ filter r (filter p xs)) (filter r (filter p xs))) e)
+      go false e false ih = ih
+
+-- the test of a read
+abbrev here : Setup → List Event → ℕ → Txn × Txn → Bool
+here S H n r = on S H n r.0.0 && not (aborted H r.0.0)
+
+abbrev pub others : Txn → Txn × Txn → Bool
+others t r = not (eqb r.0.0 t.0)
+
+module _ (S : Setup) (P : List Event) (n : ℕ) where
+  -- an event that is no Got, and aborts nobody
+  reads_kept : (e : Event) → IsOrderly S P → IsNumbered P → MayCome P e → ((x : Cell) → all_reads (e ∷ P) x ≡ all_reads P x) → ((u : ℕ) → is_gone u e ≡ false) → (x : Cell) → reads S P n x ≡ reads S (e ∷ P) n x
+  unfolding reads
+  reads_kept e o l m a g x = sym (ap (filter (here S (e ∷ P) n)) (a x) ∙ filter_agree (here S (e ∷ P) n) (here S P n) (all_reads P x) (all_map _ _ same (all_reads P x) (all_got P x)))
+    where
+      same : (r : Txn × Txn) → got P r.0.0 x ≡ true → here S (e ∷ P) n r ≡ here S P n r
+      same r h =
+          let b = on_kept S e P n r.0.0 (begins_once e P r.0.0 l m (o.got r.0.0 x h)) in
+          let c = aborted_step e P r.0.0 ∙ ap (λ (b : Bool). b || aborted P r.0.0) (g r.0.0) in
+          λ j. b j && not (c j)
+
+  module _ (t : Txn) (y : Cell) (w : Txn) (v : Option ℤ) where
+    same_got : (r : Txn × Txn) → here S (Got t y w v ∷ P) n r ≡ here S P n r
+    same_got r = let b = on_kept S (Got t y w v) P n r.0.0 refl in let c = aborted_step (Got t y w v) P r.0.0 in λ j. b j && not (c j)
+
+    reads_got : (x : Cell) → on S P n t.0 ≡ true → aborted P t.0 ≡ false → cond (same_cell y x) (reads S P n x ++ (t, w) ∷ []) (reads S P n x) ≡ reads S (Got t y w v ∷ P) n x
+    unfolding reads all_reads
+    reads_got x h a = sym (filter_alike (here S (Got t y w v ∷ P) n) (here S P n) same_got (all_reads (Got t y w v ∷ P) x) ∙ go (same_cell y x))
+      where
+        go : (b : Bool) → filter (here S P n) (cond b (all_reads P x ++ (t, w) ∷ []) (all_reads P x)) ≡ cond b (filter (here S P n) (all_reads P x) ++ (t, w) ∷ []) (filter (here S P n) (all_reads P x))
+        go true = filter_push (here S P n) (all_reads P x) (t, w) (and_from _ _ h (ap not a))
+        go false = refl
+
+    reads_got_off : (x : Cell) → on S P n t.0 ≡ false → reads S P n x ≡ reads S (Got t y w v ∷ P) n x
+    unfolding reads all_reads
+    reads_got_off x h = sym (filter_alike (here S (Got t y w v ∷ P) n) (here S P n) same_got (all_reads (Got t y w v ∷ P) x) ∙ go (same_cell y x))
+      where
+        go : (b : Bool) → filter (here S P n) (cond b (all_reads P x ++ (t, w) ∷ []) (all_reads P x)) ≡ filter (here S P n) (all_reads P x)
+        go true = filter_skip (here S P n) (all_reads P x) (t, w) (ap (λ (b : Bool). b && not (aborted P t.0)) h)
+        go false = refl
+
+  module _ (t : Txn) (c : Cause) where
+    gone_here : (r : Txn × Txn) → here S (Gone t c ∷ P) n r ≡ (on S P n r.0.0 && not (eqb t.0 r.0.0 || aborted P r.0.0))
+    gone_here r = let b = on_kept S (Gone t c) P n r.0.0 refl in let a = aborted_step (Gone t c) P r.0.0 in λ j. b j && not (a j)
+
+    without : (x : Cell) → filter (others t) (reads S P n x) ≡ reads S (Gone t c ∷ P) n x
+    unfolding reads all_reads
+    without x = sym (filter_both (here S P n) (others t) (here S (Gone t c ∷ P) n) split (all_reads P x))
+      where
+        go : (k l : Bool) → k ≡ l → (a b : Bool) → (b && not (k || a)) ≡ (not l && (b && not a))
+        go true true h true true = refl
+        go true true h true false = refl
+        go true true h false true = refl
+        go true true h false false = refl
+        go false false h a b = refl
+        go true false h a b = absurd (cc)
+        go false true h a b = absurd (cc)
+
+        back : (i j : ℕ) → eqb i j ≡ eqb j i
+        back i j = grind arith
+
+        split : (r : Txn × Txn) → here S (Gone t c ∷ P) n r ≡ (others t r && here S P n r)
+        split r = gone_here r ∙ go (eqb t.0 r.0.0) (eqb r.0.0 t.0) (back t.0 r.0.0) (aborted P r.0.0) (on S P n r.0.0)
+
+    unread : (x : Cell) → got P t.0 x ≡ false → filter (others t) (reads S P n x) ≡ reads S P n x
+    unread x h = filter_all (others t) (reads S P n x) (all_map _ _ other (reads S P n x) (reads_are S P n x))
+      where
+        other : (r : Txn × Txn) → IsRead S P n x r → others t r ≡ true
+        other r k = ap not (false_from_ne_true (eqb r.0.0 t.0) (λ e. both_ways _ h (subst (λ (u : ℕ). got P u x ≡ true) (eqb-true r.0.0 t.0 e) (from_got P r.0.0 r.1.0 x k.from))))
+
+    same_gets : (x : Cell) → got (Gone t c ∷ P) t.0 x ≡ got P t.0 x
+    unfolding got got_at
+    same_gets x = came_any (is_got t.0 x) (Gone t c ∷ P) ∙ sym (came_any (is_got t.0 x) P)
+
+    reads_gone : (x : Cell) → cond (got (Gone t c ∷ P) t.0 x) (filter (others t) (reads S P n x)) (reads S P n x) ≡ reads S (Gone t c ∷ P) n x
+    reads_gone x = ap (λ (b : Bool). cond b (filter (others t) (reads S P n x)) (reads S P n x)) (same_gets x) ∙ go (got P t.0 x) refl
+      where
+        go : (b : Bool) → got P t.0 x ≡ b → cond b (filter (others t) (reads S P n x)) (reads S P n x) ≡ reads S (Gone t c ∷ P) n x
+        go true h = without x
+        go false h = sym (unread x h) ∙ without x
+
+    reads_gone_off : (x : Cell) → on S P n t.0 ≡ false → reads S P n x ≡ reads S (Gone t c ∷ P) n x
+    unfolding reads all_reads
+    reads_gone_off x h = sym (filter_alike (here S (Gone t c ∷ P) n) (here S P n) same (all_reads P x))
+      where
+        same : (r : Txn × Txn) → here S (Gone t c ∷ P) n r ≡ here S P n r
+        same r = gone_here r ∙ go (eqb t.0 r.0.0) refl
+          where
+            go : (b : Bool) → eqb t.0 r.0.0 ≡ b → (on S P n r.0.0 && not (b || aborted P r.0.0)) ≡ (on S P n r.0.0 && not (aborted P r.0.0))
+            go true e = let f : on S P n r.0.0 ≡ false = ap (on S P n) (sym (eqb-true t.0 r.0.0 e)) ∙ h in rw f refl
+            go false e = refl
+
+-- what StampsStand says after one more event
+module _ (S : Setup) (H : List Event) (n : ℕ) (e : Event) (is : H ≡ e ∷ drop 1 H) (may : MayNote S (drop 1 H) n e) where
+  pub at_end : (at len : ℕ) → len ≡ length H → at ≡ len - 1 → at ≡ length (drop 1 H)
+  at_end at len l q = let z : length H ≡ suc (length (drop 1 H)) = ap (λ (G : List Event). length G) is in omega arith
+
+  pub orderly_now : IsOrderly S (drop 1 H) → IsOrderly S H
+  orderly_now o = subst (IsOrderly S) (sym is) (orderly_next S (drop 1 H) n e may o)
+
+  pub begun_now : (t : ℕ) → is_began t e ≡ true → IsTrue (begun H t)
+  begun_now t b = ap (λ (G : List Event). begun G t) is ∙ begun_step e (drop 1 H) t ∙ or_left (is_began t e) (begun (drop 1 H) t) b
+
+  pub unfinished_now : (t : ℕ) → IsTrue (unfinished (drop 1 H) t) → IsTrue (begun H t)
+  unfinished_now t u = ap (λ (G : List Event). begun G t) is ∙ begun_kept e (drop 1 H) t (unfinished_begun (drop 1 H) t u)
+
+  come : MayCome (drop 1 H) e
+  come = may_come S (drop 1 H) n e may
+
+  module _ (o : Bool) (b : Book) (p : ReadPiles) (was : StampsStand n o b p S (drop 1 H)) where
+    next : (b' : Book) (p' : ReadPiles) → b'.size ≡ b.size → BatchesOf b' S (e ∷ drop 1 H) n → ReadsOf p' S (e ∷ drop 1 H) n → StampsStand n o b' p' S H
+    next b' p' z bs rs = record {
+      kind = was.kind;
+      ordered = was.ordered;
+      size = z ∙ was.size;
+      orderly = orderly_now was.orderly;
+      batches = subst (λ (G : List Event). BatchesOf b' S G n) (sym is) bs;
+      reads = subst (λ (G : List Event). ReadsOf p' S G n) (sym is) rs;
+    }
+
+    same_batches : Passes S (drop 1 H) n e → BatchesOf b S (e ∷ drop 1 H) n
+    same_batches q = batches_passed b S (drop 1 H) n e was.batches come q
+
+    same_reads : ((x : Cell) → all_reads (e ∷ drop 1 H) x ≡ all_reads (drop 1 H) x) → ((u : ℕ) → is_gone u e ≡ false) → ReadsOf p S (e ∷ drop 1 H) n
+    same_reads a g = record { sorted = was.reads.sorted; reads = λ x. was.reads.reads x ∙ reads_kept S (drop 1 H) n e was.orderly was.batches.numbered come a g x }
+
+    on_now : (t : ℕ) (v : Bool) → on S H n t ≡ v → on S (e ∷ drop 1 H) n t ≡ v
+    on_now t v h = ap (λ (G : List Event). on S G n t) (sym is) ∙ h
+
+    on_before : (t : ℕ) (v : Bool) → is_began t e ≡ false → on S H n t ≡ v → on S (drop 1 H) n t ≡ v
+    on_before t v f h = sym (on_kept S e (drop 1 H) n t f) ∙ on_now t v h
+
+    pub began_on : (t : Txn) (s : Session) (k : Kind) (i : ℕ) → e ≡ Began t s k i → on S H n t.0 ≡ true → (b' : Book) (m at : ℕ) → m ≡ side S H n t.0 → at ≡ length (drop 1 H) → b'.size ≡ b.size
+        → ((S : Setup) (Q : List Event) (n : ℕ) (d : Event) → BatchesOf b S Q n → MayCome Q d → Joins S n m t.0 d → at ≡ length Q → BatchesOf b' S (d ∷ Q) n) → StampsStand n o b' p S H
+    unfolding on side
+    began_on t s k i q h b' m at side_is end z joined = next b' p z (joined S (drop 1 H) n e was.batches come joins end) (same_reads (λ x. ap (λ (d : Event). all_reads (d ∷ drop 1 H) x) q ∙ keeps x) (λ u. ap (is_gone u) q))
+      where
+        keeps : (x : Cell) → all_reads (Began t s k i ∷ drop 1 H) x ≡ all_reads (drop 1 H) x
+        keeps x = unfold all_reads in refl
+
+        spot : spot_of H t.0 ≡ record { kind = k; instance = i }
+        spot = ap (λ (G : List Event). spot_of G t.0) is ∙ ap (λ (d : Event). spot_of (d ∷ drop 1 H) t.0) q ∙ spot_began t s k i (drop 1 H)
+
+        joins : Joins S n m t.0 e
+        joins = subst (Joins S n m t.0) (sym q) (refl, ap (on_path S.tree n) (sym spot) ∙ h, ap (λ (z : Spot). side_at S.tree n z t.0) (sym spot) ∙ sym side_is)
+
+    pub began_off : (t : Txn) (s : Session) (k : Kind) (i : ℕ) → e ≡ Began t s k i → on S H n t.0 ≡ false → StampsStand n o b p S H
+    unfolding on
+    began_off t s k i q h = next b p refl (same_batches (subst (Passes S (drop 1 H) n) (sym q) (ap (on_path S.tree n) (sym spot) ∙ h))) (same_reads (λ x. ap (λ (d : Event). all_reads (d ∷ drop 1 H) x) q ∙ keeps x) (λ u. ap (is_gone u) q))
+      where
+        keeps : (x : Cell) → all_reads (Began t s k i ∷ drop 1 H) x ≡ all_reads (drop 1 H) x
+        keeps x = unfold all_reads in refl
+
+        spot : spot_of H t.0 ≡ record { kind = k; instance = i }
+        spot = ap (λ (G : List Event). spot_of G t.0) is ∙ ap (λ (d : Event). spot_of (d ∷ drop 1 H) t.0) q ∙ spot_began t s k i (drop 1 H)
+
+    pub got_on : (t : Txn) (y : Cell) (w : Txn) (v : Option ℤ) → e ≡ Got t y w v → on S H n t.0 ≡ true → (p' : ReadPiles) → IsPiled cell_cmp p'
+        → ((x : Cell) → pile_in cell_cmp p' x ≡ cond (same_cell y x) (pile_in cell_cmp p x ++ (t, w) ∷ []) (pile_in cell_cmp p x)) → StampsStand n o b p' S H
+    got_on t y w v q h p' sorted pushed =
+        let u : unfinished (drop 1 H) t.0 ≡ true = (subst (λ (d : Event). MayNote S (drop 1 H) n d) q may).0 in
+        let before = on_before t.0 true (ap (is_began t.0) q) h in
+        next b p' refl (same_batches (subst (Passes S (drop 1 H) n) (sym q) tt)) (subst (λ (d : Event). ReadsOf p' S (d ∷ drop 1 H) n) (sym q) (record {
+          sorted = sorted;
+          reads = λ x. pushed x ∙ ap (λ (rs : List (Txn × Txn)). cond (same_cell y x) (rs ++ (t, w) ∷ []) rs) (was.reads.reads x) ∙ reads_got S (drop 1 H) n t y w v x before (unfinished_parts (drop 1 H) t.0 u).2;
+        }))
+
+    pub got_off : (t : Txn) (y : Cell) (w : Txn) (v : Option ℤ) → e ≡ Got t y w v → on S H n t.0 ≡ false → StampsStand n o b p S H
+    got_off t y w v q h =
+        let before = on_before t.0 false (ap (is_began t.0) q) h in
+        next b p refl (same_batches (subst (Passes S (drop 1 H) n) (sym q) tt)) (subst (λ (d : Event). ReadsOf p S (d ∷ drop 1 H) n) (sym q) (record {
+          sorted = was.reads.sorted;
+          reads = λ x. was.reads.reads x ∙ reads_got_off S (drop 1 H) n t y w v x before;
+        }))
+
+    pub done : (t : Txn) → e ≡ Done t → (b' : Book) (at : ℕ) → at ≡ length (drop 1 H) → b'.size ≡ b.size
+        → ((S : Setup) (Q : List Event) (n : ℕ) (d : Event) → BatchesOf b S Q n → MayCome Q d → Finishes t.0 d → at ≡ length Q → BatchesOf b' S (d ∷ Q) n) → StampsStand n o b' p S H
+    done t q b' at end z finished =
+        next b' p z (finished S (drop 1 H) n e was.batches come (subst (Finishes t.0) (sym q) refl) end) (same_reads (λ x. ap (λ (d : Event). all_reads (d ∷ drop 1 H) x) q ∙ keeps x) (λ u. ap (is_gone u) q))
+      where
+        keeps : (x : Cell) → all_reads (Done t ∷ drop 1 H) x ≡ all_reads (drop 1 H) x
+        keeps x = unfold all_reads in refl
+
+    gone : (t : Txn) (c : Cause) → e ≡ Gone t c → (b' : Book) (at : ℕ) → at ≡ length (drop 1 H) → b'.size ≡ b.size
+        → ((S : Setup) (Q : List Event) (n : ℕ) (d : Event) → BatchesOf b S Q n → MayCome Q d → Finishes t.0 d → at ≡ length Q → BatchesOf b' S (d ∷ Q) n)
+        → (p' : ReadPiles) → IsPiled cell_cmp p' → ((x : Cell) → pile_in cell_cmp p' x ≡ reads S (Gone t c ∷ drop 1 H) n x) → StampsStand n o b' p' S H
+    gone t c q b' at end z finished p' sorted shown =
+        next b' p' z (finished S (drop 1 H) n e was.batches come (subst (Finishes t.0) (sym q) refl) end) (subst (λ (d : Event). ReadsOf p' S (d ∷ drop 1 H) n) (sym q) (record { sorted = sorted; reads = shown }))
+
+    pub gone_on : (t : Txn) (c : Cause) → e ≡ Gone t c → (b' : Book) (at : ℕ) → at ≡ length (drop 1 H) → b'.size ≡ b.size
+        → ((S : Setup) (Q : List Event) (n : ℕ) (d : Event) → BatchesOf b S Q n → MayCome Q d → Finishes t.0 d → at ≡ length Q → BatchesOf b' S (d ∷ Q) n)
+        → (p' : ReadPiles) → IsPiled cell_cmp p' → ((x : Cell) → pile_in cell_cmp p' x ≡ cond (got H t.0 x) (filter (others t) (pile_in cell_cmp p x)) (pile_in cell_cmp p x)) → StampsStand n o b' p' S H
+    gone_on t c q b' at end z finished p' sorted left = gone t c q b' at end z finished p' sorted
+        (λ x. left x ∙ (λ j. cond (got (is j) t.0 x) (filter (others t) (was.reads.reads x j)) (was.reads.reads x j))
+        ∙ ap (λ (d : Event). cond (got (d ∷ drop 1 H) t.0 x) (filter (others t) (reads S (drop 1 H) n x)) (reads S (drop 1 H) n x)) q ∙ reads_gone S (drop 1 H) n t c x)
+
+    pub gone_off : (t : Txn) (c : Cause) → e ≡ Gone t c → on S H n t.0 ≡ false → (b' : Book) (at : ℕ) → at ≡ length (drop 1 H) → b'.size ≡ b.size
+        → ((S : Setup) (Q : List Event) (n : ℕ) (d : Event) → BatchesOf b S Q n → MayCome Q d → Finishes t.0 d → at ≡ length Q → BatchesOf b' S (d ∷ Q) n) → StampsStand n o b' p S H
+    gone_off t c q h b' at end z finished = gone t c q b' at end z finished p was.reads.sorted
+        (λ x. was.reads.reads x ∙ reads_gone_off S (drop 1 H) n t c x (on_before t.0 false (ap (is_began t.0) q) h))
+
+    -- an event that is of no concern
+    pub idle : (d : Event) → e ≡ d → Passes S (drop 1 H) n d → ((x : Cell) → all_reads (d ∷ drop 1 H) x ≡ all_reads (drop 1 H) x) → ((u : ℕ) → is_gone u d ≡ false) → StampsStand n o b p S H
+    idle d q passes keeps g = next b p refl (same_batches (subst (Passes S (drop 1 H) n) (sym q) passes)) (same_reads (λ x. ap (λ (d : Event). all_reads (d ∷ drop 1 H) x) q ∙ keeps x) (λ u. ap (is_gone u) q ∙ g u))
+
+    pub put : (t : Txn) (x : Cell) (v : Option ℤ) → e ≡ Put t x v → StampsStand n o b p S H
+    unfolding all_reads
+    put t x v q = idle (Put t x v) q tt (λ x. refl) (λ u. refl)
+
+    pub readied : (t : Txn) → e ≡ Ready t → StampsStand n o b p S H
+    unfolding all_reads
+    readied t q = idle (Ready t) q tt (λ x. refl) (λ u. refl)
+
+    pub told : (t : Txn) → e ≡ Told t → StampsStand n o b p S H
+    unfolding all_reads
+    told t q = idle (Told t) q tt (λ x. refl) (λ u. refl)
+
+-- the reads of no events
+pub no_reads : (p : ReadPiles) (S : Setup) (n : ℕ) → p.keys.items ≡ [] → IsPiled cell_cmp p → ReadsOf p S [] n
+unfolding reads all_reads
+no_reads p S n e s = record { sorted = s; reads = λ x. ap (λ (ks : List Cell). pile cell_cmp ks p.values.items x) e }
+
+-- where room for n is left as room for n, and where room for one more is
+pub room_kept : (p q : ReadPiles) → ((n : ℕ) → HasRoom p n → HasRoom q n) → room_of p ≤ room_of q
+room_kept p q h = go (room_of p) refl
+  where
+    go : (m : ℕ) → m ≡ room_of p → m ≤ room_of q
+    go zero e = omega arith
+    go (suc m) e = let r = h (suc m) (record { keys = omega arith; values = omega arith }) in omega (arith, r.keys, r.values)
+
+pub room_less : (p q : ReadPiles) → ((n : ℕ) → HasRoom p (n + 1) → HasRoom q n) → room_of p ≤ room_of q + 1
+room_less p q h = go (room_of p) refl
+  where
+    go : (m : ℕ) → m ≡ room_of p → m ≤ room_of q + 1
+    go zero e = omega arith
+    go (suc m) e = let r = h m (record { keys = omega arith; values = omega arith }) in omega (arith, r.keys, r.values)

@@ -1,0 +1,6 @@
+use Rattle.phase_api.specs.Told.{setup_of, events_of}
+use Rattle.timestamp_node.proofs.Said.{stamps_read}
+use Rattle.timestamp_node.proofs.stamps.StampsControl.before_read.Goals as goal
+
+pub returns : goal.returns
+returns c = stamps_read (setup_of c.args._facts.now) (events_of c.args._facts.now) c.args.self.now.node.0 c.requires.stands.kind c.args._t.0 c.args._cell

@@ -1,0 +1,142 @@
+use Rattle.std.proofs.Common.{◌∙◌, ◌-◌, drop, sym, ap, subst, refl, inl, inr, arith, eq-eqb}
+use Rattle.teb_history.specs.declared.Event.{Event}
+use Rattle.teb_history.specs.Phases.{is_began}
+use Rattle.phase_api.specs.Told.{setup_of, events_of}
+use Rattle.phase_api.specs.Calls.{MayNote}
+use Rattle.hold_register.proofs.Noting.{typed_now}
+use Rattle.batch_book.proofs.Telling.{next_new}
+use Rattle.timestamp_node.proofs.Noting.{at_end, orderly_now, begun_now, unfinished_now, began_on, began_off, got_on, got_off, done, gone_on, gone_off, put, readied, told, room_kept, room_less}
+use Rattle.timestamp_node.proofs.stamps.StampsControl.note.Goals as goal
+
+pub is_on-requires : goal.is_on-requires
+is_on-requires c =
+    let S = setup_of c.args.facts.now in
+    let H = events_of c.args.facts.now in
+    let n = c.args.self.now.node.0 in
+    let is = c.requires.newest.is in
+    let may = c.requires.newest.may in
+    typed_now c.args.facts.now c.in-Began.txn.0 (orderly_now S H n c.args.e is may c.requires.stands.orderly) (begun_now S H n c.args.e is may c.in-Began.txn.0 (ap (is_began c.in-Began.txn.0) c.in-Began.is ∙ eq-eqb c.in-Began.txn.0 c.in-Began.txn.0 refl))
+
+pub side-requires-clause-typed : goal.side-requires-clause-typed
+side-requires-clause-typed c =
+    let S = setup_of c.args.facts.now in
+    let H = events_of c.args.facts.now in
+    let n = c.args.self.now.node.0 in
+    let is = c.requires.newest.is in
+    let may = c.requires.newest.may in
+    typed_now c.args.facts.now c.in-Began.txn.0 (orderly_now S H n c.args.e is may c.requires.stands.orderly) (begun_now S H n c.args.e is may c.in-Began.txn.0 (ap (is_began c.in-Began.txn.0) c.in-Began.is ∙ eq-eqb c.in-Began.txn.0 c.in-Began.txn.0 refl))
+
+pub join-requires-clause-new : goal.join-requires-clause-new
+join-requires-clause-new c =
+    let S = setup_of c.args.facts.now in
+    let H = events_of c.args.facts.now in
+    let n = c.args.self.now.node.0 in
+    let is = c.requires.newest.is in
+    let may = c.requires.newest.may in
+    next_new c.args.self.now.batches S (drop 1 H) n c.in-Began.txn.0 c.requires.stands.batches (subst (λ (d : Event). MayNote S (drop 1 H) n d) c.in-Began.is may).0
+
+pub is_on-requires-in-Got : goal.is_on-requires-in-Got
+is_on-requires-in-Got c =
+    let S = setup_of c.args.facts.now in
+    let H = events_of c.args.facts.now in
+    let n = c.args.self.now.node.0 in
+    let is = c.requires.newest.is in
+    let may = c.requires.newest.may in
+    typed_now c.args.facts.now c.in-Got.txn.0 (orderly_now S H n c.args.e is may c.requires.stands.orderly) (unfinished_now S H n c.args.e is may c.in-Got.txn.0 (subst (λ (d : Event). MayNote S (drop 1 H) n d) c.in-Got.is may).0)
+
+pub is_on-requires-in-Gone : goal.is_on-requires-in-Gone
+is_on-requires-in-Gone c =
+    let S = setup_of c.args.facts.now in
+    let H = events_of c.args.facts.now in
+    let n = c.args.self.now.node.0 in
+    let is = c.requires.newest.is in
+    let may = c.requires.newest.may in
+    typed_now c.args.facts.now c.in-Gone.txn.0 (orderly_now S H n c.args.e is may c.requires.stands.orderly) (unfinished_now S H n c.args.e is may c.in-Gone.txn.0 (subst (λ (d : Event). MayNote S (drop 1 H) n d) c.in-Gone.is may))
+
+pub returns-then-is_on-clause-stands : goal.returns-then-is_on-clause-stands
+returns-then-is_on-clause-stands c =
+    let S = setup_of c.args.facts.now in
+    let H = events_of c.args.facts.now in
+    let n = c.args.self.now.node.0 in
+    let is = c.requires.newest.is in
+    let may = c.requires.newest.may in
+    began_on S H n c.args.e is may c.args.self.now.ordered c.args.self.now.batches c.args.self.now.reads c.requires.stands c.in-Began.txn c.in-Began.session c.in-Began.kind c.in-Began.instance c.in-Began.is (sym c.is_on.ensures ∙ c.if-is_on.true) c.join.new.self c.side.result (c.len-at.result - 1) c.side.ensures
+    (at_end S H n c.args.e is may (c.len-at.result - 1) c.len-at.result c.len-at.ensures refl) c.join.ensures.size c.join.ensures.batches
+
+pub returns-else-is_on-clause-stands : goal.returns-else-is_on-clause-stands
+returns-else-is_on-clause-stands c =
+    let S = setup_of c.args.facts.now in
+    let H = events_of c.args.facts.now in
+    let n = c.args.self.now.node.0 in
+    let is = c.requires.newest.is in
+    let may = c.requires.newest.may in
+    began_off S H n c.args.e is may c.args.self.now.ordered c.args.self.now.batches c.args.self.now.reads c.requires.stands c.in-Began.txn c.in-Began.session c.in-Began.kind c.in-Began.instance c.in-Began.is (sym c.is_on.ensures ∙ c.if-is_on.false)
+
+pub returns-then-is_on-2-clause-stands : goal.returns-then-is_on-2-clause-stands
+returns-then-is_on-2-clause-stands c =
+    let S = setup_of c.args.facts.now in
+    let H = events_of c.args.facts.now in
+    let n = c.args.self.now.node.0 in
+    let is = c.requires.newest.is in
+    let may = c.requires.newest.may in
+    got_on S H n c.args.e is may c.args.self.now.ordered c.args.self.now.batches c.args.self.now.reads c.requires.stands c.in-Got.txn c.in-Got.cell c.in-Got.from c.in-Got.value c.in-Got.is (sym c.is_on-in-Got.ensures ∙ c.if-is_on-2.true) c.push_read.new.reads c.push_read.ensures.sorted c.push_read.ensures.piles
+
+pub returns-then-is_on-2-clause-spare : goal.returns-then-is_on-2-clause-spare
+returns-then-is_on-2-clause-spare c = let z = room_less c.args.self.now.reads c.push_read.new.reads c.push_read.ensures.room in omega (arith, z)
+
+pub returns-else-is_on-2-clause-stands : goal.returns-else-is_on-2-clause-stands
+returns-else-is_on-2-clause-stands c =
+    let S = setup_of c.args.facts.now in
+    let H = events_of c.args.facts.now in
+    let n = c.args.self.now.node.0 in
+    let is = c.requires.newest.is in
+    let may = c.requires.newest.may in
+    got_off S H n c.args.e is may c.args.self.now.ordered c.args.self.now.batches c.args.self.now.reads c.requires.stands c.in-Got.txn c.in-Got.cell c.in-Got.from c.in-Got.value c.in-Got.is (sym c.is_on-in-Got.ensures ∙ c.if-is_on-2.false)
+
+pub returns-in-Done-clause-stands : goal.returns-in-Done-clause-stands
+returns-in-Done-clause-stands c =
+    let S = setup_of c.args.facts.now in
+    let H = events_of c.args.facts.now in
+    let n = c.args.self.now.node.0 in
+    let is = c.requires.newest.is in
+    let may = c.requires.newest.may in
+    done S H n c.args.e is may c.args.self.now.ordered c.args.self.now.batches c.args.self.now.reads c.requires.stands c.in-Done.txn c.in-Done.is c.finish.new.self (c.len-at.result - 1)
+    (at_end S H n c.args.e is may (c.len-at.result - 1) c.len-at.result c.len-at.ensures refl) c.finish.ensures.size c.finish.ensures.batches
+
+pub returns-then-is_on-3-clause-stands : goal.returns-then-is_on-3-clause-stands
+returns-then-is_on-3-clause-stands c =
+    let S = setup_of c.args.facts.now in
+    let H = events_of c.args.facts.now in
+    let n = c.args.self.now.node.0 in
+    let is = c.requires.newest.is in
+    let may = c.requires.newest.may in
+    gone_on S H n c.args.e is may c.args.self.now.ordered c.args.self.now.batches c.args.self.now.reads c.requires.stands c.in-Gone.txn c.in-Gone.cause c.in-Gone.is c.finish-in-Gone.new.self (c.len-at.result - 1)
+    (at_end S H n c.args.e is may (c.len-at.result - 1) c.len-at.result c.len-at.ensures refl) c.finish-in-Gone.ensures.size c.finish-in-Gone.ensures.batches c.forget_reads.new.reads c.forget_reads.ensures.sorted c.forget_reads.ensures.piles
+
+pub returns-then-is_on-3-clause-spare : goal.returns-then-is_on-3-clause-spare
+returns-then-is_on-3-clause-spare c = let z = room_kept c.args.self.now.reads c.forget_reads.new.reads c.forget_reads.ensures.room in omega (arith, z, c.finish-in-Gone.ensures.spare)
+
+pub returns-else-is_on-3-clause-stands : goal.returns-else-is_on-3-clause-stands
+returns-else-is_on-3-clause-stands c =
+    let S = setup_of c.args.facts.now in
+    let H = events_of c.args.facts.now in
+    let n = c.args.self.now.node.0 in
+    let is = c.requires.newest.is in
+    let may = c.requires.newest.may in
+    gone_off S H n c.args.e is may c.args.self.now.ordered c.args.self.now.batches c.args.self.now.reads c.requires.stands c.in-Gone.txn c.in-Gone.cause c.in-Gone.is (sym c.is_on-in-Gone.ensures ∙ c.if-is_on-3.false) c.finish-in-Gone.new.self (c.len-at.result - 1)
+    (at_end S H n c.args.e is may (c.len-at.result - 1) c.len-at.result c.len-at.ensures refl) c.finish-in-Gone.ensures.size c.finish-in-Gone.ensures.batches
+
+pub returns-in-Put-clause-stands : goal.returns-in-Put-clause-stands
+returns-in-Put-clause-stands c =
+    let S = setup_of c.args.facts.now in
+    let H = events_of c.args.facts.now in
+    let n = c.args.self.now.node.0 in
+    let is = c.requires.newest.is in
+    let may = c.requires.newest.may in
+    elim c.in-Put.is [
+      | inl q ↦ put S H n c.args.e is may c.args.self.now.ordered c.args.self.now.batches c.args.self.now.reads c.requires.stands q.0 q.1 q.2 q.3
+      | inr o ↦ elim o [
+        | inl q ↦ readied S H n c.args.e is may c.args.self.now.ordered c.args.self.now.batches c.args.self.now.reads c.requires.stands q.0 q.1
+        | inr q ↦ told S H n c.args.e is may c.args.self.now.ordered c.args.self.now.batches c.args.self.now.reads c.requires.stands q.0 q.1
+      ]
+    ]

@@ -1,0 +1,14 @@
+use Rattle.std.proofs.Common.{◌∙◌, ltb}
+use Rattle.phase_api.specs.Told.{setup_of, events_of}
+use Rattle.timestamp_node.proofs.Here.{left_here, right_here}
+use Rattle.timestamp_node.proofs.Said.{stamps_orders}
+use Rattle.timestamp_node.proofs.stamps.StampsControl.orders.Goals as goal
+
+pub start_of-requires-clause-here : goal.start_of-requires-clause-here
+start_of-requires-clause-here c = left_here c.args.facts.now c.args.self.now.node.0 c.args.u.0 c.args.w.0 c.requires.pair.left c.requires.pair.meet
+
+pub start_of-requires-2-clause-here : goal.start_of-requires-2-clause-here
+start_of-requires-2-clause-here c = right_here c.args.facts.now c.args.self.now.node.0 c.args.u.0 c.args.w.0 c.requires.pair.right c.requires.pair.meet
+
+pub returns : goal.returns
+returns c = (λ j. ltb (c.start_of.ensures j) (c.start_of-2.ensures j)) ∙ stamps_orders (setup_of c.args.facts.now) (events_of c.args.facts.now) c.args.self.now.node.0 c.requires.stands.kind c.args.u.0 c.args.w.0 c.args._cell

@@ -1,0 +1,20 @@
+-- Who read what at a node, and from whom.
+use Rattle.std.specs.Prelude.{ℕ, cond, not, ◌&&◌, List, [], ◌∷◌, ◌++◌, filter}
+use Rattle.teb_names.specs.declared.Txn.{Txn}
+use Rattle.teb_names.specs.declared.Cell.{Cell}
+use Rattle.teb_names.specs.Cells.{same_cell}
+use Rattle.teb_history.specs.declared.Event.{Event}
+use Rattle.teb_history.specs.declared.Event.TheVariants.{Got}
+use Rattle.teb_history.specs.Phases.{aborted}
+use Rattle.teb_rules.specs.Setup.{Setup}
+use Rattle.teb_rules.specs.Tree.{on}
+
+-- reader and writer read from, for each Got of x, the oldest first
+unfoldable pub all_reads : List Event → Cell → List (Txn × Txn)
+all_reads [] x = []
+all_reads (Got t y w v ∷ P) x = let r = all_reads P x in cond (same_cell y x) (r ++ (t, w) ∷ []) r
+all_reads (_ ∷ P) x = all_reads P x
+
+-- those of readers on whose path n stands and that are not aborted
+unfoldable pub reads : Setup → List Event → ℕ → Cell → List (Txn × Txn)
+reads S H n x = filter (λ r. on S H n r.0.0 && not (aborted H r.0.0)) (all_reads H x)

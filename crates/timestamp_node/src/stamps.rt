@@ -1,0 +1,274 @@
+//! The control of a timestamp node: versions stand in the order in which batches start, and a write that comes too late for a
+//! read breaks.
+
+ghost use Rattle.std.specs.Prelude.{◌≡◌, ◌⊎◌, ◌||◌, ◌&&◌, ◌<◌, [], IfOk, IsTrue, eqb, ltb, find};
+ghost use Rattle.teb_names.specs.declared.ControlKind.TheVariants.{Timestamp as IsTimestamp};
+ghost use Rattle.teb_history.specs.Phases.{txns, unfinished};
+ghost use Rattle.teb_history.specs.Written.{txn_of};
+ghost use Rattle.teb_rules.specs.Tree.{row, meets};
+ghost use Rattle.teb_rules.specs.Batches.{start};
+ghost use Rattle.teb_rules.specs.Versions.{precedes};
+ghost use Rattle.teb_rules.specs.Controls.{is_late};
+ghost use Rattle.version_chain.specs.Lists.{writers_of};
+ghost use Rattle.phase_api.specs.Told.{setup_of, events_of, IsTyped};
+ghost use Rattle.phase_api.specs.Calls.{IsHere};
+ghost use Rattle.phase_api.specs.Versions.{HoldsVersions, IsPlaceOf, SourcesStand, has_version};
+ghost use Rattle.timestamp_node.specs.Reads.{reads};
+ghost use Rattle.timestamp_node.specs.Late.{is_after, lesser_txn};
+ghost use Rattle.timestamp_node.specs.Standing.{StampsStand};
+
+use crate::reads::{forget_reads, push_read};
+use batch_book::Batches;
+use hold_register::wait_for;
+use key_piles::Piles;
+use phase_api::{Control, Facts};
+use std::alloc::{AllocError, Global};
+use teb_history::Event;
+use teb_names::{Cell, Node, Spot, Txn};
+use teb_rules::{Broken, Verdict};
+use version_chain::Chains;
+
+/// The timestamp control of a node.
+#[derive(Drop)]
+pub struct Stamps {
+    node: Node,
+    // Whether a Commit waits for those whose batches started before.
+    ordered: bool,
+    batches: Batches,
+    // By cell: reader and writer read from, in the order of the history.
+    reads: Piles<Cell, (Txn, Txn)>,
+}
+
+impl Stamps {
+    /// The control of a timestamp node for an empty history. Takes no memory.
+    pub fn new(alloc: Global, node: Node, facts: &Facts) -> Result<Self, AllocError>
+        requires kind { (row (setup_of facts.now).tree node.0).control ≡ IsTimestamp }
+        requires empty { events_of facts.now ≡ [] }
+        ensures node { IfOk result (λ c. c.node ≡ node) }
+        ensures stands { IfOk result (λ c. StampsStand c.node.0 c.ordered c.batches c.reads (setup_of facts.now) (events_of facts.now)) }
+    {
+        let row = facts.tree.row(node);
+        Ok(Stamps {
+            node,
+            ordered: row.ordered,
+            batches: Batches::new(alloc, row.batch),
+            reads: Piles::new(alloc),
+        })
+    }
+
+    /// Who read a cell, and from whom, 0 for the starting row: a pair for each Got by a transaction on whose path the node
+    /// stands and that is not aborted, in the order of the history.
+    pub fn reads(&self, facts: &Facts, cell: Cell) -> &[(Txn, Txn)]
+        requires { StampsStand self.now.node.0 self.now.ordered self.now.batches self.now.reads (setup_of facts.now) (events_of facts.now) }
+        ensures { result.now ≡ reads (setup_of facts.now) (events_of facts.now) self.now.node.0 cell }
+    {
+        let _ = facts;
+        self.reads.list(cell)
+    }
+
+    // Where the batch of a transaction that is here starts.
+    fn start_of(&self, facts: &Facts, t: Txn) -> usize
+        requires stands { StampsStand self.now.node.0 self.now.ordered self.now.batches self.now.reads (setup_of facts.now) (events_of facts.now) }
+        requires here { IsHere facts.now self.now.node.0 t.0 }
+        ensures { result ≡ start (setup_of facts.now) (events_of facts.now) self.now.node.0 t.0 }
+    {
+        let _ = facts;
+        self.batches.start(t)
+    }
+
+    // The least-numbered transaction for which t's write of a cell comes too late.
+    fn reader_after<C: Chains>(
+        &self,
+        facts: &Facts,
+        chains: &C,
+        at: usize,
+        t: Txn,
+        cell: Cell,
+    ) -> Option<Txn>
+        requires stands { StampsStand self.now.node.0 self.now.ordered self.now.batches self.now.reads (setup_of facts.now) (events_of facts.now) }
+        requires here { IsHere facts.now self.now.node.0 t.0 }
+        requires chains { HoldsVersions (setup_of facts.now) (events_of facts.now) (C.lists chains.now) }
+        requires sources { SourcesStand (events_of facts.now) cell }
+        requires at { IsPlaceOf (setup_of facts.now) (events_of facts.now) cell t.0 at (writers_of (C.lists chains.now cell)) }
+        ensures { result ≡ txn_of (find (is_late (setup_of facts.now) (events_of facts.now) self.now.node.0 t.0 cell) (txns (events_of facts.now))) }
+    {
+        let mut least = None;
+        for read in self.reads(facts, cell) {
+            if self.is_after(facts, chains, at, t, cell, *read) {
+                least = Some(lesser(least, read.0));
+            }
+        }
+        least
+    }
+
+    // Whether a reader meets t here, starts later, and read t's own version or one before it.
+    fn is_after<C: Chains>(
+        &self,
+        facts: &Facts,
+        chains: &C,
+        at: usize,
+        t: Txn,
+        cell: Cell,
+        read: (Txn, Txn),
+    ) -> bool
+        requires stands { StampsStand self.now.node.0 self.now.ordered self.now.batches self.now.reads (setup_of facts.now) (events_of facts.now) }
+        requires here { IsHere facts.now self.now.node.0 t.0 }
+        requires reader { IsTyped facts.now read.0.0 }
+        requires chains { HoldsVersions (setup_of facts.now) (events_of facts.now) (C.lists chains.now) }
+        requires source { (read.1.0 ≡ 0) ⊎ IsTrue (has_version (events_of facts.now) cell read.1.0) }
+        requires at { IsPlaceOf (setup_of facts.now) (events_of facts.now) cell t.0 at (writers_of (C.lists chains.now cell)) }
+        ensures { result ≡ is_after (setup_of facts.now) (events_of facts.now) self.now.node.0 t.0 cell read }
+    {
+        let (reader, writer) = read;
+        facts.meet_at(self.node, t, reader)
+            && self.start_of(facts, t) < self.start_of(facts, reader)
+            && is_at_most(facts, chains, at, t, cell, writer)
+    }
+
+    // Whether an unfinished transaction that meets t here started before it.
+    fn holds_back(&self, facts: &Facts, t: Txn, u: Txn) -> bool
+        requires stands { StampsStand self.now.node.0 self.now.ordered self.now.batches self.now.reads (setup_of facts.now) (events_of facts.now) }
+        requires here { IsHere facts.now self.now.node.0 t.0 }
+        ensures { result ≡ (unfinished (events_of facts.now) u.0 && meets (setup_of facts.now) (events_of facts.now) self.now.node.0 t.0 u.0
+            && ltb (start (setup_of facts.now) (events_of facts.now) self.now.node.0 u.0) (start (setup_of facts.now) (events_of facts.now) self.now.node.0 t.0)) }
+    {
+        facts.history.is_unfinished(u)
+            && facts.meet_at(self.node, t, u)
+            && self.start_of(facts, u) < self.start_of(facts, t)
+    }
+}
+
+// The lesser of two, of which the first may be missing.
+fn lesser(least: Option<Txn>, t: Txn) -> Txn
+    ensures { result ≡ lesser_txn least t }
+{
+    match least {
+        Some(u) if u.0 < t.0 => u,
+        _ => t,
+    }
+}
+
+// Whether the version that was read is t's own or one before it. 0 wrote the starting row.
+fn is_at_most<C: Chains>(
+    facts: &Facts,
+    chains: &C,
+    at: usize,
+    t: Txn,
+    cell: Cell,
+    writer: Txn,
+) -> bool
+    requires positive { 0 < t.0 }
+    requires chains { HoldsVersions (setup_of facts.now) (events_of facts.now) (C.lists chains.now) }
+    requires at { IsPlaceOf (setup_of facts.now) (events_of facts.now) cell t.0 at (writers_of (C.lists chains.now cell)) }
+    requires source { (writer.0 ≡ 0) ⊎ IsTrue (has_version (events_of facts.now) cell writer.0) }
+    ensures { result ≡ (eqb writer.0 t.0 || precedes (setup_of facts.now) (events_of facts.now) cell writer.0 t.0) }
+{
+    let _ = facts;
+    if writer == t || writer.0 == 0 {
+        return true;
+    }
+    match chains.find(cell, writer) {
+        Some(place) => place < at,
+        None => false,
+    }
+}
+
+impl Control for Stamps {
+    ghost use Rattle.std.specs.Prelude.{min};
+    ghost use Rattle.timestamp_node.specs.Standing.{StampsStand, room_of};
+
+    ghost stands = { λ c S H. StampsStand c.node.0 c.ordered c.batches c.reads S H };
+
+    ghost place = { λ c. c.node.0 };
+
+    ghost spare = { λ c. min c.batches.spare (room_of c.reads) };
+
+    ghost sound = { λ c S H s. s.orderly };
+
+    fn node(&self) -> Node {
+        self.node
+    }
+
+    fn reserve(&mut self) -> Result<(), AllocError> {
+        self.batches.reserve()?;
+        self.reads.reserve(32)
+    }
+
+    fn note(&mut self, facts: &Facts, e: Event) {
+        let at = facts.history.len() - 1;
+        match e {
+            Event::Began { txn, .. } => {
+                if facts.is_on(self.node, txn) {
+                    self.batches.join(facts.side(self.node, txn), txn, at);
+                }
+            }
+            Event::Got {
+                txn,
+                cell,
+                from,
+                ..
+            } => {
+                if facts.is_on(self.node, txn) {
+                    push_read(&mut self.reads, cell, txn, from);
+                }
+            }
+            Event::Done(txn) => self.batches.finish(txn, at),
+            Event::Gone { txn, .. } => {
+                self.batches.finish(txn, at);
+                if facts.is_on(self.node, txn) {
+                    forget_reads(&mut self.reads, facts.history, txn);
+                }
+            }
+            Event::Put { .. } | Event::Ready(_) | Event::Told(_) => {}
+        }
+    }
+
+    fn start(&self, facts: &Facts, s: Spot) -> Verdict {
+        match facts.tree.side(self.node, s) {
+            Some(child) => wait_for(self.batches.full(u32::from(child.0))),
+            None => Verdict::Go,
+        }
+    }
+
+    fn before_read(&self, _facts: &Facts, _t: Txn, _cell: Cell) -> Verdict {
+        Verdict::Go
+    }
+
+    fn before_write<C: Chains>(
+        &self,
+        facts: &Facts,
+        chains: &C,
+        at: usize,
+        t: Txn,
+        cell: Cell,
+    ) -> Verdict {
+        match self.reader_after(facts, chains, at, t, cell) {
+            Some(reader) => Verdict::Break(Broken::Late { reader, cell }),
+            None => Verdict::Go,
+        }
+    }
+
+    fn sees(&self, facts: &Facts, reader: Txn, writer: Txn, _cell: Cell) -> bool {
+        self.start_of(facts, writer) < self.start_of(facts, reader)
+    }
+
+    fn orders(&self, facts: &Facts, u: Txn, w: Txn, _cell: Cell) -> bool {
+        self.start_of(facts, u) < self.start_of(facts, w)
+    }
+
+    fn validate(&self, _facts: &Facts, _t: Txn) -> Verdict {
+        Verdict::Go
+    }
+
+    fn gate(&self, facts: &Facts, t: Txn) -> Verdict {
+        if !self.ordered {
+            return Verdict::Go;
+        }
+        for u in facts.history.live() {
+            if self.holds_back(facts, t, *u) {
+                return Verdict::Wait(*u);
+            }
+        }
+        Verdict::Go
+    }
+}
