@@ -1,0 +1,2 @@
+pub mod Recoverable
+pub mod Rounds

@@ -1,0 +1,67 @@
+//! The cascade: rounds over the unfinished transactions, until nobody is added.
+
+ghost use Rattle.std.specs.Prelude.{◌≡◌, ◌≤◌, ◌||◌, eqb, find, length, IsTrue};
+ghost use Rattle.teb_history.specs.Phases.{unfinished};
+ghost use Rattle.teb_rules.specs.Cascade.{cascade};
+ghost use Rattle.phase_api.specs.Told.{events_of};
+ghost use Rattle.dependency_book.specs.Books.{BookOf};
+ghost use Rattle.abort_cascade.specs.Recoverable.{IsRecoverable};
+ghost use Rattle.abort_cascade.specs.Rounds.{is_member, culprit, round_of, blames};
+
+use crate::list::CascadeList;
+use dependency_book::Book;
+use phase_api::Facts;
+use teb_names::Txn;
+
+/// Who falls with t, in ascending number and without t: each transaction that read from t or from one that falls, with the
+/// least one that it read from and that is t or falls.
+pub fn cascade(book: &Book, facts: &Facts, t: Txn) -> CascadeList
+    requires book { BookOf book.now.lists (events_of facts.now) }
+    requires unfinished { IsTrue (unfinished (events_of facts.now) t.0) }
+    requires recoverable { IsRecoverable (events_of facts.now) }
+    requires few { length (cascade (events_of facts.now) t.0) ≤ 32 }
+    ensures { result ≡ blames (events_of facts.now) t.0 }
+{
+    let mut fell = CascadeList::new();
+    loop {
+        let next = round(book, t, &fell);
+        if next.len() == fell.len() {
+            return next;
+        }
+        fell = next;
+    }
+}
+
+// The unfinished transactions that read from t or from one that fell before, each with the least such.
+fn round(book: &Book, t: Txn, fell: &CascadeList) -> CascadeList
+    requires { length (round_of book.now.lists t.0 fell.now book.now.lists.unfinished) ≤ 32 }
+    ensures { result ≡ round_of book.now.lists t.0 fell.now book.now.lists.unfinished }
+{
+    let mut next = CascadeList::new();
+    for u in book.unfinished() {
+        if let Some(w) = culprit(book, t, fell, *u) {
+            next.push(*u, w);
+        }
+    }
+    next
+}
+
+// The least transaction that u, another one than t, read from and that is t or fell.
+fn culprit(book: &Book, t: Txn, fell: &CascadeList, u: Txn) -> Option<Txn>
+    ensures { result ≡ culprit book.now.lists t.0 fell.now u }
+{
+    if u == t {
+        return None;
+    }
+    first_fallen(book.read_from(u), t, fell)
+}
+
+// The first that is t or fell.
+fn first_fallen(sources: &[Txn], t: Txn, fell: &CascadeList) -> Option<Txn>
+    ensures { result ≡ find (λ w. eqb w.0 t.0 || is_member fell.now w.0) sources.now }
+{
+    sources
+        .iter()
+        .copied()
+        .find(|w| *w == t || fell.contains(*w))
+}

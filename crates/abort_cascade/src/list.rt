@@ -1,0 +1,65 @@
+//! The transactions that fall with another.
+
+ghost use Rattle.std.specs.Prelude.{◌≡◌, ◌<◌, ◌++◌, ◌∷◌, [], length, slice_get, Some};
+ghost use Rattle.abort_cascade.specs.Rounds.{is_member};
+
+use std::marker::Model;
+use teb_names::Txn;
+
+/// At most 32 transactions, each with the one that it is blamed on.
+#[derive(Drop)]
+pub struct CascadeList {
+    pairs: [(Txn, Txn); 32],
+    len: usize,
+}
+
+impl Model for CascadeList {
+    ghost use Rattle.std.specs.Prelude.{List, ◌≡◌, ◌≤◌, take, length};
+    ghost use Rattle.teb_names.specs.declared.Txn.{Txn};
+
+    ghost Value = { List (Txn × Txn) };
+
+    ghost view = { λ l. take l.len l.pairs };
+
+    ghost invariant = { λ l. (l.len ≤ 32) × (length l.pairs ≡ 32) };
+}
+
+impl CascadeList {
+    pub(crate) fn new() -> Self
+        ensures { result ≡ [] }
+    {
+        CascadeList {
+            pairs: [(Txn(0), Txn(0)); 32],
+            len: 0,
+        }
+    }
+
+    /// How many there are, at most 32.
+    pub fn len(&self) -> usize
+        ensures { result ≡ length self.now }
+    {
+        self.len
+    }
+
+    /// The transaction at a place, from 0, and the one that it is blamed on.
+    pub fn at(&self, i: usize) -> (Txn, Txn)
+        requires { i < length self.now }
+        ensures { slice_get self.now i ≡ Some result }
+    {
+        self.pairs[..self.len][i]
+    }
+
+    pub(crate) fn contains(&self, t: Txn) -> bool
+        ensures { result ≡ is_member self.now t.0 }
+    {
+        self.pairs[..self.len].iter().any(|pair| pair.0 == t)
+    }
+
+    pub(crate) fn push(&mut self, t: Txn, blamed: Txn)
+        requires { length self.old < 32 }
+        ensures { self.new ≡ self.old ++ (t, blamed) ∷ [] }
+    {
+        self.pairs[self.len] = (t, blamed);
+        self.len += 1;
+    }
+}

@@ -1,0 +1,10 @@
+pub mod InOrder
+pub mod Shows
+pub mod Sources
+pub mod Amended
+pub mod Meets
+pub mod Placed
+pub mod OneMore
+pub mod KeptVersions
+pub mod PutVersions
+pub mod GoneVersions

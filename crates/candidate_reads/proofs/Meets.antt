@@ -1,0 +1,56 @@
+-- Where a writer and another transaction meet, and what that node says of the two.
+use Rattle.std.proofs.Common.{ℕ, ◌≡◌, ◌≢◌, ◌<◌, true, false, List, sym, subst, ◌∙◌, length, lt-ltb, ne_eqb, refl}
+use Rattle.teb_names.specs.declared.Cell.{Cell}
+use Rattle.teb_history.specs.declared.Event.{Event}
+use Rattle.teb_history.specs.Phases.{aborted, begun, began_at}
+use Rattle.teb_rules.specs.Setup.{Setup}
+use Rattle.teb_rules.specs.Tree.{row, meet, meets}
+use Rattle.teb_rules.specs.Versions.{precedes, orders, sees, sees_by}
+use Rattle.teb_laws.specs.TreeFacts.{TreeFacts}
+use Rattle.teb_laws.specs.Lawful.{Lawful}
+use Rattle.teb_laws.proofs.Meeting.{meets_exists}
+use Rattle.teb_laws.proofs.Nodes.{meet_is}
+use Rattle.teb_laws.proofs.Timeline.{kind-lt}
+use Rattle.teb_laws.proofs.VersionOrder.{precedes_at}
+use Rattle.phase_api.specs.declared.facts.Facts.{Facts}
+use Rattle.phase_api.specs.Told.{setup_of, events_of, IsTyped}
+use Rattle.phase_api.specs.Calls.{IsPair}
+use Rattle.phase_api.specs.Versions.{has_version}
+use Rattle.candidate_reads.proofs.Shows.{version_parts}
+use Rattle.candidate_reads.proofs.Sources.{writer_began, begun_place}
+
+-- two that have begun meet at the node that is said to be theirs
+pub meets_there : (S : Setup) (a : TreeFacts S) (H : List Event) (n t u : ℕ) → Lawful S H → begun H t ≡ true → begun H u ≡ true → t ≢ u → meet S H t u ≡ n → meets S H n t u ≡ true
+meets_there S a H n t u l bt bu ne e =
+    let m = meets_exists S a H t u l (begun_place H t bt) (begun_place H u bu) ne in
+    subst (λ (k : ℕ). meets S H k t u ≡ true) (sym (meet_is S a H m.node t u l (begun_place H t bt) (begun_place H u bu) m.meet) ∙ e) m.meet
+
+begun_from : (H : List Event) (t : ℕ) → began_at H t < length H → begun H t ≡ true
+unfolding begun
+begun_from H t h = lt-ltb _ _ h
+
+-- who has a version is typed
+pub writer_typed : (f : Facts) (x : Cell) (w : ℕ) → Lawful (setup_of f) (events_of f) → has_version (events_of f) x w ≡ true → IsTyped f w
+writer_typed f x w l v =
+    let b = writer_began (setup_of f) (events_of f) w x l (version_parts (events_of f) x w v).0 in
+    record { begun = begun_from (events_of f) w b; kind = kind-lt (setup_of f) (events_of f) w l b }
+
+-- t and a writer w that meet at n
+module _ (f : Facts) (x : Cell) (n w t : ℕ) (a : TreeFacts (setup_of f)) (l : Lawful (setup_of f) (events_of f)) (v : has_version (events_of f) x w ≡ true) (ty : IsTyped f t) where
+  pub pair_before : aborted (events_of f) t ≡ false → meets (setup_of f) (events_of f) n w t ≡ true → IsPair f n w t
+  pair_before na h = record { left = writer_typed f x w l v; right = ty; meet = h; left_stands = (version_parts (events_of f) x w v).1; right_stands = na }
+
+  pub pair_behind : aborted (events_of f) t ≡ false → meets (setup_of f) (events_of f) n t w ≡ true → IsPair f n t w
+  pair_behind na h = record { left = ty; right = writer_typed f x w l v; meet = h; left_stands = na; right_stands = (version_parts (events_of f) x w v).1 }
+
+  -- the node's order of their versions is the order of versions
+  pub order_there : meets (setup_of f) (events_of f) n w t ≡ true → orders (setup_of f) (events_of f) n x w t ≡ precedes (setup_of f) (events_of f) x w t
+  order_there h = sym (precedes_at (setup_of f) a (events_of f) n x w t l (writer_began (setup_of f) (events_of f) w x l (version_parts (events_of f) x w v).0) (begun_place (events_of f) t ty.begun) h)
+
+  -- t sees what the node shows it
+  pub sight_there : w ≢ t → meets (setup_of f) (events_of f) n t w ≡ true → sees_by (row (setup_of f).tree n).control (setup_of f) (events_of f) n x t w ≡ sees (setup_of f) (events_of f) x t w
+  unfolding sees
+  sight_there ne h =
+      let e : meet (setup_of f) (events_of f) t w ≡ n = meet_is (setup_of f) a (events_of f) n t w l (begun_place (events_of f) t ty.begun) (writer_began (setup_of f) (events_of f) w x l (version_parts (events_of f) x w v).0) h in
+      let p = version_parts (events_of f) x w v in
+      rw (ne_eqb w t ne, p.0, p.1, e) refl

@@ -1,0 +1,15 @@
+use Rattle.std.proofs.Common.{◌≡◌, ℕ, true, refl, sym, subst}
+use Rattle.teb_rules.specs.Tree.{meets}
+use Rattle.phase_api.specs.Told.{setup_of, events_of}
+use Rattle.candidate_reads.proofs.Meets.{meets_there}
+use Rattle.candidate_reads.proofs.node_control.control_between.Goals as goal
+
+pub returns-clause-meet : goal.returns-clause-meet
+returns-clause-meet g c =
+    let S = setup_of c.args.facts.now in
+    let H = events_of c.args.facts.now in
+    let t = c.args.t.0 in
+    let u = c.args.u.0 in
+    subst (λ (n : ℕ). meets S H n t u ≡ true) (sym c.control_at.ensures.place)
+    (meets_there S c.requires.tree H c.meet.result.0 t u c.requires.lawful c.requires.left.begun c.requires.right.begun c.requires.differ
+    (c.meet.ensures.meet S H t u refl (sym c.in-Some-Some.ensures.spot) (sym c.in-Some-Some.ensures'.spot) c.requires.differ))

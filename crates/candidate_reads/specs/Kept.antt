@@ -1,0 +1,9 @@
+-- Events that change no version.
+use Rattle.teb_history.specs.declared.Event.{Event}
+use Rattle.teb_history.specs.declared.Event.TheVariants.{Put, Gone}
+
+-- the event puts no version, and takes none away
+abbrev pub LeavesVersions : Event → Type 0
+LeavesVersions (Put t x v) = ⊥
+LeavesVersions (Gone t c) = ⊥
+LeavesVersions _ = Unit {0}

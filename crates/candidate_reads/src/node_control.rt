@@ -1,0 +1,38 @@
+//! The control of a node.
+
+ghost use Rattle.std.specs.Prelude.{◌≡◌, ◌≢◌, ◌<◌, length, IsTrue};
+ghost use Rattle.teb_rules.specs.Tree.{meets};
+ghost use Rattle.teb_laws.specs.TreeFacts.{TreeFacts};
+ghost use Rattle.teb_laws.specs.Lawful.{Lawful};
+ghost use Rattle.phase_api.specs.Standing.{StandAll};
+ghost use Rattle.phase_api.specs.Told.{setup_of, events_of, IsTyped};
+
+use phase_api::{Control, Facts};
+use teb_names::{Node, Txn};
+
+/// The control of a node, of the controls of all nodes.
+pub fn control_at<'a, K: Control>(controls: &'a [K], facts: &Facts, n: Node) -> &'a K
+    requires controls { StandAll K.place K.stands controls.now (setup_of facts.now) (events_of facts.now) }
+    requires node { n.0 < length (setup_of facts.now).tree }
+    ensures place { K.place result.now ≡ n.0 }
+    ensures stands { K.stands result.now (setup_of facts.now) (events_of facts.now) }
+{
+    &controls[usize::from(n.0)]
+}
+
+/// The control of the node at which two transactions meet.
+pub fn control_between<'a, K: Control>(controls: &'a [K], facts: &Facts, t: Txn, u: Txn) -> &'a K
+    requires tree { TreeFacts (setup_of facts.now) }
+    requires lawful { Lawful (setup_of facts.now) (events_of facts.now) }
+    requires controls { StandAll K.place K.stands controls.now (setup_of facts.now) (events_of facts.now) }
+    requires left { IsTyped facts.now t.0 }
+    requires right { IsTyped facts.now u.0 }
+    requires differ { t.0 ≢ u.0 }
+    ensures meet { IsTrue (meets (setup_of facts.now) (events_of facts.now) (K.place result.now) t.0 u.0) }
+    ensures stands { K.stands result.now (setup_of facts.now) (events_of facts.now) }
+{
+    let (Some(a), Some(b)) = (facts.spot(t), facts.spot(u)) else {
+        unreachable!()
+    };
+    control_at(controls, facts, facts.tree.meet(a, b))
+}

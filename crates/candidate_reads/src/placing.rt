@@ -1,0 +1,84 @@
+//! Where a transaction's version belongs.
+
+ghost use Rattle.std.specs.Prelude.{◌≡◌, slice_get, Some, IsTrue, IsFalse};
+ghost use Rattle.teb_history.specs.Phases.{aborted, unfinished};
+ghost use Rattle.teb_rules.specs.Versions.{precedes};
+ghost use Rattle.teb_laws.specs.TreeFacts.{TreeFacts};
+ghost use Rattle.teb_laws.specs.Lawful.{Lawful};
+ghost use Rattle.version_chain.specs.Lists.{writers_of, is_writer, last_place};
+ghost use Rattle.phase_api.specs.Told.{setup_of, events_of, IsTyped};
+ghost use Rattle.phase_api.specs.Calls.{Writes};
+ghost use Rattle.phase_api.specs.Versions.{HoldsVersions, IsPlaceOf, has_version};
+ghost use Rattle.phase_api.specs.Standing.{StandAll};
+
+use crate::node_control::control_between;
+use phase_api::{Control, Facts};
+use teb_names::{Cell, Txn};
+use version_chain::Chains;
+
+/// The place of t's version of a cell among the versions that are there, in version order: where it stands, or else where it
+/// will stand once t puts the cell. The starting row is not counted.
+pub fn place_of<K: Control, C: Chains>(
+    controls: &[K],
+    chains: &C,
+    facts: &Facts,
+    t: Txn,
+    cell: Cell,
+) -> usize
+    requires tree { TreeFacts (setup_of facts.now) }
+    requires lawful { Lawful (setup_of facts.now) (events_of facts.now) }
+    requires controls { StandAll K.place K.stands controls.now (setup_of facts.now) (events_of facts.now) }
+    requires chains { HoldsVersions (setup_of facts.now) (events_of facts.now) (C.lists chains.now) }
+    requires typed { IsTyped facts.now t.0 }
+    requires kept { IsFalse (aborted (events_of facts.now) t.0) }
+    requires writes { Writes (events_of facts.now) t.0 cell }
+    ensures place { IsPlaceOf (setup_of facts.now) (events_of facts.now) cell t.0 result (writers_of (C.lists chains.now cell)) }
+    ensures own { IsTrue (is_writer (C.lists chains.now cell) t.0) → slice_get (writers_of (C.lists chains.now cell)) result ≡ Some t.0 }
+{
+    if let Some(own) = chains.find(cell, t) {
+        return own;
+    }
+    let begun = facts.history.begun();
+    match last_before(controls, chains, facts, t, cell) {
+        Some(last) => {
+            // A cell has at most one version of each transaction.
+            prove!(last <= begun as usize);
+            last + 1
+        }
+        None => 0,
+    }
+}
+
+// The place of the last version that is before the one that t is about to put.
+fn last_before<K: Control, C: Chains>(
+    controls: &[K],
+    chains: &C,
+    facts: &Facts,
+    t: Txn,
+    cell: Cell,
+) -> Option<usize>
+    requires tree { TreeFacts (setup_of facts.now) }
+    requires lawful { Lawful (setup_of facts.now) (events_of facts.now) }
+    requires controls { StandAll K.place K.stands controls.now (setup_of facts.now) (events_of facts.now) }
+    requires chains { HoldsVersions (setup_of facts.now) (events_of facts.now) (C.lists chains.now) }
+    requires typed { IsTyped facts.now t.0 }
+    requires unfinished { IsTrue (unfinished (events_of facts.now) t.0) }
+    requires absent { IsFalse (has_version (events_of facts.now) cell t.0) }
+    ensures { result ≡ last_place (λ w. precedes (setup_of facts.now) (events_of facts.now) cell w t.0) (writers_of (C.lists chains.now cell)) }
+{
+    chains.last_where(cell, &|w: Txn| is_before(controls, facts, w, t, cell))
+}
+
+// Whether the version of w is before the one that t is about to put.
+fn is_before<K: Control>(controls: &[K], facts: &Facts, w: Txn, t: Txn, cell: Cell) -> bool
+    requires tree { TreeFacts (setup_of facts.now) }
+    requires lawful { Lawful (setup_of facts.now) (events_of facts.now) }
+    requires controls { StandAll K.place K.stands controls.now (setup_of facts.now) (events_of facts.now) }
+    requires typed { IsTyped facts.now t.0 }
+    requires unfinished { IsTrue (unfinished (events_of facts.now) t.0) }
+    requires absent { IsFalse (has_version (events_of facts.now) cell t.0) }
+    requires version { IsTrue (has_version (events_of facts.now) cell w.0) }
+    ensures { result ≡ precedes (setup_of facts.now) (events_of facts.now) cell w.0 t.0 }
+{
+    control_between(controls, facts, w, t).orders(facts, w, t, cell)
+}

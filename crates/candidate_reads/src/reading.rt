@@ -1,0 +1,79 @@
+//! What a transaction reads.
+
+ghost use Rattle.std.specs.Prelude.{◌≡◌, IsTrue, IsFalse};
+ghost use Rattle.teb_history.specs.Phases.{aborted};
+ghost use Rattle.teb_rules.specs.Versions.{read, sees};
+ghost use Rattle.teb_laws.specs.TreeFacts.{TreeFacts};
+ghost use Rattle.teb_laws.specs.Lawful.{Lawful};
+ghost use Rattle.version_chain.specs.Lists.{writers_of, last_place};
+ghost use Rattle.phase_api.specs.Told.{setup_of, events_of, IsTyped};
+ghost use Rattle.phase_api.specs.Versions.{HoldsVersions, has_version};
+ghost use Rattle.phase_api.specs.Standing.{StandAll};
+
+use crate::node_control::control_between;
+use phase_api::{Control, Facts};
+use teb_names::{Cell, Rows, Txn};
+use version_chain::Chains;
+
+/// Whose version of a cell t reads, and its value: its own, or else the last one that it sees, or else the starting row, whose
+/// writer is 0. The value is none where there is no row.
+pub fn read<K: Control, C: Chains>(
+    controls: &[K],
+    chains: &C,
+    rows: &Rows,
+    facts: &Facts,
+    t: Txn,
+    cell: Cell,
+) -> (Txn, Option<i64>)
+    requires tree { TreeFacts (setup_of facts.now) }
+    requires lawful { Lawful (setup_of facts.now) (events_of facts.now) }
+    requires controls { StandAll K.place K.stands controls.now (setup_of facts.now) (events_of facts.now) }
+    requires chains { HoldsVersions (setup_of facts.now) (events_of facts.now) (C.lists chains.now) }
+    requires typed { IsTyped facts.now t.0 }
+    requires kept { IsFalse (aborted (events_of facts.now) t.0) }
+    ensures source { result.0.0 ≡ (read (setup_of facts.now) rows.now (events_of facts.now) t.0 cell).0 }
+    ensures value { result.1 ≡ (read (setup_of facts.now) rows.now (events_of facts.now) t.0 cell).1 }
+{
+    if let Some(own) = chains.find(cell, t) {
+        return chains.at(cell, own);
+    }
+    match last_seen(controls, chains, facts, t, cell) {
+        Some(i) => chains.at(cell, i),
+        None => (Txn(0), rows.get(cell)),
+    }
+}
+
+// The place of the last version that t sees, where it has none of its own. The versions are asked for one by one from the last
+// one on, so that a read costs those that t does not see.
+fn last_seen<K: Control, C: Chains>(
+    controls: &[K],
+    chains: &C,
+    facts: &Facts,
+    t: Txn,
+    cell: Cell,
+) -> Option<usize>
+    requires tree { TreeFacts (setup_of facts.now) }
+    requires lawful { Lawful (setup_of facts.now) (events_of facts.now) }
+    requires controls { StandAll K.place K.stands controls.now (setup_of facts.now) (events_of facts.now) }
+    requires chains { HoldsVersions (setup_of facts.now) (events_of facts.now) (C.lists chains.now) }
+    requires typed { IsTyped facts.now t.0 }
+    requires kept { IsFalse (aborted (events_of facts.now) t.0) }
+    requires absent { IsFalse (has_version (events_of facts.now) cell t.0) }
+    ensures { result ≡ last_place (sees (setup_of facts.now) (events_of facts.now) cell t.0) (writers_of (C.lists chains.now cell)) }
+{
+    chains.last_where(cell, &|w: Txn| is_seen(controls, facts, t, w, cell))
+}
+
+// Whether t sees the version of the writer w, which the node where the two meet tells.
+fn is_seen<K: Control>(controls: &[K], facts: &Facts, t: Txn, w: Txn, cell: Cell) -> bool
+    requires tree { TreeFacts (setup_of facts.now) }
+    requires lawful { Lawful (setup_of facts.now) (events_of facts.now) }
+    requires controls { StandAll K.place K.stands controls.now (setup_of facts.now) (events_of facts.now) }
+    requires typed { IsTyped facts.now t.0 }
+    requires kept { IsFalse (aborted (events_of facts.now) t.0) }
+    requires absent { IsFalse (has_version (events_of facts.now) cell t.0) }
+    requires version { IsTrue (has_version (events_of facts.now) cell w.0) }
+    ensures { result ≡ sees (setup_of facts.now) (events_of facts.now) cell t.0 w.0 }
+{
+    control_between(controls, facts, t, w).sees(facts, t, w, cell)
+}

@@ -1,0 +1,98 @@
+//! The stop of a Commit: validation, the gates, and those that the transaction read from, along its path.
+
+ghost use Rattle.std.specs.Prelude.{◌≡◌, ◌<◌, IsTrue, length};
+ghost use Rattle.teb_history.specs.Phases.{unfinished};
+ghost use Rattle.teb_rules.specs.Stops.{on_commit, commit_stop, stop_of};
+ghost use Rattle.teb_rules.specs.Accepted.{IsSound};
+ghost use Rattle.teb_laws.specs.Lawful.{Lawful};
+ghost use Rattle.cc_tree.specs.Grown.{node_numbers};
+ghost use Rattle.phase_api.specs.Calls.{IsHere};
+ghost use Rattle.phase_api.specs.Standing.{StandAll};
+ghost use Rattle.phase_api.specs.Told.{setup_of, events_of};
+ghost use Rattle.dependency_book.specs.Books.{BookOf};
+ghost use Rattle.commit_gate.specs.Ways.{IsWay, first_wait};
+
+use crate::sources::unfinished_source;
+use dependency_book::Book;
+use phase_api::{Control, Facts};
+use teb_names::{Node, Txn};
+use teb_rules::{Stop, Verdict};
+
+/// What a Commit of t meets: on each node of its path, from the root, validation, and then the least of whom the gate names
+/// and the unfinished transactions that t read from and that meet it there. The first node that breaks or waits stops it.
+pub fn may_commit<K: Control>(controls: &[K], book: &Book, facts: &Facts, t: Txn) -> Stop
+    requires tree { IsSound (setup_of facts.now) }
+    requires lawful { Lawful (setup_of facts.now) (events_of facts.now) }
+    requires controls { StandAll K.place K.stands controls.now (setup_of facts.now) (events_of facts.now) }
+    requires book { BookOf book.now.lists (events_of facts.now) }
+    requires unfinished { IsTrue (unfinished (events_of facts.now) t.0) }
+    ensures { result ≡ commit_stop (setup_of facts.now) (events_of facts.now) t.0 }
+{
+    match facts.spot(t) {
+        Some(spot) => stop_along(facts.tree.path(spot), controls, book, facts, t),
+        None => unreachable!(),
+    }
+}
+
+// The stop along the nodes of a way down.
+#[tactic(auto, unfolding(teb_rules::specs::Stops::stop_of))]
+fn stop_along<K: Control>(way: &[Node], controls: &[K], book: &Book, facts: &Facts, t: Txn) -> Stop
+    requires tree { IsSound (setup_of facts.now) }
+    requires lawful { Lawful (setup_of facts.now) (events_of facts.now) }
+    requires way { IsWay facts.now t.0 (node_numbers way.now) }
+    requires controls { StandAll K.place K.stands controls.now (setup_of facts.now) (events_of facts.now) }
+    requires book { BookOf book.now.lists (events_of facts.now) }
+    requires unfinished { IsTrue (unfinished (events_of facts.now) t.0) }
+    ensures { result ≡ stop_of (on_commit (setup_of facts.now) (events_of facts.now) t.0) (node_numbers way.now) }
+{
+    match way {
+        [n, rest @ ..] => match verdict_at(controls, book, facts, *n, t) {
+            Verdict::Go => stop_along(rest, controls, book, facts, t),
+            Verdict::Wait(who) => Stop::Wait { who, node: *n },
+            Verdict::Break(broken) => Stop::Break { node: *n, broken },
+        },
+        [] => Stop::Go,
+    }
+}
+
+// What one node of t's path says.
+fn verdict_at<K: Control>(controls: &[K], book: &Book, facts: &Facts, n: Node, t: Txn) -> Verdict
+    requires node { n.0 < length facts.now.tree.now.rows }
+    requires tree { IsSound (setup_of facts.now) }
+    requires lawful { Lawful (setup_of facts.now) (events_of facts.now) }
+    requires here { IsHere facts.now n.0 t.0 }
+    requires controls { StandAll K.place K.stands controls.now (setup_of facts.now) (events_of facts.now) }
+    requires book { BookOf book.now.lists (events_of facts.now) }
+    requires unfinished { IsTrue (unfinished (events_of facts.now) t.0) }
+    ensures { result ≡ on_commit (setup_of facts.now) (events_of facts.now) t.0 n.0 }
+{
+    let control = control_at(controls, facts, n);
+    match control.validate(facts, t) {
+        Verdict::Go => first_of(
+            control.gate(facts, t),
+            unfinished_source(book.read_from(t), facts, n, t),
+        ),
+        stopped => stopped,
+    }
+}
+
+// The control of a node.
+fn control_at<'a, K: Control>(controls: &'a [K], facts: &Facts, n: Node) -> &'a K
+    requires controls { StandAll K.place K.stands controls.now (setup_of facts.now) (events_of facts.now) }
+    requires node { n.0 < length facts.now.tree.now.rows }
+    ensures place { K.place result.now ≡ n.0 }
+    ensures stands { K.stands result.now (setup_of facts.now) (events_of facts.now) }
+{
+    &controls[usize::from(n.0)]
+}
+
+// The wait for the lesser of whom the gate names and a source.
+fn first_of(gate: Verdict, source: Option<Txn>) -> Verdict
+    ensures { result ≡ first_wait gate source }
+{
+    match (gate, source) {
+        (Verdict::Wait(u), Some(w)) => Verdict::Wait(if u.0 < w.0 { u } else { w }),
+        (Verdict::Go, Some(w)) => Verdict::Wait(w),
+        _ => gate,
+    }
+}
