@@ -32,7 +32,7 @@ use Rattle.engine_core.specs.Decisions.{carried, told, IsBounded, IsRefusal, IsS
 pub stops : (X : Store) (H : List Event) (t : ℕ) (s r : Stop) (o : Option Decision) (d : Decision) (granted : Answered) → s ≡ r → IsStopped X H t s o → o ≡ Some d → carried X H d ≡ or_stop H t r granted
 stops X H t s r o d granted e k q = let f = subst (IsStopped X H t s) q k in f.0 granted ∙ ap (λ (z : Stop). or_stop H t z granted) e
 
-pub stops_bounded : (X : Store) (H : List Event) (t : ℕ) (s : Stop) (o : Option Decision) (d : Decision) → IsStopped X H t s o → o ≡ Some d → IsBounded H d
+pub stops_bounded : (X : Store) (H : List Event) (t : ℕ) (s : Stop) (o : Option Decision) (d : Decision) → IsStopped X H t s o → o ≡ Some d → IsBounded X.setup H d
 stops_bounded X H t s o d k q = (subst (IsStopped X H t s) q k).1
 
 pub goes : (X : Store) (H : List Event) (t : ℕ) (s r : Stop) (o : Option Decision) (granted : Answered) → s ≡ r → IsStopped X H t s o → o ≡ None → granted ≡ or_stop H t r granted

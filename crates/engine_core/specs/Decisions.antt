@@ -1,14 +1,14 @@
 -- A decision, and the answer that it carries out.
-use Rattle.std.specs.Prelude.{◌≡◌, ◌≤◌, ◌<◌, ◌+◌, ◌^◌, ℕ, List, ◌∷◌, Option, Some, None, unwrap_or, cond, ℤ, ◌+ℤ◌, IsTrue}
+use Rattle.std.specs.Prelude.{◌≡◌, ◌≤◌, ◌<◌, ◌+◌, ◌^◌, ℕ, List, ◌∷◌, Option, Some, None, unwrap_or, cond, ℤ, ◌+ℤ◌}
 use Rattle.teb_names.specs.declared.Cause.TheVariants.{Asked}
 use Rattle.teb_names.specs.declared.Reply.TheVariants.{Aborted}
 use Rattle.teb_names.specs.declared.Cell.{Cell}
 use Rattle.teb_names.specs.declared.Refusal.{Refusal}
 use Rattle.teb_history.specs.declared.Event.{Event}
-use Rattle.teb_history.specs.declared.Event.TheVariants.{Told}
+use Rattle.teb_history.specs.declared.Event.TheVariants.{Began, Told}
 use Rattle.teb_history.specs.Phases.{begun_count, cause_of}
-use Rattle.teb_history.specs.Written.{is_begin}
-use Rattle.teb_rules.specs.Setup.{Store}
+use Rattle.teb_rules.specs.Setup.{Setup, Store}
+use Rattle.teb_rules.specs.Stops.{begin_stop}
 use Rattle.teb_rules.specs.declared.Stop.{Stop}
 use Rattle.teb_rules.specs.declared.Stop.TheVariants as stop
 use Rattle.teb_rules.specs.Cascade.{txn}
@@ -23,11 +23,16 @@ carried X H (Grant r e) = (r, e ∷ H)
 carried X H (Scan t x n) = got_values (read_all X H t.0 (cells_from x n))
 carried X H (Fall t c) = broken_off H t.0 c
 
--- a transaction begins only where fewer than 8,192 have begun, and at most 16 cells are read, each of which has a key
-abbrev pub IsBounded : List Event → Decision → Type 0
-IsBounded H (Grant r e) = IsTrue (is_begin e) → begun_count H < 8192
-IsBounded H (Scan t x n) = (n ≤ 16) × (x.key + n ≤ 2 ^ 32)
-IsBounded H _ = Unit {0}
+-- a Began comes only where fewer than 8,192 transactions have begun, and no node on the way to its leaf holds it back
+abbrev pub MayBegin : Setup → List Event → Event → Type 0
+MayBegin S H (Began t s k i) = (begun_count H < 8192) × (begin_stop S H (record { kind = k; instance = i }) ≡ stop.Go)
+MayBegin S H _ = Unit {0}
+
+-- at most 16 cells are read, each of which has a key
+abbrev pub IsBounded : Setup → List Event → Decision → Type 0
+IsBounded S H (Grant r e) = MayBegin S H e
+IsBounded S H (Scan t x n) = (n ≤ 16) × (x.key + n ≤ 2 ^ 32)
+IsBounded S H _ = Unit {0}
 
 -- the refusal of an access, if there is one
 abbrev pub IsRefusal : Store → List Event → ℕ → Cell → Option Refusal → Type 0
@@ -37,7 +42,7 @@ IsRefusal X H t x (Some r) = (granted : Answered) → or_refused X H t x granted
 -- what a stop makes of a request of t, if it stops it
 abbrev pub IsStopped : Store → List Event → ℕ → Stop → Option Decision → Type 0
 IsStopped X H t s None = s ≡ stop.Go
-IsStopped X H t s (Some d) = ((granted : Answered) → carried X H d ≡ or_stop H t s granted) × IsBounded H d
+IsStopped X H t s (Some d) = ((granted : Answered) → carried X H d ≡ or_stop H t s granted) × IsBounded X.setup H d
 
 -- the sum of two numbers, where it fits
 abbrev pub sum_of : ℤ → ℤ → Option ℤ

@@ -1,5 +1,10 @@
-pub mod Plain
+pub mod Stores
 pub mod State
-pub mod Decisions
-pub mod Reading
+pub mod Wholes
+pub mod Asking
+pub mod Stopping
 pub mod Cells
+pub mod Decisions
+pub mod Noting
+pub mod Keeping
+pub mod AnyControls

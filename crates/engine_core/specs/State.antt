@@ -1,25 +1,26 @@
--- What contracts see of an engine, and what holds of it.
-use Rattle.std.specs.Prelude.{◌≡◌, ◌≤◌, Bool, true, List}
+-- What contracts see of an engine, and what holds of each.
+use Rattle.std.specs.Prelude.{◌≡◌, ℕ, Bool, true, List}
+use Rattle.teb_names.specs.declared.Cell.{Cell}
+use Rattle.teb_names.specs.declared.naming.NameBook.{NameBook}
 use Rattle.teb_history.specs.declared.Event.{Event}
-use Rattle.teb_history.specs.Phases.{begun_count}
-use Rattle.teb_history.specs.Written.{Written}
-use Rattle.teb_rules.specs.Setup.{Store}
-use Rattle.teb_laws.specs.Lawful.{Lawful, Settled}
-use Rattle.engine_core.specs.Plain.{plain_store}
+use Rattle.teb_rules.specs.Setup.{Setup, Store}
+use Rattle.teb_laws.specs.Lawful.{Settled}
+use Rattle.version_chain.specs.Lists.{Version}
+use Rattle.tree_toml.specs.Seen.{setup_view}
+use Rattle.tree_toml.specs.Sound as SetUp
+use Rattle.engine_core.specs.declared.kernel.Kernel.{Kernel}
+use Rattle.engine_core.specs.Wholes.{KernelIsWhole, HasRoom}
 
--- the store, its history, the newest event first, and whether there is room for the events of one answer
+-- the store, its names, its history, the newest event first, and whether there is room for the events of one answer
 pub record State : Type 0 where
   pub store : Store
+  pub names : NameBook
   pub events : List Event
   pub ready : Bool
 
--- the history of a run of the plain store
-pub record IsRun (H : List Event) : Type 0 where
-  pub lawful : Lawful plain_store.setup H
-  pub settled : Settled H
-  pub few : begun_count H ≤ 8192
-
--- a history with room for one answer, where the engine is ready
-pub record IsEngine (H : Written) (ready : Bool) : Type 0 where
-  pub run : IsRun H.events
-  pub room : ready ≡ true → 33 ≤ H.spare
+-- the setup is one that a store can be set up with, the kernel is whole, nobody who is not aborted has read from somebody who is, and where it is ready there is room
+pub record IsEngine {K C : Type 0} (place : K → ℕ) (stands : K → Setup → List Event → Type 0) (spare : K → ℕ) (lists : C → Cell → List Version) (chain_spare : C → ℕ) (k : Kernel K C) (ready : Bool) : Type 0 where
+  pub setup : SetUp.IsWhole (setup_view k.setup)
+  pub whole : KernelIsWhole place stands lists k
+  pub settled : Settled k.history.events
+  pub room : ready ≡ true → HasRoom spare chain_spare k

@@ -1,32 +1,35 @@
 //! What a read, a write and a deletion are answered, and the refusals of every access.
 
-ghost use Rattle.std.specs.Prelude.{◌≡◌, IsTrue};
+ghost use Rattle.std.specs.Prelude.{◌≡◌, IsTrue, None};
 ghost use Rattle.teb_names.specs.declared.Request.TheVariants as request;
 ghost use Rattle.teb_history.specs.Phases.{unfinished};
 ghost use Rattle.teb_rules.specs.Answer.{answer_of, or_refused, put_value};
-ghost use Rattle.engine_core.specs.Plain.{plain_store};
-ghost use Rattle.engine_core.specs.State.{IsRun};
+ghost use Rattle.engine_core.specs.Wholes.{store_in, events_in, AreWhole};
+ghost use Rattle.engine_core.specs.Asking.{IsAsking};
 ghost use Rattle.engine_core.specs.Decisions.{carried, IsBounded, IsRefusal};
 
 use crate::decision::{Decision, refused, stopped};
-use crate::plain::{access_stop, has_step, has_table, read};
-use teb_history::{Event, History};
+use crate::parts::Parts;
+use crate::stops::{read_stop, write_stop};
+use phase_api::Control;
+use teb_history::Event;
 use teb_names::{Cell, Refusal, Reply, Txn};
+use version_chain::Chains;
 
 /// Reads a cell.
-pub fn decide_read(history: &History, t: Txn, cell: Cell) -> Decision
-    requires run { IsRun history.now.events }
-    requires unfinished { IsTrue (unfinished history.now.events t.0) }
-    ensures answer { carried plain_store history.now.events result ≡ answer_of plain_store history.now.events t.0 (request.Read cell) }
-    ensures bounded { IsBounded history.now.events result }
+pub fn decide_read<K: Control, C: Chains>(parts: &Parts<K, C>, t: Txn, cell: Cell) -> Decision
+    requires whole { AreWhole K.place K.stands C.lists parts.now }
+    requires unfinished { IsTrue (unfinished (events_in parts.now) t.0) }
+    ensures answer { carried (store_in parts.now) (events_in parts.now) result ≡ answer_of (store_in parts.now) (events_in parts.now) t.0 (request.Read cell) }
+    ensures bounded { IsBounded (store_in parts.now).setup (events_in parts.now) result }
 {
-    if let Some(why) = refusal(history, t, cell) {
+    if let Some(why) = refusal(parts, t, cell) {
         return refused(why);
     }
-    if let Some(decision) = stopped(t, access_stop(history, t, cell, false)) {
+    if let Some(decision) = stopped(t, read_stop(parts, t, cell)) {
         return decision;
     }
-    let (from, value) = read(history, t, cell);
+    let (from, value) = parts.read(t, cell);
     Decision::Grant(
         Reply::Value(value),
         Event::Got {
@@ -39,25 +42,36 @@ pub fn decide_read(history: &History, t: Txn, cell: Cell) -> Decision
 }
 
 /// Puts a value, or deletes the row where there is none.
-pub fn decide_write(history: &History, t: Txn, cell: Cell, value: Option<i64>) -> Decision
-    requires run { IsRun history.now.events }
-    requires unfinished { IsTrue (unfinished history.now.events t.0) }
-    ensures answer { carried plain_store history.now.events result ≡ or_refused plain_store history.now.events t.0 cell (put_value plain_store.setup history.now.events t.0 cell value) }
-    ensures bounded { IsBounded history.now.events result }
+pub fn decide_write<K: Control, C: Chains>(
+    parts: &Parts<K, C>,
+    t: Txn,
+    cell: Cell,
+    value: Option<i64>,
+) -> Decision
+    requires whole { AreWhole K.place K.stands C.lists parts.now }
+    requires unfinished { IsTrue (unfinished (events_in parts.now) t.0) }
+    ensures answer { carried (store_in parts.now) (events_in parts.now) result ≡ or_refused (store_in parts.now) (events_in parts.now) t.0 cell (put_value (store_in parts.now).setup (events_in parts.now) t.0 cell value) }
+    ensures bounded { IsBounded (store_in parts.now).setup (events_in parts.now) result }
 {
-    match refusal(history, t, cell) {
+    match refusal(parts, t, cell) {
         Some(why) => refused(why),
-        None => put(history, t, cell, value),
+        None => put(parts, t, cell, value),
     }
 }
 
 /// A Put that is not refused.
-pub fn put(history: &History, t: Txn, cell: Cell, value: Option<i64>) -> Decision
-    requires { IsRun history.now.events }
-    ensures answer { carried plain_store history.now.events result ≡ put_value plain_store.setup history.now.events t.0 cell value }
-    ensures bounded { IsBounded history.now.events result }
+pub fn put<K: Control, C: Chains>(
+    parts: &Parts<K, C>,
+    t: Txn,
+    cell: Cell,
+    value: Option<i64>,
+) -> Decision
+    requires whole { AreWhole K.place K.stands C.lists parts.now }
+    requires asks { IsAsking (store_in parts.now).setup (events_in parts.now) t.0 cell }
+    ensures answer { carried (store_in parts.now) (events_in parts.now) result ≡ put_value (store_in parts.now).setup (events_in parts.now) t.0 cell value }
+    ensures bounded { IsBounded (store_in parts.now).setup (events_in parts.now) result }
 {
-    match stopped(t, access_stop(history, t, cell, true)) {
+    match stopped(t, write_stop(parts, t, cell)) {
         Some(decision) => decision,
         None => Decision::Grant(
             Reply::Done,
@@ -71,16 +85,17 @@ pub fn put(history: &History, t: Txn, cell: Cell, value: Option<i64>) -> Decisio
 }
 
 /// Why an access is refused.
-pub fn refusal(history: &History, t: Txn, cell: Cell) -> Option<Refusal>
-    requires run { IsRun history.now.events }
-    requires unfinished { IsTrue (unfinished history.now.events t.0) }
-    ensures { IsRefusal plain_store history.now.events t.0 cell result }
+pub fn refusal<K: Control, C: Chains>(parts: &Parts<K, C>, t: Txn, cell: Cell) -> Option<Refusal>
+    requires whole { AreWhole K.place K.stands C.lists parts.now }
+    requires unfinished { IsTrue (unfinished (events_in parts.now) t.0) }
+    ensures refusal { IsRefusal (store_in parts.now) (events_in parts.now) t.0 cell result }
+    ensures asks { result ≡ None → IsAsking (store_in parts.now).setup (events_in parts.now) t.0 cell }
 {
-    if !has_table(cell.table) {
+    if !parts.has_table(cell.table) {
         Some(Refusal::UnknownTable)
-    } else if history.is_prepared(t) {
+    } else if parts.facts.history.is_prepared(t) {
         Some(Refusal::Prepared)
-    } else if !has_step(history, t, cell.table) {
+    } else if !parts.has_step(t, cell.table) {
         Some(Refusal::NotInProfile)
     } else {
         None

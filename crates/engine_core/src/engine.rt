@@ -1,47 +1,64 @@
-//! The engine of the plain store.
+//! The engine of a store.
 
 ghost use Rattle.std.specs.Prelude.{◌≡◌, [], IsTrue, true, false, IfOk, OnOk, OnErr};
+ghost use Rattle.teb_names.specs.declared.Cell.{Cell};
+ghost use Rattle.teb_rules.specs.Accepted.{IsSound};
 ghost use Rattle.teb_rules.specs.Answer.{answer};
 ghost use Rattle.teb_laws.specs.Lawful.{Lawful};
-ghost use Rattle.engine_core.specs.Plain.{plain_store};
+ghost use Rattle.phase_api.specs.Standing.{StandAll};
+ghost use Rattle.phase_api.specs.Versions.{HoldsVersions};
+ghost use Rattle.dependency_book.specs.Books.{BookOf};
+ghost use Rattle.tree_toml.specs.Seen.{setup_view};
+ghost use Rattle.tree_toml.specs.Sound.{IsWhole};
+ghost use Rattle.engine_core.specs.Stores.{store_of};
+ghost use Rattle.engine_core.specs.AnyControls.{any_place, any_stands};
+ghost use Rattle.engine_core.specs.Wholes.{KernelIsWhole};
 
+use crate::any_control::{AnyControl, controls_of};
 use crate::carry_out::carry_out;
-use crate::decide::decide;
+use crate::kernel::{Kernel, facts_of};
+use crate::room::make_room;
+use cursor_book::Cursors;
+use dependency_book::Book;
 use std::alloc::{AllocError, Global};
 use std::marker::Model;
 use teb_history::History;
 use teb_names::{Reply, Request, Session};
+use tree_toml::Setup;
+use version_chain::Chains;
 
-/// Room for the most events of one answer: an abort takes at most 31 others with it, and a scan reads 16 cells.
-const ROOM: usize = 33;
-
-/// A history, and the answers that go on with it. Contracts see the store, the events, the newest first, and whether there is room for an answer.
+/// A store with its history, and the answers that go on with it. Contracts see the store, its names, the events, the
+/// newest first, and whether there is room for an answer.
 #[derive(Drop)]
-pub struct Engine {
-    history: History,
+pub struct Engine<C: Chains> {
+    kernel: Kernel<AnyControl, C>,
     ready: bool,
 }
 
-impl Model for Engine {
-    ghost use Rattle.engine_core.specs.Plain.{plain_store};
+impl<C: Chains> Model for Engine<C> {
+    ghost use Rattle.engine_core.specs.Stores.{store_of};
+    ghost use Rattle.engine_core.specs.AnyControls.{any_place, any_stands, any_spare};
     ghost use Rattle.engine_core.specs.State.{State, IsEngine};
 
     ghost Value = { State };
 
-    ghost view = { λ e. record { store = plain_store; events = e.history.events; ready = e.ready } };
+    ghost view = { λ e. record { store = store_of e.kernel.setup; names = e.kernel.setup.names; events = e.kernel.history.events; ready = e.ready } };
 
-    ghost invariant = { λ e. IsEngine e.history e.ready };
+    ghost invariant = { λ e. IsEngine any_place any_stands any_spare C.lists C.spare e.kernel e.ready };
 }
 
-impl Engine {
-    /// The engine of the plain store: one table, one type, one leaf of locks, no rows. Nothing has happened yet.
-    pub fn new(alloc: Global) -> Result<Self, AllocError>
-        ensures store { IfOk result (λ e. e.store ≡ plain_store) }
+impl<C: Chains> Engine<C> {
+    /// The engine of a store that is set up so, over chains with no version. Nothing has happened yet.
+    pub fn new(alloc: Global, setup: Setup, chains: C) -> Result<Self, AllocError>
+        requires setup { IsWhole (setup_view setup) }
+        requires chains { (x : Cell) → C.lists chains x ≡ [] }
+        ensures store { IfOk result (λ e. e.store ≡ store_of setup) }
+        ensures names { IfOk result (λ e. e.names ≡ setup.names) }
         ensures events { IfOk result (λ e. e.events ≡ []) }
         ensures ready { IfOk result (λ e. e.ready ≡ false) }
     {
         Ok(Engine {
-            history: History::new(alloc),
+            kernel: new_kernel(alloc, setup, chains)?,
             ready: false,
         })
     }
@@ -49,11 +66,15 @@ impl Engine {
     /// Makes room for the events of one answer. An `Err` leaves all as it was.
     pub fn ready(&mut self) -> Result<(), AllocError>
         ensures store { self.new.store ≡ self.old.store }
+        ensures names { self.new.names ≡ self.old.names }
         ensures events { self.new.events ≡ self.old.events }
         ensures ok { OnOk result (self.new.ready ≡ true) }
         ensures err { OnErr result (self.new ≡ self.old) }
     {
-        self.history.reserve(ROOM)?;
+        if self.ready {
+            return Ok(());
+        }
+        make_room(&mut self.kernel)?;
         self.ready = true;
         Ok(())
     }
@@ -64,26 +85,81 @@ impl Engine {
         ensures reply { result ≡ (answer self.old.store self.old.events session request).0 }
         ensures events { self.new.events ≡ (answer self.old.store self.old.events session request).1 }
         ensures store { self.new.store ≡ self.old.store }
+        ensures names { self.new.names ≡ self.old.names }
         ensures ready { self.new.ready ≡ false }
     {
         self.ready = false;
-        let decision = decide(&self.history, session, request);
-        carry_out(decision, &mut self.history)
+        let decision = self.kernel.decide(session, request);
+        carry_out(decision, &mut self.kernel)
     }
 
-    /// What has happened so far: a history of the plain store, each event of which the rules granted.
+    /// What has happened so far: a history of the store, each event of which the rules granted.
     pub fn history(&self) -> &History
         ensures events { result.now.events ≡ self.now.events }
-        ensures store { self.now.store ≡ plain_store }
+        ensures sound { IsSound self.now.store.setup }
         ensures lawful { Lawful self.now.store.setup self.now.events }
     {
-        &self.history
+        &self.kernel.history
+    }
+
+    /// What the store is set up with.
+    pub fn setup(&self) -> &Setup
+        ensures store { store_of result.now ≡ self.now.store }
+        ensures names { result.now.names ≡ self.now.names }
+        ensures whole { IsWhole (setup_view result.now) }
+    {
+        &self.kernel.setup
+    }
+
+    /// The versions of the cells.
+    pub fn chains(&self) -> &C
+        ensures { HoldsVersions self.now.store.setup self.now.events (C.lists result.now) }
+    {
+        &self.kernel.chains
+    }
+
+    /// The controls of the nodes, in ascending number.
+    pub fn controls(&self) -> &[AnyControl]
+        ensures { StandAll any_place any_stands result.now self.now.store.setup self.now.events }
+    {
+        &self.kernel.controls
+    }
+
+    /// Who read and who put each cell.
+    pub fn book(&self) -> &Book
+        ensures { BookOf result.now.lists self.now.events }
+    {
+        &self.kernel.book
     }
 
     /// The history alone.
     pub fn into_history(self) -> History
         ensures { result.events ≡ self.events }
     {
-        self.history
+        self.kernel.history
     }
+}
+
+/// What an engine keeps of an empty history.
+fn new_kernel<C: Chains>(
+    alloc: Global,
+    setup: Setup,
+    chains: C,
+) -> Result<Kernel<AnyControl, C>, AllocError>
+    requires setup { IsWhole (setup_view setup) }
+    requires chains { (x : Cell) → C.lists chains x ≡ [] }
+    ensures whole { IfOk result (λ k. KernelIsWhole any_place any_stands C.lists k) }
+    ensures events { IfOk result (λ k. k.history.events ≡ []) }
+    ensures setup { IfOk result (λ k. k.setup ≡ setup) }
+{
+    let history = History::new(alloc);
+    let controls = controls_of(alloc, &facts_of(&history, &setup))?;
+    Ok(Kernel {
+        setup,
+        history,
+        controls,
+        chains,
+        book: Book::new(alloc),
+        cursors: Cursors::new(alloc),
+    })
 }

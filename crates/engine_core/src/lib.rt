@@ -3,14 +3,23 @@
 
 mod accesses;
 mod additions;
+mod any_control;
 mod carry_out;
 mod decide;
 mod decision;
 mod engine;
-mod plain;
+mod falls;
+mod keeping;
+mod kernel;
+mod notes;
+mod parts;
+mod read_cells;
+mod room;
 mod scans;
-
-pub use engine::Engine;
-
+mod stops;
 #[cfg(test)]
 mod tests;
+mod write;
+
+pub use any_control::AnyControl;
+pub use engine::Engine;

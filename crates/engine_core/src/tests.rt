@@ -1,13 +1,47 @@
-//! Worked runs of the plain store, as calls.
+//! Worked runs of the plain store, and of one whose root has two leaves, as calls.
 
 use crate::Engine;
+use phase_api::Control;
+use std::alloc::Global;
 use std::process::Abort;
 use std::test::Fail;
-use teb_names::{
-    Cause, Cell, Kind, Node, Refusal, Reply, Request, ScanList, Session, Spot, Table, Txn,
-};
+use teb_names::{Cause, Cell, Kind, Node, Reply, Request, Session, Spot, Table, Txn};
+use tree_toml::read_tree;
+use version_chain::{Chains, PlainChains};
 
 const ROOT: Node = Node(0);
+
+const TWO_LEAVES: &str = "format = 1
+tables = ['t']
+[[type]]
+name = 'a'
+[[type]]
+name = 'b'
+[[node]]
+name = 'root'
+control = 'locks'
+[[node]]
+name = 'left'
+parent = 'root'
+control = 'locks'
+types = ['a']
+[[node]]
+name = 'right'
+parent = 'root'
+control = 'locks'
+types = ['b']
+[[row]]
+table = 't'
+key = 9
+value = 3
+";
+
+type PlainEngine = Engine<PlainChains>;
+
+fn engine_of(alloc: Global, text: &[u8]) -> Result<PlainEngine, Fail> {
+    let setup = read_tree(alloc, text)?;
+    Ok(Engine::new(alloc, setup, PlainChains::new(alloc))?)
+}
 
 fn begin() -> Request {
     begin_kind(0)
@@ -38,12 +72,12 @@ fn again(n: u32) -> Reply {
     }
 }
 
-fn refused(why: Refusal) -> Reply {
-    Reply::Refused(why)
-}
-
 // Asks each request in turn, and compares the replies.
-fn run(rt: &impl Abort, engine: &mut Engine, steps: &[(u8, Request, Reply)]) -> Result<(), Fail> {
+fn run(
+    rt: &impl Abort,
+    engine: &mut PlainEngine,
+    steps: &[(u8, Request, Reply)],
+) -> Result<(), Fail> {
     for (session, request, reply) in steps {
         engine.ready()?;
         assert_eq!(rt; engine.ask(Session(*session), *request), *reply);
@@ -53,7 +87,7 @@ fn run(rt: &impl Abort, engine: &mut Engine, steps: &[(u8, Request, Reply)]) -> 
 
 #[test]
 fn one_transaction_commits(rt: HostRuntime) -> Result<(), Fail> {
-    let mut engine = Engine::new(rt.alloc())?;
+    let mut engine = engine_of(rt.alloc(), b"")?;
     run(
         &rt,
         &mut engine,
@@ -69,26 +103,8 @@ fn one_transaction_commits(rt: HostRuntime) -> Result<(), Fail> {
 }
 
 #[test]
-fn a_write_waits_for_an_older_reader(rt: HostRuntime) -> Result<(), Fail> {
-    let mut engine = Engine::new(rt.alloc())?;
-    run(
-        &rt,
-        &mut engine,
-        &[
-            (1, begin(), begun(1)),
-            (2, begin(), begun(2)),
-            (1, Request::Read(cell(7)), Reply::Value(None)),
-            (2, Request::Write(cell(7), 4), again(1)),
-            (1, Request::Commit, Reply::Committed),
-            (2, Request::Write(cell(7), 4), Reply::Done),
-            (2, Request::Commit, Reply::Committed),
-        ],
-    )
-}
-
-#[test]
 fn nobody_waits_for_a_newer_one(rt: HostRuntime) -> Result<(), Fail> {
-    let mut engine = Engine::new(rt.alloc())?;
+    let mut engine = engine_of(rt.alloc(), b"")?;
     let newer = Reply::Aborted(Cause::Newer {
         node: ROOT,
         other: Txn(2),
@@ -110,119 +126,38 @@ fn nobody_waits_for_a_newer_one(rt: HostRuntime) -> Result<(), Fail> {
 }
 
 #[test]
-fn readers_share_and_see_what_is_committed(rt: HostRuntime) -> Result<(), Fail> {
-    let mut engine = Engine::new(rt.alloc())?;
+fn two_leaves_meet_at_the_root(rt: HostRuntime) -> Result<(), Fail> {
+    let mut engine = engine_of(rt.alloc(), TWO_LEAVES.as_bytes())?;
+    let newer = Reply::Aborted(Cause::Newer {
+        node: ROOT,
+        other: Txn(3),
+    });
+    let waits_at_the_leaf = Reply::Again {
+        who: Txn(1),
+        node: Node(1),
+    };
     run(
         &rt,
         &mut engine,
         &[
-            (1, begin(), begun(1)),
+            (1, begin_kind(0), begun(1)),
+            (2, begin_kind(1), begun(2)),
+            (3, begin_kind(0), begun(3)),
             (1, Request::Write(cell(1), 5), Reply::Done),
-            (1, Request::Read(cell(1)), Reply::Value(Some(5))),
+            (2, Request::Read(cell(1)), again(1)),
+            (3, Request::Read(cell(1)), waits_at_the_leaf),
             (1, Request::Commit, Reply::Committed),
-            (2, begin(), begun(2)),
-            (3, begin(), begun(3)),
             (2, Request::Read(cell(1)), Reply::Value(Some(5))),
             (3, Request::Read(cell(1)), Reply::Value(Some(5))),
-            (3, Request::Add(cell(1), 2), again(2)),
-            (2, Request::End, Reply::Aborted(Cause::Ended)),
-            (3, Request::Add(cell(1), 2), Reply::Done),
-            (3, Request::Read(cell(1)), Reply::Value(Some(7))),
+            (2, Request::Read(cell(9)), Reply::Value(Some(3))),
+            (2, Request::Write(cell(1), 6), newer),
+            (3, Request::Commit, Reply::Committed),
         ],
-    )
-}
-
-#[test]
-fn additions_have_limits(rt: HostRuntime) -> Result<(), Fail> {
-    let mut engine = Engine::new(rt.alloc())?;
-    run(
-        &rt,
-        &mut engine,
-        &[
-            (1, begin(), begun(1)),
-            (1, Request::Add(cell(1), 1), refused(Refusal::NotRead)),
-            (1, Request::Write(cell(1), i64::MAX), Reply::Done),
-            (1, Request::Add(cell(1), 1), refused(Refusal::Overflow)),
-            (1, Request::Add(cell(1), -1), Reply::Done),
-            (1, Request::Read(cell(1)), Reply::Value(Some(i64::MAX - 1))),
-            (1, Request::Commit, Reply::Committed),
-        ],
-    )
-}
-
-#[test]
-fn refuses_in_order(rt: HostRuntime) -> Result<(), Fail> {
-    let mut engine = Engine::new(rt.alloc())?;
-    let elsewhere = Cell {
-        table: Table(255),
-        key: 1,
-    };
-    run(
-        &rt,
-        &mut engine,
-        &[
-            (1, Request::Read(cell(1)), refused(Refusal::NoTxn)),
-            (1, begin_kind(255), refused(Refusal::UnknownType)),
-            (1, begin(), begun(1)),
-            (1, begin(), refused(Refusal::InTxn)),
-            (1, Request::Read(elsewhere), refused(Refusal::UnknownTable)),
-            (1, Request::Prepare, Reply::Prepared),
-            (1, Request::Prepare, refused(Refusal::Prepared)),
-            (1, Request::Read(cell(1)), refused(Refusal::Prepared)),
-            (1, Request::Abort, Reply::Aborted(Cause::Asked)),
-            (1, Request::Commit, refused(Refusal::NoTxn)),
-            (0, Request::Commit, refused(Refusal::BadSession)),
-            (33, Request::Commit, refused(Refusal::BadSession)),
-        ],
-    )
-}
-
-#[test]
-fn scans_and_deletes(rt: HostRuntime) -> Result<(), Fail> {
-    let mut engine = Engine::new(rt.alloc())?;
-    let mut before = ScanList::new();
-    before.push(Some(1));
-    before.push(Some(2));
-    before.push(None);
-    let mut after = ScanList::new();
-    after.push(None);
-    after.push(Some(4));
-    let scan = |key, count| Request::Scan {
-        cell: cell(key),
-        count,
-    };
-    run(
-        &rt,
-        &mut engine,
-        &[
-            (1, begin(), begun(1)),
-            (1, Request::Write(cell(1), 1), Reply::Done),
-            (1, Request::Write(cell(2), 2), Reply::Done),
-            (1, scan(1, 3), Reply::Values(before)),
-            (1, Request::Delete(cell(2)), Reply::Done),
-            (2, begin(), begun(2)),
-            (2, scan(1, 2), again(1)),
-            (1, Request::Add(cell(2), 4), Reply::Done),
-            (1, Request::Delete(cell(1)), Reply::Done),
-            (1, Request::Read(cell(1)), Reply::Value(None)),
-            (1, scan(u32::MAX, 2), refused(Refusal::Range)),
-            (1, scan(1, 17), refused(Refusal::Range)),
-            (1, Request::Commit, Reply::Committed),
-            (2, scan(1, 2), Reply::Values(after)),
-        ],
-    )
-}
-
-#[test]
-fn fills_up(rt: HostRuntime) -> Result<(), Fail> {
-    let mut engine = Engine::new(rt.alloc())?;
-    for _ in 0..8192 {
-        engine.ready()?;
-        let _ = engine.ask(Session(1), begin());
-        engine.ready()?;
-        let _ = engine.ask(Session(1), Request::Commit);
-    }
-    run(&rt, &mut engine, &[(1, begin(), refused(Refusal::Full))])?;
-    assert_eq!(rt; engine.history().begun(), 8192);
+    )?;
+    assert_eq!(rt; engine.setup().tree.len(), 3);
+    assert_eq!(rt; engine.controls().len(), 3);
+    assert_eq!(rt; engine.controls()[2].node(), Node(2));
+    assert_eq!(rt; engine.chains().len_of(cell(1)), 1);
+    assert_eq!(rt; engine.book().writers(cell(1)).len(), 1);
     Ok(())
 }

@@ -11,18 +11,20 @@ use script_text::Answered;
 use std::alloc::{AllocError, Global};
 use teb_history::History;
 use teb_names::{Request, Session};
+use version_chain::Chains;
 
 /// How many sessions there are. They are numbered from 1.
 const SESSIONS: u8 = 32;
 
 /// Asks End for each session that holds a transaction, in ascending number, and logs the replies.
 #[tactic(auto, using(crate::proofs::Holders::ends_of_holders))]
-pub fn end_sessions(
+pub fn end_sessions<C: Chains>(
     alloc: Global,
-    engine: &mut Engine,
+    engine: &mut Engine<C>,
     log: &mut Vec<Answered>,
 ) -> Result<(), AllocError>
     ensures store { engine.new.store ≡ engine.old.store }
+    ensures names { engine.new.names ≡ engine.old.names }
     ensures log { OnOk result (log.new.items ≡ log.old.items ++ log_of engine.old.store engine.old.events (ends_of engine.old.events)) }
     ensures events { OnOk result (engine.new.events ≡ history_after engine.old.store engine.old.events (ends_of engine.old.events)) }
 {
@@ -30,12 +32,13 @@ pub fn end_sessions(
     ask_ends(engine, &holders, log)
 }
 
-fn ask_ends(
-    engine: &mut Engine,
+fn ask_ends<C: Chains>(
+    engine: &mut Engine<C>,
     holders: &[Session],
     log: &mut Vec<Answered>,
 ) -> Result<(), AllocError>
     ensures store { engine.new.store ≡ engine.old.store }
+    ensures names { engine.new.names ≡ engine.old.names }
     ensures log { OnOk result (log.new.items ≡ log.old.items ++ log_of engine.old.store engine.old.events (map end_of holders.now)) }
     ensures events { OnOk result (engine.new.events ≡ history_after engine.old.store engine.old.events (map end_of holders.now)) }
 {

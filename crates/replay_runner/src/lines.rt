@@ -9,14 +9,16 @@ use engine_core::Engine;
 use script_text::{Answered, Line};
 use std::alloc::AllocError;
 use teb_names::{Request, Session};
+use version_chain::Chains;
 
 /// Asks each line, and logs the replies.
-pub fn ask_lines(
-    engine: &mut Engine,
+pub fn ask_lines<C: Chains>(
+    engine: &mut Engine<C>,
     lines: &[Line],
     log: &mut Vec<Answered>,
 ) -> Result<(), AllocError>
     ensures store { engine.new.store ≡ engine.old.store }
+    ensures names { engine.new.names ≡ engine.old.names }
     ensures log { OnOk result (log.new.items ≡ log.old.items ++ log_of engine.old.store engine.old.events (requests_of lines.now)) }
     ensures events { OnOk result (engine.new.events ≡ history_after engine.old.store engine.old.events (requests_of lines.now)) }
 {
@@ -27,13 +29,14 @@ pub fn ask_lines(
 }
 
 /// Asks one request, and logs the reply.
-pub fn ask(
-    engine: &mut Engine,
+pub fn ask<C: Chains>(
+    engine: &mut Engine<C>,
     session: Session,
     request: Request,
     log: &mut Vec<Answered>,
 ) -> Result<(), AllocError>
     ensures store { engine.new.store ≡ engine.old.store }
+    ensures names { engine.new.names ≡ engine.old.names }
     ensures log { OnOk result (log.new.items ≡ log.old.items
         ++ record { session = session; reply = (answer engine.old.store engine.old.events session request).0 } ∷ []) }
     ensures events { OnOk result (engine.new.events ≡ (answer engine.old.store engine.old.events session request).1) }

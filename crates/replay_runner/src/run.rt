@@ -9,17 +9,19 @@ use crate::lines::ask_lines;
 use engine_core::Engine;
 use script_text::{Answered, Line};
 use std::alloc::{AllocError, Global};
+use version_chain::Chains;
 
 /// Asks each line once, in order, and then End for each session that holds a transaction, in ascending number. The
 /// replies are added to the log, each with its session. After an `Err` some of the lines have been asked.
 #[tactic(auto, using(crate::proofs::Logged::history_append, crate::proofs::Logged::log_append))]
-pub fn replay(
+pub fn replay<C: Chains>(
     alloc: Global,
-    engine: &mut Engine,
+    engine: &mut Engine<C>,
     lines: &[Line],
     log: &mut Vec<Answered>,
 ) -> Result<(), AllocError>
     ensures store { engine.new.store ≡ engine.old.store }
+    ensures names { engine.new.names ≡ engine.old.names }
     ensures log { OnOk result (log.new.items ≡ log.old.items
         ++ log_of engine.old.store engine.old.events (replayed engine.old.store engine.old.events lines.now)) }
     ensures events { OnOk result (engine.new.events

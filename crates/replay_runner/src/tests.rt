@@ -5,6 +5,8 @@ use engine_core::Engine;
 use script_text::{Answered, Line};
 use std::test::Fail;
 use teb_names::{Cause, Cell, Kind, Reply, Request, Session, Spot, Table, Txn};
+use tree_toml::read_tree;
+use version_chain::PlainChains;
 
 fn line(number: u32, session: u8, request: Request) -> Line {
     Line {
@@ -38,7 +40,8 @@ fn sessions_are_ended_in_ascending_number(rt: HostRuntime) -> Result<(), Fail> {
         line(4, 2, Request::Write(cell, 4)),
         line(5, 2, Request::Commit),
     ];
-    let mut engine = Engine::new(rt.alloc())?;
+    let setup = read_tree(rt.alloc(), b"")?;
+    let mut engine = Engine::new(rt.alloc(), setup, PlainChains::new(rt.alloc()))?;
     let mut log = Vec::new(rt.alloc());
     replay(rt.alloc(), &mut engine, &lines, &mut log)?;
     let expected = [

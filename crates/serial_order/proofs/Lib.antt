@@ -1,4 +1,8 @@
-pub mod CommitOrder
-pub mod LastValues
+pub mod Commits
+pub mod LastCommitted
+pub mod Left
+pub mod Places
+pub mod Sourced
 pub mod Values
+pub mod Walks
 pub mod Within

@@ -1,4 +1,4 @@
--- The newest value that events put in a cell, and values by cell as rows.
+-- Values by cell as rows.
 use Rattle.std.proofs.Common.{◌≡◌, Bool, true, false, cond, List, [], ◌∷◌, Option, Some, None, ℤ, refl, ◌∙◌, ap}
 use Rattle.std.proofs.lemmas.Bool.{and_from}
 use Rattle.std.specs.List.{list_all, AllByRecursion}
@@ -13,14 +13,8 @@ use Rattle.teb_names.specs.declared.Cell.{Cell}
 use Rattle.teb_names.specs.Cells.{same_cell, cell_cmp, is_before}
 use Rattle.teb_names.specs.Rows.{row_of, is_ascending, IsAscending}
 use Rattle.teb_names.proofs.CellOrder.{cell_cmp_total, same_cell-cell_cmp}
-use Rattle.teb_history.specs.declared.Event.{Event}
-use Rattle.teb_history.specs.OwnEvents.{put_in}
-use Rattle.teb_history.proofs.OwnWalks.{newest_in}
 use Rattle.teb_laws.proofs.Replay.{or_value}
 use Rattle.serial_order.specs.Tables.{rows_in}
-
-abbrev pub newest_put : Cell → List Event → Option (Option ℤ)
-newest_put x es = newest_in (put_in x) es
 
 -- a tie is one from either side
 eq_reverse : (o : Ordering) → is_eq (ordering_reverse o) ≡ is_eq o

@@ -1,2 +1,5 @@
+pub mod Books
 pub mod Commits
+pub mod Edges
+pub mod Keys
 pub mod Tables

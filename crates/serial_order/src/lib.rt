@@ -1,12 +1,14 @@
 //! The serial order of the committed transactions, and the tables that they leave.
 #![tactic(auto)]
 
-mod commits;
+mod books;
+mod edges;
 mod final_tables;
-mod puts;
+mod keys;
+mod serial;
 
-pub use commits::order;
 pub use final_tables::tables;
+pub use serial::order;
 
 #[cfg(test)]
 mod tests;

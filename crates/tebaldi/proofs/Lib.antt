@@ -1,1 +1,2 @@
-pub mod PlainRuns
+mod Runs
+mod Trees

@@ -1,4 +1,4 @@
 pub mod Commands
-pub mod PlainNames
 pub mod Runs
+pub mod Stores
 pub mod Tellings

@@ -1,6 +1,6 @@
 -- What `replay` tells, by the bytes of its input.
-use Rattle.std.specs.Prelude.{◌≡◌, ℕ, ◌++◌, ◌||◌, ◌==◌, Bool, nat_lt, MatchBool, MatchOption, IfSome, List, [], length, ℤ, Option, Some, None, Result, Ok, Err}
-use Rattle.std.specs.List.{flat_map, list_all}
+use Rattle.std.specs.Prelude.{◌≡◌, ℕ, ◌++◌, nat_lt, MatchBool, MatchOption, IfSome, List, [], length, ℤ, Option, Some, None, Result, Ok, Err}
+use Rattle.std.specs.List.{flat_map}
 use Rattle.teb_names.specs.declared.Txn.{Txn}
 use Rattle.teb_names.specs.declared.Cell.{Cell}
 use Rattle.teb_names.specs.declared.naming.NameBook.{NameBook}
@@ -10,7 +10,6 @@ use Rattle.teb_rules.specs.Setup.{Store}
 use Rattle.teb_rules.specs.Run.{history_after}
 use Rattle.teb_rules.specs.Serializes.{Serializes}
 use Rattle.teb_rules.specs.Ranks.{serial_order}
-use Rattle.engine_core.specs.Plain.{plain_store}
 use Rattle.serial_order.specs.Commits.{txn_numbers}
 use Rattle.serial_order.specs.Tables.{IsFinalRows}
 use Rattle.script_text.specs.declared.Line.{Line}
@@ -22,8 +21,10 @@ use Rattle.script_text.specs.Lines.{lines_of}
 use Rattle.script_text.specs.Grammar.{script_of}
 use Rattle.script_text.specs.Texts.{reply_text, report_text}
 use Rattle.replay_runner.specs.Logs.{log_of, replayed}
-use Rattle.tebaldi.specs.PlainNames.{plain_names}
-use Rattle.tebaldi.specs.Tellings.{Told, bad_words, too_long, no_separator, not_built, bad_line}
+use Rattle.tree_toml.specs.declared.fault.TreeText.{TreeText}
+use Rattle.tree_toml.specs.Meaning.{Meaning, setup_of}
+use Rattle.tebaldi.specs.Stores.{store_of, names_of}
+use Rattle.tebaldi.specs.Tellings.{Told, bad_words, too_long, no_separator, bad_tree, not_built, bad_line}
 use Rattle.tebaldi.specs.declared.command.Command.{Command}
 use Rattle.tebaldi.specs.declared.command.Command.TheVariants.{Replay}
 
@@ -45,20 +46,19 @@ pub record IsRun (X : Store) (names : NameBook) (lines : List Line) (d : Told) :
   pub history : d.history ≡ Some (history_of X lines)
   pub report : IsReport X names (history_of X lines) (log_of X [] (replayed X [] lines)) d.text
 
--- spaces, tabs, carriage returns and line feeds
-abbrev pub is_blank : List ℕ → Bool
-is_blank bytes = list_all (λ b. ((b == 32 || b == 9) || b == 13) || b == 10) bytes
+-- the run of a script over a setup's store
+abbrev pub TellsScript : Meaning → Result (List Line) ScriptError → Told → Type 0
+TellsScript m (Ok lines) d = IsRun (store_of m) (names_of m) lines d
+TellsScript m (Err (BadLine n w)) d = d ≡ bad_line n w
+TellsScript m (Err OutOfMemory) d = ⊥
 
-abbrev pub TellsScript : Result (List Line) ScriptError → Told → Type 0
-TellsScript (Ok lines) d = IsRun plain_store plain_names lines d
-TellsScript (Err (BadLine n w)) d = d ≡ bad_line n w
-TellsScript (Err OutOfMemory) d = ⊥
+-- the first fault of the tree part; else the run of the script over its store
+abbrev pub TellsTree : Result Meaning TreeText → List ℕ → Told → Type 0
+TellsTree (Ok m) script d = TellsScript m (script_of (names_of m) m.format script) d
+TellsTree (Err why) script d = d ≡ bad_tree why
 
--- a blank tree part stands for the plain tree, whose scripts are of format 1
 abbrev pub TellsParts : List ℕ → List ℕ → Told → Type 0
-TellsParts tree script d =
-    MatchBool (nat_lt 65536 (length (lines_of script))) (d ≡ too_long)
-    (MatchBool (is_blank tree) (TellsScript (script_of plain_names 1 script) d) (d ≡ not_built))
+TellsParts tree script d = MatchBool (nat_lt 65536 (length (lines_of script))) (d ≡ too_long) (TellsTree (setup_of tree) script d)
 
 abbrev pub TellsInput : List ℕ → Told → Type 0
 TellsInput bytes d = MatchOption (parts_of bytes) (d ≡ no_separator) (λ p. TellsParts p.0 p.1 d)
@@ -72,6 +72,10 @@ Tells None left d = d ≡ bad_words
 Tells (Some Replay) left d = IfSome left (λ bytes. Replays bytes d)
 Tells (Some _) left d = d ≡ not_built
 
--- the serial order of any history serializes it
-abbrev pub IsSerialized : Option Written → Type 0
-IsSerialized history = IfSome history (λ h. Serializes plain_store h.events (serial_order plain_store.setup h.events))
+-- the tree part of an input is this setup
+abbrev pub SetsUp : List ℕ → Meaning → Type 0
+SetsUp bytes m = IfSome (parts_of bytes) (λ p. setup_of p.0 ≡ Ok m)
+
+-- the history, where there is one, is serialized by its serial order, over the store of a setup of which this is so
+abbrev pub IsSerialized : (Meaning → Type 0) → Option Written → Type 0
+IsSerialized Is history = IfSome history (λ h. (m : Meaning) × Is m × Serializes (store_of m) h.events (serial_order (store_of m).setup h.events))

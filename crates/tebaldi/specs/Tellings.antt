@@ -4,9 +4,11 @@ use Rattle.std.specs.Io.KnownBytes.{Appends}
 use Rattle.teb_history.specs.declared.Event.{Event}
 use Rattle.teb_history.specs.Written.{Written}
 use Rattle.teb_io.specs.Bytes.{AppendsFront}
-use Rattle.tebaldi.specs.declared.replay.Telling.{Telling}
+use Rattle.tebaldi.specs.declared.telling.Telling.{Telling}
 use Rattle.script_text.specs.declared.error.LineWhy.{LineWhy}
 use Rattle.script_text.specs.declared.error.LineWhy.TheVariants as why
+use Rattle.tree_toml.specs.declared.fault.TreeText.{TreeText}
+use Rattle.tree_toml.specs.Texts.{fault_text}
 
 pub record Told : Type 0 where
   pub status : ℕ
@@ -25,6 +27,10 @@ too_long = fault 5 (codes "too long")
 
 abbrev pub no_separator : Told
 no_separator = fault 6 (codes "bad tree: no separator")
+
+-- the line of a fault of the tree part
+abbrev pub bad_tree : TreeText → Told
+bad_tree why = record { status = 6; text = fault_text why; history = None }
 
 abbrev pub not_built : Told
 not_built = fault 9 (codes "not built")

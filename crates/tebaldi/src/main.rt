@@ -3,9 +3,9 @@
 
 mod command;
 mod ended;
-mod plain;
 mod replay;
 mod report;
+mod telling;
 mod top;
 
 use std::env;

@@ -2,6 +2,9 @@
 
 ghost use Rattle.std.specs.Prelude.{◌<◌};
 
+mod runs;
+mod trees;
+
 use super::ended::Ended;
 use super::top::run_tebaldi;
 use itoa::Buffer;
@@ -127,7 +130,6 @@ fn input_is_refused(rt: HostRuntime) -> Result<(), Fail> {
             7,
             b"bad script: line 1 number\n".as_slice(),
         ),
-        (b"format = 1\n%%\n".as_slice(), 9, b"not built\n".as_slice()),
     ];
     for (input, status, text) in rows {
         replays(&rt, alloc, input, status, text)?;

@@ -6,11 +6,12 @@ ghost use Rattle.teb_io.specs.Faults.{Rose};
 ghost use Rattle.tebaldi.specs.declared.command.Command.TheVariants.{Replay};
 ghost use Rattle.tebaldi.specs.Commands.{command_of, texts};
 ghost use Rattle.tebaldi.specs.Tellings.{IsTold, Told};
-ghost use Rattle.tebaldi.specs.Runs.{Tells, Replays, IsSerialized};
+ghost use Rattle.tebaldi.specs.Runs.{Tells, Replays, SetsUp, IsSerialized};
 
 use crate::command::{Command, command_of};
 use crate::ended::{Ended, silent, tell};
-use crate::replay::{NOT_BUILT, TOO_LONG, Telling, replay_input};
+use crate::replay::replay_input;
+use crate::telling::{NOT_BUILT, TOO_LONG, Telling};
 use std::alloc::{AllocError, Global};
 use teb_io::{ReadError, Sink, Source, read_all};
 
@@ -35,8 +36,8 @@ pub fn run_tebaldi<S: Source, K: Sink>(
     ensures told { result.status ≢ 3 → result.status ≢ 8 → (d : Told) × Tells (command_of (texts words.now.items)) (S.left input.old) d
         × IsTold d result.status result.history (K.written out.old) (K.written out.new) }
 
-    // Of the history of any run: the serial order, executed whole, gives every read its value and the final tables; it keeps every node's order; nobody commits before a transaction it read from.
-    ensures serialized { IsSerialized result.history }
+    // Of the history of any run, over the store of the input's tree part: the serial order, executed whole, gives every read its value and the final tables; it keeps every node's order; nobody commits before a transaction it read from.
+    ensures serialized { IsSerialized (λ m. IfSome (S.left input.old) (λ bytes. SetsUp bytes m)) result.history }
     ensures read_fault { result.status ≡ 3 → Rose (S.faults input.old) (S.faults input.new) × Keeps (K.written out.old) (K.written out.new) × (result.history ≡ None) }
     ensures write_fault { result.status ≡ 4 → Rose (K.faults out.old) (K.faults out.new) }
     ensures out_of_memory { result.status ≡ 8 → Keeps (K.written out.old) (K.written out.new) × (result.history ≡ None) }
@@ -52,7 +53,7 @@ pub fn run_tebaldi<S: Source, K: Sink>(
 fn replay_source<S: Source, K: Sink>(alloc: Global, input: &mut S, out: &mut K) -> Ended
     ensures told { result.status ≢ 3 → result.status ≢ 8 → (d : Told) × IfSome (S.left input.old) (λ bytes. Replays bytes d)
         × IsTold d result.status result.history (K.written out.old) (K.written out.new) }
-    ensures serialized { IsSerialized result.history }
+    ensures serialized { IsSerialized (λ m. IfSome (S.left input.old) (λ bytes. SetsUp bytes m)) result.history }
     ensures read_fault { result.status ≡ 3 → Rose (S.faults input.old) (S.faults input.new) × Keeps (K.written out.old) (K.written out.new) × (result.history ≡ None) }
     ensures write_fault { result.status ≡ 4 → Rose (K.faults out.old) (K.faults out.new) }
     ensures out_of_memory { result.status ≡ 8 → Keeps (K.written out.old) (K.written out.new) × (result.history ≡ None) }

@@ -1,12 +1,12 @@
-use Rattle.engine_core.specs.Plain.{plain_store}
+use Rattle.engine_core.specs.Wholes.{store_in, events_in}
 use Rattle.engine_core.proofs.Deciding.{stops, stops_bounded, goes}
 use Rattle.engine_core.proofs.accesses.put.Goals as goal
 
 pub returns-in-Some-clause-answer : goal.returns-in-Some-clause-answer
-returns-in-Some-clause-answer c = stops plain_store c.args.history.now.events c.args.t.0 _ _ _ c.in-Some.decision _ c.access_stop.ensures (c.stopped.ensures plain_store c.args.history.now.events) c.in-Some.is
+returns-in-Some-clause-answer g c = stops (store_in c.args.parts.now) (events_in c.args.parts.now) c.args.t.0 _ _ _ c.in-Some.decision _ c.write_stop.ensures (c.stopped.ensures (store_in c.args.parts.now) (events_in c.args.parts.now)) c.in-Some.is
 
 pub returns-in-Some-clause-bounded : goal.returns-in-Some-clause-bounded
-returns-in-Some-clause-bounded c = stops_bounded plain_store c.args.history.now.events c.args.t.0 _ _ c.in-Some.decision (c.stopped.ensures plain_store c.args.history.now.events) c.in-Some.is
+returns-in-Some-clause-bounded g c = stops_bounded (store_in c.args.parts.now) (events_in c.args.parts.now) c.args.t.0 _ _ c.in-Some.decision (c.stopped.ensures (store_in c.args.parts.now) (events_in c.args.parts.now)) c.in-Some.is
 
 pub returns-in-None-clause-answer : goal.returns-in-None-clause-answer
-returns-in-None-clause-answer c = goes plain_store c.args.history.now.events c.args.t.0 _ _ _ _ c.access_stop.ensures (c.stopped.ensures plain_store c.args.history.now.events) c.in-None.is
+returns-in-None-clause-answer g c = goes (store_in c.args.parts.now) (events_in c.args.parts.now) c.args.t.0 _ _ _ _ c.write_stop.ensures (c.stopped.ensures (store_in c.args.parts.now) (events_in c.args.parts.now)) c.in-None.is

@@ -1,10 +1,19 @@
-use Rattle.std.proofs.Common.{subst}
+use Rattle.std.proofs.Common.{subst, arith}
 use Rattle.teb_laws.specs.Lawful.{Lawful}
 use Rattle.engine_core.specs.declared.decision.Decision.{Decision}
 use Rattle.engine_core.specs.Decisions.{carried}
-use Rattle.engine_core.specs.Plain.{plain_store}
-use Rattle.engine_core.proofs.Carrying.{abort_unfinished}
+use Rattle.engine_core.specs.Stores.{store_of}
+use Rattle.engine_core.proofs.Falling.{less_log_room, abort_unfinished}
+use Rattle.engine_core.proofs.Carrying.{leads_granted}
 use Rattle.engine_core.proofs.carry_out.carry_out.Goals as goal
 
+pub write-requires-clause-granted : goal.write-requires-clause-granted
+write-requires-clause-granted g c = leads_granted (store_of c.args.kernel.now.setup).setup c.args.kernel.now.history.events c.in-Grant.event
+    (subst (λ (d : Decision). Lawful (store_of c.args.kernel.now.setup).setup (carried (store_of c.args.kernel.now.setup) c.args.kernel.now.history.events d).1) c.in-Grant.is c.requires.leads)
+
+pub write-requires-clause-room : goal.write-requires-clause-room
+write-requires-clause-room g c = less_log_room g.K.Control.spare 1 32 c.args.kernel.now (omega arith) c.requires.room.log
+
 pub fall-requires-clause-unfinished : goal.fall-requires-clause-unfinished
-fall-requires-clause-unfinished c = abort_unfinished plain_store.setup c.args.history.now.events c.in-Fall.t.0 c.in-Fall.cause (subst (λ (d : Decision). Lawful plain_store.setup (carried plain_store c.args.history.now.events d).1) c.in-Fall.is c.requires.leads)
+fall-requires-clause-unfinished g c = abort_unfinished (store_of c.args.kernel.now.setup).setup c.args.kernel.now.history.events c.in-Fall.t.0 c.in-Fall.cause
+    (subst (λ (d : Decision). Lawful (store_of c.args.kernel.now.setup).setup (carried (store_of c.args.kernel.now.setup) c.args.kernel.now.history.events d).1) c.in-Fall.is c.requires.leads)

@@ -1,9 +1,9 @@
 use Rattle.std.proofs.Common.{◌≡◌}
 use Rattle.teb_rules.specs.Answer.{cells_from}
 use Rattle.teb_rules.specs.Stops.{scan_stop}
-use Rattle.engine_core.specs.Plain.{plain_store}
+use Rattle.engine_core.specs.Wholes.{store_in, events_in}
 use Rattle.engine_core.proofs.Gathering.{rest_of}
 use Rattle.engine_core.proofs.scans.scan_stop.Given as goal
 
 abbrev pub invariant-loop-i : goal.invariant-loop-i
-invariant-loop-i l = scan_stop plain_store.setup l.history.events l.t.0 (cells_from l.first l.count) ≡ scan_stop plain_store.setup l.history.events l.t.0 (rest_of l.first l.count l.i)
+invariant-loop-i g l = scan_stop (store_in l.parts).setup (events_in l.parts) l.t.0 (cells_from l.first l.count) ≡ scan_stop (store_in l.parts).setup (events_in l.parts) l.t.0 (rest_of l.first l.count l.i)

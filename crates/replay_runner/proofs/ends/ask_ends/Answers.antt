@@ -5,7 +5,7 @@ use Rattle.replay_runner.proofs.Logged.{after, history_is}
 use Rattle.replay_runner.proofs.ends.ask_ends.Goals as goal
 
 pub returns-clause-events : goal.returns-clause-events
-returns-clause-events c =
+returns-clause-events g c =
     let holders = c.args.holders.now in
     let end : length holders ≤ c.loop-session.session-index = omega (arith, c.loop-session-test.false) in
     sym (ap (λ ss. after c.loop-session.engine.store c.loop-session.engine.events (map end_of ss)) (drop_all c.loop-session.session-index holders end))

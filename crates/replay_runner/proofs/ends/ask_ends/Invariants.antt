@@ -5,8 +5,9 @@ use Rattle.replay_runner.proofs.Logged.{after}
 use Rattle.replay_runner.proofs.ends.ask_ends.Given as goal
 
 abbrev pub invariant-loop-session : goal.invariant-loop-session
-invariant-loop-session l = let rest = map end_of (drop l.session-index l.holders) in record {
+invariant-loop-session g l = let rest = map end_of (drop l.session-index l.holders) in record {
   store : l.engine.store ≡ l.fn.engine.store;
+  names : l.engine.names ≡ l.fn.engine.names;
   log : l.log.items ++ log_of l.engine.store l.engine.events rest ≡ l.fn.log.items ++ log_of l.fn.engine.store l.fn.engine.events (map end_of l.holders);
   events : after l.engine.store l.engine.events rest ≡ after l.fn.engine.store l.fn.engine.events (map end_of l.holders);
 }

@@ -6,7 +6,7 @@ use Rattle.replay_runner.proofs.Logged.{replay_log}
 use Rattle.replay_runner.proofs.run.replay.Goals as goal
 
 pub returns-clause-log : goal.returns-clause-log
-returns-clause-log c =
+returns-clause-log g c =
     let X = c.args.engine.now.store in
     let H = c.args.engine.now.events in
     let Y = c.ask_lines.new.engine.store in

@@ -1,0 +1,99 @@
+-- An abort, one fallen transaction after the other.
+use Rattle.std.proofs.Common.{◌≡◌, ℕ, zero, suc, ◌+◌, ◌≤◌, true, List, [], ◌∷◌, length, map, drop, slice_get, Some, refl, sym, ap, ◌∙◌, subst, arith}
+use Rattle.teb_names.specs.declared.Cause.{Cause}
+use Rattle.teb_names.specs.declared.Cause.TheVariants.{After}
+use Rattle.teb_names.specs.declared.Cell.{Cell}
+use Rattle.teb_names.specs.declared.Txn.{Txn}
+use Rattle.teb_history.specs.declared.Event.{Event}
+use Rattle.teb_history.specs.declared.Event.TheVariants.{Gone}
+use Rattle.teb_history.specs.Phases.{unfinished}
+use Rattle.teb_rules.specs.Setup.{Setup}
+use Rattle.teb_rules.specs.Cascade.{cascade, blamed, fall_in_turn, abort, txn}
+use Rattle.teb_laws.specs.TreeFacts.{TreeFacts}
+use Rattle.teb_laws.specs.Lawful.{Lawful}
+use Rattle.teb_laws.proofs.Answers.{Good}
+use Rattle.teb_laws.proofs.Cascades.{abort_good}
+use Rattle.version_chain.specs.Lists.{Version}
+use Rattle.abort_cascade.specs.Rounds.{blames}
+use Rattle.engine_core.specs.declared.kernel.Kernel.{Kernel}
+use Rattle.engine_core.specs.Wholes.{KernelIsWhole, LogHasRoom, RoomFor}
+
+-- less room
+less_room : {K : Type 0} (spare : K → ℕ) (j k : ℕ) (cs : List K) → j ≤ k → RoomFor spare k cs → RoomFor spare j cs
+less_room spare j k [] h r = tt
+less_room spare j k (c ∷ cs) h r = ((let a : k ≤ spare c = r.0 in omega arith), less_room spare j k cs h r.1)
+
+pub less_log_room : {K C : Type 0} (spare : K → ℕ) (j k : ℕ) (e : Kernel K C) → j ≤ k → LogHasRoom spare k e → LogHasRoom spare j e
+less_log_room spare j k e h r = record {
+  history = (let a = r.history in omega arith);
+  controls = less_room spare j k e.controls.items h r.controls;
+  book = (let a = r.book in omega arith);
+}
+
+-- how far an abort of t has come: whom the kernel was at first, and what it is once i of those that fall with t have fallen
+pub record HasFallen {K C : Type 0} (place : K → ℕ) (stands : K → Setup → List Event → Type 0) (lists : C → Cell → List Version) (spare : K → ℕ) (first now : Kernel K C) (t : ℕ) (c : Cause) (i : ℕ) : Type 0 where
+  pub whole : KernelIsWhole place stands lists now
+  pub events : fall_in_turn first.history.events t (drop i (cascade first.history.events t)) now.history.events ≡ abort first.history.events t c
+  pub setup : now.setup ≡ first.setup
+  pub room : (k : ℕ) → i + k ≡ length (cascade first.history.events t) → LogHasRoom spare k now
+
+-- the i-th that falls
+pub record IsNext (H : List Event) (t i : ℕ) (p : Txn × Txn) : Type 0 where
+  pub rest : drop i (cascade H t) ≡ p.0.0 ∷ drop (i + 1) (cascade H t)
+  pub blame : p.1 ≡ txn (blamed H t p.0.0)
+
+pub next_fallen : (H : List Event) (t i : ℕ) (p : Txn × Txn) → slice_get (blames H t) i ≡ Some p → IsNext H t i p
+next_fallen H t i p e = let r = go (cascade H t) i e in record { rest = r.0; blame = r.1 }
+  where
+    go : (us : List ℕ) (i : ℕ) → slice_get (map (λ u. (txn u, txn (blamed H t u))) us) i ≡ Some p → (drop i us ≡ p.0.0 ∷ drop (i + 1) us) × (p.1 ≡ txn (blamed H t p.0.0))
+    go [] i e = absurd (cc)
+    go (u ∷ us) zero e =
+        let q : (txn u, txn (blamed H t u)) ≡ p = cc in
+        let v : u ≡ p.0.0 = ap (λ (z : Txn × Txn). z.0.0) q in
+        (ap (λ (w : ℕ). w ∷ us) v, sym (ap (λ (z : Txn × Txn). z.1) q) ∙ ap (λ (w : ℕ). txn (blamed H t w)) v)
+    go (u ∷ us) (suc i) e = let r = go us i e in let n : suc i + 1 ≡ suc (i + 1) = omega arith in (r.0 ∙ ap (λ (m : ℕ). p.0.0 ∷ drop m (u ∷ us)) (sym n), r.1)
+
+fall_cons : (H : List Event) (t u : ℕ) (us : List ℕ) (P : List Event) → fall_in_turn H t (u ∷ us) P ≡ fall_in_turn H t us (Gone (txn u) (After (txn (blamed H t u))) ∷ P)
+unfolding fall_in_turn
+fall_cons H t u us P = refl
+
+fall_before : (S : Setup) (H : List Event) (t : ℕ) (us : List ℕ) (P : List Event) → Lawful S (fall_in_turn H t us P) → Lawful S P
+unfolding fall_in_turn Lawful
+fall_before S H t [] P l = l
+fall_before S H t (u ∷ us) P l = (fall_before S H t us (Gone (txn u) (After (txn (blamed H t u))) ∷ P) l).1
+
+fall_unfinished : (S : Setup) (H : List Event) (t u : ℕ) (us : List ℕ) (P : List Event) → Lawful S (fall_in_turn H t (u ∷ us) P) → unfinished P u ≡ true
+unfolding Lawful
+fall_unfinished S H t u us P l = (fall_before S H t us (Gone (txn u) (After (txn (blamed H t u))) ∷ P) (subst (Lawful S) (fall_cons H t u us P) l)).0
+
+-- one more falls: it was unfinished
+pub next_unfinished : (S : Setup) (a : TreeFacts S) (H P : List Event) (t : ℕ) (c : Cause) (i : ℕ) (p : Txn × Txn) → Good S H → unfinished H t ≡ true → fall_in_turn H t (drop i (cascade H t)) P ≡ abort H t c → IsNext H t i p → unfinished P p.0.0 ≡ true
+next_unfinished S a H P t c i p g u e n = fall_unfinished S H t p.0.0 (drop (i + 1) (cascade H t)) P
+    (subst (λ (us : List ℕ). Lawful S (fall_in_turn H t us P)) n.rest (subst (Lawful S) (sym e) (abort_good S a H t c g u).legal))
+
+pub next_events : (H P G : List Event) (t : ℕ) (c : Cause) (i : ℕ) (p : Txn × Txn) → fall_in_turn H t (drop i (cascade H t)) P ≡ abort H t c → IsNext H t i p → G ≡ Gone p.0 (After p.1) ∷ P → fall_in_turn H t (drop (i + 1) (cascade H t)) G ≡ abort H t c
+next_events H P G t c i p e n q =
+    ap (fall_in_turn H t (drop (i + 1) (cascade H t))) (q ∙ ap (λ (w : Txn). Gone p.0 (After w) ∷ P) n.blame)
+    ∙ sym (fall_cons H t p.0.0 (drop (i + 1) (cascade H t)) P)
+    ∙ sym (ap (λ (us : List ℕ). fall_in_turn H t us P) n.rest) ∙ e
+
+-- an abort before its first cascade member, and after its last
+pub first_events : (H G : List Event) (t : Txn) (c : Cause) → G ≡ Gone t c ∷ H → fall_in_turn H t.0 (drop 0 (cascade H t.0)) G ≡ abort H t.0 c
+unfolding abort
+first_events H G t c q = ap (fall_in_turn H t.0 (cascade H t.0)) q
+
+pub last_events : (H G : List Event) (t : ℕ) (c : Cause) (i : ℕ) → i ≡ length (cascade H t) → fall_in_turn H t (drop i (cascade H t)) G ≡ abort H t c → G ≡ abort H t c
+unfolding fall_in_turn
+last_events H G t c i n e = sym (ap (λ (us : List ℕ). fall_in_turn H t us G) (none (cascade H t) i n)) ∙ e
+  where
+    none : (us : List ℕ) (i : ℕ) → i ≡ length us → drop i us ≡ []
+    none us i n = ap (λ (k : ℕ). drop k us) n ∙ drop_whole us
+      where
+        drop_whole : (us : List ℕ) → drop (length us) us ≡ []
+        drop_whole [] = refl
+        drop_whole (u ∷ us) = drop_whole us
+
+-- whoever is aborted lawfully was unfinished
+pub abort_unfinished : (S : Setup) (H : List Event) (t : ℕ) (c : Cause) → Lawful S (abort H t c) → unfinished H t ≡ true
+unfolding abort Lawful
+abort_unfinished S H t c l = (fall_before S H t (cascade H t) (Gone (txn t) c ∷ H) l).0

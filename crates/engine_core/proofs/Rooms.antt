@@ -1,0 +1,36 @@
+-- All is whole after room was made.
+use Rattle.std.proofs.Common.{◌≡◌, ℕ, true, false, List, sym, ◌∙◌, ap, subst}
+use Rattle.teb_names.specs.declared.Cell.{Cell}
+use Rattle.teb_history.specs.declared.Event.{Event}
+use Rattle.teb_rules.specs.Setup.{Setup, Store}
+use Rattle.teb_rules.specs.Versions.{precedes}
+use Rattle.teb_rules.specs.Serializes.{Pairs}
+use Rattle.version_chain.specs.Lists.{Version, writers_of, is_writer}
+use Rattle.phase_api.specs.Standing.{StandAll}
+use Rattle.phase_api.specs.Versions.{HoldsVersions, HaveLastValues}
+use Rattle.dependency_book.specs.Books.{Lists}
+use Rattle.engine_core.specs.Wholes.{IsWhole}
+
+same_versions : (S : Setup) (H : List Event) (L M : Cell → List Version) → ((x : Cell) → M x ≡ L x) → HoldsVersions S H L → HoldsVersions S H M
+same_versions S H L M m h = record {
+  writers = λ x w. ap (λ (vs : List Version). is_writer vs w) (m x) ∙ h.writers x w;
+  values = λ x. subst (HaveLastValues H x) (sym (m x)) (h.values x);
+  order = λ x. subst (λ (vs : List Version). Pairs (λ u w. (precedes S H x u w ≡ true) × (precedes S H x w u ≡ false)) (writers_of vs)) (sym (m x)) (h.order x);
+}
+
+pub still_whole : {K : Type 0} (place : K → ℕ) (stands : K → Setup → List Event → Type 0) (X : Store) (H G : List Event) (cs ds : List K) (L M : Cell → List Version) (b d : Lists) (steps more : List ℕ) →
+    IsWhole place stands X H cs L b steps → G ≡ H → StandAll place stands ds X.setup H → ((x : Cell) → M x ≡ L x) → d ≡ b → more ≡ steps → IsWhole place stands X G ds M d more
+still_whole place stands X H G cs ds L M b d steps more w q sa m k c =
+    subst (λ (P : List Event). IsWhole place stands X P ds M d more) (sym q)
+    (subst (λ (l : Lists). IsWhole place stands X H ds M l more) (sym k)
+    (subst (λ (ns : List ℕ). IsWhole place stands X H ds M b ns) (sym c) (record {
+      sound = w.sound;
+      profiled = w.profiled;
+      nodes = w.nodes;
+      lawful = w.lawful;
+      few = w.few;
+      controls = sa;
+      versions = same_versions X.setup H L M m w.versions;
+      book = w.book;
+      cursors = w.cursors;
+    })))

@@ -1,0 +1,22 @@
+use Rattle.std.proofs.Common.{◌≡◌, true, subst, sym, ap, ◌∙◌}
+use Rattle.teb_history.specs.Written.{Written}
+use Rattle.teb_history.specs.Phases.{unfinished}
+use Rattle.teb_rules.specs.Setup.{Store}
+use Rattle.teb_rules.specs.Versions.{read}
+use Rattle.engine_core.specs.Stores.{store_of}
+use Rattle.engine_core.specs.Wholes.{events_in}
+use Rattle.engine_core.proofs.Writing.{parts_whole}
+use Rattle.engine_core.proofs.kernel.Kernel.read.Goals as goal
+
+pub read-requires-clause-whole : goal.read-requires-clause-whole
+read-requires-clause-whole g c = parts_whole g.K.Control.place g.K.Control.stands g.C.Chains.lists c.args.self.now c.parts.result c.parts.ensures.store c.parts.ensures.history c.parts.ensures.chains
+    c.parts.ensures.controls c.parts.ensures.book c.parts.ensures.cursors c.requires.whole c.requires.settled
+
+pub read-requires-clause-unfinished : goal.read-requires-clause-unfinished
+read-requires-clause-unfinished g c = subst (λ (h : Written). unfinished h.events c.args.t.0 ≡ true) (sym c.parts.ensures.history) c.requires.unfinished
+
+pub returns-clause-source : goal.returns-clause-source
+returns-clause-source g c = c.read.ensures.source ∙ ap (λ (Z : Store). (read Z.setup Z.rows (events_in c.parts.result) c.args.t.0 c.args.cell).0) c.parts.ensures.store ∙ ap (λ (h : Written). (read (store_of c.args.self.now.setup).setup (store_of c.args.self.now.setup).rows h.events c.args.t.0 c.args.cell).0) c.parts.ensures.history
+
+pub returns-clause-value : goal.returns-clause-value
+returns-clause-value g c = c.read.ensures.value ∙ ap (λ (Z : Store). (read Z.setup Z.rows (events_in c.parts.result) c.args.t.0 c.args.cell).1) c.parts.ensures.store ∙ ap (λ (h : Written). (read (store_of c.args.self.now.setup).setup (store_of c.args.self.now.setup).rows h.events c.args.t.0 c.args.cell).1) c.parts.ensures.history

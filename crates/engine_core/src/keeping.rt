@@ -1,0 +1,71 @@
+//! Versions and cursors keep up with the history.
+
+ghost use Rattle.std.specs.Prelude.{◌≡◌, ◌<◌, ◌≤◌, ◌∷◌, List, length, drop};
+ghost use Rattle.teb_history.specs.declared.Event.{Event};
+ghost use Rattle.teb_rules.specs.Setup.{Setup};
+ghost use Rattle.teb_laws.specs.TreeFacts.{TreeFacts};
+ghost use Rattle.teb_laws.specs.Lawful.{Lawful};
+ghost use Rattle.teb_history.specs.Phases.{kind_of};
+ghost use Rattle.teb_rules.specs.Setup.{profile};
+ghost use Rattle.phase_api.specs.Told.{setup_of, events_of, IsTyped};
+ghost use Rattle.phase_api.specs.Versions.{HoldsVersions};
+ghost use Rattle.cursor_book.specs.Cursors.{CursorsOf, moved};
+ghost use Rattle.engine_core.specs.Keeping.{HasRoomForVersion, HasPlace, PutsAt, HasRoomForCursor};
+
+use cursor_book::Cursors;
+use phase_api::Facts;
+use teb_history::Event;
+use teb_names::{Cell, Txn};
+use version_chain::Chains;
+
+/// The versions after an event: a Put gives its transaction's version the value, at the place `at`, and an abort takes
+/// away all versions of its transaction.
+pub fn keep_versions<C: Chains>(chains: &mut C, event: Event, at: usize)
+    requires room { HasRoomForVersion (C.spare chains.old) event }
+    requires place { HasPlace (C.lists chains.old) event at }
+    ensures { (S : Setup) (P : List Event) → TreeFacts S → Lawful S (event ∷ P) → HoldsVersions S P (C.lists chains.old) → PutsAt S P (C.lists chains.old) event at → HoldsVersions S (event ∷ P) (C.lists chains.new) }
+{
+    match event {
+        Event::Put { txn, cell, value } => {
+            if chains.find(cell, txn).is_some() {
+                chains.overwrite(cell, at, value);
+            } else {
+                chains.place(cell, at, txn, value);
+            }
+        }
+        Event::Gone { txn, .. } => chains.remove_all_of(txn),
+        _ => {}
+    }
+}
+
+/// The cursors after the newest event: a transaction that begins stands at step 0, and an access moves its transaction.
+pub fn keep_cursors(cursors: &mut Cursors, facts: &Facts, event: Event)
+    requires newest { events_of facts.now ≡ event ∷ drop 1 (events_of facts.now) }
+    requires lawful { Lawful (setup_of facts.now) (events_of facts.now) }
+    requires profiled { length (setup_of facts.now).profiles ≡ (setup_of facts.now).types }
+    requires cursors { CursorsOf cursors.old.cursors (setup_of facts.now) (drop 1 (events_of facts.now)) }
+    requires room { HasRoomForCursor cursors.old.spare event }
+    ensures { CursorsOf cursors.new.cursors (setup_of facts.now) (events_of facts.now) }
+{
+    match event {
+        Event::Began { .. } => cursors.begin(),
+        Event::Got { txn, cell, .. } => move_cursor(cursors, facts, txn, cell),
+        Event::Put { txn, cell, .. } => move_cursor(cursors, facts, txn, cell),
+        _ => {}
+    }
+}
+
+/// An access of a cell moves a transaction that was unfinished before it.
+fn move_cursor(cursors: &mut Cursors, facts: &Facts, t: Txn, cell: Cell)
+    requires typed { IsTyped facts.now t.0 }
+    requires profiled { length (setup_of facts.now).profiles ≡ (setup_of facts.now).types }
+    requires above { 0 < t.0 }
+    requires begun { t.0 ≤ length cursors.old.cursors }
+    ensures { cursors.new.cursors ≡ moved cursors.old.cursors t.0 (profile (setup_of facts.now) (kind_of (events_of facts.now) t.0)) cell.table.0 }
+{
+    let Some(spot) = facts.spot(t) else {
+        unreachable!()
+    };
+    let profile = &facts.profiles[usize::from(spot.kind.0)];
+    cursors.access(t, cell.table, profile);
+}

@@ -1,0 +1,50 @@
+//! The cells of a scan are read.
+
+ghost use Rattle.std.specs.Prelude.{◌≡◌, ◌≤◌, ◌+◌, ◌^◌};
+ghost use Rattle.teb_rules.specs.Answer.{cells_from, read_all};
+ghost use Rattle.teb_laws.specs.Lawful.{Lawful};
+ghost use Rattle.engine_core.specs.Stores.{store_of};
+ghost use Rattle.engine_core.specs.Wholes.{KernelIsWhole, LogHasRoom};
+
+use crate::kernel::Kernel;
+use crate::scans::cell_at;
+use crate::write::write;
+use phase_api::Control;
+use teb_history::Event;
+use teb_names::{Cell, ScanList, Txn};
+use version_chain::Chains;
+
+/// Reads the cells one after the other, and gives their values. Each is read from the history that has the reads before it.
+pub fn read_cells<K: Control, C: Chains>(
+    kernel: &mut Kernel<K, C>,
+    t: Txn,
+    first: Cell,
+    count: u8,
+) -> ScanList
+    requires whole { KernelIsWhole K.place K.stands C.lists kernel.old }
+    requires leads { Lawful (store_of kernel.old.setup).setup (read_all (store_of kernel.old.setup) kernel.old.history.events t.0 (cells_from first count)).1 }
+    requires few { count ≤ 16 }
+    requires keys { first.key + count ≤ 2 ^ 32 }
+    requires room { LogHasRoom K.spare 32 kernel.old }
+    ensures values { result ≡ (read_all (store_of kernel.old.setup) kernel.old.history.events t.0 (cells_from first count)).0 }
+    ensures whole { KernelIsWhole K.place K.stands C.lists kernel.new }
+    ensures events { kernel.new.history.events ≡ (read_all (store_of kernel.old.setup) kernel.old.history.events t.0 (cells_from first count)).1 }
+    ensures setup { kernel.new.setup ≡ kernel.old.setup }
+{
+    let mut values = ScanList::new();
+    for i in 0..count {
+        let cell = cell_at(first, i);
+        let (from, value) = kernel.read(t, cell);
+        write(
+            kernel,
+            Event::Got {
+                txn: t,
+                cell,
+                from,
+                value,
+            },
+        );
+        values.push(value);
+    }
+    values
+}

@@ -1,0 +1,21 @@
+use Rattle.std.proofs.Common.{sym, ap, ◌∙◌, inl, inr}
+use Rattle.teb_rules.specs.Setup.{NodeRow}
+use Rattle.phase_api.specs.Told.{setup_of, events_of}
+use Rattle.teb_laws.proofs.Ranks.{done_rank, start_rank}
+use Rattle.serial_order.proofs.Places.{snapshot_start, snapshot_close}
+use Rattle.serial_order.proofs.keys.rank.Goals as goal
+
+pub returns-in-Locks : goal.returns-in-Locks
+returns-in-Locks c = c.requires.done ∙ sym (done_rank (setup_of c.args.facts.now) (events_of c.args.facts.now) c.args.n.0 c.args.t.0
+    (elim c.in-Locks.is [ inl q ↦ inl (sym (ap (λ (r : NodeRow). r.control) c.row.ensures) ∙ q) | inr q ↦ inr (sym (ap (λ (r : NodeRow). r.control) c.row.ensures) ∙ q) ]))
+
+pub returns-in-Timestamp : goal.returns-in-Timestamp
+returns-in-Timestamp c = c.start_of.ensures ∙ sym (start_rank (setup_of c.args.facts.now) (events_of c.args.facts.now) c.args.n.0 c.args.t.0 (sym (ap (λ (r : NodeRow). r.control) c.row.ensures) ∙ c.in-Timestamp.is))
+
+pub returns-then-has_edge_out : goal.returns-then-has_edge_out
+returns-then-has_edge_out c = c.start_of-then-has_edge_out.ensures
+    ∙ snapshot_start (setup_of c.args.facts.now) (events_of c.args.facts.now) c.args.n.0 c.args.t.0 (sym (ap (λ (r : NodeRow). r.control) c.row.ensures) ∙ c.in-Snapshot.is) (sym c.has_edge_out.ensures ∙ c.if-has_edge_out.true)
+
+pub returns-else-has_edge_out : goal.returns-else-has_edge_out
+returns-else-has_edge_out c = c.close_of.ensures
+    ∙ snapshot_close (setup_of c.args.facts.now) (events_of c.args.facts.now) c.args.n.0 c.args.t.0 (sym (ap (λ (r : NodeRow). r.control) c.row.ensures) ∙ c.in-Snapshot.is) (sym c.has_edge_out.ensures ∙ c.if-has_edge_out.false)

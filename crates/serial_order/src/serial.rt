@@ -1,0 +1,82 @@
+//! The serial order.
+
+ghost use Rattle.std.specs.Prelude.{◌≡◌, reverse, IfOk};
+ghost use Rattle.teb_rules.specs.Accepted.{IsSound};
+ghost use Rattle.teb_rules.specs.Ranks.{serial_order};
+ghost use Rattle.teb_laws.specs.Lawful.{Lawful};
+ghost use Rattle.phase_api.specs.Told.{setup_of, events_of};
+ghost use Rattle.serial_order.specs.Books.{AreBooks};
+ghost use Rattle.serial_order.specs.Commits.{commits_in, txn_numbers};
+ghost use Rattle.serial_order.specs.Keys.{entry_numbers, HaveKeys};
+
+use crate::books::books;
+use crate::keys::key;
+use batch_book::Batches;
+use engine_core::Engine;
+use phase_api::Facts;
+use std::alloc::{AllocError, Global};
+use teb_history::Event;
+use teb_names::Txn;
+use version_chain::Chains;
+
+/// A committed transaction with its key.
+#[derive(Drop)]
+pub(crate) struct Entry {
+    txn: Txn,
+    key: Vec<usize>,
+}
+
+/// The committed transactions in the serial order.
+pub fn order<C: Chains>(alloc: Global, engine: &Engine<C>) -> Result<Vec<Txn>, AllocError>
+    ensures { IfOk result (λ v. txn_numbers v.items ≡ serial_order engine.now.store.setup engine.now.events) }
+{
+    let setup = engine.setup();
+    let facts = Facts {
+        history: engine.history(),
+        tree: &setup.tree,
+        profiles: &setup.profiles,
+    };
+    order_by_keys(alloc, &facts)
+}
+
+// The same, of what controls are told: sorted by keys.
+fn order_by_keys(alloc: Global, facts: &Facts) -> Result<Vec<Txn>, AllocError>
+    requires sound { IsSound (setup_of facts.now) }
+    requires lawful { Lawful (setup_of facts.now) (events_of facts.now) }
+    ensures { IfOk result (λ v. txn_numbers v.items ≡ serial_order (setup_of facts.now) (events_of facts.now)) }
+{
+    let books = books(alloc, facts)?;
+    let mut entries = entries(alloc, facts, &books)?;
+    entries.sort_by(|a, b| a.key.cmp(&b.key))?;
+    txns_of(alloc, &entries)
+}
+
+// The committed transactions in the order of their commits, each with its key.
+fn entries(alloc: Global, facts: &Facts, books: &[Batches]) -> Result<Vec<Entry>, AllocError>
+    requires sound { IsSound (setup_of facts.now) }
+    requires lawful { Lawful (setup_of facts.now) (events_of facts.now) }
+    requires books { AreBooks (setup_of facts.now) (events_of facts.now) books.now }
+    ensures numbers { IfOk result (λ v. entry_numbers v.items ≡ commits_in (reverse (events_of facts.now))) }
+    ensures keys { IfOk result (λ v. HaveKeys (setup_of facts.now) (events_of facts.now) v.items) }
+{
+    let mut entries = Vec::new(alloc);
+    for i in 0..facts.history.len() {
+        let Event::Done(txn) = facts.history.at(i) else {
+            continue;
+        };
+        let key = key(alloc, facts, books, txn, i)?;
+        entries.push(Entry { txn, key })?;
+    }
+    Ok(entries)
+}
+
+// The transactions alone.
+fn txns_of(alloc: Global, entries: &[Entry]) -> Result<Vec<Txn>, AllocError>
+    ensures { IfOk result (λ v. txn_numbers v.items ≡ entry_numbers entries.now) }
+{
+    let mut txns = Vec::with_capacity(alloc, entries.len())?;
+    for entry in entries {
+        txns.push(entry.txn)?;
+    }
+    Ok(txns)
+}
