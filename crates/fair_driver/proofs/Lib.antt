@@ -1,0 +1,8 @@
+pub mod Places
+pub mod AtWork
+pub mod Offers
+pub mod Circles
+pub mod Underway
+pub mod Loading
+pub mod SessionOrder
+pub mod ParsedSessions

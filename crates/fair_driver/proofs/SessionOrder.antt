@@ -1,0 +1,60 @@
+-- The scripts of lines are of sessions in ascending number.
+use Rattle.std.proofs.Common.{◌≡◌, ℕ, zero, suc, ◌+◌, ◌*◌, ◌%◌, ◌<◌, ◌≤◌, ◌==◌, Bool, true, false, not, cond, List, [], ◌∷◌, ◌++◌, length, filter, map, refl, arith}
+use Rattle.std.specs.List.{flat_map, range_with_len}
+use Rattle.std.proofs.lemmas.Bool.{eqb-true}
+use Rattle.teb_names.specs.declared.Session.{Session}
+use Rattle.teb_names.specs.declared.Request.{Request}
+use Rattle.script_text.specs.declared.Line.{Line}
+use Rattle.script_text.specs.Scripts.{session, session_numbers, lines_for, scripts_of}
+use Rattle.teb_rules.specs.Driver.{Ascending}
+use Rattle.fair_driver.specs.Seats.{scripts_on}
+use Rattle.fair_driver.specs.Sessions.{AreOfSessions}
+use Rattle.fair_driver.specs.Loads.{Asking, askings_at, asked_by, numbered, loaded_lines, requests_from, state}
+
+-- a number that has a line is a session's
+of_session : (lines : List Line) (n : ℕ) → AreOfSessions lines → not (length (filter (λ (l : Line). l.session.0 == n) lines) == 0) ≡ true → (0 < n) × (n ≤ 32)
+of_session [] n a h = absurd (cc)
+of_session (l ∷ ls) n a h = go (l.session.0 == n) refl h (of_session ls n a.2)
+  where
+    go : (b : Bool) → (l.session.0 == n) ≡ b → not (length (cond b (l ∷ filter (λ (k : Line). k.session.0 == n) ls) (filter (λ (k : Line). k.session.0 == n) ls)) == 0) ≡ true →
+        (not (length (filter (λ (k : Line). k.session.0 == n) ls) == 0) ≡ true → (0 < n) × (n ≤ 32)) → (0 < n) × (n ≤ 32)
+    go true e k ih = let s = eqb-true l.session.0 n e in (omega (arith, a.0, s), omega (arith, a.1, s))
+    go false e k ih = ih k
+
+abbrev kept : List Line → ℕ → ℕ → List (Session × List Line)
+kept lines a n = filter (λ (s : Session × List Line). not (length s.1 == 0)) (map (λ (k : ℕ). (session k, lines_for lines k)) (range_with_len a n))
+
+ascend_from : (lines : List Line) → AreOfSessions lines → (least a n : ℕ) → ((k : ℕ) → a ≤ k → 0 < k → least < k) → Ascending least (scripts_on (kept lines a n))
+unfolding lines_for
+ascend_from lines s least a zero p = tt
+ascend_from lines s least a (suc n) p = go (not (length (lines_for lines a) == 0)) refl (ascend_from lines s a (a + 1) n (λ k h z. omega (arith, h))) (ascend_from lines s least (a + 1) n (λ k h z. p k (omega (arith, h)) z))
+  where
+    go : (b : Bool) → not (length (lines_for lines a) == 0) ≡ b → Ascending a (scripts_on (kept lines (a + 1) n)) → Ascending least (scripts_on (kept lines (a + 1) n)) →
+        Ascending least (scripts_on (cond b ((session a, lines_for lines a) ∷ kept lines (a + 1) n) (kept lines (a + 1) n)))
+    go true e more same = let z = of_session lines a s e in (p a (omega arith) z.0, z.1, more)
+    go false e more same = same
+
+pub scripts_ascend : (lines : List Line) → AreOfSessions lines → Ascending 0 (scripts_on (scripts_of lines))
+unfolding scripts_of session_numbers
+scripts_ascend lines s = ascend_from lines s 0 0 256 (λ k h z. z)
+
+-- one line more
+pub sessions_push : (lines : List Line) (l : Line) → AreOfSessions lines → 0 < l.session.0 → l.session.0 ≤ 32 → AreOfSessions (lines ++ l ∷ [])
+sessions_push [] l h a b = (a, b, tt)
+sessions_push (k ∷ ks) l h a b = (h.0, h.1, sessions_push ks l h.2 a b)
+
+-- the lines of a load
+asked_sessions : (n : ℕ) (s : Session) (rs : List Request) (more : List Asking) → 0 < s.0 → s.0 ≤ 32 → ((m : ℕ) → AreOfSessions (numbered m more)) → AreOfSessions (numbered n (asked_by s rs ++ more))
+asked_sessions n s [] more a b h = h n
+asked_sessions n s (r ∷ rs) more a b h = (a, b, asked_sessions (n + 1) s rs more a b h)
+
+loaded_from : (number a n m : ℕ) → AreOfSessions (numbered m (flat_map (askings_at number) (range_with_len a n)))
+loaded_from number a zero m = tt
+loaded_from number a (suc n) m = asked_sessions m (record { 0 = 1 + a % 8 }) (requests_from (state number (3 * a)) a) (flat_map (askings_at number) (range_with_len (a + 1) n)) (omega arith) (omega arith) (λ k. loaded_from number (a + 1) n k)
+
+loaded_sessions : (number size : ℕ) → AreOfSessions (loaded_lines number size)
+unfolding loaded_lines
+loaded_sessions number size = loaded_from number 0 size 1
+
+pub loaded_ascend : (number size : ℕ) → Ascending 0 (scripts_on (scripts_of (loaded_lines number size)))
+loaded_ascend number size = scripts_ascend (loaded_lines number size) (loaded_sessions number size)

@@ -1,0 +1,115 @@
+-- The driver underway: what its log, its history and its ring are of.
+use Rattle.std.proofs.Common.{◌≡◌, ℕ, zero, suc, ◌+◌, ◌<◌, ◌≤◌, List, [], ◌∷◌, ◌++◌, Option, Some, None, Result, Ok, Err, is_ok, OnErr, if◌then◌else◌, length, take, drop, refl, sym, ◌∙◌, ap, ap₂, subst, arith}
+use Rattle.std.specs.Prelude.{All}
+use Rattle.std.proofs.lemmas.List.{length-map, take-append-drop, map_push}
+use Rattle.teb_names.specs.declared.Reply.{Reply}
+use Rattle.teb_names.specs.declared.Entry.{Entry}
+use Rattle.teb_history.specs.declared.Event.{Event}
+use Rattle.teb_rules.specs.Setup.{Store}
+use Rattle.teb_rules.specs.Accepted.{IsSound}
+use Rattle.teb_rules.specs.Answer.{answer}
+use Rattle.teb_rules.specs.Run.{requests_of, history_of, history_after}
+use Rattle.teb_rules.specs.Scripts.{Script}
+use Rattle.teb_rules.specs.Driver.{Seat, Ascending, Drive, Follows, Turn, Turns, Stepped, at_start, drive_after, driven, next_round, seat_after, seated}
+use Rattle.teb_laws.specs.DriverLaws.{Driving, most_requests}
+use Rattle.teb_laws.proofs.Bound.{start_round}
+use Rattle.teb_laws.proofs.Ends.{driving_start, driving_step, driving_short, driving_end, driving_bound, follows_round}
+use Rattle.teb_laws.proofs.Keeping.{SeatOk}
+use Rattle.teb_laws.proofs.Lone.{Every, every_append, every_more}
+use Rattle.teb_laws.proofs.Rounds.{Round, every_back, every_front}
+use Rattle.teb_laws.proofs.Sound.{tree_facts}
+use Rattle.script_text.specs.declared.Answered.{Answered}
+use Rattle.fair_driver.specs.declared.ring.Asked.{Asked}
+use Rattle.fair_driver.specs.Seats.{round_from}
+use Rattle.fair_driver.specs.Turns.{IsTurnOf}
+use Rattle.fair_driver.specs.Logged.{answered, answers_of, IsOf, IsAnswered}
+
+-- one turn: who is asked, the answer, and the round behind it
+pub turn_taken : (X Y : Store) (H G K : List Event) (n : ℕ) (ws rs : List Seat) (a : Asked) (q : Reply) → (t : IsTurnOf H n ws a) → Y ≡ X → G ≡ H → q ≡ (answer Y G a.session a.request).0 → K ≡ (answer Y G a.session a.request).1 →
+    rs ≡ drop (a.index + 1) ws ++ take a.index ws ++ seat_after t.of.seat q ∷ [] →
+    Stepped X (record { history = H; round = round_from n ws }) (Some (record { session = a.session; request = a.request; reply = q })) (record { history = K; round = rs })
+turn_taken X Y H G K n ws rs a q t x g p k r = (
+  t.of,
+  t.is,
+  t.session,
+  t.request,
+  p ∙ ap₂ (λ (Z : Store) (J : List Event). (answer Z J a.session a.request).0) x g,
+  ap₂ (λ (J : List Event) (vs : List Seat). record { history = J; round = vs }) (k ∙ ap₂ (λ (Z : Store) (J : List Event). (answer Z J a.session a.request).1) x g)
+      (r ∙ ap (λ (vs : List Seat). vs ++ seat_after t.of.seat q ∷ []) (sym t.others) ∙ sym (ap (λ (u : Option Turn). next_round u (round_from n ws) q) t.is)),
+)
+
+-- a reply is added where there is room
+pub reply_added : {A E : Type 0} (r : Result A E) (room n : ℕ) (xs ys zs : List Answered) (x : Answered) → OnErr r (room ≤ n) → n + 1 ≤ room → zs ≡ (if is_ok r then xs ++ x ∷ [] else xs) → xs ≡ ys → zs ≡ ys ++ x ∷ []
+reply_added (Ok y) room n xs ys zs x h l e f = e ∙ ap (λ (v : List Answered). v ++ x ∷ []) f
+reply_added (Err y) room n xs ys zs x h l e f = absurd (omega (arith, h, l))
+
+every_all : (P : Seat → Type 0) (ws : List Seat) → Every P ws → All P ws
+every_all P [] h k d l = absurd (omega (arith, l))
+every_all P (w ∷ ws) h zero d l = h.0
+every_all P (w ∷ ws) h (suc k) d l = every_all P ws h.1 k d (omega (arith, l))
+
+-- the history of a drive
+history_driven : (X : Store) (log : List Entry) (d : Drive) → (drive_after X d log).history ≡ history_after X d.history (requests_of log)
+unfolding drive_after history_after
+history_driven X [] d = refl
+history_driven X (e ∷ log) d = history_driven X log (driven X d e)
+
+-- a log of the driver, its history, and the round behind it
+pub record IsUnderway (X : Store) (scripts : List Script) (log : List Answered) (H : List Event) (ws : List Seat) : Type 0 where
+  pub entries : List Entry
+  pub driving : Driving X scripts entries (record { history = H; round = ws })
+  pub replies : log ≡ answers_of entries
+
+pub underway_start : (X : Store) (scripts : List Script) (log : List Answered) (H : List Event) (ws : List Seat) → log ≡ [] → H ≡ [] → ws ≡ seated scripts → IsUnderway X scripts log H ws
+underway_start X scripts log H ws a b c = record { entries = []; driving = rw (b, c) (driving_start X scripts); replies = a }
+
+pub underway_next : (X : Store) (scripts : List Script) (log logged : List Answered) (H K : List Event) (ws vs : List Seat) → IsUnderway X scripts log H ws →
+    IsAnswered X (record { history = H; round = ws }) log (record { history = K; round = vs }) logged → IsUnderway X scripts logged K vs
+underway_next X scripts log logged H K ws vs u m = record {
+  entries = u.entries ++ m.entry ∷ [];
+  driving = driving_step X scripts u.entries (record { history = H; round = ws }) m.entry (record { history = K; round = vs }) u.driving m.stepped;
+  replies = m.replies ∙ ap (λ (l : List Answered). l ++ answered m.entry ∷ []) u.replies ∙ sym (map_push answered u.entries m.entry);
+}
+
+log_size : (entries : List Entry) (log : List Answered) → log ≡ answers_of entries → length log ≡ length entries
+log_size entries log e = ap length e ∙ length-map entries answered
+
+pub underway_short : (X : Store) → IsSound X.setup → (scripts : List Script) → Ascending 0 scripts → (log logged : List Answered) (H K : List Event) (ws vs : List Seat) → IsUnderway X scripts log H ws →
+    IsAnswered X (record { history = H; round = ws }) log (record { history = K; round = vs }) logged → length log < most_requests scripts
+underway_short X a scripts h log logged H K ws vs u m =
+    let z = log_size u.entries log u.replies in
+    let y = driving_short X a scripts h u.entries (record { history = H; round = ws }) m.entry (record { history = K; round = vs }) u.driving m.stepped in omega arith
+
+pub underway_bound : (X : Store) → IsSound X.setup → (scripts : List Script) → Ascending 0 scripts → (log : List Answered) (H : List Event) (ws : List Seat) → IsUnderway X scripts log H ws → length log ≤ most_requests scripts
+underway_bound X a scripts h log H ws u =
+    let z = log_size u.entries log u.replies in
+    let y = driving_bound X a scripts h u.entries (record { history = H; round = ws }) u.driving in omega arith
+
+underway_history : (X : Store) (scripts : List Script) (entries : List Entry) (H : List Event) (ws : List Seat) → Driving X scripts entries (record { history = H; round = ws }) → H ≡ history_of X entries
+underway_history X scripts entries H ws v = sym (ap (λ (d : Drive). d.history) v.stands) ∙ history_driven X entries (at_start scripts)
+
+pub underway_made : (X : Store) (scripts : List Script) (log : List Answered) (H : List Event) (ws : List Seat) → IsUnderway X scripts log H ws → IsOf (Follows X [] (seated scripts)) X log H
+underway_made X scripts log H ws u = record { entries = u.entries; holds = u.driving.follows; replies = u.replies; events = underway_history X scripts u.entries H ws u.driving }
+
+pub underway_ended : (X : Store) (scripts : List Script) (log : List Answered) (H K : List Event) (ws vs : List Seat) → IsUnderway X scripts log H ws → Stepped X (record { history = H; round = ws }) None (record { history = K; round = vs }) → IsOf (Turns X scripts) X log H
+underway_ended X scripts log H K ws vs u s = record {
+  entries = u.entries;
+  holds = record { follows = u.driving.follows; ends = driving_end X scripts u.entries (record { history = H; round = ws }) (record { history = K; round = vs }) u.driving s };
+  replies = u.replies;
+  events = underway_history X scripts u.entries H ws u.driving;
+}
+
+-- nobody was sent back more than three times
+pub underway_few : (X : Store) → IsSound X.setup → (scripts : List Script) → Ascending 0 scripts → (log : List Answered) (H : List Event) (n : ℕ) (ws : List Seat) → IsUnderway X scripts log H (round_from n ws) → All (λ (w : Seat). w.aborts ≤ 3) ws
+underway_few X a scripts h log H n ws u =
+    let d : Drive = record { history = H; round = round_from n ws } in
+    let o : Round X.setup H (round_from n ws) = subst (λ (e : Drive). Round X.setup e.history e.round) u.driving.stands
+    (follows_round X (tree_facts X.setup a) u.entries (at_start scripts) (start_round X.setup a.profiles scripts h) u.driving.follows) in
+    let P : Seat → Type 0 = SeatOk X.setup H in
+    let both : Every P (take n ws ++ drop n ws) = every_append P (take n ws) (drop n ws) (every_back P (drop n ws) (take n ws) o.seats) (every_front P (drop n ws) (take n ws) o.seats) in
+    every_all (λ (w : Seat). w.aborts ≤ 3) ws (every_more P (λ (w : Seat). w.aborts ≤ 3) ws (λ w k. k.few) (subst (Every P) (take-append-drop n ws) both))
+
+-- what holds whatever the result
+pub on_err : {T E P : Type 0} (r : Result T E) → P → OnErr r P
+on_err (Ok x) p = tt
+on_err (Err e) p = p

@@ -1,0 +1,6 @@
+pub mod Advances
+pub mod Seats
+pub mod Turns
+pub mod Logged
+pub mod Loads
+pub mod Sessions

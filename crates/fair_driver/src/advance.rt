@@ -1,0 +1,50 @@
+//! What an answer does to the session that asked.
+
+ghost use Rattle.std.specs.Prelude.{◌≡◌};
+ghost use Rattle.teb_rules.specs.Scripts.{move_of, move_by};
+ghost use Rattle.fair_driver.specs.Advances.{move_at};
+
+use teb_names::{Cause, Reply};
+
+/// How a session goes on along its script after an answer.
+#[derive(Clone, Copy)]
+pub enum Advance {
+    /// It asks the same line again.
+    Stay,
+    /// It holds the transaction that its line began, and goes to the next line.
+    Enter,
+    /// It holds nothing any more, and goes to the next line.
+    Leave,
+    /// It holds nothing any more, and goes back to the line that began its transaction.
+    Return,
+    /// It goes to the next line.
+    Go,
+}
+
+/// How a session goes on after an answer to a line.
+pub fn advance_after(reply: &Reply) -> Advance
+    ensures { move_at result ≡ move_of reply.now }
+{
+    match reply {
+        Reply::Again { .. } => Advance::Stay,
+        Reply::Begun(_) => Advance::Enter,
+        Reply::Committed => Advance::Leave,
+        Reply::Aborted(cause) => advance_by(cause),
+        Reply::Value(_) | Reply::Values(_) | Reply::Done | Reply::Prepared | Reply::Refused(_) =>
+            Advance::Go,
+    }
+}
+
+/// How a session goes on after an abort: one that the session asked for itself sends it nowhere.
+fn advance_by(cause: &Cause) -> Advance
+    ensures { move_at result ≡ move_by cause.now }
+{
+    match cause {
+        Cause::Asked | Cause::Ended => Advance::Leave,
+        Cause::Late { .. }
+        | Cause::First { .. }
+        | Cause::Pivot { .. }
+        | Cause::Newer { .. }
+        | Cause::After(_) => Advance::Return,
+    }
+}

@@ -1,0 +1,18 @@
+//! The driver: one thread asks several sessions in turn, each along its script.
+#![tactic(auto)]
+
+mod advance;
+mod cursor;
+mod drive;
+mod load;
+mod offer;
+mod quiet;
+mod ring;
+mod steps;
+
+pub use drive::turns;
+pub use load::{loaded_lines, loaded_scripts};
+pub use steps::Steps;
+
+#[cfg(test)]
+mod tests;

@@ -1,0 +1,59 @@
+//! Who may ask.
+
+ghost use Rattle.std.specs.Prelude.{◌≡◌, not, leb, ◌||◌};
+ghost use Rattle.std.specs.List.{list_any, list_all};
+ghost use Rattle.teb_rules.specs.Driver.{due, chosen, may_begin, offer, is_begin};
+ghost use Rattle.fair_driver.specs.Seats.{seat_of, seats_in};
+
+use crate::cursor::Cursor;
+use crate::quiet::is_quiet;
+use teb_history::History;
+use teb_names::{Request, Session};
+
+/// What one of the sessions may ask now. `None` where it is through, or would begin a transaction while it may not.
+pub fn offer(history: &History, cursors: &[Cursor<'_>], cursor: &Cursor<'_>) -> Option<Request>
+    ensures { result ≡ offer history.now.events (seats_in cursors.now) (seat_of cursor.now) }
+{
+    let request = cursor.next()?;
+    if !is_begin(&request) || cursor.begun.is_some() || may_begin(history, cursors, cursor) {
+        Some(request)
+    } else {
+        None
+    }
+}
+
+fn is_begin(request: &Request) -> bool
+    ensures { result ≡ is_begin request.now }
+{
+    matches!(request, Request::Begin(_))
+}
+
+/// Whether a session may begin a transaction: nobody is to run alone, or it is the chosen one and nobody is at work.
+fn may_begin(history: &History, cursors: &[Cursor<'_>], cursor: &Cursor<'_>) -> bool
+    ensures { result ≡ may_begin history.now.events (seats_in cursors.now) (seat_of cursor.now) }
+{
+    !is_any_due(cursors) || is_chosen(cursors, cursor) && is_quiet(history)
+}
+
+/// Whether some session is to run alone.
+fn is_any_due(cursors: &[Cursor<'_>]) -> bool
+    ensures { result ≡ list_any (λ c. due (seat_of c)) cursors.now }
+{
+    cursors.iter().any(|c| c.is_due())
+}
+
+/// Whether a session is the least-numbered of those that are to run alone.
+fn is_chosen(cursors: &[Cursor<'_>], cursor: &Cursor<'_>) -> bool
+    ensures { result ≡ chosen (seats_in cursors.now) (seat_of cursor.now) }
+{
+    cursor.is_due() && is_least_due(cursors, cursor.session)
+}
+
+/// Whether no session of smaller number is to run alone.
+fn is_least_due(cursors: &[Cursor<'_>], session: Session) -> bool
+    ensures { result ≡ list_all (λ c. not (due (seat_of c)) || leb session.0 c.session.0) cursors.now }
+{
+    cursors
+        .iter()
+        .all(|c| !c.is_due() || session.0 <= c.session.0)
+}

@@ -1,0 +1,88 @@
+//! The sessions in a ring, and whose turn it is.
+
+ghost use Rattle.std.specs.Prelude.{◌≡◌, ℕ, ◌+◌, ◌<◌, ◌≤◌, ◌++◌, ◌∷◌, [], IfOk, IfSome, Some, slice_get, take, drop, vec_len};
+ghost use Rattle.teb_rules.specs.Driver.{Seat, offer, seated, seat_after};
+
+use crate::cursor::Cursor;
+use crate::offer::offer;
+use script_text::Scripts;
+use std::alloc::{AllocError, Global};
+use teb_history::History;
+use teb_names::{Reply, Request, Session};
+
+/// The sessions, in ascending number. The turn goes round.
+#[derive(Drop)]
+pub struct Ring<'a> {
+    cursors: Vec<Cursor<'a>>,
+    // The index of the session that is looked at next.
+    next: usize,
+    ghost within: { next ≤ vec_len cursors },
+}
+
+/// A session whose turn it is.
+#[derive(Clone, Copy)]
+pub struct Asked {
+    /// Its place in the ring.
+    pub index: usize,
+    pub session: Session,
+    /// What it asks.
+    pub request: Request,
+}
+
+impl<'a> Ring<'a> {
+    ghost use Rattle.fair_driver.specs.Seats.{seats_in, scripts_on, round_of};
+    ghost use Rattle.fair_driver.specs.Turns.{IsFirst, IsTurn};
+
+    /// Each session at the first line of its script. The least-numbered is looked at first.
+    pub fn new(alloc: Global, scripts: &'a Scripts) -> Result<Ring<'a>, AllocError>
+        ensures { IfOk result (λ r. round_of r ≡ seated (scripts_on scripts.now)) }
+    {
+        let mut cursors = Vec::with_capacity(alloc, scripts.len())?;
+        for i in 0..scripts.len() {
+            let cursor = Cursor::new(scripts.session(i), scripts.lines(i));
+            cursors.push(cursor)?;
+        }
+        Ok(Ring { cursors, next: 0 })
+    }
+
+    /// Whose turn it is: the first session that may ask. `None` where all are through.
+    pub fn turn(&self, history: &History) -> Option<Asked>
+        ensures { IsTurn history.now.events self.now.next (seats_in self.now.cursors.items) result }
+    {
+        if let Some(asked) = self.first(history, self.next, self.cursors.len()) {
+            return Some(asked);
+        }
+        self.first(history, 0, self.next)
+    }
+
+    /// The first from one place up to another that may ask.
+    fn first(&self, history: &History, from: usize, end: usize) -> Option<Asked>
+        requires { end ≤ vec_len self.now.cursors }
+        ensures { IsFirst (offer history.now.events (seats_in self.now.cursors.items)) (seats_in self.now.cursors.items) from end result }
+    {
+        for index in from..end {
+            let cursor = &self.cursors[index];
+            if let Some(request) = offer(history, &self.cursors, cursor) {
+                let session = cursor.session;
+                return Some(Asked {
+                    index,
+                    session,
+                    request,
+                });
+            }
+        }
+        None
+    }
+
+    /// Takes the answer to what a session asked. The turn goes to the session behind it.
+    pub fn take(&mut self, index: usize, reply: &Reply)
+        requires within { index < vec_len self.old.cursors }
+        requires few { IfSome (slice_get (seats_in self.old.cursors.items) index) (λ w. w.aborts ≤ 3) }
+        ensures { (w : Seat) → slice_get (seats_in self.old.cursors.items) index ≡ Some w → round_of self.new
+            ≡ drop (index + 1) (seats_in self.old.cursors.items) ++ take index (seats_in self.old.cursors.items) ++ seat_after w reply.now ∷ [] }
+    {
+        let cursor = &mut self.cursors[index];
+        cursor.take(reply);
+        self.next = index + 1;
+    }
+}
