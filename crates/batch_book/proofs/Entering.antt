@@ -70,11 +70,11 @@ module _ (B : List Batch) (s : ℕ) where
     -- the side has an open batch
     pub entered_first : (first : Member) (at : ℕ) (y : Batch) → find on_side R ≡ Some first → y ≡ get_or B first.batch y → ((m : Member) → Has m R → (batch_at B m).close ≡ None) →
         ((m o : Member) → Has m R → Has o R → (batch_at B m).side ≡ (batch_at B o).side → m.batch ≡ o.batch) →
-        Entered R B (set B first.batch (record { side = y.side; start = y.start; close = y.close; admitted = y.admitted + 1 })) s at first.batch
+        Entered R B (set B first.batch (record { side = y.side; start = y.start; close = y.close; admitted = y.admitted + 1; settled = y.settled })) s at first.batch
     entered_first first at y h is unclosed one =
         let f = found_Has on_side first R h in
         let l = All-Has (λ (m : Member). m.batch < length B) first R w f.0 in
-        let x : Batch = record { side = y.side; start = y.start; close = y.close; admitted = y.admitted + 1 } in
+        let x : Batch = record { side = y.side; start = y.start; close = y.close; admitted = y.admitted + 1; settled = y.settled } in
         let q : y ≡ batch_at B first = is ∙ get_or_default B first.batch y no_batch l in
         let sd : (batch_at B first).side ≡ s = eqb-true _ _ f.1 in
         let here = get_or-set_same B first.batch x no_batch l in
@@ -98,9 +98,9 @@ module _ (B : List Batch) (s : ℕ) where
         }
 
     -- it has none
-    pub entered_none : (at : ℕ) → find on_side R ≡ None → Entered R B (B ++ record { side = s; start = at; close = None; admitted = 1 } ∷ []) s at (length B)
-    entered_none at h =
-        let x : Batch = record { side = s; start = at; close = None; admitted = 1 } in
+    pub entered_none : (at k : ℕ) → find on_side R ≡ None → Entered R B (B ++ record { side = s; start = at; close = None; admitted = 1; settled = k } ∷ []) s at (length B)
+    entered_none at k h =
+        let x : Batch = record { side = s; start = at; close = None; admitted = 1; settled = k } in
         let here : get_or (B ++ x ∷ []) (length B) no_batch ≡ x = last_one B x in
         let left = λ (m : Member) (k : m.batch < length B). get_or_append_left B (x ∷ []) no_batch m.batch k in
         record {

@@ -113,7 +113,7 @@ module _ (J R : List Member) (B : List Batch) (t : ℕ) (h : IsHeld J R B) where
     -- it was the last of its batch
     module _ (a : list_any (λ o. eqb o.batch member.batch) (without t R) ≡ false) (at : ℕ) (y : Batch) (is : y ≡ get_or B member.batch y) where
       abbrev x : Batch
-      x = record { side = y.side; start = y.start; close = Some at; admitted = y.admitted }
+      x = record { side = y.side; start = y.start; close = Some at; admitted = y.admitted; settled = y.settled }
 
       abbrev C : List Batch
       C = set B member.batch x

@@ -8,5 +8,7 @@ pub mod Fullness
 pub mod Elements
 pub mod Entering
 pub mod Leaving
+pub mod Settling
+pub mod Horizons
 pub mod Telling
 pub mod Worked

@@ -1,7 +1,7 @@
 -- What a book that holds the batches of a history tells of it, and what the next event makes of it.
 use Rattle.std.proofs.Common.{◌≡◌, ℕ, suc, ◌<◌, true, cond, not, ◌&&◌, eqb, List, [], ◌∷◌, length, map, find, filter, Some, refl, sym, ◌∙◌, ap, subst, inl, inr, arith, eq-eqb}
 use Rattle.std.specs.List.{list_any}
-use Rattle.std.proofs.lemmas.Bool.{cases_Bool, eqb-true, or_left, or_right}
+use Rattle.std.proofs.lemmas.Bool.{cases_Bool, eqb-true, or_cases, or_left, or_right}
 use Rattle.teb_history.specs.declared.Event.{Event}
 use Rattle.teb_history.specs.declared.Event.TheVariants.{Began, Got, Put, Ready, Done, Gone, Told}
 use Rattle.teb_history.specs.Phases.{begun, begun_count, unfinished, txns, numbers}
@@ -93,6 +93,17 @@ joined_from b S H n t h g o = ap (list_any (λ (r : Row). eqb r.txn t)) h.rows �
     there : (us : List ℕ) → In t us → list_any (λ (r : Row). eqb r.txn t) (map (row_of S H n) us) ≡ true
     there [] i = absurd i
     there (u ∷ us) i = elim i [ inl q ↦ or_left (eqb u t) _ (eq-eqb u t q) | inr j ↦ or_right (eqb u t) _ (there us j) ]
+
+-- and nobody else has
+pub joined_began : (b : Book) (S : Setup) (H : List Event) (n t : ℕ) → BatchesOf b S H n → has_joined b t ≡ true → (begun H t ≡ true) × (on S H n t ≡ true)
+joined_began b S H n t h j =
+    let i = there (members S H n) (sym (ap (list_any (λ (r : Row). eqb r.txn t)) h.rows) ∙ j) in
+    let f = filter-In (on S H n) t (txns H) i in
+    (In-txns_begun H t h.numbered f.0, f.1)
+  where
+    there : (us : List ℕ) → list_any (λ (r : Row). eqb r.txn t) (map (row_of S H n) us) ≡ true → In t us
+    there [] h = absurd (cc)
+    there (u ∷ us) h = elim (or_cases (eqb u t) _ h) [ inl q ↦ inl (eqb-true u t q) | inr q ↦ inr (there us q) ]
 
 -- the row of t tells of its batch
 pub row_tells : (b : Book) (S : Setup) (H : List Event) (n t : ℕ) (r : Row) → BatchesOf b S H n → find (λ (r : Row). eqb r.txn t) b.rows ≡ Some r → r ≡ row_of S H n t

@@ -41,6 +41,9 @@ three = commits 1 ∷ two
 abbrev pub four : List Event
 four = commits 2 ∷ three
 
+abbrev pub five : List Event
+five = begins 3 ∷ four
+
 pub first_may : MayCome [] (begins 1)
 unfolding begun_count
 first_may = refl
@@ -57,11 +60,26 @@ pub fourth_may : MayCome three (commits 2)
 unfolding unfinished begun committed aborted began_at done_at gone_at first_event first
 fourth_may = refl
 
+pub fifth_may : MayCome four (begins 3)
+unfolding begun_count
+fifth_may = refl
+
 pub first_new : (b : Book) → BatchesOf b setup [] 0 → IsNew b 1
 first_new b h = next_new b setup [] 0 1 h first_may
 
 pub second_new : (b : Book) → BatchesOf b setup one 0 → IsNew b 2
 second_new b h = next_new b setup one 0 2 h second_may
+
+pub third_new : (b : Book) → BatchesOf b setup four 0 → IsNew b 3
+third_new b h = next_new b setup four 0 3 h fifth_may
+
+pub second_joined : (b : Book) → BatchesOf b setup two 0 → has_joined b 2 ≡ true
+unfolding on on_path path way climb leaf below spot_of begun began_at first_event first
+second_joined b h = joined_from b setup two 0 2 h refl refl
+
+pub third_joined : (b : Book) → BatchesOf b setup five 0 → has_joined b 3 ≡ true
+unfolding on on_path path way climb leaf below spot_of begun began_at first_event first
+third_joined b h = joined_from b setup five 0 3 h refl refl
 
 -- both have joined, also after they have finished
 pub both_joined : (b : Book) → BatchesOf b setup four 0 → (has_joined b 1 ≡ true) × (has_joined b 2 ≡ true)

@@ -8,7 +8,7 @@ use Rattle.batch_book.specs.Book.{Row, Running, start_on, admitted_on}
 
 -- what stands in the place of a batch that is not there
 abbrev pub no_batch : Batch
-no_batch = record { side = 0; start = 0; close = None; admitted = 0 }
+no_batch = record { side = 0; start = 0; close = None; admitted = 0; settled = 0 }
 
 -- the batch of a member
 abbrev pub batch_at : List Batch → Member → Batch

@@ -1,9 +1,9 @@
 -- The batches of a node in a history, as a book shows them.
-use Rattle.std.specs.Prelude.{◌≡◌, ℕ, suc, cond, ◌&&◌, eqb, leb, List, [], ◌∷◌, map, filter, find, count_by, Option, Some, None, IsTrue, IsFalse}
+use Rattle.std.specs.Prelude.{◌≡◌, ◌<◌, ℕ, suc, cond, ◌&&◌, eqb, leb, List, [], ◌∷◌, map, filter, find, count_by, Option, Some, None, IsTrue, IsFalse}
 use Rattle.teb_history.specs.declared.Event.{Event}
 use Rattle.teb_history.specs.declared.Event.TheVariants.{Began, Done, Gone}
 use Rattle.teb_history.specs.Positions.{came}
-use Rattle.teb_history.specs.Phases.{txns, begun_count, unfinished}
+use Rattle.teb_history.specs.Phases.{txns, begun, begun_count, unfinished}
 use Rattle.teb_rules.specs.Setup.{Setup}
 use Rattle.teb_rules.specs.Tree.{on, side, on_path, side_at}
 use Rattle.teb_rules.specs.Batches.{start, close}
@@ -72,3 +72,7 @@ Passes S P n (Began t s k i) = IsFalse (on_path S.tree n (record { kind = k; ins
 Passes S P n (Done t) = IsFalse (on S P n t.0)
 Passes S P n (Gone t c) = IsFalse (on S P n t.0)
 Passes S P n _ = Unit {0}
+
+-- whoever is numbered below m was of a batch that closed before t's started
+abbrev pub ClosedBelow : Setup → List Event → ℕ → ℕ → ℕ → Type 0
+ClosedBelow S H n t m = (u : ℕ) → u < m → IsTrue (begun H u) → IsTrue (on S H n u) → close S H n u < start S H n t

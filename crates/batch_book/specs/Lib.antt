@@ -1,3 +1,4 @@
 pub mod Book
 pub mod Histories
 pub mod Fields
+pub mod Settled

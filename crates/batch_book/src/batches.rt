@@ -5,7 +5,7 @@ ghost use Rattle.teb_history.specs.declared.Event.{Event};
 ghost use Rattle.teb_history.specs.Written.{txn_of};
 ghost use Rattle.teb_rules.specs.Setup.{Setup};
 ghost use Rattle.teb_rules.specs.Batches.{start};
-ghost use Rattle.batch_book.specs.Histories.{BatchesOf, full_at, closing, Joins, Finishes, MayCome};
+ghost use Rattle.batch_book.specs.Histories.{BatchesOf, ClosedBelow, full_at, closing, Joins, Finishes, MayCome};
 ghost use Rattle.batch_book.specs.Book.{has_joined, IsNew};
 
 use crate::members::{
@@ -32,7 +32,8 @@ impl Model for Batches {
     ghost Value = { Book };
 
     ghost use Rattle.std.specs.Prelude.{map, min, ◌-◌, vec_len, vec_capacity};
-    ghost use Rattle.batch_book.specs.Fields.{row_shown, running_shown, IsHeld};
+    ghost use Rattle.batch_book.specs.Fields.{row_shown, running_shown};
+    ghost use Rattle.batch_book.specs.Settled.{IsKept};
 
     ghost view = { λ b. record {
       size = b.size;
@@ -41,10 +42,11 @@ impl Model for Batches {
       spare = min (vec_capacity b.joined - vec_len b.joined) (min (vec_capacity b.running - vec_len b.running) (vec_capacity b.batches - vec_len b.batches));
     } };
 
-    ghost invariant = { λ b. IsHeld b.joined.items b.running.items b.batches.items };
+    ghost invariant = { λ b. IsKept b.joined.items b.running.items b.batches.items };
 }
 
-/// `join`, `finish` and `full` cost what the unfinished members are, `start` and `close` a binary search.
+/// `join`, `finish` and `full` cost what the unfinished members are, `start`, `close` and `horizon` a binary search. `join` also
+/// looks once, over all calls, at each member whose batch has closed.
 impl Batches {
     /// The batches of an empty history. A batch is full where it has admitted `size`.
     pub fn new(alloc: Global, size: u16) -> Self
@@ -91,7 +93,7 @@ impl Batches {
         ensures size { self.new.size ≡ self.old.size }
         ensures spare { self.old.spare ≤ self.new.spare + 1 }
     {
-        let batch = enter(&self.running, &mut self.batches, side, at);
+        let batch = enter(&self.joined, &self.running, &mut self.batches, side, at);
         let member = Member { txn: t, batch };
         let _ = self.joined.push(member);
         let _ = self.running.push(member);
@@ -125,6 +127,18 @@ impl Batches {
         ensures { (S : Setup) (H : List Event) (n : ℕ) → BatchesOf self.now S H n → result ≡ closing S H n t.0 }
     {
         self.batch(t).close
+    }
+
+    /// A transaction that has joined, before which nobody was of the batch of t or of one concurrent with it: the first one
+    /// whose batch was not closed before that of t started.
+    pub fn horizon(&self, t: Txn) -> Txn
+        requires { IsTrue (has_joined self.now t.0) }
+        ensures joined { IsTrue (has_joined self.now result.0) }
+        ensures closed { (S : Setup) (H : List Event) (n : ℕ) → BatchesOf self.now S H n → ClosedBelow S H n t.0 result.0 }
+    {
+        let member = search_member(&self.joined, t).unwrap();
+        let settled = self.batches[member.batch].settled;
+        self.joined[settled].txn
     }
 
     // The batch of t.

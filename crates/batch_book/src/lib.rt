@@ -4,6 +4,7 @@
 mod batches;
 pub mod laws;
 mod members;
+mod settled;
 #[cfg(test)]
 mod tests;
 

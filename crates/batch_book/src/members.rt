@@ -5,7 +5,9 @@ ghost use Rattle.std.specs.List.{All, list_any};
 ghost use Rattle.teb_history.specs.Ascending.{IsAscendingBy};
 ghost use Rattle.batch_book.specs.declared.members.Member.{Member};
 ghost use Rattle.batch_book.specs.Fields.{batch_at, member_number, running_shown, Entered, IsHeld, Has};
+ghost use Rattle.batch_book.specs.Settled.{IsSettled};
 
+use crate::settled::settled_before;
 use teb_names::Txn;
 
 /// A transaction, and the number of its batch.
@@ -15,13 +17,15 @@ pub(crate) struct Member {
     pub(crate) batch: usize,
 }
 
-/// A batch of a side: where it starts, where it closes, None while it is open, and how many it has admitted.
+/// A batch of a side: where it starts, where it closes, None while it is open, how many it has admitted, and how many of
+/// the first that have joined, at the least, were of batches closed before it started.
 #[derive(Clone, Copy)]
 pub(crate) struct Batch {
     pub(crate) side: u32,
     pub(crate) start: usize,
     pub(crate) close: Option<usize>,
     pub(crate) admitted: usize,
+    pub(crate) settled: usize,
 }
 
 /// The first of the members whose batch is one of a side.
@@ -61,13 +65,22 @@ pub(crate) fn search_member(members: &[Member], t: Txn) -> Option<Member>
 }
 
 /// Enters one more into the open batch of a side, or opens one at a position. It answers the number of the batch.
-pub(crate) fn enter(running: &[Member], batches: &mut Vec<Batch>, side: u32, at: usize) -> usize
+pub(crate) fn enter(
+    joined: &[Member],
+    running: &[Member],
+    batches: &mut Vec<Batch>,
+    side: u32,
+    at: usize,
+) -> usize
+    requires joined_within { All (λ m. m.batch < length batches.old.items) joined.now }
+    requires settled { IsSettled joined.now batches.old.items (length joined.now) }
     requires within { All (λ m. m.batch < length batches.old.items) running.now }
     requires unclosed { (m : Member) → Has m running.now → (batch_at batches.old.items m).close ≡ None }
     requires one_side { (m o : Member) → Has m running.now → Has o running.now → (batch_at batches.old.items m).side ≡ (batch_at batches.old.items o).side → m.batch ≡ o.batch }
     requires few { (m : Member) → Has m running.now → (batch_at batches.old.items m).admitted < 2 ^ 64 - 1 }
     requires room { vec_len batches.old < vec_capacity batches.old }
     ensures entered { Entered running.now batches.old.items batches.new.items side at result }
+    ensures settled { IsSettled joined.now batches.new.items (length joined.now + 1) }
     ensures len { vec_len batches.new ≤ vec_len batches.old + 1 }
     ensures capacity { vec_capacity batches.old ≤ vec_capacity batches.new }
 {
@@ -78,11 +91,13 @@ pub(crate) fn enter(running: &[Member], batches: &mut Vec<Batch>, side: u32, at:
         }
         None => {
             let number = batches.len();
+            let settled = settled_before(joined, batches, at);
             let _ = batches.push(Batch {
                 side,
                 start: at,
                 close: None,
                 admitted: 1,
+                settled,
             });
             number
         }

@@ -1,11 +1,13 @@
-use Rattle.std.proofs.Common.{◌≡◌, ◌∙◌, ◌<◌, true, false, List, map, eqb, find, length, set, Some, None, sym, ap, subst, rules}
+use Rattle.std.proofs.Common.{◌≡◌, ◌∙◌, ◌<◌, true, false, List, map, eqb, find, get_or, length, set, Some, None, sym, ap, subst, rules}
 use Rattle.std.specs.List.{list_any}
+use Rattle.std.proofs.lemmas.List.{get_or_default}
 use Rattle.batch_book.specs.declared.members.Member.{Member}
 use Rattle.batch_book.specs.declared.members.Batch.{Batch}
 use Rattle.batch_book.specs.Book.{Book, rows_finished, running_finished}
-use Rattle.batch_book.specs.Fields.{running_shown, IsHeld}
+use Rattle.batch_book.specs.Fields.{no_batch, running_shown, IsHeld}
 use Rattle.batch_book.proofs.Elements.{found_Has, All-Has}
 use Rattle.batch_book.proofs.Leaving.{without, absent_rows, absent_running, one_rows, one_held, left_running, last_rows, last_running, last_held}
+use Rattle.batch_book.proofs.Settling.{settled_closed}
 use Rattle.batch_book.proofs.Telling.{batches_finished}
 use Rattle.batch_book.proofs.batches.Batches.finish.Goals as goal
 
@@ -17,7 +19,7 @@ index_mut-requires c =
     let t = c.args.t.0 in
     let looked = λ (ms : List Member). find (λ (m : Member). eqb m.txn.0 c.args.t.0) ms in
     let found : looked R ≡ Some c.in-Some.member = ap looked (sym c.deref.ensures.value) ∙ sym c.find_member.ensures ∙ c.in-Some.is in
-    let within : c.in-Some.member.batch < length B = All-Has (λ (m : Member). m.batch < length B) c.in-Some.member R c.self.invariant.running_within (found_Has (λ (m : Member). eqb m.txn.0 c.args.t.0) c.in-Some.member R found).0 in
+    let within : c.in-Some.member.batch < length B = All-Has (λ (m : Member). m.batch < length B) c.in-Some.member R c.self.invariant.held.running_within (found_Has (λ (m : Member). eqb m.txn.0 c.args.t.0) c.in-Some.member R found).0 in
     search (rules, within)
 
 pub invariant_of-self : goal.invariant_of-self
@@ -32,8 +34,14 @@ invariant_of-self c =
     let asked : c.is_any_of.result ≡ any (without t R) = c.is_any_of.ensures ∙ ap any (c.deref-in-Some.ensures.value ∙ c.take_out.ensures.items) in
     let none : any (without t R) ≡ false = sym asked ∙ c.if-not-is_any_of.true in
     let left : Batch = c.index_mut.result.now in
-    let C : List Batch = set B c.in-Some.member.batch (record { side = left.side; start = left.start; close = Some c.args.at; admitted = left.admitted }) in
-    subst (λ (ms : List Member). IsHeld J ms C) (sym c.take_out.ensures.items) (last_held J R B t c.self.invariant c.in-Some.member found none c.args.at c.index_mut.result.now c.index_mut.ensures.value)
+    let C : List Batch = set B c.in-Some.member.batch (record { side = left.side; start = left.start; close = Some c.args.at; admitted = left.admitted; settled = left.settled }) in
+    let has = (found_Has (λ (m : Member). eqb m.txn.0 c.args.t.0) c.in-Some.member R found).0 in
+    let within : c.in-Some.member.batch < length B = All-Has (λ (m : Member). m.batch < length B) c.in-Some.member R c.self.invariant.held.running_within has in
+    let there : left ≡ get_or B c.in-Some.member.batch no_batch = c.index_mut.ensures.value ∙ get_or_default B c.in-Some.member.batch left no_batch within in
+    record {
+      held = subst (λ (ms : List Member). IsHeld J ms C) (sym c.take_out.ensures.items) (last_held J R B t c.self.invariant.held c.in-Some.member found none c.args.at c.index_mut.result.now c.index_mut.ensures.value);
+      settled = settled_closed J B c.in-Some.member.batch c.args.at left within there (c.self.invariant.held.unclosed c.in-Some.member has) c.self.invariant.settled;
+    }
 
 pub invariant_of-self-else-not-is_any_of : goal.invariant_of-self-else-not-is_any_of
 invariant_of-self-else-not-is_any_of c =
@@ -46,7 +54,10 @@ invariant_of-self-else-not-is_any_of c =
     let any = λ (ms : List Member). list_any (λ (m : Member). eqb m.batch c.in-Some.member.batch) ms in
     let asked : c.is_any_of.result ≡ any (without t R) = c.is_any_of.ensures ∙ ap any (c.deref-in-Some.ensures.value ∙ c.take_out.ensures.items) in
     let left : any (without t R) ≡ true = sym asked ∙ c.if-not-is_any_of.false in
-    subst (λ (ms : List Member). IsHeld J ms B) (sym c.take_out.ensures.items) (one_held J R B t c.self.invariant c.in-Some.member found left)
+    record {
+      held = subst (λ (ms : List Member). IsHeld J ms B) (sym c.take_out.ensures.items) (one_held J R B t c.self.invariant.held c.in-Some.member found left);
+      settled = c.self.invariant.settled;
+    }
 
 pub returns-then-not-is_any_of-clause-batches : goal.returns-then-not-is_any_of-clause-batches
 returns-then-not-is_any_of-clause-batches c =
@@ -59,10 +70,10 @@ returns-then-not-is_any_of-clause-batches c =
     let any = λ (ms : List Member). list_any (λ (m : Member). eqb m.batch c.in-Some.member.batch) ms in
     let asked : c.is_any_of.result ≡ any (without t R) = c.is_any_of.ensures ∙ ap any (c.deref-in-Some.ensures.value ∙ c.take_out.ensures.items) in
     let none : any (without t R) ≡ false = sym asked ∙ c.if-not-is_any_of.true in
-    let rows = last_rows J R B t c.self.invariant c.in-Some.member found none c.args.at c.index_mut.result.now c.index_mut.ensures.value ∙ ap (λ (b : Book). rows_finished b.running b.rows t c.args.at) c.self.view_is in
+    let rows = last_rows J R B t c.self.invariant.held c.in-Some.member found none c.args.at c.index_mut.result.now c.index_mut.ensures.value ∙ ap (λ (b : Book). rows_finished b.running b.rows t c.args.at) c.self.view_is in
     let left : Batch = c.index_mut.result.now in
-    let C : List Batch = set B c.in-Some.member.batch (record { side = left.side; start = left.start; close = Some c.args.at; admitted = left.admitted }) in
-    let running = ap (map (running_shown C)) c.take_out.ensures.items ∙ last_running J R B t c.self.invariant c.in-Some.member found none c.args.at c.index_mut.result.now c.index_mut.ensures.value ∙ ap (λ (b : Book). running_finished b.running t) c.self.view_is in
+    let C : List Batch = set B c.in-Some.member.batch (record { side = left.side; start = left.start; close = Some c.args.at; admitted = left.admitted; settled = left.settled }) in
+    let running = ap (map (running_shown C)) c.take_out.ensures.items ∙ last_running J R B t c.self.invariant.held c.in-Some.member found none c.args.at c.index_mut.result.now c.index_mut.ensures.value ∙ ap (λ (b : Book). running_finished b.running t) c.self.view_is in
     λ S P n e h m f q. batches_finished c.args.self.now _ S P n e t c.args.at h m f q rows running
 
 pub returns-else-not-is_any_of-clause-batches : goal.returns-else-not-is_any_of-clause-batches
@@ -76,7 +87,7 @@ returns-else-not-is_any_of-clause-batches c =
     let any = λ (ms : List Member). list_any (λ (m : Member). eqb m.batch c.in-Some.member.batch) ms in
     let asked : c.is_any_of.result ≡ any (without t R) = c.is_any_of.ensures ∙ ap any (c.deref-in-Some.ensures.value ∙ c.take_out.ensures.items) in
     let left : any (without t R) ≡ true = sym asked ∙ c.if-not-is_any_of.false in
-    let rows = one_rows J R B t c.self.invariant c.in-Some.member found c.args.at left ∙ ap (λ (b : Book). rows_finished b.running b.rows t c.args.at) c.self.view_is in
+    let rows = one_rows J R B t c.self.invariant.held c.in-Some.member found c.args.at left ∙ ap (λ (b : Book). rows_finished b.running b.rows t c.args.at) c.self.view_is in
     let running = ap (map (running_shown B)) c.take_out.ensures.items ∙ left_running B t R ∙ ap (λ (b : Book). running_finished b.running t) c.self.view_is in
     λ S P n e h m f q. batches_finished c.args.self.now _ S P n e t c.args.at h m f q rows running
 
@@ -88,6 +99,6 @@ returns-in_default-clause-batches c =
     let t = c.args.t.0 in
     let looked = λ (ms : List Member). find (λ (m : Member). eqb m.txn.0 c.args.t.0) ms in
     let none : looked R ≡ None = ap looked (sym c.deref.ensures.value) ∙ sym c.find_member.ensures ∙ c.in_default.is in
-    let rows = ap (λ (b : Book). b.rows) (sym c.self.view_is) ∙ absent_rows J R B t c.self.invariant c.args.at none ∙ ap (λ (b : Book). rows_finished b.running b.rows t c.args.at) c.self.view_is in
-    let running = ap (λ (b : Book). b.running) (sym c.self.view_is) ∙ absent_running J R B t c.self.invariant none ∙ ap (λ (b : Book). running_finished b.running t) c.self.view_is in
+    let rows = ap (λ (b : Book). b.rows) (sym c.self.view_is) ∙ absent_rows J R B t c.self.invariant.held c.args.at none ∙ ap (λ (b : Book). rows_finished b.running b.rows t c.args.at) c.self.view_is in
+    let running = ap (λ (b : Book). b.running) (sym c.self.view_is) ∙ absent_running J R B t c.self.invariant.held none ∙ ap (λ (b : Book). running_finished b.running t) c.self.view_is in
     λ S P n e h m f q. batches_finished c.args.self.now c.args.self.now S P n e t c.args.at h m f q rows running

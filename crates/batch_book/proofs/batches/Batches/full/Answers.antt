@@ -17,7 +17,7 @@ index-requires c =
     let R = c.self.inside.running.items in
     let on = λ (B : List Batch) (R : List Member). find (λ (m : Member). eqb (batch_at B m).side c.args.side) R in
     let found : on B R ≡ Some c.in-Some.first = (λ i. on (sym c.deref-2.ensures.value i) (sym c.deref.ensures.value i)) ∙ sym c.first_on.ensures ∙ c.in-Some.is in
-    let within : c.in-Some.first.batch < length B = All-Has (λ (m : Member). m.batch < length B) c.in-Some.first R c.self.invariant.running_within (found_Has (λ (m : Member). eqb (batch_at B m).side c.args.side) c.in-Some.first R found).0 in
+    let within : c.in-Some.first.batch < length B = All-Has (λ (m : Member). m.batch < length B) c.in-Some.first R c.self.invariant.held.running_within (found_Has (λ (m : Member). eqb (batch_at B m).side c.args.side) c.in-Some.first R found).0 in
     search (rules, within)
 
 pub returns-in-Some : goal.returns-in-Some
@@ -26,7 +26,7 @@ returns-in-Some c =
     let R = c.self.inside.running.items in
     let on = λ (B : List Batch) (R : List Member). find (λ (m : Member). eqb (batch_at B m).side c.args.side) R in
     let found : on B R ≡ Some c.in-Some.first = (λ i. on (sym c.deref-2.ensures.value i) (sym c.deref.ensures.value i)) ∙ sym c.first_on.ensures ∙ c.in-Some.is in
-    let within : c.in-Some.first.batch < length B = All-Has (λ (m : Member). m.batch < length B) c.in-Some.first R c.self.invariant.running_within (found_Has (λ (m : Member). eqb (batch_at B m).side c.args.side) c.in-Some.first R found).0 in
+    let within : c.in-Some.first.batch < length B = All-Has (λ (m : Member). m.batch < length B) c.in-Some.first R c.self.invariant.held.running_within (found_Has (λ (m : Member). eqb (batch_at B m).side c.args.side) c.in-Some.first R found).0 in
     let same : c.index.result.now.admitted ≡ (batch_at B c.in-Some.first).admitted = ap (λ (z : Batch). z.admitted) (c.index.ensures ∙ get_or_default B c.in-Some.first.batch c.index.result.now no_batch within) in
     let shown = ap (λ (b : Book). full_on b.size c.args.side b.running) (sym c.self.view_is) in
     let enough : c.self.inside.size ≤ (batch_at B c.in-Some.first).admitted = omega arith in
@@ -39,7 +39,7 @@ returns-in_default c =
     let R = c.self.inside.running.items in
     let on = λ (B : List Batch) (R : List Member). find (λ (m : Member). eqb (batch_at B m).side c.args.side) R in
     let found : on B R ≡ Some c.in-Some.first = (λ i. on (sym c.deref-2.ensures.value i) (sym c.deref.ensures.value i)) ∙ sym c.first_on.ensures ∙ c.in-Some.is in
-    let within : c.in-Some.first.batch < length B = All-Has (λ (m : Member). m.batch < length B) c.in-Some.first R c.self.invariant.running_within (found_Has (λ (m : Member). eqb (batch_at B m).side c.args.side) c.in-Some.first R found).0 in
+    let within : c.in-Some.first.batch < length B = All-Has (λ (m : Member). m.batch < length B) c.in-Some.first R c.self.invariant.held.running_within (found_Has (λ (m : Member). eqb (batch_at B m).side c.args.side) c.in-Some.first R found).0 in
     let same : c.index.result.now.admitted ≡ (batch_at B c.in-Some.first).admitted = ap (λ (z : Batch). z.admitted) (c.index.ensures ∙ get_or_default B c.in-Some.first.batch c.index.result.now no_batch within) in
     let shown = ap (λ (b : Book). full_on b.size c.args.side b.running) (sym c.self.view_is) in
     let few : (batch_at B c.in-Some.first).admitted < c.self.inside.size = omega arith in
