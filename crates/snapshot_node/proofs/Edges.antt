@@ -87,7 +87,7 @@ pub stays : (H : List Event) (u : ℕ) → aborted H u ≡ false → length H �
 unfolding aborted
 stays H u h = ltb-false _ _ h
 
-prepared_runs : (H : List Event) (u : ℕ) → prepared H u ≡ true → unfinished H u ≡ true
+pub prepared_runs : (H : List Event) (u : ℕ) → prepared H u ≡ true → unfinished H u ≡ true
 unfolding prepared
 prepared_runs H u p = (and_parts (unfinished H u) (came H (ready_at H u)) p).0
 

@@ -11,3 +11,7 @@ pub mod Rooms
 pub mod ReadsPast
 pub mod Edges
 pub mod Searching
+pub mod Windows
+pub mod Reach
+pub mod Shared
+pub mod Worked

@@ -1,4 +1,4 @@
-//! The validation of a snapshot node: the search for a pivot, two edges into a batch and out of it.
+//! The search for a pivot, two edges into a batch and out of it, among the transactions later than one that is given.
 
 ghost use Rattle.std.specs.Prelude.{◌≡◌, ◌<◌, ◌&&◌, ◌||◌, IsTrue, IsFalse, ltb};
 ghost use Rattle.std.specs.List.{list_any};
@@ -11,7 +11,7 @@ ghost use Rattle.teb_laws.specs.Lawful.{Lawful};
 ghost use Rattle.phase_api.specs.Told.{setup_of, events_of};
 ghost use Rattle.phase_api.specs.Calls.{IsHere};
 ghost use Rattle.snapshot_node.specs.Standing.{SnapshotStand};
-ghost use Rattle.snapshot_node.specs.Pivots.{gets_put, is_at_stake, leads, edge_out, edge_through, edge_behind, pivot_over, pivot_from, pivot_of, least_pivot};
+ghost use Rattle.snapshot_node.specs.Pivots.{gets_put, is_at_stake, leads, edge_out, edge_through, edge_behind, pivot_over, pivot_from, pivot_of, least_pivot, window};
 
 use crate::snapshot::Snapshot;
 use phase_api::Facts;
@@ -34,7 +34,7 @@ fn reads_what_puts(history: &History, a: Txn, b: Txn) -> bool
 }
 
 /// Whether u is at stake where t validates: it is t itself, or prepared or committed.
-fn is_at_stake(history: &History, t: Txn, u: Txn) -> bool
+pub(crate) fn is_at_stake(history: &History, t: Txn, u: Txn) -> bool
     ensures { result ≡ is_at_stake history.now.events t.0 u.0 }
 {
     u == t || history.is_prepared(u) || history.is_committed(u)
@@ -53,7 +53,7 @@ impl Snapshot {
     }
 
     // Whether two are of one batch.
-    fn are_one_batch(&self, facts: &Facts, b: Txn, c: Txn) -> bool
+    pub(crate) fn are_one_batch(&self, facts: &Facts, b: Txn, c: Txn) -> bool
         requires stands { SnapshotStand self.now.node.0 self.now.batches self.now.writers (setup_of facts.now) (events_of facts.now) }
         requires begun_b { IsTrue (begun (events_of facts.now) b.0) }
         requires begun_c { IsTrue (begun (events_of facts.now) c.0) }
@@ -72,7 +72,7 @@ impl Snapshot {
     }
 
     // Whether a has an edge to b, who is not aborted.
-    fn has_edge(&self, facts: &Facts, a: Txn, b: Txn) -> bool
+    pub(crate) fn has_edge(&self, facts: &Facts, a: Txn, b: Txn) -> bool
         requires stands { SnapshotStand self.now.node.0 self.now.batches self.now.writers (setup_of facts.now) (events_of facts.now) }
         requires tree { IsSound (setup_of facts.now) }
         requires lawful { Lawful (setup_of facts.now) (events_of facts.now) }
@@ -107,15 +107,15 @@ impl Snapshot {
     }
 
     // The least one at stake to whom c has an edge.
-    fn edge_out(&self, facts: &Facts, t: Txn, c: Txn) -> Option<Txn>
+    fn edge_out(&self, facts: &Facts, t: Txn, past: u32, c: Txn) -> Option<Txn>
         requires stands { SnapshotStand self.now.node.0 self.now.batches self.now.writers (setup_of facts.now) (events_of facts.now) }
         requires tree { IsSound (setup_of facts.now) }
         requires lawful { Lawful (setup_of facts.now) (events_of facts.now) }
         requires unfinished { IsFalse (aborted (events_of facts.now) t.0) }
         requires begun_c { IsTrue (begun (events_of facts.now) c.0) }
-        ensures { result ≡ edge_out (setup_of facts.now) (events_of facts.now) self.now.node.0 t.0 c.0 }
+        ensures { result ≡ edge_out (setup_of facts.now) (events_of facts.now) self.now.node.0 t.0 (window (events_of facts.now) past) c.0 }
     {
-        for i in 0..facts.history.begun() {
+        for i in past..facts.history.begun() {
             let d = Txn(i + 1);
             if self.leads(facts, t, c, d) {
                 return Some(d);
@@ -125,14 +125,14 @@ impl Snapshot {
     }
 
     // The least edge out of b's batch that c has, where c is at stake and of that batch.
-    fn edge_through(&self, facts: &Facts, t: Txn, b: Txn, c: Txn) -> Option<(Txn, Txn)>
+    fn edge_through(&self, facts: &Facts, t: Txn, past: u32, b: Txn, c: Txn) -> Option<(Txn, Txn)>
         requires stands { SnapshotStand self.now.node.0 self.now.batches self.now.writers (setup_of facts.now) (events_of facts.now) }
         requires tree { IsSound (setup_of facts.now) }
         requires lawful { Lawful (setup_of facts.now) (events_of facts.now) }
         requires unfinished { IsFalse (aborted (events_of facts.now) t.0) }
         requires begun_b { IsTrue (begun (events_of facts.now) b.0) }
         requires begun_c { IsTrue (begun (events_of facts.now) c.0) }
-        ensures { result ≡ edge_through (setup_of facts.now) (events_of facts.now) self.now.node.0 t.0 b.0 c.0 }
+        ensures { result ≡ edge_through (setup_of facts.now) (events_of facts.now) self.now.node.0 t.0 (window (events_of facts.now) past) b.0 c.0 }
     {
         if !is_at_stake(facts.history, t, c) {
             return None;
@@ -140,21 +140,21 @@ impl Snapshot {
         if !self.are_one_batch(facts, b, c) {
             return None;
         }
-        let d = self.edge_out(facts, t, c)?;
+        let d = self.edge_out(facts, t, past, c)?;
         Some((c, d))
     }
 
     // The least edge out of b's batch.
-    fn edge_behind(&self, facts: &Facts, t: Txn, b: Txn) -> Option<(Txn, Txn)>
+    pub(crate) fn edge_behind(&self, facts: &Facts, t: Txn, past: u32, b: Txn) -> Option<(Txn, Txn)>
         requires stands { SnapshotStand self.now.node.0 self.now.batches self.now.writers (setup_of facts.now) (events_of facts.now) }
         requires tree { IsSound (setup_of facts.now) }
         requires lawful { Lawful (setup_of facts.now) (events_of facts.now) }
         requires unfinished { IsFalse (aborted (events_of facts.now) t.0) }
         requires begun_b { IsTrue (begun (events_of facts.now) b.0) }
-        ensures { result ≡ edge_behind (setup_of facts.now) (events_of facts.now) self.now.node.0 t.0 b.0 }
+        ensures { result ≡ edge_behind (setup_of facts.now) (events_of facts.now) self.now.node.0 t.0 (window (events_of facts.now) past) b.0 }
     {
-        for i in 0..facts.history.begun() {
-            if let Some(edge) = self.edge_through(facts, t, b, Txn(i + 1)) {
+        for i in past..facts.history.begun() {
+            if let Some(edge) = self.edge_through(facts, t, past, b, Txn(i + 1)) {
                 return Some(edge);
             }
         }
@@ -162,33 +162,33 @@ impl Snapshot {
     }
 
     // The least pivot by the edge from a to b, where that is one at stake.
-    fn pivot_over(&self, facts: &Facts, t: Txn, a: Txn, b: Txn) -> Option<Broken>
+    fn pivot_over(&self, facts: &Facts, t: Txn, past: u32, a: Txn, b: Txn) -> Option<Broken>
         requires stands { SnapshotStand self.now.node.0 self.now.batches self.now.writers (setup_of facts.now) (events_of facts.now) }
         requires tree { IsSound (setup_of facts.now) }
         requires lawful { Lawful (setup_of facts.now) (events_of facts.now) }
         requires unfinished { IsFalse (aborted (events_of facts.now) t.0) }
         requires begun_a { IsTrue (begun (events_of facts.now) a.0) }
         requires begun_b { IsTrue (begun (events_of facts.now) b.0) }
-        ensures { result ≡ pivot_over (setup_of facts.now) (events_of facts.now) self.now.node.0 t.0 a.0 b.0 }
+        ensures { result ≡ pivot_over (setup_of facts.now) (events_of facts.now) self.now.node.0 t.0 (window (events_of facts.now) past) a.0 b.0 }
     {
         if !self.leads(facts, t, a, b) {
             return None;
         }
-        let (c, d) = self.edge_behind(facts, t, b)?;
+        let (c, d) = self.edge_behind(facts, t, past, b)?;
         Some(Broken::Pivot { a, b, c, d })
     }
 
     // The least pivot by an edge from a.
-    fn pivot_from(&self, facts: &Facts, t: Txn, a: Txn) -> Option<Broken>
+    fn pivot_from(&self, facts: &Facts, t: Txn, past: u32, a: Txn) -> Option<Broken>
         requires stands { SnapshotStand self.now.node.0 self.now.batches self.now.writers (setup_of facts.now) (events_of facts.now) }
         requires tree { IsSound (setup_of facts.now) }
         requires lawful { Lawful (setup_of facts.now) (events_of facts.now) }
         requires unfinished { IsFalse (aborted (events_of facts.now) t.0) }
         requires begun_a { IsTrue (begun (events_of facts.now) a.0) }
-        ensures { result ≡ pivot_from (setup_of facts.now) (events_of facts.now) self.now.node.0 t.0 a.0 }
+        ensures { result ≡ pivot_from (setup_of facts.now) (events_of facts.now) self.now.node.0 t.0 (window (events_of facts.now) past) a.0 }
     {
-        for i in 0..facts.history.begun() {
-            if let Some(pivot) = self.pivot_over(facts, t, a, Txn(i + 1)) {
+        for i in past..facts.history.begun() {
+            if let Some(pivot) = self.pivot_over(facts, t, past, a, Txn(i + 1)) {
                 return Some(pivot);
             }
         }
@@ -196,30 +196,30 @@ impl Snapshot {
     }
 
     // The same where a is at stake.
-    fn pivot_of(&self, facts: &Facts, t: Txn, a: Txn) -> Option<Broken>
+    fn pivot_of(&self, facts: &Facts, t: Txn, past: u32, a: Txn) -> Option<Broken>
         requires stands { SnapshotStand self.now.node.0 self.now.batches self.now.writers (setup_of facts.now) (events_of facts.now) }
         requires tree { IsSound (setup_of facts.now) }
         requires lawful { Lawful (setup_of facts.now) (events_of facts.now) }
         requires unfinished { IsFalse (aborted (events_of facts.now) t.0) }
         requires begun_a { IsTrue (begun (events_of facts.now) a.0) }
-        ensures { result ≡ pivot_of (setup_of facts.now) (events_of facts.now) self.now.node.0 t.0 a.0 }
+        ensures { result ≡ pivot_of (setup_of facts.now) (events_of facts.now) self.now.node.0 t.0 (window (events_of facts.now) past) a.0 }
     {
         if !is_at_stake(facts.history, t, a) {
             return None;
         }
-        self.pivot_from(facts, t, a)
+        self.pivot_from(facts, t, past, a)
     }
 
-    /// The least pivot among those at stake where t validates.
-    pub(crate) fn least_pivot(&self, facts: &Facts, t: Txn) -> Option<Broken>
+    /// The least pivot among those later than `past` that are at stake where t validates.
+    pub(crate) fn pivot_after(&self, facts: &Facts, t: Txn, past: u32) -> Option<Broken>
         requires stands { SnapshotStand self.now.node.0 self.now.batches self.now.writers (setup_of facts.now) (events_of facts.now) }
         requires tree { IsSound (setup_of facts.now) }
         requires lawful { Lawful (setup_of facts.now) (events_of facts.now) }
         requires unfinished { IsFalse (aborted (events_of facts.now) t.0) }
-        ensures { result ≡ least_pivot (setup_of facts.now) (events_of facts.now) self.now.node.0 t.0 }
+        ensures { result ≡ least_pivot (setup_of facts.now) (events_of facts.now) self.now.node.0 t.0 (window (events_of facts.now) past) }
     {
-        for i in 0..facts.history.begun() {
-            if let Some(pivot) = self.pivot_of(facts, t, Txn(i + 1)) {
+        for i in past..facts.history.begun() {
+            if let Some(pivot) = self.pivot_of(facts, t, past, Txn(i + 1)) {
                 return Some(pivot);
             }
         }

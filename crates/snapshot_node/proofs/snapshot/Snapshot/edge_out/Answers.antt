@@ -6,20 +6,20 @@ use Rattle.snapshot_node.proofs.Searching.{none_yet, none_next, all_none, all_so
 use Rattle.snapshot_node.proofs.snapshot.Snapshot.edge_out.Goals as goal
 
 pub loop-i-init : goal.loop-i-init
-loop-i-init c = sym (none_yet (λ d. cond (leads (setup_of c.args.facts.now) (events_of c.args.facts.now) c.args.self.now.node.0 c.args.t.0 c.args.c.0 d) (Some (as_txn d)) None))
+loop-i-init c = sym (none_yet (λ d. cond (leads (setup_of c.args.facts.now) (events_of c.args.facts.now) c.args.self.now.node.0 c.args.t.0 c.args.c.0 d) (Some (as_txn d)) None) c.args.past)
 
 pub leads-requires-clause-begun_b : goal.leads-requires-clause-begun_b
 leads-requires-clause-begun_b c = begun_next (events_of c.args.facts.now) c.loop-i.i c.begun-i-end.result c.requires.stands.batches.numbered c.begun-i-end.ensures c.loop-i-test.true
 
 pub returns : goal.returns
 unfolding edge_out
-returns c = all_none (λ d. cond (leads (setup_of c.args.facts.now) (events_of c.args.facts.now) c.args.self.now.node.0 c.args.t.0 c.args.c.0 d) (Some (as_txn d)) None) (events_of c.args.facts.now) c.loop-i.i (let k = c.begun-i-end.ensures in let z = c.loop-i-test.false in omega arith) c.loop-i.invariant
+returns c = all_none (λ d. cond (leads (setup_of c.args.facts.now) (events_of c.args.facts.now) c.args.self.now.node.0 c.args.t.0 c.args.c.0 d) (Some (as_txn d)) None) c.args.past (events_of c.args.facts.now) c.loop-i.i (let k = c.begun-i-end.ensures in let z = c.loop-i-test.false in omega arith) c.loop-i.invariant
 
 pub returns-then-leads : goal.returns-then-leads
 unfolding edge_out
-returns-then-leads c = all_some (λ d. cond (leads (setup_of c.args.facts.now) (events_of c.args.facts.now) c.args.self.now.node.0 c.args.t.0 c.args.c.0 d) (Some (as_txn d)) None) (events_of c.args.facts.now) (as_txn (c.loop-i.i + 1)) c.loop-i.i c.begun-i-end.result c.begun-i-end.ensures c.loop-i.invariant
+returns-then-leads c = all_some (λ d. cond (leads (setup_of c.args.facts.now) (events_of c.args.facts.now) c.args.self.now.node.0 c.args.t.0 c.args.c.0 d) (Some (as_txn d)) None) c.args.past (events_of c.args.facts.now) (as_txn (c.loop-i.i + 1)) c.loop-i.i c.begun-i-end.result c.begun-i-end.ensures (omega arith) c.loop-i.invariant
     (ap (λ (z : Bool). (let o : Option Txn = cond z (Some (as_txn (c.loop-i.i + 1))) None in o)) (sym c.leads.ensures ∙ c.if-leads.true)) c.loop-i-test.true
 
 pub loop-i-preserved : goal.loop-i-preserved
-loop-i-preserved c = none_next (λ d. cond (leads (setup_of c.args.facts.now) (events_of c.args.facts.now) c.args.self.now.node.0 c.args.t.0 c.args.c.0 d) (Some (as_txn d)) None) c.loop-i.i c.loop-i.invariant
+loop-i-preserved c = none_next (λ d. cond (leads (setup_of c.args.facts.now) (events_of c.args.facts.now) c.args.self.now.node.0 c.args.t.0 c.args.c.0 d) (Some (as_txn d)) None) c.args.past c.loop-i.i (omega arith) c.loop-i.invariant
     (ap (λ (z : Bool). (let o : Option Txn = cond z (Some (as_txn (c.loop-i.i + 1))) None in o)) (sym c.leads.ensures ∙ c.if-leads.false))

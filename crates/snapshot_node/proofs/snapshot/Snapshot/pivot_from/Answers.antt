@@ -1,22 +1,22 @@
 use Rattle.std.proofs.Common.{◌∙◌, sym, arith}
 use Rattle.phase_api.specs.Told.{setup_of, events_of}
-use Rattle.snapshot_node.specs.Pivots.{pivot_over, pivot_from}
+use Rattle.snapshot_node.specs.Pivots.{window, pivot_over, pivot_from}
 use Rattle.snapshot_node.proofs.Searching.{none_yet, none_next, all_none, all_some, begun_next}
 use Rattle.snapshot_node.proofs.snapshot.Snapshot.pivot_from.Goals as goal
 
 pub loop-i-init : goal.loop-i-init
-loop-i-init c = sym (none_yet (pivot_over (setup_of c.args.facts.now) (events_of c.args.facts.now) c.args.self.now.node.0 c.args.t.0 c.args.a.0))
+loop-i-init c = sym (none_yet (pivot_over (setup_of c.args.facts.now) (events_of c.args.facts.now) c.args.self.now.node.0 c.args.t.0 (window (events_of c.args.facts.now) c.args.past) c.args.a.0) c.args.past)
 
 pub pivot_over-requires-clause-begun_b : goal.pivot_over-requires-clause-begun_b
 pivot_over-requires-clause-begun_b c = begun_next (events_of c.args.facts.now) c.loop-i.i c.begun-i-end.result c.requires.stands.batches.numbered c.begun-i-end.ensures c.loop-i-test.true
 
 pub returns : goal.returns
 unfolding pivot_from
-returns c = all_none (pivot_over (setup_of c.args.facts.now) (events_of c.args.facts.now) c.args.self.now.node.0 c.args.t.0 c.args.a.0) (events_of c.args.facts.now) c.loop-i.i (let k = c.begun-i-end.ensures in let z = c.loop-i-test.false in omega arith) c.loop-i.invariant
+returns c = all_none (pivot_over (setup_of c.args.facts.now) (events_of c.args.facts.now) c.args.self.now.node.0 c.args.t.0 (window (events_of c.args.facts.now) c.args.past) c.args.a.0) c.args.past (events_of c.args.facts.now) c.loop-i.i (let k = c.begun-i-end.ensures in let z = c.loop-i-test.false in omega arith) c.loop-i.invariant
 
 pub returns-in-Some : goal.returns-in-Some
 unfolding pivot_from
-returns-in-Some c = all_some (pivot_over (setup_of c.args.facts.now) (events_of c.args.facts.now) c.args.self.now.node.0 c.args.t.0 c.args.a.0) (events_of c.args.facts.now) c.in-Some.pivot c.loop-i.i c.begun-i-end.result c.begun-i-end.ensures c.loop-i.invariant (sym c.pivot_over.ensures ∙ c.in-Some.is) c.loop-i-test.true
+returns-in-Some c = all_some (pivot_over (setup_of c.args.facts.now) (events_of c.args.facts.now) c.args.self.now.node.0 c.args.t.0 (window (events_of c.args.facts.now) c.args.past) c.args.a.0) c.args.past (events_of c.args.facts.now) c.in-Some.pivot c.loop-i.i c.begun-i-end.result c.begun-i-end.ensures (omega arith) c.loop-i.invariant (sym c.pivot_over.ensures ∙ c.in-Some.is) c.loop-i-test.true
 
 pub loop-i-preserved : goal.loop-i-preserved
-loop-i-preserved c = none_next (pivot_over (setup_of c.args.facts.now) (events_of c.args.facts.now) c.args.self.now.node.0 c.args.t.0 c.args.a.0) c.loop-i.i c.loop-i.invariant (sym c.pivot_over.ensures ∙ c.in_default.is)
+loop-i-preserved c = none_next (pivot_over (setup_of c.args.facts.now) (events_of c.args.facts.now) c.args.self.now.node.0 c.args.t.0 (window (events_of c.args.facts.now) c.args.past) c.args.a.0) c.args.past c.loop-i.i (omega arith) c.loop-i.invariant (sym c.pivot_over.ensures ∙ c.in_default.is)

@@ -1,0 +1,22 @@
+use Rattle.std.proofs.Common.{◌∙◌, sym, arith}
+use Rattle.phase_api.specs.Told.{setup_of, events_of}
+use Rattle.snapshot_node.specs.Pivots.{window, pivot_of, least_pivot}
+use Rattle.snapshot_node.proofs.Searching.{none_yet, none_next, all_none, all_some, begun_next}
+use Rattle.snapshot_node.proofs.snapshot.Snapshot.pivot_after.Goals as goal
+
+pub loop-i-init : goal.loop-i-init
+loop-i-init c = sym (none_yet (pivot_of (setup_of c.args.facts.now) (events_of c.args.facts.now) c.args.self.now.node.0 c.args.t.0 (window (events_of c.args.facts.now) c.args.past)) c.args.past)
+
+pub pivot_of-requires-clause-begun_a : goal.pivot_of-requires-clause-begun_a
+pivot_of-requires-clause-begun_a c = begun_next (events_of c.args.facts.now) c.loop-i.i c.begun-i-end.result c.requires.stands.batches.numbered c.begun-i-end.ensures c.loop-i-test.true
+
+pub returns : goal.returns
+unfolding least_pivot
+returns c = all_none (pivot_of (setup_of c.args.facts.now) (events_of c.args.facts.now) c.args.self.now.node.0 c.args.t.0 (window (events_of c.args.facts.now) c.args.past)) c.args.past (events_of c.args.facts.now) c.loop-i.i (let k = c.begun-i-end.ensures in let z = c.loop-i-test.false in omega arith) c.loop-i.invariant
+
+pub returns-in-Some : goal.returns-in-Some
+unfolding least_pivot
+returns-in-Some c = all_some (pivot_of (setup_of c.args.facts.now) (events_of c.args.facts.now) c.args.self.now.node.0 c.args.t.0 (window (events_of c.args.facts.now) c.args.past)) c.args.past (events_of c.args.facts.now) c.in-Some.pivot c.loop-i.i c.begun-i-end.result c.begun-i-end.ensures (omega arith) c.loop-i.invariant (sym c.pivot_of.ensures ∙ c.in-Some.is) c.loop-i-test.true
+
+pub loop-i-preserved : goal.loop-i-preserved
+loop-i-preserved c = none_next (pivot_of (setup_of c.args.facts.now) (events_of c.args.facts.now) c.args.self.now.node.0 c.args.t.0 (window (events_of c.args.facts.now) c.args.past)) c.args.past c.loop-i.i (omega arith) c.loop-i.invariant (sym c.pivot_of.ensures ∙ c.in_default.is)
