@@ -1,6 +1,7 @@
 -- The least-numbered transaction that a write comes too late for is found among the reads.
-use Rattle.std.proofs.Common.{◌≡◌, ℕ, zero, suc, ◌<◌, ◌≤◌, Bool, true, false, cond, not, ◌&&◌, ◌||◌, eqb, ltb, min, List, [], ◌∷◌, ◌++◌, length, take, filter, find, Option, Some, None, refl, sym, ◌∙◌, ap, inl, inr, arith, ltb-true, eq-eqb}
+use Rattle.std.proofs.Common.{◌≡◌, ℕ, ◌<◌, ◌≤◌, Bool, true, false, cond, not, ◌&&◌, ◌||◌, eqb, ltb, min, List, [], ◌∷◌, ◌++◌, filter, find, Option, Some, None, refl, sym, ◌∙◌, ap, inl, inr, arith, ltb-true, eq-eqb}
 use Rattle.std.specs.List.{list_any}
+use Rattle.std.proofs.lemmas.List.{append-nil, append_assoc}
 use Rattle.std.proofs.lemmas.Bool.{cases_Bool, eqb-true, ltb-false, false_from_ne_true}
 use Rattle.teb_names.specs.declared.Txn.{Txn}
 use Rattle.teb_names.specs.declared.Cell.{Cell}
@@ -17,6 +18,7 @@ use Rattle.teb_rules.specs.Controls.{has_read_before, is_late}
 use Rattle.teb_laws.proofs.Nodes.{meets_parts}
 use Rattle.timestamp_node.specs.Reads.{all_reads, reads}
 use Rattle.timestamp_node.specs.Late.{is_after, lesser_txn}
+use Rattle.timestamp_node.proofs.Readers.{AllOf}
 use Rattle.timestamp_node.proofs.LeastNumbers.{find_alike, nobody, lesser, find_either, numbers_find}
 
 -- u made one of the reads that pass
@@ -115,25 +117,27 @@ module _ (S : Setup) (H : List Event) (n t : ℕ) (x : Cell) where
             ∙ ap (λ (b : Bool). meets S H n t u && not (aborted H u) && ltb (start S H n t) (start S H n u) && (b && old r)) (sym e)
       ]
 
-  pub late_found : find (read_by (is_after S H n t x) (reads S H n x)) (numbers (begun_count H)) ≡ find (is_late S H n t x) (txns H)
+  late_found : find (read_by (is_after S H n t x) (reads S H n x)) (numbers (begun_count H)) ≡ find (is_late S H n t x) (txns H)
   unfolding txns
   late_found = find_alike _ _ late_read (numbers (begun_count H))
 
--- the least reader, as far as a walk has come
+-- the least reader, as far as a walk back from the newest read has come
 module _ (p : Txn × Txn → Bool) (count : ℕ) where
-  pub least_none : None ≡ txn_of (find (read_by p []) (numbers count))
-  least_none = ap txn_of (sym (nobody (numbers count)))
+  pub least : List (Txn × Txn) → Option Txn
+  least rs = txn_of (find (read_by p rs) (numbers count))
 
-  more : (rs : List (Txn × Txn)) (r : Txn × Txn) (u : ℕ) → read_by p (rs ++ r ∷ []) u ≡ (read_by p rs u || (eqb r.0.0 u && p r))
-  more rs r u = any_push (λ r. eqb r.0.0 u && p r) rs r
-
-  pub least_skip : (rs : List (Txn × Txn)) (r : Txn × Txn) → p r ≡ false → find (read_by p rs) (numbers count) ≡ find (read_by p (rs ++ r ∷ [])) (numbers count)
-  least_skip rs r h = find_alike _ _ (λ u. same (read_by p rs u) (eqb r.0.0 u) ∙ ap (λ (b : Bool). read_by p rs u || (eqb r.0.0 u && b)) (sym h) ∙ sym (more rs r u)) (numbers count)
+  -- reads that do not pass change nothing
+  skipped : (rs seen : List (Txn × Txn)) → AllOf (λ r. p r ≡ false) rs → (u : ℕ) → read_by p (rs ++ seen) u ≡ read_by p seen u
+  skipped [] seen h u = refl
+  skipped (r ∷ rs) seen h u = ap (λ (b : Bool). eqb r.0.0 u && b || read_by p (rs ++ seen) u) h.0 ∙ ap (λ (b : Bool). b || read_by p (rs ++ seen) u) (none (eqb r.0.0 u)) ∙ skipped rs seen h.1 u
     where
-      same : (a b : Bool) → a ≡ (a || (b && false))
-      same true b = refl
-      same false true = refl
-      same false false = refl
+      none : (b : Bool) → (b && false) ≡ false
+      none true = refl
+      none false = refl
+
+  least_skip : (rs seen : List (Txn × Txn)) → AllOf (λ r. p r ≡ false) rs → least (rs ++ seen) ≡ least seen
+  unfolding least
+  least_skip rs seen h = ap txn_of (find_alike _ _ (skipped rs seen h) (numbers count))
 
   alone : (r : Txn × Txn) → p r ≡ true → 0 < r.0.0 → r.0.0 ≤ count → find (λ u. eqb r.0.0 u && p r) (numbers count) ≡ Some r.0.0
   alone r h pos le = numbers_find (λ u. eqb r.0.0 u && p r) count r.0.0 pos le (λ j. eq-eqb r.0.0 r.0.0 refl j && h j)
@@ -147,16 +151,44 @@ module _ (p : Txn × Txn → Bool) (count : ℕ) where
       go true h = let l = ltb-true a t.0 h in let e : a ≡ min a t.0 = omega arith in ap (λ (k : ℕ). txn_of (Some k)) e
       go false h = let l = ltb-false a t.0 h in let e : t.0 ≡ min a t.0 = omega arith in ap (λ (k : ℕ). txn_of (Some k)) e
 
-  pub least_more : (rs : List (Txn × Txn)) (r : Txn × Txn) → p r ≡ true → 0 < r.0.0 → r.0.0 ≤ count
-      → Some (lesser_txn (txn_of (find (read_by p rs) (numbers count))) r.0) ≡ txn_of (find (read_by p (rs ++ r ∷ [])) (numbers count))
-  least_more rs r h pos le =
-      lesser_of (find (read_by p rs) (numbers count)) r.0
-      ∙ ap (λ (o : Option ℕ). txn_of (lesser (find (read_by p rs) (numbers count)) o)) (sym (alone r h pos le))
-      ∙ ap txn_of (sym (find_alike _ _ (more rs r) (numbers count) ∙ find_either (read_by p rs) (λ u. eqb r.0.0 u && p r) count))
+  least_more : (r : Txn × Txn) (seen : List (Txn × Txn)) → p r ≡ true → 0 < r.0.0 → r.0.0 ≤ count → Some (lesser_txn (least seen) r.0) ≡ least (r ∷ seen)
+  unfolding least
+  least_more r seen h pos le =
+      lesser_of (find (read_by p seen) (numbers count)) r.0
+      ∙ ap (λ (o : Option ℕ). txn_of (lesser (find (read_by p seen) (numbers count)) o)) (sym (alone r h pos le))
+      ∙ ap txn_of (sym (find_alike _ _ (λ u. swap (eqb r.0.0 u && p r) (read_by p seen u)) (numbers count) ∙ find_either (read_by p seen) (λ u. eqb r.0.0 u && p r) count))
+    where
+      swap : (a b : Bool) → (a || b) ≡ (b || a)
+      swap true true = refl
+      swap true false = refl
+      swap false true = refl
+      swap false false = refl
 
--- a walk that has come to the end
-pub take_end : {A : Type 0} (xs : List A) (i : ℕ) → length xs ≤ i → take i xs ≡ xs
-take_end [] zero l = refl
-take_end [] (suc i) l = refl
-take_end (x ∷ xs) zero l = absurd (omega arith)
-take_end {A} (x ∷ xs) (suc i) l = ap (λ (ys : List A). x ∷ ys) (take_end xs i (omega arith))
+  -- of all reads those up to `rest` are still to be looked at, and `found` is the least reader behind them
+  pub record IsWalked (all rest : List (Txn × Txn)) (found : Option Txn) : Type 0 where
+    pub seen : List (Txn × Txn)
+    pub split : all ≡ rest ++ seen
+    pub least : found ≡ least seen
+
+  module _ (all : List (Txn × Txn)) where
+    pub walk_none : IsWalked all all None
+    unfolding least
+    walk_none = record { seen = []; split = sym (append-nil all); least = ap txn_of (sym (nobody (numbers count))) }
+
+    module _ (rest : List (Txn × Txn)) (r : Txn × Txn) (found : Option Txn) (w : IsWalked all (rest ++ r ∷ []) found) where
+      pub walk_split : all ≡ rest ++ r ∷ w.seen
+      walk_split = w.split ∙ append_assoc rest (r ∷ []) w.seen
+
+      pub walk_skip : p r ≡ false → IsWalked all rest found
+      walk_skip h = record { seen = r ∷ w.seen; split = walk_split; least = w.least ∙ sym (least_skip (r ∷ []) w.seen (h, tt)) }
+
+      pub walk_more : p r ≡ true → 0 < r.0.0 → r.0.0 ≤ count → IsWalked all rest (Some (lesser_txn found r.0))
+      walk_more h pos le = record { seen = r ∷ w.seen; split = walk_split; least = ap (λ (o : Option Txn). Some (lesser_txn o r.0)) w.least ∙ least_more r w.seen h pos le }
+
+    -- where none of those that are left passes the walk may stop
+    pub walk_stop : (rest : List (Txn × Txn)) (found : Option Txn) → IsWalked all rest found → AllOf (λ r. p r ≡ false) rest → found ≡ least all
+    walk_stop rest found w h = w.least ∙ sym (least_skip rest w.seen h) ∙ ap least (sym w.split)
+
+pub least_late : (S : Setup) (H : List Event) (n t : ℕ) (x : Cell) → least (is_after S H n t x) (begun_count H) (reads S H n x) ≡ txn_of (find (is_late S H n t x) (txns H))
+unfolding least
+least_late S H n t x = ap txn_of (late_found S H n t x)

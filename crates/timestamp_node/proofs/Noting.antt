@@ -23,8 +23,9 @@ use Rattle.batch_book.specs.Histories.{BatchesOf, IsNumbered, MayCome, Joins, Fi
 use Rattle.batch_book.proofs.Numbered.{begins_once, begun_step, aborted_step, on_kept, unfinished_parts, spot_began}
 use Rattle.batch_book.proofs.Telling.{batches_passed}
 use Rattle.key_piles.specs.Piles.{pile, pile_in, IsPiled, HasRoom}
-use Rattle.timestamp_node.specs.Reads.{all_reads, reads}
+use Rattle.timestamp_node.specs.Reads.{all_reads, reads, IsTimely}
 use Rattle.timestamp_node.specs.Standing.{ReadPiles, ReadsOf, StampsStand, room_of}
+use Rattle.timestamp_node.proofs.OlderReads.{timely_next}
 use Rattle.timestamp_node.proofs.Readers.{all_map, filter_agree, filter_alike, filter_all, all_got, IsRead, reads_are, from_got}
 
 may_come : (S : Setup) (P : List Event) (n : ℕ) (e : Event) → MayNote S P n e → MayCome P e
@@ -174,6 +175,7 @@ module _ (S : Setup) (H : List Event) (n : ℕ) (e : Event) (is : H ≡ e ∷ dr
       ordered = was.ordered;
       size = z ∙ was.size;
       orderly = orderly_now was.orderly;
+      timely = subst IsTimely (sym is) (timely_next S (drop 1 H) n e may was.timely);
       batches = subst (λ (G : List Event). BatchesOf b' S G n) (sym is) bs;
       reads = subst (λ (G : List Event). ReadsOf p' S G n) (sym is) rs;
     }
@@ -273,6 +275,11 @@ module _ (S : Setup) (H : List Event) (n : ℕ) (e : Event) (is : H ≡ e ∷ dr
     pub told : (t : Txn) → e ≡ Told t → StampsStand n o b p S H
     unfolding all_reads
     told t q = idle (Told t) q tt (λ x. refl) (λ u. refl)
+
+-- no reads are timely
+pub no_timely : IsTimely []
+unfolding IsTimely
+no_timely = tt
 
 -- the reads of no events
 pub no_reads : (p : ReadPiles) (S : Setup) (n : ℕ) → p.keys.items ≡ [] → IsPiled cell_cmp p → ReadsOf p S [] n

@@ -1,5 +1,5 @@
 -- The reads of a history at a node.
-use Rattle.std.proofs.Common.{◌≡◌, ℕ, zero, suc, ◌<◌, Bool, true, false, cond, List, [], ◌∷◌, ◌++◌, length, get_or, filter, refl, sym, ◌∙◌, subst, arith, eq-eqb, inl, inr}
+use Rattle.std.proofs.Common.{◌≡◌, ℕ, Bool, true, false, cond, List, [], ◌∷◌, ◌++◌, filter, refl, ◌∙◌, eq-eqb, inl, inr}
 use Rattle.std.specs.List.{list_any}
 use Rattle.std.proofs.lemmas.Bool.{and_parts, and_from, or_left, or_right, or_cases, not-true}
 use Rattle.teb_names.specs.declared.Txn.{Txn}
@@ -21,16 +21,11 @@ AllOf p [] = Unit {0}
 AllOf p (x ∷ xs) = p x × AllOf p xs
 
 module _ {A : Type 0} where
-  pub all_at : (p : A → Type 0) (xs : List A) (i : ℕ) (d : A) → AllOf p xs → i < length xs → p (get_or xs i d)
-  all_at p [] i d h l = absurd (omega arith)
-  all_at p (x ∷ xs) zero d h l = h.0
-  all_at p (x ∷ xs) (suc i) d h l = all_at p xs i d h.1 (omega arith)
-
   pub all_map : (p q : A → Type 0) → ((x : A) → p x → q x) → (xs : List A) → AllOf p xs → AllOf q xs
   all_map p q f [] h = tt
   all_map p q f (x ∷ xs) h = (f x h.0, all_map p q f xs h.1)
 
-  all_push : (p : A → Type 0) (xs : List A) (a : A) → AllOf p xs → p a → AllOf p (xs ++ a ∷ [])
+  pub all_push : (p : A → Type 0) (xs : List A) (a : A) → AllOf p xs → p a → AllOf p (xs ++ a ∷ [])
   all_push p [] a h k = (k, tt)
   all_push p (x ∷ xs) a h k = (h.0, all_push p xs a h.1 k)
 
@@ -79,9 +74,6 @@ pub record IsRead (S : Setup) (H : List Event) (n : ℕ) (x : Cell) (r : Txn × 
 pub reads_are : (S : Setup) (H : List Event) (n : ℕ) (x : Cell) → AllOf (IsRead S H n x) (reads S H n x)
 unfolding reads
 reads_are S H n x = all_map _ _ (λ r h. let p = and_parts _ _ h.0 in record { here = p.0; stands = not-true _ p.1; from = h.1 }) _ (all_filter _ _ (all_reads H x) (all_read H x))
-
-pub lent : (S : Setup) (H : List Event) (n : ℕ) (x : Cell) (rs : List (Txn × Txn)) → rs ≡ reads S H n x → AllOf (IsRead S H n x) rs
-lent S H n x rs e = subst (AllOf (IsRead S H n x)) (sym e) (reads_are S H n x)
 
 pub from_got : (H : List Event) (u w : ℕ) (x : Cell) → list_any (reads_from u x w) H ≡ true → got H u x ≡ true
 unfolding got got_at

@@ -1,11 +1,11 @@
 -- Who read what at a node, and from whom.
-use Rattle.std.specs.Prelude.{ℕ, cond, not, ◌&&◌, List, [], ◌∷◌, ◌++◌, filter}
+use Rattle.std.specs.Prelude.{ℕ, cond, not, ◌&&◌, List, [], ◌∷◌, ◌++◌, filter, IsTrue}
 use Rattle.teb_names.specs.declared.Txn.{Txn}
 use Rattle.teb_names.specs.declared.Cell.{Cell}
 use Rattle.teb_names.specs.Cells.{same_cell}
 use Rattle.teb_history.specs.declared.Event.{Event}
 use Rattle.teb_history.specs.declared.Event.TheVariants.{Got}
-use Rattle.teb_history.specs.Phases.{aborted}
+use Rattle.teb_history.specs.Phases.{aborted, unfinished}
 use Rattle.teb_rules.specs.Setup.{Setup}
 use Rattle.teb_rules.specs.Tree.{on}
 
@@ -18,3 +18,9 @@ all_reads (_ ∷ P) x = all_reads P x
 -- those of readers on whose path n stands and that are not aborted
 unfoldable pub reads : Setup → List Event → ℕ → Cell → List (Txn × Txn)
 reads S H n x = filter (λ r. on S H n r.0.0 && not (aborted H r.0.0)) (all_reads H x)
+
+-- each read came while its reader was unfinished
+unfoldable pub IsTimely : List Event → Type 0
+IsTimely [] = Unit {0}
+IsTimely (Got t x w v ∷ P) = IsTrue (unfinished P t.0) × IsTimely P
+IsTimely (_ ∷ P) = IsTimely P

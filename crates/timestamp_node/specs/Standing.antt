@@ -12,7 +12,7 @@ use Rattle.batch_book.specs.Book.{Book}
 use Rattle.batch_book.specs.Histories.{BatchesOf}
 use Rattle.key_piles.specs.declared.piles.Piles.{Piles}
 use Rattle.key_piles.specs.Piles.{pile_in, IsPiled}
-use Rattle.timestamp_node.specs.Reads.{reads}
+use Rattle.timestamp_node.specs.Reads.{reads, IsTimely}
 
 abbrev pub ReadPiles : Type 0
 ReadPiles = Piles Cell (Txn × Txn)
@@ -22,12 +22,13 @@ pub record ReadsOf (piles : ReadPiles) (S : Setup) (H : List Event) (n : ℕ) : 
   pub sorted : IsPiled cell_cmp piles
   pub reads : (x : Cell) → pile_in cell_cmp piles x ≡ reads S H n x
 
--- node n is a timestamp node, ordered or not; the history is orderly, and the batches and the reads are those at n
+-- node n is a timestamp node, ordered or not; the history is orderly, and its reads timely; the batches and the reads are those at n
 pub record StampsStand (n : ℕ) (is_ordered : Bool) (book : Book) (piles : ReadPiles) (S : Setup) (H : List Event) : Type 0 where
   pub kind : (row S.tree n).control ≡ Timestamp
   pub ordered : is_ordered ≡ (row S.tree n).ordered
   pub size : book.size ≡ (row S.tree n).batch
   pub orderly : IsOrderly S H
+  pub timely : IsTimely H
   pub batches : BatchesOf book S H n
   pub reads : ReadsOf piles S H n
 

@@ -6,7 +6,7 @@ ghost use Rattle.teb_names.specs.declared.ControlKind.TheVariants.{Timestamp as 
 ghost use Rattle.teb_history.specs.Phases.{txns, unfinished};
 ghost use Rattle.teb_history.specs.Written.{txn_of};
 ghost use Rattle.teb_rules.specs.Tree.{row, meets};
-ghost use Rattle.teb_rules.specs.Batches.{start};
+ghost use Rattle.teb_rules.specs.Batches.{start, close};
 ghost use Rattle.teb_rules.specs.Versions.{precedes};
 ghost use Rattle.teb_rules.specs.Controls.{is_late};
 ghost use Rattle.version_chain.specs.Lists.{writers_of};
@@ -76,7 +76,22 @@ impl Stamps {
         self.batches.start(t)
     }
 
-    // The least-numbered transaction for which t's write of a cell comes too late.
+    // Whether u's batch is closed before t's starts.
+    fn is_closed_before(&self, facts: &Facts, u: Txn, t: Txn) -> bool
+        requires stands { StampsStand self.now.node.0 self.now.ordered self.now.batches self.now.reads (setup_of facts.now) (events_of facts.now) }
+        requires first { IsHere facts.now self.now.node.0 u.0 }
+        requires second { IsHere facts.now self.now.node.0 t.0 }
+        ensures { result ≡ ltb (close (setup_of facts.now) (events_of facts.now) self.now.node.0 u.0) (start (setup_of facts.now) (events_of facts.now) self.now.node.0 t.0) }
+    {
+        let _ = facts;
+        match self.batches.close(u) {
+            Some(close) => close < self.batches.start(t),
+            None => false,
+        }
+    }
+
+    // The least-numbered transaction for which t's write of a cell comes too late. It goes back from the newest read, and stops at
+    // one whose reader's batch closed before t's starts: the batches of all who read before that one started before t's.
     fn reader_after<C: Chains>(
         &self,
         facts: &Facts,
@@ -93,7 +108,10 @@ impl Stamps {
         ensures { result ≡ txn_of (find (is_late (setup_of facts.now) (events_of facts.now) self.now.node.0 t.0 cell) (txns (events_of facts.now))) }
     {
         let mut least = None;
-        for read in self.reads(facts, cell) {
+        for read in self.reads(facts, cell).iter().rev() {
+            if self.is_closed_before(facts, read.0, t) {
+                break;
+            }
             if self.is_after(facts, chains, at, t, cell, *read) {
                 least = Some(lesser(least, read.0));
             }
