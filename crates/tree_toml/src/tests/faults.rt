@@ -353,11 +353,30 @@ fn a_tree_of_a_bad_shape_is_refused_at_the_node(rt: HostRuntime) -> Result<(), F
             "[[node]]\nname = \"a\"\nparent = \"root\"\ncontrol = \"locks\"\ntypes = [\"any\"]\n",
             "node[0] shape mixed",
         ),
+        (
+            Head::Node,
+            "control = \"locks\"\n[[node]]\nname = \"a\"\nparent = \"b\"\ncontrol = \"locks\"\ntypes = [\"any\"]\n[[node]]\nname = \"b\"\nparent = \"root\"\ncontrol = \"locks\"\n",
+            "node[1] shape parent",
+        ),
     ];
     for (head, text, line) in cases {
         refuses(&rt, 1, 3, head, text, line)?;
     }
     Ok(())
+}
+
+#[test]
+fn a_ninth_node_on_a_path_is_refused(rt: HostRuntime) -> Result<(), Fail> {
+    let root = "[[node]]\nname = \"n0\"\ncontrol = \"locks\"\n";
+    let mut text = root.to_string(rt.alloc())?;
+    for i in 0..8 {
+        let child = i + 1;
+        let node = format!(in rt.alloc();
+            "[[node]]\nname = \"n{child}\"\nparent = \"n{i}\"\ncontrol = \"locks\"\n"
+        )?;
+        text.push_str(node.as_str())?;
+    }
+    refuses(&rt, 1, 3, Head::Types, text.as_str(), "node[8] shape depth")
 }
 
 #[test]
