@@ -1,8 +1,14 @@
+pub mod AnyOf
+pub mod Beside
 pub mod Commits
+pub mod EdgesOut
 pub mod LastCommitted
 pub mod Left
+pub mod OfEngines
+pub mod Placed
 pub mod Places
-pub mod Sourced
+pub mod Put
+pub mod Typed
 pub mod Values
 pub mod Walks
 pub mod Within

@@ -1,9 +1,7 @@
 -- Committed transactions with their keys.
 use Rattle.std.specs.Prelude.{◌≡◌, ℕ, map, flat_map, List, [], ◌∷◌}
 use Rattle.std.specs.List.{All}
-use Rattle.teb_names.specs.declared.Txn.{Txn}
 use Rattle.teb_history.specs.declared.Event.{Event}
-use Rattle.teb_history.specs.declared.Event.TheVariants.{Done}
 use Rattle.teb_rules.specs.Setup.{Setup}
 use Rattle.teb_rules.specs.Tree.{side}
 use Rattle.teb_rules.specs.Ranks.{rank, key}

@@ -1,144 +1,99 @@
 //! The edges of a snapshot node: from a reader to one who wrote past what it read.
+//!
+//! A read and a committed write of its cell make an edge where their batches are of different sides and concurrent: the version
+//! read is then before the one written. The batches with committed writes of one cell lie one behind the other, so it
+//! is enough to look at the latest of them that starts before the reader's batch closes.
 
-ghost use Rattle.std.specs.Prelude.{◌≡◌, ◌<◌, ◌⊎◌, length, ltb, IsTrue};
-ghost use Rattle.teb_history.specs.Phases.{begun};
+ghost use Rattle.std.specs.Prelude.{◌≡◌, ◌<◌, ℕ, List, length, IfOk};
+ghost use Rattle.teb_names.specs.declared.ControlKind.TheVariants.{Snapshot};
+ghost use Rattle.teb_history.specs.declared.Event.{Event};
+ghost use Rattle.teb_history.specs.Phases.{txns};
+ghost use Rattle.teb_rules.specs.Setup.{Setup};
 ghost use Rattle.teb_rules.specs.Accepted.{IsSound};
-ghost use Rattle.teb_rules.specs.Tree.{has_batches};
-ghost use Rattle.teb_rules.specs.Batches.{start, concurrent, one_batch};
-ghost use Rattle.teb_rules.specs.Controls.{edge, reads_past};
-ghost use Rattle.teb_rules.specs.Ranks.{has_edge_out};
-ghost use Rattle.teb_rules.specs.Versions.{precedes};
+ghost use Rattle.teb_rules.specs.Tree.{row};
 ghost use Rattle.teb_laws.specs.Lawful.{Lawful};
-ghost use Rattle.phase_api.specs.Told.{setup_of, events_of, IsTyped};
+ghost use Rattle.phase_api.specs.Told.{setup_of, events_of};
 ghost use Rattle.phase_api.specs.Calls.{IsHere};
 ghost use Rattle.serial_order.specs.Books.{AreBooks};
-ghost use Rattle.serial_order.specs.Edges.{has_edge, commits_past, leads_out};
+ghost use Rattle.serial_order.specs.Edges.{has_edge, is_overwritten, IsReader, leads_out, AreMarked, MarkEdges};
+ghost use Rattle.serial_order.specs.Writes.{AreSorted, AreWrites};
 
-use crate::books::{close_of, start_of};
+use crate::books::start_of;
+use crate::writes::{Span, Write, latest_before, span_of, writes};
 use batch_book::Batches;
 use phase_api::Facts;
+use std::alloc::{AllocError, Global};
 use teb_history::Event;
 use teb_names::{Cell, ControlKind, Node, Txn};
 
-/// Whether some committed member of a transaction's batch has an edge to a committed transaction.
-pub fn has_edge_out(facts: &Facts, books: &[Batches], n: Node, t: Txn) -> bool
+/// For each position, whether a committed member of the batch that starts there has an edge to a committed transaction. Only the
+/// root can be a snapshot node: with another root there are no marks. It costs a sort of the writes, and a binary search
+/// in them for each read.
+pub fn edges_out(alloc: Global, facts: &Facts, books: &[Batches]) -> Result<Vec<bool>, AllocError>
     requires sound { IsSound (setup_of facts.now) }
     requires lawful { Lawful (setup_of facts.now) (events_of facts.now) }
     requires books { AreBooks (setup_of facts.now) (events_of facts.now) books.now }
-    requires here { IsHere facts.now n.0 t.0 }
-    requires node { n.0 < length (setup_of facts.now).tree }
-    requires batches { IsTrue (has_batches (setup_of facts.now).tree n.0) }
-    ensures { result ≡ has_edge_out (setup_of facts.now) (events_of facts.now) n.0 t.0 }
+    ensures { IfOk result (λ v. MarkEdges (setup_of facts.now) (events_of facts.now) v.items) }
 {
+    match facts.tree.row(Node(0)).control {
+        ControlKind::Snapshot => edges_at(alloc, facts, books, Node(0)),
+        _ => Ok(Vec::new(alloc)),
+    }
+}
+
+// The marks of a snapshot node.
+fn edges_at(
+    alloc: Global,
+    facts: &Facts,
+    books: &[Batches],
+    n: Node,
+) -> Result<Vec<bool>, AllocError>
+    requires sound { IsSound (setup_of facts.now) }
+    requires lawful { Lawful (setup_of facts.now) (events_of facts.now) }
+    requires books { AreBooks (setup_of facts.now) (events_of facts.now) books.now }
+    requires node { n.0 < length (setup_of facts.now).tree }
+    requires snapshot { (row (setup_of facts.now).tree n.0).control ≡ Snapshot }
+    ensures { IfOk result (λ v. AreMarked (setup_of facts.now) (events_of facts.now) n.0 (txns (events_of facts.now)) v.items) }
+{
+    let writes = writes(alloc, facts, books, n)?;
+    let mut marks = vec![in alloc; false; facts.history.len()]?;
     for k in 0..facts.history.begun() {
-        if leads_out(facts, books, n, t, Txn(k + 1)) {
-            return true;
+        let a = Txn(k + 1);
+        if leads_out(facts, books, &writes, n, a) {
+            marks[start_of(facts, books, n, a)] = true;
         }
     }
-    false
+    Ok(marks)
 }
 
-// Whether a is a committed member of t's batch that has an edge to a committed transaction.
-fn leads_out(facts: &Facts, books: &[Batches], n: Node, t: Txn, a: Txn) -> bool
+// Whether a transaction is committed, with the node on its path, and has an edge to a committed one.
+fn leads_out(facts: &Facts, books: &[Batches], writes: &[Write], n: Node, a: Txn) -> bool
     requires sound { IsSound (setup_of facts.now) }
     requires lawful { Lawful (setup_of facts.now) (events_of facts.now) }
     requires books { AreBooks (setup_of facts.now) (events_of facts.now) books.now }
-    requires here { IsHere facts.now n.0 t.0 }
     requires node { n.0 < length (setup_of facts.now).tree }
-    requires batches { IsTrue (has_batches (setup_of facts.now).tree n.0) }
-    ensures { result ≡ leads_out (setup_of facts.now) (events_of facts.now) n.0 t.0 a.0 }
+    requires snapshot { (row (setup_of facts.now).tree n.0).control ≡ Snapshot }
+    requires writes { AreWrites (setup_of facts.now) (events_of facts.now) n.0 writes.now }
+    ensures { result ≡ leads_out (setup_of facts.now) (events_of facts.now) n.0 a.0 }
 {
-    facts.history.is_committed(a)
-        && is_one_batch(facts, books, n, t, a)
-        && has_edge(facts, books, n, a)
-}
-
-// Whether two transactions are of one batch.
-#[tactic(auto, unfolding(teb_rules::specs::Batches::one_batch))]
-fn is_one_batch(facts: &Facts, books: &[Batches], n: Node, t: Txn, u: Txn) -> bool
-    requires books { AreBooks (setup_of facts.now) (events_of facts.now) books.now }
-    requires here { IsHere facts.now n.0 t.0 }
-    requires other { IsTyped facts.now u.0 }
-    requires node { n.0 < length (setup_of facts.now).tree }
-    requires batches { IsTrue (has_batches (setup_of facts.now).tree n.0) }
-    ensures { result ≡ one_batch (setup_of facts.now) (events_of facts.now) n.0 t.0 u.0 }
-{
-    facts.is_on(n, u)
-        && facts.side(n, t) == facts.side(n, u)
-        && start_of(facts, books, n, t) == start_of(facts, books, n, u)
+    facts.history.is_committed(a) && facts.is_on(n, a) && has_edge(facts, books, writes, n, a)
 }
 
 // Whether a transaction has an edge to a committed one.
-fn has_edge(facts: &Facts, books: &[Batches], n: Node, a: Txn) -> bool
+fn has_edge(facts: &Facts, books: &[Batches], writes: &[Write], n: Node, a: Txn) -> bool
     requires sound { IsSound (setup_of facts.now) }
     requires lawful { Lawful (setup_of facts.now) (events_of facts.now) }
     requires books { AreBooks (setup_of facts.now) (events_of facts.now) books.now }
-    requires typed { IsTyped facts.now a.0 }
     requires node { n.0 < length (setup_of facts.now).tree }
-    requires batches { IsTrue (has_batches (setup_of facts.now).tree n.0) }
+    requires snapshot { (row (setup_of facts.now).tree n.0).control ≡ Snapshot }
+    requires writes { AreWrites (setup_of facts.now) (events_of facts.now) n.0 writes.now }
+    requires here { IsHere facts.now n.0 a.0 }
     ensures { result ≡ has_edge (setup_of facts.now) (events_of facts.now) n.0 a.0 }
 {
-    for k in 0..facts.history.begun() {
-        if commits_past(facts, books, n, a, Txn(k + 1)) {
-            return true;
-        }
-    }
-    false
-}
-
-// Whether b is committed, and there is an edge from a to it.
-fn commits_past(facts: &Facts, books: &[Batches], n: Node, a: Txn, b: Txn) -> bool
-    requires sound { IsSound (setup_of facts.now) }
-    requires lawful { Lawful (setup_of facts.now) (events_of facts.now) }
-    requires books { AreBooks (setup_of facts.now) (events_of facts.now) books.now }
-    requires typed { IsTyped facts.now a.0 }
-    requires node { n.0 < length (setup_of facts.now).tree }
-    requires batches { IsTrue (has_batches (setup_of facts.now).tree n.0) }
-    ensures { result ≡ commits_past (setup_of facts.now) (events_of facts.now) n.0 a.0 b.0 }
-{
-    facts.history.is_committed(b) && is_edge(facts, books, n, a, b)
-}
-
-// Whether there is an edge from a to b.
-#[tactic(auto, unfolding(teb_rules::specs::Controls::edge))]
-fn is_edge(facts: &Facts, books: &[Batches], n: Node, a: Txn, b: Txn) -> bool
-    requires sound { IsSound (setup_of facts.now) }
-    requires lawful { Lawful (setup_of facts.now) (events_of facts.now) }
-    requires books { AreBooks (setup_of facts.now) (events_of facts.now) books.now }
-    requires left { IsTyped facts.now a.0 }
-    requires right { IsTyped facts.now b.0 }
-    requires node { n.0 < length (setup_of facts.now).tree }
-    requires batches { IsTrue (has_batches (setup_of facts.now).tree n.0) }
-    ensures { result ≡ edge (setup_of facts.now) (events_of facts.now) n.0 a.0 b.0 }
-{
-    facts.meet_at(n, a, b) && is_concurrent(facts, books, n, a, b) && reads_past(facts, books, a, b)
-}
-
-// Whether the batches of two transactions overlap.
-#[tactic(auto, unfolding(teb_rules::specs::Batches::concurrent))]
-fn is_concurrent(facts: &Facts, books: &[Batches], n: Node, t: Txn, u: Txn) -> bool
-    requires books { AreBooks (setup_of facts.now) (events_of facts.now) books.now }
-    requires left { IsHere facts.now n.0 t.0 }
-    requires right { IsHere facts.now n.0 u.0 }
-    requires node { n.0 < length (setup_of facts.now).tree }
-    requires batches { IsTrue (has_batches (setup_of facts.now).tree n.0) }
-    ensures { result ≡ concurrent (setup_of facts.now) (events_of facts.now) n.0 t.0 u.0 }
-{
-    start_of(facts, books, n, t) < close_of(facts, books, n, u)
-        && start_of(facts, books, n, u) < close_of(facts, books, n, t)
-}
-
-// Whether b put some cell past the version that a read.
-fn reads_past(facts: &Facts, books: &[Batches], a: Txn, b: Txn) -> bool
-    requires sound { IsSound (setup_of facts.now) }
-    requires lawful { Lawful (setup_of facts.now) (events_of facts.now) }
-    requires books { AreBooks (setup_of facts.now) (events_of facts.now) books.now }
-    requires typed { IsTyped facts.now b.0 }
-    ensures { result ≡ reads_past (setup_of facts.now) (events_of facts.now) (events_of facts.now) a.0 b.0 }
-{
+    let reader = span_of(facts, books, n, a);
     for event in facts.history.own_events(a) {
-        if let Event::Got { cell, from, .. } = event {
-            if facts.history.wrote(b, cell) && precedes(facts, books, cell, from, b) {
+        if let Event::Got { cell, .. } = event {
+            if is_overwritten(writes, reader, cell) {
                 return true;
             }
         }
@@ -146,39 +101,13 @@ fn reads_past(facts: &Facts, books: &[Batches], a: Txn, b: Txn) -> bool
     false
 }
 
-// Whether u's version of a cell is before w's; 0 has the starting row.
-fn precedes(facts: &Facts, books: &[Batches], cell: Cell, u: Txn, w: Txn) -> bool
-    requires sound { IsSound (setup_of facts.now) }
-    requires lawful { Lawful (setup_of facts.now) (events_of facts.now) }
-    requires books { AreBooks (setup_of facts.now) (events_of facts.now) books.now }
-    requires left { (u.0 ≡ 0) ⊎ IsTrue (begun (events_of facts.now) u.0) }
-    requires right { IsTyped facts.now w.0 }
-    ensures { result ≡ precedes (setup_of facts.now) (events_of facts.now) cell u.0 w.0 }
+// Whether a committed transaction of another side, whose batch is concurrent with the reader's, has put a cell.
+fn is_overwritten(writes: &[Write], reader: Span, cell: Cell) -> bool
+    requires { AreSorted writes.now }
+    ensures { (S : Setup) (H : List Event) (n a : ℕ) → IsReader S H n a writes.now reader → result ≡ is_overwritten S H n a cell }
 {
-    if u.0 == 0 {
-        return true;
+    match latest_before(writes, cell, reader.close) {
+        Some(write) => write.batch.side != reader.side && reader.start < write.batch.close,
+        None => false,
     }
-    if u == w {
-        return false;
-    }
-    let (Some(a), Some(b)) = (facts.spot(u), facts.spot(w)) else {
-        unreachable!()
-    };
-    let n = facts.tree.meet(a, b);
-    match facts.tree.row(n).control {
-        ControlKind::Timestamp => starts_before(facts, books, n, u, w),
-        _ => facts.history.put_at(u, cell) < facts.history.put_at(w, cell),
-    }
-}
-
-// Whether t's batch starts before u's.
-fn starts_before(facts: &Facts, books: &[Batches], n: Node, t: Txn, u: Txn) -> bool
-    requires books { AreBooks (setup_of facts.now) (events_of facts.now) books.now }
-    requires left { IsHere facts.now n.0 t.0 }
-    requires right { IsHere facts.now n.0 u.0 }
-    requires node { n.0 < length (setup_of facts.now).tree }
-    requires batches { IsTrue (has_batches (setup_of facts.now).tree n.0) }
-    ensures { result ≡ ltb (start (setup_of facts.now) (events_of facts.now) n.0 t.0) (start (setup_of facts.now) (events_of facts.now) n.0 u.0) }
-{
-    start_of(facts, books, n, t) < start_of(facts, books, n, u)
 }

@@ -8,26 +8,28 @@ ghost use Rattle.teb_laws.specs.Lawful.{Lawful};
 ghost use Rattle.phase_api.specs.Told.{setup_of, events_of, IsTyped};
 ghost use Rattle.phase_api.specs.Calls.{IsHere};
 ghost use Rattle.serial_order.specs.Books.{AreBooks};
+ghost use Rattle.serial_order.specs.Edges.{MarkEdges};
 
 use crate::books::{close_of, start_of};
-use crate::edges::has_edge_out;
 use batch_book::Batches;
 use phase_api::Facts;
 use std::alloc::{AllocError, Global};
 use teb_names::{ControlKind, Node, Txn};
 
-/// The rank and the side of a transaction at each node from the root to its leaf, at most 16 numbers. `done` is the position of
-/// its Done.
+/// The rank and the side of a transaction at each node from the root to its leaf, at most 16 numbers. `marks` are those of the
+/// batches with an edge out, and `done` is the position of its Done.
 pub fn key(
     alloc: Global,
     facts: &Facts,
     books: &[Batches],
+    marks: &[bool],
     t: Txn,
     done: usize,
 ) -> Result<Vec<usize>, AllocError>
     requires sound { IsSound (setup_of facts.now) }
     requires lawful { Lawful (setup_of facts.now) (events_of facts.now) }
     requires books { AreBooks (setup_of facts.now) (events_of facts.now) books.now }
+    requires marks { MarkEdges (setup_of facts.now) (events_of facts.now) marks.now }
     requires typed { IsTyped facts.now t.0 }
     requires done { done ≡ done_at (events_of facts.now) t.0 }
     ensures { IfOk result (λ v. v.items ≡ key (setup_of facts.now) (events_of facts.now) t.0) }
@@ -36,17 +38,18 @@ pub fn key(
     let path = facts.tree.path(spot);
     let mut key = Vec::new(alloc);
     for n in path {
-        key.push(rank(facts, books, *n, t, done))?;
+        key.push(rank(facts, books, marks, *n, t, done))?;
         key.push(facts.side(*n, t) as usize)?;
     }
     Ok(key)
 }
 
 // The rank of a transaction at a node.
-fn rank(facts: &Facts, books: &[Batches], n: Node, t: Txn, done: usize) -> usize
+fn rank(facts: &Facts, books: &[Batches], marks: &[bool], n: Node, t: Txn, done: usize) -> usize
     requires sound { IsSound (setup_of facts.now) }
     requires lawful { Lawful (setup_of facts.now) (events_of facts.now) }
     requires books { AreBooks (setup_of facts.now) (events_of facts.now) books.now }
+    requires marks { MarkEdges (setup_of facts.now) (events_of facts.now) marks.now }
     requires here { IsHere facts.now n.0 t.0 }
     requires node { n.0 < length (setup_of facts.now).tree }
     requires done { done ≡ done_at (events_of facts.now) t.0 }
@@ -56,8 +59,9 @@ fn rank(facts: &Facts, books: &[Batches], n: Node, t: Txn, done: usize) -> usize
         ControlKind::Locks | ControlKind::Pipeline => done,
         ControlKind::Timestamp => start_of(facts, books, n, t),
         ControlKind::Snapshot => {
-            if has_edge_out(facts, books, n, t) {
-                start_of(facts, books, n, t)
+            let start = start_of(facts, books, n, t);
+            if marks[start] {
+                start
             } else {
                 close_of(facts, books, n, t)
             }

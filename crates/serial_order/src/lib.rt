@@ -5,7 +5,9 @@ mod books;
 mod edges;
 mod final_tables;
 mod keys;
+pub mod laws;
 mod serial;
+mod writes;
 
 pub use final_tables::tables;
 pub use serial::order;

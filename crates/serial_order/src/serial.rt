@@ -7,9 +7,11 @@ ghost use Rattle.teb_laws.specs.Lawful.{Lawful};
 ghost use Rattle.phase_api.specs.Told.{setup_of, events_of};
 ghost use Rattle.serial_order.specs.Books.{AreBooks};
 ghost use Rattle.serial_order.specs.Commits.{commits_in, txn_numbers};
+ghost use Rattle.serial_order.specs.Edges.{MarkEdges};
 ghost use Rattle.serial_order.specs.Keys.{entry_numbers, HaveKeys};
 
 use crate::books::books;
+use crate::edges::edges_out;
 use crate::keys::key;
 use batch_book::Batches;
 use engine_core::Engine;
@@ -46,16 +48,23 @@ fn order_by_keys(alloc: Global, facts: &Facts) -> Result<Vec<Txn>, AllocError>
     ensures { IfOk result (λ v. txn_numbers v.items ≡ serial_order (setup_of facts.now) (events_of facts.now)) }
 {
     let books = books(alloc, facts)?;
-    let mut entries = entries(alloc, facts, &books)?;
+    let marks = edges_out(alloc, facts, &books)?;
+    let mut entries = entries(alloc, facts, &books, &marks)?;
     entries.sort_by(|a, b| a.key.cmp(&b.key))?;
     txns_of(alloc, &entries)
 }
 
 // The committed transactions in the order of their commits, each with its key.
-fn entries(alloc: Global, facts: &Facts, books: &[Batches]) -> Result<Vec<Entry>, AllocError>
+fn entries(
+    alloc: Global,
+    facts: &Facts,
+    books: &[Batches],
+    marks: &[bool],
+) -> Result<Vec<Entry>, AllocError>
     requires sound { IsSound (setup_of facts.now) }
     requires lawful { Lawful (setup_of facts.now) (events_of facts.now) }
     requires books { AreBooks (setup_of facts.now) (events_of facts.now) books.now }
+    requires marks { MarkEdges (setup_of facts.now) (events_of facts.now) marks.now }
     ensures numbers { IfOk result (λ v. entry_numbers v.items ≡ commits_in (reverse (events_of facts.now))) }
     ensures keys { IfOk result (λ v. HaveKeys (setup_of facts.now) (events_of facts.now) v.items) }
 {
@@ -64,7 +73,7 @@ fn entries(alloc: Global, facts: &Facts, books: &[Batches]) -> Result<Vec<Entry>
         let Event::Done(txn) = facts.history.at(i) else {
             continue;
         };
-        let key = key(alloc, facts, books, txn, i)?;
+        let key = key(alloc, facts, books, marks, txn, i)?;
         entries.push(Entry { txn, key })?;
     }
     Ok(entries)

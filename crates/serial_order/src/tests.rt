@@ -41,6 +41,16 @@ key = 9
 value = 90
 ";
 
+const SNAPSHOT: &str = "format = 1
+tables = ['t']
+[[type]]
+name = 'a'
+[[node]]
+name = 'root'
+control = 'snapshot'
+types = ['a']
+";
+
 type PlainEngine = Engine<PlainChains>;
 
 fn engine_of(alloc: Global, text: &[u8]) -> Result<PlainEngine, Fail> {
@@ -152,6 +162,28 @@ fn starting_rows_stand_until_a_commit_changes_them(rt: HostRuntime) -> Result<()
     assert_eq!(rt;
         tables(rt.alloc(), &engine)?.as_slice(),
         [(cell(1), 5), (cell(2), 21), (cell(9), 90)].as_slice()
+    );
+    Ok(())
+}
+
+#[test]
+fn who_reads_stands_before_who_writes_past_it(rt: HostRuntime) -> Result<(), Fail> {
+    let mut engine = engine_of(rt.alloc(), SNAPSHOT.as_bytes())?;
+    ask(&mut engine, 1, &[begin(), Request::Read(cell(1))])?;
+    ask(
+        &mut engine,
+        2,
+        &[begin(), Request::Write(cell(1), 5), Request::Commit],
+    )?;
+    ask(
+        &mut engine,
+        3,
+        &[begin(), Request::Read(cell(1)), Request::Commit],
+    )?;
+    ask(&mut engine, 1, &[Request::Commit])?;
+    assert_eq!(rt;
+        order(rt.alloc(), &engine)?.as_slice(),
+        [Txn(1), Txn(2), Txn(3)].as_slice()
     );
     Ok(())
 }

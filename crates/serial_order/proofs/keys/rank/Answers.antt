@@ -1,4 +1,4 @@
-use Rattle.std.proofs.Common.{sym, ap, ◌∙◌, inl, inr}
+use Rattle.std.proofs.Common.{ℕ, false, get_or, sym, ap, ◌∙◌, inl, inr}
 use Rattle.teb_rules.specs.Setup.{NodeRow}
 use Rattle.phase_api.specs.Told.{setup_of, events_of}
 use Rattle.teb_laws.proofs.Ranks.{done_rank, start_rank}
@@ -12,10 +12,16 @@ returns-in-Locks c = c.requires.done ∙ sym (done_rank (setup_of c.args.facts.n
 pub returns-in-Timestamp : goal.returns-in-Timestamp
 returns-in-Timestamp c = c.start_of.ensures ∙ sym (start_rank (setup_of c.args.facts.now) (events_of c.args.facts.now) c.args.n.0 c.args.t.0 (sym (ap (λ (r : NodeRow). r.control) c.row.ensures) ∙ c.in-Timestamp.is))
 
-pub returns-then-has_edge_out : goal.returns-then-has_edge_out
-returns-then-has_edge_out c = c.start_of-then-has_edge_out.ensures
-    ∙ snapshot_start (setup_of c.args.facts.now) (events_of c.args.facts.now) c.args.n.0 c.args.t.0 (sym (ap (λ (r : NodeRow). r.control) c.row.ensures) ∙ c.in-Snapshot.is) (sym c.has_edge_out.ensures ∙ c.if-has_edge_out.true)
+pub returns-then-marks-start : goal.returns-then-marks-start
+returns-then-marks-start c =
+    let k = sym (ap (λ (r : NodeRow). r.control) c.row.ensures) ∙ c.in-Snapshot.is in
+    let m = c.requires.marks c.args.n.0 c.args.t.0 k c.requires.here.typed.begun c.requires.here.on in
+    c.start_of-start.ensures ∙ snapshot_start (setup_of c.args.facts.now) (events_of c.args.facts.now) c.args.n.0 c.args.t.0 k
+    (sym (ap (λ (i : ℕ). get_or c.args.marks.now i false) c.start_of-start.ensures ∙ m.says) ∙ c.if-marks-start.true)
 
-pub returns-else-has_edge_out : goal.returns-else-has_edge_out
-returns-else-has_edge_out c = c.close_of.ensures
-    ∙ snapshot_close (setup_of c.args.facts.now) (events_of c.args.facts.now) c.args.n.0 c.args.t.0 (sym (ap (λ (r : NodeRow). r.control) c.row.ensures) ∙ c.in-Snapshot.is) (sym c.has_edge_out.ensures ∙ c.if-has_edge_out.false)
+pub returns-else-marks-start : goal.returns-else-marks-start
+returns-else-marks-start c =
+    let k = sym (ap (λ (r : NodeRow). r.control) c.row.ensures) ∙ c.in-Snapshot.is in
+    let m = c.requires.marks c.args.n.0 c.args.t.0 k c.requires.here.typed.begun c.requires.here.on in
+    c.close_of.ensures ∙ snapshot_close (setup_of c.args.facts.now) (events_of c.args.facts.now) c.args.n.0 c.args.t.0 k
+    (sym (ap (λ (i : ℕ). get_or c.args.marks.now i false) c.start_of-start.ensures ∙ m.says) ∙ c.if-marks-start.false)

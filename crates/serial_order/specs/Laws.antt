@@ -1,0 +1,36 @@
+-- The laws of the rules, said of engines and of the order that `order` gives.
+use Rattle.std.specs.Prelude.{◌≡◌, ◌≢◌, ℕ, List, IsTrue}
+use Rattle.std.specs.List.{list_any}
+use Rattle.teb_names.specs.declared.Cell.{Cell}
+use Rattle.teb_names.specs.declared.Txn.{Txn}
+use Rattle.teb_names.specs.declared.Session.{Session}
+use Rattle.teb_names.specs.declared.Request.{Request}
+use Rattle.teb_history.specs.Phases.{committed}
+use Rattle.teb_history.specs.Accesses.{wrote}
+use Rattle.teb_rules.specs.Accepted.{IsSound}
+use Rattle.teb_rules.specs.Versions.{precedes}
+use Rattle.teb_rules.specs.Ranks.{serial_order}
+use Rattle.teb_rules.specs.Serializes.{StandsBefore}
+use Rattle.teb_laws.specs.Laws.{reached, is_read, ReadsAreStable}
+use Rattle.engine_core.specs.State.{State}
+use Rattle.serial_order.specs.Commits.{txn_numbers}
+
+-- an engine of a sound store that has been asked these requests
+pub record HasAnswered (e : State) (asked : List (Session × Request)) : Type 0 where
+  pub sound : IsSound e.store.setup
+  pub history : e.events ≡ reached e.store asked
+
+-- P holds of every engine at every moment
+abbrev pub OfEveryEngine : (State → Type 0) → Type 0
+OfEveryEngine P = (e : State) (asked : List (Session × Request)) → HasAnswered e asked → P e
+
+-- and of the numbers of the transactions in the order that `order` gives
+abbrev pub OfEveryOrder : (State → List ℕ → Type 0) → Type 0
+OfEveryOrder P = OfEveryEngine (λ e. (ts : List Txn) → txn_numbers ts ≡ serial_order e.store.setup e.events → P e (txn_numbers ts))
+
+-- of two committed transactions with conflicting accesses of x, the order has the one first whose access counts as the earlier one
+pub record KeepsConflicts (e : State) (order : List ℕ) : Type 0 where
+  pub writes : (u w : ℕ) (x : Cell) → IsTrue (committed e.events u) → IsTrue (committed e.events w) → u ≢ w → IsTrue (wrote e.events u x) → IsTrue (wrote e.events w x) → IsTrue (precedes e.store.setup e.events x u w) → StandsBefore order u w
+  pub reads : (u w : ℕ) (x : Cell) → IsTrue (committed e.events u) → IsTrue (committed e.events w) → u ≢ w → IsTrue (list_any (is_read w x u) e.events) → StandsBefore order u w
+  pub overwrites : (u w v : ℕ) (x : Cell) → IsTrue (committed e.events u) → IsTrue (committed e.events w) → u ≢ w → IsTrue (list_any (is_read u x v) e.events) → u ≢ v → IsTrue (wrote e.events w x) → IsTrue (precedes e.store.setup e.events x v w) → StandsBefore order u w
+  pub stable : ReadsAreStable e.store.setup e.events
