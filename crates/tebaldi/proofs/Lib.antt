@@ -1,2 +1,4 @@
 mod Runs
+mod Shops
+mod Summing
 mod Trees

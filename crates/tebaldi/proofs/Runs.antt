@@ -1,10 +1,13 @@
 -- Runs over the store of a whole setup: what they name has a name, and their serial order serializes them.
-use Rattle.std.proofs.Common.{◌≡◌, ℕ, zero, suc, ◌<◌, Bool, true, false, cond, List, [], ◌∷◌, ◌++◌, length, Some, refl, sym, ◌∙◌, ap, ap₂, subst, arith, ℤ}
-use Rattle.std.specs.Prelude.{All}
+use Rattle.std.proofs.Common.{◌≡◌, ℕ, zero, suc, ◌<◌, Bool, true, false, cond, List, [], ◌∷◌, length, Some, refl, sym, ◌∙◌, ap, ap₂, subst, arith, ℤ}
+use Rattle.std.specs.Prelude.{All, IfOk, Result, Ok, Err, ◌≤◌}
+use Rattle.std.specs.declared.alloc.AllocError.{AllocError}
 use Rattle.teb_names.specs.declared.Cell.{Cell}
 use Rattle.teb_names.specs.declared.Node.{Node}
 use Rattle.teb_names.specs.declared.Cause.{Cause}
 use Rattle.teb_names.specs.declared.Cause.TheVariants as cause
+use Rattle.teb_names.specs.declared.Entry.{Entry}
+use Rattle.teb_names.specs.declared.Session.{Session}
 use Rattle.teb_names.specs.declared.Reply.{Reply}
 use Rattle.teb_names.specs.declared.Reply.TheVariants as reply
 use Rattle.teb_names.specs.declared.naming.NameBook.{NameBook}
@@ -13,10 +16,13 @@ use Rattle.teb_names.specs.Rows.{row_of}
 use Rattle.teb_history.specs.declared.Event.{Event}
 use Rattle.teb_rules.specs.Setup.{Store, Setup}
 use Rattle.teb_rules.specs.Accepted.{IsSound}
-use Rattle.teb_rules.specs.Run.{history_after}
+use Rattle.teb_rules.specs.Answer.{answer}
+use Rattle.teb_rules.specs.Run.{history_after, requests_of}
+use Rattle.teb_rules.specs.Driver.{Seat, Follows, Turns, round_after, seated}
+use Rattle.teb_laws.specs.DriverLaws.{most_requests}
 use Rattle.teb_rules.specs.Ranks.{serial_order}
 use Rattle.teb_rules.specs.Serializes.{Serializes}
-use Rattle.teb_laws.specs.Within.{NodeWithin, CellWithin, CauseWithin, ReplyWithin}
+use Rattle.teb_laws.specs.Within.{NodeWithin, CauseWithin, ReplyWithin}
 use Rattle.teb_laws.proofs.Timeline.{same_cell-true}
 use Rattle.teb_laws.proofs.Within.{stays_within}
 use Rattle.teb_laws.proofs.Laws.{every_run_serializes}
@@ -24,14 +30,44 @@ use Rattle.serial_order.specs.Tables.{IsFinalRows}
 use Rattle.serial_order.proofs.Within.{rows_within}
 use Rattle.script_text.specs.declared.Line.{Line}
 use Rattle.script_text.specs.declared.Answered.{Answered}
+use Rattle.script_text.specs.Scripts.{scripts_of}
 use Rattle.script_text.specs.Named.{CellNamed, NodeNamed, CauseNamed, ReplyNamed}
 use Rattle.replay_runner.specs.Logs.{Requests, log_of, replayed}
 use Rattle.replay_runner.proofs.Logged.{history_none}
 use Rattle.replay_runner.proofs.Within.{log_within}
+use Rattle.fair_driver.specs.Logged.{IsOf, answers_of}
+use Rattle.fair_driver.specs.Seats.{scripts_on}
 use Rattle.tree_toml.specs.Meaning.{Meaning}
 use Rattle.tree_toml.specs.Sound.{IsWhole}
 use Rattle.tebaldi.specs.Stores.{store_of, names_of}
-use Rattle.tebaldi.specs.Runs.{history_of}
+use Rattle.tebaldi.specs.Runs.{Run, Says, IsReplay, IsRun, run_by}
+use Rattle.tebaldi.specs.declared.run.Execution.{Execution}
+use Rattle.tebaldi.specs.declared.run.Mode.{Mode}
+use Rattle.tebaldi.specs.declared.run.Mode.TheVariants as mode
+
+-- the replies to these requests, and their history
+pub record IsLogOf (X : Store) (asked : Requests) (log : List Answered) (H : List Event) : Type 0 where
+  pub replies : log ≡ log_of X [] asked
+  pub events : H ≡ history_after X [] asked
+
+-- the log of the driver has the replies to its requests
+follows_log : (X : Store) (H : List Event) (ws : List Seat) (entries : List Entry) → Follows X H ws entries → answers_of entries ≡ log_of X H (requests_of entries)
+unfolding Follows
+follows_log X H ws [] f = refl
+follows_log X H ws (e ∷ entries) f =
+    ap₂ (λ (a : Reply) (more : List Answered). record { session = e.session; reply = a } ∷ more) f.4
+    (follows_log X (answer X H e.session e.request).1 (round_after f.0 e.reply) entries f.5)
+
+-- however a script runs, some requests are asked one after another
+asked_by : (how : Mode) (X : Store) (lines : List Line) (log : List Answered) (H : List Event) → run_by how X lines log H → (asked : Requests) × IsLogOf X asked log H
+asked_by mode.Replay X lines log H r = (replayed X [] lines, record { replies = r.replies; events = r.events })
+asked_by mode.Turns X lines log H r = (
+  requests_of r.turns.entries,
+  record {
+    replies = r.turns.replies ∙ follows_log X [] (seated (scripts_on (scripts_of lines))) r.turns.entries r.turns.holds.follows;
+    events = r.turns.events;
+  },
+)
 
 row_within : (tables : ℕ) (rows : List (Cell × ℤ)) (x : Cell) (v : ℤ) → All (λ (r : Cell × ℤ). r.0.table.0 < tables) rows → row_of rows x ≡ Some v → x.table.0 < tables
 row_within tables [] x v within e = absurd (cc)
@@ -72,27 +108,47 @@ module _ (m : Meaning) (whole : IsWhole m) where
   log_named asked k d low =
       reply_named _ (subst (λ (H : List Event). All (λ (a : Answered). ReplyWithin (store_of m) a.reply) (log_of (store_of m) H asked)) (history_none (store_of m) []) (log_within (store_of m) sound [] asked) k d low)
 
-  pub replies_named : (names : NameBook) (log : List Answered) (asked : Requests) → names ≡ names_of m → log ≡ log_of (store_of m) [] asked → All (λ (a : Answered). ReplyNamed names a.reply) log
-  replies_named names log asked n l =
-      subst (λ (book : NameBook). All (λ (a : Answered). ReplyNamed book a.reply) log) (sym n) (subst (λ (w : List Answered). All (λ (a : Answered). ReplyNamed (names_of m) a.reply) w) (sym l) (log_named asked))
-
   final_rows : (asked : Requests) (rows : List (Cell × ℤ)) → IsFinalRows (store_of m) (history_after (store_of m) [] asked) rows → All (λ (r : Cell × ℤ). CellNamed (names_of m) r.0) rows
   final_rows asked rows f = rows_within (store_of m) (history_after (store_of m) [] asked) rows (λ x v. row_within (length m.tables) m.rows x v whole.cells) (stays_within (store_of m) sound asked).events f
 
-  pub rows_named : (names : NameBook) (X : Store) (H : List Event) (asked : Requests) (rows : List (Cell × ℤ)) → names ≡ names_of m → X ≡ store_of m → H ≡ history_after (store_of m) [] asked
-      → IsFinalRows X H rows → All (λ (r : Cell × ℤ). CellNamed names r.0) rows
-  rows_named names X H asked rows n s h f =
-      let g = subst (λ (G : List Event). IsFinalRows (store_of m) G rows) h (subst (λ (Y : Store). IsFinalRows Y H rows) s f) in
-      subst (λ (book : NameBook). All (λ (r : Cell × ℤ). CellNamed book r.0) rows) (sym n) (final_rows asked rows g)
+  module _ (how : Mode) (lines : List Line) (log : List Answered) (H : List Event) (ran : run_by how (store_of m) lines log H) where
+    pub replies_named : (names : NameBook) (now : List Answered) → names ≡ names_of m → now ≡ log → All (λ (a : Answered). ReplyNamed names a.reply) now
+    replies_named names now n l =
+        let r = asked_by how (store_of m) lines log H ran in
+        subst (λ (book : NameBook). All (λ (a : Answered). ReplyNamed book a.reply) now) (sym n)
+        (subst (λ (w : List Answered). All (λ (a : Answered). ReplyNamed (names_of m) a.reply) w) (sym (l ∙ r.1.replies)) (log_named r.0))
 
-  pub serialized : (K : List Event) (lines : List Line) → K ≡ history_of (store_of m) lines → Serializes (store_of m) K (serial_order (store_of m).setup K)
-  serialized K lines e = subst (λ (H : List Event). Serializes (store_of m) H (serial_order (store_of m).setup H)) (sym e) (every_run_serializes (store_of m) sound (replayed (store_of m) [] lines))
+    pub rows_named : (names : NameBook) (X : Store) (rows : List (Cell × ℤ)) → names ≡ names_of m → X ≡ store_of m → IsFinalRows X H rows → All (λ (r : Cell × ℤ). CellNamed names r.0) rows
+    rows_named names X rows n s f =
+        let r = asked_by how (store_of m) lines log H ran in
+        let g = subst (λ (G : List Event). IsFinalRows (store_of m) G rows) r.1.events (subst (λ (Y : Store). IsFinalRows Y H rows) s f) in
+        subst (λ (book : NameBook). All (λ (r : Cell × ℤ). CellNamed book r.0) rows) (sym n) (final_rows r.0 rows g)
 
--- what an engine that began as this store with no events comes to
-pub log_is : (Y X : Store) (H : List Event) (lines : List Line) (old new log : List Answered) → X ≡ Y → H ≡ [] → old ≡ [] → new ≡ old ++ log_of X H (replayed X H lines) → log ≡ new
-    → log ≡ log_of Y [] (replayed Y [] lines)
-log_is Y X H lines old new log s h o n l =
-    l ∙ n ∙ ap (λ (w : List Answered). w ++ log_of X H (replayed X H lines)) o ∙ ap₂ (λ (Z : Store) (G : List Event). log_of Z G (replayed Z G lines)) s h
+    pub serialized : (K : List Event) → K ≡ H → Serializes (store_of m) K (serial_order (store_of m).setup K)
+    serialized K k =
+        let r = asked_by how (store_of m) lines log H ran in
+        subst (λ (G : List Event). Serializes (store_of m) G (serial_order (store_of m).setup G)) (sym (k ∙ r.1.events)) (every_run_serializes (store_of m) sound r.0)
 
-pub history_is : (Y X : Store) (H G : List Event) (lines : List Line) → X ≡ Y → H ≡ [] → G ≡ history_after X H (replayed X H lines) → G ≡ history_of Y lines
-history_is Y X H G lines s h g = g ∙ ap₂ (λ (Z : Store) (K : List Event). history_after Z K (replayed Z K lines)) s h
+-- what the engine of an empty store comes to
+pub ran_lines : (r : Result Execution AllocError) (how : Mode) (X Y : Store) (lines : List Line) → how ≡ mode.Replay → Y ≡ X → IfOk r (λ x. IsReplay Y lines x.log.items x.engine.events) → IfOk r (λ x. run_by how X lines x.log.items x.engine.events)
+ran_lines r how X Y lines h s ran = rw (h, ← s) ran
+
+pub ran_scripts : (r : Result Execution AllocError) (how : Mode) (X Y : Store) (lines : List Line) (scripts : List (Session × List Line)) → how ≡ mode.Turns → Y ≡ X → scripts ≡ scripts_of lines
+    → IfOk r (λ x. IsOf (Turns Y (scripts_on scripts)) Y x.log.items x.engine.events) → IfOk r (λ x. length x.log.items ≤ most_requests (scripts_on scripts)) → IfOk r (λ x. run_by how X lines x.log.items x.engine.events)
+ran_scripts (Ok x) how X Y lines scripts h s of turns few = rw h (record {
+  turns = subst (λ (Z : Store). IsOf (Turns Z (scripts_on (scripts_of lines))) Z x.log.items x.engine.events) s (subst (λ (ss : List (Session × List Line)). IsOf (Turns Y (scripts_on ss)) Y x.log.items x.engine.events) of turns);
+  few = subst (λ (ss : List (Session × List Line)). length x.log.items ≤ most_requests (scripts_on ss)) of few;
+})
+ran_scripts (Err e) how X Y lines scripts h s of turns few = turns
+
+-- what is told of a run, from what the engine has
+pub is_run : (R : Run) (S : Says) (m : Meaning) (lines : List Line) (X : Store) (names : NameBook) (log now : List Answered) (H K : List Event) (text : List ℕ) → X ≡ store_of m → names ≡ names_of m → now ≡ log → K ≡ H
+    → R (store_of m) lines log H → S X names H now text → IsRun R S m lines (record { status = 0; text = text; history = Some K })
+is_run R S m lines X names log now H K text s n l k ran says = record {
+  log = log;
+  history = H;
+  ran = ran;
+  status = refl;
+  kept = ap Some k;
+  text = subst (λ (Y : Store). S Y (names_of m) H log text) s (subst (λ (book : NameBook). S X book H log text) n (subst (λ (w : List Answered). S X names H w text) l says));
+}

@@ -1,7 +1,6 @@
 -- What is told of an input, from what its tree part and its script were read as.
-use Rattle.std.proofs.Common.{◌≡◌, ℕ, List, [], Option, Some, None, IfSome, Result, Ok, Err, IfOk, refl, ◌∙◌, ap, subst}
+use Rattle.std.proofs.Common.{◌≡◌, ℕ, List, Option, Some, None, IfSome, Result, Ok, Err, IfOk, subst}
 use Rattle.std.specs.declared.alloc.AllocError.{AllocError}
-use Rattle.teb_history.specs.declared.Event.{Event}
 use Rattle.teb_history.specs.Written.{Written}
 use Rattle.script_text.specs.declared.Line.{Line}
 use Rattle.script_text.specs.declared.error.ScriptError.{ScriptError}
@@ -9,33 +8,27 @@ use Rattle.script_text.specs.declared.error.LineWhy.{LineWhy}
 use Rattle.script_text.specs.declared.error.ScriptError.TheVariants.{BadLine}
 use Rattle.script_text.specs.Input.{parts_of}
 use Rattle.script_text.specs.Grammar.{script_of, Answers}
-use Rattle.replay_runner.specs.Logs.{log_of, replayed}
 use Rattle.tree_toml.specs.declared.fault.TreeText.{TreeText}
 use Rattle.tree_toml.specs.Meaning.{Meaning, setup_of}
-use Rattle.tebaldi.specs.Runs.{IsReport, IsSerialized, SetsUp, TellsScript, TellsTree, history_of}
-use Rattle.tebaldi.specs.Stores.{store_of, names_of}
-use Rattle.tebaldi.specs.Tellings.{told_by, bad_line}
+use Rattle.tebaldi.specs.Runs.{Run, IsReport, IsRun}
+use Rattle.tebaldi.specs.Tells.{IsSerialized, IsSetUp, TellsScript, TellsTree}
+use Rattle.tebaldi.specs.Stores.{names_of}
+use Rattle.tebaldi.specs.Tellings.{Told, told_by, bad_line}
 use Rattle.tebaldi.specs.declared.telling.Telling.{Telling}
 
-pub tells_run : (m : Meaning) (script : Result (List Line) ScriptError) (lines ran : List Line) (H : List Event) (text : List ℕ) → script ≡ Ok lines → ran ≡ lines → H ≡ history_of (store_of m) ran
-    → IsReport (store_of m) (names_of m) (history_of (store_of m) ran) (log_of (store_of m) [] (replayed (store_of m) [] ran)) text
-    → TellsScript m script (record { status = 0; text = text; history = Some H })
-tells_run m script lines ran H text read same history report =
-    rw read (record {
-      status = refl;
-      history = ap Some (history ∙ ap (λ (ls : List Line). history_of (store_of m) ls) same);
-      report = subst (λ (ls : List Line). IsReport (store_of m) (names_of m) (history_of (store_of m) ls) (log_of (store_of m) [] (replayed (store_of m) [] ls)) text) same report;
-    })
+pub tells_run : (R : Run) (m : Meaning) (script : Result (List Line) ScriptError) (lines ran : List Line) (d : Told) → script ≡ Ok lines → ran ≡ lines → IsRun R IsReport m ran d → TellsScript R m script d
+tells_run R m script lines ran d read same run = rw read (subst (λ (ls : List Line). IsRun R IsReport m ls d) same run)
 
-pub tells_tree : (r : Result Telling AllocError) (read : Result Meaning TreeText) (m : Meaning) (script : List ℕ) → read ≡ Ok m
-    → IfOk r (λ t. TellsScript m (script_of (names_of m) m.format script) (told_by t)) → IfOk r (λ t. TellsTree read script (told_by t))
-tells_tree r read m script is told = rw is told
+pub tells_tree : (R : Run) (r : Result Telling AllocError) (read : Result Meaning TreeText) (m : Meaning) (script : List ℕ) → read ≡ Ok m
+    → IfOk r (λ t. TellsScript R m (script_of (names_of m) m.format script) (told_by t)) → IfOk r (λ t. TellsTree R read script (told_by t))
+tells_tree R r read m script is told = rw is told
 
 -- the line of the first bad line of a script
-pub tells_bad_line : (r : Result Telling AllocError) (m : Meaning) (script : Result (List Line) ScriptError) (e : ScriptError) (n : ℕ) (w : LineWhy) → e ≡ BadLine n w
-    → Answers (Err e) script → IfOk r (λ t. told_by t ≡ bad_line n w) → IfOk r (λ t. TellsScript m script (told_by t))
-tells_bad_line r m script e n w is answers told =
-    let read : script ≡ Err (BadLine n w) = subst (λ (f : ScriptError). Answers (Err f) script) is answers in rw read told
+pub tells_bad_line : (R : Run) (r : Result Telling AllocError) (m : Meaning) (script : Result (List Line) ScriptError) (e : ScriptError) (n k : ℕ) (w v : LineWhy) → e ≡ BadLine n w → k ≡ n → v ≡ w
+    → Answers (Err e) script → IfOk r (λ t. told_by t ≡ bad_line k v) → IfOk r (λ t. TellsScript R m script (told_by t))
+tells_bad_line R r m script e n k w v is number why answers told =
+    let read : script ≡ Err (BadLine n w) = subst (λ (f : ScriptError). Answers (Err f) script) is answers in
+    rw read (subst (λ (i : ℕ). IfOk r (λ t. told_by t ≡ bad_line i w)) number (subst (λ (y : LineWhy). IfOk r (λ t. told_by t ≡ bad_line k y)) why told))
 
 -- what is serialized over the store of a setup is so over that of any description that fits it
 serialized_of : (P Q : Meaning → Type 0) → ((m : Meaning) → P m → Q m) → (h : Option Written) → IsSerialized P h → IsSerialized Q h
@@ -47,9 +40,9 @@ serialized_told P Q f (Ok t) s = serialized_of P Q f t.history s
 serialized_told P Q f (Err e) s = s
 
 -- the setup of an input is that of its tree part, and of an input that is known that of what was read
-pub sets_up : (bytes tree script : List ℕ) (m : Meaning) → parts_of bytes ≡ Some (tree, script) → setup_of tree ≡ Ok m → SetsUp bytes m
+pub sets_up : (bytes tree script : List ℕ) (m : Meaning) → parts_of bytes ≡ Some (tree, script) → setup_of tree ≡ Ok m → IsSetUp bytes m
 sets_up bytes tree script m parts read = rw parts read
 
-pub sets_up_left : (left : Option (List ℕ)) (bytes : List ℕ) (m : Meaning) → IfSome left (λ all. bytes ≡ all) → SetsUp bytes m → IfSome left (λ all. SetsUp all m)
+pub sets_up_left : (left : Option (List ℕ)) (bytes : List ℕ) (m : Meaning) → IfSome left (λ all. bytes ≡ all) → IsSetUp bytes m → IfSome left (λ all. IsSetUp all m)
 sets_up_left None bytes m e s = e
-sets_up_left (Some all) bytes m e s = subst (λ (w : List ℕ). SetsUp w m) e s
+sets_up_left (Some all) bytes m e s = subst (λ (w : List ℕ). IsSetUp w m) e s

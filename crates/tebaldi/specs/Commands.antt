@@ -1,5 +1,5 @@
 -- The commands, by the words of the command line.
-use Rattle.std.specs.Prelude.{ℕ, ◌-◌, ◌^◌, if◌then◌else◌, nat_le, List, [], ◌∷◌, length, map, codes, String, string_bytes, Option, Some, None, option_map, option_and_then}
+use Rattle.std.specs.Prelude.{ℕ, Bool, true, false, ◌-◌, ◌^◌, ◌<◌, ◌≤◌, if◌then◌else◌, nat_le, List, [], ◌∷◌, length, map, codes, String, string_bytes, Option, Some, None, option_map, option_and_then}
 use Rattle.std.specs.declared.alloc.Global.{Global}
 use Rattle.std.specs.Str.{bytes_eq}
 use Rattle.script_text.specs.Numbers.{number_upto}
@@ -33,6 +33,17 @@ command_of (w ∷ []) = lone_command w
 command_of (w ∷ n ∷ []) = threads_command w n
 command_of (w ∷ n ∷ s ∷ []) = load_command w n s
 command_of _ = None
+
+-- the numbers of a load are within their limits
+abbrev pub IsWithin : Command → Type 0
+IsWithin (command.Load number size) = (number < 2 ^ 31) × (size ≤ 2000)
+IsWithin _ = Unit {0}
+
+-- whether the command reads the input
+abbrev pub reads : Option Command → Bool
+reads (Some command.Replay) = true
+reads (Some command.Turns) = true
+reads _ = false
 
 abbrev pub texts : List (String Global) → List (List ℕ)
 texts words = map (λ w. string_bytes w) words

@@ -1,38 +1,53 @@
--- What `replay` tells, by the bytes of its input.
-use Rattle.std.specs.Prelude.{◌≡◌, ℕ, ◌++◌, nat_lt, MatchBool, MatchOption, IfSome, List, [], length, ℤ, Option, Some, None, Result, Ok, Err}
+-- How a script runs over a store, and what is told of a run.
+use Rattle.std.specs.Prelude.{◌≡◌, ℕ, ◌++◌, ◌≤◌, List, [], length, ℤ, Some}
 use Rattle.std.specs.List.{flat_map}
 use Rattle.teb_names.specs.declared.Txn.{Txn}
 use Rattle.teb_names.specs.declared.Cell.{Cell}
 use Rattle.teb_names.specs.declared.naming.NameBook.{NameBook}
 use Rattle.teb_history.specs.declared.Event.{Event}
-use Rattle.teb_history.specs.Written.{Written}
 use Rattle.teb_rules.specs.Setup.{Store}
 use Rattle.teb_rules.specs.Run.{history_after}
-use Rattle.teb_rules.specs.Serializes.{Serializes}
 use Rattle.teb_rules.specs.Ranks.{serial_order}
+use Rattle.teb_rules.specs.Driver.{Turns}
+use Rattle.teb_laws.specs.DriverLaws.{most_requests}
 use Rattle.serial_order.specs.Commits.{txn_numbers}
 use Rattle.serial_order.specs.Tables.{IsFinalRows}
 use Rattle.script_text.specs.declared.Line.{Line}
 use Rattle.script_text.specs.declared.Answered.{Answered}
-use Rattle.script_text.specs.declared.error.ScriptError.{ScriptError}
-use Rattle.script_text.specs.declared.error.ScriptError.TheVariants.{BadLine, OutOfMemory}
-use Rattle.script_text.specs.Input.{parts_of}
-use Rattle.script_text.specs.Lines.{lines_of}
-use Rattle.script_text.specs.Grammar.{script_of}
+use Rattle.script_text.specs.Scripts.{scripts_of}
 use Rattle.script_text.specs.Texts.{reply_text, report_text}
 use Rattle.replay_runner.specs.Logs.{log_of, replayed}
-use Rattle.tree_toml.specs.declared.fault.TreeText.{TreeText}
-use Rattle.tree_toml.specs.Meaning.{Meaning, setup_of}
+use Rattle.fair_driver.specs.Seats.{scripts_on}
+use Rattle.fair_driver.specs.Logged.{IsOf}
+use Rattle.tree_toml.specs.Meaning.{Meaning}
 use Rattle.tebaldi.specs.Stores.{store_of, names_of}
-use Rattle.tebaldi.specs.Tellings.{Told, bad_words, too_long, no_separator, bad_tree, not_built, bad_line}
-use Rattle.tebaldi.specs.declared.command.Command.{Command}
-use Rattle.tebaldi.specs.declared.command.Command.TheVariants.{Replay}
+use Rattle.tebaldi.specs.Tellings.{Told}
+use Rattle.tebaldi.specs.declared.run.Mode.{Mode}
+use Rattle.tebaldi.specs.declared.run.Mode.TheVariants as mode
 
--- the history of a replay
-abbrev pub history_of : Store → List Line → List Event
-history_of X lines = history_after X [] (replayed X [] lines)
+-- which replies and which history come of these lines, over a store
+abbrev pub Run : Type 1
+Run = Store → List Line → List Answered → List Event → Type 0
 
--- the log, the serial order, and the final rows
+-- each line is asked once, in order, and then End for each session that holds a transaction
+pub record IsReplay (X : Store) (lines : List Line) (log : List Answered) (H : List Event) : Type 0 where
+  pub replies : log ≡ log_of X [] (replayed X [] lines)
+  pub events : H ≡ history_after X [] (replayed X [] lines)
+
+-- the scripts of the sessions are driven in turns, until all are worked through, within the bound on requests
+pub record AreTurns (X : Store) (lines : List Line) (log : List Answered) (H : List Event) : Type 0 where
+  pub turns : IsOf (Turns X (scripts_on (scripts_of lines))) X log H
+  pub few : length log ≤ most_requests (scripts_on (scripts_of lines))
+
+abbrev pub run_by : Mode → Run
+run_by mode.Replay = IsReplay
+run_by mode.Turns = AreTurns
+
+-- what a text says of the replies and the history of a run
+abbrev pub Says : Type 1
+Says = Store → NameBook → List Event → List Answered → List ℕ → Type 0
+
+-- the replies, the serial order, and the final rows
 pub record IsReport (X : Store) (names : NameBook) (H : List Event) (log : List Answered) (bytes : List ℕ) : Type 0 where
   pub order : List Txn
   pub rows : List (Cell × ℤ)
@@ -40,42 +55,11 @@ pub record IsReport (X : Store) (names : NameBook) (H : List Event) (log : List 
   pub final : IsFinalRows X H rows
   pub text : bytes ≡ flat_map (reply_text names) log ++ report_text names order rows
 
--- the replies to the lines and to the Ends behind them, with the report of their history
-pub record IsRun (X : Store) (names : NameBook) (lines : List Line) (d : Told) : Type 0 where
+-- what is told is the history of a run of these lines over a setup's store, and the text that says so
+pub record IsRun (R : Run) (S : Says) (m : Meaning) (lines : List Line) (d : Told) : Type 0 where
+  pub log : List Answered
+  pub history : List Event
+  pub ran : R (store_of m) lines log history
   pub status : d.status ≡ 0
-  pub history : d.history ≡ Some (history_of X lines)
-  pub report : IsReport X names (history_of X lines) (log_of X [] (replayed X [] lines)) d.text
-
--- the run of a script over a setup's store
-abbrev pub TellsScript : Meaning → Result (List Line) ScriptError → Told → Type 0
-TellsScript m (Ok lines) d = IsRun (store_of m) (names_of m) lines d
-TellsScript m (Err (BadLine n w)) d = d ≡ bad_line n w
-TellsScript m (Err OutOfMemory) d = ⊥
-
--- the first fault of the tree part; else the run of the script over its store
-abbrev pub TellsTree : Result Meaning TreeText → List ℕ → Told → Type 0
-TellsTree (Ok m) script d = TellsScript m (script_of (names_of m) m.format script) d
-TellsTree (Err why) script d = d ≡ bad_tree why
-
-abbrev pub TellsParts : List ℕ → List ℕ → Told → Type 0
-TellsParts tree script d = MatchBool (nat_lt 65536 (length (lines_of script))) (d ≡ too_long) (TellsTree (setup_of tree) script d)
-
-abbrev pub TellsInput : List ℕ → Told → Type 0
-TellsInput bytes d = MatchOption (parts_of bytes) (d ≡ no_separator) (λ p. TellsParts p.0 p.1 d)
-
-abbrev pub Replays : List ℕ → Told → Type 0
-Replays bytes d = MatchBool (nat_lt 4194304 (length bytes)) (d ≡ too_long) (TellsInput bytes d)
-
--- what the words come to, where the bytes of the input are known
-abbrev pub Tells : Option Command → Option (List ℕ) → Told → Type 0
-Tells None left d = d ≡ bad_words
-Tells (Some Replay) left d = IfSome left (λ bytes. Replays bytes d)
-Tells (Some _) left d = d ≡ not_built
-
--- the tree part of an input is this setup
-abbrev pub SetsUp : List ℕ → Meaning → Type 0
-SetsUp bytes m = IfSome (parts_of bytes) (λ p. setup_of p.0 ≡ Ok m)
-
--- the history, where there is one, is serialized by its serial order, over the store of a setup of which this is so
-abbrev pub IsSerialized : (Meaning → Type 0) → Option Written → Type 0
-IsSerialized Is history = IfSome history (λ h. (m : Meaning) × Is m × Serializes (store_of m) h.events (serial_order (store_of m).setup h.events))
+  pub kept : d.history ≡ Some history
+  pub text : S (store_of m) (names_of m) history log d.text

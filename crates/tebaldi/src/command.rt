@@ -1,7 +1,7 @@
 //! The commands, by the words of the command line.
 
 ghost use Rattle.std.specs.Prelude.{◌≡◌, ◌≤◌, IfSome};
-ghost use Rattle.tebaldi.specs.Commands.{command_of, lone_command, threads_command, load_command, number_within, texts};
+ghost use Rattle.tebaldi.specs.Commands.{command_of, lone_command, threads_command, load_command, number_within, texts, IsWithin};
 
 use script_text::number;
 
@@ -22,7 +22,8 @@ pub enum Command {
 
 /// The command of these words; none where they have no command's shape.
 pub fn command_of(words: &[String]) -> Option<Command>
-    ensures { result ≡ command_of (texts words.now) }
+    ensures command { result ≡ command_of (texts words.now) }
+    ensures within { IfSome result IsWithin }
 {
     match words {
         [word] => lone_command(word.as_str()),
@@ -34,7 +35,8 @@ pub fn command_of(words: &[String]) -> Option<Command>
 
 #[tactic(auto, unfolding(crate::specs::Commands::lone_command))]
 fn lone_command(word: &str) -> Option<Command>
-    ensures { result ≡ lone_command word.now }
+    ensures command { result ≡ lone_command word.now }
+    ensures within { IfSome result IsWithin }
 {
     if word == "replay" {
         Some(Command::Replay)
@@ -49,7 +51,8 @@ fn lone_command(word: &str) -> Option<Command>
 
 #[tactic(auto, unfolding(crate::specs::Commands::threads_command))]
 fn threads_command(word: &str, count: &str) -> Option<Command>
-    ensures { result ≡ threads_command word.now count.now }
+    ensures command { result ≡ threads_command word.now count.now }
+    ensures within { IfSome result IsWithin }
 {
     if word != "threads" {
         return None;
@@ -60,7 +63,8 @@ fn threads_command(word: &str, count: &str) -> Option<Command>
 
 #[tactic(auto, unfolding(crate::specs::Commands::load_command))]
 fn load_command(word: &str, number: &str, size: &str) -> Option<Command>
-    ensures { result ≡ load_command word.now number.now size.now }
+    ensures command { result ≡ load_command word.now number.now size.now }
+    ensures within { IfSome result IsWithin }
 {
     if word != "load" {
         return None;

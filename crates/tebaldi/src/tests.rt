@@ -2,8 +2,10 @@
 
 ghost use Rattle.std.specs.Prelude.{◌<◌};
 
+mod loads;
 mod runs;
 mod trees;
+mod turns;
 
 use super::ended::Ended;
 use super::top::run_tebaldi;
@@ -43,6 +45,22 @@ fn run(
     Ok((ended, out))
 }
 
+// Runs a command on an input, and compares the status and the text.
+fn tells(
+    rt: &impl Abort,
+    alloc: Global,
+    words: &[&str],
+    bytes: &[u8],
+    status: u8,
+    text: &[u8],
+) -> Result<(), AllocError> {
+    let (ended, out) = run(alloc, words, source(alloc, bytes, 4096, &[])?, &[])?;
+    assert_eq!(rt; ended.status, status);
+    assert_eq!(rt; out.bytes(), text);
+    assert_eq!(rt; ended.history.is_some(), status == 0);
+    Ok(())
+}
+
 // Replays an input, and compares the status and the text.
 fn replays(
     rt: &impl Abort,
@@ -51,11 +69,7 @@ fn replays(
     status: u8,
     text: &[u8],
 ) -> Result<(), AllocError> {
-    let (ended, out) = run(alloc, &["replay"], source(alloc, bytes, 4096, &[])?, &[])?;
-    assert_eq!(rt; ended.status, status);
-    assert_eq!(rt; out.bytes(), text);
-    assert_eq!(rt; ended.history.is_some(), status == 0);
-    Ok(())
+    tells(rt, alloc, &["replay"], bytes, status, text)
 }
 
 #[test]
@@ -147,9 +161,9 @@ fn words_are_looked_at_first(rt: HostRuntime) -> Result<(), Fail> {
         (["threads", "17"].as_slice(), 2, b"bad words\n".as_slice()),
         (["threads", "16"].as_slice(), 9, b"not built\n".as_slice()),
         (
-            ["load", "2147483647", "2000"].as_slice(),
-            9,
-            b"not built\n".as_slice(),
+            ["load", "1", "2001"].as_slice(),
+            2,
+            b"bad words\n".as_slice(),
         ),
         (
             ["load", "2147483648", "1"].as_slice(),
@@ -157,7 +171,7 @@ fn words_are_looked_at_first(rt: HostRuntime) -> Result<(), Fail> {
             b"bad words\n".as_slice(),
         ),
         (["load", "1", "0"].as_slice(), 2, b"bad words\n".as_slice()),
-        (["turns"].as_slice(), 9, b"not built\n".as_slice()),
+        (["turns", "1"].as_slice(), 2, b"bad words\n".as_slice()),
         (["audit"].as_slice(), 9, b"not built\n".as_slice()),
     ];
     for (words, status, text) in rows {

@@ -1,16 +1,18 @@
 //! The top call: all that the program does.
 
-ghost use Rattle.std.specs.Prelude.{◌≡◌, ◌≢◌, Some, None, IfSome};
+ghost use Rattle.std.specs.Prelude.{◌≡◌, ◌≢◌, false, None, IfOk, IfSome, MatchResult};
 ghost use Rattle.std.specs.Io.KnownBytes.{Keeps};
 ghost use Rattle.teb_io.specs.Faults.{Rose};
-ghost use Rattle.tebaldi.specs.declared.command.Command.TheVariants.{Replay};
-ghost use Rattle.tebaldi.specs.Commands.{command_of, texts};
-ghost use Rattle.tebaldi.specs.Tellings.{IsTold, Told};
-ghost use Rattle.tebaldi.specs.Runs.{Tells, Replays, SetsUp, IsSerialized};
+ghost use Rattle.tebaldi.specs.Commands.{command_of, reads, texts};
+ghost use Rattle.tebaldi.specs.Runs.{run_by};
+ghost use Rattle.tebaldi.specs.Tellings.{IsTold, Told, told_by, IsTellable};
+ghost use Rattle.tebaldi.specs.Tells.{Tells, TellsBytes, SetsUp, IsSetUp, IsSerialized};
 
 use crate::command::{Command, command_of};
 use crate::ended::{Ended, silent, tell};
-use crate::replay::replay_input;
+use crate::input::run_input;
+use crate::load::load;
+use crate::run::Mode;
 use crate::telling::{NOT_BUILT, TOO_LONG, Telling};
 use std::alloc::{AllocError, Global};
 use teb_io::{ReadError, Sink, Source, read_all};
@@ -25,7 +27,7 @@ pub const OUT_OF_MEMORY: u8 = 8;
 const MOST_BYTES: usize = 4_194_304;
 
 /// Does what the words say: reads the input, runs it, and writes the whole text at once. The words are looked at
-/// first, and only `replay` reads. Where a read fails or memory is wanting, nothing is written.
+/// first, and only `replay` and `turns` read. Where a read fails or memory is wanting, nothing is written.
 pub fn run_tebaldi<S: Source, K: Sink>(
     alloc: Global,
     words: &Vec<String>,
@@ -36,24 +38,27 @@ pub fn run_tebaldi<S: Source, K: Sink>(
     ensures told { result.status ≢ 3 → result.status ≢ 8 → (d : Told) × Tells (command_of (texts words.now.items)) (S.left input.old) d
         × IsTold d result.status result.history (K.written out.old) (K.written out.new) }
 
-    // Of the history of any run, over the store of the input's tree part: the serial order, executed whole, gives every read its value and the final tables; it keeps every node's order; nobody commits before a transaction it read from.
-    ensures serialized { IsSerialized (λ m. IfSome (S.left input.old) (λ bytes. SetsUp bytes m)) result.history }
+    // Of the history of any run, over the store of the input's tree part, or of the shop for a generated load: the serial order, executed whole, gives every read its value and the final tables; it keeps every node's order; nobody commits before a transaction it read from.
+    ensures serialized { IsSerialized (SetsUp (command_of (texts words.now.items)) (S.left input.old)) result.history }
     ensures read_fault { result.status ≡ 3 → Rose (S.faults input.old) (S.faults input.new) × Keeps (K.written out.old) (K.written out.new) × (result.history ≡ None) }
     ensures write_fault { result.status ≡ 4 → Rose (K.faults out.old) (K.faults out.new) }
     ensures out_of_memory { result.status ≡ 8 → Keeps (K.written out.old) (K.written out.new) × (result.history ≡ None) }
-    ensures unread { command_of (texts words.now.items) ≢ Some Replay → input.new ≡ input.old }
+    ensures unread { reads (command_of (texts words.now.items)) ≡ false → input.new ≡ input.old }
 {
     match command_of(words) {
-        Some(Command::Replay) => replay_source(alloc, input, out),
+        Some(Command::Replay) => run_source(alloc, Mode::Replay, input, out),
+        Some(Command::Turns) => run_source(alloc, Mode::Turns, input, out),
+        Some(Command::Load { number, size }) => tell_of(out, load(alloc, number, size)),
         Some(_) => tell(out, NOT_BUILT, b"not built\n", None),
         None => tell(out, BAD_WORDS, b"bad words\n", None),
     }
 }
 
-fn replay_source<S: Source, K: Sink>(alloc: Global, input: &mut S, out: &mut K) -> Ended
-    ensures told { result.status ≢ 3 → result.status ≢ 8 → (d : Told) × IfSome (S.left input.old) (λ bytes. Replays bytes d)
+/// Reads the input, and runs its script.
+fn run_source<S: Source, K: Sink>(alloc: Global, mode: Mode, input: &mut S, out: &mut K) -> Ended
+    ensures told { result.status ≢ 3 → result.status ≢ 8 → (d : Told) × IfSome (S.left input.old) (λ bytes. TellsBytes (run_by mode) bytes d)
         × IsTold d result.status result.history (K.written out.old) (K.written out.new) }
-    ensures serialized { IsSerialized (λ m. IfSome (S.left input.old) (λ bytes. SetsUp bytes m)) result.history }
+    ensures serialized { IsSerialized (λ m. IfSome (S.left input.old) (λ bytes. IsSetUp bytes m)) result.history }
     ensures read_fault { result.status ≡ 3 → Rose (S.faults input.old) (S.faults input.new) × Keeps (K.written out.old) (K.written out.new) × (result.history ≡ None) }
     ensures write_fault { result.status ≡ 4 → Rose (K.faults out.old) (K.faults out.new) }
     ensures out_of_memory { result.status ≡ 8 → Keeps (K.written out.old) (K.written out.new) × (result.history ≡ None) }
@@ -64,7 +69,19 @@ fn replay_source<S: Source, K: Sink>(alloc: Global, input: &mut S, out: &mut K) 
         Err(ReadError::ReadFault) => return silent(READ_FAULT),
         Err(ReadError::OutOfMemory) => return silent(OUT_OF_MEMORY),
     };
-    match replay_input(alloc, &bytes) {
+    tell_of(out, run_input(alloc, mode, &bytes))
+}
+
+/// Tells what there is to tell; nothing where memory is wanting.
+fn tell_of<K: Sink>(out: &mut K, telling: Result<Telling, AllocError>) -> Ended
+    requires { IfOk telling (λ t. IsTellable t.status) }
+    ensures told { MatchResult telling (λ t. IsTold (told_by t) result.status result.history (K.written out.old) (K.written out.new)) (λ _. result.status ≡ 8) }
+    ensures history { MatchResult telling (λ t. result.history ≡ t.history) (λ _. result.history ≡ None) }
+    ensures write_fault { result.status ≡ 4 → Rose (K.faults out.old) (K.faults out.new) }
+    ensures out_of_memory { result.status ≡ 8 → Keeps (K.written out.old) (K.written out.new) × (result.history ≡ None) }
+    ensures no_read_fault { result.status ≢ 3 }
+{
+    match telling {
         Ok(
             Telling {
                 status,

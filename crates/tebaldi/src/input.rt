@@ -1,4 +1,4 @@
-//! The command `replay`: the script as one interleaving of its sessions.
+//! The commands that read an input: the run of its script over the store of its tree.
 
 ghost use Rattle.std.specs.Prelude.{◌≡◌, ◌≤◌, length, IfOk, Ok};
 ghost use Rattle.tebaldi.specs.Tellings.{told_by, IsTellable};
@@ -8,9 +8,11 @@ ghost use Rattle.tree_toml.specs.Meaning.{setup_of};
 ghost use Rattle.tree_toml.specs.Seen.{setup_view};
 ghost use Rattle.tree_toml.specs.Sound.{IsWhole};
 ghost use Rattle.tebaldi.specs.Stores.{names_of};
-ghost use Rattle.tebaldi.specs.Runs.{TellsInput, TellsParts, TellsTree, TellsScript, SetsUp, IsSerialized};
+ghost use Rattle.tebaldi.specs.Runs.{run_by};
+ghost use Rattle.tebaldi.specs.Tells.{TellsInput, TellsParts, TellsTree, TellsScript, IsSetUp, IsSerialized};
 
-use crate::report::run_script;
+use crate::report::report_of;
+use crate::run::{Execution, Mode, execute};
 use crate::telling::{BAD_TREE, OK, TOO_LONG, Telling, bad_line, bad_tree, fault};
 use script_text::{ScriptError, count_lines, parse_script, split_input};
 use std::alloc::{AllocError, Global};
@@ -20,48 +22,48 @@ use tree_toml::{Setup, TreeText, read_tree};
 const MOST_LINES: usize = 65_536;
 
 /// Runs an input: the tree part, the separator line, and the script part.
-pub fn replay_input(alloc: Global, bytes: &[u8]) -> Result<Telling, AllocError>
-    ensures told { IfOk result (λ t. TellsInput bytes.now (told_by t)) }
+pub fn run_input(alloc: Global, mode: Mode, bytes: &[u8]) -> Result<Telling, AllocError>
+    ensures told { IfOk result (λ t. TellsInput (run_by mode) bytes.now (told_by t)) }
     ensures status { IfOk result (λ t. IsTellable t.status) }
-    ensures serialized { IfOk result (λ t. IsSerialized (SetsUp bytes.now) t.history) }
+    ensures serialized { IfOk result (λ t. IsSerialized (IsSetUp bytes.now) t.history) }
 {
     match split_input(bytes) {
-        Some((tree, script)) => replay_parts(alloc, tree, script),
+        Some((tree, script)) => run_parts(alloc, mode, tree, script),
         None => fault(alloc, BAD_TREE, "bad tree: no separator\n"),
     }
 }
 
-fn replay_parts(alloc: Global, tree: &[u8], script: &[u8]) -> Result<Telling, AllocError>
-    ensures told { IfOk result (λ t. TellsParts tree.now script.now (told_by t)) }
+fn run_parts(alloc: Global, mode: Mode, tree: &[u8], script: &[u8]) -> Result<Telling, AllocError>
+    ensures told { IfOk result (λ t. TellsParts (run_by mode) tree.now script.now (told_by t)) }
     ensures status { IfOk result (λ t. IsTellable t.status) }
     ensures serialized { IfOk result (λ t. IsSerialized (λ m. setup_of tree.now ≡ Ok m) t.history) }
 {
     if count_lines(script) > MOST_LINES {
         fault(alloc, TOO_LONG, "too long\n")
     } else {
-        replay_tree(alloc, tree, script)
+        run_tree(alloc, mode, tree, script)
     }
 }
 
 /// Reads the tree part, and runs the script over its store.
-fn replay_tree(alloc: Global, tree: &[u8], script: &[u8]) -> Result<Telling, AllocError>
+fn run_tree(alloc: Global, mode: Mode, tree: &[u8], script: &[u8]) -> Result<Telling, AllocError>
     requires { length (lines_of script.now) ≤ 65536 }
-    ensures told { IfOk result (λ t. TellsTree (setup_of tree.now) script.now (told_by t)) }
+    ensures told { IfOk result (λ t. TellsTree (run_by mode) (setup_of tree.now) script.now (told_by t)) }
     ensures status { IfOk result (λ t. IsTellable t.status) }
     ensures serialized { IfOk result (λ t. IsSerialized (λ m. setup_of tree.now ≡ Ok m) t.history) }
 {
     match read_tree(alloc, tree) {
-        Ok(setup) => replay_setup(alloc, setup, script),
+        Ok(setup) => run_script(alloc, mode, setup, script),
         Err(TreeText::OutOfMemory) => Err(AllocError),
         Err(why) => bad_tree(alloc, &why),
     }
 }
 
 /// Runs a script over the store of a setup.
-fn replay_setup(alloc: Global, setup: Setup, script: &[u8]) -> Result<Telling, AllocError>
+fn run_script(alloc: Global, mode: Mode, setup: Setup, script: &[u8]) -> Result<Telling, AllocError>
     requires whole { IsWhole (setup_view setup) }
     requires lines { length (lines_of script.now) ≤ 65536 }
-    ensures told { IfOk result (λ t. TellsScript (setup_view setup) (script_of (names_of (setup_view setup)) setup.format script.now) (told_by t)) }
+    ensures told { IfOk result (λ t. TellsScript (run_by mode) (setup_view setup) (script_of (names_of (setup_view setup)) setup.format script.now) (told_by t)) }
     ensures status { IfOk result (λ t. IsTellable t.status) }
     ensures serialized { IfOk result (λ t. IsSerialized (λ m. setup_view setup ≡ m) t.history) }
 {
@@ -70,10 +72,11 @@ fn replay_setup(alloc: Global, setup: Setup, script: &[u8]) -> Result<Telling, A
         Err(ScriptError::BadLine { number, why }) => return bad_line(alloc, number, why),
         Err(ScriptError::OutOfMemory) => return Err(AllocError),
     };
-    let (text, history) = run_script(alloc, setup, &lines)?;
+    let Execution { engine, log } = execute(alloc, mode, setup, &lines)?;
+    let text = report_of(alloc, &engine, &log)?;
     Ok(Telling {
         status: OK,
         text,
-        history: Some(history),
+        history: Some(engine.into_history()),
     })
 }
