@@ -12,3 +12,4 @@ pub mod Settling
 pub mod Horizons
 pub mod Telling
 pub mod Worked
+pub mod Closings

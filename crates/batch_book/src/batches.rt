@@ -1,10 +1,10 @@
 //! The batches of one node.
 
-ghost use Rattle.std.specs.Prelude.{◌≡◌, ◌<◌, ◌≤◌, ◌+◌, ◌∷◌, ℕ, [], List, length, OnOk, IsTrue, Some};
+ghost use Rattle.std.specs.Prelude.{◌≡◌, ◌<◌, ◌≤◌, ◌+◌, ◌∷◌, ℕ, [], List, length, ltb, OnOk, IsTrue, Some};
 ghost use Rattle.teb_history.specs.declared.Event.{Event};
 ghost use Rattle.teb_history.specs.Written.{txn_of};
 ghost use Rattle.teb_rules.specs.Setup.{Setup};
-ghost use Rattle.teb_rules.specs.Batches.{start};
+ghost use Rattle.teb_rules.specs.Batches.{start, close};
 ghost use Rattle.batch_book.specs.Histories.{BatchesOf, ClosedBelow, full_at, closing, Joins, Finishes, MayCome};
 ghost use Rattle.batch_book.specs.Book.{has_joined, IsNew};
 
@@ -45,7 +45,7 @@ impl Model for Batches {
     ghost invariant = { λ b. IsKept b.joined.items b.running.items b.batches.items };
 }
 
-/// `join`, `finish` and `full` cost what the unfinished members are, `start`, `close` and `horizon` a binary search. `join` also
+/// `join`, `finish` and `full` cost what the unfinished members are, `start`, `close`, `is_closed_before` and `horizon` a binary search. `join` also
 /// looks once, over all calls, at each member whose batch has closed.
 impl Batches {
     /// The batches of an empty history. A batch is full where it has admitted `size`.
@@ -127,6 +127,18 @@ impl Batches {
         ensures { (S : Setup) (H : List Event) (n : ℕ) → BatchesOf self.now S H n → result ≡ closing S H n t.0 }
     {
         self.batch(t).close
+    }
+
+    /// Whether the batch of u closed before that of t started.
+    pub fn is_closed_before(&self, u: Txn, t: Txn) -> bool
+        requires closed { IsTrue (has_joined self.now u.0) }
+        requires started { IsTrue (has_joined self.now t.0) }
+        ensures { (S : Setup) (H : List Event) (n : ℕ) → BatchesOf self.now S H n → result ≡ ltb (close S H n u.0) (start S H n t.0) }
+    {
+        match self.close(u) {
+            Some(close) => close < self.start(t),
+            None => false,
+        }
     }
 
     /// A transaction that has joined, before which nobody was of the batch of t or of one concurrent with it: the first one

@@ -1,6 +1,6 @@
-pub mod SortedPiles
 pub mod PileEdits
 pub mod OrderlyHistories
+pub mod OwnAccesses
 pub mod LawfulHistories
 pub mod Noted
 pub mod Sources

@@ -1,14 +1,12 @@
 -- What one more event changes of who is unfinished, and what holds of histories whose events could come.
-use Rattle.std.proofs.Common.{◌≡◌, ◌⊎◌, ℕ, suc, ◌<◌, ◌≤◌, Bool, true, false, not, ◌&&◌, ◌||◌, List, [], ◌∷◌, ◌++◌, refl, sym, ◌∙◌, ap, subst, inl, inr, arith}
+use Rattle.std.proofs.Common.{◌≡◌, ◌⊎◌, ℕ, ◌<◌, ◌≤◌, Bool, true, false, not, ◌&&◌, ◌||◌, List, [], ◌∷◌, refl, sym, ◌∙◌, ap, subst, inl, inr, arith}
 use Rattle.std.proofs.lemmas.Bool.{eqb-true, false_from_ne_true}
-use Rattle.teb_names.specs.declared.Txn.{Txn}
-use Rattle.teb_names.specs.declared.Cell.{Cell}
 use Rattle.teb_history.specs.declared.Event.{Event}
 use Rattle.teb_history.specs.declared.Event.TheVariants.{Began, Got, Put, Ready, Done, Gone, Told}
 use Rattle.teb_history.specs.Positions.{first_event, came}
 use Rattle.teb_history.specs.Phases.{is_began, is_done, is_gone, began_at, done_at, gone_at, begun, committed, aborted, unfinished, begun_count}
 use Rattle.teb_history.proofs.Any.{came_any}
-use Rattle.dependency_book.specs.Dependencies.{Orderly, all_accesses}
+use Rattle.dependency_book.specs.Dependencies.{Orderly}
 
 came_more : (q : Event → Bool) (e : Event) (P : List Event) → came (e ∷ P) (first_event q (e ∷ P)) ≡ (q e || came P (first_event q P))
 came_more q e P = came_any q (e ∷ P) ∙ ap (λ (b : Bool). q e || b) (sym (came_any q P))
@@ -126,27 +124,3 @@ pub fresh : (P : List Event) (u : ℕ) → Orderly P → begun_count P < u → (
 fresh P u o lt =
     let k = known P u o in
     (false_from_ne_true _ (λ h. omega (arith, k.begins h)), false_from_ne_true _ (λ h. omega (arith, k.commits h)), false_from_ne_true _ (λ h. omega (arith, k.aborts h)))
-
--- accesses are of those up to the count
-abbrev pub AllUpto : ℕ → List (Txn × Cell) → Type 0
-AllUpto n [] = Unit {0}
-AllUpto n (a ∷ as_) = (a.0.0 ≤ n) × AllUpto n as_
-
-upto_more : (m n : ℕ) (as_ : List (Txn × Cell)) → m ≤ n → AllUpto m as_ → AllUpto n as_
-upto_more m n [] le h = tt
-upto_more m n (a ∷ as_) le h = (omega (arith, h.0), upto_more m n as_ le h.1)
-
-upto_push : (n : ℕ) (as_ : List (Txn × Cell)) (a : Txn × Cell) → AllUpto n as_ → a.0.0 ≤ n → AllUpto n (as_ ++ a ∷ [])
-upto_push n [] a h le = (le, tt)
-upto_push n (b ∷ bs) a h le = (h.0, upto_push n bs a h.1 le)
-
-pub accesses_upto : (P : List Event) → Orderly P → AllUpto (begun_count P) (all_accesses P)
-unfolding Orderly begun_count all_accesses
-accesses_upto [] o = tt
-accesses_upto (Began t s k i ∷ P) o = upto_more (begun_count P) (suc (begun_count P)) (all_accesses P) (omega arith) (accesses_upto P o.1)
-accesses_upto (Got t x w v ∷ P) o = upto_push (begun_count P) (all_accesses P) (t, x) (accesses_upto P o.1) ((known P t.0 o.1).begins (unfinished_parts P t.0 o.0).0)
-accesses_upto (Put t x v ∷ P) o = upto_push (begun_count P) (all_accesses P) (t, x) (accesses_upto P o.1) ((known P t.0 o.1).begins (unfinished_parts P t.0 o.0).0)
-accesses_upto (Ready t ∷ P) o = accesses_upto P o.1
-accesses_upto (Done t ∷ P) o = accesses_upto P o.1
-accesses_upto (Gone t c ∷ P) o = accesses_upto P o.1
-accesses_upto (Told t ∷ P) o = accesses_upto P o.1

@@ -8,23 +8,21 @@ use Rattle.teb_names.specs.Cells.{cell_cmp}
 use Rattle.teb_history.specs.declared.Event.{Event}
 use Rattle.teb_history.specs.Ascending.{IsAscendingBy}
 use Rattle.teb_history.specs.Live.{number_of}
+use Rattle.key_piles.specs.Piles.{pile}
+use Rattle.dependency_book.specs.declared.access.Access.{Access}
 use Rattle.dependency_book.specs.declared.registers.Registers.{Registers}
-use Rattle.dependency_book.specs.Piles.{pile, pile_in, IsPiled, HasRoom}
-use Rattle.dependency_book.specs.Dependencies.{readers, writers, sources, unfinished_accesses, unfinished_txns, Orderly}
+use Rattle.dependency_book.specs.Dependencies.{readers, writers, sources, accesses, unfinished_txns, Orderly}
 
 abbrev pub txn_cmp : Txn → Txn → Ordering
 txn_cmp t u = nat_cmp t.0 u.0
 
--- each list of values beside the list of their keys; who is unfinished; and who of these accessed which cell
+-- who read and who put which cell; who read from whom; who is unfinished; and what each of these accessed
 pub record Lists : Type 0 where
-  pub read_cells : List Cell
-  pub readers : List (Txn × Txn)
-  pub put_cells : List Cell
-  pub writers : List Txn
-  pub reading : List Txn
-  pub sources : List Txn
+  pub readers : List (Cell × (Txn × Txn))
+  pub writers : List (Cell × Txn)
+  pub sources : List (Txn × Txn)
   pub unfinished : List Txn
-  pub accesses : List (Txn × Cell)
+  pub accesses : List (Txn × Access)
 
 -- the lists, and how many more events may be noted without memory
 pub record Shown : Type 0 where
@@ -32,13 +30,16 @@ pub record Shown : Type 0 where
   pub spare : ℕ
 
 abbrev pub readers_in : Lists → Cell → List (Txn × Txn)
-readers_in b x = pile cell_cmp b.read_cells b.readers x
+readers_in b x = pile cell_cmp b.readers x
 
 abbrev pub writers_in : Lists → Cell → List Txn
-writers_in b x = pile cell_cmp b.put_cells b.writers x
+writers_in b x = pile cell_cmp b.writers x
 
 abbrev pub sources_in : Lists → Txn → List Txn
-sources_in b t = pile txn_cmp b.reading b.sources t
+sources_in b t = pile txn_cmp b.sources t
+
+abbrev pub accesses_in : Lists → Txn → List Access
+accesses_in b t = pile txn_cmp b.accesses t
 
 -- the lists are those of a history
 pub record BookOf (b : Lists) (H : List Event) : Type 0 where
@@ -47,36 +48,30 @@ pub record BookOf (b : Lists) (H : List Event) : Type 0 where
   pub writers : (x : Cell) → writers_in b x ≡ writers H x
   pub sources : (t : Txn) → sources_in b t ≡ sources H t
   pub unfinished : b.unfinished ≡ unfinished_txns H
-  pub accesses : b.accesses ≡ unfinished_accesses H
+  pub accesses : (t : Txn) → accesses_in b t ≡ accesses H t
 
 abbrev pub lists_of : Registers → Lists
 lists_of r = record {
-  read_cells = r.readers.keys.items;
-  readers = r.readers.values.items;
-  put_cells = r.writers.keys.items;
-  writers = r.writers.values.items;
-  reading = r.sources.keys.items;
-  sources = r.sources.values.items;
+  readers = r.readers.entries;
+  writers = r.writers.entries;
+  sources = r.sources.entries;
   unfinished = r.unfinished.items;
-  accesses = r.accesses.items;
+  accesses = r.accesses.entries;
 }
 
--- the piles are sorted, and sources ascend
-pub record IsSound (r : Registers) : Type 0 where
-  pub readers : IsPiled cell_cmp r.readers
-  pub writers : IsPiled cell_cmp r.writers
-  pub sources : IsPiled txn_cmp r.sources
-  pub ascending : (t : Txn) → IsAscendingBy number_of (pile_in txn_cmp r.sources t)
+-- the sources of each transaction ascend
+abbrev pub SourcesAscend : List (Txn × Txn) → Type 0
+SourcesAscend es = (t : Txn) → IsAscendingBy number_of (pile txn_cmp es t)
 
--- each vector has room for n more
+-- each list has room for n more
 pub record HasRooms (r : Registers) (n : ℕ) : Type 0 where
-  pub readers : HasRoom r.readers n
-  pub writers : HasRoom r.writers n
-  pub sources : HasRoom r.sources n
+  pub readers : n ≤ r.readers.spare
+  pub writers : n ≤ r.writers.spare
+  pub sources : n ≤ r.sources.spare
   pub unfinished : vec_len r.unfinished + n ≤ vec_capacity r.unfinished
-  pub accesses : vec_len r.accesses + n ≤ vec_capacity r.accesses
+  pub accesses : n ≤ r.accesses.spare
 
--- the registers are sound, and have room for so many events
+-- the sources ascend, and there is room for so many events
 pub record IsBook (r : Registers) (n : ℕ) : Type 0 where
-  pub sound : IsSound r
+  pub ascending : SourcesAscend r.sources.entries
   pub rooms : HasRooms r n

@@ -1,3 +1,2 @@
-pub mod Piles
 pub mod Dependencies
 pub mod Books

@@ -51,7 +51,10 @@ impl Book {
         Ok(())
     }
 
-    /// Notes the next event of the history. It takes one place of the room at most. An access costs a search by its cell, and an abort what its transaction accessed.
+    /// Notes the next event of the history. It takes one place of the room at most.
+    ///
+    /// A read costs a search by its cell, and a put also goes through what its transaction accessed. A commit costs as much as
+    /// its transaction accessed, an abort also what was read or put in the same cells since; both go through the unfinished.
     pub fn note(&mut self, e: Event)
         requires { 0 < self.old.spare }
         ensures spare { self.old.spare ≤ self.new.spare + 1 }

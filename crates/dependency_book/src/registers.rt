@@ -6,11 +6,12 @@ ghost use Rattle.teb_names.specs.declared.Session.{Session};
 ghost use Rattle.teb_names.specs.declared.Kind.{Kind};
 ghost use Rattle.teb_history.specs.declared.Event.{Event};
 ghost use Rattle.teb_history.specs.declared.Event.TheVariants as event;
-ghost use Rattle.dependency_book.specs.Books.{BookOf, lists_of, IsSound, HasRooms};
+ghost use Rattle.dependency_book.specs.Books.{BookOf, lists_of, SourcesAscend, HasRooms};
 ghost use Rattle.dependency_book.specs.Dependencies.{MayFollow};
 
+use crate::access::Access;
 use crate::edits;
-use crate::piles::Piles;
+use key_piles::Piles;
 use std::alloc::{AllocError, Global};
 use teb_history::Event;
 use teb_names::{Cell, Txn};
@@ -26,13 +27,13 @@ pub struct Registers {
     pub(crate) sources: Piles<Txn, Txn>,
     // In ascending number.
     pub(crate) unfinished: Vec<Txn>,
-    // The accesses of the unfinished ones, in order.
-    pub(crate) accesses: Vec<(Txn, Cell)>,
+    // By unfinished transaction, in order of access: each read, and the first put of each cell.
+    pub(crate) accesses: Piles<Txn, Access>,
 }
 
 impl Registers {
     pub(crate) fn new(alloc: Global) -> Self
-        ensures sound { IsSound result }
+        ensures ascending { SourcesAscend result.sources.entries }
         ensures book { BookOf (lists_of result) [] }
     {
         Registers {
@@ -40,14 +41,12 @@ impl Registers {
             writers: Piles::new(alloc),
             sources: Piles::new(alloc),
             unfinished: Vec::new(alloc),
-            accesses: Vec::new(alloc),
+            accesses: Piles::new(alloc),
         }
     }
 
     /// Makes room for n events.
     pub(crate) fn reserve(&mut self, n: usize) -> Result<(), AllocError>
-        requires { IsSound self.old }
-        ensures sound { IsSound self.new }
         ensures lists { lists_of self.new ≡ lists_of self.old }
         ensures room { OnOk result (HasRooms self.new n) }
         ensures kept { (m : ℕ) → HasRooms self.old m → HasRooms self.new m }
@@ -62,9 +61,9 @@ impl Registers {
 
     /// Notes an event.
     pub(crate) fn note(&mut self, e: Event)
-        requires sound { IsSound self.old }
+        requires ascending { SourcesAscend self.old.sources.entries }
         requires room { HasRooms self.old 1 }
-        ensures sound { IsSound self.new }
+        ensures ascending { SourcesAscend self.new.sources.entries }
         ensures room { (n : ℕ) → HasRooms self.old (n + 1) → HasRooms self.new n }
         ensures book { (P : List Event) → BookOf (lists_of self.old) P → MayFollow P e → BookOf (lists_of self.new) (e ∷ P) }
     {
@@ -85,9 +84,9 @@ impl Registers {
 
     /// A transaction begins.
     fn begin(&mut self, t: Txn)
-        requires sound { IsSound self.old }
+        requires ascending { SourcesAscend self.old.sources.entries }
         requires room { HasRooms self.old 1 }
-        ensures sound { IsSound self.new }
+        ensures ascending { SourcesAscend self.new.sources.entries }
         ensures room { (n : ℕ) → HasRooms self.old (n + 1) → HasRooms self.new n }
         ensures book { (P : List Event) (s : Session) (k : Kind) (i : ℕ) → BookOf (lists_of self.old) P → MayFollow P (event.Began t s k i) → BookOf (lists_of self.new) (event.Began t s k i ∷ P) }
     {
@@ -96,51 +95,56 @@ impl Registers {
 
     /// A transaction reads a cell.
     fn read(&mut self, t: Txn, cell: Cell, from: Txn)
-        requires sound { IsSound self.old }
+        requires ascending { SourcesAscend self.old.sources.entries }
         requires room { HasRooms self.old 1 }
-        ensures sound { IsSound self.new }
+        ensures ascending { SourcesAscend self.new.sources.entries }
         ensures room { (n : ℕ) → HasRooms self.old (n + 1) → HasRooms self.new n }
         ensures book { (P : List Event) (v : Option ℤ) → BookOf (lists_of self.old) P → MayFollow P (event.Got t cell from v) → BookOf (lists_of self.new) (event.Got t cell from v ∷ P) }
     {
-        let end = self.readers.list(cell).len();
-        self.readers.put(cell, end, (t, from));
+        self.readers.push(cell, (t, from));
         edits::add_source(&mut self.sources, t, from);
-        let _ = self.accesses.push((t, cell));
+        let access = Access { cell, wrote: false };
+        self.accesses.push(t, access);
     }
 
     /// A transaction puts a cell.
     fn put(&mut self, t: Txn, cell: Cell)
-        requires sound { IsSound self.old }
+        requires ascending { SourcesAscend self.old.sources.entries }
         requires room { HasRooms self.old 1 }
-        ensures sound { IsSound self.new }
+        ensures ascending { SourcesAscend self.new.sources.entries }
         ensures room { (n : ℕ) → HasRooms self.old (n + 1) → HasRooms self.new n }
         ensures book { (P : List Event) (v : Option ℤ) → BookOf (lists_of self.old) P → MayFollow P (event.Put t cell v) → BookOf (lists_of self.new) (event.Put t cell v ∷ P) }
     {
-        edits::add_writer(&mut self.writers, cell, t);
-        let _ = self.accesses.push((t, cell));
+        if edits::has_put(self.accesses.list(t), cell) {
+            return;
+        }
+        self.writers.push(cell, t);
+        let access = Access { cell, wrote: true };
+        self.accesses.push(t, access);
     }
 
     /// A transaction commits.
     fn commit(&mut self, t: Txn)
-        requires { IsSound self.old }
-        ensures sound { IsSound self.new }
+        requires { SourcesAscend self.old.sources.entries }
+        ensures ascending { SourcesAscend self.new.sources.entries }
         ensures room { (n : ℕ) → HasRooms self.old n → HasRooms self.new n }
         ensures book { (P : List Event) → BookOf (lists_of self.old) P → MayFollow P (event.Done t) → BookOf (lists_of self.new) (event.Done t ∷ P) }
     {
         self.unfinished.retain(|u| *u != t);
-        self.accesses.retain(|access| access.0 != t);
+        edits::clear(&mut self.accesses, t);
     }
 
     /// A transaction is aborted.
     fn abort(&mut self, t: Txn)
-        requires { IsSound self.old }
-        ensures sound { IsSound self.new }
+        requires { SourcesAscend self.old.sources.entries }
+        ensures ascending { SourcesAscend self.new.sources.entries }
         ensures room { (n : ℕ) → HasRooms self.old n → HasRooms self.new n }
         ensures book { (P : List Event) (c : Cause) → BookOf (lists_of self.old) P → MayFollow P (event.Gone t c) → BookOf (lists_of self.new) (event.Gone t c ∷ P) }
     {
-        edits::forget_accesses(&mut self.readers, &mut self.writers, &self.accesses, t);
-        edits::forget_sources(&mut self.sources, t);
+        let accesses = self.accesses.list(t);
+        edits::forget_accesses(&mut self.readers, &mut self.writers, accesses, t);
+        edits::clear(&mut self.accesses, t);
+        edits::clear(&mut self.sources, t);
         self.unfinished.retain(|u| *u != t);
-        self.accesses.retain(|access| access.0 != t);
     }
 }

@@ -90,8 +90,11 @@ fn an_abort_takes_out_what_its_transaction_did(rt: HostRuntime) -> Result<(), Fa
         put(1, X),
         got(2, X, 1),
         put(2, X),
+        put(2, X),
         got(3, X, 1),
+        got(2, X, 1),
         got(2, Y, 0),
+        put(3, X),
         Event::Ready(Txn(3)),
         Event::Gone {
             txn: Txn(2),
@@ -100,7 +103,7 @@ fn an_abort_takes_out_what_its_transaction_did(rt: HostRuntime) -> Result<(), Fa
         Event::Done(Txn(1)),
     ];
     let book = book_of(&rt, &events)?;
-    assert_eq!(rt; book.writers(X), [Txn(1)].as_slice());
+    assert_eq!(rt; book.writers(X), [Txn(1), Txn(3)].as_slice());
     assert_eq!(rt; book.readers(X), [(Txn(3), Txn(1))].as_slice());
     assert!(rt; book.readers(Y).is_empty());
     assert!(rt; book.read_from(Txn(2)).is_empty());

@@ -5,8 +5,8 @@ use Rattle.teb_rules.specs.Setup.{Setup}
 use Rattle.phase_api.specs.Told.{IsOrderly}
 use Rattle.nexus_locks.specs.Standing.{LocksStand}
 use Rattle.runtime_pipeline.specs.Standing.{PipelineStands}
-use Rattle.timestamp_node.specs.Standing.{StampsStand, room_of as stamps_room}
-use Rattle.snapshot_node.specs.Standing.{SnapshotStand, room_of as snapshot_room}
+use Rattle.timestamp_node.specs.Standing.{StampsStand}
+use Rattle.snapshot_node.specs.Standing.{SnapshotStand}
 use Rattle.engine_core.specs.declared.any_control.AnyControl.{AnyControl}
 use Rattle.engine_core.specs.declared.any_control.AnyControl.TheVariants.{Locks, Pipeline, Timestamp, Snapshot}
 
@@ -26,8 +26,8 @@ any_place (Snapshot c) = c.node.0
 abbrev pub any_spare : AnyControl → ℕ
 any_spare (Locks c) = c.register.book.spare
 any_spare (Pipeline c) = min c.register.book.spare c.cursors.spare
-any_spare (Timestamp c) = min c.batches.spare (stamps_room c.reads)
-any_spare (Snapshot c) = min c.batches.spare (snapshot_room c.writers)
+any_spare (Timestamp c) = min c.batches.spare c.reads.spare
+any_spare (Snapshot c) = min c.batches.spare c.writers.spare
 
 -- the history for which it stands is orderly
 pub any_orderly : (c : AnyControl) (S : Setup) (H : List Event) → any_stands c S H → IsOrderly S H

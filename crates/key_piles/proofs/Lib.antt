@@ -1,1 +1,4 @@
 pub mod SortedPiles
+pub mod SpreadPiles
+pub mod TakenMatches
+pub mod CellPiles

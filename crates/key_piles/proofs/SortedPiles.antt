@@ -1,4 +1,4 @@
--- Piles in two lists that are sorted by key: where a pile stands, and what edits at its places make.
+-- Piles in two lists that are sorted by key: where a pile_beside stands, and what edits at its places make.
 use Rattle.std.proofs.Common.{◌≡◌, ℕ, zero, suc, ◌+◌, ◌-◌, ◌<◌, ◌≤◌, Bool, true, false, cond, not, List, [], ◌∷◌, length, take, drop, get_or, refl, sym, ◌∙◌, ap, subst, arith}
 use Rattle.std.specs.declared.cmp.Ordering.{Ordering}
 use Rattle.std.specs.declared.cmp.Ordering.TheVariants.{Less, Equal, Greater}
@@ -7,7 +7,7 @@ use Rattle.std.specs.Cmp.{IsTotalOrder}
 use Rattle.std.specs.List.{insert, remove}
 use Rattle.std.specs.List.Sorted.{IsPartitionPoint, IsPartitionedBy}
 use Rattle.std.proofs.lemmas.Cmp.{upto, tied_itself, alike_right}
-use Rattle.key_piles.specs.Piles.{pile, NoneBelow, Ascends, passing, lows, tops}
+use Rattle.key_piles.specs.Buckets.{pile_beside, NoneBelow, Ascends, passing, lows, tops}
 
 not_less : (o : Ordering) → is_gt o ≡ false → is_lt (ordering_reverse o) ≡ false
 not_less Less h = refl
@@ -123,21 +123,21 @@ module _ {K : Type 0} (R : K → K → Ordering) (total : IsTotalOrder R) where
     | above e ↦ let z = lows_rest j k js a.0 (ap is_lt e) in rw e (omega arith)
   ]
 
-  -- keys that tie have one pile
-  pub pile_tied : {V : Type 0} (ks : List K) (vs : List V) (k q : K) → R k q ≡ Equal → pile R ks vs q ≡ pile R ks vs k
+  -- keys that tie have one pile_beside
+  pub pile_tied : {V : Type 0} (ks : List K) (vs : List V) (k q : K) → R k q ≡ Equal → pile_beside R ks vs q ≡ pile_beside R ks vs k
   pile_tied [] vs k q e = refl
   pile_tied (j ∷ js) [] k q e = refl
-  pile_tied (j ∷ js) (v ∷ vs) k q e = rw (pile_tied js vs k q e) (ap (λ o. cond (is_eq o) (v ∷ pile R js vs k) (pile R js vs k)) (sym (alike_right total k q j e)))
+  pile_tied (j ∷ js) (v ∷ vs) k q e = rw (pile_tied js vs k q e) (ap (λ o. cond (is_eq o) (v ∷ pile_beside R js vs k) (pile_beside R js vs k)) (sym (alike_right total k q j e)))
 
-  -- a pile stands between the keys below its own and those above it
+  -- a pile_beside stands between the keys below its own and those above it
   pub pile_range : {V : Type 0} (ks : List K) (vs : List V) (k : K) → Ascends R ks → length ks ≡ length vs
-      → take (tops R ks k - lows R ks k) (drop (lows R ks k) vs) ≡ pile R ks vs k
+      → take (tops R ks k - lows R ks k) (drop (lows R ks k) vs) ≡ pile_beside R ks vs k
   pile_range [] vs k a n = refl
   pile_range (j ∷ js) [] k a n = absurd (omega arith)
   pile_range {V} (j ∷ js) (v ∷ vs) k a n = go (R j k) refl (pile_range js vs k a.1 (omega arith))
     where
-      go : (o : Ordering) → R j k ≡ o → take (tops R js k - lows R js k) (drop (lows R js k) vs) ≡ pile R js vs k
-          → take (cond (not (is_gt o)) (suc (tops R js k)) (tops R js k) - cond (is_lt o) (suc (lows R js k)) (lows R js k)) (drop (cond (is_lt o) (suc (lows R js k)) (lows R js k)) (v ∷ vs)) ≡ cond (is_eq o) (v ∷ pile R js vs k) (pile R js vs k)
+      go : (o : Ordering) → R j k ≡ o → take (tops R js k - lows R js k) (drop (lows R js k) vs) ≡ pile_beside R js vs k
+          → take (cond (not (is_gt o)) (suc (tops R js k)) (tops R js k) - cond (is_lt o) (suc (lows R js k)) (lows R js k)) (drop (cond (is_lt o) (suc (lows R js k)) (lows R js k)) (v ∷ vs)) ≡ cond (is_eq o) (v ∷ pile_beside R js vs k) (pile_beside R js vs k)
       go Less e ih = let m : suc (tops R js k) - suc (lows R js k) ≡ tops R js k - lows R js k = omega arith in ap (λ (i : ℕ). take i (drop (lows R js k) vs)) m ∙ ih
       go Equal e ih =
           let z : lows R js k ≡ 0 = lows_rest j k js a.0 (ap is_lt e) in
@@ -151,26 +151,26 @@ module _ {K : Type 0} (R : K → K → Ordering) (total : IsTotalOrder R) where
           let m : tops R js k - lows R js k ≡ 0 = omega arith in
           ap (λ (i : ℕ). take i (drop (lows R js k) (v ∷ vs))) m ∙ sym (ap (λ (i : ℕ). take i (drop (lows R js k) vs)) m) ∙ ih
 
-  -- how long a pile is
-  pub pile_length : {V : Type 0} (ks : List K) (vs : List V) (k : K) → Ascends R ks → length ks ≡ length vs → lows R ks k + length (pile R ks vs k) ≡ tops R ks k
+  -- how long a pile_beside is
+  pub pile_length : {V : Type 0} (ks : List K) (vs : List V) (k : K) → Ascends R ks → length ks ≡ length vs → lows R ks k + length (pile_beside R ks vs k) ≡ tops R ks k
   pile_length [] vs k a n = omega arith
   pile_length (j ∷ js) [] k a n = absurd (omega arith)
   pile_length (j ∷ js) (v ∷ vs) k a n = go (R j k) refl (pile_length js vs k a.1 (omega arith))
     where
-      go : (o : Ordering) → R j k ≡ o → lows R js k + length (pile R js vs k) ≡ tops R js k
-          → cond (is_lt o) (suc (lows R js k)) (lows R js k) + length (cond (is_eq o) (v ∷ pile R js vs k) (pile R js vs k)) ≡ cond (not (is_gt o)) (suc (tops R js k)) (tops R js k)
+      go : (o : Ordering) → R j k ≡ o → lows R js k + length (pile_beside R js vs k) ≡ tops R js k
+          → cond (is_lt o) (suc (lows R js k)) (lows R js k) + length (cond (is_eq o) (v ∷ pile_beside R js vs k) (pile_beside R js vs k)) ≡ cond (not (is_gt o)) (suc (tops R js k)) (tops R js k)
       go Less e ih = omega arith
       go Equal e ih = omega arith
       go Greater e ih = omega arith
 
   -- an edit at another key
-  pub pile_insert_other : {V : Type 0} (ks : List K) (vs : List V) (p : ℕ) (k q : K) (v : V) → length ks ≡ length vs → p ≤ length ks → is_eq (R k q) ≡ false → pile R (insert ks p k) (insert vs p v) q ≡ pile R ks vs q
+  pub pile_insert_other : {V : Type 0} (ks : List K) (vs : List V) (p : ℕ) (k q : K) (v : V) → length ks ≡ length vs → p ≤ length ks → is_eq (R k q) ≡ false → pile_beside R (insert ks p k) (insert vs p v) q ≡ pile_beside R ks vs q
   pile_insert_other ks vs zero k q v n le off = rw off refl
   pile_insert_other [] vs (suc p) k q v n le off = absurd (omega arith)
   pile_insert_other (j ∷ js) [] (suc p) k q v n le off = absurd (omega arith)
   pile_insert_other {V} (j ∷ js) (w ∷ vs) (suc p) k q v n le off = ap (λ (r : List V). cond (is_eq (R j q)) (w ∷ r) r) (pile_insert_other js vs p k q v (omega arith) (omega arith) off)
 
-  pub pile_remove_other : {V : Type 0} (ks : List K) (vs : List V) (p : ℕ) (q d : K) → length ks ≡ length vs → p < length ks → is_eq (R (get_or ks p d) q) ≡ false → pile R (remove ks p) (remove vs p) q ≡ pile R ks vs q
+  pub pile_remove_other : {V : Type 0} (ks : List K) (vs : List V) (p : ℕ) (q d : K) → length ks ≡ length vs → p < length ks → is_eq (R (get_or ks p d) q) ≡ false → pile_beside R (remove ks p) (remove vs p) q ≡ pile_beside R ks vs q
   pile_remove_other [] vs p q d n lt off = absurd (omega arith)
   pile_remove_other (j ∷ js) [] p q d n lt off = absurd (omega arith)
   pile_remove_other (j ∷ js) (w ∷ vs) zero q d n lt off = rw off refl
@@ -178,15 +178,15 @@ module _ {K : Type 0} (R : K → K → Ordering) (total : IsTotalOrder R) where
 
   -- an edit at the key itself
   pub pile_insert_here : {V : Type 0} (ks : List K) (vs : List V) (p i : ℕ) (k : K) (v : V) → Ascends R ks → length ks ≡ length vs → p ≡ lows R ks k + i → p ≤ tops R ks k
-      → pile R (insert ks p k) (insert vs p v) k ≡ insert (pile R ks vs k) i v
+      → pile_beside R (insert ks p k) (insert vs p v) k ≡ insert (pile_beside R ks vs k) i v
   pile_insert_here ks vs zero i k v a n e le = let z : i ≡ 0 = omega arith in rw (tied_itself total k, z) refl
   pile_insert_here [] vs (suc p) i k v a n e le = absurd (omega arith)
   pile_insert_here (j ∷ js) [] (suc p) i k v a n e le = absurd (omega arith)
   pile_insert_here {V} (j ∷ js) (w ∷ vs) (suc p) i k v a n e le = go (R j k) refl e le (λ h. pile_insert_here js vs p h k v a.1 (omega arith))
     where
       go : (o : Ordering) → R j k ≡ o → suc p ≡ cond (is_lt o) (suc (lows R js k)) (lows R js k) + i → suc p ≤ cond (not (is_gt o)) (suc (tops R js k)) (tops R js k)
-          → ((h : ℕ) → p ≡ lows R js k + h → p ≤ tops R js k → pile R (insert js p k) (insert vs p v) k ≡ insert (pile R js vs k) h v)
-          → cond (is_eq o) (w ∷ pile R (insert js p k) (insert vs p v) k) (pile R (insert js p k) (insert vs p v) k) ≡ insert (cond (is_eq o) (w ∷ pile R js vs k) (pile R js vs k)) i v
+          → ((h : ℕ) → p ≡ lows R js k + h → p ≤ tops R js k → pile_beside R (insert js p k) (insert vs p v) k ≡ insert (pile_beside R js vs k) h v)
+          → cond (is_eq o) (w ∷ pile_beside R (insert js p k) (insert vs p v) k) (pile_beside R (insert js p k) (insert vs p v) k) ≡ insert (cond (is_eq o) (w ∷ pile_beside R js vs k) (pile_beside R js vs k)) i v
       go Less r e le ih = ih i (omega arith) (omega arith)
       go Equal r e le ih =
           let z : lows R js k ≡ 0 = lows_rest j k js a.0 (ap is_lt r) in
@@ -195,20 +195,20 @@ module _ {K : Type 0} (R : K → K → Ordering) (total : IsTotalOrder R) where
       go Greater r e le ih = let t : tops R js k ≡ 0 = tops_rest j k js a.0 r in absurd (omega arith)
 
   pub pile_remove_here : {V : Type 0} (ks : List K) (vs : List V) (p i : ℕ) (k : K) → Ascends R ks → length ks ≡ length vs → p ≡ lows R ks k + i → p < tops R ks k
-      → pile R (remove ks p) (remove vs p) k ≡ remove (pile R ks vs k) i
+      → pile_beside R (remove ks p) (remove vs p) k ≡ remove (pile_beside R ks vs k) i
   pile_remove_here [] vs p i k a n e lt = absurd (omega arith)
   pile_remove_here (j ∷ js) [] p i k a n e lt = absurd (omega arith)
   pile_remove_here {V} (j ∷ js) (w ∷ vs) zero i k a n e lt = go (R j k) refl e lt
     where
-      go : (o : Ordering) → R j k ≡ o → 0 ≡ cond (is_lt o) (suc (lows R js k)) (lows R js k) + i → 0 < cond (not (is_gt o)) (suc (tops R js k)) (tops R js k) → pile R js vs k ≡ remove (cond (is_eq o) (w ∷ pile R js vs k) (pile R js vs k)) i
+      go : (o : Ordering) → R j k ≡ o → 0 ≡ cond (is_lt o) (suc (lows R js k)) (lows R js k) + i → 0 < cond (not (is_gt o)) (suc (tops R js k)) (tops R js k) → pile_beside R js vs k ≡ remove (cond (is_eq o) (w ∷ pile_beside R js vs k) (pile_beside R js vs k)) i
       go Less r e lt = absurd (omega arith)
       go Equal r e lt = let z : i ≡ 0 = omega arith in rw z refl
       go Greater r e lt = let t : tops R js k ≡ 0 = tops_rest j k js a.0 r in absurd (omega arith)
   pile_remove_here {V} (j ∷ js) (w ∷ vs) (suc p) i k a n e lt = go (R j k) refl e lt (λ h. pile_remove_here js vs p h k a.1 (omega arith))
     where
       go : (o : Ordering) → R j k ≡ o → suc p ≡ cond (is_lt o) (suc (lows R js k)) (lows R js k) + i → suc p < cond (not (is_gt o)) (suc (tops R js k)) (tops R js k)
-          → ((h : ℕ) → p ≡ lows R js k + h → p < tops R js k → pile R (remove js p) (remove vs p) k ≡ remove (pile R js vs k) h)
-          → cond (is_eq o) (w ∷ pile R (remove js p) (remove vs p) k) (pile R (remove js p) (remove vs p) k) ≡ remove (cond (is_eq o) (w ∷ pile R js vs k) (pile R js vs k)) i
+          → ((h : ℕ) → p ≡ lows R js k + h → p < tops R js k → pile_beside R (remove js p) (remove vs p) k ≡ remove (pile_beside R js vs k) h)
+          → cond (is_eq o) (w ∷ pile_beside R (remove js p) (remove vs p) k) (pile_beside R (remove js p) (remove vs p) k) ≡ remove (cond (is_eq o) (w ∷ pile_beside R js vs k) (pile_beside R js vs k)) i
       go Less r e lt ih = ih i (omega arith) (omega arith)
       go Equal r e lt ih =
           let z : lows R js k ≡ 0 = lows_rest j k js a.0 (ap is_lt r) in
@@ -216,7 +216,7 @@ module _ {K : Type 0} (R : K → K → Ordering) (total : IsTotalOrder R) where
           rw m (ap (λ (xs : List V). w ∷ xs) (ih p (omega arith) (omega arith)))
       go Greater r e lt ih = let t : tops R js k ≡ 0 = tops_rest j k js a.0 r in absurd (omega arith)
 
-  -- the key at a place of its pile
+  -- the key at a place of its pile_beside
   pub key_here : (ks : List K) (p : ℕ) (k d : K) → Ascends R ks → lows R ks k ≤ p → p < tops R ks k → R (get_or ks p d) k ≡ Equal
   key_here [] p k d a le lt = absurd (omega arith)
   key_here (j ∷ js) zero k d a le lt = elim (compared (R j k)) [
@@ -271,17 +271,17 @@ module _ {K : Type 0} (R : K → K → Ordering) (total : IsTotalOrder R) where
 
   -- the piles after an edit
   pub pile_insert : {V : Type 0} (ks : List K) (vs : List V) (p i : ℕ) (k : K) (v : V) → Ascends R ks → length ks ≡ length vs → p ≡ lows R ks k + i → p ≤ tops R ks k
-      → (q : K) → pile R (insert ks p k) (insert vs p v) q ≡ cond (is_eq (R k q)) (insert (pile R ks vs k) i v) (pile R ks vs q)
+      → (q : K) → pile_beside R (insert ks p k) (insert vs p v) q ≡ cond (is_eq (R k q)) (insert (pile_beside R ks vs k) i v) (pile_beside R ks vs q)
   pile_insert ks vs p i k v a n e le q = go (is_eq (R k q)) refl
     where
-      go : (b : Bool) → is_eq (R k q) ≡ b → pile R (insert ks p k) (insert vs p v) q ≡ cond b (insert (pile R ks vs k) i v) (pile R ks vs q)
+      go : (b : Bool) → is_eq (R k q) ≡ b → pile_beside R (insert ks p k) (insert vs p v) q ≡ cond b (insert (pile_beside R ks vs k) i v) (pile_beside R ks vs q)
       go true h = pile_tied (insert ks p k) (insert vs p v) k q (is_equal _ h) ∙ pile_insert_here ks vs p i k v a n e le
       go false h = pile_insert_other ks vs p k q v n (let z = tops_length ks k in omega arith) h
 
   pub pile_remove : {V : Type 0} (ks : List K) (vs : List V) (p i : ℕ) (k : K) → Ascends R ks → length ks ≡ length vs → p ≡ lows R ks k + i → p < tops R ks k
-      → (q : K) → pile R (remove ks p) (remove vs p) q ≡ cond (is_eq (R k q)) (remove (pile R ks vs k) i) (pile R ks vs q)
+      → (q : K) → pile_beside R (remove ks p) (remove vs p) q ≡ cond (is_eq (R k q)) (remove (pile_beside R ks vs k) i) (pile_beside R ks vs q)
   pile_remove ks vs p i k a n e lt q = go (is_eq (R k q)) refl
     where
-      go : (b : Bool) → is_eq (R k q) ≡ b → pile R (remove ks p) (remove vs p) q ≡ cond b (remove (pile R ks vs k) i) (pile R ks vs q)
+      go : (b : Bool) → is_eq (R k q) ≡ b → pile_beside R (remove ks p) (remove vs p) q ≡ cond b (remove (pile_beside R ks vs k) i) (pile_beside R ks vs q)
       go true h = pile_tied (remove ks p) (remove vs p) k q (is_equal _ h) ∙ pile_remove_here ks vs p i k a n e lt
       go false h = pile_remove_other ks vs p q k n (let z = tops_length ks k in omega arith) (ap is_eq (total.congr _ k q (key_here ks p k k a (omega arith) lt)) ∙ h)

@@ -1,1 +1,4 @@
 pub mod Piles
+pub mod Keys
+pub mod Buckets
+pub mod LastMatches

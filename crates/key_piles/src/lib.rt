@@ -1,8 +1,11 @@
 //! Values in piles, one for each key.
 #![tactic(auto)]
 
+mod bucket;
+mod key;
 mod piles;
 #[cfg(test)]
 mod tests;
 
+pub use key::Key;
 pub use piles::Piles;

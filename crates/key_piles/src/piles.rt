@@ -1,97 +1,180 @@
-//! Values in piles, one for each key, in two vectors that are sorted by key.
+//! Values in piles, one for each key, in buckets of keys.
 
-ghost use Rattle.std.specs.Prelude.{ℕ, ◌≡◌, ◌<◌, ◌≤◌, ◌+◌, length, cond, [], insert, remove, vec_len, vec_capacity, OnOk};
+ghost use Rattle.std.specs.Prelude.{ℕ, ◌≡◌, ◌<◌, ◌≤◌, ◌+◌, ◌%◌, ◌++◌, ◌∷◌, length, get_or, cond, [], insert, remove, OnOk, IfOk, IsFalse};
 ghost use Rattle.std.specs.Ordering.{is_eq};
-ghost use Rattle.key_piles.specs.Piles.{pile, IsPiled, HasRoom, lows, tops, pile_in, Ascends};
+ghost use Rattle.key_piles.specs.Piles.{pile_in};
+ghost use Rattle.key_piles.specs.declared.bucket.Bucket.{Bucket};
+ghost use Rattle.key_piles.specs.Buckets.{entries_of, IsSpread, AreKept, HasRoom};
 
+use crate::Key;
+use crate::bucket::Bucket;
 use std::alloc::{AllocError, Global};
-use std::cmp::Ordering;
+use std::marker::Model;
+
+// How many buckets there are.
+const BUCKETS: usize = 64;
+
+// For how many values each bucket gets room at the least, so that not every `reserve` goes through all of them.
+const AHEAD: usize = 64;
 
 /// Values, each beside its key. The values of a key are one pile, in an order of their own.
+///
+/// An edit moves what stands behind its place in the bucket of its key, and a look-up is two binary searches there.
 #[derive(Drop)]
-pub struct Piles<K, V> {
-    keys: Vec<K>,
-    values: Vec<V>,
+pub struct Piles<K: Key, V: Copy> {
+    alloc: Global,
+    // A key lies in the bucket whose number is the remainder of its spread. There are none before the first `reserve`.
+    buckets: Vec<Bucket<K, V>>,
+    // For how many more values each bucket has room.
+    spare: usize,
 }
 
-impl<K: Ord + Copy, V: Copy> Piles<K, V> {
-    /// No values, and no room.
+impl<K: Key, V: Copy> Model for Piles<K, V> {
+    ghost use Rattle.key_piles.specs.Piles.{Shown};
+
+    ghost Value = { Shown K V };
+
+    ghost use Rattle.key_piles.specs.Buckets.{entries_of, IsSpread};
+
+    ghost view = { λ p. record { entries = entries_of p.buckets.items; spare = p.spare } };
+
+    ghost invariant = { λ p. IsSpread K.cmp K.spread_of p.buckets.items p.spare };
+}
+
+impl<K: Key, V: Copy> Piles<K, V> {
+    /// No values, and no room. Takes no memory.
     pub fn new(alloc: Global) -> Self
-        ensures keys { result.keys.items ≡ [] }
-        ensures values { result.values.items ≡ [] }
-        ensures sorted { IsPiled K.cmp result }
+        ensures entries { result.entries ≡ [] }
+        ensures spare { result.spare ≡ 0 }
     {
         Piles {
-            keys: Vec::new(alloc),
-            values: Vec::new(alloc),
+            alloc,
+            buckets: Vec::new(alloc),
+            spare: 0,
         }
     }
 
-    /// Makes room for n more values.
+    /// Makes room for n more values, whatever their keys. The piles stay, also after an `Err`.
     pub fn reserve(&mut self, n: usize) -> Result<(), AllocError>
-        ensures keys { self.new.keys.items ≡ self.old.keys.items }
-        ensures values { self.new.values.items ≡ self.old.values.items }
-        ensures sorted { IsPiled K.cmp self.old → IsPiled K.cmp self.new }
-        ensures room { OnOk result (HasRoom self.new n) }
-        ensures kept { (m : ℕ) → HasRoom self.old m → HasRoom self.new m }
+        ensures entries { self.new.entries ≡ self.old.entries }
+        ensures room { OnOk result (n ≤ self.new.spare) }
+        ensures kept { self.old.spare ≤ self.new.spare }
     {
-        self.keys.reserve(n)?;
-        self.values.reserve(n)?;
+        if n <= self.spare {
+            return Ok(());
+        }
+        make_buckets(self.alloc, &mut self.buckets)?;
+        let room = n.max(AHEAD);
+        make_room(&mut self.buckets, room)?;
+        self.spare = room;
         Ok(())
     }
 
     /// The pile of a key.
     pub fn list(&self, key: K) -> &[V]
-        requires { IsPiled K.cmp self.now }
         ensures { result.now ≡ pile_in K.cmp self.now key }
     {
-        let start = first(&self.keys, key);
-        let end = behind(&self.keys, key);
-        &self.values[start..end]
+        if self.buckets.is_empty() {
+            return &[];
+        }
+        self.buckets[place_of(&self.buckets, key)].list(key)
     }
 
-    /// Puts a value into the pile of a key, at a place.
+    /// Puts a value into the pile of a key, at a place. It takes one place of the room.
     pub fn put(&mut self, key: K, i: usize, value: V)
-        requires sorted { IsPiled K.cmp self.old }
-        requires room { HasRoom self.old 1 }
+        requires room { 0 < self.old.spare }
         requires within { i ≤ length (pile_in K.cmp self.old key) }
-        ensures sorted { IsPiled K.cmp self.new }
         ensures piles { (q : K) → pile_in K.cmp self.new q ≡ cond (is_eq (K.cmp key q)) (insert (pile_in K.cmp self.old key) i value) (pile_in K.cmp self.old q) }
-        ensures room { (n : ℕ) → HasRoom self.old (n + 1) → HasRoom self.new n }
+        ensures spare { self.old.spare ≡ self.new.spare + 1 }
     {
-        let at = first(&self.keys, key) + i;
-        let _ = self.keys.insert(at, key);
-        let _ = self.values.insert(at, value);
+        let at = place_of(&self.buckets, key);
+        self.buckets[at].put(key, i, value);
+        self.spare -= 1;
+    }
+
+    /// Puts a value behind those of a key. It takes one place of the room.
+    pub fn push(&mut self, key: K, value: V)
+        requires { 0 < self.old.spare }
+        ensures piles { (q : K) → pile_in K.cmp self.new q ≡ cond (is_eq (K.cmp key q)) (pile_in K.cmp self.old key ++ value ∷ []) (pile_in K.cmp self.old q) }
+        ensures spare { self.old.spare ≡ self.new.spare + 1 }
+    {
+        let end = self.list(key).len();
+        self.put(key, end, value);
     }
 
     /// Takes the value at a place out of the pile of a key.
     pub fn take(&mut self, key: K, i: usize)
-        requires sorted { IsPiled K.cmp self.old }
-        requires within { i < length (pile_in K.cmp self.old key) }
-        ensures sorted { IsPiled K.cmp self.new }
+        requires { i < length (pile_in K.cmp self.old key) }
         ensures piles { (q : K) → pile_in K.cmp self.new q ≡ cond (is_eq (K.cmp key q)) (remove (pile_in K.cmp self.old key) i) (pile_in K.cmp self.old q) }
-        ensures room { (n : ℕ) → HasRoom self.old n → HasRoom self.new (n + 1) }
+        ensures spare { self.new.spare ≡ self.old.spare }
     {
-        let at = first(&self.keys, key) + i;
-        self.keys.remove(at);
-        self.values.remove(at);
+        let at = place_of(&self.buckets, key);
+        self.buckets[at].take(key, i);
+    }
+
+    /// Takes the value at a place out of a pile, and puts one into the pile of another key with the same spread. It takes no room.
+    pub fn transfer(&mut self, from: K, i: usize, to: K, j: usize, value: V)
+        requires spread { K.spread_of from ≡ K.spread_of to }
+        requires apart { IsFalse (is_eq (K.cmp from to)) }
+        requires taken { i < length (pile_in K.cmp self.old from) }
+        requires put { j ≤ length (pile_in K.cmp self.old to) }
+        ensures piles { (q : K) → pile_in K.cmp self.new q ≡ cond (is_eq (K.cmp to q)) (insert (pile_in K.cmp self.old to) j value) (cond (is_eq (K.cmp from q)) (remove (pile_in K.cmp self.old from) i) (pile_in K.cmp self.old q)) }
+        ensures spare { self.new.spare ≡ self.old.spare }
+    {
+        let at = place_of(&self.buckets, from);
+        let bucket = &mut self.buckets[at];
+        bucket.take(from, i);
+        bucket.put(to, j, value);
     }
 }
 
-/// Where the keys from a key on begin.
-fn first<K: Ord + Copy>(keys: &[K], key: K) -> usize
-    requires { Ascends K.cmp keys.now }
-    ensures at { result ≡ lows K.cmp keys.now key }
-    ensures low { result ≤ tops K.cmp keys.now key }
+/// The number of the bucket of a key.
+fn place_of<K: Key, V: Copy>(buckets: &[Bucket<K, V>], key: K) -> usize
+    requires { 0 < length buckets.now }
+    ensures at { result ≡ K.spread_of key % length buckets.now }
+    ensures within { result < length buckets.now }
 {
-    keys.partition_point(|k| k.cmp(&key) == Ordering::Less)
+    key.spread() % buckets.len()
 }
 
-/// Where the keys above a key begin.
-fn behind<K: Ord + Copy>(keys: &[K], key: K) -> usize
-    requires { Ascends K.cmp keys.now }
-    ensures at { result ≡ tops K.cmp keys.now key }
-    ensures within { result ≤ length keys.now }
+/// Makes the buckets where there are none.
+fn make_buckets<K: Key, V: Copy>(
+    alloc: Global,
+    buckets: &mut Vec<Bucket<K, V>>,
+) -> Result<(), AllocError>
+    ensures some { OnOk result (0 < length buckets.new.items) }
+    ensures entries { entries_of buckets.new.items ≡ entries_of buckets.old.items }
+    ensures spread { (n : ℕ) → IsSpread K.cmp K.spread_of buckets.old.items n → IsSpread K.cmp K.spread_of buckets.new.items n }
 {
-    keys.partition_point(|k| k.cmp(&key) != Ordering::Greater)
+    if buckets.is_empty() {
+        *buckets = empty_buckets(alloc)?;
+    }
+    Ok(())
+}
+
+/// Buckets with no values and no room.
+fn empty_buckets<K: Key, V: Copy>(alloc: Global) -> Result<Vec<Bucket<K, V>>, AllocError>
+    ensures some { IfOk result (λ bs. 0 < length bs.items) }
+    ensures spread { IfOk result (λ bs. IsSpread K.cmp K.spread_of bs.items 0) }
+    ensures entries { IfOk result (λ bs. entries_of bs.items ≡ []) }
+{
+    let mut buckets = Vec::with_capacity(alloc, BUCKETS)?;
+    for _ in 0..BUCKETS {
+        buckets.push(Bucket::new(alloc))?;
+    }
+    Ok(buckets)
+}
+
+/// Makes room in each bucket.
+fn make_room<K: Key, V: Copy>(
+    buckets: &mut Vec<Bucket<K, V>>,
+    room: usize,
+) -> Result<(), AllocError>
+    ensures kept { AreKept K.cmp buckets.old.items buckets.new.items }
+    ensures room { OnOk result ((i : ℕ) (d : Bucket K V) → i < length buckets.new.items → HasRoom (get_or buckets.new.items i d) room) }
+{
+    for i in 0..buckets.len() {
+        buckets[i].reserve(room)?;
+    }
+    Ok(())
 }

@@ -17,6 +17,10 @@ use Rattle.snapshot_node.proofs.SlotOrder.{slot_tie, slot_is}
 pub one_of : (t u : Txn) → number_of t ≡ number_of u → t ≡ u
 one_of t u e = ap (λ (n : ℕ). record { 0 = n }) e
 
+-- where one is in a pile, by what a search of it found
+pub placed : {xs ys : List Txn} (t : Txn) {r o : Result ℕ ℕ} → xs ≡ ys → r ≡ place_of number_of xs t.0 → r ≡ o → place_of number_of ys t.0 ≡ o
+placed t l f h = ap (λ (zs : List Txn). place_of number_of zs t.0) (sym l) ∙ sym f ∙ h
+
 or_swap : (a b : Bool) → (a || b) ≡ (b || a)
 or_swap true true = refl
 or_swap true false = refl

@@ -15,8 +15,7 @@ use Rattle.teb_names.specs.declared.ControlKind.TheVariants.{Snapshot}
 use Rattle.batch_book.specs.Book.{Book}
 use Rattle.batch_book.specs.Histories.{BatchesOf}
 use Rattle.hold_register.proofs.Orderly.{orderly_none}
-use Rattle.key_piles.specs.declared.piles.Piles.{Piles}
-use Rattle.key_piles.specs.Piles.{pile, pile_in, IsPiled}
+use Rattle.key_piles.specs.Piles.{Shown, pile, pile_in}
 use Rattle.snapshot_node.specs.declared.writers.Slot.{Slot}
 use Rattle.snapshot_node.specs.Slots.{slot_cmp, is_among}
 use Rattle.snapshot_node.specs.Standing.{SnapshotStand, puts_in}
@@ -28,16 +27,16 @@ wrote_none u x = came_any (is_put u x) []
 puts_none : (phase : List Event → ℕ → Bool) (S : Setup) (n : ℕ) (x : Cell) (u : ℕ) → puts_in phase S [] n x u ≡ false
 puts_none phase S n x u = and_right (on S [] n u && phase [] u) (wrote [] u x) (wrote_none u x)
 
-pub stands_none : (S : Setup) (H : List Event) (n : ℕ) (b : Book) (p : Piles Slot Txn) → H ≡ [] → (row S.tree n).control ≡ Snapshot → b.size ≡ (row S.tree n).batch → BatchesOf b S [] n → IsPiled slot_cmp p → p.keys.items ≡ [] → SnapshotStand n b p S H
-stands_none S H n b p e k z h f q = subst (λ (G : List Event). SnapshotStand n b p S G) (sym e) (record {
+pub stands_none : (S : Setup) (H : List Event) (n : ℕ) (b : Book) (p : Shown Slot Txn) → H ≡ [] → (row S.tree n).control ≡ Snapshot → b.size ≡ (row S.tree n).batch → BatchesOf b S [] n → p.entries ≡ [] → SnapshotStand n b p S H
+stands_none S H n b p e k z h q = subst (λ (G : List Event). SnapshotStand n b p S G) (sym e) (record {
   kind = k;
   size = z;
   orderly = orderly_none S;
   batches = h;
-  filed = record { piled = f; ascending = λ s. subst (IsAscendingBy number_of) (sym (bare s)) tt };
+  filed = record { ascending = λ s. subst (IsAscendingBy number_of) (sym (bare s)) tt };
   unfinished = λ x u. ap (is_among u) (bare (record { cell = x; committed = false })) ∙ sym (puts_none unfinished S n x u);
   committed = λ x u. ap (is_among u) (bare (record { cell = x; committed = true })) ∙ sym (puts_none committed S n x u);
 })
   where
     bare : (s : Slot) → pile_in slot_cmp p s ≡ []
-    bare s = ap (λ (ks : List Slot). pile slot_cmp ks p.values.items s) q
+    bare s = ap (λ (es : List (Slot × Txn)). pile slot_cmp es s) q

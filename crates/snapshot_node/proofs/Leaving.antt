@@ -10,8 +10,7 @@ use Rattle.teb_history.specs.declared.Event.TheVariants.{Put}
 use Rattle.teb_history.specs.OwnEvents.{own_events, put_in}
 use Rattle.teb_history.specs.Accesses.{wrote}
 use Rattle.teb_history.proofs.OwnWalks.{wrote_own}
-use Rattle.key_piles.specs.declared.piles.Piles.{Piles}
-use Rattle.key_piles.specs.Piles.{HasRoom}
+use Rattle.key_piles.specs.Piles.{Shown}
 use Rattle.snapshot_node.specs.declared.writers.Slot.{Slot}
 use Rattle.snapshot_node.specs.Slots.{writes_in, IsFiled}
 
@@ -20,22 +19,22 @@ abbrev pub puts : List Event → Cell → Bool
 puts es x = list_any (λ e. is_some (put_in x e)) es
 
 -- of a finish of t that began with the writers a, the events `left` of t's `all` are still to be walked
-pub record IsLeaving (commits : Bool) (t : ℕ) (a b : Piles Slot Txn) (all left : List Event) : Type 0 where
+pub record IsLeaving (commits : Bool) (t : ℕ) (a b : Shown Slot Txn) (all left : List Event) : Type 0 where
   pub filed : IsFiled b
   pub unfinished : (x : Cell) (u : ℕ) → (writes_in b x false u && not (puts left x && eqb t u)) ≡ (writes_in a x false u && not (puts all x && eqb t u))
   pub committed : (x : Cell) (u : ℕ) → (writes_in b x true u || (commits && (puts left x && eqb t u && writes_in b x false t))) ≡ (writes_in a x true u || (commits && (puts all x && eqb t u && writes_in a x false t)))
-  pub room : (n : ℕ) → HasRoom a n → HasRoom b n
+  pub spare : b.spare ≡ a.spare
 
-pub leaving_none : (commits : Bool) (t : ℕ) (a : Piles Slot Txn) (all left : List Event) → left ≡ all → IsFiled a → IsLeaving commits t a a all left
-leaving_none commits t a all left e f = subst (λ (es : List Event). IsLeaving commits t a a all es) (sym e) (record { filed = f; unfinished = λ x u. refl; committed = λ x u. refl; room = λ n h. h })
+pub leaving_none : (commits : Bool) (t : ℕ) (a : Shown Slot Txn) (all left : List Event) → left ≡ all → IsFiled a → IsLeaving commits t a a all left
+leaving_none commits t a all left e f = subst (λ (es : List Event). IsLeaving commits t a a all es) (sym e) (record { filed = f; unfinished = λ x u. refl; committed = λ x u. refl; spare = refl })
 
 -- an event that is no Put
-pub leaving_other : (commits : Bool) (t : ℕ) (a b : Piles Slot Txn) (all left rest : List Event) (e : Event) → IsLeaving commits t a b all left → left ≡ e ∷ rest → ((x : Cell) → is_some (put_in x e) ≡ false) → IsLeaving commits t a b all rest
+pub leaving_other : (commits : Bool) (t : ℕ) (a b : Shown Slot Txn) (all left rest : List Event) (e : Event) → IsLeaving commits t a b all left → left ≡ e ∷ rest → ((x : Cell) → is_some (put_in x e) ≡ false) → IsLeaving commits t a b all rest
 leaving_other commits t a b all left rest e h q none = record {
   filed = h.filed;
   unfinished = λ x u. ap (λ (p : Bool). writes_in b x false u && not (p && eqb t u)) (same x) ∙ h.unfinished x u;
   committed = λ x u. ap (λ (p : Bool). writes_in b x true u || (commits && (p && eqb t u && writes_in b x false t))) (same x) ∙ h.committed x u;
-  room = h.room;
+  spare = h.spare;
 }
   where
     same : (x : Cell) → puts rest x ≡ puts left x
@@ -56,16 +55,16 @@ out_twice true false r e = refl
 out_twice false s r e = refl
 
 -- a Put of y by t, which leaves the unfinished writers of y, and goes over to the committed ones where it commits
-pub leaving_put : (commits : Bool) (t : ℕ) (a b c : Piles Slot Txn) (all left rest : List Event) (s : Txn) (y : Cell) (v : Option ℤ) → IsLeaving commits t a b all left → left ≡ Put s y v ∷ rest
+pub leaving_put : (commits : Bool) (t : ℕ) (a b c : Shown Slot Txn) (all left rest : List Event) (s : Txn) (y : Cell) (v : Option ℤ) → IsLeaving commits t a b all left → left ≡ Put s y v ∷ rest
     → IsFiled c → ((x : Cell) (u : ℕ) → writes_in c x false u ≡ (writes_in b x false u && not (same_cell y x && eqb t u)))
     → ((x : Cell) (u : ℕ) → writes_in c x true u ≡ (writes_in b x true u || (commits && (same_cell y x && eqb t u && writes_in b y false t))))
-    → ((n : ℕ) → HasRoom b n → HasRoom c n) → IsLeaving commits t a c all rest
-leaving_put commits t a b c all left rest s y v h q f out over room = record {
+    → c.spare ≡ b.spare → IsLeaving commits t a c all rest
+leaving_put commits t a b c all left rest s y v h q f out over spare = record {
   filed = f;
   unfinished = λ x u. ap (λ (w : Bool). w && not (puts rest x && eqb t u)) (out x u) ∙ out_twice (writes_in b x false u) (same_cell y x) (puts rest x) (eqb t u)
       ∙ ap (λ (p : Bool). writes_in b x false u && not (p && eqb t u)) (both x) ∙ h.unfinished x u;
   committed = λ x u. (λ j. over x u j || (commits && (puts rest x && eqb t u && out x t j))) ∙ step x u ∙ h.committed x u;
-  room = λ n k. room n (h.room n k);
+  spare = spare ∙ h.spare;
 }
   where
     both : (x : Cell) → (same_cell y x || puts rest x) ≡ puts left x
@@ -115,7 +114,7 @@ none_over true false e f = refl
 none_over false false e f = refl
 
 -- when nothing is left
-pub left_all : (commits : Bool) (H : List Event) (t : ℕ) (a b : Piles Slot Txn) (left : List Event) → IsLeaving commits t a b (own_events H t) left → left ≡ [] →
+pub left_all : (commits : Bool) (H : List Event) (t : ℕ) (a b : Shown Slot Txn) (left : List Event) → IsLeaving commits t a b (own_events H t) left → left ≡ [] →
     ((x : Cell) (u : ℕ) → writes_in b x false u ≡ (writes_in a x false u && not (wrote H t x && eqb t u)))
     × ((x : Cell) (u : ℕ) → writes_in b x true u ≡ (writes_in a x true u || (commits && (wrote H t x && eqb t u && writes_in a x false t))))
 left_all commits H t a b left h q = (

@@ -1,13 +1,14 @@
 pub mod Among
 pub mod SlotOrder
+pub mod Handing
 pub mod Leaving
 pub mod Said
 pub mod Listed
 pub mod Writing
 pub mod Found
+pub mod Later
 pub mod Begins
 pub mod Noting
-pub mod Rooms
 pub mod ReadsPast
 pub mod Edges
 pub mod Searching

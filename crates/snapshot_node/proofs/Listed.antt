@@ -70,17 +70,19 @@ module _ (phase : List Event → ℕ → Bool) (S : Setup) (H : List Event) (n :
       let z = o.numbered u (o.wrote u x (puts_parts u h).2) in
       In-numbers (begun_count H) u z.0 z.1
 
-  among_writers : (u : ℕ) → IsOrderly S H → is_among u (writers_in phase S H n x) ≡ puts_in phase S H n x u
+  pub among_writers : (u : ℕ) → IsOrderly S H → is_among u (writers_in phase S H n x) ≡ puts_in phase S H n x u
   among_writers u o = elim (cases_Bool (puts_in phase S H n x u)) [
     | inl e ↦ in_among _ u (In-filter (puts_in phase S H n x) u (txns H) (there u o e) e) ∙ sym e
     | inr e ↦ false_from_ne_true _ (λ k. both_ways _ e (filter-In (puts_in phase S H n x) u (txns H) (among_in _ u k)).1) ∙ sym e
   ]
 
+  pub writers_ascend : IsAscendingBy number_of (writers_in phase S H n x)
+  unfolding txns
+  writers_ascend = ascending_txns _ (ascending-filter number (puts_in phase S H n x) (numbers (begun_count H)) (numbers_ascending (begun_count H)))
+
   -- an ascending list in which they stand is the list of them
   pub listed : (ts : List Txn) → IsOrderly S H → IsAscendingBy number_of ts → ((u : ℕ) → is_among u ts ≡ puts_in phase S H n x u) → ts ≡ writers_in phase S H n x
-  unfolding txns
-  listed ts o a h = among_same ts (writers_in phase S H n x) a (ascending_txns _ (ascending-filter number (puts_in phase S H n x) (numbers (begun_count H)) (numbers_ascending (begun_count H))))
-      (λ u. h u ∙ sym (unfold txns in among_writers u o))
+  listed ts o a h = among_same ts (writers_in phase S H n x) a writers_ascend (λ u. h u ∙ sym (among_writers u o))
 
   -- a test that only they pass finds the same among all
   module _ (q : ℕ → Bool) (p : Txn → Bool) (only : (u : ℕ) → q u ≡ true → puts_in phase S H n x u ≡ true) (same : (u : ℕ) → puts_in phase S H n x u ≡ true → q u ≡ p (as_txn u)) where

@@ -19,7 +19,7 @@ use Rattle.batch_book.specs.Histories.{BatchesOf, MayCome, Joins, Finishes, Pass
 use Rattle.batch_book.proofs.Telling.{batches_passed, next_new}
 use Rattle.batch_book.proofs.Numbered.{spot_began, on_kept, begun_step}
 use Rattle.hold_register.proofs.Orderly.{orderly_next}
-use Rattle.key_piles.specs.declared.piles.Piles.{Piles}
+use Rattle.key_piles.specs.Piles.{Shown}
 use Rattle.snapshot_node.specs.declared.writers.Slot.{Slot}
 use Rattle.snapshot_node.specs.Slots.{writes_in, IsFiled}
 use Rattle.snapshot_node.specs.Standing.{SnapshotStand, puts_in}
@@ -38,9 +38,9 @@ may_come S P n (Told t) m = tt
 pub newest_place : (H : List Event) (e : Event) → H ≡ e ∷ drop 1 H → length H ≡ suc (length (drop 1 H))
 newest_place H e i = ap (λ (G : List Event). length G) i
 
-module _ (S : Setup) (P : List Event) (n : ℕ) (b : Book) (p : Piles Slot Txn) (old : SnapshotStand n b p S P) where
+module _ (S : Setup) (P : List Event) (n : ℕ) (b : Book) (p : Shown Slot Txn) (old : SnapshotStand n b p S P) where
   -- with what shows the history with e
-  made : (e : Event) (b' : Book) (p' : Piles Slot Txn) → MayNote S P n e → b'.size ≡ b.size → BatchesOf b' S (e ∷ P) n → IsFiled p'
+  made : (e : Event) (b' : Book) (p' : Shown Slot Txn) → MayNote S P n e → b'.size ≡ b.size → BatchesOf b' S (e ∷ P) n → IsFiled p'
       → ((x : Cell) (u : ℕ) → writes_in p' x false u ≡ puts_in unfinished S (e ∷ P) n x u) → ((x : Cell) (u : ℕ) → writes_in p' x true u ≡ puts_in committed S (e ∷ P) n x u) → SnapshotStand n b' p' S (e ∷ P)
   made e b' p' m z h f run done = record { kind = old.kind; size = z ∙ old.size; orderly = orderly_next S P n e m old.orderly; batches = h; filed = f; unfinished = run; committed = done }
 
@@ -84,7 +84,7 @@ module _ (S : Setup) (P : List Event) (n : ℕ) (b : Book) (p : Piles Slot Txn) 
     noted_began_off o = began b refl (passed (Began t s k i) m (sym on_now ∙ o))
 
   module _ (t : Txn) (y : Cell) (v : Option ℤ) (m : MayNote S P n (Put t y v)) where
-    pub noted_put : (p' : Piles Slot Txn) → on S (Put t y v ∷ P) n t.0 ≡ true → IsFiled p'
+    pub noted_put : (p' : Shown Slot Txn) → on S (Put t y v ∷ P) n t.0 ≡ true → IsFiled p'
         → ((x : Cell) (u : ℕ) → writes_in p' x false u ≡ (writes_in p x false u || (same_cell y x && eqb t.0 u))) → ((x : Cell) (u : ℕ) → writes_in p' x true u ≡ writes_in p x true u) → SnapshotStand n b p' S (Put t y v ∷ P)
     noted_put p' o f run done = made (Put t y v) b p' m refl (passed (Put t y v) m tt) f
         (λ x u. run x u ∙ ap (λ (z : Bool). z || (same_cell y x && eqb t.0 u)) (old.unfinished x u) ∙ sym (put_unfinished S P n t y v m.0 x u (sym (on_kept S (Put t y v) P n t.0 refl) ∙ o)))
@@ -95,7 +95,7 @@ module _ (S : Setup) (P : List Event) (n : ℕ) (b : Book) (p : Piles Slot Txn) 
         (λ x u. old.unfinished x u ∙ sym (put_elsewhere S P n t y v m.0 x u (sym (on_kept S (Put t y v) P n t.0 refl) ∙ o)))
         (λ x u. old.committed x u ∙ sym (put_committed S P n t y v m.0 x u))
 
-  module _ (t : Txn) (b' : Book) (p' : Piles Slot Txn) (at : ℕ) (l : at ≡ length P) (z : b'.size ≡ b.size) (f : IsFiled p')
+  module _ (t : Txn) (b' : Book) (p' : Shown Slot Txn) (at : ℕ) (l : at ≡ length P) (z : b'.size ≡ b.size) (f : IsFiled p')
       (h : (S : Setup) (P : List Event) (n : ℕ) (e : Event) → BatchesOf b S P n → MayCome P e → Finishes t.0 e → at ≡ length P → BatchesOf b' S (e ∷ P) n) where
     pub noted_done : MayNote S P n (Done t) → ((x : Cell) (u : ℕ) → writes_in p' x false u ≡ (writes_in p x false u && not (wrote (Done t ∷ P) t.0 x && eqb t.0 u)))
         → ((x : Cell) (u : ℕ) → writes_in p' x true u ≡ (writes_in p x true u || (wrote (Done t ∷ P) t.0 x && eqb t.0 u && writes_in p x false t.0))) → SnapshotStand n b' p' S (Done t ∷ P)

@@ -1,15 +1,14 @@
 -- What a snapshot node says.
 use Rattle.std.proofs.Common.{◌≡◌, ℕ, zero, suc, ◌<◌, Bool, true, false, cond, not, ◌&&◌, eqb, ltb, List, [], ◌∷◌, length, find, Option, Some, None, refl, sym, ◌∙◌, ap, arith}
-use Rattle.std.proofs.lemmas.Bool.{ltb-false, le-ltb, eq-eqb, ne_eqb}
+use Rattle.std.proofs.lemmas.Bool.{eq-eqb, ne_eqb}
 use Rattle.teb_names.specs.declared.Cell.{Cell}
 use Rattle.teb_names.specs.declared.Txn.{Txn}
 use Rattle.teb_names.specs.declared.Spot.{Spot}
 use Rattle.teb_names.specs.declared.ControlKind.TheVariants.{Snapshot}
 use Rattle.teb_history.specs.declared.Event.{Event}
-use Rattle.teb_history.specs.Phases.{txns, begun, unfinished}
+use Rattle.teb_history.specs.Phases.{txns, unfinished}
 use Rattle.teb_history.specs.Accesses.{put_at, wrote}
 use Rattle.teb_history.specs.Written.{txn_of}
-use Rattle.teb_history.specs.Positions.{came}
 use Rattle.teb_rules.specs.Setup.{Setup, NodeRow}
 use Rattle.teb_rules.specs.Tree.{row, leaf, meets, has_batches, side_at}
 use Rattle.teb_rules.specs.Batches.{start, close}
@@ -19,9 +18,8 @@ use Rattle.teb_rules.specs.declared.Verdict.TheVariants.{Go, Break}
 use Rattle.teb_rules.specs.declared.Broken.TheVariants.{First}
 use Rattle.teb_rules.specs.Controls.{on_access, gate, is_first}
 use Rattle.teb_rules.specs.Stops.{on_begin}
-use Rattle.batch_book.specs.Histories.{closing, full_at}
+use Rattle.batch_book.specs.Histories.{full_at}
 use Rattle.batch_book.proofs.Telling.{begin_waits}
-use Rattle.batch_book.proofs.Intervals.{start-lt}
 use Rattle.hold_register.specs.Waits.{some_txn, wait_for_txn}
 
 -- a node that is a snapshot node is one of the tree
@@ -71,26 +69,6 @@ snapshot_start S H s n side size k inner a b =
     waited : (o : Option ℕ) → wait_for_txn (txn_of o) ≡ wait_for o
     waited None = refl
     waited (Some u) = refl
-
--- whether a batch is closed before another starts, told by where it closed
-closed : (b : Bool) (c : ℕ) (s : ℕ) (k : ℕ) → cond b (Some c) None ≡ Some k → ltb k s ≡ ltb c s
-closed true c s k h = let e : c ≡ k = cc in ap (λ (m : ℕ). ltb m s) (sym e)
-closed false c s k h = absurd (cc)
-
-open_ : (b : Bool) (c : ℕ) → cond b (Some c) None ≡ None → b ≡ false
-open_ true c h = absurd (cc)
-open_ false c h = refl
-
-pub closed_some : (S : Setup) (H : List Event) (n u t k s : ℕ) → Some k ≡ closing S H n u → s ≡ start S H n t → ltb k s ≡ ltb (close S H n u) (start S H n t)
-unfolding closing
-closed_some S H n u t k s h e = closed (came H (close S H n u)) (close S H n u) s k (sym h) ∙ ap (ltb (close S H n u)) e
-
-pub closed_none : (S : Setup) (H : List Event) (n u t : ℕ) → None ≡ closing S H n u → begun H t ≡ true → false ≡ ltb (close S H n u) (start S H n t)
-unfolding closing
-closed_none S H n u t h b =
-    let z = ltb-false _ _ (open_ (came H (close S H n u)) (close S H n u) (sym h)) in
-    let y = start-lt S H n t b in
-    sym (le-ltb _ _ (omega arith))
 
 -- what it says of a write
 pub snapshot_first : (S : Setup) (H : List Event) (n t : ℕ) (x : Cell) (u : Txn) → (row S.tree n).control ≡ Snapshot → Some u ≡ some_txn (find (is_first S H n t x) (txns H)) → Break (First u x) ≡ on_access (row S.tree n).control S H n t x true

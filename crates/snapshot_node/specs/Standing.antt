@@ -1,5 +1,5 @@
 -- For what a snapshot control stands.
-use Rattle.std.specs.Prelude.{◌≡◌, ◌-◌, ℕ, Bool, true, false, min, ◌&&◌, List, map, filter, vec_len, vec_capacity}
+use Rattle.std.specs.Prelude.{◌≡◌, ℕ, Bool, true, false, ◌&&◌, List, map, filter}
 use Rattle.teb_names.specs.declared.Cell.{Cell}
 use Rattle.teb_names.specs.declared.Txn.{Txn}
 use Rattle.teb_names.specs.declared.ControlKind.TheVariants.{Snapshot}
@@ -11,7 +11,7 @@ use Rattle.teb_rules.specs.Tree.{row, on}
 use Rattle.phase_api.specs.Told.{IsOrderly}
 use Rattle.batch_book.specs.Book.{Book}
 use Rattle.batch_book.specs.Histories.{BatchesOf}
-use Rattle.key_piles.specs.declared.piles.Piles.{Piles}
+use Rattle.key_piles.specs.Piles.{Shown}
 use Rattle.snapshot_node.specs.declared.writers.Slot.{Slot}
 use Rattle.snapshot_node.specs.Slots.{writes_in, IsFiled}
 
@@ -24,7 +24,7 @@ abbrev pub writers_in : (List Event → ℕ → Bool) → Setup → List Event �
 writers_in phase S H n x = map (λ (u : ℕ). record { 0 = u }) (filter (puts_in phase S H n x) (txns H))
 
 -- node n is a snapshot node, and the book and the slots show its batches and the writers of each cell
-pub record SnapshotStand (n : ℕ) (book : Book) (writers : Piles Slot Txn) (S : Setup) (H : List Event) : Type 0 where
+pub record SnapshotStand (n : ℕ) (book : Book) (writers : Shown Slot Txn) (S : Setup) (H : List Event) : Type 0 where
   pub kind : (row S.tree n).control ≡ Snapshot
   pub size : book.size ≡ (row S.tree n).batch
   pub orderly : IsOrderly S H
@@ -32,7 +32,3 @@ pub record SnapshotStand (n : ℕ) (book : Book) (writers : Piles Slot Txn) (S :
   pub filed : IsFiled writers
   pub unfinished : (x : Cell) (u : ℕ) → writes_in writers x false u ≡ puts_in unfinished S H n x u
   pub committed : (x : Cell) (u : ℕ) → writes_in writers x true u ≡ puts_in committed S H n x u
-
--- for how many more writers there is room
-abbrev pub room_of : Piles Slot Txn → ℕ
-room_of p = min (vec_capacity p.keys - vec_len p.keys) (vec_capacity p.values - vec_len p.values)

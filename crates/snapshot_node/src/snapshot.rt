@@ -14,7 +14,7 @@ ghost use Rattle.phase_api.specs.Calls.{IsHere};
 ghost use Rattle.hold_register.specs.Waits.{some_txn};
 ghost use Rattle.snapshot_node.specs.Standing.{SnapshotStand, writers_in};
 
-use crate::writers::{Slot, abort, commit, put_in};
+use crate::writers::{Slot, abort, commit, from_number, put_in};
 use batch_book::Batches;
 use hold_register::wait_for;
 use key_piles::Piles;
@@ -80,19 +80,18 @@ impl Snapshot {
         ensures { result ≡ ltb (close (setup_of facts.now) (events_of facts.now) self.now.node.0 u.0) (start (setup_of facts.now) (events_of facts.now) self.now.node.0 t.0) }
     {
         let _ = facts;
-        match self.batches.close(u) {
-            Some(close) => close < self.batches.start(t),
-            None => false,
-        }
+        self.batches.is_closed_before(u, t)
     }
 
-    // The least committed transaction that wrote a cell before t.
+    // The least committed transaction that wrote a cell before t. It looks from t's horizon on: whoever comes before that was of
+    // a batch closed before t's start.
     fn first_writer(&self, facts: &Facts, t: Txn, cell: Cell) -> Option<Txn>
         requires stands { SnapshotStand self.now.node.0 self.now.batches self.now.writers (setup_of facts.now) (events_of facts.now) }
         requires here { IsHere facts.now self.now.node.0 t.0 }
         ensures { result ≡ some_txn (find (is_first (setup_of facts.now) (events_of facts.now) self.now.node.0 t.0 cell) (txns (events_of facts.now))) }
     {
-        for u in self.committed(facts, cell) {
+        let horizon = self.batches.horizon(t);
+        for u in from_number(self.committed(facts, cell), horizon) {
             if facts.meet_at(self.node, t, *u) && !self.is_closed_before(facts, *u, t) {
                 return Some(*u);
             }
@@ -117,13 +116,13 @@ impl Snapshot {
 
 impl Control for Snapshot {
     ghost use Rattle.std.specs.Prelude.{min};
-    ghost use Rattle.snapshot_node.specs.Standing.{SnapshotStand, room_of};
+    ghost use Rattle.snapshot_node.specs.Standing.{SnapshotStand};
 
     ghost stands = { λ c S H. SnapshotStand c.node.0 c.batches c.writers S H };
 
     ghost place = { λ c. c.node.0 };
 
-    ghost spare = { λ c. min c.batches.spare (room_of c.writers) };
+    ghost spare = { λ c. min c.batches.spare c.writers.spare };
 
     ghost sound = { λ c S H s. s.orderly };
 

@@ -1,18 +1,17 @@
 //! The writers of each cell, the committed and the unfinished ones apart, in piles.
 
-ghost use Rattle.std.specs.Prelude.{◌≡◌, ◌+◌, ◌&&◌, ◌||◌, ℕ, Bool, eqb, not, true, false, IsTrue, Some, Option, ℤ, is_some, List};
-ghost use Rattle.std.specs.List.{list_any};
+ghost use Rattle.std.specs.Prelude.{◌≡◌, ◌+◌, ◌<◌, ◌≤◌, ◌&&◌, ◌||◌, ℕ, eqb, leb, filter, not, true, false};
 ghost use Rattle.teb_names.specs.declared.Cell.{Cell};
 ghost use Rattle.teb_names.specs.declared.Txn.{Txn};
 ghost use Rattle.teb_names.specs.Cells.{same_cell};
 ghost use Rattle.teb_history.specs.Accesses.{wrote};
 ghost use Rattle.teb_history.specs.Ascending.{IsAscendingBy, place_of};
 ghost use Rattle.teb_history.specs.Live.{number_of};
-ghost use Rattle.key_piles.specs.Piles.{pile_in, HasRoom};
+ghost use Rattle.key_piles.specs.Piles.{pile_in};
 ghost use Rattle.snapshot_node.specs.declared.writers.Slot.{Slot};
-ghost use Rattle.snapshot_node.specs.Slots.{slot_cmp, same_slot, is_among, writes_in, IsFiled};
+ghost use Rattle.snapshot_node.specs.Slots.{slot_cmp, slot_spread, slot_agrees, same_slot, is_among, writes_in, IsFiled};
 
-use key_piles::Piles;
+use key_piles::{Key, Piles};
 use teb_history::{Event, History};
 use teb_names::{Cell, Txn};
 
@@ -23,55 +22,63 @@ pub struct Slot {
     pub committed: bool,
 }
 
-/// Puts a transaction into a slot, in ascending number, unless it is there.
+/// Both slots of a cell lie in one bucket.
+impl Key for Slot {
+    ghost spread_of = { slot_spread };
+
+    ghost agrees = { slot_agrees };
+
+    fn spread(self) -> usize {
+        self.cell.spread()
+    }
+}
+
+/// Puts a transaction into a slot, in ascending number, unless it is there. It takes one place of the room at the most.
 pub(crate) fn put_in(writers: &mut Piles<Slot, Txn>, slot: Slot, t: Txn)
     requires filed { IsFiled writers.old }
-    requires room { HasRoom writers.old 1 }
+    requires room { 0 < writers.old.spare }
     ensures filed { IsFiled writers.new }
     ensures writers { (q : Slot) (u : ℕ) → is_among u (pile_in slot_cmp writers.new q) ≡ (is_among u (pile_in slot_cmp writers.old q) || (same_slot slot q && eqb t.0 u)) }
-    ensures room { (n : ℕ) → HasRoom writers.old (n + 1) → HasRoom writers.new n }
+    ensures spare { writers.old.spare ≤ writers.new.spare + 1 }
 {
     if let Err(i) = find(writers.list(slot), t) {
         writers.put(slot, i, t);
     }
 }
 
-/// Takes a transaction out of a slot, and answers whether it was there.
-pub(crate) fn take_out(writers: &mut Piles<Slot, Txn>, slot: Slot, t: Txn) -> bool
+/// Takes a transaction out of a slot, where it is there. The room stays.
+pub(crate) fn take_out(writers: &mut Piles<Slot, Txn>, slot: Slot, t: Txn)
     requires { IsFiled writers.old }
-    ensures found { result ≡ is_among t.0 (pile_in slot_cmp writers.old slot) }
     ensures filed { IsFiled writers.new }
     ensures writers { (q : Slot) (u : ℕ) → is_among u (pile_in slot_cmp writers.new q) ≡ (is_among u (pile_in slot_cmp writers.old q) && not (same_slot slot q && eqb t.0 u)) }
-    ensures room { (n : ℕ) → HasRoom writers.old n → HasRoom writers.new n }
-    ensures freed { IsTrue result → (n : ℕ) → HasRoom writers.old n → HasRoom writers.new (n + 1) }
+    ensures spare { writers.new.spare ≡ writers.old.spare }
 {
-    match find(writers.list(slot), t) {
-        Ok(i) => {
-            writers.take(slot, i);
-            true
-        }
-        Err(_) => false,
+    if let Ok(i) = find(writers.list(slot), t) {
+        writers.take(slot, i);
     }
 }
 
-/// A transaction that stands among the unfinished writers of a cell goes over to the committed ones.
+/// A transaction that stands among the unfinished writers of a cell goes over to the committed ones. The room stays.
 fn hand_over(writers: &mut Piles<Slot, Txn>, cell: Cell, t: Txn)
     requires { IsFiled writers.old }
     ensures filed { IsFiled writers.new }
     ensures unfinished { (x : Cell) (u : ℕ) → writes_in writers.new x false u ≡ (writes_in writers.old x false u && not (same_cell cell x && eqb t.0 u)) }
     ensures committed { (x : Cell) (u : ℕ) → writes_in writers.new x true u ≡ (writes_in writers.old x true u || (same_cell cell x && eqb t.0 u && writes_in writers.old cell false t.0)) }
-    ensures room { (n : ℕ) → HasRoom writers.old n → HasRoom writers.new n }
+    ensures spare { writers.new.spare ≡ writers.old.spare }
 {
     let running = Slot {
         cell,
         committed: false,
     };
-    if take_out(writers, running, t) {
-        let done = Slot {
-            cell,
-            committed: true,
-        };
-        put_in(writers, done, t);
+    let done = Slot {
+        cell,
+        committed: true,
+    };
+    if let Ok(i) = find(writers.list(running), t) {
+        match find(writers.list(done), t) {
+            Ok(_) => writers.take(running, i),
+            Err(j) => writers.transfer(running, i, done, j, t),
+        }
     }
 }
 
@@ -81,7 +88,7 @@ pub(crate) fn commit(writers: &mut Piles<Slot, Txn>, history: &History, t: Txn)
     ensures filed { IsFiled writers.new }
     ensures unfinished { (x : Cell) (u : ℕ) → writes_in writers.new x false u ≡ (writes_in writers.old x false u && not (wrote history.now.events t.0 x && eqb t.0 u)) }
     ensures committed { (x : Cell) (u : ℕ) → writes_in writers.new x true u ≡ (writes_in writers.old x true u || (wrote history.now.events t.0 x && eqb t.0 u && writes_in writers.old x false t.0)) }
-    ensures room { (n : ℕ) → HasRoom writers.old n → HasRoom writers.new n }
+    ensures spare { writers.new.spare ≡ writers.old.spare }
 {
     for event in history.own_events(t) {
         if let Event::Put { cell, .. } = event {
@@ -96,7 +103,7 @@ pub(crate) fn abort(writers: &mut Piles<Slot, Txn>, history: &History, t: Txn)
     ensures filed { IsFiled writers.new }
     ensures unfinished { (x : Cell) (u : ℕ) → writes_in writers.new x false u ≡ (writes_in writers.old x false u && not (wrote history.now.events t.0 x && eqb t.0 u)) }
     ensures committed { (x : Cell) (u : ℕ) → writes_in writers.new x true u ≡ writes_in writers.old x true u }
-    ensures room { (n : ℕ) → HasRoom writers.old n → HasRoom writers.new n }
+    ensures spare { writers.new.spare ≡ writers.old.spare }
 {
     for event in history.own_events(t) {
         if let Event::Put { cell, .. } = event {
@@ -107,6 +114,15 @@ pub(crate) fn abort(writers: &mut Piles<Slot, Txn>, history: &History, t: Txn)
             take_out(writers, running, t);
         }
     }
+}
+
+/// Those of ascending transactions that are numbered from `first` on.
+pub(crate) fn from_number(txns: &[Txn], first: Txn) -> &[Txn]
+    requires { IsAscendingBy number_of txns.now }
+    ensures { result.now ≡ filter (λ u. leb first.0 u.0) txns.now }
+{
+    let start = txns.partition_point(|u| u.0 < first.0);
+    &txns[start..]
 }
 
 fn find(txns: &[Txn], t: Txn) -> Result<usize, usize>

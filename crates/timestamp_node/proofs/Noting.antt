@@ -1,6 +1,6 @@
 -- The reads, the batches and the order of a history after one more event.
-use Rattle.std.proofs.Common.{◌≡◌, ℕ, ℤ, suc, ◌≤◌, ◌+◌, zero, Bool, true, false, cond, not, ◌&&◌, ◌||◌, ◌-◌, eqb, List, [], ◌∷◌, ◌++◌, Option, drop, length, filter, refl, sym, ◌∙◌, ap, subst, arith, IsTrue}
-use Rattle.std.proofs.lemmas.Bool.{and_from, or_left, both_ways, eqb-true, false_from_ne_true}
+use Rattle.std.proofs.Common.{◌≡◌, ℕ, ℤ, suc, Bool, true, false, cond, not, ◌&&◌, ◌||◌, ◌-◌, eqb, List, [], ◌∷◌, ◌++◌, Option, drop, length, filter, refl, sym, ◌∙◌, ap, subst, arith, IsTrue}
+use Rattle.std.proofs.lemmas.Bool.{and_from, or_left, eqb-true}
 use Rattle.teb_names.specs.declared.Txn.{Txn}
 use Rattle.teb_names.specs.declared.Cell.{Cell}
 use Rattle.teb_names.specs.declared.Spot.{Spot}
@@ -11,8 +11,7 @@ use Rattle.teb_names.specs.Cells.{cell_cmp, same_cell}
 use Rattle.teb_history.specs.declared.Event.{Event}
 use Rattle.teb_history.specs.declared.Event.TheVariants.{Began, Got, Put, Ready, Done, Gone, Told}
 use Rattle.teb_history.specs.Phases.{is_began, is_gone, begun, unfinished, aborted, spot_of}
-use Rattle.teb_history.specs.Accesses.{is_got, got_at, got}
-use Rattle.teb_history.proofs.Any.{came_any}
+use Rattle.teb_history.specs.Accesses.{got}
 use Rattle.teb_rules.specs.Setup.{Setup}
 use Rattle.teb_rules.specs.Tree.{on, side, on_path, side_at}
 use Rattle.phase_api.specs.Told.{IsOrderly}
@@ -22,11 +21,11 @@ use Rattle.batch_book.specs.Book.{Book}
 use Rattle.batch_book.specs.Histories.{BatchesOf, IsNumbered, MayCome, Joins, Finishes, Passes}
 use Rattle.batch_book.proofs.Numbered.{begins_once, begun_step, aborted_step, on_kept, unfinished_parts, spot_began}
 use Rattle.batch_book.proofs.Telling.{batches_passed}
-use Rattle.key_piles.specs.Piles.{pile, pile_in, IsPiled, HasRoom}
-use Rattle.timestamp_node.specs.Reads.{all_reads, reads, IsTimely}
-use Rattle.timestamp_node.specs.Standing.{ReadPiles, ReadsOf, StampsStand, room_of}
+use Rattle.key_piles.specs.Piles.{pile, pile_in}
+use Rattle.timestamp_node.specs.Reads.{all_reads, reads, is_by, IsTimely}
+use Rattle.timestamp_node.specs.Standing.{ReadPiles, ReadsOf, StampsStand}
 use Rattle.timestamp_node.proofs.OlderReads.{timely_next}
-use Rattle.timestamp_node.proofs.Readers.{all_map, filter_agree, filter_alike, filter_all, all_got, IsRead, reads_are, from_got}
+use Rattle.timestamp_node.proofs.Readers.{all_map, filter_agree, filter_alike, all_got}
 
 may_come : (S : Setup) (P : List Event) (n : ℕ) (e : Event) → MayNote S P n e → MayCome P e
 may_come S P n (Began t s k i) m = m.0
@@ -65,8 +64,8 @@ module _ {A : Type 0} where
 abbrev here : Setup → List Event → ℕ → Txn × Txn → Bool
 here S H n r = on S H n r.0.0 && not (aborted H r.0.0)
 
-abbrev pub others : Txn → Txn × Txn → Bool
-others t r = not (eqb r.0.0 t.0)
+abbrev others : Txn → Txn × Txn → Bool
+others t r = not (is_by t r)
 
 module _ (S : Setup) (P : List Event) (n : ℕ) where
   -- an event that is no Got, and aborts nobody
@@ -123,22 +122,17 @@ module _ (S : Setup) (P : List Event) (n : ℕ) where
         split : (r : Txn × Txn) → here S (Gone t c ∷ P) n r ≡ (others t r && here S P n r)
         split r = gone_here r ∙ go (eqb t.0 r.0.0) (eqb r.0.0 t.0) (back t.0 r.0.0) (aborted P r.0.0) (on S P n r.0.0)
 
-    unread : (x : Cell) → got P t.0 x ≡ false → filter (others t) (reads S P n x) ≡ reads S P n x
-    unread x h = filter_all (others t) (reads S P n x) (all_map _ _ other (reads S P n x) (reads_are S P n x))
+    -- whoever is here and not aborted has all its reads there
+    gone_reads : (x : Cell) → on S P n t.0 ≡ true → aborted P t.0 ≡ false → filter (is_by t) (reads S P n x) ≡ filter (is_by t) (all_reads (Gone t c ∷ P) x)
+    unfolding reads all_reads
+    gone_reads x o a = sym (filter_both (here S P n) (is_by t) (is_by t) same (all_reads P x))
       where
-        other : (r : Txn × Txn) → IsRead S P n x r → others t r ≡ true
-        other r k = ap not (false_from_ne_true (eqb r.0.0 t.0) (λ e. both_ways _ h (subst (λ (u : ℕ). got P u x ≡ true) (eqb-true r.0.0 t.0 e) (from_got P r.0.0 r.1.0 x k.from))))
-
-    same_gets : (x : Cell) → got (Gone t c ∷ P) t.0 x ≡ got P t.0 x
-    unfolding got got_at
-    same_gets x = came_any (is_got t.0 x) (Gone t c ∷ P) ∙ sym (came_any (is_got t.0 x) P)
-
-    reads_gone : (x : Cell) → cond (got (Gone t c ∷ P) t.0 x) (filter (others t) (reads S P n x)) (reads S P n x) ≡ reads S (Gone t c ∷ P) n x
-    reads_gone x = ap (λ (b : Bool). cond b (filter (others t) (reads S P n x)) (reads S P n x)) (same_gets x) ∙ go (got P t.0 x) refl
-      where
-        go : (b : Bool) → got P t.0 x ≡ b → cond b (filter (others t) (reads S P n x)) (reads S P n x) ≡ reads S (Gone t c ∷ P) n x
-        go true h = without x
-        go false h = sym (unread x h) ∙ without x
+        same : (r : Txn × Txn) → is_by t r ≡ (is_by t r && here S P n r)
+        same r = go (is_by t r) refl
+          where
+            go : (b : Bool) → is_by t r ≡ b → b ≡ (b && here S P n r)
+            go true h = let e = eqb-true r.0.0 t.0 h in sym (and_from _ _ (ap (on S P n) e ∙ o) (ap (λ (u : ℕ). not (aborted P u)) e ∙ ap not a))
+            go false h = refl
 
     reads_gone_off : (x : Cell) → on S P n t.0 ≡ false → reads S P n x ≡ reads S (Gone t c ∷ P) n x
     unfolding reads all_reads
@@ -184,7 +178,7 @@ module _ (S : Setup) (H : List Event) (n : ℕ) (e : Event) (is : H ≡ e ∷ dr
     same_batches q = batches_passed b S (drop 1 H) n e was.batches come q
 
     same_reads : ((x : Cell) → all_reads (e ∷ drop 1 H) x ≡ all_reads (drop 1 H) x) → ((u : ℕ) → is_gone u e ≡ false) → ReadsOf p S (e ∷ drop 1 H) n
-    same_reads a g = record { sorted = was.reads.sorted; reads = λ x. was.reads.reads x ∙ reads_kept S (drop 1 H) n e was.orderly was.batches.numbered come a g x }
+    same_reads a g = λ x. was.reads x ∙ reads_kept S (drop 1 H) n e was.orderly was.batches.numbered come a g x
 
     on_now : (t : ℕ) (v : Bool) → on S H n t ≡ v → on S (e ∷ drop 1 H) n t ≡ v
     on_now t v h = ap (λ (G : List Event). on S G n t) (sym is) ∙ h
@@ -216,23 +210,18 @@ module _ (S : Setup) (H : List Event) (n : ℕ) (e : Event) (is : H ≡ e ∷ dr
         spot : spot_of H t.0 ≡ record { kind = k; instance = i }
         spot = ap (λ (G : List Event). spot_of G t.0) is ∙ ap (λ (d : Event). spot_of (d ∷ drop 1 H) t.0) q ∙ spot_began t s k i (drop 1 H)
 
-    pub got_on : (t : Txn) (y : Cell) (w : Txn) (v : Option ℤ) → e ≡ Got t y w v → on S H n t.0 ≡ true → (p' : ReadPiles) → IsPiled cell_cmp p'
+    pub got_on : (t : Txn) (y : Cell) (w : Txn) (v : Option ℤ) → e ≡ Got t y w v → on S H n t.0 ≡ true → (p' : ReadPiles)
         → ((x : Cell) → pile_in cell_cmp p' x ≡ cond (same_cell y x) (pile_in cell_cmp p x ++ (t, w) ∷ []) (pile_in cell_cmp p x)) → StampsStand n o b p' S H
-    got_on t y w v q h p' sorted pushed =
+    got_on t y w v q h p' pushed =
         let u : unfinished (drop 1 H) t.0 ≡ true = (subst (λ (d : Event). MayNote S (drop 1 H) n d) q may).0 in
         let before = on_before t.0 true (ap (is_began t.0) q) h in
-        next b p' refl (same_batches (subst (Passes S (drop 1 H) n) (sym q) tt)) (subst (λ (d : Event). ReadsOf p' S (d ∷ drop 1 H) n) (sym q) (record {
-          sorted = sorted;
-          reads = λ x. pushed x ∙ ap (λ (rs : List (Txn × Txn)). cond (same_cell y x) (rs ++ (t, w) ∷ []) rs) (was.reads.reads x) ∙ reads_got S (drop 1 H) n t y w v x before (unfinished_parts (drop 1 H) t.0 u).2;
-        }))
+        next b p' refl (same_batches (subst (Passes S (drop 1 H) n) (sym q) tt)) (subst (λ (d : Event). ReadsOf p' S (d ∷ drop 1 H) n) (sym q)
+        (λ x. pushed x ∙ ap (λ (rs : List (Txn × Txn)). cond (same_cell y x) (rs ++ (t, w) ∷ []) rs) (was.reads x) ∙ reads_got S (drop 1 H) n t y w v x before (unfinished_parts (drop 1 H) t.0 u).2))
 
     pub got_off : (t : Txn) (y : Cell) (w : Txn) (v : Option ℤ) → e ≡ Got t y w v → on S H n t.0 ≡ false → StampsStand n o b p S H
     got_off t y w v q h =
         let before = on_before t.0 false (ap (is_began t.0) q) h in
-        next b p refl (same_batches (subst (Passes S (drop 1 H) n) (sym q) tt)) (subst (λ (d : Event). ReadsOf p S (d ∷ drop 1 H) n) (sym q) (record {
-          sorted = was.reads.sorted;
-          reads = λ x. was.reads.reads x ∙ reads_got_off S (drop 1 H) n t y w v x before;
-        }))
+        next b p refl (same_batches (subst (Passes S (drop 1 H) n) (sym q) tt)) (subst (λ (d : Event). ReadsOf p S (d ∷ drop 1 H) n) (sym q) (λ x. was.reads x ∙ reads_got_off S (drop 1 H) n t y w v x before))
 
     pub done : (t : Txn) → e ≡ Done t → (b' : Book) (at : ℕ) → at ≡ length (drop 1 H) → b'.size ≡ b.size
         → ((S : Setup) (Q : List Event) (n : ℕ) (d : Event) → BatchesOf b S Q n → MayCome Q d → Finishes t.0 d → at ≡ length Q → BatchesOf b' S (d ∷ Q) n) → StampsStand n o b' p S H
@@ -244,21 +233,27 @@ module _ (S : Setup) (H : List Event) (n : ℕ) (e : Event) (is : H ≡ e ∷ dr
 
     gone : (t : Txn) (c : Cause) → e ≡ Gone t c → (b' : Book) (at : ℕ) → at ≡ length (drop 1 H) → b'.size ≡ b.size
         → ((S : Setup) (Q : List Event) (n : ℕ) (d : Event) → BatchesOf b S Q n → MayCome Q d → Finishes t.0 d → at ≡ length Q → BatchesOf b' S (d ∷ Q) n)
-        → (p' : ReadPiles) → IsPiled cell_cmp p' → ((x : Cell) → pile_in cell_cmp p' x ≡ reads S (Gone t c ∷ drop 1 H) n x) → StampsStand n o b' p' S H
-    gone t c q b' at end z finished p' sorted shown =
-        next b' p' z (finished S (drop 1 H) n e was.batches come (subst (Finishes t.0) (sym q) refl) end) (subst (λ (d : Event). ReadsOf p' S (d ∷ drop 1 H) n) (sym q) (record { sorted = sorted; reads = shown }))
+        → (p' : ReadPiles) → ((x : Cell) → pile_in cell_cmp p' x ≡ reads S (Gone t c ∷ drop 1 H) n x) → StampsStand n o b' p' S H
+    gone t c q b' at end z finished p' shown =
+        next b' p' z (finished S (drop 1 H) n e was.batches come (subst (Finishes t.0) (sym q) refl) end) (subst (λ (d : Event). ReadsOf p' S (d ∷ drop 1 H) n) (sym q) shown)
+
+    -- the piles have what an aborted one has read
+    pub gone_read : (t : Txn) (c : Cause) → e ≡ Gone t c → on S H n t.0 ≡ true → (x : Cell) → filter (is_by t) (pile_in cell_cmp p x) ≡ filter (is_by t) (all_reads H x)
+    gone_read t c q h x =
+        let u : unfinished (drop 1 H) t.0 ≡ true = subst (λ (d : Event). MayNote S (drop 1 H) n d) q may in
+        let before = on_before t.0 true (ap (is_began t.0) q) h in
+        ap (filter (is_by t)) (was.reads x) ∙ gone_reads S (drop 1 H) n t c x before (unfinished_parts (drop 1 H) t.0 u).2
+        ∙ ap (λ (G : List Event). filter (is_by t) (all_reads G x)) (sym (is ∙ ap (λ (d : Event). d ∷ drop 1 H) q))
 
     pub gone_on : (t : Txn) (c : Cause) → e ≡ Gone t c → (b' : Book) (at : ℕ) → at ≡ length (drop 1 H) → b'.size ≡ b.size
         → ((S : Setup) (Q : List Event) (n : ℕ) (d : Event) → BatchesOf b S Q n → MayCome Q d → Finishes t.0 d → at ≡ length Q → BatchesOf b' S (d ∷ Q) n)
-        → (p' : ReadPiles) → IsPiled cell_cmp p' → ((x : Cell) → pile_in cell_cmp p' x ≡ cond (got H t.0 x) (filter (others t) (pile_in cell_cmp p x)) (pile_in cell_cmp p x)) → StampsStand n o b' p' S H
-    gone_on t c q b' at end z finished p' sorted left = gone t c q b' at end z finished p' sorted
-        (λ x. left x ∙ (λ j. cond (got (is j) t.0 x) (filter (others t) (was.reads.reads x j)) (was.reads.reads x j))
-        ∙ ap (λ (d : Event). cond (got (d ∷ drop 1 H) t.0 x) (filter (others t) (reads S (drop 1 H) n x)) (reads S (drop 1 H) n x)) q ∙ reads_gone S (drop 1 H) n t c x)
+        → (p' : ReadPiles) → ((x : Cell) → pile_in cell_cmp p' x ≡ filter (λ r. not (is_by t r)) (pile_in cell_cmp p x)) → StampsStand n o b' p' S H
+    gone_on t c q b' at end z finished p' left = gone t c q b' at end z finished p' (λ x. left x ∙ ap (filter (others t)) (was.reads x) ∙ without S (drop 1 H) n t c x)
 
     pub gone_off : (t : Txn) (c : Cause) → e ≡ Gone t c → on S H n t.0 ≡ false → (b' : Book) (at : ℕ) → at ≡ length (drop 1 H) → b'.size ≡ b.size
         → ((S : Setup) (Q : List Event) (n : ℕ) (d : Event) → BatchesOf b S Q n → MayCome Q d → Finishes t.0 d → at ≡ length Q → BatchesOf b' S (d ∷ Q) n) → StampsStand n o b' p S H
-    gone_off t c q h b' at end z finished = gone t c q b' at end z finished p was.reads.sorted
-        (λ x. was.reads.reads x ∙ reads_gone_off S (drop 1 H) n t c x (on_before t.0 false (ap (is_began t.0) q) h))
+    gone_off t c q h b' at end z finished = gone t c q b' at end z finished p
+        (λ x. was.reads x ∙ reads_gone_off S (drop 1 H) n t c x (on_before t.0 false (ap (is_began t.0) q) h))
 
     -- an event that is of no concern
     pub idle : (d : Event) → e ≡ d → Passes S (drop 1 H) n d → ((x : Cell) → all_reads (d ∷ drop 1 H) x ≡ all_reads (drop 1 H) x) → ((u : ℕ) → is_gone u d ≡ false) → StampsStand n o b p S H
@@ -282,21 +277,6 @@ unfolding IsTimely
 no_timely = tt
 
 -- the reads of no events
-pub no_reads : (p : ReadPiles) (S : Setup) (n : ℕ) → p.keys.items ≡ [] → IsPiled cell_cmp p → ReadsOf p S [] n
+pub no_reads : (p : ReadPiles) (S : Setup) (n : ℕ) → p.entries ≡ [] → ReadsOf p S [] n
 unfolding reads all_reads
-no_reads p S n e s = record { sorted = s; reads = λ x. ap (λ (ks : List Cell). pile cell_cmp ks p.values.items x) e }
-
--- where room for n is left as room for n, and where room for one more is
-pub room_kept : (p q : ReadPiles) → ((n : ℕ) → HasRoom p n → HasRoom q n) → room_of p ≤ room_of q
-room_kept p q h = go (room_of p) refl
-  where
-    go : (m : ℕ) → m ≡ room_of p → m ≤ room_of q
-    go zero e = omega arith
-    go (suc m) e = let r = h (suc m) (record { keys = omega arith; values = omega arith }) in omega (arith, r.keys, r.values)
-
-pub room_less : (p q : ReadPiles) → ((n : ℕ) → HasRoom p (n + 1) → HasRoom q n) → room_of p ≤ room_of q + 1
-room_less p q h = go (room_of p) refl
-  where
-    go : (m : ℕ) → m ≡ room_of p → m ≤ room_of q + 1
-    go zero e = omega arith
-    go (suc m) e = let r = h m (record { keys = omega arith; values = omega arith }) in omega (arith, r.keys, r.values)
+no_reads p S n e = λ x. ap (λ (es : List (Cell × (Txn × Txn))). pile cell_cmp es x) e

@@ -1,12 +1,12 @@
 -- A read whose reader's batch closed before another starts: all reads before it are by those whose batches started before too.
-use Rattle.std.proofs.Common.{◌≡◌, ℕ, ◌<◌, ◌≤◌, Bool, true, false, cond, ◌&&◌, ◌||◌, eqb, ltb, List, [], ◌∷◌, ◌++◌, length, Some, None, refl, sym, ◌∙◌, ap, subst, inl, inr, arith, le-ltb}
-use Rattle.std.proofs.lemmas.Bool.{cases_Bool, both_ways, and_left, and_right, ltb-false}
+use Rattle.std.proofs.Common.{◌≡◌, ℕ, ◌<◌, ◌≤◌, Bool, true, false, cond, ◌&&◌, ◌||◌, eqb, List, [], ◌∷◌, ◌++◌, length, None, refl, sym, ◌∙◌, ap, subst, inl, inr, arith, le-ltb}
+use Rattle.std.proofs.lemmas.Bool.{cases_Bool, both_ways, and_left, and_right}
 use Rattle.teb_names.specs.declared.Txn.{Txn}
 use Rattle.teb_names.specs.declared.Cell.{Cell}
 use Rattle.teb_names.specs.Cells.{same_cell}
 use Rattle.teb_history.specs.declared.Event.{Event}
 use Rattle.teb_history.specs.declared.Event.TheVariants.{Began, Got, Put, Ready, Done, Gone, Told}
-use Rattle.teb_history.specs.Positions.{first, came}
+use Rattle.teb_history.specs.Positions.{first}
 use Rattle.teb_history.specs.Phases.{is_began, begun, unfinished}
 use Rattle.teb_rules.specs.Setup.{Setup}
 use Rattle.teb_rules.specs.Tree.{on, side, meets}
@@ -18,6 +18,7 @@ use Rattle.hold_register.proofs.Orderly.{unfinished_begun, begun_kept}
 use Rattle.batch_book.specs.Book.{closed_at}
 use Rattle.batch_book.specs.Histories.{IsNumbered, closing}
 use Rattle.batch_book.proofs.Numbered.{begun_none, begins_once, begins_new, unfinished_before, unfinished_kept, on_kept, side_kept}
+use Rattle.batch_book.proofs.Closings.{open_late}
 use Rattle.batch_book.proofs.Intervals.{start_kept, start-lt, busy_idle, closing_step, closing_here}
 use Rattle.timestamp_node.specs.Reads.{all_reads, reads, IsTimely}
 use Rattle.timestamp_node.specs.Late.{is_after}
@@ -38,12 +39,8 @@ open_unfinished S (e ∷ P) n u l h o =
           closing_step S e P n u (unfinished_begun P u w) b ∙ (λ j. closed_at (idle_now j) (length P) (before j)))
     ]
 
-open_late : (b : Bool) (c : ℕ) → cond b (Some c) None ≡ None → b ≡ false
-open_late true c h = absurd (cc)
-open_late false c h = refl
-
 close_unfinished : (S : Setup) (H : List Event) (n u : ℕ) → IsNumbered H → unfinished H u ≡ true → on S H n u ≡ true → length H ≤ close S H n u
-close_unfinished S H n u l h o = ltb-false _ _ (open_late (came H (close S H n u)) (close S H n u) (unfold closing in open_unfinished S H n u l h o))
+close_unfinished S H n u l h o = open_late S H n u (open_unfinished S H n u l h o)
 
 -- a batch closes no earlier for another event
 first_grows : (p : List Event → Bool) (e : Event) (P : List Event) → first p P ≤ first p (e ∷ P)
@@ -126,19 +123,3 @@ timely_next S P n (Ready t) m k = k
 timely_next S P n (Done t) m k = k
 timely_next S P n (Gone t c) m k = k
 timely_next S P n (Told t) m k = k
-
--- told by where a batch closed, if it has
-closed_at_once : (b : Bool) (c s k : ℕ) → cond b (Some c) None ≡ Some k → ltb k s ≡ ltb c s
-closed_at_once true c s k h = let e : c ≡ k = cc in ap (λ (m : ℕ). ltb m s) (sym e)
-closed_at_once false c s k h = absurd (cc)
-
-pub closed_before : (S : Setup) (H : List Event) (n u t k s : ℕ) → Some k ≡ closing S H n u → s ≡ start S H n t → ltb k s ≡ ltb (close S H n u) (start S H n t)
-unfolding closing
-closed_before S H n u t k s h e = closed_at_once (came H (close S H n u)) (close S H n u) s k (sym h) ∙ ap (ltb (close S H n u)) e
-
-pub still_open : (S : Setup) (H : List Event) (n u t : ℕ) → None ≡ closing S H n u → begun H t ≡ true → false ≡ ltb (close S H n u) (start S H n t)
-unfolding closing
-still_open S H n u t h b =
-    let z = ltb-false _ _ (open_late (came H (close S H n u)) (close S H n u) (sym h)) in
-    let y = start-lt S H n t b in
-    sym (le-ltb _ _ (omega arith))

@@ -1,5 +1,5 @@
 -- Who read what at a node, and from whom.
-use Rattle.std.specs.Prelude.{ℕ, cond, not, ◌&&◌, List, [], ◌∷◌, ◌++◌, filter, IsTrue}
+use Rattle.std.specs.Prelude.{ℕ, Bool, cond, not, ◌&&◌, eqb, List, [], ◌∷◌, ◌++◌, filter, IsTrue}
 use Rattle.teb_names.specs.declared.Txn.{Txn}
 use Rattle.teb_names.specs.declared.Cell.{Cell}
 use Rattle.teb_names.specs.Cells.{same_cell}
@@ -8,6 +8,10 @@ use Rattle.teb_history.specs.declared.Event.TheVariants.{Got}
 use Rattle.teb_history.specs.Phases.{aborted, unfinished}
 use Rattle.teb_rules.specs.Setup.{Setup}
 use Rattle.teb_rules.specs.Tree.{on}
+
+-- the read is t's
+abbrev pub is_by : Txn → Txn × Txn → Bool
+is_by t r = eqb r.0.0 t.0
 
 -- reader and writer read from, for each Got of x, the oldest first
 unfoldable pub all_reads : List Event → Cell → List (Txn × Txn)

@@ -84,10 +84,7 @@ impl Stamps {
         ensures { result ≡ ltb (close (setup_of facts.now) (events_of facts.now) self.now.node.0 u.0) (start (setup_of facts.now) (events_of facts.now) self.now.node.0 t.0) }
     {
         let _ = facts;
-        match self.batches.close(u) {
-            Some(close) => close < self.batches.start(t),
-            None => false,
-        }
+        self.batches.is_closed_before(u, t)
     }
 
     // The least-numbered transaction for which t's write of a cell comes too late. It goes back from the newest read, and stops at
@@ -193,13 +190,13 @@ fn is_at_most<C: Chains>(
 
 impl Control for Stamps {
     ghost use Rattle.std.specs.Prelude.{min};
-    ghost use Rattle.timestamp_node.specs.Standing.{StampsStand, room_of};
+    ghost use Rattle.timestamp_node.specs.Standing.{StampsStand};
 
     ghost stands = { λ c S H. StampsStand c.node.0 c.ordered c.batches c.reads S H };
 
     ghost place = { λ c. c.node.0 };
 
-    ghost spare = { λ c. min c.batches.spare (room_of c.reads) };
+    ghost spare = { λ c. min c.batches.spare c.reads.spare };
 
     ghost sound = { λ c S H s. s.orderly };
 

@@ -6,7 +6,7 @@ use Rattle.teb_history.specs.Ascending.{place_of}
 use Rattle.teb_history.specs.Live.{number_of}
 use Rattle.teb_history.proofs.AscendingLists.{gap_in, put-same, put-insert}
 use Rattle.dependency_book.specs.Books.{txn_cmp}
-use Rattle.dependency_book.specs.Piles.{pile_in}
+use Rattle.key_piles.specs.Piles.{pile_in}
 use Rattle.dependency_book.proofs.PileEdits.{source_in, source_there}
 use Rattle.dependency_book.proofs.edits.add_source.Goals as goal
 
@@ -21,7 +21,7 @@ returns-in-Err-clause-piles c u =
     let place = λ (xs : List Txn). place_of number_of xs c.args.from.0 in
     let gone_in = put-insert number_of c.args.from (f c.args.t) c.in-Err.i (ap place (sym c.list.ensures) ∙ sym c.find.ensures ∙ c.in-Err.is) in
     c.put.ensures.piles u ∙ ap (λ (l : List Txn). cond (is_eq (txn_cmp c.args.t u)) l (f u)) (sym gone_in)
-    ∙ source_in f c.args.t c.args.from u (lt-ltb 0 c.args.from.0 (omega (arith, c.if-from-eq0.false))) (sym c.eq.ensures ∙ c.if-eq.false)
+    ∙ source_in f c.args.t c.args.from u (lt-ltb 0 c.args.from.0 (omega arith)) (sym c.eq.ensures ∙ c.if-eq.false)
 
 pub returns-in_default-clause-piles : goal.returns-in_default-clause-piles
 returns-in_default-clause-piles c u =

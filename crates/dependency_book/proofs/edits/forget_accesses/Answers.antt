@@ -1,35 +1,41 @@
-use Rattle.std.proofs.Common.{◌≡◌, ◌+◌, ◌++◌, ◌∷◌, [], eqb, take, get_or, subst, sym, ◌∙◌, List}
+use Rattle.std.proofs.Common.{◌≡◌, ◌+◌, ◌++◌, ◌∷◌, [], Bool, false, cond, not, ◌&&◌, eqb, take, get_or, subst, sym, ◌∙◌, ap, List}
 use Rattle.std.proofs.lemmas.List.{take_more}
 use Rattle.teb_names.specs.declared.Txn.{Txn}
 use Rattle.teb_names.specs.declared.Cell.{Cell}
-use Rattle.dependency_book.specs.declared.piles.Piles.{Piles}
-use Rattle.dependency_book.proofs.PileEdits.{IsForgotten, forgotten_other, forgotten_more}
+use Rattle.teb_names.specs.Cells.{cell_cmp, same_cell}
+use Rattle.key_piles.specs.Piles.{Shown, pile_in}
+use Rattle.dependency_book.specs.declared.access.Access.{Access}
+use Rattle.key_piles.specs.LastMatches.{without_last}
+use Rattle.dependency_book.specs.Dependencies.{reads, puts}
+use Rattle.dependency_book.proofs.PileEdits.{IsForgotten, forgotten_more}
 use Rattle.dependency_book.proofs.edits.forget_accesses.Goals as goal
-use Rattle.dependency_book.proofs.edits.forget_accesses.Goals.{then-eq, else-eq}
+use Rattle.dependency_book.proofs.edits.forget_accesses.Goals.{then-access, else-access}
 
-pub loop-u-preserved : goal.loop-u-preserved
-loop-u-preserved c =
+pub loop-access-preserved : goal.loop-access-preserved
+loop-access-preserved c =
     let t = c.args.t in
-    let here : Txn × Cell = get_or c.args.accesses.now c.loop-u.u-index (record { 0 = 0 }, record { table = record { 0 = 0 }; key = 0 }) in
-    let done = take c.loop-u.u-index c.args.accesses.now in
-    let more = take_more c.args.accesses.now c.loop-u.u-index (record { 0 = 0 }, record { table = record { 0 = 0 }; key = 0 }) c.loop-u-test.true in
-    let reads = λ (r : Txn × Txn). eqb r.0.0 t.0 in
-    let puts = λ (u : Txn). eqb u.0 t.0 in
-    let as_read : (b : Piles Cell (Txn × Txn)) → IsForgotten reads (done ++ here ∷ []) t c.args.readers.now b → c.if-eq.readers ≡ b → IsForgotten reads (take (c.loop-u.u-index + 1) c.args.accesses.now) t c.args.readers.now c.if-eq.readers
-    = λ b f e. subst (λ (l : List (Txn × Cell)). IsForgotten reads l t c.args.readers.now c.if-eq.readers) (sym more) (subst (λ (p : Piles Cell (Txn × Txn)). IsForgotten reads (done ++ here ∷ []) t c.args.readers.now p) (sym e) f) in
-    let as_put : (b : Piles Cell Txn) → IsForgotten puts (done ++ here ∷ []) t c.args.writers.now b → c.if-eq.writers ≡ b → IsForgotten puts (take (c.loop-u.u-index + 1) c.args.accesses.now) t c.args.writers.now c.if-eq.writers
-    = λ b f e. subst (λ (l : List (Txn × Cell)). IsForgotten puts l t c.args.writers.now c.if-eq.writers) (sym more) (subst (λ (p : Piles Cell Txn). IsForgotten puts (done ++ here ∷ []) t c.args.writers.now p) (sym e) f) in
-    elim c.if-eq.branch [
-      | then-eq w ↦
-          let mine = sym c.eq.ensures ∙ w.if-eq.true in
+    let here : Access = get_or c.args.accesses.now c.loop-access.access-index (record { cell = record { table = record { 0 = 0 }; key = 0 }; wrote = false }) in
+    let done = take c.loop-access.access-index c.args.accesses.now in
+    let more = take_more c.args.accesses.now c.loop-access.access-index (record { cell = record { table = record { 0 = 0 }; key = 0 }; wrote = false }) c.loop-access-test.true in
+    let is_read = λ (r : Txn × Txn). eqb r.0.0 t.0 in
+    let is_put = λ (u : Txn). eqb u.0 t.0 in
+    let was_read = c.loop-access.readers in
+    let was_put = c.loop-access.writers in
+    let as_read : (b : Shown Cell (Txn × Txn)) → IsForgotten is_read reads (done ++ here ∷ []) c.args.readers.now b → c.if-access.readers ≡ b → IsForgotten is_read reads (take (c.loop-access.access-index + 1) c.args.accesses.now) c.args.readers.now c.if-access.readers
+    = λ b f e. subst (λ (l : List Access). IsForgotten is_read reads l c.args.readers.now c.if-access.readers) (sym more) (subst (λ (p : Shown Cell (Txn × Txn)). IsForgotten is_read reads (done ++ here ∷ []) c.args.readers.now p) (sym e) f) in
+    let as_put : (b : Shown Cell Txn) → IsForgotten is_put puts (done ++ here ∷ []) c.args.writers.now b → c.if-access.writers ≡ b → IsForgotten is_put puts (take (c.loop-access.access-index + 1) c.args.accesses.now) c.args.writers.now c.if-access.writers
+    = λ b f e. subst (λ (l : List Access). IsForgotten is_put puts l c.args.writers.now c.if-access.writers) (sym more) (subst (λ (p : Shown Cell Txn). IsForgotten is_put puts (done ++ here ∷ []) c.args.writers.now p) (sym e) f) in
+    let where_read = λ (x : Cell) (b : Bool). cond (not b && same_cell here.cell x) (without_last is_read (pile_in cell_cmp was_read x)) (pile_in cell_cmp was_read x) in
+    let where_put = λ (x : Cell) (b : Bool). cond (b && same_cell here.cell x) (without_last is_put (pile_in cell_cmp was_put x)) (pile_in cell_cmp was_put x) in
+    elim c.if-access.branch [
+      | then-access w ↦
           record {
-            readers = as_read _ (forgotten_more reads t done here.0 here.1 c.args.readers.now c.loop-u.readers _ mine c.loop-u.invariant.readers w.forget_reads.ensures.sorted w.forget_reads.ensures.piles w.forget_reads.ensures.room) w.readers-is;
-            writers = as_put _ (forgotten_more puts t done here.0 here.1 c.args.writers.now c.loop-u.writers _ mine c.loop-u.invariant.writers w.forget_puts.ensures.sorted w.forget_puts.ensures.piles w.forget_puts.ensures.room) w.writers-is;
+            readers = as_read was_read (forgotten_more is_read reads done here c.args.readers.now was_read was_read c.loop-access.invariant.readers (λ x. sym (ap (where_read x) w.if-access.true)) (λ j. was_read.spare)) w.readers-is;
+            writers = as_put _ (forgotten_more is_put puts done here c.args.writers.now was_put _ c.loop-access.invariant.writers (λ x. w.forget_put.ensures.piles x ∙ sym (ap (where_put x) w.if-access.true)) w.forget_put.ensures.spare) w.writers-is;
           }
-      | else-eq w ↦
-          let other = sym c.eq.ensures ∙ w.if-eq.false in
+      | else-access w ↦
           record {
-            readers = as_read c.loop-u.readers (forgotten_other reads t done here.0 here.1 c.args.readers.now c.loop-u.readers other c.loop-u.invariant.readers) w.readers-is;
-            writers = as_put c.loop-u.writers (forgotten_other puts t done here.0 here.1 c.args.writers.now c.loop-u.writers other c.loop-u.invariant.writers) w.writers-is;
+            readers = as_read _ (forgotten_more is_read reads done here c.args.readers.now was_read _ c.loop-access.invariant.readers (λ x. w.forget_read.ensures.piles x ∙ sym (ap (where_read x) w.if-access.false)) w.forget_read.ensures.spare) w.readers-is;
+            writers = as_put was_put (forgotten_more is_put puts done here c.args.writers.now was_put was_put c.loop-access.invariant.writers (λ x. sym (ap (where_put x) w.if-access.false)) (λ j. was_put.spare)) w.writers-is;
           }
     ]

@@ -1,8 +1,6 @@
-use Rattle.std.proofs.Common.{◌≡◌, ◌∙◌, [], ◌∷◌, List, map, ap, sym, rules}
+use Rattle.std.proofs.Common.{◌≡◌, ◌∙◌, ◌∷◌, List, ap, rules}
 use Rattle.teb_names.specs.declared.Node.{Node}
 use Rattle.teb_history.specs.declared.Event.{Event}
-use Rattle.teb_rules.specs.Setup.{NodeRow}
-use Rattle.cc_tree.specs.Grown.{rows_of}
 use Rattle.snapshot_node.proofs.Worked.{root, begins, commits, counted, on_root, begins_newest, runs_then, here, commits_newest}
 use Rattle.snapshot_node.proofs.tests.a_transaction_comes_and_commits.Goals as goal
 

@@ -14,7 +14,7 @@ loop-event-preserved-in-Put c =
     (c.in-Some.ensures.steps ∙ ap (λ (e : Event). e ∷ c.next.new.self) c.in-Put.is) c.take_out.ensures.filed
     (λ x u. c.take_out.ensures.writers (record { cell = x; committed = false }) u ∙ ap (λ (s : Bool). writes_in b x false u && not (s && eqb t u)) (on_slot (same_cell y x)))
     (λ x u. c.take_out.ensures.writers (record { cell = x; committed = true }) u ∙ off_slot _ (same_cell y x) (eqb t u) ∙ or_off _)
-    c.take_out.ensures.room
+    c.take_out.ensures.spare
 
 pub returns-clause-unfinished : goal.returns-clause-unfinished
 returns-clause-unfinished c = (left_all false c.args.history.now.events c.args.t.0 c.args.writers.now c.loop-event.writers c.loop-event.event-iterator c.loop-event.invariant c.in-None.ensures.steps.0).0

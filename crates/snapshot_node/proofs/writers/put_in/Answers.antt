@@ -1,42 +1,33 @@
-use Rattle.std.proofs.Common.{◌∙◌, sym, ap, subst, List}
-use Rattle.teb_names.specs.declared.Txn.{Txn}
-use Rattle.teb_history.specs.Ascending.{IsAscendingBy, place_of}
+use Rattle.std.proofs.Common.{sym, subst}
+use Rattle.teb_history.specs.Ascending.{IsAscendingBy}
 use Rattle.teb_history.specs.Live.{number_of}
 use Rattle.teb_history.proofs.AscendingLists.{gap_in}
 use Rattle.key_piles.specs.Piles.{pile_in}
 use Rattle.snapshot_node.specs.declared.writers.Slot.{Slot}
 use Rattle.snapshot_node.specs.Slots.{slot_cmp}
-use Rattle.snapshot_node.proofs.Among.{put_ascends, put_there, put_already, kept_ascending}
+use Rattle.snapshot_node.proofs.Among.{placed, put_ascends, put_there, put_already, kept_ascending}
 use Rattle.snapshot_node.proofs.writers.put_in.Goals as goal
 
 pub find-requires : goal.find-requires
 find-requires c = subst (IsAscendingBy number_of) (sym c.list.ensures) (c.requires.filed.ascending c.args.slot)
 
 pub put-requires-clause-within : goal.put-requires-clause-within
-put-requires-clause-within c =
-    let place = λ (xs : List Txn). place_of number_of xs c.args.t.0 in
-    gap_in number_of _ c.args.t.0 _ (ap place (sym c.list.ensures) ∙ sym c.find.ensures ∙ c.in-Err.is)
+put-requires-clause-within c = gap_in number_of _ c.args.t.0 _ (placed c.args.t c.list.ensures c.find.ensures c.in-Err.is)
 
 pub returns-in-Err-clause-filed : goal.returns-in-Err-clause-filed
 returns-in-Err-clause-filed c =
     let f = λ (q : Slot). pile_in slot_cmp c.args.writers.now q in
     let g = λ (q : Slot). pile_in slot_cmp c.put.new.self q in
-    let place = λ (xs : List Txn). place_of number_of xs c.args.t.0 in
-    let e = ap place (sym c.list.ensures) ∙ sym c.find.ensures ∙ c.in-Err.is in
-    record {
-      piled = c.put.ensures.sorted;
-      ascending = kept_ascending f g c.args.slot c.args.t _ c.put.ensures.piles (put_ascends f g c.args.slot c.args.t c.in-Err.i e c.requires.filed.ascending) c.requires.filed.ascending;
-    }
+    let e = placed c.args.t c.list.ensures c.find.ensures c.in-Err.is in
+    record { ascending = kept_ascending f g c.args.slot c.args.t _ c.put.ensures.piles (put_ascends f g c.args.slot c.args.t c.in-Err.i e c.requires.filed.ascending) c.requires.filed.ascending }
 
 pub returns-in-Err-clause-writers : goal.returns-in-Err-clause-writers
 returns-in-Err-clause-writers c q u =
     let f = λ (q : Slot). pile_in slot_cmp c.args.writers.now q in
     let g = λ (q : Slot). pile_in slot_cmp c.put.new.self q in
-    let place = λ (xs : List Txn). place_of number_of xs c.args.t.0 in
-    put_there f g c.args.slot c.args.t c.in-Err.i (ap place (sym c.list.ensures) ∙ sym c.find.ensures ∙ c.in-Err.is) c.put.ensures.piles q u
+    put_there f g c.args.slot c.args.t c.in-Err.i (placed c.args.t c.list.ensures c.find.ensures c.in-Err.is) c.put.ensures.piles q u
 
 pub returns-in_default-clause-writers : goal.returns-in_default-clause-writers
 returns-in_default-clause-writers c q u =
     let f = λ (q : Slot). pile_in slot_cmp c.args.writers.now q in
-    let place = λ (xs : List Txn). place_of number_of xs c.args.t.0 in
-    put_already f f c.args.slot c.args.t _ (ap place (sym c.list.ensures) ∙ sym c.find.ensures ∙ c.in_default.is) q u
+    put_already f f c.args.slot c.args.t _ (placed c.args.t c.list.ensures c.find.ensures c.in_default.is) q u

@@ -1,24 +1,40 @@
-use Rattle.std.proofs.Common.{◌∙◌, ◌∷◌, Bool, List, cond, not, eqb, filter, sym, ap}
+use Rattle.std.proofs.Common.{◌∙◌, ◌∷◌, sym, subst, refl, List}
 use Rattle.teb_names.specs.Cells.{cell_cmp}
 use Rattle.teb_history.specs.declared.Event.{Event}
-use Rattle.teb_history.proofs.OwnWalks.{got_own}
 use Rattle.key_piles.specs.Piles.{pile_in}
-use Rattle.timestamp_node.proofs.Forgetting.{left_by, left_got}
+use Rattle.timestamp_node.proofs.Forgetting.{IsForgetting, forget_none, forget_got, forget_other, forget_all}
 use Rattle.timestamp_node.proofs.reads.forget_reads.Goals as goal
+
+pub loop-event-init : goal.loop-event-init
+loop-event-init c = record {
+  piles = λ x. subst (λ (es : List Event). IsForgetting c.args.t x es (pile_in cell_cmp c.args.reads.now x) (pile_in cell_cmp c.args.reads.now x)) (sym (c.into_iter-event-iterator.ensures.into_iter_gives ∙ c.own_events-event-items.ensures))
+      (forget_none c.args.t x c.args.history.now.events (pile_in cell_cmp c.args.reads.now x) (c.requires x));
+  spare = refl;
+}
 
 pub loop-event-preserved-in-Got : goal.loop-event-preserved-in-Got
 loop-event-preserved-in-Got c = record {
-  sorted = c.forget_cell.ensures.sorted;
   piles = λ x.
-      left_got c.args.t x c.next.new.self c.in-Got.txn c.in-Got.cell c.in-Got.from c.in-Got.value (pile_in cell_cmp c.loop-event.reads x) (pile_in cell_cmp c.forget_cell.new.reads x) (c.forget_cell.ensures.piles x)
-      ∙ ap (λ (e : Event). left_by c.args.t x (e ∷ c.next.new.self) (pile_in cell_cmp c.loop-event.reads x)) (sym c.in-Got.is)
-      ∙ ap (λ (es : List Event). left_by c.args.t x es (pile_in cell_cmp c.loop-event.reads x)) (sym c.in-Some.ensures.steps)
-      ∙ c.loop-event.invariant.piles x;
-  room = λ n h. c.forget_cell.ensures.room n (c.loop-event.invariant.room n h);
+      let all = pile_in cell_cmp c.args.reads.now x in
+      let was = pile_in cell_cmp c.loop-event.reads x in
+      let before = subst (λ (es : List Event). IsForgetting c.args.t x es all was) c.in-Some.ensures.steps (c.loop-event.invariant.piles x) in
+      let got = subst (λ (e : Event). IsForgetting c.args.t x (e ∷ c.next.new.self) all was) c.in-Got.is before in
+      forget_got c.args.t x c.next.new.self all was (pile_in cell_cmp c.forget_last.new.reads x) c.in-Got.txn c.in-Got.cell c.in-Got.from c.in-Got.value got (c.forget_last.ensures.piles x);
+  spare = c.forget_last.ensures.spare ∙ c.loop-event.invariant.spare;
+}
+
+pub loop-event-preserved : goal.loop-event-preserved
+loop-event-preserved c = record {
+  piles = λ x.
+      let all = pile_in cell_cmp c.args.reads.now x in
+      let was = pile_in cell_cmp c.loop-event.reads x in
+      forget_other c.args.t x c.in-Some.event c.next.new.self all was c.in_default.not-Got
+      (subst (λ (es : List Event). IsForgetting c.args.t x es all was) c.in-Some.ensures.steps (c.loop-event.invariant.piles x));
+  spare = c.loop-event.invariant.spare;
 }
 
 pub returns-clause-piles : goal.returns-clause-piles
 returns-clause-piles c = λ x.
-    ap (λ (es : List Event). left_by c.args.t x es (pile_in cell_cmp c.loop-event.reads x)) (sym c.in-None.ensures.steps.0)
-    ∙ c.loop-event.invariant.piles x
-    ∙ ap (λ (b : Bool). cond b (filter (λ r. not (eqb r.0.0 c.args.t.0)) (pile_in cell_cmp c.args.reads.now x)) (pile_in cell_cmp c.args.reads.now x)) (sym (got_own c.args.history.now.events c.args.t.0 x))
+    let all = pile_in cell_cmp c.args.reads.now x in
+    let left = pile_in cell_cmp c.loop-event.reads x in
+    forget_all c.args.t x all left (subst (λ (es : List Event). IsForgetting c.args.t x es all left) c.in-None.ensures.steps.0 (c.loop-event.invariant.piles x))

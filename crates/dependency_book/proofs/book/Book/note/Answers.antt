@@ -5,4 +5,4 @@ use Rattle.dependency_book.proofs.book.Book.note.Goals as goal
 pub invariant_of-self : goal.invariant_of-self
 invariant_of-self c =
     let some : c.self.inside.spare ≡ (c.self.inside.spare - 1) + 1 = omega (arith, ap (λ (b : Shown). b.spare) c.self.view_is, c.requires) in
-    record { sound = c.note.ensures.sound; rooms = c.note.ensures.room _ (subst (λ (n : ℕ). HasRooms c.self.inside.registers n) some c.self.invariant.rooms) }
+    record { ascending = c.note.ensures.ascending; rooms = c.note.ensures.room _ (subst (λ (n : ℕ). HasRooms c.self.inside.registers n) some c.self.invariant.rooms) }

@@ -1,17 +1,46 @@
-use Rattle.std.proofs.Common.{refl, arith}
-use Rattle.dependency_book.proofs.PileEdits.{less_room}
+use Rattle.std.proofs.Common.{◌≡◌, Bool, true, false, cond, not, ◌&&◌, eqb, refl, sym, ◌∙◌, ap, List}
+use Rattle.std.specs.List.{list_any}
+use Rattle.teb_names.specs.declared.Txn.{Txn}
+use Rattle.teb_names.specs.declared.Cell.{Cell}
+use Rattle.teb_names.specs.Cells.{cell_cmp, same_cell}
+use Rattle.key_piles.specs.Piles.{pile_in}
+use Rattle.dependency_book.specs.declared.access.Access.{Access}
+use Rattle.dependency_book.specs.Dependencies.{puts}
+use Rattle.dependency_book.specs.Books.{txn_cmp}
+use Rattle.key_piles.proofs.CellPiles.{pushed_cell}
+use Rattle.dependency_book.proofs.PileEdits.{pushed_txn}
 use Rattle.dependency_book.proofs.Noted.{noted_put}
 use Rattle.dependency_book.proofs.registers.Registers.put.Goals as goal
 
-pub returns-clause-room : goal.returns-clause-room
-returns-clause-room c n h = record {
-  readers = less_room _ n h.readers;
-  writers = c.add_writer.ensures.room n h.writers;
-  sources = less_room _ n h.sources;
-  unfinished = omega (arith, h.unfinished);
-  accesses = omega (arith, h.accesses, c.push.ensures.capacity, rw (c.push.ensures.succeeds (omega (arith, c.requires.room.accesses))) at c.push.ensures.len);
-}
+-- nothing is added where the cell is put already
+kept : {V : Type 0} (p c : Bool) (xs ys : List V) → true ≡ p → xs ≡ cond (c && not p) ys xs
+kept true true xs ys e = refl
+kept true false xs ys e = refl
+kept false c xs ys e = absurd (let z : true ≡ false = e in cc)
+
+-- and otherwise it is added
+added : {V : Type 0} (p c : Bool) (xs ys : List V) → false ≡ p → cond c ys xs ≡ cond (c && not p) ys xs
+added false true xs ys e = refl
+added false false xs ys e = refl
+added true c xs ys e = absurd (let z : false ≡ true = e in cc)
+
+pub returns-then-has_put-clause-book : goal.returns-then-has_put-clause-book
+returns-then-has_put-clause-book c P v was may =
+    let t = c.args.t in
+    let x = c.args.cell in
+    let is : true ≡ list_any (puts x) (pile_in txn_cmp c.args.self.now.accesses t) = sym c.if-has_put.true ∙ c.has_put.ensures ∙ ap (λ (l : List Access). list_any (puts x) l) c.list.ensures in
+    noted_put _ _ P was t x v may (λ y. refl)
+    (λ y. kept _ (same_cell x y) _ _ is)
+    (λ u. refl) refl
+    (λ u. kept _ (eqb t.0 u.0) _ _ is)
 
 pub returns-clause-book : goal.returns-clause-book
 returns-clause-book c P v was may =
-    noted_put _ _ P was c.args.t c.args.cell v may (λ x. refl) c.add_writer.ensures.piles (λ u. refl) refl (rw (c.push.ensures.succeeds (omega (arith, c.requires.room.accesses))) at c.push.ensures.items)
+    let t = c.args.t in
+    let x = c.args.cell in
+    let access : Access = record { cell = x; wrote = true } in
+    let is : false ≡ list_any (puts x) (pile_in txn_cmp c.args.self.now.accesses t) = sym c.if-has_put.false ∙ c.has_put.ensures ∙ ap (λ (l : List Access). list_any (puts x) l) c.list.ensures in
+    noted_put _ _ P was t x v may (λ y. refl)
+    (λ y. c.push.ensures.piles y ∙ pushed_cell (λ (z : Cell). pile_in cell_cmp c.args.self.now.writers z) x y t ∙ added _ (same_cell x y) _ _ is)
+    (λ u. refl) refl
+    (λ u. c.push-2.ensures.piles u ∙ pushed_txn (λ (z : Txn). pile_in txn_cmp c.args.self.now.accesses z) t u access ∙ added _ (eqb t.0 u.0) _ _ is)

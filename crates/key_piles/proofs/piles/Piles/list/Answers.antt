@@ -1,15 +1,10 @@
-use Rattle.std.proofs.Common.{◌≡◌, ◌-◌, ◌∙◌, ap, arith, length, take, drop, List}
-use Rattle.key_piles.specs.Piles.{lows, tops}
-use Rattle.key_piles.proofs.SortedPiles.{pile_range}
+use Rattle.std.proofs.Common.{◌∙◌, sym, ap}
+use Rattle.key_piles.specs.Piles.{pile_in}
+use Rattle.key_piles.proofs.SpreadPiles.{located, located_pile}
 use Rattle.key_piles.proofs.piles.Piles.list.Goals as goal
 
 pub returns : goal.returns
 returns g c =
     let R = g.K.Ord.cmp in
-    let k = c.args.key in
-    let ks = c.args.self.now.keys.items in
-    let vs = c.args.self.now.values.items in
-    let n : length ks ≡ length vs = omega (arith, c.args.self.now.keys.ok.0, c.args.self.now.values.ok.0, c.requires.paired) in
-    let start : c.first-start.result ≡ lows R ks k = c.first-start.ensures.at ∙ ap (λ (l : List _). lows R l k) c.deref.ensures.value in
-    let end : c.behind-end.result ≡ tops R ks k = c.behind-end.ensures.at ∙ ap (λ (l : List _). tops R l k) c.deref-2.ensures.value in
-    (λ j. take (end j - start j) (drop (start j) (c.deref-3.ensures.value j))) ∙ pile_range R g.met.K.Ord.total ks vs k c.requires.ascends n
+    let l = located R g.K.Key.spread_of _ _ c.args.key _ _ c.deref.ensures.value c.place_of.ensures.at c.place_of.ensures.within c.index.ensures in
+    c.list.ensures ∙ sym (located_pile R g.K.Key.spread_of _ _ c.self.invariant _ _ _ l) ∙ ap (λ s. pile_in R s c.args.key) c.self.view_is

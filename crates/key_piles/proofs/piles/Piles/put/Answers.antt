@@ -1,65 +1,34 @@
-use Rattle.std.proofs.Common.{◌≡◌, ◌+◌, ◌∙◌, sym, ap, subst, arith, length, List}
-use Rattle.key_piles.specs.Piles.{pile, lows, Ascends}
-use Rattle.key_piles.proofs.SortedPiles.{pile_length, tops_length, pile_insert, ascends_insert}
+use Rattle.std.proofs.Common.{◌-◌, ◌≤◌, ◌∙◌, sym, ap, subst, arith, length, cond, insert, List}
+use Rattle.std.specs.Ordering.{is_eq}
+use Rattle.key_piles.specs.Buckets.{HasRoom}
+use Rattle.key_piles.specs.Piles.{pile_in}
+use Rattle.key_piles.proofs.SpreadPiles.{located, located_pile, located_sorted, located_room, put_spread, put_piles}
 use Rattle.key_piles.proofs.piles.Piles.put.Goals as goal
 
-pub overflow_add-at : goal.overflow_add-at
-overflow_add-at g c =
-    let R = g.K.Ord.cmp in
-    let k = c.args.key in
-    let ks = c.args.self.now.keys.items in
-    let vs = c.args.self.now.values.items in
-    let n : length ks ≡ length vs = omega (arith, c.args.self.now.keys.ok.0, c.args.self.now.values.ok.0, c.requires.sorted.paired) in
-    let start : c.first.result ≡ lows R ks k = c.first.ensures.at ∙ ap (λ (l : List _). lows R l k) c.deref.ensures.value in
-    omega (arith, start, c.requires.within, pile_length R g.met.K.Ord.total ks vs k c.requires.sorted.ascends n, tops_length R g.met.K.Ord.total ks k, c.deref.ensures.len, ap length c.deref.ensures.value, c.deref.type_inv.0)
+pub put-requires-clause-sorted : goal.put-requires-clause-sorted
+put-requires-clause-sorted g c =
+    let l = located g.K.Ord.cmp g.K.Key.spread_of _ _ c.args.key _ _ c.deref.ensures.value c.place_of-at.ensures.at c.place_of-at.ensures.within c.index_mut.ensures.value in
+    located_sorted g.K.Ord.cmp g.K.Key.spread_of _ _ c.self.invariant _ _ _ l
 
-pub insert-requires : goal.insert-requires
-insert-requires g c =
+pub put-requires-clause-within : goal.put-requires-clause-within
+put-requires-clause-within g c =
     let R = g.K.Ord.cmp in
-    let k = c.args.key in
-    let ks = c.args.self.now.keys.items in
-    let vs = c.args.self.now.values.items in
-    let n : length ks ≡ length vs = omega (arith, c.args.self.now.keys.ok.0, c.args.self.now.values.ok.0, c.requires.sorted.paired) in
-    let start : c.first.result ≡ lows R ks k = c.first.ensures.at ∙ ap (λ (l : List _). lows R l k) c.deref.ensures.value in
-    omega (arith, start, c.requires.within, pile_length R g.met.K.Ord.total ks vs k c.requires.sorted.ascends n, tops_length R g.met.K.Ord.total ks k, c.deref.ensures.len, ap length c.deref.ensures.value)
+    let l = located R g.K.Key.spread_of _ _ c.args.key _ _ c.deref.ensures.value c.place_of-at.ensures.at c.place_of-at.ensures.within c.index_mut.ensures.value in
+    let here = located_pile R g.K.Key.spread_of _ _ c.self.invariant _ _ _ l in
+    subst (λ (vs : List _). c.args.i ≤ length vs) (sym (ap (λ s. pile_in R s c.args.key) c.self.view_is) ∙ here) c.requires.within
 
-pub insert-requires-2 : goal.insert-requires-2
-insert-requires-2 g c =
+pub invariant_of-self : goal.invariant_of-self
+invariant_of-self g c =
     let R = g.K.Ord.cmp in
-    let k = c.args.key in
-    let ks = c.args.self.now.keys.items in
-    let vs = c.args.self.now.values.items in
-    let n : length ks ≡ length vs = omega (arith, c.args.self.now.keys.ok.0, c.args.self.now.values.ok.0, c.requires.sorted.paired) in
-    let start : c.first.result ≡ lows R ks k = c.first.ensures.at ∙ ap (λ (l : List _). lows R l k) c.deref.ensures.value in
-    omega (arith, start, c.requires.within, c.requires.sorted.paired, pile_length R g.met.K.Ord.total ks vs k c.requires.sorted.ascends n, tops_length R g.met.K.Ord.total ks k, c.deref.ensures.len, ap length c.deref.ensures.value)
-
-pub returns-clause-sorted : goal.returns-clause-sorted
-returns-clause-sorted g c =
-    let R = g.K.Ord.cmp in
-    let total = g.met.K.Ord.total in
-    let k = c.args.key in
-    let ks = c.args.self.now.keys.items in
-    let vs = c.args.self.now.values.items in
-    let n : length ks ≡ length vs = omega (arith, c.args.self.now.keys.ok.0, c.args.self.now.values.ok.0, c.requires.sorted.paired) in
-    let start : c.first.result ≡ lows R ks k = c.first.ensures.at ∙ ap (λ (l : List _). lows R l k) c.deref.ensures.value in
-    let fits = pile_length R total ks vs k c.requires.sorted.ascends n in
-    let key_in = rw (c.insert.ensures.succeeds (omega (arith, c.requires.room.keys))) at c.insert.ensures.items in
-    record {
-      ascends = subst (Ascends R) (sym key_in) (ascends_insert R total ks (c.first.result + c.args.i) k c.requires.sorted.ascends (omega (arith, start)) (omega (arith, start, fits, c.requires.within)));
-      paired = omega (arith, rw (c.insert.ensures.succeeds (omega (arith, c.requires.room.keys))) at c.insert.ensures.len, rw (c.insert-2.ensures.succeeds (omega (arith, c.requires.room.values))) at c.insert-2.ensures.len, c.requires.sorted.paired);
-    }
+    let l = located R g.K.Key.spread_of _ _ c.args.key _ _ c.deref.ensures.value c.place_of-at.ensures.at c.place_of-at.ensures.within c.index_mut.ensures.value in
+    let room = c.put.ensures.room (c.self.inside.spare - 1) (subst (HasRoom c.index_mut.result.now) (omega (arith, c.requires.room, ap (λ s. s.spare) c.self.view_is)) (located_room R g.K.Key.spread_of _ _ c.self.invariant _ _ _ l)) in
+    put_spread R g.K.Key.spread_of g.met.K.Key.agrees _ _ _ _ _ _ c.self.invariant (omega arith) c.put.ensures.sorted room _ l _ c.put.ensures.piles
 
 pub returns-clause-piles : goal.returns-clause-piles
 returns-clause-piles g c q =
     let R = g.K.Ord.cmp in
-    let total = g.met.K.Ord.total in
-    let k = c.args.key in
-    let ks = c.args.self.now.keys.items in
-    let vs = c.args.self.now.values.items in
-    let n : length ks ≡ length vs = omega (arith, c.args.self.now.keys.ok.0, c.args.self.now.values.ok.0, c.requires.sorted.paired) in
-    let start : c.first.result ≡ lows R ks k = c.first.ensures.at ∙ ap (λ (l : List _). lows R l k) c.deref.ensures.value in
-    let fits = pile_length R total ks vs k c.requires.sorted.ascends n in
-    let key_in = rw (c.insert.ensures.succeeds (omega (arith, c.requires.room.keys))) at c.insert.ensures.items in
-    let value_in = rw (c.insert-2.ensures.succeeds (omega (arith, c.requires.room.values))) at c.insert-2.ensures.items in
-    (λ j. pile R (key_in j) (value_in j) q)
-    ∙ pile_insert R total ks vs (c.first.result + c.args.i) c.args.i k c.args.value c.requires.sorted.ascends n (omega (arith, start)) (omega (arith, start, fits, c.requires.within)) q
+    let l = located R g.K.Key.spread_of _ _ c.args.key _ _ c.deref.ensures.value c.place_of-at.ensures.at c.place_of-at.ensures.within c.index_mut.ensures.value in
+    let here = located_pile R g.K.Key.spread_of _ _ c.self.invariant _ _ _ l in
+    let room = c.put.ensures.room (c.self.inside.spare - 1) (subst (HasRoom c.index_mut.result.now) (omega (arith, c.requires.room, ap (λ s. s.spare) c.self.view_is)) (located_room R g.K.Key.spread_of _ _ c.self.invariant _ _ _ l)) in
+    put_piles R g.K.Key.spread_of g.met.K.Key.agrees _ _ _ _ _ _ c.self.invariant (omega arith) c.put.ensures.sorted room _ l _ c.put.ensures.piles (pile_in R c.args.self.now) (λ p. ap (λ s. pile_in R s p) c.self.view_is) q
+    ∙ ap (λ (vs : List _). cond (is_eq (R c.args.key q)) (insert vs c.args.i c.args.value) (pile_in R c.args.self.now q)) (sym here ∙ ap (λ s. pile_in R s c.args.key) c.self.view_is)

@@ -1,55 +1,33 @@
-use Rattle.std.proofs.Common.{◌≡◌, ◌+◌, ◌∙◌, sym, ap, subst, arith, length, List}
-use Rattle.key_piles.specs.Piles.{pile, lows, Ascends}
-use Rattle.key_piles.proofs.SortedPiles.{pile_length, tops_length, pile_remove, ascends_remove}
+use Rattle.std.proofs.Common.{◌<◌, ◌∙◌, sym, ap, subst, arith, length, cond, remove, List}
+use Rattle.std.specs.Ordering.{is_eq}
+use Rattle.key_piles.specs.Piles.{pile_in}
+use Rattle.key_piles.proofs.SpreadPiles.{located, located_pile, located_sorted, located_room, less_room, put_spread, put_piles}
 use Rattle.key_piles.proofs.piles.Piles.take.Goals as goal
 
-pub overflow_add-at : goal.overflow_add-at
-overflow_add-at g c =
-    let R = g.K.Ord.cmp in
-    let total = g.met.K.Ord.total in
-    let k = c.args.key in
-    let ks = c.args.self.now.keys.items in
-    let vs = c.args.self.now.values.items in
-    let n : length ks ≡ length vs = omega (arith, c.args.self.now.keys.ok.0, c.args.self.now.values.ok.0, c.requires.sorted.paired) in
-    let start : c.first.result ≡ lows R ks k = c.first.ensures.at ∙ ap (λ (l : List _). lows R l k) c.deref.ensures.value in
-    omega (arith, start, c.requires.within, pile_length R total ks vs k c.requires.sorted.ascends n, tops_length R total ks k, c.deref.ensures.len, ap length c.deref.ensures.value, c.deref.type_inv.0)
+pub take-requires-clause-sorted : goal.take-requires-clause-sorted
+take-requires-clause-sorted g c =
+    let l = located g.K.Ord.cmp g.K.Key.spread_of _ _ c.args.key _ _ c.deref.ensures.value c.place_of-at.ensures.at c.place_of-at.ensures.within c.index_mut.ensures.value in
+    located_sorted g.K.Ord.cmp g.K.Key.spread_of _ _ c.self.invariant _ _ _ l
 
-pub remove-requires : goal.remove-requires
-remove-requires g c =
+pub take-requires-clause-within : goal.take-requires-clause-within
+take-requires-clause-within g c =
     let R = g.K.Ord.cmp in
-    let total = g.met.K.Ord.total in
-    let k = c.args.key in
-    let ks = c.args.self.now.keys.items in
-    let vs = c.args.self.now.values.items in
-    let n : length ks ≡ length vs = omega (arith, c.args.self.now.keys.ok.0, c.args.self.now.values.ok.0, c.requires.sorted.paired) in
-    let start : c.first.result ≡ lows R ks k = c.first.ensures.at ∙ ap (λ (l : List _). lows R l k) c.deref.ensures.value in
-    omega (arith, start, c.requires.within, pile_length R total ks vs k c.requires.sorted.ascends n, tops_length R total ks k, c.deref.ensures.len, ap length c.deref.ensures.value)
+    let l = located R g.K.Key.spread_of _ _ c.args.key _ _ c.deref.ensures.value c.place_of-at.ensures.at c.place_of-at.ensures.within c.index_mut.ensures.value in
+    let here = located_pile R g.K.Key.spread_of _ _ c.self.invariant _ _ _ l in
+    subst (λ (vs : List _). c.args.i < length vs) (sym (ap (λ s. pile_in R s c.args.key) c.self.view_is) ∙ here) c.requires
 
-pub remove-requires-2 : goal.remove-requires-2
-remove-requires-2 g c =
+pub invariant_of-self : goal.invariant_of-self
+invariant_of-self g c =
     let R = g.K.Ord.cmp in
-    let total = g.met.K.Ord.total in
-    let k = c.args.key in
-    let ks = c.args.self.now.keys.items in
-    let vs = c.args.self.now.values.items in
-    let n : length ks ≡ length vs = omega (arith, c.args.self.now.keys.ok.0, c.args.self.now.values.ok.0, c.requires.sorted.paired) in
-    let start : c.first.result ≡ lows R ks k = c.first.ensures.at ∙ ap (λ (l : List _). lows R l k) c.deref.ensures.value in
-    omega (arith, start, c.requires.within, c.requires.sorted.paired, pile_length R total ks vs k c.requires.sorted.ascends n, tops_length R total ks k, c.deref.ensures.len, ap length c.deref.ensures.value)
-
-pub returns-clause-sorted : goal.returns-clause-sorted
-returns-clause-sorted g c = record {
-  ascends = subst (Ascends g.K.Ord.cmp) (sym c.remove.ensures.items) (ascends_remove g.K.Ord.cmp g.met.K.Ord.total c.args.self.now.keys.items _ c.requires.sorted.ascends);
-  paired = omega (arith, c.remove.ensures.len, c.remove-2.ensures.len, c.requires.sorted.paired);
-}
+    let l = located R g.K.Key.spread_of _ _ c.args.key _ _ c.deref.ensures.value c.place_of-at.ensures.at c.place_of-at.ensures.within c.index_mut.ensures.value in
+    let room = less_room _ _ (c.take.ensures.room c.self.inside.spare (located_room R g.K.Key.spread_of _ _ c.self.invariant _ _ _ l)) in
+    put_spread R g.K.Key.spread_of g.met.K.Key.agrees _ _ _ _ _ _ c.self.invariant (omega arith) c.take.ensures.sorted room _ l _ c.take.ensures.piles
 
 pub returns-clause-piles : goal.returns-clause-piles
 returns-clause-piles g c q =
     let R = g.K.Ord.cmp in
-    let total = g.met.K.Ord.total in
-    let k = c.args.key in
-    let ks = c.args.self.now.keys.items in
-    let vs = c.args.self.now.values.items in
-    let n : length ks ≡ length vs = omega (arith, c.args.self.now.keys.ok.0, c.args.self.now.values.ok.0, c.requires.sorted.paired) in
-    let start : c.first.result ≡ lows R ks k = c.first.ensures.at ∙ ap (λ (l : List _). lows R l k) c.deref.ensures.value in
-    (λ j. pile R (c.remove.ensures.items j) (c.remove-2.ensures.items j) q)
-    ∙ pile_remove R total ks vs (c.first.result + c.args.i) c.args.i k c.requires.sorted.ascends n (omega (arith, start)) (omega (arith, start, pile_length R total ks vs k c.requires.sorted.ascends n, c.requires.within)) q
+    let l = located R g.K.Key.spread_of _ _ c.args.key _ _ c.deref.ensures.value c.place_of-at.ensures.at c.place_of-at.ensures.within c.index_mut.ensures.value in
+    let here = located_pile R g.K.Key.spread_of _ _ c.self.invariant _ _ _ l in
+    let room = less_room _ _ (c.take.ensures.room c.self.inside.spare (located_room R g.K.Key.spread_of _ _ c.self.invariant _ _ _ l)) in
+    put_piles R g.K.Key.spread_of g.met.K.Key.agrees _ _ _ _ _ _ c.self.invariant (omega arith) c.take.ensures.sorted room _ l _ c.take.ensures.piles (pile_in R c.args.self.now) (λ p. ap (λ s. pile_in R s p) c.self.view_is) q
+    ∙ ap (λ (vs : List _). cond (is_eq (R c.args.key q)) (remove vs c.args.i) (pile_in R c.args.self.now q)) (sym here ∙ ap (λ s. pile_in R s c.args.key) c.self.view_is)

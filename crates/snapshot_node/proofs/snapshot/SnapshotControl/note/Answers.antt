@@ -12,7 +12,6 @@ use Rattle.hold_register.proofs.Noting.{orderly_now, writer_begun, typed_now}
 use Rattle.snapshot_node.specs.Slots.{writes_in}
 use Rattle.snapshot_node.specs.Standing.{SnapshotStand}
 use Rattle.snapshot_node.proofs.Leaving.{on_slot, off_put}
-use Rattle.snapshot_node.proofs.Rooms.{room_kept, room_taken}
 use Rattle.snapshot_node.proofs.Noting.{newest_place, began_begun, began_new, noted_began, noted_began_off, noted_put, noted_put_off, noted_done, noted_gone, noted_got, noted_ready, noted_told}
 use Rattle.snapshot_node.proofs.snapshot.SnapshotControl.note.Goals as goal
 
@@ -117,9 +116,6 @@ returns-else-is_on-2-clause-stands c =
     (λ o. noted_put_off S P n b p c.requires.stands t c.in-Put.cell c.in-Put.value m o)
     (sym c.is_on-in-Put.ensures ∙ c.if-is_on-2.false)
 
-pub returns-then-is_on-2-clause-spare : goal.returns-then-is_on-2-clause-spare
-returns-then-is_on-2-clause-spare c = let z = room_taken c.args.self.now.writers c.put_in.new.writers c.put_in.ensures.room in omega arith
-
 pub returns-in-Done-clause-stands : goal.returns-in-Done-clause-stands
 returns-in-Done-clause-stands c =
     let S = setup_of c.args.facts.now in
@@ -139,9 +135,6 @@ returns-in-Done-clause-stands c =
     (λ run done. noted_done S P n b p c.requires.stands t b' q (c.len-at.result - 1) l c.finish.ensures.size c.commit.ensures.filed c.finish.ensures.batches m run done)
     c.commit.ensures.unfinished c.commit.ensures.committed
 
-pub returns-in-Done-clause-spare : goal.returns-in-Done-clause-spare
-returns-in-Done-clause-spare c = let z = room_kept c.args.self.now.writers c.commit.new.writers c.commit.ensures.room in let y = c.finish.ensures.spare in omega arith
-
 pub returns-in-Gone-clause-stands : goal.returns-in-Gone-clause-stands
 returns-in-Gone-clause-stands c =
     let S = setup_of c.args.facts.now in
@@ -160,9 +153,6 @@ returns-in-Gone-clause-stands c =
     subst (λ (G : List Event). ((x : Cell) (u : ℕ) → writes_in q x false u ≡ (writes_in p x false u && not (wrote G t.0 x && eqb t.0 u))) → SnapshotStand n b' q S G) (sym h)
     (λ run. noted_gone S P n b p c.requires.stands t b' q (c.len-at.result - 1) l c.finish-in-Gone.ensures.size c.abort.ensures.filed c.finish-in-Gone.ensures.batches c.in-Gone.cause m run c.abort.ensures.committed)
     c.abort.ensures.unfinished
-
-pub returns-in-Gone-clause-spare : goal.returns-in-Gone-clause-spare
-returns-in-Gone-clause-spare c = let z = room_kept c.args.self.now.writers c.abort.new.writers c.abort.ensures.room in let y = c.finish-in-Gone.ensures.spare in omega arith
 
 pub returns-in-Got-clause-stands : goal.returns-in-Got-clause-stands
 returns-in-Got-clause-stands c =

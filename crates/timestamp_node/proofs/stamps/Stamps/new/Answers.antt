@@ -20,5 +20,5 @@ returns-clause-stands c =
       orderly = subst (IsOrderly S) (sym c.requires.empty) (orderly_none S);
       timely = subst IsTimely (sym c.requires.empty) no_timely;
       batches = subst (λ (H : List Event). BatchesOf c.new.result S H n) (sym c.requires.empty) (c.new.ensures.batches S n);
-      reads = subst (λ (H : List Event). ReadsOf c.new-2.result S H n) (sym c.requires.empty) (no_reads c.new-2.result S n c.new-2.ensures.keys c.new-2.ensures.sorted);
+      reads = subst (λ (H : List Event). ReadsOf c.new-2.result S H n) (sym c.requires.empty) (no_reads c.new-2.result S n c.new-2.ensures.entries);
     }

@@ -1,11 +1,11 @@
-use Rattle.std.proofs.Common.{◌∙◌, ◌-◌, drop, sym, ap, subst, refl, inl, inr, arith, eq-eqb}
+use Rattle.std.proofs.Common.{◌∙◌, ◌-◌, drop, sym, ap, subst, refl, inl, inr, eq-eqb}
 use Rattle.teb_history.specs.declared.Event.{Event}
 use Rattle.teb_history.specs.Phases.{is_began}
 use Rattle.phase_api.specs.Told.{setup_of, events_of}
 use Rattle.phase_api.specs.Calls.{MayNote}
 use Rattle.hold_register.proofs.Noting.{typed_now}
 use Rattle.batch_book.proofs.Telling.{next_new}
-use Rattle.timestamp_node.proofs.Noting.{at_end, orderly_now, begun_now, unfinished_now, began_on, began_off, got_on, got_off, done, gone_on, gone_off, put, readied, told, room_kept, room_less}
+use Rattle.timestamp_node.proofs.Noting.{at_end, orderly_now, begun_now, unfinished_now, began_on, began_off, got_on, got_off, done, gone_read, gone_on, gone_off, put, readied, told}
 use Rattle.timestamp_node.proofs.stamps.StampsControl.note.Goals as goal
 
 pub is_on-requires : goal.is_on-requires
@@ -79,10 +79,7 @@ returns-then-is_on-2-clause-stands c =
     let n = c.args.self.now.node.0 in
     let is = c.requires.newest.is in
     let may = c.requires.newest.may in
-    got_on S H n c.args.e is may c.args.self.now.ordered c.args.self.now.batches c.args.self.now.reads c.requires.stands c.in-Got.txn c.in-Got.cell c.in-Got.from c.in-Got.value c.in-Got.is (sym c.is_on-in-Got.ensures ∙ c.if-is_on-2.true) c.push_read.new.reads c.push_read.ensures.sorted c.push_read.ensures.piles
-
-pub returns-then-is_on-2-clause-spare : goal.returns-then-is_on-2-clause-spare
-returns-then-is_on-2-clause-spare c = let z = room_less c.args.self.now.reads c.push_read.new.reads c.push_read.ensures.room in omega (arith, z)
+    got_on S H n c.args.e is may c.args.self.now.ordered c.args.self.now.batches c.args.self.now.reads c.requires.stands c.in-Got.txn c.in-Got.cell c.in-Got.from c.in-Got.value c.in-Got.is (sym c.is_on-in-Got.ensures ∙ c.if-is_on-2.true) c.push_read.new.reads c.push_read.ensures.piles
 
 pub returns-else-is_on-2-clause-stands : goal.returns-else-is_on-2-clause-stands
 returns-else-is_on-2-clause-stands c =
@@ -103,6 +100,15 @@ returns-in-Done-clause-stands c =
     done S H n c.args.e is may c.args.self.now.ordered c.args.self.now.batches c.args.self.now.reads c.requires.stands c.in-Done.txn c.in-Done.is c.finish.new.self (c.len-at.result - 1)
     (at_end S H n c.args.e is may (c.len-at.result - 1) c.len-at.result c.len-at.ensures refl) c.finish.ensures.size c.finish.ensures.batches
 
+pub forget_reads-requires : goal.forget_reads-requires
+forget_reads-requires c =
+    let S = setup_of c.args.facts.now in
+    let H = events_of c.args.facts.now in
+    let n = c.args.self.now.node.0 in
+    let is = c.requires.newest.is in
+    let may = c.requires.newest.may in
+    gone_read S H n c.args.e is may c.args.self.now.ordered c.args.self.now.batches c.args.self.now.reads c.requires.stands c.in-Gone.txn c.in-Gone.cause c.in-Gone.is (sym c.is_on-in-Gone.ensures ∙ c.if-is_on-3.true)
+
 pub returns-then-is_on-3-clause-stands : goal.returns-then-is_on-3-clause-stands
 returns-then-is_on-3-clause-stands c =
     let S = setup_of c.args.facts.now in
@@ -111,10 +117,7 @@ returns-then-is_on-3-clause-stands c =
     let is = c.requires.newest.is in
     let may = c.requires.newest.may in
     gone_on S H n c.args.e is may c.args.self.now.ordered c.args.self.now.batches c.args.self.now.reads c.requires.stands c.in-Gone.txn c.in-Gone.cause c.in-Gone.is c.finish-in-Gone.new.self (c.len-at.result - 1)
-    (at_end S H n c.args.e is may (c.len-at.result - 1) c.len-at.result c.len-at.ensures refl) c.finish-in-Gone.ensures.size c.finish-in-Gone.ensures.batches c.forget_reads.new.reads c.forget_reads.ensures.sorted c.forget_reads.ensures.piles
-
-pub returns-then-is_on-3-clause-spare : goal.returns-then-is_on-3-clause-spare
-returns-then-is_on-3-clause-spare c = let z = room_kept c.args.self.now.reads c.forget_reads.new.reads c.forget_reads.ensures.room in omega (arith, z, c.finish-in-Gone.ensures.spare)
+    (at_end S H n c.args.e is may (c.len-at.result - 1) c.len-at.result c.len-at.ensures refl) c.finish-in-Gone.ensures.size c.finish-in-Gone.ensures.batches c.forget_reads.new.reads c.forget_reads.ensures.piles
 
 pub returns-else-is_on-3-clause-stands : goal.returns-else-is_on-3-clause-stands
 returns-else-is_on-3-clause-stands c =

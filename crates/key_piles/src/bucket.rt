@@ -1,0 +1,94 @@
+//! One bucket: the values of some keys in two vectors that are sorted by key.
+
+ghost use Rattle.std.specs.Prelude.{ℕ, ◌≡◌, ◌<◌, ◌≤◌, ◌+◌, length, cond, [], insert, remove, vec_len, vec_capacity, OnOk};
+ghost use Rattle.std.specs.Ordering.{is_eq};
+ghost use Rattle.key_piles.specs.Buckets.{pile_of, IsSorted, HasRoom, IsKept, lows, tops, Ascends};
+
+use std::alloc::{AllocError, Global};
+use std::cmp::Ordering;
+
+/// Values, each beside its key.
+#[derive(Drop)]
+pub(crate) struct Bucket<K, V> {
+    keys: Vec<K>,
+    values: Vec<V>,
+}
+
+impl<K: Ord + Copy, V: Copy> Bucket<K, V> {
+    /// No values, and no room.
+    pub(crate) fn new(alloc: Global) -> Self
+        ensures keys { result.keys.items ≡ [] }
+        ensures values { result.values.items ≡ [] }
+        ensures sorted { IsSorted K.cmp result }
+    {
+        Bucket {
+            keys: Vec::new(alloc),
+            values: Vec::new(alloc),
+        }
+    }
+
+    /// Makes room for n more values. It holds the same, also after an `Err`.
+    pub(crate) fn reserve(&mut self, n: usize) -> Result<(), AllocError>
+        ensures kept { IsKept K.cmp self.old self.new }
+        ensures room { OnOk result (HasRoom self.new n) }
+    {
+        self.keys.reserve(n)?;
+        self.values.reserve(n)?;
+        Ok(())
+    }
+
+    /// The pile of a key.
+    pub(crate) fn list(&self, key: K) -> &[V]
+        requires { IsSorted K.cmp self.now }
+        ensures { result.now ≡ pile_of K.cmp self.now key }
+    {
+        let start = first(&self.keys, key);
+        let end = behind(&self.keys, key);
+        &self.values[start..end]
+    }
+
+    /// Puts a value into the pile of a key, at a place.
+    pub(crate) fn put(&mut self, key: K, i: usize, value: V)
+        requires sorted { IsSorted K.cmp self.old }
+        requires room { HasRoom self.old 1 }
+        requires within { i ≤ length (pile_of K.cmp self.old key) }
+        ensures sorted { IsSorted K.cmp self.new }
+        ensures piles { (q : K) → pile_of K.cmp self.new q ≡ cond (is_eq (K.cmp key q)) (insert (pile_of K.cmp self.old key) i value) (pile_of K.cmp self.old q) }
+        ensures room { (n : ℕ) → HasRoom self.old (n + 1) → HasRoom self.new n }
+    {
+        let at = first(&self.keys, key) + i;
+        let _ = self.keys.insert(at, key);
+        let _ = self.values.insert(at, value);
+    }
+
+    /// Takes the value at a place out of the pile of a key.
+    pub(crate) fn take(&mut self, key: K, i: usize)
+        requires sorted { IsSorted K.cmp self.old }
+        requires within { i < length (pile_of K.cmp self.old key) }
+        ensures sorted { IsSorted K.cmp self.new }
+        ensures piles { (q : K) → pile_of K.cmp self.new q ≡ cond (is_eq (K.cmp key q)) (remove (pile_of K.cmp self.old key) i) (pile_of K.cmp self.old q) }
+        ensures room { (n : ℕ) → HasRoom self.old n → HasRoom self.new (n + 1) }
+    {
+        let at = first(&self.keys, key) + i;
+        self.keys.remove(at);
+        self.values.remove(at);
+    }
+}
+
+/// Where the keys from a key on begin.
+fn first<K: Ord + Copy>(keys: &[K], key: K) -> usize
+    requires { Ascends K.cmp keys.now }
+    ensures at { result ≡ lows K.cmp keys.now key }
+    ensures low { result ≤ tops K.cmp keys.now key }
+{
+    keys.partition_point(|k| k.cmp(&key) == Ordering::Less)
+}
+
+/// Where the keys above a key begin.
+fn behind<K: Ord + Copy>(keys: &[K], key: K) -> usize
+    requires { Ascends K.cmp keys.now }
+    ensures at { result ≡ tops K.cmp keys.now key }
+    ensures within { result ≤ length keys.now }
+{
+    keys.partition_point(|k| k.cmp(&key) != Ordering::Greater)
+}

@@ -1,0 +1,105 @@
+-- The transactions of an ascending list from a number on.
+use Rattle.std.proofs.Common.{◌≡◌, ℕ, zero, suc, ◌<◌, ◌≤◌, Bool, true, false, cond, not, ltb, leb, eqb, eq-eqb, lt-ltb, le-ltb, List, [], ◌∷◌, length, drop, filter, find, get_or, Some, refl, sym, ◌∙◌, ap, inl, inr, arith}
+use Rattle.std.specs.List.Sorted.{IsNonDecreasingBy, IsPartitionPoint}
+use Rattle.std.proofs.lemmas.Bool.{and_parts, both_ways, or_left, or_right, cases_lt}
+use Rattle.std.proofs.lemmas.Bool.Decides.{nat_tests}
+use Rattle.teb_names.specs.declared.Cell.{Cell}
+use Rattle.teb_names.specs.declared.Txn.{Txn}
+use Rattle.teb_history.specs.declared.Event.{Event}
+use Rattle.teb_history.specs.Phases.{committed}
+use Rattle.teb_history.specs.Ascending.{AllAbove, IsAscendingBy}
+use Rattle.teb_history.specs.Live.{number_of}
+use Rattle.teb_rules.specs.Setup.{Setup}
+use Rattle.teb_rules.specs.Tree.{meets}
+use Rattle.teb_rules.specs.Batches.{start, close}
+use Rattle.phase_api.specs.declared.facts.Facts.{Facts}
+use Rattle.phase_api.specs.Told.{IsOrderly, setup_of, events_of}
+use Rattle.phase_api.specs.Calls.{IsHere}
+use Rattle.batch_book.specs.Histories.{ClosedBelow}
+use Rattle.snapshot_node.specs.Slots.{is_among}
+use Rattle.snapshot_node.specs.Standing.{puts_in, writers_in}
+use Rattle.snapshot_node.proofs.Listed.{puts_parts, among_writers}
+use Rattle.snapshot_node.proofs.Found.{comes_first}
+
+above_at : (n : ℕ) (xs : List Txn) → AllAbove number_of n xs → (i : ℕ) (d : Txn) → i < length xs → n < number_of (get_or xs i d)
+above_at n [] h i d l = absurd (omega arith)
+above_at n (x ∷ xs) h zero d l = h.0
+above_at n (x ∷ xs) h (suc i) d l = above_at n xs h.1 i d (omega arith)
+
+pub numbers_rise : (xs : List Txn) → IsAscendingBy number_of xs → IsNonDecreasingBy number_of xs
+numbers_rise [] h i j d le l = absurd (omega arith)
+numbers_rise (x ∷ xs) h zero zero d le l = omega arith
+numbers_rise (x ∷ xs) h zero (suc j) d le l = let above = above_at x.0 xs h.0 j d (omega arith) in omega arith
+numbers_rise (x ∷ xs) h (suc i) zero d le l = absurd (omega arith)
+numbers_rise (x ∷ xs) h (suc i) (suc j) d le l = numbers_rise xs h.1 i j d (omega arith) (omega arith)
+
+leb_ltb : (t n : ℕ) (b : Bool) → ltb n t ≡ b → leb t n ≡ not b
+leb_ltb t n true h = grind (arith, nat_tests)
+leb_ltb t n false h = grind (arith, nat_tests)
+
+-- whoever stands from the parting on is numbered t or above
+module _ (t : ℕ) where
+  all_from : (xs : List Txn) → ((i : ℕ) (d : Txn) → i < length xs → ltb (get_or xs i d).0 t ≡ false) → xs ≡ filter (λ u. leb t u.0) xs
+  all_from [] h = refl
+  all_from (x ∷ xs) h = rw (leb_ltb t x.0 false (h zero x (omega arith))) (ap (λ (ys : List Txn). x ∷ ys) (all_from xs (λ i d l. h (suc i) d (omega arith))))
+
+  pub part_from : (xs : List Txn) (k : ℕ) → k ≤ length xs → IsPartitionPoint (λ u. ltb u.0 t ≡ true) (λ u. ltb u.0 t ≡ false) xs k → drop k xs ≡ filter (λ u. leb t u.0) xs
+  part_from [] zero l h = refl
+  part_from [] (suc k) l h = absurd (omega arith)
+  part_from (x ∷ xs) zero l h = all_from (x ∷ xs) (λ i d m. h.1 i d (omega arith) m)
+  part_from (x ∷ xs) (suc k) l h =
+      rw (leb_ltb t x.0 true (h.0 zero x (omega arith) (omega arith)))
+      (part_from xs k (omega arith) (λ i d a b. h.0 (suc i) d (omega arith) (omega arith), λ i d a b. h.1 (suc i) d (omega arith) (omega arith)))
+
+-- a search finds the same among those that pass a test, where whom it finds passes
+pub find_kept : (p r : Txn → Bool) (xs : List Txn) → ((x : Txn) → is_among x.0 xs ≡ true → p x ≡ true → r x ≡ true) → find p (filter r xs) ≡ find p xs
+find_kept p r [] h = refl
+find_kept p r (x ∷ xs) h = go (r x) refl (p x) refl (find_kept p r xs (λ y i. h y (or_right (eqb x.0 y.0) _ i)))
+  where
+    go : (b : Bool) → r x ≡ b → (c : Bool) → p x ≡ c → find p (filter r xs) ≡ find p xs → find p (cond b (x ∷ filter r xs) (filter r xs)) ≡ cond c (Some x) (find p xs)
+    go true e true f ih = rw f refl
+    go true e false f ih = rw f ih
+    go false e true f ih = absurd (both_ways _ e (h x (or_left (eqb x.0 x.0) _ (eq-eqb x.0 x.0 refl)) f))
+    go false e false f ih = ih
+
+-- who passes a test in a list stands in the list
+kept_among : (r : Txn → Bool) (xs : List Txn) (i : ℕ) (d : Txn) → i < length (filter r xs) → is_among (get_or (filter r xs) i d).0 xs ≡ true
+kept_among r [] i d l = absurd (omega arith)
+kept_among r (x ∷ xs) i d l = go (r x) i (λ j. kept_among r xs j d) l
+  where
+    go : (b : Bool) (i : ℕ) → ((j : ℕ) → j < length (filter r xs) → is_among (get_or (filter r xs) j d).0 xs ≡ true)
+        → i < length (cond b (x ∷ filter r xs) (filter r xs)) → is_among (get_or (cond b (x ∷ filter r xs) (filter r xs)) i d).0 (x ∷ xs) ≡ true
+    go true zero ih l = or_left (eqb x.0 x.0) _ (eq-eqb x.0 x.0 refl)
+    go true (suc j) ih l = or_right (eqb x.0 (get_or (filter r xs) j d).0) _ (ih j (omega arith))
+    go false i ih l = or_right (eqb x.0 (get_or (filter r xs) i d).0) _ (ih i l)
+
+-- whoever wrote the cell first is numbered from the horizon m of t on
+only : (S : Setup) (H : List Event) (n m : ℕ) (x : Cell) → IsOrderly S H → (t : ℕ) → ClosedBelow S H n t m → (u : Txn) → is_among u.0 (writers_in committed S H n x) ≡ true → comes_first S H n t u ≡ true → leb m u.0 ≡ true
+only S H n m x o t below u a h = elim (cases_lt u.0 m) [
+  | inl l ↦ (let p = puts_parts committed S H n x u.0 (sym (among_writers committed S H n x u.0 o) ∙ a) in
+      let c = lt-ltb _ _ (below u.0 l (o.wrote u.0 x p.2) p.0) in
+      absurd (both_ways _ (ap not c) (and_parts (meets S H n t u.0) (not (ltb (close S H n u.0) (start S H n t))) h).1))
+  | inr l ↦ leb_ltb m u.0 false (le-ltb _ _ l)
+]
+
+-- what is kept of one list is kept of the other
+pub kept : (m : ℕ) {xs ys ts : List Txn} → xs ≡ ys → ts ≡ filter (λ u. leb m u.0) xs → ts ≡ filter (λ u. leb m u.0) ys
+kept m e h = h ∙ ap (filter (λ (u : Txn). leb m u.0)) e
+
+-- the committed writers of a cell from the horizon m of t on
+module _ (f : Facts) (n m : ℕ) (x : Cell) (o : IsOrderly (setup_of f) (events_of f)) (ts : List Txn) (e : ts ≡ filter (λ u. leb m u.0) (writers_in committed (setup_of f) (events_of f) n x)) where
+  -- each of them is here
+  pub later_here : (i : ℕ) (d : Txn) → i < length ts → IsHere f n (get_or ts i d).0
+  later_here i d l =
+      let S = setup_of f in
+      let H = events_of f in
+      let a = kept_among (λ u. leb m u.0) (writers_in committed S H n x) i d (omega (arith, ap (λ (us : List Txn). length us) e)) in
+      let u = (get_or ts i d).0 in
+      let h : puts_in committed S H n x u ≡ true = ap (λ (us : List Txn). puts_in committed S H n x (get_or us i d).0) e ∙ sym (among_writers committed S H n x _ o) ∙ a in
+      let p = puts_parts committed S H n x u h in
+      let b = o.wrote u x p.2 in
+      record { typed = record { begun = b; kind = o.typed u b }; on = p.0 }
+
+  -- the first one among them is the first one of all
+  pub first_later : (t : ℕ) → ClosedBelow (setup_of f) (events_of f) n t m → find (comes_first (setup_of f) (events_of f) n t) ts ≡ find (comes_first (setup_of f) (events_of f) n t) (writers_in committed (setup_of f) (events_of f) n x)
+  first_later t below = ap (λ (us : List Txn). find (comes_first (setup_of f) (events_of f) n t) us) e ∙ find_kept (comes_first (setup_of f) (events_of f) n t) (λ u. leb m u.0) (writers_in committed (setup_of f) (events_of f) n x) (only (setup_of f) (events_of f) n m x o t below)
