@@ -1,17 +1,21 @@
 -- Where a writer and another transaction meet, and what that node says of the two.
-use Rattle.std.proofs.Common.{ℕ, ◌≡◌, ◌≢◌, ◌<◌, true, false, List, sym, subst, ◌∙◌, length, lt-ltb, ne_eqb, refl}
+use Rattle.std.proofs.Common.{ℕ, ◌≡◌, ◌≢◌, ◌<◌, Bool, true, false, not, ◌&&◌, ltb, List, sym, subst, ◌∙◌, length, lt-ltb, ltb-true, ne_eqb, refl, inl, inr, arith}
+use Rattle.std.proofs.lemmas.Bool.{cases_Bool, ltb-false}
 use Rattle.teb_names.specs.declared.Cell.{Cell}
+use Rattle.teb_names.specs.declared.ControlKind.{ControlKind}
+use Rattle.teb_names.specs.declared.ControlKind.TheVariants.{Timestamp}
 use Rattle.teb_history.specs.declared.Event.{Event}
 use Rattle.teb_history.specs.Phases.{aborted, begun, began_at}
+use Rattle.teb_history.specs.Accesses.{wrote, put_at}
 use Rattle.teb_rules.specs.Setup.{Setup}
-use Rattle.teb_rules.specs.Tree.{row, meet, meets}
+use Rattle.teb_rules.specs.Tree.{row, meet, meets, is_timestamp}
 use Rattle.teb_rules.specs.Versions.{precedes, orders, sees, sees_by}
 use Rattle.teb_laws.specs.TreeFacts.{TreeFacts}
 use Rattle.teb_laws.specs.Lawful.{Lawful}
 use Rattle.teb_laws.proofs.Meeting.{meets_exists}
 use Rattle.teb_laws.proofs.Nodes.{meet_is}
 use Rattle.teb_laws.proofs.Timeline.{kind-lt}
-use Rattle.teb_laws.proofs.VersionOrder.{precedes_at}
+use Rattle.teb_laws.proofs.VersionOrder.{precedes_at, orders_put, timestamp_is}
 use Rattle.phase_api.specs.declared.facts.Facts.{Facts}
 use Rattle.phase_api.specs.Told.{setup_of, events_of, IsTyped}
 use Rattle.phase_api.specs.Calls.{IsPair}
@@ -35,6 +39,19 @@ writer_typed f x w l v =
     let b = writer_began (setup_of f) (events_of f) w x l (version_parts (events_of f) x w v).0 in
     record { begun = begun_from (events_of f) w b; kind = kind-lt (setup_of f) (events_of f) w l b }
 
+pub no_timestamp : (k : ControlKind) → (k ≡ Timestamp → ⊥) → is_timestamp k ≡ false
+no_timestamp k h = elim (cases_Bool (is_timestamp k)) [ inl e ↦ absurd (h (timestamp_is k e)) | inr e ↦ e ]
+
+unwritten : (b c : Bool) → (b && not c) ≡ false → c ≡ false → b ≡ false
+unwritten true true h k = absurd (cc)
+unwritten true false h k = absurd (cc)
+unwritten false c h k = refl
+
+-- a Put that has come stands before one that has not
+coming_later : (H : List Event) (w t : ℕ) (x : Cell) → wrote H w x ≡ true → wrote H t x ≡ false → ltb (put_at H w x) (put_at H t x) ≡ true
+unfolding wrote
+coming_later H w t x there absent = let a = ltb-true _ _ there in let b = ltb-false _ _ absent in lt-ltb _ _ (omega arith)
+
 -- t and a writer w that meet at n
 module _ (f : Facts) (x : Cell) (n w t : ℕ) (a : TreeFacts (setup_of f)) (l : Lawful (setup_of f) (events_of f)) (v : has_version (events_of f) x w ≡ true) (ty : IsTyped f t) where
   pub pair_before : aborted (events_of f) t ≡ false → meets (setup_of f) (events_of f) n w t ≡ true → IsPair f n w t
@@ -46,6 +63,12 @@ module _ (f : Facts) (x : Cell) (n w t : ℕ) (a : TreeFacts (setup_of f)) (l : 
   -- the node's order of their versions is the order of versions
   pub order_there : meets (setup_of f) (events_of f) n w t ≡ true → orders (setup_of f) (events_of f) n x w t ≡ precedes (setup_of f) (events_of f) x w t
   order_there h = sym (precedes_at (setup_of f) a (events_of f) n x w t l (writer_began (setup_of f) (events_of f) w x l (version_parts (events_of f) x w v).0) (begun_place (events_of f) t ty.begun) h)
+
+  -- and where t has not put x its version will be the later one, but at a timestamp node
+  pub later_there : is_timestamp (row (setup_of f).tree n).control ≡ false → has_version (events_of f) x t ≡ false → aborted (events_of f) t ≡ false → meets (setup_of f) (events_of f) n w t ≡ true → true ≡ precedes (setup_of f) (events_of f) x w t
+  later_there k none na h =
+      let not_put : wrote (events_of f) t x ≡ false = unwritten (wrote (events_of f) t x) (aborted (events_of f) t) none na in
+      sym (orders_put (setup_of f) (events_of f) n x w t k ∙ coming_later (events_of f) w t x (version_parts (events_of f) x w v).0 not_put) ∙ order_there h
 
   -- t sees what the node shows it
   pub sight_there : w ≢ t → meets (setup_of f) (events_of f) n t w ≡ true → sees_by (row (setup_of f).tree n).control (setup_of f) (events_of f) n x t w ≡ sees (setup_of f) (events_of f) x t w

@@ -28,6 +28,7 @@ pub fn control_between<'a, K: Control>(controls: &'a [K], facts: &Facts, t: Txn,
     requires left { IsTyped facts.now t.0 }
     requires right { IsTyped facts.now u.0 }
     requires differ { t.0 ≢ u.0 }
+    ensures node { K.place result.now < length (setup_of facts.now).tree }
     ensures meet { IsTrue (meets (setup_of facts.now) (events_of facts.now) (K.place result.now) t.0 u.0) }
     ensures stands { K.stands result.now (setup_of facts.now) (events_of facts.now) }
 {

@@ -13,7 +13,7 @@ ghost use Rattle.phase_api.specs.Standing.{StandAll};
 
 use crate::node_control::control_between;
 use phase_api::{Control, Facts};
-use teb_names::{Cell, Txn};
+use teb_names::{Cell, ControlKind, Txn};
 use version_chain::Chains;
 
 /// The place of t's version of a cell among the versions that are there, in version order: where it stands, or else where it
@@ -69,7 +69,7 @@ fn last_before<K: Control, C: Chains>(
     chains.last_where(cell, &|w: Txn| is_before(controls, facts, w, t, cell))
 }
 
-// Whether the version of w is before the one that t is about to put.
+// Whether the version of w is before the one that t is about to put. It costs the same, however much w has done.
 fn is_before<K: Control>(controls: &[K], facts: &Facts, w: Txn, t: Txn, cell: Cell) -> bool
     requires tree { TreeFacts (setup_of facts.now) }
     requires lawful { Lawful (setup_of facts.now) (events_of facts.now) }
@@ -80,5 +80,10 @@ fn is_before<K: Control>(controls: &[K], facts: &Facts, w: Txn, t: Txn, cell: Ce
     requires version { IsTrue (has_version (events_of facts.now) cell w.0) }
     ensures { result ≡ precedes (setup_of facts.now) (events_of facts.now) cell w.0 t.0 }
 {
-    control_between(controls, facts, w, t).orders(facts, w, t, cell)
+    let control = control_between(controls, facts, w, t);
+    match facts.tree.row(control.node()).control {
+        ControlKind::Timestamp => control.orders(facts, w, t, cell),
+        // A version that is about to come is later than those that are there.
+        _ => true,
+    }
 }
