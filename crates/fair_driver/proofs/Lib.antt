@@ -6,3 +6,4 @@ pub mod Underway
 pub mod Loading
 pub mod SessionOrder
 pub mod ParsedSessions
+pub mod Worked

@@ -38,11 +38,6 @@ pub scripts_ascend : (lines : List Line) → AreOfSessions lines → Ascending 0
 unfolding scripts_of session_numbers
 scripts_ascend lines s = ascend_from lines s 0 0 256 (λ k h z. z)
 
--- one line more
-pub sessions_push : (lines : List Line) (l : Line) → AreOfSessions lines → 0 < l.session.0 → l.session.0 ≤ 32 → AreOfSessions (lines ++ l ∷ [])
-sessions_push [] l h a b = (a, b, tt)
-sessions_push (k ∷ ks) l h a b = (h.0, h.1, sessions_push ks l h.2 a b)
-
 -- the lines of a load
 asked_sessions : (n : ℕ) (s : Session) (rs : List Request) (more : List Asking) → 0 < s.0 → s.0 ≤ 32 → ((m : ℕ) → AreOfSessions (numbered m more)) → AreOfSessions (numbered n (asked_by s rs ++ more))
 asked_sessions n s [] more a b h = h n

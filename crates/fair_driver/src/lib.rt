@@ -13,6 +13,3 @@ mod steps;
 pub use drive::turns;
 pub use load::{loaded_lines, loaded_scripts};
 pub use steps::Steps;
-
-#[cfg(test)]
-mod tests;

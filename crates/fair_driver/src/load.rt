@@ -6,9 +6,6 @@ ghost use Rattle.teb_rules.specs.Driver.{Ascending};
 ghost use Rattle.fair_driver.specs.Seats.{scripts_on};
 ghost use Rattle.fair_driver.specs.Loads.{next_state, begin, report, new_order, payment, delivery, requests_from, asked_by, numbered, loaded_lines};
 
-#[cfg(test)]
-mod tests;
-
 use script_text::{Line, Scripts, scripts_of};
 use std::alloc::{AllocError, Global};
 use teb_names::{Cell, Kind, Request, Session, Spot, Table};

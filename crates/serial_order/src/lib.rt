@@ -11,6 +11,3 @@ mod writes;
 
 pub use final_tables::tables;
 pub use serial::order;
-
-#[cfg(test)]
-mod tests;

@@ -1,46 +1,72 @@
-//! Generated loads, and their summaries.
+//! Generated loads: the first lines, and the summaries.
 
-use super::{run, source};
-use std::alloc::{AllocError, Global};
+use super::{run, sees, source};
+use crate::shop::shop;
+use fair_driver::{loaded_lines, loaded_scripts};
+use script_text::{Line, count_lines, parse_script};
+use std::alloc::Global;
 use std::process::Abort;
 use std::test::Fail;
 
-// A load is run, of a source that fails where it is read.
-fn loads(
-    rt: &impl Abort,
-    alloc: Global,
-    number: &str,
-    size: &str,
-    summary: &[u8],
-) -> Result<(), AllocError> {
-    let words = ["load", number, size];
-    let (ended, out) = run(alloc, &words, source(alloc, b"", 4096, &[1])?, &[])?;
-    assert_eq!(rt; ended.status, 0);
-    assert_eq!(rt; out.bytes(), summary);
-    assert!(rt; ended.history.is_some());
-    Ok(())
+// A payment and a delivery.
+const LINES: &str = "1 begin payment
+1 read acct 15
+1 add acct 15 -5
+1 read orders 2
+1 commit
+2 begin delivery
+2 read orders 12
+2 read acct 12
+2 add acct 12 5
+2 commit
+";
+
+const TWO_TRANSACTIONS_MEET_NOWHERE: &str = "load 1 2
+committed 2
+aborted 0
+requests 10
+sum stock 1600
+sum orders 0
+sum acct 16000
+end
+";
+
+const SOME_TRANSACTIONS_ARE_BEGUN_ANEW: &str = "load 5 200
+committed 200
+aborted 6
+requests 1108
+sum stock 1559
+sum orders 2071
+sum acct 16050
+end
+";
+
+// The lines of a script over the shop.
+fn shop_lines(rt: &impl Abort, alloc: Global, script: &[u8]) -> Result<Vec<Line>, Fail> {
+    let shop = shop(alloc)?;
+    assert!(rt; count_lines(script) < 100);
+    Ok(parse_script(alloc, script, &shop.names, shop.format)?)
 }
 
 #[test]
-fn two_transactions_meet_nowhere(rt: HostRuntime) -> Result<(), Fail> {
-    loads(
-        &rt,
-        rt.alloc(),
-        "1",
-        "2",
-        b"load 1 2\ncommitted 2\naborted 0\nrequests 10\nsum stock 1600\nsum orders 0\nsum acct 16000\nend\n",
-    )?;
+fn lines_are_drawn_from_a_number(rt: HostRuntime) -> Result<(), Fail> {
+    let alloc = rt.alloc();
+    let lines = shop_lines(&rt, alloc, LINES.as_bytes())?;
+    assert_eq!(rt; loaded_lines(alloc, 1, 2)?.as_slice(), lines.as_slice());
+    assert_eq!(rt; loaded_scripts(alloc, 1, 2)?.len(), 2);
     Ok(())
 }
 
+// Of a source that fails where it is read.
 #[test]
-fn some_transactions_are_begun_anew(rt: HostRuntime) -> Result<(), Fail> {
-    loads(
-        &rt,
-        rt.alloc(),
-        "5",
-        "200",
-        b"load 5 200\ncommitted 200\naborted 6\nrequests 1108\nsum stock 1559\nsum orders 2071\nsum acct 16050\nend\n",
-    )?;
+fn loads_are_summed_up(rt: HostRuntime) -> Result<(), Fail> {
+    let alloc = rt.alloc();
+    for (words, summary) in [
+        ("load 1 2", TWO_TRANSACTIONS_MEET_NOWHERE),
+        ("load 5 200", SOME_TRANSACTIONS_ARE_BEGUN_ANEW),
+    ] {
+        let seen = run(alloc, words, source(alloc, b"", 4096, &[1])?, &[])?;
+        sees(&rt, &seen, 0, summary.as_bytes(), true);
+    }
     Ok(())
 }

@@ -64,70 +64,61 @@ key = 2
 value = 2
 ";
 
-#[test]
-fn two_leaves_of_locks_meet_at_the_root(rt: HostRuntime) -> Result<(), Fail> {
-    answers(
-        &rt,
-        rt.alloc(),
-        LOCKS,
-        &[
-            ("1 begin a", "1 begun t1"),
-            ("2 begin b", "2 begun t2"),
-            ("3 begin a", "3 begun t3"),
-            ("1 write t 1 5", "1 done"),
-            ("2 read t 1", "2 again t1 at root"),
-            ("3 read t 1", "3 again t1 at left"),
-            ("1 commit", "1 committed"),
-            ("2 read t 1", "2 value 5"),
-            ("3 read t 1", "3 value 5"),
-            ("2 read t 9", "2 value 3"),
-            ("2 write t 1 6", "2 aborted newer root t3"),
-            ("3 commit", "3 committed"),
-        ],
-        &["order t1 t3", "row t 1 5", "row t 9 3", "end"],
-    )?;
-    Ok(())
-}
+const TWO_LEAVES_OF_LOCKS_MEET_AT_THE_ROOT: &str = "1 begin a -> 1 begun t1
+2 begin b -> 2 begun t2
+3 begin a -> 3 begun t3
+1 write t 1 5 -> 1 done
+2 read t 1 -> 2 again t1 at root
+3 read t 1 -> 3 again t1 at left
+1 commit -> 1 committed
+2 read t 1 -> 2 value 5
+3 read t 1 -> 3 value 5
+2 read t 9 -> 2 value 3
+2 write t 1 6 -> 2 aborted newer root t3
+3 commit -> 3 committed
+order t1 t3
+row t 1 5
+row t 9 3
+end
+";
+
+const NOBODY_GOES_BACK_TO_AN_EARLIER_STEP: &str = "1 begin ab -> 1 begun t1
+1 read b 1 -> 1 none
+1 read a 1 -> 1 refused not-in-profile
+1 add b 1 3 -> 1 done
+1 commit -> 1 committed
+order t1
+row a 1 4
+row b 1 3
+end
+";
+
+const CELLS_ARE_SCANNED_AND_DELETED: &str = "1 begin any -> 1 begun t1
+2 begin any -> 2 begun t2
+1 scan t 1 3 -> 1 values 1 2 none
+1 delete t 2 -> 1 done
+2 scan t 1 2 -> 2 again t1 at root
+1 add t 2 4 -> 1 done
+1 delete t 1 -> 1 done
+1 read t 1 -> 1 none
+1 scan t 4294967295 2 -> 1 refused range
+1 commit -> 1 committed
+2 scan t 1 2 -> 2 values none 4
+2 commit -> 2 committed
+order t1 t2
+row t 2 4
+end
+";
 
 #[test]
-fn nobody_goes_back_to_an_earlier_step(rt: HostRuntime) -> Result<(), Fail> {
-    answers(
-        &rt,
-        rt.alloc(),
-        STEPS,
-        &[
-            ("1 begin ab", "1 begun t1"),
-            ("1 read b 1", "1 none"),
-            ("1 read a 1", "1 refused not-in-profile"),
-            ("1 add b 1 3", "1 done"),
-            ("1 commit", "1 committed"),
-        ],
-        &["order t1", "row a 1 4", "row b 1 3", "end"],
-    )?;
-    Ok(())
-}
-
-#[test]
-fn cells_are_scanned_and_deleted(rt: HostRuntime) -> Result<(), Fail> {
-    answers(
-        &rt,
-        rt.alloc(),
-        SCANNED,
-        &[
-            ("1 begin any", "1 begun t1"),
-            ("2 begin any", "2 begun t2"),
-            ("1 scan t 1 3", "1 values 1 2 none"),
-            ("1 delete t 2", "1 done"),
-            ("2 scan t 1 2", "2 again t1 at root"),
-            ("1 add t 2 4", "1 done"),
-            ("1 delete t 1", "1 done"),
-            ("1 read t 1", "1 none"),
-            ("1 scan t 4294967295 2", "1 refused range"),
-            ("1 commit", "1 committed"),
-            ("2 scan t 1 2", "2 values none 4"),
-            ("2 commit", "2 committed"),
-        ],
-        &["order t1 t2", "row t 2 4", "end"],
-    )?;
+fn locks_let_nobody_into_what_another_holds(rt: HostRuntime) -> Result<(), Fail> {
+    let alloc = rt.alloc();
+    for (tree, run) in [
+        (LOCKS, TWO_LEAVES_OF_LOCKS_MEET_AT_THE_ROOT),
+        (STEPS, NOBODY_GOES_BACK_TO_AN_EARLIER_STEP),
+        (SCANNED, CELLS_ARE_SCANNED_AND_DELETED),
+    ] {
+        answers(&rt, alloc, tree, run)?;
+    }
     Ok(())
 }

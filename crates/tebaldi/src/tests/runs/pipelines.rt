@@ -113,246 +113,182 @@ control = 'locks'
 types = ['l']
 ";
 
-#[test]
-fn orders_run_as_a_pipeline(rt: HostRuntime) -> Result<(), Fail> {
-    answers(
-        &rt,
-        rt.alloc(),
-        SALES,
-        &[
-            ("1 begin order", "1 begun t1"),
-            ("2 begin order", "2 begun t2"),
-            ("3 begin report", "3 begun t3"),
-            ("1 read stock 1", "1 value 10"),
-            ("1 add stock 1 -1", "1 done"),
-            ("2 read stock 1", "2 again t1 at sales"),
-            // The first has gone on, so that its stock is seen.
-            ("1 write orders 1 1", "1 done"),
-            ("2 read stock 1", "2 value 9"),
-            ("2 add stock 1 -1", "2 done"),
-            ("3 read stock 1", "3 again t1 at root"),
-            // Nobody overtakes the one before him.
-            ("2 write orders 2 1", "2 again t1 at sales"),
-            ("2 commit", "2 again t1 at sales"),
-            ("1 commit", "1 committed"),
-            ("2 write orders 2 1", "2 done"),
-            ("3 read stock 1", "3 again t2 at root"),
-            ("2 read stock 1", "2 refused not-in-profile"),
-            ("2 commit", "2 committed"),
-            ("3 read stock 1", "3 value 8"),
-            ("3 commit", "3 committed"),
-        ],
-        &[
-            "order t1 t2 t3",
-            "row stock 1 8",
-            "row orders 1 1",
-            "row orders 2 1",
-            "end",
-        ],
-    )?;
-    Ok(())
-}
+const ORDERS_RUN_AS_A_PIPELINE: &str = "1 begin order -> 1 begun t1
+2 begin order -> 2 begun t2
+3 begin report -> 3 begun t3
+1 read stock 1 -> 1 value 10
+1 add stock 1 -1 -> 1 done
+2 read stock 1 -> 2 again t1 at sales
+# The first has gone on, so that its stock is seen.
+1 write orders 1 1 -> 1 done
+2 read stock 1 -> 2 value 9
+2 add stock 1 -1 -> 2 done
+3 read stock 1 -> 3 again t1 at root
+# Nobody overtakes the one before him.
+2 write orders 2 1 -> 2 again t1 at sales
+2 commit -> 2 again t1 at sales
+1 commit -> 1 committed
+2 write orders 2 1 -> 2 done
+3 read stock 1 -> 3 again t2 at root
+2 read stock 1 -> 2 refused not-in-profile
+2 commit -> 2 committed
+3 read stock 1 -> 3 value 8
+3 commit -> 3 committed
+order t1 t2 t3
+row stock 1 8
+row orders 1 1
+row orders 2 1
+end
+";
+
+const WHO_READ_FROM_AN_ABORTED_TRANSACTION_FALLS: &str = "1 begin order -> 1 begun t1
+2 begin order -> 2 begun t2
+1 write stock 1 7 -> 1 done
+1 write orders 1 1 -> 1 done
+2 read stock 1 -> 2 value 7
+1 abort -> 1 aborted asked
+2 commit -> 2 aborted after t1
+2 commit -> 2 refused no-txn
+order
+row stock 1 10
+end
+";
+
+const A_PIPELINE_STANDS_OVER_TWO_LEAVES_OF_LOCKS: &str = "1 begin order -> 1 begun t1
+2 begin back -> 2 begun t2
+3 begin order -> 3 begun t3
+1 write stock 1 4 -> 1 done
+2 scan stock 1 2 -> 2 again t1 at root
+1 write orders 1 1 -> 1 done
+# Across the leaves what the first has passed is seen, within its leaf it is locked.
+2 scan stock 1 2 -> 2 values 4 none
+3 read stock 1 -> 3 again t1 at out
+2 delete stock 1 -> 2 done
+2 commit -> 2 again t1 at root
+1 commit -> 1 committed
+3 read stock 1 -> 3 again t2 at root
+2 commit -> 2 committed
+3 read stock 1 -> 3 none
+3 aborted ended
+order t1 t2
+row orders 1 1
+end
+";
+
+const A_WRITE_IS_SEEN_BEFORE_ITS_COMMIT: &str = "1 begin pay -> 1 begun t1
+2 begin pay -> 2 begun t2
+1 write acct 1 90 -> 1 done
+2 read acct 1 -> 2 again t1 at root
+1 write hist 1 1 -> 1 done
+2 read acct 1 -> 2 value 90
+2 commit -> 2 again t1 at root
+1 abort -> 1 aborted asked
+2 commit -> 2 aborted after t1
+order
+row acct 1 100
+end
+";
+
+const NOBODY_OVERTAKES_THE_ONE_HE_READ_FROM: &str = "1 begin pay -> 1 begun t1
+2 begin pay -> 2 begun t2
+1 write acct 1 90 -> 1 done
+1 write hist 1 1 -> 1 done
+2 read acct 1 -> 2 value 90
+2 write hist 2 7 -> 2 again t1 at root
+1 prepare -> 1 prepared
+2 write hist 2 7 -> 2 done
+2 commit -> 2 again t1 at root
+1 commit -> 1 committed
+2 commit -> 2 committed
+order t1 t2
+row acct 1 90
+row hist 1 1
+row hist 2 7
+end
+";
+
+const A_CYCLE_OF_TABLES_IS_ONE_STEP: &str = "1 begin pay -> 1 begun t1
+2 begin undo -> 2 begun t2
+1 write acct 1 90 -> 1 done
+1 write hist 1 1 -> 1 done
+2 read acct 1 -> 2 again t1 at root
+1 prepare -> 1 prepared
+2 read acct 1 -> 2 value 90
+2 read hist 1 -> 2 refused not-in-profile
+1 commit -> 1 committed
+2 commit -> 2 committed
+order t1 t2
+row acct 1 90
+row hist 1 1
+end
+";
+
+const A_CHAIN_OF_READERS_FALLS: &str = "1 begin pay -> 1 begun t1
+2 begin pay -> 2 begun t2
+3 begin pay -> 3 begun t3
+1 write acct 1 90 -> 1 done
+1 write hist 1 1 -> 1 done
+2 read acct 1 -> 2 value 90
+2 write acct 2 5 -> 2 done
+2 prepare -> 2 prepared
+3 read acct 2 -> 3 value 5
+1 abort -> 1 aborted asked
+3 commit -> 3 aborted after t2
+2 commit -> 2 aborted after t1
+order
+row acct 1 100
+end
+";
+
+const A_NEWER_ONE_MAY_FALL_WITH_THE_ONE_IT_STOPPED: &str = "1 begin k -> 1 begun t1
+2 begin l -> 2 begun t2
+3 begin k -> 3 begun t3
+1 write a 1 1 -> 1 done
+1 read c 9 -> 1 none
+2 read a 1 -> 2 value 1
+2 write b 1 2 -> 2 done
+2 prepare -> 2 prepared
+3 read b 1 -> 3 value 2
+3 read c 1 -> 3 none
+1 write c 1 3 -> 1 aborted newer m t3
+2 commit -> 2 aborted after t1
+3 commit -> 3 aborted after t2
+order
+end
+";
+
+const THE_ENTRY_TO_A_STEP_IS_LOOKED_AT_FIRST: &str = "1 begin pay -> 1 begun t1
+2 begin pay -> 2 begun t2
+3 begin pay -> 3 begun t3
+1 write hist 1 5 -> 1 done
+3 write acct 1 90 -> 3 done
+3 write hist 9 1 -> 3 done
+2 read acct 1 -> 2 value 90
+2 read hist 1 -> 2 aborted newer root t3
+3 commit -> 3 committed
+1 commit -> 1 committed
+order t3 t1
+row acct 1 90
+row hist 1 5
+row hist 9 1
+end
+";
 
 #[test]
-fn who_read_from_an_aborted_transaction_falls(rt: HostRuntime) -> Result<(), Fail> {
-    answers(
-        &rt,
-        rt.alloc(),
-        SALES,
-        &[
-            ("1 begin order", "1 begun t1"),
-            ("2 begin order", "2 begun t2"),
-            ("1 write stock 1 7", "1 done"),
-            ("1 write orders 1 1", "1 done"),
-            ("2 read stock 1", "2 value 7"),
-            ("1 abort", "1 aborted asked"),
-            ("2 commit", "2 aborted after t1"),
-            ("2 commit", "2 refused no-txn"),
-        ],
-        &["order", "row stock 1 10", "end"],
-    )?;
-    Ok(())
-}
-
-#[test]
-fn a_pipeline_stands_over_two_leaves_of_locks(rt: HostRuntime) -> Result<(), Fail> {
-    answers(
-        &rt,
-        rt.alloc(),
-        SHARED,
-        &[
-            ("1 begin order", "1 begun t1"),
-            ("2 begin back", "2 begun t2"),
-            ("3 begin order", "3 begun t3"),
-            ("1 write stock 1 4", "1 done"),
-            ("2 scan stock 1 2", "2 again t1 at root"),
-            ("1 write orders 1 1", "1 done"),
-            // Across the leaves what the first has passed is seen, within its leaf it is locked.
-            ("2 scan stock 1 2", "2 values 4 none"),
-            ("3 read stock 1", "3 again t1 at out"),
-            ("2 delete stock 1", "2 done"),
-            ("2 commit", "2 again t1 at root"),
-            ("1 commit", "1 committed"),
-            ("3 read stock 1", "3 again t2 at root"),
-            ("2 commit", "2 committed"),
-            ("3 read stock 1", "3 none"),
-        ],
-        &["3 aborted ended", "order t1 t2", "row orders 1 1", "end"],
-    )?;
-    Ok(())
-}
-
-#[test]
-fn a_write_is_seen_before_its_commit(rt: HostRuntime) -> Result<(), Fail> {
-    answers(
-        &rt,
-        rt.alloc(),
-        PAY,
-        &[
-            ("1 begin pay", "1 begun t1"),
-            ("2 begin pay", "2 begun t2"),
-            ("1 write acct 1 90", "1 done"),
-            ("2 read acct 1", "2 again t1 at root"),
-            ("1 write hist 1 1", "1 done"),
-            ("2 read acct 1", "2 value 90"),
-            ("2 commit", "2 again t1 at root"),
-            ("1 abort", "1 aborted asked"),
-            ("2 commit", "2 aborted after t1"),
-        ],
-        &["order", "row acct 1 100", "end"],
-    )?;
-    Ok(())
-}
-
-#[test]
-fn nobody_overtakes_the_one_he_read_from(rt: HostRuntime) -> Result<(), Fail> {
-    answers(
-        &rt,
-        rt.alloc(),
-        PAY,
-        &[
-            ("1 begin pay", "1 begun t1"),
-            ("2 begin pay", "2 begun t2"),
-            ("1 write acct 1 90", "1 done"),
-            ("1 write hist 1 1", "1 done"),
-            ("2 read acct 1", "2 value 90"),
-            ("2 write hist 2 7", "2 again t1 at root"),
-            ("1 prepare", "1 prepared"),
-            ("2 write hist 2 7", "2 done"),
-            ("2 commit", "2 again t1 at root"),
-            ("1 commit", "1 committed"),
-            ("2 commit", "2 committed"),
-        ],
-        &[
-            "order t1 t2",
-            "row acct 1 90",
-            "row hist 1 1",
-            "row hist 2 7",
-            "end",
-        ],
-    )?;
-    Ok(())
-}
-
-#[test]
-fn a_cycle_of_tables_is_one_step(rt: HostRuntime) -> Result<(), Fail> {
-    answers(
-        &rt,
-        rt.alloc(),
-        CYCLE,
-        &[
-            ("1 begin pay", "1 begun t1"),
-            ("2 begin undo", "2 begun t2"),
-            ("1 write acct 1 90", "1 done"),
-            ("1 write hist 1 1", "1 done"),
-            ("2 read acct 1", "2 again t1 at root"),
-            ("1 prepare", "1 prepared"),
-            ("2 read acct 1", "2 value 90"),
-            ("2 read hist 1", "2 refused not-in-profile"),
-            ("1 commit", "1 committed"),
-            ("2 commit", "2 committed"),
-        ],
-        &["order t1 t2", "row acct 1 90", "row hist 1 1", "end"],
-    )?;
-    Ok(())
-}
-
-#[test]
-fn a_chain_of_readers_falls(rt: HostRuntime) -> Result<(), Fail> {
-    answers(
-        &rt,
-        rt.alloc(),
-        PAY,
-        &[
-            ("1 begin pay", "1 begun t1"),
-            ("2 begin pay", "2 begun t2"),
-            ("3 begin pay", "3 begun t3"),
-            ("1 write acct 1 90", "1 done"),
-            ("1 write hist 1 1", "1 done"),
-            ("2 read acct 1", "2 value 90"),
-            ("2 write acct 2 5", "2 done"),
-            ("2 prepare", "2 prepared"),
-            ("3 read acct 2", "3 value 5"),
-            ("1 abort", "1 aborted asked"),
-            ("3 commit", "3 aborted after t2"),
-            ("2 commit", "2 aborted after t1"),
-        ],
-        &["order", "row acct 1 100", "end"],
-    )?;
-    Ok(())
-}
-
-#[test]
-fn a_newer_one_may_fall_with_the_one_it_stopped(rt: HostRuntime) -> Result<(), Fail> {
-    answers(
-        &rt,
-        rt.alloc(),
-        THREE,
-        &[
-            ("1 begin k", "1 begun t1"),
-            ("2 begin l", "2 begun t2"),
-            ("3 begin k", "3 begun t3"),
-            ("1 write a 1 1", "1 done"),
-            ("1 read c 9", "1 none"),
-            ("2 read a 1", "2 value 1"),
-            ("2 write b 1 2", "2 done"),
-            ("2 prepare", "2 prepared"),
-            ("3 read b 1", "3 value 2"),
-            ("3 read c 1", "3 none"),
-            ("1 write c 1 3", "1 aborted newer m t3"),
-            ("2 commit", "2 aborted after t1"),
-            ("3 commit", "3 aborted after t2"),
-        ],
-        &["order", "end"],
-    )?;
-    Ok(())
-}
-
-#[test]
-fn the_entry_to_a_step_is_looked_at_first(rt: HostRuntime) -> Result<(), Fail> {
-    answers(
-        &rt,
-        rt.alloc(),
-        PAY,
-        &[
-            ("1 begin pay", "1 begun t1"),
-            ("2 begin pay", "2 begun t2"),
-            ("3 begin pay", "3 begun t3"),
-            ("1 write hist 1 5", "1 done"),
-            ("3 write acct 1 90", "3 done"),
-            ("3 write hist 9 1", "3 done"),
-            ("2 read acct 1", "2 value 90"),
-            ("2 read hist 1", "2 aborted newer root t3"),
-            ("3 commit", "3 committed"),
-            ("1 commit", "1 committed"),
-        ],
-        &[
-            "order t3 t1",
-            "row acct 1 90",
-            "row hist 1 5",
-            "row hist 9 1",
-            "end",
-        ],
-    )?;
+fn pipelines_let_others_in_step_by_step(rt: HostRuntime) -> Result<(), Fail> {
+    let alloc = rt.alloc();
+    for (tree, run) in [
+        (SALES, ORDERS_RUN_AS_A_PIPELINE),
+        (SALES, WHO_READ_FROM_AN_ABORTED_TRANSACTION_FALLS),
+        (SHARED, A_PIPELINE_STANDS_OVER_TWO_LEAVES_OF_LOCKS),
+        (PAY, A_WRITE_IS_SEEN_BEFORE_ITS_COMMIT),
+        (PAY, NOBODY_OVERTAKES_THE_ONE_HE_READ_FROM),
+        (CYCLE, A_CYCLE_OF_TABLES_IS_ONE_STEP),
+        (PAY, A_CHAIN_OF_READERS_FALLS),
+        (THREE, A_NEWER_ONE_MAY_FALL_WITH_THE_ONE_IT_STOPPED),
+        (PAY, THE_ENTRY_TO_A_STEP_IS_LOOKED_AT_FIRST),
+    ] {
+        answers(&rt, alloc, tree, run)?;
+    }
     Ok(())
 }

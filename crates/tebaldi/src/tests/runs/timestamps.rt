@@ -59,158 +59,115 @@ control = 'locks'
 types = ['y']
 ";
 
-#[test]
-fn a_write_that_comes_too_late_breaks(rt: HostRuntime) -> Result<(), Fail> {
-    answers(
-        &rt,
-        rt.alloc(),
-        TIMESTAMP,
-        &[
-            ("1 begin any", "1 begun t1"),
-            ("2 begin any", "2 begun t2"),
-            ("2 read t 1", "2 none"),
-            ("1 write t 1 5", "1 aborted late root t2 t 1"),
-            ("2 write t 1 6", "2 done"),
-            ("3 begin any", "3 begun t3"),
-            ("3 read t 1", "3 value 6"),
-            ("3 commit", "3 again t2 at root"),
-            ("2 commit", "2 committed"),
-            ("3 commit", "3 committed"),
-        ],
-        &["order t2 t3", "row t 1 6", "end"],
-    )?;
-    Ok(())
-}
+const A_WRITE_THAT_COMES_TOO_LATE_BREAKS: &str = "1 begin any -> 1 begun t1
+2 begin any -> 2 begun t2
+2 read t 1 -> 2 none
+1 write t 1 5 -> 1 aborted late root t2 t 1
+2 write t 1 6 -> 2 done
+3 begin any -> 3 begun t3
+3 read t 1 -> 3 value 6
+3 commit -> 3 again t2 at root
+2 commit -> 2 committed
+3 commit -> 3 committed
+order t2 t3
+row t 1 6
+end
+";
+
+const A_GROUP_WRITES_A_CELL_TOGETHER_AND_COMMITS_IN_ORDER: &str = "1 begin a -> 1 begun t1
+2 begin a -> 2 begun t2
+3 begin b -> 3 begun t3
+1 write t 1 1 -> 1 done
+2 write t 1 2 -> 2 done
+3 write t 1 3 -> 3 again t1 at root
+2 commit -> 2 again t1 at g
+1 commit -> 1 committed
+2 commit -> 2 committed
+3 write t 1 3 -> 3 done
+3 commit -> 3 committed
+order t1 t2 t3
+row t 1 3
+end
+";
+
+const THE_ORDER_IS_NOT_THAT_OF_THE_COMMITS: &str = "1 begin any -> 1 begun t1
+2 begin any -> 2 begun t2
+2 write t 1 2 -> 2 done
+2 commit -> 2 committed
+1 write t 1 1 -> 1 done
+1 commit -> 1 committed
+order t1 t2
+row t 1 2
+end
+";
+
+const A_WRITE_BEHIND_A_READ_OF_THE_OWN_VERSION_IS_LATE: &str = "1 begin any -> 1 begun t1
+2 begin any -> 2 begun t2
+1 write t 1 5 -> 1 done
+2 read t 1 -> 2 value 5
+1 write t 1 6 -> 1 aborted late root t2 t 1
+2 commit -> 2 aborted after t1
+order
+end
+";
+
+const A_CASCADE_OF_THREE_FALLS_AT_THE_END: &str = "1 begin any -> 1 begun t1
+2 begin any -> 2 begun t2
+3 begin any -> 3 begun t3
+1 write t 1 5 -> 1 done
+2 read t 1 -> 2 value 5
+2 write t 2 6 -> 2 done
+3 read t 2 -> 3 value 6
+3 prepare -> 3 prepared
+3 commit -> 3 again t2 at root
+2 commit -> 2 again t1 at root
+1 aborted ended
+2 aborted after t1
+3 aborted after t2
+order
+end
+";
+
+const A_FULL_BATCH_HOLDS_BACK_THE_NEXT_BEGIN: &str = "1 begin x -> 1 begun t1
+4 begin y -> 4 begun t2
+2 begin x -> 2 begun t3
+3 begin x -> 3 again t1 at root
+2 write t 1 5 -> 2 done
+4 read t 1 -> 4 value 5
+1 write t 1 6 -> 1 aborted late root t2 t 1
+2 commit -> 2 committed
+4 commit -> 4 committed
+order t3 t2
+row t 1 5
+end
+";
+
+const A_COMMIT_NEVER_WAITS_FOR_A_NEWER_ONE: &str = "1 begin x -> 1 begun t1
+4 begin y -> 4 begun t2
+2 begin x -> 2 begun t3
+3 begin x -> 3 again t1 at root
+2 write t 1 5 -> 2 done
+4 read t 1 -> 4 value 5
+4 commit -> 4 aborted newer root t3
+1 aborted ended
+2 aborted ended
+order
+end
+";
 
 #[test]
-fn a_group_writes_a_cell_together_and_commits_in_order(rt: HostRuntime) -> Result<(), Fail> {
-    answers(
-        &rt,
-        rt.alloc(),
-        ORDERED,
-        &[
-            ("1 begin a", "1 begun t1"),
-            ("2 begin a", "2 begun t2"),
-            ("3 begin b", "3 begun t3"),
-            ("1 write t 1 1", "1 done"),
-            ("2 write t 1 2", "2 done"),
-            ("3 write t 1 3", "3 again t1 at root"),
-            ("2 commit", "2 again t1 at g"),
-            ("1 commit", "1 committed"),
-            ("2 commit", "2 committed"),
-            ("3 write t 1 3", "3 done"),
-            ("3 commit", "3 committed"),
-        ],
-        &["order t1 t2 t3", "row t 1 3", "end"],
-    )?;
-    Ok(())
-}
-
-#[test]
-fn the_order_is_not_that_of_the_commits(rt: HostRuntime) -> Result<(), Fail> {
-    answers(
-        &rt,
-        rt.alloc(),
-        TIMESTAMP,
-        &[
-            ("1 begin any", "1 begun t1"),
-            ("2 begin any", "2 begun t2"),
-            ("2 write t 1 2", "2 done"),
-            ("2 commit", "2 committed"),
-            ("1 write t 1 1", "1 done"),
-            ("1 commit", "1 committed"),
-        ],
-        &["order t1 t2", "row t 1 2", "end"],
-    )?;
-    Ok(())
-}
-
-#[test]
-fn a_write_behind_a_read_of_the_own_version_is_late(rt: HostRuntime) -> Result<(), Fail> {
-    answers(
-        &rt,
-        rt.alloc(),
-        TIMESTAMP,
-        &[
-            ("1 begin any", "1 begun t1"),
-            ("2 begin any", "2 begun t2"),
-            ("1 write t 1 5", "1 done"),
-            ("2 read t 1", "2 value 5"),
-            ("1 write t 1 6", "1 aborted late root t2 t 1"),
-            ("2 commit", "2 aborted after t1"),
-        ],
-        &["order", "end"],
-    )?;
-    Ok(())
-}
-
-#[test]
-fn a_cascade_of_three_falls_at_the_end(rt: HostRuntime) -> Result<(), Fail> {
-    answers(
-        &rt,
-        rt.alloc(),
-        TIMESTAMP,
-        &[
-            ("1 begin any", "1 begun t1"),
-            ("2 begin any", "2 begun t2"),
-            ("3 begin any", "3 begun t3"),
-            ("1 write t 1 5", "1 done"),
-            ("2 read t 1", "2 value 5"),
-            ("2 write t 2 6", "2 done"),
-            ("3 read t 2", "3 value 6"),
-            ("3 prepare", "3 prepared"),
-            ("3 commit", "3 again t2 at root"),
-            ("2 commit", "2 again t1 at root"),
-        ],
-        &[
-            "1 aborted ended",
-            "2 aborted after t1",
-            "3 aborted after t2",
-            "order",
-            "end",
-        ],
-    )?;
-    Ok(())
-}
-
-#[test]
-fn a_full_batch_holds_back_the_next_begin(rt: HostRuntime) -> Result<(), Fail> {
-    answers(
-        &rt,
-        rt.alloc(),
-        BATCHES,
-        &[
-            ("1 begin x", "1 begun t1"),
-            ("4 begin y", "4 begun t2"),
-            ("2 begin x", "2 begun t3"),
-            ("3 begin x", "3 again t1 at root"),
-            ("2 write t 1 5", "2 done"),
-            ("4 read t 1", "4 value 5"),
-            ("1 write t 1 6", "1 aborted late root t2 t 1"),
-            ("2 commit", "2 committed"),
-            ("4 commit", "4 committed"),
-        ],
-        &["order t3 t2", "row t 1 5", "end"],
-    )?;
-    Ok(())
-}
-
-#[test]
-fn a_commit_never_waits_for_a_newer_one(rt: HostRuntime) -> Result<(), Fail> {
-    answers(
-        &rt,
-        rt.alloc(),
-        BATCHES,
-        &[
-            ("1 begin x", "1 begun t1"),
-            ("4 begin y", "4 begun t2"),
-            ("2 begin x", "2 begun t3"),
-            ("3 begin x", "3 again t1 at root"),
-            ("2 write t 1 5", "2 done"),
-            ("4 read t 1", "4 value 5"),
-            ("4 commit", "4 aborted newer root t3"),
-        ],
-        &["1 aborted ended", "2 aborted ended", "order", "end"],
-    )?;
+fn timestamps_break_what_comes_too_late(rt: HostRuntime) -> Result<(), Fail> {
+    let alloc = rt.alloc();
+    for (tree, run) in [
+        (TIMESTAMP, A_WRITE_THAT_COMES_TOO_LATE_BREAKS),
+        (ORDERED, A_GROUP_WRITES_A_CELL_TOGETHER_AND_COMMITS_IN_ORDER),
+        (TIMESTAMP, THE_ORDER_IS_NOT_THAT_OF_THE_COMMITS),
+        (TIMESTAMP, A_WRITE_BEHIND_A_READ_OF_THE_OWN_VERSION_IS_LATE),
+        (TIMESTAMP, A_CASCADE_OF_THREE_FALLS_AT_THE_END),
+        (BATCHES, A_FULL_BATCH_HOLDS_BACK_THE_NEXT_BEGIN),
+        (BATCHES, A_COMMIT_NEVER_WAITS_FOR_A_NEWER_ONE),
+    ] {
+        answers(&rt, alloc, tree, run)?;
+    }
     Ok(())
 }
