@@ -8,8 +8,6 @@ mod path;
 mod placement;
 mod rows;
 mod shape;
-#[cfg(test)]
-mod tests;
 mod tree;
 mod way;
 

@@ -82,29 +82,3 @@ impl Cursors {
         self.cursors[(t.0 - 1) as usize]
     }
 }
-
-#[cfg(test)]
-mod tests {
-    use super::*;
-    use std::test::Fail;
-
-    #[test]
-    fn transactions_move_along_their_steps(rt: HostRuntime) -> Result<(), Fail> {
-        let mut stock = Vec::new(rt.alloc());
-        stock.push(Table(0))?;
-        let mut orders = Vec::new(rt.alloc());
-        orders.push(Table(1))?;
-        let mut steps = Vec::new(rt.alloc());
-        steps.push(stock)?;
-        steps.push(orders)?;
-        let profile = Profile::new(steps)?;
-        let mut cursors = Cursors::new(rt.alloc());
-        cursors.reserve(2)?;
-        cursors.begin();
-        cursors.begin();
-        cursors.access(Txn(2), Table(1), &profile);
-        assert_eq!(rt; cursors.cursor(Txn(1)), 0);
-        assert_eq!(rt; cursors.cursor(Txn(2)), 1);
-        Ok(())
-    }
-}

@@ -5,7 +5,5 @@ mod access;
 mod book;
 mod edits;
 mod registers;
-#[cfg(test)]
-mod tests;
 
 pub use book::Book;

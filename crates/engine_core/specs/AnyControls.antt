@@ -15,7 +15,7 @@ abbrev pub any_stands : AnyControl → Setup → List Event → Type 0
 any_stands (Locks c) S H = LocksStand c.register.node.0 c.register.book S H
 any_stands (Pipeline c) S H = PipelineStands c.register.node.0 c.register.book c.ranks c.cursors.cursors S H
 any_stands (Timestamp c) S H = StampsStand c.node.0 c.ordered c.batches c.reads S H
-any_stands (Snapshot c) S H = SnapshotStand c.node.0 c.batches c.writers S H
+any_stands (Snapshot c) S H = SnapshotStand c.node.0 c.batches c.readers c.writers S H
 
 abbrev pub any_place : AnyControl → ℕ
 any_place (Locks c) = c.register.node.0
@@ -27,7 +27,7 @@ abbrev pub any_spare : AnyControl → ℕ
 any_spare (Locks c) = c.register.book.spare
 any_spare (Pipeline c) = min c.register.book.spare c.cursors.spare
 any_spare (Timestamp c) = min c.batches.spare c.reads.spare
-any_spare (Snapshot c) = min c.batches.spare c.writers.spare
+any_spare (Snapshot c) = min c.batches.spare (min c.readers.spare c.writers.spare)
 
 -- the history for which it stands is orderly
 pub any_orderly : (c : AnyControl) (S : Setup) (H : List Event) → any_stands c S H → IsOrderly S H

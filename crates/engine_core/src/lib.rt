@@ -17,8 +17,6 @@ mod read_cells;
 mod room;
 mod scans;
 mod stops;
-#[cfg(test)]
-mod tests;
 mod write;
 
 pub use any_control::AnyControl;

@@ -19,6 +19,3 @@ pub fn wait_for(who: Option<Txn>) -> Verdict
         Some(u) => Verdict::Wait(u),
     }
 }
-
-#[cfg(test)]
-mod tests;

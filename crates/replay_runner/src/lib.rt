@@ -6,6 +6,3 @@ mod lines;
 mod run;
 
 pub use run::replay;
-
-#[cfg(test)]
-mod tests;

@@ -8,8 +8,6 @@ mod grammar;
 pub mod lines;
 mod names;
 mod numbers;
-#[cfg(test)]
-mod tests;
 mod words;
 
 use super::{Line, ScriptError};

@@ -8,6 +8,3 @@ mod word;
 pub use event::put_event;
 pub use reply::put_reply;
 pub use report::{put_report, put_starts};
-
-#[cfg(test)]
-mod tests;

@@ -22,8 +22,7 @@ use Rattle.teb_laws.proofs.Intervals.{interval}
 use Rattle.teb_laws.proofs.Ranks.{commits}
 use Rattle.teb_laws.proofs.Serial.{commits_from}
 use Rattle.candidate_reads.proofs.Sources.{begun_place}
-use Rattle.snapshot_node.specs.Pivots.{gets_put}
-use Rattle.snapshot_node.proofs.Edges.{edge_found}
+use Rattle.snapshot_node.proofs.Edges.{gets_put, edge_found}
 use Rattle.serial_order.specs.Edges.{is_beside, gets_overwritten, has_edge, leads_out, leads_from, AreMarked, IsMarked, MarkEdges}
 use Rattle.serial_order.proofs.AnyOf.{any_no, any_swap, any_next, any_nobody}
 

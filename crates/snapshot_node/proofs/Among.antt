@@ -9,9 +9,8 @@ use Rattle.teb_history.proofs.Comparisons.{ltb_tells}
 use Rattle.teb_history.specs.Ascending.{AllAbove, IsAscendingBy, next_place, place_of, put_by}
 use Rattle.teb_history.specs.Live.{number_of}
 use Rattle.teb_history.proofs.AscendingLists.{put-insert, put-same, ascending-put}
-use Rattle.snapshot_node.specs.declared.writers.Slot.{Slot}
-use Rattle.snapshot_node.specs.Slots.{slot_cmp, same_slot, is_among}
-use Rattle.snapshot_node.proofs.SlotOrder.{slot_tie, slot_is}
+use Rattle.snapshot_node.specs.Slots.{is_among}
+use Rattle.snapshot_node.proofs.KeyOrders.{Keyed}
 
 -- a transaction is its number
 pub one_of : (t u : Txn) → number_of t ≡ number_of u → t ≡ u
@@ -133,22 +132,22 @@ among_same (x ∷ xs) (y ∷ ys) a b h = elim (cases_order x.0 y.0) [
         go false p true q k = absurd (both_ways _ p (ap (λ (n : ℕ). eqb n u) e ∙ q))
         go false p false q k = k
 
--- an edit of one slot
-module _ (f g : Slot → List Txn) (slot : Slot) (t : Txn) where
-  at : (xs : List Txn) → ((q : Slot) → g q ≡ cond (is_eq (slot_cmp slot q)) xs (f q)) → (q : Slot) → g q ≡ cond (same_slot slot q) xs (f q)
-  at xs h q = h q ∙ ap (λ (b : Bool). cond b xs (f q)) (slot_tie slot q)
+-- an edit of one key's pile
+module _ {K : Type 0} (R : Keyed K) (f g : K → List Txn) (key : K) (t : Txn) where
+  at : (xs : List Txn) → ((q : K) → g q ≡ cond (is_eq (R.order key q)) xs (f q)) → (q : K) → g q ≡ cond (R.same key q) xs (f q)
+  at xs h q = h q ∙ ap (λ (b : Bool). cond b xs (f q)) (R.tie key q)
 
-  -- the pile of the slot gets xs
-  pub edited : (xs : List Txn) (p : ℕ → Bool → Bool) → ((q : Slot) → g q ≡ cond (is_eq (slot_cmp slot q)) xs (f q)) → ((u : ℕ) → is_among u xs ≡ p u (is_among u (f slot)))
-      → (q : Slot) (u : ℕ) → is_among u (g q) ≡ cond (same_slot slot q) (p u (is_among u (f q))) (is_among u (f q))
-  edited xs p h k q u = go (same_slot slot q) refl (at xs h q)
+  -- the pile of the key gets xs
+  pub edited : (xs : List Txn) (p : ℕ → Bool → Bool) → ((q : K) → g q ≡ cond (is_eq (R.order key q)) xs (f q)) → ((u : ℕ) → is_among u xs ≡ p u (is_among u (f key)))
+      → (q : K) (u : ℕ) → is_among u (g q) ≡ cond (R.same key q) (p u (is_among u (f q))) (is_among u (f q))
+  edited xs p h k q u = go (R.same key q) refl (at xs h q)
     where
-      go : (b : Bool) → same_slot slot q ≡ b → g q ≡ cond b xs (f q) → is_among u (g q) ≡ cond b (p u (is_among u (f q))) (is_among u (f q))
-      go true e z = ap (is_among u) z ∙ k u ∙ ap (λ (s : Slot). p u (is_among u (f s))) (slot_is slot q e)
+      go : (b : Bool) → R.same key q ≡ b → g q ≡ cond b xs (f q) → is_among u (g q) ≡ cond b (p u (is_among u (f q))) (is_among u (f q))
+      go true e z = ap (is_among u) z ∙ k u ∙ ap (λ (s : K). p u (is_among u (f s))) (R.is key q e)
       go false e z = ap (is_among u) z
 
-  pub kept_ascending : (xs : List Txn) → ((q : Slot) → g q ≡ cond (is_eq (slot_cmp slot q)) xs (f q)) → IsAscendingBy number_of xs → ((q : Slot) → IsAscendingBy number_of (f q)) → (q : Slot) → IsAscendingBy number_of (g q)
-  kept_ascending xs h a all q = go (is_eq (slot_cmp slot q)) (h q)
+  pub kept_ascending : (xs : List Txn) → ((q : K) → g q ≡ cond (is_eq (R.order key q)) xs (f q)) → IsAscendingBy number_of xs → ((q : K) → IsAscendingBy number_of (f q)) → (q : K) → IsAscendingBy number_of (g q)
+  kept_ascending xs h a all q = go (is_eq (R.order key q)) (h q)
     where
       go : (b : Bool) → g q ≡ cond b xs (f q) → IsAscendingBy number_of (g q)
       go true z = subst (IsAscendingBy number_of) (sym z) a
@@ -165,29 +164,29 @@ module _ (f g : Slot → List Txn) (slot : Slot) (t : Txn) where
   take_cond false false c = refl
 
   module _ (i : ℕ) where
-    pub put_ascends : place_of number_of (f slot) t.0 ≡ Err i → ((q : Slot) → IsAscendingBy number_of (f q)) → IsAscendingBy number_of (insert (f slot) i t)
-    put_ascends e a = subst (IsAscendingBy number_of) (put-insert number_of t (f slot) i e) (ascending-put number_of t (f slot) (a slot))
+    pub put_ascends : place_of number_of (f key) t.0 ≡ Err i → ((q : K) → IsAscendingBy number_of (f q)) → IsAscendingBy number_of (insert (f key) i t)
+    put_ascends e a = subst (IsAscendingBy number_of) (put-insert number_of t (f key) i e) (ascending-put number_of t (f key) (a key))
 
-    pub put_there : place_of number_of (f slot) t.0 ≡ Err i → ((q : Slot) → g q ≡ cond (is_eq (slot_cmp slot q)) (insert (f slot) i t) (f q)) → (q : Slot) (u : ℕ) → is_among u (g q) ≡ (is_among u (f q) || (same_slot slot q && eqb t.0 u))
-    put_there e h q u = edited _ (λ u b. b || eqb t.0 u) h (λ u. ap (is_among u) (sym (put-insert number_of t (f slot) i e)) ∙ among_put t (f slot) u) q u ∙ put_cond (same_slot slot q) (is_among u (f q)) (eqb t.0 u)
+    pub put_there : place_of number_of (f key) t.0 ≡ Err i → ((q : K) → g q ≡ cond (is_eq (R.order key q)) (insert (f key) i t) (f q)) → (q : K) (u : ℕ) → is_among u (g q) ≡ (is_among u (f q) || (R.same key q && eqb t.0 u))
+    put_there e h q u = edited _ (λ u b. b || eqb t.0 u) h (λ u. ap (is_among u) (sym (put-insert number_of t (f key) i e)) ∙ among_put t (f key) u) q u ∙ put_cond (R.same key q) (is_among u (f q)) (eqb t.0 u)
 
-    pub put_already : place_of number_of (f slot) t.0 ≡ Ok i → (q : Slot) (u : ℕ) → is_among u (f q) ≡ (is_among u (f q) || (same_slot slot q && eqb t.0 u))
-    put_already e q u = go (same_slot slot q) refl
+    pub put_already : place_of number_of (f key) t.0 ≡ Ok i → (q : K) (u : ℕ) → is_among u (f q) ≡ (is_among u (f q) || (R.same key q && eqb t.0 u))
+    put_already e q u = go (R.same key q) refl
       where
         none : (a : Bool) → a ≡ (a || false)
         none true = refl
         none false = refl
 
-        go : (b : Bool) → same_slot slot q ≡ b → is_among u (f q) ≡ (is_among u (f q) || (b && eqb t.0 u))
-        go true z = subst (λ (s : Slot). is_among u (f s) ≡ (is_among u (f s) || eqb t.0 u)) (slot_is slot q z)
-            (ap (is_among u) (put-same number_of t (λ x k. one_of x t k) (f slot) i e) ∙ among_put t (f slot) u)
+        go : (b : Bool) → R.same key q ≡ b → is_among u (f q) ≡ (is_among u (f q) || (b && eqb t.0 u))
+        go true z = subst (λ (s : K). is_among u (f s) ≡ (is_among u (f s) || eqb t.0 u)) (R.is key q z)
+            (ap (is_among u) (put-same number_of t (λ x k. one_of x t k) (f key) i e) ∙ among_put t (f key) u)
         go false z = none (is_among u (f q))
 
-    pub taken : ((q : Slot) → IsAscendingBy number_of (f q)) → place_of number_of (f slot) t.0 ≡ Ok i → ((q : Slot) → g q ≡ cond (is_eq (slot_cmp slot q)) (remove (f slot) i) (f q)) → (q : Slot) (u : ℕ) → is_among u (g q) ≡ (is_among u (f q) && not (same_slot slot q && eqb t.0 u))
-    taken a e h q u = edited _ (λ u b. b && not (eqb t.0 u)) h (λ u. (among_some (f slot) t.0 i (a slot) e).1 u) q u ∙ take_cond (same_slot slot q) (is_among u (f q)) (eqb t.0 u)
+    pub taken : ((q : K) → IsAscendingBy number_of (f q)) → place_of number_of (f key) t.0 ≡ Ok i → ((q : K) → g q ≡ cond (is_eq (R.order key q)) (remove (f key) i) (f q)) → (q : K) (u : ℕ) → is_among u (g q) ≡ (is_among u (f q) && not (R.same key q && eqb t.0 u))
+    taken a e h q u = edited _ (λ u b. b && not (eqb t.0 u)) h (λ u. (among_some (f key) t.0 i (a key) e).1 u) q u ∙ take_cond (R.same key q) (is_among u (f q)) (eqb t.0 u)
 
-    pub taken_none : ((q : Slot) → IsAscendingBy number_of (f q)) → place_of number_of (f slot) t.0 ≡ Err i → (q : Slot) (u : ℕ) → is_among u (f q) ≡ (is_among u (f q) && not (same_slot slot q && eqb t.0 u))
-    taken_none a e q u = go (same_slot slot q) refl (eqb t.0 u) refl
+    pub taken_none : ((q : K) → IsAscendingBy number_of (f q)) → place_of number_of (f key) t.0 ≡ Err i → (q : K) (u : ℕ) → is_among u (f q) ≡ (is_among u (f q) && not (R.same key q && eqb t.0 u))
+    taken_none a e q u = go (R.same key q) refl (eqb t.0 u) refl
       where
         only : (a : Bool) → a ≡ (a && true)
         only true = refl
@@ -197,7 +196,7 @@ module _ (f g : Slot → List Txn) (slot : Slot) (t : Txn) where
         nothing true h = h
         nothing false h = refl
 
-        go : (b : Bool) → same_slot slot q ≡ b → (c : Bool) → eqb t.0 u ≡ c → is_among u (f q) ≡ (is_among u (f q) && not (b && c))
-        go true z true w = nothing _ ((λ j. is_among (sym (eqb-true t.0 u w) j) (f (sym (slot_is slot q z) j))) ∙ among_none (f slot) t.0 i (a slot) e)
+        go : (b : Bool) → R.same key q ≡ b → (c : Bool) → eqb t.0 u ≡ c → is_among u (f q) ≡ (is_among u (f q) && not (b && c))
+        go true z true w = nothing _ ((λ j. is_among (sym (eqb-true t.0 u w) j) (f (sym (R.is key q z) j))) ∙ among_none (f key) t.0 i (a key) e)
         go true z false w = only (is_among u (f q))
         go false z c w = only (is_among u (f q))

@@ -1,7 +1,7 @@
 -- An edge is found without a comparison of versions.
 use Rattle.std.proofs.Common.{◌≡◌, ℕ, ◌<◌, ◌≤◌, Bool, true, false, not, ◌&&◌, ◌||◌, eqb, ltb, List, [], ◌∷◌, filter, cond, Option, refl, sym, ◌∙◌, ap, subst, inl, inr, arith, ℤ, length, lt-ltb, le-ltb, le_refl, eqb-true, ltb-true}
 use Rattle.std.specs.List.{list_any}
-use Rattle.std.proofs.lemmas.Bool.{cases_lt, cases_Bool, both_ways, and_parts, or_cases, or_left, or_right, false_from_ne_true, ltb-false}
+use Rattle.std.proofs.lemmas.Bool.{cases_lt, cases_Bool, both_ways, and_parts, and_from, or_cases, or_left, or_right, false_from_ne_true, ltb-false}
 use Rattle.teb_names.specs.declared.Txn.{Txn}
 use Rattle.teb_names.specs.declared.Cell.{Cell}
 use Rattle.teb_names.specs.declared.ControlKind.TheVariants.{Snapshot}
@@ -25,12 +25,19 @@ use Rattle.teb_laws.proofs.Pivots.{past_at}
 use Rattle.teb_laws.proofs.Intervals.{start_not_close}
 use Rattle.teb_laws.proofs.Ranks.{commits}
 use Rattle.teb_laws.proofs.Serial.{commits_from}
+use Rattle.teb_laws.proofs.Nodes.{meets_parts, meets_sym}
+use Rattle.batch_book.specs.Histories.{ClosedBelow}
 use Rattle.batch_book.proofs.Numbered.{unfinished_parts}
-use Rattle.snapshot_node.specs.Pivots.{gets_put, is_at_stake}
+use Rattle.snapshot_node.specs.Pivots.{is_at_stake, is_across}
 use Rattle.snapshot_node.proofs.ReadsPast.{read_before}
 
--- the event is a Got by a of a cell that b has put
-abbrev is_touch : List Event → ℕ → ℕ → Event → Bool
+-- the event is a Got of a cell that b has put
+abbrev pub gets_put : List Event → ℕ → Event → Bool
+gets_put H b (Got s x w v) = wrote H b x
+gets_put H b _ = false
+
+-- the same by a
+abbrev pub is_touch : List Event → ℕ → ℕ → Event → Bool
 is_touch H a b e = is_of a e && gets_put H b e
 
 touch_own : (H : List Event) (a b : ℕ) (P : List Event) → list_any (gets_put H b) (own_events P a) ≡ list_any (is_touch H a b) P
@@ -42,7 +49,7 @@ touch_own H a b (e ∷ P) = go (is_of a e) (touch_own H a b P)
     go true ih = ap (λ (z : Bool). gets_put H b e || z) ih
     go false ih = ih
 
-past_touch : (S : Setup) (H : List Event) (a b : ℕ) (P : List Event) → reads_past S H P a b ≡ true → list_any (is_touch H a b) P ≡ true
+pub past_touch : (S : Setup) (H : List Event) (a b : ℕ) (P : List Event) → reads_past S H P a b ≡ true → list_any (is_touch H a b) P ≡ true
 unfolding reads_past
 past_touch S H a b [] h = absurd (cc)
 past_touch S H a b (Got s x w v ∷ P) h = elim (or_cases ((eqb s.0 a && wrote H b x) && precedes S H x w.0 b) (reads_past S H P a b) h) [
@@ -83,11 +90,11 @@ touch_is H a b (Done s ∷ P) h q e = touch_is H a b P (omega arith) (suffix_nex
 touch_is H a b (Gone s z ∷ P) h q e = touch_is H a b P (omega arith) (suffix_next H (Gone s z) P q) (sym (ap (λ (t : Bool). t || list_any (is_touch H a b) P) (no_touch (eqb s.0 a))) ∙ e)
 touch_is H a b (Told s ∷ P) h q e = touch_is H a b P (omega arith) (suffix_next H (Told s) P q) (sym (ap (λ (t : Bool). t || list_any (is_touch H a b) P) (no_touch (eqb s.0 a))) ∙ e)
 
-pub stays : (H : List Event) (u : ℕ) → aborted H u ≡ false → length H ≤ gone_at H u
+stays : (H : List Event) (u : ℕ) → aborted H u ≡ false → length H ≤ gone_at H u
 unfolding aborted
 stays H u h = ltb-false _ _ h
 
-pub prepared_runs : (H : List Event) (u : ℕ) → prepared H u ≡ true → unfinished H u ≡ true
+prepared_runs : (H : List Event) (u : ℕ) → prepared H u ≡ true → unfinished H u ≡ true
 unfolding prepared
 prepared_runs H u p = (and_parts (unfinished H u) (came H (ready_at H u)) p).0
 
@@ -107,7 +114,7 @@ begun_place H u h = ltb-true _ _ h
 
 module _ (S : Setup) (H : List Event) (n : ℕ) (l : Lawful S H) where
   -- two batches of different sides are concurrent where neither is closed before the other starts
-  pub concurrent_unless : (u w : ℕ) → began_at H u < length H → began_at H w < length H → on S H n u ≡ true → on S H n w ≡ true → (not (ltb (close S H n w) (start S H n u)) && not (ltb (close S H n u) (start S H n w))) ≡ concurrent S H n u w
+  concurrent_unless : (u w : ℕ) → began_at H u < length H → began_at H w < length H → on S H n u ≡ true → on S H n w ≡ true → (not (ltb (close S H n w) (start S H n u)) && not (ltb (close S H n u) (start S H n w))) ≡ concurrent S H n u w
   unfolding concurrent
   concurrent_unless u w bu bw ou ow = λ j. open_ w u (start_not_close S H n u w l ou ow bu bw) j && open_ u w (start_not_close S H n w u l ow ou bw bu) j
     where
@@ -116,6 +123,33 @@ module _ (S : Setup) (H : List Event) (n : ℕ) (l : Lawful S H) where
         | inl r ↦ ap not (lt-ltb _ _ r) ∙ sym (le-ltb _ _ (omega arith))
         | inr r ↦ ap not (le-ltb _ _ r) ∙ sym (lt-ltb _ _ (omega arith))
       ]
+
+  -- whether two meet, and neither's batch is closed before the other's starts
+  pub across_unless : (u w : ℕ) → began_at H u < length H → began_at H w < length H → on S H n u ≡ true → on S H n w ≡ true → ((meets S H n u w && not (ltb (close S H n u) (start S H n w))) && not (ltb (close S H n w) (start S H n u))) ≡ is_across S H n u w
+  across_unless u w bu bw ou ow = turn (meets S H n u w) (not (ltb (close S H n u) (start S H n w))) (not (ltb (close S H n w) (start S H n u))) ∙ ap (λ (z : Bool). meets S H n u w && z) (concurrent_unless u w bu bw ou ow)
+    where
+      turn : (m p q : Bool) → ((m && p) && q) ≡ (m && (q && p))
+      turn true true true = refl
+      turn true true false = refl
+      turn true false true = refl
+      turn true false false = refl
+      turn false p q = refl
+
+module _ (S : Setup) (H : List Event) (n : ℕ) where
+  -- whoever is across from u is numbered m or above, where those below it are closed before u's batch starts
+  pub across_later : (u m w : ℕ) → ClosedBelow S H n u m → begun H w ≡ true → is_across S H n u w ≡ true → m ≤ w
+  unfolding concurrent
+  across_later u m w below b h =
+      let p = and_parts (meets S H n u w) (concurrent S H n u w) h in
+      let y = ltb-true _ _ (and_parts (ltb (start S H n u) (close S H n w)) (ltb (start S H n w) (close S H n u)) p.1).0 in
+      elim (cases_lt w m) [ inl l ↦ absurd (let z = below w l b (meets_parts S H n u w p.0).1 in omega arith) | inr l ↦ l ]
+
+  pub across_turned : (u w : ℕ) → is_across S H n u w ≡ true → is_across S H n w u ≡ true
+  unfolding concurrent
+  across_turned u w h =
+      let p = and_parts (meets S H n u w) (concurrent S H n u w) h in
+      let q = and_parts (ltb (start S H n u) (close S H n w)) (ltb (start S H n w) (close S H n u)) p.1 in
+      and_from _ _ (meets_sym S H n u w p.0) (and_from _ _ q.1 q.0)
 
 module _ (S : Setup) (a : TreeFacts S) (H : List Event) (n : ℕ) (l : Lawful S H) (c : (row S.tree n).control ≡ Snapshot) where
   pub edge_found : (u w : ℕ) → aborted H w ≡ false → (meets S H n u w && concurrent S H n u w && list_any (gets_put H w) (own_events H u)) ≡ edge S H n u w
@@ -145,10 +179,6 @@ module _ (S : Setup) (a : TreeFacts S) (H : List Event) (n : ℕ) (l : Lawful S 
 
 -- two that are not of one batch, and two that are where their batches start at one place
 module _ (S : Setup) (H : List Event) (n b c : ℕ) where
-  false_last : (z : Bool) → false ≡ (z && false)
-  false_last true = refl
-  false_last false = refl
-
   pub off_left : on S H n b ≡ false → false ≡ one_batch S H n b c
   unfolding one_batch
   off_left h = rw h refl
@@ -174,16 +204,3 @@ module _ (S : Setup) (H : List Event) (n b c : ℕ) where
   pub one_start : on S H n b ≡ true → on S H n c ≡ true → eqb (side S H n b) (side S H n c) ≡ true → eqb (start S H n b) (start S H n c) ≡ one_batch S H n b c
   unfolding one_batch
   one_start x y z = λ j. ((sym x j && sym y j) && sym z j) && eqb (start S H n b) (start S H n c)
-
-  pub no_meeting : meets S H n b c ≡ false → false ≡ edge S H n b c
-  unfolding edge
-  no_meeting h = rw h refl
-
-  pub not_concurrent : concurrent S H n b c ≡ false → false ≡ edge S H n b c
-  unfolding edge
-  not_concurrent h = go (meets S H n b c) (concurrent S H n b c) h
-    where
-      go : (x y : Bool) → y ≡ false → false ≡ ((x && y) && reads_past S H H b c)
-      go true true h = absurd (cc)
-      go true false h = refl
-      go false y h = refl

@@ -25,7 +25,7 @@ is_met S H n t u = meets S H n t u.0
 
 pub first_found : (S : Setup) (H : List Event) (n t : ℕ) (x : Cell) → find (comes_first S H n t) (writers_in committed S H n x) ≡ some_txn (find (is_first S H n t x) (txns H))
 unfolding is_first
-first_found S H n t x = finds committed S H n x (is_first S H n t x) (comes_first S H n t) only same
+first_found S H n t x = finds (puts_in committed S H n x) H (is_first S H n t x) (comes_first S H n t) only same
   where
     only : (u : ℕ) → is_first S H n t x u ≡ true → puts_in committed S H n x u ≡ true
     only u h =
@@ -44,7 +44,7 @@ first_found S H n t x = finds committed S H n x (is_first S H n t x) (comes_firs
         (λ j. ((meets S H n t u && p.1 j) && p.2 j) && not (ltb (close S H n u) (start S H n t))) ∙ bare (meets S H n t u) (not (ltb (close S H n u) (start S H n t)))
 
 pub met_found : (S : Setup) (H : List Event) (n t : ℕ) (x : Cell) → find (is_met S H n t) (writers_in unfinished S H n x) ≡ some_txn (find (λ u. unfinished H u && meets S H n t u && wrote H u x) (txns H))
-met_found S H n t x = finds unfinished S H n x (λ u. unfinished H u && meets S H n t u && wrote H u x) (is_met S H n t) only same
+met_found S H n t x = finds (puts_in unfinished S H n x) H (λ u. unfinished H u && meets S H n t u && wrote H u x) (is_met S H n t) only same
   where
     only : (u : ℕ) → (unfinished H u && meets S H n t u && wrote H u x) ≡ true → puts_in unfinished S H n x u ≡ true
     only u h =

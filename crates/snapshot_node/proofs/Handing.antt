@@ -10,7 +10,7 @@ use Rattle.teb_history.specs.Ascending.{IsAscendingBy, place_of}
 use Rattle.teb_history.specs.Live.{number_of}
 use Rattle.snapshot_node.specs.declared.writers.Slot.{Slot}
 use Rattle.snapshot_node.specs.Slots.{slot_cmp, is_among}
-use Rattle.snapshot_node.proofs.SlotOrder.{slot_tie}
+use Rattle.snapshot_node.proofs.KeyOrders.{slot_tie, slots}
 use Rattle.snapshot_node.proofs.Among.{among_none, among_some, put_ascends, put_there, put_already, taken, taken_none, kept_ascending, ascending_remove}
 
 -- a slot of a cell
@@ -58,7 +58,7 @@ module _ (f : Slot → List Txn) (cell : Cell) (t : Txn) (a : (q : Slot) → IsA
   pub handed_nothing : place_of number_of (f (slot_at cell false)) t.0 ≡ Err i → IsHandedOver f f cell t.0
   handed_nothing e = record {
     ascending = a;
-    unfinished = λ x u. taken_none f f (slot_at cell false) t i a e (slot_at x false) u ∙ on_out (is_among u (f (slot_at x false))) (same_cell cell x) (eqb t.0 u);
+    unfinished = λ x u. taken_none slots f f (slot_at cell false) t i a e (slot_at x false) u ∙ on_out (is_among u (f (slot_at x false))) (same_cell cell x) (eqb t.0 u);
     committed = λ x u. none_in (is_among u (f (slot_at x true))) (same_cell cell x) (eqb t.0 u)
         ∙ ap (λ (b : Bool). is_among u (f (slot_at x true)) || ((same_cell cell x && eqb t.0 u) && b)) (sym (among_none (f (slot_at cell false)) t.0 i (a (slot_at cell false)) e));
   }
@@ -71,10 +71,10 @@ module _ (f : Slot → List Txn) (cell : Cell) (t : Txn) (a : (q : Slot) → IsA
       -- it stands among the committed ones too
       pub handed_already : place_of number_of (f (slot_at cell true)) t.0 ≡ Ok j → ((q : Slot) → g q ≡ cond (is_eq (slot_cmp (slot_at cell false) q)) (remove (f (slot_at cell false)) i) (f q)) → IsHandedOver f g cell t.0
       handed_already d h = record {
-        ascending = kept_ascending f g (slot_at cell false) t _ h (ascending_remove (f (slot_at cell false)) i (a (slot_at cell false))) a;
-        unfinished = λ x u. taken f g (slot_at cell false) t i a e h (slot_at x false) u ∙ on_out (is_among u (f (slot_at x false))) (same_cell cell x) (eqb t.0 u);
-        committed = λ x u. taken f g (slot_at cell false) t i a e h (slot_at x true) u ∙ off_out (is_among u (f (slot_at x true))) (same_cell cell x) (eqb t.0 u)
-            ∙ put_already f f (slot_at cell true) t j d (slot_at x true) u ∙ on_in (is_among u (f (slot_at x true))) (same_cell cell x) (eqb t.0 u)
+        ascending = kept_ascending slots f g (slot_at cell false) t _ h (ascending_remove (f (slot_at cell false)) i (a (slot_at cell false))) a;
+        unfinished = λ x u. taken slots f g (slot_at cell false) t i a e h (slot_at x false) u ∙ on_out (is_among u (f (slot_at x false))) (same_cell cell x) (eqb t.0 u);
+        committed = λ x u. taken slots f g (slot_at cell false) t i a e h (slot_at x true) u ∙ off_out (is_among u (f (slot_at x true))) (same_cell cell x) (eqb t.0 u)
+            ∙ put_already slots f f (slot_at cell true) t j d (slot_at x true) u ∙ on_in (is_among u (f (slot_at x true))) (same_cell cell x) (eqb t.0 u)
             ∙ ap (λ (b : Bool). is_among u (f (slot_at x true)) || ((same_cell cell x && eqb t.0 u) && b)) (sym stood);
       }
 
@@ -91,10 +91,10 @@ module _ (f : Slot → List Txn) (cell : Cell) (t : Txn) (a : (q : Slot) → IsA
           let place : place_of number_of (between (slot_at cell true)) t.0 ≡ Err j = ap (λ (xs : List Txn). place_of number_of xs t.0) same ∙ d in
           let into : (q : Slot) → g q ≡ cond (is_eq (slot_cmp (slot_at cell true) q)) (insert (between (slot_at cell true)) j t) (between q) =
           λ q. h q ∙ ap (λ (xs : List Txn). cond (is_eq (slot_cmp (slot_at cell true) q)) (insert xs j t) (between q)) (sym same) in
-          let left : (q : Slot) → IsAscendingBy number_of (between q) = kept_ascending f between (slot_at cell false) t _ (λ q. refl) (ascending_remove (f (slot_at cell false)) i (a (slot_at cell false))) a in
-          let out = taken f between (slot_at cell false) t i a e (λ q. refl) in
-          let put = put_there between g (slot_at cell true) t j place into in record {
-            ascending = kept_ascending between g (slot_at cell true) t _ into (put_ascends between g (slot_at cell true) t j place left) left;
+          let left : (q : Slot) → IsAscendingBy number_of (between q) = kept_ascending slots f between (slot_at cell false) t _ (λ q. refl) (ascending_remove (f (slot_at cell false)) i (a (slot_at cell false))) a in
+          let out = taken slots f between (slot_at cell false) t i a e (λ q. refl) in
+          let put = put_there slots between g (slot_at cell true) t j place into in record {
+            ascending = kept_ascending slots between g (slot_at cell true) t _ into (put_ascends slots between g (slot_at cell true) t j place left) left;
             unfinished = λ x u. put (slot_at x false) u ∙ off_in (is_among u (between (slot_at x false))) (same_cell cell x) (eqb t.0 u)
                 ∙ out (slot_at x false) u ∙ on_out (is_among u (f (slot_at x false))) (same_cell cell x) (eqb t.0 u);
             committed = λ x u. put (slot_at x true) u

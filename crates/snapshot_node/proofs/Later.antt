@@ -1,5 +1,5 @@
 -- The transactions of an ascending list from a number on.
-use Rattle.std.proofs.Common.{◌≡◌, ℕ, zero, suc, ◌<◌, ◌≤◌, Bool, true, false, cond, not, ltb, leb, eqb, eq-eqb, lt-ltb, le-ltb, List, [], ◌∷◌, length, drop, filter, find, get_or, Some, refl, sym, ◌∙◌, ap, inl, inr, arith}
+use Rattle.std.proofs.Common.{◌≡◌, ℕ, zero, suc, ◌<◌, ◌≤◌, Bool, true, false, cond, not, ltb, leb, eqb, eq-eqb, lt-ltb, le-ltb, List, [], ◌∷◌, length, drop, filter, find, get_or, Some, refl, sym, ◌∙◌, ap, subst, inl, inr, arith}
 use Rattle.std.specs.List.Sorted.{IsNonDecreasingBy, IsPartitionPoint}
 use Rattle.std.proofs.lemmas.Bool.{and_parts, both_ways, or_left, or_right, cases_lt}
 use Rattle.std.proofs.lemmas.Bool.Decides.{nat_tests}
@@ -17,8 +17,8 @@ use Rattle.phase_api.specs.Told.{IsOrderly, setup_of, events_of}
 use Rattle.phase_api.specs.Calls.{IsHere}
 use Rattle.batch_book.specs.Histories.{ClosedBelow}
 use Rattle.snapshot_node.specs.Slots.{is_among}
-use Rattle.snapshot_node.specs.Standing.{puts_in, writers_in}
-use Rattle.snapshot_node.proofs.Listed.{puts_parts, among_writers}
+use Rattle.snapshot_node.specs.Standing.{writers_in}
+use Rattle.snapshot_node.proofs.Listed.{puts_parts, among_writers, writers_here}
 use Rattle.snapshot_node.proofs.Found.{comes_first}
 
 above_at : (n : ℕ) (xs : List Txn) → AllAbove number_of n xs → (i : ℕ) (d : Txn) → i < length xs → n < number_of (get_or xs i d)
@@ -63,7 +63,7 @@ find_kept p r (x ∷ xs) h = go (r x) refl (p x) refl (find_kept p r xs (λ y i.
     go false e false f ih = ih
 
 -- who passes a test in a list stands in the list
-kept_among : (r : Txn → Bool) (xs : List Txn) (i : ℕ) (d : Txn) → i < length (filter r xs) → is_among (get_or (filter r xs) i d).0 xs ≡ true
+pub kept_among : (r : Txn → Bool) (xs : List Txn) (i : ℕ) (d : Txn) → i < length (filter r xs) → is_among (get_or (filter r xs) i d).0 xs ≡ true
 kept_among r [] i d l = absurd (omega arith)
 kept_among r (x ∷ xs) i d l = go (r x) i (λ j. kept_among r xs j d) l
   where
@@ -91,14 +91,8 @@ module _ (f : Facts) (n m : ℕ) (x : Cell) (o : IsOrderly (setup_of f) (events_
   -- each of them is here
   pub later_here : (i : ℕ) (d : Txn) → i < length ts → IsHere f n (get_or ts i d).0
   later_here i d l =
-      let S = setup_of f in
-      let H = events_of f in
-      let a = kept_among (λ u. leb m u.0) (writers_in committed S H n x) i d (omega (arith, ap (λ (us : List Txn). length us) e)) in
-      let u = (get_or ts i d).0 in
-      let h : puts_in committed S H n x u ≡ true = ap (λ (us : List Txn). puts_in committed S H n x (get_or us i d).0) e ∙ sym (among_writers committed S H n x _ o) ∙ a in
-      let p = puts_parts committed S H n x u h in
-      let b = o.wrote u x p.2 in
-      record { typed = record { begun = b; kind = o.typed u b }; on = p.0 }
+      let xs = writers_in committed (setup_of f) (events_of f) n x in
+      subst (λ (us : List Txn). IsHere f n (get_or us i d).0) (sym e) (writers_here f n x o committed _ (kept_among (λ u. leb m u.0) xs i d (omega (arith, ap (λ (us : List Txn). length us) e))))
 
   -- the first one among them is the first one of all
   pub first_later : (t : ℕ) → ClosedBelow (setup_of f) (events_of f) n t m → find (comes_first (setup_of f) (events_of f) n t) ts ≡ find (comes_first (setup_of f) (events_of f) n t) (writers_in committed (setup_of f) (events_of f) n x)

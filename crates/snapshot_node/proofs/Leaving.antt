@@ -1,5 +1,5 @@
 -- What is left to do of a finish, event by event of those that the transaction has.
-use Rattle.std.proofs.Common.{◌≡◌, ℕ, Bool, true, false, cond, not, eqb, eq-eqb, Some, None, ◌&&◌, ◌||◌, is_some, List, [], ◌∷◌, Option, ℤ, refl, sym, ◌∙◌, ap, subst}
+use Rattle.std.proofs.Common.{◌≡◌, ℕ, Bool, true, false, cond, not, eqb, eq-eqb, Some, None, ◌&&◌, ◌||◌, is_some, List, [], ◌∷◌, Option, ℤ, refl, sym, ◌∙◌, ap}
 use Rattle.std.specs.List.{list_any}
 use Rattle.teb_names.specs.declared.Cell.{Cell}
 use Rattle.teb_names.specs.declared.Txn.{Txn}
@@ -25,29 +25,11 @@ pub record IsLeaving (commits : Bool) (t : ℕ) (a b : Shown Slot Txn) (all left
   pub committed : (x : Cell) (u : ℕ) → (writes_in b x true u || (commits && (puts left x && eqb t u && writes_in b x false t))) ≡ (writes_in a x true u || (commits && (puts all x && eqb t u && writes_in a x false t)))
   pub spare : b.spare ≡ a.spare
 
-pub leaving_none : (commits : Bool) (t : ℕ) (a : Shown Slot Txn) (all left : List Event) → left ≡ all → IsFiled a → IsLeaving commits t a a all left
-leaving_none commits t a all left e f = subst (λ (es : List Event). IsLeaving commits t a a all es) (sym e) (record { filed = f; unfinished = λ x u. refl; committed = λ x u. refl; spare = refl })
+pub some_if : (b : Bool) (v : Option ℤ) → is_some (cond b (Some v) None) ≡ b
+some_if true v = refl
+some_if false v = refl
 
--- an event that is no Put
-pub leaving_other : (commits : Bool) (t : ℕ) (a b : Shown Slot Txn) (all left rest : List Event) (e : Event) → IsLeaving commits t a b all left → left ≡ e ∷ rest → ((x : Cell) → is_some (put_in x e) ≡ false) → IsLeaving commits t a b all rest
-leaving_other commits t a b all left rest e h q none = record {
-  filed = h.filed;
-  unfinished = λ x u. ap (λ (p : Bool). writes_in b x false u && not (p && eqb t u)) (same x) ∙ h.unfinished x u;
-  committed = λ x u. ap (λ (p : Bool). writes_in b x true u || (commits && (p && eqb t u && writes_in b x false t))) (same x) ∙ h.committed x u;
-  spare = h.spare;
-}
-  where
-    same : (x : Cell) → puts rest x ≡ puts left x
-    same x = sym (ap (λ (es : List Event). puts es x) q ∙ ap (λ (p : Bool). p || puts rest x) (none x))
-
-put_test : (y x : Cell) (t : Txn) (v : Option ℤ) → is_some (put_in x (Put t y v)) ≡ same_cell y x
-put_test y x t v = go (same_cell y x)
-  where
-    go : (b : Bool) → is_some (cond b (Some v) None) ≡ b
-    go true = refl
-    go false = refl
-
-out_twice : (a s r e : Bool) → ((a && not (s && e)) && not (r && e)) ≡ (a && not ((s || r) && e))
+pub out_twice : (a s r e : Bool) → ((a && not (s && e)) && not (r && e)) ≡ (a && not ((s || r) && e))
 out_twice true true r true = refl
 out_twice true true true false = refl
 out_twice true true false false = refl
@@ -68,7 +50,7 @@ leaving_put commits t a b c all left rest s y v h q f out over spare = record {
 }
   where
     both : (x : Cell) → (same_cell y x || puts rest x) ≡ puts left x
-    both x = sym (ap (λ (es : List Event). puts es x) q ∙ ap (λ (p : Bool). p || puts rest x) (put_test y x s v))
+    both x = sym (ap (λ (es : List Event). puts es x) q ∙ ap (λ (p : Bool). p || puts rest x) (some_if (same_cell y x) v))
 
     tie : eqb t t ≡ true
     tie = eq-eqb t t refl
@@ -104,7 +86,7 @@ leaving_put commits t a b c all left rest s y v h q f out over spare = record {
             ∙ off_twice commits (writes_in b x true u) (puts rest x) (eqb t u) (writes_in b x false t) (writes_in b y false t)
             ∙ ap (λ (p : Bool). writes_in b x true u || (commits && (p && eqb t u && writes_in b x false t))) (ap (λ (p : Bool). p || puts rest x) (sym e) ∙ both x)
 
-same_none : (a e : Bool) → a ≡ (a && not (false && e))
+pub same_none : (a e : Bool) → a ≡ (a && not (false && e))
 same_none true e = refl
 same_none false e = refl
 

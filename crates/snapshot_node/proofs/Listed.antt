@@ -1,11 +1,11 @@
--- The writers of a cell in a history, as the slots list them.
-use Rattle.std.proofs.Common.{◌≡◌, ℕ, zero, suc, ◌<◌, Bool, true, false, cond, ◌&&◌, eqb, List, [], ◌∷◌, ◌++◌, length, map, filter, find, get_or, Some, refl, sym, ◌∙◌, ap, inl, inr, arith}
+-- The transactions of a history that pass a test, in ascending number: the writers of a cell, and its readers.
+use Rattle.std.proofs.Common.{◌≡◌, ℕ, zero, suc, ◌<◌, Bool, true, false, cond, not, ◌&&◌, eqb, List, [], ◌∷◌, ◌++◌, length, map, filter, find, get_or, Some, refl, sym, ◌∙◌, inl, inr, arith}
 use Rattle.std.proofs.lemmas.Bool.{and_parts, or_cases, both_ways, eqb-true, eq-eqb, or_left, or_right, cases_Bool, false_from_ne_true}
 use Rattle.teb_names.specs.declared.Cell.{Cell}
 use Rattle.teb_names.specs.declared.Txn.{Txn}
 use Rattle.teb_history.specs.declared.Event.{Event}
-use Rattle.teb_history.specs.Phases.{begun_count, numbers, txns}
-use Rattle.teb_history.specs.Accesses.{wrote}
+use Rattle.teb_history.specs.Phases.{begun, begun_count, numbers, txns, aborted}
+use Rattle.teb_history.specs.Accesses.{wrote, got}
 use Rattle.teb_history.specs.Ascending.{AllAbove, IsAscendingBy}
 use Rattle.teb_history.specs.Live.{number_of}
 use Rattle.teb_history.proofs.AscendingLists.{ascending-filter}
@@ -18,8 +18,10 @@ use Rattle.phase_api.specs.declared.facts.Facts.{Facts}
 use Rattle.phase_api.specs.Told.{IsOrderly, setup_of, events_of}
 use Rattle.phase_api.specs.Calls.{IsHere}
 use Rattle.hold_register.specs.Waits.{some_txn}
+use Rattle.hold_register.proofs.Noting.{typed_now}
 use Rattle.snapshot_node.specs.Slots.{is_among}
-use Rattle.snapshot_node.specs.Standing.{puts_in, writers_in}
+use Rattle.snapshot_node.specs.Standing.{puts_in, writers_in, has_read_in, readers_in}
+use Rattle.snapshot_node.specs.Pivots.{AreHere}
 use Rattle.snapshot_node.proofs.Among.{among_same}
 
 abbrev number : ℕ → ℕ
@@ -57,6 +59,50 @@ in_among : (us : List ℕ) (u : ℕ) → In u us → is_among u (map as_txn us) 
 in_among [] u i = absurd i
 in_among (v ∷ vs) u i = elim i [ inl e ↦ or_left (eqb v u) _ (eq-eqb v u e) | inr j ↦ or_right (eqb v u) _ (in_among vs u j) ]
 
+-- those that pass a test
+module _ (p : ℕ → Bool) (H : List Event) where
+  pub those_ascend : IsAscendingBy number_of (map as_txn (filter p (txns H)))
+  unfolding txns
+  those_ascend = ascending_txns _ (ascending-filter number p (numbers (begun_count H)) (numbers_ascending (begun_count H)))
+
+  -- a test that only they pass finds the same among all
+  module _ (q : ℕ → Bool) (r : Txn → Bool) (only : (u : ℕ) → q u ≡ true → p u ≡ true) (same : (u : ℕ) → p u ≡ true → q u ≡ r (as_txn u)) where
+    finds_in : (us : List ℕ) → find r (map as_txn (filter p us)) ≡ some_txn (find q us)
+    finds_in [] = refl
+    finds_in (u ∷ us) = go (p u) refl (q u) refl (finds_in us)
+      where
+        go : (a : Bool) → p u ≡ a → (b : Bool) → q u ≡ b → find r (map as_txn (filter p us)) ≡ some_txn (find q us)
+            → find r (map as_txn (cond a (u ∷ filter p us) (filter p us))) ≡ some_txn (cond b (Some u) (find q us))
+        go true e true f ih = rw (sym (same u e) ∙ f) refl
+        go true e false f ih = rw (sym (same u e) ∙ f) ih
+        go false e true f ih = absurd (both_ways _ e (only u f))
+        go false e false f ih = ih
+
+    pub finds : find r (map as_txn (filter p (txns H))) ≡ some_txn (find q (txns H))
+    finds = finds_in (txns H)
+
+  -- each of whom has begun
+  module _ {S : Setup} (o : IsOrderly S H) (came : (u : ℕ) → p u ≡ true → begun H u ≡ true) where
+    there : (u : ℕ) → p u ≡ true → In u (txns H)
+    unfolding txns
+    there u h = let z = o.numbered u (came u h) in In-numbers (begun_count H) u z.0 z.1
+
+    pub among_those : (u : ℕ) → is_among u (map as_txn (filter p (txns H))) ≡ p u
+    among_those u = elim (cases_Bool (p u)) [
+      | inl e ↦ in_among _ u (In-filter p u (txns H) (there u e) e) ∙ sym e
+      | inr e ↦ false_from_ne_true _ (λ k. both_ways _ e (filter-In p u (txns H) (among_in _ u k)).1) ∙ sym e
+    ]
+
+    -- an ascending list in which they stand is the list of them
+    pub listed : (ts : List Txn) → IsAscendingBy number_of ts → ((u : ℕ) → is_among u ts ≡ p u) → ts ≡ map as_txn (filter p (txns H))
+    listed ts a h = among_same ts _ a those_ascend (λ u. h u ∙ sym (among_those u))
+
+-- whoever stands at a place of a list stands in it
+pub at_among : (ts : List Txn) (i : ℕ) (d : Txn) → i < length ts → is_among (get_or ts i d).0 ts ≡ true
+at_among [] i d l = absurd (omega arith)
+at_among (t ∷ ts) zero d l = or_left _ _ (eq-eqb t.0 t.0 refl)
+at_among (t ∷ ts) (suc i) d l = or_right _ _ (at_among ts i d (omega arith))
+
 module _ (phase : List Event → ℕ → Bool) (S : Setup) (H : List Event) (n : ℕ) (x : Cell) where
   pub puts_parts : (u : ℕ) → puts_in phase S H n x u ≡ true → (on S H n u ≡ true) × (phase H u ≡ true) × (wrote H u x ≡ true)
   puts_parts u h =
@@ -64,60 +110,43 @@ module _ (phase : List Event → ℕ → Bool) (S : Setup) (H : List Event) (n :
       let q = and_parts (on S H n u) (phase H u) p.0 in
       (q.0, q.1, p.1)
 
-  there : (u : ℕ) → IsOrderly S H → puts_in phase S H n x u ≡ true → In u (txns H)
-  unfolding txns
-  there u o h =
-      let z = o.numbered u (o.wrote u x (puts_parts u h).2) in
-      In-numbers (begun_count H) u z.0 z.1
+  pub putter_begun : IsOrderly S H → (u : ℕ) → puts_in phase S H n x u ≡ true → begun H u ≡ true
+  putter_begun o u h = o.wrote u x (puts_parts u h).2
 
   pub among_writers : (u : ℕ) → IsOrderly S H → is_among u (writers_in phase S H n x) ≡ puts_in phase S H n x u
-  among_writers u o = elim (cases_Bool (puts_in phase S H n x u)) [
-    | inl e ↦ in_among _ u (In-filter (puts_in phase S H n x) u (txns H) (there u o e) e) ∙ sym e
-    | inr e ↦ false_from_ne_true _ (λ k. both_ways _ e (filter-In (puts_in phase S H n x) u (txns H) (among_in _ u k)).1) ∙ sym e
-  ]
+  among_writers u o = among_those (puts_in phase S H n x) H o (putter_begun o) u
 
   pub writers_ascend : IsAscendingBy number_of (writers_in phase S H n x)
-  unfolding txns
-  writers_ascend = ascending_txns _ (ascending-filter number (puts_in phase S H n x) (numbers (begun_count H)) (numbers_ascending (begun_count H)))
+  writers_ascend = those_ascend (puts_in phase S H n x) H
 
-  -- an ascending list in which they stand is the list of them
-  pub listed : (ts : List Txn) → IsOrderly S H → IsAscendingBy number_of ts → ((u : ℕ) → is_among u ts ≡ puts_in phase S H n x u) → ts ≡ writers_in phase S H n x
-  listed ts o a h = among_same ts (writers_in phase S H n x) a writers_ascend (λ u. h u ∙ sym (among_writers u o))
+module _ (S : Setup) (H : List Event) (n : ℕ) (x : Cell) where
+  pub reads_parts : (u : ℕ) → has_read_in S H n x u ≡ true → (on S H n u ≡ true) × (not (aborted H u) ≡ true) × (got H u x ≡ true)
+  reads_parts u h =
+      let p = and_parts (on S H n u && not (aborted H u)) (got H u x) h in
+      let q = and_parts (on S H n u) (not (aborted H u)) p.0 in
+      (q.0, q.1, p.1)
 
-  -- a test that only they pass finds the same among all
-  module _ (q : ℕ → Bool) (p : Txn → Bool) (only : (u : ℕ) → q u ≡ true → puts_in phase S H n x u ≡ true) (same : (u : ℕ) → puts_in phase S H n x u ≡ true → q u ≡ p (as_txn u)) where
-    finds_in : (us : List ℕ) → find p (map as_txn (filter (puts_in phase S H n x) us)) ≡ some_txn (find q us)
-    finds_in [] = refl
-    finds_in (u ∷ us) = go (puts_in phase S H n x u) refl (q u) refl (finds_in us)
-      where
-        go : (a : Bool) → puts_in phase S H n x u ≡ a → (b : Bool) → q u ≡ b → find p (map as_txn (filter (puts_in phase S H n x) us)) ≡ some_txn (find q us)
-            → find p (map as_txn (cond a (u ∷ filter (puts_in phase S H n x) us) (filter (puts_in phase S H n x) us))) ≡ some_txn (cond b (Some u) (find q us))
-        go true e true f ih = rw (sym (same u e) ∙ f) refl
-        go true e false f ih = rw (sym (same u e) ∙ f) ih
-        go false e true f ih = absurd (both_ways _ e (only u f))
-        go false e false f ih = ih
+  pub reader_begun : IsOrderly S H → (u : ℕ) → has_read_in S H n x u ≡ true → begun H u ≡ true
+  reader_begun o u h = o.got u x (reads_parts u h).2
 
-    pub finds : find p (writers_in phase S H n x) ≡ some_txn (find q (txns H))
-    finds = finds_in (txns H)
+  pub among_readers : (u : ℕ) → IsOrderly S H → is_among u (readers_in S H n x) ≡ has_read_in S H n x u
+  among_readers u o = among_those (has_read_in S H n x) H o (reader_begun o) u
 
-  -- each of them is here
-  listed_at : (us : List ℕ) (i : ℕ) (d : Txn) → i < length (map as_txn (filter (puts_in phase S H n x) us)) → puts_in phase S H n x (get_or (map as_txn (filter (puts_in phase S H n x) us)) i d).0 ≡ true
-  listed_at [] i d l = absurd (omega arith)
-  listed_at (u ∷ us) i d l = go (puts_in phase S H n x u) refl i (listed_at us) l
-    where
-      go : (a : Bool) → puts_in phase S H n x u ≡ a → (i : ℕ) → ((j : ℕ) (d : Txn) → j < length (map as_txn (filter (puts_in phase S H n x) us)) → puts_in phase S H n x (get_or (map as_txn (filter (puts_in phase S H n x) us)) j d).0 ≡ true)
-          → i < length (map as_txn (cond a (u ∷ filter (puts_in phase S H n x) us) (filter (puts_in phase S H n x) us))) → puts_in phase S H n x (get_or (map as_txn (cond a (u ∷ filter (puts_in phase S H n x) us) (filter (puts_in phase S H n x) us))) i d).0 ≡ true
-      go true e zero ih l = e
-      go true e (suc j) ih l = ih j d (omega arith)
-      go false e i ih l = ih i d l
+  pub readers_ascend : IsAscendingBy number_of (readers_in S H n x)
+  readers_ascend = those_ascend (has_read_in S H n x) H
 
-pub listed_puts : (phase : List Event → ℕ → Bool) (S : Setup) (H : List Event) (n : ℕ) (x : Cell) (ts : List Txn) (i : ℕ) (d : Txn) → ts ≡ writers_in phase S H n x → i < length ts → puts_in phase S H n x (get_or ts i d).0 ≡ true
-listed_puts phase S H n x ts i d e l =
-    ap (λ (vs : List Txn). puts_in phase S H n x (get_or vs i d).0) e ∙ listed_at phase S H n x (txns H) i d (omega (arith, ap (λ (vs : List Txn). length vs) e))
+-- whoever has begun, with the node on its path, is here
+pub here_from : (f : Facts) (n u : ℕ) → IsOrderly (setup_of f) (events_of f) → begun (events_of f) u ≡ true → on (setup_of f) (events_of f) n u ≡ true → IsHere f n u
+here_from f n u o b h = record { typed = typed_now f u o b; on = h }
 
-pub listed_here : (phase : List Event → ℕ → Bool) (f : Facts) (n : ℕ) (x : Cell) (ts : List Txn) (i : ℕ) (d : Txn) → IsOrderly (setup_of f) (events_of f) → ts ≡ writers_in phase (setup_of f) (events_of f) n x → i < length ts → IsHere f n (get_or ts i d).0
-listed_here phase f n x ts i d o e l =
-    let h = listed_puts phase (setup_of f) (events_of f) n x ts i d e l in
-    let p = puts_parts phase (setup_of f) (events_of f) n x (get_or ts i d).0 h in
-    let b = o.wrote (get_or ts i d).0 x p.2 in
-    record { typed = record { begun = b; kind = o.typed (get_or ts i d).0 b }; on = p.0 }
+-- so each of them is
+module _ (f : Facts) (n : ℕ) (x : Cell) (o : IsOrderly (setup_of f) (events_of f)) where
+  pub writers_here : (phase : List Event → ℕ → Bool) → AreHere f n (writers_in phase (setup_of f) (events_of f) n x)
+  writers_here phase u a =
+      let h = sym (among_writers phase (setup_of f) (events_of f) n x u o) ∙ a in
+      here_from f n u o (putter_begun phase (setup_of f) (events_of f) n x o u h) (puts_parts phase (setup_of f) (events_of f) n x u h).0
+
+  pub readers_here : AreHere f n (readers_in (setup_of f) (events_of f) n x)
+  readers_here u a =
+      let h = sym (among_readers (setup_of f) (events_of f) n x u o) ∙ a in
+      here_from f n u o (reader_begun (setup_of f) (events_of f) n x o u h) (reads_parts (setup_of f) (events_of f) n x u h).0

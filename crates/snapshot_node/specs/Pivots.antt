@@ -1,105 +1,123 @@
--- Pivots, looked for from the least transactions on.
-use Rattle.std.specs.Prelude.{ℕ, ◌<◌, Bool, false, IsTrue, cond, eqb, ltb, ◌&&◌, ◌||◌, filter, List, [], ◌∷◌, Option, Some, None, is_some}
-use Rattle.std.specs.Option.{option_or, option_map}
+-- Pivots: two edges among those at stake, into a batch and out of it, and the least of those that have a property.
+use Rattle.std.specs.Prelude.{ℕ, ◌≤◌, Bool, IsTrue, cond, eqb, ltb, ◌&&◌, ◌||◌, List, Option, Some, None}
+use Rattle.teb_names.specs.declared.Cell.{Cell}
 use Rattle.teb_names.specs.declared.Txn.{Txn}
 use Rattle.teb_history.specs.declared.Event.{Event}
-use Rattle.teb_history.specs.declared.Event.TheVariants.{Got}
-use Rattle.teb_history.specs.Phases.{txns, prepared, committed}
-use Rattle.teb_history.specs.Accesses.{wrote}
+use Rattle.teb_history.specs.Phases.{prepared, committed}
+use Rattle.teb_history.specs.Accesses.{wrote, got}
 use Rattle.teb_rules.specs.Setup.{Setup}
-use Rattle.teb_rules.specs.Batches.{one_batch}
+use Rattle.teb_rules.specs.Tree.{meets}
+use Rattle.teb_rules.specs.Batches.{concurrent, one_batch}
 use Rattle.teb_rules.specs.Controls.{edge}
 use Rattle.teb_rules.specs.declared.Broken.{Broken}
-use Rattle.teb_rules.specs.declared.Broken.TheVariants.{Pivot}
 use Rattle.teb_rules.specs.declared.Verdict.{Verdict}
 use Rattle.teb_rules.specs.declared.Verdict.TheVariants.{Go, Break}
-
--- the event is a Got of a cell that b has put
-abbrev pub gets_put : List Event → ℕ → Event → Bool
-gets_put H b (Got s x w v) = wrote H b x
-gets_put H b _ = false
-
--- what f answers first
-abbrev pub first_in : {X A : Type 0} → (X → Option A) → List X → Option A
-first_in f [] = None
-first_in f (x ∷ xs) = let r = first_in f xs in option_or (f x) r
-
-abbrev pub as_txn : ℕ → Txn
-as_txn u = record { 0 = u }
+use Rattle.phase_api.specs.declared.facts.Facts.{Facts}
+use Rattle.phase_api.specs.Calls.{IsHere}
+use Rattle.snapshot_node.specs.Slots.{is_among}
 
 abbrev pub is_at_stake : List Event → ℕ → ℕ → Bool
 is_at_stake H t u = eqb u t || prepared H u || committed H u
 
--- the transactions that have begun after `past`
-abbrev pub window : List Event → ℕ → List ℕ
-window H past = filter (λ u. ltb past u) (txns H)
+-- u and v meet at n, and their batches are concurrent
+abbrev pub is_across : Setup → List Event → ℕ → ℕ → ℕ → Bool
+is_across S H n u v = meets S H n u v && concurrent S H n u v
+
+-- the node stands on the path of each of them
+abbrev pub AreHere : Facts → ℕ → List Txn → Type 0
+AreHere f n ts = (u : ℕ) → IsTrue (is_among u ts) → IsHere f n u
+
+-- the least number with a property, as a transaction, if there is one
+abbrev pub IsLeast : (ℕ → Type 0) → Option Txn → Type 0
+IsLeast P None = (u : ℕ) → P u → ⊥
+IsLeast P (Some t) = P t.0 × ((u : ℕ) → P u → t.0 ≤ u)
+
+-- the lesser of two, or the only one
+abbrev pub lesser_of : Option Txn → Option Txn → Option Txn
+lesser_of None o = o
+lesser_of (Some t) None = Some t
+lesser_of (Some t) (Some u) = Some (cond (ltb u.0 t.0) u t)
 
 module _ (S : Setup) (H : List Event) (n t : ℕ) where
-  -- d is at stake where t validates, and c has an edge to it
-  abbrev pub leads : ℕ → ℕ → Bool
-  leads c d = is_at_stake H t d && edge S H n c d
+  -- u is at stake where t validates, and across from v, and has put x
+  pub record PutsAcross (v : ℕ) (x : Cell) (u : ℕ) : Type 0 where
+    pub put : IsTrue (wrote H u x)
+    pub stake : IsTrue (is_at_stake H t u)
+    pub across : IsTrue (is_across S H n v u)
 
-  -- a is at stake, and has an edge to b
-  abbrev pub arrives : ℕ → ℕ → Bool
-  arrives a b = is_at_stake H t a && edge S H n a b
+  -- u is at stake, across from v, and one of the transactions
+  pub record IsAcross (v : ℕ) (among : List Txn) (u : ℕ) : Type 0 where
+    pub listed : IsTrue (is_among u among)
+    pub stake : IsTrue (is_at_stake H t u)
+    pub across : IsTrue (is_across S H n v u)
 
-  -- of those at stake, edges lead from a to b and from c to d, and b and c are of one batch
-  pub record IsPivot (a b c d : ℕ) : Type 0 where
-    pub stake : IsTrue (is_at_stake H t a)
-    pub into : IsTrue (leads a b)
-    pub stake_there : IsTrue (is_at_stake H t c)
+  -- an edge leads from a to b, which are both at stake
+  pub record Leads (a b : ℕ) : Type 0 where
+    pub from : IsTrue (is_at_stake H t a)
+    pub to : IsTrue (is_at_stake H t b)
+    pub edge : IsTrue (edge S H n a b)
+
+  -- u is at stake, and of b's batch
+  abbrev pub is_mate : ℕ → ℕ → Bool
+  is_mate b u = one_batch S H n b u && is_at_stake H t u
+
+  -- an edge leads from c, of b's batch, to d
+  pub record Leaves (b c d : ℕ) : Type 0 where
     pub batch : IsTrue (one_batch S H n b c)
-    pub out : IsTrue (leads c d)
+    pub out : Leads c d
 
-  -- whoever is in a pivot is numbered above `past`
-  abbrev pub AllLater : ℕ → Type 0
-  AllLater past = (a b c d : ℕ) → IsPivot a b c d → (past < a) × (past < b) × (past < c) × (past < d)
+  -- an edge leaves b's batch
+  pub record IsLeft (b : ℕ) : Type 0 where
+    pub from : ℕ
+    pub to : ℕ
+    pub out : Leaves b from to
 
-  -- among some
-  module _ (us : List ℕ) where
-    -- the least d with an edge from c
-    unfoldable pub edge_out : ℕ → Option Txn
-    edge_out c = first_in (λ d. cond (leads c d) (Some (as_txn d)) None) us
+  -- the least edge out of b's batch: its least member that has one, and the least to which that one has
+  abbrev pub IsLeastEdge : ℕ → Option (Txn × Txn) → Type 0
+  IsLeastEdge b None = IsLeft b → ⊥
+  IsLeastEdge b (Some e) = Leaves b e.0.0 e.1.0 × ((c d : ℕ) → Leaves b c d → e.0.0 ≤ c) × ((d : ℕ) → Leads e.0.0 d → e.1.0 ≤ d)
 
-    -- c is at stake, in b's batch, and has an edge to d, the least such
-    abbrev pub edge_through : ℕ → ℕ → Option (Txn × Txn)
-    edge_through b c = cond (is_at_stake H t c && one_batch S H n b c) (option_map (λ d. (as_txn c, d)) (edge_out c)) None
+  -- a has an edge to somebody of c's batch
+  pub record Reaches (c a : ℕ) : Type 0 where
+    pub member : ℕ
+    pub batch : IsTrue (one_batch S H n c member)
+    pub edge : Leads a member
 
-    -- the least such c, with its d
-    unfoldable pub edge_behind : ℕ → Option (Txn × Txn)
-    edge_behind b = first_in (edge_through b) us
+  -- a has an edge to b, whose batch an edge leaves
+  pub record IsMiddle (a b : ℕ) : Type 0 where
+    pub into : Leads a b
+    pub left : IsLeft b
 
-    -- the least pivot of the edge from a to b, of the edges from a, and of all
-    abbrev pub pivot_over : ℕ → ℕ → Option Broken
-    pivot_over a b = cond (leads a b) (option_map (λ f. Pivot (as_txn a) (as_txn b) f.0 f.1) (edge_behind b)) None
+  -- the same of some across from a
+  pub record IsMiddleAmong (a : ℕ) (among : List Txn) (b : ℕ) : Type 0 where
+    pub across : IsAcross a among b
+    pub left : IsLeft b
 
-    unfoldable pub pivot_from : ℕ → Option Broken
-    pivot_from a = first_in (pivot_over a) us
+  -- edges lead from a to b, and from c, of b's batch, to d
+  pub record IsPivot (a b c d : ℕ) : Type 0 where
+    pub into : Leads a b
+    pub out : Leaves b c d
 
-    abbrev pub pivot_of : ℕ → Option Broken
-    pivot_of a = cond (is_at_stake H t a) (pivot_from a) None
+  -- a comes first in a pivot
+  pub record IsFirst (a : ℕ) : Type 0 where
+    pub second : ℕ
+    pub third : ℕ
+    pub fourth : ℕ
+    pub pivot : IsPivot a second third fourth
 
-    unfoldable pub least_pivot : Option Broken
-    least_pivot = first_in pivot_of us
+  -- a has an edge to somebody of the batch of one that has an edge to t
+  pub record ComesIn (a : ℕ) : Type 0 where
+    pub third : ℕ
+    pub into : Reaches third a
+    pub out : Leads third t
 
-    -- the least a at stake with an edge to b
-    unfoldable pub edge_in : ℕ → Option Txn
-    edge_in b = first_in (λ a. cond (arrives a b) (Some (as_txn a)) None) us
-
-    -- the least b of c's batch at stake to which such an edge leads
-    abbrev pub is_reached : ℕ → ℕ → Bool
-    is_reached c b = is_at_stake H t b && one_batch S H n b c && is_some (edge_in b)
-
-    unfoldable pub edge_ahead : ℕ → Option Txn
-    edge_ahead c = first_in (λ b. cond (is_reached c b) (Some (as_txn b)) None) us
-
-    -- the edge from a to b is the first or the second of a pivot
-    abbrev pub is_of_pivot : ℕ → ℕ → Bool
-    is_of_pivot a b = edge S H n a b && (is_some (edge_behind b) || is_some (edge_ahead a))
-
-    -- u is at stake, and such an edge leads from one of t and u to the other
-    abbrev pub is_partner : ℕ → Bool
-    is_partner u = is_at_stake H t u && (is_of_pivot t u || is_of_pivot u t)
+  -- the same by one that has read x and is across from t
+  pub record ComesInBy (x : Cell) (a : ℕ) : Type 0 where
+    pub third : ℕ
+    pub into : Reaches third a
+    pub read : IsTrue (got H third x)
+    pub stake : IsTrue (is_at_stake H t third)
+    pub across : IsTrue (is_across S H n t third)
 
 abbrev pub break_by : Option Broken → Verdict
 break_by None = Go

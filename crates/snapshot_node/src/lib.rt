@@ -1,12 +1,11 @@
 //! Snapshots: the control of a snapshot node.
 #![tactic(auto)]
 
-mod partners;
+mod batch_edges;
+mod neighbours;
 mod pivots;
+mod readers;
 mod snapshot;
-#[cfg(test)]
-mod tests;
-mod validation;
 mod writers;
 
 pub use snapshot::Snapshot;

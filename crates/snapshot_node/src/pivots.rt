@@ -1,226 +1,151 @@
-//! The search for a pivot, two edges into a batch and out of it, among the transactions later than one that is given.
+//! The least pivot: two edges among those at stake, from a to b and from c to d, where b and c are of one batch.
+//!
+//! Each pivot has the one that validates in it, since those that were validated before hold none. So whoever comes first in a
+//! pivot is found from the edges at that one and at its batch.
 
-ghost use Rattle.std.specs.Prelude.{◌≡◌, ◌<◌, ◌&&◌, ◌||◌, IsTrue, IsFalse, ltb};
-ghost use Rattle.std.specs.List.{list_any};
-ghost use Rattle.teb_history.specs.Phases.{begun, aborted};
-ghost use Rattle.teb_history.specs.OwnEvents.{own_events};
+ghost use Rattle.std.specs.Prelude.{◌≡◌, IsTrue, IsFalse};
+ghost use Rattle.teb_history.specs.Phases.{unfinished, aborted};
+ghost use Rattle.teb_history.specs.Ascending.{IsAscendingBy};
+ghost use Rattle.teb_history.specs.Live.{number_of};
 ghost use Rattle.teb_rules.specs.Accepted.{IsSound};
-ghost use Rattle.teb_rules.specs.Batches.{concurrent, one_batch};
-ghost use Rattle.teb_rules.specs.Controls.{edge};
+ghost use Rattle.teb_rules.specs.Controls.{validate};
+ghost use Rattle.teb_rules.specs.Tree.{row};
 ghost use Rattle.teb_laws.specs.Lawful.{Lawful};
 ghost use Rattle.phase_api.specs.Told.{setup_of, events_of};
 ghost use Rattle.phase_api.specs.Calls.{IsHere};
+ghost use Rattle.snapshot_node.specs.Slots.{is_among};
 ghost use Rattle.snapshot_node.specs.Standing.{SnapshotStand};
-ghost use Rattle.snapshot_node.specs.Pivots.{gets_put, is_at_stake, leads, edge_out, edge_through, edge_behind, pivot_over, pivot_from, pivot_of, least_pivot, window};
+ghost use Rattle.snapshot_node.specs.Pivots.{is_at_stake, IsLeast, IsMiddle, IsMiddleAmong, IsFirst, ComesIn, ComesInBy, AreHere, break_by};
 
+use crate::neighbours::{is_at_stake, lesser};
 use crate::snapshot::Snapshot;
+use crate::writers::from_number;
 use phase_api::Facts;
-use teb_history::{Event, History};
-use teb_names::Txn;
+use teb_history::Event;
+use teb_names::{Cell, Txn};
 use teb_rules::Broken;
 
-/// Whether a has read a cell that b has put.
-fn reads_what_puts(history: &History, a: Txn, b: Txn) -> bool
-    ensures { result ≡ list_any (gets_put history.now.events b.0) (own_events history.now.events a.0) }
-{
-    for event in history.own_events(a) {
-        if let Event::Got { cell, .. } = event
-            && history.wrote(b, cell)
-        {
-            return true;
-        }
-    }
-    false
-}
-
-/// Whether u is at stake where t validates: it is t itself, or prepared or committed.
-pub(crate) fn is_at_stake(history: &History, t: Txn, u: Txn) -> bool
-    ensures { result ≡ is_at_stake history.now.events t.0 u.0 }
-{
-    u == t || history.is_prepared(u) || history.is_committed(u)
-}
-
 impl Snapshot {
-    // Whether two that meet here have concurrent batches.
-    fn are_concurrent(&self, facts: &Facts, a: Txn, b: Txn) -> bool
-        requires stands { SnapshotStand self.now.node.0 self.now.batches self.now.writers (setup_of facts.now) (events_of facts.now) }
-        requires lawful { Lawful (setup_of facts.now) (events_of facts.now) }
-        requires left { IsHere facts.now self.now.node.0 a.0 }
-        requires right { IsHere facts.now self.now.node.0 b.0 }
-        ensures { result ≡ concurrent (setup_of facts.now) (events_of facts.now) self.now.node.0 a.0 b.0 }
-    {
-        !self.is_closed_before(facts, b, a) && !self.is_closed_before(facts, a, b)
-    }
-
-    // Whether two are of one batch.
-    pub(crate) fn are_one_batch(&self, facts: &Facts, b: Txn, c: Txn) -> bool
-        requires stands { SnapshotStand self.now.node.0 self.now.batches self.now.writers (setup_of facts.now) (events_of facts.now) }
-        requires begun_b { IsTrue (begun (events_of facts.now) b.0) }
-        requires begun_c { IsTrue (begun (events_of facts.now) c.0) }
-        ensures { result ≡ one_batch (setup_of facts.now) (events_of facts.now) self.now.node.0 b.0 c.0 }
-    {
-        if !facts.is_on(self.node, b) {
-            return false;
-        }
-        if !facts.is_on(self.node, c) {
-            return false;
-        }
-        if facts.side(self.node, b) != facts.side(self.node, c) {
-            return false;
-        }
-        self.batches.start(b) == self.batches.start(c)
-    }
-
-    // Whether a has an edge to b, who is not aborted.
-    pub(crate) fn has_edge(&self, facts: &Facts, a: Txn, b: Txn) -> bool
-        requires stands { SnapshotStand self.now.node.0 self.now.batches self.now.writers (setup_of facts.now) (events_of facts.now) }
+    /// The least pivot among those at stake where t validates.
+    pub(crate) fn least_pivot(&self, facts: &Facts, t: Txn) -> Option<Broken>
+        requires stands { SnapshotStand self.now.node.0 self.now.batches self.now.readers self.now.writers (setup_of facts.now) (events_of facts.now) }
         requires tree { IsSound (setup_of facts.now) }
         requires lawful { Lawful (setup_of facts.now) (events_of facts.now) }
-        requires begun_a { IsTrue (begun (events_of facts.now) a.0) }
-        requires begun_b { IsTrue (begun (events_of facts.now) b.0) }
-        requires b_stands { IsFalse (aborted (events_of facts.now) b.0) }
-        ensures { result ≡ edge (setup_of facts.now) (events_of facts.now) self.now.node.0 a.0 b.0 }
+        requires here { IsHere facts.now self.now.node.0 t.0 }
+        requires unfinished { IsTrue (unfinished (events_of facts.now) t.0) }
+        ensures { break_by result ≡ validate (row (setup_of facts.now).tree self.now.node.0).control (setup_of facts.now) (events_of facts.now) self.now.node.0 t.0 }
     {
-        if !facts.meet_at(self.node, a, b) {
-            return false;
-        }
-        if !self.are_concurrent(facts, a, b) {
-            return false;
-        }
-        reads_what_puts(facts.history, a, b)
-    }
-
-    // Whether b is at stake where t validates, and a has an edge to it.
-    fn leads(&self, facts: &Facts, t: Txn, a: Txn, b: Txn) -> bool
-        requires stands { SnapshotStand self.now.node.0 self.now.batches self.now.writers (setup_of facts.now) (events_of facts.now) }
-        requires tree { IsSound (setup_of facts.now) }
-        requires lawful { Lawful (setup_of facts.now) (events_of facts.now) }
-        requires unfinished { IsFalse (aborted (events_of facts.now) t.0) }
-        requires begun_a { IsTrue (begun (events_of facts.now) a.0) }
-        requires begun_b { IsTrue (begun (events_of facts.now) b.0) }
-        ensures { result ≡ leads (setup_of facts.now) (events_of facts.now) self.now.node.0 t.0 a.0 b.0 }
-    {
-        if !is_at_stake(facts.history, t, b) {
-            return false;
-        }
-        self.has_edge(facts, a, b)
-    }
-
-    // The least one at stake to whom c has an edge.
-    fn edge_out(&self, facts: &Facts, t: Txn, past: u32, c: Txn) -> Option<Txn>
-        requires stands { SnapshotStand self.now.node.0 self.now.batches self.now.writers (setup_of facts.now) (events_of facts.now) }
-        requires tree { IsSound (setup_of facts.now) }
-        requires lawful { Lawful (setup_of facts.now) (events_of facts.now) }
-        requires unfinished { IsFalse (aborted (events_of facts.now) t.0) }
-        requires begun_c { IsTrue (begun (events_of facts.now) c.0) }
-        ensures { result ≡ edge_out (setup_of facts.now) (events_of facts.now) self.now.node.0 t.0 (window (events_of facts.now) past) c.0 }
-    {
-        for i in past..facts.history.begun() {
-            let d = Txn(i + 1);
-            if self.leads(facts, t, c, d) {
-                return Some(d);
-            }
-        }
-        None
-    }
-
-    // The least edge out of b's batch that c has, where c is at stake and of that batch.
-    fn edge_through(&self, facts: &Facts, t: Txn, past: u32, b: Txn, c: Txn) -> Option<(Txn, Txn)>
-        requires stands { SnapshotStand self.now.node.0 self.now.batches self.now.writers (setup_of facts.now) (events_of facts.now) }
-        requires tree { IsSound (setup_of facts.now) }
-        requires lawful { Lawful (setup_of facts.now) (events_of facts.now) }
-        requires unfinished { IsFalse (aborted (events_of facts.now) t.0) }
-        requires begun_b { IsTrue (begun (events_of facts.now) b.0) }
-        requires begun_c { IsTrue (begun (events_of facts.now) c.0) }
-        ensures { result ≡ edge_through (setup_of facts.now) (events_of facts.now) self.now.node.0 t.0 (window (events_of facts.now) past) b.0 c.0 }
-    {
-        if !is_at_stake(facts.history, t, c) {
+        if facts.history.is_prepared(t) {
             return None;
         }
-        if !self.are_one_batch(facts, b, c) {
-            return None;
-        }
-        let d = self.edge_out(facts, t, past, c)?;
-        Some((c, d))
-    }
-
-    // The least edge out of b's batch.
-    pub(crate) fn edge_behind(&self, facts: &Facts, t: Txn, past: u32, b: Txn) -> Option<(Txn, Txn)>
-        requires stands { SnapshotStand self.now.node.0 self.now.batches self.now.writers (setup_of facts.now) (events_of facts.now) }
-        requires tree { IsSound (setup_of facts.now) }
-        requires lawful { Lawful (setup_of facts.now) (events_of facts.now) }
-        requires unfinished { IsFalse (aborted (events_of facts.now) t.0) }
-        requires begun_b { IsTrue (begun (events_of facts.now) b.0) }
-        ensures { result ≡ edge_behind (setup_of facts.now) (events_of facts.now) self.now.node.0 t.0 (window (events_of facts.now) past) b.0 }
-    {
-        for i in past..facts.history.begun() {
-            if let Some(edge) = self.edge_through(facts, t, past, b, Txn(i + 1)) {
-                return Some(edge);
-            }
-        }
-        None
-    }
-
-    // The least pivot by the edge from a to b, where that is one at stake.
-    fn pivot_over(&self, facts: &Facts, t: Txn, past: u32, a: Txn, b: Txn) -> Option<Broken>
-        requires stands { SnapshotStand self.now.node.0 self.now.batches self.now.writers (setup_of facts.now) (events_of facts.now) }
-        requires tree { IsSound (setup_of facts.now) }
-        requires lawful { Lawful (setup_of facts.now) (events_of facts.now) }
-        requires unfinished { IsFalse (aborted (events_of facts.now) t.0) }
-        requires begun_a { IsTrue (begun (events_of facts.now) a.0) }
-        requires begun_b { IsTrue (begun (events_of facts.now) b.0) }
-        ensures { result ≡ pivot_over (setup_of facts.now) (events_of facts.now) self.now.node.0 t.0 (window (events_of facts.now) past) a.0 b.0 }
-    {
-        if !self.leads(facts, t, a, b) {
-            return None;
-        }
-        let (c, d) = self.edge_behind(facts, t, past, b)?;
+        let a = self.least_first(facts, t)?;
+        let b = self.least_middle(facts, t, a)?;
+        let (c, d) = self.edge_out(facts, t, b)?;
         Some(Broken::Pivot { a, b, c, d })
     }
 
-    // The least pivot by an edge from a.
-    fn pivot_from(&self, facts: &Facts, t: Txn, past: u32, a: Txn) -> Option<Broken>
-        requires stands { SnapshotStand self.now.node.0 self.now.batches self.now.writers (setup_of facts.now) (events_of facts.now) }
+    // The least one that comes first in a pivot. With t first, an edge leads from t into a batch that an edge leaves; with t
+    // second, an edge leaves t's batch; with t third, t has an edge; with t last, an edge leads to t.
+    fn least_first(&self, facts: &Facts, t: Txn) -> Option<Txn>
+        requires stands { SnapshotStand self.now.node.0 self.now.batches self.now.readers self.now.writers (setup_of facts.now) (events_of facts.now) }
         requires tree { IsSound (setup_of facts.now) }
         requires lawful { Lawful (setup_of facts.now) (events_of facts.now) }
-        requires unfinished { IsFalse (aborted (events_of facts.now) t.0) }
-        requires begun_a { IsTrue (begun (events_of facts.now) a.0) }
-        ensures { result ≡ pivot_from (setup_of facts.now) (events_of facts.now) self.now.node.0 t.0 (window (events_of facts.now) past) a.0 }
+        requires here { IsHere facts.now self.now.node.0 t.0 }
+        requires unfinished { IsTrue (unfinished (events_of facts.now) t.0) }
+        ensures { IsLeast (IsFirst (setup_of facts.now) (events_of facts.now) self.now.node.0 t.0) result }
     {
-        for i in past..facts.history.begun() {
-            if let Some(pivot) = self.pivot_over(facts, t, past, a, Txn(i + 1)) {
-                return Some(pivot);
+        let mut least = self.least_before(facts, t);
+        if self.least_ahead(facts, t, t).is_some() {
+            least = lesser(least, self.least_into(facts, t, t));
+        }
+        if self.edge_out(facts, t, t).is_some() {
+            least = lesser(least, self.least_behind(facts, t, t));
+        }
+        if self.least_middle(facts, t, t).is_some() {
+            least = lesser(least, Some(t));
+        }
+        least
+    }
+
+    // The least one with an edge into a batch that an edge leads from to t.
+    fn least_before(&self, facts: &Facts, t: Txn) -> Option<Txn>
+        requires stands { SnapshotStand self.now.node.0 self.now.batches self.now.readers self.now.writers (setup_of facts.now) (events_of facts.now) }
+        requires tree { IsSound (setup_of facts.now) }
+        requires lawful { Lawful (setup_of facts.now) (events_of facts.now) }
+        requires here { IsHere facts.now self.now.node.0 t.0 }
+        requires unfinished { IsTrue (unfinished (events_of facts.now) t.0) }
+        ensures { IsLeast (ComesIn (setup_of facts.now) (events_of facts.now) self.now.node.0 t.0) result }
+    {
+        let mut least = None;
+        for event in facts.history.own_events(t) {
+            if let Event::Put { cell, .. } = event {
+                least = lesser(least, self.least_before_by(facts, t, cell));
             }
         }
-        None
+        least
     }
 
-    // The same where a is at stake.
-    fn pivot_of(&self, facts: &Facts, t: Txn, past: u32, a: Txn) -> Option<Broken>
-        requires stands { SnapshotStand self.now.node.0 self.now.batches self.now.writers (setup_of facts.now) (events_of facts.now) }
+    // The same by an edge to t of a reader of one cell that t has put.
+    fn least_before_by(&self, facts: &Facts, t: Txn, cell: Cell) -> Option<Txn>
+        requires stands { SnapshotStand self.now.node.0 self.now.batches self.now.readers self.now.writers (setup_of facts.now) (events_of facts.now) }
         requires tree { IsSound (setup_of facts.now) }
         requires lawful { Lawful (setup_of facts.now) (events_of facts.now) }
-        requires unfinished { IsFalse (aborted (events_of facts.now) t.0) }
-        requires begun_a { IsTrue (begun (events_of facts.now) a.0) }
-        ensures { result ≡ pivot_of (setup_of facts.now) (events_of facts.now) self.now.node.0 t.0 (window (events_of facts.now) past) a.0 }
+        requires here { IsHere facts.now self.now.node.0 t.0 }
+        requires unfinished { IsTrue (unfinished (events_of facts.now) t.0) }
+        ensures { IsLeast (ComesInBy (setup_of facts.now) (events_of facts.now) self.now.node.0 t.0 cell) result }
     {
-        if !is_at_stake(facts.history, t, a) {
-            return None;
+        let mut least = None;
+        for c in from_number(self.readers(facts, cell), self.batches.horizon(t)) {
+            if is_at_stake(facts.history, t, *c) && self.are_across(facts, t, *c) {
+                least = lesser(least, self.least_into(facts, t, *c));
+            }
         }
-        self.pivot_from(facts, t, past, a)
+        least
     }
 
-    /// The least pivot among those later than `past` that are at stake where t validates.
-    pub(crate) fn pivot_after(&self, facts: &Facts, t: Txn, past: u32) -> Option<Broken>
-        requires stands { SnapshotStand self.now.node.0 self.now.batches self.now.writers (setup_of facts.now) (events_of facts.now) }
+    // The least one to whom a, which is at stake, has an edge, and whose batch an edge leaves.
+    fn least_middle(&self, facts: &Facts, t: Txn, a: Txn) -> Option<Txn>
+        requires stands { SnapshotStand self.now.node.0 self.now.batches self.now.readers self.now.writers (setup_of facts.now) (events_of facts.now) }
         requires tree { IsSound (setup_of facts.now) }
         requires lawful { Lawful (setup_of facts.now) (events_of facts.now) }
-        requires unfinished { IsFalse (aborted (events_of facts.now) t.0) }
-        ensures { result ≡ least_pivot (setup_of facts.now) (events_of facts.now) self.now.node.0 t.0 (window (events_of facts.now) past) }
+        requires runs { IsFalse (aborted (events_of facts.now) t.0) }
+        requires here { IsHere facts.now self.now.node.0 a.0 }
+        requires stake { IsTrue (is_at_stake (events_of facts.now) t.0 a.0) }
+        ensures { IsLeast (IsMiddle (setup_of facts.now) (events_of facts.now) self.now.node.0 t.0 a.0) result }
     {
-        for i in past..facts.history.begun() {
-            if let Some(pivot) = self.pivot_of(facts, t, past, Txn(i + 1)) {
-                return Some(pivot);
+        let mut least = None;
+        for event in facts.history.own_events(a) {
+            if let Event::Got { cell, .. } = event {
+                least = lesser(
+                    least,
+                    self.middle_by(facts, t, a, self.committed(facts, cell)),
+                );
+                least = lesser(
+                    least,
+                    self.middle_by(facts, t, a, self.unfinished(facts, cell)),
+                );
+            }
+        }
+        least
+    }
+
+    // The first of some at stake that are across from a, and whose batch an edge leaves.
+    fn middle_by(&self, facts: &Facts, t: Txn, a: Txn, among: &[Txn]) -> Option<Txn>
+        requires stands { SnapshotStand self.now.node.0 self.now.batches self.now.readers self.now.writers (setup_of facts.now) (events_of facts.now) }
+        requires tree { IsSound (setup_of facts.now) }
+        requires lawful { Lawful (setup_of facts.now) (events_of facts.now) }
+        requires runs { IsFalse (aborted (events_of facts.now) t.0) }
+        requires here { IsHere facts.now self.now.node.0 a.0 }
+        requires ascending { IsAscendingBy number_of among.now }
+        requires among_here { AreHere facts.now self.now.node.0 among.now }
+        ensures { IsLeast (IsMiddleAmong (setup_of facts.now) (events_of facts.now) self.now.node.0 t.0 a.0 among.now) result }
+    {
+        for b in from_number(among, self.batches.horizon(a)) {
+            if is_at_stake(facts.history, t, *b)
+                && self.are_across(facts, a, *b)
+                && self.edge_out(facts, t, *b).is_some()
+            {
+                return Some(*b);
             }
         }
         None

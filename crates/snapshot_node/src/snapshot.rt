@@ -12,8 +12,9 @@ ghost use Rattle.teb_rules.specs.Controls.{is_first};
 ghost use Rattle.phase_api.specs.Told.{setup_of, events_of};
 ghost use Rattle.phase_api.specs.Calls.{IsHere};
 ghost use Rattle.hold_register.specs.Waits.{some_txn};
-ghost use Rattle.snapshot_node.specs.Standing.{SnapshotStand, writers_in};
+ghost use Rattle.snapshot_node.specs.Standing.{SnapshotStand, writers_in, readers_in};
 
+use crate::readers::{forget_reads, put_reader};
 use crate::writers::{Slot, abort, commit, from_number, put_in};
 use batch_book::Batches;
 use hold_register::wait_for;
@@ -30,6 +31,7 @@ use version_chain::Chains;
 pub struct Snapshot {
     pub(crate) node: Node,
     pub(crate) batches: Batches,
+    pub(crate) readers: Piles<Cell, Txn>,
     pub(crate) writers: Piles<Slot, Txn>,
 }
 
@@ -39,18 +41,19 @@ impl Snapshot {
         requires kind { (row (setup_of facts.now).tree node.0).control ≡ IsSnapshot }
         requires empty { events_of facts.now ≡ [] }
         ensures node { IfOk result (λ c. c.node ≡ node) }
-        ensures stands { IfOk result (λ c. SnapshotStand c.node.0 c.batches c.writers (setup_of facts.now) (events_of facts.now)) }
+        ensures stands { IfOk result (λ c. SnapshotStand c.node.0 c.batches c.readers c.writers (setup_of facts.now) (events_of facts.now)) }
     {
         Ok(Snapshot {
             node,
             batches: Batches::new(alloc, facts.tree.row(node).batch),
+            readers: Piles::new(alloc),
             writers: Piles::new(alloc),
         })
     }
 
     /// The committed transactions on whose path the node stands that have put a cell, in ascending number, each once.
     pub fn committed(&self, facts: &Facts, cell: Cell) -> &[Txn]
-        requires { SnapshotStand self.now.node.0 self.now.batches self.now.writers (setup_of facts.now) (events_of facts.now) }
+        requires { SnapshotStand self.now.node.0 self.now.batches self.now.readers self.now.writers (setup_of facts.now) (events_of facts.now) }
         ensures { result.now ≡ writers_in committed (setup_of facts.now) (events_of facts.now) self.now.node.0 cell }
     {
         let _ = facts;
@@ -61,8 +64,8 @@ impl Snapshot {
     }
 
     // The unfinished ones.
-    fn unfinished(&self, facts: &Facts, cell: Cell) -> &[Txn]
-        requires { SnapshotStand self.now.node.0 self.now.batches self.now.writers (setup_of facts.now) (events_of facts.now) }
+    pub(crate) fn unfinished(&self, facts: &Facts, cell: Cell) -> &[Txn]
+        requires { SnapshotStand self.now.node.0 self.now.batches self.now.readers self.now.writers (setup_of facts.now) (events_of facts.now) }
         ensures { result.now ≡ writers_in unfinished (setup_of facts.now) (events_of facts.now) self.now.node.0 cell }
     {
         let _ = facts;
@@ -72,9 +75,18 @@ impl Snapshot {
         })
     }
 
+    // Those on whose path the node stands that have read it and are not aborted.
+    pub(crate) fn readers(&self, facts: &Facts, cell: Cell) -> &[Txn]
+        requires { SnapshotStand self.now.node.0 self.now.batches self.now.readers self.now.writers (setup_of facts.now) (events_of facts.now) }
+        ensures { result.now ≡ readers_in (setup_of facts.now) (events_of facts.now) self.now.node.0 cell }
+    {
+        let _ = facts;
+        self.readers.list(cell)
+    }
+
     // Whether u's batch is closed before t's starts.
     pub(crate) fn is_closed_before(&self, facts: &Facts, u: Txn, t: Txn) -> bool
-        requires stands { SnapshotStand self.now.node.0 self.now.batches self.now.writers (setup_of facts.now) (events_of facts.now) }
+        requires stands { SnapshotStand self.now.node.0 self.now.batches self.now.readers self.now.writers (setup_of facts.now) (events_of facts.now) }
         requires left { IsHere facts.now self.now.node.0 u.0 }
         requires right { IsHere facts.now self.now.node.0 t.0 }
         ensures { result ≡ ltb (close (setup_of facts.now) (events_of facts.now) self.now.node.0 u.0) (start (setup_of facts.now) (events_of facts.now) self.now.node.0 t.0) }
@@ -86,7 +98,7 @@ impl Snapshot {
     // The least committed transaction that wrote a cell before t. It looks from t's horizon on: whoever comes before that was of
     // a batch closed before t's start.
     fn first_writer(&self, facts: &Facts, t: Txn, cell: Cell) -> Option<Txn>
-        requires stands { SnapshotStand self.now.node.0 self.now.batches self.now.writers (setup_of facts.now) (events_of facts.now) }
+        requires stands { SnapshotStand self.now.node.0 self.now.batches self.now.readers self.now.writers (setup_of facts.now) (events_of facts.now) }
         requires here { IsHere facts.now self.now.node.0 t.0 }
         ensures { result ≡ some_txn (find (is_first (setup_of facts.now) (events_of facts.now) self.now.node.0 t.0 cell) (txns (events_of facts.now))) }
     {
@@ -101,7 +113,7 @@ impl Snapshot {
 
     // The least unfinished transaction that t's write of a cell waits for.
     fn blocker(&self, facts: &Facts, t: Txn, cell: Cell) -> Option<Txn>
-        requires stands { SnapshotStand self.now.node.0 self.now.batches self.now.writers (setup_of facts.now) (events_of facts.now) }
+        requires stands { SnapshotStand self.now.node.0 self.now.batches self.now.readers self.now.writers (setup_of facts.now) (events_of facts.now) }
         requires here { IsHere facts.now self.now.node.0 t.0 }
         ensures { result ≡ some_txn (find (λ u. unfinished (events_of facts.now) u && meets (setup_of facts.now) (events_of facts.now) self.now.node.0 t.0 u && wrote (events_of facts.now) u cell) (txns (events_of facts.now))) }
     {
@@ -118,11 +130,11 @@ impl Control for Snapshot {
     ghost use Rattle.std.specs.Prelude.{min};
     ghost use Rattle.snapshot_node.specs.Standing.{SnapshotStand};
 
-    ghost stands = { λ c S H. SnapshotStand c.node.0 c.batches c.writers S H };
+    ghost stands = { λ c S H. SnapshotStand c.node.0 c.batches c.readers c.writers S H };
 
     ghost place = { λ c. c.node.0 };
 
-    ghost spare = { λ c. min c.batches.spare c.writers.spare };
+    ghost spare = { λ c. min c.batches.spare (min c.readers.spare c.writers.spare) };
 
     ghost sound = { λ c S H s. s.orderly };
 
@@ -132,6 +144,7 @@ impl Control for Snapshot {
 
     fn reserve(&mut self) -> Result<(), AllocError> {
         self.batches.reserve()?;
+        self.readers.reserve(32)?;
         self.writers.reserve(32)
     }
 
@@ -141,6 +154,11 @@ impl Control for Snapshot {
             Event::Began { txn, .. } => {
                 if facts.is_on(self.node, txn) {
                     self.batches.join(facts.side(self.node, txn), txn, at);
+                }
+            }
+            Event::Got { txn, cell, .. } => {
+                if facts.is_on(self.node, txn) {
+                    put_reader(&mut self.readers, cell, txn);
                 }
             }
             Event::Put { txn, cell, .. } => {
@@ -157,10 +175,11 @@ impl Control for Snapshot {
                 self.batches.finish(txn, at);
             }
             Event::Gone { txn, .. } => {
+                forget_reads(&mut self.readers, facts.history, txn);
                 abort(&mut self.writers, facts.history, txn);
                 self.batches.finish(txn, at);
             }
-            Event::Got { .. } | Event::Ready(_) | Event::Told(_) => {}
+            Event::Ready(_) | Event::Told(_) => {}
         }
     }
 

@@ -125,7 +125,8 @@ pub(crate) fn from_number(txns: &[Txn], first: Txn) -> &[Txn]
     &txns[start..]
 }
 
-fn find(txns: &[Txn], t: Txn) -> Result<usize, usize>
+/// Where a transaction stands among ascending ones, or would stand.
+pub(crate) fn find(txns: &[Txn], t: Txn) -> Result<usize, usize>
     requires { IsAscendingBy number_of txns.now }
     ensures { result ≡ place_of number_of txns.now t.0 }
 {

@@ -1,7 +1,3 @@
 pub mod Commands
-pub mod Runs
-pub mod Shop
-pub mod Stores
-pub mod Summaries
-pub mod Tellings
+pub mod Endings
 pub mod Tells

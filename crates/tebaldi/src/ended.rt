@@ -2,7 +2,8 @@
 
 ghost use Rattle.std.specs.Prelude.{◌≡◌, ◌≢◌, None};
 ghost use Rattle.teb_io.specs.Faults.{Rose};
-ghost use Rattle.tebaldi.specs.Tellings.{IsTold, events_of};
+ghost use Rattle.input_runner.specs.Tellings.{events_of};
+ghost use Rattle.tebaldi.specs.Endings.{IsTold};
 
 use teb_history::History;
 use teb_io::{Sink, write_whole};

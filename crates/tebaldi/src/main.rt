@@ -3,13 +3,6 @@
 
 mod command;
 mod ended;
-mod input;
-mod load;
-mod report;
-mod run;
-mod shop;
-mod summary;
-mod telling;
 mod top;
 
 use std::env;

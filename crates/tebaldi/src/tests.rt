@@ -2,9 +2,13 @@
 
 ghost use Rattle.std.specs.Prelude.{◌<◌};
 
+mod engines;
+mod events;
 mod faults;
+mod limits;
 mod loads;
 mod runs;
+mod scripts;
 mod trees;
 mod turns;
 
@@ -72,4 +76,12 @@ fn tells(
 fn put_line(out: &mut Vec<u8>, line: &str) -> Result<(), AllocError> {
     out.extend_from_slice(line.as_bytes())?;
     out.extend_from_slice(b"\n")
+}
+
+fn joined(alloc: Global, pieces: &[&str]) -> Result<Vec<u8>, AllocError> {
+    let mut bytes = Vec::new(alloc);
+    for piece in pieces {
+        bytes.extend_from_slice(piece.as_bytes())?;
+    }
+    Ok(bytes)
 }

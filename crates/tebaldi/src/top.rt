@@ -4,16 +4,15 @@ ghost use Rattle.std.specs.Prelude.{◌≡◌, ◌≢◌, false, None, IfOk, IfS
 ghost use Rattle.std.specs.Io.KnownBytes.{Keeps};
 ghost use Rattle.teb_io.specs.Faults.{Rose};
 ghost use Rattle.tebaldi.specs.Commands.{command_of, reads, texts};
-ghost use Rattle.tebaldi.specs.Runs.{run_by};
-ghost use Rattle.tebaldi.specs.Tellings.{IsTold, Told, told_by, IsTellable};
-ghost use Rattle.tebaldi.specs.Tells.{Tells, TellsBytes, SetsUp, IsSetUp, IsSerialized};
+ghost use Rattle.input_runner.specs.Runs.{run_by};
+ghost use Rattle.input_runner.specs.Tellings.{Told, told_by, IsTellable};
+ghost use Rattle.input_runner.specs.Tells.{IsSetUp, IsSerialized};
+ghost use Rattle.tebaldi.specs.Endings.{IsTold};
+ghost use Rattle.tebaldi.specs.Tells.{Tells, TellsBytes, SetsUp};
 
 use crate::command::{Command, command_of};
 use crate::ended::{Ended, silent, tell};
-use crate::input::run_input;
-use crate::load::load;
-use crate::run::Mode;
-use crate::telling::{NOT_BUILT, TOO_LONG, Telling};
+use input_runner::{Mode, TOO_LONG, Telling, run_input, run_load};
 use std::alloc::{AllocError, Global};
 use teb_io::{ReadError, Sink, Source, read_all};
 
@@ -22,6 +21,8 @@ pub const BAD_WORDS: u8 = 2;
 const READ_FAULT: u8 = 3;
 
 pub const OUT_OF_MEMORY: u8 = 8;
+
+const NOT_BUILT: u8 = 9;
 
 /// The most bytes of an input.
 const MOST_BYTES: usize = 4_194_304;
@@ -48,7 +49,7 @@ pub fn run_tebaldi<S: Source, K: Sink>(
     match command_of(words) {
         Some(Command::Replay) => run_source(alloc, Mode::Replay, input, out),
         Some(Command::Turns) => run_source(alloc, Mode::Turns, input, out),
-        Some(Command::Load { number, size }) => tell_of(out, load(alloc, number, size)),
+        Some(Command::Load { number, size }) => tell_of(out, run_load(alloc, number, size)),
         Some(_) => tell(out, NOT_BUILT, b"not built\n", None),
         None => tell(out, BAD_WORDS, b"bad words\n", None),
     }

@@ -7,4 +7,3 @@ pub mod Late
 pub mod OrderedLists
 pub mod OlderReads
 pub mod Said
-pub mod Worked

@@ -3,7 +3,5 @@
 
 mod reads;
 mod stamps;
-#[cfg(test)]
-mod tests;
 
 pub use stamps::Stamps;

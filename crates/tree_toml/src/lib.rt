@@ -21,6 +21,3 @@ mod types;
 pub use fault::{FieldWhy, Key, ListName, Place, TreeText};
 pub use setup::{Setup, read_tree};
 pub use text::put_fault;
-
-#[cfg(test)]
-mod tests;

@@ -1,8 +1,6 @@
-//! The statuses, and the limits of an input.
+//! The statuses.
 
-use super::{put_line, run, sees, source, tells};
-use itoa::Buffer;
-use std::alloc::{AllocError, Global};
+use super::{run, sees, source, tells};
 use std::test::Fail;
 
 const ONE: &[u8] = b"%%\n1 begin any\n1 write t 1 5\n1 commit\n";
@@ -64,62 +62,5 @@ fn devices_fail(rt: HostRuntime) -> Result<(), Fail> {
     sees(&rt, &seen, 4, b"", true);
     let seen = run(alloc, "replay", source(alloc, ONE, 1, &[])?, &[])?;
     sees(&rt, &seen, 0, ONE_TEXT, true);
-    Ok(())
-}
-
-// The separator, and so many empty lines.
-fn empty_lines(alloc: Global, count: usize) -> Result<Vec<u8>, AllocError> {
-    let mut bytes = b"%%\n".to_vec(alloc)?;
-    for _ in 0..count {
-        bytes.push(b'\n')?;
-    }
-    Ok(bytes)
-}
-
-#[test]
-fn long_input_is_refused(rt: HostRuntime) -> Result<(), Fail> {
-    let alloc = rt.alloc();
-    for (count, status, text) in [
-        (65_536, 0, "order\nend\n"),
-        (65_537, 5, "too long\n"),
-        (4_194_302, 5, "too long\n"),
-    ] {
-        let input = empty_lines(alloc, count)?;
-        tells(&rt, alloc, "replay", &input, status, text.as_bytes())?;
-    }
-    Ok(())
-}
-
-// A begin and a commit, with their answers, and the place in the order.
-fn put_one(
-    input: &mut Vec<u8>,
-    text: &mut Vec<u8>,
-    order: &mut Vec<u8>,
-    t: u32,
-) -> Result<(), AllocError> {
-    let mut buffer = Buffer::new();
-    let number = buffer.format(t);
-    put_line(input, "1 begin any\n1 commit")?;
-    text.extend_from_slice(b"1 begun t")?;
-    put_line(text, number)?;
-    put_line(text, "1 committed")?;
-    order.extend_from_slice(b" t")?;
-    order.extend_from_slice(number.as_bytes())
-}
-
-#[test]
-fn the_store_fills_up(rt: HostRuntime) -> Result<(), Fail> {
-    let alloc = rt.alloc();
-    let mut input = b"%%\n".to_vec(alloc)?;
-    let mut text = Vec::new(alloc);
-    let mut order = b"order".to_vec(alloc)?;
-    for t in 1..8193u32 {
-        put_one(&mut input, &mut text, &mut order, t)?;
-    }
-    put_line(&mut input, "1 begin any")?;
-    put_line(&mut text, "1 refused full")?;
-    text.extend_from_slice(&order)?;
-    put_line(&mut text, "\nend")?;
-    tells(&rt, alloc, "replay", &input, 0, &text)?;
     Ok(())
 }

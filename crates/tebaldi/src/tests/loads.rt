@@ -1,8 +1,8 @@
 //! Generated loads: the first lines, and the summaries.
 
 use super::{run, sees, source};
-use crate::shop::shop;
 use fair_driver::{loaded_lines, loaded_scripts};
+use input_runner::shop_setup;
 use script_text::{Line, count_lines, parse_script};
 use std::alloc::Global;
 use std::process::Abort;
@@ -43,7 +43,7 @@ end
 
 // The lines of a script over the shop.
 fn shop_lines(rt: &impl Abort, alloc: Global, script: &[u8]) -> Result<Vec<Line>, Fail> {
-    let shop = shop(alloc)?;
+    let shop = shop_setup(alloc)?;
     assert!(rt; count_lines(script) < 100);
     Ok(parse_script(alloc, script, &shop.names, shop.format)?)
 }

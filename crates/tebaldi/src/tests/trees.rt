@@ -1,6 +1,6 @@
 //! Tree texts: the line of the first fault, and what is accepted.
 
-use super::{put_line, tells};
+use super::{joined, put_line, tells};
 use std::alloc::{AllocError, Global};
 use std::process::Abort;
 use std::test::Fail;
@@ -617,14 +617,6 @@ fn lists_above_their_limits_are_many(rt: HostRuntime) -> Result<(), Fail> {
     Ok(())
 }
 
-fn joined(alloc: Global, pieces: &[&str]) -> Result<Vec<u8>, AllocError> {
-    let mut bytes = Vec::new(alloc);
-    for piece in pieces {
-        bytes.extend_from_slice(piece.as_bytes())?;
-    }
-    Ok(bytes)
-}
-
 // A leaf under the root, but for its control.
 const LEAF: &str = "[[node]]
 name = 's'
@@ -632,7 +624,7 @@ parent = 'root'
 types = ['any']
 ";
 
-// A blank tree part is the plain tree; then each control alone, and one of locks or a pipeline under such another.
+// A blank tree part is the plain tree; then, in every format, each control alone, and one of locks or a pipeline under such another.
 #[test]
 fn accepted_trees_have_scripts(rt: HostRuntime) -> Result<(), Fail> {
     let alloc = rt.alloc();
@@ -648,8 +640,10 @@ fn accepted_trees_have_scripts(rt: HostRuntime) -> Result<(), Fail> {
         ("control = 'pipeline'\n", LEAF, "control = 'locks'\n"),
         ("control = 'pipeline'\n", LEAF, "control = 'pipeline'\n"),
     ] {
-        let tree = joined(alloc, &["format = 1\n", NODE, root, leaf, control])?;
-        comes_to(&rt, alloc, &tree, 7, text)?;
+        for format in EVERY_FORMAT {
+            let tree = joined(alloc, &[format, NODE, root, leaf, control])?;
+            comes_to(&rt, alloc, &tree, 7, text)?;
+        }
     }
     Ok(())
 }

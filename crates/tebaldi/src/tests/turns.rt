@@ -560,6 +560,120 @@ order t1
 end
 ";
 
+// The lines of the two stand mixed up. The session with the smaller number is asked first.
+const LINES_GO_TO_THEIR_SESSIONS: &str = "9 begin any
+9 write t 1 1
+2 begin any
+9 commit
+2 read t 2
+2 commit
+";
+
+const LINES_GO_TO_THEIR_SESSIONS_TEXT: &str = "2 begun t1
+9 begun t2
+2 none
+9 done
+2 committed
+9 committed
+order t1 t2
+row t 1 1
+end
+";
+
+const TIMESTAMP: &str = "format = 1
+tables = ['t']
+[[type]]
+name = 'any'
+[[node]]
+name = 'root'
+control = 'timestamp'
+types = ['any']
+";
+
+// In the ninth pass session 2 is sent back for the third time, and in the tenth it is passed over, since t1 and t3 are at work. In the
+// eleventh t1 aborts, and t3 falls with it, for it has read from t1. Now nobody is at work, and session 2 begins at once, although session 3,
+// behind it, is not told of the fall yet. Session 3 begins anew when session 2 has got through.
+const A_DUE_SESSION_WAITS_FOR_NOBODY_THAT_FELL: &str = "1 begin any
+1 write t 1 5
+1 read t 9
+1 read t 9
+1 read t 9
+1 read t 9
+1 read t 9
+1 read t 9
+1 read t 9
+1 read t 9
+1 abort
+2 begin any
+2 read t 9
+2 write t 2 1
+2 commit
+3 begin any
+3 read t 1
+3 commit
+4 begin any
+4 read t 2
+4 commit
+4 begin any
+4 read t 2
+4 commit
+4 begin any
+4 read t 2
+4 commit
+";
+
+const A_DUE_SESSION_WAITS_FOR_NOBODY_THAT_FELL_TEXT: &str = "1 begun t1
+2 begun t2
+3 begun t3
+4 begun t4
+1 done
+2 none
+3 value 5
+4 none
+1 none
+2 aborted late root t4 t 2
+3 again t1 at root
+4 committed
+1 none
+2 begun t5
+3 again t1 at root
+4 begun t6
+1 none
+2 none
+3 again t1 at root
+4 none
+1 none
+2 aborted late root t6 t 2
+3 again t1 at root
+4 committed
+1 none
+2 begun t7
+3 again t1 at root
+4 begun t8
+1 none
+2 none
+3 again t1 at root
+4 none
+1 none
+2 aborted late root t8 t 2
+3 again t1 at root
+4 committed
+1 none
+3 again t1 at root
+1 aborted asked
+2 begun t9
+3 aborted after t1
+2 none
+2 done
+2 committed
+3 begun t10
+3 none
+3 committed
+order t4 t6 t8 t9 t10
+row t 2 1
+end
+";
+
 #[test]
 fn sessions_take_turns(rt: HostRuntime) -> Result<(), Fail> {
     let alloc = rt.alloc();
@@ -602,6 +716,16 @@ fn sessions_take_turns(rt: HostRuntime) -> Result<(), Fail> {
             "",
             A_REFUSAL_GOES_TO_THE_NEXT_LINE,
             A_REFUSAL_GOES_TO_THE_NEXT_LINE_TEXT,
+        ),
+        (
+            "",
+            LINES_GO_TO_THEIR_SESSIONS,
+            LINES_GO_TO_THEIR_SESSIONS_TEXT,
+        ),
+        (
+            TIMESTAMP,
+            A_DUE_SESSION_WAITS_FOR_NOBODY_THAT_FELL,
+            A_DUE_SESSION_WAITS_FOR_NOBODY_THAT_FELL_TEXT,
         ),
         ("", "", "order\nend\n"),
     ] {

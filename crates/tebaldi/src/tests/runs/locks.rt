@@ -64,6 +64,29 @@ key = 2
 value = 2
 ";
 
+// A type without steps, and rows in no order.
+const WITHOUT_STEPS: &str = "format = 2
+tables = ['a', 'b']
+[[type]]
+name = 'any'
+[[node]]
+name = 'root'
+control = 'locks'
+types = ['any']
+[[row]]
+table = 'b'
+key = 1
+value = 3
+[[row]]
+table = 'a'
+key = 4294967295
+value = -9223372036854775808
+[[row]]
+table = 'a'
+key = 0
+value = 9223372036854775807
+";
+
 const TWO_LEAVES_OF_LOCKS_MEET_AT_THE_ROOT: &str = "1 begin a -> 1 begun t1
 2 begin b -> 2 begun t2
 3 begin a -> 3 begun t3
@@ -93,6 +116,19 @@ row b 1 3
 end
 ";
 
+const WITHOUT_STEPS_EACH_TABLE_IS_OPEN: &str = "1 begin any -> 1 begun t1
+1 read b 1 -> 1 value 3
+1 read a 0 -> 1 value 9223372036854775807
+1 add b 1 1 -> 1 done
+1 read a 4294967295 -> 1 value -9223372036854775808
+1 commit -> 1 committed
+order t1
+row a 0 9223372036854775807
+row a 4294967295 -9223372036854775808
+row b 1 4
+end
+";
+
 const CELLS_ARE_SCANNED_AND_DELETED: &str = "1 begin any -> 1 begun t1
 2 begin any -> 2 begun t2
 1 scan t 1 3 -> 1 values 1 2 none
@@ -116,6 +152,7 @@ fn locks_let_nobody_into_what_another_holds(rt: HostRuntime) -> Result<(), Fail>
     for (tree, run) in [
         (LOCKS, TWO_LEAVES_OF_LOCKS_MEET_AT_THE_ROOT),
         (STEPS, NOBODY_GOES_BACK_TO_AN_EARLIER_STEP),
+        (WITHOUT_STEPS, WITHOUT_STEPS_EACH_TABLE_IS_OPEN),
         (SCANNED, CELLS_ARE_SCANNED_AND_DELETED),
     ] {
         answers(&rt, alloc, tree, run)?;

@@ -84,12 +84,20 @@ order
 end
 ";
 
-const WHAT_IS_LEFT_IS_ENDED_SESSION_BY_SESSION: &str = "2 begin any -> 2 begun t1
+// The least-numbered first, whoever began first.
+const WHAT_IS_LEFT_IS_ENDED_SESSION_BY_SESSION: &str = "32 begin any -> 32 begun t1
 1 begin any -> 1 begun t2
+2 begin any -> 2 begun t3
+2 write t 7 4 -> 2 done
+2 commit -> 2 committed
+9 begin any -> 9 begun t4
+9 prepare -> 9 prepared
 1 write t 1 5 -> 1 done
 1 aborted ended
-2 aborted ended
-order
+9 aborted ended
+32 aborted ended
+order t3
+row t 7 4
 end
 ";
 

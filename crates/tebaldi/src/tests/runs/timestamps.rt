@@ -155,6 +155,83 @@ order
 end
 ";
 
+// The reads of the second went with it. Of those left, the third has read the cell.
+const A_READER_THAT_ABORTED_BREAKS_NOBODY: &str = "1 begin any -> 1 begun t1
+2 begin any -> 2 begun t2
+3 begin any -> 3 begun t3
+2 read t 1 -> 2 none
+3 read t 1 -> 3 none
+2 read t 2 -> 2 none
+2 abort -> 2 aborted asked
+1 write t 2 5 -> 1 done
+1 write t 1 5 -> 1 aborted late root t3 t 1
+3 commit -> 3 committed
+order t3
+end
+";
+
+const WHO_READ_A_LATER_VERSION_BREAKS_NOBODY: &str = "1 begin any -> 1 begun t1
+2 begin any -> 2 begun t2
+3 begin any -> 3 begun t3
+2 write t 1 2 -> 2 done
+3 read t 1 -> 3 value 2
+1 write t 1 1 -> 1 done
+3 commit -> 3 again t2 at root
+2 commit -> 2 committed
+3 commit -> 3 committed
+1 commit -> 1 committed
+order t1 t2 t3
+row t 1 2
+end
+";
+
+// It waits for the least-numbered one first, in whatever order and however often it read from them.
+const A_COMMIT_WAITS_FOR_ALL_IT_READ_FROM: &str = "1 begin any -> 1 begun t1
+2 begin any -> 2 begun t2
+3 begin any -> 3 begun t3
+4 begin any -> 4 begun t4
+1 write t 1 1 -> 1 done
+2 write t 2 2 -> 2 done
+3 write t 3 3 -> 3 done
+4 read t 3 -> 4 value 3
+4 read t 1 -> 4 value 1
+4 read t 2 -> 4 value 2
+4 read t 1 -> 4 value 1
+4 commit -> 4 again t1 at root
+1 commit -> 1 committed
+4 commit -> 4 again t2 at root
+3 abort -> 3 aborted asked
+4 commit -> 4 aborted after t3
+2 commit -> 2 committed
+order t1 t2
+row t 1 1
+row t 2 2
+end
+";
+
+// The third has read from the first as the second has, and stands.
+const WHAT_AN_ABORTED_TRANSACTION_DID_IS_GONE: &str = "1 begin any -> 1 begun t1
+2 begin any -> 2 begun t2
+3 begin any -> 3 begun t3
+1 write t 1 5 -> 1 done
+1 write t 2 6 -> 1 done
+2 read t 1 -> 2 value 5
+2 read t 1 -> 2 value 5
+2 write t 1 7 -> 2 done
+2 write t 1 8 -> 2 done
+3 read t 2 -> 3 value 6
+2 abort -> 2 aborted asked
+3 read t 1 -> 3 value 5
+3 write t 1 9 -> 3 done
+3 commit -> 3 again t1 at root
+1 commit -> 1 committed
+3 commit -> 3 committed
+order t1 t3
+row t 1 9
+row t 2 6
+end
+";
+
 #[test]
 fn timestamps_break_what_comes_too_late(rt: HostRuntime) -> Result<(), Fail> {
     let alloc = rt.alloc();
@@ -164,6 +241,10 @@ fn timestamps_break_what_comes_too_late(rt: HostRuntime) -> Result<(), Fail> {
         (TIMESTAMP, THE_ORDER_IS_NOT_THAT_OF_THE_COMMITS),
         (TIMESTAMP, A_WRITE_BEHIND_A_READ_OF_THE_OWN_VERSION_IS_LATE),
         (TIMESTAMP, A_CASCADE_OF_THREE_FALLS_AT_THE_END),
+        (TIMESTAMP, A_READER_THAT_ABORTED_BREAKS_NOBODY),
+        (TIMESTAMP, WHO_READ_A_LATER_VERSION_BREAKS_NOBODY),
+        (TIMESTAMP, A_COMMIT_WAITS_FOR_ALL_IT_READ_FROM),
+        (TIMESTAMP, WHAT_AN_ABORTED_TRANSACTION_DID_IS_GONE),
         (BATCHES, A_FULL_BATCH_HOLDS_BACK_THE_NEXT_BEGIN),
         (BATCHES, A_COMMIT_NEVER_WAITS_FOR_A_NEWER_ONE),
     ] {

@@ -1,15 +1,19 @@
-use Rattle.std.proofs.Common.{◌≡◌, ◌∙◌, List, find, get_or, sym, ap, true}
+use Rattle.std.proofs.Common.{◌≡◌, ◌∙◌, List, find, get_or, sym, ap, subst, true}
 use Rattle.teb_names.specs.declared.Txn.{Txn}
 use Rattle.teb_history.specs.Phases.{unfinished}
 use Rattle.teb_rules.specs.Tree.{meets}
 use Rattle.phase_api.specs.Told.{setup_of, events_of}
 use Rattle.hold_register.proofs.Blockers.{find_here, find_end}
-use Rattle.snapshot_node.proofs.Listed.{listed_here}
+use Rattle.snapshot_node.specs.Pivots.{AreHere}
+use Rattle.snapshot_node.proofs.Listed.{at_among, writers_here}
 use Rattle.snapshot_node.proofs.Found.{is_met, met_found}
 use Rattle.snapshot_node.proofs.snapshot.Snapshot.blocker.Goals as goal
 
 pub meet_at-requires-clause-right : goal.meet_at-requires-clause-right
-meet_at-requires-clause-right c = (listed_here unfinished c.args.facts.now c.args.self.now.node.0 c.args.cell c.unfinished-u-items.result.now c.loop-u.u-index _ c.requires.stands.orderly c.unfinished-u-items.ensures c.loop-u-test.true).typed
+meet_at-requires-clause-right c =
+    let d : Txn = record { 0 = 0 } in
+    (subst (AreHere c.args.facts.now c.args.self.now.node.0) (sym c.unfinished-u-items.ensures) (writers_here c.args.facts.now c.args.self.now.node.0 c.args.cell c.requires.stands.orderly unfinished)
+    _ (at_among c.unfinished-u-items.result.now c.loop-u.u-index d c.loop-u-test.true)).typed
 
 pub returns-then-meet_at : goal.returns-then-meet_at
 returns-then-meet_at c =

@@ -1,25 +1,46 @@
-use Rattle.std.proofs.Common.{◌∙◌, ◌+◌, sym, ap, arith, Bool, cond, Option, Some, None}
-use Rattle.teb_names.specs.declared.Txn.{Txn}
+use Rattle.std.proofs.Common.{◌≡◌, ◌∙◌, ◌+◌, None, sym, subst, arith}
 use Rattle.phase_api.specs.Told.{setup_of, events_of}
-use Rattle.snapshot_node.specs.Pivots.{leads, as_txn, edge_out}
-use Rattle.snapshot_node.proofs.Searching.{none_yet, none_next, all_none, all_some, begun_next}
+use Rattle.batch_book.proofs.Numbered.{begun_all}
+use Rattle.batch_book.proofs.Telling.{joined_from, joined_began}
+use Rattle.snapshot_node.specs.Pivots.{IsLeast, Leads}
+use Rattle.snapshot_node.proofs.Batchmates.{mate_here, leave_above, leave_apart, leave_none, leave_here, leave_end}
+use Rattle.snapshot_node.proofs.snapshot.Snapshot.edge_out.Goals.{else-is_mate-via-else-is_mate, else-is_mate-via-then-is_mate+in-None-1}
 use Rattle.snapshot_node.proofs.snapshot.Snapshot.edge_out.Goals as goal
 
+pub horizon-first-requires : goal.horizon-first-requires
+horizon-first-requires c = joined_from _ (setup_of c.args.facts.now) (events_of c.args.facts.now) c.args.self.now.node.0 c.args.b.0 c.requires.stands.batches c.requires.here.typed.begun c.requires.here.on
+
+pub overflow_step-i : goal.overflow_step-i
+overflow_step-i c =
+    let g = joined_began _ (setup_of c.args.facts.now) (events_of c.args.facts.now) c.args.self.now.node.0 c.horizon-first.result.0 c.requires.stands.batches c.horizon-first.ensures.joined in
+    (c.requires.stands.orderly.numbered c.horizon-first.result.0 g.0).0
+
 pub loop-i-init : goal.loop-i-init
-loop-i-init c = sym (none_yet (λ d. cond (leads (setup_of c.args.facts.now) (events_of c.args.facts.now) c.args.self.now.node.0 c.args.t.0 c.args.c.0 d) (Some (as_txn d)) None) c.args.past)
+loop-i-init c =
+    let S = setup_of c.args.facts.now in
+    let H = events_of c.args.facts.now in
+    let n = c.args.self.now.node.0 in
+    leave_above S H n c.args.t.0 c.args.b.0 c.horizon-first.result.0 c.requires.lawful c.requires.stands.orderly (c.horizon-first.ensures.closed S H n c.requires.stands.batches)
 
-pub leads-requires-clause-begun_b : goal.leads-requires-clause-begun_b
-leads-requires-clause-begun_b c = begun_next (events_of c.args.facts.now) c.loop-i.i c.begun-i-end.result c.requires.stands.batches.numbered c.begun-i-end.ensures c.loop-i-test.true
+pub is_mate-requires-clause-begun_u : goal.is_mate-requires-clause-begun_u
+is_mate-requires-clause-begun_u c = begun_all (events_of c.args.facts.now) (c.loop-i.i + 1) c.requires.stands.batches.numbered (omega arith) (let e = c.begun-i-end.ensures in let l = c.loop-i-test.true in omega arith)
 
-pub returns : goal.returns
-unfolding edge_out
-returns c = all_none (λ d. cond (leads (setup_of c.args.facts.now) (events_of c.args.facts.now) c.args.self.now.node.0 c.args.t.0 c.args.c.0 d) (Some (as_txn d)) None) c.args.past (events_of c.args.facts.now) c.loop-i.i (let k = c.begun-i-end.ensures in let z = c.loop-i-test.false in omega arith) c.loop-i.invariant
+pub least_ahead-requires-clause-here : goal.least_ahead-requires-clause-here
+least_ahead-requires-clause-here c = mate_here c.args.facts.now c.args.self.now.node.0 c.args.t.0 c.args.b.0 c.loop-i.i c.requires.stands.batches.numbered c.requires.stands.orderly
+    (let e = c.begun-i-end.ensures in let l = c.loop-i-test.true in omega arith) (sym c.is_mate.ensures ∙ c.if-is_mate.true)
 
-pub returns-then-leads : goal.returns-then-leads
-unfolding edge_out
-returns-then-leads c = all_some (λ d. cond (leads (setup_of c.args.facts.now) (events_of c.args.facts.now) c.args.self.now.node.0 c.args.t.0 c.args.c.0 d) (Some (as_txn d)) None) c.args.past (events_of c.args.facts.now) (as_txn (c.loop-i.i + 1)) c.loop-i.i c.begun-i-end.result c.begun-i-end.ensures (omega arith) c.loop-i.invariant
-    (ap (λ (z : Bool). (let o : Option Txn = cond z (Some (as_txn (c.loop-i.i + 1))) None in o)) (sym c.leads.ensures ∙ c.if-leads.true)) c.loop-i-test.true
+pub returns-in-loop-i : goal.returns-in-loop-i
+returns-in-loop-i c = leave_here (setup_of c.args.facts.now) (events_of c.args.facts.now) c.args.self.now.node.0 c.args.t.0 c.args.b.0 c.loop-i.i c.in-Some.d c.loop-i.invariant (sym c.is_mate.ensures ∙ c.if-is_mate.true) c.in-Some.ensures
 
 pub loop-i-preserved : goal.loop-i-preserved
-loop-i-preserved c = none_next (λ d. cond (leads (setup_of c.args.facts.now) (events_of c.args.facts.now) c.args.self.now.node.0 c.args.t.0 c.args.c.0 d) (Some (as_txn d)) None) c.args.past c.loop-i.i (omega arith) c.loop-i.invariant
-    (ap (λ (z : Bool). (let o : Option Txn = cond z (Some (as_txn (c.loop-i.i + 1))) None in o)) (sym c.leads.ensures ∙ c.if-leads.false))
+loop-i-preserved c =
+    let S = setup_of c.args.facts.now in
+    let H = events_of c.args.facts.now in
+    let n = c.args.self.now.node.0 in
+    elim c.else-is_mate.branch [
+      | else-is_mate-via-else-is_mate w ↦ leave_apart S H n c.args.t.0 c.args.b.0 c.loop-i.i c.loop-i.invariant (sym c.is_mate.ensures ∙ w.if-is_mate.false)
+      | else-is_mate-via-then-is_mate+in-None-1 w ↦ (let e : w.least_ahead.result ≡ None = cc in leave_none S H n c.args.t.0 c.args.b.0 c.loop-i.i c.loop-i.invariant (subst (IsLeast (Leads S H n c.args.t.0 (c.loop-i.i + 1))) e w.least_ahead.ensures))
+    ]
+
+pub returns : goal.returns
+returns c = leave_end (setup_of c.args.facts.now) (events_of c.args.facts.now) c.args.self.now.node.0 c.args.t.0 c.args.b.0 c.loop-i.i c.requires.stands.orderly c.loop-i.invariant (let e = c.begun-i-end.ensures in let l = c.loop-i-test.false in omega arith)

@@ -1,8 +1,6 @@
-use Rattle.std.proofs.Common.{◌≡◌, cond, Some, None}
 use Rattle.phase_api.specs.Told.{setup_of, events_of}
-use Rattle.snapshot_node.specs.Pivots.{first_in, leads, as_txn}
-use Rattle.snapshot_node.proofs.Searching.{later}
+use Rattle.snapshot_node.proofs.Batchmates.{LeaveAbove}
 use Rattle.snapshot_node.proofs.snapshot.Snapshot.edge_out.Given as goal
 
 abbrev pub invariant-loop-i : goal.invariant-loop-i
-invariant-loop-i l = first_in (λ d. cond (leads (setup_of l.fn.facts) (events_of l.fn.facts) l.fn.self.node.0 l.fn.t.0 l.fn.c.0 d) (Some (as_txn d)) None) (later l.fn.past l.i) ≡ None
+invariant-loop-i l = LeaveAbove (setup_of l.fn.facts) (events_of l.fn.facts) l.fn.self.node.0 l.fn.t.0 l.fn.b.0 l.i

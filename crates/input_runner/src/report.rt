@@ -1,0 +1,44 @@
+//! The report of a run.
+
+ghost use Rattle.std.specs.Prelude.{◌≡◌, ◌++◌, All, IfOk, OnOk};
+ghost use Rattle.std.specs.List.{flat_map};
+ghost use Rattle.script_text.specs.Texts.{reply_text};
+ghost use Rattle.script_text.specs.Named.{ReplyNamed, RowsNamed};
+ghost use Rattle.serial_order.specs.Tables.{IsFinalRows};
+ghost use Rattle.input_runner.specs.Runs.{IsReport};
+
+use engine_core::Engine;
+use script_text::{Answered, put_reply, put_report};
+use serial_order::{order, tables};
+use std::alloc::{AllocError, Global};
+use teb_names::NameBook;
+use version_chain::Chains;
+
+/// The replies, the serial order and the final tables.
+pub fn report_of<C: Chains>(
+    alloc: Global,
+    engine: &Engine<C>,
+    log: &[Answered],
+) -> Result<Vec<u8>, AllocError>
+    requires replies { All (λ a. ReplyNamed engine.now.names a.reply) log.now }
+    requires rows { (rows : _) → IsFinalRows engine.now.store engine.now.events rows → RowsNamed engine.now.names rows }
+    ensures { IfOk result (λ v. IsReport engine.now.store engine.now.names engine.now.events log.now v.items) }
+{
+    let names = &engine.setup().names;
+    let order = order(alloc, engine)?;
+    let rows = tables(alloc, engine)?;
+    let mut text = Vec::new(alloc);
+    put_replies(&mut text, names, log)?;
+    put_report(&mut text, names, &order, &rows)?;
+    Ok(text)
+}
+
+fn put_replies(out: &mut Vec<u8>, names: &NameBook, log: &[Answered]) -> Result<(), AllocError>
+    requires { All (λ a. ReplyNamed names.now a.reply) log.now }
+    ensures { OnOk result (out.new.items ≡ out.old.items ++ flat_map (reply_text names.now) log.now) }
+{
+    for answered in log {
+        put_reply(out, names, answered)?;
+    }
+    Ok(())
+}

@@ -1,0 +1,170 @@
+-- To whom edges lead from a transaction, and from whom they lead to it, cell by cell.
+use Rattle.std.proofs.Common.{◌≡◌, ℕ, Bool, true, false, cond, not, ◌&&◌, List, ◌⊎◌, inl, inr, Option, Some, None, is_some, ℤ, refl, sym, ◌∙◌, ap}
+use Rattle.std.specs.List.{list_any}
+use Rattle.std.proofs.lemmas.Bool.{and_parts, and_from, cases_Bool, not_from_false}
+use Rattle.teb_names.specs.declared.Cell.{Cell}
+use Rattle.teb_names.specs.declared.Txn.{Txn}
+use Rattle.teb_names.specs.declared.ControlKind.TheVariants.{Snapshot}
+use Rattle.teb_names.specs.Cells.{same_cell}
+use Rattle.teb_history.specs.declared.Event.{Event}
+use Rattle.teb_history.specs.declared.Event.TheVariants.{Got, Put}
+use Rattle.teb_history.specs.Phases.{committed, unfinished, aborted}
+use Rattle.teb_history.specs.Accesses.{wrote, got}
+use Rattle.teb_history.specs.OwnEvents.{own_events, put_in, got_in}
+use Rattle.teb_history.proofs.OwnWalks.{wrote_own, got_own}
+use Rattle.teb_rules.specs.Setup.{Setup}
+use Rattle.teb_rules.specs.Tree.{row, on, meets}
+use Rattle.teb_rules.specs.Batches.{concurrent}
+use Rattle.teb_rules.specs.Controls.{edge}
+use Rattle.teb_laws.specs.Lawful.{Lawful}
+use Rattle.teb_laws.specs.TreeFacts.{TreeFacts}
+use Rattle.teb_laws.proofs.Nodes.{meets_parts}
+use Rattle.phase_api.specs.Told.{IsOrderly}
+use Rattle.batch_book.specs.Fields.{Has}
+use Rattle.batch_book.proofs.Elements.{any_Has, Has-any}
+use Rattle.batch_book.proofs.Numbered.{unfinished_from}
+use Rattle.version_chain.proofs.Cells.{same_cell-itself, same_cell-exact}
+use Rattle.snapshot_node.specs.Standing.{writers_in, readers_in}
+use Rattle.snapshot_node.specs.Pivots.{is_at_stake, is_across, lesser_of, IsLeast, IsAcross, PutsAcross, Leads}
+use Rattle.snapshot_node.proofs.Leaving.{some_if}
+use Rattle.snapshot_node.proofs.Listed.{puts_parts, among_writers, reads_parts, among_readers}
+use Rattle.snapshot_node.proofs.Least.{least_as, least_either, Along, along_of, along_item}
+use Rattle.snapshot_node.proofs.Edges.{gets_put, edge_found, stake_stands, across_turned}
+
+-- a cell that a has read and b has put
+record Shared (H : List Event) (a b : ℕ) : Type 0 where
+  cell : Cell
+  read : got H a cell ≡ true
+  put : wrote H b cell ≡ true
+
+got_itself : (s : Txn) (x : Cell) (w : Txn) (v : Option ℤ) → is_some (got_in x (Got s x w v)) ≡ true
+got_itself s x w v = some_if (same_cell x x) v ∙ same_cell-itself x
+
+put_itself : (s : Txn) (x : Cell) (v : Option ℤ) → is_some (put_in x (Put s x v)) ≡ true
+put_itself s x v = some_if (same_cell x x) v ∙ same_cell-itself x
+
+-- what holds of x holds of the cell of a Got or a Put of x
+of_same : (P : Cell → Bool) (y x : Cell) (v : Option ℤ) → is_some (cond (same_cell y x) (Some v) None) ≡ true → P x ≡ true → P y ≡ true
+of_same P y x v h p = ap P (same_cell-exact y x (sym (some_if (same_cell y x) v) ∙ h)) ∙ p
+
+module _ (S : Setup) (H : List Event) (n t : ℕ) where
+  -- the writer of a cell that the event, a Got by c, has read
+  abbrev pub Ahead : ℕ → Event → ℕ → Type 0
+  Ahead c (Got s x w v) d = PutsAcross S H n t c x d
+  Ahead c _ d = ⊥
+
+  -- a reader of a cell that the event, a Put by b, has put
+  abbrev pub Behind : ℕ → Event → ℕ → Type 0
+  Behind b (Put s x v) a = IsAcross S H n t b (readers_in S H n x) a
+  Behind b _ a = ⊥
+
+  pub only_gots : (c : ℕ) (e : Event) → ((s : Txn) (x : Cell) (w : Txn) (v : Option ℤ) → e ≡ Got s x w v → ⊥) → (d : ℕ) → Ahead c e d → ⊥
+  only_gots c (Got s x w v) none d h = none s x w v refl
+  only_gots c _ none d h = h
+
+  pub only_puts : (b : ℕ) (e : Event) → ((s : Txn) (x : Cell) (v : Option ℤ) → e ≡ Put s x v → ⊥) → (a : ℕ) → Behind b e a → ⊥
+  only_puts b (Put s x v) none a h = none s x v refl
+  only_puts b _ none a h = h
+
+-- those at stake, where t is not aborted
+module _ (S : Setup) (H : List Event) (n t : ℕ) (l : Lawful S H) (o : IsOrderly S H) (runs : aborted H t ≡ false) where
+  pub puts_across : (phase : List Event → ℕ → Bool) (c : ℕ) (x : Cell) (u : ℕ) → IsAcross S H n t c (writers_in phase S H n x) u → PutsAcross S H n t c x u
+  puts_across phase c x u h = record {
+    put = (puts_parts phase S H n x u (sym (among_writers phase S H n x u o) ∙ h.listed)).2;
+    stake = h.stake;
+    across = h.across;
+  }
+
+  listed_across : (phase : List Event → ℕ → Bool) (c : ℕ) (x : Cell) (u : ℕ) → phase H u ≡ true → PutsAcross S H n t c x u → IsAcross S H n t c (writers_in phase S H n x) u
+  listed_across phase c x u p h = record {
+    listed = among_writers phase S H n x u o ∙ and_from _ _ (and_from _ _ (meets_parts S H n c u (and_parts (meets S H n c u) (concurrent S H n c u) h.across).0).1 p) h.put;
+    stake = h.stake;
+    across = h.across;
+  }
+
+  -- the writers at stake are the committed and the unfinished ones
+  pub either_across : (c : ℕ) (x : Cell) (u : ℕ) → PutsAcross S H n t c x u → IsAcross S H n t c (writers_in committed S H n x) u ⊎ IsAcross S H n t c (writers_in unfinished S H n x) u
+  either_across c x u h = elim (cases_Bool (committed H u)) [
+    | inl e ↦ inl (listed_across committed c x u e h)
+    | inr e ↦ inr (listed_across unfinished c x u (unfinished_from H u (o.wrote u x h.put) e (stake_stands S H t u l runs h.stake)) h)
+  ]
+
+  pub writers_across : (c : ℕ) (x : Cell) (a b : Option Txn) → IsLeast (IsAcross S H n t c (writers_in committed S H n x)) a → IsLeast (IsAcross S H n t c (writers_in unfinished S H n x)) b → IsLeast (PutsAcross S H n t c x) (lesser_of a b)
+  writers_across c x a b p q =
+      let P = IsAcross S H n t c (writers_in committed S H n x) in
+      let Q = IsAcross S H n t c (writers_in unfinished S H n x) in
+      least_as (λ u. P u ⊎ Q u) (PutsAcross S H n t c x) (lesser_of a b) (λ u h. elim h [ inl y ↦ puts_across committed c x u y | inr y ↦ puts_across unfinished c x u y ]) (either_across c x) (least_either P Q a b p q)
+
+  -- at a snapshot node
+  module _ (a : TreeFacts S) (k : (row S.tree n).control ≡ Snapshot) where
+    shared : (u w : ℕ) → list_any (gets_put H w) (own_events H u) ≡ true → Shared H u w
+    shared u w h = let r = any_Has (gets_put H w) (own_events H u) h in found r.0 r.1 r.2
+      where
+        found : (e : Event) → Has e (own_events H u) → gets_put H w e ≡ true → Shared H u w
+        found (Got s x v z) i q = record { cell = x; read = got_own H u x ∙ Has-any (λ e. is_some (got_in x e)) (Got s x v z) (own_events H u) i (got_itself s x v z); put = q }
+        found _ i q = absurd (cc)
+
+    edge_shared : (u w : ℕ) → aborted H w ≡ false → edge S H n u w ≡ true → (is_across S H n u w ≡ true) × Shared H u w
+    edge_shared u w s e = let p = and_parts (is_across S H n u w) (list_any (gets_put H w) (own_events H u)) (edge_found S a H n l k u w s ∙ e) in (p.0, shared u w p.1)
+
+    shared_edge : (u w : ℕ) → aborted H w ≡ false → is_across S H n u w ≡ true → Shared H u w → edge S H n u w ≡ true
+    shared_edge u w s c h =
+        let r = any_Has (λ e. is_some (got_in h.cell e)) (own_events H u) (sym (got_own H u h.cell) ∙ h.read) in
+        sym (edge_found S a H n l k u w s) ∙ and_from _ _ c (Has-any (gets_put H w) r.0 (own_events H u) r.1 (each r.0 r.2))
+      where
+        each : (e : Event) → is_some (got_in h.cell e) ≡ true → gets_put H w e ≡ true
+        each (Got r y v z) i = of_same (wrote H w) y h.cell z i h.put
+        each _ i = absurd (cc)
+
+    pub ahead_leads : (c d : ℕ) → is_at_stake H t c ≡ true → Along (Ahead S H n t c) (own_events H c) d → Leads S H n t c d
+    ahead_leads c d st h = let r = along_item (Ahead S H n t c) d (own_events H c) h in each r.0 r.1 r.2
+      where
+        each : (e : Event) → Has e (own_events H c) → Ahead S H n t c e d → Leads S H n t c d
+        each (Got s x w v) i q = record {
+          from = st;
+          to = q.stake;
+          edge = shared_edge c d (stake_stands S H t d l runs q.stake) q.across (record { cell = x; read = got_own H c x ∙ Has-any (λ e. is_some (got_in x e)) (Got s x w v) (own_events H c) i (got_itself s x w v); put = q.put });
+        }
+        each _ i q = absurd q
+
+    pub leads_ahead : (c d : ℕ) → Leads S H n t c d → Along (Ahead S H n t c) (own_events H c) d
+    leads_ahead c d h =
+        let p = edge_shared c d (stake_stands S H t d l runs h.to) h.edge in
+        let r = any_Has (λ e. is_some (got_in p.1.cell e)) (own_events H c) (sym (got_own H c p.1.cell) ∙ p.1.read) in
+        along_of (Ahead S H n t c) d r.0 (own_events H c) r.1 (each p.0 p.1 r.0 r.2)
+      where
+        each : is_across S H n c d ≡ true → (p : Shared H c d) (e : Event) → is_some (got_in p.cell e) ≡ true → Ahead S H n t c e d
+        each k p (Got s y w v) i = record { put = of_same (wrote H d) y p.cell v i p.put; stake = h.to; across = k }
+        each k p _ i = absurd (cc)
+
+    pub behind_leads : (b u : ℕ) → is_at_stake H t b ≡ true → Along (Behind S H n t b) (own_events H b) u → Leads S H n t u b
+    behind_leads b u st h = let r = along_item (Behind S H n t b) u (own_events H b) h in each r.0 r.1 r.2
+      where
+        each : (e : Event) → Has e (own_events H b) → Behind S H n t b e u → Leads S H n t u b
+        each (Put s x v) i q = record {
+          from = q.stake;
+          to = st;
+          edge = shared_edge u b (stake_stands S H t b l runs st) (across_turned S H n b u q.across) (record {
+            cell = x;
+            read = (reads_parts S H n x u (sym (among_readers S H n x u o) ∙ q.listed)).2;
+            put = wrote_own H b x ∙ Has-any (λ e. is_some (put_in x e)) (Put s x v) (own_events H b) i (put_itself s x v);
+          });
+        }
+        each _ i q = absurd q
+
+    pub leads_behind : (b u : ℕ) → Leads S H n t u b → Along (Behind S H n t b) (own_events H b) u
+    leads_behind b u h =
+        let p = edge_shared u b (stake_stands S H t b l runs h.to) h.edge in
+        let r = any_Has (λ e. is_some (put_in p.1.cell e)) (own_events H b) (sym (wrote_own H b p.1.cell) ∙ p.1.put) in
+        along_of (Behind S H n t b) u r.0 (own_events H b) r.1 (each p.0 p.1 r.0 r.2)
+      where
+        here : is_across S H n u b ≡ true → (on S H n u && not (aborted H u)) ≡ true
+        here k = and_from _ _ (meets_parts S H n u b (and_parts (meets S H n u b) (concurrent S H n u b) k).0).0 (not_from_false _ (stake_stands S H t u l runs h.from))
+
+        each : is_across S H n u b ≡ true → (p : Shared H u b) (e : Event) → is_some (put_in p.cell e) ≡ true → Behind S H n t b e u
+        each k p (Put s y v) i = record {
+          listed = among_readers S H n y u o ∙ and_from _ _ (here k) (of_same (got H u) y p.cell v i p.read);
+          stake = h.from;
+          across = across_turned S H n u b k;
+        }
+        each k p _ i = absurd (cc)

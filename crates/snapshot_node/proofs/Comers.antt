@@ -1,0 +1,170 @@
+-- Who comes first in a pivot, by where the transaction that validates stands in it.
+use Rattle.std.specs.Prelude.{IsTrue}
+use Rattle.std.proofs.Common.{◌≡◌, ◌<◌, length, get_or, ℕ, Bool, true, false, cond, eqb, leb, List, [], ◌∷◌, ◌⊎◌, inl, inr, filter, Option, refl, sym, ◌∙◌, ap, subst, eqb-true, eq-eqb}
+use Rattle.std.proofs.lemmas.Bool.{and_parts, and_from, or_cases, or_left, or_right, not_from_false}
+use Rattle.teb_names.specs.declared.Cell.{Cell}
+use Rattle.teb_names.specs.declared.Txn.{Txn}
+use Rattle.teb_names.specs.declared.ControlKind.TheVariants.{Snapshot}
+use Rattle.teb_history.specs.declared.Event.{Event}
+use Rattle.teb_history.specs.declared.Event.TheVariants.{Put}
+use Rattle.teb_history.specs.OwnEvents.{own_events}
+use Rattle.teb_history.specs.Phases.{prepared, committed, aborted}
+use Rattle.teb_rules.specs.Setup.{Setup}
+use Rattle.teb_rules.specs.Tree.{row, meets}
+use Rattle.teb_rules.specs.Batches.{concurrent, one_batch}
+use Rattle.teb_laws.specs.Lawful.{Lawful}
+use Rattle.teb_laws.specs.TreeFacts.{TreeFacts}
+use Rattle.teb_laws.proofs.Nodes.{meets_parts}
+use Rattle.phase_api.specs.declared.facts.Facts.{Facts}
+use Rattle.phase_api.specs.Told.{IsOrderly, setup_of, events_of}
+use Rattle.phase_api.specs.Calls.{IsHere}
+use Rattle.batch_book.specs.Fields.{Has}
+use Rattle.batch_book.specs.Histories.{ClosedBelow}
+use Rattle.batch_book.proofs.Elements.{any_Has, Has-any}
+use Rattle.snapshot_node.specs.Slots.{is_among}
+use Rattle.snapshot_node.specs.Standing.{readers_in}
+use Rattle.snapshot_node.specs.Pivots.{is_at_stake, is_across, lesser_of, IsLeast, IsAcross, Leads, Leaves, IsLeft, Reaches, IsMiddle, IsFirst, ComesIn, ComesInBy}
+use Rattle.snapshot_node.proofs.Listed.{reads_parts, among_readers, readers_here}
+use Rattle.snapshot_node.proofs.Least.{least_as, least_either, Along, along_of, along_item}
+use Rattle.snapshot_node.proofs.FirstOf.{among_from, each_among}
+use Rattle.snapshot_node.proofs.Edges.{stake_stands, across_later}
+use Rattle.snapshot_node.proofs.CellEdges.{Behind, behind_leads, leads_behind}
+use Rattle.snapshot_node.proofs.Batchmates.{batch_sym}
+use Rattle.snapshot_node.proofs.Reach.{with_t}
+
+-- t is at stake where it validates
+stake_itself : (H : List Event) (t : ℕ) → is_at_stake H t t ≡ true
+stake_itself H t = or_left _ (committed H t) (or_left _ (prepared H t) (eq-eqb t t refl))
+
+-- who stands in a part of a list stands in the list
+among_part : (p : Txn → Bool) (u : ℕ) (xs : List Txn) → is_among u (filter p xs) ≡ true → is_among u xs ≡ true
+among_part p u [] h = h
+among_part p u (x ∷ xs) h = go (p x) h (among_part p u xs)
+  where
+    go : (b : Bool) → is_among u (cond b (x ∷ filter p xs) (filter p xs)) ≡ true → (is_among u (filter p xs) ≡ true → is_among u xs ≡ true) → is_among u (x ∷ xs) ≡ true
+    go true h ih = elim (or_cases (eqb x.0 u) (is_among u (filter p xs)) h) [ inl e ↦ or_left _ (is_among u xs) e | inr j ↦ or_right (eqb x.0 u) _ (ih j) ]
+    go false h ih = or_right (eqb x.0 u) _ (ih h)
+
+module _ (S : Setup) (H : List Event) (n t : ℕ) where
+  -- a comes in by a reader of the cell that the event has put
+  abbrev pub ComesBy : Event → ℕ → Type 0
+  ComesBy (Put s x v) a = ComesInBy S H n t x a
+  ComesBy _ a = ⊥
+
+  pub comes_by_puts : (e : Event) → ((s : Txn) (x : Cell) (v : Option _) → e ≡ Put s x v → ⊥) → (a : ℕ) → ComesBy e a → ⊥
+  comes_by_puts (Put s x v) none a h = none s x v refl
+  comes_by_puts _ none a h = h
+
+  -- the same by the batch of c, which is at stake and across from t
+  abbrev pub ComesThrough : Txn → ℕ → Type 0
+  ComesThrough c a = IsTrue (is_at_stake H t c.0) × IsTrue (is_across S H n t c.0) × Reaches S H n t c.0 a
+
+  module _ (l : Lawful S H) (o : IsOrderly S H) (runs : aborted H t ≡ false) where
+    reads_across : (x : Cell) (a : ℕ) (q : ComesInBy S H n t x a) → IsAcross S H n t t (readers_in S H n x) q.third
+    reads_across x a q =
+        let m = meets_parts S H n t q.third (and_parts (meets S H n t q.third) (concurrent S H n t q.third) q.across).0 in
+        record {
+          listed = among_readers S H n x q.third o ∙ and_from _ _ (and_from _ _ m.1 (not_from_false _ (stake_stands S H t q.third l runs q.stake))) q.read;
+          stake = q.stake;
+          across = q.across;
+        }
+
+    comes_by : (x : Cell) (c a : ℕ) → IsAcross S H n t t (readers_in S H n x) c → Reaches S H n t c a → ComesInBy S H n t x a
+    comes_by x c a h r = record {
+      third = c;
+      into = r;
+      read = (reads_parts S H n x c (sym (among_readers S H n x c o) ∙ h.listed)).2;
+      stake = h.stake;
+      across = h.across;
+    }
+
+    -- the readers of x from t's horizon on
+    module _ (x : Cell) (m : ℕ) (below : ClosedBelow S H n t m) (cs : List Txn) (e : cs ≡ filter (λ u. leb m u.0) (readers_in S H n x)) where
+      pub through_comes : (a : ℕ) → Along ComesThrough cs a → ComesInBy S H n t x a
+      through_comes a h =
+          let r = along_item ComesThrough a cs h in
+          let i = Has-any (λ (u : Txn). eqb u.0 r.0.0) r.0 cs r.1 (eq-eqb r.0.0 r.0.0 refl) in
+          comes_by x r.0.0 a (record { listed = among_part (λ u. leb m u.0) r.0.0 (readers_in S H n x) (sym (ap (is_among r.0.0) e) ∙ i); stake = r.2.0; across = r.2.1 }) r.2.2
+
+      pub comes_through : (a : ℕ) → ComesInBy S H n t x a → Along ComesThrough cs a
+      comes_through a q =
+          let c = q.third in
+          let i = among_from m c (readers_in S H n x) (across_later S H n t m c below (o.got c x q.read) q.across) (reads_across x a q).listed in
+          let r = any_Has (λ (u : Txn). eqb u.0 c) cs (ap (is_among c) e ∙ i) in
+          let y : ComesThrough (record { 0 = c }) a = (q.stake, q.across, q.into) in
+          along_of ComesThrough a r.0 cs r.1 (subst (λ (z : ℕ). ComesThrough (record { 0 = z }) a) (sym (eqb-true r.0.0 c r.2)) y)
+
+    -- at a snapshot node
+    module _ (f : TreeFacts S) (k : (row S.tree n).control ≡ Snapshot) where
+      pub along_comes : (a : ℕ) → Along ComesBy (own_events H t) a → ComesIn S H n t a
+      along_comes a h = let r = along_item ComesBy a (own_events H t) h in each r.0 r.1 r.2
+        where
+          each : (e : Event) → Has e (own_events H t) → ComesBy e a → ComesIn S H n t a
+          each (Put s x v) i q = record {
+            third = q.third;
+            into = q.into;
+            out = behind_leads S H n t l o runs f k t q.third (stake_itself H t) (along_of (Behind S H n t t) q.third (Put s x v) (own_events H t) i (reads_across x a q));
+          }
+          each _ i q = absurd q
+
+      pub comes_along : (a : ℕ) → ComesIn S H n t a → Along ComesBy (own_events H t) a
+      comes_along a h =
+          let r = along_item (Behind S H n t t) h.third (own_events H t) (leads_behind S H n t l o runs f k t h.third h.out) in
+          along_of ComesBy a r.0 (own_events H t) r.1 (each r.0 r.2)
+        where
+          each : (e : Event) → Behind S H n t t e h.third → ComesBy e a
+          each (Put s x v) q = comes_by x h.third a q h.into
+          each _ q = absurd q
+
+-- the readers of a cell from the number m on are here
+pub reader_here : (f : Facts) (n : ℕ) (x : Cell) (m : ℕ) → IsOrderly (setup_of f) (events_of f) → (cs : List Txn) → cs ≡ filter (λ u. leb m u.0) (readers_in (setup_of f) (events_of f) n x) → (i : ℕ) → i < length cs → IsHere f n (get_or cs i (record { 0 = 0 })).0
+reader_here f n x m o cs e i l = readers_here f n x o _ (each_among (record { 0 = 0 }) (readers_in (setup_of f) (events_of f) n x) cs m e i l)
+
+-- the least with P or, where C holds, with Q
+pub least_with : (P Q : ℕ → Type 0) (C : Type 0) (best next : Option Txn) → C → IsLeast P best → IsLeast Q next → IsLeast (λ u. P u ⊎ (Q u × C)) (lesser_of best next)
+least_with P Q C best next c h k = least_as (λ u. P u ⊎ Q u) (λ u. P u ⊎ (Q u × C)) (lesser_of best next) (λ u z. elim z [ inl p ↦ inl p | inr q ↦ inr (q, c) ]) (λ u z. elim z [ inl p ↦ inl p | inr q ↦ inr q.0 ]) (least_either P Q best next h k)
+
+pub least_without : (P Q : ℕ → Type 0) (C : Type 0) (best : Option Txn) → (C → ⊥) → IsLeast P best → IsLeast (λ u. P u ⊎ (Q u × C)) best
+least_without P Q C best n h = least_as P (λ u. P u ⊎ (Q u × C)) best (λ u p. inl p) (λ u z. elim z [ inl p ↦ p | inr q ↦ absurd (n q.1) ]) h
+
+module _ (S : Setup) (H : List Event) (n t : ℕ) where
+  -- t is the fourth, or the third, or the second, or the first
+  abbrev pub WithFourth : ℕ → Type 0
+  WithFourth = ComesIn S H n t
+
+  abbrev pub WithThird : ℕ → Type 0
+  WithThird a = WithFourth a ⊎ (Reaches S H n t t a × ((d : ℕ) × Leads S H n t t d))
+
+  abbrev pub WithSecond : ℕ → Type 0
+  WithSecond a = WithThird a ⊎ (Leads S H n t a t × IsLeft S H n t t)
+
+  abbrev pub WithFirst : ℕ → Type 0
+  WithFirst a = WithSecond a ⊎ ((a ≡ t) × ((b : ℕ) × IsMiddle S H n t t b))
+
+  with_first : (a : ℕ) → WithFirst a → IsFirst S H n t a
+  with_first a h = elim h [
+    | inr q ↦ subst (IsFirst S H n t) (sym q.0) (record { second = q.1.0; third = q.1.1.left.from; fourth = q.1.1.left.to; pivot = record { into = q.1.1.into; out = q.1.1.left.out } })
+    | inl h ↦ elim h [
+      | inr q ↦ record { second = t; third = q.1.from; fourth = q.1.to; pivot = record { into = q.0; out = q.1.out } }
+      | inl h ↦ elim h [
+        | inr q ↦ record { second = q.0.member; third = t; fourth = q.1.0; pivot = record { into = q.0.edge; out = record { batch = batch_sym S H n t q.0.member q.0.batch; out = q.1.1 } } }
+        | inl q ↦ record { second = q.into.member; third = q.third; fourth = t; pivot = record { into = q.into.edge; out = record { batch = batch_sym S H n q.third q.into.member q.into.batch; out = q.out } } }
+      ]
+    ]
+  ]
+
+  -- and each pivot is of one of these
+  module _ (l : Lawful S H) (f : TreeFacts S) (k : (row S.tree n).control ≡ Snapshot) where
+    first_with : (a : ℕ) → IsFirst S H n t a → WithFirst a
+    first_with a h =
+        let p = h.pivot in
+        let y = h.second in let c = h.third in let d = h.fourth in
+        let batch = batch_sym S H n y c p.out.batch in
+        with_t S H n t l f k a y c d p (WithFirst a)
+        (λ q. inr (q, (y, subst (λ (z : ℕ). IsMiddle S H n t z y) q (record { into = p.into; left = record { from = c; to = d; out = p.out } }))))
+        (λ q. inl (inr (subst (λ (z : ℕ). Leads S H n t a z) q p.into, record { from = c; to = d; out = subst (λ (z : ℕ). Leaves S H n t z c d) q p.out })))
+        (λ q. inl (inl (inr (record { member = y; batch = subst (λ (z : ℕ). one_batch S H n z y ≡ true) q batch; edge = p.into }, (d, subst (λ (z : ℕ). Leads S H n t z d) q p.out.out)))))
+        (λ q. inl (inl (inl (record { third = c; into = record { member = y; batch = batch; edge = p.into }; out = subst (λ (z : ℕ). Leads S H n t c z) q p.out.out }))))
+
+    pub least_comer : (o : Option Txn) → IsLeast WithFirst o → IsLeast (IsFirst S H n t) o
+    least_comer o h = least_as WithFirst (IsFirst S H n t) o with_first first_with h

@@ -1,0 +1,76 @@
+-- The first of an ascending list that has a property, found from a number on.
+use Rattle.std.specs.Prelude.{IsTrue}
+use Rattle.std.proofs.Common.{◌≡◌, ℕ, zero, suc, ◌+◌, ◌<◌, ◌≤◌, Bool, true, false, cond, leb, le-leb, eqb, List, [], ◌∷◌, ◌⊎◌, inl, inr, length, filter, get_or, Some, refl, sym, ◌∙◌, ap, subst, arith}
+use Rattle.std.proofs.lemmas.Bool.{cases_lt, both_ways, or_cases, or_left, or_right, eqb-true}
+use Rattle.teb_names.specs.declared.Txn.{Txn}
+use Rattle.teb_history.specs.Ascending.{AllAbove, IsAscendingBy}
+use Rattle.teb_history.specs.Live.{number_of}
+use Rattle.teb_history.proofs.AscendingLists.{ascending-filter}
+use Rattle.snapshot_node.specs.Slots.{is_among}
+use Rattle.snapshot_node.specs.Pivots.{IsLeast}
+use Rattle.snapshot_node.proofs.Among.{among_above}
+use Rattle.snapshot_node.proofs.Later.{kept_among}
+
+-- who stands in a list that is above n is numbered above n
+among_over : (n u : ℕ) (xs : List Txn) → AllAbove number_of n xs → is_among u xs ≡ true → n < u
+among_over n u xs a h = elim (cases_lt n u) [ inl l ↦ l | inr l ↦ absurd (both_ways (is_among u xs) (among_above n u xs l a) h) ]
+
+-- who stands in a list, and is numbered m or above, stands among those from m on
+pub among_from : (m u : ℕ) (xs : List Txn) → m ≤ u → is_among u xs ≡ true → is_among u (filter (λ w. leb m w.0) xs) ≡ true
+among_from m u [] l h = absurd (cc)
+among_from m u (x ∷ xs) l h = go (leb m x.0) refl (among_from m u xs l) (or_cases (eqb x.0 u) (is_among u xs) h)
+  where
+    go : (b : Bool) → leb m x.0 ≡ b → (is_among u xs ≡ true → is_among u (filter (λ w. leb m w.0) xs) ≡ true) → (eqb x.0 u ≡ true) ⊎ (is_among u xs ≡ true) → is_among u (cond b (x ∷ filter (λ w. leb m w.0) xs) (filter (λ w. leb m w.0) xs)) ≡ true
+    go true e ih (inl q) = or_left (eqb x.0 u) _ q
+    go true e ih (inr j) = or_right (eqb x.0 u) _ (ih j)
+    go false e ih (inl q) = absurd (both_ways (leb m x.0) e (le-leb m x.0 (let y = eqb-true x.0 u q in omega arith)))
+    go false e ih (inr j) = ih j
+
+-- whoever stands at a place among those of a list from the number m on stands in the list
+pub each_among : (d : Txn) (xs ys : List Txn) (m : ℕ) → ys ≡ filter (λ u. leb m u.0) xs → (i : ℕ) → i < length ys → IsTrue (is_among (get_or ys i d).0 xs)
+each_among d xs ys m e i l = ap (λ (us : List Txn). is_among (get_or us i d).0 xs) e ∙ kept_among (λ u. leb m u.0) xs i d (omega (arith, ap (λ (us : List Txn). length us) e))
+
+module _ (P : ℕ → Type 0) (d : Txn) where
+  -- nobody of a list before place i has P
+  abbrev pub NoneBefore : List Txn → ℕ → Type 0
+  NoneBefore xs i = (j : ℕ) → j < i → P (get_or xs j d).0 → ⊥
+
+  pub none_yet : (xs : List Txn) → NoneBefore xs 0
+  none_yet xs = λ j l p. absurd (omega arith)
+
+  pub none_more : (xs : List Txn) (i : ℕ) → NoneBefore xs i → (P (get_or xs i d).0 → ⊥) → NoneBefore xs (i + 1)
+  none_more xs i h n = λ j l p. elim (cases_lt j i) [ inl m ↦ h j m p | inr m ↦ n (subst (λ (k : ℕ). P (get_or xs k d).0) (let e : j ≡ i = omega arith in e) p) ]
+
+  first_least : (xs : List Txn) (i u : ℕ) → IsAscendingBy number_of xs → i < length xs → NoneBefore xs i → is_among u xs ≡ true → P u → (get_or xs i d).0 ≤ u
+  first_least [] i u a l none h p = absurd (omega arith)
+  first_least (x ∷ xs) zero u a l none h p = elim (or_cases (eqb x.0 u) (is_among u xs) h) [
+    | inl e ↦ (let y = eqb-true x.0 u e in omega arith)
+    | inr j ↦ (let y = among_over x.0 u xs a.0 j in omega arith)
+  ]
+  first_least (x ∷ xs) (suc i) u a l none h p = elim (or_cases (eqb x.0 u) (is_among u xs) h) [
+    | inl e ↦ absurd (none zero (omega arith) (subst P (sym (eqb-true x.0 u e)) p))
+    | inr j ↦ first_least xs i u a.1 (omega arith) (λ k m q. none (suc k) (omega arith) q) j p
+  ]
+
+  none_at_all : (xs : List Txn) (i u : ℕ) → length xs ≤ i → NoneBefore xs i → is_among u xs ≡ true → P u → ⊥
+  none_at_all [] i u l none h p = absurd (cc)
+  none_at_all (x ∷ xs) zero u l none h p = absurd (omega arith)
+  none_at_all (x ∷ xs) (suc i) u l none h p = elim (or_cases (eqb x.0 u) (is_among u xs) h) [
+    | inl e ↦ none zero (omega arith) (subst P (sym (eqb-true x.0 u e)) p)
+    | inr j ↦ none_at_all xs i u (omega arith) (λ k m q. none (suc k) (omega arith) q) j p
+  ]
+
+  -- a search among them, where whoever has P stands in the list and is numbered m or above
+  module _ (xs ys : List Txn) (m : ℕ) (e : ys ≡ filter (λ u. leb m u.0) xs) where
+    module _ (a : IsAscendingBy number_of xs) (listed : (u : ℕ) → P u → IsTrue (is_among u xs)) (later : (u : ℕ) → P u → m ≤ u) where
+      there : (u : ℕ) → P u → is_among u ys ≡ true
+      there u p = ap (is_among u) e ∙ among_from m u xs (later u p) (listed u p)
+
+      ascend : IsAscendingBy number_of ys
+      ascend = subst (IsAscendingBy number_of) (sym e) (ascending-filter number_of (λ u. leb m u.0) xs a)
+
+      pub first_is : (i : ℕ) → i < length ys → NoneBefore ys i → P (get_or ys i d).0 → IsLeast P (Some (get_or ys i d))
+      first_is i l none p = (p, λ u q. first_least ys i u ascend l none (there u q) q)
+
+      pub first_not : (i : ℕ) → length ys ≤ i → NoneBefore ys i → (u : ℕ) → P u → ⊥
+      first_not i l none u p = none_at_all ys i u l none (there u p) p

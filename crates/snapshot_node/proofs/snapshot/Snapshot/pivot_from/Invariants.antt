@@ -1,8 +1,0 @@
-use Rattle.std.proofs.Common.{◌≡◌, None}
-use Rattle.phase_api.specs.Told.{setup_of, events_of}
-use Rattle.snapshot_node.specs.Pivots.{first_in, window, pivot_over}
-use Rattle.snapshot_node.proofs.Searching.{later}
-use Rattle.snapshot_node.proofs.snapshot.Snapshot.pivot_from.Given as goal
-
-abbrev pub invariant-loop-i : goal.invariant-loop-i
-invariant-loop-i l = first_in (pivot_over (setup_of l.fn.facts) (events_of l.fn.facts) l.fn.self.node.0 l.fn.t.0 (window (events_of l.fn.facts) l.fn.past) l.fn.a.0) (later l.fn.past l.i) ≡ None
