@@ -1,87 +1,79 @@
-//! Worked runs of the program, and its faults.
-
-ghost use Rattle.std.specs.Prelude.{◌<◌};
-
-mod engines;
-mod events;
-mod faults;
-mod limits;
-mod loads;
-mod runs;
-mod scripts;
-mod trees;
-mod turns;
+//! What no run of the program can show: an input in pieces, a device that fails at one call or has little room, whether there is a
+//! history, and sessions that no script can name.
 
 use super::top::run_tebaldi;
+use chain_pool::PooledChains;
+use engine_core::Engine;
 use std::alloc::{AllocError, Global};
 use std::process::Abort;
+use std::test::Fail;
 use teb_io::{MemSink, MemSource};
+use teb_names::{Refusal, Reply, Request, Session};
+use tree_toml::read_tree;
 
-/// The most bytes that a test writes.
-const ROOM: usize = 1 << 20;
+const INPUT: &[u8] = b"%%\n1 begin any\n1 write t 1 5\n1 commit\n";
+
+const TEXT: &[u8] = b"1 begun t1\n1 done\n1 committed\norder t1\nrow t 1 5\nend\n";
 
 // How a run ended: the status, what was written, and whether there is a history.
 #[derive(Drop)]
 struct Seen {
     status: u8,
     text: Vec<u8>,
-    has_run: bool,
+    has_history: bool,
 }
 
-fn source(alloc: Global, bytes: &[u8], piece: usize, fail: &[u32]) -> Result<MemSource, AllocError>
-    requires { 0 < piece }
-{
-    Ok(MemSource::new(bytes.to_vec(alloc)?, piece, fail.to_vec(alloc)?))
-}
-
-fn split_words(alloc: Global, text: &str) -> Result<Vec<String>, AllocError> {
-    let mut words = Vec::new(alloc);
-    for word in text.split_whitespace() {
-        words.push(String::from_str(alloc, word)?)?;
-    }
-    Ok(words)
-}
-
-fn run(alloc: Global, words: &str, mut input: MemSource, fail: &[u32]) -> Result<Seen, AllocError> {
-    let words = split_words(alloc, words)?;
-    let mut out = MemSink::new(alloc, ROOM, fail.to_vec(alloc)?)?;
+// Replays the input, which is read by single bytes, with this call of the source failing and so much room in the sink.
+fn replay(alloc: Global, failing: u32, room: usize) -> Result<Seen, AllocError> {
+    let words = vec![in alloc; String::from_str(alloc, "replay")?]?;
+    let mut input = MemSource::new(INPUT.to_vec(alloc)?, 1, vec![in alloc; failing]?);
+    let mut out = MemSink::new(alloc, room, Vec::new(alloc))?;
     let ended = run_tebaldi(alloc, &words, &mut input, &mut out);
     Ok(Seen {
         status: ended.status,
         text: out.bytes().to_vec(alloc)?,
-        has_run: ended.history.is_some(),
+        has_history: ended.history.is_some(),
     })
 }
 
-fn sees(rt: &impl Abort, seen: &Seen, status: u8, text: &[u8], has_run: bool) {
+fn sees(rt: &impl Abort, seen: &Seen, status: u8, text: &[u8], has_history: bool) {
     assert_eq!(rt; seen.status, status);
     assert_eq!(rt; seen.text.as_slice(), text);
-    assert_eq!(rt; seen.has_run, has_run);
+    assert_eq!(rt; seen.has_history, has_history);
 }
 
-// Runs a command on an input, and compares the status and the text.
-fn tells(
-    rt: &impl Abort,
-    alloc: Global,
-    words: &str,
-    input: &[u8],
-    status: u8,
-    text: &[u8],
-) -> Result<(), AllocError> {
-    let seen = run(alloc, words, source(alloc, input, 4096, &[])?, &[])?;
-    sees(rt, &seen, status, text, status == 0);
+// The 39th call is the one that finds the end.
+#[test]
+fn each_read_may_fail(rt: HostRuntime) -> Result<(), Fail> {
+    for call in 1..=39u32 {
+        let seen = replay(rt.alloc(), call, TEXT.len())?;
+        sees(&rt, &seen, 3, b"", false);
+    }
+    let seen = replay(rt.alloc(), 40, TEXT.len())?;
+    sees(&rt, &seen, 0, TEXT, true);
     Ok(())
 }
 
-fn put_line(out: &mut Vec<u8>, line: &str) -> Result<(), AllocError> {
-    out.extend_from_slice(line.as_bytes())?;
-    out.extend_from_slice(b"\n")
+#[test]
+fn a_sink_takes_what_it_has_room_for(rt: HostRuntime) -> Result<(), Fail> {
+    for room in 0..TEXT.len() {
+        let seen = replay(rt.alloc(), 40, room)?;
+        sees(&rt, &seen, 4, &TEXT[..room], true);
+    }
+    Ok(())
 }
 
-fn joined(alloc: Global, pieces: &[&str]) -> Result<Vec<u8>, AllocError> {
-    let mut bytes = Vec::new(alloc);
-    for piece in pieces {
-        bytes.extend_from_slice(piece.as_bytes())?;
+#[test]
+fn sessions_beyond_the_limits_are_refused(rt: HostRuntime) -> Result<(), Fail> {
+    let alloc = rt.alloc();
+    let mut engine = Engine::new(alloc, read_tree(alloc, b"")?, PooledChains::new(alloc))?;
+    for number in [0, 33] {
+        engine.ready()?;
+        assert_eq!(rt;
+            engine.ask(Session(number), Request::Commit),
+            Reply::Refused(Refusal::BadSession)
+        );
     }
-    Ok(bytes)
+    assert!(rt; engine.history().is_empty());
+    Ok(())
 }

@@ -1,0 +1,2 @@
+"""The separator and 65,537 empty lines."""
+print("%%\n" + "\n" * 65_537, end="")

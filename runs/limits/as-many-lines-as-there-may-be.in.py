@@ -1,0 +1,2 @@
+"""The separator and 65,536 empty lines."""
+print("%%\n" + "\n" * 65_536, end="")

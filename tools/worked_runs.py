@@ -1,0 +1,270 @@
+#!/usr/bin/env python3
+"""Runs the program on its worked runs, and compares every byte and status.
+
+    tools/worked_runs.py [--program FILE] [WORD..]     the runs whose names have one of the words, all where none is given
+    tools/worked_runs.py --tried [WORD..]              by rt try, which proves nothing: for work on a program that is not proved yet
+
+A run is a line of the table in runs/FOLDER/README.md. Its columns:
+
+    Run      its name. NAME.in is its input, NAME.out the text; NAME.in.py and NAME.out.py write them where they are long.
+             Where there is no such file, it is empty
+    Words    the words of the command
+    Status   the status, or several of them
+    Text     the text, where it is one line: then there is no NAME.out. Or the word `form`: any text that such a status has. Or the word `audit`:
+             a text that the command audit answers by yes
+    Input    another file for the input, seen from the folder. A folder cannot be read. "prefixes of FILE": a run for each of them
+    Output   another file for the output
+    Formats  the formats that the run is made in: each takes the place of the input's `format = 1`
+    Times    how often it is run
+    Line     the last line of the input, to be read beside the text
+
+The commands of README.md are runs too: each line that begins with `$`, with the text below it.
+The last line is `runs: N passed, M failed`.
+"""
+import argparse
+import concurrent.futures
+import dataclasses
+import os
+import pathlib
+import re
+import shlex
+import subprocess
+import sys
+import tempfile
+
+TOP = pathlib.Path(__file__).resolve().parent.parent
+BUILT = TOP / "crates/tebaldi/out/tebaldi"
+SECONDS = 120
+LINE = rb"[^\n]+\n"
+FORMS = {
+    0: rb"(?:%s)*end\n|audit yes\n" % LINE,
+    2: rb"bad words\n",
+    3: rb"",
+    5: rb"too long\n",
+    6: rb"bad tree: %s" % LINE,
+    7: rb"bad script: line \d+ (?:session|verb|count|name|number)\n",
+    8: rb"",
+    9: rb"not built\n",
+    10: rb"",
+    11: rb"audit no line \d+ %s" % LINE,
+    12: rb"bad phase: \d+ %s" % LINE,
+}
+
+
+def has_form(status, text):
+    """Whether a run may end so: with a status of the table, and a text that goes with it."""
+    return status in FORMS and re.fullmatch(FORMS[status], text) is not None
+
+
+@dataclasses.dataclass
+class Run:
+    name: str
+    words: list
+    statuses: list
+    text: object  # the bytes, or "form" or "audit"
+    input: object  # the bytes, or the path of what cannot be read
+    output: pathlib.Path = None
+    times: int = 1
+
+    def differs(self, program):
+        """Runs it, and returns why it failed, or None."""
+        for _ in range(self.times):
+            why = self.wrong(*ended(program, self.words, self.input, self.output), program)
+            if why:
+                return why
+        return None
+
+    def wrong(self, status, text, program=None):
+        if status not in self.statuses:
+            return f"status {status} in place of {' or '.join(map(str, self.statuses))}: {shown(text)}"
+        if self.text == "form":
+            return None if has_form(status, text) else f"no text of status {status}: {shown(text)}"
+        if self.text == "audit":
+            answer = ended(program, ["audit"], text)
+            return None if answer == (0, b"audit yes\n") else f"audit answers {shown(answer[1])}"
+        return None if text == self.text else difference(self.text, text)
+
+
+def ended(program, words, data=b"", output=None):
+    """Runs the program, and returns its status and what it wrote. A status below 0 is the signal that ended it."""
+    source = {"input": data} if isinstance(data, bytes) else {"stdin": os.open(data, os.O_RDONLY)}
+    sink = open(output, "wb") if output else subprocess.PIPE
+    try:
+        ran = subprocess.run([program, *words], stdout=sink, stderr=subprocess.DEVNULL, timeout=SECONDS, **source)
+        return ran.returncode, ran.stdout or b""
+    except subprocess.TimeoutExpired:
+        return f"none after {SECONDS} seconds", b""
+    finally:
+        if "stdin" in source:
+            os.close(source["stdin"])
+        if output:
+            sink.close()
+
+
+def shown(text):
+    return repr(text.decode(errors="replace"))[:200]
+
+
+def difference(wanted, got):
+    wanted, got = wanted.splitlines(True), got.splitlines(True)
+    at = next((i for i, (one, other) in enumerate(zip(wanted, got)) if one != other), min(len(wanted), len(got)))
+    there = [shown(it[at]) if at < len(it) else "nothing" for it in (got, wanted)]
+    return f"line {at + 1} is {there[0]} in place of {there[1]}"
+
+
+def tables(text):
+    """The lines of the tables of a Markdown text, each as a dictionary by the table's head."""
+    head = None
+    for line in text.splitlines():
+        cells = [it.strip() for it in line.split("|")[1:-1]]
+        if not cells:
+            head = None
+        elif head is None:
+            head = cells
+        elif not set(line) <= set("|-: "):
+            yield dict(zip(head, cells))
+
+
+def plain(cell):
+    return cell.strip("`").encode().decode("unicode_escape").encode("latin-1") if "\\" in cell else cell.strip("`").encode()
+
+
+def made(folder, name, ending, used):
+    """What stands in NAME.in or NAME.out, or is written by NAME.in.py or NAME.out.py; None where there is neither."""
+    file, script = folder / f"{name}.{ending}", folder / f"{name}.{ending}.py"
+    used.update({file, script})
+    if script.exists():
+        return subprocess.run([sys.executable, script], stdout=subprocess.PIPE, check=True).stdout
+    return file.read_bytes() if file.exists() else None
+
+
+def inputs_of(folder, row, used):
+    """The inputs of a line of a table: one, or every prefix of one."""
+    cell = row.get("Input", "").replace("`", "")
+    if not cell:
+        return [made(folder, row["Run"].strip("`"), "in", used) or b""]
+    of, path = cell.startswith("prefixes of "), folder / cell.removeprefix("prefixes of ")
+    if path.is_dir():
+        return [path]
+    data = path.read_bytes()
+    return [data[:end] for end in range(len(data) + 1)] if of else [data]
+
+
+def text_of(folder, row, used):
+    """The text that a line of a table wants."""
+    cell, written = row.get("Text", ""), made(folder, row["Run"].strip("`"), "out", used)
+    if cell.startswith("`"):
+        return plain(cell) + b"\n"
+    return cell or written or b""
+
+
+def variants(row, name, data):
+    """An input in each of the formats that a line of a table names, each with the name of the run."""
+    formats = re.findall(r"\d", row.get("Formats", ""))
+    if not formats:
+        yield name, data
+    for number in formats:
+        yield f"{name} in format {number}", re.sub(rb"(?m)^format = \d$", b"format = " + number.encode(), data, count=1)
+
+
+def runs_of(folder):
+    """The runs of a folder. Each of its files is to belong to one."""
+    used = {folder / "README.md"}
+    for row in tables((folder / "README.md").read_text()):
+        if "Run" not in row:
+            continue
+        name = f"{folder.name}/{row['Run'].strip('`')}"
+        common = {
+            "words": plain(row["Words"]).split(),
+            "statuses": [int(it) for it in re.findall(r"\d+", row["Status"])],
+            "text": text_of(folder, row, used),
+            "output": folder / row["Output"].strip("`") if row.get("Output") else None,
+            "times": int(row.get("Times") or 1),
+        }
+        for data in inputs_of(folder, row, used):
+            if "Line" in row and plain(row["Line"]) != data.removesuffix(b"\n").split(b"\n")[-1]:
+                yield broken(f"{name}: the last line of its input is another one than the table says")
+            of = f"{name} cut at {len(data)}" if row.get("Input", "").startswith("prefixes") else name
+            yield from (Run(named, input=changed, **common) for named, changed in variants(row, of, data))
+    for file in sorted(set(folder.iterdir()) - used):
+        yield broken(f"{folder.name}/{file.name} belongs to no run")
+
+
+def broken(why):
+    return Run(why, [], [], b"", b"")
+
+
+class Shown:
+    """A command of README.md, with the text that is shown below it."""
+
+    def __init__(self, command, text):
+        self.name, self.command, self.text = f"README.md: {command}", command, text
+
+    def differs(self, program):
+        command = self.command.replace("./tebaldi", shlex.quote(str(program)))
+        ran = subprocess.run(["bash", "-c", command], cwd=TOP, stdin=subprocess.DEVNULL, stdout=subprocess.PIPE, timeout=SECONDS)
+        return None if ran.stdout == self.text else difference(self.text, ran.stdout)
+
+
+def shown_in(readme):
+    """The commands of README.md that show a text, but those of rt."""
+    for block in re.findall(r"(?ms)^```\n(.*?)^```$", readme):
+        for command, text in re.findall(r"(?m)^\$ (.*)\n((?:[^$\n].*\n|\n)*)", block):
+            if not command.startswith("rt "):
+                yield Shown(command.partition("   #")[0], text.encode())
+
+
+def all_runs(words):
+    found = [run for folder in sorted((TOP / "runs").iterdir()) if (folder / "README.md").exists() for run in runs_of(folder)]
+    found += shown_in((TOP / "README.md").read_text())
+    return [it for it in found if not words or any(word in it.name for word in words)]
+
+
+def compared(runs, program):
+    """Runs them all on a built program, side by side, and yields each with why it failed."""
+    with concurrent.futures.ThreadPoolExecutor(len(os.sched_getaffinity(0))) as pool:
+        yield from zip(runs, pool.map(lambda it: it.differs(program), runs))
+
+
+def tried(runs):
+    """Runs those that read an input and write an output, all by one call of rt try, and yields each with why it failed."""
+    runs = [it for it in runs if isinstance(it, Run) and isinstance(it.input, bytes) and not it.output]
+    with tempfile.TemporaryDirectory() as room:
+        for number, run in enumerate(runs):
+            pathlib.Path(room, str(number)).write_bytes(run.input)
+            pathlib.Path(room, f"{number}.args").write_bytes(b"".join(it + b"\n" for it in run.words))
+            if isinstance(run.text, bytes):
+                pathlib.Path(room, f"{number}.stdout").write_bytes(run.text)
+        ran = subprocess.run(["rt", "try", "--cases", room], cwd=BUILT.parent.parent, stdin=subprocess.DEVNULL, capture_output=True, text=True, errors="replace")
+    lines = dict(re.findall(r"(?m)^case=(\d+) (.*)$", ran.stderr))
+    if not lines:
+        print(ran.stderr[-2000:], file=sys.stderr)
+    for number, run in enumerate(runs):
+        line = lines.get(str(number), "no answer")
+        status = re.search(r"run=ended status=(\d+)", line)
+        is_well = status and int(status[1]) in run.statuses and "output=differs" not in line
+        yield run, None if is_well else line
+
+
+def main():
+    options = argparse.ArgumentParser(description=__doc__, formatter_class=argparse.RawDescriptionHelpFormatter)
+    options.add_argument("--program", type=pathlib.Path, default=BUILT)
+    options.add_argument("--tried", action="store_true")
+    options.add_argument("words", nargs="*")
+    given = options.parse_args()
+    runs = all_runs(given.words)
+    if not given.tried and not os.access(given.program, os.X_OK):
+        print(f"runs: there is no program {os.path.relpath(given.program)}: ./check build proves and builds it", file=sys.stderr)
+        print(f"runs: 0 passed, {len(runs)} failed")
+        return 1
+    failed = 0
+    for run, why in tried(runs) if given.tried else compared(runs, given.program.resolve()):
+        if why:
+            failed += 1
+            print(f"FAILED {run.name}: {why}")
+    print(f"runs: {len(runs) - failed} passed, {failed} failed")
+    return 1 if failed or not runs else 0
+
+
+if __name__ == "__main__":
+    sys.exit(main())
