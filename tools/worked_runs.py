@@ -2,7 +2,7 @@
 """Runs the program on its worked runs, and compares every byte and status.
 
     tools/worked_runs.py [--program FILE] [WORD..]     the runs whose names have one of the words, all where none is given
-    tools/worked_runs.py --tried [WORD..]              by rt try, which proves nothing: for work on a program that is not proved yet
+    tools/worked_runs.py --tried [WORD..]              the short ones, by rt try, which proves nothing: for work on a program that is not proved yet
 
 A run is a line of the table in runs/FOLDER/README.md. Its columns:
 
@@ -35,6 +35,7 @@ import tempfile
 TOP = pathlib.Path(__file__).resolve().parent.parent
 BUILT = TOP / "crates/tebaldi/out/tebaldi"
 SECONDS = 120
+SHORT = 50_000  # bytes of an input that rt try is given
 LINE = rb"[^\n]+\n"
 FORMS = {
     0: rb"(?:%s)*end\n|audit yes\n" % LINE,
@@ -227,8 +228,8 @@ def compared(runs, program):
 
 
 def tried(runs):
-    """Runs those that read an input and write an output, all by one call of rt try, and yields each with why it failed."""
-    runs = [it for it in runs if isinstance(it, Run) and isinstance(it.input, bytes) and not it.output]
+    """Runs those that read a short input and write an output, all by one call of rt try, and yields each with why it failed."""
+    runs = [it for it in runs if isinstance(it, Run) and isinstance(it.input, bytes) and not it.output and len(it.input) < SHORT and it.times == 1 and it.text != "form"]
     with tempfile.TemporaryDirectory() as room:
         for number, run in enumerate(runs):
             pathlib.Path(room, str(number)).write_bytes(run.input)

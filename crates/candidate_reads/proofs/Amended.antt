@@ -16,9 +16,10 @@ use Rattle.teb_laws.proofs.ReadRule.{sees_parts, sees_from}
 use Rattle.version_chain.specs.Lists.{Version, writers_of, last_place}
 use Rattle.phase_api.specs.Versions.{HoldsVersions, has_version}
 use Rattle.candidate_reads.specs.Shown.{shows, later, amended}
-use Rattle.candidate_reads.proofs.InOrder.{among_In, In_among, any_at, any_from, last_same, last_none, later_last}
+use Rattle.candidate_reads.proofs.InOrder.{among_In, In_among, last_same, last_none, later_last}
 use Rattle.candidate_reads.proofs.Shows.{version_parts}
 use Rattle.candidate_reads.proofs.Sources.{writer_began, begun_place}
+use Rattle.teb_laws.proofs.Lists.{list_any_from, list_any_In}
 
 -- some of the nodes ns shows t the version of w
 abbrev any_shows : Setup → List Event → List ℕ → Cell → ℕ → ℕ → Bool
@@ -57,10 +58,10 @@ shows_sees S a H x t w l bt bw ne v =
     let e : meet S H t w ≡ m.node = meet_is S a H m.node t w l bt bw m.meet in
     let vp = version_parts H x w v in
     same_test _ _
-    (λ h. let r = any_from (λ n. shows S H n x t w) (path S.tree (spot_of H t)) h in let p = shows_parts S H r.0 x t w r.2 in let q : r.0 ≡ meet S H t w = meets_once S a H r.0 m.node t w l bt bw p.0 m.meet ∙ sym e in
+    (λ h. let r = list_any_In (λ n. shows S H n x t w) (path S.tree (spot_of H t)) h in let p = shows_parts S H r.0 x t w r.2 in let q : r.0 ≡ meet S H t w = meets_once S a H r.0 m.node t w l bt bw p.0 m.meet ∙ sym e in
     sees_from S H x t w (λ z. ne (sym z)) vp.0 vp.1 (subst (λ (n : ℕ). sees_by (row S.tree n).control S H n x t w ≡ true) q p.1))
     (λ h. let p = sees_parts S H x t w h in
-    any_at (λ n. shows S H n x t w) (path S.tree (spot_of H t)) m.node (among_In m.node _ (on-among S H m.node t (meets_parts S H m.node t w m.meet).0))
+    list_any_from (λ n. shows S H n x t w) (path S.tree (spot_of H t)) m.node (among_In m.node _ (on-among S H m.node t (meets_parts S H m.node t w m.meet).0))
     (shows_from S H m.node x t w m.meet (subst (λ (n : ℕ). sees_by (row S.tree n).control S H n x t w ≡ true) e p.3)))
 
 pub amended_seen : (S : Setup) (a : TreeFacts S) (H : List Event) (x : Cell) (t : ℕ) (L : Cell → List Version) → Lawful S H → HoldsVersions S H L → begun H t ≡ true → has_version H x t ≡ false →

@@ -46,14 +46,6 @@ pub find_nothing : (q : ℕ → Bool) (us : List ℕ) → ((u : ℕ) → In u us
 find_nothing q [] f = refl
 find_nothing q (u ∷ us) f = absurd (f u (inl refl))
 
-pub any_at : (p : ℕ → Bool) (us : List ℕ) (u : ℕ) → In u us → p u ≡ true → list_any p us ≡ true
-any_at p [] u i h = absurd i
-any_at p (v ∷ vs) u i h = elim i [ inl e ↦ or_left (p v) (list_any p vs) (subst (λ (z : ℕ). p z ≡ true) (sym e) h) | inr j ↦ or_right (p v) (list_any p vs) (any_at p vs u j h) ]
-
-pub any_from : (p : ℕ → Bool) (us : List ℕ) → list_any p us ≡ true → (u : ℕ) × In u us × (p u ≡ true)
-any_from p [] h = absurd (cc)
-any_from p (v ∷ vs) h = elim (or_cases (p v) (list_any p vs) h) [ inl e ↦ (v, inl refl, e) | inr j ↦ (let r = any_from p vs j in (r.0, inr r.1, r.2)) ]
-
 -- two tests that agree on the elements have one last place
 pub last_same : (p q : ℕ → Bool) (us : List ℕ) → ((u : ℕ) → In u us → p u ≡ q u) → last_place p us ≡ last_place q us
 last_same p q [] f = refl

@@ -5,7 +5,7 @@ use Rattle.std.specs.List.{list_any, find}
 use Rattle.std.proofs.lemmas.List.{get_or-map, length-map, map-append, take_more, take_all, take-map}
 use Rattle.std.proofs.lemmas.List.Folds.{list_any-append, find-append}
 use Rattle.std.specs.Option.{option_or}
-use Rattle.teb_laws.proofs.TableRanks.{In-below, list_any_from}
+use Rattle.teb_laws.proofs.TableRanks.{In-below}
 use Rattle.teb_names.specs.declared.Kind.{Kind}
 use Rattle.teb_names.specs.declared.Node.{Node}
 use Rattle.teb_rules.specs.Setup.{NodeRow, among}
@@ -15,6 +15,7 @@ use Rattle.teb_rules.specs.Accepted.{Fault, first_at, or_fault, is_child_of, has
 use Rattle.cc_tree.specs.declared.rows.NodeRow.{NodeRow as Row}
 use Rattle.cc_tree.specs.Grown.{kind_numbers, node_numbers, row_of, rows_of}
 use Rattle.cc_tree.specs.Rows.{clash}
+use Rattle.teb_laws.proofs.Lists.{list_any_from}
 
 -- a type is in a list of types where its number is among theirs
 pub among_kinds : (k : Kind) (ks : List Kind) → among k.0 (kind_numbers ks) ≡ list_any (λ m. eqb m.0 k.0) ks

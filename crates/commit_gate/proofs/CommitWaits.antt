@@ -21,7 +21,7 @@ use Rattle.dependency_book.specs.Dependencies.{all_sources}
 use Rattle.dependency_book.specs.Books.{Lists, BookOf, sources_in}
 use Rattle.dependency_book.proofs.OrderlyHistories.{unfinished_parts, known}
 use Rattle.dependency_book.proofs.Sources.{has_source, sources_ascend, sources_standing, find_least, find_absent}
-use Rattle.dependency_book.proofs.LeastNumbers.{numbers_find, none_below, lesser, find_either}
+use Rattle.teb_history.proofs.LeastNumbers.{numbers_find, none_below, lesser, find_either}
 use Rattle.commit_gate.specs.Ways.{IsWay, first_wait}
 
 number : Option Txn → Option ℕ

@@ -5,4 +5,3 @@ pub mod LawfulHistories
 pub mod Noted
 pub mod Sources
 pub mod Positive
-pub mod LeastNumbers

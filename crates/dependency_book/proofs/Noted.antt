@@ -24,7 +24,8 @@ use Rattle.key_piles.proofs.TakenMatches.{without_all, count_kept}
 use Rattle.key_piles.proofs.CellPiles.{same_exact}
 use Rattle.dependency_book.proofs.PileEdits.{one_txn}
 use Rattle.dependency_book.proofs.OwnAccesses.{put_by_it, reads_counted, puts_counted, nothing_accessed}
-use Rattle.dependency_book.proofs.OrderlyHistories.{unfinished_more, unfinished_is, unfinished_same, unfinished_parts, aborted_more, aborted_same, fresh}
+use Rattle.dependency_book.proofs.OrderlyHistories.{unfinished_is, unfinished_same, unfinished_parts, aborted_same, fresh}
+use Rattle.teb_history.proofs.Newest.{aborted-cons, unfinished-cons}
 
 -- filters
 module _ {A : Type 0} where
@@ -160,7 +161,7 @@ module _ (b d : Lists) (P : List Event) (was : BookOf b P) where
       older : (v : ℕ) → v ≤ begun_count P → unfinished (Began t s k i ∷ P) v ≡ unfinished P v
       older v le =
           let off : eqb t.0 v ≡ false = ne_eqb t.0 v (λ z. omega (arith, m)) in
-          unfinished_more (Began t s k i) P v ∙ ap (λ (o : Bool). (o || begun P v) && not (committed P v) && not (aborted P v)) off ∙ sym (unfinished_is P v)
+          unfinished-cons (Began t s k i) P v ∙ ap (λ (o : Bool). (o || begun P v) && not (committed P v) && not (aborted P v)) off ∙ sym (unfinished_is P v)
 
       same_accesses : (v : Txn) → cond (unfinished (Began t s k i ∷ P) v.0) (all_accesses P v) [] ≡ cond (unfinished P v.0) (all_accesses P v) []
       same_accesses v = go (eqb t.0 v.0) refl
@@ -175,13 +176,13 @@ module _ (b d : Lists) (P : List Event) (was : BookOf b P) where
           go true h =
               let none = nothing_accessed P v was.orderly (ap (begun P) (sym (eqb-true t.0 v.0 h)) ∙ (fresh P t.0 was.orderly (omega (arith, m))).0) in
               (λ j. cond (unfinished (Began t s k i ∷ P) v.0) (none j) []) ∙ empty (unfinished (Began t s k i ∷ P) v.0) (unfinished P v.0) ∙ sym (λ j. cond (unfinished P v.0) (none j) [])
-          go false h = ap (λ (o : Bool). cond o (all_accesses P v) []) (unfinished_more (Began t s k i) P v.0 ∙ ap (λ (o : Bool). (o || begun P v.0) && not (committed P v.0) && not (aborted P v.0)) h ∙ sym (unfinished_is P v.0))
+          go false h = ap (λ (o : Bool). cond o (all_accesses P v) []) (unfinished-cons (Began t s k i) P v.0 ∙ ap (λ (o : Bool). (o || begun P v.0) && not (committed P v.0) && not (aborted P v.0)) h ∙ sym (unfinished_is P v.0))
 
       newest : unfinished (Began t s k i ∷ P) (suc (begun_count P)) ≡ true
       newest =
           let f = fresh P (suc (begun_count P)) was.orderly (omega arith) in
           let on : eqb t.0 (suc (begun_count P)) ≡ true = eq-eqb t.0 (suc (begun_count P)) m in
-          unfinished_more (Began t s k i) P (suc (begun_count P)) ∙ (λ j. (on j || begun P (suc (begun_count P))) && not (f.1 j) && not (f.2 j))
+          unfinished-cons (Began t s k i) P (suc (begun_count P)) ∙ (λ j. (on j || begun P (suc (begun_count P))) && not (f.1 j) && not (f.2 j))
 
       all_more : map (λ t. record { 0 = t }) (filter (unfinished (Began t s k i ∷ P)) (numbers (begun_count P) ++ suc (begun_count P) ∷ [])) ≡ map (λ t. record { 0 = t }) (filter (unfinished P) (numbers (begun_count P))) ++ t ∷ []
       all_more =
@@ -307,7 +308,7 @@ module _ (b d : Lists) (P : List Event) (was : BookOf b P) where
   }
     where
       others : (u : ℕ) → unfinished (Done t ∷ P) u ≡ (not (eqb u t.0) && unfinished P u)
-      others u = unfinished_more (Done t) P u ∙ go (eqb t.0 u) (eqb u t.0) (eqb_back t.0 u) (begun P u) (committed P u) (aborted P u) ∙ ap (λ (b : Bool). not (eqb u t.0) && b) (sym (unfinished_is P u))
+      others u = unfinished-cons (Done t) P u ∙ go (eqb t.0 u) (eqb u t.0) (eqb_back t.0 u) (begun P u) (committed P u) (aborted P u) ∙ ap (λ (b : Bool). not (eqb u t.0) && b) (sym (unfinished_is P u))
         where
           go : (k l : Bool) → k ≡ l → (x y z : Bool) → (x && not (k || y) && not z) ≡ (not l && (x && not y && not z))
           go true true h true y z = refl
@@ -336,13 +337,13 @@ module _ (b d : Lists) (P : List Event) (was : BookOf b P) where
         ∙ without_all (λ u. eqb u.0 t.0) (count_by (puts y) (all_accesses P t)) (filter (λ u. not (aborted P u.0)) (all_writers P y))
         (sym (puts_counted P t y) ∙ sym (count_kept (λ u. eqb u.0 t.0) (λ u. not (aborted P u.0)) (all_writers P y) (λ u h. ap (λ (n : ℕ). not (aborted P n)) (eqb-true u.0 t.0 h) ∙ ap not it_stands)))
         ∙ sym (filter_both (λ u. not (aborted P u.0)) (λ u. not (eqb u.0 t.0)) (λ u. not (aborted (Gone t c ∷ P) u.0)) (λ u. stands u.0) (all_writers P y));
-    sources = λ y. so y ∙ ap (λ (ts : List Txn). cond (eqb t.0 y.0) [] ts) (was.sources y) ∙ gone_or (eqb t.0 y.0) (aborted P y.0) (all_sources P y) ∙ ap (λ (o : Bool). cond o [] (all_sources P y)) (sym (aborted_more (Gone t c) P y.0));
+    sources = λ y. so y ∙ ap (λ (ts : List Txn). cond (eqb t.0 y.0) [] ts) (was.sources y) ∙ gone_or (eqb t.0 y.0) (aborted P y.0) (all_sources P y) ∙ ap (λ (o : Bool). cond o [] (all_sources P y)) (sym (aborted-cons (Gone t c) P y.0));
     unfinished = u ∙ ap (filter (λ u. not (eqb u.0 t.0))) was.unfinished ∙ left_unfinished (Gone t c) t m others refl;
     accesses = λ y. a y ∙ ap (λ (as_ : List Access). cond (eqb t.0 y.0) [] as_) (was.accesses y) ∙ left_accesses (Gone t c) t m others (λ z. refl) y;
   }
     where
       others : (u : ℕ) → unfinished (Gone t c ∷ P) u ≡ (not (eqb u t.0) && unfinished P u)
-      others u = unfinished_more (Gone t c) P u ∙ go (eqb t.0 u) (eqb u t.0) (eqb_back t.0 u) (begun P u) (committed P u) (aborted P u) ∙ ap (λ (b : Bool). not (eqb u t.0) && b) (sym (unfinished_is P u))
+      others u = unfinished-cons (Gone t c) P u ∙ go (eqb t.0 u) (eqb u t.0) (eqb_back t.0 u) (begun P u) (committed P u) (aborted P u) ∙ ap (λ (b : Bool). not (eqb u t.0) && b) (sym (unfinished_is P u))
         where
           go : (k l : Bool) → k ≡ l → (x y z : Bool) → (x && not y && not (k || z)) ≡ (not l && (x && not y && not z))
           go true true h true true z = refl
@@ -353,7 +354,7 @@ module _ (b d : Lists) (P : List Event) (was : BookOf b P) where
           go false false h x y z = refl
 
       stands : (u : ℕ) → not (aborted (Gone t c ∷ P) u) ≡ (not (eqb u t.0) && not (aborted P u))
-      stands u = ap not (aborted_more (Gone t c) P u) ∙ go (eqb t.0 u) (eqb u t.0) (eqb_back t.0 u) (aborted P u)
+      stands u = ap not (aborted-cons (Gone t c) P u) ∙ go (eqb t.0 u) (eqb u t.0) (eqb_back t.0 u) (aborted P u)
         where
           go : (k l : Bool) → k ≡ l → (z : Bool) → not (k || z) ≡ (not l && not z)
           go true true h z = refl

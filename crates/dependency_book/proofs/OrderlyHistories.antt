@@ -7,25 +7,7 @@ use Rattle.teb_history.specs.Positions.{first_event, came}
 use Rattle.teb_history.specs.Phases.{is_began, is_done, is_gone, began_at, done_at, gone_at, begun, committed, aborted, unfinished, begun_count}
 use Rattle.teb_history.proofs.Any.{came_any}
 use Rattle.dependency_book.specs.Dependencies.{Orderly}
-
-came_more : (q : Event → Bool) (e : Event) (P : List Event) → came (e ∷ P) (first_event q (e ∷ P)) ≡ (q e || came P (first_event q P))
-came_more q e P = came_any q (e ∷ P) ∙ ap (λ (b : Bool). q e || b) (sym (came_any q P))
-
-pub begun_more : (e : Event) (P : List Event) (u : ℕ) → begun (e ∷ P) u ≡ (is_began u e || begun P u)
-unfolding begun began_at
-begun_more e P u = came_more (is_began u) e P
-
-pub committed_more : (e : Event) (P : List Event) (u : ℕ) → committed (e ∷ P) u ≡ (is_done u e || committed P u)
-unfolding committed done_at
-committed_more e P u = came_more (is_done u) e P
-
-pub aborted_more : (e : Event) (P : List Event) (u : ℕ) → aborted (e ∷ P) u ≡ (is_gone u e || aborted P u)
-unfolding aborted gone_at
-aborted_more e P u = came_more (is_gone u) e P
-
-pub unfinished_more : (e : Event) (P : List Event) (u : ℕ) → unfinished (e ∷ P) u ≡ ((is_began u e || begun P u) && not (is_done u e || committed P u) && not (is_gone u e || aborted P u))
-unfolding unfinished
-unfinished_more e P u = λ j. begun_more e P u j && not (committed_more e P u j) && not (aborted_more e P u j)
+use Rattle.teb_history.proofs.Newest.{begun-cons, committed-cons, aborted-cons, unfinished-cons}
 
 pub unfinished_is : (P : List Event) (u : ℕ) → unfinished P u ≡ (begun P u && not (committed P u) && not (aborted P u))
 unfolding unfinished
@@ -33,10 +15,10 @@ unfinished_is P u = refl
 
 -- an event that begins, commits and aborts nobody
 pub unfinished_same : (e : Event) (P : List Event) (u : ℕ) → is_began u e ≡ false → is_done u e ≡ false → is_gone u e ≡ false → unfinished (e ∷ P) u ≡ unfinished P u
-unfinished_same e P u a b c = unfinished_more e P u ∙ (λ j. (a j || begun P u) && not (b j || committed P u) && not (c j || aborted P u)) ∙ sym (unfinished_is P u)
+unfinished_same e P u a b c = unfinished-cons e P u ∙ (λ j. (a j || begun P u) && not (b j || committed P u) && not (c j || aborted P u)) ∙ sym (unfinished_is P u)
 
 pub aborted_same : (e : Event) (P : List Event) (u : ℕ) → is_gone u e ≡ false → aborted (e ∷ P) u ≡ aborted P u
-aborted_same e P u h = aborted_more e P u ∙ ap (λ (b : Bool). b || aborted P u) h
+aborted_same e P u h = aborted-cons e P u ∙ ap (λ (b : Bool). b || aborted P u) h
 
 -- who is unfinished has begun, and is neither committed nor aborted
 pub unfinished_parts : (P : List Event) (u : ℕ) → unfinished P u ≡ true → (begun P u ≡ true) × (committed P u ≡ false) × (aborted P u ≡ false)
@@ -84,39 +66,39 @@ known [] u o = record {
   aborts = λ h. absurd (clash _ h (nothing_aborted u));
 }
 known (Began t s k i ∷ P) u o = let ih = known P u o.1 in record {
-  begins = λ h. elim (either _ _ (sym (begun_more (Began t s k i) P u) ∙ h)) [ inl e ↦ omega (arith, eqb-true t.0 u e, o.0) | inr e ↦ omega (arith, ih.begins e) ];
-  commits = λ h. omega (arith, ih.commits (sym (committed_more (Began t s k i) P u) ∙ h));
-  aborts = λ h. omega (arith, ih.aborts (sym (aborted_more (Began t s k i) P u) ∙ h));
+  begins = λ h. elim (either _ _ (sym (begun-cons (Began t s k i) P u) ∙ h)) [ inl e ↦ omega (arith, eqb-true t.0 u e, o.0) | inr e ↦ omega (arith, ih.begins e) ];
+  commits = λ h. omega (arith, ih.commits (sym (committed-cons (Began t s k i) P u) ∙ h));
+  aborts = λ h. omega (arith, ih.aborts (sym (aborted-cons (Began t s k i) P u) ∙ h));
 }
 known (Got t x w v ∷ P) u o = let ih = known P u o.1 in record {
-  begins = λ h. ih.begins (sym (begun_more (Got t x w v) P u) ∙ h);
-  commits = λ h. ih.commits (sym (committed_more (Got t x w v) P u) ∙ h);
-  aborts = λ h. ih.aborts (sym (aborted_more (Got t x w v) P u) ∙ h);
+  begins = λ h. ih.begins (sym (begun-cons (Got t x w v) P u) ∙ h);
+  commits = λ h. ih.commits (sym (committed-cons (Got t x w v) P u) ∙ h);
+  aborts = λ h. ih.aborts (sym (aborted-cons (Got t x w v) P u) ∙ h);
 }
 known (Put t x v ∷ P) u o = let ih = known P u o.1 in record {
-  begins = λ h. ih.begins (sym (begun_more (Put t x v) P u) ∙ h);
-  commits = λ h. ih.commits (sym (committed_more (Put t x v) P u) ∙ h);
-  aborts = λ h. ih.aborts (sym (aborted_more (Put t x v) P u) ∙ h);
+  begins = λ h. ih.begins (sym (begun-cons (Put t x v) P u) ∙ h);
+  commits = λ h. ih.commits (sym (committed-cons (Put t x v) P u) ∙ h);
+  aborts = λ h. ih.aborts (sym (aborted-cons (Put t x v) P u) ∙ h);
 }
 known (Ready t ∷ P) u o = let ih = known P u o.1 in record {
-  begins = λ h. ih.begins (sym (begun_more (Ready t) P u) ∙ h);
-  commits = λ h. ih.commits (sym (committed_more (Ready t) P u) ∙ h);
-  aborts = λ h. ih.aborts (sym (aborted_more (Ready t) P u) ∙ h);
+  begins = λ h. ih.begins (sym (begun-cons (Ready t) P u) ∙ h);
+  commits = λ h. ih.commits (sym (committed-cons (Ready t) P u) ∙ h);
+  aborts = λ h. ih.aborts (sym (aborted-cons (Ready t) P u) ∙ h);
 }
 known (Done t ∷ P) u o = let ih = known P u o.1 in record {
-  begins = λ h. ih.begins (sym (begun_more (Done t) P u) ∙ h);
-  commits = λ h. elim (either _ _ (sym (committed_more (Done t) P u) ∙ h)) [ inl e ↦ subst (λ (n : ℕ). n ≤ begun_count P) (eqb-true t.0 u e) ((known P t.0 o.1).begins (unfinished_parts P t.0 o.0).0) | inr e ↦ ih.commits e ];
-  aborts = λ h. ih.aborts (sym (aborted_more (Done t) P u) ∙ h);
+  begins = λ h. ih.begins (sym (begun-cons (Done t) P u) ∙ h);
+  commits = λ h. elim (either _ _ (sym (committed-cons (Done t) P u) ∙ h)) [ inl e ↦ subst (λ (n : ℕ). n ≤ begun_count P) (eqb-true t.0 u e) ((known P t.0 o.1).begins (unfinished_parts P t.0 o.0).0) | inr e ↦ ih.commits e ];
+  aborts = λ h. ih.aborts (sym (aborted-cons (Done t) P u) ∙ h);
 }
 known (Gone t c ∷ P) u o = let ih = known P u o.1 in record {
-  begins = λ h. ih.begins (sym (begun_more (Gone t c) P u) ∙ h);
-  commits = λ h. ih.commits (sym (committed_more (Gone t c) P u) ∙ h);
-  aborts = λ h. elim (either _ _ (sym (aborted_more (Gone t c) P u) ∙ h)) [ inl e ↦ subst (λ (n : ℕ). n ≤ begun_count P) (eqb-true t.0 u e) ((known P t.0 o.1).begins (unfinished_parts P t.0 o.0).0) | inr e ↦ ih.aborts e ];
+  begins = λ h. ih.begins (sym (begun-cons (Gone t c) P u) ∙ h);
+  commits = λ h. ih.commits (sym (committed-cons (Gone t c) P u) ∙ h);
+  aborts = λ h. elim (either _ _ (sym (aborted-cons (Gone t c) P u) ∙ h)) [ inl e ↦ subst (λ (n : ℕ). n ≤ begun_count P) (eqb-true t.0 u e) ((known P t.0 o.1).begins (unfinished_parts P t.0 o.0).0) | inr e ↦ ih.aborts e ];
 }
 known (Told t ∷ P) u o = let ih = known P u o.1 in record {
-  begins = λ h. ih.begins (sym (begun_more (Told t) P u) ∙ h);
-  commits = λ h. ih.commits (sym (committed_more (Told t) P u) ∙ h);
-  aborts = λ h. ih.aborts (sym (aborted_more (Told t) P u) ∙ h);
+  begins = λ h. ih.begins (sym (begun-cons (Told t) P u) ∙ h);
+  commits = λ h. ih.commits (sym (committed-cons (Told t) P u) ∙ h);
+  aborts = λ h. ih.aborts (sym (aborted-cons (Told t) P u) ∙ h);
 }
 
 -- the next number is of nobody

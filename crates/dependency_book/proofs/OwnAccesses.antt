@@ -12,7 +12,8 @@ use Rattle.dependency_book.specs.Dependencies.{has, reads, puts, all_readers, al
 use Rattle.key_piles.proofs.TakenMatches.{count_push}
 use Rattle.key_piles.proofs.CellPiles.{same_exact}
 use Rattle.dependency_book.proofs.PileEdits.{one_txn}
-use Rattle.dependency_book.proofs.OrderlyHistories.{begun_more, unfinished_parts}
+use Rattle.dependency_book.proofs.OrderlyHistories.{unfinished_parts}
+use Rattle.teb_history.proofs.Newest.{begun-cons}
 
 any_push : {A : Type 0} (q : A → Bool) (c : Bool) (xs : List A) (a : A) → list_any q (cond c (xs ++ a ∷ []) xs) ≡ (list_any q xs || (c && q a))
 any_push q true [] a = or_back (q a)
@@ -115,17 +116,17 @@ pub nothing_accessed : (P : List Event) (t : Txn) → Orderly P → begun P t.0 
 unfolding Orderly all_accesses
 nothing_accessed [] t o h = refl
 nothing_accessed (Got s y w v ∷ P) t o h =
-    let out : begun P t.0 ≡ false = sym (begun_more (Got s y w v) P t.0) ∙ h in
+    let out : begun P t.0 ≡ false = sym (begun-cons (Got s y w v) P t.0) ∙ h in
     ap (λ (b : Bool). cond b (all_accesses P t ++ record { cell = y; wrote = false } ∷ []) (all_accesses P t)) (other P s t ((unfinished_parts P s.0 o.0).0) out) ∙ nothing_accessed P t o.1 out
 nothing_accessed (Put s y v ∷ P) t o h =
-    let out : begun P t.0 ≡ false = sym (begun_more (Put s y v) P t.0) ∙ h in
+    let out : begun P t.0 ≡ false = sym (begun-cons (Put s y v) P t.0) ∙ h in
     ap (λ (b : Bool). cond (b && not (list_any (puts y) (all_accesses P t))) (all_accesses P t ++ record { cell = y; wrote = true } ∷ []) (all_accesses P t)) (other P s t ((unfinished_parts P s.0 o.0).0) out) ∙ nothing_accessed P t o.1 out
-nothing_accessed (Began s k i j ∷ P) t o h = nothing_accessed P t o.1 (later (eqb s.0 t.0) (begun P t.0) (sym (begun_more (Began s k i j) P t.0) ∙ h))
+nothing_accessed (Began s k i j ∷ P) t o h = nothing_accessed P t o.1 (later (eqb s.0 t.0) (begun P t.0) (sym (begun-cons (Began s k i j) P t.0) ∙ h))
   where
     later : (a b : Bool) → (a || b) ≡ false → b ≡ false
     later true b h = absurd (cc)
     later false b h = h
-nothing_accessed (Ready s ∷ P) t o h = nothing_accessed P t o.1 (sym (begun_more (Ready s) P t.0) ∙ h)
-nothing_accessed (Done s ∷ P) t o h = nothing_accessed P t o.1 (sym (begun_more (Done s) P t.0) ∙ h)
-nothing_accessed (Gone s c ∷ P) t o h = nothing_accessed P t o.1 (sym (begun_more (Gone s c) P t.0) ∙ h)
-nothing_accessed (Told s ∷ P) t o h = nothing_accessed P t o.1 (sym (begun_more (Told s) P t.0) ∙ h)
+nothing_accessed (Ready s ∷ P) t o h = nothing_accessed P t o.1 (sym (begun-cons (Ready s) P t.0) ∙ h)
+nothing_accessed (Done s ∷ P) t o h = nothing_accessed P t o.1 (sym (begun-cons (Done s) P t.0) ∙ h)
+nothing_accessed (Gone s c ∷ P) t o h = nothing_accessed P t o.1 (sym (begun-cons (Gone s c) P t.0) ∙ h)
+nothing_accessed (Told s ∷ P) t o h = nothing_accessed P t o.1 (sym (begun-cons (Told s) P t.0) ∙ h)

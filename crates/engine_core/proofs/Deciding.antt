@@ -14,7 +14,7 @@ use Rattle.teb_names.specs.declared.Reply.TheVariants.{Refused, Again, Begun}
 use Rattle.teb_history.specs.declared.Event.TheVariants.{Began}
 use Rattle.teb_history.specs.Phases.{begun_count, held, aborted, unfinished}
 use Rattle.teb_history.specs.Written.{held_txn, txn_of}
-use Rattle.teb_laws.proofs.Outcomes.{held_holds}
+use Rattle.teb_laws.proofs.Holding.{held_holds}
 use Rattle.teb_laws.proofs.Reachable.{untold_gone}
 use Rattle.teb_rules.specs.Cascade.{txn}
 use Rattle.teb_rules.specs.Setup.{Setup}

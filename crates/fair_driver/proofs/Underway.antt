@@ -11,12 +11,12 @@ use Rattle.teb_rules.specs.Answer.{answer}
 use Rattle.teb_rules.specs.Run.{requests_of, history_of, history_after}
 use Rattle.teb_rules.specs.Scripts.{Script}
 use Rattle.teb_rules.specs.Driver.{Seat, Ascending, Drive, Follows, Turn, Turns, Stepped, at_start, drive_after, driven, next_round, seat_after, seated}
-use Rattle.teb_laws.specs.DriverLaws.{Driving, most_requests}
-use Rattle.teb_laws.proofs.Bound.{start_round}
-use Rattle.teb_laws.proofs.Ends.{driving_start, driving_step, driving_short, driving_end, driving_bound, follows_round}
-use Rattle.teb_laws.proofs.Keeping.{SeatOk}
-use Rattle.teb_laws.proofs.Lone.{Every, every_append, every_more}
-use Rattle.teb_laws.proofs.Rounds.{Round, every_back, every_front}
+use Rattle.driver_laws.specs.Laws.{Driving, most_requests}
+use Rattle.driver_laws.proofs.Bound.{start_round}
+use Rattle.driver_laws.proofs.Ends.{driving_start, driving_step, driving_short, driving_end, driving_bound, follows_round}
+use Rattle.driver_laws.proofs.Keeping.{SeatOk}
+use Rattle.driver_laws.proofs.Lone.{Every, every_append, every_more}
+use Rattle.driver_laws.proofs.Rounds.{Round, every_back, every_front}
 use Rattle.teb_laws.proofs.Sound.{tree_facts}
 use Rattle.script_text.specs.declared.Answered.{Answered}
 use Rattle.fair_driver.specs.declared.ring.Asked.{Asked}

@@ -2,7 +2,7 @@
 
 ghost use Rattle.std.specs.Prelude.{◌≡◌, ◌+◌, ◌≤◌, [], length, All, IfOk, OnOk, OnErr};
 ghost use Rattle.teb_rules.specs.Driver.{Ascending, Follows, Turns, seated};
-ghost use Rattle.teb_laws.specs.DriverLaws.{most_requests};
+ghost use Rattle.driver_laws.specs.Laws.{most_requests};
 ghost use Rattle.fair_driver.specs.Seats.{seats_in, round_of, scripts_on};
 ghost use Rattle.fair_driver.specs.Logged.{IsOf, IsMade};
 

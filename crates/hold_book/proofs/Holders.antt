@@ -24,6 +24,7 @@ use Rattle.hold_book.specs.declared.Hold.{Hold}
 use Rattle.hold_book.proofs.Cells.{same_is, same_itself}
 use Rattle.hold_book.specs.Books.{Held, shown, hold_number, has_put, accessed, released}
 use Rattle.hold_book.specs.Holders.{holds, hold_of, holds_in, HoldsOf, MayHold, LeavesHolds}
+use Rattle.teb_history.proofs.Newest.{wrote-cons, got-cons, unfinished-cons}
 
 -- a list of numbers, as one that ascends
 abbrev number : ℕ → ℕ
@@ -136,30 +137,6 @@ last_off w p m off (u ∷ us) = go (p u) (last_off w p m off us)
     go false ih = ih
 
 -- what one more event tells of each transaction
-wrote_cons : (e : Event) (P : List Event) (u : ℕ) (x : Cell) → wrote (e ∷ P) u x ≡ (is_put u x e || wrote P u x)
-unfolding wrote put_at
-wrote_cons e P u x = came_any (is_put u x) (e ∷ P) ∙ ap (λ (b : Bool). is_put u x e || b) (sym (came_any (is_put u x) P))
-
-got_cons : (e : Event) (P : List Event) (u : ℕ) (x : Cell) → got (e ∷ P) u x ≡ (is_got u x e || got P u x)
-unfolding got got_at
-got_cons e P u x = came_any (is_got u x) (e ∷ P) ∙ ap (λ (b : Bool). is_got u x e || b) (sym (came_any (is_got u x) P))
-
-begun_cons : (e : Event) (P : List Event) (u : ℕ) → begun (e ∷ P) u ≡ (is_began u e || begun P u)
-unfolding begun began_at
-begun_cons e P u = came_any (is_began u) (e ∷ P) ∙ ap (λ (b : Bool). is_began u e || b) (sym (came_any (is_began u) P))
-
-committed_cons : (e : Event) (P : List Event) (u : ℕ) → committed (e ∷ P) u ≡ (is_done u e || committed P u)
-unfolding committed done_at
-committed_cons e P u = came_any (is_done u) (e ∷ P) ∙ ap (λ (b : Bool). is_done u e || b) (sym (came_any (is_done u) P))
-
-aborted_cons : (e : Event) (P : List Event) (u : ℕ) → aborted (e ∷ P) u ≡ (is_gone u e || aborted P u)
-unfolding aborted gone_at
-aborted_cons e P u = came_any (is_gone u) (e ∷ P) ∙ ap (λ (b : Bool). is_gone u e || b) (sym (came_any (is_gone u) P))
-
-unfinished_cons : (e : Event) (P : List Event) (u : ℕ) → unfinished (e ∷ P) u ≡ ((is_began u e || begun P u) && not (is_done u e || committed P u) && not (is_gone u e || aborted P u))
-unfolding unfinished
-unfinished_cons e P u = λ j. begun_cons e P u j && not (committed_cons e P u j) && not (aborted_cons e P u j)
-
 ends_done : (b d c a : Bool) → (b && not (d || c) && not a) ≡ (b && not c && not a && not d)
 ends_done true true true a = refl
 ends_done true true false true = refl
@@ -181,10 +158,10 @@ same_number : (a b : ℕ) → eqb a b ≡ eqb b a
 same_number a b = elim (cases_eq a b) [ inl e ↦ eq-eqb a b e ∙ sym (eq-eqb b a (sym e)) | inr ne ↦ ne_eqb a b ne ∙ sym (ne_eqb b a (λ e. ne (sym e))) ]
 
 unfinished_done : (P : List Event) (t : Txn) (u : ℕ) → unfinished (Done t ∷ P) u ≡ (unfinished P u && not (eqb u t.0))
-unfinished_done P t u = unfinished_cons (Done t) P u ∙ ends_done (begun P u) (eqb t.0 u) (committed P u) (aborted P u) ∙ (unfold unfinished in ap (λ (b : Bool). unfinished P u && not b) (same_number t.0 u))
+unfinished_done P t u = unfinished-cons (Done t) P u ∙ ends_done (begun P u) (eqb t.0 u) (committed P u) (aborted P u) ∙ (unfold unfinished in ap (λ (b : Bool). unfinished P u && not b) (same_number t.0 u))
 
 unfinished_gone : (P : List Event) (t : Txn) (c : Cause) (u : ℕ) → unfinished (Gone t c ∷ P) u ≡ (unfinished P u && not (eqb u t.0))
-unfinished_gone P t c u = unfinished_cons (Gone t c) P u ∙ ends_gone (begun P u) (committed P u) (eqb t.0 u) (aborted P u) ∙ (unfold unfinished in ap (λ (b : Bool). unfinished P u && not b) (same_number t.0 u))
+unfinished_gone P t c u = unfinished-cons (Gone t c) P u ∙ ends_gone (begun P u) (committed P u) (eqb t.0 u) (aborted P u) ∙ (unfold unfinished in ap (λ (b : Bool). unfinished P u && not b) (same_number t.0 u))
 
 -- the order of three tests does not matter
 moved_not : (a b c d : Bool) → (a && (b && d) && c) ≡ ((a && b && c) && d)
@@ -205,10 +182,10 @@ finished_holds S P n t e x c o f w g =
     ∙ passes_no_more t (λ u. wrote P u x) (holds S P n x) (holds S (e ∷ P) n x) (λ u. (λ j. o u j && f u j && (w u j || g u j)) ∙ moved_not (on S P n u) (unfinished P u) (wrote P u x || got P u x) (not (eqb u t))) (numbers (begun_count P))
 
 done_holds : (S : Setup) (P : List Event) (n : ℕ) (t : Txn) (x : Cell) → holds_in S (Done t ∷ P) n x ≡ released t.0 (holds_in S P n x)
-done_holds S P n t x = finished_holds S P n t.0 (Done t) x (unfold begun_count in refl) (λ u. unfold on in unfold spot_of in refl) (unfinished_done P t) (λ u. wrote_cons (Done t) P u x) (λ u. got_cons (Done t) P u x)
+done_holds S P n t x = finished_holds S P n t.0 (Done t) x (unfold begun_count in refl) (λ u. unfold on in unfold spot_of in refl) (unfinished_done P t) (λ u. wrote-cons (Done t) P u x) (λ u. got-cons (Done t) P u x)
 
 gone_holds : (S : Setup) (P : List Event) (n : ℕ) (t : Txn) (c : Cause) (x : Cell) → holds_in S (Gone t c ∷ P) n x ≡ released t.0 (holds_in S P n x)
-gone_holds S P n t c x = finished_holds S P n t.0 (Gone t c) x (unfold begun_count in refl) (λ u. unfold on in unfold spot_of in refl) (unfinished_gone P t c) (λ u. wrote_cons (Gone t c) P u x) (λ u. got_cons (Gone t c) P u x)
+gone_holds S P n t c x = finished_holds S P n t.0 (Gone t c) x (unfold begun_count in refl) (λ u. unfold on in unfold spot_of in refl) (unfinished_gone P t c) (λ u. wrote-cons (Gone t c) P u x) (λ u. got-cons (Gone t c) P u x)
 
 -- nothing changes that matters on x
 kept_holds : (S : Setup) (P : List Event) (n : ℕ) (e : Event) (x : Cell) → begun_count (e ∷ P) ≡ begun_count P → ((u : ℕ) → holds S (e ∷ P) n x u ≡ holds S P n x u)
@@ -235,9 +212,9 @@ module _ (S : Setup) (P : List Event) (n : ℕ) (t : Txn) (m : MayHold S P n t.0
   got_here x w v =
       let e : Event = Got t x w v in
       let unended = λ (u : ℕ). unfinished_same e P u refl refl refl in
-      let puts = λ (u : ℕ). wrote_cons e P u x in
-      let gets : (u : ℕ) → u ≢ t.0 → got (e ∷ P) u x ≡ got P u x = λ u ne. got_cons e P u x ∙ ap (λ (b : Bool). (b && same_cell x x) || got P u x) (ne_eqb t.0 u (λ q. ne (sym q))) in
-      let mine : got (e ∷ P) t.0 x ≡ true = got_cons e P t.0 x ∙ or_left _ _ (and_from _ _ (eq-eqb t.0 t.0 refl) (same_itself x)) in
+      let puts = λ (u : ℕ). wrote-cons e P u x in
+      let gets : (u : ℕ) → u ≢ t.0 → got (e ∷ P) u x ≡ got P u x = λ u ne. got-cons e P u x ∙ ap (λ (b : Bool). (b && same_cell x x) || got P u x) (ne_eqb t.0 u (λ q. ne (sym q))) in
+      let mine : got (e ∷ P) t.0 x ≡ true = got-cons e P t.0 x ∙ or_left _ _ (and_from _ _ (eq-eqb t.0 t.0 refl) (same_itself x)) in
       accessed_holds S P n t false e x m refl (λ u ne j. on S P n u && unended u j && (puts u j || gets u ne j)) (λ u ne. puts u)
       (and_from _ _ (and_from _ _ m.on (unended t.0 ∙ m.unfinished)) (or_right _ _ mine)) (puts t.0)
 
@@ -246,9 +223,9 @@ module _ (S : Setup) (P : List Event) (n : ℕ) (t : Txn) (m : MayHold S P n t.0
   put_here x v =
       let e : Event = Put t x v in
       let unended = λ (u : ℕ). unfinished_same e P u refl refl refl in
-      let gets = λ (u : ℕ). got_cons e P u x in
-      let puts : (u : ℕ) → u ≢ t.0 → wrote (e ∷ P) u x ≡ wrote P u x = λ u ne. wrote_cons e P u x ∙ ap (λ (b : Bool). (b && same_cell x x) || wrote P u x) (ne_eqb t.0 u (λ q. ne (sym q))) in
-      let mine : wrote (e ∷ P) t.0 x ≡ true = wrote_cons e P t.0 x ∙ or_left _ _ (and_from _ _ (eq-eqb t.0 t.0 refl) (same_itself x)) in
+      let gets = λ (u : ℕ). got-cons e P u x in
+      let puts : (u : ℕ) → u ≢ t.0 → wrote (e ∷ P) u x ≡ wrote P u x = λ u ne. wrote-cons e P u x ∙ ap (λ (b : Bool). (b && same_cell x x) || wrote P u x) (ne_eqb t.0 u (λ q. ne (sym q))) in
+      let mine : wrote (e ∷ P) t.0 x ≡ true = wrote-cons e P t.0 x ∙ or_left _ _ (and_from _ _ (eq-eqb t.0 t.0 refl) (same_itself x)) in
       accessed_holds S P n t true e x m refl (λ u ne j. on S P n u && unended u j && (puts u ne j || gets u j)) puts
       (and_from _ _ (and_from _ _ m.on (unended t.0 ∙ m.unfinished)) (or_left _ _ mine)) mine
 
@@ -262,8 +239,8 @@ unfolding begun_count on spot_of holds
 got_elsewhere S P n t x y w v o =
     let e : Event = Got t x w v in
     let unended = λ (u : ℕ). unfinished_same e P u refl refl refl in
-    let puts = λ (u : ℕ). wrote_cons e P u y in
-    let gets : (u : ℕ) → got (e ∷ P) u y ≡ got P u y = λ u. got_cons e P u y ∙ and_false (eqb t.0 u) (same_cell x y) (got P u y) o in
+    let puts = λ (u : ℕ). wrote-cons e P u y in
+    let gets : (u : ℕ) → got (e ∷ P) u y ≡ got P u y = λ u. got-cons e P u y ∙ and_false (eqb t.0 u) (same_cell x y) (got P u y) o in
     kept_holds S P n e y refl (λ u j. on S P n u && unended u j && (puts u j || gets u j)) (λ u _. puts u)
 
 pub put_elsewhere : (S : Setup) (P : List Event) (n : ℕ) (t : Txn) (x y : Cell) (v : Option ℤ) → same_cell x y ≡ false → holds_in S (Put t x v ∷ P) n y ≡ holds_in S P n y
@@ -271,8 +248,8 @@ unfolding begun_count on spot_of holds
 put_elsewhere S P n t x y v o =
     let e : Event = Put t x v in
     let unended = λ (u : ℕ). unfinished_same e P u refl refl refl in
-    let gets = λ (u : ℕ). got_cons e P u y in
-    let puts : (u : ℕ) → wrote (e ∷ P) u y ≡ wrote P u y = λ u. wrote_cons e P u y ∙ and_false (eqb t.0 u) (same_cell x y) (wrote P u y) o in
+    let gets = λ (u : ℕ). got-cons e P u y in
+    let puts : (u : ℕ) → wrote (e ∷ P) u y ≡ wrote P u y = λ u. wrote-cons e P u y ∙ and_false (eqb t.0 u) (same_cell x y) (wrote P u y) o in
     kept_holds S P n e y refl (λ u j. on S P n u && unended u j && (puts u j || gets u j)) (λ u _. puts u)
 
 -- a book after one event more
@@ -332,10 +309,10 @@ unfolding begun_count numbers txns on spot_of
 began_holds S P n t s k i x new put get =
     let e : Event = Began t s k i in
     let before : holds S P n x t.0 ≡ false = none P put get in
-    let after : holds S (e ∷ P) n x t.0 ≡ false = none (e ∷ P) (wrote_cons e P t.0 x ∙ put) (got_cons e P t.0 x ∙ get) in
-    let puts : (u : ℕ) → wrote (e ∷ P) u x ≡ wrote P u x = λ u. wrote_cons e P u x in
+    let after : holds S (e ∷ P) n x t.0 ≡ false = none (e ∷ P) (wrote-cons e P t.0 x ∙ put) (got-cons e P t.0 x ∙ get) in
+    let puts : (u : ℕ) → wrote (e ∷ P) u x ≡ wrote P u x = λ u. wrote-cons e P u x in
     let else : (u : ℕ) → u ≢ t.0 → holds S (e ∷ P) n x u ≡ holds S P n x u =
-    others_same S P n t.0 e x (λ u ne. ap (λ (b : Bool). on_path S.tree n (cond b (record { kind = k; instance = i }) (spot_of P u))) (not_other t.0 u ne)) (λ u ne. unfinished_same e P u (not_other t.0 u ne) refl refl) (λ u _. puts u) (λ u _. got_cons e P u x) in
+    others_same S P n t.0 e x (λ u ne. ap (λ (b : Bool). on_path S.tree n (cond b (record { kind = k; instance = i }) (spot_of P u))) (not_other t.0 u ne)) (λ u ne. unfinished_same e P u (not_other t.0 u ne) refl refl) (λ u _. puts u) (λ u _. got-cons e P u x) in
     same_holds (λ u. wrote P u x) (λ u. wrote (e ∷ P) u x) (holds S P n x) (holds S (e ∷ P) n x)
     (λ u. elim (cases_eq u t.0) [ inl q ↦ ap (holds S (e ∷ P) n x) q ∙ after ∙ sym (ap (holds S P n x) q ∙ before) | inr ne ↦ else u ne ])
     (λ u _. puts u) (numbers (suc (begun_count P)))
@@ -351,31 +328,31 @@ began_holds S P n t s k i x new put get =
 
 pub holds_left : (S : Setup) (P : List Event) (n : ℕ) (e : Event) → LeavesHolds S P n e → (x : Cell) → holds_in S (e ∷ P) n x ≡ holds_in S P n x
 unfolding begun_count on spot_of
-holds_left S P n (Ready t) h x = kept_inert S P n (Ready t) x refl (λ u. refl) (λ u. unfinished_same (Ready t) P u refl refl refl) (λ u. wrote_cons (Ready t) P u x) (λ u. got_cons (Ready t) P u x)
-holds_left S P n (Told t) h x = kept_inert S P n (Told t) x refl (λ u. refl) (λ u. unfinished_same (Told t) P u refl refl refl) (λ u. wrote_cons (Told t) P u x) (λ u. got_cons (Told t) P u x)
+holds_left S P n (Ready t) h x = kept_inert S P n (Ready t) x refl (λ u. refl) (λ u. unfinished_same (Ready t) P u refl refl refl) (λ u. wrote-cons (Ready t) P u x) (λ u. got-cons (Ready t) P u x)
+holds_left S P n (Told t) h x = kept_inert S P n (Told t) x refl (λ u. refl) (λ u. unfinished_same (Told t) P u refl refl refl) (λ u. wrote-cons (Told t) P u x) (λ u. got-cons (Told t) P u x)
 holds_left S P n (Got t y w v) h x =
     let e : Event = Got t y w v in
-    let puts : (u : ℕ) → wrote (e ∷ P) u x ≡ wrote P u x = λ u. wrote_cons e P u x in
+    let puts : (u : ℕ) → wrote (e ∷ P) u x ≡ wrote P u x = λ u. wrote-cons e P u x in
     kept_off S P n t.0 e x refl (off_holds S P n x t.0 h) (off_holds S (e ∷ P) n x t.0 h)
-    (others_same S P n t.0 e x (λ u _. refl) (λ u _. unfinished_same e P u refl refl refl) (λ u _. puts u) (λ u ne. got_cons e P u x ∙ ap (λ (b : Bool). (b && same_cell y x) || got P u x) (not_other t.0 u ne)))
+    (others_same S P n t.0 e x (λ u _. refl) (λ u _. unfinished_same e P u refl refl refl) (λ u _. puts u) (λ u ne. got-cons e P u x ∙ ap (λ (b : Bool). (b && same_cell y x) || got P u x) (not_other t.0 u ne)))
     (λ u _. puts u)
 holds_left S P n (Put t y v) h x =
     let e : Event = Put t y v in
-    let puts : (u : ℕ) → u ≢ t.0 → wrote (e ∷ P) u x ≡ wrote P u x = λ u ne. wrote_cons e P u x ∙ ap (λ (b : Bool). (b && same_cell y x) || wrote P u x) (not_other t.0 u ne) in
+    let puts : (u : ℕ) → u ≢ t.0 → wrote (e ∷ P) u x ≡ wrote P u x = λ u ne. wrote-cons e P u x ∙ ap (λ (b : Bool). (b && same_cell y x) || wrote P u x) (not_other t.0 u ne) in
     kept_off S P n t.0 e x refl (off_holds S P n x t.0 h) (off_holds S (e ∷ P) n x t.0 h)
-    (others_same S P n t.0 e x (λ u _. refl) (λ u _. unfinished_same e P u refl refl refl) puts (λ u _. got_cons e P u x))
+    (others_same S P n t.0 e x (λ u _. refl) (λ u _. unfinished_same e P u refl refl refl) puts (λ u _. got-cons e P u x))
     puts
 holds_left S P n (Done t) h x =
     let e : Event = Done t in
-    let puts : (u : ℕ) → wrote (e ∷ P) u x ≡ wrote P u x = λ u. wrote_cons e P u x in
+    let puts : (u : ℕ) → wrote (e ∷ P) u x ≡ wrote P u x = λ u. wrote-cons e P u x in
     kept_off S P n t.0 e x refl (off_holds S P n x t.0 h) (off_holds S (e ∷ P) n x t.0 h)
-    (others_same S P n t.0 e x (λ u _. refl) (λ u ne. unfinished_same e P u refl (not_other t.0 u ne) refl) (λ u _. puts u) (λ u _. got_cons e P u x))
+    (others_same S P n t.0 e x (λ u _. refl) (λ u ne. unfinished_same e P u refl (not_other t.0 u ne) refl) (λ u _. puts u) (λ u _. got-cons e P u x))
     (λ u _. puts u)
 holds_left S P n (Gone t c) h x =
     let e : Event = Gone t c in
-    let puts : (u : ℕ) → wrote (e ∷ P) u x ≡ wrote P u x = λ u. wrote_cons e P u x in
+    let puts : (u : ℕ) → wrote (e ∷ P) u x ≡ wrote P u x = λ u. wrote-cons e P u x in
     kept_off S P n t.0 e x refl (off_holds S P n x t.0 h) (off_holds S (e ∷ P) n x t.0 h)
-    (others_same S P n t.0 e x (λ u _. refl) (λ u ne. unfinished_same e P u refl refl (not_other t.0 u ne)) (λ u _. puts u) (λ u _. got_cons e P u x))
+    (others_same S P n t.0 e x (λ u _. refl) (λ u ne. unfinished_same e P u refl refl (not_other t.0 u ne)) (λ u _. puts u) (λ u _. got-cons e P u x))
     (λ u _. puts u)
 holds_left S P n (Began t s k i) h x = began_holds S P n t s k i x h.0 (h.1 x).0 (h.1 x).1
 

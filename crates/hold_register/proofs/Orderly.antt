@@ -11,28 +11,17 @@ use Rattle.teb_history.proofs.Any.{came_any}
 use Rattle.teb_rules.specs.Setup.{Setup}
 use Rattle.phase_api.specs.Told.{IsOrderly}
 use Rattle.phase_api.specs.Calls.{MayNote}
-
-begun_cons : (e : Event) (P : List Event) (u : ℕ) → begun (e ∷ P) u ≡ (is_began u e || begun P u)
-unfolding begun began_at
-begun_cons e P u = came_any (is_began u) (e ∷ P) ∙ ap (λ (b : Bool). is_began u e || b) (sym (came_any (is_began u) P))
-
-wrote_cons : (e : Event) (P : List Event) (u : ℕ) (x : Cell) → wrote (e ∷ P) u x ≡ (is_put u x e || wrote P u x)
-unfolding wrote put_at
-wrote_cons e P u x = came_any (is_put u x) (e ∷ P) ∙ ap (λ (b : Bool). is_put u x e || b) (sym (came_any (is_put u x) P))
-
-got_cons : (e : Event) (P : List Event) (u : ℕ) (x : Cell) → got (e ∷ P) u x ≡ (is_got u x e || got P u x)
-unfolding got got_at
-got_cons e P u x = came_any (is_got u x) (e ∷ P) ∙ ap (λ (b : Bool). is_got u x e || b) (sym (came_any (is_got u x) P))
+use Rattle.teb_history.proofs.Newest.{begun-cons, wrote-cons, got-cons}
 
 pub unfinished_begun : (H : List Event) (u : ℕ) → IsTrue (unfinished H u) → IsTrue (begun H u)
 unfolding unfinished
 unfinished_begun H u h = (and_parts _ _ (and_parts _ _ h).0).0
 
 begun_same : (e : Event) (P : List Event) (u : ℕ) → is_began u e ≡ false → begun (e ∷ P) u ≡ begun P u
-begun_same e P u f = begun_cons e P u ∙ ap (λ (b : Bool). b || begun P u) f
+begun_same e P u f = begun-cons e P u ∙ ap (λ (b : Bool). b || begun P u) f
 
 pub begun_kept : (e : Event) (P : List Event) (u : ℕ) → IsTrue (begun P u) → IsTrue (begun (e ∷ P) u)
-begun_kept e P u b = begun_cons e P u ∙ or_right (is_began u e) (begun P u) b
+begun_kept e P u b = begun-cons e P u ∙ or_right (is_began u e) (begun P u) b
 
 -- whoever accesses a cell by this event has begun
 record Accesses (e : Event) (P : List Event) : Type 0 where
@@ -40,10 +29,10 @@ record Accesses (e : Event) (P : List Event) : Type 0 where
   get : (u : ℕ) (x : Cell) → is_got u x e ≡ true → IsTrue (begun P u)
 
 wrote_next : (S : Setup) (P : List Event) (e : Event) → Accesses e P → IsOrderly S P → (u : ℕ) (x : Cell) → IsTrue (wrote (e ∷ P) u x) → IsTrue (begun (e ∷ P) u)
-wrote_next S P e a o u x w = begun_kept e P u (elim (or_cases (is_put u x e) (wrote P u x) (sym (wrote_cons e P u x) ∙ w)) [ inl h ↦ a.put u x h | inr h ↦ o.wrote u x h ])
+wrote_next S P e a o u x w = begun_kept e P u (elim (or_cases (is_put u x e) (wrote P u x) (sym (wrote-cons e P u x) ∙ w)) [ inl h ↦ a.put u x h | inr h ↦ o.wrote u x h ])
 
 got_next : (S : Setup) (P : List Event) (e : Event) → Accesses e P → IsOrderly S P → (u : ℕ) (x : Cell) → IsTrue (got (e ∷ P) u x) → IsTrue (begun (e ∷ P) u)
-got_next S P e a o u x g = begun_kept e P u (elim (or_cases (is_got u x e) (got P u x) (sym (got_cons e P u x) ∙ g)) [ inl h ↦ a.get u x h | inr h ↦ o.got u x h ])
+got_next S P e a o u x g = begun_kept e P u (elim (or_cases (is_got u x e) (got P u x) (sym (got-cons e P u x) ∙ g)) [ inl h ↦ a.get u x h | inr h ↦ o.got u x h ])
 
 -- an event that begins nothing
 no_began : (S : Setup) (P : List Event) (e : Event) → ((u : ℕ) → is_began u e ≡ false) → begun_count (e ∷ P) ≡ begun_count P → ((u : ℕ) → kind_of (e ∷ P) u ≡ kind_of P u) → Accesses e P → IsOrderly S P → IsOrderly S (e ∷ P)

@@ -19,7 +19,7 @@ use Rattle.teb_rules.specs.Accepted.{IsSound}
 use Rattle.teb_rules.specs.Answer.{answer}
 use Rattle.teb_rules.specs.Run.{history_after, requests_of}
 use Rattle.teb_rules.specs.Driver.{Seat, Follows, Turns, round_after, seated}
-use Rattle.teb_laws.specs.DriverLaws.{most_requests}
+use Rattle.driver_laws.specs.Laws.{most_requests}
 use Rattle.teb_rules.specs.Ranks.{serial_order}
 use Rattle.teb_rules.specs.Serializes.{Serializes}
 use Rattle.teb_laws.specs.Within.{NodeWithin, CauseWithin, ReplyWithin}

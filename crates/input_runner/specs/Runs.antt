@@ -9,7 +9,7 @@ use Rattle.teb_rules.specs.Setup.{Store}
 use Rattle.teb_rules.specs.Run.{history_after}
 use Rattle.teb_rules.specs.Ranks.{serial_order}
 use Rattle.teb_rules.specs.Driver.{Turns}
-use Rattle.teb_laws.specs.DriverLaws.{most_requests}
+use Rattle.driver_laws.specs.Laws.{most_requests}
 use Rattle.serial_order.specs.Commits.{txn_numbers}
 use Rattle.serial_order.specs.Tables.{IsFinalRows}
 use Rattle.script_text.specs.declared.Line.{Line}

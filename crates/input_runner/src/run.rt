@@ -3,7 +3,7 @@
 ghost use Rattle.std.specs.Prelude.{◌≡◌, ◌≤◌, ◌<◌, [], length, IfOk};
 ghost use Rattle.script_text.specs.Scripts.{scripts_of};
 ghost use Rattle.teb_rules.specs.Driver.{Ascending, Turns};
-ghost use Rattle.teb_laws.specs.DriverLaws.{most_requests};
+ghost use Rattle.driver_laws.specs.Laws.{most_requests};
 ghost use Rattle.fair_driver.specs.Seats.{scripts_on};
 ghost use Rattle.fair_driver.specs.Logged.{IsOf};
 ghost use Rattle.tree_toml.specs.Seen.{setup_view};

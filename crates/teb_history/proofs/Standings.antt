@@ -14,25 +14,7 @@ use Rattle.teb_history.specs.OwnEvents.{is_of, own_end}
 use Rattle.teb_history.specs.Live.{is_live}
 use Rattle.teb_history.specs.Standings.{start_of, standing_of, blank, standing_after, stands_unfinished, stands_live, stands_prepared, stands_session, standing_phase}
 use Rattle.teb_history.proofs.Any.{came_any}
-
-came-cons : (q : Event → Bool) (e : Event) (P : List Event) → came (e ∷ P) (first_event q (e ∷ P)) ≡ (q e || came P (first_event q P))
-came-cons q e P = came_any q (e ∷ P) ∙ ap (λ b. q e || b) (sym (came_any q P))
-
-begun-cons : (e : Event) (P : List Event) (t : ℕ) → begun (e ∷ P) t ≡ (is_began t e || begun P t)
-unfolding begun began_at
-begun-cons e P t = came-cons (is_began t) e P
-
-committed-cons : (e : Event) (P : List Event) (t : ℕ) → committed (e ∷ P) t ≡ (is_done t e || committed P t)
-unfolding committed done_at
-committed-cons e P t = came-cons (is_done t) e P
-
-ready-cons : (e : Event) (P : List Event) (t : ℕ) → came (e ∷ P) (ready_at (e ∷ P) t) ≡ (is_ready t e || came P (ready_at P t))
-unfolding ready_at
-ready-cons e P t = came-cons (is_ready t) e P
-
-told-cons : (e : Event) (P : List Event) (t : ℕ) → came (e ∷ P) (told_at (e ∷ P) t) ≡ (is_told t e || came P (told_at P t))
-unfolding told_at
-told-cons e P t = came-cons (is_told t) e P
+use Rattle.teb_history.proofs.Newest.{came-cons, begun-cons, committed-cons, ready-cons, told-cons}
 
 -- what each part says of the newest event
 parts : (e : Event) (P : List Event) (t : ℕ) → standing_of (e ∷ P) t ≡ record {

@@ -1,24 +1,24 @@
--- The order of commits, which is the serial order where every node ranks by it.
-use Rattle.std.proofs.Common.{◌≡◌, ◌≢◌, ◌⊎◌, ℕ, suc, ◌<◌, ◌≤◌, Bool, true, false, List, [], ◌∷◌, ◌++◌, refl, sym, ap, subst, inl, inr, arith, length, eqb, eqb-true, eq-eqb}
-use Rattle.std.proofs.lemmas.Bool.{both_ways}
+-- The order of commits, which is the serial order where the root ranks by it.
+use Rattle.std.proofs.Common.{◌≡◌, ◌≢◌, ◌⊎◌, ℕ, suc, ◌<◌, ◌≤◌, Bool, true, false, List, [], ◌∷◌, ◌++◌, refl, sym, ap, subst, subst₂, inl, inr, arith, length, eqb, ltb, lt-ltb, eqb-true, eq-eqb, flat_map}
+use Rattle.std.proofs.lemmas.Bool.{both_ways, or_left}
 use Rattle.teb_history.specs.declared.Event.{Event}
 use Rattle.teb_history.specs.declared.Event.TheVariants.{Began, Got, Put, Ready, Done, Gone, Told}
-use Rattle.teb_history.specs.Phases.{is_done, done_at, unfinished}
-use Rattle.teb_history.specs.Positions.{first, newest, first_event, upto}
+use Rattle.teb_history.specs.Phases.{is_done, began_at, done_at, spot_of, unfinished}
+use Rattle.teb_history.specs.Positions.{newest, first_event, upto}
 use Rattle.teb_names.specs.declared.Txn.{Txn}
 use Rattle.teb_names.specs.declared.ControlKind.TheVariants.{Locks, Pipeline}
-use Rattle.teb_rules.specs.Ranks.{rank, serially, serial_order}
+use Rattle.teb_rules.specs.Ranks.{key, lex, rank, serially, serial_order}
 use Rattle.teb_rules.specs.Serializes.{In, Pairs}
 use Rattle.teb_rules.specs.Setup.{Setup}
-use Rattle.teb_rules.specs.Tree.{row}
+use Rattle.teb_rules.specs.Tree.{path, row, side}
 use Rattle.teb_laws.specs.Lawful.{Lawful, MayCommit}
 use Rattle.teb_laws.specs.TreeFacts.{TreeFacts}
-use Rattle.teb_laws.proofs.Lists.{Sorted, In-append_left, In-append_right, In-append_cases, Pairs-weaker, sorted_unique}
-use Rattle.teb_laws.proofs.Meeting.{meets_exists}
+use Rattle.teb_laws.proofs.Lists.{In-append_left, In-append_right, In-append_cases, Pairs-weaker, sorted_unique}
+use Rattle.teb_laws.proofs.Meeting.{Rooted, path_good}
 use Rattle.teb_laws.proofs.Positions.{first_cases, before, now, later, upto_all}
 use Rattle.teb_laws.proofs.Ranks.{commits, done_rank}
-use Rattle.teb_laws.proofs.Serial.{Commits, serial_strict, serial_from_rank, order_each, order_all, order_sorted, Pairs-append}
-use Rattle.teb_laws.proofs.Timeline.{unfinished-upto}
+use Rattle.teb_laws.proofs.Serial.{Commits, serial_strict, order_each, order_all, order_sorted, Pairs-append}
+use Rattle.teb_laws.proofs.Timeline.{kind-lt, unfinished-upto}
 
 -- the committed transactions in the order of their commits
 abbrev pub committed_in : List Event → List ℕ
@@ -106,19 +106,29 @@ rising S (Ready u ∷ P) l = rising_kept (Ready u) P (rising S P l.1)
 rising S (Gone u c ∷ P) l = rising_kept (Gone u c) P (rising S P l.1)
 rising S (Told u ∷ P) l = rising_kept (Told u) P (rising S P l.1)
 
--- every node of the tree ranks by commits
-abbrev pub RanksByCommits : Setup → Type 0
-RanksByCommits S = (n : ℕ) → ((row S.tree n).control ≡ Locks) ⊎ ((row S.tree n).control ≡ Pipeline)
+-- the root ranks by commits
+abbrev pub RootRanksByCommits : Setup → Type 0
+RootRanksByCommits S = ((row S.tree 0).control ≡ Locks) ⊎ ((row S.tree 0).control ≡ Pipeline)
 
-serially_done : (S : Setup) (a : TreeFacts S) (H : List Event) → Lawful S H → RanksByCommits S → (t u : ℕ) → Commits H t → Commits H u → done_at H t < done_at H u → serially S H t u ≡ true
-serially_done S a H l c t u dt du h =
-    let bt = commits S H t l dt in
-    let bu = commits S H u l du in
-    let ne : t ≢ u = λ e. (let q = ap (done_at H) e in omega arith) in
-    let m = meets_exists S a H t u l (omega arith) (omega arith) ne in
-    serial_from_rank S a H m.node t u l dt du m.meet (let p = done_rank S H m.node t (c m.node) in let q = done_rank S H m.node u (c m.node) in omega arith)
+head_less : (f g h k : ℕ → ℕ) (xs ys : List ℕ) → Rooted xs → Rooted ys → f 0 < h 0 → lex (flat_map (λ n. f n ∷ g n ∷ []) xs) (flat_map (λ n. h n ∷ k n ∷ []) ys) ≡ true
+unfolding lex
+head_less f g h k [] ys p q r = absurd p
+head_less f g h k (x ∷ xs) [] p q r = absurd q
+head_less f g h k (x ∷ xs) (y ∷ ys) p q r = or_left (ltb (f x) (h y)) _ (lt-ltb _ _ (subst₂ (λ (m n : ℕ). f m < h n) (sym p) (sym q) r))
 
-pub order_of_commits : (S : Setup) (a : TreeFacts S) (H : List Event) → Lawful S H → RanksByCommits S → serial_order S H ≡ committed_in H
+-- a smaller rank at the root comes first in the serial order
+pub serial_from_root : (S : Setup) (a : TreeFacts S) (H : List Event) (t u : ℕ) → Lawful S H → Commits H t → Commits H u → rank S H 0 t < rank S H 0 u → serially S H t u ≡ true
+unfolding serially key
+serial_from_root S a H t u l dt du r =
+    let bt : began_at H t < length H = (let z = commits S H t l dt in omega arith) in
+    let bu : began_at H u < length H = (let z = commits S H u l du in omega arith) in
+    head_less (λ n. rank S H n t) (λ n. side S H n t) (λ n. rank S H n u) (λ n. side S H n u) (path S.tree (spot_of H t)) (path S.tree (spot_of H u))
+    (path_good S a (spot_of H t) (kind-lt S H t l bt)).rooted (path_good S a (spot_of H u) (kind-lt S H u l bu)).rooted r
+
+serially_done : (S : Setup) (a : TreeFacts S) (H : List Event) → Lawful S H → RootRanksByCommits S → (t u : ℕ) → Commits H t → Commits H u → done_at H t < done_at H u → serially S H t u ≡ true
+serially_done S a H l c t u dt du h = serial_from_root S a H t u l dt du (let p = done_rank S H 0 t c in let q = done_rank S H 0 u c in omega arith)
+
+pub order_of_commits : (S : Setup) (a : TreeFacts S) (H : List Event) → Lawful S H → RootRanksByCommits S → serial_order S H ≡ committed_in H
 order_of_commits S a H l c = sorted_unique (serially S H) (Commits H) (serial_strict S a H l) (serial_order S H) (committed_in H)
     (order_each S a H l) (committed-In H) (order_sorted S a H l)
     (Pairs-weaker (DoneFirst H) (λ t u. serially S H t u ≡ true) (committed_in H) (λ t u i j d. serially_done S a H l c t u (committed-In H t i) (committed-In H u j) d) (rising S H l))

@@ -1,5 +1,5 @@
 -- Every answer names nodes of the tree, and tables and types of the store.
-use Rattle.std.proofs.Common.{◌≡◌, ◌⊎◌, ℕ, zero, suc, ◌<◌, ◌+◌, Bool, true, false, cond, not, ◌&&◌, ltb, leb, List, [], ◌∷◌, ◌++◌, Option, Some, None, is_none, unwrap_or, eqb, eqb-true, refl, sym, ap, subst, inl, inr, arith, length, find, ltb-true, ℤ, ◌+ℤ◌}
+use Rattle.std.proofs.Common.{◌≡◌, ◌⊎◌, ℕ, zero, suc, ◌<◌, ◌+◌, Bool, true, false, cond, not, ◌&&◌, ltb, leb, List, [], ◌∷◌, Option, Some, None, is_none, unwrap_or, eqb, refl, subst, inl, inr, arith, length, find, ltb-true, ℤ, ◌+ℤ◌}
 use Rattle.std.proofs.lemmas.Bool.{not-false}
 use Rattle.teb_names.specs.declared.Node.{Node}
 use Rattle.teb_names.specs.declared.Cell.{Cell}
@@ -11,22 +11,20 @@ use Rattle.teb_names.specs.declared.Cause.{Cause}
 use Rattle.teb_names.specs.declared.Cause.TheVariants.{Newer, Asked, Ended}
 use Rattle.teb_names.specs.declared.Request.{Request}
 use Rattle.teb_names.specs.declared.Request.TheVariants.{Begin, Read, Write, Add, Delete, Scan, Prepare, Commit, Abort, End}
-use Rattle.teb_names.specs.declared.Reply.TheVariants.{Again, Aborted, Prepared, Committed}
 use Rattle.teb_names.specs.declared.Refusal.{Refusal}
 use Rattle.teb_names.specs.declared.Refusal.TheVariants.{BadSession, UnknownType, Full, NoTxn, UnknownTable, NotInProfile, Range, NotRead, Overflow, InTxn}
 use Rattle.teb_names.specs.declared.Refusal.TheVariants.{Prepared as IsPrepared}
 use Rattle.teb_history.specs.declared.Event.{Event}
 use Rattle.teb_history.specs.declared.Event.TheVariants.{Began, Got, Put, Ready, Done, Gone, Told}
-use Rattle.teb_history.specs.Phases.{txns, spot_of, begun_count, held, aborted, prepared, cause_of, kind_of}
-use Rattle.teb_history.specs.Accesses.{last_put, last_got}
-use Rattle.teb_rules.specs.Setup.{Setup, Store, among, profile}
-use Rattle.teb_rules.specs.Tree.{below, row, leaf, climb, way, path, houses, on, meets}
+use Rattle.teb_history.specs.Phases.{spot_of, begun_count, held, aborted, prepared, cause_of, kind_of}
+use Rattle.teb_rules.specs.Setup.{Setup, Store, profile}
+use Rattle.teb_rules.specs.Tree.{below, row, leaf, climb, way, path, houses}
 use Rattle.teb_rules.specs.Steps.{least_step, cursor}
 use Rattle.teb_rules.specs.Versions.{read}
 use Rattle.teb_rules.specs.Controls.{on_access, validate, pivot_break}
 use Rattle.teb_rules.specs.Stops.{on_commit, on_begin, stop_with, stop_of, nodes_of, access_stop, scan_stop, prepare_stop, commit_stop, begin_stop, or_stop_of}
-use Rattle.teb_rules.specs.Cascade.{txn, blamed, cascade, fall_in_turn, abort}
-use Rattle.teb_rules.specs.Answer.{Answered, refuse, broken_off, or_stop, put_value, added, add_base, fits, cells_from, is_scan, read_all, got_values, or_refused, answer_of, begin_or_wait, answer_new, answer_to, answer}
+use Rattle.teb_rules.specs.Cascade.{txn, cascade, fall_in_turn, abort}
+use Rattle.teb_rules.specs.Answer.{Answered, refuse, broken_off, or_stop, put_value, added, fits, cells_from, is_scan, read_all, or_refused, answer_of, begin_or_wait, answer_new, answer_to, answer}
 use Rattle.teb_rules.specs.Run.{history_after}
 use Rattle.teb_rules.specs.Serializes.{In}
 use Rattle.teb_rules.specs.Verdicts.{wait_for, break_for, or_else, cause_at}
@@ -37,7 +35,7 @@ use Rattle.teb_rules.specs.declared.Verdict.TheVariants.{Go, Wait, Break}
 use Rattle.teb_rules.specs.declared.Stop.{Stop}
 use Rattle.teb_rules.specs.declared.Stop.TheVariants as stop
 use Rattle.teb_laws.specs.TreeFacts.{TreeFacts}
-use Rattle.teb_laws.specs.Within.{NodeWithin, CellWithin, CauseWithin, ReplyWithin, EventWithin, AllWithin, StaysWithin}
+use Rattle.teb_laws.specs.Within.{NodeWithin, CellWithin, CauseWithin, ReplyWithin, AllWithin, StaysWithin}
 use Rattle.teb_laws.proofs.Lists.{In-append_cases}
 use Rattle.teb_laws.proofs.ReadRule.{find_some}
 use Rattle.teb_laws.proofs.Sound.{tree_facts}

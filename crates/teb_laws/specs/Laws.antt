@@ -16,7 +16,7 @@ use Rattle.teb_rules.specs.Setup.{Setup, Store}
 use Rattle.teb_rules.specs.Tree.{on, side, meets}
 use Rattle.teb_rules.specs.Accepted.{IsSound}
 use Rattle.teb_rules.specs.Alone.{is_quiet, is_alone, is_served}
-use Rattle.teb_rules.specs.Batches.{start, close}
+use Rattle.teb_rules.specs.Batches.{start, close, one_batch}
 use Rattle.teb_names.specs.declared.Spot.{Spot}
 use Rattle.teb_names.specs.declared.Request.TheVariants.{Begin}
 use Rattle.teb_rules.specs.Versions.{precedes, value_left}
@@ -78,10 +78,12 @@ ReadsAreStable S H = (t w : Txn) (x : Cell) (v : Option ℤ) → IsTrue (committ
 abbrev pub RanksAgree : Setup → List Event → Type 0
 RanksAgree S H = (m n u w : ℕ) → IsTrue (committed H u) → IsTrue (committed H w) → IsTrue (meets S H m u w) → IsAbove S n m → rank S H m u < rank S H m w → rank S H n u ≤ rank S H n w
 
--- all unfinished transactions of one side share its open batch, and a batch lies within one batch of each node above
+-- all unfinished transactions of one side share its open batch; a batch of whoever has begun, aborted or not, lies within one batch of
+-- each node above; and those of one batch are of one batch at each node above
 pub record BatchesNest (S : Setup) (H : List Event) : Type 0 where
   pub one_open : (n t u : ℕ) → IsTrue (unfinished H t) → IsTrue (unfinished H u) → IsTrue (on S H n t) → IsTrue (on S H n u) → side S H n t ≡ side S H n u → start S H n t ≡ start S H n u
-  pub nest : (n m t : ℕ) → IsTrue (unfinished H t) ⊎ IsTrue (committed H t) → IsTrue (on S H m t) → IsAbove S n m → (start S H n t ≤ start S H m t) × (close S H m t ≤ close S H n t)
+  pub nest : (n m t : ℕ) → IsTrue (begun H t) → IsTrue (on S H m t) → IsAbove S n m → (start S H n t ≤ start S H m t) × (close S H m t ≤ close S H n t)
+  pub shared : (n m t u : ℕ) → IsTrue (begun H t) → IsTrue (begun H u) → IsTrue (one_batch S H m t u) → IsAbove S n m → IsTrue (one_batch S H n t u)
 
 -- a session holds at most one transaction
 abbrev pub SessionsHoldOne : Setup → List Event → Type 0

@@ -19,7 +19,7 @@ use Rattle.teb_laws.proofs.Nodes.{meets_parts}
 use Rattle.timestamp_node.specs.Reads.{all_reads, reads}
 use Rattle.timestamp_node.specs.Late.{is_after, lesser_txn}
 use Rattle.timestamp_node.proofs.Readers.{AllOf}
-use Rattle.timestamp_node.proofs.LeastNumbers.{find_alike, nobody, lesser, find_either, numbers_find}
+use Rattle.teb_history.proofs.LeastNumbers.{find_alike, nobody, lesser, find_either, numbers_find}
 
 -- u made one of the reads that pass
 abbrev pub read_by : (Txn × Txn → Bool) → List (Txn × Txn) → ℕ → Bool

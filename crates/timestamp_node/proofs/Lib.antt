@@ -1,4 +1,3 @@
-pub mod LeastNumbers
 pub mod Readers
 pub mod Here
 pub mod Noting

@@ -29,7 +29,7 @@ use Rattle.hold_register.specs.Waits.{wait_for_txn}
 use Rattle.hold_register.proofs.Orderly.{unfinished_begun}
 use Rattle.batch_book.specs.Histories.{full_at}
 use Rattle.batch_book.proofs.Telling.{begin_waits}
-use Rattle.timestamp_node.proofs.LeastNumbers.{find_alike, nobody}
+use Rattle.teb_history.proofs.LeastNumbers.{find_alike, nobody}
 
 wait_txn : (o : Option ℕ) → wait_for_txn (txn_of o) ≡ wait_for o
 wait_txn None = refl

@@ -1,5 +1,5 @@
 use Rattle.std.proofs.Common.{◌≡◌, ◌+◌, ◌-◌, length}
-use Rattle.teb_laws.specs.DriverLaws.{most_requests}
+use Rattle.driver_laws.specs.Laws.{most_requests}
 use Rattle.fair_driver.specs.Seats.{round_of, scripts_on}
 use Rattle.fair_driver.proofs.Underway.{IsUnderway}
 use Rattle.fair_driver.proofs.drive.turns.Given as goal

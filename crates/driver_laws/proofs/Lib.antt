@@ -1,0 +1,10 @@
+pub mod Lone
+pub mod Outcomes
+pub mod Measure
+pub mod Keeping
+pub mod Asked
+pub mod Rounds
+pub mod Bound
+pub mod Ends
+pub mod Links
+pub mod Logs

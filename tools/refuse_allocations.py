@@ -1,0 +1,95 @@
+#!/usr/bin/env python3
+"""Refuses each allocation of a program in turn.
+
+    tools/refuse_allocations.py PROGRAM WORD.. < INPUT
+
+A run with a refused allocation has to end with status 8 and nothing written, or as the run without one. A small library, compiled by gcc for each call,
+stands before the allocator of the C library and answers one call by "no memory". The last line is `refused allocations: N passed, M failed`.
+"""
+import concurrent.futures
+import itertools
+import os
+import pathlib
+import subprocess
+import sys
+import tempfile
+
+OUT_OF_MEMORY = 8
+LIBRARY = r"""
+#include <errno.h>
+#include <stdlib.h>
+#include <unistd.h>
+
+extern void *__libc_malloc(size_t), *__libc_calloc(size_t, size_t), *__libc_realloc(void *, size_t), *__libc_memalign(size_t, size_t);
+
+static long made, refused = -1;
+
+static int is_refused(void) {
+    if (refused < 0) {
+        const char *number = getenv("REFUSED_ALLOCATION");
+        refused = number ? atol(number) : 0;
+    }
+    if (__sync_add_and_fetch(&made, 1) != refused) return 0;
+    write(atoi(getenv("REFUSED_TOLD")), "x", 1);
+    errno = ENOMEM;
+    return 1;
+}
+
+void *malloc(size_t size) { return is_refused() ? NULL : __libc_malloc(size); }
+void *calloc(size_t count, size_t size) { return is_refused() ? NULL : __libc_calloc(count, size); }
+void *realloc(void *old, size_t size) { return is_refused() ? NULL : __libc_realloc(old, size); }
+void *memalign(size_t align, size_t size) { return is_refused() ? NULL : __libc_memalign(align, size); }
+void *aligned_alloc(size_t align, size_t size) { return is_refused() ? NULL : __libc_memalign(align, size); }
+int posix_memalign(void **to, size_t align, size_t size) {
+    if (is_refused()) return ENOMEM;
+    *to = __libc_memalign(align, size);
+    return *to ? 0 : ENOMEM;
+}
+"""
+
+
+def compiled(room):
+    source, library = f"{room}/refuse.c", f"{room}/refuse.so"
+    pathlib.Path(source).write_text(LIBRARY)
+    subprocess.run(["gcc", "-O1", "-w", "-fno-builtin", "-shared", "-fPIC", "-o", library, source], check=True)
+    return library
+
+
+def ended(command, data, library, number):
+    """The status and the text of a run with that allocation refused, and whether it came to that allocation."""
+    told, tell = os.pipe()
+    names = {"LD_PRELOAD": library, "REFUSED_ALLOCATION": str(number), "REFUSED_TOLD": str(tell)}
+    ran = subprocess.run(command, input=data, stdout=subprocess.PIPE, stderr=subprocess.DEVNULL, env={**os.environ, **names}, pass_fds=[tell])
+    os.close(tell)
+    with os.fdopen(told, "rb") as it:
+        return ran.returncode, ran.stdout, it.read() == b"x"
+
+
+def main():
+    if len(sys.argv) < 3:
+        sys.exit(__doc__)
+    command, data = [os.path.abspath(sys.argv[1]), *sys.argv[2:]], sys.stdin.buffer.read()
+    passed, statuses, failed = 0, {}, 0
+    with tempfile.TemporaryDirectory() as room, concurrent.futures.ThreadPoolExecutor(len(os.sched_getaffinity(0))) as pool:
+        library = compiled(room)
+        whole = ended(command, data, library, 0)[:2]
+        for first in itertools.count(1, 64):
+            numbers = range(first, first + 64)
+            runs = list(pool.map(lambda number: ended(command, data, library, number), numbers))
+            for number, (status, text, met) in zip(numbers, runs):
+                if not met:
+                    continue
+                statuses[status] = statuses.get(status, 0) + 1
+                is_well = (status, text) == whole or (status, text) == (OUT_OF_MEMORY, b"")
+                passed, failed = passed + is_well, failed + (not is_well)
+                if not is_well:
+                    print(f"FAILED at allocation {number}: status {status}, {len(text)} bytes written")
+            if not all(met for *_, met in runs):
+                break
+    print("statuses: " + ", ".join(f"{status} of {count}" for status, count in sorted(statuses.items())))
+    print(f"refused allocations: {passed} passed, {failed} failed")
+    return 1 if failed else 0
+
+
+if __name__ == "__main__":
+    sys.exit(main())
