@@ -1,5 +1,5 @@
 -- What a decision comes to when it is carried out.
-use Rattle.std.proofs.Common.{◌≡◌, ℕ, ◌<◌, List, ◌∷◌, sym, ◌∙◌, ap, subst}
+use Rattle.std.proofs.Common.{◌≡◌, ℕ, ◌<◌, List, ◌∷◌, sym, subst}
 use Rattle.teb_names.specs.declared.Session.{Session}
 use Rattle.teb_names.specs.declared.Request.{Request}
 use Rattle.teb_history.specs.declared.Event.{Event}
@@ -7,7 +7,6 @@ use Rattle.teb_history.specs.declared.Event.TheVariants.{Began, Got, Put, Ready,
 use Rattle.teb_rules.specs.Setup.{Setup, Store}
 use Rattle.teb_rules.specs.Answer.{Answered, answer}
 use Rattle.teb_laws.specs.Lawful.{Granted, Lawful, Settled}
-use Rattle.teb_laws.proofs.Answers.{Good}
 use Rattle.teb_laws.proofs.Reachable.{answer_good}
 use Rattle.teb_laws.proofs.Sound.{tree_facts}
 use Rattle.teb_rules.specs.Accepted.{IsSound}
@@ -38,13 +37,7 @@ pub leads_granted : (S : Setup) (P : List Event) (e : Event) → Lawful S (e ∷
 unfolding Lawful
 leads_granted S P e l = l.0
 
--- the history of an answer is good
-module _ (X : Store) (H : List Event) (s : Session) (r : Request) (sound : IsSound X.setup) (l : Lawful X.setup H) (t : Settled H) (d : Decision) (e : carried X H d ≡ answer X H s r) where
-  answered : Good X.setup (answer X H s r).1
-  answered = answer_good X (tree_facts X.setup sound) sound.profiles H s r (record { legal = l; settled = t })
-
-  pub leads_on : Lawful X.setup (carried X H d).1
-  leads_on = subst (λ (a : Answered). Lawful X.setup a.1) (sym e) answered.legal
-
-  pub settles : (G : List Event) → G ≡ (carried X H d).1 → Settled G
-  settles G q = subst Settled (sym (q ∙ ap (λ (a : Answered). a.1) e)) answered.settled
+-- the history of an answer is lawful
+pub leads_on : (X : Store) (H : List Event) (s : Session) (r : Request) → IsSound X.setup → Lawful X.setup H → Settled H → (d : Decision) → carried X H d ≡ answer X H s r → Lawful X.setup (carried X H d).1
+leads_on X H s r sound l t d e =
+    subst (λ (a : Answered). Lawful X.setup a.1) (sym e) (answer_good X (tree_facts X.setup sound) sound.profiles H s r (record { legal = l; settled = t })).legal

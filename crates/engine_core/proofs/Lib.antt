@@ -11,6 +11,7 @@ pub mod ReadSources
 pub mod Writing
 pub mod Falling
 pub mod Carrying
+pub mod Reached
 pub mod Setups
 pub mod Starting
 pub mod Rooms

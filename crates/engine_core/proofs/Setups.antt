@@ -5,7 +5,7 @@ use Rattle.teb_history.specs.declared.Event.{Event}
 use Rattle.teb_history.specs.Phases.{begun_count}
 use Rattle.teb_rules.specs.Setup.{Setup as Rules, above_profiles}
 use Rattle.teb_rules.specs.Accepted.{IsSound}
-use Rattle.teb_laws.specs.Lawful.{Lawful, Settled}
+use Rattle.teb_laws.specs.Lawful.{Lawful}
 use Rattle.teb_laws.proofs.Reachable.{empty_good}
 use Rattle.version_chain.specs.Lists.{Version}
 use Rattle.phase_api.specs.Standing.{StandAll}
@@ -18,11 +18,8 @@ use Rattle.tree_toml.specs.Sound as toml
 use Rattle.engine_core.specs.Stores.{store_of}
 use Rattle.engine_core.specs.Wholes.{IsWhole}
 
-sound_rules : (s : Setup) → toml.IsWhole (setup_view s) → IsSound (store_of s).setup
+pub sound_rules : (s : Setup) → toml.IsWhole (setup_view s) → IsSound (store_of s).setup
 sound_rules s w = subst (λ (n : ℕ). let R : Rules = record { types = n; profiles = s.profiles.items; tree = s.tree.rows } in IsSound R) (sym w.types) w.sound
-
-few_nodes : (s : Setup) → toml.IsWhole (setup_view s) → length s.tree.rows ≤ 64
-few_nodes s w = let a = w.nodes in let b = w.few_nodes in omega arith
 
 pub enough_profiles : (s : Setup) (F : Rules) → F ≡ (store_of s).setup → toml.IsWhole (setup_view s) → F.types ≤ length F.profiles
 enough_profiles s F q w = subst (λ (S : Rules). S.types ≤ length S.profiles) (sym q) (let a = w.profiles in let b = w.types in omega arith)
@@ -37,9 +34,6 @@ none_begun = omega arith
 lawful_none : (S : Rules) → Lawful S []
 lawful_none S = (empty_good S).legal
 
-pub settled_none : (H : List Event) → H ≡ [] → Settled H
-settled_none H q = subst Settled (sym q) (empty_good (record { types = 0; profiles = []; tree = [] })).settled
-
 pub whole_from_nothing : {K : Type 0} (place : K → ℕ) (stands : K → Rules → List Event → Type 0) (s : Setup) (H : List Event) (cs : List K) (L : Cell → List Version) (b : Lists) (steps : List ℕ) → toml.IsWhole (setup_view s) → H ≡ [] →
     StandAll place stands cs (store_of s).setup H → ((x : Cell) → L x ≡ []) → BookOf b [] → steps ≡ [] → IsWhole place stands (store_of s) H cs L b steps
 whole_from_nothing {K} place stands s H cs L b steps w q sa l bo cu =
@@ -47,7 +41,7 @@ whole_from_nothing {K} place stands s H cs L b steps w q sa l bo cu =
     (subst (λ (ns : List ℕ). IsWhole place stands (store_of s) [] cs L b ns) (sym cu) (record {
       sound = sound_rules s w;
       profiled = w.profiles ∙ sym w.types;
-      nodes = few_nodes s w;
+      nodes = w.few_nodes;
       lawful = lawful_none (store_of s).setup;
       few = none_begun;
       controls = subst (StandAll place stands cs (store_of s).setup) q sa;

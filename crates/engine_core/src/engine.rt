@@ -12,6 +12,7 @@ ghost use Rattle.tree_toml.specs.Seen.{setup_view};
 ghost use Rattle.tree_toml.specs.Sound.{IsWhole};
 ghost use Rattle.engine_core.specs.Stores.{store_of};
 ghost use Rattle.engine_core.specs.AnyControls.{any_place, any_stands};
+ghost use Rattle.engine_core.specs.State.{IsOfEngine};
 ghost use Rattle.engine_core.specs.Wholes.{KernelIsWhole};
 
 use crate::any_control::{AnyControl, controls_of};
@@ -93,10 +94,11 @@ impl<C: Chains> Engine<C> {
         carry_out(decision, &mut self.kernel)
     }
 
-    /// What has happened so far: a history of the store, each event of which the rules granted.
+    /// What has happened so far: a history of the store to which requests lead, each event of which the rules granted.
     pub fn history(&self) -> &History
         ensures events { result.now.events ≡ self.now.events }
         ensures sound { IsSound self.now.store.setup }
+        ensures reached { IsOfEngine self.now }
         ensures lawful { Lawful self.now.store.setup self.now.events }
     {
         &self.kernel.history

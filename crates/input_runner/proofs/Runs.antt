@@ -27,7 +27,7 @@ use Rattle.teb_laws.proofs.Timeline.{same_cell-true}
 use Rattle.teb_laws.proofs.Within.{stays_within}
 use Rattle.teb_laws.proofs.Laws.{every_run_serializes}
 use Rattle.serial_order.specs.Tables.{IsFinalRows}
-use Rattle.serial_order.proofs.Within.{rows_within}
+use Rattle.serial_order.proofs.Within.{row_within, rows_within}
 use Rattle.script_text.specs.declared.Line.{Line}
 use Rattle.script_text.specs.declared.Answered.{Answered}
 use Rattle.script_text.specs.Scripts.{scripts_of}
@@ -38,7 +38,7 @@ use Rattle.replay_runner.proofs.Within.{log_within}
 use Rattle.fair_driver.specs.Logged.{IsOf, answers_of}
 use Rattle.fair_driver.specs.Seats.{scripts_on}
 use Rattle.tree_toml.specs.Meaning.{Meaning}
-use Rattle.tree_toml.specs.Sound.{IsWhole}
+use Rattle.tree_toml.specs.Sound.{IsWhole, IsNamed}
 use Rattle.input_runner.specs.Stores.{store_of, names_of}
 use Rattle.input_runner.specs.Runs.{Run, Says, IsReplay, IsRun, run_by, says_by}
 use Rattle.input_runner.specs.declared.texts.Form.{Form}
@@ -69,17 +69,9 @@ asked_by mode.Turns X lines log H r = (
   },
 )
 
-row_within : (tables : ℕ) (rows : List (Cell × ℤ)) (x : Cell) (v : ℤ) → All (λ (r : Cell × ℤ). r.0.table.0 < tables) rows → row_of rows x ≡ Some v → x.table.0 < tables
-row_within tables [] x v within e = absurd (cc)
-row_within tables (r ∷ rs) x v within e = here (row_within tables rs x v (λ k d low. within (suc k) d (omega (arith, low)))) (same_cell r.0 x) refl e
-  where
-    here : (row_of rs x ≡ Some v → x.table.0 < tables) → (b : Bool) → same_cell r.0 x ≡ b → cond b (Some r.1) (row_of rs x) ≡ Some v → x.table.0 < tables
-    here behind true s p = subst (λ (y : Cell). y.table.0 < tables) (same_cell-true r.0 x s) (within zero r (omega arith))
-    here behind false s p = behind p
-
-module _ (m : Meaning) (whole : IsWhole m) where
+module _ (m : Meaning) (whole : IsWhole m) (named : IsNamed m) where
   node_named : (n : Node) → NodeWithin (store_of m) n → NodeNamed (names_of m) n
-  node_named n h = subst (λ (nodes : ℕ). n.0 < nodes) whole.nodes h
+  node_named n h = subst (λ (nodes : ℕ). n.0 < nodes) named h
 
   cause_named : (c : Cause) → CauseWithin (store_of m) c → CauseNamed (names_of m) c
   cause_named (cause.Late n r x) h = (node_named n h.0, h.1)

@@ -15,7 +15,7 @@ use Rattle.cc_tree.specs.Grown.{Grown, row_of, rows_of}
 use Rattle.cc_tree.specs.declared.fault.TreeError.{TreeError}
 use Rattle.cc_tree.specs.declared.fault.TreeError.TheVariants.{Shape, Misplaced, OutOfMemory}
 use Rattle.cc_tree.specs.declared.rows.NodeRow.{NodeRow as Row}
-use Rattle.tree_toml.specs.Sound.{IsWhole, rules_of}
+use Rattle.tree_toml.specs.Sound.{IsWhole, IsNamed, rules_of}
 use Rattle.input_runner.specs.Shop.{shop, shop_nodes, shop_rows, shop_profiles, filled}
 
 no_fault : tree_fault shop_nodes 4 ≡ None
@@ -96,24 +96,15 @@ rows_ascend : IsAscending shop_rows
 unfolding numbers
 rows_ascend = refl
 
-rows_count : length shop_rows ≡ 48
-unfolding numbers
-rows_count = refl
-
-pub shop_whole : IsWhole shop
+shop_whole : IsWhole shop
 shop_whole = record {
   sound = shop_sound;
   profiles = refl;
-  nodes = refl;
   types = refl;
+  few_nodes = omega arith;
+  few_tables = omega arith;
   ranked = omega arith;
   cells = cells_below;
-  ascending = rows_ascend;
-  few_tables = omega arith;
-  few_types = omega arith;
-  few_nodes = omega arith;
-  few_rows = omega (arith, rows_count);
-  format = (omega arith, omega arith);
 }
 
 pub ascends : (rows : List (Cell × ℤ)) → rows ≡ shop_rows → IsAscending rows
@@ -149,3 +140,8 @@ no_error rows OutOfMemory are a = refl
 pub whole_of : (tables types nodes : List (List ℕ)) (profiles : List (List (List ℕ))) (tree : Grown) (rows : List (Cell × ℤ)) → tables ≡ shop.tables → types ≡ shop.types → nodes ≡ shop.nodes → profiles ≡ shop.profiles → tree ≡ shop.tree → rows ≡ shop.rows
     → IsWhole (record { tables = tables; types = types; nodes = nodes; profiles = profiles; tree = tree; rows = rows; format = 1 })
 whole_of tables types nodes profiles tree rows a b c d e f = rw (a, b, c, d, e, f) shop_whole
+
+-- and each node has a name
+pub named_of : (tables types nodes : List (List ℕ)) (profiles : List (List (List ℕ))) (tree : Grown) (rows : List (Cell × ℤ)) → nodes ≡ shop.nodes → tree ≡ shop.tree
+    → IsNamed (record { tables = tables; types = types; nodes = nodes; profiles = profiles; tree = tree; rows = rows; format = 1 })
+named_of tables types nodes profiles tree rows a b = rw (a, b) (let named : IsNamed shop = refl in named)

@@ -6,7 +6,7 @@ ghost use Rattle.script_text.specs.Lines.{lines_of};
 ghost use Rattle.script_text.specs.Grammar.{script_of};
 ghost use Rattle.tree_toml.specs.Meaning.{setup_of};
 ghost use Rattle.tree_toml.specs.Seen.{setup_view};
-ghost use Rattle.tree_toml.specs.Sound.{IsWhole};
+ghost use Rattle.tree_toml.specs.Sound.{IsWhole, IsNamed};
 ghost use Rattle.input_runner.specs.Stores.{names_of};
 ghost use Rattle.input_runner.specs.Runs.{run_by};
 ghost use Rattle.input_runner.specs.Tells.{TellsInput, TellsParts, TellsTree, TellsScript, IsSetUp, IsSerialized};
@@ -62,6 +62,7 @@ fn run_tree(alloc: Global, mode: Mode, tree: &[u8], script: &[u8]) -> Result<Tel
 /// Runs a script over the store of a setup.
 fn run_script(alloc: Global, mode: Mode, setup: Setup, script: &[u8]) -> Result<Telling, AllocError>
     requires whole { IsWhole (setup_view setup) }
+    requires named { IsNamed (setup_view setup) }
     requires lines { length (lines_of script.now) ≤ 65536 }
     ensures told { IfOk result (λ t. TellsScript (run_by mode) (setup_view setup) (script_of (names_of (setup_view setup)) setup.format script.now) (told_by t)) }
     ensures status { IfOk result (λ t. IsTellable t.status) }

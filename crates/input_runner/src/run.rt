@@ -7,7 +7,7 @@ ghost use Rattle.driver_laws.specs.Laws.{most_requests};
 ghost use Rattle.fair_driver.specs.Seats.{scripts_on};
 ghost use Rattle.fair_driver.specs.Logged.{IsOf};
 ghost use Rattle.tree_toml.specs.Seen.{setup_view};
-ghost use Rattle.tree_toml.specs.Sound.{IsWhole};
+ghost use Rattle.tree_toml.specs.Sound.{IsWhole, IsNamed};
 ghost use Rattle.input_runner.specs.Runs.{run_by, says_by, IsReplay, IsRun};
 ghost use Rattle.input_runner.specs.Tellings.{told_by, IsTellable};
 ghost use Rattle.input_runner.specs.Tells.{IsSerialized};
@@ -43,6 +43,7 @@ pub fn tell_run(
     lines: &[Line],
 ) -> Result<Telling, AllocError>
     requires whole { IsWhole (setup_view setup) }
+    requires named { IsNamed (setup_view setup) }
     requires ascending { Ascending 0 (scripts_on (scripts_of lines.now)) }
     ensures told { IfOk result (λ t. IsRun (run_by mode) (says_by form) (setup_view setup) lines.now (told_by t)) }
     ensures status { IfOk result (λ t. IsTellable t.status) }

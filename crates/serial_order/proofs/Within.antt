@@ -1,5 +1,5 @@
 -- The rows of the final tables are of tables of the store.
-use Rattle.std.proofs.Common.{◌≡◌, ℕ, Bool, true, false, cond, ◌&&◌, List, [], ◌∷◌, get_or, Option, Some, None, unwrap_or, ℤ, eqb, refl, sym, ◌∙◌, subst}
+use Rattle.std.proofs.Common.{◌≡◌, ℕ, zero, suc, ◌<◌, Bool, true, false, cond, ◌&&◌, List, [], ◌∷◌, get_or, Option, Some, None, unwrap_or, ℤ, eqb, refl, sym, ◌∙◌, subst, arith}
 use Rattle.std.proofs.lemmas.Cmp.{tied_itself}
 use Rattle.std.specs.Prelude.{All}
 use Rattle.teb_names.specs.declared.Cell.{Cell}
@@ -16,6 +16,15 @@ use Rattle.teb_rules.specs.Serializes.{final_table, value_of}
 use Rattle.teb_laws.specs.Within.{CellWithin, AllWithin}
 use Rattle.teb_laws.proofs.Timeline.{same_cell-true}
 use Rattle.serial_order.specs.Tables.{IsFinalRows}
+
+-- where all rows are of the first tables, so is each cell that has a row
+pub row_within : (tables : ℕ) (rows : List (Cell × ℤ)) (x : Cell) (v : ℤ) → All (λ (r : Cell × ℤ). r.0.table.0 < tables) rows → row_of rows x ≡ Some v → x.table.0 < tables
+row_within tables [] x v within e = absurd (cc)
+row_within tables (r ∷ rs) x v within e = here (row_within tables rs x v (λ k d low. within (suc k) d (omega (arith, low)))) (same_cell r.0 x) refl e
+  where
+    here : (row_of rs x ≡ Some v → x.table.0 < tables) → (b : Bool) → same_cell r.0 x ≡ b → cond b (Some r.1) (row_of rs x) ≡ Some v → x.table.0 < tables
+    here behind true s p = subst (λ (y : Cell). y.table.0 < tables) (same_cell-true r.0 x s) (within zero r (omega arith))
+    here behind false s p = behind p
 
 module _ (X : Store) where
   put_within : (H : List Event) (t : ℕ) (x : Cell) (v : Option ℤ) → AllWithin X H → last_put H t x ≡ Some v → CellWithin X x

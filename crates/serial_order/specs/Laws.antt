@@ -3,26 +3,18 @@ use Rattle.std.specs.Prelude.{◌≡◌, ◌≢◌, ℕ, List, IsTrue}
 use Rattle.std.specs.List.{list_any}
 use Rattle.teb_names.specs.declared.Cell.{Cell}
 use Rattle.teb_names.specs.declared.Txn.{Txn}
-use Rattle.teb_names.specs.declared.Session.{Session}
-use Rattle.teb_names.specs.declared.Request.{Request}
 use Rattle.teb_history.specs.Phases.{committed}
 use Rattle.teb_history.specs.Accesses.{wrote}
-use Rattle.teb_rules.specs.Accepted.{IsSound}
 use Rattle.teb_rules.specs.Versions.{precedes}
 use Rattle.teb_rules.specs.Ranks.{serial_order}
 use Rattle.teb_rules.specs.Serializes.{StandsBefore}
-use Rattle.teb_laws.specs.Laws.{reached, is_read, ReadsAreStable}
-use Rattle.engine_core.specs.State.{State}
+use Rattle.teb_laws.specs.Laws.{is_read, ReadsAreStable}
+use Rattle.engine_core.specs.State.{State, IsOfEngine}
 use Rattle.serial_order.specs.Commits.{txn_numbers}
-
--- an engine of a sound store that has been asked these requests
-pub record HasAnswered (e : State) (asked : List (Session × Request)) : Type 0 where
-  pub sound : IsSound e.store.setup
-  pub history : e.events ≡ reached e.store asked
 
 -- P holds of every engine at every moment
 abbrev pub OfEveryEngine : (State → Type 0) → Type 0
-OfEveryEngine P = (e : State) (asked : List (Session × Request)) → HasAnswered e asked → P e
+OfEveryEngine P = (e : State) → IsOfEngine e → P e
 
 -- and of the numbers of the transactions in the order that `order` gives
 abbrev pub OfEveryOrder : (State → List ℕ → Type 0) → Type 0

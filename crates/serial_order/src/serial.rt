@@ -3,6 +3,7 @@
 ghost use Rattle.std.specs.Prelude.{◌≡◌, reverse, IfOk};
 ghost use Rattle.teb_rules.specs.Accepted.{IsSound};
 ghost use Rattle.teb_rules.specs.Ranks.{serial_order};
+ghost use Rattle.teb_rules.specs.Serializes.{Serializes};
 ghost use Rattle.teb_laws.specs.Lawful.{Lawful};
 ghost use Rattle.phase_api.specs.Told.{setup_of, events_of};
 ghost use Rattle.serial_order.specs.Books.{AreBooks};
@@ -28,9 +29,10 @@ pub(crate) struct Entry {
     key: Vec<usize>,
 }
 
-/// The committed transactions in the serial order.
+/// The committed transactions in the serial order, which serializes the history.
 pub fn order<C: Chains>(alloc: Global, engine: &Engine<C>) -> Result<Vec<Txn>, AllocError>
-    ensures { IfOk result (λ v. txn_numbers v.items ≡ serial_order engine.now.store.setup engine.now.events) }
+    ensures order { IfOk result (λ v. txn_numbers v.items ≡ serial_order engine.now.store.setup engine.now.events) }
+    ensures serializes { IfOk result (λ v. Serializes engine.now.store engine.now.events (txn_numbers v.items)) }
 {
     let setup = engine.setup();
     let facts = Facts {

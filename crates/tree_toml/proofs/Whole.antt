@@ -18,7 +18,7 @@ use Rattle.tree_toml.specs.Nodes.{nodes_of}
 use Rattle.tree_toml.specs.Rows.{rows_of}
 use Rattle.tree_toml.specs.Meaning.{Meaning, grown, shape_text, lists_in, setup_in, setup_of, document_of, document_in, plain, plain_row, is_blank}
 use Rattle.tree_toml.specs.Seen.{setup_view}
-use Rattle.tree_toml.specs.Sound.{IsWhole, rules_of}
+use Rattle.tree_toml.specs.Sound.{IsWhole, IsNamed, IsOfText, rules_of}
 use Rattle.tree_toml.specs.declared.setup.Setup.{Setup as SetupRead}
 use Rattle.tree_toml.specs.declared.fault.ListName.TheVariants as list
 use Rattle.tree_toml.specs.declared.fault.Key.TheVariants as key
@@ -42,20 +42,25 @@ plain_sound = record { some = omega arith; parts = parts; accepted = refl; profi
     filled zero (suc i) h j = absurd (omega arith)
     filled (suc k) i h j = absurd (omega arith)
 
-plain_whole : IsWhole plain
-plain_whole = record {
-  sound = plain_sound;
-  profiles = refl;
-  nodes = refl;
-  types = refl;
-  ranked = omega arith;
-  cells = All-nil (λ (r : Cell × ℤ). r.0.table.0 < 1);
-  ascending = refl;
-  few_tables = omega arith;
-  few_types = omega arith;
-  few_nodes = omega arith;
-  few_rows = omega arith;
-  format = (omega arith, omega arith);
+-- all that is so of a setup that was read
+record IsRead (m : Meaning) : Type 0 where
+  whole : IsWhole m
+  named : IsNamed m
+  limits : IsOfText m
+
+plain_read : IsRead plain
+plain_read = record {
+  whole = record {
+    sound = plain_sound;
+    profiles = refl;
+    types = refl;
+    few_nodes = omega arith;
+    few_tables = omega arith;
+    ranked = omega arith;
+    cells = All-nil (λ (r : Cell × ℤ). r.0.table.0 < 1);
+  };
+  named = refl;
+  limits = record { few_types = omega arith; few_nodes = omega arith; few_rows = omega arith; ascending = refl; format = (omega arith, omega arith) };
 }
 
 grown_by : (rows : List NodeRow) (types : ℕ) (tree : Grown) (o : Option (ℕ × Fault))
@@ -63,9 +68,9 @@ grown_by : (rows : List NodeRow) (types : ℕ) (tree : Grown) (o : Option (ℕ �
 grown_by rows types tree None e = (refl, ok_is _ _ tree refl e)
 grown_by rows types tree (Some w) e = absurd (cc)
 
-lists_whole : (format : ℕ) (ms : Members) (m : Meaning) → (1 ≤ format) × (format ≤ 3) → lists_in format ms ≡ Ok m → IsWhole m
+lists_read : (format : ℕ) (ms : Members) (m : Meaning) → (1 ≤ format) × (format ≤ 3) → lists_in format ms ≡ Ok m → IsRead m
 unfolding lists_in
-lists_whole format ms m known e =
+lists_read format ms m known e =
     let tables = bind_ok (tables_of ms) _ m e in
     let types = bind_ok (types_of tables.0 ms) _ m tables.2 in
     let nodes = bind_ok (nodes_of format types.0.names ms) _ m types.2 in
@@ -77,51 +82,63 @@ lists_whole format ms m known e =
     let starts = rows_ok tables.0 ms rows.0 rows.1 in
     let grew = grown_by nodes.0.rows (length types.0.names) tree.0 (tree_fault nodes.0.rows (length types.0.names)) tree.1 in
     rw (← ok_is _ _ m refl tree.2, ← grew.1) (record {
-      sound = record {
-        some = own.some;
-        parts = λ n h. (own.rows n no_row h).parts.2;
-        accepted = grew.0;
-        profiles = record { filled = λ k i h g. profile_filled (length tables.0) types.0.profiles k i typed.profiles (omega (arith, h, typed.same)) g };
+      whole = record {
+        sound = record {
+          some = own.some;
+          parts = λ n h. (own.rows n no_row h).parts.2;
+          accepted = grew.0;
+          profiles = record { filled = λ k i h g. profile_filled (length tables.0) types.0.profiles k i typed.profiles (omega (arith, h, typed.same)) g };
+        };
+        profiles = typed.same;
+        types = refl;
+        few_nodes = own.few;
+        few_tables = few.1;
+        ranked = profiles_within (length tables.0) types.0.profiles typed.profiles;
+        cells = starts.cells;
       };
-      profiles = typed.same;
-      nodes = own.names;
-      types = refl;
-      ranked = profiles_within (length tables.0) types.0.profiles typed.profiles;
-      cells = starts.cells;
-      ascending = starts.ascending;
-      few_tables = few.1;
-      few_types = typed.few;
-      few_nodes = omega (arith, own.names, own.few);
-      few_rows = starts.few;
-      format = known;
+      named = own.names;
+      limits = record { few_types = typed.few; few_nodes = omega (arith, own.names, own.few); few_rows = starts.few; ascending = starts.ascending; format = known };
     })
 
-known_by : (b : Bool) (ms : Members) (w : TreeText) (m : Meaning) → (if b then at (at_top key.Format) (format_of ms) >>= (λ format. lists_in format ms) else Err w) ≡ Ok m → IsWhole m
+known_by : (b : Bool) (ms : Members) (w : TreeText) (m : Meaning) → (if b then at (at_top key.Format) (format_of ms) >>= (λ format. lists_in format ms) else Err w) ≡ Ok m → IsRead m
 known_by true ms w m e =
     let format = bind_ok (at (at_top key.Format) (format_of ms)) _ m e in
     let read = bind_ok (integer_at (codes "format") ms >>= required) (within 1 3) format.0 (at_ok _ _ format.0 format.1) in
-    lists_whole format.0 ms m (within_ok 1 3 read.0 format.0 read.2) format.2
+    lists_read format.0 ms m (within_ok 1 3 read.0 format.0 read.2) format.2
 known_by false ms w m e = absurd (cc)
 
-setup_whole : (ms : Members) (m : Meaning) → setup_in ms ≡ Ok m → IsWhole m
+setup_read : (ms : Members) (m : Meaning) → setup_in ms ≡ Ok m → IsRead m
 unfolding setup_in
-setup_whole ms m e = known_by (all_known list.Top 1 ms) ms _ m e
+setup_read ms m e = known_by (all_known list.Top 1 ms) ms _ m e
 
-document_whole : (o : Option Members) (b : Bool) (m : Meaning) → (if b then document_in o else Err NotToml) ≡ Ok m → IsWhole m
-document_whole None true m e = absurd (cc)
-document_whole (Some ms) true m e = setup_whole ms m e
-document_whole o false m e = absurd (cc)
+document_read : (o : Option Members) (b : Bool) (m : Meaning) → (if b then document_in o else Err NotToml) ≡ Ok m → IsRead m
+document_read None true m e = absurd (cc)
+document_read (Some ms) true m e = setup_read ms m e
+document_read o false m e = absurd (cc)
 
-text_whole : (b : Bool) (text : List ℕ) (m : Meaning) → (if b then Ok plain else document_of text) ≡ Ok m → IsWhole m
+text_read : (b : Bool) (text : List ℕ) (m : Meaning) → (if b then Ok plain else document_of text) ≡ Ok m → IsRead m
 unfolding document_of
-text_whole true text m e = rw (← ok_is _ plain m refl e) plain_whole
-text_whole false text m e = document_whole (parse_document text) (is_utf8 text) m e
+text_read true text m e = rw (← ok_is _ plain m refl e) plain_read
+text_read false text m e = document_read (parse_document text) (is_utf8 text) m e
 
 -- of what a text is, whatever it is read into
-pub whole_from : (text : List ℕ) (r : Result SetupRead TreeText) → Answers setup_view r (setup_of text) → IfOk r (λ s. IsWhole (setup_view s))
-unfolding setup_of
-whole_from text (Ok s) read = text_whole (is_blank text) text (setup_view s) read
-whole_from text (Err e) read = tt
+module _ (text : List ℕ) where
+  read_from : (r : Result SetupRead TreeText) → Answers setup_view r (setup_of text) → IfOk r (λ s. IsRead (setup_view s))
+  unfolding setup_of
+  read_from (Ok s) read = text_read (is_blank text) text (setup_view s) read
+  read_from (Err e) read = tt
+
+  pub whole_from : (r : Result SetupRead TreeText) → Answers setup_view r (setup_of text) → IfOk r (λ s. IsWhole (setup_view s))
+  whole_from (Ok s) read = (read_from (Ok s) read).whole
+  whole_from (Err e) read = tt
+
+  pub named_from : (r : Result SetupRead TreeText) → Answers setup_view r (setup_of text) → IfOk r (λ s. IsNamed (setup_view s))
+  named_from (Ok s) read = (read_from (Ok s) read).named
+  named_from (Err e) read = tt
+
+  pub limits_from : (r : Result SetupRead TreeText) → Answers setup_view r (setup_of text) → IfOk r (λ s. IsOfText (setup_view s))
+  limits_from (Ok s) read = (read_from (Ok s) read).limits
+  limits_from (Err e) read = tt
 
 pub blank_is : (text : List ℕ) (r : Result SetupRead TreeText) → is_blank text ≡ true → Answers setup_view r (Ok plain) → Answers setup_view r (setup_of text)
 unfolding setup_of

@@ -10,18 +10,25 @@ use Rattle.tree_toml.specs.Meaning.{Meaning}
 abbrev pub rules_of : Meaning → Setup
 rules_of m = record { types = length m.types; profiles = m.profiles; tree = m.tree.rows }
 
--- a store can be set up with it: as many profiles as names of types, and as many rows of the tree as names of nodes; each table of a
--- profile or of a starting row has a name
+-- a store can be set up with it: as many profiles as names of types, and a sound tree of at most 64 nodes, built for so many types; at
+-- most 64 tables, among which is each table of a profile or of a starting row
 pub record IsWhole (m : Meaning) : Type 0 where
   pub sound : IsSound (rules_of m)
   pub profiles : length m.profiles ≡ length m.types
-  pub nodes : length m.tree.rows ≡ length m.nodes
   pub types : m.tree.types ≡ length m.types
+  pub few_nodes : length m.tree.rows ≤ 64
+  pub few_tables : length m.tables ≤ 64
   pub ranked : ranked_tables (rules_of m) ≤ length m.tables
   pub cells : All (λ r. r.0.table.0 < length m.tables) m.rows
-  pub ascending : IsAscending m.rows
-  pub few_tables : length m.tables ≤ 64
+
+-- each node has a name
+abbrev pub IsNamed : Meaning → Type 0
+IsNamed m = length m.tree.rows ≡ length m.nodes
+
+-- what a tree text can say: no more than it may have of each list, one row a cell, in ascending order, and a known format
+pub record IsOfText (m : Meaning) : Type 0 where
   pub few_types : length m.types ≤ 64
   pub few_nodes : length m.nodes ≤ 64
   pub few_rows : length m.rows ≤ 16384
+  pub ascending : IsAscending m.rows
   pub format : (1 ≤ m.format) × (m.format ≤ 3)

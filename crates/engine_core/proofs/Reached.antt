@@ -1,0 +1,35 @@
+-- Histories that requests lead to, and what holds of them.
+use Rattle.std.proofs.Common.{◌≡◌, List, [], ◌∷◌, ◌++◌, refl, sym, ◌∙◌, ap, subst}
+use Rattle.teb_names.specs.declared.Session.{Session}
+use Rattle.teb_names.specs.declared.Request.{Request}
+use Rattle.teb_history.specs.declared.Event.{Event}
+use Rattle.teb_rules.specs.Accepted.{IsSound}
+use Rattle.teb_rules.specs.Answer.{answer}
+use Rattle.teb_rules.specs.Run.{history_after}
+use Rattle.teb_rules.specs.Setup.{Store}
+use Rattle.teb_laws.specs.Laws.{OfEveryStore, reached}
+use Rattle.teb_laws.specs.Lawful.{Settled}
+use Rattle.teb_laws.proofs.Reachable.{run_good, empty_good}
+use Rattle.teb_laws.proofs.Runs.{history_after-append}
+use Rattle.teb_laws.proofs.Sound.{tree_facts}
+use Rattle.engine_core.specs.State.{IsReached}
+
+-- no request leads to nothing
+pub reached_none : (X : Store) (H : List Event) → H ≡ [] → IsReached X H
+unfolding history_after
+reached_none X H e = ([], e)
+
+-- one request more
+pub reached_more : (X : Store) (H : List Event) (s : Session) (r : Request) → IsReached X H → (G : List Event) → G ≡ (answer X H s r).1 → IsReached X G
+reached_more X H s r (asked, e) G q = (
+  asked ++ (s, r) ∷ [],
+  q ∙ ap (λ (K : List Event). (answer X K s r).1) e ∙ sym (history_after-append X [] asked ((s, r) ∷ []) ∙ unfold history_after in refl),
+)
+
+-- a law of every run holds of them
+pub law_of : (P : Store → List Event → Type 0) → OfEveryStore P → (X : Store) (H : List Event) → IsSound X.setup → IsReached X H → P X H
+law_of P law X H sound (asked, e) = subst (P X) (sym e) (law X sound asked)
+
+-- nobody who is not aborted has read from somebody who is
+pub settled_of : (X : Store) (H : List Event) → IsSound X.setup → IsReached X H → Settled H
+settled_of X H = law_of (λ Y G. Settled G) (λ Y sound asked. (run_good Y (tree_facts Y.setup sound) sound.profiles asked [] (empty_good Y.setup)).settled) X H
