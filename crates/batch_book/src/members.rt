@@ -58,6 +58,10 @@ pub(crate) fn search_member(members: &[Member], t: Txn) -> Option<Member>
     requires { IsAscendingBy member_number members.now }
     ensures { result ≡ find (λ m. eqb m.txn.0 t.0) members.now }
 {
+    let first = (t.0 as usize).saturating_sub(1);
+    if first < members.len() && members[first].txn == t {
+        return Some(members[first]);
+    }
     match members.binary_search_by_key(&t.0, |member| member.txn.0) {
         Ok(i) => Some(members[i]),
         Err(_) => None,

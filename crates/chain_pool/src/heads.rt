@@ -6,6 +6,7 @@ ghost use Rattle.chain_pool.specs.declared.places.Head.{Head};
 ghost use Rattle.chain_pool.specs.Heads.{look, Rises, IsFound, IsAt, IsBusy, empty};
 
 use crate::places::Head;
+use vec_room::put_in;
 
 /// Where a key stands or would go, and its head, which is empty where the key is not there.
 #[derive(Clone, Copy)]
@@ -69,7 +70,7 @@ pub(crate) fn put<K: Ord + Copy>(
     match at {
         Ok(i) => heads[i] = (key, head),
         Err(i) => {
-            let _ = heads.insert(i, (key, head));
+            put_in(heads, i, (key, head));
         }
     }
 }

@@ -71,8 +71,8 @@ pub(crate) fn put_in(cells: &mut Vec<Cell>, holds: &mut Vec<Hold>, cell: Cell, t
             };
         }
         Err(at) => {
-            let _ = cells.insert(at, cell);
-            let _ = holds.insert(at, Hold { txn: t, wrote });
+            vec_room::put_in(cells, at, cell);
+            vec_room::put_in(holds, at, Hold { txn: t, wrote });
         }
     }
 }

@@ -6,6 +6,7 @@ ghost use Rattle.key_piles.specs.Buckets.{pile_of, IsSorted, HasRoom, IsKept, lo
 
 use std::alloc::{AllocError, Global};
 use std::cmp::Ordering;
+use vec_room::put_in;
 
 /// Values, each beside its key.
 #[derive(Drop)]
@@ -57,8 +58,8 @@ impl<K: Ord + Copy, V: Copy> Bucket<K, V> {
         ensures room { (n : ℕ) → HasRoom self.old (n + 1) → HasRoom self.new n }
     {
         let at = first(&self.keys, key) + i;
-        let _ = self.keys.insert(at, key);
-        let _ = self.values.insert(at, value);
+        put_in(&mut self.keys, at, key);
+        put_in(&mut self.values, at, value);
     }
 
     /// Takes the value at a place out of the pile of a key.

@@ -1,4 +1,4 @@
-use Rattle.std.proofs.Common.{◌≡◌, ◌∙◌, ℕ, List, Result, length, vec_len, set, Bool, ◌||◌, refl, sym, ap, subst, subst₂, arith, rules}
+use Rattle.std.proofs.Common.{◌≡◌, ◌∙◌, ℕ, List, Result, length, vec_len, set, Bool, ◌||◌, sym, ap, subst, subst₂, arith, rules}
 use Rattle.teb_names.specs.declared.Cell.{Cell}
 use Rattle.hold_book.specs.declared.Hold.{Hold}
 use Rattle.hold_book.specs.Books.{IsFiled}
@@ -26,14 +26,14 @@ index_mut-requires c =
     let counted : vec_len c.args.holds.now ≡ length c.args.holds.now.items = search rules in
     omega (arith, counted, (there_in _ _ _ c.args.t _ c.requires.filed p).1)
 
-pub insert-requires : goal.insert-requires
-insert-requires c =
+pub put_in-requires : goal.put_in-requires
+put_in-requires c =
     let p = place_is c.args.cells.now.items c.args.holds.now.items c.args.cell c.args.t.0 _ _ _ _ c.deref.ensures.value c.deref-2.ensures.value c.place.ensures c.in-Err.is in
     let counted : vec_len c.args.cells.now ≡ length c.args.cells.now.items = search rules in
     omega (arith, counted, (absent_in _ _ _ c.args.t _ c.requires.filed p).0)
 
-pub insert-requires-in-Err : goal.insert-requires-in-Err
-insert-requires-in-Err c =
+pub put_in-requires-in-Err : goal.put_in-requires-in-Err
+put_in-requires-in-Err c =
     let p = place_is c.args.cells.now.items c.args.holds.now.items c.args.cell c.args.t.0 _ _ _ _ c.deref.ensures.value c.deref-2.ensures.value c.place.ensures c.in-Err.is in
     let counted : vec_len c.args.holds.now ≡ length c.args.holds.now.items = search rules in
     omega (arith, counted, (absent_in _ _ _ c.args.t _ c.requires.filed p).1)
@@ -57,11 +57,11 @@ returns-after-wrote-clause-here c = (found c).here
 pub returns-after-wrote-clause-elsewhere : goal.returns-after-wrote-clause-elsewhere
 returns-after-wrote-clause-elsewhere c = (found c).elsewhere
 
-anew : (c : goal.After-insert-in-Err) → HasAccessed c.args.cells.now.items c.args.holds.now.items c.args.cell c.args.t c.args.wrote c.insert.new.self.items c.insert-in-Err.new.self.items
+anew : (c : goal.After-put_in-in-Err) → HasAccessed c.args.cells.now.items c.args.holds.now.items c.args.cell c.args.t c.args.wrote c.put_in.new.v.items c.put_in-in-Err.new.v.items
 anew c =
     let p = place_is c.args.cells.now.items c.args.holds.now.items c.args.cell c.args.t.0 _ _ _ _ c.deref.ensures.value c.deref-2.ensures.value c.place.ensures c.in-Err.is in
-    let cells = c.insert.ensures.items ∙ rw (c.insert.ensures.succeeds c.requires.cells_room) refl in
-    let holds = c.insert-in-Err.ensures.items ∙ rw (c.insert-in-Err.ensures.succeeds c.requires.holds_room) refl in
+    let cells = c.put_in.ensures.items in
+    let holds = c.put_in-in-Err.ensures.items in
     subst₂ (λ (a : List Cell) (b : List Hold). HasAccessed c.args.cells.now.items c.args.holds.now.items c.args.cell c.args.t c.args.wrote a b) (sym cells) (sym holds)
     (absent_accessed c.args.cells.now.items c.args.holds.now.items c.args.cell c.args.t c.in-Err.at c.args.wrote c.requires.filed p)
 

@@ -13,8 +13,8 @@ overflow_add-at g c =
     let start : c.first.result ≡ lows R ks k = c.first.ensures.at ∙ ap (λ (l : List _). lows R l k) c.deref.ensures.value in
     omega (arith, start, c.requires.within, pile_length R g.met.K.Ord.total ks vs k c.requires.sorted.ascends n, tops_length R g.met.K.Ord.total ks k, c.deref.ensures.len, ap length c.deref.ensures.value, c.deref.type_inv.0)
 
-pub insert-requires : goal.insert-requires
-insert-requires g c =
+pub put_in-requires : goal.put_in-requires
+put_in-requires g c =
     let R = g.K.Ord.cmp in
     let k = c.args.key in
     let ks = c.args.self.now.keys.items in
@@ -23,8 +23,8 @@ insert-requires g c =
     let start : c.first.result ≡ lows R ks k = c.first.ensures.at ∙ ap (λ (l : List _). lows R l k) c.deref.ensures.value in
     omega (arith, start, c.requires.within, pile_length R g.met.K.Ord.total ks vs k c.requires.sorted.ascends n, tops_length R g.met.K.Ord.total ks k, c.deref.ensures.len, ap length c.deref.ensures.value)
 
-pub insert-requires-2 : goal.insert-requires-2
-insert-requires-2 g c =
+pub put_in-requires-2 : goal.put_in-requires-2
+put_in-requires-2 g c =
     let R = g.K.Ord.cmp in
     let k = c.args.key in
     let ks = c.args.self.now.keys.items in
@@ -43,10 +43,10 @@ returns-clause-sorted g c =
     let n : length ks ≡ length vs = omega (arith, c.args.self.now.keys.ok.0, c.args.self.now.values.ok.0, c.requires.sorted.paired) in
     let start : c.first.result ≡ lows R ks k = c.first.ensures.at ∙ ap (λ (l : List _). lows R l k) c.deref.ensures.value in
     let fits = pile_length R total ks vs k c.requires.sorted.ascends n in
-    let key_in = rw (c.insert.ensures.succeeds (omega (arith, c.requires.room.keys))) at c.insert.ensures.items in
+    let key_in = c.put_in.ensures.items in
     record {
       ascends = subst (Ascends R) (sym key_in) (ascends_insert R total ks (c.first.result + c.args.i) k c.requires.sorted.ascends (omega (arith, start)) (omega (arith, start, fits, c.requires.within)));
-      paired = omega (arith, rw (c.insert.ensures.succeeds (omega (arith, c.requires.room.keys))) at c.insert.ensures.len, rw (c.insert-2.ensures.succeeds (omega (arith, c.requires.room.values))) at c.insert-2.ensures.len, c.requires.sorted.paired);
+      paired = omega (arith, c.put_in.ensures.len, c.put_in-2.ensures.len, c.requires.sorted.paired);
     }
 
 pub returns-clause-piles : goal.returns-clause-piles
@@ -59,7 +59,7 @@ returns-clause-piles g c q =
     let n : length ks ≡ length vs = omega (arith, c.args.self.now.keys.ok.0, c.args.self.now.values.ok.0, c.requires.sorted.paired) in
     let start : c.first.result ≡ lows R ks k = c.first.ensures.at ∙ ap (λ (l : List _). lows R l k) c.deref.ensures.value in
     let fits = pile_length R total ks vs k c.requires.sorted.ascends n in
-    let key_in = rw (c.insert.ensures.succeeds (omega (arith, c.requires.room.keys))) at c.insert.ensures.items in
-    let value_in = rw (c.insert-2.ensures.succeeds (omega (arith, c.requires.room.values))) at c.insert-2.ensures.items in
+    let key_in = c.put_in.ensures.items in
+    let value_in = c.put_in-2.ensures.items in
     (λ j. pile_beside R (key_in j) (value_in j) q)
     ∙ pile_insert R total ks vs (c.first.result + c.args.i) c.args.i k c.args.value c.requires.sorted.ascends n (omega (arith, start)) (omega (arith, start, fits, c.requires.within)) q
