@@ -12,7 +12,8 @@ use Rattle.teb_history.specs.declared.Event.{Event}
 use Rattle.teb_rules.specs.Driver.{Seat, first_offer, found, offer, seated, turn}
 use Rattle.fair_driver.specs.declared.ring.Asked.{Asked}
 use Rattle.fair_driver.specs.declared.cursor.Cursor.{Cursor}
-use Rattle.fair_driver.specs.Seats.{requests_on, seat_of, seats_in, round_from, scripts_on}
+use Rattle.script_walk.specs.Places.{requests_on}
+use Rattle.fair_driver.specs.Seats.{seat_of, seats_in, round_from, scripts_on}
 use Rattle.fair_driver.specs.Turns.{IsFirst, IsFirstAt, IsTurn, IsTurnOf}
 use Rattle.fair_driver.proofs.Offers.{offer_turned}
 

@@ -1,4 +1,3 @@
-pub mod Advances
 pub mod Seats
 pub mod Turns
 pub mod Logged

@@ -1,27 +1,15 @@
--- A session of the driver, as it is kept: by indices of its script in place of the lines that are left.
-use Rattle.std.specs.Prelude.{ℕ, List, ◌++◌, Option, Some, None, take, drop, map}
+-- The sessions of the driver, as they are kept.
+use Rattle.std.specs.Prelude.{ℕ, List, ◌++◌, take, drop, map}
 use Rattle.teb_names.specs.declared.Session.{Session}
-use Rattle.teb_names.specs.declared.Request.{Request}
 use Rattle.script_text.specs.declared.Line.{Line}
-use Rattle.teb_rules.specs.Scripts.{Place, Script}
+use Rattle.teb_rules.specs.Scripts.{Script}
 use Rattle.teb_rules.specs.Driver.{Seat}
+use Rattle.script_walk.specs.Places.{requests_on, place_of}
 use Rattle.fair_driver.specs.declared.cursor.Cursor.{Cursor}
 use Rattle.fair_driver.specs.declared.ring.Ring.{Ring}
 
--- what lines ask
-abbrev pub requests_on : List Line → List Request
-requests_on lines = map (λ l. l.request) lines
-
--- the lines from an index on, if there is one
-abbrev pub lines_from : List Request → Option ℕ → Option (List Request)
-lines_from lines None = None
-lines_from lines (Some i) = Some (drop i lines)
-
-abbrev pub place_at : List Request → ℕ → Option ℕ → Place
-place_at lines at begun = record { rest = drop at lines; begun = lines_from lines begun }
-
 abbrev pub seat_of : Cursor → Seat
-seat_of c = record { session = c.session; place = place_at (requests_on c.lines.now) c.at c.begun; aborts = c.aborts }
+seat_of c = record { session = c.session; place = place_of c.lines.now c.walker; aborts = c.aborts }
 
 abbrev pub seats_in : List Cursor → List Seat
 seats_in cursors = map seat_of cursors

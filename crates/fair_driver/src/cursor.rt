@@ -1,14 +1,14 @@
 //! Where a session stands in its script.
 
-ghost use Rattle.std.specs.Prelude.{◌≡◌, ◌≤◌, ◌<◌, List, ◌∷◌, length, drop};
+ghost use Rattle.std.specs.Prelude.{◌≡◌, ◌≤◌, List, ◌∷◌};
 ghost use Rattle.teb_names.specs.declared.Request.{Request};
-ghost use Rattle.teb_rules.specs.Scripts.{at_first, asks, moved};
+ghost use Rattle.teb_rules.specs.Scripts.{at_first, asks};
 ghost use Rattle.teb_rules.specs.Driver.{due, counted, seat_after};
-ghost use Rattle.fair_driver.specs.Advances.{move_at};
-ghost use Rattle.fair_driver.specs.Seats.{requests_on, lines_from, place_at, seat_of};
+ghost use Rattle.script_walk.specs.Places.{requests_on};
+ghost use Rattle.fair_driver.specs.Seats.{seat_of};
 
-use crate::advance::{Advance, advance_after};
 use script_text::Line;
+use script_walk::{Advance, Walker, advance_after};
 use teb_names::{Refusal, Reply, Request, Session};
 
 /// How often a session is sent back before it runs alone.
@@ -19,10 +19,8 @@ const MOST_ABORTS: u8 = 3;
 pub struct Cursor<'a> {
     pub session: Session,
     pub lines: &'a [Line],
-    /// The index of its line. Behind the last line it is the number of lines.
-    pub at: usize,
-    /// The index of the line that began the transaction that the session holds.
-    pub begun: Option<usize>,
+    /// Where it stands among its lines.
+    pub walker: Walker,
     /// How often the session was sent back since it last got through.
     pub aborts: u8,
 }
@@ -35,8 +33,7 @@ impl<'a> Cursor<'a> {
         Cursor {
             session,
             lines,
-            at: 0,
-            begun: None,
+            walker: Walker::new(),
             aborts: 0,
         }
     }
@@ -45,13 +42,7 @@ impl<'a> Cursor<'a> {
     pub fn next(&self) -> Option<Request>
         ensures { result ≡ asks (seat_of self.now).place }
     {
-        if self.at < self.lines.len() {
-            Some(self.lines[self.at].request)
-        } else if self.begun.is_some() {
-            Some(Request::End)
-        } else {
-            None
-        }
+        self.walker.next(self.lines)
     }
 
     /// Whether the session is to run alone: it was sent back three times, and is not through.
@@ -66,42 +57,24 @@ impl<'a> Cursor<'a> {
         requires { self.old.aborts ≤ 3 }
         ensures { seat_of self.new ≡ seat_after (seat_of self.old) reply.now }
     {
-        if self.at >= self.lines.len() {
-            self.begun = None;
-            return;
-        }
-        let aborts = self.aborts_after(reply);
-        self.move_on(advance_after(reply));
-        self.aborts = aborts;
+        self.aborts = self.aborts_after(reply);
+        self.walker.take(self.lines, reply);
     }
 
-    /// Goes on from a line.
-    fn move_on(&mut self, advance: Advance)
-        requires { self.old.at < length self.old.lines.now }
-        ensures place { place_at (requests_on self.new.lines.now) self.new.at self.new.begun
-            ≡ moved (drop self.old.at (requests_on self.old.lines.now)) (lines_from (requests_on self.old.lines.now) self.old.begun) (move_at advance) }
-        ensures same { self.new ≡ record self.old { at = self.new.at; begun = self.new.begun } }
+    /// How often the session was sent back, after an answer. Behind its last line that stays.
+    fn aborts_after(&self, reply: &Reply) -> u8
+        requires { self.now.aborts ≤ 3 }
+        ensures { result ≡ counted (seat_of self.now).place.rest reply.now self.now.aborts }
     {
-        match advance {
-            Advance::Stay => {}
-            Advance::Enter => {
-                self.begun = Some(self.at);
-                self.at += 1;
-            }
-            Advance::Leave => {
-                self.begun = None;
-                self.at += 1;
-            }
-            Advance::Return => {
-                self.at = self.begun.unwrap_or(self.at);
-                self.begun = None;
-            }
-            Advance::Go => self.at += 1,
+        if self.walker.at < self.lines.len() {
+            self.aborts_at_line(reply)
+        } else {
+            self.aborts
         }
     }
 
     /// How often the session was sent back, after an answer to a line. The count starts anew where it got through, and where no further transaction may begin.
-    fn aborts_after(&self, reply: &Reply) -> u8
+    fn aborts_at_line(&self, reply: &Reply) -> u8
         requires { self.now.aborts ≤ 3 }
         ensures { (r : Request) (rs : List Request) → result ≡ counted (r ∷ rs) reply.now self.now.aborts }
     {

@@ -1,7 +1,6 @@
 //! The driver: one thread asks several sessions in turn, each along its script.
 #![tactic(auto)]
 
-mod advance;
 mod cursor;
 mod drive;
 mod load;

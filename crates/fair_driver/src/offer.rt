@@ -15,7 +15,7 @@ pub fn offer(history: &History, cursors: &[Cursor<'_>], cursor: &Cursor<'_>) -> 
     ensures { result ≡ offer history.now.events (seats_in cursors.now) (seat_of cursor.now) }
 {
     let request = cursor.next()?;
-    if !is_begin(&request) || cursor.begun.is_some() || may_begin(history, cursors, cursor) {
+    if !is_begin(&request) || cursor.walker.begun.is_some() || may_begin(history, cursors, cursor) {
         Some(request)
     } else {
         None

@@ -2,7 +2,7 @@
 
 ghost use Rattle.std.specs.Prelude.{◌≡◌};
 ghost use Rattle.teb_rules.specs.Scripts.{move_of, move_by};
-ghost use Rattle.fair_driver.specs.Advances.{move_at};
+ghost use Rattle.script_walk.specs.Advances.{move_at};
 
 use teb_names::{Cause, Reply};
 

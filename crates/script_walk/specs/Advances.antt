@@ -1,7 +1,7 @@
 -- How a session goes on after an answer.
 use Rattle.teb_rules.specs.Scripts.{Move, Stays, Enters, Leaves, Returns, Goes}
-use Rattle.fair_driver.specs.declared.advance.Advance.{Advance}
-use Rattle.fair_driver.specs.declared.advance.Advance.TheVariants.{Stay, Enter, Leave, Return, Go}
+use Rattle.script_walk.specs.declared.advance.Advance.{Advance}
+use Rattle.script_walk.specs.declared.advance.Advance.TheVariants.{Stay, Enter, Leave, Return, Go}
 
 abbrev pub move_at : Advance → Move
 move_at Stay = Stays

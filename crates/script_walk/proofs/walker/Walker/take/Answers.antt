@@ -1,0 +1,51 @@
+use Rattle.std.proofs.Common.{drop, None, sym, ap, ◌∙◌}
+use Rattle.teb_rules.specs.Scripts.{Move, moved}
+use Rattle.script_walk.specs.Places.{requests_on, lines_from, place_at}
+use Rattle.script_walk.proofs.Places.{line_at, rest_at, stays, enters, leaves, returns_to, goes}
+use Rattle.script_walk.specs.Advances.{move_at}
+use Rattle.script_walk.proofs.walker.Walker.take.Goals as goal
+
+pub returns-in-Stay : goal.returns-in-Stay
+returns-in-Stay c =
+    let k = c.args.self.now in
+    let lines = c.args.lines.now in
+    let L = requests_on lines in
+    let b = lines_from L k.begun in
+    let there = rest_at lines k.at (line_at lines k.at c.if-self-lines.false) c.if-self-lines.false in
+    sym (ap (λ (m : Move). moved (drop k.at L) b m) (sym c.advance_after.ensures ∙ ap move_at c.in-Stay.is) ∙ stays _ _ _ b there)
+
+pub returns-in-Enter : goal.returns-in-Enter
+returns-in-Enter c =
+    let k = c.args.self.now in
+    let lines = c.args.lines.now in
+    let L = requests_on lines in
+    let b = lines_from L k.begun in
+    let there = rest_at lines k.at (line_at lines k.at c.if-self-lines.false) c.if-self-lines.false in
+    sym (ap (λ (m : Move). moved (drop k.at L) b m) (sym c.advance_after.ensures ∙ ap move_at c.in-Enter.is) ∙ enters _ _ _ b there)
+
+pub returns-in-Leave : goal.returns-in-Leave
+returns-in-Leave c =
+    let k = c.args.self.now in
+    let lines = c.args.lines.now in
+    let L = requests_on lines in
+    let b = lines_from L k.begun in
+    let there = rest_at lines k.at (line_at lines k.at c.if-self-lines.false) c.if-self-lines.false in
+    sym (ap (λ (m : Move). moved (drop k.at L) b m) (sym c.advance_after.ensures ∙ ap move_at c.in-Leave.is) ∙ leaves _ _ _ b there)
+
+pub returns-in-Return : goal.returns-in-Return
+returns-in-Return c =
+    let k = c.args.self.now in
+    let lines = c.args.lines.now in
+    let L = requests_on lines in
+    let b = lines_from L k.begun in
+    let there = rest_at lines k.at (line_at lines k.at c.if-self-lines.false) c.if-self-lines.false in
+    ap (λ n. place_at L n None) c.unwrap_or-self.ensures ∙ sym (ap (λ (m : Move). moved (drop k.at L) b m) (sym c.advance_after.ensures ∙ ap move_at c.in-Return.is) ∙ returns_to L k.at _ _ k.begun there)
+
+pub returns-in-Go : goal.returns-in-Go
+returns-in-Go c =
+    let k = c.args.self.now in
+    let lines = c.args.lines.now in
+    let L = requests_on lines in
+    let b = lines_from L k.begun in
+    let there = rest_at lines k.at (line_at lines k.at c.if-self-lines.false) c.if-self-lines.false in
+    sym (ap (λ (m : Move). moved (drop k.at L) b m) (sym c.advance_after.ensures ∙ ap move_at c.in-Go.is) ∙ goes _ _ _ b there)

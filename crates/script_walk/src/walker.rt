@@ -1,0 +1,67 @@
+//! Where a session stands in its script.
+
+ghost use Rattle.std.specs.Prelude.{◌≡◌, List};
+ghost use Rattle.teb_rules.specs.Scripts.{asks, after_answer, at_first};
+ghost use Rattle.script_walk.specs.Places.{place_of, requests_on};
+ghost use Rattle.script_text.specs.declared.Line.{Line};
+
+use crate::advance::{Advance, advance_after};
+use script_text::Line;
+use teb_names::{Reply, Request};
+
+/// A place in a script.
+#[derive(Clone, Copy, Debug, PartialEq, Eq)]
+pub struct Walker {
+    /// The place of its line, from 0, or the number of lines where it has passed the last.
+    pub at: usize,
+    /// The place of the line that was answered Begun for the transaction that it holds.
+    pub begun: Option<usize>,
+}
+
+impl Walker {
+    /// A session at its first line.
+    pub fn new() -> Walker
+        ensures { (lines : List Line) → place_of lines result ≡ at_first (requests_on lines) }
+    {
+        Walker { at: 0, begun: None }
+    }
+
+    /// What the session asks next: its line, or behind its last line End where it holds a transaction.
+    pub fn next(&self, lines: &[Line]) -> Option<Request>
+        ensures { result ≡ asks (place_of lines.now self.now) }
+    {
+        if self.at < lines.len() {
+            Some(lines[self.at].request)
+        } else if self.begun.is_some() {
+            Some(Request::End)
+        } else {
+            None
+        }
+    }
+
+    /// Takes an answer to what the session asked.
+    pub fn take(&mut self, lines: &[Line], reply: &Reply)
+        ensures { place_of lines.now self.new ≡ after_answer (place_of lines.now self.old) reply.now }
+    {
+        if self.at >= lines.len() {
+            self.begun = None;
+            return;
+        }
+        match advance_after(reply) {
+            Advance::Stay => {}
+            Advance::Enter => {
+                self.begun = Some(self.at);
+                self.at += 1;
+            }
+            Advance::Leave => {
+                self.begun = None;
+                self.at += 1;
+            }
+            Advance::Return => {
+                self.at = self.begun.unwrap_or(self.at);
+                self.begun = None;
+            }
+            Advance::Go => self.at += 1,
+        }
+    }
+}
