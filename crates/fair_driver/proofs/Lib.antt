@@ -3,7 +3,4 @@ pub mod AtWork
 pub mod Offers
 pub mod Circles
 pub mod Underway
-pub mod Loading
 pub mod SessionOrder
-pub mod ParsedSessions
-pub mod Worked

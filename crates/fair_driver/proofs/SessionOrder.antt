@@ -1,15 +1,13 @@
 -- The scripts of lines are of sessions in ascending number.
 use Rattle.std.proofs.Common.{◌≡◌, ℕ, zero, suc, ◌+◌, ◌*◌, ◌%◌, ◌<◌, ◌≤◌, ◌==◌, Bool, true, false, not, cond, List, [], ◌∷◌, ◌++◌, length, filter, map, refl, arith}
-use Rattle.std.specs.List.{flat_map, range_with_len}
+use Rattle.std.specs.List.{range_with_len}
 use Rattle.std.proofs.lemmas.Bool.{eqb-true}
 use Rattle.teb_names.specs.declared.Session.{Session}
-use Rattle.teb_names.specs.declared.Request.{Request}
 use Rattle.script_text.specs.declared.Line.{Line}
 use Rattle.script_text.specs.Scripts.{session, session_numbers, lines_for, scripts_of}
 use Rattle.teb_rules.specs.Driver.{Ascending}
 use Rattle.fair_driver.specs.Seats.{scripts_on}
-use Rattle.fair_driver.specs.Sessions.{AreOfSessions}
-use Rattle.fair_driver.specs.Loads.{Asking, askings_at, asked_by, numbered, loaded_lines, requests_from, state}
+use Rattle.script_text.specs.Sessions.{AreOfSessions}
 
 -- a number that has a line is a session's
 of_session : (lines : List Line) (n : ℕ) → AreOfSessions lines → not (length (filter (λ (l : Line). l.session.0 == n) lines) == 0) ≡ true → (0 < n) × (n ≤ 32)
@@ -37,19 +35,3 @@ ascend_from lines s least a (suc n) p = go (not (length (lines_for lines a) == 0
 pub scripts_ascend : (lines : List Line) → AreOfSessions lines → Ascending 0 (scripts_on (scripts_of lines))
 unfolding scripts_of session_numbers
 scripts_ascend lines s = ascend_from lines s 0 0 256 (λ k h z. z)
-
--- the lines of a load
-asked_sessions : (n : ℕ) (s : Session) (rs : List Request) (more : List Asking) → 0 < s.0 → s.0 ≤ 32 → ((m : ℕ) → AreOfSessions (numbered m more)) → AreOfSessions (numbered n (asked_by s rs ++ more))
-asked_sessions n s [] more a b h = h n
-asked_sessions n s (r ∷ rs) more a b h = (a, b, asked_sessions (n + 1) s rs more a b h)
-
-loaded_from : (number a n m : ℕ) → AreOfSessions (numbered m (flat_map (askings_at number) (range_with_len a n)))
-loaded_from number a zero m = tt
-loaded_from number a (suc n) m = asked_sessions m (record { 0 = 1 + a % 8 }) (requests_from (state number (3 * a)) a) (flat_map (askings_at number) (range_with_len (a + 1) n)) (omega arith) (omega arith) (λ k. loaded_from number (a + 1) n k)
-
-loaded_sessions : (number size : ℕ) → AreOfSessions (loaded_lines number size)
-unfolding loaded_lines
-loaded_sessions number size = loaded_from number 0 size 1
-
-pub loaded_ascend : (number size : ℕ) → Ascending 0 (scripts_on (scripts_of (loaded_lines number size)))
-loaded_ascend number size = scripts_ascend (loaded_lines number size) (loaded_sessions number size)

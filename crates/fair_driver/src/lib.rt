@@ -3,12 +3,10 @@
 
 mod cursor;
 mod drive;
-mod load;
 mod offer;
 mod quiet;
 mod ring;
 mod steps;
 
 pub use drive::turns;
-pub use load::{loaded_lines, loaded_scripts};
 pub use steps::Steps;

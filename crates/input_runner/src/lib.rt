@@ -1,17 +1,14 @@
-//! What the commands that run come to: from the bytes of an input, or from a number, to a status, a text and a history.
+//! The commands that run an input by one thread: from a setup and lines to a status, a text and a history.
 #![tactic(auto)]
 
-mod input;
-mod load;
+mod driving;
+mod interleaving;
+mod ran;
 mod report;
 mod run;
-mod shop;
-mod summary;
-mod telling;
-mod texts;
 
-pub use input::run_input;
-pub use load::run_load;
-pub use run::Mode;
-pub use shop::shop_setup;
-pub use telling::{TOO_LONG, Telling};
+pub use driving::in_turns;
+pub use interleaving::in_order;
+pub use ran::Ran;
+pub use report::{put_ending, report_of};
+pub use run::{run_replay, run_turns};

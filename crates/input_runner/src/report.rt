@@ -5,8 +5,10 @@ ghost use Rattle.std.specs.List.{flat_map};
 ghost use Rattle.script_text.specs.Texts.{reply_text};
 ghost use Rattle.script_text.specs.Named.{ReplyNamed, RowsNamed};
 ghost use Rattle.serial_order.specs.Tables.{IsFinalRows};
-ghost use Rattle.input_runner.specs.Runs.{IsReport};
+ghost use Rattle.tree_toml.specs.Meaning.{Meaning};
+ghost use Rattle.input_runner.specs.Runs.{IsReport, IsReportAfter, IsRunOver};
 
+use crate::ran::Ran;
 use engine_core::Engine;
 use script_text::{Answered, put_reply, put_report};
 use serial_order::{order, tables};
@@ -15,22 +17,28 @@ use teb_names::NameBook;
 use version_chain::Chains;
 
 /// The replies, the serial order and the final tables.
-pub fn report_of<C: Chains>(
-    alloc: Global,
-    engine: &Engine<C>,
-    log: &[Answered],
-) -> Result<Vec<u8>, AllocError>
-    requires replies { All (λ a. ReplyNamed engine.now.names a.reply) log.now }
-    requires rows { (rows : _) → IsFinalRows engine.now.store engine.now.events rows → RowsNamed engine.now.names rows }
-    ensures { IfOk result (λ v. IsReport engine.now.store engine.now.names engine.now.events log.now v.items) }
+pub fn report_of(alloc: Global, ran: &Ran) -> Result<Vec<u8>, AllocError>
+    requires { (m : Meaning) × IsRunOver m ran.now.engine.store ran.now.engine.names ran.now.log.items ran.now.engine.events }
+    ensures { IfOk result (λ v. IsReport ran.now.engine.store ran.now.engine.names ran.now.engine.events ran.now.log.items v.items) }
 {
-    let names = &engine.setup().names;
+    let mut text = Vec::new(alloc);
+    put_replies(&mut text, &ran.engine.setup().names, &ran.log)?;
+    put_ending(alloc, &mut text, &ran.engine)?;
+    Ok(text)
+}
+
+/// Appends the serial order and the final tables. After an `Err` some of it is appended.
+pub fn put_ending<C: Chains>(
+    alloc: Global,
+    out: &mut Vec<u8>,
+    engine: &Engine<C>,
+) -> Result<(), AllocError>
+    requires { (rows : _) → IsFinalRows engine.now.store engine.now.events rows → RowsNamed engine.now.names rows }
+    ensures { OnOk result (IsReportAfter out.old.items engine.now.store engine.now.names engine.now.events out.new.items) }
+{
     let order = order(alloc, engine)?;
     let rows = tables(alloc, engine)?;
-    let mut text = Vec::new(alloc);
-    put_replies(&mut text, names, log)?;
-    put_report(&mut text, names, &order, &rows)?;
-    Ok(text)
+    put_report(out, &engine.setup().names, &order, &rows)
 }
 
 fn put_replies(out: &mut Vec<u8>, names: &NameBook, log: &[Answered]) -> Result<(), AllocError>

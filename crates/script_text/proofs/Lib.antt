@@ -8,3 +8,4 @@ pub mod LineWords
 pub mod InputSteps
 pub mod Wholes
 pub mod SessionLists
+pub mod ParsedSessions

@@ -9,3 +9,4 @@ pub mod Named
 pub mod Puts
 pub mod Scripts
 pub mod Lists
+pub mod Sessions

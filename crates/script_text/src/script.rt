@@ -1,7 +1,8 @@
 //! The lines of a script that ask something.
 
-ghost use Rattle.std.specs.Prelude.{◌≡◌, ◌<◌, ◌^◌, ◌++◌, length, IfSome, OnOk, option_to_list};
+ghost use Rattle.std.specs.Prelude.{◌≡◌, ◌<◌, ◌^◌, ◌++◌, length, IfOk, IfSome, OnOk, option_to_list};
 ghost use Rattle.script_text.specs.Lines.{lines_of};
+ghost use Rattle.script_text.specs.Sessions.{AreOfSessions};
 ghost use Rattle.script_text.specs.Grammar.{script_of, at_line, line_of, Answers};
 
 mod grammar;
@@ -19,7 +20,7 @@ use teb_names::NameBook;
 
 /// The lines of a script that ask something, in order. `format` is that of the tree: from 2 on `begin` may
 /// have an instance, from 3 on there are `delete` and `scan`. A name that the tree does not have becomes the
-/// number 255. `BadLine` names the first bad line by its number, from 1, and the first of its faults in the
+/// number 255. The lines are of sessions 1 to 32. `BadLine` names the first bad line by its number, from 1, and the first of its faults in the
 /// order of `LineWhy`, name and number from left to right.
 pub fn parse_script(
     alloc: Global,
@@ -28,7 +29,8 @@ pub fn parse_script(
     format: u8,
 ) -> Result<Vec<Line>, ScriptError>
     requires { length (lines_of script.now) < 2 ^ 32 }
-    ensures { Answers result (script_of names.now format script.now) }
+    ensures lines { Answers result (script_of names.now format script.now) }
+    ensures sessions { IfOk result (λ v. AreOfSessions v.items) }
 {
     let mut lines = Vec::new(alloc);
     let mut number = 0;

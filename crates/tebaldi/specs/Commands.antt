@@ -16,11 +16,15 @@ lone_command w =
     if bytes_eq w (codes "replay") then Some command.Replay
     else if bytes_eq w (codes "turns") then Some command.Turns
     else if bytes_eq w (codes "audit") then Some command.Audit
+    else if bytes_eq w (codes "phases") then Some command.Phases
     else None
 
-unfoldable pub threads_command : List ℕ → List ℕ → Option Command
-threads_command w n =
-    if bytes_eq w (codes "threads") then option_map command.Threads (number_within 1 16 n) else None
+unfoldable pub counted_command : List ℕ → List ℕ → Option Command
+counted_command w n =
+    if bytes_eq w (codes "threads") then option_map command.Threads (number_within 1 16 n)
+    else if bytes_eq w (codes "pool") then option_map command.Pool (number_within 1 16 n)
+    else if bytes_eq w (codes "crash") then option_map command.Crash (number_within 0 (2 ^ 31 - 1) n)
+    else None
 
 unfoldable pub load_command : List ℕ → List ℕ → List ℕ → Option Command
 load_command w n s =
@@ -30,7 +34,7 @@ load_command w n s =
 
 abbrev pub command_of : List (List ℕ) → Option Command
 command_of (w ∷ []) = lone_command w
-command_of (w ∷ n ∷ []) = threads_command w n
+command_of (w ∷ n ∷ []) = counted_command w n
 command_of (w ∷ n ∷ s ∷ []) = load_command w n s
 command_of _ = None
 

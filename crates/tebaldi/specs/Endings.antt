@@ -1,17 +1,32 @@
--- How a command ends: what was told, and what of it was written.
-use Rattle.std.specs.Prelude.{◌≡◌, ◌⊎◌, ℕ, List, codes, Option}
-use Rattle.std.specs.Io.KnownBytes.{Appends}
+-- How a command ends: what was shown, and what of it was written.
+use Rattle.std.specs.Prelude.{◌≡◌, ◌⊎◌, ℕ, true, List, Option, None}
+use Rattle.std.specs.Io.KnownBytes.{Appends, Keeps}
 use Rattle.teb_history.specs.Written.{Written}
 use Rattle.teb_io.specs.Bytes.{AppendsFront}
-use Rattle.input_runner.specs.Tellings.{Told, fault, events_of}
-
-abbrev pub bad_words : Told
-bad_words = fault 2 (codes "bad words")
-
-abbrev pub not_built : Told
-not_built = fault 9 (codes "not built")
+use Rattle.teb_io.specs.Faults.{Rose}
+use Rattle.command_output.specs.Shown.{Shown, events_of}
+use Rattle.input_reader.specs.Readings.{AreOf}
+use Rattle.input_runner.specs.Runs.{IsSerialized}
+use Rattle.tebaldi.specs.Commands.{reads}
+use Rattle.tebaldi.specs.Shows.{Shows, SetsUp}
+use Rattle.tebaldi.specs.declared.command.Command.{Command}
 
 -- the text was written whole and the status is its own, or the status is 4 and a part of the text was written; the history is its own either way
-pub record IsTold (d : Told) (status : ℕ) (kept : Option Written) (before now : Option (List ℕ)) : Type 0 where
+pub record IsWritten (d : Shown) (status : ℕ) (kept : Option Written) (before now : Option (List ℕ)) : Type 0 where
   pub written : ((status ≡ d.status) × Appends before now d.text) ⊎ ((status ≡ 4) × AppendsFront before now d.text)
   pub history : events_of kept ≡ d.history
+
+-- there are bytes, those of the source where the command reads, by which the words come to what was written; the history of a run is serialized over the store
+-- that these bytes set up, or over the shop for a generated load
+pub record IsRight (command : Option Command) (left rest : Option (List ℕ)) (status : ℕ) (kept : Option Written) (before now : Option (List ℕ)) : Type 0 where
+  pub bytes : List ℕ
+  pub read : reads command ≡ true → AreOf left rest bytes
+  pub shown : Shown
+  pub shows : Shows command bytes shown
+  pub written : IsWritten shown status kept before now
+  pub serialized : IsSerialized (SetsUp command bytes) (events_of kept)
+
+-- nothing was written, and there is no history
+pub record IsSilent (kept : Option Written) (before now : Option (List ℕ)) : Type 0 where
+  pub unwritten : Keeps before now
+  pub history : kept ≡ None

@@ -1,7 +1,7 @@
 //! The commands, by the words of the command line.
 
 ghost use Rattle.std.specs.Prelude.{◌≡◌, ◌≤◌, IfSome};
-ghost use Rattle.tebaldi.specs.Commands.{command_of, lone_command, threads_command, load_command, number_within, texts, IsWithin};
+ghost use Rattle.tebaldi.specs.Commands.{command_of, lone_command, counted_command, load_command, number_within, texts, IsWithin};
 
 use script_text::number;
 
@@ -18,6 +18,12 @@ pub enum Command {
     Load { number: u32, size: u32 },
     /// Checks what `threads` has written.
     Audit,
+    /// Runs the script on a disk that fails at a device call; 0 is none.
+    Crash(u32),
+    /// Runs several scripts, each under a tree of its own.
+    Phases,
+    /// Runs one script for each session, by so many workers, who take the sessions from a queue.
+    Pool(u8),
 }
 
 /// The command of these words; none where they have no command's shape.
@@ -27,7 +33,7 @@ pub fn command_of(words: &[String]) -> Option<Command>
 {
     match words {
         [word] => lone_command(word.as_str()),
-        [word, count] => threads_command(word.as_str(), count.as_str()),
+        [word, number] => counted_command(word.as_str(), number.as_str()),
         [word, number, size] => load_command(word.as_str(), number.as_str(), size.as_str()),
         _ => None,
     }
@@ -44,21 +50,30 @@ fn lone_command(word: &str) -> Option<Command>
         Some(Command::Turns)
     } else if word == "audit" {
         Some(Command::Audit)
+    } else if word == "phases" {
+        Some(Command::Phases)
     } else {
         None
     }
 }
 
-#[tactic(auto, unfolding(crate::specs::Commands::threads_command))]
-fn threads_command(word: &str, count: &str) -> Option<Command>
-    ensures command { result ≡ threads_command word.now count.now }
+#[tactic(auto, unfolding(crate::specs::Commands::counted_command))]
+fn counted_command(word: &str, number: &str) -> Option<Command>
+    ensures command { result ≡ counted_command word.now number.now }
     ensures within { IfSome result IsWithin }
 {
-    if word != "threads" {
-        return None;
+    if word == "threads" {
+        let workers = number_within(number, 1, 16)?;
+        Some(Command::Threads(workers as u8))
+    } else if word == "pool" {
+        let workers = number_within(number, 1, 16)?;
+        Some(Command::Pool(workers as u8))
+    } else if word == "crash" {
+        let call = number_within(number, 0, 2_147_483_647)?;
+        Some(Command::Crash(call))
+    } else {
+        None
     }
-    let count = number_within(count, 1, 16)?;
-    Some(Command::Threads(count as u8))
 }
 
 #[tactic(auto, unfolding(crate::specs::Commands::load_command))]

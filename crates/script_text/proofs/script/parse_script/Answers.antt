@@ -1,11 +1,12 @@
-use Rattle.std.proofs.Common.{◌+◌, length, sym, ◌∙◌, ap, arith}
+use Rattle.std.proofs.Common.{Ok, ◌+◌, length, sym, ◌∙◌, ap, arith}
 use Rattle.std.proofs.lemmas.Result.{err_from_is_err_and}
 use Rattle.script_text.specs.Grammar.{script_from}
+use Rattle.script_text.proofs.ParsedSessions.{answered_sessions}
 use Rattle.script_text.proofs.ScriptSteps.{behind, answers_bad, script_more, script_bad, script_end}
 use Rattle.script_text.proofs.script.parse_script.Goals as goal
 
-pub returns-in_err-line : goal.returns-in_err-line
-returns-in_err-line c =
+pub returns-in_err-line-clause-lines : goal.returns-in_err-line-clause-lines
+returns-in_err-line-clause-lines c =
     let p = err_from_is_err_and c.from_residual.result c.from_residual.ensures.1 in
     rw (p.1, p.2)
     (answers_bad _ _
@@ -22,5 +23,8 @@ loop-text-preserved c = record {
       ∙ c.loop-text.invariant.rest;
 }
 
-pub returns : goal.returns
-returns c = sym c.loop-text.invariant.rest ∙ script_end _ _ _ _ _ c.in-None.ensures.steps.0
+pub returns-clause-lines : goal.returns-clause-lines
+returns-clause-lines c = sym c.loop-text.invariant.rest ∙ script_end _ _ _ _ _ c.in-None.ensures.steps.0
+
+pub returns-clause-sessions : goal.returns-clause-sessions
+returns-clause-sessions c = answered_sessions c.args.names.now c.args.format c.args.script.now (Ok c.loop-text.lines) (returns-clause-lines c)

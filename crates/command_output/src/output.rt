@@ -1,0 +1,59 @@
+//! A status, a text, and the history where there was a run.
+
+ghost use Rattle.std.specs.Prelude.{◌≡◌, IfOk};
+ghost use Rattle.command_output.specs.Shown.{line_alone, events_of, IsShowable};
+
+use std::alloc::{AllocError, Global};
+use std::marker::Model;
+use teb_history::History;
+
+/// What a command puts out: a status, a text, and the history where there was a run.
+#[derive(Drop)]
+pub struct Output {
+    status: u8,
+    text: Vec<u8>,
+    history: Option<History>,
+}
+
+impl Model for Output {
+    ghost use Rattle.command_output.specs.Shown.{Shown, events_of, IsShowable};
+
+    ghost Value = { Shown };
+
+    ghost view = { λ o. record { status = o.status; text = o.text.items; history = events_of o.history } };
+
+    ghost invariant = { λ o. IsShowable o.status };
+}
+
+impl Output {
+    /// The output of these parts.
+    pub fn new(status: u8, text: Vec<u8>, history: Option<History>) -> Output
+        requires { IsShowable status }
+        ensures { result ≡ record { status = status; text = text.items; history = events_of history } }
+    {
+        Output {
+            status,
+            text,
+            history,
+        }
+    }
+
+    /// A line alone, where there was no run.
+    pub fn line(alloc: Global, status: u8, line: &str) -> Result<Output, AllocError>
+        requires { IsShowable status }
+        ensures { IfOk result (λ o. o ≡ line_alone status line.now) }
+    {
+        let mut text = line.as_bytes().to_vec(alloc)?;
+        text.push(b'\n')?;
+        Ok(Output::new(status, text, None))
+    }
+
+    /// The status, the text and the history.
+    pub fn into_parts(self) -> (u8, Vec<u8>, Option<History>)
+        ensures status { (result.0 ≡ self.status) × IsShowable result.0 }
+        ensures text { result.1.items ≡ self.text }
+        ensures history { events_of result.2 ≡ self.history }
+    {
+        (self.status, self.text, self.history)
+    }
+}

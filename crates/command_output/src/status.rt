@@ -1,0 +1,33 @@
+//! The statuses with which the program ends.
+
+pub const OK: u8 = 0;
+
+/// The words are none of a command.
+pub const BAD_WORDS: u8 = 2;
+
+/// The input could not be read.
+pub const READ_FAULT: u8 = 3;
+
+/// The text could not be written whole.
+pub const WRITE_FAULT: u8 = 4;
+
+/// The input has too many bytes, or too many lines.
+pub const TOO_LONG: u8 = 5;
+
+pub const BAD_TREE: u8 = 6;
+
+pub const BAD_SCRIPT: u8 = 7;
+
+pub const OUT_OF_MEMORY: u8 = 8;
+
+/// The words are of a command that the program does not have yet.
+pub const NOT_BUILT: u8 = 9;
+
+/// A session has asked as often as it may.
+pub const PASS_SPENT: u8 = 10;
+
+/// A printed run is not right.
+pub const AUDIT_NO: u8 = 11;
+
+/// The parts of an input can't follow one another.
+pub const BAD_PHASE: u8 = 12;

@@ -1,0 +1,43 @@
+-- What the bytes of an input are: a setup and lines, or the first fault.
+use Rattle.std.specs.Prelude.{ℕ, nat_lt, if◌then◌else◌, List, length, Option, Some, None, Result, Ok, Err}
+use Rattle.script_text.specs.declared.Line.{Line}
+use Rattle.script_text.specs.declared.error.ScriptError.{ScriptError}
+use Rattle.script_text.specs.declared.error.ScriptError.TheVariants as script
+use Rattle.script_text.specs.Input.{parts_of}
+use Rattle.script_text.specs.Lines.{lines_of}
+use Rattle.script_text.specs.Grammar.{script_of}
+use Rattle.tree_toml.specs.declared.fault.TreeText.{TreeText}
+use Rattle.tree_toml.specs.declared.fault.TreeText.TheVariants as tree
+use Rattle.tree_toml.specs.Meaning.{Meaning, setup_of}
+use Rattle.input_reader.specs.declared.error.InputError.{InputError}
+use Rattle.input_reader.specs.declared.error.InputError.TheVariants.{TooLong, NoSeparator, BadTree, BadLine, OutOfMemory}
+use Rattle.input_reader.specs.Stores.{names_of}
+use Rattle.input_reader.specs.Tasks.{Task}
+
+-- a fault of the tree part, and of the script part
+abbrev pub tree_error : TreeText → InputError
+tree_error tree.OutOfMemory = OutOfMemory
+tree_error why = BadTree why
+
+abbrev pub script_error : ScriptError → InputError
+script_error (script.BadLine n why) = BadLine n why
+script_error script.OutOfMemory = OutOfMemory
+
+-- the lines of a script under a setup
+abbrev pub task_of : Meaning → Result (List Line) ScriptError → Result Task InputError
+task_of m (Ok lines) = Ok (record { setup = m; lines = lines })
+task_of m (Err e) = Err (script_error e)
+
+-- a script under what the tree part is
+abbrev pub task_under : Result Meaning TreeText → List ℕ → Result Task InputError
+task_under (Ok m) text = task_of m (script_of (names_of m) m.format text)
+task_under (Err e) text = Err (tree_error e)
+
+-- at most 65,536 lines
+abbrev pub task_in : Option (List ℕ × List ℕ) → Result Task InputError
+task_in None = Err NoSeparator
+task_in (Some p) = if nat_lt 65536 (length (lines_of p.1)) then Err TooLong else task_under (setup_of p.0) p.1
+
+-- at most 4,194,304 bytes
+abbrev pub input_of : List ℕ → Result Task InputError
+input_of bytes = if nat_lt 4194304 (length bytes) then Err TooLong else task_in (parts_of bytes)

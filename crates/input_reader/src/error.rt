@@ -1,0 +1,70 @@
+//! Why an input is refused.
+
+use script_text::{LineWhy, ScriptError};
+use teb_io::ReadError;
+use thiserror::Error;
+use tree_toml::TreeText;
+
+/// Why an input is refused.
+#[derive(Clone, Copy, Debug, PartialEq, Eq, Drop, Error)]
+pub enum InputError {
+    #[error("the input could not be read")]
+    ReadFault,
+    /// There are more than 4,194,304 bytes, or more than 65,536 lines in the script.
+    #[error("the input is too long")]
+    TooLong,
+    /// No line is `%%`.
+    #[error("no separator")]
+    NoSeparator,
+    /// The first fault of the tree part.
+    #[error("the tree part is bad: {0}")]
+    BadTree(TreeText),
+    /// The first bad line of the script, by its number from 1.
+    #[error("line {number} is bad: {why:?}")]
+    BadLine { number: u32, why: LineWhy },
+    #[error("out of memory")]
+    OutOfMemory,
+}
+
+impl From<ReadError> for InputError {
+    ghost use Rattle.std.specs.Prelude.{◌≡◌};
+    ghost use Rattle.input_reader.specs.Reads.{read_error};
+
+    ghost from_gives = { λ why e. e ≡ read_error why };
+
+    fn from(error: ReadError) -> InputError {
+        match error {
+            ReadError::ReadFault => InputError::ReadFault,
+            ReadError::TooLong => InputError::TooLong,
+            ReadError::OutOfMemory => InputError::OutOfMemory,
+        }
+    }
+}
+
+impl From<TreeText> for InputError {
+    ghost use Rattle.std.specs.Prelude.{◌≡◌};
+    ghost use Rattle.input_reader.specs.Inputs.{tree_error};
+
+    ghost from_gives = { λ why e. e ≡ tree_error why };
+
+    fn from(error: TreeText) -> InputError {
+        match error {
+            TreeText::OutOfMemory => InputError::OutOfMemory,
+            why => InputError::BadTree(why),
+        }
+    }
+}
+
+impl From<ScriptError> for InputError {
+    ghost use Rattle.std.specs.Prelude.{◌≡◌};
+    ghost use Rattle.input_reader.specs.Inputs.{script_error};
+
+    ghost from_gives = { λ why e. e ≡ script_error why };
+
+    fn from(error: ScriptError) -> InputError {
+        match error {
+            ScriptError::BadLine { number, why } => InputError::BadLine { number, why },
+            ScriptError::OutOfMemory => InputError::OutOfMemory,
+        }
+    }
+}

@@ -1,0 +1,52 @@
+//! A setup, and the lines to be run over its store.
+
+ghost use Rattle.std.specs.Prelude.{◌≡◌};
+ghost use Rattle.script_text.specs.Sessions.{AreOfSessions};
+ghost use Rattle.tree_toml.specs.Seen.{setup_view};
+ghost use Rattle.tree_toml.specs.Sound.{IsWhole, IsNamed};
+
+use script_text::Line;
+use std::marker::Model;
+use tree_toml::Setup;
+
+/// A setup, and the lines to be run over its store. The store can be set up, each node has a name, and the lines are of sessions 1 to 32.
+#[derive(Drop)]
+pub struct Input {
+    setup: Setup,
+    lines: Vec<Line>,
+}
+
+impl Model for Input {
+    ghost use Rattle.script_text.specs.Sessions.{AreOfSessions};
+    ghost use Rattle.tree_toml.specs.Seen.{setup_view};
+    ghost use Rattle.tree_toml.specs.Sound.{IsWhole, IsNamed};
+    ghost use Rattle.input_reader.specs.Tasks.{Task};
+
+    ghost Value = { Task };
+
+    ghost view = { λ i. record { setup = setup_view i.setup; lines = i.lines.items } };
+
+    ghost invariant = { λ i. IsWhole (setup_view i.setup) × IsNamed (setup_view i.setup) × AreOfSessions i.lines.items };
+}
+
+impl Input {
+    /// The input of these parts.
+    pub fn new(setup: Setup, lines: Vec<Line>) -> Input
+        requires whole { IsWhole (setup_view setup) }
+        requires named { IsNamed (setup_view setup) }
+        requires sessions { AreOfSessions lines.items }
+        ensures { result ≡ record { setup = setup_view setup; lines = lines.items } }
+    {
+        Input { setup, lines }
+    }
+
+    /// The setup and the lines.
+    pub fn into_parts(self) -> (Setup, Vec<Line>)
+        ensures setup { setup_view result.0 ≡ self.setup }
+        ensures whole { IsWhole (setup_view result.0) }
+        ensures named { IsNamed (setup_view result.0) }
+        ensures lines { (result.1.items ≡ self.lines) × AreOfSessions result.1.items }
+    {
+        (self.setup, self.lines)
+    }
+}

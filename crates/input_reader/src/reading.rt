@@ -1,0 +1,58 @@
+//! The reading of an input.
+
+ghost use Rattle.std.specs.Prelude.{◌≤◌, length, IsErrOf};
+ghost use Rattle.teb_io.specs.Faults.{Rose};
+ghost use Rattle.input_reader.specs.Inputs.{input_of};
+ghost use Rattle.input_reader.specs.Readings.{AreReadFrom, IsRead, IsReadFrom};
+
+use crate::{Input, InputError};
+use script_text::{count_lines, parse_script, split_input};
+use std::alloc::Global;
+use teb_io::{ReadError, Source, read_all};
+use tree_toml::read_tree;
+
+/// The most bytes of an input.
+const MOST_BYTES: usize = 4_194_304;
+
+/// The most lines of a script.
+const MOST_LINES: usize = 65_536;
+
+/// Reads a source to its end, where it has at most 4,194,304 bytes.
+pub fn read_bytes<S: Source>(alloc: Global, source: &mut S) -> Result<Vec<u8>, ReadError>
+    ensures bytes { AreReadFrom (S.left source.old) (S.left source.new) result }
+    ensures fault { IsErrOf result ReadError.ReadFault → Rose (S.faults source.old) (S.faults source.new) }
+{
+    read_all(alloc, source, MOST_BYTES)
+}
+
+/// Reads a source to its end, and what it reads as an input.
+///
+/// # Errors
+/// `ReadFault` where a read fails, else the first of `TooLong` by bytes, `NoSeparator`, `TooLong` by lines, `BadTree` and
+/// `BadLine`. `OutOfMemory` may come in place of each but `ReadFault`.
+pub fn read_input<S: Source>(alloc: Global, source: &mut S) -> Result<Input, InputError>
+    ensures read { IsReadFrom (S.left source.old) (S.left source.new) result }
+    ensures fault { IsErrOf result InputError.ReadFault → Rose (S.faults source.old) (S.faults source.new) }
+{
+    let bytes = read_bytes(alloc, source)?;
+    parse_input(alloc, &bytes)
+}
+
+/// The input that these bytes are: the tree part, a line `%%`, and the script part.
+///
+/// # Errors
+/// The first of `NoSeparator`, `TooLong` by lines, `BadTree` and `BadLine`, or `OutOfMemory`.
+pub fn parse_input(alloc: Global, bytes: &[u8]) -> Result<Input, InputError>
+    requires { length bytes.now ≤ 4194304 }
+    ensures { IsRead result (input_of bytes.now) }
+{
+    let Some((tree, script)) = split_input(bytes) else {
+        return Err(InputError::NoSeparator);
+    };
+    if count_lines(script) > MOST_LINES {
+        return Err(InputError::TooLong);
+    }
+    let setup = read_tree(alloc, tree)?;
+    let lines = parse_script(alloc, script, &setup.names, setup.format)?;
+    Ok(Input::new(setup, lines))
+}

@@ -1,0 +1,5 @@
+mod LoadedSessions
+mod Loading
+mod Shops
+mod Summing
+mod Worked

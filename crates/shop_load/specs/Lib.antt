@@ -1,0 +1,4 @@
+pub mod Loads
+pub mod Runs
+pub mod Shop
+pub mod Summaries

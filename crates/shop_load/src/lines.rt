@@ -1,0 +1,163 @@
+//! The generated load: transactions of a shop, drawn from a number.
+
+ghost use Rattle.std.specs.Prelude.{◌≡◌, ◌+◌, ◌/◌, ◌%◌, ◌^◌, ◌<◌, ◌≤◌, ◌++◌, ◌∷◌, [], length, IfOk, OnOk, vec_len};
+ghost use Rattle.shop_load.specs.Loads.{next_state, begin, report, new_order, payment, delivery, requests_from, asked_by, numbered, loaded_lines};
+
+use script_text::Line;
+use std::alloc::{AllocError, Global};
+use teb_names::{Cell, Kind, Request, Session, Spot, Table};
+
+const REPORT: Kind = Kind(0);
+
+const NEW_ORDER: Kind = Kind(1);
+
+const PAYMENT: Kind = Kind(2);
+
+const DELIVERY: Kind = Kind(3);
+
+const STOCK: Table = Table(0);
+
+const ORDERS: Table = Table(1);
+
+const ACCOUNTS: Table = Table(2);
+
+/// The lines of `size` transactions of eight sessions, drawn from a number: reports, new orders, payments and
+/// deliveries on the tables stock 0, orders 1 and accounts 2, keys 1 to 16. The lines are numbered from 1.
+pub fn loaded_lines(alloc: Global, number: u32, size: u32) -> Result<Vec<Line>, AllocError>
+    requires number { number < 2 ^ 31 }
+    requires size { size ≤ 2000 }
+    ensures { IfOk result (λ v. v.items ≡ loaded_lines number size) }
+{
+    let mut lines = Vec::new(alloc);
+    let mut draws = Draws { state: number };
+    for i in 0..size {
+        add_transaction(&mut lines, &mut draws, i)?;
+    }
+    Ok(lines)
+}
+
+/// Numbers that follow from one number.
+#[derive(Drop)]
+struct Draws {
+    state: u32,
+    ghost below: { state < 2 ^ 31 },
+}
+
+impl Draws {
+    /// The next, 0 to 32,767.
+    fn draw(&mut self) -> u32
+        ensures state { self.new.state ≡ next_state self.old.state }
+        ensures drawn { result ≡ next_state self.old.state / 65536 }
+    {
+        let next = (1103515245 * u64::from(self.state) + 12345) % (1 << 31);
+        self.state = next as u32;
+        self.state / 65536
+    }
+
+    /// A key, 1 to 16.
+    fn key(&mut self) -> u32
+        ensures state { self.new.state ≡ next_state self.old.state }
+        ensures drawn { result ≡ 1 + next_state self.old.state / 65536 % 16 }
+    {
+        1 + self.draw() % 16
+    }
+}
+
+/// Adds the lines of transaction i.
+fn add_transaction(lines: &mut Vec<Line>, draws: &mut Draws, i: u32) -> Result<(), AllocError>
+    requires few { i < 2000 }
+    requires room { vec_len lines.old ≤ 10000 }
+    ensures state { draws.new.state ≡ next_state (next_state (next_state draws.old.state)) }
+    ensures lines { OnOk result (lines.new.items ≡ lines.old.items
+        ++ numbered (vec_len lines.old + 1) (asked_by (record { 0 = 1 + i % 8 }) (requests_from draws.old.state i))) }
+{
+    let kind = draws.draw() % 4;
+    let a = draws.key();
+    let b = draws.key();
+    let session = Session(1 + (i % 8) as u8);
+    match kind {
+        0 => add_requests(lines, session, &report(a, b)),
+        1 => add_requests(lines, session, &new_order(i, a, b)),
+        2 => add_requests(lines, session, &payment(a, b)),
+        _ => add_requests(lines, session, &delivery(a, b)),
+    }
+}
+
+/// Adds a line of the session for each request.
+fn add_requests(
+    lines: &mut Vec<Line>,
+    session: Session,
+    requests: &[Request],
+) -> Result<(), AllocError>
+    requires { vec_len lines.old + length requests.now < 2 ^ 32 }
+    ensures { OnOk result (lines.new.items ≡ lines.old.items ++ numbered (vec_len lines.old + 1) (asked_by session requests.now)) }
+{
+    for request in requests {
+        let number = lines.len() as u32 + 1;
+        lines.push(Line {
+            number,
+            session,
+            request: *request,
+        })?;
+    }
+    Ok(())
+}
+
+fn report(a: u32, b: u32) -> [Request; 4]
+    ensures { result ≡ report a b }
+{
+    [
+        begin(REPORT),
+        Request::Read(cell(STOCK, a)),
+        Request::Read(cell(ORDERS, b)),
+        Request::Commit,
+    ]
+}
+
+fn new_order(i: u32, a: u32, b: u32) -> [Request; 5]
+    ensures { result ≡ new_order i a b }
+{
+    [
+        begin(NEW_ORDER),
+        Request::Read(cell(STOCK, a)),
+        Request::Add(cell(STOCK, a), -1),
+        Request::Write(cell(ORDERS, b), i64::from(i) + 1),
+        Request::Commit,
+    ]
+}
+
+fn payment(a: u32, b: u32) -> [Request; 5]
+    ensures { result ≡ payment a b }
+{
+    [
+        begin(PAYMENT),
+        Request::Read(cell(ACCOUNTS, a)),
+        Request::Add(cell(ACCOUNTS, a), -5),
+        Request::Read(cell(ORDERS, b)),
+        Request::Commit,
+    ]
+}
+
+fn delivery(a: u32, b: u32) -> [Request; 5]
+    ensures { result ≡ delivery a b }
+{
+    [
+        begin(DELIVERY),
+        Request::Read(cell(ORDERS, a)),
+        Request::Read(cell(ACCOUNTS, b)),
+        Request::Add(cell(ACCOUNTS, b), 5),
+        Request::Commit,
+    ]
+}
+
+fn begin(kind: Kind) -> Request
+    ensures { result ≡ begin kind.0 }
+{
+    Request::Begin(Spot { kind, instance: 0 })
+}
+
+fn cell(table: Table, key: u32) -> Cell
+    ensures { result ≡ record { table = table; key = key } }
+{
+    Cell { table, key }
+}

@@ -1,0 +1,38 @@
+//! The command `load`: a generated input, run in turns over the shop.
+
+ghost use Rattle.std.specs.Prelude.{◌≡◌, ◌<◌, ◌≤◌, ◌^◌, IfOk};
+ghost use Rattle.input_runner.specs.Runs.{IsSerialized};
+ghost use Rattle.shop_load.specs.Loads.{loaded_lines};
+ghost use Rattle.shop_load.specs.Runs.{IsLoad};
+ghost use Rattle.shop_load.specs.Shop.{shop as spec_shop};
+
+use crate::lines::loaded_lines;
+use crate::shop::shop_setup;
+use crate::summary::summary_of;
+use command_output::Output;
+use input_reader::Input;
+use input_runner::in_turns;
+use std::alloc::{AllocError, Global};
+
+/// Runs `size` transactions that are drawn from a number, and tells the summary.
+pub fn run_load(alloc: Global, number: u32, size: u32) -> Result<Output, AllocError>
+    requires number { number < 2 ^ 31 }
+    requires size { size ≤ 2000 }
+    ensures shown { IfOk result (IsLoad number size) }
+    ensures serialized { IfOk result (λ o. IsSerialized (λ m. spec_shop ≡ m) o.history) }
+{
+    let ran = in_turns(alloc, load_input(alloc, number, size)?)?;
+    let text = summary_of(alloc, number, size, &ran.engine, &ran.log)?;
+    Ok(ran.into_output(text))
+}
+
+/// The shop, and the lines of `size` transactions that are drawn from a number.
+#[tactic(auto, using(crate::proofs::LoadedSessions::loaded_sessions))]
+pub fn load_input(alloc: Global, number: u32, size: u32) -> Result<Input, AllocError>
+    requires number { number < 2 ^ 31 }
+    requires size { size ≤ 2000 }
+    ensures { IfOk result (λ i. i ≡ record { setup = spec_shop; lines = loaded_lines number size }) }
+{
+    let lines = loaded_lines(alloc, number, size)?;
+    Ok(Input::new(shop_setup(alloc)?, lines))
+}
