@@ -1,0 +1,10 @@
+pub mod Few
+pub mod Growing
+pub mod Finishing
+pub mod Turning
+pub mod Passing
+pub mod Dealing
+pub mod Gathering
+pub mod Walking
+pub mod Naming
+pub mod Numbers

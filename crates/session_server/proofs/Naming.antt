@@ -1,0 +1,18 @@
+-- Whom an answer names.
+use Rattle.std.proofs.Common.{◌≡◌, ℕ, ◌<◌, ◌≤◌, List, sym, ◌∙◌, arith}
+use Rattle.teb_names.specs.declared.Session.{Session}
+use Rattle.teb_names.specs.declared.Request.{Request}
+use Rattle.teb_names.specs.declared.Reply.{Reply}
+use Rattle.teb_history.specs.declared.Event.{Event}
+use Rattle.teb_history.specs.Phases.{begun_count}
+use Rattle.teb_rules.specs.Setup.{Store}
+use Rattle.teb_rules.specs.Answer.{answer}
+use Rattle.teb_laws.specs.Lawful.{Lawful}
+use Rattle.teb_laws.proofs.Timeline.{begun_counted}
+use Rattle.teb_laws.proofs.Cascades.{unfinished_times}
+use Rattle.teb_laws.proofs.Waits.{again_fair}
+use Rattle.session_server.specs.Waits.{WaitsAmong}
+
+-- an Again names one that has begun
+pub names_begun : (X : Store) (H : List Event) (s : Session) (q : Request) (r : Reply) → Lawful X.setup H → begun_count H ≤ 8192 → r ≡ (answer X H s q).0 → WaitsAmong 8192 r
+names_begun X H s q r l few is = λ u n e. let fair = again_fair X H s q u n (sym is ∙ e) in let b = begun_counted X.setup H u.0 l (unfinished_times H u.0 fair.running).0 in (omega arith, omega arith)

@@ -1,0 +1,48 @@
+//! A request of a session.
+
+ghost use Rattle.std.specs.Prelude.{◌≡◌, ◌≢◌, ◌↔◌, Ok, Err, IfOk, IfErr};
+ghost use Rattle.session_server.specs.Passes.{base_of, IsPassOf, Turned, Asked, Unasked};
+ghost use Rattle.session_server.specs.Waits.{WaitsAmong};
+ghost use Rattle.session_server.specs.declared.error.AskError.TheVariants.{PassSpent, OutOfMemory};
+
+use crate::error::AskError;
+use crate::hall::{Hall, MOST_ASKS};
+use crate::pass::Pass;
+use crate::taking::take_turn;
+use std::sync::Wait;
+use teb_names::{Reply, Request};
+use version_chain::Chains;
+
+impl<C: Chains> Hall<C> {
+    /// Asks the engine at this session's turn. It waits for the turn.
+    ///
+    /// What the pass has seen goes on, and ends with the entry of this call. Before the turn moves on, each finish of
+    /// the answer is published. Whom an Again names may be polled.
+    ///
+    /// # Errors
+    /// `PassSpent`, where the pass has asked 2^40 times. `OutOfMemory` leaves no entry.
+    pub fn ask<R: Wait>(
+        &self,
+        rt: &R,
+        pass: &mut Pass<C>,
+        request: Request,
+    ) -> Result<Reply, AskError>
+        requires pass { IsPassOf self.now pass.old }
+        ensures pass { IsPassOf self.now pass.new × (pass.new.session ≡ pass.old.session) }
+        ensures ok { IfOk result (λ r. Turned (base_of self.now).store pass.old pass.new × Asked pass.old pass.new request r) }
+        ensures waits { IfOk result (WaitsAmong 8192) }
+        ensures memory { result ≡ Err OutOfMemory → Turned (base_of self.now).store pass.old pass.new × Unasked pass.old pass.new }
+        ensures spent { result ≡ Err PassSpent → pass.new ≡ pass.old }
+        ensures when { (result ≡ Err PassSpent) ↔ (pass.old.asks ≡ 1099511627776) }
+    {
+        if pass.asks == MOST_ASKS {
+            return Err(AskError::PassSpent);
+        }
+        let answer = take_turn(rt, &self.turn, &mut pass.seat, pass.session, request);
+        pass.asks += 1;
+        match answer {
+            Ok(reply) => Ok(reply),
+            Err(_) => Err(AskError::OutOfMemory),
+        }
+    }
+}

@@ -1,0 +1,128 @@
+//! A session along its script.
+
+ghost use Rattle.std.specs.Prelude.{◌≡◌, ◌≤◌, Ok, Err, Some, true, false, IfOk};
+ghost use Rattle.std.specs.Option.{IsSome};
+ghost use Rattle.teb_rules.specs.Scripts.{IsWalk, asks};
+ghost use Rattle.script_walk.specs.Places.{requests_on, place_of};
+ghost use Rattle.session_server.specs.Passes.{IsPassOf, mine};
+ghost use Rattle.session_server.specs.Walks.{IsUnderWay};
+ghost use Rattle.session_server.specs.Stops.{FoundRaised};
+ghost use Rattle.session_server.specs.Waits.{WaitsAmong};
+ghost use Rattle.session_server.specs.declared.error.AskError.TheVariants.{PassSpent};
+
+use crate::error::AskError;
+use crate::gate::Gate;
+use crate::hall::Hall;
+use crate::pass::Pass;
+use crate::stop::is_raised;
+use finish_board::Poll;
+use script_text::Line;
+use script_walk::Walker;
+use std::sync::Wait;
+use std::sync::atomic::{AtomicIn, Rule};
+use std::thread;
+use teb_names::{Reply, Request, Txn};
+use version_chain::Chains;
+
+/// How often a session looks at whom it waits for before it asks again.
+const LOOKS: u32 = 64;
+
+/// Works through the lines of a session from where the walker stands. `Ok(true)` says that they are worked through.
+///
+/// Where a stop word is given, it is looked at before each request, and `Ok(false)` says that such a look found that it
+/// is not 0. A call with another stop word, or with none, goes on from there. After an Again the session looks at the
+/// transaction that it waits for until that has finished, at most 64 times, and then asks again.
+///
+/// # Errors
+/// The first error of [`Hall::ask`]. What was answered before it stands in the pass and in the walker.
+#[tactic(auto, using(crate::proofs::Walking::walk_ends, crate::proofs::Walking::walk_same))]
+pub fn serve<C: Chains, G: Gate, S: Rule, R: Wait>(
+    rt: &R,
+    hall: &Hall<C>,
+    pass: &mut Pass<C>,
+    lines: &[Line],
+    walker: &mut Walker,
+    stop: Option<&AtomicIn<S>>,
+    gate: &G,
+) -> Result<bool, AskError>
+    requires pass { IsPassOf hall.now pass.old }
+    requires way { IsUnderWay lines.now (mine pass.old) walker.old }
+    ensures pass { IsPassOf hall.now pass.new × (pass.new.session ≡ pass.old.session) }
+    ensures way { IsUnderWay lines.now (mine pass.new) walker.new }
+    ensures walk { result ≡ Ok true → IsWalk (requests_on lines.now) (mine pass.new) }
+    ensures stopped { result ≡ Ok false → IsSome stop.entry × FoundRaised S.invariant }
+    ensures spent { result ≡ Err PassSpent → pass.new.asks ≡ 1099511627776 }
+{
+    for _ in rt.forever() {
+        let Some(request) = walker.next(lines) else {
+            return Ok(true);
+        };
+        if is_raised(stop) {
+            return Ok(false);
+        }
+        match ask_next(rt, hall, pass, lines, walker, request, gate) {
+            Ok(Reply::Again { who, .. }) => look_for(hall, pass, who),
+            Ok(_) => {}
+            Err(error) => return Err(error),
+        }
+    }
+    unreachable!()
+}
+
+/// Asks what the session asks next, and takes the answer.
+fn ask_next<C: Chains, G: Gate, R: Wait>(
+    rt: &R,
+    hall: &Hall<C>,
+    pass: &mut Pass<C>,
+    lines: &[Line],
+    walker: &mut Walker,
+    request: Request,
+    gate: &G,
+) -> Result<Reply, AskError>
+    requires pass { IsPassOf hall.now pass.old }
+    requires way { IsUnderWay lines.now (mine pass.old) walker.old }
+    requires next { asks (place_of lines.now walker.old) ≡ Some request }
+    ensures pass { IsPassOf hall.now pass.new × (pass.new.session ≡ pass.old.session) }
+    ensures way { IsUnderWay lines.now (mine pass.new) walker.new }
+    ensures waits { IfOk result (WaitsAmong 8192) }
+    ensures spent { result ≡ Err PassSpent → pass.new.asks ≡ 1099511627776 }
+{
+    let number = number_at(walker, lines);
+    let session = pass.session();
+    gate.before(session, number);
+    match hall.ask(rt, pass, request) {
+        Ok(reply) => {
+            gate.after(session, number);
+            walker.take(lines, &reply);
+            Ok(reply)
+        }
+        Err(error) => {
+            gate.after(session, number);
+            Err(error)
+        }
+    }
+}
+
+/// The number of the line that a walker stands at, and 0 behind the last.
+fn number_at(walker: &Walker, lines: &[Line]) -> u32 {
+    match lines.get(walker.at) {
+        Some(line) => line.number,
+        None => 0,
+    }
+}
+
+/// Looks at a transaction until it has finished, at most 64 times.
+#[tactic(auto, using(crate::proofs::Walking::mine_same))]
+fn look_for<C: Chains>(hall: &Hall<C>, pass: &mut Pass<C>, who: Txn)
+    requires pass { IsPassOf hall.now pass.old }
+    requires who { (1 ≤ who.0) × (who.0 ≤ 8192) }
+    ensures pass { IsPassOf hall.now pass.new × (pass.new.session ≡ pass.old.session) × (pass.new.asks ≡ pass.old.asks) }
+    ensures mine { mine pass.new ≡ mine pass.old }
+{
+    for _ in 0..LOOKS {
+        if let Poll::Finished(_) = hall.poll(pass, who) {
+            return;
+        }
+        thread::yield_now();
+    }
+}

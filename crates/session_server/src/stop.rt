@@ -1,0 +1,25 @@
+//! The word that stops sessions.
+
+ghost use Rattle.std.specs.Prelude.{◌≡◌, ◌≤◌, true};
+ghost use Rattle.std.specs.Option.{IsSome};
+ghost use Rattle.session_server.specs.Stops.{FoundRaised};
+
+use std::sync::atomic::Ordering::SeqCst;
+use std::sync::atomic::{AtomicIn, Rule};
+
+/// The rule of a word that is 0 until the sessions are to stop, and then 1.
+pub struct Stops;
+
+impl Rule for Stops {
+    ghost invariant = { λ n. n ≤ 1 };
+}
+
+/// Whether there is a word, and this look found that it is not 0.
+pub(crate) fn is_raised<S: Rule>(stop: Option<&AtomicIn<S>>) -> bool
+    ensures { result ≡ true → IsSome stop.entry × FoundRaised S.invariant }
+{
+    match stop {
+        Some(word) => word.load(SeqCst) != 0,
+        None => false,
+    }
+}
