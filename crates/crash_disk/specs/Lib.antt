@@ -1,0 +1,5 @@
+pub mod Calls
+pub mod Disk
+pub mod Log
+pub mod LogLaws
+pub mod Left

@@ -1,0 +1,87 @@
+// A disk as the journal sees it: what a read gives, and what a crash may leave.
+ghost use Rattle.std.specs.Prelude.{◌≡◌, ◌+◌, ◌≤◌, List, ℕ, length, IfOk, OnOk, OnErr};
+ghost use Rattle.crash_disk.specs.Disk.{Only, Follows, NoMore, IsTorn, Holds, IsRead, Elapses};
+ghost use Rattle.crash_disk.specs.Calls.{Tally, AreCalls};
+ghost use Rattle.teb_io.specs.Faults.{HasCause};
+
+use teb_io::Failed;
+
+/// A device of bytes.
+pub trait Disk {
+    /// The bytes that a read gives.
+    ghost seen: { Self → List ℕ };
+
+    /// The images that a crash at this moment may leave.
+    ghost may_leave: { Self → List ℕ → Type 0 };
+
+    /// The clock, which never goes back.
+    ghost moment: { Self → ℕ };
+
+    /// The images that a crash at some moment from that one on might have left, during a call or between two.
+    ghost left_since: { Self → ℕ → List ℕ → Type 0 };
+
+    /// The bytes as they were at the last sync that succeeded.
+    ghost safe: { Self → List ℕ };
+
+    /// How often the disk has failed.
+    ghost faults: { Self → ℕ };
+
+    /// How many calls were made, and which are sure to succeed or to fail.
+    ghost tally: { Self → Tally };
+
+    /// How many bytes there are.
+    fn len(&mut self) -> Result<u64, Failed>
+        ensures value { IfOk result (λ n. n ≡ length (seen self.old)) }
+        ensures seen { seen self.new ≡ seen self.old }
+        ensures crash { NoMore (may_leave self.old) (may_leave self.new) }
+        ensures time { Elapses (moment self.old) (moment self.new) (left_since self.old) (left_since self.new) (may_leave self.new) }
+        ensures safe { safe self.new ≡ safe self.old }
+        ensures calls { AreCalls (tally self.old).promise.reads 1 0 (tally self.old) (tally self.new) result }
+        ensures cause { HasCause (faults self.old) (faults self.new) result };
+
+    /// Reads the next bytes from a place on, as many as it likes.
+    fn read_at(&mut self, at: u64, buf: &mut [u8]) -> Result<usize, Failed>
+        ensures read { IfOk result (λ n. IsRead (seen self.old) at n buf.new) }
+        ensures seen { seen self.new ≡ seen self.old }
+        ensures crash { NoMore (may_leave self.old) (may_leave self.new) }
+        ensures time { Elapses (moment self.old) (moment self.new) (left_since self.old) (left_since self.new) (may_leave self.new) }
+        ensures safe { safe self.new ≡ safe self.old }
+        ensures calls { AreCalls (tally self.old).promise.reads 1 0 (tally self.old) (tally self.new) result }
+        ensures cause { HasCause (faults self.old) (faults self.new) result };
+
+    /// Writes over what is there, and past the end. Until a sync that succeeds, the range and what lies past the old end may hold
+    /// any bytes after a crash. A write that fails counts as made.
+    fn write_at(&mut self, at: u64, bytes: &[u8]) -> Result<(), Failed>
+        requires { at + length bytes.now ≤ 1048576 }
+        ensures written { OnOk result (Holds at bytes.now (seen self.new)) }
+        ensures torn { IsTorn at (length bytes.now) (seen self.old) (seen self.new) }
+        ensures crash { Follows (IsTorn at (length bytes.now)) (may_leave self.old) (may_leave self.new) }
+        ensures time { Elapses (moment self.old) (moment self.new) (left_since self.old) (left_since self.new) (may_leave self.new) }
+        ensures safe { safe self.new ≡ safe self.old }
+        ensures calls { AreCalls (tally self.old).promise.writes 1 (length bytes.now) (tally self.old) (tally self.new) result }
+        ensures cause { HasCause (faults self.old) (faults self.new) result };
+
+    /// After it a crash leaves what a read gives. One that fails makes nothing safe.
+    fn sync(&mut self) -> Result<(), Failed>
+        ensures durable { OnOk result (Only (seen self.old) (may_leave self.new)) }
+        ensures seen { seen self.new ≡ seen self.old }
+        ensures crash { NoMore (may_leave self.old) (may_leave self.new) }
+        ensures nothing_safe { OnErr result (NoMore (may_leave self.new) (may_leave self.old)) }
+        ensures time { Elapses (moment self.old) (moment self.new) (left_since self.old) (left_since self.new) (may_leave self.new) }
+        ensures safe { OnOk result (safe self.new ≡ seen self.old) }
+        ensures not_safe { OnErr result (safe self.new ≡ safe self.old) }
+        ensures calls { AreCalls (tally self.old).promise.writes 1 0 (tally self.old) (tally self.new) result }
+        ensures cause { HasCause (faults self.old) (faults self.new) result };
+
+    /// What a read gives is one of the images.
+    ghost read_is_left: { (disk : Self) → may_leave disk (seen disk) };
+
+    /// What was safe at the last good sync is one of the images.
+    ghost safe_is_left: { (disk : Self) → may_leave disk (safe disk) };
+
+    /// This moment is one of those since an earlier one.
+    ghost counts_now: { (disk : Self) (t : ℕ) (c : List ℕ) → t ≤ moment disk → may_leave disk c → left_since disk t c };
+
+    /// Since this moment there is no other.
+    ghost only_now: { (disk : Self) (c : List ℕ) → left_since disk (moment disk) c → may_leave disk c };
+}
