@@ -1,0 +1,13 @@
+pub mod AfterRules
+pub mod TableSteps
+pub mod RowSteps
+pub mod MarkSteps
+pub mod ReadSteps
+pub mod OrderRules
+pub mod Canonical
+pub mod OrderSteps
+pub mod Cells
+pub mod FormSteps
+pub mod Faults
+pub mod FirstLines
+pub mod TxnSteps

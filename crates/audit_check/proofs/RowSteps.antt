@@ -1,0 +1,118 @@
+-- Which final rows have been seen, and which are missing.
+use Rattle.std.proofs.Common.{◌≡◌, ℕ, ◌==◌, Bool, true, false, not, ◌&&◌, ◌||◌, if◌then◌else◌, List, [], ◌∷◌, ◌++◌, ◌+◌, ◌<◌, length, take, drop, get_or, Option, Some, None, refl, ap, sym, subst, ◌∙◌, arith, inl, inr}
+use Rattle.std.specs.Prelude.{ℤ, is_some}
+use Rattle.std.specs.List.{list_any}
+use Rattle.std.proofs.lemmas.Bool.{and_parts, or_from, or_left, or_right, cases_Bool, eqb-true}
+use Rattle.std.proofs.lemmas.Slice.Eq.{bytes_eq-Decides}
+use Rattle.std.specs.Str.{bytes_eq}
+use Rattle.std.proofs.lemmas.List.{map-append, take-append-drop}
+use Rattle.audit_check.specs.Items.{Item, Place, same_place}
+use Rattle.audit_check.specs.Items.Item.{Start, Began, Got, Put, Ready, Done, Gone, Told, Order, Row, End}
+use Rattle.audit_check.specs.Lines.{is_row}
+use Rattle.audit_check.specs.Faults.{places_in, is_missing}
+use Rattle.audit_check.specs.Tables.{Values, last_table}
+use Rattle.audit_check.specs.Keeps.{HoldsTable, SeesRows, place_passes, value_at}
+use Rattle.audit_check.specs.Views.{place_view, line_view, views, places, has_place}
+use Rattle.audit_check.specs.declared.line.Place.{Place as Key}
+use Rattle.audit_check.specs.declared.line.Line.{Line}
+use Rattle.audit_check.specs.declared.line.Line.TheVariants as line
+use Rattle.audit_check.proofs.Cells.{has_push}
+use Rattle.audit_check.proofs.FirstLines.{views_next, views_append}
+
+pub same_places : (x y : Place) → same_place x y ≡ true → x ≡ y
+same_places x y h =
+    let (tables, keys) = and_parts (bytes_eq x.0 y.0) (x.1 == y.1) h in
+    let table : x.0 ≡ y.0 = (bytes_eq-Decides x.0 y.0).0 tables in
+    let key : x.1 ≡ y.1 = eqb-true x.1 y.1 keys in
+    ap (λ (w : List ℕ). let p : Place = (w, x.1) in p) table ∙ ap (λ (k : ℕ). let p : Place = (y.0, k) in p) key
+
+-- one more row, new or not
+seen_push : (rows : List Key) (p : Key) (x : Place) (b : Bool) → has_place (places rows) (place_view p) ≡ b
+    → has_place (places (if b then rows else rows ++ p ∷ [])) x ≡ (same_place x (place_view p) || has_place (places rows) x)
+seen_push rows p x true there = elim (cases_Bool (same_place x (place_view p))) [
+  | inl same ↦ rw same (ap (has_place (places rows)) (same_places x (place_view p) same) ∙ there)
+  | inr other ↦ rw other
+]
+seen_push rows p x false new = ap (λ (ps : List Place). has_place ps x) (map-append place_view rows (p ∷ [])) ∙ has_push (places rows) (place_view p) x
+
+pub row_seen : (rows rows' : List Key) (p : Key) (v : ℤ) (past : List Item) → rows' ≡ (if has_place (places rows) (place_view p) then rows else rows ++ p ∷ [])
+    → SeesRows rows past → SeesRows rows' (Row (place_view p) v ∷ past)
+row_seen rows rows' p v past is seen = record {
+  each = λ x. ap (λ (ks : List Key). has_place (places ks) x) is ∙ seen_push rows p x (has_place (places rows) (place_view p)) refl ∙ ap (λ b. same_place x (place_view p) || b) (seen.each x);
+}
+
+abbrev pub is_row_line : Item → Bool
+is_row_line (Row x v) = true
+is_row_line _ = false
+
+pub other_seen : (rows : List Key) (i : Item) (past : List Item) → is_row_line i ≡ false → SeesRows rows past → SeesRows rows (i ∷ past)
+other_seen rows (Row x v) past h seen = absurd (cc)
+other_seen rows (Start x v) past h seen = record { each = seen.each }
+other_seen rows (Began t) past h seen = record { each = seen.each }
+other_seen rows (Got t x u v) past h seen = record { each = seen.each }
+other_seen rows (Put t x v) past h seen = record { each = seen.each }
+other_seen rows (Ready t) past h seen = record { each = seen.each }
+other_seen rows (Done t) past h seen = record { each = seen.each }
+other_seen rows (Gone t) past h seen = record { each = seen.each }
+other_seen rows (Told t) past h seen = record { each = seen.each }
+other_seen rows (Order ts) past h seen = record { each = seen.each }
+other_seen rows End past h seen = record { each = seen.each }
+
+pub missed : (H past : List Item) (entries : List (Key × Option ℤ)) (rows : List Key) (p : Key) → HoldsTable entries (last_table H) → SeesRows rows past
+    → (is_some (value_at entries p) && not (has_place (places rows) (place_view p))) ≡ is_missing H past (place_view p)
+missed H past entries rows p held seen = rw (held.each p, seen.each (place_view p))
+
+-- the places of the lines, one by one
+pub places_more : (p : Place → Bool) (i : Item) (past : List Item) → list_any p (places_in (i ∷ past)) ≡ (place_passes p i || list_any p (places_in past))
+unfolding places_in
+places_more p (Start x v) past = refl
+places_more p (Put t x v) past = refl
+places_more p (Began t) past = refl
+places_more p (Got t x u v) past = refl
+places_more p (Ready t) past = refl
+places_more p (Done t) past = refl
+places_more p (Gone t) past = refl
+places_more p (Told t) past = refl
+places_more p (Order ts) past = refl
+places_more p (Row x v) past = refl
+places_more p End past = refl
+
+pub places_behind : (p : Place → Bool) (more past : List Item) → list_any p (places_in past) ≡ true → list_any p (places_in (more ++ past)) ≡ true
+places_behind p [] past h = h
+places_behind p (i ∷ more) past h = places_more p i (more ++ past) ∙ or_right (place_passes p i) (list_any p (places_in (more ++ past))) (places_behind p more past h)
+
+pub not_row : (l : Line) → ((p : Key) (v : ℤ) → l ≡ line.Row p v → ⊥) → is_row_line (line_view l) ≡ false
+not_row (line.Row p v) unlike = absurd (unlike p v refl)
+not_row (line.Start p v) unlike = refl
+not_row (line.Began t) unlike = refl
+not_row (line.Got t p u v) unlike = refl
+not_row (line.Put t p v) unlike = refl
+not_row (line.Ready t) unlike = refl
+not_row (line.Done t) unlike = refl
+not_row (line.Gone t) unlike = refl
+not_row (line.Told t) unlike = refl
+not_row (line.Order ts) unlike = refl
+not_row line.End unlike = refl
+
+module _ (p : Place → Bool) (lines : List Line) (i : ℕ) (l : Line) (within : i < length lines) (is : l ≡ get_or lines i l) where
+  pub places_right : list_any p (places_in (views (take i lines))) ≡ false → place_passes p (line_view l) ≡ false → list_any p (places_in (views (take (i + 1) lines))) ≡ false
+  places_right none right =
+      ap (λ (past : List Item). list_any p (places_in past)) (views_next lines i l within is)
+      ∙ places_more p (line_view l) (views (take i lines))
+      ∙ or_from (place_passes p (line_view l)) (list_any p (places_in (views (take i lines)))) right none
+
+  pub places_wrong : place_passes p (line_view l) ≡ true → list_any p (places_in (views lines)) ≡ true
+  places_wrong wrong =
+      let here : list_any p (places_in (views (take (i + 1) lines))) ≡ true =
+      ap (λ (past : List Item). list_any p (places_in past)) (views_next lines i l within is)
+      ∙ places_more p (line_view l) (views (take i lines))
+      ∙ or_left (place_passes p (line_view l)) (list_any p (places_in (views (take i lines)))) wrong in
+      let whole : views lines ≡ views (drop (i + 1) lines) ++ views (take (i + 1) lines) = ap views (sym (take-append-drop (i + 1) lines)) ∙ views_append (take (i + 1) lines) (drop (i + 1) lines) in
+      ap (λ (past : List Item). list_any p (places_in past)) whole ∙ places_behind p (views (drop (i + 1) lines)) (views (take (i + 1) lines)) here
+
+pub no_places : (p : Place → Bool) → list_any p (places_in []) ≡ false
+unfolding places_in
+no_places p = refl
+
+pub none_seen : (rows : List Key) → rows ≡ [] → SeesRows rows []
+none_seen rows is = rw is (record { each = λ x. refl })

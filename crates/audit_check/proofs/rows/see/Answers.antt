@@ -1,0 +1,6 @@
+use Rattle.std.proofs.lemmas.Result.{on_ok_weaker}
+use Rattle.audit_check.proofs.RowSteps.{row_seen, other_seen, not_row}
+use Rattle.audit_check.proofs.rows.see.Goals as goal
+
+pub returns-in-Row : goal.returns-in-Row
+returns-in-Row c = on_ok_weaker c.see_place.result (λ keys past seen. rw c.in-Row.is (row_seen _ _ c.in-Row.place _ past keys seen)) c.see_place.ensures

@@ -1,0 +1,12 @@
+pub mod Numbers
+pub mod Items
+pub mod Reading
+pub mod Lines
+pub mod Tables
+pub mod Standings
+pub mod Faults
+pub mod Audit
+pub mod Views
+pub mod Findings
+pub mod Marks
+pub mod Keeps

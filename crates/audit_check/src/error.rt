@@ -1,0 +1,64 @@
+//! What is wrong with a printed run.
+
+ghost use Rattle.std.specs.Prelude.{◌≡◌, ◌+◌, ◌<◌, ◌^◌};
+ghost use Rattle.audit_check.specs.declared.error.AuditError.TheVariants.{No};
+
+use std::alloc::{AllocError, AllocFailed};
+use thiserror::Error;
+
+/// What the first line that is wrong breaks.
+#[derive(Clone, Copy, Debug, PartialEq, Eq)]
+pub enum AuditWhy {
+    /// It is no line of a printed run, or stands out of order, or repeats a cell.
+    Form,
+    /// Its transaction cannot do this now.
+    Txn,
+    /// The order does not list each committed transaction once and no other.
+    Order,
+    /// It commits a transaction before one that it read from.
+    After,
+    /// It reads what the order does not give.
+    Read,
+    /// It is not in the last table, or a row of the last table is missing.
+    Row,
+}
+
+/// Why a printed run is not audited.
+#[derive(Debug, Drop, Error)]
+pub enum AuditError {
+    #[error("line {line} is wrong: {why:?}")]
+    No { line: u32, why: AuditWhy },
+    #[error("out of memory")]
+    OutOfMemory,
+}
+
+impl From<AllocError> for AuditError {
+    ghost use Rattle.audit_check.specs.declared.error.AuditError.TheVariants.{OutOfMemory};
+
+    ghost from_gives = { λ _ e. e ≡ OutOfMemory };
+
+    fn from(_error: AllocError) -> AuditError {
+        AuditError::OutOfMemory
+    }
+}
+
+impl<T: Drop> From<AllocFailed<T>> for AuditError {
+    ghost use Rattle.audit_check.specs.declared.error.AuditError.TheVariants.{OutOfMemory};
+
+    ghost from_gives = { λ _ e. e ≡ OutOfMemory };
+
+    fn from(_error: AllocFailed<T>) -> AuditError {
+        AuditError::OutOfMemory
+    }
+}
+
+/// That the line behind so many others is wrong.
+pub fn no(before: usize, why: AuditWhy) -> AuditError
+    requires { before + 1 < 2 ^ 32 }
+    ensures { result ≡ No (before + 1) why }
+{
+    AuditError::No {
+        line: before as u32 + 1,
+        why,
+    }
+}

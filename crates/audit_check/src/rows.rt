@@ -1,0 +1,109 @@
+//! The final rows of a printed run.
+
+ghost use Rattle.std.specs.Prelude.{◌≡◌, ◌<◌, ◌^◌, ◌∷◌, ◌++◌, [], if◌then◌else◌, length, not, OnOk, List};
+ghost use Rattle.std.specs.List.{list_any};
+ghost use Rattle.audit_check.specs.Faults.{wrong_row, is_missing, places_in};
+ghost use Rattle.audit_check.specs.Findings.{Finds};
+ghost use Rattle.audit_check.specs.Items.{Item};
+ghost use Rattle.audit_check.specs.Keeps.{HoldsTable, SeesRows, place_passes};
+ghost use Rattle.audit_check.specs.Tables.{last_table};
+ghost use Rattle.audit_check.specs.Views.{views, line_view, place_view, places, has_place};
+ghost use Rattle.audit_check.specs.declared.error.AuditWhy.TheVariants.{Row};
+
+use super::error::{AuditError, AuditWhy, no};
+use super::line::{Line, Place};
+use super::table::{Table, value_at};
+use indexmap::IndexSet;
+use std::alloc::{AllocFailed, Global};
+
+/// The first row line that is not in the last table, or the end, where a row is missing.
+pub fn check_rows<'a>(
+    alloc: Global,
+    table: &Table<'a>,
+    lines: &[Line<'a>],
+) -> Result<(), AuditError>
+    requires few { length lines.now < 2 ^ 32 }
+    requires table { HoldsTable table.now.entries (last_table (views lines.now)) }
+    ensures { Finds Row (wrong_row (views lines.now)) (views lines.now) result }
+{
+    let mut seen = IndexSet::new(alloc);
+    for i in 0..lines.len() {
+        let line = &lines[i];
+        if !is_right(table, &seen, lines, line) {
+            return Err(no(i, AuditWhy::Row));
+        }
+        see(&mut seen, line)?;
+    }
+    Ok(())
+}
+
+/// Keeps the place of a row line.
+fn see<'a>(seen: &mut IndexSet<Place<'a>>, line: &Line<'a>) -> Result<(), AllocFailed<Place<'a>>>
+    ensures { OnOk result ((past : List Item) → SeesRows seen.old.keys past → SeesRows seen.new.keys (line_view line.now ∷ past)) }
+{
+    match line {
+        Line::Row(place, _) => see_place(seen, *place),
+        _ => Ok(()),
+    }
+}
+
+fn see_place<'a>(
+    seen: &mut IndexSet<Place<'a>>,
+    place: Place<'a>,
+) -> Result<(), AllocFailed<Place<'a>>>
+    ensures { OnOk result (seen.new.keys ≡ (if has_place (places seen.old.keys) (place_view place.entry) then seen.old.keys else seen.old.keys ++ place.entry ∷ [])) }
+{
+    seen.insert(place)?;
+    Ok(())
+}
+
+/// Whether the line is no row that is wrong, and no end where one is missing.
+fn is_right(table: &Table, seen: &IndexSet<Place>, lines: &[Line], line: &Line) -> bool
+    requires { HoldsTable table.now.entries (last_table (views lines.now)) }
+    ensures { (past : List Item) → SeesRows seen.now.keys past → result ≡ not (wrong_row (views lines.now) past (line_view line.now)) }
+{
+    match line {
+        Line::Row(place, value) => value_at(table, *place) == Some(*value),
+        Line::End => !any_missing(table, seen, lines),
+        _ => true,
+    }
+}
+
+/// Whether a row of the table has not been seen.
+fn any_missing(table: &Table, seen: &IndexSet<Place>, lines: &[Line]) -> bool
+    requires { HoldsTable table.now.entries (last_table (views lines.now)) }
+    ensures { (past : List Item) → SeesRows seen.now.keys past → result ≡ list_any (is_missing (views lines.now) past) (places_in (views lines.now)) }
+{
+    for i in 0..lines.len() {
+        if misses(table, seen, &lines[i]) {
+            return true;
+        }
+    }
+    false
+}
+
+/// Whether the line is of a place that has a row and has not been seen.
+fn misses(table: &Table, seen: &IndexSet<Place>, line: &Line) -> bool
+    ensures { (H : List Item) (past : List Item) → HoldsTable table.now.entries (last_table H) → SeesRows seen.now.keys past → result ≡ place_passes (is_missing H past) (line_view line.now) }
+{
+    match line {
+        Line::Start(place, _) => misses_place(table, seen, *place),
+        Line::Put { place, .. } => misses_place(table, seen, *place),
+        _ => false,
+    }
+}
+
+#[tactic(auto, using(crate::proofs::RowSteps::missed))]
+fn misses_place(table: &Table, seen: &IndexSet<Place>, place: Place) -> bool
+    ensures { (H : List Item) (past : List Item) → HoldsTable table.now.entries (last_table H) → SeesRows seen.now.keys past → result ≡ is_missing H past (place_view place.entry) }
+{
+    let has_row = value_at(table, place).is_some();
+    let was_seen = sees(seen, place);
+    has_row && !was_seen
+}
+
+fn sees(seen: &IndexSet<Place>, place: Place) -> bool
+    ensures { result ≡ has_place (places seen.now.keys) (place_view place.entry) }
+{
+    seen.contains(&place)
+}

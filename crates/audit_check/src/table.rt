@@ -1,0 +1,56 @@
+//! A table of values, by place.
+
+ghost use Rattle.std.specs.Prelude.{◌≡◌, ◌∷◌, List, OnOk, IfOk};
+ghost use Rattle.audit_check.specs.Items.{Item};
+ghost use Rattle.audit_check.specs.Keeps.{HoldsTable, value_at};
+ghost use Rattle.audit_check.specs.Tables.{Values, put_at, starts_in};
+ghost use Rattle.audit_check.specs.Views.{views, line_view, place_view};
+
+use super::line::{Line, Place};
+use indexmap::IndexMap;
+use std::alloc::{AllocError, Global};
+
+/// A place may be there without a row.
+pub type Table<'a> = IndexMap<Place<'a>, Option<i64>>;
+
+/// The starting rows.
+pub fn starting_table<'a>(alloc: Global, lines: &[Line<'a>]) -> Result<Table<'a>, AllocError>
+    ensures { IfOk result (λ t. HoldsTable t.entries (starts_in (views lines.now))) }
+{
+    let mut table = IndexMap::new(alloc);
+    for i in 0..lines.len() {
+        put_start(&mut table, &lines[i])?;
+    }
+    Ok(table)
+}
+
+fn put_start<'a>(table: &mut Table<'a>, line: &Line<'a>) -> Result<(), AllocError>
+    ensures { OnOk result ((past : List Item) → HoldsTable table.old.entries (starts_in past) → HoldsTable table.new.entries (starts_in (line_view line.now ∷ past))) }
+{
+    match line {
+        Line::Start(place, value) => put(table, *place, Some(*value)),
+        _ => Ok(()),
+    }
+}
+
+/// Sets the value at a place; none removes the row.
+pub fn put<'a>(
+    table: &mut Table<'a>,
+    place: Place<'a>,
+    value: Option<i64>,
+) -> Result<(), AllocError>
+    ensures { OnOk result ((T : Values) → HoldsTable table.old.entries T → HoldsTable table.new.entries (put_at (place_view place.entry) value T)) }
+{
+    table.insert(place, value)?;
+    Ok(())
+}
+
+/// The value at a place; none where there is no row.
+pub fn value_at(table: &Table, place: Place) -> Option<i64>
+    ensures { result ≡ value_at table.now.entries place.entry }
+{
+    match table.get(&place) {
+        Some(value) => *value,
+        None => None,
+    }
+}
