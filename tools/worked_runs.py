@@ -14,7 +14,7 @@ A run is a line of the table in runs/FOLDER/README.md. Its columns:
              a text that the command audit answers by yes
     Input    another file for the input, seen from the folder. A folder cannot be read. "prefixes of FILE": a run for each of them
     Output   another file for the output
-    Formats  the formats that the run is made in: each takes the place of the input's `format = 1`
+    Formats  the formats that the run is made in: each takes the place of the input's own
     Times    how often it is run
     Line     the last line of the input, to be read beside the text
 

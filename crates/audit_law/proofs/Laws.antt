@@ -1,0 +1,18 @@
+-- The law of printed runs.
+use Rattle.std.proofs.Common.{◌≡◌, ℕ, List, [], sym, subst}
+use Rattle.teb_laws.specs.Lawful.{ReadsRows}
+use Rattle.teb_laws.specs.Laws.{reached}
+use Rattle.teb_laws.proofs.Laws.{every_run_serializes}
+use Rattle.teb_laws.proofs.Reachable.{run_good, empty_good}
+use Rattle.teb_laws.proofs.Sound.{tree_facts}
+use Rattle.teb_rules.specs.Serializes.{Serializes}
+use Rattle.audit_law.specs.Law.{PrintedRunsAreAudited}
+use Rattle.audit_law.proofs.Ascending.{ascending_apart}
+use Rattle.audit_law.proofs.Assembled.{audited}
+
+pub printed_runs_are_audited : PrintedRunsAreAudited
+printed_runs_are_audited X s asked names order rows rising can reports =
+    let H = reached X asked in
+    audited names X (tree_facts X.setup s) H order rows can (run_good X (tree_facts X.setup s) s.profiles asked [] (empty_good X.setup)).legal
+    (subst (λ (ts : List ℕ). Serializes X H ts) (sym reports.order_is) (every_run_serializes X s asked))
+    (ascending_apart X.rows rising) (ascending_apart rows reports.ascending) reports.final

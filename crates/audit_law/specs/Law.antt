@@ -1,0 +1,40 @@
+-- The law of printed runs.
+use Rattle.std.specs.Prelude.{◌≡◌, ℕ, List, map, reverse, ◌++◌, ℤ, All}
+use Rattle.std.specs.List.{flat_map, IsDistinct}
+use Rattle.std.specs.Str.{bytes_eq}
+use Rattle.teb_names.specs.declared.Cell.{Cell}
+use Rattle.teb_names.specs.declared.Txn.{Txn}
+use Rattle.teb_names.specs.declared.naming.NameBook.{NameBook}
+use Rattle.teb_names.specs.Rows.{row_of, IsAscending}
+use Rattle.teb_history.specs.declared.Event.{Event}
+use Rattle.teb_rules.specs.Setup.{Store}
+use Rattle.teb_rules.specs.Ranks.{serial_order}
+use Rattle.teb_rules.specs.Serializes.{final_table}
+use Rattle.teb_laws.specs.Laws.{OfEveryStore}
+use Rattle.script_text.specs.Texts.{starts_text, event_text, report_text}
+use Rattle.audit_check.specs.Audit.{IsAudited}
+use Rattle.audit_law.specs.Printed.{AreNames, TxnFits, RowFits, EventFits}
+
+-- the starting rows, the events of a history from the oldest on, and the report
+abbrev pub printed_run : NameBook → List (Cell × ℤ) → List Event → List Txn → List (Cell × ℤ) → List ℕ
+printed_run names starts H order rows = starts_text names starts ++ (flat_map (event_text names) (reverse H) ++ report_text names order rows)
+
+-- the numbers are of their types, and what is named has a name of its own
+pub record CanPrint (names : NameBook) (starts : List (Cell × ℤ)) (H : List Event) (order : List Txn) (rows : List (Cell × ℤ)) : Type 0 where
+  pub names_are : AreNames names
+  pub names_differ : IsDistinct bytes_eq names.tables
+  pub starts_fit : All (RowFits names) starts
+  pub events_fit : All (EventFits names) H
+  pub order_fits : All TxnFits order
+  pub rows_fit : All (RowFits names) rows
+
+-- the serial order of the history, and the rows of its final table, in ascending order of cells
+pub record Reports (X : Store) (H : List Event) (order : List Txn) (rows : List (Cell × ℤ)) : Type 0 where
+  pub order_is : map (λ t. t.0) order ≡ serial_order X.setup H
+  pub ascending : IsAscending rows
+  pub final : (x : Cell) → row_of rows x ≡ final_table X H x
+
+-- whatever is asked of an accepted tree, the run that is printed is audited
+abbrev pub PrintedRunsAreAudited : Type 0
+PrintedRunsAreAudited = OfEveryStore (λ X H. (names : NameBook) (order : List Txn) (rows : List (Cell × ℤ))
+    → IsAscending X.rows → CanPrint names X.rows H order rows → Reports X H order rows → IsAudited (printed_run names X.rows H order rows))

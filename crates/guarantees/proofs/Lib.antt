@@ -1,0 +1,11 @@
+pub mod Following
+pub mod Strict
+pub mod Admitted
+pub mod Unread
+pub mod Fallen
+pub mod Named
+pub mod Told
+pub mod Oldest
+pub mod Served
+pub mod Laws
+pub mod Shown

@@ -1,0 +1,38 @@
+-- Reads that neither wait nor break.
+use Rattle.std.specs.Prelude.{◌≡◌, ℕ, Bool, true, false, List, Some, IsTrue}
+use Rattle.teb_names.specs.declared.Cell.{Cell}
+use Rattle.teb_names.specs.declared.Node.{Node}
+use Rattle.teb_names.specs.declared.Txn.{Txn}
+use Rattle.teb_names.specs.declared.Session.{Session}
+use Rattle.teb_names.specs.declared.Cause.TheVariants.{Late, First}
+use Rattle.teb_names.specs.declared.Request.{Request}
+use Rattle.teb_names.specs.declared.Request.TheVariants.{Read, Write, Add, Delete, Scan}
+use Rattle.teb_names.specs.declared.Reply.TheVariants.{Aborted}
+use Rattle.teb_history.specs.declared.Event.{Event}
+use Rattle.teb_history.specs.Phases.{unfinished, held}
+use Rattle.teb_rules.specs.Setup.{Store}
+use Rattle.teb_rules.specs.Tree.{on, has_batches}
+use Rattle.teb_rules.specs.Alone.{is_served}
+use Rattle.teb_rules.specs.Answer.{answer}
+
+-- every node of t's path is a timestamp or a snapshot node
+abbrev pub ReadsFreely : Store → List Event → ℕ → Type 0
+ReadsFreely X H t = (n : ℕ) → IsTrue (on X.setup H n t) → IsTrue (has_batches X.setup.tree n)
+
+-- each Read of a running transaction is granted at once, unless it is refused
+abbrev pub ReadsAreServed : Store → List Event → Type 0
+ReadsAreServed X H = (s : Session) (t : ℕ) (x : Cell) → held H s.0 ≡ Some t → IsTrue (unfinished H t) → IsTrue (is_served (Read x) (answer X H s (Read x)).0)
+
+-- the request writes a cell
+abbrev pub is_write : Request → Bool
+is_write (Write x v) = true
+is_write (Add x v) = true
+is_write (Delete x) = true
+is_write _ = false
+
+-- there each Read and each Scan of a running transaction is granted at once, unless it is refused; and in any tree Late and First answer writes alone
+pub record ReadsGoOn (X : Store) (H : List Event) : Type 0 where
+  pub reads : (s : Session) (t : ℕ) (x : Cell) → held H s.0 ≡ Some t → IsTrue (unfinished H t) → ReadsFreely X H t → IsTrue (is_served (Read x) (answer X H s (Read x)).0)
+  pub scans : (s : Session) (t : ℕ) (x : Cell) (n : ℕ) → held H s.0 ≡ Some t → IsTrue (unfinished H t) → ReadsFreely X H t → IsTrue (is_served (Scan x n) (answer X H s (Scan x n)).0)
+  pub late : (s : Session) (r : Request) (n : Node) (u : Txn) (x : Cell) → (answer X H s r).0 ≡ Aborted (Late n u x) → IsTrue (is_write r)
+  pub first : (s : Session) (r : Request) (n : Node) (u : Txn) (x : Cell) → (answer X H s r).0 ≡ Aborted (First n u x) → IsTrue (is_write r)
