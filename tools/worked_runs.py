@@ -258,13 +258,13 @@ def main():
         print(f"runs: there is no program {os.path.relpath(given.program)}: ./check build proves and builds it", file=sys.stderr)
         print(f"runs: 0 passed, {len(runs)} failed")
         return 1
-    failed = 0
+    passed = failed = 0
     for run, why in tried(runs) if given.tried else compared(runs, given.program.resolve()):
+        passed, failed = passed + (not why), failed + bool(why)
         if why:
-            failed += 1
             print(f"FAILED {run.name}: {why}")
-    print(f"runs: {len(runs) - failed} passed, {failed} failed")
-    return 1 if failed or not runs else 0
+    print(f"runs: {passed} passed, {failed} failed")
+    return 1 if failed or not passed else 0
 
 
 if __name__ == "__main__":

@@ -1,11 +1,10 @@
 -- The cells of the starting rows and of the final rows.
-use Rattle.std.proofs.Common.{◌≡◌, ℕ, Bool, true, false, not, ◌||◌, IsTrue, List, [], ◌∷◌, ◌++◌, map, reverse, refl, ap, sym, ◌∙◌, arith}
+use Rattle.std.proofs.Common.{◌≡◌, Bool, true, false, ◌||◌, List, [], ◌∷◌, ◌++◌, map, reverse, refl, ap, ◌∙◌}
 use Rattle.std.specs.Prelude.{ℤ}
 use Rattle.std.specs.List.{list_any}
 use Rattle.std.proofs.lemmas.List.{reverse-append, map-append}
 use Rattle.audit_check.specs.Items.{Place, Item, same_place}
 use Rattle.audit_check.specs.Items.Item.{Start, Row}
-use Rattle.audit_check.specs.Lines.{is_start, is_row}
 use Rattle.audit_check.specs.declared.line.Place.{Place as Named}
 use Rattle.audit_check.specs.declared.line.Line.{Line}
 use Rattle.audit_check.specs.Views.{line_view, views, places, has_place, place_view, KeepsCells}

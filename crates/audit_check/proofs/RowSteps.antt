@@ -1,5 +1,5 @@
 -- Which final rows have been seen, and which are missing.
-use Rattle.std.proofs.Common.{◌≡◌, ℕ, ◌==◌, Bool, true, false, not, ◌&&◌, ◌||◌, if◌then◌else◌, List, [], ◌∷◌, ◌++◌, ◌+◌, ◌<◌, length, take, drop, get_or, Option, Some, None, refl, ap, sym, subst, ◌∙◌, arith, inl, inr}
+use Rattle.std.proofs.Common.{◌≡◌, ℕ, ◌==◌, Bool, true, false, not, ◌&&◌, ◌||◌, if◌then◌else◌, List, [], ◌∷◌, ◌++◌, ◌+◌, ◌<◌, length, take, drop, get_or, Option, refl, ap, sym, ◌∙◌, inl, inr}
 use Rattle.std.specs.Prelude.{ℤ, is_some}
 use Rattle.std.specs.List.{list_any}
 use Rattle.std.proofs.lemmas.Bool.{and_parts, or_from, or_left, or_right, cases_Bool, eqb-true}
@@ -8,9 +8,8 @@ use Rattle.std.specs.Str.{bytes_eq}
 use Rattle.std.proofs.lemmas.List.{map-append, take-append-drop}
 use Rattle.audit_check.specs.Items.{Item, Place, same_place}
 use Rattle.audit_check.specs.Items.Item.{Start, Began, Got, Put, Ready, Done, Gone, Told, Order, Row, End}
-use Rattle.audit_check.specs.Lines.{is_row}
 use Rattle.audit_check.specs.Faults.{places_in, is_missing}
-use Rattle.audit_check.specs.Tables.{Values, last_table}
+use Rattle.audit_check.specs.Tables.{last_table}
 use Rattle.audit_check.specs.Keeps.{HoldsTable, SeesRows, place_passes, value_at}
 use Rattle.audit_check.specs.Views.{place_view, line_view, views, places, has_place}
 use Rattle.audit_check.specs.declared.line.Place.{Place as Key}

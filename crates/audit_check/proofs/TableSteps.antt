@@ -1,11 +1,11 @@
 -- A table of values, as it changes at one place.
-use Rattle.std.proofs.Common.{◌≡◌, ℕ, Bool, true, false, if◌then◌else◌, List, [], ◌∷◌, Option, Some, None, refl, ap, sym, subst, ◌∙◌}
+use Rattle.std.proofs.Common.{◌≡◌, Bool, true, false, if◌then◌else◌, List, [], ◌∷◌, Option, Some, refl, ap, sym, subst, ◌∙◌}
 use Rattle.std.specs.Prelude.{ℤ}
 use Rattle.std.specs.Map.{lookup}
 use Rattle.audit_check.specs.Items.{Item, Place, same_place}
 use Rattle.audit_check.specs.Items.Item.{Start, Began, Got, Put, Ready, Done, Gone, Told, Order, Row, End}
 use Rattle.audit_check.specs.Tables.{Values, put_at, starts_in}
-use Rattle.audit_check.specs.Keeps.{HoldsTable, row_of, value_at}
+use Rattle.audit_check.specs.Keeps.{HoldsTable, row_of}
 use Rattle.audit_check.specs.Views.{place_view, line_view}
 use Rattle.audit_check.specs.declared.line.Place.{Place as Key}
 use Rattle.audit_check.specs.declared.line.Line.{Line}

@@ -1,5 +1,5 @@
 -- Which lines of a printed run are wrong. Each test looks at a line behind the lines so far, the newest first; H are all lines.
-use Rattle.std.specs.Prelude.{ℕ, Bool, true, false, ◌+◌, not, ◌&&◌, ◌||◌, ◌==◌, List, [], ◌∷◌, Option, Some, None, ℤ, is_some}
+use Rattle.std.specs.Prelude.{ℕ, Bool, true, false, ◌+◌, not, ◌&&◌, ◌==◌, List, [], ◌∷◌, Option, Some, ℤ, is_some}
 use Rattle.std.specs.List.{list_any, list_all}
 use Rattle.std.specs.Option.{option_eq}
 use Rattle.std.specs.Ordering.{int_eq}

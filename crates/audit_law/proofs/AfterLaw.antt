@@ -1,5 +1,5 @@
 -- In a lawful history nobody commits before one that it read from.
-use Rattle.std.proofs.Common.{◌≡◌, ℕ, zero, suc, ◌+◌, ◌<◌, ◌≤◌, ◌==◌, Bool, true, false, not, ◌&&◌, ◌||◌, IsTrue, List, [], ◌∷◌, ◌++◌, map, length, Option, Some, None, refl, ap, sym, ◌∙◌, arith, eqb, le_refl, lt-ltb, cond, ltb}
+use Rattle.std.proofs.Common.{◌≡◌, ℕ, ◌<◌, ◌==◌, Bool, true, false, not, ◌&&◌, ◌||◌, List, [], ◌∷◌, refl, ap, ◌∙◌, arith, eqb}
 use Rattle.std.specs.Prelude.{ℤ}
 use Rattle.std.specs.List.{list_any}
 use Rattle.std.proofs.lemmas.Bool.{and_parts}
@@ -10,7 +10,6 @@ use Rattle.teb_history.specs.declared.Event.TheVariants as event
 use Rattle.teb_history.specs.Accesses.{is_from}
 use Rattle.audit_check.specs.Items.{Item, Place}
 use Rattle.audit_check.specs.Faults.{reads_from}
-use Rattle.audit_law.specs.Printed.{event_item}
 use Rattle.audit_check.specs.Standings.{committed}
 use Rattle.audit_law.proofs.Bridge.{items, starts}
 use Rattle.audit_check.proofs.TxnSteps.{not_true}

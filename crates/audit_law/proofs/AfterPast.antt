@@ -1,8 +1,8 @@
 -- Nobody commits before one that it read from: at each commit, those that were read from have committed.
-use Rattle.std.proofs.Common.{◌≡◌, ℕ, suc, ◌+◌, ◌<◌, ◌≤◌, Bool, true, false, cond, ltb, eqb, not, IsTrue, List, [], ◌∷◌, ◌++◌, length, Option, Some, None, refl, ap, sym, ◌∙◌, arith, le_refl, lt-ltb}
+use Rattle.std.proofs.Common.{◌≡◌, ℕ, suc, ◌<◌, ◌≤◌, true, false, cond, ltb, eqb, List, [], ◌∷◌, length, refl, ap, sym, ◌∙◌, arith, le_refl, lt-ltb}
 use Rattle.std.specs.Prelude.{ℤ}
 use Rattle.std.specs.List.{list_any}
-use Rattle.std.proofs.lemmas.Bool.{cond_both, ltb-true, eq-eqb, le-ltb, or_left}
+use Rattle.std.proofs.lemmas.Bool.{cond_both, ltb-true, eq-eqb, or_left}
 use Rattle.teb_names.specs.declared.Txn.{Txn}
 use Rattle.teb_names.specs.declared.naming.NameBook.{NameBook}
 use Rattle.teb_history.specs.declared.Event.{Event}
@@ -18,9 +18,8 @@ use Rattle.teb_laws.proofs.Assembly.{read_recoverable}
 use Rattle.teb_laws.proofs.Positions.{upto_all, upto_cons}
 use Rattle.teb_laws.proofs.Serial.{commits_from}
 use Rattle.teb_laws.proofs.Timeline.{committed-upto}
-use Rattle.audit_check.specs.Items.{Item, Place}
+use Rattle.audit_check.specs.Items.{Place}
 use Rattle.audit_check.specs.Faults.{wrong_after}
-use Rattle.audit_check.specs.Standings.{committed}
 use Rattle.audit_law.specs.Printed.{event_item}
 use Rattle.audit_law.proofs.AfterLaw.{none_early}
 use Rattle.audit_law.proofs.Bridge.{items, committed_items}

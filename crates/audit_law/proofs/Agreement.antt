@@ -1,5 +1,5 @@
 -- Tables by place are the tables by cell.
-use Rattle.std.proofs.Common.{◌≡◌, ℕ, ◌==◌, Bool, true, false, cond, if◌then◌else◌, List, [], ◌∷◌, ◌++◌, map, reverse, Option, Some, None, refl, ap, sym, subst, ◌∙◌}
+use Rattle.std.proofs.Common.{◌≡◌, ℕ, ◌==◌, Bool, true, false, cond, if◌then◌else◌, List, [], ◌∷◌, map, Option, Some, refl, ap, sym, subst}
 use Rattle.std.specs.Prelude.{ℤ}
 use Rattle.std.specs.List.{All, IsDistinct}
 use Rattle.std.specs.Str.{bytes_eq}
@@ -12,9 +12,9 @@ use Rattle.teb_history.specs.declared.Event.{Event}
 use Rattle.teb_history.specs.declared.Event.TheVariants as event
 use Rattle.teb_rules.specs.Replay as rule
 use Rattle.script_text.specs.Named.{CellNamed}
-use Rattle.audit_check.specs.Items.{Item, Place, same_place}
+use Rattle.audit_check.specs.Items.{Place}
 use Rattle.audit_check.specs.Tables.{Values, put_at, after_puts, table_after, starts_in}
-use Rattle.audit_law.specs.Printed.{EventFits, RowFits, place_of, event_item}
+use Rattle.audit_law.specs.Printed.{EventFits, RowFits, place_of}
 use Rattle.audit_law.proofs.Bridge.{items, starts}
 use Rattle.audit_law.proofs.Places.{places_same}
 

@@ -1,8 +1,7 @@
 -- A printed run has no line that is wrong.
-use Rattle.std.proofs.Common.{◌≡◌, ℕ, ◌≤◌, Bool, true, false, List, [], ◌∷◌, ◌++◌, map, reverse, Option, Some, None, refl, ap, sym, subst, ◌∙◌, arith}
-use Rattle.std.specs.Prelude.{ℤ, Ok, Result, is_some}
-use Rattle.std.specs.List.{All, IsDistinct, flat_map, list_any}
-use Rattle.std.specs.Str.{bytes_eq}
+use Rattle.std.proofs.Common.{◌≡◌, ℕ, true, false, List, [], ◌∷◌, ◌++◌, map, reverse, None, refl, ap, sym, subst, ◌∙◌, arith}
+use Rattle.std.specs.Prelude.{ℤ, Ok, is_some}
+use Rattle.std.specs.List.{All, list_any}
 use Rattle.std.proofs.lemmas.List.{append-nil, reverse-reverse}
 use Rattle.teb_names.specs.declared.Cell.{Cell}
 use Rattle.teb_names.specs.declared.Txn.{Txn}
@@ -17,11 +16,11 @@ use Rattle.teb_laws.specs.Lawful.{Lawful}
 use Rattle.teb_laws.specs.TreeFacts.{TreeFacts}
 use Rattle.script_text.specs.Named.{CellNamed}
 use Rattle.audit_check.specs.Audit.{IsAudited, first_line, fault_in, fault_of}
-use Rattle.audit_check.specs.Faults.{wrong_txn, wrong_order, wrong_after, wrong_read, wrong_row, is_among}
+use Rattle.audit_check.specs.Faults.{wrong_txn, wrong_order, wrong_after, wrong_read, wrong_row}
 use Rattle.audit_check.specs.Items.{Item, Place}
 use Rattle.audit_check.specs.Items.Item.{Start, Order, Row, End}
 use Rattle.audit_check.specs.Lines.{items_of, part_after, is_row}
-use Rattle.audit_check.specs.Tables.{Values, before, table_before, last_table, table_after, order_in, starts_in}
+use Rattle.audit_check.specs.Tables.{Values, before, table_before, last_table, table_after, starts_in}
 use Rattle.audit_law.specs.Law.{printed_run, CanPrint}
 use Rattle.audit_law.specs.Printed.{place_of, event_item, EventFits, RowFits}
 use Rattle.audit_law.proofs.AfterPast.{after_along}

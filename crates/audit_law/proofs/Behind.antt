@@ -1,5 +1,5 @@
 -- The report behind the events: the order, the final rows and the end. Of what it stands behind it changes nothing.
-use Rattle.std.proofs.Common.{◌≡◌, ℕ, zero, suc, ◌+◌, Bool, true, false, List, [], ◌∷◌, ◌++◌, map, Option, Some, None, refl, ap, sym, ◌∙◌}
+use Rattle.std.proofs.Common.{◌≡◌, ℕ, Bool, false, List, [], ◌∷◌, ◌++◌, map, None, refl, ap, ◌∙◌}
 use Rattle.std.specs.Prelude.{ℤ}
 use Rattle.audit_check.specs.Items.{Item, Place}
 use Rattle.audit_check.specs.Items.Item.{Order, Row, End}

@@ -1,10 +1,10 @@
 -- A number that is printed is read back.
-use Rattle.std.proofs.Common.{◌≡◌, ℕ, zero, suc, ◌+◌, ◌-◌, ◌<◌, ◌≤◌, ◌^◌, ◌==◌, true, false, ◌&&◌, nat_le, List, [], ◌∷◌, drop, get_or, length, slice_index, Option, Some, None, option_map, refl, ap, sym, ◌∙◌, arith, le-leb}
-use Rattle.std.specs.Prelude.{ℤ, pos, negsuc, decimal, option_and_then}
+use Rattle.std.proofs.Common.{◌≡◌, ℕ, suc, ◌-◌, ◌<◌, ◌≤◌, ◌^◌, ◌==◌, true, false, nat_le, get_or, slice_index, Some, arith}
+use Rattle.std.specs.Prelude.{ℤ, pos, negsuc, decimal}
 use Rattle.std.specs.Fmt.{signed_decimal}
 use Rattle.std.specs.Int.{IsInRange}
 use Rattle.std.specs.Str.{bytes_eq}
-use Rattle.std.specs.Str.Parse.{digits_value, IsNumeral, AllDigits}
+use Rattle.std.specs.Str.Parse.{digits_value, AllDigits}
 use Rattle.std.proofs.lemmas.Fmt.{decimal_is_IsNumeral, decimal_nonempty}
 use Rattle.std.proofs.lemmas.Str.Parse.{digit_at}
 use Rattle.std.proofs.lemmas.Cmp.{nat_list_eq_equiv}
@@ -13,7 +13,7 @@ use Rattle.std.proofs.lemmas.List.Elements.{All-from_get_or}
 use Rattle.std.proofs.lemmas.List.Sums.{list_all-from_AllPass}
 use lib.Signed.{mag}
 use Rattle.audit_law.proofs.Words.{is_plain, is_word}
-use Rattle.audit_check.specs.Numbers.{natural_of, integer_of, negative}
+use Rattle.audit_check.specs.Numbers.{natural_of, integer_of}
 
 pub natural_back : (most n : ℕ) → n ≤ most → n < 2 ^ 64 → natural_of most (decimal n) ≡ Some n
 unfolding natural_of

@@ -1,5 +1,5 @@
 -- Lines of events that are printed are read back.
-use Rattle.std.proofs.Common.{◌≡◌, ℕ, zero, suc, ◌-◌, ◌^◌, ◌≤◌, ◌==◌, ◌++◌, false, map, true, List, [], ◌∷◌, Option, Some, None, refl, ap, sym, ◌∙◌, arith}
+use Rattle.std.proofs.Common.{◌≡◌, ℕ, zero, suc, ◌-◌, ◌^◌, ◌≤◌, ◌==◌, ◌++◌, false, map, true, List, [], ◌∷◌, Option, Some, refl, ap, ◌∙◌, arith}
 use Rattle.std.specs.List.{list_all, join_with_byte}
 use Rattle.std.specs.Prelude.{◌<◌, length, decimal, codes, ℤ, All}
 use Rattle.std.specs.Fmt.{signed_decimal}
@@ -22,7 +22,7 @@ use Rattle.audit_check.specs.Items.Item.{Start, Began, Order, Row, End}
 use Rattle.audit_check.specs.Lines.{item_of, words_of}
 use Rattle.audit_check.specs.Reading.{item_in, cause_in, began_in, row_in, txns_at, name_at, place_at}
 use Rattle.audit_law.proofs.Digits.{number_is_word, integer_back, integer_is_word}
-use Rattle.audit_law.proofs.Pieces.{txn_back, txn_is_word, key_back, key_is_word, from_one_back, name_back, name_is_word, name_of_is_name, place_back, value_back, value_is_word}
+use Rattle.audit_law.proofs.Pieces.{txn_back, txn_is_word, key_is_word, from_one_back, name_back, name_is_word, name_of_is_name, place_back, value_back, value_is_word}
 use Rattle.audit_law.proofs.Words.{is_word, words_back}
 
 -- a line whose words are plain says what its words say

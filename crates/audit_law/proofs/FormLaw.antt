@@ -1,5 +1,5 @@
 -- A printed run has its form: the parts in their order, and no cell twice.
-use Rattle.std.proofs.Common.{◌≡◌, ℕ, ◌≤◌, ◌<◌, ◌==◌, Bool, true, false, not, nat_le, nat_lt, ◌&&◌, ◌||◌, if◌then◌else◌, List, [], ◌∷◌, ◌++◌, map, reverse, refl, ap, sym, subst, ◌∙◌, arith}
+use Rattle.std.proofs.Common.{◌≡◌, ℕ, ◌≤◌, Bool, true, false, not, ◌&&◌, List, [], ◌∷◌, ◌++◌, map, refl, ap, ◌∙◌, arith}
 use Rattle.std.specs.Prelude.{ℤ}
 use Rattle.std.specs.List.{All, IsDistinct, list_any}
 use Rattle.std.specs.Str.{bytes_eq}
@@ -14,10 +14,9 @@ use Rattle.teb_history.specs.declared.Event.TheVariants as event
 use Rattle.script_text.specs.Named.{CellNamed}
 use Rattle.audit_check.specs.Items.{Item, Place, same_place}
 use Rattle.audit_check.specs.Items.Item.{Start, Order, Row, End}
-use Rattle.audit_check.specs.Lines.{part_after, may_follow, part, fits, repeats, is_start, is_row}
+use Rattle.audit_check.specs.Lines.{part_after, may_follow, part, fits, is_start, is_row}
 use Rattle.audit_law.specs.Printed.{RowFits, place_of, event_item}
 use Rattle.audit_law.proofs.Ascending.{Apart, OthersThan}
-use Rattle.audit_law.proofs.Orders.{onto_append}
 use Rattle.audit_law.proofs.Places.{places_same}
 use Rattle.audit_law.proofs.Texts.{AllFit, onto}
 

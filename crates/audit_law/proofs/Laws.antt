@@ -1,6 +1,5 @@
 -- The law of printed runs.
-use Rattle.std.proofs.Common.{◌≡◌, ℕ, List, [], sym, subst}
-use Rattle.teb_laws.specs.Lawful.{ReadsRows}
+use Rattle.std.proofs.Common.{ℕ, List, [], sym, subst}
 use Rattle.teb_laws.specs.Laws.{reached}
 use Rattle.teb_laws.proofs.Laws.{every_run_serializes}
 use Rattle.teb_laws.proofs.Reachable.{run_good, empty_good}

@@ -1,7 +1,7 @@
 -- The serial order lists each committed transaction once and no other.
-use Rattle.std.proofs.Common.{◌≡◌, ◌≢◌, ℕ, ◌==◌, Bool, true, false, not, ◌&&◌, ◌||◌, IsTrue, List, [], ◌∷◌, ◌++◌, Option, Some, None, refl, ap, sym, ◌∙◌, arith, inl, inr}
+use Rattle.std.proofs.Common.{◌≡◌, ◌≢◌, ℕ, ◌==◌, Bool, true, false, not, ◌&&◌, List, [], ◌∷◌, refl, sym, ◌∙◌, inl, inr}
 use Rattle.std.specs.Prelude.{ℤ}
-use Rattle.std.specs.List.{list_any, list_all}
+use Rattle.std.specs.List.{list_all}
 use Rattle.std.proofs.lemmas.Bool.{and_from, eq-eqb, ne_eqb, or_from, or_left, or_right, not_from_false, not_from_true}
 use Rattle.teb_names.specs.declared.naming.NameBook.{NameBook}
 use Rattle.teb_history.specs.declared.Event.{Event}
@@ -11,11 +11,9 @@ use Rattle.teb_rules.specs.Setup.{Store}
 use Rattle.audit_check.specs.Items.{Item, Place}
 use Rattle.audit_check.specs.Items.Item.{Start, Began, Got, Put, Ready, Done, Gone, Told, Order, Row, End}
 use Rattle.audit_check.specs.Faults.{is_among, are_distinct, are_distinct_and, wrong_order}
-use Rattle.audit_check.specs.Audit.{first_line}
 use Rattle.audit_check.specs.Standings.{committed, commits}
-use Rattle.audit_check.proofs.FirstLines.{first_more}
-use Rattle.audit_law.proofs.Bridge.{items, starts, committed_items}
-use Rattle.audit_law.proofs.Behind.{with_report, committed_reported, commits_reported, none_reported, all_right}
+use Rattle.audit_law.proofs.Bridge.{items, committed_items}
+use Rattle.audit_law.proofs.Behind.{with_report, committed_reported}
 
 among_in : (ts : List ℕ) (t : ℕ) → In t ts → is_among ts t ≡ true
 among_in [] t h = absurd h

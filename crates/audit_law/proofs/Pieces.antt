@@ -1,6 +1,6 @@
 -- Names, transactions, cells and values that are printed are read back.
-use Rattle.std.proofs.Common.{◌≡◌, ℕ, zero, suc, ◌+◌, ◌-◌, ◌<◌, ◌≤◌, ◌^◌, ◌==◌, true, false, ◌&&◌, nat_le, List, [], ◌∷◌, length, slice_get, slice_index, Option, Some, None, refl, ap, sym, ◌∙◌, arith}
-use Rattle.std.specs.Prelude.{ℤ, pos, negsuc, decimal, IfSome, unwrap_or, codes}
+use Rattle.std.proofs.Common.{◌≡◌, ℕ, zero, suc, ◌-◌, ◌<◌, ◌≤◌, ◌^◌, ◌==◌, true, false, ◌&&◌, nat_le, List, [], ◌∷◌, length, slice_index, Option, Some, None, refl, arith}
+use Rattle.std.specs.Prelude.{ℤ, pos, negsuc, decimal, codes}
 use Rattle.std.specs.Fmt.{signed_decimal}
 use Rattle.std.specs.Str.{bytes_eq}
 use Rattle.std.specs.List.{list_all}
@@ -11,9 +11,8 @@ use Rattle.teb_names.specs.declared.Cell.{Cell}
 use Rattle.teb_names.specs.declared.naming.NameBook.{NameBook}
 use Rattle.script_text.specs.Texts.{name_of, txn_text, value_text}
 use Rattle.script_text.specs.Names.{is_name, is_name_byte, is_lower}
-use Rattle.audit_law.specs.Printed.{TxnFits, IntegerFits, ValueFits, CellFits, place_of}
-use Rattle.audit_check.specs.Reading.{txn_at, name_at, place_at, value_at, number_at, from_one, ◌>>=◌}
-use Rattle.audit_check.specs.Numbers.{integer_of}
+use Rattle.audit_law.specs.Printed.{TxnFits, IntegerFits, ValueFits, place_of}
+use Rattle.audit_check.specs.Reading.{txn_at, name_at, place_at, value_at, number_at, from_one}
 use Rattle.audit_law.proofs.Words.{is_plain, is_word}
 use Rattle.audit_law.proofs.Digits.{natural_back, integer_back, first_is_digit, number_is_word, integer_is_word}
 

@@ -1,11 +1,10 @@
 -- What a transaction of the order reads is what the table then holds.
-use Rattle.std.proofs.Common.{◌≡◌, ◌≢◌, ℕ, ◌==◌, Bool, true, false, not, cond, ◌&&◌, ◌||◌, IsTrue, List, [], ◌∷◌, ◌++◌, Option, Some, None, refl, ap, sym, subst, ◌∙◌, arith, inl, inr}
+use Rattle.std.proofs.Common.{◌≡◌, ℕ, ◌==◌, true, false, ◌&&◌, ◌||◌, List, [], ◌∷◌, Option, Some, None, refl, ap, sym, subst, ◌∙◌, inl, inr}
 use Rattle.std.specs.Prelude.{ℤ}
-use Rattle.std.specs.List.{All, IsDistinct, list_any}
-use Rattle.std.specs.Option.{option_eq}
+use Rattle.std.specs.List.{All, IsDistinct}
 use Rattle.std.specs.Ordering.{int_eq}
 use Rattle.std.specs.Str.{bytes_eq}
-use Rattle.std.proofs.lemmas.Bool.{cases_Bool, eqb-true, eq-eqb, or_cases, and_left, and_right, not_from_true}
+use Rattle.std.proofs.lemmas.Bool.{cases_Bool, eqb-true, eq-eqb, and_left, and_right, not_from_true}
 use Rattle.std.proofs.lemmas.Cmp.{int_eq_equiv}
 use Rattle.std.proofs.lemmas.List.Elements.{All-head, All-tail}
 use Rattle.teb_names.specs.declared.Cell.{Cell}
@@ -15,11 +14,10 @@ use Rattle.teb_history.specs.declared.Event.TheVariants as event
 use Rattle.teb_rules.specs.Replay as rule
 use Rattle.script_text.specs.Named.{CellNamed}
 use Rattle.audit_check.specs.Items.{Item, Place}
-use Rattle.audit_check.specs.Items.Item.{Got}
 use Rattle.audit_check.specs.Faults.{is_among, is_misread, same_value, wrong_read}
-use Rattle.audit_check.specs.Tables.{Values, after_puts, before, table_before, table_after, order_in, starts_in}
+use Rattle.audit_check.specs.Tables.{after_puts, before, table_before, order_in}
 use Rattle.audit_law.specs.Printed.{EventFits, place_of, event_item}
-use Rattle.audit_law.proofs.Agreement.{Agree, puts_agree, tables_agree}
+use Rattle.audit_law.proofs.Agreement.{Agree, puts_agree}
 use Rattle.audit_law.proofs.Bridge.{items}
 use Rattle.audit_law.proofs.Suffixes.{Along}
 

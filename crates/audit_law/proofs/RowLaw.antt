@@ -1,11 +1,9 @@
 -- The final rows are those of the last table.
-use Rattle.std.proofs.Common.{◌≡◌, ℕ, ◌==◌, Bool, true, false, not, cond, if◌then◌else◌, ◌&&◌, ◌||◌, IsTrue, List, [], ◌∷◌, ◌++◌, map, reverse, Option, Some, None, refl, ap, sym, subst, ◌∙◌, inl, inr}
+use Rattle.std.proofs.Common.{◌≡◌, ℕ, ◌==◌, Bool, true, false, not, cond, List, [], ◌∷◌, ◌++◌, Option, Some, refl, ap, sym, ◌∙◌, inl, inr}
 use Rattle.std.specs.Prelude.{ℤ, is_some}
-use Rattle.std.specs.List.{All, IsDistinct, list_any, list_all}
+use Rattle.std.specs.List.{All, IsDistinct, list_any}
 use Rattle.std.specs.Str.{bytes_eq}
 use Rattle.std.proofs.lemmas.Bool.{and_left, and_right, and_parts, and_from, eq-eqb, eqb-true, cases_Bool, or_from, or_left, or_right, not_from_true}
-use Rattle.std.proofs.lemmas.List.{reverse-append, map-append}
-use Rattle.std.proofs.lemmas.List.Folds.{list_any-append}
 use Rattle.std.proofs.lemmas.List.Elements.{All-head, All-tail}
 use Rattle.teb_names.specs.declared.Cell.{Cell}
 use Rattle.teb_names.specs.declared.naming.NameBook.{NameBook}
@@ -16,14 +14,14 @@ use Rattle.teb_history.specs.declared.Event.TheVariants as event
 use Rattle.teb_rules.specs.Replay as rule
 use Rattle.script_text.specs.Named.{CellNamed}
 use Rattle.audit_check.specs.Items.{Item, Place, same_place}
-use Rattle.audit_check.specs.Items.Item.{Start, Row, Order, End}
+use Rattle.audit_check.specs.Items.Item.{End}
 use Rattle.audit_check.specs.Faults.{is_missing, places_in, same_value, wrong_row}
 use Rattle.audit_check.specs.Lines.{is_row}
-use Rattle.audit_check.specs.Tables.{Values, last_table, starts_in}
-use Rattle.audit_law.specs.Printed.{EventFits, RowFits, place_of, event_item}
+use Rattle.audit_check.specs.Tables.{last_table}
+use Rattle.audit_law.specs.Printed.{EventFits, RowFits, place_of}
 use Rattle.audit_law.proofs.Agreement.{Agree, by_place}
 use Rattle.audit_law.proofs.Ascending.{HasRow}
-use Rattle.audit_law.proofs.Behind.{row_items, with_report, RowsRight, places_reported}
+use Rattle.audit_law.proofs.Behind.{row_items, RowsRight}
 use Rattle.audit_law.proofs.Bridge.{items, starts}
 use Rattle.audit_law.proofs.Places.{places_same}
 use Rattle.audit_law.proofs.ReadLaw.{itself}

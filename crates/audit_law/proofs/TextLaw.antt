@@ -1,5 +1,5 @@
 -- A printed run is read back: its lines say its items.
-use Rattle.std.proofs.Common.{◌≡◌, ℕ, Bool, true, ◌&&◌, List, [], ◌∷◌, ◌++◌, map, reverse, Some, refl, ap, sym, ◌∙◌, append_assoc}
+use Rattle.std.proofs.Common.{◌≡◌, ℕ, true, List, [], ◌∷◌, ◌++◌, map, Some, refl, ap, sym, ◌∙◌, append_assoc}
 use Rattle.std.specs.Prelude.{ℤ, codes}
 use Rattle.std.specs.Fmt.{signed_decimal}
 use Rattle.std.specs.List.{All, list_all, flat_map, join_with_byte}
@@ -12,14 +12,13 @@ use Rattle.teb_names.specs.declared.Cell.{Cell}
 use Rattle.teb_names.specs.declared.Txn.{Txn}
 use Rattle.teb_names.specs.declared.naming.NameBook.{NameBook}
 use Rattle.teb_history.specs.declared.Event.{Event}
-use Rattle.script_text.specs.Texts.{Words, line_text, cell_words, event_words, event_text, txn_text, rows_text, row_text, starts_text, report_text}
+use Rattle.script_text.specs.Texts.{Words, line_text, cell_words, event_words, event_text, txn_text, rows_text, starts_text, report_text}
 use Rattle.audit_check.specs.Items.{Item}
 use Rattle.audit_check.specs.Items.Item.{Start, Order, Row, End}
 use Rattle.audit_check.specs.Lines.{item_of}
 use Rattle.audit_law.specs.Printed.{AreNames, TxnFits, RowFits, EventFits, place_of, event_item}
 use Rattle.audit_law.proofs.Events.{event_line_back, start_line_back, row_line_back, order_line_back, end_line_back, event_are_words, row_are_words, txns_are_words}
 use Rattle.audit_law.proofs.Texts.{Say, are_words}
-use Rattle.audit_law.proofs.Words.{is_word}
 
 say_append : (ls ms : List (List ℕ)) (is js : List Item) → Say ls is → Say ms js → Say (ls ++ ms) (is ++ js)
 say_append [] ms [] js h g = g

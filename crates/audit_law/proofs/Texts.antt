@@ -1,6 +1,6 @@
 -- A whole text that is printed is read back.
-use Rattle.std.proofs.Common.{◌≡◌, ℕ, ◌==◌, Bool, true, false, not, ◌&&◌, List, [], ◌∷◌, ◌++◌, map, length, Option, Some, None, refl, ap, sym, ◌∙◌, arith, append_assoc}
-use Rattle.std.specs.Prelude.{Result, Ok, Err, codes}
+use Rattle.std.proofs.Common.{◌≡◌, ℕ, Bool, true, false, not, List, [], ◌∷◌, ◌++◌, map, Some, refl, ap, ◌∙◌, arith, append_assoc}
+use Rattle.std.specs.Prelude.{Ok}
 use Rattle.std.specs.List.{slice_split, join_with_byte, list_all, flat_map, All}
 use Rattle.std.proofs.lemmas.Bool.{and_parts}
 use Rattle.std.proofs.lemmas.Bool.Decides.{nat_tests}
@@ -10,7 +10,7 @@ use Rattle.std.proofs.lemmas.List.Sums.{AllPass-from_list_all}
 use Rattle.std.proofs.lemmas.List.Elements.{All-weaker}
 use Rattle.script_text.specs.Texts.{line_text}
 use Rattle.audit_check.specs.Items.{Item}
-use Rattle.audit_check.specs.Lines.{is_feed, parts_of, item_of, items_from, items_of, fitting, fits, is_over, part_after}
+use Rattle.audit_check.specs.Lines.{is_feed, parts_of, item_of, items_from, items_of, fitting, fits, part_after}
 use Rattle.audit_law.proofs.Words.{is_plain, is_word}
 
 abbrev pub are_words : List (List ℕ) → Bool

@@ -1,4 +1,4 @@
-use Rattle.std.proofs.Common.{refl, take, None}
+use Rattle.std.proofs.Common.{take}
 use Rattle.audit_check.specs.Views.{views, line_view}
 use Rattle.audit_check.proofs.AfterRules.{commit_marked, no_commits}
 use Rattle.audit_check.proofs.FirstLines.{views_next}

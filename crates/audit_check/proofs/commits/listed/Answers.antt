@@ -1,4 +1,4 @@
-use Rattle.std.proofs.Common.{◌≡◌, ℕ, ◌∙◌, ◌==◌, ◌||◌, Bool, true, false, List, take, get_or, ap, sym, refl}
+use Rattle.std.proofs.Common.{◌≡◌, ◌∙◌, ◌==◌, ◌||◌, Bool, List, take, get_or, ap, sym, refl}
 use Rattle.audit_check.specs.Faults.{is_among}
 use Rattle.audit_check.specs.Marks.{is_marked}
 use Rattle.audit_check.proofs.OrderRules.{one_more, among_more, not_distinct, not_passing}

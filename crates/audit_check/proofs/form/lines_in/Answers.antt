@@ -1,4 +1,4 @@
-use Rattle.std.proofs.Common.{◌≡◌, ◌∙◌, ◌+◌, ◌-◌, ◌<◌, [], sym, ap, refl, rules, arith, true, false, length}
+use Rattle.std.proofs.Common.{◌≡◌, ◌∙◌, ◌+◌, ◌-◌, ◌<◌, sym, ap, refl, rules, arith, true, false, length}
 use Rattle.std.specs.Prelude.{Err}
 use Rattle.audit_check.specs.Lines.{items_from}
 use Rattle.audit_check.specs.Views.{views, nows}

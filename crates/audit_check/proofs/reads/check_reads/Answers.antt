@@ -1,4 +1,4 @@
-use Rattle.std.proofs.Common.{◌≡◌, ◌∙◌, Bool, List, ap}
+use Rattle.std.proofs.Common.{◌∙◌, Bool, List, ap}
 use Rattle.audit_check.specs.Marks.{is_marked}
 use Rattle.audit_check.proofs.ReadSteps.{told_all}
 use Rattle.audit_check.proofs.reads.check_reads.Goals as goal

@@ -1,4 +1,4 @@
-use Rattle.std.proofs.Common.{◌≡◌, ◌∙◌, get_or, sym, refl, true, false, take}
+use Rattle.std.proofs.Common.{◌∙◌, get_or, sym, refl}
 use Rattle.std.proofs.lemmas.List.{get_or_default}
 use Rattle.audit_check.specs.declared.line.Line.TheVariants.{End}
 use Rattle.audit_check.specs.Faults.{wrong_read}

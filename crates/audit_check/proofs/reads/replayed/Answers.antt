@@ -1,4 +1,4 @@
-use Rattle.std.proofs.Common.{◌≡◌, ℕ, ◌∙◌, Bool, false, List, replicate, length, get_or, ap, refl}
+use Rattle.std.proofs.Common.{◌≡◌, ◌∙◌, Bool, false, List, replicate, length, get_or, ap, refl}
 use Rattle.std.proofs.lemmas.List.{length-replicate}
 use Rattle.audit_check.specs.Marks.{is_marked}
 use Rattle.audit_check.proofs.ReadSteps.{replays_none, replays_more, holds_at, table_at, none_marked}

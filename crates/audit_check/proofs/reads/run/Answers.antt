@@ -1,4 +1,4 @@
-use Rattle.std.proofs.Common.{◌≡◌, ◌∙◌, ◌<◌, ◌≤◌, ◌+◌, get_or, length, drop, sym, arith}
+use Rattle.std.proofs.Common.{◌∙◌, ◌+◌, get_or, sym, arith}
 use Rattle.audit_check.proofs.ReadSteps.{next_within, run_more, run_over, runs_none}
 use Rattle.audit_check.proofs.reads.run.Goals as goal
 

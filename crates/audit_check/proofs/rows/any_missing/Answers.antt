@@ -1,8 +1,6 @@
-use Rattle.std.proofs.Common.{◌≡◌, ◌∙◌, sym, refl, true, false, take, ap}
-use Rattle.std.specs.List.{list_any}
-use Rattle.std.proofs.lemmas.Bool.{or_from, or_left}
-use Rattle.audit_check.specs.Faults.{is_missing, places_in}
-use Rattle.audit_check.specs.Views.{views, line_view}
+use Rattle.std.proofs.Common.{◌∙◌, sym}
+use Rattle.audit_check.specs.Faults.{is_missing}
+use Rattle.audit_check.specs.Views.{views}
 use Rattle.audit_check.proofs.RowSteps.{no_places, places_right, places_wrong}
 use Rattle.audit_check.proofs.rows.any_missing.Goals as goal
 

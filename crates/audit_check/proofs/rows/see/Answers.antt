@@ -1,5 +1,5 @@
 use Rattle.std.proofs.lemmas.Result.{on_ok_weaker}
-use Rattle.audit_check.proofs.RowSteps.{row_seen, other_seen, not_row}
+use Rattle.audit_check.proofs.RowSteps.{row_seen}
 use Rattle.audit_check.proofs.rows.see.Goals as goal
 
 pub returns-in-Row : goal.returns-in-Row

@@ -1,5 +1,4 @@
 use Rattle.std.proofs.Common.{◌≡◌, ◌∙◌, sym, refl, true, false, take}
-use Rattle.audit_check.specs.Audit.{first_line}
 use Rattle.audit_check.specs.Faults.{wrong_txn}
 use Rattle.audit_check.specs.Views.{views, line_view}
 use Rattle.audit_check.proofs.FirstLines.{views_next, right_line, wrong_line, no_lines}
