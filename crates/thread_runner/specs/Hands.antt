@@ -1,0 +1,18 @@
+-- The tasks as they are dealt to the workers.
+use Rattle.std.specs.Prelude.{◌≡◌, ℕ, ◌<◌, ◌==◌, if◌then◌else◌, List, [], ◌∷◌, ◌++◌, length, slice_index_or, Vec}
+use Rattle.std.specs.declared.alloc.Global.{Global}
+use Rattle.version_chain.specs.declared.chains.Chains.{Ghosts}
+use Rattle.session_server.specs.declared.hall.Hall.{Hall}
+use Rattle.thread_runner.specs.Scripted.{Scripted, hand_of}
+use Rattle.thread_runner.specs.Tasks.{AreTasks}
+use Rattle.thread_runner.specs.declared.task.Task.{Task}
+
+-- those of the sessions that are in a hand. The first of them lies on top, that is, stands last
+abbrev pub held : (ℕ → ℕ) → ℕ → List ℕ → List ℕ
+held hand_of hand [] = []
+held hand_of hand (s ∷ rest) = if hand_of s == hand then held hand_of hand rest ++ s ∷ [] else held hand_of hand rest
+
+-- the tasks of these sessions, each in its hand
+pub record AreDealt {C : Type 0} {g : Ghosts C} (h : Hall C g) (scripts : Scripted) (workers : ℕ) (sessions : List ℕ) (hands : List (Vec (Task C g) Global)) : Type 0 where
+  pub count : length hands ≡ workers
+  pub each : (i : ℕ) (d : Vec (Task C g) Global) → i < workers → AreTasks h scripts (held (hand_of scripts workers) i sessions) (slice_index_or hands i d).items

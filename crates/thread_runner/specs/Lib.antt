@@ -1,0 +1,4 @@
+pub mod Scripted
+pub mod Served
+pub mod Tasks
+pub mod Hands

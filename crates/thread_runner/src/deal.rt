@@ -1,0 +1,47 @@
+//! How the sessions are dealt to the workers.
+
+ghost use Rattle.std.specs.Prelude.{◌≡◌, ◌<◌, [], All, map, IfOk, vec_len};
+ghost use Rattle.teb_history.specs.Phases.{numbers};
+ghost use Rattle.session_server.specs.Passes.{IsNew, number_of};
+ghost use Rattle.thread_runner.specs.Hands.{AreDealt};
+
+use crate::place::hand_of;
+use crate::run::Run;
+use crate::task::Task;
+use session_server::{Gate, Pass};
+use std::alloc::{AllocError, Global};
+use version_chain::Chains;
+
+impl<C: Chains, G: Gate> Run<'_, C, G> {
+    /// Begins a task for each pass, and deals them into so many hands, the last session first.
+    pub(crate) fn deal(
+        &self,
+        alloc: Global,
+        mut passes: Vec<Pass<C>>,
+        workers: usize,
+    ) -> Result<Vec<Vec<Task<C>>>, AllocError>
+        requires workers { 0 < workers }
+        requires sessions { map number_of passes.items ≡ numbers 32 }
+        requires new { All (IsNew self.now.hall.now) passes.items }
+        ensures { IfOk result (λ v. AreDealt self.now.hall.now self.now.scripts.now workers (numbers 32) v.items) }
+    {
+        let mut hands = empty_hands(alloc, workers)?;
+        while let Some(pass) = passes.pop() {
+            let hand = hand_of(self.scripts, pass.session(), workers);
+            hands[hand].push(self.begin(pass))?;
+        }
+        Ok(hands)
+    }
+}
+
+/// So many hands with nothing in them.
+fn empty_hands<C: Chains>(alloc: Global, workers: usize) -> Result<Vec<Vec<Task<C>>>, AllocError>
+    ensures len { IfOk result (λ v. vec_len v ≡ workers) }
+    ensures empty { IfOk result (λ v. All (λ hand. hand.items ≡ []) v.items) }
+{
+    let mut hands = Vec::with_capacity(alloc, workers)?;
+    for _ in 0..workers {
+        hands.push(Vec::new(alloc))?;
+    }
+    Ok(hands)
+}

@@ -1,0 +1,65 @@
+//! The run of all sessions.
+
+ghost use Rattle.std.specs.Prelude.{◌≡◌, ◌≤◌, All, map, IfOk, IfErr};
+ghost use Rattle.teb_history.specs.Phases.{numbers};
+ghost use Rattle.session_server.specs.Passes.{IsNew, number_of};
+ghost use Rattle.thread_runner.specs.Scripted.{AreDistinct};
+ghost use Rattle.thread_runner.specs.Served.{IsServed, IsCause};
+
+use script_text::Scripts;
+use session_server::{Gate, Hall, Pass, RunError};
+use std::alloc::Global;
+use std::sync::Wait;
+use std::thread::Threads;
+use version_chain::Chains;
+
+/// How many sessions there are.
+pub(crate) const SESSIONS: u8 = 32;
+
+/// What a run is over: the hall, the scripts of its sessions, and the gate that is called round each request.
+#[derive(Drop)]
+pub(crate) struct Run<'a, C: Chains, G> {
+    pub hall: &'a Hall<C>,
+    pub scripts: &'a Scripts,
+    pub gate: &'a G,
+}
+
+/// Serves each session that has a script along it, by so many workers, from 1 to 16, each in a thread of its own.
+///
+/// The workers take the scripts in turn: the one at place i, from 0, is served by worker i mod `workers`. Where no
+/// thread can be made the workers go one after another. A worker whose session meets an error stops the others; where
+/// no session met one, those that are left are served on by the caller. `Ok` hands back the passes of the sessions 1 to
+/// 32 in order.
+///
+/// # Errors
+/// The error of the least session that met one. `PassSpent` hands back the pass that has asked 2^40 times. The other
+/// passes are gone, so the hall cannot be closed.
+pub fn run_threads<C: Chains + Send, G: Gate + Sync, R: Threads + Wait + Sync>(
+    rt: &R,
+    alloc: Global,
+    hall: &Hall<C>,
+    passes: Vec<Pass<C>>,
+    scripts: &Scripts,
+    workers: u8,
+    gate: &G,
+) -> Result<Vec<Pass<C>>, RunError<C>>
+    requires sessions { map number_of passes.items ≡ numbers 32 }
+    requires new { All (IsNew hall.now) passes.items }
+    requires scripts { AreDistinct scripts.now }
+    requires workers { 1 ≤ workers }
+    ensures sessions { IfOk result (λ v. map number_of v.items ≡ numbers 32) }
+    ensures served { IfOk result (λ v. All (IsServed hall.now scripts.now) v.items) }
+    ensures cause { IfErr result (IsCause hall.now scripts.now) }
+{
+    let run = Run {
+        hall,
+        scripts,
+        gate,
+    };
+    let Ok(mut hands) = run.deal(alloc, passes, usize::from(workers)) else {
+        return Err(RunError::OutOfMemory);
+    };
+    run.work(rt, &mut hands);
+    let tasks = run.gather(alloc, hands)?;
+    run.finish(rt, alloc, tasks)
+}

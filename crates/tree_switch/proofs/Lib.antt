@@ -1,0 +1,5 @@
+pub mod GoingOn
+pub mod WholeOrder
+pub mod Starting
+pub mod Refusing
+pub mod SameNames

@@ -1,0 +1,57 @@
+-- Why a phase may not be followed by the next.
+use Rattle.std.specs.Prelude.{◌≡◌, ◌≢◌, ℕ, ◌<◌, ◌≤◌, List, [], Some, MatchResult, Result, IsTrue}
+use Rattle.teb_history.specs.declared.Event.{Event}
+use Rattle.teb_history.specs.Phases.{begun_count, unfinished, aborted, held}
+use Rattle.engine_core.specs.State.{State}
+use Rattle.tree_toml.specs.Meaning.{Meaning}
+use Rattle.tree_switch.specs.declared.error.SwitchError.{SwitchError}
+use Rattle.tree_switch.specs.declared.error.SwitchError.TheVariants.{Again, Untold, Tables, Rows, OutOfMemory}
+
+-- n is the least number of which this is so
+abbrev pub IsLeast : (ℕ → Type 0) → ℕ → Type 0
+IsLeast P n = P n × ((m : ℕ) → m < n → ¬ P m)
+
+abbrev pub IsUnfinished : List Event → ℕ → Type 0
+IsUnfinished H t = IsTrue (unfinished H t)
+
+-- session s holds an aborted transaction
+pub record IsUntold (H : List Event) (s : ℕ) : Type 0 where
+  pub txn : ℕ
+  pub holds : held H s ≡ Some txn
+  pub gone : IsTrue (aborted H txn)
+
+-- nobody is unfinished, and each session was told of its abort
+abbrev pub AllFinished : List Event → Type 0
+AllFinished H = (t : ℕ) → ¬ IsUnfinished H t
+
+abbrev pub AllTold : List Event → Type 0
+AllTold H = (s : ℕ) → ¬ IsUntold H s
+
+pub record IsDrained (H : List Event) : Type 0 where
+  pub finished : AllFinished H
+  pub told : AllTold H
+
+-- transactions are numbered from 1 to as many as have begun, and sessions from 1 to 32
+abbrev pub AreNumbered : List Event → Type 0
+AreNumbered H = (t : ℕ) → IsUnfinished H t → (0 < t) × (t ≤ begun_count H)
+
+abbrev pub AreOfSessions : List Event → Type 0
+AreOfSessions H = (s : ℕ) → IsUntold H s → (0 < s) × (s ≤ 32)
+
+-- the engine has come to its end, and the setup has its tables and no rows of its own
+pub record MaySwitch (e : State) (m : Meaning) : Type 0 where
+  pub drained : IsDrained e.events
+  pub tables : m.tables ≡ e.names.tables
+  pub rows : m.rows ≡ []
+
+-- what stands against it first
+abbrev pub IsCause : State → Meaning → SwitchError → Type 0
+IsCause e m (Again t) = IsLeast (IsUnfinished e.events) t.0
+IsCause e m (Untold s) = AllFinished e.events × IsLeast (IsUntold e.events) s.0
+IsCause e m Tables = IsDrained e.events × (m.tables ≢ e.names.tables)
+IsCause e m Rows = IsDrained e.events × (m.tables ≡ e.names.tables) × (m.rows ≢ [])
+IsCause e m OutOfMemory = MaySwitch e m
+
+-- refused by a cause, or not at all
+abbrev pub IsRefusedBy : {X : Type 0} → State → Meaning → Result X SwitchError → Type 0
+IsRefusedBy e m r = MatchResult r (λ _. MaySwitch e m) (IsCause e m)

@@ -1,0 +1,15 @@
+-- How a phase starts.
+use Rattle.std.specs.Prelude.{◌≡◌, [], false, length}
+use Rattle.tree_toml.specs.declared.setup.Setup.{Setup}
+use Rattle.engine_core.specs.State.{State}
+use Rattle.engine_core.specs.Stores.{store_of}
+use Rattle.serial_order.specs.Tables.{IsFinalRows}
+
+-- nothing has happened in it; it has the types, the tree and the names of the setup, and the rows that the phase before it left
+pub record IsStarted (s : Setup) (before e : State) : Type 0 where
+  pub events : e.events ≡ []
+  pub ready : e.ready ≡ false
+  pub names : e.names ≡ s.names
+  pub setup : e.store.setup ≡ (store_of s).setup
+  pub tables : e.store.tables ≡ (store_of s).tables
+  pub rows : IsFinalRows before.store before.events e.store.rows

@@ -1,0 +1,74 @@
+//! Whether a store may go on under another tree.
+
+ghost use Rattle.std.specs.Prelude.{◌↔◌, MatchOption, IsTrue};
+ghost use Rattle.tree_toml.specs.Seen.{setup_view};
+ghost use Rattle.tree_switch.specs.Refusals.{IsLeast, IsUnfinished, IsUntold, AllFinished, AllTold, AreNumbered, AreOfSessions, IsRefusedBy};
+
+use crate::error::SwitchError;
+use crate::names::same_names;
+use engine_core::Engine;
+use teb_history::History;
+use teb_names::{Session, Txn};
+use tree_toml::Setup;
+use version_chain::Chains;
+
+/// How many sessions there are. They are numbered from 1.
+const SESSIONS: u8 = 32;
+
+/// Whether the store of an engine may go on under a setup. It costs a look at each transaction.
+pub fn check<C: Chains>(present: &Engine<C>, setup: &Setup) -> Result<(), SwitchError>
+    ensures { IsRefusedBy present.now (setup_view setup.now) result }
+{
+    let history = present.history();
+    if let Some(t) = first_unfinished(history) {
+        return Err(SwitchError::Again(t));
+    }
+    if let Some(s) = first_untold(history) {
+        return Err(SwitchError::Untold(s));
+    }
+    if !same_names(&setup.names.tables, &present.setup().names.tables) {
+        return Err(SwitchError::Tables);
+    }
+    if !setup.rows.is_empty() {
+        return Err(SwitchError::Rows);
+    }
+    Ok(())
+}
+
+/// The least unfinished transaction.
+fn first_unfinished(history: &History) -> Option<Txn>
+    requires { AreNumbered history.now.events }
+    ensures { MatchOption result (AllFinished history.now.events) (λ t. IsLeast (IsUnfinished history.now.events) t.0) }
+{
+    for i in 0..history.begun() {
+        let t = Txn(i + 1);
+        if history.is_unfinished(t) {
+            return Some(t);
+        }
+    }
+    None
+}
+
+/// The least session that holds an aborted transaction.
+fn first_untold(history: &History) -> Option<Session>
+    requires { AreOfSessions history.now.events }
+    ensures { MatchOption result (AllTold history.now.events) (λ s. IsLeast (IsUntold history.now.events) s.0) }
+{
+    for i in 0..SESSIONS {
+        let s = Session(i + 1);
+        if is_untold(history, s) {
+            return Some(s);
+        }
+    }
+    None
+}
+
+/// Whether a session holds an aborted transaction.
+fn is_untold(history: &History, session: Session) -> bool
+    ensures { IsTrue result ↔ IsUntold history.now.events session.0 }
+{
+    match history.held(session) {
+        Some(t) => history.is_aborted(t),
+        None => false,
+    }
+}
