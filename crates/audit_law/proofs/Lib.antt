@@ -8,6 +8,7 @@ pub mod Bridge
 pub mod Digits
 pub mod Events
 pub mod FormLaw
+pub mod Formed
 pub mod Laws
 pub mod OrderLaw
 pub mod Orders

@@ -1,5 +1,5 @@
 -- The law of printed runs.
-use Rattle.std.specs.Prelude.{◌≡◌, ℕ, List, map, reverse, ◌++◌, ℤ, All}
+use Rattle.std.specs.Prelude.{◌≡◌, ℕ, List, map, reverse, ◌++◌, ℤ, All, None, Ok}
 use Rattle.std.specs.List.{flat_map, IsDistinct}
 use Rattle.std.specs.Str.{bytes_eq}
 use Rattle.teb_names.specs.declared.Cell.{Cell}
@@ -12,7 +12,12 @@ use Rattle.teb_rules.specs.Ranks.{serial_order}
 use Rattle.teb_rules.specs.Serializes.{final_table}
 use Rattle.teb_laws.specs.Laws.{OfEveryStore}
 use Rattle.script_text.specs.Texts.{starts_text, event_text, report_text}
-use Rattle.audit_check.specs.Audit.{IsAudited}
+use Rattle.audit_check.specs.Audit.{IsAudited, first_line}
+use Rattle.audit_check.specs.Faults.{is_among, wrong_order}
+use Rattle.audit_check.specs.Items.{Item}
+use Rattle.audit_check.specs.Lines.{items_of}
+use Rattle.audit_check.specs.Standings.{committed}
+use Rattle.audit_check.specs.Tables.{order_in}
 use Rattle.audit_law.specs.Printed.{AreNames, TxnFits, RowFits, EventFits}
 
 -- the starting rows, the events of a history from the oldest on, and the report
@@ -38,3 +43,7 @@ pub record Reports (X : Store) (H : List Event) (order : List Txn) (rows : List 
 abbrev pub PrintedRunsAreAudited : Type 0
 PrintedRunsAreAudited = OfEveryStore (λ X H. (names : NameBook) (order : List Txn) (rows : List (Cell × ℤ))
     → IsAscending X.rows → CanPrint names X.rows H order rows → Reports X H order rows → IsAudited (printed_run names X.rows H order rows))
+
+-- where a text has its form and its order is right, the order lists the transactions that commit
+abbrev pub OrdersListTheCommitted : Type 0
+OrdersListTheCommitted = (text : List ℕ) (H : List Item) → items_of text ≡ Ok H → first_line (wrong_order H) H ≡ None → (t : ℕ) → is_among (order_in H) t ≡ committed H t

@@ -3,7 +3,7 @@ use Rattle.std.proofs.Common.{◌≡◌, ℕ, List, [], ◌∷◌, ◌++◌, ref
 use Rattle.teb_names.specs.declared.Cell.{Cell}
 use Rattle.teb_rules.specs.Replay.{Values}
 use Rattle.engine_core.specs.State.{State, IsOfEngine}
-use Rattle.tree_switch.specs.Courses.{Course, phases, first, first_of, start_of, end_of, StartsWith, GoOn, IsCourse}
+use Rattle.tree_switch.specs.Courses.{first_of, start_of, end_of, StartsWith, GoOn, IsCourse}
 
 -- the present phase, with another history
 further_on : (names : List (List ℕ)) (T : Values) (past : List State) (e f : State) → f.store ≡ e.store → f.names ≡ e.names → IsOfEngine f → GoOn names T (past ++ e ∷ []) → GoOn names T (past ++ f ∷ [])

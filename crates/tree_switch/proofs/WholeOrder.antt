@@ -10,7 +10,7 @@ use Rattle.teb_rules.specs.Serializes.{Serializes}
 use Rattle.teb_laws.proofs.Laws.{every_run_serializes}
 use Rattle.engine_core.specs.State.{State, IsOfEngine}
 use Rattle.engine_core.proofs.Reached.{law_of}
-use Rattle.tree_switch.specs.Courses.{Course, phases, first, first_of, start_of, end_of, StartsWith, GoOn, IsCourse}
+use Rattle.tree_switch.specs.Courses.{Course, phases, first, start_of, end_of, StartsWith, GoOn, IsCourse}
 use Rattle.tree_switch.specs.Serial.{Order, order_of, whole_order, table_along, ReadsRight, IsSerial}
 
 -- of the transactions of one history

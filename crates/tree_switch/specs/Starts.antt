@@ -1,5 +1,5 @@
 -- How a phase starts.
-use Rattle.std.specs.Prelude.{◌≡◌, [], false, length}
+use Rattle.std.specs.Prelude.{◌≡◌, [], false}
 use Rattle.tree_toml.specs.declared.setup.Setup.{Setup}
 use Rattle.engine_core.specs.State.{State}
 use Rattle.engine_core.specs.Stores.{store_of}

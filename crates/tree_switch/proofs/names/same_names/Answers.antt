@@ -1,4 +1,4 @@
-use Rattle.std.proofs.Common.{◌≡◌, ◌≢◌, ℕ, ◌<◌, ◌≤◌, length, sym, ◌∙◌, ap, arith}
+use Rattle.std.proofs.Common.{◌≡◌, ◌≤◌, length, sym, ◌∙◌, arith}
 use Rattle.tree_switch.proofs.SameNames.{all_same, differ_at, same_so_far}
 use Rattle.tree_switch.proofs.names.same_names.Goals as goal
 

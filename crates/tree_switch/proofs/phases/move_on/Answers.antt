@@ -1,4 +1,4 @@
-use Rattle.std.proofs.Common.{◌≡◌, ℕ, ◌-◌, ◌+◌, List, [], ◌∷◌, ◌++◌, length, length-append, sym, ◌∙◌, ap, ap₂, arith, slice_set}
+use Rattle.std.proofs.Common.{◌≡◌, ℕ, ◌-◌, List, [], ◌∷◌, ◌++◌, length, length-append, ◌∙◌, ap, ap₂, arith, slice_set}
 use Rattle.std.proofs.lemmas.List.{set_at}
 use Rattle.engine_core.specs.State.{State}
 use Rattle.tree_switch.proofs.phases.move_on.Goals as goal
