@@ -1,0 +1,5 @@
+pub mod Latest
+pub mod OneCommit
+pub mod Lookup
+pub mod Prefixes
+pub mod Laws

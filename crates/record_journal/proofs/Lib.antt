@@ -1,0 +1,12 @@
+pub mod Moments
+pub mod Torn
+pub mod Spelled
+pub mod Crash
+pub mod Calls
+pub mod Keeping
+pub mod Written
+pub mod Reading
+pub mod Quiet
+pub mod Tables
+pub mod Found
+pub mod Counting

@@ -1,0 +1,60 @@
+-- The rows that records leave, one change after the other.
+use Rattle.std.proofs.Common.{◌≡◌, ℕ, ◌+◌, ◌<◌, Bool, cond, List, [], ◌∷◌, ◌++◌, length, get_or, take, drop, Option, Some, ℤ, Vec, Ordering, refl, sym, ◌∙◌, ap, arith}
+use Rattle.std.specs.BTreeMap.{is_at}
+use Rattle.std.specs.Map.{lookup}
+use Rattle.std.specs.declared.alloc.Global.{Global}
+use Rattle.std.proofs.lemmas.List.{take_more, drop_more, map_push}
+use Rattle.std.proofs.lemmas.Grind.{common_steps}
+use Rattle.teb_names.specs.declared.Cell.{Cell}
+use Rattle.teb_names.specs.contracts.CellOrd.TheImpl.{ghosts}
+use Rattle.teb_names.specs.Cells.{same_cell}
+use Rattle.teb_names.specs.Rows.{row_of}
+use Rattle.teb_rules.specs.Replay.{Values, put_in}
+use Rattle.record_journal.specs.declared.change.Change.{Change}
+use Rattle.record_journal.specs.Format.{Record}
+use Rattle.record_journal.specs.Journal.{after_changes, after_records}
+use Rattle.record_journal.specs.Views.{record_lists}
+
+abbrev pub cell_cmp : Cell → Cell → Ordering
+cell_cmp = ghosts.cmp
+
+is_same : (x k : Cell) → is_at (cell_cmp x) k ≡ same_cell k x
+is_same x k = grind (arith, common_steps)
+
+pub row_of_entries : (es : List (Cell × ℤ)) (x : Cell) → row_of es x ≡ lookup (is_at (cell_cmp x)) es
+row_of_entries [] x = refl
+row_of_entries (e ∷ es) x = ap (λ (b : Bool). cond b (Some e.1) (row_of es x)) (sym (is_same x e.0)) ∙ ap (λ (r : Option ℤ). cond (is_at (cell_cmp x) e.0) (Some e.1) r) (row_of_entries es x)
+
+after_changes-push : (r : Record) (c : Change) (T : Values) (x : Cell) → after_changes (r ++ c ∷ []) T x ≡ put_in c.cell c.value (after_changes r T) x
+after_changes-push [] c T x = refl
+after_changes-push (d ∷ r) c T x = after_changes-push r c (put_in d.cell d.value T) x
+
+pub change_more : (r : Record) (i : ℕ) (d : Change) (T now next : Values) (x : Cell) → i < length r → next x ≡ put_in (get_or r i d).cell (get_or r i d).value now x → now x ≡ after_changes (take i r) T x → next x ≡ after_changes (take (i + 1) r) T x
+change_more r i d T now next x below puts so_far =
+    puts
+    ∙ ap (λ (v : Option ℤ). cond (same_cell (get_or r i d).cell x) (get_or r i d).value v) so_far
+    ∙ sym (after_changes-push (take i r) (get_or r i d) T x)
+    ∙ ap (λ (l : Record). after_changes l T x) (sym (take_more r i d below))
+
+after_same : (r : Record) (T U : Values) → ((x : Cell) → T x ≡ U x) → (x : Cell) → after_changes r T x ≡ after_changes r U x
+after_same [] T U same x = same x
+after_same (c ∷ r) T U same x = after_same r (put_in c.cell c.value T) (put_in c.cell c.value U) (λ y. ap (λ (v : Option ℤ). cond (same_cell c.cell y) c.value v) (same y)) x
+
+after_records-push : (rs : List Record) (r : Record) (T : Values) (x : Cell) → after_records (rs ++ r ∷ []) T x ≡ after_changes r (after_records rs T) x
+after_records-push [] r T x = refl
+after_records-push (q ∷ rs) r T x = after_records-push rs r (after_changes q T) x
+
+pub record_more : (vs : List (Vec Change Global)) (i : ℕ) (d : Vec Change Global) (T now next : Values) → i < length vs → ((x : Cell) → next x ≡ after_changes (get_or vs i d).items now x) → ((x : Cell) → now x ≡ after_records (record_lists (take i vs)) T x)
+    → (x : Cell) → next x ≡ after_records (record_lists (take (i + 1) vs)) T x
+record_more vs i d T now next below puts so_far x =
+    puts x
+    ∙ after_same (get_or vs i d).items now (after_records (record_lists (take i vs)) T) so_far x
+    ∙ sym (after_records-push (record_lists (take i vs)) (get_or vs i d).items T x)
+    ∙ ap (λ (l : List Record). after_records l T x) (sym (map_push _ (take i vs) (get_or vs i d)))
+    ∙ ap (λ (l : List (Vec Change Global)). after_records (record_lists l) T x) (sym (take_more vs i d below))
+
+pub row_more : (start : List (Cell × ℤ)) (i : ℕ) (d : Cell × ℤ) (now next : Values) (x : Cell) → i < length start → next x ≡ put_in (get_or start i d).0 (Some (get_or start i d).1) now x → now x ≡ row_of (drop (i + 1) start) x → next x ≡ row_of (drop i start) x
+row_more start i d now next x below puts so_far =
+    puts
+    ∙ ap (λ (v : Option ℤ). cond (same_cell (get_or start i d).0 x) (Some (get_or start i d).1) v) so_far
+    ∙ ap (λ (l : List (Cell × ℤ)). row_of l x) (sym (drop_more start i d below))

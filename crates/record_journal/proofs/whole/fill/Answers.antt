@@ -1,0 +1,16 @@
+use Rattle.std.proofs.Common.{subst}
+use Rattle.crash_disk.specs.Disk.{IsRead}
+use Rattle.record_journal.proofs.Quiet.{quieter, filled_part, part_within}
+use Rattle.record_journal.proofs.whole.fill.Goals as goal
+
+pub loop-filled-preserved : goal.loop-filled-preserved
+loop-filled-preserved g c =
+    let d = g.D.Disk in
+    let l = c.loop-filled in
+    let i = l.invariant in
+    let read = subst (λ file. IsRead file l.filled c.in_ok-n.n c.read_at.new.buf) i.quiet.same c.in_ok-n.ensures.read in
+    record {
+      within = part_within l.buf c.read_at.new.buf _ l.filled c.in_ok-n.n i.within read.fits;
+      front = filled_part (d.seen c.args.disk.now) l.buf c.read_at.new.buf _ l.filled c.in_ok-n.n i.front i.within read;
+      quiet = quieter d.seen d.may_leave d.moment d.left_since d.faults _ l.disk c.read_at.new.self i.quiet c.read_at.ensures.seen c.read_at.ensures.crash c.read_at.ensures.time c.read_at.ensures.cause.later;
+    }

@@ -1,0 +1,4 @@
+pub mod Format
+pub mod Journal
+pub mod Kept
+pub mod Views

@@ -1,0 +1,115 @@
+// How a journal begins, and how it grows.
+ghost use Rattle.std.specs.Prelude.{◌≡◌, ◌+◌, ◌<◌, ◌≤◌, ◌++◌, ◌∷◌, [], List, ℕ, length, true, false, OnOk, OnErr, IfOk, IfErr, IsOk, IsErr, ◌^◌};
+ghost use Rattle.crash_disk.specs.Calls.{AreCalls, AreSure, Fails, IsUpTo};
+ghost use Rattle.crash_disk.specs.Disk.{LeavesOnly, Only};
+ghost use Rattle.teb_io.specs.Faults.{HasCause, Rose};
+ghost use Rattle.record_journal.specs.Format.{Record, recovered, Whole};
+ghost use Rattle.record_journal.specs.Journal.{IsAtRest, IsBody, StandsFor};
+ghost use Rattle.record_journal.specs.Kept.{Keeps};
+
+use crate::{Journal, Progress, write_record};
+use crash_disk::Disk;
+use teb_io::Failed;
+
+/// How many bytes of a disk a journal uses.
+const ROOM: u64 = 1048576;
+
+impl<D: Disk> Journal<D> {
+    /// A journal without records, on a disk that may hold anything. An `Err` hands the disk back.
+    pub fn create(disk: D) -> Result<Journal<D>, D>
+        ensures empty { IfOk result (λ journal. Keeps D.seen D.may_leave [] journal × (journal.stopped ≡ false) × (journal.progress.acknowledged ≡ 0)) }
+        ensures cause { IfErr result (λ back. Rose (D.faults disk) (D.faults back)) }
+        // It makes two calls, up to the first that fails, and writes one byte. After an `Err` no more is safe than before.
+        ensures sure { AreSure (D.tally disk).promise.writes 2 1 (D.tally disk) → IsOk result }
+        ensures fails { Fails 2 (D.tally disk) → IsErr result }
+        ensures counted { IfOk result (λ journal. IsUpTo 2 1 (D.tally disk) (D.tally journal.disk) × ((D.tally disk).made + 2 < 2 ^ 64 → (D.tally journal.disk).made ≡ (D.tally disk).made + 2)) }
+        ensures back { IfErr result (λ back. IsUpTo 2 1 (D.tally disk) (D.tally back) × (D.safe back ≡ D.safe disk)) }
+    {
+        let mut disk = disk;
+        match close_first_gate(&mut disk) {
+            Ok(()) => Ok(Journal {
+                disk,
+                progress: Progress {
+                    end: 0,
+                    acknowledged: 0,
+                },
+                stopped: false,
+            }),
+            Err(Failed) => Err(disk),
+        }
+    }
+
+    /// Adds the record that the body spells. At `Ok` it is acknowledged: from then on each crash leaves it.
+    /// After an `Err` the journal is stopped, and the record may stand on the disk or not.
+    pub fn append(&mut self, body: &[u8]) -> Result<(), Failed>
+        requires running { self.old.stopped ≡ false }
+        requires some { 0 < length body.now }
+        requires room { self.old.progress.end + 1 + length body.now ≤ 1048576 }
+
+        // Between two calls a crash leaves the first records, at least those that are acknowledged.
+        ensures kept { (asked : List Record) (r : Record) → IsBody r body.now → Keeps D.seen D.may_leave asked self.old → Keeps D.seen D.may_leave (asked ++ r ∷ []) self.new }
+
+        // So does a crash at any moment of the call.
+        ensures any_moment { (asked : List Record) (r : Record) → IsBody r body.now → Keeps D.seen D.may_leave asked self.old
+            → LeavesOnly D.moment D.left_since self.old.disk self.new.disk (StandsFor self.old.progress.acknowledged (asked ++ r ∷ [])) }
+
+        ensures acknowledged { OnOk result ((self.new.stopped ≡ false) × (self.new.progress.acknowledged ≡ self.old.progress.acknowledged + 1)) }
+        ensures not_acknowledged { OnErr result ((self.new.stopped ≡ true) × (self.new.progress.acknowledged ≡ self.old.progress.acknowledged)) }
+        // After an `Err` what was safe at the last good sync has the acknowledged records alone.
+        ensures not_added { (asked : List Record) (r : Record) → IsBody r body.now → Keeps D.seen D.may_leave asked self.old → OnErr result (recovered (D.safe self.new.disk) ≡ Whole asked) }
+
+        ensures cause { HasCause (D.faults self.old.disk) (D.faults self.new.disk) result }
+
+        // It makes four calls, up to the first that fails, and writes one byte more than the body has.
+        ensures calls { AreCalls (D.tally self.old.disk).promise.writes 4 (length body.now + 1) (D.tally self.old.disk) (D.tally self.new.disk) result }
+    {
+        let added = write_record(&mut self.disk, self.progress.end, body);
+        match added {
+            Ok(()) => {
+                self.progress = Progress {
+                    end: self.progress.end + body.len() as u64,
+                    acknowledged: self.progress.acknowledged + 1,
+                };
+            }
+            Err(Failed) => self.stopped = true,
+        }
+        added
+    }
+
+    pub fn acknowledged(&self) -> u32
+        ensures { result ≡ self.now.progress.acknowledged }
+    {
+        self.progress.acknowledged
+    }
+
+    pub fn is_stopped(&self) -> bool
+        ensures { result ≡ self.now.stopped }
+    {
+        self.stopped
+    }
+
+    /// How many bytes are left from the closed gate on.
+    pub fn left(&self) -> u64
+        ensures { result + self.now.progress.end ≡ 1048576 }
+    {
+        ROOM - self.progress.end
+    }
+
+    pub fn into_disk(self) -> D
+        ensures { result ≡ self.disk }
+    {
+        self.disk
+    }
+}
+
+// The first gate, closed and on the disk, whatever stands behind it.
+fn close_first_gate<D: Disk>(disk: &mut D) -> Result<(), Failed>
+    ensures empty { OnOk result (IsAtRest [] 0 (D.seen disk.new) × Only (D.seen disk.new) (D.may_leave disk.new)) }
+    ensures cause { HasCause (D.faults disk.old) (D.faults disk.new) result }
+    ensures calls { AreCalls (D.tally disk.old).promise.writes 2 1 (D.tally disk.old) (D.tally disk.new) result }
+    ensures not_safe { OnErr result (D.safe disk.new ≡ D.safe disk.old) }
+{
+    disk.write_at(0, &[0])?;
+    disk.sync()?;
+    Ok(())
+}

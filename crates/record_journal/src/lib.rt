@@ -1,0 +1,23 @@
+//! Records on a disk, each acknowledged once it is safe, so that a crash leaves the first of them; and the rows that they leave.
+#![tactic(auto)]
+
+mod append;
+mod change;
+mod error;
+mod journal;
+mod read;
+mod record;
+mod recovery;
+mod rows;
+mod whole;
+
+pub use change::Change;
+pub use error::RecoverError;
+pub use journal::{Journal, Progress};
+pub use read::read_records;
+pub use record::{encode, write_record};
+pub use recovery::{Recovered, read_rows};
+pub use whole::read_whole;
+
+#[cfg(test)]
+mod tests;

@@ -1,0 +1,75 @@
+// One record: its bytes, and how they come onto the disk in four calls.
+ghost use Rattle.std.specs.Prelude.{◌≡◌, ◌+◌, ◌*◌, ◌^◌, ◌<◌, ◌≤◌, ◌++◌, ◌∷◌, [], List, ℕ, length, OnOk, OnErr, IfOk};
+ghost use Rattle.crash_disk.specs.Calls.{AreCalls};
+ghost use Rattle.crash_disk.specs.Disk.{Only, LeavesOnly};
+ghost use Rattle.teb_io.specs.Faults.{HasCause};
+ghost use Rattle.record_journal.specs.Format.{Record, ChangeFits, entry, recovered, Whole};
+ghost use Rattle.record_journal.specs.Journal.{IsAtRest, IsBody, IsBeforeOrAfter};
+
+use crate::Change;
+use crash_disk::Disk;
+use std::alloc::{AllocError, Global};
+use teb_io::Failed;
+
+/// The bytes that add a record behind a closed gate: how many changes, each of them, and the next gate, closed.
+pub fn encode(alloc: Global, changes: &[Change]) -> Result<Vec<u8>, AllocError>
+    requires { length changes.now < 2 ^ 32 }
+    ensures is_body { IfOk result (λ bytes. IsBody changes.now bytes.items) }
+    ensures length { IfOk result (λ bytes. length bytes.items ≡ 5 + 14 * length changes.now) }
+{
+    let mut bytes = Vec::new(alloc);
+    bytes.extend_from_slice(&(changes.len() as u32).to_be_bytes())?;
+    for change in changes {
+        put_change(&mut bytes, *change)?;
+    }
+    bytes.push(0)?;
+    Ok(bytes)
+}
+
+// Fourteen bytes: table, key, tag, value.
+fn put_change(out: &mut Vec<u8>, change: Change) -> Result<(), AllocError>
+    ensures put { OnOk result (out.new.items ≡ out.old.items ++ entry change) }
+    ensures fits { ChangeFits change }
+{
+    out.push(change.cell.table.0)?;
+    out.extend_from_slice(&change.cell.key.to_be_bytes())?;
+    match change.value {
+        None => {
+            out.push(0)?;
+            out.extend_from_slice(&[0, 0, 0, 0, 0, 0, 0, 0])?;
+        }
+        Some(value) => {
+            out.push(1)?;
+            out.extend_from_slice(&value.cast_unsigned().to_be_bytes())?;
+        }
+    }
+    Ok(())
+}
+
+/// Writes a record behind the closed gate at `end`: its body with the next gate, and then its own gate.
+pub fn write_record<D: Disk>(disk: &mut D, end: u64, body: &[u8]) -> Result<(), Failed>
+    requires { end + 1 + length body.now ≤ 1048576 }
+
+    // On a disk at rest it adds the record that the body spells.
+    ensures added { (rs : List Record) (r : Record) → IsBody r body.now → IsAtRest rs end (D.seen disk.old)
+        → Only (D.seen disk.old) (D.may_leave disk.old)
+        → OnOk result (IsAtRest (rs ++ r ∷ []) (end + length body.now) (D.seen disk.new) × Only (D.seen disk.new) (D.may_leave disk.new)) }
+
+    // A crash at any moment of the call leaves the records from before it, with the new one or without.
+    ensures any_moment { (rs : List Record) (r : Record) → IsBody r body.now → IsAtRest rs end (D.seen disk.old)
+        → Only (D.seen disk.old) (D.may_leave disk.old)
+        → LeavesOnly D.moment D.left_since disk.old disk.new (IsBeforeOrAfter rs r) }
+
+    // Where it fails, what was safe at the last good sync has the records from before it alone.
+    ensures not_added { (rs : List Record) (r : Record) → IsBody r body.now → IsAtRest rs end (D.seen disk.old) → recovered (D.safe disk.old) ≡ Whole rs
+        → OnErr result (recovered (D.safe disk.new) ≡ Whole rs) }
+
+    ensures cause { HasCause (D.faults disk.old) (D.faults disk.new) result }
+    ensures calls { AreCalls (D.tally disk.old).promise.writes 4 (length body.now + 1) (D.tally disk.old) (D.tally disk.new) result }
+{
+    disk.write_at(end + 1, body)?;
+    disk.sync()?;
+    disk.write_at(end, &[1])?;
+    disk.sync()?;
+    Ok(())
+}

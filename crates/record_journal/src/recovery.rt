@@ -1,0 +1,59 @@
+// What a disk stands for, after a crash too.
+ghost use Rattle.std.specs.Prelude.{◌≡◌, ◌≤◌, List, ℕ, length, take, IfOk, OnOk, IsErrOf};
+ghost use Rattle.teb_names.specs.declared.Cell.{Cell as TheCell};
+ghost use Rattle.teb_names.specs.Rows.{row_of};
+ghost use Rattle.crash_disk.specs.Disk.{IsQuiet, Only};
+ghost use Rattle.teb_io.specs.Faults.{Rose};
+ghost use Rattle.record_journal.specs.Format.{Record, recovered, Whole, Damaged};
+ghost use Rattle.record_journal.specs.Journal.{StandsFor, after_records};
+
+use crate::RecoverError;
+use crate::read::read_records;
+use crate::rows::rows_after;
+use crate::whole::read_whole;
+use crash_disk::Disk;
+use std::alloc::Global;
+use teb_names::Cell;
+
+/// The rows after the records of a journal, in ascending order of their cells, and how many records there are.
+#[derive(Debug, Drop)]
+pub struct Recovered {
+    pub rows: Vec<(Cell, i64)>,
+    pub commits: u32,
+}
+
+/// The rows that a disk stands for, over some starting rows, of which the first of a cell counts. It writes nothing.
+pub fn read_rows<D: Disk>(
+    alloc: Global,
+    disk: &mut D,
+    start: &[(Cell, i64)],
+) -> Result<Recovered, RecoverError>
+    // The rows are those after all records that the bytes have.
+    ensures found { IfOk result (λ found. (rs : List Record) × (recovered (D.seen disk.old) ≡ Whole rs) × (found.commits ≡ length rs)
+        × ((x : TheCell) → row_of found.rows.items x ≡ after_records rs (row_of start.now) x)) }
+
+    // Damage is told where the bytes have it.
+    ensures damaged { (at : ℕ) → IsErrOf result (RecoverError.Damaged at) → recovered (D.seen disk.old) ≡ Damaged at }
+
+    // On what a crash leaves of a journal that was asked to keep these records, the first k of them are found, for a k that is
+    // at least what was acknowledged, and there is no damage.
+    ensures first { (least : ℕ) (asked : List Record) → StandsFor least asked (D.seen disk.old)
+        → IfOk result (λ found. (least ≤ found.commits) × (found.commits ≤ length asked)
+        × ((x : TheCell) → row_of found.rows.items x ≡ after_records (take found.commits asked) (row_of start.now) x)) }
+    ensures no_damage { (least : ℕ) (asked : List Record) → StandsFor least asked (D.seen disk.old) → (at : ℕ) → IsErrOf result (RecoverError.Damaged at) → ⊥ }
+
+    // From then on a crash leaves what was read.
+    ensures durable { OnOk result (Only (D.seen disk.old) (D.may_leave disk.new)) }
+    ensures quiet { IsQuiet D.seen D.may_leave D.moment D.left_since D.faults disk.old disk.new }
+    ensures cause { IsErrOf result RecoverError.DiskFault → Rose (D.faults disk.old) (D.faults disk.new) }
+{
+    disk.sync()?;
+    let bytes = read_whole(alloc, disk)?;
+    let records = match read_records(alloc, &bytes) {
+        Ok(records) => records,
+        Err(error) => return Err(error),
+    };
+    let commits = records.len() as u32;
+    let rows = rows_after(alloc, start, &records)?;
+    Ok(Recovered { rows, commits })
+}
