@@ -1,9 +1,11 @@
 //! The batches of one node.
 
-ghost use Rattle.std.specs.Prelude.{◌≡◌, ◌<◌, ◌≤◌, ◌+◌, ◌∷◌, ℕ, [], List, length, ltb, OnOk, IsTrue, Some};
+ghost use Rattle.std.specs.Prelude.{◌≡◌, ◌<◌, ◌≤◌, ◌+◌, ◌∷◌, ℕ, [], List, length, ltb, cond, OnOk, IsTrue, Some, None};
 ghost use Rattle.teb_history.specs.declared.Event.{Event};
+ghost use Rattle.teb_history.specs.Phases.{begun};
 ghost use Rattle.teb_history.specs.Written.{txn_of};
 ghost use Rattle.teb_rules.specs.Setup.{Setup};
+ghost use Rattle.teb_rules.specs.Tree.{on};
 ghost use Rattle.teb_rules.specs.Batches.{start, close};
 ghost use Rattle.batch_book.specs.Histories.{BatchesOf, ClosedBelow, full_at, closing, Joins, Finishes, MayCome};
 ghost use Rattle.batch_book.specs.Book.{has_joined, IsNew};
@@ -119,6 +121,16 @@ impl Batches {
         ensures { (S : Setup) (H : List Event) (n : ℕ) → BatchesOf self.now S H n → result ≡ start S H n t.0 }
     {
         self.batch(t).start
+    }
+
+    /// Where the batch of t starts; None where t has not joined.
+    pub fn start_of(&self, t: Txn) -> Option<usize>
+        ensures { (S : Setup) (H : List Event) (n : ℕ) → BatchesOf self.now S H n → IsTrue (begun H t.0) → result ≡ cond (on S H n t.0) (Some (start S H n t.0)) None }
+    {
+        match search_member(&self.joined, t) {
+            Some(member) => Some(self.batches[member.batch].start),
+            None => None,
+        }
     }
 
     /// Where the batch of t closed; None while it is open.

@@ -30,7 +30,7 @@ use Rattle.snapshot_node.proofs.Edges.{gets_put, is_touch, past_touch, begun_pla
 use Rattle.snapshot_node.proofs.Least.{least_as, least_either}
 
 -- one batch, by its parts
-batch_parts : (S : Setup) (H : List Event) (n b c : ℕ) → one_batch S H n b c ≡ true → (on S H n b ≡ true) × (on S H n c ≡ true) × (side S H n b ≡ side S H n c) × (start S H n b ≡ start S H n c)
+pub batch_parts : (S : Setup) (H : List Event) (n b c : ℕ) → one_batch S H n b c ≡ true → (on S H n b ≡ true) × (on S H n c ≡ true) × (side S H n b ≡ side S H n c) × (start S H n b ≡ start S H n c)
 unfolding one_batch
 batch_parts S H n b c h = let q = and_parts _ _ h in let r = and_parts _ _ q.0 in let s = and_parts _ _ r.0 in (s.0, s.1, eqb-true _ _ r.1, eqb-true _ _ q.1)
 

@@ -32,10 +32,10 @@ use Rattle.snapshot_node.proofs.Least.{least_as, least_either, Along, along_of, 
 use Rattle.snapshot_node.proofs.Edges.{gets_put, edge_found, stake_stands, across_turned}
 
 -- a cell that a has read and b has put
-record Shared (H : List Event) (a b : ℕ) : Type 0 where
-  cell : Cell
-  read : got H a cell ≡ true
-  put : wrote H b cell ≡ true
+pub record Shared (H : List Event) (a b : ℕ) : Type 0 where
+  pub cell : Cell
+  pub read : got H a cell ≡ true
+  pub put : wrote H b cell ≡ true
 
 got_itself : (s : Txn) (x : Cell) (w : Txn) (v : Option ℤ) → is_some (got_in x (Got s x w v)) ≡ true
 got_itself s x w v = some_if (same_cell x x) v ∙ same_cell-itself x
@@ -65,6 +65,33 @@ module _ (S : Setup) (H : List Event) (n t : ℕ) where
   pub only_puts : (b : ℕ) (e : Event) → ((s : Txn) (x : Cell) (v : Option ℤ) → e ≡ Put s x v → ⊥) → (a : ℕ) → Behind b e a → ⊥
   only_puts b (Put s x v) none a h = none s x v refl
   only_puts b _ none a h = h
+
+-- where two are across and share a cell, the events of each of them tell of the other
+module _ (S : Setup) (H : List Event) (n t : ℕ) where
+  pub shared_ahead : (c d : ℕ) → is_at_stake H t d ≡ true → is_across S H n c d ≡ true → Shared H c d → Along (Ahead S H n t c) (own_events H c) d
+  shared_ahead c d st k p =
+      let r = any_Has (λ e. is_some (got_in p.cell e)) (own_events H c) (sym (got_own H c p.cell) ∙ p.read) in
+      along_of (Ahead S H n t c) d r.0 (own_events H c) r.1 (each r.0 r.2)
+    where
+      each : (e : Event) → is_some (got_in p.cell e) ≡ true → Ahead S H n t c e d
+      each (Got s y w v) i = record { put = of_same (wrote H d) y p.cell v i p.put; stake = st; across = k }
+      each _ i = absurd (cc)
+
+  pub shared_behind : IsOrderly S H → (b u : ℕ) → aborted H u ≡ false → is_at_stake H t u ≡ true → is_across S H n u b ≡ true → Shared H u b → Along (Behind S H n t b) (own_events H b) u
+  shared_behind o b u stands st k p =
+      let r = any_Has (λ e. is_some (put_in p.cell e)) (own_events H b) (sym (wrote_own H b p.cell) ∙ p.put) in
+      along_of (Behind S H n t b) u r.0 (own_events H b) r.1 (each r.0 r.2)
+    where
+      here : (on S H n u && not (aborted H u)) ≡ true
+      here = and_from _ _ (meets_parts S H n u b (and_parts (meets S H n u b) (concurrent S H n u b) k).0).0 (not_from_false _ stands)
+
+      each : (e : Event) → is_some (put_in p.cell e) ≡ true → Behind S H n t b e u
+      each (Put s y v) i = record {
+        listed = among_readers S H n y u o ∙ and_from _ _ here (of_same (got H u) y p.cell v i p.read);
+        stake = st;
+        across = across_turned S H n u b k;
+      }
+      each _ i = absurd (cc)
 
 -- those at stake, where t is not aborted
 module _ (S : Setup) (H : List Event) (n t : ℕ) (l : Lawful S H) (o : IsOrderly S H) (runs : aborted H t ≡ false) where
@@ -104,7 +131,7 @@ module _ (S : Setup) (H : List Event) (n t : ℕ) (l : Lawful S H) (o : IsOrderl
         found (Got s x v z) i q = record { cell = x; read = got_own H u x ∙ Has-any (λ e. is_some (got_in x e)) (Got s x v z) (own_events H u) i (got_itself s x v z); put = q }
         found _ i q = absurd (cc)
 
-    edge_shared : (u w : ℕ) → aborted H w ≡ false → edge S H n u w ≡ true → (is_across S H n u w ≡ true) × Shared H u w
+    pub edge_shared : (u w : ℕ) → aborted H w ≡ false → edge S H n u w ≡ true → (is_across S H n u w ≡ true) × Shared H u w
     edge_shared u w s e = let p = and_parts (is_across S H n u w) (list_any (gets_put H w) (own_events H u)) (edge_found S a H n l k u w s ∙ e) in (p.0, shared u w p.1)
 
     shared_edge : (u w : ℕ) → aborted H w ≡ false → is_across S H n u w ≡ true → Shared H u w → edge S H n u w ≡ true
@@ -128,14 +155,7 @@ module _ (S : Setup) (H : List Event) (n t : ℕ) (l : Lawful S H) (o : IsOrderl
         each _ i q = absurd q
 
     pub leads_ahead : (c d : ℕ) → Leads S H n t c d → Along (Ahead S H n t c) (own_events H c) d
-    leads_ahead c d h =
-        let p = edge_shared c d (stake_stands S H t d l runs h.to) h.edge in
-        let r = any_Has (λ e. is_some (got_in p.1.cell e)) (own_events H c) (sym (got_own H c p.1.cell) ∙ p.1.read) in
-        along_of (Ahead S H n t c) d r.0 (own_events H c) r.1 (each p.0 p.1 r.0 r.2)
-      where
-        each : is_across S H n c d ≡ true → (p : Shared H c d) (e : Event) → is_some (got_in p.cell e) ≡ true → Ahead S H n t c e d
-        each k p (Got s y w v) i = record { put = of_same (wrote H d) y p.cell v i p.put; stake = h.to; across = k }
-        each k p _ i = absurd (cc)
+    leads_ahead c d h = let p = edge_shared c d (stake_stands S H t d l runs h.to) h.edge in shared_ahead S H n t c d h.to p.0 p.1
 
     pub behind_leads : (b u : ℕ) → is_at_stake H t b ≡ true → Along (Behind S H n t b) (own_events H b) u → Leads S H n t u b
     behind_leads b u st h = let r = along_item (Behind S H n t b) u (own_events H b) h in each r.0 r.1 r.2
@@ -153,18 +173,4 @@ module _ (S : Setup) (H : List Event) (n t : ℕ) (l : Lawful S H) (o : IsOrderl
         each _ i q = absurd q
 
     pub leads_behind : (b u : ℕ) → Leads S H n t u b → Along (Behind S H n t b) (own_events H b) u
-    leads_behind b u h =
-        let p = edge_shared u b (stake_stands S H t b l runs h.to) h.edge in
-        let r = any_Has (λ e. is_some (put_in p.1.cell e)) (own_events H b) (sym (wrote_own H b p.1.cell) ∙ p.1.put) in
-        along_of (Behind S H n t b) u r.0 (own_events H b) r.1 (each p.0 p.1 r.0 r.2)
-      where
-        here : is_across S H n u b ≡ true → (on S H n u && not (aborted H u)) ≡ true
-        here k = and_from _ _ (meets_parts S H n u b (and_parts (meets S H n u b) (concurrent S H n u b) k).0).0 (not_from_false _ (stake_stands S H t u l runs h.from))
-
-        each : is_across S H n u b ≡ true → (p : Shared H u b) (e : Event) → is_some (put_in p.cell e) ≡ true → Behind S H n t b e u
-        each k p (Put s y v) i = record {
-          listed = among_readers S H n y u o ∙ and_from _ _ (here k) (of_same (got H u) y p.cell v i p.read);
-          stake = h.from;
-          across = across_turned S H n u b k;
-        }
-        each k p _ i = absurd (cc)
+    leads_behind b u h = let p = edge_shared u b (stake_stands S H t b l runs h.to) h.edge in shared_behind S H n t o b u (stake_stands S H t u l runs h.from) h.from p.0 p.1

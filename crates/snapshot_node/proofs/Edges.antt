@@ -1,5 +1,5 @@
 -- An edge is found without a comparison of versions.
-use Rattle.std.proofs.Common.{◌≡◌, ℕ, ◌<◌, ◌≤◌, Bool, true, false, not, ◌&&◌, ◌||◌, eqb, ltb, List, [], ◌∷◌, filter, cond, Option, refl, sym, ◌∙◌, ap, subst, inl, inr, arith, ℤ, length, lt-ltb, le-ltb, le_refl, eqb-true, ltb-true}
+use Rattle.std.proofs.Common.{◌≡◌, ℕ, ◌<◌, ◌≤◌, Bool, true, false, not, ◌&&◌, ◌||◌, eqb, ltb, List, [], ◌∷◌, filter, cond, Option, Some, None, refl, sym, ◌∙◌, ap, subst, inl, inr, arith, ℤ, length, lt-ltb, le-ltb, le_refl, eqb-true, ltb-true}
 use Rattle.std.specs.List.{list_any}
 use Rattle.std.proofs.lemmas.Bool.{cases_lt, cases_Bool, both_ways, and_parts, and_from, or_cases, or_left, or_right, false_from_ne_true, ltb-false}
 use Rattle.teb_names.specs.declared.Txn.{Txn}
@@ -94,7 +94,7 @@ stays : (H : List Event) (u : ℕ) → aborted H u ≡ false → length H ≤ go
 unfolding aborted
 stays H u h = ltb-false _ _ h
 
-prepared_runs : (H : List Event) (u : ℕ) → prepared H u ≡ true → unfinished H u ≡ true
+pub prepared_runs : (H : List Event) (u : ℕ) → prepared H u ≡ true → unfinished H u ≡ true
 unfolding prepared
 prepared_runs H u p = (and_parts (unfinished H u) (came H (ready_at H u)) p).0
 
@@ -204,3 +204,29 @@ module _ (S : Setup) (H : List Event) (n b c : ℕ) where
   pub one_start : on S H n b ≡ true → on S H n c ≡ true → eqb (side S H n b) (side S H n c) ≡ true → eqb (start S H n b) (start S H n c) ≡ one_batch S H n b c
   unfolding one_batch
   one_start x y z = λ j. ((sym x j && sym y j) && sym z j) && eqb (start S H n b) (start S H n c)
+
+  pub off_start : eqb (start S H n b) (start S H n c) ≡ false → false ≡ one_batch S H n b c
+  unfolding one_batch
+  off_start h = go ((on S H n b && on S H n c) && eqb (side S H n b) (side S H n c)) (eqb (start S H n b) (start S H n c)) h
+    where
+      go : (x y : Bool) → y ≡ false → false ≡ (x && y)
+      go true true h = absurd (cc)
+      go true false h = refl
+      go false y h = refl
+
+  pub one_side : on S H n b ≡ true → on S H n c ≡ true → eqb (start S H n b) (start S H n c) ≡ true → eqb (side S H n b) (side S H n c) ≡ one_batch S H n b c
+  unfolding one_batch
+  one_side x y z = bare (eqb (side S H n b) (side S H n c)) ∙ (λ j. ((sym x j && sym y j) && eqb (side S H n b) (side S H n c)) && sym z j)
+    where
+      bare : (q : Bool) → q ≡ (q && true)
+      bare true = refl
+      bare false = refl
+
+-- where a batch starts, of one on whose path the node stands or does not
+pub started : (b : Bool) (s i : ℕ) → Some i ≡ cond b (Some s) None → (b ≡ true) × (i ≡ s)
+started true s i e = (refl, (let q : Some i ≡ Some s = e in cc))
+started false s i e = absurd (cc)
+
+pub unstarted : (b : Bool) (s : ℕ) → None ≡ cond b (Some s) None → b ≡ false
+unstarted true s e = absurd (cc)
+unstarted false s e = refl

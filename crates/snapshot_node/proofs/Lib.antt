@@ -21,3 +21,7 @@ pub mod Searching
 pub mod Reach
 pub mod Middles
 pub mod Comers
+pub mod Covers
+pub mod Nearness
+pub mod Marked
+pub mod Grown

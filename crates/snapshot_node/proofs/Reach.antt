@@ -12,7 +12,7 @@ use Rattle.teb_laws.proofs.Pivots.{no_stake_pivot}
 use Rattle.snapshot_node.specs.Pivots.{is_at_stake, IsPivot}
 
 -- whoever else is at stake was validated before
-settled : (H : List Event) (t u : ℕ) → is_at_stake H t u ≡ true → u ≢ t → (prepared H u || committed H u) ≡ true
+pub settled : (H : List Event) (t u : ℕ) → is_at_stake H t u ≡ true → u ≢ t → (prepared H u || committed H u) ≡ true
 settled H t u h ne = elim (or_cases (eqb u t || prepared H u) (committed H u) h) [
   | inr c ↦ or_right (prepared H u) _ c
   | inl o ↦ elim (or_cases (eqb u t) (prepared H u) o) [ inl e ↦ absurd (ne (eqb-true u t e)) | inr p ↦ or_left (prepared H u) _ p ]

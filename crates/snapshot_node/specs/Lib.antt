@@ -1,4 +1,9 @@
 pub mod Slots
 pub mod Readers
 pub mod Standing
+pub mod Stood
+pub mod Marks
+pub mod Props
 pub mod Pivots
+pub mod Asking
+pub mod Validating

@@ -3,147 +3,116 @@
 //! Each pivot has the one that validates in it, since those that were validated before hold none. So whoever comes first in a
 //! pivot is found from the edges at that one and at its batch.
 
-ghost use Rattle.std.specs.Prelude.{◌≡◌, IsTrue, IsFalse};
-ghost use Rattle.teb_history.specs.Phases.{unfinished, aborted};
+ghost use Rattle.std.specs.Prelude.{◌≡◌};
 ghost use Rattle.teb_history.specs.Ascending.{IsAscendingBy};
 ghost use Rattle.teb_history.specs.Live.{number_of};
-ghost use Rattle.teb_rules.specs.Accepted.{IsSound};
-ghost use Rattle.teb_rules.specs.Controls.{validate};
-ghost use Rattle.teb_rules.specs.Tree.{row};
-ghost use Rattle.teb_laws.specs.Lawful.{Lawful};
-ghost use Rattle.phase_api.specs.Told.{setup_of, events_of};
-ghost use Rattle.phase_api.specs.Calls.{IsHere};
-ghost use Rattle.snapshot_node.specs.Slots.{is_among};
-ghost use Rattle.snapshot_node.specs.Standing.{SnapshotStand};
-ghost use Rattle.snapshot_node.specs.Pivots.{is_at_stake, IsLeast, IsMiddle, IsMiddleAmong, IsFirst, ComesIn, ComesInBy, AreHere, break_by};
+ghost use Rattle.snapshot_node.specs.Asking.{IsAt};
+ghost use Rattle.snapshot_node.specs.Validating.{AreAt, IsAtStake, ruled, at};
+ghost use Rattle.snapshot_node.specs.Pivots.{IsLeast, IsMiddle, IsMiddleAmong, IsFirst, ComesIn, ComesInBy, break_by};
 
 use crate::neighbours::{is_at_stake, lesser};
-use crate::snapshot::Snapshot;
+use crate::validation::Validation;
 use crate::writers::from_number;
-use phase_api::Facts;
 use teb_history::Event;
 use teb_names::{Cell, Txn};
 use teb_rules::Broken;
 
-impl Snapshot {
-    /// The least pivot among those at stake where t validates.
-    pub(crate) fn least_pivot(&self, facts: &Facts, t: Txn) -> Option<Broken>
-        requires stands { SnapshotStand self.now.node.0 self.now.batches self.now.readers self.now.writers (setup_of facts.now) (events_of facts.now) }
-        requires tree { IsSound (setup_of facts.now) }
-        requires lawful { Lawful (setup_of facts.now) (events_of facts.now) }
-        requires here { IsHere facts.now self.now.node.0 t.0 }
-        requires unfinished { IsTrue (unfinished (events_of facts.now) t.0) }
-        ensures { break_by result ≡ validate (row (setup_of facts.now).tree self.now.node.0).control (setup_of facts.now) (events_of facts.now) self.now.node.0 t.0 }
+impl<'a> Validation<'a> {
+    /// The least pivot among those at stake.
+    pub(crate) fn least_pivot(&self) -> Option<Broken>
+        ensures { break_by result ≡ ruled self.now }
     {
-        if facts.history.is_prepared(t) {
+        if self.asked.facts.history.is_prepared(self.t) {
             return None;
         }
-        let a = self.least_first(facts, t)?;
-        let b = self.least_middle(facts, t, a)?;
-        let (c, d) = self.edge_out(facts, t, b)?;
+        if !self.is_near() {
+            return None;
+        }
+        let a = self.least_first()?;
+        let b = self.least_middle(a)?;
+        let (c, d) = self.edge_out(b)?;
         Some(Broken::Pivot { a, b, c, d })
     }
 
     // The least one that comes first in a pivot. With t first, an edge leads from t into a batch that an edge leaves; with t
     // second, an edge leaves t's batch; with t third, t has an edge; with t last, an edge leads to t.
-    fn least_first(&self, facts: &Facts, t: Txn) -> Option<Txn>
-        requires stands { SnapshotStand self.now.node.0 self.now.batches self.now.readers self.now.writers (setup_of facts.now) (events_of facts.now) }
-        requires tree { IsSound (setup_of facts.now) }
-        requires lawful { Lawful (setup_of facts.now) (events_of facts.now) }
-        requires here { IsHere facts.now self.now.node.0 t.0 }
-        requires unfinished { IsTrue (unfinished (events_of facts.now) t.0) }
-        ensures { IsLeast (IsFirst (setup_of facts.now) (events_of facts.now) self.now.node.0 t.0) result }
+    fn least_first(&self) -> Option<Txn>
+        ensures { IsLeast (at self.now IsFirst) result }
     {
-        let mut least = self.least_before(facts, t);
-        if self.least_ahead(facts, t, t).is_some() {
-            least = lesser(least, self.least_into(facts, t, t));
+        let t = self.t;
+        let mut least = self.least_before();
+        if self.least_ahead(t).is_some() {
+            least = lesser(least, self.least_into(t));
         }
-        if self.edge_out(facts, t, t).is_some() {
-            least = lesser(least, self.least_behind(facts, t, t));
+        if self.edge_out(t).is_some() {
+            least = lesser(least, self.least_behind(t));
         }
-        if self.least_middle(facts, t, t).is_some() {
+        if self.least_middle(t).is_some() {
             least = lesser(least, Some(t));
         }
         least
     }
 
     // The least one with an edge into a batch that an edge leads from to t.
-    fn least_before(&self, facts: &Facts, t: Txn) -> Option<Txn>
-        requires stands { SnapshotStand self.now.node.0 self.now.batches self.now.readers self.now.writers (setup_of facts.now) (events_of facts.now) }
-        requires tree { IsSound (setup_of facts.now) }
-        requires lawful { Lawful (setup_of facts.now) (events_of facts.now) }
-        requires here { IsHere facts.now self.now.node.0 t.0 }
-        requires unfinished { IsTrue (unfinished (events_of facts.now) t.0) }
-        ensures { IsLeast (ComesIn (setup_of facts.now) (events_of facts.now) self.now.node.0 t.0) result }
+    fn least_before(&self) -> Option<Txn>
+        ensures { IsLeast (at self.now ComesIn) result }
     {
         let mut least = None;
-        for event in facts.history.own_events(t) {
+        for event in self.asked.facts.history.own_events(self.t) {
             if let Event::Put { cell, .. } = event {
-                least = lesser(least, self.least_before_by(facts, t, cell));
+                least = lesser(least, self.least_before_by(cell));
             }
         }
         least
     }
 
     // The same by an edge to t of a reader of one cell that t has put.
-    fn least_before_by(&self, facts: &Facts, t: Txn, cell: Cell) -> Option<Txn>
-        requires stands { SnapshotStand self.now.node.0 self.now.batches self.now.readers self.now.writers (setup_of facts.now) (events_of facts.now) }
-        requires tree { IsSound (setup_of facts.now) }
-        requires lawful { Lawful (setup_of facts.now) (events_of facts.now) }
-        requires here { IsHere facts.now self.now.node.0 t.0 }
-        requires unfinished { IsTrue (unfinished (events_of facts.now) t.0) }
-        ensures { IsLeast (ComesInBy (setup_of facts.now) (events_of facts.now) self.now.node.0 t.0 cell) result }
+    fn least_before_by(&self, cell: Cell) -> Option<Txn>
+        ensures { IsLeast (at self.now ComesInBy cell) result }
     {
+        let t = self.t;
         let mut least = None;
-        for c in from_number(self.readers(facts, cell), self.batches.horizon(t)) {
-            if is_at_stake(facts.history, t, *c) && self.are_across(facts, t, *c) {
-                least = lesser(least, self.least_into(facts, t, *c));
+        for c in from_number(
+            self.asked.readers(cell),
+            self.asked.register.batches.horizon(t),
+        ) {
+            if is_at_stake(self.asked.facts.history, t, *c) && self.are_across(t, *c) {
+                least = lesser(least, self.least_into(*c));
             }
         }
         least
     }
 
     // The least one to whom a, which is at stake, has an edge, and whose batch an edge leaves.
-    fn least_middle(&self, facts: &Facts, t: Txn, a: Txn) -> Option<Txn>
-        requires stands { SnapshotStand self.now.node.0 self.now.batches self.now.readers self.now.writers (setup_of facts.now) (events_of facts.now) }
-        requires tree { IsSound (setup_of facts.now) }
-        requires lawful { Lawful (setup_of facts.now) (events_of facts.now) }
-        requires runs { IsFalse (aborted (events_of facts.now) t.0) }
-        requires here { IsHere facts.now self.now.node.0 a.0 }
-        requires stake { IsTrue (is_at_stake (events_of facts.now) t.0 a.0) }
-        ensures { IsLeast (IsMiddle (setup_of facts.now) (events_of facts.now) self.now.node.0 t.0 a.0) result }
+    fn least_middle(&self, a: Txn) -> Option<Txn>
+        requires here { IsAt self.now.asked a.0 }
+        requires stake { IsAtStake self.now a.0 }
+        ensures { IsLeast (at self.now IsMiddle a.0) result }
     {
         let mut least = None;
-        for event in facts.history.own_events(a) {
+        for event in self.asked.facts.history.own_events(a) {
             if let Event::Got { cell, .. } = event {
                 least = lesser(
                     least,
-                    self.middle_by(facts, t, a, self.committed(facts, cell)),
+                    self.middle_by(a, self.asked.register.committed(self.asked.facts, cell)),
                 );
-                least = lesser(
-                    least,
-                    self.middle_by(facts, t, a, self.unfinished(facts, cell)),
-                );
+                least = lesser(least, self.middle_by(a, self.asked.unfinished(cell)));
             }
         }
         least
     }
 
     // The first of some at stake that are across from a, and whose batch an edge leaves.
-    fn middle_by(&self, facts: &Facts, t: Txn, a: Txn, among: &[Txn]) -> Option<Txn>
-        requires stands { SnapshotStand self.now.node.0 self.now.batches self.now.readers self.now.writers (setup_of facts.now) (events_of facts.now) }
-        requires tree { IsSound (setup_of facts.now) }
-        requires lawful { Lawful (setup_of facts.now) (events_of facts.now) }
-        requires runs { IsFalse (aborted (events_of facts.now) t.0) }
-        requires here { IsHere facts.now self.now.node.0 a.0 }
+    fn middle_by(&self, a: Txn, among: &[Txn]) -> Option<Txn>
+        requires here { IsAt self.now.asked a.0 }
         requires ascending { IsAscendingBy number_of among.now }
-        requires among_here { AreHere facts.now self.now.node.0 among.now }
-        ensures { IsLeast (IsMiddleAmong (setup_of facts.now) (events_of facts.now) self.now.node.0 t.0 a.0 among.now) result }
+        requires among_here { AreAt self.now among.now }
+        ensures { IsLeast (at self.now IsMiddleAmong a.0 among.now) result }
     {
-        for b in from_number(among, self.batches.horizon(a)) {
-            if is_at_stake(facts.history, t, *b)
-                && self.are_across(facts, a, *b)
-                && self.edge_out(facts, t, *b).is_some()
+        for b in from_number(among, self.asked.register.batches.horizon(a)) {
+            if is_at_stake(self.asked.facts.history, self.t, *b)
+                && self.are_across(a, *b)
+                && self.edge_out(*b).is_some()
             {
                 return Some(*b);
             }

@@ -1,10 +1,6 @@
-use Rattle.std.proofs.Common.{◌∙◌, ap}
-use Rattle.teb_rules.specs.Setup.{NodeRow}
 use Rattle.phase_api.specs.Told.{setup_of, events_of}
-use Rattle.snapshot_node.proofs.Begins.{stands_none}
+use Rattle.snapshot_node.proofs.Marked.{marked_none}
 use Rattle.snapshot_node.proofs.snapshot.Snapshot.new.Goals as goal
 
 pub returns-clause-stands : goal.returns-clause-stands
-returns-clause-stands c =
-    let S = setup_of c.args.facts.now in
-    stands_none S (events_of c.args.facts.now) c.args.node.0 _ _ _ c.requires.empty c.requires.kind (c.new.ensures.size ∙ ap (λ (r : NodeRow). r.batch) c.row.ensures) (c.new.ensures.batches S c.args.node.0) c.new-2.ensures.entries c.new-3.ensures.entries
+returns-clause-stands c = record { register = c.in_ok-new.ensures.stands; marked = marked_none (setup_of c.args.facts.now) (events_of c.args.facts.now) c.in_ok-new.field-0.node.0 c.new-2.result.items c.requires.empty }

@@ -3,4 +3,4 @@ use Rattle.snapshot_node.proofs.Said.{snapshot_read}
 use Rattle.snapshot_node.proofs.snapshot.SnapshotControl.before_read.Goals as goal
 
 pub returns : goal.returns
-returns c = snapshot_read (setup_of c.args._facts.now) (events_of c.args._facts.now) c.args.self.now.node.0 c.args._t.0 c.args._cell c.requires.stands.kind
+returns c = snapshot_read (setup_of c.args._facts.now) (events_of c.args._facts.now) c.args.self.now.register.node.0 c.args._t.0 c.args._cell c.requires.stands.register.kind

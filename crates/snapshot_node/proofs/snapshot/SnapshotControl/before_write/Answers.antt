@@ -4,7 +4,7 @@ use Rattle.snapshot_node.proofs.Said.{snapshot_first, snapshot_write}
 use Rattle.snapshot_node.proofs.snapshot.SnapshotControl.before_write.Goals as goal
 
 pub returns-in-Some : goal.returns-in-Some
-returns-in-Some g c = snapshot_first (setup_of c.args.facts.now) (events_of c.args.facts.now) c.args.self.now.node.0 c.args.t.0 c.args.cell c.in-Some.writer c.requires.stands.kind (sym c.in-Some.is ∙ c.first_writer.ensures)
+returns-in-Some g c = snapshot_first (setup_of c.args.facts.now) (events_of c.args.facts.now) c.args.self.now.register.node.0 c.args.t.0 c.args.cell c.in-Some.writer c.requires.stands.register.kind (sym c.in-Some.is ∙ c.first_writer.ensures)
 
 pub returns-in-None : goal.returns-in-None
-returns-in-None g c = c.wait_for.ensures ∙ snapshot_write (setup_of c.args.facts.now) (events_of c.args.facts.now) c.args.self.now.node.0 c.args.t.0 c.args.cell _ c.requires.stands.kind (sym c.in-None.is ∙ c.first_writer.ensures) c.blocker.ensures
+returns-in-None g c = c.wait_for.ensures ∙ snapshot_write (setup_of c.args.facts.now) (events_of c.args.facts.now) c.args.self.now.register.node.0 c.args.t.0 c.args.cell _ c.requires.stands.register.kind (sym c.in-None.is ∙ c.first_writer.ensures) c.blocker.ensures

@@ -1,19 +1,16 @@
-use Rattle.std.proofs.Common.{◌≡◌, ◌∙◌, ◌∷◌, ◌-◌, ◌&&◌, ◌||◌, ℕ, List, Bool, true, false, not, eqb, sym, ap, subst, arith, drop, length, inl, inr}
-use Rattle.teb_names.specs.declared.Cell.{Cell}
-use Rattle.teb_names.specs.Cells.{same_cell}
+use Rattle.std.proofs.Common.{◌≡◌, ◌∙◌, ◌∷◌, ◌++◌, [], ℕ, List, Some, true, sym, ap, subst, drop, take, length, arith}
+use Rattle.std.proofs.Math.Seq.{take-append_seam}
+use Rattle.teb_names.specs.declared.Node.{Node}
+use Rattle.teb_names.specs.declared.Txn.{Txn}
 use Rattle.teb_history.specs.declared.Event.{Event}
-use Rattle.teb_history.specs.declared.Event.TheVariants.{Began, Got, Put, Done, Gone}
 use Rattle.teb_history.specs.Phases.{begun}
-use Rattle.teb_history.specs.Accesses.{wrote, got}
-use Rattle.teb_rules.specs.Tree.{on, side}
+use Rattle.hold_register.proofs.Noting.{typed_now}
 use Rattle.phase_api.specs.Told.{setup_of, events_of}
-use Rattle.phase_api.specs.Calls.{MayNote}
-use Rattle.hold_register.proofs.Noting.{orderly_now, accessor_begun, writer_begun, typed_now}
-use Rattle.snapshot_node.specs.Readers.{reads_in_pile}
-use Rattle.snapshot_node.specs.Slots.{writes_in}
-use Rattle.snapshot_node.specs.Standing.{SnapshotStand}
-use Rattle.snapshot_node.proofs.Leaving.{on_slot, off_put}
-use Rattle.snapshot_node.proofs.Noting.{newest_place, began_begun, began_new, noted_began, noted_began_off, noted_put, noted_put_off, noted_done, noted_gone, noted_got, noted_got_off, noted_ready, noted_told}
+use Rattle.teb_laws.specs.Pivots.{IsSettled}
+use Rattle.snapshot_node.specs.declared.marks.Mark.{Mark}
+use Rattle.snapshot_node.specs.Marks.{no_mark, HaveGrown, MarkedStand}
+use Rattle.snapshot_node.proofs.Grown.{grown_none}
+use Rattle.snapshot_node.proofs.Marked.{validated_begun, marked_noted, settled_stands, stake_settled, tells_off, TellsOf}
 use Rattle.snapshot_node.proofs.snapshot.SnapshotControl.note.Goals as goal
 
 pub is_on-requires : goal.is_on-requires
@@ -21,200 +18,71 @@ is_on-requires c =
     let f = c.args.facts.now in
     let S = setup_of f in
     let H = events_of f in
-    let t = c.in-Began.txn in
-    let h : H ≡ Began t c.in-Began.session c.in-Began.kind c.in-Began.instance ∷ drop 1 H = c.requires.newest.is ∙ ap (λ (d : Event). d ∷ drop 1 H) c.in-Began.is in
-    typed_now f t.0 (orderly_now S H _ c.args.e c.requires.newest.is c.requires.newest.may c.requires.stands.orderly) (ap (λ (G : List Event). begun G t.0) h ∙ began_begun (drop 1 H) t c.in-Began.session c.in-Began.kind c.in-Began.instance)
+    typed_now f c.in-Some.t.0 c.note.ensures.stands.orderly (ap (λ (G : List Event). begun G c.in-Some.t.0) c.requires.newest.is ∙ validated_begun S (drop 1 H) c.args.self.now.register.node.0 c.args.e c.in-Some.t c.requires.newest.may (sym c.in-Some.ensures))
 
-pub side-requires-clause-typed : goal.side-requires-clause-typed
-side-requires-clause-typed c =
+pub mark_edges-requires-clause-here : goal.mark_edges-requires-clause-here
+mark_edges-requires-clause-here c =
     let f = c.args.facts.now in
     let S = setup_of f in
     let H = events_of f in
-    let t = c.in-Began.txn in
-    let h : H ≡ Began t c.in-Began.session c.in-Began.kind c.in-Began.instance ∷ drop 1 H = c.requires.newest.is ∙ ap (λ (d : Event). d ∷ drop 1 H) c.in-Began.is in
-    typed_now f t.0 (orderly_now S H _ c.args.e c.requires.newest.is c.requires.newest.may c.requires.stands.orderly) (ap (λ (G : List Event). begun G t.0) h ∙ began_begun (drop 1 H) t c.in-Began.session c.in-Began.kind c.in-Began.instance)
-
-pub join-requires-clause-new : goal.join-requires-clause-new
-join-requires-clause-new c =
-    let S = setup_of c.args.facts.now in
-    let P = drop 1 (events_of c.args.facts.now) in
-    let n = c.args.self.now.node.0 in
-    began_new S P n c.args.self.now.batches c.args.self.now.readers c.args.self.now.writers c.requires.stands c.in-Began.txn c.in-Began.session c.in-Began.kind c.in-Began.instance (subst (λ (d : Event). MayNote S P n d) c.in-Began.is c.requires.newest.may)
-
-pub is_on-requires-in-Got : goal.is_on-requires-in-Got
-is_on-requires-in-Got c =
-    let f = c.args.facts.now in
-    let S = setup_of f in
-    let H = events_of f in
-    typed_now f c.in-Got.txn.0 (orderly_now S H _ c.args.e c.requires.newest.is c.requires.newest.may c.requires.stands.orderly)
-    (accessor_begun S H _ c.args.e c.requires.newest.is c.requires.newest.may c.in-Got.txn c.in-Got.cell (c.in-Got.from, c.in-Got.value, c.in-Got.is))
-
-pub is_on-requires-in-Put : goal.is_on-requires-in-Put
-is_on-requires-in-Put c =
-    let f = c.args.facts.now in
-    let S = setup_of f in
-    let H = events_of f in
-    typed_now f c.in-Put.txn.0 (orderly_now S H _ c.args.e c.requires.newest.is c.requires.newest.may c.requires.stands.orderly)
-    (writer_begun S H _ c.args.e c.requires.newest.is c.requires.newest.may c.in-Put.txn c.in-Put.cell (c.in-Put.value, c.in-Put.is))
+    record {
+      typed = typed_now f c.in-Some.t.0 c.note.ensures.stands.orderly (ap (λ (G : List Event). begun G c.in-Some.t.0) c.requires.newest.is ∙ validated_begun S (drop 1 H) c.args.self.now.register.node.0 c.args.e c.in-Some.t c.requires.newest.may (sym c.in-Some.ensures));
+      on = sym c.is_on.ensures ∙ c.if-is_on.true;
+    }
 
 pub returns-then-is_on-clause-stands : goal.returns-then-is_on-clause-stands
 returns-then-is_on-clause-stands c =
-    let S = setup_of c.args.facts.now in
-    let H = events_of c.args.facts.now in
-    let P = drop 1 H in
-    let n = c.args.self.now.node.0 in
-    let t = c.in-Began.txn in
-    let b = c.args.self.now.batches in
-    let r = c.args.self.now.readers in
-    let p = c.args.self.now.writers in
-    let b' = c.join.new.self in
-    let d = c.side.result in
-    let h : H ≡ Began t c.in-Began.session c.in-Began.kind c.in-Began.instance ∷ P = c.requires.newest.is ∙ ap (λ (d : Event). d ∷ P) c.in-Began.is in
-    let m = subst (λ (d : Event). MayNote S P n d) c.in-Began.is c.requires.newest.may in
-    let z = newest_place H c.args.e c.requires.newest.is in
-    let l : c.len-at.result - 1 ≡ length P = omega (arith, c.len-at.ensures, z) in
-    subst (λ (G : List Event). on S G n t.0 ≡ true → d ≡ side S G n t.0 → SnapshotStand n b' r p S G) (sym h)
-    (λ o q. noted_began S P n b r p c.requires.stands t c.in-Began.session c.in-Began.kind c.in-Began.instance m b' d (c.len-at.result - 1) o q l c.join.ensures.size c.join.ensures.batches)
-    (sym c.is_on.ensures ∙ c.if-is_on.true) c.side.ensures
+    let f = c.args.facts.now in
+    let S = setup_of f in
+    let H = events_of f in
+    let m = c.note.new.self.node.0 in
+    let old = c.args.self.now.marks.items in
+    let pushed = c.push.new.self.items in
+    let same : m ≡ c.args.self.now.register.node.0 = ap (λ (k : Node). k.0) c.note.ensures.node in
+    let push : pushed ≡ old ++ no_mark ∷ [] = rw (c.push.ensures.succeeds (omega arith)) at c.push.ensures.items in
+    let ms = c.mark_edges.new.marks in
+    let grown = subst (λ (xs : List Mark). HaveGrown xs ms) c.deref_mut.ensures.value c.mark_edges.ensures.grown in
+    let long : c.push.new.self.len ≡ length ms = sym (c.mark_edges.ensures.grown.long ∙ c.deref_mut.ensures.len) in
+    let whole = ap (λ (l : ℕ). take l (ms ++ drop (length ms) pushed)) long ∙ take-append_seam ms (drop (length ms) pushed) in
+    subst (λ (xs : List Mark). MarkedStand m c.note.new.self.batches c.note.new.self.readers c.note.new.self.writers xs S H) (sym whole) (record {
+      register = c.note.ensures.stands;
+      marked = marked_noted S H c.args.e (drop 1 H) c.requires.newest.is m c.args.self.now.register.node.0 same old pushed ms no_mark push grown c.requires.stands.marked
+          (λ t q l u a b. let z : Some c.in-Some.t ≡ Some t = sym (sym c.validated.ensures ∙ c.in-Some.is) ∙ q in
+          let is : c.in-Some.t ≡ t = cc in
+          let st = stake_settled H c.in-Some.t.0 u b in
+          subst (λ (s : Txn). TellsOf S H m ms s.0 u) is ((λ p. c.mark_edges.ensures.ahead (record { lawful = l; runs = settled_stands S H c.in-Some.t.0 l (subst (λ (s : Txn). IsSettled H s.0) (sym is) a) }) u st p), (λ p. c.mark_edges.ensures.behind (record { lawful = l; runs = settled_stands S H c.in-Some.t.0 l (subst (λ (s : Txn). IsSettled H s.0) (sym is) a) }) u st p)));
+    })
 
 pub returns-else-is_on-clause-stands : goal.returns-else-is_on-clause-stands
 returns-else-is_on-clause-stands c =
-    let S = setup_of c.args.facts.now in
-    let H = events_of c.args.facts.now in
-    let P = drop 1 H in
-    let n = c.args.self.now.node.0 in
-    let t = c.in-Began.txn in
-    let b = c.args.self.now.batches in
-    let r = c.args.self.now.readers in
-    let p = c.args.self.now.writers in
-    let h : H ≡ Began t c.in-Began.session c.in-Began.kind c.in-Began.instance ∷ P = c.requires.newest.is ∙ ap (λ (d : Event). d ∷ P) c.in-Began.is in
-    let m = subst (λ (d : Event). MayNote S P n d) c.in-Began.is c.requires.newest.may in
-    subst (λ (G : List Event). on S G n t.0 ≡ false → SnapshotStand n b r p S G) (sym h)
-    (λ o. noted_began_off S P n b r p c.requires.stands t c.in-Began.session c.in-Began.kind c.in-Began.instance m o)
-    (sym c.is_on.ensures ∙ c.if-is_on.false)
+    let f = c.args.facts.now in
+    let S = setup_of f in
+    let H = events_of f in
+    let m = c.note.new.self.node.0 in
+    let old = c.args.self.now.marks.items in
+    let pushed = c.push.new.self.items in
+    let same : m ≡ c.args.self.now.register.node.0 = ap (λ (k : Node). k.0) c.note.ensures.node in
+    let push : pushed ≡ old ++ no_mark ∷ [] = rw (c.push.ensures.succeeds (omega arith)) at c.push.ensures.items in
+    record {
+      register = c.note.ensures.stands;
+      marked = marked_noted S H c.args.e (drop 1 H) c.requires.newest.is m c.args.self.now.register.node.0 same old pushed pushed no_mark push (grown_none pushed) c.requires.stands.marked
+          (λ t q l u a b. let z : Some c.in-Some.t ≡ Some t = sym (sym c.validated.ensures ∙ c.in-Some.is) ∙ q in
+          let is : c.in-Some.t ≡ t = cc in
+          subst (λ (s : Txn). TellsOf S H m pushed s.0 u) is (tells_off S H m pushed c.in-Some.t.0 u (sym c.is_on.ensures ∙ c.if-is_on.false)));
+    }
 
-pub returns-then-is_on-2-clause-stands : goal.returns-then-is_on-2-clause-stands
-returns-then-is_on-2-clause-stands c =
-    let S = setup_of c.args.facts.now in
-    let H = events_of c.args.facts.now in
-    let P = drop 1 H in
-    let n = c.args.self.now.node.0 in
-    let t = c.in-Got.txn in
-    let b = c.args.self.now.batches in
-    let r = c.args.self.now.readers in
-    let p = c.args.self.now.writers in
-    let k = c.put_reader.new.readers in
-    let h : H ≡ Got t c.in-Got.cell c.in-Got.from c.in-Got.value ∷ P = c.requires.newest.is ∙ ap (λ (d : Event). d ∷ P) c.in-Got.is in
-    let m = subst (λ (d : Event). MayNote S P n d) c.in-Got.is c.requires.newest.may in
-    subst (λ (G : List Event). on S G n t.0 ≡ true → SnapshotStand n b k p S G) (sym h)
-    (λ o. noted_got S P n b r p c.requires.stands t c.in-Got.cell c.in-Got.from c.in-Got.value m k o c.put_reader.ensures.filed c.put_reader.ensures.readers)
-    (sym c.is_on-in-Got.ensures ∙ c.if-is_on-2.true)
-
-pub returns-else-is_on-2-clause-stands : goal.returns-else-is_on-2-clause-stands
-returns-else-is_on-2-clause-stands c =
-    let S = setup_of c.args.facts.now in
-    let H = events_of c.args.facts.now in
-    let P = drop 1 H in
-    let n = c.args.self.now.node.0 in
-    let t = c.in-Got.txn in
-    let b = c.args.self.now.batches in
-    let r = c.args.self.now.readers in
-    let p = c.args.self.now.writers in
-    let h : H ≡ Got t c.in-Got.cell c.in-Got.from c.in-Got.value ∷ P = c.requires.newest.is ∙ ap (λ (d : Event). d ∷ P) c.in-Got.is in
-    let m = subst (λ (d : Event). MayNote S P n d) c.in-Got.is c.requires.newest.may in
-    subst (λ (G : List Event). on S G n t.0 ≡ false → SnapshotStand n b r p S G) (sym h)
-    (λ o. noted_got_off S P n b r p c.requires.stands t c.in-Got.cell c.in-Got.from c.in-Got.value m o)
-    (sym c.is_on-in-Got.ensures ∙ c.if-is_on-2.false)
-
-pub returns-then-is_on-3-clause-stands : goal.returns-then-is_on-3-clause-stands
-returns-then-is_on-3-clause-stands c =
-    let S = setup_of c.args.facts.now in
-    let H = events_of c.args.facts.now in
-    let P = drop 1 H in
-    let n = c.args.self.now.node.0 in
-    let t = c.in-Put.txn in
-    let y = c.in-Put.cell in
-    let b = c.args.self.now.batches in
-    let r = c.args.self.now.readers in
-    let p = c.args.self.now.writers in
-    let q = c.put_in.new.writers in
-    let h : H ≡ Put t y c.in-Put.value ∷ P = c.requires.newest.is ∙ ap (λ (d : Event). d ∷ P) c.in-Put.is in
-    let m = subst (λ (d : Event). MayNote S P n d) c.in-Put.is c.requires.newest.may in
-    subst (λ (G : List Event). on S G n t.0 ≡ true → SnapshotStand n b r q S G) (sym h)
-    (λ o. noted_put S P n b r p c.requires.stands t y c.in-Put.value m q o c.put_in.ensures.filed
-    (λ x u. c.put_in.ensures.writers (record { cell = x; committed = false }) u ∙ ap (λ (s : Bool). writes_in p x false u || (s && eqb t.0 u)) (on_slot (same_cell y x)))
-    (λ x u. c.put_in.ensures.writers (record { cell = x; committed = true }) u ∙ off_put (writes_in p x true u) (same_cell y x) (eqb t.0 u)))
-    (sym c.is_on-in-Put.ensures ∙ c.if-is_on-3.true)
-
-pub returns-else-is_on-3-clause-stands : goal.returns-else-is_on-3-clause-stands
-returns-else-is_on-3-clause-stands c =
-    let S = setup_of c.args.facts.now in
-    let H = events_of c.args.facts.now in
-    let P = drop 1 H in
-    let n = c.args.self.now.node.0 in
-    let t = c.in-Put.txn in
-    let b = c.args.self.now.batches in
-    let r = c.args.self.now.readers in
-    let p = c.args.self.now.writers in
-    let h : H ≡ Put t c.in-Put.cell c.in-Put.value ∷ P = c.requires.newest.is ∙ ap (λ (d : Event). d ∷ P) c.in-Put.is in
-    let m = subst (λ (d : Event). MayNote S P n d) c.in-Put.is c.requires.newest.may in
-    subst (λ (G : List Event). on S G n t.0 ≡ false → SnapshotStand n b r p S G) (sym h)
-    (λ o. noted_put_off S P n b r p c.requires.stands t c.in-Put.cell c.in-Put.value m o)
-    (sym c.is_on-in-Put.ensures ∙ c.if-is_on-3.false)
-
-pub returns-in-Done-clause-stands : goal.returns-in-Done-clause-stands
-returns-in-Done-clause-stands c =
-    let S = setup_of c.args.facts.now in
-    let H = events_of c.args.facts.now in
-    let P = drop 1 H in
-    let n = c.args.self.now.node.0 in
-    let t = c.in-Done.txn in
-    let b = c.args.self.now.batches in
-    let r = c.args.self.now.readers in
-    let p = c.args.self.now.writers in
-    let b' = c.finish.new.self in
-    let q = c.commit.new.writers in
-    let h : H ≡ Done t ∷ P = c.requires.newest.is ∙ ap (λ (d : Event). d ∷ P) c.in-Done.is in
-    let m = subst (λ (d : Event). MayNote S P n d) c.in-Done.is c.requires.newest.may in
-    let z = newest_place H c.args.e c.requires.newest.is in
-    let l : c.len-at.result - 1 ≡ length P = omega (arith, c.len-at.ensures, z) in
-    subst (λ (G : List Event). ((x : Cell) (u : ℕ) → writes_in q x false u ≡ (writes_in p x false u && not (wrote G t.0 x && eqb t.0 u))) → ((x : Cell) (u : ℕ) → writes_in q x true u ≡ (writes_in p x true u || (wrote G t.0 x && eqb t.0 u && writes_in p x false t.0))) → SnapshotStand n b' r q S G) (sym h)
-    (λ run done. noted_done S P n b r p c.requires.stands t b' q (c.len-at.result - 1) l c.finish.ensures.size c.commit.ensures.filed c.finish.ensures.batches m run done)
-    c.commit.ensures.unfinished c.commit.ensures.committed
-
-pub returns-in-Gone-clause-stands : goal.returns-in-Gone-clause-stands
-returns-in-Gone-clause-stands c =
-    let S = setup_of c.args.facts.now in
-    let H = events_of c.args.facts.now in
-    let P = drop 1 H in
-    let n = c.args.self.now.node.0 in
-    let t = c.in-Gone.txn in
-    let b = c.args.self.now.batches in
-    let r = c.args.self.now.readers in
-    let p = c.args.self.now.writers in
-    let b' = c.finish-in-Gone.new.self in
-    let k = c.forget_reads.new.readers in
-    let q = c.abort.new.writers in
-    let z = newest_place H c.args.e c.requires.newest.is in
-    let l : c.len-at.result - 1 ≡ length P = omega (arith, c.len-at.ensures, z) in
-    let h : H ≡ Gone t c.in-Gone.cause ∷ P = c.requires.newest.is ∙ ap (λ (d : Event). d ∷ P) c.in-Gone.is in
-    let m = subst (λ (d : Event). MayNote S P n d) c.in-Gone.is c.requires.newest.may in
-    subst (λ (G : List Event). ((x : Cell) (u : ℕ) → reads_in_pile k x u ≡ (reads_in_pile r x u && not (got G t.0 x && eqb t.0 u))) → ((x : Cell) (u : ℕ) → writes_in q x false u ≡ (writes_in p x false u && not (wrote G t.0 x && eqb t.0 u))) → SnapshotStand n b' k q S G) (sym h)
-    (λ g run. noted_gone S P n b r p c.requires.stands t b' q (c.len-at.result - 1) l c.finish-in-Gone.ensures.size c.abort.ensures.filed c.finish-in-Gone.ensures.batches c.in-Gone.cause k m c.forget_reads.ensures.filed g run c.abort.ensures.committed)
-    c.forget_reads.ensures.readers c.abort.ensures.unfinished
-
-pub returns-in-Ready-clause-stands : goal.returns-in-Ready-clause-stands
-returns-in-Ready-clause-stands c =
-    let S = setup_of c.args.facts.now in
-    let H = events_of c.args.facts.now in
-    let P = drop 1 H in
-    let n = c.args.self.now.node.0 in
-    let b = c.args.self.now.batches in
-    let r = c.args.self.now.readers in
-    let p = c.args.self.now.writers in
-    let now = λ (d : Event) (q : c.args.e ≡ d) (k : SnapshotStand n b r p S (d ∷ P)). subst (λ (G : List Event). SnapshotStand n b r p S G) (sym (c.requires.newest.is ∙ ap (λ (d : Event). d ∷ P) q)) k in
-    let may = λ (d : Event) (q : c.args.e ≡ d). subst (λ (d : Event). MayNote S P n d) q c.requires.newest.may in
-    elim c.in-Ready.is [
-      | inl q ↦ now _ q.1 (noted_ready S P n b r p c.requires.stands q.0 (may _ q.1))
-      | inr q ↦ now _ q.1 (noted_told S P n b r p c.requires.stands q.0 (may _ q.1))
-    ]
+pub returns-in_default-clause-stands : goal.returns-in_default-clause-stands
+returns-in_default-clause-stands c =
+    let f = c.args.facts.now in
+    let S = setup_of f in
+    let H = events_of f in
+    let m = c.note.new.self.node.0 in
+    let old = c.args.self.now.marks.items in
+    let pushed = c.push.new.self.items in
+    let same : m ≡ c.args.self.now.register.node.0 = ap (λ (k : Node). k.0) c.note.ensures.node in
+    let push : pushed ≡ old ++ no_mark ∷ [] = rw (c.push.ensures.succeeds (omega arith)) at c.push.ensures.items in
+    record {
+      register = c.note.ensures.stands;
+      marked = marked_noted S H c.args.e (drop 1 H) c.requires.newest.is m c.args.self.now.register.node.0 same old pushed pushed no_mark push (grown_none pushed) c.requires.stands.marked
+          (λ t q l u a b. absurd (c.in_default.not-Some t (c.validated.ensures ∙ q)));
+    }

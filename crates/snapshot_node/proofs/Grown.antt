@@ -1,0 +1,85 @@
+-- Marks that grow, and walks that make them.
+use Rattle.std.specs.Prelude.{IsTrue}
+use Rattle.std.proofs.Common.{◌≡◌, ℕ, zero, suc, ◌+◌, ◌<◌, ◌≤◌, true, false, ◌||◌, eqb, List, [], ◌∷◌, length, get_or, set, filter, leb, refl, sym, ◌∙◌, ap, subst, inl, inr, arith, eqb-true, ltb, ltb-true, le-ltb, ◌&&◌}
+use Rattle.std.proofs.Math.ListN.{length-set}
+use Rattle.std.proofs.lemmas.Bool.{cases_eq, cases_lt, or_cases, and_parts}
+use Rattle.std.proofs.lemmas.List.{get_or-set_other}
+use Rattle.std.proofs.lemmas.Grind.{get_or-set_at}
+use Rattle.teb_names.specs.declared.Txn.{Txn}
+use Rattle.teb_history.specs.declared.Event.{Event}
+use Rattle.teb_rules.specs.Setup.{Setup}
+use Rattle.teb_rules.specs.Tree.{meets}
+use Rattle.teb_rules.specs.Batches.{start, close, concurrent}
+use Rattle.snapshot_node.specs.declared.marks.Mark.{Mark}
+use Rattle.snapshot_node.specs.Slots.{is_among}
+use Rattle.snapshot_node.specs.Pivots.{is_across}
+use Rattle.snapshot_node.specs.Marks.{no_mark, is_entered, is_left, HaveGrown, IsTold}
+use Rattle.snapshot_node.proofs.FirstOf.{among_from}
+
+pub grown_none : (ms : List Mark) → HaveGrown ms ms
+grown_none ms = record { long = refl; entered = λ i h. h; left = λ i h. h }
+
+pub grown_then : (a b c : List Mark) → HaveGrown a b → HaveGrown b c → HaveGrown a c
+grown_then a b c h k = record { long = k.long ∙ h.long; entered = λ i x. k.entered i (h.entered i x); left = λ i x. k.left i (h.left i x) }
+
+pub grown_set : (ms : List Mark) (i : ℕ) (x : Mark) → i < length ms → (IsTrue (is_entered ms i) → IsTrue x.entered) → (IsTrue (is_left ms i) → IsTrue x.left) → HaveGrown ms (set ms i x)
+grown_set ms i x l e f = record {
+  long = length-set ms i x;
+  entered = λ j h. elim (cases_eq j i) [
+    | inl q ↦ subst (λ (m : Mark). IsTrue m.entered) (sym (get_or-set_at ms i j x no_mark q l)) (e (subst (λ (k : ℕ). IsTrue (is_entered ms k)) q h))
+    | inr n ↦ subst (λ (m : Mark). IsTrue m.entered) (sym (get_or-set_other ms i j x no_mark n)) h
+  ];
+  left = λ j h. elim (cases_eq j i) [
+    | inl q ↦ subst (λ (m : Mark). IsTrue m.left) (sym (get_or-set_at ms i j x no_mark q l)) (f (subst (λ (k : ℕ). IsTrue (is_left ms k)) q h))
+    | inr n ↦ subst (λ (m : Mark). IsTrue m.left) (sym (get_or-set_other ms i j x no_mark n)) h
+  ];
+}
+
+pub told_still : (S : Setup) (H : List Event) (n : ℕ) (a b : List Mark) (u w : ℕ) → HaveGrown a b → IsTold S H n a u w → IsTold S H n b u w
+told_still S H n a b u w g t = record { left = g.left _ t.left; entered = g.entered _ t.entered }
+
+-- where one of some transactions stands
+place_among : (d : Txn) (xs : List Txn) (u : ℕ) → is_among u xs ≡ true → (j : ℕ) × (j < length xs) × ((get_or xs j d).0 ≡ u)
+place_among d [] u h = absurd (cc)
+place_among d (x ∷ xs) u h = elim (or_cases (eqb x.0 u) (is_among u xs) h) [
+  | inl e ↦ (zero, (let z : zero < suc (length xs) = omega arith in z), eqb-true x.0 u e)
+  | inr k ↦ (let r = place_among d xs u k in let z = r.1 in (suc r.0, (let y : suc r.0 < suc (length xs) = omega arith in y), r.2))
+]
+
+-- R holds of those with P before place i of a list
+module _ (P R : ℕ → Type 0) (d : Txn) (xs : List Txn) where
+  abbrev pub EachBefore : ℕ → Type 0
+  EachBefore i = (j : ℕ) → j < i → P (get_or xs j d).0 → R (get_or xs j d).0
+
+  pub each_none : EachBefore 0
+  each_none j l p = absurd (omega arith)
+
+  pub each_more : (i : ℕ) → EachBefore i → (P (get_or xs i d).0 → R (get_or xs i d).0) → EachBefore (i + 1)
+  each_more i h f j l p = elim (cases_lt j i) [
+    | inl m ↦ h j m p
+    | inr m ↦ (let e : j ≡ i = omega arith in subst (λ (k : ℕ). P (get_or xs k d).0 → R (get_or xs k d).0) (sym e) f p)
+  ]
+
+  pub each_all : (i u : ℕ) → length xs ≤ i → EachBefore i → is_among u xs ≡ true → P u → R u
+  each_all i u l h a p =
+      let r = place_among d xs u a in
+      let z = r.1 in
+      subst R r.2 (h r.0 (omega arith) (subst P (sym r.2) p))
+
+-- what R holds of, as more becomes known
+pub each_grown : (P R Q : ℕ → Type 0) (d : Txn) (xs : List Txn) (i : ℕ) → ((u : ℕ) → R u → Q u) → EachBefore P R d xs i → EachBefore P Q d xs i
+each_grown P R Q d xs i f h = λ j l p. f (get_or xs j d).0 (h j l p)
+
+-- those listed are listed from the number m on
+pub each_from : (P R : ℕ → Type 0) (d : Txn) (xs ys : List Txn) (m i u : ℕ) → ys ≡ filter (λ w. leb m w.0) xs → length ys ≤ i → EachBefore P R d ys i → m ≤ u → is_among u xs ≡ true → P u → R u
+each_from P R d xs ys m i u e l h k a p = each_all P R d ys i u l h (ap (is_among u) e ∙ among_from m u xs k a) p
+
+-- where two are across from one another, the batch of neither is closed before the other's starts
+pub open_both : (S : Setup) (H : List Event) (n t u : ℕ) → is_across S H n t u ≡ true → (ltb (close S H n u) (start S H n t) ≡ false) × (ltb (close S H n t) (start S H n u) ≡ false)
+unfolding concurrent
+open_both S H n t u h =
+    let p = and_parts (meets S H n t u) (concurrent S H n t u) h in
+    let q = and_parts (ltb (start S H n t) (close S H n u)) (ltb (start S H n u) (close S H n t)) p.1 in
+    let x = ltb-true _ _ q.0 in
+    let y = ltb-true _ _ q.1 in
+    (le-ltb _ _ (let z : start S H n t ≤ close S H n u = omega arith in z), le-ltb _ _ (let z : start S H n u ≤ close S H n t = omega arith in z))

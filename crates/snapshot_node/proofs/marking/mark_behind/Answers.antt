@@ -1,0 +1,59 @@
+use Rattle.std.specs.Prelude.{IsTrue}
+use Rattle.std.proofs.Common.{◌≡◌, ◌∙◌, ◌+◌, ◌<◌, ℕ, List, length, get_or, sym, ap, subst, arith}
+use Rattle.std.proofs.lemmas.Bool.{both_ways}
+use Rattle.teb_names.specs.declared.Txn.{Txn}
+use Rattle.teb_rules.specs.Batches.{start}
+use Rattle.phase_api.specs.Told.{setup_of, events_of}
+use Rattle.phase_api.specs.Calls.{IsHere}
+use Rattle.batch_book.proofs.Telling.{joined_from}
+use Rattle.batch_book.proofs.Intervals.{start-lt}
+use Rattle.snapshot_node.specs.declared.marks.Mark.{Mark}
+use Rattle.snapshot_node.specs.Marks.{is_entered, is_left, HaveGrown, IsTold}
+use Rattle.snapshot_node.specs.Pivots.{IsAcross}
+use Rattle.snapshot_node.proofs.Edges.{across_later}
+use Rattle.snapshot_node.proofs.FirstOf.{each_among}
+use Rattle.snapshot_node.proofs.Grown.{EachBefore, each_more, each_grown, each_from, grown_then, told_still}
+use Rattle.snapshot_node.proofs.marking.mark_behind.Goals as goal
+
+pub horizon-requires : goal.horizon-requires
+horizon-requires c = joined_from _ (setup_of c.args.asked.now.facts.now) (events_of c.args.asked.now.facts.now) c.args.asked.now.register.now.node.0 c.args.t.0 c.args.asked.now.stands.batches c.requires.here.typed.begun c.requires.here.on
+
+pub may_be_across-requires-clause-right : goal.may_be_across-requires-clause-right
+may_be_across-requires-clause-right c = c.requires.among_here _ (each_among (record { 0 = 0 }) c.args.among.now c.from_number-u-items.result.now c.horizon.result.0 c.from_number-u-items.ensures c.loop-u.u-index c.loop-u-test.true)
+
+pub start-requires : goal.start-requires
+start-requires c = let h = c.requires.among_here _ (each_among (record { 0 = 0 }) c.args.among.now c.from_number-u-items.result.now c.horizon.result.0 c.from_number-u-items.ensures c.loop-u.u-index c.loop-u-test.true) in joined_from _ (setup_of c.args.asked.now.facts.now) (events_of c.args.asked.now.facts.now) c.args.asked.now.register.now.node.0 _ c.args.asked.now.stands.batches h.typed.begun h.on
+
+pub start-requires-then-may_be_across : goal.start-requires-then-may_be_across
+start-requires-then-may_be_across c = joined_from _ (setup_of c.args.asked.now.facts.now) (events_of c.args.asked.now.facts.now) c.args.asked.now.register.now.node.0 c.args.t.0 c.args.asked.now.stands.batches c.requires.here.typed.begun c.requires.here.on
+
+pub mark_edge-requires-clause-from : goal.mark_edge-requires-clause-from
+mark_edge-requires-clause-from c =
+    let S = setup_of c.args.asked.now.facts.now in
+    let H = events_of c.args.asked.now.facts.now in
+    let n = c.args.asked.now.register.now.node.0 in
+    let t = c.args.t.0 in
+    let e = c.start.ensures S H n c.args.asked.now.stands.batches in
+    let l = start-lt S H n _ (let h = c.requires.among_here _ (each_among (record { 0 = 0 }) c.args.among.now c.from_number-u-items.result.now c.horizon.result.0 c.from_number-u-items.ensures c.loop-u.u-index c.loop-u-test.true) in h.typed.begun) in
+    omega (arith, e, l, c.requires.long, c.loop-u.invariant.grown.long)
+
+pub mark_edge-requires-clause-to : goal.mark_edge-requires-clause-to
+mark_edge-requires-clause-to c =
+    let S = setup_of c.args.asked.now.facts.now in
+    let H = events_of c.args.asked.now.facts.now in
+    let n = c.args.asked.now.register.now.node.0 in
+    let t = c.args.t.0 in
+    let e = c.start-then-may_be_across.ensures S H n c.args.asked.now.stands.batches in
+    let l = start-lt S H n _ c.requires.here.typed.begun in
+    omega (arith, e, l, c.requires.long, c.loop-u.invariant.grown.long)
+
+pub returns-clause-told : goal.returns-clause-told
+returns-clause-told c u p =
+    let S = setup_of c.args.asked.now.facts.now in
+    let H = events_of c.args.asked.now.facts.now in
+    let n = c.args.asked.now.register.now.node.0 in
+    let t = c.args.t.0 in
+    let m = c.horizon.result.0 in
+    let ms = c.loop-u.marks in
+    each_from (IsAcross S H n t t c.args.among.now) (λ (u : ℕ). IsTold S H n ms u t) (record { 0 = 0 }) c.args.among.now c.from_number-u-items.result.now m c.loop-u.u-index u c.from_number-u-items.ensures c.loop-u-test.false c.loop-u.invariant.told
+    (across_later S H n t m u (c.horizon.ensures.closed S H n c.args.asked.now.stands.batches) (c.requires.among_here u p.listed).typed.begun p.across) p.listed p

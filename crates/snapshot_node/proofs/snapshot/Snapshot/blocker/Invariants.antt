@@ -1,9 +1,0 @@
-use Rattle.std.proofs.Common.{◌≡◌, drop, find}
-use Rattle.phase_api.specs.Told.{setup_of, events_of}
-use Rattle.snapshot_node.proofs.Found.{is_met}
-use Rattle.snapshot_node.proofs.snapshot.Snapshot.blocker.Given as goal
-
-abbrev pub invariant-loop-u : goal.invariant-loop-u
-invariant-loop-u l =
-    let p = is_met (setup_of l.fn.facts) (events_of l.fn.facts) l.fn.self.node.0 l.fn.t.0 in
-    find p (drop l.u-index l.u-items) ≡ find p l.u-items

@@ -1,0 +1,53 @@
+use Rattle.std.proofs.Common.{◌∙◌, ◌∷◌, ap, sym, subst}
+use Rattle.teb_history.specs.declared.Event.{Event}
+use Rattle.teb_history.specs.declared.Event.TheVariants.{Got}
+use Rattle.teb_history.specs.OwnEvents.{own_events}
+use Rattle.teb_laws.proofs.Sound.{tree_facts}
+use Rattle.batch_book.proofs.Numbered.{unfinished_parts}
+use Rattle.phase_api.specs.Told.{setup_of, events_of}
+use Rattle.snapshot_node.specs.Pivots.{Leads}
+use Rattle.snapshot_node.proofs.Least.{Remains, remains_start, remains_next, remains_skip, remains_end}
+use Rattle.snapshot_node.proofs.CellEdges.{Ahead, ahead_leads, leads_ahead, only_gots}
+use Rattle.snapshot_node.proofs.validation.Validation.least_ahead.Goals as goal
+
+pub loop-event-init : goal.loop-event-init
+loop-event-init c =
+    let S = setup_of c.args.self.now.asked.facts.now in
+    let H = events_of c.args.self.now.asked.facts.now in
+    let n = c.args.self.now.asked.register.now.node.0 in
+    let t = c.args.self.now.t.0 in
+    let u = c.args.c.0 in
+    let a = tree_facts S c.args.self.now.tree in
+    remains_start (Ahead S H n t u) (Leads S H n t u) (own_events H u) c.into_iter-event-iterator.result (c.into_iter-event-iterator.ensures.into_iter_gives ∙ c.own_events-event-items.ensures)
+    (λ d h. ahead_leads S H n t c.args.self.now.lawful c.args.self.now.asked.stands.orderly (unfinished_parts (events_of c.args.self.now.asked.facts.now) c.args.self.now.t.0 c.args.self.now.unfinished).2 a c.args.self.now.asked.stands.kind u d c.requires.stake h)
+    (λ d h. leads_ahead S H n t c.args.self.now.lawful c.args.self.now.asked.stands.orderly (unfinished_parts (events_of c.args.self.now.asked.facts.now) c.args.self.now.t.0 c.args.self.now.unfinished).2 a c.args.self.now.asked.stands.kind u d h)
+
+pub loop-event-preserved-in-Got : goal.loop-event-preserved-in-Got
+loop-event-preserved-in-Got c =
+    let S = setup_of c.args.self.now.asked.facts.now in
+    let H = events_of c.args.self.now.asked.facts.now in
+    let n = c.args.self.now.asked.register.now.node.0 in
+    let t = c.args.self.now.t.0 in
+    let u = c.args.c.0 in
+    let e : Event = Got c.in-Got.txn c.in-Got.cell c.in-Got.from c.in-Got.value in
+    subst (Remains (Ahead S H n t u) (Leads S H n t u) c.next.new.self) (sym c.lesser-least.ensures)
+    (remains_next (Ahead S H n t u) (Leads S H n t u) e c.loop-event.event-iterator c.next.new.self c.loop-event.least _ (c.in-Some.ensures.steps ∙ ap (λ (z : Event). z ∷ c.next.new.self) c.in-Got.is) c.loop-event.invariant c.writer_across.ensures)
+
+pub loop-event-preserved : goal.loop-event-preserved
+loop-event-preserved c =
+    let S = setup_of c.args.self.now.asked.facts.now in
+    let H = events_of c.args.self.now.asked.facts.now in
+    let n = c.args.self.now.asked.register.now.node.0 in
+    let t = c.args.self.now.t.0 in
+    let u = c.args.c.0 in
+    remains_skip (Ahead S H n t u) (Leads S H n t u) c.in-Some.event c.loop-event.event-iterator c.next.new.self c.loop-event.least c.in-Some.ensures.steps c.loop-event.invariant
+    (only_gots S H n t u c.in-Some.event c.in_default.not-Got)
+
+pub returns : goal.returns
+returns c =
+    let S = setup_of c.args.self.now.asked.facts.now in
+    let H = events_of c.args.self.now.asked.facts.now in
+    let n = c.args.self.now.asked.register.now.node.0 in
+    let t = c.args.self.now.t.0 in
+    let u = c.args.c.0 in
+    remains_end (Ahead S H n t u) (Leads S H n t u) c.loop-event.event-iterator c.loop-event.least c.in-None.ensures.steps.0 c.loop-event.invariant

@@ -1,0 +1,50 @@
+use Rattle.std.proofs.Common.{◌∙◌, ◌∷◌, ap, sym, subst}
+use Rattle.teb_history.specs.declared.Event.{Event}
+use Rattle.teb_history.specs.declared.Event.TheVariants.{Put}
+use Rattle.teb_history.specs.OwnEvents.{own_events}
+use Rattle.teb_laws.proofs.Sound.{tree_facts}
+use Rattle.phase_api.specs.Told.{setup_of, events_of}
+use Rattle.batch_book.proofs.Numbered.{unfinished_parts}
+use Rattle.snapshot_node.specs.Pivots.{ComesIn}
+use Rattle.snapshot_node.proofs.Least.{Remains, remains_start, remains_next, remains_skip, remains_end}
+use Rattle.snapshot_node.proofs.Comers.{ComesBy, comes_by_puts, along_comes, comes_along}
+use Rattle.snapshot_node.proofs.validation.Validation.least_before.Goals as goal
+
+pub loop-event-init : goal.loop-event-init
+loop-event-init c =
+    let S = setup_of c.args.self.now.asked.facts.now in
+    let H = events_of c.args.self.now.asked.facts.now in
+    let n = c.args.self.now.asked.register.now.node.0 in
+    let t = c.args.self.now.t.0 in
+    let f = tree_facts S c.args.self.now.tree in
+    let runs = (unfinished_parts H t c.args.self.now.unfinished).2 in
+    remains_start (ComesBy S H n t) (ComesIn S H n t) (own_events H t) c.into_iter-event-iterator.result (c.into_iter-event-iterator.ensures.into_iter_gives ∙ c.own_events-event-items.ensures)
+    (along_comes S H n t c.args.self.now.lawful c.args.self.now.asked.stands.orderly runs f c.args.self.now.asked.stands.kind)
+    (comes_along S H n t c.args.self.now.lawful c.args.self.now.asked.stands.orderly runs f c.args.self.now.asked.stands.kind)
+
+pub loop-event-preserved-in-Put : goal.loop-event-preserved-in-Put
+loop-event-preserved-in-Put c =
+    let S = setup_of c.args.self.now.asked.facts.now in
+    let H = events_of c.args.self.now.asked.facts.now in
+    let n = c.args.self.now.asked.register.now.node.0 in
+    let t = c.args.self.now.t.0 in
+    let e : Event = Put c.in-Put.txn c.in-Put.cell c.in-Put.value in
+    subst (Remains (ComesBy S H n t) (ComesIn S H n t) c.next.new.self) (sym c.lesser-least.ensures)
+    (remains_next (ComesBy S H n t) (ComesIn S H n t) e c.loop-event.event-iterator c.next.new.self c.loop-event.least _ (c.in-Some.ensures.steps ∙ ap (λ (z : Event). z ∷ c.next.new.self) c.in-Put.is) c.loop-event.invariant c.least_before_by.ensures)
+
+pub loop-event-preserved : goal.loop-event-preserved
+loop-event-preserved c =
+    let S = setup_of c.args.self.now.asked.facts.now in
+    let H = events_of c.args.self.now.asked.facts.now in
+    let n = c.args.self.now.asked.register.now.node.0 in
+    let t = c.args.self.now.t.0 in
+    remains_skip (ComesBy S H n t) (ComesIn S H n t) c.in-Some.event c.loop-event.event-iterator c.next.new.self c.loop-event.least c.in-Some.ensures.steps c.loop-event.invariant
+    (comes_by_puts S H n t c.in-Some.event c.in_default.not-Put)
+
+pub returns : goal.returns
+returns c =
+    let S = setup_of c.args.self.now.asked.facts.now in
+    let H = events_of c.args.self.now.asked.facts.now in
+    let n = c.args.self.now.asked.register.now.node.0 in
+    let t = c.args.self.now.t.0 in
+    remains_end (ComesBy S H n t) (ComesIn S H n t) c.loop-event.event-iterator c.loop-event.least c.in-None.ensures.steps.0 c.loop-event.invariant

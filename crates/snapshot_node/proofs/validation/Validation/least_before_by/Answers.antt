@@ -1,0 +1,78 @@
+use Rattle.std.proofs.Common.{◌≡◌, ◌∙◌, ◌+◌, ◌∷◌, get_or, drop, refl, sym, subst, add-one, drop-cons}
+use Rattle.std.proofs.lemmas.Bool.{both_ways}
+use Rattle.std.proofs.lemmas.List.{drop_all}
+use Rattle.teb_names.specs.declared.Txn.{Txn}
+use Rattle.teb_history.specs.Ascending.{IsAscendingBy}
+use Rattle.teb_history.specs.Live.{number_of}
+use Rattle.phase_api.specs.Told.{setup_of, events_of}
+use Rattle.batch_book.proofs.Numbered.{unfinished_parts}
+use Rattle.batch_book.proofs.Telling.{joined_from}
+use Rattle.snapshot_node.specs.Pivots.{Reaches, ComesInBy}
+use Rattle.snapshot_node.proofs.Later.{kept}
+use Rattle.snapshot_node.proofs.Listed.{readers_ascend}
+use Rattle.snapshot_node.proofs.Least.{Remains, least_as, remains_start, remains_next, remains_skip, remains_end}
+use Rattle.snapshot_node.proofs.Comers.{ComesThrough, through_comes, comes_through, reader_here}
+use Rattle.snapshot_node.proofs.validation.Validation.least_before_by.Goals as goal
+use Rattle.snapshot_node.proofs.validation.Validation.least_before_by.Goals.{then-is_at_stake+then-are_across, else-is_at_stake, else-is_at_stake-via-then-is_at_stake+else-are_across, else-is_at_stake-via-else-is_at_stake}
+
+pub horizon-requires : goal.horizon-requires
+horizon-requires c = joined_from _ (setup_of c.args.self.now.asked.facts.now) (events_of c.args.self.now.asked.facts.now) c.args.self.now.asked.register.now.node.0 c.args.self.now.t.0 c.args.self.now.asked.stands.batches c.args.self.now.here.typed.begun c.args.self.now.here.on
+
+pub from_number-c-items-requires : goal.from_number-c-items-requires
+from_number-c-items-requires c = subst (IsAscendingBy number_of) (sym c.readers.ensures) (readers_ascend (setup_of c.args.self.now.asked.facts.now) (events_of c.args.self.now.asked.facts.now) c.args.self.now.asked.register.now.node.0 c.args.cell)
+
+pub loop-c-init : goal.loop-c-init
+loop-c-init c =
+    let S = setup_of c.args.self.now.asked.facts.now in
+    let H = events_of c.args.self.now.asked.facts.now in
+    let n = c.args.self.now.asked.register.now.node.0 in
+    let t = c.args.self.now.t.0 in
+    let x = c.args.cell in
+    let m = c.horizon.result.0 in
+    let cs = c.from_number-c-items.result.now in
+    let runs = (unfinished_parts H t c.args.self.now.unfinished).2 in
+    let e = kept m c.readers.ensures c.from_number-c-items.ensures in
+    let below = c.horizon.ensures.closed S H n c.args.self.now.asked.stands.batches in
+    remains_start (ComesThrough S H n t) (ComesInBy S H n t x) cs cs refl
+    (through_comes S H n t c.args.self.now.lawful c.args.self.now.asked.stands.orderly runs x m below cs e)
+    (comes_through S H n t c.args.self.now.lawful c.args.self.now.asked.stands.orderly runs x m below cs e)
+
+pub are_across-requires-clause-right : goal.are_across-requires-clause-right
+are_across-requires-clause-right c = reader_here c.args.self.now.asked.facts.now c.args.self.now.asked.register.now.node.0 c.args.cell c.horizon.result.0 c.args.self.now.asked.stands.orderly c.from_number-c-items.result.now (kept c.horizon.result.0 c.readers.ensures c.from_number-c-items.ensures) c.loop-c.c-index c.loop-c-test.true
+
+pub least_into-requires : goal.least_into-requires
+least_into-requires c = reader_here c.args.self.now.asked.facts.now c.args.self.now.asked.register.now.node.0 c.args.cell c.horizon.result.0 c.args.self.now.asked.stands.orderly c.from_number-c-items.result.now (kept c.horizon.result.0 c.readers.ensures c.from_number-c-items.ensures) c.loop-c.c-index c.loop-c-test.true
+
+pub loop-c-preserved : goal.loop-c-preserved
+loop-c-preserved c =
+    let S = setup_of c.args.self.now.asked.facts.now in
+    let H = events_of c.args.self.now.asked.facts.now in
+    let n = c.args.self.now.asked.register.now.node.0 in
+    let t = c.args.self.now.t.0 in
+    let i = c.loop-c.c-index in
+    let cs = c.from_number-c-items.result.now in
+    let u : Txn = get_or cs i (record { 0 = 0 }) in
+    let Q = ComesThrough S H n t in
+    let P = ComesInBy S H n t c.args.cell in
+    let l = c.loop-c-test.true in
+    let next : drop i cs ≡ u ∷ drop (i + 1) cs = rw (add-one, drop-cons cs i (record { 0 = 0 })) refl in
+    elim c.if-is_at_stake.branch [
+      | then-is_at_stake+then-are_across w ↦ subst (Remains Q P (drop (i + 1) cs)) (sym (w.least-is ∙ w.lesser-least.ensures))
+          (remains_next Q P u (drop i cs) (drop (i + 1) cs) c.loop-c.least w.least_into.result next c.loop-c.invariant
+          (least_as (Reaches S H n t u.0) (Q u) w.least_into.result (λ a r. (sym c.is_at_stake.ensures ∙ w.if-is_at_stake.true, sym w.are_across.ensures ∙ w.if-are_across.true, r)) (λ a q. q.2) w.least_into.ensures))
+      | else-is_at_stake w ↦ subst (Remains Q P (drop (i + 1) cs)) (sym w.least-is)
+          (remains_skip Q P u (drop i cs) (drop (i + 1) cs) c.loop-c.least next c.loop-c.invariant
+          (λ a q. elim w.else-is_at_stake.branch [
+            | else-is_at_stake-via-then-is_at_stake+else-are_across v ↦ both_ways _ (sym v.are_across.ensures ∙ v.if-are_across.false) q.1
+            | else-is_at_stake-via-else-is_at_stake v ↦ both_ways _ (sym c.is_at_stake.ensures ∙ v.if-is_at_stake.false) q.0
+          ]))
+    ]
+
+pub returns : goal.returns
+returns c =
+    let S = setup_of c.args.self.now.asked.facts.now in
+    let H = events_of c.args.self.now.asked.facts.now in
+    let n = c.args.self.now.asked.register.now.node.0 in
+    let t = c.args.self.now.t.0 in
+    let cs = c.from_number-c-items.result.now in
+    remains_end (ComesThrough S H n t) (ComesInBy S H n t c.args.cell) (drop c.loop-c.c-index cs) c.loop-c.least (drop_all c.loop-c.c-index cs c.loop-c-test.false) c.loop-c.invariant

@@ -1,0 +1,34 @@
+-- What is said of a control that is asked.
+use Rattle.std.specs.Prelude.{ℕ, List, IsTrue, IsFalse}
+use Rattle.teb_names.specs.declared.Txn.{Txn}
+use Rattle.teb_history.specs.declared.Event.{Event}
+use Rattle.teb_history.specs.Phases.{begun, aborted}
+use Rattle.teb_rules.specs.Setup.{Setup}
+use Rattle.teb_laws.specs.Lawful.{Lawful}
+use Rattle.phase_api.specs.Told.{setup_of, events_of}
+use Rattle.phase_api.specs.Calls.{IsHere}
+use Rattle.snapshot_node.specs.Pivots.{AreHere}
+use Rattle.snapshot_node.specs.declared.asked.Asked.{Asked}
+
+abbrev pub history : Asked → List Event
+history a = events_of a.facts.now
+
+abbrev pub HasBegun : Asked → ℕ → Type 0
+HasBegun a u = IsTrue (begun (events_of a.facts.now) u)
+
+-- the node stands on the path of u
+abbrev pub IsAt : Asked → ℕ → Type 0
+IsAt a u = IsHere a.facts.now a.register.now.node.0 u
+
+-- a word of the setup, the history and the node
+abbrev pub there {ℓ} : {A : Type ℓ} → Asked → (Setup → List Event → ℕ → A) → A
+there a p = p (setup_of a.facts.now) (events_of a.facts.now) a.register.now.node.0
+
+-- the node stands on the path of each of them
+abbrev pub AreThere : Asked → List Txn → Type 0
+AreThere a ts = AreHere a.facts.now a.register.now.node.0 ts
+
+-- the rules granted each event, and t is not aborted
+pub record IsGranted (a : Asked) (t : ℕ) : Type 0 where
+  pub lawful : Lawful (setup_of a.facts.now) (events_of a.facts.now)
+  pub runs : IsFalse (aborted (events_of a.facts.now) t)

@@ -1,0 +1,17 @@
+-- For what a register stands, and for how many events it has room.
+use Rattle.std.specs.Prelude.{ℕ, List, min}
+use Rattle.teb_history.specs.declared.Event.{Event}
+use Rattle.teb_rules.specs.Setup.{Setup}
+use Rattle.phase_api.specs.declared.facts.Facts.{Facts}
+use Rattle.phase_api.specs.Told.{setup_of, events_of}
+use Rattle.snapshot_node.specs.declared.register.Register.{Register}
+use Rattle.snapshot_node.specs.Standing.{SnapshotStand}
+
+abbrev pub RegisterStands : Register → Setup → List Event → Type 0
+RegisterStands r S H = SnapshotStand r.node.0 r.batches r.readers r.writers S H
+
+abbrev pub StandsFor : Register → Facts → Type 0
+StandsFor r f = RegisterStands r (setup_of f) (events_of f)
+
+abbrev pub room_of : Register → ℕ
+room_of r = min r.batches.spare (min r.readers.spare r.writers.spare)

@@ -1,0 +1,36 @@
+-- What is said of a validation.
+use Rattle.std.specs.Prelude.{ℕ, Bool, List, IsTrue}
+use Rattle.teb_names.specs.declared.Txn.{Txn}
+use Rattle.teb_history.specs.declared.Event.{Event}
+use Rattle.teb_rules.specs.Setup.{Setup}
+use Rattle.teb_rules.specs.Tree.{row}
+use Rattle.teb_rules.specs.Batches.{start}
+use Rattle.teb_rules.specs.Controls.{validate}
+use Rattle.teb_rules.specs.declared.Verdict.{Verdict}
+use Rattle.phase_api.specs.Told.{setup_of, events_of}
+use Rattle.snapshot_node.specs.Pivots.{is_at_stake, AreHere}
+use Rattle.snapshot_node.specs.Asking.{there}
+use Rattle.snapshot_node.specs.Marks.{is_entered, is_left}
+use Rattle.snapshot_node.specs.declared.validation.Validation.{Validation}
+
+-- the node stands on the path of each of them
+abbrev pub AreAt : Validation → List Txn → Type 0
+AreAt v ts = AreHere v.asked.facts.now v.asked.register.now.node.0 ts
+
+abbrev pub IsAtStake : Validation → ℕ → Type 0
+IsAtStake v u = IsTrue (is_at_stake (events_of v.asked.facts.now) v.t.0 u)
+
+-- what the rules say
+abbrev pub ruled : Validation → Verdict
+ruled v = there v.asked (validate (row (setup_of v.asked.facts.now).tree v.asked.register.now.node.0).control) v.t.0
+
+-- a word of the setup, the history, the node and the one that validates
+abbrev pub at {ℓ} : {A : Type ℓ} → Validation → (Setup → List Event → ℕ → ℕ → A) → A
+at v p = there v.asked p v.t.0
+
+-- an edge is known to lead into the batch of u, or to leave it
+abbrev pub is_marked_entered : Validation → ℕ → Bool
+is_marked_entered v u = is_entered v.marks.now (there v.asked start u)
+
+abbrev pub is_marked_left : Validation → ℕ → Bool
+is_marked_left v u = is_left v.marks.now (there v.asked start u)

@@ -1,0 +1,103 @@
+//! A snapshot control that is asked: whose batches are closed before whose, and who has put or read a cell.
+
+ghost use Rattle.std.specs.Prelude.{◌≡◌, ◌&&◌, find, ltb};
+ghost use Rattle.teb_history.specs.Phases.{txns, unfinished};
+ghost use Rattle.teb_history.specs.Accesses.{wrote};
+ghost use Rattle.teb_rules.specs.Tree.{meets};
+ghost use Rattle.teb_rules.specs.Batches.{start, close, one_batch};
+ghost use Rattle.teb_rules.specs.Controls.{is_first};
+ghost use Rattle.hold_register.specs.Waits.{some_txn};
+ghost use Rattle.snapshot_node.specs.Standing.{writers_in, readers_in};
+ghost use Rattle.snapshot_node.specs.Stood.{StandsFor};
+ghost use Rattle.snapshot_node.specs.Props.{kept};
+
+use crate::register::Register;
+use crate::writers::{Slot, from_number};
+use phase_api::Facts;
+use teb_names::{Cell, Txn};
+
+/// A control, and the facts for which it stands.
+#[derive(Clone, Copy)]
+pub(crate) struct Asked<'a> {
+    pub(crate) register: &'a Register,
+    pub(crate) facts: &'a Facts<'a>,
+    ghost stands: { StandsFor register.now facts.now } by { Prim.hlevel kept },
+}
+
+impl<'a> Asked<'a> {
+    ghost use Rattle.snapshot_node.specs.Asking.{HasBegun, IsAt, history, there};
+
+    // The unfinished transactions on whose path the node stands that have put a cell, in ascending number, each once.
+    pub(crate) fn unfinished(&self, cell: Cell) -> &[Txn]
+        ensures { result.now ≡ there self.now (writers_in unfinished) cell }
+    {
+        self.register.writers.list(Slot {
+            cell,
+            committed: false,
+        })
+    }
+
+    // Those on whose path the node stands that have read it and are not aborted.
+    pub(crate) fn readers(&self, cell: Cell) -> &[Txn]
+        ensures { result.now ≡ there self.now readers_in cell }
+    {
+        self.register.readers.list(cell)
+    }
+
+    // Whether u's batch is closed before t's starts.
+    pub(crate) fn is_closed_before(&self, u: Txn, t: Txn) -> bool
+        requires left { IsAt self.now u.0 }
+        requires right { IsAt self.now t.0 }
+        ensures { result ≡ ltb (there self.now close u.0) (there self.now start t.0) }
+    {
+        self.register.batches.is_closed_before(u, t)
+    }
+
+    // Whether two are of one batch.
+    pub(crate) fn are_one_batch(&self, b: Txn, c: Txn) -> bool
+        requires begun_b { HasBegun self.now b.0 }
+        requires begun_c { HasBegun self.now c.0 }
+        ensures { result ≡ there self.now one_batch b.0 c.0 }
+    {
+        let register = self.register;
+        let facts = self.facts;
+        let Some(start) = register.batches.start_of(b) else {
+            return false;
+        };
+        let Some(other) = register.batches.start_of(c) else {
+            return false;
+        };
+        if start != other {
+            return false;
+        }
+        facts.side(register.node, b) == facts.side(register.node, c)
+    }
+
+    // The least committed transaction that wrote a cell before t. It looks from t's horizon on: whoever comes before that was of
+    // a batch closed before t's start.
+    pub(crate) fn first_writer(&self, t: Txn, cell: Cell) -> Option<Txn>
+        requires { IsAt self.now t.0 }
+        ensures { result ≡ some_txn (find (there self.now is_first t.0 cell) (txns (history self.now))) }
+    {
+        let horizon = self.register.batches.horizon(t);
+        for u in from_number(self.register.committed(self.facts, cell), horizon) {
+            if self.facts.meet_at(self.register.node, t, *u) && !self.is_closed_before(*u, t) {
+                return Some(*u);
+            }
+        }
+        None
+    }
+
+    // The least unfinished transaction that t's write of a cell waits for.
+    pub(crate) fn blocker(&self, t: Txn, cell: Cell) -> Option<Txn>
+        requires { IsAt self.now t.0 }
+        ensures { let H = history self.now in result ≡ some_txn (find (λ u. unfinished H u && there self.now meets t.0 u && wrote H u cell) (txns H)) }
+    {
+        for u in self.unfinished(cell) {
+            if self.facts.meet_at(self.register.node, t, *u) {
+                return Some(*u);
+            }
+        }
+        None
+    }
+}

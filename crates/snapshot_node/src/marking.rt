@@ -1,0 +1,92 @@
+//! The marks of batches at the edges of a transaction that was validated.
+
+ghost use Rattle.std.specs.Prelude.{◌≡◌, ◌≤◌, ℕ, IsTrue, length};
+ghost use Rattle.teb_history.specs.Ascending.{IsAscendingBy};
+ghost use Rattle.teb_history.specs.Live.{number_of};
+ghost use Rattle.snapshot_node.specs.Asking.{IsAt, AreThere, IsGranted, history, there};
+ghost use Rattle.snapshot_node.specs.Marks.{validated_txn, HaveGrown, IsTold, Touches};
+ghost use Rattle.snapshot_node.specs.Pivots.{is_at_stake, is_across, IsAcross};
+
+use crate::asked::Asked;
+use crate::marks::{Mark, mark_edge};
+use crate::neighbours::is_at_stake;
+use crate::writers::from_number;
+use teb_history::Event;
+use teb_names::Txn;
+
+/// The transaction that an event shows to be validated.
+pub(crate) fn validated(e: Event) -> Option<Txn>
+    ensures { result ≡ validated_txn e }
+{
+    match e {
+        Event::Ready(t) | Event::Done(t) => Some(t),
+        _ => None,
+    }
+}
+
+/// Marks the batches at both ends of each edge between t and one that is prepared or committed.
+pub(crate) fn mark_edges(marks: &mut [Mark], asked: &Asked, t: Txn)
+    requires here { IsAt asked.now t.0 }
+    requires long { length (history asked.now) ≤ length marks.old }
+    ensures grown { HaveGrown marks.old marks.new }
+    ensures ahead { IsGranted asked.now t.0 → (u : ℕ) → IsTrue (is_at_stake (history asked.now) t.0 u) → there asked.now Touches t.0 u → there asked.now IsTold marks.new t.0 u }
+    ensures behind { IsGranted asked.now t.0 → (u : ℕ) → IsTrue (is_at_stake (history asked.now) t.0 u) → there asked.now Touches u t.0 → there asked.now IsTold marks.new u t.0 }
+{
+    for event in asked.facts.history.own_events(t) {
+        match event {
+            Event::Got { cell, .. } => {
+                let committed = asked.register.committed(asked.facts, cell);
+                mark_ahead(marks, asked, t, committed);
+                mark_ahead(marks, asked, t, asked.unfinished(cell));
+            }
+            Event::Put { cell, .. } => mark_behind(marks, asked, t, asked.readers(cell)),
+            _ => {}
+        }
+    }
+}
+
+// Marks edges from t to some.
+fn mark_ahead(marks: &mut [Mark], asked: &Asked, t: Txn, among: &[Txn])
+    requires here { IsAt asked.now t.0 }
+    requires long { length (history asked.now) ≤ length marks.old }
+    requires ascending { IsAscendingBy number_of among.now }
+    requires among_here { AreThere asked.now among.now }
+    ensures grown { HaveGrown marks.old marks.new }
+    ensures told { (u : ℕ) → there asked.now IsAcross t.0 t.0 among.now u → there asked.now IsTold marks.new t.0 u }
+{
+    let batches = &asked.register.batches;
+    for u in from_number(among, batches.horizon(t)) {
+        if may_be_across(asked, t, *u) {
+            mark_edge(marks, batches.start(t), batches.start(*u));
+        }
+    }
+}
+
+// Marks edges from some to t.
+fn mark_behind(marks: &mut [Mark], asked: &Asked, t: Txn, among: &[Txn])
+    requires here { IsAt asked.now t.0 }
+    requires long { length (history asked.now) ≤ length marks.old }
+    requires ascending { IsAscendingBy number_of among.now }
+    requires among_here { AreThere asked.now among.now }
+    ensures grown { HaveGrown marks.old marks.new }
+    ensures told { (u : ℕ) → there asked.now IsAcross t.0 t.0 among.now u → there asked.now IsTold marks.new u t.0 }
+{
+    let batches = &asked.register.batches;
+    for u in from_number(among, batches.horizon(t)) {
+        if may_be_across(asked, t, *u) {
+            mark_edge(marks, batches.start(*u), batches.start(t));
+        }
+    }
+}
+
+// Whether u is at stake where t was validated, and neither batch is closed before the other starts.
+fn may_be_across(asked: &Asked, t: Txn, u: Txn) -> bool
+    requires left { IsAt asked.now t.0 }
+    requires right { IsAt asked.now u.0 }
+    ensures { IsTrue (is_at_stake (history asked.now) t.0 u.0) → IsTrue (there asked.now is_across t.0 u.0) → IsTrue result }
+{
+    !asked.is_closed_before(u, t)
+        && !asked.is_closed_before(t, u)
+        && is_at_stake(asked.facts.history, t, u)
+        && asked.facts.meet_at(asked.register.node, t, u)
+}

@@ -1,0 +1,113 @@
+//! What a snapshot control keeps of a history: the batches of its node, and the readers and the writers of each cell.
+
+ghost use Rattle.std.specs.Prelude.{◌≡◌, ◌<◌, ◌≤◌, ◌+◌, [], List, drop, IfOk, OnOk};
+ghost use Rattle.teb_names.specs.declared.ControlKind.TheVariants.{Snapshot as IsSnapshot};
+ghost use Rattle.teb_history.specs.declared.Event.{Event};
+ghost use Rattle.teb_history.specs.Phases.{committed};
+ghost use Rattle.teb_rules.specs.Setup.{Setup};
+ghost use Rattle.teb_rules.specs.Tree.{row};
+ghost use Rattle.phase_api.specs.Told.{setup_of, events_of};
+ghost use Rattle.phase_api.specs.Calls.{IsNewest};
+ghost use Rattle.snapshot_node.specs.Standing.{writers_in};
+ghost use Rattle.snapshot_node.specs.Stood.{RegisterStands, StandsFor, room_of};
+
+use crate::readers::{forget_reads, put_reader};
+use crate::writers::{Slot, abort, commit, put_in};
+use batch_book::Batches;
+use key_piles::Piles;
+use phase_api::Facts;
+use std::alloc::{AllocError, Global};
+use teb_history::Event;
+use teb_names::{Cell, Node, Txn};
+
+/// The batches of a snapshot node, and who has read and put each cell.
+#[derive(Drop)]
+pub struct Register {
+    pub(crate) node: Node,
+    pub(crate) batches: Batches,
+    pub(crate) readers: Piles<Cell, Txn>,
+    pub(crate) writers: Piles<Slot, Txn>,
+}
+
+impl Register {
+    /// That of an empty history. Takes no memory.
+    pub(crate) fn new(alloc: Global, node: Node, facts: &Facts) -> Result<Self, AllocError>
+        requires kind { (row (setup_of facts.now).tree node.0).control ≡ IsSnapshot }
+        requires empty { events_of facts.now ≡ [] }
+        ensures node { IfOk result (λ c. c.node ≡ node) }
+        ensures stands { IfOk result (λ c. StandsFor c facts.now) }
+    {
+        Ok(Register {
+            node,
+            batches: Batches::new(alloc, facts.tree.row(node).batch),
+            readers: Piles::new(alloc),
+            writers: Piles::new(alloc),
+        })
+    }
+
+    /// The committed transactions on whose path the node stands that have put a cell, in ascending number, each once.
+    pub(crate) fn committed(&self, facts: &Facts, cell: Cell) -> &[Txn]
+        requires { StandsFor self.now facts.now }
+        ensures { result.now ≡ writers_in committed (setup_of facts.now) (events_of facts.now) self.now.node.0 cell }
+    {
+        let _ = facts;
+        self.writers.list(Slot {
+            cell,
+            committed: true,
+        })
+    }
+
+    /// Makes room for 32 events. It stays as it was, also after an `Err`.
+    pub(crate) fn reserve(&mut self) -> Result<(), AllocError>
+        ensures node { self.new.node ≡ self.old.node }
+        ensures stands { (S : Setup) (H : List Event) → RegisterStands self.old S H → RegisterStands self.new S H }
+        ensures room { OnOk result (32 ≤ room_of self.new) }
+    {
+        self.batches.reserve()?;
+        self.readers.reserve(32)?;
+        self.writers.reserve(32)
+    }
+
+    /// Notes the newest event of the history, which takes one place of the room at the most.
+    pub(crate) fn note(&mut self, facts: &Facts, e: Event)
+        requires newest { IsNewest facts.now e self.old.node.0 }
+        requires stands { RegisterStands self.old (setup_of facts.now) (drop 1 (events_of facts.now)) }
+        requires room { 0 < room_of self.old }
+        ensures stands { StandsFor self.new facts.now }
+        ensures node { self.new.node ≡ self.old.node }
+        ensures spare { room_of self.old ≤ room_of self.new + 1 }
+    {
+        let at = facts.history.len() - 1;
+        match e {
+            Event::Began { txn, .. } => {
+                if facts.is_on(self.node, txn) {
+                    self.batches.join(facts.side(self.node, txn), txn, at);
+                }
+            }
+            Event::Got { txn, cell, .. } => {
+                if facts.is_on(self.node, txn) {
+                    put_reader(&mut self.readers, cell, txn);
+                }
+            }
+            Event::Put { txn, cell, .. } => {
+                if facts.is_on(self.node, txn) {
+                    let running = Slot {
+                        cell,
+                        committed: false,
+                    };
+                    put_in(&mut self.writers, running, txn);
+                }
+            }
+            Event::Done(txn) => {
+                commit(&mut self.writers, facts.history, txn);
+                self.batches.finish(txn, at);
+            }
+            Event::Gone { txn, .. } => {
+                forget_reads(&mut self.readers, facts.history, txn);
+                abort(&mut self.writers, facts.history, txn);
+                self.batches.finish(txn, at);
+            }
+            Event::Ready(_) | Event::Told(_) => {}
+        }
+    }
+}

@@ -1,0 +1,27 @@
+//! A transaction that validates at a snapshot control.
+
+ghost use Rattle.std.specs.Prelude.{IsTrue};
+ghost use Rattle.teb_history.specs.Phases.{unfinished};
+ghost use Rattle.teb_rules.specs.Accepted.{IsSound};
+ghost use Rattle.teb_laws.specs.Lawful.{Lawful};
+ghost use Rattle.phase_api.specs.Told.{setup_of, events_of};
+ghost use Rattle.phase_api.specs.Calls.{IsHere};
+ghost use Rattle.snapshot_node.specs.Marks.{AreMarked};
+ghost use Rattle.snapshot_node.specs.Props.{kept};
+
+use crate::asked::Asked;
+use crate::marks::Mark;
+use teb_names::Txn;
+
+/// The control, with the marks of its batches, is asked of a transaction that is unfinished there, and the history is lawful.
+#[derive(Clone, Copy)]
+pub(crate) struct Validation<'a> {
+    pub(crate) asked: Asked<'a>,
+    pub(crate) t: Txn,
+    pub(crate) marks: &'a [Mark],
+    ghost tree: { IsSound (setup_of asked.facts.now) },
+    ghost lawful: { Lawful (setup_of asked.facts.now) (events_of asked.facts.now) } by { Prim.hlevel kept },
+    ghost here: { IsHere asked.facts.now asked.register.now.node.0 t.0 },
+    ghost unfinished: { IsTrue (unfinished (events_of asked.facts.now) t.0) },
+    ghost marked: { AreMarked (setup_of asked.facts.now) (events_of asked.facts.now) asked.register.now.node.0 marks.now } by { Prim.hlevel kept },
+}
