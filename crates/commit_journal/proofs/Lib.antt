@@ -1,0 +1,4 @@
+pub mod Replies
+pub mod Puts
+pub mod Newest
+pub mod Asked

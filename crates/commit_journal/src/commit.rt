@@ -1,0 +1,149 @@
+//! The record of a commit: what it leaves in the cells that it has put.
+
+ghost use Rattle.std.specs.Prelude.{◌≡◌, ◌+◌, ◌*◌, ◌<◌, ◌≤◌, List, ℕ, length, Option, Some, IsTrue, IfOk, OnOk, IsErrOf, if◌then◌else◌, ◌++◌, ◌∷◌, [], true, false};
+ghost use Rattle.teb_history.specs.Accesses.{wrote};
+ghost use Rattle.teb_history.specs.Phases.{unfinished};
+ghost use Rattle.teb_history.specs.Written.{txn_of};
+ghost use Rattle.record_journal.specs.Journal.{IsBody};
+ghost use Rattle.commit_laws.specs.Records.{puts_of as all_puts, is_newest as newest, record_of as changes_of, has};
+ghost use Rattle.commit_journal.specs.Kept.{committing as committed_by, counts, with_event, IsFull};
+ghost use Rattle.version_chain.specs.Lists.{last_place, writers_of};
+ghost use Rattle.commit_journal.specs.declared.error.DurableError.TheVariants as errors;
+
+use crate::DurableError;
+use engine_core::Engine;
+use record_journal::{Change, encode};
+use std::alloc::{AllocError, Global};
+use teb_history::{Event, History};
+use teb_names::{Cell, Request, Session, Txn};
+use version_chain::Chains;
+
+/// The bytes of the record that a request would commit; none where it would commit nothing. `left` is how many bytes
+/// of the disk are left.
+pub fn body_of<C: Chains>(
+    alloc: Global,
+    engine: &Engine<C>,
+    left: u64,
+    session: Session,
+    request: Request,
+) -> Result<Vec<u8>, DurableError>
+    requires { left ≤ 1048576 }
+    ensures body { IfOk result (λ bytes. (t : ℕ) → committed_by engine.now.events session request ≡ Some t
+        → IsBody (changes_of engine.now.store.setup engine.now.events t) bytes.items × (length bytes.items + 1 ≤ 6 + 14 * length (all_puts engine.now.events t))) }
+    ensures fits { OnOk result (IsFull engine.now.events left session request → ⊥) }
+    ensures full { IsErrOf result errors.Full → IsFull engine.now.events left session request }
+    ensures not_stopped { IsErrOf result errors.Stopped → ⊥ }
+    ensures no_fault { IsErrOf result errors.DiskFault → ⊥ }
+{
+    let t = match committing(engine.history(), session, request) {
+        None => return Ok(Vec::new(alloc)),
+        Some(t) => t,
+    };
+    let puts = puts_of(alloc, engine.history(), t)?;
+    if left < 6 + 14 * puts.len() as u64 {
+        return Err(DurableError::Full);
+    }
+    let changes = record_of(alloc, engine, &puts, t)?;
+    let bytes = encode(alloc, &changes)?;
+    Ok(bytes)
+}
+
+// The unfinished transaction that a session holds and asks to commit.
+#[tactic(auto, using(crate::proofs::Asked::not_commit, crate::proofs::Asked::committing_some, crate::proofs::Asked::committing_none))]
+fn committing(history: &History, session: Session, request: Request) -> Option<Txn>
+    ensures { result ≡ txn_of (committed_by history.now.events session request) }
+{
+    if request != Request::Commit {
+        return None;
+    }
+    let t = history.held(session)?;
+    if history.is_unfinished(t) {
+        Some(t)
+    } else {
+        None
+    }
+}
+
+// A transaction's last Put of each cell that it has put, the newest first. It costs the square of what it has put.
+fn puts_of(alloc: Global, history: &History, t: Txn) -> Result<Vec<Change>, AllocError>
+    ensures { IfOk result (λ found. found.items ≡ all_puts history.now.events t.0) }
+{
+    let mut puts = Vec::new(alloc);
+    for event in history.own_events(t) {
+        add_event(&mut puts, event)?;
+    }
+    Ok(puts)
+}
+
+// A Put of a cell that is not there yet.
+fn add_event(puts: &mut Vec<Change>, event: Event) -> Result<(), AllocError>
+    ensures { OnOk result (puts.new.items ≡ with_event puts.old.items event) }
+{
+    match event {
+        Event::Put { cell, value, .. } => add_put(puts, cell, value),
+        _ => Ok(()),
+    }
+}
+
+fn add_put(puts: &mut Vec<Change>, cell: Cell, value: Option<i64>) -> Result<(), AllocError>
+    ensures { OnOk result (puts.new.items ≡ (if has puts.old.items cell then puts.old.items else puts.old.items ++ record { cell = cell; value = value } ∷ [])) }
+{
+    if !has_cell(puts, cell) {
+        puts.push(Change { cell, value })?;
+    }
+    Ok(())
+}
+
+// Whether one of the changes is of the cell.
+fn has_cell(changes: &[Change], cell: Cell) -> bool
+    ensures { result ≡ has changes.now cell }
+{
+    changes.iter().any(|change| change.cell == cell)
+}
+
+// Of the last Puts of a transaction that is about to commit, those that no committed version follows.
+fn record_of<C: Chains>(
+    alloc: Global,
+    engine: &Engine<C>,
+    puts: &[Change],
+    t: Txn,
+) -> Result<Vec<Change>, AllocError>
+    requires puts { puts.now ≡ all_puts engine.now.events t.0 }
+    requires unfinished { IsTrue (unfinished engine.now.events t.0) }
+    ensures changes { IfOk result (λ found. found.items ≡ changes_of engine.now.store.setup engine.now.events t.0) }
+    ensures few { IfOk result (λ found. length found.items ≤ length puts.now) }
+{
+    let mut changes = Vec::new(alloc);
+    for change in puts {
+        if is_newest(engine, change.cell, t) {
+            changes.push(*change)?;
+        }
+    }
+    Ok(changes)
+}
+
+// Whether no committed version of a cell follows that of a transaction which has put it. It costs the versions behind that one.
+fn is_newest<C: Chains>(engine: &Engine<C>, cell: Cell, t: Txn) -> bool
+    requires put { IsTrue (wrote engine.now.events t.0 cell) }
+    requires unfinished { IsTrue (unfinished engine.now.events t.0) }
+    ensures { result ≡ newest engine.now.store.setup engine.now.events t.0 cell }
+{
+    let chains = engine.chains();
+    match last_counted(engine.history(), chains, cell, t) {
+        Some(i) => chains.at(cell, i).0 == t,
+        None => true,
+    }
+}
+
+// The place of the last version of a cell whose writer is t or is committed.
+fn last_counted<C: Chains>(history: &History, chains: &C, cell: Cell, t: Txn) -> Option<usize>
+    ensures { result ≡ last_place (counts history.now.events t.0) (writers_of (C.lists chains.now cell)) }
+{
+    chains.last_where(cell, &|w: Txn| is_counted(history, w, t))
+}
+
+fn is_counted(history: &History, w: Txn, t: Txn) -> bool
+    ensures { result ≡ counts history.now.events t.0 w.0 }
+{
+    w == t || history.is_committed(w)
+}

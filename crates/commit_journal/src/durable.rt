@@ -1,0 +1,149 @@
+//! A store on a disk.
+
+ghost use Rattle.std.specs.Prelude.{◌≡◌, ◌+◌, ◌*◌, ◌-◌, ◌^◌, ◌<◌, ◌≤◌, [], List, ℕ, length, Some, true, false, IfOk, IfErr, OnOk, IsErrOf, IsOk, IsErr};
+ghost use Rattle.teb_io.specs.Faults.{Rose};
+ghost use Rattle.teb_names.specs.declared.Reply.TheVariants as replies;
+ghost use Rattle.teb_rules.specs.Answer.{answer};
+ghost use Rattle.crash_disk.specs.Disk.{LeavesOnly};
+ghost use Rattle.commit_laws.specs.Commits.{commit_count};
+ghost use Rattle.commit_laws.specs.Laws.{IsOfSerialRun};
+ghost use Rattle.crash_disk.specs.Calls.{AreSure, Fails};
+ghost use Rattle.record_journal.specs.Format.{recovered, Whole};
+ghost use Rattle.commit_laws.specs.Records.{records_of, puts_of};
+ghost use Rattle.commit_journal.specs.Kept.{IsFull, IsSameStore, committing};
+ghost use Rattle.commit_journal.specs.Whole.{HasFirst};
+ghost use Rattle.commit_journal.specs.declared.error.DurableError.TheVariants as errors;
+
+use crate::commit::body_of;
+use crate::{CreateError, DurableError};
+use crash_disk::Disk;
+use engine_core::Engine;
+use record_journal::Journal;
+use std::alloc::Global;
+use std::marker::Model;
+use teb_io::Failed;
+use teb_names::{Reply, Request, Session};
+use version_chain::Chains;
+
+/// A store whose commits are kept on a disk. Contracts see the store, its names and events, the newest first; the disk, where
+/// the journal on it ends, how many commits were acknowledged, and whether the disk has failed.
+#[derive(Drop)]
+pub struct Durable<C: Chains, D: Disk> {
+    engine: Engine<C>,
+    journal: Journal<D>,
+}
+
+impl<C: Chains, D: Disk> Model for Durable<C, D> {
+    ghost use Rattle.commit_journal.specs.Kept.{Kept, kept_of};
+    ghost use Rattle.commit_journal.specs.Whole.{KeepsAll};
+
+    ghost Value = { Kept D };
+
+    ghost view = { λ d. kept_of d.engine d.journal };
+
+    ghost invariant = { λ d. KeepsAll D.seen D.may_leave d.engine.store d.engine.events d.journal };
+}
+
+impl<C: Chains, D: Disk> Durable<C, D> {
+    /// The store of an engine to which nothing has happened, on a disk that may hold anything. Where the disk fails it is
+    /// handed back, and the engine is dropped.
+    pub fn create(engine: Engine<C>, disk: D) -> Result<Self, CreateError<D>>
+        requires { engine.events ≡ [] }
+        ensures store { IfOk result (λ d. (d.store ≡ engine.store) × (d.names ≡ engine.names) × (d.events ≡ [])) }
+        ensures empty { IfOk result (λ d. (d.end ≡ 0) × (d.acknowledged ≡ 0) × (d.stopped ≡ false)) }
+        // Whatever image a crash leaves from now on has no record.
+        ensures images { IfOk result (λ d. (image : List ℕ) → D.may_leave d.disk image → HasFirst d.store d.events 0 image) }
+        ensures sure { AreSure (D.tally disk).promise.writes 2 1 (D.tally disk) → IsOk result }
+        ensures fails { Fails 2 (D.tally disk) → IsErr result }
+        ensures counted { IfOk result (λ d. (D.tally disk).made + 2 < 2 ^ 64 → (D.tally d.disk).made ≡ (D.tally disk).made + 2) }
+        ensures not_safe { (back : D) → IsErrOf result (CreateError.DiskFault back) → D.safe back ≡ D.safe disk }
+        ensures cause { (back : D) → IsErrOf result (CreateError.DiskFault back) → Rose (D.faults disk) (D.faults back) }
+    {
+        match Journal::create(disk) {
+            Ok(journal) => Ok(Durable { engine, journal }),
+            Err(disk) => Err(CreateError::DiskFault(disk)),
+        }
+    }
+
+    /// Answers a request as the engine does. A commit is on the disk before it is answered: from then on each crash leaves it.
+    pub fn ask(
+        &mut self,
+        alloc: Global,
+        session: Session,
+        request: Request,
+    ) -> Result<Reply, DurableError>
+        ensures store { IsSameStore self.old self.new }
+        ensures reply { IfOk result (λ reply. reply ≡ (answer self.old.store self.old.events session request).0) }
+        ensures events { OnOk result (self.new.events ≡ (answer self.old.store self.old.events session request).1) }
+
+        // One more is acknowledged where a commit is answered. As long as the disk has not failed, these are all commits.
+        ensures acknowledged { IfOk result (λ reply. reply ≡ replies.Committed → self.new.acknowledged ≡ self.old.acknowledged + 1) }
+        ensures others { IfOk result (λ reply. (reply ≡ replies.Committed → ⊥) → self.new.acknowledged ≡ self.old.acknowledged) }
+        ensures all { self.new.stopped ≡ false → self.new.acknowledged ≡ commit_count self.new.events }
+
+        // Whatever image a crash leaves, at a moment of the call or behind it, has the records of the first commits: at
+        // least of those that were acknowledged before.
+        ensures any_moment { LeavesOnly D.moment D.left_since self.old.disk self.new.disk (HasFirst self.new.store self.new.events self.old.acknowledged) }
+        ensures images { (image : List ℕ) → D.may_leave self.new.disk image → HasFirst self.new.store self.new.events self.new.acknowledged image }
+
+        ensures stopped { IsErrOf result errors.Stopped → self.old.stopped ≡ true }
+        ensures stays { self.old.stopped ≡ true → IsErrOf result errors.Stopped }
+        ensures full { IsErrOf result errors.Full → IsFull self.old.events (1048576 - self.old.end) session request }
+        ensures fits { OnOk result (IsFull self.old.events (1048576 - self.old.end) session request → ⊥) }
+        ensures not_asked { IfErr result (λ e. (e ≡ errors.DiskFault → ⊥) → self.new ≡ self.old) }
+
+        // A fault comes only at a commit, which may stand on the disk or not.
+        ensures fault { IsErrOf result errors.DiskFault → Rose (D.faults self.old.disk) (D.faults self.new.disk) }
+        ensures at_commit { IsErrOf result errors.DiskFault → ((answer self.old.store self.old.events session request).0 ≡ replies.Committed)
+            × (self.new.events ≡ (answer self.old.store self.old.events session request).1)
+            × (self.new.acknowledged ≡ self.old.acknowledged) × (self.new.stopped ≡ true) }
+        // What was safe at the last good sync has the commits from before it alone.
+        ensures not_added { IsErrOf result errors.DiskFault → recovered (D.safe self.new.disk) ≡ Whole (records_of self.old.store.setup self.old.events) }
+
+        // A commit makes four calls of the disk, up to the first that fails; nothing else touches the disk.
+        ensures untouched { IfOk result (λ reply. (reply ≡ replies.Committed → ⊥) → self.new.disk ≡ self.old.disk) }
+        ensures counted { IfOk result (λ reply. reply ≡ replies.Committed → (D.tally self.old.disk).made + 4 < 2 ^ 64 → (D.tally self.new.disk).made ≡ (D.tally self.old.disk).made + 4) }
+        ensures sure { (t : ℕ) → committing self.old.events session request ≡ Some t
+            → AreSure (D.tally self.old.disk).promise.writes 4 (6 + 14 * length (puts_of self.old.events t)) (D.tally self.old.disk) → IsErrOf result errors.DiskFault → ⊥ }
+        ensures fails { Fails 4 (D.tally self.old.disk) → IfOk result (λ reply. reply ≡ replies.Committed → ⊥) }
+    {
+        if self.journal.is_stopped() {
+            return Err(DurableError::Stopped);
+        }
+        let left = self.journal.left();
+        let body = body_of(alloc, &self.engine, left, session, request)?;
+        self.engine.ready()?;
+        let reply = self.engine.ask(session, request);
+        if reply != Reply::Committed {
+            return Ok(reply);
+        }
+        match self.journal.append(&body) {
+            Ok(()) => Ok(reply),
+            Err(Failed) => Err(DurableError::DiskFault),
+        }
+    }
+
+    /// How many commits were answered.
+    pub fn acknowledged(&self) -> u32
+        ensures { result ≡ self.now.acknowledged }
+    {
+        self.journal.acknowledged()
+    }
+
+    /// The engine. The rows of its first commits, however many, are those of a whole serial execution.
+    pub fn engine(&self) -> &Engine<C>
+        ensures store { (result.now.store ≡ self.now.store) × (result.now.names ≡ self.now.names) }
+        ensures events { result.now.events ≡ self.now.events }
+        ensures serial { (k : ℕ) → IsOfSerialRun self.now.store self.now.events k }
+    {
+        let _ = self.engine.history();
+        &self.engine
+    }
+
+    /// The disk alone.
+    pub fn into_disk(self) -> D
+        ensures { result ≡ self.disk }
+    {
+        self.journal.into_disk()
+    }
+}

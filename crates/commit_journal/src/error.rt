@@ -1,0 +1,36 @@
+//! What can go wrong with a store on a disk.
+
+use std::alloc::AllocError;
+
+/// Why there is no store on the disk.
+#[derive(Debug, Drop)]
+pub enum CreateError<D> {
+    /// The disk failed; it is handed back.
+    DiskFault(D),
+    /// Memory was wanting.
+    OutOfMemory,
+}
+
+/// Why a request was not answered.
+#[derive(Clone, Copy, Debug, PartialEq, Eq)]
+pub enum DurableError {
+    /// The disk has failed at an earlier request.
+    Stopped,
+    /// The disk has no room for the commit. Nothing was asked, and nothing changed.
+    Full,
+    /// The disk failed. The commit may stand on it or not.
+    DiskFault,
+    /// Memory was wanting. Nothing was asked, and nothing changed.
+    OutOfMemory,
+}
+
+impl From<AllocError> for DurableError {
+    ghost use Rattle.std.specs.Prelude.{◌≡◌};
+    ghost use Rattle.commit_journal.specs.declared.error.DurableError.TheVariants.{OutOfMemory};
+
+    ghost from_gives = { λ _ e. e ≡ OutOfMemory };
+
+    fn from(_: AllocError) -> Self {
+        DurableError::OutOfMemory
+    }
+}

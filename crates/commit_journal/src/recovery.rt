@@ -1,0 +1,48 @@
+//! What a disk holds after a crash.
+
+ghost use Rattle.std.specs.Prelude.{◌≡◌, ◌≤◌, List, ℕ, length, IfOk, OnOk, IsErrOf};
+ghost use Rattle.teb_io.specs.Faults.{Rose};
+ghost use Rattle.teb_names.specs.declared.Cell.{Cell as TheCell};
+ghost use Rattle.teb_names.specs.Rows.{row_of};
+ghost use Rattle.teb_history.specs.declared.Event.{Event};
+ghost use Rattle.teb_rules.specs.Setup.{Store};
+ghost use Rattle.teb_rules.specs.Accepted.{IsSound};
+ghost use Rattle.teb_laws.specs.Lawful.{Lawful};
+ghost use Rattle.crash_disk.specs.Disk.{IsQuiet, Only};
+ghost use Rattle.record_journal.specs.Format.{Record, recovered, Whole, Damaged};
+ghost use Rattle.record_journal.specs.Journal.{after_records};
+ghost use Rattle.commit_laws.specs.Commits.{commit_count, rows_after};
+ghost use Rattle.commit_journal.specs.Whole.{HasFirst};
+
+use crash_disk::Disk;
+use record_journal::{RecoverError, Recovered, read_rows};
+use std::alloc::Global;
+use teb_names::Rows;
+
+/// The rows that a disk stands for, over the starting rows, and how many commits it has. It writes nothing.
+pub fn recover<D: Disk>(
+    alloc: Global,
+    disk: &mut D,
+    start: &Rows,
+) -> Result<Recovered, RecoverError>
+    // The rows are those after all records that the bytes have.
+    ensures found { IfOk result (λ found. (rs : List Record) × (recovered (D.seen disk.old) ≡ Whole rs) × (found.commits ≡ length rs)
+        × ((x : TheCell) → row_of found.rows.items x ≡ after_records rs (row_of start.now) x)) }
+
+    // Damage is told where the bytes have it.
+    ensures damaged { (at : ℕ) → IsErrOf result (RecoverError.Damaged at) → recovered (D.seen disk.old) ≡ Damaged at }
+
+    // On an image that a crash leaves of a store on a disk the rows are those after the first k commits, for a k that is at
+    // least what was acknowledged, and there is no damage.
+    ensures first { (X : Store) (H : List Event) (least : ℕ) → IsSound X.setup → Lawful X.setup H → X.rows ≡ start.now → HasFirst X H least (D.seen disk.old)
+        → IfOk result (λ found. (least ≤ found.commits) × (found.commits ≤ commit_count H)
+        × ((x : TheCell) → row_of found.rows.items x ≡ rows_after X H found.commits x)) }
+    ensures no_damage { (X : Store) (H : List Event) (least at : ℕ) → HasFirst X H least (D.seen disk.old) → IsErrOf result (RecoverError.Damaged at) → ⊥ }
+
+    // From then on a crash leaves what was read.
+    ensures durable { OnOk result (Only (D.seen disk.old) (D.may_leave disk.new)) }
+    ensures quiet { IsQuiet D.seen D.may_leave D.moment D.left_since D.faults disk.old disk.new }
+    ensures cause { IsErrOf result RecoverError.DiskFault → Rose (D.faults disk.old) (D.faults disk.new) }
+{
+    read_rows(alloc, disk, start.rows())
+}
