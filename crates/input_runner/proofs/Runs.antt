@@ -1,14 +1,10 @@
 -- Runs over the store of a whole setup: what they name has a name, and their serial order serializes them.
-use Rattle.std.proofs.Common.{◌≡◌, ℕ, zero, suc, ◌<◌, Option, Bool, true, false, cond, List, [], ◌∷◌, ◌++◌, length, Some, refl, sym, ◌∙◌, ap, ap₂, subst, arith, ℤ}
+use Rattle.std.proofs.Common.{◌≡◌, ℕ, zero, suc, ◌<◌, Option, Bool, true, false, cond, List, [], ◌∷◌, ◌++◌, length, reverse, Some, refl, sym, ◌∙◌, ap, ap₂, subst, arith, ℤ}
 use Rattle.std.specs.Prelude.{All, ◌≤◌}
 use Rattle.teb_names.specs.declared.Cell.{Cell}
-use Rattle.teb_names.specs.declared.Node.{Node}
-use Rattle.teb_names.specs.declared.Cause.{Cause}
-use Rattle.teb_names.specs.declared.Cause.TheVariants as cause
 use Rattle.teb_names.specs.declared.Entry.{Entry}
 use Rattle.teb_names.specs.declared.Session.{Session}
 use Rattle.teb_names.specs.declared.Reply.{Reply}
-use Rattle.teb_names.specs.declared.Reply.TheVariants as reply
 use Rattle.teb_names.specs.declared.naming.NameBook.{NameBook}
 use Rattle.teb_names.specs.Cells.{same_cell}
 use Rattle.teb_names.specs.Rows.{row_of}
@@ -21,7 +17,7 @@ use Rattle.teb_rules.specs.Driver.{Seat, Follows, Turns, round_after, seated}
 use Rattle.driver_laws.specs.Laws.{most_requests}
 use Rattle.teb_rules.specs.Ranks.{serial_order}
 use Rattle.teb_rules.specs.Serializes.{Serializes}
-use Rattle.teb_laws.specs.Within.{NodeWithin, CauseWithin, ReplyWithin}
+use Rattle.teb_laws.specs.Within.{ReplyWithin}
 use Rattle.teb_laws.proofs.Timeline.{same_cell-true}
 use Rattle.teb_laws.proofs.Within.{stays_within}
 use Rattle.teb_laws.proofs.Laws.{every_run_serializes}
@@ -30,7 +26,7 @@ use Rattle.serial_order.proofs.Within.{row_within, rows_within}
 use Rattle.script_text.specs.declared.Line.{Line}
 use Rattle.script_text.specs.declared.Answered.{Answered}
 use Rattle.script_text.specs.Scripts.{scripts_of}
-use Rattle.script_text.specs.Named.{CellNamed, NodeNamed, CauseNamed, ReplyNamed}
+use Rattle.script_text.specs.Named.{CellNamed, EventNamed, ReplyNamed}
 use Rattle.replay_runner.specs.Logs.{Requests, log_of, replayed}
 use Rattle.replay_runner.proofs.Logged.{history_none}
 use Rattle.replay_runner.proofs.Within.{log_within}
@@ -40,6 +36,7 @@ use Rattle.tree_toml.specs.Meaning.{Meaning}
 use Rattle.tree_toml.specs.Sound.{IsWhole, IsNamed}
 use Rattle.input_reader.specs.Stores.{store_of, names_of}
 use Rattle.input_reader.specs.Tasks.{Task}
+use Rattle.input_runner.proofs.Names.{reply_named, all_named}
 use Rattle.input_runner.specs.Runs.{IsRunOver, IsSerialized}
 
 -- the log of the driver has the replies to its requests
@@ -51,38 +48,18 @@ follows_log X H ws (e ∷ entries) f =
     (follows_log X (answer X H e.session e.request).1 (round_after f.0 e.reply) entries f.5)
 
 module _ (m : Meaning) (whole : IsWhole m) (named : IsNamed m) where
-  node_named : (n : Node) → NodeWithin (store_of m) n → NodeNamed (names_of m) n
-  node_named n h = subst (λ (nodes : ℕ). n.0 < nodes) named h
-
-  cause_named : (c : Cause) → CauseWithin (store_of m) c → CauseNamed (names_of m) c
-  cause_named (cause.Late n r x) h = (node_named n h.0, h.1)
-  cause_named (cause.First n w x) h = (node_named n h.0, h.1)
-  cause_named (cause.Pivot n a b c d) h = node_named n h
-  cause_named (cause.Newer n u) h = node_named n h
-  cause_named (cause.After u) h = h
-  cause_named cause.Asked h = h
-  cause_named cause.Ended h = h
-
-  reply_named : (r : Reply) → ReplyWithin (store_of m) r → ReplyNamed (names_of m) r
-  reply_named (reply.Begun t) h = h
-  reply_named (reply.Value v) h = h
-  reply_named (reply.Values vs) h = h
-  reply_named reply.Done h = h
-  reply_named reply.Prepared h = h
-  reply_named reply.Committed h = h
-  reply_named (reply.Again u n) h = node_named n h
-  reply_named (reply.Aborted c) h = cause_named c h
-  reply_named (reply.Refused w) h = h
-
   sound : IsSound (store_of m).setup
   sound = subst (λ (types : ℕ). let S : Setup = record { types = types; profiles = m.profiles; tree = m.tree.rows } in IsSound S) (sym whole.types) whole.sound
 
   log_named : (asked : Requests) → All (λ (a : Answered). ReplyNamed (names_of m) a.reply) (log_of (store_of m) [] asked)
   log_named asked k d low =
-      reply_named _ (subst (λ (H : List Event). All (λ (a : Answered). ReplyWithin (store_of m) a.reply) (log_of (store_of m) H asked)) (history_none (store_of m) []) (log_within (store_of m) sound [] asked) k d low)
+      reply_named m whole named _ (subst (λ (H : List Event). All (λ (a : Answered). ReplyWithin (store_of m) a.reply) (log_of (store_of m) H asked)) (history_none (store_of m) []) (log_within (store_of m) sound [] asked) k d low)
 
   final_rows : (asked : Requests) (rows : List (Cell × ℤ)) → IsFinalRows (store_of m) (history_after (store_of m) [] asked) rows → All (λ (r : Cell × ℤ). CellNamed (names_of m) r.0) rows
   final_rows asked rows f = rows_within (store_of m) (history_after (store_of m) [] asked) rows (λ x v. row_within (length m.tables) m.rows x v whole.cells) (stays_within (store_of m) sound asked).events f
+
+  events_are_named : (asked : Requests) → All (EventNamed (names_of m)) (reverse (history_after (store_of m) [] asked))
+  events_are_named asked = all_named m whole named _ (stays_within (store_of m) sound asked).events
 
 -- of such a run: what its replies and final rows name has a name, and it is serialized
 module _ (m : Meaning) (X : Store) (names : NameBook) (log : List Answered) (H : List Event) (over : IsRunOver m X names log H) where
@@ -97,6 +74,14 @@ module _ (m : Meaning) (X : Store) (names : NameBook) (log : List Answered) (H :
       let g = subst (λ (Y : Store). IsFinalRows Y (history_after Y [] over.asked) rows) over.store (subst (λ (G : List Event). IsFinalRows X G rows) over.events f) in
       subst (λ (k : NameBook). All (λ (r : Cell × ℤ). CellNamed k r.0) rows) (sym over.named) (final_rows m over.whole over.nodes over.asked rows g)
 
+  pub events_named : All (EventNamed names) (reverse H)
+  events_named =
+      let e : H ≡ history_after (store_of m) [] over.asked = subst (λ (Y : Store). H ≡ history_after Y [] over.asked) over.store over.events in
+      rw (e, over.named) (events_are_named m over.whole over.nodes over.asked)
+
+  pub starts_named : All (λ (r : Cell × ℤ). CellNamed names r.0) X.rows
+  starts_named = rw (over.store, over.named) over.whole.cells
+
   serialized : Serializes (store_of m) H (serial_order (store_of m).setup H)
   serialized =
       let e : H ≡ history_after (store_of m) [] over.asked = subst (λ (Y : Store). H ≡ history_after Y [] over.asked) over.store over.events in
@@ -106,15 +91,22 @@ module _ (m : Meaning) (X : Store) (names : NameBook) (log : List Answered) (H :
 pub is_serialized : (m : Meaning) (X : Store) (names : NameBook) (log : List Answered) (H : List Event) (history : Option (List Event)) → IsRunOver m X names log H → history ≡ Some H → IsSerialized (λ (s : Meaning). m ≡ s) history
 is_serialized m X names log H history over kept = rw kept (m, refl, serialized m X names log H over)
 
--- a run in turns is a run over the store
-pub turns_over : (m : Meaning) (X Y : Store) (names : NameBook) (log : List Answered) (H : List Event) → IsWhole m → IsNamed m → X ≡ store_of m → Y ≡ X → names ≡ names_of m
-    → (scripts : List (Session × List Line)) → IsOf (Turns X (scripts_on scripts)) X log H → IsRunOver m Y names log H
-turns_over m X Y names log H whole nodes store kept named scripts of = record {
-  whole = whole;
-  nodes = nodes;
-  store = kept ∙ store;
-  named = named;
-  asked = requests_of of.entries;
-  replies = rw kept (of.replies ∙ follows_log X [] (seated (scripts_on scripts)) of.entries of.holds.follows);
-  events = rw kept of.events;
-}
+-- an engine's replies and history, where its store is the setup's, are a run over it
+module _ (m : Meaning) (X Y : Store) (names : NameBook) (log : List Answered) (H : List Event) (whole : IsWhole m) (nodes : IsNamed m) (store : X ≡ store_of m) (kept : Y ≡ X) (named : names ≡ names_of m) where
+  run_over : (asked : Requests) → log ≡ log_of X [] asked → H ≡ history_after X [] asked → IsRunOver m Y names log H
+  run_over asked replies events = record {
+    whole = whole;
+    nodes = nodes;
+    store = kept ∙ store;
+    named = named;
+    asked = asked;
+    replies = rw kept replies;
+    events = rw kept events;
+  }
+
+  pub replay_over : (old : List Answered) (G : List Event) (lines : List Line) → old ≡ [] → G ≡ [] → log ≡ old ++ log_of X G (replayed X G lines) → H ≡ history_after X G (replayed X G lines) → IsRunOver m Y names log H
+  replay_over old G lines o g replies events =
+      run_over (replayed X [] lines) (replies ∙ ap₂ (λ (w : List Answered) (P : List Event). w ++ log_of X P (replayed X P lines)) o g) (events ∙ ap (λ (P : List Event). history_after X P (replayed X P lines)) g)
+
+  pub turns_over : (scripts : List (Session × List Line)) → IsOf (Turns X (scripts_on scripts)) X log H → IsRunOver m Y names log H
+  turns_over scripts of = run_over (requests_of of.entries) (of.replies ∙ follows_log X [] (seated (scripts_on scripts)) of.entries of.holds.follows) of.events

@@ -1,7 +1,9 @@
 //! The run of an input as one script for each session, in turns.
 
 ghost use Rattle.std.specs.Prelude.{◌≡◌, ◌≤◌, ◌<◌, [], length, IfOk};
-ghost use Rattle.teb_rules.specs.Driver.{Ascending, Turns};
+ghost use Rattle.script_text.specs.Scripts.{scripts_of as spec_scripts_of};
+ghost use Rattle.script_text.specs.Sessions.{AreOfSessions};
+ghost use Rattle.teb_rules.specs.Driver.{Turns};
 ghost use Rattle.driver_laws.specs.Laws.{most_requests};
 ghost use Rattle.fair_driver.specs.Seats.{scripts_on};
 ghost use Rattle.fair_driver.specs.Logged.{IsOf};
@@ -13,7 +15,7 @@ use chain_pool::PooledChains;
 use engine_core::Engine;
 use fair_driver::{Steps, turns};
 use input_reader::Input;
-use script_text::{Answered, Scripts, scripts_of};
+use script_text::{Answered, Line, scripts_of};
 use std::alloc::{AllocError, Global};
 use std::marker::Brand;
 use std::sync::ledger::{Blank, Ledger};
@@ -25,32 +27,32 @@ pub fn in_turns(alloc: Global, input: Input) -> Result<Ran, AllocError>
     ensures over { IfOk result (λ r. IsRunOver input.setup r.engine.store r.engine.names r.log.items r.engine.events) }
 {
     let (setup, lines) = input.into_parts();
-    let scripts = scripts_of(alloc, &lines)?;
     let mut engine = Engine::new(alloc, setup, PooledChains::new(alloc))?;
-    let log = drive::<PooledChains, Brand>(alloc, &mut engine, &scripts, Blank::new(1))?;
+    let log = drive::<PooledChains, Brand>(alloc, &mut engine, &lines, Blank::new(1))?;
     Ok(Ran { engine, log })
 }
 
-/// The replies to the sessions of an engine to which nothing has happened yet. The driver counts its requests on the
-/// ledger that the blank opens.
+/// The replies of an engine to which nothing has happened yet. The driver counts its requests on the ledger that the blank
+/// opens.
 fn drive<C: Chains, L: Ledger>(
     alloc: Global,
     engine: &mut Engine<C>,
-    scripts: &Scripts,
+    lines: &[Line],
     blank: Blank,
 ) -> Result<Vec<Answered>, AllocError>
     requires name { blank.name ≡ L.name }
     requires parts { blank.parts ≡ L.parts }
     requires some { 0 < L.parts }
     requires new { engine.old.events ≡ [] }
-    requires ascending { Ascending 0 (scripts_on scripts.now) }
-    ensures turns { IfOk result (λ log. IsOf (Turns engine.old.store (scripts_on scripts.now)) engine.old.store log.items engine.new.events) }
-    ensures few { IfOk result (λ log. length log.items ≤ most_requests (scripts_on scripts.now)) }
+    requires sessions { AreOfSessions lines.now }
+    ensures turns { IfOk result (λ log. IsOf (Turns engine.old.store (scripts_on (spec_scripts_of lines.now))) engine.old.store log.items engine.new.events) }
+    ensures few { IfOk result (λ log. length log.items ≤ most_requests (scripts_on (spec_scripts_of lines.now))) }
     ensures store { engine.new.store ≡ engine.old.store }
     ensures names { engine.new.names ≡ engine.old.names }
 {
+    let scripts = scripts_of(alloc, lines)?;
     let mut log = Vec::new(alloc);
     let mut steps = Steps::<L>::new(blank);
-    turns(alloc, engine, scripts, &mut log, &mut steps)?;
+    turns(alloc, engine, &scripts, &mut log, &mut steps)?;
     Ok(log)
 }

@@ -1,77 +1,161 @@
--- How a command that reads an input ends, from what was read and what was written.
-use Rattle.std.proofs.Common.{◌≡◌, ◌≢◌, ℕ, true, false, List, [], Option, Some, None, Result, Ok, Err, IfOk, MatchResult, refl, sym, ◌∙◌, subst}
+-- How a command ends, from what was read and what was written.
+use Rattle.std.proofs.Common.{◌≡◌, ◌≢◌, ℕ, true, false, List, [], Option, Some, None, Result, Ok, Err, IfOk, MatchResult, length, inl, refl, sym, ◌∙◌, subst}
+use Rattle.std.proofs.lemmas.List.{append-nil}
+use Rattle.std.specs.Io.KnownBytes.{Keeps, Appends}
+use Rattle.std.proofs.lemmas.Bool.{le-ltb, lt-ltb}
+use Rattle.std.specs.Prelude.{Vec}
+use Rattle.std.specs.declared.alloc.Global.{Global}
+use Rattle.teb_io.specs.declared.source.ReadError.{ReadError}
+use Rattle.teb_io.specs.declared.source.ReadError.TheVariants as read
+use Rattle.input_reader.specs.Reads.{read_error}
 use Rattle.std.specs.declared.alloc.AllocError.{AllocError}
 use Rattle.teb_history.specs.declared.Event.{Event}
-use Rattle.teb_history.specs.Written.{Written}
 use Rattle.tree_toml.specs.Meaning.{Meaning}
 use Rattle.command_output.specs.Shown.{Shown, events_of}
 use Rattle.input_reader.specs.declared.error.InputError.{InputError}
 use Rattle.input_reader.specs.declared.error.InputError.TheVariants.{ReadFault, TooLong, NoSeparator, BadTree, BadLine, OutOfMemory}
 use Rattle.input_reader.specs.Inputs.{input_of}
-use Rattle.input_reader.specs.Readings.{AreOf, IsReadFrom}
+use Rattle.input_reader.specs.Readings.{AreOf, AreReadFrom, IsReadFrom}
 use Rattle.input_reader.specs.Refusals.{ShowsInput, IsSetUp, refusal}
 use Rattle.input_reader.specs.Tasks.{Task}
 use Rattle.input_runner.specs.Runs.{IsSerialized}
+use Rattle.std.proofs.lemmas.Result.{IfOk-weaker}
+use Rattle.shop_load.specs.Shop.{shop}
+use Rattle.shop_load.specs.Runs.{IsLoad}
+use Rattle.hall_runner.specs.Outcomes.{IsServedBy, history_in}
+use Rattle.hall_runner.specs.declared.served.Served.{Served}
+use Rattle.hall_runner.specs.declared.served.Served.TheVariants.{Through, Spent}
 use Rattle.tebaldi.specs.Commands.{reads}
-use Rattle.tebaldi.specs.Endings.{IsWritten, IsRight}
-use Rattle.tebaldi.specs.Shows.{Shows, SetsUp}
+use Rattle.tebaldi.specs.Endings.{IsWritten, IsServedAndWritten, IsRight}
+use Rattle.tebaldi.specs.Shows.{Ends, SetsUp, ShowsBytes, IsAlone}
 use Rattle.tebaldi.specs.declared.command.Command.{Command}
+use Rattle.tebaldi.specs.declared.command.Command.TheVariants.{Threads, Load}
+use Rattle.tebaldi.specs.declared.ended.Ended.{Ended}
 
 -- what is serialized over one kind of setups is so over another that has them all
-pub serialized_over : (P Q : Meaning → Type 0) → ((m : Meaning) → P m → Q m) → (h : Option (List Event)) → IsSerialized P h → IsSerialized Q h
+serialized_over : (P Q : Meaning → Type 0) → ((m : Meaning) → P m → Q m) → (h : Option (List Event)) → IsSerialized P h → IsSerialized Q h
 serialized_over P Q f None s = tt
 serialized_over P Q f (Some h) s = (s.0, f s.0 s.1, s.2)
 
--- a command that shows what R says of an input
-module _ (command : Option Command) (R : Task → Shown → Type 0) (shows : (bytes : List ℕ) (d : Shown) → ShowsInput R bytes d → Shows command bytes d) (sets_up : (bytes : List ℕ) (m : Meaning) → IsSetUp bytes m → SetsUp command bytes m)
-    (left rest : Option (List ℕ)) (status : ℕ) (kept : Option Written) (before now : Option (List ℕ)) where
-  pub right_of : (task : Task) → IsReadFrom left rest (Ok task) → (r : Result Shown AllocError) → IfOk r (R task) → IfOk r (λ o. IsSerialized (λ m. task.setup ≡ m) o.history)
-      → MatchResult r (λ o. IsWritten o status kept before now) (λ _. status ≡ 8) → status ≢ 8 → IsRight command left rest status kept before now
-  right_of task read (Ok o) ran serialized written ne =
-      let bytes = read.0 in
-      let setup : (m : Meaning) → task.setup ≡ m → SetsUp command bytes m = λ m e. sets_up bytes m (rw read.2 e) in
-      let here : IsSerialized (SetsUp command bytes) o.history = serialized_over (λ (m : Meaning). task.setup ≡ m) (SetsUp command bytes) setup o.history serialized in
-      record {
-        bytes = bytes;
-        read = λ _. read.1;
-        shown = o;
-        shows = shows bytes o (rw read.2 ran);
-        written = written;
-        serialized = subst (IsSerialized (SetsUp command bytes)) (sym written.history) here;
-      }
-  right_of task read (Err e) ran serialized written ne = absurd (ne written)
+-- over the setup of a task that some bytes are
+serialized_by : (bytes : List ℕ) (task : Task) (Q : Meaning → Type 0) → ((m : Meaning) → IsSetUp bytes m → Q m) → input_of bytes ≡ Ok task → (kept h : Option (List Event)) → kept ≡ h → IsSerialized (λ (m : Meaning). task.setup ≡ m) h → IsSerialized Q kept
+serialized_by bytes task Q f read kept h same s =
+    let setup : (m : Meaning) → task.setup ≡ m → Q m = λ m e. f m (rw read e) in
+    subst (IsSerialized Q) (sym same) (serialized_over (λ (m : Meaning). task.setup ≡ m) Q setup h s)
 
-  refused : (e : InputError) → (bytes : List ℕ) → AreOf left rest bytes → input_of bytes ≡ Err e → IsWritten (refusal e) status kept before now → kept ≡ None → IsRight command left rest status kept before now
-  refused e bytes of is written none = record {
-    bytes = bytes;
-    read = λ _. of;
-    shown = refusal e;
-    shows = shows bytes (refusal e) (rw is refl);
-    written = written;
-    serialized = rw none tt;
-  }
+nothing_added : (before now : Option (List ℕ)) → Keeps before now → Appends before now []
+nothing_added None now k = tt
+nothing_added (Some xs) None k = k
+nothing_added (Some xs) (Some ys) k = k ∙ sym (append-nil xs)
 
-  pub refused_of : (e : InputError) → IsReadFrom left rest (Err e) → IsWritten (refusal e) status kept before now → kept ≡ None → (e ≡ ReadFault → status ≡ 3) → (e ≡ OutOfMemory → status ≡ 8) → status ≢ 3 → status ≢ 8 → IsRight command left rest status kept before now
-  refused_of ReadFault read written none fault memory nf nm = absurd (nf (fault refl))
-  refused_of OutOfMemory read written none fault memory nf nm = absurd (nm (memory refl))
-  refused_of TooLong read written none fault memory nf nm = refused TooLong read.0 read.1 read.2 written none
-  refused_of NoSeparator read written none fault memory nf nm = refused NoSeparator read.0 read.1 read.2 written none
-  refused_of (BadTree why) read written none fault memory nf nm = refused (BadTree why) read.0 read.1 read.2 written none
-  refused_of (BadLine n why) read written none fault memory nf nm = refused (BadLine n why) read.0 read.1 read.2 written none
+-- a refusal is what the words come to, where the input is refused
+pub refusal_ends : (e : Ended) (command : Option Command) (R : Task → Shown → Type 0) → ((bytes : List ℕ) (d : Shown) → ShowsInput R bytes d → Ends command bytes e d) → (bytes : List ℕ) (why : InputError) → input_of bytes ≡ Err why → Ends command bytes e (refusal why)
+refusal_ends e command R ends bytes why is = ends bytes (refusal why) (rw is refl)
 
--- a command that reads nothing
-module _ (command : Option Command) (unread : reads command ≡ false) (left rest : Option (List ℕ)) (status : ℕ) (kept : Option Written) (before now : Option (List ℕ)) where
-  pub right_alone : (d : Shown) → Shows command [] d → IsWritten d status kept before now → IsSerialized (SetsUp command []) d.history → IsRight command left rest status kept before now
-  right_alone d shows written serialized = record {
-    bytes = [];
-    read = λ e. (let z : false ≡ true = sym unread ∙ e in absurd (cc));
-    shown = d;
-    shows = shows;
-    written = written;
-    serialized = subst (IsSerialized (SetsUp command [])) (sym written.history) serialized;
-  }
+pub threads_refused : (workers : ℕ) (e : Ended) → IsAlone e → (bytes : List ℕ) (why : InputError) → input_of bytes ≡ Err why → Ends (Some (Threads workers)) bytes e (refusal why)
+threads_refused workers e alone bytes why is = rw is (refl, alone)
 
-  -- with an output, or for want of memory without one
-  pub right_output : (r : Result Shown AllocError) → IfOk r (λ o. Shows command [] o) → IfOk r (λ o. IsSerialized (SetsUp command []) o.history) → MatchResult r (λ o. IsWritten o status kept before now) (λ _. status ≡ 8) → status ≢ 8 → IsRight command left rest status kept before now
-  right_output (Ok o) shows serialized written ne = right_alone o shows written serialized
-  right_output (Err e) shows serialized written ne = absurd (ne written)
+module _ (left rest : Option (List ℕ)) (e : Ended) (before now : Option (List ℕ)) where
+  -- a command whose input is refused
+  module _ (command : Option Command) (ends : (bytes : List ℕ) (why : InputError) → input_of bytes ≡ Err why → Ends command bytes e (refusal why)) where
+    refused : (why : InputError) (bytes : List ℕ) → AreOf left rest bytes → input_of bytes ≡ Err why → IsWritten (refusal why) e.status e.history before now → e.history ≡ None → IsRight command left rest e before now
+    refused why bytes of is written none = record {
+      bytes = bytes;
+      read = λ _. of;
+      shown = refusal why;
+      ends = ends bytes why is;
+      written = written;
+      serialized = rw none tt;
+    }
+
+    pub refused_of : (why : InputError) → IsReadFrom left rest (Err why) → IsWritten (refusal why) e.status e.history before now → e.history ≡ None → (why ≡ ReadFault → e.status ≡ 3) → (why ≡ OutOfMemory → e.status ≡ 8) → e.status ≢ 3 → e.status ≢ 8 → IsRight command left rest e before now
+    refused_of ReadFault read written none fault memory nf nm = absurd (nf (fault refl))
+    refused_of OutOfMemory read written none fault memory nf nm = absurd (nm (memory refl))
+    refused_of TooLong read written none fault memory nf nm = refused TooLong read.0 read.1 read.2 written none
+    refused_of NoSeparator read written none fault memory nf nm = refused NoSeparator read.0 read.1 read.2 written none
+    refused_of (BadTree why) read written none fault memory nf nm = refused (BadTree why) read.0 read.1 read.2 written none
+    refused_of (BadLine n why) read written none fault memory nf nm = refused (BadLine n why) read.0 read.1 read.2 written none
+
+  -- a command that shows what R says of an input
+  module _ (command : Option Command) (R : Task → Shown → Type 0) (ends : (bytes : List ℕ) (d : Shown) → ShowsInput R bytes d → Ends command bytes e d) (sets_up : (bytes : List ℕ) (m : Meaning) → IsSetUp bytes m → SetsUp command bytes m) where
+    pub right_of : (task : Task) → IsReadFrom left rest (Ok task) → (r : Result Shown AllocError) → IfOk r (R task) → IfOk r (λ o. IsSerialized (λ m. task.setup ≡ m) o.history)
+        → MatchResult r (λ o. IsWritten o e.status e.history before now) (λ _. e.status ≡ 8) → e.status ≢ 8 → IsRight command left rest e before now
+    right_of task read (Ok o) ran serialized written ne = record {
+      bytes = read.0;
+      read = λ _. read.1;
+      shown = o;
+      ends = ends read.0 o (rw read.2 ran);
+      written = written;
+      serialized = serialized_by read.0 task (SetsUp command read.0) (sets_up read.0) read.2 (events_of e.history) o.history written.history serialized;
+    }
+    right_of task read (Err w) ran serialized written ne = absurd (ne written)
+
+  -- a command whose bytes are no input, and that keeps no history
+  module _ (command : Option Command) (R : List ℕ → Shown → Type 0) (ends : (bytes : List ℕ) (d : Shown) → ShowsBytes (λ text. R text d) bytes d → Ends command bytes e d) where
+    shown_bytes : (d : Shown) (bytes : List ℕ) → AreOf left rest bytes → ShowsBytes (λ text. R text d) bytes d → d.history ≡ None → IsWritten d e.status e.history before now → IsRight command left rest e before now
+    shown_bytes d bytes of shows none written = record {
+      bytes = bytes;
+      read = λ _. of;
+      shown = d;
+      ends = ends bytes d shows;
+      written = written;
+      serialized = subst (IsSerialized (SetsUp command bytes)) (sym (written.history ∙ none)) tt;
+    }
+
+    pub bytes_of : (text : Vec ℕ Global) → AreReadFrom left rest (Ok text) → (r : Result Shown AllocError) → IfOk r (R text.items) → IfOk r (λ o. o.history ≡ None)
+        → MatchResult r (λ o. IsWritten o e.status e.history before now) (λ _. e.status ≡ 8) → e.status ≢ 8 → IsRight command left rest e before now
+    bytes_of text read (Ok o) is none written ne = shown_bytes o text.items read.0 (rw (le-ltb 4194304 (length text.items) read.1) is) none written
+    bytes_of text read (Err w) is none written ne = absurd (ne written)
+
+    pub bytes_refused : (why : ReadError) → AreReadFrom left rest (Err why) → (x : InputError) → x ≡ read_error why → IsWritten (refusal x) e.status e.history before now → (x ≡ ReadFault → e.status ≡ 3) → (x ≡ OutOfMemory → e.status ≡ 8) → e.status ≢ 3 → e.status ≢ 8 → IsRight command left rest e before now
+    bytes_refused read.ReadFault are x is written fault memory nf nm = absurd (nf (fault is))
+    bytes_refused read.OutOfMemory are x is written fault memory nf nm = absurd (nm (memory is))
+    bytes_refused read.TooLong are x is written fault memory nf nm = shown_bytes (refusal TooLong) are.0 are.1 (rw (lt-ltb 4194304 (length are.0) are.2) refl) refl (subst (λ (y : InputError). IsWritten (refusal y) e.status e.history before now) is written)
+
+  -- several threads
+  module _ (workers : ℕ) where
+    pub served_of : (task : Task) → IsReadFrom left rest (Ok task) → (r : Result Served AllocError) → IfOk r (IsServedBy task) → IfOk r (λ s. IsSerialized (λ m. task.setup ≡ m) (history_in s))
+        → MatchResult r (λ s. IsServedAndWritten s e before now) (λ _. e.status ≡ 8) → e.status ≢ 8 → IsRight (Some (Threads workers)) left rest e before now
+    served_of task read (Ok (Through o entries)) served serialized written ne = record {
+      bytes = read.0;
+      read = λ _. read.1;
+      shown = o;
+      ends = rw (read.2, written.1, written.2) served;
+      written = written.0;
+      serialized = serialized_by read.0 task (IsSetUp read.0) (λ m s. s) read.2 (events_of e.history) o.history written.0.history serialized;
+    }
+    served_of task read (Ok (Spent p)) spent serialized written ne = record {
+      bytes = read.0;
+      read = λ _. read.1;
+      shown = record { status = 10; text = []; history = None };
+      ends = rw (read.2, written.3, written.4) (spent, refl);
+      written = record { written = inl (written.0, nothing_added before now written.1); history = rw written.2 refl };
+      serialized = rw written.2 tt;
+    }
+    served_of task read (Err w) served serialized written ne = absurd (ne written)
+
+  -- a command that reads nothing
+  module _ (command : Option Command) (unread : reads command ≡ false) where
+    pub right_alone : (d : Shown) → Ends command [] e d → IsWritten d e.status e.history before now → IsSerialized (SetsUp command []) d.history → IsRight command left rest e before now
+    right_alone d ends written serialized = record {
+      bytes = [];
+      read = λ r. (let z : false ≡ true = sym unread ∙ r in absurd (cc));
+      shown = d;
+      ends = ends;
+      written = written;
+      serialized = subst (IsSerialized (SetsUp command [])) (sym written.history) serialized;
+    }
+
+    -- with an output, or for want of memory without one
+    pub right_output : (r : Result Shown AllocError) → IfOk r (λ o. Ends command [] e o) → IfOk r (λ o. IsSerialized (SetsUp command []) o.history) → MatchResult r (λ o. IsWritten o e.status e.history before now) (λ _. e.status ≡ 8) → e.status ≢ 8 → IsRight command left rest e before now
+    right_output (Ok o) ends serialized written ne = right_alone o ends written serialized
+    right_output (Err w) ends serialized written ne = absurd (ne written)
+
+  -- what the words come to, by their command
+  pub right_words : (command known : Option Command) → command ≡ known → reads known ≡ false → (d : Shown) → Ends known [] e d → IsWritten d e.status e.history before now → d.history ≡ None → IsRight command left rest e before now
+  right_words command known is unread d ends written none = rw is (right_alone known unread d ends written (rw none tt))
+
+  pub right_load : (command : Option Command) (number size : ℕ) → command ≡ Some (Load number size) → (r : Result Shown AllocError) → IfOk r (IsLoad number size) → IfOk r (λ o. IsSerialized (λ m. shop ≡ m) o.history)
+      → MatchResult r (λ o. IsWritten o e.status e.history before now) (λ _. e.status ≡ 8) → IsAlone e → e.status ≢ 8 → IsRight command left rest e before now
+  right_load command number size is r shown serialized written alone ne =
+      rw is (right_output (Some (Load number size)) refl r (IfOk-weaker r (IsLoad number size) (λ o. IsLoad number size o × IsAlone e) (λ o h. (h, alone)) shown) serialized written ne)

@@ -38,8 +38,9 @@ command_of (w ∷ n ∷ []) = counted_command w n
 command_of (w ∷ n ∷ s ∷ []) = load_command w n s
 command_of _ = None
 
--- the numbers of a load are within their limits
+-- the numbers are within their limits
 abbrev pub IsWithin : Command → Type 0
+IsWithin (command.Threads workers) = 1 ≤ workers
 IsWithin (command.Load number size) = (number < 2 ^ 31) × (size ≤ 2000)
 IsWithin _ = Unit {0}
 
@@ -47,6 +48,8 @@ IsWithin _ = Unit {0}
 abbrev pub reads : Option Command → Bool
 reads (Some command.Replay) = true
 reads (Some command.Turns) = true
+reads (Some command.Audit) = true
+reads (Some (command.Threads workers)) = true
 reads _ = false
 
 abbrev pub texts : List (String Global) → List (List ℕ)

@@ -1,5 +1,5 @@
 -- How a command ends: what was shown, and what of it was written.
-use Rattle.std.specs.Prelude.{◌≡◌, ◌⊎◌, ℕ, true, List, Option, None}
+use Rattle.std.specs.Prelude.{◌≡◌, ◌⊎◌, ℕ, true, List, Option, Some, None}
 use Rattle.std.specs.Io.KnownBytes.{Appends, Keeps}
 use Rattle.teb_history.specs.Written.{Written}
 use Rattle.teb_io.specs.Bytes.{AppendsFront}
@@ -7,26 +7,35 @@ use Rattle.teb_io.specs.Faults.{Rose}
 use Rattle.command_output.specs.Shown.{Shown, events_of}
 use Rattle.input_reader.specs.Readings.{AreOf}
 use Rattle.input_runner.specs.Runs.{IsSerialized}
+use Rattle.hall_runner.specs.declared.served.Served.{Served}
+use Rattle.hall_runner.specs.declared.served.Served.TheVariants.{Through, Spent}
 use Rattle.tebaldi.specs.Commands.{reads}
-use Rattle.tebaldi.specs.Shows.{Shows, SetsUp}
+use Rattle.tebaldi.specs.Shows.{Ends, SetsUp, IsAlone}
 use Rattle.tebaldi.specs.declared.command.Command.{Command}
+use Rattle.tebaldi.specs.declared.ended.Ended.{Ended}
 
 -- the text was written whole and the status is its own, or the status is 4 and a part of the text was written; the history is its own either way
 pub record IsWritten (d : Shown) (status : ℕ) (kept : Option Written) (before now : Option (List ℕ)) : Type 0 where
   pub written : ((status ≡ d.status) × Appends before now d.text) ⊎ ((status ≡ 4) × AppendsFront before now d.text)
   pub history : events_of kept ≡ d.history
 
+-- the output was written, and the entries are kept; or nothing was written, and the spent pass is kept
+abbrev pub IsServedAndWritten : Served → Ended → Option (List ℕ) → Option (List ℕ) → Type 0
+IsServedAndWritten (Through output entries) e before now = IsWritten output e.status e.history before now × (e.entries ≡ Some entries) × (e.spent ≡ None)
+IsServedAndWritten (Spent p) e before now = (e.status ≡ 10) × Keeps before now × (e.history ≡ None) × (e.entries ≡ None) × (e.spent ≡ Some p)
+
 -- there are bytes, those of the source where the command reads, by which the words come to what was written; the history of a run is serialized over the store
 -- that these bytes set up, or over the shop for a generated load
-pub record IsRight (command : Option Command) (left rest : Option (List ℕ)) (status : ℕ) (kept : Option Written) (before now : Option (List ℕ)) : Type 0 where
+pub record IsRight (command : Option Command) (left rest : Option (List ℕ)) (e : Ended) (before now : Option (List ℕ)) : Type 0 where
   pub bytes : List ℕ
   pub read : reads command ≡ true → AreOf left rest bytes
   pub shown : Shown
-  pub shows : Shows command bytes shown
-  pub written : IsWritten shown status kept before now
-  pub serialized : IsSerialized (SetsUp command bytes) (events_of kept)
+  pub ends : Ends command bytes e shown
+  pub written : IsWritten shown e.status e.history before now
+  pub serialized : IsSerialized (SetsUp command bytes) (events_of e.history)
 
--- nothing was written, and there is no history
-pub record IsSilent (kept : Option Written) (before now : Option (List ℕ)) : Type 0 where
+-- nothing was written, and nothing is kept
+pub record IsSilent (e : Ended) (before now : Option (List ℕ)) : Type 0 where
   pub unwritten : Keeps before now
-  pub history : kept ≡ None
+  pub history : e.history ≡ None
+  pub alone : IsAlone e

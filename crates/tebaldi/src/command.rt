@@ -93,7 +93,7 @@ fn load_command(word: &str, number: &str, size: &str) -> Option<Command>
 #[tactic(auto, unfolding(crate::specs::Commands::number_within))]
 fn number_within(digits: &str, low: u32, high: u32) -> Option<u32>
     ensures value { result ≡ number_within low high digits.now }
-    ensures bound { IfSome result (λ n. n ≤ high) }
+    ensures bound { IfSome result (λ n. (low ≤ n) × (n ≤ high)) }
 {
     if digits.len() > 10 {
         return None;

@@ -1,12 +1,15 @@
 //! What no run of the program can show: an input in pieces, a device that fails at one call or has little room, whether there is a
 //! history, and sessions that no script can name.
 
+use super::Unguarded;
 use super::top::run_tebaldi;
 use chain_pool::PooledChains;
 use engine_core::Engine;
 use std::alloc::{AllocError, Global};
 use std::process::Abort;
+use std::sync::Wait;
 use std::test::Fail;
+use std::thread::Threads;
 use teb_io::{MemSink, MemSource};
 use teb_names::{Refusal, Reply, Request, Session};
 use tree_toml::read_tree;
@@ -24,11 +27,16 @@ struct Seen {
 }
 
 // Replays the input, which is read by single bytes, with this call of the source failing and so much room in the sink.
-fn replay(alloc: Global, failing: u32, room: usize) -> Result<Seen, AllocError> {
+fn replay<R: Threads + Wait + Sync>(
+    rt: &R,
+    alloc: Global,
+    failing: u32,
+    room: usize,
+) -> Result<Seen, AllocError> {
     let words = vec![in alloc; String::from_str(alloc, "replay")?]?;
     let mut input = MemSource::new(INPUT.to_vec(alloc)?, 1, vec![in alloc; failing]?);
     let mut out = MemSink::new(alloc, room, Vec::new(alloc))?;
-    let ended = run_tebaldi(alloc, &words, &mut input, &mut out);
+    let ended = run_tebaldi(rt, alloc, &words, &mut input, &mut out, &Unguarded);
     Ok(Seen {
         status: ended.status,
         text: out.bytes().to_vec(alloc)?,
@@ -46,10 +54,10 @@ fn sees(rt: &impl Abort, seen: &Seen, status: u8, text: &[u8], has_history: bool
 #[test]
 fn each_read_may_fail(rt: HostRuntime) -> Result<(), Fail> {
     for call in 1..=39u32 {
-        let seen = replay(rt.alloc(), call, TEXT.len())?;
+        let seen = replay(&rt, rt.alloc(), call, TEXT.len())?;
         sees(&rt, &seen, 3, b"", false);
     }
-    let seen = replay(rt.alloc(), 40, TEXT.len())?;
+    let seen = replay(&rt, rt.alloc(), 40, TEXT.len())?;
     sees(&rt, &seen, 0, TEXT, true);
     Ok(())
 }
@@ -57,7 +65,7 @@ fn each_read_may_fail(rt: HostRuntime) -> Result<(), Fail> {
 #[test]
 fn a_sink_takes_what_it_has_room_for(rt: HostRuntime) -> Result<(), Fail> {
     for room in 0..TEXT.len() {
-        let seen = replay(rt.alloc(), 40, room)?;
+        let seen = replay(&rt, rt.alloc(), 40, room)?;
         sees(&rt, &seen, 4, &TEXT[..room], true);
     }
     Ok(())

@@ -6,33 +6,44 @@ ghost use Rattle.tebaldi.specs.Commands.{command_of, reads, texts};
 ghost use Rattle.tebaldi.specs.Endings.{IsRight, IsSilent};
 
 use crate::command::{Command, command_of};
-use crate::ended::{Ended, put_out, write};
-use crate::source::{replay_source, turn_source};
-use command_output::status::{BAD_WORDS, NOT_BUILT};
+use crate::ended::Ended;
+use crate::source::{audit_source, replay_source, serve_source, turn_source};
+use crate::writing::{not_built, put_out, write};
+use command_output::status::BAD_WORDS;
+use session_server::Gate;
 use shop_load::run_load;
 use std::alloc::Global;
+use std::sync::Wait;
+use std::thread::Threads;
 use teb_io::{Sink, Source};
 
 /// Does what the words say: reads the input, runs it, and writes the whole text at once. The words are looked at
-/// first, and only `replay` and `turns` read. Where a read fails or memory is wanting, nothing is written.
-pub fn run_tebaldi<S: Source, K: Sink>(
+/// first, and only `replay`, `turns`, `threads` and `audit` read. Where a read fails or memory is wanting, nothing is written and
+/// nothing is kept. Only `threads` waits and starts threads; the gate is called round each of its requests.
+pub fn run_tebaldi<R: Threads + Wait + Sync, S: Source, K: Sink, G: Gate + Sync>(
+    rt: &R,
     alloc: Global,
     words: &Vec<String>,
     input: &mut S,
     out: &mut K,
+    gate: &G,
 ) -> Ended
     // There are bytes, those of the source where it tells them, by which the words come to what was written. Of the history of any run, over the store that these bytes set up, or over the shop: the serial order, executed whole, gives every read its value and the final tables; it keeps every node's order; nobody commits before a transaction it read from.
-    ensures right { result.status ≢ 3 → result.status ≢ 8 → IsRight (command_of (texts words.now.items)) (S.left input.old) (S.left input.new) result.status result.history (K.written out.old) (K.written out.new) }
-    ensures read_fault { result.status ≡ 3 → Rose (S.faults input.old) (S.faults input.new) × IsSilent result.history (K.written out.old) (K.written out.new) }
+    ensures right { result.status ≢ 3 → result.status ≢ 8 → IsRight (command_of (texts words.now.items)) (S.left input.old) (S.left input.new) result (K.written out.old) (K.written out.new) }
+    ensures read_fault { result.status ≡ 3 → Rose (S.faults input.old) (S.faults input.new) × IsSilent result (K.written out.old) (K.written out.new) }
     ensures write_fault { result.status ≡ 4 → Rose (K.faults out.old) (K.faults out.new) }
-    ensures out_of_memory { result.status ≡ 8 → IsSilent result.history (K.written out.old) (K.written out.new) }
+    ensures out_of_memory { result.status ≡ 8 → IsSilent result (K.written out.old) (K.written out.new) }
     ensures unread { reads (command_of (texts words.now.items)) ≡ false → input.new ≡ input.old }
 {
     match command_of(words) {
         Some(Command::Replay) => replay_source(alloc, input, out),
         Some(Command::Turns) => turn_source(alloc, input, out),
+        Some(Command::Threads(workers)) => serve_source(rt, alloc, workers, input, out, gate),
+        Some(Command::Audit) => audit_source(alloc, input, out),
         Some(Command::Load { number, size }) => put_out(out, run_load(alloc, number, size)),
-        Some(_) => write(out, NOT_BUILT, b"not built\n", None),
+        Some(Command::Crash(_)) => not_built(out),
+        Some(Command::Phases) => not_built(out),
+        Some(Command::Pool(_)) => not_built(out),
         None => write(out, BAD_WORDS, b"bad words\n", None),
     }
 }

@@ -11,5 +11,5 @@ returns-clause-serializes g c =
     let tree = c.setup-setup.result.now.tree in
     let told : List (List (List ℕ)) → Setup = λ ps. record { types = tree.types; profiles = ps; tree = tree.rows } in
     let same = ap (λ (ps : List (List (List ℕ))). serial_order (told ps) c.history.result.now.events) c.deref.ensures.value
-        ∙ ap₂ (λ (X : Store) (H : List Event). serial_order X.setup H) c.setup-setup.ensures.store c.history.ensures.events in
+    ∙ ap₂ (λ (X : Store) (H : List Event). serial_order X.setup H) c.setup-setup.ensures.store c.history.ensures.events in
     IfOk-weaker c.order_by_keys.result _ _ (λ v o. order_serializes c.args.engine.now c.history.ensures.reached v.items (o ∙ same)) c.order_by_keys.ensures

@@ -1,13 +1,14 @@
 use Rattle.std.proofs.Common.{Some}
 use Rattle.input_runner.specs.Runs.{IsRun, AreTurns, IsReport}
 use Rattle.tebaldi.specs.declared.command.Command.TheVariants.{Turns}
-use Rattle.tebaldi.proofs.Rightness.{right_of, refused_of}
+use Rattle.tebaldi.proofs.Rightness.{right_of, refusal_ends, refused_of}
 use Rattle.tebaldi.proofs.source.turn_source.Goals as goal
 
 pub returns-in-Ok-clause-right : goal.returns-in-Ok-clause-right
 returns-in-Ok-clause-right g c = λ nf nm.
-    right_of (Some Turns) (IsRun AreTurns IsReport) (λ bytes d s. s) (λ bytes m s. s) _ _ _ _ _ _ c.in-Ok.read c.in-Ok.ensures.read c.run_turns.result c.run_turns.ensures.shown c.run_turns.ensures.serialized c.put_out.ensures.written nm
+    right_of _ _ c.put_out.result _ _ (Some Turns) (IsRun AreTurns IsReport) (λ bytes d s. (s, c.put_out.ensures.alone)) (λ bytes m s. s) c.in-Ok.read c.in-Ok.ensures.read c.run_turns.result c.run_turns.ensures.shown c.run_turns.ensures.serialized c.put_out.ensures.written nm
 
 pub returns-in-Err-clause-right : goal.returns-in-Err-clause-right
 returns-in-Err-clause-right g c = λ nf nm.
-    refused_of (Some Turns) (IsRun AreTurns IsReport) (λ bytes d s. s) (λ bytes m s. s) _ _ _ _ _ _ c.in-Err.error c.in-Err.ensures.read (c.refuse.ensures.written nf nm) c.refuse.ensures.history c.refuse.ensures.read_fault c.refuse.ensures.memory nf nm
+    refused_of _ _ c.refuse.result _ _ (Some Turns) (refusal_ends c.refuse.result (Some Turns) (IsRun AreTurns IsReport) (λ bytes d s. (s, c.refuse.ensures.alone)))
+    c.in-Err.error c.in-Err.ensures.read (c.refuse.ensures.written nf nm) c.refuse.ensures.history c.refuse.ensures.read_fault c.refuse.ensures.memory nf nm

@@ -1,0 +1,51 @@
+//! The command that checks a printed run.
+#![tactic(auto)]
+
+ghost use Rattle.std.specs.Prelude.{◌≡◌, ◌≤◌, length, Some, None, IfOk};
+ghost use Rattle.audit_runner.specs.Verdicts.{audited, verdict, why_text};
+
+use audit_check::{AuditError, AuditWhy, audit};
+use command_output::Output;
+use command_output::status::{AUDIT_NO, OK};
+use itoa::Buffer;
+use std::alloc::{AllocError, Global};
+
+/// Whether a text is a printed run whose order executes to its reads and its final rows: `audit yes`, or the first line
+/// that is wrong and why.
+pub fn run_audit(alloc: Global, text: &[u8]) -> Result<Output, AllocError>
+    requires { length text.now ≤ 4194304 }
+    ensures shown { IfOk result (λ o. o ≡ audited text.now) }
+    ensures history { IfOk result (λ o. o.history ≡ None) }
+{
+    match audit(alloc, text) {
+        Ok(()) => Output::line(alloc, OK, "audit yes"),
+        Err(AuditError::No { line, why }) => wrong_line(alloc, line, why),
+        Err(AuditError::OutOfMemory) => Err(AllocError),
+    }
+}
+
+fn wrong_line(alloc: Global, line: u32, why: AuditWhy) -> Result<Output, AllocError>
+    ensures shown { IfOk result (λ o. o ≡ verdict (Some (line, why))) }
+    ensures history { IfOk result (λ o. o.history ≡ None) }
+{
+    let mut text = Vec::new(alloc);
+    text.extend_from_slice(b"audit no line ")?;
+    text.extend_from_slice(Buffer::new().format(line).as_bytes())?;
+    text.push(b' ')?;
+    text.extend_from_slice(why_text(why).as_bytes())?;
+    text.push(b'\n')?;
+    Ok(Output::new(AUDIT_NO, text, None))
+}
+
+fn why_text(why: AuditWhy) -> &'static str
+    ensures { result.now ≡ why_text why }
+{
+    match why {
+        AuditWhy::Form => "form",
+        AuditWhy::Txn => "txn",
+        AuditWhy::Order => "order",
+        AuditWhy::After => "after",
+        AuditWhy::Read => "read",
+        AuditWhy::Row => "row",
+    }
+}

@@ -1,0 +1,52 @@
+-- What a run by several threads comes to, by its outcome.
+use Rattle.std.specs.Prelude.{◌≡◌, List, [], Option, Some, None, IfSome}
+use Rattle.teb_names.specs.declared.Entry.{Entry}
+use Rattle.teb_names.specs.declared.Session.{Session}
+use Rattle.teb_names.specs.declared.naming.NameBook.{NameBook}
+use Rattle.teb_history.specs.declared.Event.{Event}
+use Rattle.teb_rules.specs.Setup.{Store}
+use Rattle.teb_rules.specs.Ranks.{serial_order}
+use Rattle.teb_rules.specs.Serializes.{Serializes}
+use Rattle.version_chain.specs.declared.chains.Chains.{Ghosts}
+use Rattle.script_text.specs.declared.Line.{Line}
+use Rattle.script_text.specs.Scripts.{scripts_of}
+use Rattle.session_server.specs.declared.pass.Pass.{Pass}
+use Rattle.tree_toml.specs.Meaning.{Meaning}
+use Rattle.tree_toml.specs.Sound.{IsWhole, IsNamed}
+use Rattle.command_output.specs.Shown.{Shown}
+use Rattle.input_reader.specs.Stores.{store_of, names_of}
+use Rattle.input_reader.specs.Tasks.{Task}
+use Rattle.hall_runner.specs.Served.{AreServed}
+use Rattle.hall_runner.specs.Spent.{IsSpentOn}
+use Rattle.hall_runner.specs.declared.served.Served.{Served}
+use Rattle.hall_runner.specs.declared.served.Served.TheVariants.{Through, Spent}
+
+-- of these scripts, over a store
+abbrev pub IsServedOver : Store → NameBook → List (Session × List Line) → Served → Type 0
+IsServedOver X names scripts (Through output entries) = AreServed X names scripts entries output
+IsServedOver X names scripts (Spent p) = IsSpentOn scripts p
+
+abbrev pub IsServedBy : Task → Served → Type 0
+IsServedBy task s = IsServedOver (store_of task.setup) (names_of task.setup) (scripts_of task.lines) s
+
+-- all scripts were worked through, and the entries are kept; or a pass is spent, and nothing is shown
+abbrev pub IsServedAs : {C : Type 0} {g : Ghosts C} → Task → Option (List Entry) → Option (Pass C g) → Shown → Type 0
+IsServedAs task (Some entries) None d = AreServed (store_of task.setup) (names_of task.setup) (scripts_of task.lines) entries d
+IsServedAs task None (Some p) d = IsSpentOn (scripts_of task.lines) p × (d ≡ record { status = 10; text = []; history = None })
+IsServedAs task _ _ d = ⊥
+
+abbrev pub history_in : Served → Option (List Event)
+history_in (Through output entries) = output.history
+history_in (Spent p) = None
+
+-- the history, where there is one, is serialized over this store
+abbrev pub IsSerializedOver : Store → Option (List Event) → Type 0
+IsSerializedOver X history = IfSome history (λ H. Serializes X H (serial_order X.setup H))
+
+-- a store and names that are a setup's
+pub record AreSetUp (X : Store) (names : NameBook) : Type 0 where
+  pub setup : Meaning
+  pub whole : IsWhole setup
+  pub nodes : IsNamed setup
+  pub store : X ≡ store_of setup
+  pub named : names ≡ names_of setup

@@ -1,0 +1,57 @@
+//! The printed run: starting rows, events, serial order, final rows.
+
+ghost use Rattle.std.specs.Prelude.{◌≡◌, ◌++◌, All, List, Some, IfOk, OnOk, reverse};
+ghost use Rattle.std.specs.List.{flat_map};
+ghost use Rattle.script_text.specs.Texts.{event_text};
+ghost use Rattle.script_text.specs.Named.{EventNamed, RowsNamed};
+ghost use Rattle.serial_order.specs.Tables.{IsFinalRows};
+ghost use Rattle.tree_toml.specs.Meaning.{Meaning};
+ghost use Rattle.script_text.specs.declared.Answered.{Answered};
+ghost use Rattle.input_runner.specs.Runs.{IsReportAfter, IsRunOver};
+ghost use Rattle.hall_runner.specs.Served.{lines_of_run};
+
+use chain_pool::PooledChains;
+use command_output::Output;
+use command_output::status::OK;
+use engine_core::Engine;
+use input_runner::put_ending;
+use script_text::{put_event, put_starts};
+use std::alloc::{AllocError, Global};
+use teb_history::Event;
+use teb_names::NameBook;
+use version_chain::Chains;
+
+/// The printed run of an engine, with status 0, and its history.
+pub fn output_of(alloc: Global, engine: Engine<PooledChains>) -> Result<Output, AllocError>
+    requires { (m : Meaning) × (log : List Answered) × IsRunOver m engine.store engine.names log engine.events }
+    ensures { IfOk result (λ o. (o.status ≡ 0) × (o.history ≡ Some engine.events)
+        × IsReportAfter (lines_of_run engine.store engine.names engine.events) engine.store engine.names engine.events o.text) }
+{
+    let text = printed(alloc, &engine)?;
+    Ok(Output::new(OK, text, Some(engine.into_history())))
+}
+
+/// The start lines, the event lines of the engine's history, and the report.
+fn printed<C: Chains>(alloc: Global, engine: &Engine<C>) -> Result<Vec<u8>, AllocError>
+    requires starts { RowsNamed engine.now.names engine.now.store.rows }
+    requires events { All (EventNamed engine.now.names) (reverse engine.now.events) }
+    requires rows { (rows : _) → IsFinalRows engine.now.store engine.now.events rows → RowsNamed engine.now.names rows }
+    ensures { IfOk result (λ v. IsReportAfter (lines_of_run engine.now.store engine.now.names engine.now.events) engine.now.store engine.now.names engine.now.events v.items) }
+{
+    let setup = engine.setup();
+    let mut text = Vec::new(alloc);
+    put_starts(&mut text, &setup.names, &setup.rows)?;
+    put_events(&mut text, &setup.names, engine.history().events())?;
+    put_ending(alloc, &mut text, engine)?;
+    Ok(text)
+}
+
+fn put_events(out: &mut Vec<u8>, names: &NameBook, events: &[Event]) -> Result<(), AllocError>
+    requires { All (EventNamed names.now) events.now }
+    ensures { OnOk result (out.new.items ≡ out.old.items ++ flat_map (event_text names.now) events.now) }
+{
+    for event in events {
+        put_event(out, names, event)?;
+    }
+    Ok(())
+}

@@ -1,0 +1,106 @@
+//! The writing of what a command shows.
+
+ghost use Rattle.std.specs.Prelude.{◌≡◌, ◌≢◌, MatchResult};
+ghost use Rattle.teb_io.specs.Faults.{Rose};
+ghost use Rattle.command_output.specs.Shown.{events_of, IsShowable};
+ghost use Rattle.tebaldi.specs.Endings.{IsWritten, IsServedAndWritten, IsSilent};
+ghost use Rattle.tebaldi.specs.Shows.{IsAlone, not_built};
+
+use crate::ended::Ended;
+use command_output::Output;
+use command_output::status::{NOT_BUILT, OUT_OF_MEMORY, PASS_SPENT, WRITE_FAULT};
+use hall_runner::Served;
+use std::alloc::AllocError;
+use teb_history::History;
+use teb_io::{Sink, write_whole};
+
+/// Ends with a status where there is nothing to write and nothing to keep.
+pub fn silent(status: u8) -> Ended
+    ensures { result ≡ record { status = status; history = None; entries = None; spent = None } }
+{
+    Ended {
+        status,
+        history: None,
+        entries: None,
+        spent: None,
+    }
+}
+
+/// Writes the text, and ends with the status, or, where the text can't be written whole, with that of a write fault.
+pub fn write<K: Sink>(out: &mut K, status: u8, text: &[u8], history: Option<History>) -> Ended
+    requires { IsShowable status }
+    ensures written { IsWritten (record { status = status; text = text.now; history = events_of history }) result.status result.history (K.written out.old) (K.written out.new) }
+    ensures fault { result.status ≡ 4 → Rose (K.faults out.old) (K.faults out.new) }
+    ensures loud { (result.status ≢ 3) × (result.status ≢ 8) }
+    ensures alone { IsAlone result }
+{
+    let status = match write_whole(out, text) {
+        Ok(()) => status,
+        Err(_) => WRITE_FAULT,
+    };
+    Ended {
+        status,
+        history,
+        entries: None,
+        spent: None,
+    }
+}
+
+/// Writes that the program does not have the command yet.
+pub fn not_built<K: Sink>(out: &mut K) -> Ended
+    ensures written { IsWritten not_built result.status result.history (K.written out.old) (K.written out.new) }
+    ensures fault { result.status ≡ 4 → Rose (K.faults out.old) (K.faults out.new) }
+    ensures loud { (result.status ≢ 3) × (result.status ≢ 8) }
+    ensures alone { IsAlone result }
+{
+    write(out, NOT_BUILT, b"not built\n", None)
+}
+
+/// Writes what a command puts out; nothing where memory is wanting.
+pub fn put_out<K: Sink>(out: &mut K, output: Result<Output, AllocError>) -> Ended
+    ensures written { MatchResult output (λ o. IsWritten o result.status result.history (K.written out.old) (K.written out.new)) (λ _. result.status ≡ 8) }
+    ensures fault { result.status ≡ 4 → Rose (K.faults out.old) (K.faults out.new) }
+    ensures silent { result.status ≡ 8 → IsSilent result (K.written out.old) (K.written out.new) }
+    ensures read { result.status ≢ 3 }
+    ensures alone { IsAlone result }
+{
+    match output {
+        Ok(output) => {
+            let (status, text, history) = output.into_parts();
+            write(out, status, &text, history)
+        }
+        Err(_) => silent(OUT_OF_MEMORY),
+    }
+}
+
+/// Writes what several threads come to; nothing where a pass is spent or memory is wanting.
+pub fn put_served<K: Sink>(out: &mut K, served: Result<Served, AllocError>) -> Ended
+    ensures written { MatchResult served (λ s. IsServedAndWritten s result (K.written out.old) (K.written out.new)) (λ _. result.status ≡ 8) }
+    ensures fault { result.status ≡ 4 → Rose (K.faults out.old) (K.faults out.new) }
+    ensures silent { result.status ≡ 8 → IsSilent result (K.written out.old) (K.written out.new) }
+    ensures read { result.status ≢ 3 }
+{
+    match served {
+        Ok(Served::Through { output, entries }) => {
+            let (status, text, history) = output.into_parts();
+            let Ended {
+                status,
+                history,
+                ..
+            } = write(out, status, &text, history);
+            Ended {
+                status,
+                history,
+                entries: Some(entries),
+                spent: None,
+            }
+        }
+        Ok(Served::Spent(pass)) => Ended {
+            status: PASS_SPENT,
+            history: None,
+            entries: None,
+            spent: Some(pass),
+        },
+        Err(_) => silent(OUT_OF_MEMORY),
+    }
+}
