@@ -12,8 +12,6 @@ mod reading;
 mod reads;
 mod rows;
 mod table;
-#[cfg(test)]
-mod tests;
 mod txns;
 
 ghost use Rattle.std.specs.Prelude.{◌<◌, ◌^◌, length};

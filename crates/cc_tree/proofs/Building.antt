@@ -28,7 +28,7 @@ among_under (j ∷ js) types k h i = elim (or_cases (eqb j.0 k) (among k (kind_n
 pub record Asked (rs : List Row) (types : ℕ) : Type 0 where
   pub some : 0 < length rs
   pub few : length rs ≤ 64
-  pub few_types : types ≤ 64
+  pub few_types : types < 256
   pub kinds : All (λ r. All (λ k. k.0 < types) r.types.items) rs
   pub batches : All (λ r. (1 ≤ r.batch) × (r.batch ≤ 1024)) rs
   pub parts : All (λ r. (1 ≤ r.of) × (r.of ≤ 16) × (r.part < r.of)) rs

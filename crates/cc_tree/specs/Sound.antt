@@ -5,11 +5,11 @@ use Rattle.teb_rules.specs.Tree.{row}
 use Rattle.teb_rules.specs.Accepted.{tree_fault}
 use Rattle.cc_tree.specs.Grown.{Grown}
 
--- 1 to 64 nodes for at most 64 types, without a fault: each part below its number of parts, each batch 1 to 1,024, each parent an earlier node, each type below the number of types
+-- 1 to 64 nodes for fewer than 256 types, without a fault: each part below its number of parts, each batch 1 to 1,024, each parent an earlier node, each type below the number of types
 pub record IsAccepted (T : Grown) : Type 0 where
   pub some : 0 < length T.rows
   pub few : length T.rows ≤ 64
-  pub few_types : T.types ≤ 64
+  pub few_types : T.types < 256
   pub faultless : tree_fault T.rows T.types ≡ None
   pub parts : (n : ℕ) → n < length T.rows → (row T.rows n).part < (row T.rows n).parts
   pub batches : (n : ℕ) → n < length T.rows → (1 ≤ (row T.rows n).batch) × ((row T.rows n).batch ≤ 1024)

@@ -13,4 +13,5 @@ mod way;
 
 pub use fault::{Rule, ShapeWhy, TreeError};
 pub use rows::NodeRow;
+pub use teb_names::ControlKind;
 pub use tree::Tree;

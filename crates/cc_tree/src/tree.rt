@@ -45,7 +45,6 @@ impl Tree {
     pub fn build(alloc: Global, rows: Vec<NodeRow>, types: u8) -> Result<Tree, TreeError>
         requires some { 0 < length rows.items }
         requires few { length rows.items ≤ 64 }
-        requires few_types { types ≤ 64 }
         requires kinds { All (λ r. All (λ k. k.0 < types) r.types.items) rows.items }
         requires batches { All (λ r. (1 ≤ r.batch) × (r.batch ≤ 1024)) rows.items }
         requires parts { All (λ r. (1 ≤ r.of) × (r.of ≤ 16) × (r.part < r.of)) rows.items }
@@ -72,7 +71,7 @@ impl Tree {
         self.rows.len() as u8
     }
 
-    /// For how many types the tree was built, at most 64.
+    /// For how many types the tree was built.
     pub fn types(&self) -> u8
         ensures { result ≡ self.now.types }
     {

@@ -5,7 +5,7 @@ use Rattle.teb_names.specs.declared.Entry.{Entry}
 use Rattle.teb_names.specs.declared.Reply.{Reply}
 use Rattle.teb_rules.specs.Answer.{answer}
 use Rattle.teb_rules.specs.Driver.{Drive, Follows, Seat, Turns, drive, drive_after, driven, round_after, seated, turn_after}
-use Rattle.teb_rules.specs.Run.{IsLegal, history_after, replies_from, replies_of, requests_of}
+use Rattle.teb_rules.specs.Run.{history_after, replies_from, replies_of, requests_of}
 use Rattle.teb_rules.specs.Scripts.{Script}
 use Rattle.teb_rules.specs.Setup.{Store}
 use Rattle.driver_laws.proofs.Ends.{drive_follows}
@@ -19,9 +19,6 @@ follows_legal : (X : Store) (log : List Entry) (H : List Event) (ws : List Seat)
 unfolding Follows replies_from
 follows_legal X [] H ws f = refl
 follows_legal X (e ∷ log) H ws f = ap₂ (λ (r : Reply) (rs : List Reply). r ∷ rs) f.4 (follows_legal X log (answer X H e.session e.request).1 (round_after f.0 e.reply) f.5)
-
-pub turns_legal : (X : Store) (scripts : List Script) (log : List Entry) → Turns X scripts log → IsLegal X log
-turns_legal X scripts log t = follows_legal X log [] (seated scripts) t.follows
 
 -- the driver's history is that of its log
 pub drive_history : (X : Store) (log : List Entry) (d : Drive) → (drive_after X d log).history ≡ history_after X d.history (requests_of log)

@@ -68,6 +68,3 @@ begins_not H ws w e f = rw (e, f) refl
 
 pub chosen_if : (cs : List Cursor) (w : Seat) → due w ≡ true → chosen (seats_in cs) w ≡ list_all (λ (c : Cursor). not (due (seat_of c)) || leb w.session.0 c.session.0) cs
 chosen_if cs w e = rw e (sym (all_kept (λ (v : Seat). not (due v) || leb w.session.0 v.session.0) cs))
-
-pub chosen_not : (ws : List Seat) (w : Seat) → due w ≡ false → chosen ws w ≡ false
-chosen_not ws w e = rw e refl

@@ -13,6 +13,3 @@ mod board;
 
 pub use answer::Poll;
 pub use board::{poll, publish};
-
-#[cfg(test)]
-mod tests;

@@ -13,6 +13,3 @@ pub struct Hold {
     pub txn: Txn,
     pub wrote: bool,
 }
-
-#[cfg(test)]
-mod tests;

@@ -6,3 +6,4 @@ mod facts;
 
 pub use control::Control;
 pub use facts::Facts;
+pub use teb_rules::{Broken, Stop, Verdict};

@@ -12,6 +12,3 @@ mod tables;
 pub use rank_list::Ranks;
 pub use ranking::ranks;
 pub use tables::ranked_tables;
-
-#[cfg(test)]
-mod tests;

@@ -5,8 +5,6 @@ mod memory;
 mod sink;
 mod source;
 mod streams;
-#[cfg(test)]
-mod tests;
 
 pub use memory::{MemSink, MemSource};
 pub use sink::{Sink, WriteFault, write_whole};

@@ -251,14 +251,6 @@ tag (Done u) = 4
 tag (Gone u c) = 5
 tag (Told u) = 6
 
-pub tag_began : (t : ℕ) (e : Event) → is_began t e ≡ true → tag e ≡ 0
-tag_began t (Began u s k inst) h = refl
-tag_began t _ h = absurd (cc)
-
-pub tag_got : (t : ℕ) (x : Cell) (e : Event) → is_got t x e ≡ true → tag e ≡ 1
-tag_got t x (Got u y w v) h = refl
-tag_got t x _ h = absurd (cc)
-
 pub tag_put : (t : ℕ) (x : Cell) (e : Event) → is_put t x e ≡ true → tag e ≡ 2
 tag_put t x (Put u y v) h = refl
 tag_put t x _ h = absurd (cc)

@@ -58,6 +58,3 @@ mod view;
 pub use member::Member;
 pub use turn::{Seat, SeatOf, Turn};
 pub use view::{Heard, View};
-
-#[cfg(test)]
-mod tests;

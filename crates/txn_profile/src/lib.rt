@@ -6,6 +6,3 @@ mod profile;
 
 pub use faults::StepsError;
 pub use profile::Profile;
-
-#[cfg(test)]
-mod tests;

@@ -7,6 +7,3 @@ mod sorted;
 
 pub use chains::Chains;
 pub use plain::PlainChains;
-
-#[cfg(test)]
-mod tests;

@@ -1,4 +1,4 @@
-use Rattle.std.proofs.Common.{◌≡◌, ℕ, List, None, length, map, sym, ◌∙◌, ap, subst}
+use Rattle.std.proofs.Common.{◌≡◌, ℕ, List, None, length, map, sym, ◌∙◌, ap, subst, arith}
 use Rattle.teb_rules.specs.Accepted.{tree_fault}
 use Rattle.teb_rules.specs.Tree.{below}
 use Rattle.cc_tree.specs.declared.rows.NodeRow.{NodeRow as Row}
@@ -18,7 +18,7 @@ count : (c : goal.In_ok-paths) → length c.in_ok-paths.paths.items ≡ c.args.t
 count c = count_types (record { rows = c.args.rows; paths = c.in_ok-paths.paths }) c.args.types (paths_are c)
 
 asked : (c : goal.In_ok-paths) → Asked c.args.rows.items c.args.types
-asked c = record { some = c.requires.some; few = c.requires.few; few_types = c.requires.few_types; kinds = c.requires.kinds; batches = c.requires.batches; parts = c.requires.parts }
+asked c = record { some = c.requires.some; few = c.requires.few; few_types = (let z = c.ranges.types in omega arith); kinds = c.requires.kinds; batches = c.requires.batches; parts = c.requires.parts }
 
 pub invariant_of-result : goal.invariant_of-result
 invariant_of-result c =
