@@ -1,24 +1,23 @@
 -- The first place of a writer's list that is freed: the links are sound again, and of each chain that writer's version alone is gone.
 use Rattle.std.proofs.Common.{true, false, Bool, eqb, cond, not, ◌≡◌, ◌==◌, ℕ, zero, suc, ◌+◌, ◌-◌, ◌<◌, ◌≢◌, List, [], ◌∷◌, length, get_or, map, filter, refl, sym, ◌∙◌, ap, subst, inl, inr, arith, if◌then◌else◌, None, Some, eq-eqb}
-use Rattle.std.specs.Ordering.{is_eq}
 use Rattle.std.specs.List.{remove}
 use Rattle.std.specs.Option.{option_map}
 use Rattle.std.proofs.lemmas.Bool.{cases_eq}
 use Rattle.std.proofs.lemmas.List.{get_or-map, length-map}
 use Rattle.teb_names.specs.declared.Cell.{Cell}
 use Rattle.teb_names.specs.declared.Txn.{Txn}
-use Rattle.version_chain.specs.CellOrder.{cell_cmp}
+use Rattle.teb_names.specs.Cells.{same_cell}
 use Rattle.version_chain.specs.Lists.{Version, without}
-use Rattle.version_chain.proofs.Cells.{cells_total, cells_exact}
+use Rattle.version_chain.proofs.Cells.{same_cell-itself, same_cell-exact}
 use Rattle.chain_pool.specs.declared.places.Version.{Version as Stored}
 use Rattle.chain_pool.specs.declared.places.Place.{Place}
 use Rattle.chain_pool.specs.declared.places.Slot.{Slot}
 use Rattle.chain_pool.specs.declared.places.Head.{Head}
 use Rattle.chain_pool.specs.Threads.{Thread, Ring}
 use Rattle.chain_pool.specs.Places.{slot_at, next_at, previous_at, sibling_at, cell_in, pair_at, InChain, IsOwned, IsFree}
-use Rattle.chain_pool.specs.Heads.{txn_cmp, without_place}
+use Rattle.chain_pool.specs.Heads.{same_txn, without_place}
 use Rattle.chain_pool.specs.Linked.{Linked, versions}
-use Rattle.chain_pool.proofs.Keys.{txns_total, txns_exact, key_cases, key_itself, key_apart, key_other}
+use Rattle.chain_pool.proofs.Keys.{same_txn-itself, same_txn-exact, key_cases, key_apart, key_other}
 use Rattle.chain_pool.proofs.Threads.{thread-insert, thread-remove, thread-keep}
 use Rattle.chain_pool.proofs.Rings.{ring-remove, ring-keep, places-ring-remove, places-ring-keep, mine_next, mine_previous}
 use Rattle.chain_pool.proofs.Slots.{chosen, passed, map-remove, map-agree, RingWith, ring-versions, one_chain, one_owner, free_chain, free_owned, pair_owner, slot_here, slot_else, pair_else, chain_kept, chain_was, owned_kept, owned_was, free_kept, free_was}
@@ -67,8 +66,8 @@ module _ (ps ps' : List Place) (chain chain' : Cell → Head) (own own' : Txn �
   module _ (next : (r : ℕ) → next_at ps' r ≡ (if r == a then b else next_at ps r))
       (previous : (r : ℕ) → previous_at ps' r ≡ (if r == b then a else previous_at ps r))
       (slots : (r : ℕ) → slot_at ps' r ≡ (if r == p then free_slot else slot_at ps r))
-      (chains_are : (y : Cell) → chain' y ≡ (if is_eq (cell_cmp cell y) then without_place (chain cell) p b else chain y))
-      (owners_are : (u : Txn) → own' u ≡ (if is_eq (txn_cmp t u) then shorter_own else own u)) where
+      (chains_are : (y : Cell) → chain' y ≡ (if same_cell cell y then without_place (chain cell) p b else chain y))
+      (owners_are : (u : Txn) → own' u ≡ (if same_txn t u then shorter_own else own u)) where
     fh : slot_at ps' p ≡ free_slot
     fh = slot_here ps ps' p free_slot len slots
 
@@ -142,31 +141,31 @@ module _ (ps ps' : List Place) (chain chain' : Cell → Head) (own own' : Txn �
         p (λ _. refl) (λ lo. absurd (omega (arith, lo)))
 
     chain_here : chain' cell ≡ without_place (chain cell) p b
-    chain_here = let same : is_eq (cell_cmp cell cell) ≡ true = key_itself cell_cmp cells_total cells_exact cell in chains_are cell ∙ ap (λ (o : Bool). if o then without_place (chain cell) p b else chain cell) same
+    chain_here = let same : same_cell cell cell ≡ true = same_cell-itself cell in chains_are cell ∙ ap (λ (o : Bool). if o then without_place (chain cell) p b else chain cell) same
 
     chain_else : (y : Cell) → cell ≢ y → chain' y ≡ chain y
-    chain_else y ne = chains_are y ∙ ap (λ (o : Bool). if o then without_place (chain cell) p b else chain y) (key_other cell_cmp cells_total cells_exact cell y ne)
+    chain_else y ne = chains_are y ∙ ap (λ (o : Bool). if o then without_place (chain cell) p b else chain y) (key_other same_cell same_cell-itself same_cell-exact cell y ne)
 
     own_here : own' t ≡ shorter_own
-    own_here = let same : is_eq (txn_cmp t t) ≡ true = key_itself txn_cmp txns_total txns_exact t in owners_are t ∙ ap (λ (o : Bool). if o then shorter_own else own t) same
+    own_here = let same : same_txn t t ≡ true = same_txn-itself t in owners_are t ∙ ap (λ (o : Bool). if o then shorter_own else own t) same
 
     own_else : (u : Txn) → t ≢ u → own' u ≡ own u
-    own_else u ne = owners_are u ∙ ap (λ (o : Bool). if o then shorter_own else own u) (key_other txn_cmp txns_total txns_exact t u ne)
+    own_else u ne = owners_are u ∙ ap (λ (o : Bool). if o then shorter_own else own u) (key_other same_txn same_txn-itself same_txn-exact t u ne)
 
     freed : Linked ps' chain' own' more_free
     freed = record {
-      chains = λ y. elim (key_cases cell_cmp cells_total cells_exact cell y) [
+      chains = λ y. elim (key_cases same_cell same_cell-itself same_cell-exact cell y) [
         | inl e ↦ subst (λ (x : Cell). Ring (InChain ps' x) (next_at ps') (previous_at ps') (chain' x).first (chain' x).len) e
             (subst (λ (g : Head). Ring (InChain ps' cell) (next_at ps') (previous_at ps') g.first g.len) (sym chain_here) here_shorter.0)
         | inr off ↦
-            let ne = key_apart cell_cmp cells_total cells_exact cell y off in
+            let ne = key_apart same_cell same_cell-itself same_cell-exact cell y off in
             subst (λ (g : Head). Ring (InChain ps' y) (next_at ps') (previous_at ps') g.first g.len) (sym (chain_else y ne)) (other_chain y ne).0
       ];
-      owners = λ u. elim (key_cases txn_cmp txns_total txns_exact t u) [
+      owners = λ u. elim (key_cases same_txn same_txn-itself same_txn-exact t u) [
         | inl e ↦ subst (λ (x : Txn). Thread (IsOwned ps' x) (sibling_at ps') (own' x).first (own' x).len) e
             (subst (λ (g : Head). Thread (IsOwned ps' t) (sibling_at ps') g.first g.len) (sym own_here) fewer_owned)
         | inr off ↦
-            let ne = key_apart txn_cmp txns_total txns_exact t u off in
+            let ne = key_apart same_txn same_txn-itself same_txn-exact t u off in
             subst (λ (g : Head). Thread (IsOwned ps' u) (sibling_at ps') g.first g.len) (sym (own_else u ne)) (others_owned u ne)
       ];
       frees = more;
@@ -178,9 +177,9 @@ module _ (ps ps' : List Place) (chain chain' : Cell → Head) (own own' : Txn �
     same_pair = pair_else ps ps' p free_slot len slots
 
     without_kept : (y : Cell) → without t.0 (versions ps' (chain' y)) ≡ without t.0 (versions ps (chain y))
-    without_kept y = elim (key_cases cell_cmp cells_total cells_exact cell y) [
+    without_kept y = elim (key_cases same_cell same_cell-itself same_cell-exact cell y) [
       | inl e ↦ subst (λ (x : Cell). without t.0 (versions ps' (chain' x)) ≡ without t.0 (versions ps (chain x))) e here
-      | inr off ↦ let ne = key_apart cell_cmp cells_total cells_exact cell y off in ap (λ g. without t.0 (versions ps' g)) (chain_else y ne) ∙ ap (without t.0) (there ne)
+      | inr off ↦ let ne = key_apart same_cell same_cell-itself same_cell-exact cell y off in ap (λ g. without t.0 (versions ps' g)) (chain_else y ne) ∙ ap (without t.0) (there ne)
     ]
       where
         there : cell ≢ y → versions ps' (chain y) ≡ versions ps (chain y)
@@ -213,9 +212,9 @@ pub freeing : (ps ps' : List Place) (chain chain' : Cell → Head) (own own' : T
     → ((r : ℕ) → next_at ps' r ≡ (if r == previous_at ps h.first then next_at ps h.first else next_at ps r))
     → ((r : ℕ) → previous_at ps' r ≡ (if r == next_at ps h.first then previous_at ps h.first else previous_at ps r))
     → ((r : ℕ) → slot_at ps' r ≡ (if r == h.first then record { version = None; sibling = unused.first } else slot_at ps r))
-    → ((y : Cell) → chain' y ≡ (if is_eq (cell_cmp v.cell y) then without_place (chain v.cell) h.first (next_at ps h.first) else chain y))
-    → ((u : Txn) → own' u ≡ (if is_eq (txn_cmp t u) then record { first = sibling_at ps h.first; len = h.len - 1 } else own u))
+    → ((y : Cell) → chain' y ≡ (if same_cell v.cell y then without_place (chain v.cell) h.first (next_at ps h.first) else chain y))
+    → ((u : Txn) → own' u ≡ (if same_txn t u then record { first = sibling_at ps h.first; len = h.len - 1 } else own u))
     → IsFreed ps ps' chain chain' own own' (record { first = h.first; len = unused.len + 1 }) t
 freeing ps ps' chain chain' own own' unused S v t h h_is some holds len next previous slots chains owners =
     is_freed ps ps' chain chain' own own' unused S v.cell t h.first _ _ (ap (λ (z : Head). z.first) h_is) some (ap (option_map (λ (w : Stored). w.cell)) holds) refl refl len next previous slots chains
-    (subst (λ (n : ℕ). (u : Txn) → own' u ≡ (if is_eq (txn_cmp t u) then record { first = sibling_at ps h.first; len = n - 1 } else own u)) (ap (λ (z : Head). z.len) h_is) owners)
+    (subst (λ (n : ℕ). (u : Txn) → own' u ≡ (if same_txn t u then record { first = sibling_at ps h.first; len = n - 1 } else own u)) (ap (λ (z : Head). z.len) h_is) owners)

@@ -6,6 +6,7 @@ pub mod Slots
 pub mod Sizes
 pub mod Placing
 pub mod Freeing
+pub mod Taken
 pub mod Chains
 pub mod Growing
 pub mod Rewriting

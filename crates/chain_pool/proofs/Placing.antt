@@ -1,21 +1,20 @@
 -- A version that is put into the first free place: the links are sound again, and its chain has it at its place.
 use Rattle.std.proofs.Common.{true, Bool, ◌≡◌, ◌==◌, ℕ, ◌+◌, ◌-◌, ◌<◌, ◌≤◌, ◌≢◌, ◌⊎◌, List, length, get_or, map, refl, sym, ◌∙◌, ap, subst, inl, inr, arith, if◌then◌else◌, Some}
-use Rattle.std.specs.Ordering.{is_eq}
 use Rattle.std.specs.List.{insert}
 use Rattle.std.proofs.lemmas.Bool.{cases_eq, cases_lt}
 use Rattle.teb_names.specs.declared.Cell.{Cell}
 use Rattle.teb_names.specs.declared.Txn.{Txn}
-use Rattle.version_chain.specs.CellOrder.{cell_cmp}
-use Rattle.version_chain.proofs.Cells.{cells_total, cells_exact}
+use Rattle.teb_names.specs.Cells.{same_cell}
+use Rattle.version_chain.proofs.Cells.{same_cell-itself, same_cell-exact}
 use Rattle.chain_pool.specs.declared.places.Version.{Version as Stored}
 use Rattle.chain_pool.specs.declared.places.Place.{Place}
 use Rattle.chain_pool.specs.declared.places.Slot.{Slot}
 use Rattle.chain_pool.specs.declared.places.Head.{Head}
 use Rattle.chain_pool.specs.Threads.{Thread, Ring}
 use Rattle.chain_pool.specs.Places.{slot_at, next_at, previous_at, sibling_at, cell_in, writer_in, pair_in, pair_at, InChain, IsOwned, IsFree}
-use Rattle.chain_pool.specs.Heads.{txn_cmp}
+use Rattle.chain_pool.specs.Heads.{same_txn}
 use Rattle.chain_pool.specs.Linked.{Linked, versions, nth_place}
-use Rattle.chain_pool.proofs.Keys.{txns_total, txns_exact, key_cases, key_itself, key_apart, key_other}
+use Rattle.chain_pool.proofs.Keys.{same_txn-itself, same_txn-exact, key_cases, key_apart, key_other}
 use Rattle.chain_pool.proofs.Threads.{thread-insert, thread-remove, thread-keep}
 use Rattle.chain_pool.proofs.Rings.{ring-insert, ring-keep, ring-one, places-ring-insert, places-ring-one, places-ring-keep, mine_first, mine_previous, steps-at, steps-end}
 use Rattle.chain_pool.proofs.Slots.{chosen, passed, map-insert, map-agree, RingWith, ring-versions, one_chain, one_owner, free_chain, free_owned, slot_here, slot_else, pair_else, chain_kept, chain_was, owned_kept, owned_was, free_kept, free_was}
@@ -51,8 +50,8 @@ module _ (ps ps' : List Place) (chain chain' : Cell → Head) (own own' : Txn �
   module _ (next : (r : ℕ) → next_at ps' r ≡ (if r == a then q else if r == q then b else next_at ps r))
       (previous : (r : ℕ) → previous_at ps' r ≡ (if r == b then q else if r == q then a else previous_at ps r))
       (slots : (r : ℕ) → slot_at ps' r ≡ (if r == q then put_slot else slot_at ps r))
-      (chains_are : (y : Cell) → chain' y ≡ (if is_eq (cell_cmp v.cell y) then longer_chain else chain y))
-      (owners_are : (u : Txn) → own' u ≡ (if is_eq (txn_cmp v.writer u) then longer_own else own u)) where
+      (chains_are : (y : Cell) → chain' y ≡ (if same_cell v.cell y then longer_chain else chain y))
+      (owners_are : (u : Txn) → own' u ≡ (if same_txn v.writer u then longer_own else own u)) where
     q_free : IsFree ps q
     q_free = subst (IsFree ps) (sym (q_is ∙ S.frees.head some_free)) (S.frees.inside 0 some_free)
 
@@ -195,31 +194,31 @@ module _ (ps ps' : List Place) (chain chain' : Cell → Head) (own own' : Txn �
             absent k (subst (λ (y : Cell). InChain ps y k) ex (chain_was ps ps' q put_slot len slots x k nk mk)) (subst (λ (y : Txn). IsOwned ps y k) et (owned_was ps ps' q put_slot len slots u k nk ok))
 
     chain_here : chain' v.cell ≡ longer_chain
-    chain_here = let same : is_eq (cell_cmp v.cell v.cell) ≡ true = key_itself cell_cmp cells_total cells_exact v.cell in chains_are v.cell ∙ ap (λ (b : Bool). if b then longer_chain else chain v.cell) same
+    chain_here = let same : same_cell v.cell v.cell ≡ true = same_cell-itself v.cell in chains_are v.cell ∙ ap (λ (b : Bool). if b then longer_chain else chain v.cell) same
 
     chain_else : (y : Cell) → v.cell ≢ y → chain' y ≡ chain y
-    chain_else y ne = chains_are y ∙ ap (λ (b : Bool). if b then longer_chain else chain y) (key_other cell_cmp cells_total cells_exact v.cell y ne)
+    chain_else y ne = chains_are y ∙ ap (λ (b : Bool). if b then longer_chain else chain y) (key_other same_cell same_cell-itself same_cell-exact v.cell y ne)
 
     own_here : own' v.writer ≡ longer_own
-    own_here = let same : is_eq (txn_cmp v.writer v.writer) ≡ true = key_itself txn_cmp txns_total txns_exact v.writer in owners_are v.writer ∙ ap (λ (b : Bool). if b then longer_own else own v.writer) same
+    own_here = let same : same_txn v.writer v.writer ≡ true = same_txn-itself v.writer in owners_are v.writer ∙ ap (λ (b : Bool). if b then longer_own else own v.writer) same
 
     own_else : (u : Txn) → v.writer ≢ u → own' u ≡ own u
-    own_else u ne = owners_are u ∙ ap (λ (b : Bool). if b then longer_own else own u) (key_other txn_cmp txns_total txns_exact v.writer u ne)
+    own_else u ne = owners_are u ∙ ap (λ (b : Bool). if b then longer_own else own u) (key_other same_txn same_txn-itself same_txn-exact v.writer u ne)
 
     placed : Linked ps' chain' own' fewer_free
     placed = record {
-      chains = λ y. elim (key_cases cell_cmp cells_total cells_exact v.cell y) [
+      chains = λ y. elim (key_cases same_cell same_cell-itself same_cell-exact v.cell y) [
         | inl e ↦ subst (λ (x : Cell). Ring (InChain ps' x) (next_at ps') (previous_at ps') (chain' x).first (chain' x).len) e
             (subst (λ (g : Head). Ring (InChain ps' v.cell) (next_at ps') (previous_at ps') g.first g.len) (sym chain_here) here_chain.0)
         | inr off ↦
-            let ne = key_apart cell_cmp cells_total cells_exact v.cell y off in
+            let ne = key_apart same_cell same_cell-itself same_cell-exact v.cell y off in
             subst (λ (g : Head). Ring (InChain ps' y) (next_at ps') (previous_at ps') g.first g.len) (sym (chain_else y ne)) (other_chain y ne).0
       ];
-      owners = λ u. elim (key_cases txn_cmp txns_total txns_exact v.writer u) [
+      owners = λ u. elim (key_cases same_txn same_txn-itself same_txn-exact v.writer u) [
         | inl e ↦ subst (λ (x : Txn). Thread (IsOwned ps' x) (sibling_at ps') (own' x).first (own' x).len) e
             (subst (λ (g : Head). Thread (IsOwned ps' v.writer) (sibling_at ps') g.first g.len) (sym own_here) here_owned)
         | inr off ↦
-            let ne = key_apart txn_cmp txns_total txns_exact v.writer u off in
+            let ne = key_apart same_txn same_txn-itself same_txn-exact v.writer u off in
             subst (λ (g : Head). Thread (IsOwned ps' u) (sibling_at ps') g.first g.len) (sym (own_else u ne)) (other_owned u ne)
       ];
       frees = fewer;
@@ -246,20 +245,19 @@ module _ (ps ps' : List Place) (chain chain' : Cell → Head) (own own' : Txn �
     is_placed = record { linked = placed; here = versions_here; elsewhere = versions_else }
 
 -- the same where the two heads were read before: h is the chain's, g the writer's
-pub placing : (ps ps' : List Place) (chain chain' : Cell → Head) (own own' : Txn → Head) (unused : Head) (S : Linked ps chain own unused) (v : Stored) (i first : ℕ) (two : ℕ × ℕ) (h g : Head)
+pub placing : (ps ps' : List Place) (chain chain' : Cell → Head) (own own' : Txn → Head) (unused : Head) (S : Linked ps chain own unused) (v : Stored) (i : ℕ) (two : ℕ × ℕ) (h g : Head)
     → h ≡ chain v.cell → g ≡ own v.writer → 0 < unused.len → i ≤ (chain v.cell).len → ((p : ℕ) → InChain ps v.cell p → IsOwned ps v.writer p → ⊥)
     → (h.len ≡ 0 → (two.0 ≡ unused.first) × (two.1 ≡ unused.first))
     → (0 < h.len → two.0 ≡ previous_at ps two.1)
     → (0 < h.len → two.1 ≡ nth_place ps h i)
-    → first ≡ (if i == 0 then unused.first else h.first)
     → length ps' ≡ length ps
     → ((r : ℕ) → next_at ps' r ≡ (if r == two.0 then unused.first else if r == unused.first then two.1 else next_at ps r))
     → ((r : ℕ) → previous_at ps' r ≡ (if r == two.1 then unused.first else if r == unused.first then two.0 else previous_at ps r))
     → ((r : ℕ) → slot_at ps' r ≡ (if r == unused.first then record { version = Some v; sibling = g.first } else slot_at ps r))
-    → ((y : Cell) → chain' y ≡ (if is_eq (cell_cmp v.cell y) then record { first = first; len = h.len + 1 } else chain y))
-    → ((u : Txn) → own' u ≡ (if is_eq (txn_cmp v.writer u) then record { first = unused.first; len = g.len + 1 } else own u))
+    → ((y : Cell) → chain' y ≡ (if same_cell v.cell y then record { first = (if i == 0 then unused.first else h.first); len = h.len + 1 } else chain y))
+    → ((u : Txn) → own' u ≡ (if same_txn v.writer u then record { first = unused.first; len = g.len + 1 } else own u))
     → IsPlaced ps ps' chain chain' own' (record { first = sibling_at ps unused.first; len = unused.len - 1 }) v i
-placing ps ps' chain chain' own own' unused S v i first two h g h_is g_is some within absent alone before after first_is len next previous slots chains owners =
+placing ps ps' chain chain' own own' unused S v i two h g h_is g_is some within absent alone before after len next previous slots chains owners =
     let last = subst (λ (z : Head). 0 < z.len → two.1 ≡ nth_place ps z i) h_is after in
     is_placed ps ps' chain chain' own own' unused S v i unused.first two.0 two.1 refl some within
     (subst (λ (z : Head). z.len ≡ 0 → (two.0 ≡ unused.first) × (two.1 ≡ unused.first)) h_is alone)
@@ -268,6 +266,5 @@ placing ps ps' chain chain' own own' unused S v i first two h g h_is g_is some w
     (λ lt e. last lt ∙ steps-end (previous_at ps) _ _ i e)
     absent len next previous
     (subst (λ (z : Head). (r : ℕ) → slot_at ps' r ≡ (if r == unused.first then record { version = Some v; sibling = z.first } else slot_at ps r)) g_is slots)
-    (subst (λ (z : Head). (y : Cell) → chain' y ≡ (if is_eq (cell_cmp v.cell y) then record { first = (if i == 0 then unused.first else z.first); len = z.len + 1 } else chain y)) h_is
-    (subst (λ (n : ℕ). (y : Cell) → chain' y ≡ (if is_eq (cell_cmp v.cell y) then record { first = n; len = h.len + 1 } else chain y)) first_is chains))
-    (subst (λ (z : Head). (u : Txn) → own' u ≡ (if is_eq (txn_cmp v.writer u) then record { first = unused.first; len = z.len + 1 } else own u)) g_is owners)
+    (subst (λ (z : Head). (y : Cell) → chain' y ≡ (if same_cell v.cell y then record { first = (if i == 0 then unused.first else z.first); len = z.len + 1 } else chain y)) h_is chains)
+    (subst (λ (z : Head). (u : Txn) → own' u ≡ (if same_txn v.writer u then record { first = unused.first; len = z.len + 1 } else own u)) g_is owners)

@@ -2,13 +2,11 @@
 use Rattle.std.specs.Prelude.{◌≡◌, ℕ, ◌-◌, List, map}
 use Rattle.teb_names.specs.declared.Cell.{Cell}
 use Rattle.teb_names.specs.declared.Txn.{Txn}
-use Rattle.version_chain.specs.CellOrder.{cell_cmp}
 use Rattle.version_chain.specs.Lists.{Version}
 use Rattle.chain_pool.specs.declared.places.Place.{Place}
 use Rattle.chain_pool.specs.declared.places.Head.{Head}
 use Rattle.chain_pool.specs.Threads.{Thread, Ring, walk, steps}
 use Rattle.chain_pool.specs.Places.{next_at, previous_at, sibling_at, pair_at, InChain, IsOwned, IsFree}
-use Rattle.chain_pool.specs.Heads.{Rises, chain_head, writer_head, txn_cmp}
 
 -- each place stands in its cell's chain and its writer's list, or is free; and no writer has two versions of a cell
 pub record Linked (ps : List Place) (chain : Cell → Head) (own : Txn → Head) (unused : Head) : Type 0 where
@@ -16,12 +14,6 @@ pub record Linked (ps : List Place) (chain : Cell → Head) (own : Txn → Head)
   pub owners : (t : Txn) → Thread (IsOwned ps t) (sibling_at ps) (own t).first (own t).len
   pub frees : Thread (IsFree ps) (sibling_at ps) unused.first unused.len
   pub once : (x : Cell) (t : Txn) (p q : ℕ) → InChain ps x p → InChain ps x q → IsOwned ps t p → IsOwned ps t q → p ≡ q
-
--- the same with the heads in two sorted vectors
-pub record Sound (ps : List Place) (cells : List (Cell × Head)) (writers : List (Txn × Head)) (unused : Head) : Type 0 where
-  pub linked : Linked ps (chain_head cells) (writer_head writers) unused
-  pub cells_rise : Rises cell_cmp cells
-  pub writers_rise : Rises txn_cmp writers
 
 -- the versions of a chain
 abbrev pub versions : List Place → Head → List Version

@@ -1,10 +1,10 @@
 -- What contracts see of a pool: its chains, and room.
-use Rattle.std.specs.Prelude.{ℕ, List, [], map}
+use Rattle.std.specs.Prelude.{ℕ, List, [], map, unwrap_or}
+use Rattle.std.specs.Map.{lookup}
 use Rattle.teb_names.specs.declared.Cell.{Cell}
-use Rattle.version_chain.specs.CellOrder.{cell_cmp}
+use Rattle.teb_names.specs.Cells.{same_cell}
 use Rattle.version_chain.specs.Lists.{Version}
 use Rattle.chain_pool.specs.declared.pool.Pool.{Pool}
-use Rattle.chain_pool.specs.Heads.{look}
 use Rattle.chain_pool.specs.Linked.{versions}
 use Rattle.chain_pool.specs.Pools.{IsSound, HasRoom}
 
@@ -13,11 +13,12 @@ pub record View : Type 0 where
   pub entries : List (Cell × List Version)
   pub spare : ℕ
 
+-- the chain of a cell; none where the cell has no entry
 abbrev pub list_in : View → Cell → List Version
-list_in v x = look cell_cmp v.entries x []
+list_in v x = unwrap_or (lookup (same_cell x) v.entries) []
 
 abbrev pub view_of : Pool → ℕ → View
-view_of p n = record { entries = map (λ e. (e.0, versions p.places.items e.1)) p.cells.items; spare = n }
+view_of p n = record { entries = map (λ e. (e.0, versions p.places.items e.1)) p.cells.entries; spare = n }
 
 pub record Holds (p : Pool) (n : ℕ) : Type 0 where
   pub sound : IsSound p

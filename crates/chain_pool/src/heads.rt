@@ -1,76 +1,69 @@
-//! Heads of lists, in a vector sorted by what each list belongs to.
+//! Heads of lists, by what each list belongs to.
 
-ghost use Rattle.std.specs.Prelude.{◌≡◌, ◌≢◌, ◌<◌, ◌≤◌, ◌+◌, ℕ, List, length, slice_index_or, if◌then◌else◌, vec_len, vec_capacity};
-ghost use Rattle.std.specs.Ordering.{is_eq};
+ghost use Rattle.std.specs.Prelude.{◌≡◌, ◌<◌, ◌≤◌, ◌+◌, ◌^◌, if◌then◌else◌};
+ghost use Rattle.indexmap.specs.IndexMap.{spare};
 ghost use Rattle.chain_pool.specs.declared.places.Head.{Head};
-ghost use Rattle.chain_pool.specs.Heads.{look, Rises, IsFound, IsAt, IsBusy, empty};
+ghost use Rattle.chain_pool.specs.Heads.{head_of as spec_head_of, without_place, IsBusy};
 
-use crate::places::Head;
-use vec_room::put_in;
+use crate::places::{EMPTY, Head};
+use indexmap::IndexMap;
+use std::hash::Hash;
 
-/// Where a key stands or would go, and its head, which is empty where the key is not there.
-#[derive(Clone, Copy)]
-pub(crate) struct Found {
-    pub(crate) at: Result<usize, usize>,
-    pub(crate) head: Head,
-}
-
-/// Finds a key by binary search.
-pub(crate) fn find<K: Ord + Copy>(heads: &[(K, Head)], key: K) -> Found
-    requires { Rises K.cmp heads.now }
-    ensures at { IsFound K.cmp heads.now key result.at }
-    ensures head { result.head ≡ look K.cmp heads.now key empty }
+/// One number or another.
+fn chosen(first: bool, one: usize, other: usize) -> usize
+    ensures { result ≡ (if first then one else other) }
 {
-    let at = heads.binary_search_by_key(&key, |entry| entry.0);
-    let head = match at {
-        Ok(i) => heads[i].1,
-        Err(_) => Head { first: 0, len: 0 },
-    };
-    Found { at, head }
+    if first { one } else { other }
 }
 
-/// The head at a place.
-pub(crate) fn at<K: Ord + Copy>(heads: &[(K, Head)], i: usize) -> Head
-    requires rises { Rises K.cmp heads.now }
-    requires within { i < length heads.now }
-    ensures { (k : K) → IsAt K.cmp heads.now k i → result ≡ look K.cmp heads.now k empty }
+/// The head of a key's list.
+pub(crate) fn head_of<K: Eq + Hash>(heads: &IndexMap<K, Head>, key: &K) -> Head
+    ensures { result ≡ spec_head_of K.eq heads.now.entries key.now }
 {
-    heads[i].1
+    match heads.get(key) {
+        Some(head) => *head,
+        None => EMPTY,
+    }
 }
 
-/// Gives a key that is there another head.
-pub(crate) fn set<K: Ord + Copy>(heads: &mut [(K, Head)], i: usize, key: K, head: Head)
-    requires rises { Rises K.cmp heads.old }
-    requires at { IsAt K.cmp heads.old key i }
-    ensures heads { (q : K) → look K.cmp heads.new q empty ≡ (if is_eq (K.cmp key q) then head else look K.cmp heads.old q empty) }
-    ensures rises { Rises K.cmp heads.new }
-    ensures at { IsAt K.cmp heads.new key i }
-    ensures others { (j : ℕ) (d : K × Head) → j ≢ i → slice_index_or heads.new j d ≡ slice_index_or heads.old j d }
-    ensures here { (d : K × Head) → (slice_index_or heads.new i d).1 ≡ head }
-{
-    heads[i] = (key, head);
-}
-
-/// Gives a key a head, where it was found or would go.
-pub(crate) fn put<K: Ord + Copy>(
-    heads: &mut Vec<(K, Head)>,
-    at: Result<usize, usize>,
+/// Adds a place to a key's list, as its first or behind that. Gives the head that the list had.
+pub(crate) fn lengthen<K: Eq + Hash + Drop>(
+    heads: &mut IndexMap<K, Head>,
     key: K,
-    head: Head,
-)
-    requires rises { Rises K.cmp heads.old.items }
-    requires at { IsFound K.cmp heads.old.items key at }
-    requires room { vec_len heads.old < vec_capacity heads.old }
-    ensures heads { (q : K) → look K.cmp heads.new.items q empty ≡ (if is_eq (K.cmp key q) then head else look K.cmp heads.old.items q empty) }
-    ensures rises { Rises K.cmp heads.new.items }
-    ensures busy { IsBusy heads.old.items → 0 < head.len → IsBusy heads.new.items }
-    ensures capacity { vec_capacity heads.old ≤ vec_capacity heads.new }
-    ensures len { vec_len heads.new ≤ vec_len heads.old + 1 }
+    place: usize,
+    as_first: bool,
+) -> Head
+    requires room { 0 < spare heads.old }
+    requires short { (spec_head_of K.eq heads.old.entries key).len + 1 < 2 ^ 64 }
+    ensures result { result ≡ spec_head_of K.eq heads.old.entries key }
+    ensures heads { (q : K) → spec_head_of K.eq heads.new.entries q ≡ (if K.eq key q then record { first = (if as_first then place else result.first); len = result.len + 1 } else spec_head_of K.eq heads.old.entries q) }
+    ensures busy { IsBusy K.eq heads.old.entries → IsBusy K.eq heads.new.entries }
+    ensures room { spare heads.old ≤ spare heads.new + 1 }
 {
-    match at {
-        Ok(i) => heads[i] = (key, head),
-        Err(i) => {
-            put_in(heads, i, (key, head));
-        }
+    let head = heads.entry(key).unwrap().or_insert(EMPTY);
+    let was = *head;
+    *head = Head {
+        first: chosen(as_first, place, was.first),
+        len: was.len + 1,
+    };
+    was
+}
+
+/// Takes a place out of a key's list, whose next place takes its part where it was the first.
+pub(crate) fn shorten<K: Eq + Hash>(
+    heads: &mut IndexMap<K, Head>,
+    key: &K,
+    place: usize,
+    next: usize,
+)
+    requires some { 0 < (spec_head_of K.eq heads.old.entries key.now).len }
+    ensures heads { (q : K) → spec_head_of K.eq heads.new.entries q ≡ (if K.eq key.now q then without_place (spec_head_of K.eq heads.old.entries key.now) place next else spec_head_of K.eq heads.old.entries q) }
+    ensures room { spare heads.old ≤ spare heads.new }
+{
+    if let Some(head) = heads.get_mut(key) {
+        *head = Head {
+            first: chosen(head.first == place, next, head.first),
+            len: head.len - 1,
+        };
     }
 }

@@ -8,6 +8,3 @@ mod pooled;
 mod walks;
 
 pub use pooled::PooledChains;
-
-#[cfg(test)]
-mod tests;

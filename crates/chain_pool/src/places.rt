@@ -35,6 +35,9 @@ pub(crate) struct Head {
     pub(crate) len: usize,
 }
 
+/// The head of no list.
+pub(crate) const EMPTY: Head = Head { first: 0, len: 0 };
+
 /// Fills a place, and puts it between two neighbours; alone in its ring it is its own neighbour.
 pub(crate) fn link(places: &mut [Place], place: usize, slot: Slot, before: usize, after: usize)
     requires place_within { place < length places.old }

@@ -1,169 +1,67 @@
 //! Places in chains and writers' lists, and the steps that put a version in and take versions out.
 
-ghost use Rattle.std.specs.Ordering.{is_eq};
-ghost use Rattle.std.specs.Prelude.{◌≡◌, ◌≢◌, ◌<◌, ◌≤◌, ◌+◌, ◌-◌, ◌==◌, ℕ, List, Bool, [], length, slice_index_or, slice_get, insert, if◌then◌else◌, vec_len, vec_capacity, IsTrue, OnOk, Some, eqb};
+ghost use Rattle.std.specs.Prelude.{◌≡◌, ◌<◌, ◌≤◌, ◌+◌, ℕ, Bool, [], length, slice_get, insert, vec_len, vec_capacity, IsTrue, OnOk, None, Some, eqb};
+ghost use Rattle.std.specs.Bool.{OnTrue};
+ghost use Rattle.indexmap.specs.IndexMap.{spare};
 ghost use Rattle.teb_names.specs.declared.Cell.{Cell};
 ghost use Rattle.teb_names.specs.declared.Txn.{Txn};
-ghost use Rattle.version_chain.specs.CellOrder.{cell_cmp};
 ghost use Rattle.version_chain.specs.Lists.{without, set_value, writers_of, is_writer, first_place, last_place, unless_below};
-ghost use Rattle.chain_pool.specs.declared.places.Head.{Head};
 ghost use Rattle.chain_pool.specs.Places.{InChain, IsOwned};
-ghost use Rattle.chain_pool.specs.Heads.{Rises, IsAt, IsBusy, chain_head, writer_head, txn_cmp, without_place};
-ghost use Rattle.chain_pool.specs.Linked.{Sound, versions};
+ghost use Rattle.chain_pool.specs.Heads.{IsBusy, chain_head, writer_head, with_head, same_txn};
+ghost use Rattle.chain_pool.specs.Linked.{Linked, versions};
 ghost use Rattle.chain_pool.specs.Pools.{IsSound, chain_of, HasRoom};
 
-use crate::places::{self, Head, Place, Slot, Version};
+use crate::places::{self, EMPTY, Head, Place, Slot, Version};
 use crate::{heads, walks};
+use indexmap::IndexMap;
 use std::alloc::{AllocError, Global};
 use teb_names::{Cell, Txn};
-
-/// The one where two numbers are equal, and else the other.
-fn chosen(a: usize, b: usize, one: usize, other: usize) -> usize
-    ensures { result ≡ (if a == b then one else other) }
-{
-    if a == b { one } else { other }
-}
 
 /// Puts a version into the first free place, and that into its cell's chain and its writer's list. Gives the free places that
 /// are left.
 fn put(
     places: &mut [Place],
-    cells: &mut Vec<(Cell, Head)>,
-    writers: &mut Vec<(Txn, Head)>,
+    cells: &mut IndexMap<Cell, Head>,
+    writers: &mut IndexMap<Txn, Head>,
     unused: Head,
     i: usize,
     version: Version,
 ) -> Head
-    requires sound { Sound places.old cells.old.items writers.old.items unused }
+    requires linked { Linked places.old (chain_head cells.old.entries) (writer_head writers.old.entries) unused }
     requires some { 0 < unused.len }
-    requires cells_room { vec_len cells.old < vec_capacity cells.old }
-    requires writers_room { vec_len writers.old < vec_capacity writers.old }
-    requires within { i ≤ (chain_head cells.old.items version.cell).len }
+    requires cells_room { 0 < spare cells.old }
+    requires writers_room { 0 < spare writers.old }
+    requires within { i ≤ (chain_head cells.old.entries version.cell).len }
     requires absent { (p : ℕ) → InChain places.old version.cell p → IsOwned places.old version.writer p → ⊥ }
-    ensures sound { Sound places.new cells.new.items writers.new.items result }
-    ensures busy { IsBusy writers.old.items → IsBusy writers.new.items }
-    ensures here { versions places.new (chain_head cells.new.items version.cell) ≡ insert (versions places.old (chain_head cells.old.items version.cell)) i (version.writer, version.value) }
-    ensures elsewhere { (x : Cell) → (version.cell ≡ x → ⊥) → versions places.new (chain_head cells.new.items x) ≡ versions places.old (chain_head cells.old.items x) }
-    ensures cells { (vec_capacity cells.old ≤ vec_capacity cells.new) × (vec_len cells.new ≤ vec_len cells.old + 1) }
-    ensures writers { (vec_capacity writers.old ≤ vec_capacity writers.new) × (vec_len writers.new ≤ vec_len writers.old + 1) }
+    ensures linked { Linked places.new (chain_head cells.new.entries) (writer_head writers.new.entries) result }
+    ensures busy { IsBusy same_txn writers.old.entries → IsBusy same_txn writers.new.entries }
+    ensures here { versions places.new (chain_head cells.new.entries version.cell) ≡ insert (versions places.old (chain_head cells.old.entries version.cell)) i (version.writer, version.value) }
+    ensures elsewhere { (x : Cell) → (version.cell ≡ x → ⊥) → versions places.new (chain_head cells.new.entries x) ≡ versions places.old (chain_head cells.old.entries x) }
+    ensures cells_room { spare cells.old ≤ spare cells.new + 1 }
+    ensures writers_room { spare writers.old ≤ spare writers.new + 1 }
 {
-    let chain = heads::find(cells, version.cell);
-    let own = heads::find(writers, version.writer);
     let place = unused.first;
-    let (before, after) = walks::neighbours(places, chain.head, i, place);
+    let chain = heads::lengthen(cells, version.cell, place, i == 0);
+    let own = heads::lengthen(writers, version.writer, place, true);
+    let (before, after) = walks::neighbours(places, chain, i, place);
     let free = places[place].slot.sibling;
     let slot = Slot {
         version: Some(version),
-        sibling: own.head.first,
+        sibling: own.first,
     };
     places::link(places, place, slot, before, after);
-    let longer = Head {
-        first: chosen(i, 0, place, chain.head.first),
-        len: chain.head.len + 1,
-    };
-    heads::put(cells, chain.at, version.cell, longer);
-    let longer = Head {
-        first: place,
-        len: own.head.len + 1,
-    };
-    heads::put(writers, own.at, version.writer, longer);
     Head {
         first: free,
         len: unused.len - 1,
     }
 }
 
-/// Shortens the chain of a cell by a place, and lets it begin at the next where it began there.
-fn shorten(cells: &mut [(Cell, Head)], cell: Cell, place: usize, next: usize)
-    requires rises { Rises cell_cmp cells.old }
-    requires some { 0 < (chain_head cells.old cell).len }
-    ensures heads { (x : Cell) → chain_head cells.new x ≡ (if is_eq (cell_cmp cell x) then without_place (chain_head cells.old cell) place next else chain_head cells.old x) }
-    ensures rises { Rises cell_cmp cells.new }
-{
-    let chain = heads::find(cells, cell);
-    let shorter = Head {
-        first: chosen(chain.head.first, place, next, chain.head.first),
-        len: chain.head.len - 1,
-    };
-    match chain.at {
-        Ok(k) => heads::set(cells, k, cell, shorter),
-        Err(_) => unreachable!(),
-    }
-}
-
-/// Frees the first place of a writer's list. Gives the free places that there are then.
-fn take_first(
-    places: &mut [Place],
-    cells: &mut [(Cell, Head)],
-    writers: &mut [(Txn, Head)],
-    unused: Head,
-    w: usize,
-    t: Txn,
-) -> Head
-    requires sound { Sound places.old cells.old writers.old unused }
-    requires w_at { IsAt txn_cmp writers.old t w }
-    requires some { 0 < (writer_head writers.old t).len }
-    ensures sound { Sound places.new cells.new writers.new result }
-    ensures fewer { (writer_head writers.new t).len + 1 ≡ (writer_head writers.old t).len }
-    ensures w_at { IsAt txn_cmp writers.new t w }
-    ensures others { (j : ℕ) (d : Txn × Head) → j ≢ w → slice_index_or writers.new j d ≡ slice_index_or writers.old j d }
-    ensures kept { (x : Cell) → without t.0 (versions places.new (chain_head cells.new x)) ≡ without t.0 (versions places.old (chain_head cells.old x)) }
-{
-    let own = heads::at(writers, w);
-    let place = own.first;
-    let taken = places[place];
-    match taken.slot.version {
-        Some(version) => {
-            let slot = Slot {
-                version: None,
-                sibling: unused.first,
-            };
-            places::unlink(places, place, slot, taken.previous, taken.next);
-            shorten(cells, version.cell, place, taken.next);
-            let shorter = Head {
-                first: taken.slot.sibling,
-                len: own.len - 1,
-            };
-            heads::set(writers, w, t, shorter);
-            Head {
-                first: place,
-                len: unused.len + 1,
-            }
-        }
-        None => unreachable!(),
-    }
-}
-
-/// Frees each place of a writer's list, which is empty then. Gives the free places that there are then.
-fn take_all(
-    places: &mut [Place],
-    cells: &mut [(Cell, Head)],
-    writers: &mut [(Txn, Head)],
-    unused: Head,
-    w: usize,
-    t: Txn,
-) -> Head
-    requires sound { Sound places.old cells.old writers.old unused }
-    requires w_at { IsAt txn_cmp writers.old t w }
-    ensures sound { Sound places.new cells.new writers.new result }
-    ensures none { (writer_head writers.new t).len ≡ 0 }
-    ensures w_at { IsAt txn_cmp writers.new t w }
-    ensures others { (j : ℕ) (d : Txn × Head) → j ≢ w → slice_index_or writers.new j d ≡ slice_index_or writers.old j d }
-    ensures taken { (x : Cell) → versions places.new (chain_head cells.new x) ≡ without t.0 (versions places.old (chain_head cells.old x)) }
-{
-    let mut free = unused;
-    for _round in 0..heads::at(writers, w).len {
-        free = take_first(places, cells, writers, free, w, t);
-    }
-    free
-}
-
 /// Places, each in its cell's chain and its writer's list, or free.
 #[derive(Drop)]
 pub(crate) struct Pool {
     pub(crate) places: Vec<Place>,
-    pub(crate) cells: Vec<(Cell, Head)>,
-    pub(crate) writers: Vec<(Txn, Head)>,
+    pub(crate) cells: IndexMap<Cell, Head>,
+    pub(crate) writers: IndexMap<Txn, Head>,
     pub(crate) unused: Head,
 }
 
@@ -174,13 +72,13 @@ impl Pool {
     {
         Pool {
             places: Vec::new(alloc),
-            cells: Vec::new(alloc),
-            writers: Vec::new(alloc),
-            unused: Head { first: 0, len: 0 },
+            cells: IndexMap::new(alloc),
+            writers: IndexMap::new(alloc),
+            unused: EMPTY,
         }
     }
 
-    /// Makes room for one version more in each vector.
+    /// Makes room for one version more.
     pub(crate) fn reserve(&mut self) -> Result<(), AllocError>
         requires { IsSound self.old }
         ensures sound { IsSound self.new }
@@ -198,7 +96,7 @@ impl Pool {
         requires { IsSound self.now }
         ensures { result ≡ length (chain_of self.now cell) }
     {
-        heads::find(&self.cells, cell).head.len
+        heads::head_of(&self.cells, &cell).len
     }
 
     pub(crate) fn at(&self, cell: Cell, i: usize) -> (Txn, Option<i64>)
@@ -206,9 +104,21 @@ impl Pool {
         requires within { i < length (chain_of self.now cell) }
         ensures { slice_get (chain_of self.now cell) i ≡ Some result }
     {
-        let chain = heads::find(&self.cells, cell).head;
+        let chain = heads::head_of(&self.cells, &cell);
         let place = walks::place_of(&self.places, chain, i);
         walks::pair_at(&self.places, place)
+    }
+
+    /// The last version of a chain whose writer f accepts, where it is `from` or above.
+    fn last_in<F: Fn(Txn) -> bool>(&self, chain: Head, from: usize, f: &F) -> Option<usize>
+        requires sound { IsSound self.now }
+        requires chain { (x : Cell) × (chain ≡ chain_head self.now.cells.entries x) }
+        requires callable { (u : Txn) → IsTrue (is_writer (versions self.now.places.items chain) u.0) → F.pre f.now u }
+        ensures { (p : ℕ → Bool)
+            → ((u : Txn) (b : Bool) → IsTrue (is_writer (versions self.now.places.items chain) u.0) → F.post f.now u b → b ≡ p u.0)
+            → result ≡ unless_below from (last_place p (writers_of (versions self.now.places.items chain))) }
+    {
+        walks::last_accepted(&self.places, chain, from, f)
     }
 
     /// The last version of a cell whose writer f accepts, where it is `from` or above.
@@ -224,8 +134,17 @@ impl Pool {
             → ((u : Txn) (b : Bool) → IsTrue (is_writer (chain_of self.now cell) u.0) → F.post f.now u b → b ≡ p u.0)
             → result ≡ unless_below from (last_place p (writers_of (chain_of self.now cell))) }
     {
-        let chain = heads::find(&self.cells, cell).head;
-        walks::last_accepted(&self.places, chain, from, f)
+        let chain = heads::head_of(&self.cells, &cell);
+        self.last_in(chain, from, f)
+    }
+
+    /// Whether a writer's list that is shorter than the chain of a cell shows that the writer has no version of the cell.
+    fn lacks(&self, cell: Cell, chain: Head, t: Txn) -> bool
+        requires { IsSound self.now }
+        ensures { OnTrue result (first_place (λ w. eqb w t.0) (writers_of (chain_of self.now cell)) ≡ None) }
+    {
+        let own = heads::head_of(&self.writers, &t);
+        own.len < chain.len && !walks::has_cell(&self.places, own, cell)
     }
 
     /// The place of a writer's version in the chain of a cell. Where the writer's list is the shorter one, it says first whether
@@ -234,12 +153,11 @@ impl Pool {
         requires sound { IsSound self.now }
         ensures { result ≡ first_place (λ w. eqb w t.0) (writers_of (chain_of self.now cell)) }
     {
-        let chain = heads::find(&self.cells, cell).head;
-        let own = heads::find(&self.writers, t).head;
-        if own.len < chain.len && !walks::has_cell(&self.places, own, cell) {
+        let chain = heads::head_of(&self.cells, &cell);
+        if chain.len > 1 && self.lacks(cell, chain, t) {
             return None;
         }
-        self.last_where_from(cell, 0, &|w: Txn| w.0 == t.0)
+        self.last_in(chain, 0, &|w: Txn| w.0 == t.0)
     }
 
     /// Makes a free place where there is none.
@@ -278,7 +196,7 @@ impl Pool {
     pub(crate) fn place(&mut self, i: usize, version: Version)
         requires sound { IsSound self.old }
         requires room { HasRoom self.old 1 }
-        requires within { i ≤ (chain_head self.old.cells.items version.cell).len }
+        requires within { i ≤ (chain_head self.old.cells.entries version.cell).len }
         requires absent { (p : ℕ) → InChain self.old.places.items version.cell p → IsOwned self.old.places.items version.writer p → ⊥ }
         ensures sound { IsSound self.new }
         ensures here { chain_of self.new version.cell ≡ insert (chain_of self.old version.cell) i (version.writer, version.value) }
@@ -305,9 +223,56 @@ impl Pool {
         ensures elsewhere { (x : Cell) → (cell ≡ x → ⊥) → chain_of self.new x ≡ chain_of self.old x }
         ensures room { (n : ℕ) → HasRoom self.old n → HasRoom self.new n }
     {
-        let chain = heads::find(&self.cells, cell).head;
+        let chain = heads::head_of(&self.cells, &cell);
         let place = walks::place_of(&self.places, chain, i);
         places::rewrite(&mut self.places, place, value);
+    }
+
+    /// Frees the first place of a list, which is that of a writer who has no entry any more. Gives the rest of the list.
+    fn take_first(&mut self, t: Txn, own: Head) -> Head
+        requires linked { Linked self.old.places.items (chain_head self.old.cells.entries) (with_head t own (writer_head self.old.writers.entries)) self.old.unused }
+        requires some { 0 < own.len }
+        ensures linked { Linked self.new.places.items (chain_head self.new.cells.entries) (with_head t result (writer_head self.new.writers.entries)) self.new.unused }
+        ensures fewer { result.len + 1 ≡ own.len }
+        ensures kept { (x : Cell) → without t.0 (chain_of self.new x) ≡ without t.0 (chain_of self.old x) }
+        ensures writers { self.new.writers ≡ self.old.writers }
+        ensures room { (n : ℕ) → HasRoom self.old n → HasRoom self.new n }
+    {
+        let place = own.first;
+        let taken = self.places[place];
+        match taken.slot.version {
+            Some(version) => {
+                let slot = Slot {
+                    version: None,
+                    sibling: self.unused.first,
+                };
+                places::unlink(&mut self.places, place, slot, taken.previous, taken.next);
+                heads::shorten(&mut self.cells, &version.cell, place, taken.next);
+                self.unused = Head {
+                    first: place,
+                    len: self.unused.len + 1,
+                };
+                Head {
+                    first: taken.slot.sibling,
+                    len: own.len - 1,
+                }
+            }
+            None => unreachable!(),
+        }
+    }
+
+    /// Frees each place of a list, which is that of a writer who has no entry any more.
+    fn take_all(&mut self, t: Txn, own: Head)
+        requires linked { Linked self.old.places.items (chain_head self.old.cells.entries) (with_head t own (writer_head self.old.writers.entries)) self.old.unused }
+        ensures linked { (left : Head) × (left.len ≡ 0) × Linked self.new.places.items (chain_head self.new.cells.entries) (with_head t left (writer_head self.new.writers.entries)) self.new.unused }
+        ensures taken { (x : Cell) → chain_of self.new x ≡ without t.0 (chain_of self.old x) }
+        ensures writers { self.new.writers ≡ self.old.writers }
+        ensures room { (n : ℕ) → HasRoom self.old n → HasRoom self.new n }
+    {
+        let mut left = own;
+        for _version in 0..own.len {
+            left = self.take_first(t, left);
+        }
     }
 
     /// Takes out each version of a writer, and the writer's entry.
@@ -317,19 +282,8 @@ impl Pool {
         ensures taken { (x : Cell) → chain_of self.new x ≡ without t.0 (chain_of self.old x) }
         ensures room { (n : ℕ) → HasRoom self.old n → HasRoom self.new n }
     {
-        match heads::find(&self.writers, t).at {
-            Ok(w) => {
-                self.unused = take_all(
-                    &mut self.places,
-                    &mut self.cells,
-                    &mut self.writers,
-                    self.unused,
-                    w,
-                    t,
-                );
-                self.writers.remove(w);
-            }
-            Err(_) => {}
+        if let Some(own) = self.writers.swap_remove(&t) {
+            self.take_all(t, own);
         }
     }
 }

@@ -1,6 +1,6 @@
 -- What edits make of piles.
-use Rattle.std.proofs.Common.{◌≡◌, ℕ, ◌+◌, Bool, true, false, cond, not, ltb, eqb, ◌&&◌, max, List, [], ◌∷◌, ◌++◌, length, refl, sym, ◌∙◌, ap, subst, arith}
-use Rattle.std.specs.List.{count_by, remove}
+use Rattle.std.proofs.Common.{◌≡◌, ℕ, ◌+◌, Bool, true, false, cond, not, ltb, eqb, ◌&&◌, max, List, [], ◌∷◌, ◌++◌, refl, sym, ◌∙◌, ap, subst, arith}
+use Rattle.std.specs.List.{count_by}
 use Rattle.std.proofs.lemmas.Bool.Decides.{nat_tests}
 use Rattle.std.proofs.lemmas.Bool.{eqb-true}
 use Rattle.std.specs.Ordering.{is_eq, nat_cmp}
@@ -17,34 +17,8 @@ use Rattle.key_piles.specs.LastMatches.{without_last, without_lasts}
 use Rattle.dependency_book.specs.Books.{txn_cmp, HasRooms}
 use Rattle.key_piles.proofs.TakenMatches.{lasts_more, count_push}
 
--- some of the pile of t are taken out of the piles a, which leaves the piles b
-pub record IsClearing {V : Type 0} (t : Txn) (a b : Shown Txn V) : Type 0 where
-  pub elsewhere : (u : Txn) → eqb t.0 u.0 ≡ false → pile_in txn_cmp b u ≡ pile_in txn_cmp a u
-  pub spare : b.spare ≡ a.spare
-
-eqb-is_eq : (m n : ℕ) → eqb m n ≡ is_eq (nat_cmp m n)
+pub eqb-is_eq : (m n : ℕ) → eqb m n ≡ is_eq (nat_cmp m n)
 eqb-is_eq m n = grind (arith, nat_tests)
-
-module _ {V : Type 0} (t : Txn) where
-  pub clearing_more : (a b c : Shown Txn V) (i : ℕ) → IsClearing t a b
-      → ((u : Txn) → pile_in txn_cmp c u ≡ cond (is_eq (txn_cmp t u)) (remove (pile_in txn_cmp b t) i) (pile_in txn_cmp b u))
-      → c.spare ≡ b.spare → IsClearing t a c
-  clearing_more a b c i was taken spare = record {
-    elsewhere = λ u h. taken u ∙ ap (λ (o : Bool). cond o (remove (pile_in txn_cmp b t) i) (pile_in txn_cmp b u)) (sym (eqb-is_eq t.0 u.0) ∙ h) ∙ was.elsewhere u h;
-    spare = spare ∙ was.spare;
-  }
-
-  pub clearing_all : (a b : Shown Txn V) → IsClearing t a b → length (pile_in txn_cmp b t) ≡ 0
-      → (u : Txn) → pile_in txn_cmp b u ≡ cond (eqb t.0 u.0) [] (pile_in txn_cmp a u)
-  clearing_all a b was none u = go (eqb t.0 u.0) refl
-    where
-      empty : (vs : List V) → length vs ≡ 0 → vs ≡ []
-      empty [] h = refl
-      empty (v ∷ vs) h = absurd (omega arith)
-
-      go : (o : Bool) → eqb t.0 u.0 ≡ o → pile_in txn_cmp b u ≡ cond o [] (pile_in txn_cmp a u)
-      go true h = ap (λ (n : ℕ). pile_in txn_cmp b (record { 0 = n })) (sym (eqb-true t.0 u.0 h)) ∙ empty _ none
-      go false h = was.elsewhere u h
 
 pub one_txn : (t u : Txn) → eqb t.0 u.0 ≡ true → t ≡ u
 one_txn t u h = ap (λ (n : ℕ). record { 0 = n }) (eqb-true t.0 u.0 h)

@@ -17,14 +17,12 @@ use crate::access::Access;
 use key_piles::Piles;
 use teb_names::{Cell, Txn};
 
-/// Takes out all values of t, the last first.
+/// Takes out all values of t.
 pub(crate) fn clear<V: Copy>(piles: &mut Piles<Txn, V>, t: Txn)
     ensures piles { (u : Txn) → pile_in txn_cmp piles.new u ≡ cond (eqb t.0 u.0) [] (pile_in txn_cmp piles.old u) }
     ensures spare { piles.new.spare ≡ piles.old.spare }
 {
-    while let Some(last) = piles.list(t).len().checked_sub(1) {
-        piles.take(t, last);
-    }
+    piles.clear(t);
 }
 
 /// Puts a transaction that t read from among its sources, unless it is there, or is t itself or 0.

@@ -1,10 +1,10 @@
 -- Piles in two lists that are sorted by key: where a pile_beside stands, and what edits at its places make.
-use Rattle.std.proofs.Common.{◌≡◌, ℕ, zero, suc, ◌+◌, ◌-◌, ◌<◌, ◌≤◌, Bool, true, false, cond, not, List, [], ◌∷◌, length, take, drop, get_or, refl, sym, ◌∙◌, ap, subst, arith}
+use Rattle.std.proofs.Common.{◌≡◌, ℕ, zero, suc, ◌+◌, ◌-◌, ◌<◌, ◌≤◌, Bool, true, false, cond, not, List, [], ◌∷◌, ◌++◌, length, take, drop, get_or, refl, sym, ◌∙◌, ap, subst, arith}
 use Rattle.std.specs.declared.cmp.Ordering.{Ordering}
 use Rattle.std.specs.declared.cmp.Ordering.TheVariants.{Less, Equal, Greater}
 use Rattle.std.specs.Ordering.{is_lt, is_eq, is_gt, ordering_reverse}
 use Rattle.std.specs.Cmp.{IsTotalOrder}
-use Rattle.std.specs.List.{insert, remove}
+use Rattle.std.specs.List.{insert, remove, remove_range}
 use Rattle.std.specs.List.Sorted.{IsPartitionPoint, IsPartitionedBy}
 use Rattle.std.proofs.lemmas.Cmp.{upto, tied_itself, alike_right}
 use Rattle.key_piles.specs.Buckets.{pile_beside, NoneBelow, Ascends, passing, lows, tops}
@@ -269,6 +269,28 @@ module _ {K : Type 0} (R : K → K → Ordering) (total : IsTotalOrder R) where
   ascends_remove (j ∷ js) zero a = a.1
   ascends_remove (j ∷ js) (suc p) a = (none_remove j js p a.0, ascends_remove js p a.1)
 
+  none_drop : (j : K) (ks : List K) (b : ℕ) → NoneBelow R j ks → NoneBelow R j (drop b ks)
+  none_drop j ks zero n = n
+  none_drop j [] (suc b) n = n
+  none_drop j (i ∷ is) (suc b) n = none_drop j is b n.1
+
+  none_cut : (j : K) (ks : List K) (a b : ℕ) → a ≤ b → NoneBelow R j ks → NoneBelow R j (remove_range ks a b)
+  none_cut j ks zero b le n = none_drop j ks b n
+  none_cut j ks (suc a) zero le n = absurd (omega arith)
+  none_cut j [] (suc a) (suc b) le n = n
+  none_cut j (i ∷ is) (suc a) (suc b) le n = (n.0, none_cut j is a b (omega arith) n.1)
+
+  ascends_drop : (ks : List K) (b : ℕ) → Ascends R ks → Ascends R (drop b ks)
+  ascends_drop ks zero a = a
+  ascends_drop [] (suc b) a = a
+  ascends_drop (j ∷ js) (suc b) a = ascends_drop js b a.1
+
+  pub ascends_cut : (ks : List K) (a b : ℕ) → a ≤ b → Ascends R ks → Ascends R (remove_range ks a b)
+  ascends_cut ks zero b le s = ascends_drop ks b s
+  ascends_cut ks (suc a) zero le s = absurd (omega arith)
+  ascends_cut [] (suc a) (suc b) le s = s
+  ascends_cut (j ∷ js) (suc a) (suc b) le s = (none_cut j js a b (omega arith) s.0, ascends_cut js a b (omega arith) s.1)
+
   -- the piles after an edit
   pub pile_insert : {V : Type 0} (ks : List K) (vs : List V) (p i : ℕ) (k : K) (v : V) → Ascends R ks → length ks ≡ length vs → p ≡ lows R ks k + i → p ≤ tops R ks k
       → (q : K) → pile_beside R (insert ks p k) (insert vs p v) q ≡ cond (is_eq (R k q)) (insert (pile_beside R ks vs k) i v) (pile_beside R ks vs q)
@@ -277,6 +299,48 @@ module _ {K : Type 0} (R : K → K → Ordering) (total : IsTotalOrder R) where
       go : (b : Bool) → is_eq (R k q) ≡ b → pile_beside R (insert ks p k) (insert vs p v) q ≡ cond b (insert (pile_beside R ks vs k) i v) (pile_beside R ks vs q)
       go true h = pile_tied (insert ks p k) (insert vs p v) k q (is_equal _ h) ∙ pile_insert_here ks vs p i k v a n e le
       go false h = pile_insert_other ks vs p k q v n (let z = tops_length ks k in omega arith) h
+
+  pub pile_cut : {V : Type 0} (ks : List K) (vs : List V) (k q : K) → Ascends R ks → length ks ≡ length vs
+      → pile_beside R (remove_range ks (lows R ks k) (tops R ks k)) (remove_range vs (lows R ks k) (tops R ks k)) q ≡ cond (is_eq (R k q)) [] (pile_beside R ks vs q)
+  pile_cut {V} [] vs k q a n = go (is_eq (R k q))
+    where
+      go : (b : Bool) → [] ≡ cond b [] (pile_beside R [] vs q)
+      go true = refl
+      go false = refl
+  pile_cut (j ∷ js) [] k q a n = absurd (omega arith)
+  pile_cut {V} (j ∷ js) (v ∷ vs) k q a n = go (R j k) refl (is_eq (R k q)) refl (pile_cut js vs k q a.1 (omega arith))
+    where
+      untied : (o : Ordering) → R j k ≡ o → is_eq o ≡ false → is_eq (R k q) ≡ true → is_eq (R j q) ≡ false
+      untied o r off h = ap is_eq (sym (alike_right total k q j (is_equal _ h)) ∙ r) ∙ off
+
+      go : (o : Ordering) → R j k ≡ o → (b : Bool) → is_eq (R k q) ≡ b
+          → pile_beside R (remove_range js (lows R js k) (tops R js k)) (remove_range vs (lows R js k) (tops R js k)) q ≡ cond b [] (pile_beside R js vs q)
+          → pile_beside R (remove_range (j ∷ js) (cond (is_lt o) (suc (lows R js k)) (lows R js k)) (cond (not (is_gt o)) (suc (tops R js k)) (tops R js k)))
+          (remove_range (v ∷ vs) (cond (is_lt o) (suc (lows R js k)) (lows R js k)) (cond (not (is_gt o)) (suc (tops R js k)) (tops R js k))) q
+          ≡ cond b [] (cond (is_eq (R j q)) (v ∷ pile_beside R js vs q) (pile_beside R js vs q))
+      go Less r true h ih =
+          let kept = pile_beside R (remove_range js (lows R js k) (tops R js k)) (remove_range vs (lows R js k) (tops R js k)) q in
+          ap (λ (c : Bool). cond c (v ∷ kept) kept) (untied Less r refl h) ∙ ih
+      go Less r false h ih = ap (λ (l : List V). cond (is_eq (R j q)) (v ∷ l) l) ih
+      go Equal r b h ih =
+          let z : lows R js k ≡ 0 = lows_rest j k js a.0 (ap is_lt r) in
+          let t = tops R js k in
+          ap (λ (m : ℕ). pile_beside R (take m (j ∷ js) ++ drop t js) (take m (v ∷ vs) ++ drop t vs) q) z
+          ∙ (ap (λ (m : ℕ). pile_beside R (take m js ++ drop t js) (take m vs ++ drop t vs) q) (sym z) ∙ (ih ∙ at b h))
+        where
+          at : (b : Bool) → is_eq (R k q) ≡ b → cond b [] (pile_beside R js vs q) ≡ cond b [] (cond (is_eq (R j q)) (v ∷ pile_beside R js vs q) (pile_beside R js vs q))
+          at true h = refl
+          at false h = ap (λ (c : Bool). cond c (v ∷ pile_beside R js vs q) (pile_beside R js vs q)) (sym (ap is_eq (total.congr j k q r) ∙ h))
+      go Greater r b h ih =
+          let z : lows R js k ≡ 0 = lows_rest j k js a.0 (ap is_lt r) in
+          let t : tops R js k ≡ 0 = tops_rest j k js a.0 r in
+          (λ i. pile_beside R (take (z i) (j ∷ js) ++ drop (t i) (j ∷ js)) (take (z i) (v ∷ vs) ++ drop (t i) (v ∷ vs)) q)
+          ∙ at b h (sym (λ i. pile_beside R (take (z i) js ++ drop (t i) js) (take (z i) vs ++ drop (t i) vs) q) ∙ ih)
+        where
+          at : (b : Bool) → is_eq (R k q) ≡ b → pile_beside R js vs q ≡ cond b [] (pile_beside R js vs q)
+              → cond (is_eq (R j q)) (v ∷ pile_beside R js vs q) (pile_beside R js vs q) ≡ cond b [] (cond (is_eq (R j q)) (v ∷ pile_beside R js vs q) (pile_beside R js vs q))
+          at true h none = ap (λ (c : Bool). cond c (v ∷ pile_beside R js vs q) (pile_beside R js vs q)) (untied Greater r refl h) ∙ none
+          at false h none = refl
 
   pub pile_remove : {V : Type 0} (ks : List K) (vs : List V) (p i : ℕ) (k : K) → Ascends R ks → length ks ≡ length vs → p ≡ lows R ks k + i → p < tops R ks k
       → (q : K) → pile_beside R (remove ks p) (remove vs p) q ≡ cond (is_eq (R k q)) (remove (pile_beside R ks vs k) i) (pile_beside R ks vs q)

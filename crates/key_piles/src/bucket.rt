@@ -1,6 +1,7 @@
 //! One bucket: the values of some keys in two vectors that are sorted by key.
 
-ghost use Rattle.std.specs.Prelude.{ℕ, ◌≡◌, ◌<◌, ◌≤◌, ◌+◌, length, cond, [], insert, remove, vec_len, vec_capacity, OnOk};
+ghost use Rattle.std.specs.Prelude.{ℕ, ◌≡◌, ◌<◌, ◌≤◌, ◌+◌, ◌-◌, ◌++◌, ◌∷◌, length, cond, [], insert, remove, vec_len, vec_capacity, OnOk};
+ghost use Rattle.std.specs.List.{remove_range};
 ghost use Rattle.std.specs.Ordering.{is_eq};
 ghost use Rattle.key_piles.specs.Buckets.{pile_of, IsSorted, HasRoom, IsKept, lows, tops, Ascends};
 
@@ -62,6 +63,32 @@ impl<K: Ord + Copy, V: Copy> Bucket<K, V> {
         put_in(&mut self.values, at, value);
     }
 
+    /// Puts a value behind those of a key.
+    pub(crate) fn push(&mut self, key: K, value: V)
+        requires sorted { IsSorted K.cmp self.old }
+        requires room { HasRoom self.old 1 }
+        ensures sorted { IsSorted K.cmp self.new }
+        ensures piles { (q : K) → pile_of K.cmp self.new q ≡ cond (is_eq (K.cmp key q)) (pile_of K.cmp self.old key ++ value ∷ []) (pile_of K.cmp self.old q) }
+        ensures room { (n : ℕ) → HasRoom self.old (n + 1) → HasRoom self.new n }
+    {
+        let end = behind(&self.keys, key);
+        put_in(&mut self.keys, end, key);
+        put_in(&mut self.values, end, value);
+    }
+
+    /// Takes out all values of a key.
+    pub(crate) fn clear(&mut self, key: K)
+        requires { IsSorted K.cmp self.old }
+        ensures sorted { IsSorted K.cmp self.new }
+        ensures piles { (q : K) → pile_of K.cmp self.new q ≡ cond (is_eq (K.cmp key q)) [] (pile_of K.cmp self.old q) }
+        ensures room { (n : ℕ) → HasRoom self.old n → HasRoom self.new n }
+    {
+        let start = first(&self.keys, key);
+        let end = behind(&self.keys, key);
+        cut(&mut self.keys, start, end);
+        cut(&mut self.values, start, end);
+    }
+
     /// Takes the value at a place out of the pile of a key.
     pub(crate) fn take(&mut self, key: K, i: usize)
         requires sorted { IsSorted K.cmp self.old }
@@ -74,6 +101,17 @@ impl<K: Ord + Copy, V: Copy> Bucket<K, V> {
         self.keys.remove(at);
         self.values.remove(at);
     }
+}
+
+/// Takes a range out of a vector.
+fn cut<T: Copy>(v: &mut Vec<T>, start: usize, end: usize)
+    requires order { start ≤ end }
+    requires within { end ≤ vec_len v.old }
+    ensures items { v.new.items ≡ remove_range v.old.items start end }
+    ensures len { vec_len v.new + (end - start) ≡ vec_len v.old }
+    ensures capacity { vec_capacity v.old ≤ vec_capacity v.new }
+{
+    v.drain(start..end);
 }
 
 /// Where the keys from a key on begin.

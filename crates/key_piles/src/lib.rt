@@ -4,8 +4,6 @@
 mod bucket;
 mod key;
 mod piles;
-#[cfg(test)]
-mod tests;
 
 pub use key::Key;
 pub use piles::Piles;

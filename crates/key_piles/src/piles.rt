@@ -11,8 +11,23 @@ use crate::bucket::Bucket;
 use std::alloc::{AllocError, Global};
 use std::marker::Model;
 
-// How many buckets there are.
-const BUCKETS: usize = 64;
+// Among how many buckets the keys are spread.
+#[derive(Clone, Copy)]
+enum Width {
+    One,
+    Many,
+}
+
+impl Width {
+    fn buckets(self) -> usize
+        ensures { 0 < result }
+    {
+        match self {
+            Width::One => 1,
+            Width::Many => 64,
+        }
+    }
+}
 
 // For how many values each bucket gets room at the least, so that not every `reserve` goes through all of them.
 const AHEAD: usize = 64;
@@ -23,6 +38,7 @@ const AHEAD: usize = 64;
 #[derive(Drop)]
 pub struct Piles<K: Key, V: Copy> {
     alloc: Global,
+    width: Width,
     // A key lies in the bucket whose number is the remainder of its spread. There are none before the first `reserve`.
     buckets: Vec<Bucket<K, V>>,
     // For how many more values each bucket has room.
@@ -42,13 +58,27 @@ impl<K: Key, V: Copy> Model for Piles<K, V> {
 }
 
 impl<K: Key, V: Copy> Piles<K, V> {
-    /// No values, and no room. Takes no memory.
+    /// No values, and no room, for values of many keys: in 64 buckets. Takes no memory.
     pub fn new(alloc: Global) -> Self
         ensures entries { result.entries ≡ [] }
         ensures spare { result.spare ≡ 0 }
     {
         Piles {
             alloc,
+            width: Width::Many,
+            buckets: Vec::new(alloc),
+            spare: 0,
+        }
+    }
+
+    /// No values, and no room, for a few values: in one bucket, so that room costs little. Takes no memory.
+    pub fn narrow(alloc: Global) -> Self
+        ensures entries { result.entries ≡ [] }
+        ensures spare { result.spare ≡ 0 }
+    {
+        Piles {
+            alloc,
+            width: Width::One,
             buckets: Vec::new(alloc),
             spare: 0,
         }
@@ -63,7 +93,7 @@ impl<K: Key, V: Copy> Piles<K, V> {
         if n <= self.spare {
             return Ok(());
         }
-        make_buckets(self.alloc, &mut self.buckets)?;
+        make_buckets(self.alloc, self.width, &mut self.buckets)?;
         let room = n.max(AHEAD);
         make_room(&mut self.buckets, room)?;
         self.spare = room;
@@ -98,8 +128,9 @@ impl<K: Key, V: Copy> Piles<K, V> {
         ensures piles { (q : K) → pile_in K.cmp self.new q ≡ cond (is_eq (K.cmp key q)) (pile_in K.cmp self.old key ++ value ∷ []) (pile_in K.cmp self.old q) }
         ensures spare { self.old.spare ≡ self.new.spare + 1 }
     {
-        let end = self.list(key).len();
-        self.put(key, end, value);
+        let at = place_of(&self.buckets, key);
+        self.buckets[at].push(key, value);
+        self.spare -= 1;
     }
 
     /// Takes the value at a place out of the pile of a key.
@@ -110,6 +141,18 @@ impl<K: Key, V: Copy> Piles<K, V> {
     {
         let at = place_of(&self.buckets, key);
         self.buckets[at].take(key, i);
+    }
+
+    /// Takes out all values of a key.
+    pub fn clear(&mut self, key: K)
+        ensures piles { (q : K) → pile_in K.cmp self.new q ≡ cond (is_eq (K.cmp key q)) [] (pile_in K.cmp self.old q) }
+        ensures spare { self.new.spare ≡ self.old.spare }
+    {
+        if self.buckets.is_empty() {
+            return;
+        }
+        let at = place_of(&self.buckets, key);
+        self.buckets[at].clear(key);
     }
 
     /// Takes the value at a place out of a pile, and puts one into the pile of another key with the same spread. It takes no room.
@@ -140,6 +183,7 @@ fn place_of<K: Key, V: Copy>(buckets: &[Bucket<K, V>], key: K) -> usize
 /// Makes the buckets where there are none.
 fn make_buckets<K: Key, V: Copy>(
     alloc: Global,
+    width: Width,
     buckets: &mut Vec<Bucket<K, V>>,
 ) -> Result<(), AllocError>
     ensures some { OnOk result (0 < length buckets.new.items) }
@@ -147,19 +191,23 @@ fn make_buckets<K: Key, V: Copy>(
     ensures spread { (n : ℕ) → IsSpread K.cmp K.spread_of buckets.old.items n → IsSpread K.cmp K.spread_of buckets.new.items n }
 {
     if buckets.is_empty() {
-        *buckets = empty_buckets(alloc)?;
+        *buckets = empty_buckets(alloc, width.buckets())?;
     }
     Ok(())
 }
 
 /// Buckets with no values and no room.
-fn empty_buckets<K: Key, V: Copy>(alloc: Global) -> Result<Vec<Bucket<K, V>>, AllocError>
+fn empty_buckets<K: Key, V: Copy>(
+    alloc: Global,
+    count: usize,
+) -> Result<Vec<Bucket<K, V>>, AllocError>
+    requires { 0 < count }
     ensures some { IfOk result (λ bs. 0 < length bs.items) }
     ensures spread { IfOk result (λ bs. IsSpread K.cmp K.spread_of bs.items 0) }
     ensures entries { IfOk result (λ bs. entries_of bs.items ≡ []) }
 {
-    let mut buckets = Vec::with_capacity(alloc, BUCKETS)?;
-    for _ in 0..BUCKETS {
+    let mut buckets = Vec::with_capacity(alloc, count)?;
+    for _ in 0..count {
         buckets.push(Bucket::new(alloc))?;
     }
     Ok(buckets)

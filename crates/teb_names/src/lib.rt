@@ -10,7 +10,7 @@ pub use rows::Rows;
 pub use scan::ScanList;
 
 /// A transaction, numbered from 1 in order of beginning. 0 stands for the starting rows.
-#[derive(Clone, Copy, Debug, PartialEq, Eq, PartialOrd, Ord)]
+#[derive(Clone, Copy, Debug, PartialEq, Eq, PartialOrd, Ord, Hash)]
 pub struct Txn(pub u32);
 
 /// A session, 1 to 32.
@@ -18,7 +18,7 @@ pub struct Txn(pub u32);
 pub struct Session(pub u8);
 
 /// A table. 255 stands for a name that the tree does not have.
-#[derive(Clone, Copy, Debug, PartialEq, Eq, PartialOrd, Ord)]
+#[derive(Clone, Copy, Debug, PartialEq, Eq, PartialOrd, Ord, Hash)]
 pub struct Table(pub u8);
 
 /// A transaction's type. 255 stands for a name that the tree does not have.
@@ -30,7 +30,7 @@ pub struct Kind(pub u8);
 pub struct Node(pub u8);
 
 /// A row's place. Cells are ordered by table, and in one table by key.
-#[derive(Clone, Copy, Debug, PartialEq, Eq, PartialOrd, Ord)]
+#[derive(Clone, Copy, Debug, PartialEq, Eq, PartialOrd, Ord, Hash)]
 pub struct Cell {
     pub table: Table,
     pub key: u32,

@@ -98,25 +98,3 @@ pub struct NameBook {
     pub types: Names,
     pub nodes: Names,
 }
-
-#[cfg(test)]
-mod tests {
-    use super::*;
-    use std::test::Fail;
-
-    #[test]
-    fn names_have_the_numbers_of_their_coming(rt: HostRuntime) -> Result<(), Fail> {
-        let mut names = Names::new(rt.alloc());
-        assert!(rt; names.is_empty());
-        assert!(rt; names.add("stock")?);
-        assert_eq!(rt; names.len(), 1);
-        assert!(rt; names.add("orders")?);
-        assert_eq!(rt; names.len(), 2);
-        assert!(rt; !names.add("stock")?);
-        assert_eq!(rt; names.len(), 2);
-        assert_eq!(rt; names.name(1), "orders");
-        assert_eq!(rt; names.number("stock"), Some(0));
-        assert_eq!(rt; names.number("Stock"), None);
-        Ok(())
-    }
-}

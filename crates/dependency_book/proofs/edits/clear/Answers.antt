@@ -1,5 +1,8 @@
-use Rattle.dependency_book.proofs.PileEdits.{clearing_more}
+use Rattle.std.proofs.Common.{Bool, cond, [], sym, ◌∙◌, ap}
+use Rattle.key_piles.specs.Piles.{pile_in}
+use Rattle.dependency_book.specs.Books.{txn_cmp}
+use Rattle.dependency_book.proofs.PileEdits.{eqb-is_eq}
 use Rattle.dependency_book.proofs.edits.clear.Goals as goal
 
-pub loop-last-preserved : goal.loop-last-preserved
-loop-last-preserved g c = clearing_more c.args.t c.args.piles.now c.loop-last.piles c.take.new.self c.in-Some.last c.loop-last.invariant c.take.ensures.piles c.take.ensures.spare
+pub returns-clause-piles : goal.returns-clause-piles
+returns-clause-piles g c u = c.clear.ensures.piles u ∙ ap (λ (o : Bool). cond o [] (pile_in txn_cmp c.args.piles.now u)) (sym (eqb-is_eq c.args.t.0 u.0))

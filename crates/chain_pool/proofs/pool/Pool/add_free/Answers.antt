@@ -6,18 +6,14 @@ use Rattle.chain_pool.proofs.pool.Pool.add_free.Goals as goal
 
 pub returns-clause-sound : goal.returns-clause-sound
 returns-clause-sound c =
-    let s = c.requires.sound.sound in
+    let s = c.requires.sound in
     let one : c.args.self.now.unused.len + 1 ≡ 1 = omega (arith, c.if-self-gt0.false) in
     let g = grown c.args.self.now.places.items c.push.new.self.items _ _ c.args.self.now.unused s.linked _ c.len-first.result c.in-Ok.ensures.items (omega (arith, c.len-first.ensures, c.args.self.now.places.ok.0)) refl refl in
     record {
-      sound = record {
-        linked = subst (λ (n : ℕ). Linked c.push.new.self.items (chain_head c.args.self.now.cells.items) (writer_head c.args.self.now.writers.items) (record { first = c.len-first.result; len = n })) one g;
-        cells_rise = s.cells_rise;
-        writers_rise = s.writers_rise;
-      };
-      busy = c.requires.sound.busy;
+      linked = subst (λ (n : ℕ). Linked c.push.new.self.items (chain_head c.args.self.now.cells.entries) (writer_head c.args.self.now.writers.entries) (record { first = c.len-first.result; len = n })) one g;
+      busy = s.busy;
     }
 
 pub returns-clause-same : goal.returns-clause-same
 returns-clause-same c x =
-    grown_versions c.args.self.now.places.items c.push.new.self.items _ _ c.args.self.now.unused c.requires.sound.sound.linked _ c.len-first.result c.in-Ok.ensures.items (omega (arith, c.len-first.ensures, c.args.self.now.places.ok.0)) refl refl x
+    grown_versions c.args.self.now.places.items c.push.new.self.items _ _ c.args.self.now.unused c.requires.sound.linked _ c.len-first.result c.in-Ok.ensures.items (omega (arith, c.len-first.ensures, c.args.self.now.places.ok.0)) refl refl x

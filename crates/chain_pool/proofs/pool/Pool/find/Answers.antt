@@ -1,25 +1,16 @@
-use Rattle.std.proofs.Common.{◌∙◌, ap, eqb, rules, Some, ℕ, ◌<◌, ◌≡◌, subst}
+use Rattle.std.proofs.Common.{◌∙◌, ap, eqb, rules}
+use Rattle.version_chain.specs.Lists.{last_place, unless_below, writers_of}
 use Rattle.chain_pool.specs.declared.places.Head.{Head}
-use Rattle.chain_pool.specs.Heads.{writer_head}
-use Rattle.chain_pool.specs.Threads.{steps}
-use Rattle.chain_pool.specs.Places.{slot_at, sibling_at, cell_in}
-use Rattle.chain_pool.proofs.Chains.{find_last, find_none}
-use Rattle.chain_pool.proofs.Sizes.{owned_steps}
+use Rattle.chain_pool.specs.Linked.{versions}
+use Rattle.chain_pool.proofs.Chains.{find_last}
 use Rattle.chain_pool.proofs.pool.Pool.find.Goals as goal
 
-pub has_cell-requires : goal.has_cell-requires
-has_cell-requires c =
-    let is = c.find-2.ensures.head ∙ ap (λ l. writer_head l c.args.t) c.deref-2.ensures.value in
-    owned_steps c.args.self.now.places.items _ _ c.args.self.now.unused c.requires.sound.sound.linked c.deref-then-own-chain.result.now c.deref-then-own-chain.ensures.value c.args.t c.find-2.result.head is
-
-pub returns-then-not-has_cell : goal.returns-then-not-has_cell
-returns-then-not-has_cell c =
-    let is = c.find-2.ensures.head ∙ ap (λ l. writer_head l c.args.t) c.deref-2.ensures.value in
-    let none = rw c.deref-then-own-chain.ensures.value at c.if-not-has_cell.ensures in
-    find_none c.args.self.now.places.items _ _ c.args.self.now.unused c.requires.sound.sound.linked c.args.cell c.args.t
-    (subst (λ (h : Head). (n : ℕ) → n < h.len → cell_in (slot_at c.args.self.now.places.items (steps (sibling_at c.args.self.now.places.items) n h.first)) ≡ Some c.args.cell → ⊥) is none)
+pub last_in-requires-clause-chain : goal.last_in-requires-clause-chain
+last_in-requires-clause-chain c = (c.args.cell, c.head_of-chain.ensures)
 
 pub returns : goal.returns
 returns c =
-    c.last_where_from.ensures (λ w. eqb w c.args.t.0) (λ u b m called. search rules)
-    ∙ find_last c.args.self.now.places.items _ _ c.args.self.now.unused c.requires.sound.sound.linked c.args.cell c.args.t.0
+    let ps = c.args.self.now.places.items in
+    c.last_in.ensures (λ w. eqb w c.args.t.0) (λ u b there called. search rules)
+    ∙ (ap (λ (h : Head). unless_below 0 (last_place (λ w. eqb w c.args.t.0) (writers_of (versions ps h)))) c.head_of-chain.ensures
+    ∙ find_last ps _ _ c.args.self.now.unused c.requires.sound.linked c.args.cell c.args.t.0)

@@ -1,10 +1,9 @@
 use Rattle.std.proofs.Common.{◌∙◌, ap, sym}
 use Rattle.chain_pool.specs.declared.places.Head.{Head}
-use Rattle.chain_pool.specs.Heads.{chain_head}
 use Rattle.chain_pool.proofs.Chains.{versions_len}
 use Rattle.chain_pool.proofs.pool.Pool.len_of.Goals as goal
 
 pub returns : goal.returns
 returns c =
-    let is = c.find.ensures.head ∙ ap (λ l. chain_head l c.args.cell) c.deref.ensures.value in
-    ap (λ (h : Head). h.len) is ∙ sym (versions_len c.args.self.now.places.items _ _ c.args.self.now.unused c.requires.sound.linked c.args.cell)
+    let is = c.head_of.ensures in
+    ap (λ (h : Head). h.len) is ∙ sym (versions_len c.args.self.now.places.items _ _ c.args.self.now.unused c.requires.linked c.args.cell)

@@ -1,35 +1,35 @@
-use Rattle.std.proofs.Common.{◌∙◌, ap, sym, subst, length, List, ◌++◌, take, drop, remove}
-use Rattle.teb_names.specs.declared.Cell.{Cell}
+use Rattle.std.proofs.Common.{◌∙◌, ap, sym, subst, arith, Option, unwrap_or}
 use Rattle.teb_names.specs.declared.Txn.{Txn}
-use Rattle.chain_pool.specs.declared.places.Place.{Place}
+use Rattle.indexmap.specs.IndexMap.{IndexMap}
 use Rattle.chain_pool.specs.declared.places.Head.{Head}
-use Rattle.chain_pool.specs.Heads.{empty, IsBusy, txn_cmp}
-use Rattle.chain_pool.specs.Linked.{Sound}
+use Rattle.chain_pool.specs.Heads.{empty, IsBusy, chain_head, writer_head, same_txn}
 use Rattle.chain_pool.proofs.Chains.{none_left}
-use Rattle.chain_pool.proofs.Emptied.{entry_removed}
-use Rattle.chain_pool.proofs.Keys.{txns_total}
-use Rattle.chain_pool.proofs.Lookups.{look_gap, busy_removed}
-use Rattle.chain_pool.proofs.Rewriting.{written}
+use Rattle.chain_pool.proofs.Emptied.{taken_out, emptied, no_entry, busy_without, none_there}
 use Rattle.chain_pool.proofs.pool.Pool.remove_all_of.Goals as goal
 
-pub returns-in-Err-clause-taken : goal.returns-in-Err-clause-taken
-returns-in-Err-clause-taken c x =
-    let none = look_gap txn_cmp txns_total c.deref.result.now c.args.t empty c.in-Err.field-0 (rw c.in-Err.is at c.find.ensures.at) in
-    sym (none_left c.args.self.now.places.items _ _ c.args.self.now.unused c.requires.sound.sound.linked c.args.t (ap (λ (h : Head). h.len) (rw c.deref.ensures.value at none)) x)
+pub take_all-requires : goal.take_all-requires
+take_all-requires c =
+    let p = c.args.self.now in
+    record { linked = taken_out p.places.items (chain_head p.cells.entries) p.unused c.args.t p.writers.entries c.swap_remove.new.self.entries c.in-Some.own c.requires.sound.linked (sym c.in-Some.ensures.value) c.swap_remove.ensures.updates.0 }
 
-pub returns-in-Ok-clause-sound : goal.returns-in-Ok-clause-sound
-returns-in-Ok-clause-sound c =
-    let p = c.take_all-self.new.places in
-    let new_places = written c.args.self.now.places.len p c.args.self.now.places.items (sym c.deref_mut.ensures.len ∙ sym c.take_all-self.auto.places) in
-    let new_cells = written c.args.self.now.cells.len c.take_all-self.new.cells c.args.self.now.cells.items (sym c.deref_mut-in-Ok.ensures.len ∙ sym c.take_all-self.auto.cells) in
-    let new_writers = written c.args.self.now.writers.len c.take_all-self.new.writers c.args.self.now.writers.items (sym c.deref_mut-in-Ok-2.ensures.len ∙ sym c.take_all-self.auto.writers) in
-    let left = c.remove.ensures.items ∙ ap (λ (l : List (Txn × Head)). remove l c.in-Ok.w) new_writers in
-    let at = c.take_all-self.ensures.w_at in
-    let cells = take c.args.self.now.cells.len (c.take_all-self.new.cells ++ drop (length c.take_all-self.new.cells) c.args.self.now.cells.items) in
-    let removed = entry_removed p c.take_all-self.new.cells c.take_all-self.new.writers c.take_all-self.result c.take_all-self.ensures.sound c.args.t c.in-Ok.w at c.take_all-self.ensures.none in
-    let by_writers = subst (λ (l : List (Txn × Head)). Sound p c.take_all-self.new.cells l c.take_all-self.result) (sym left) removed in
-    let by_cells = subst (λ (l : List (Cell × Head)). Sound p l c.remove.new.self.items c.take_all-self.result) (sym new_cells) by_writers in
+pub returns-in-Some-clause-sound : goal.returns-in-Some-clause-sound
+returns-in-Some-clause-sound c =
+    let was = c.args.self.now.writers.entries in
+    let now = c.swap_remove.new.self.entries in
+    let p = c.take_all.new.self in
+    let l = c.take_all.ensures.linked in
+    let gone = c.swap_remove.ensures.updates.0 in
+    let none = ap (λ (m : IndexMap Txn Head _). writer_head m.entries c.args.t) c.take_all.ensures.writers ∙ no_entry was now c.args.t gone in
     record {
-      sound = subst (λ (l : List Place). Sound l cells c.remove.new.self.items c.take_all-self.result) (sym new_places) by_cells;
-      busy = subst IsBusy (sym left) (busy_removed c.take_all-self.new.writers c.args.self.now.writers.items c.in-Ok.w at.within (c.take_all-self.auto.writers ∙ ap length c.deref_mut-in-Ok-2.ensures.value) (rw c.deref_mut-in-Ok-2.ensures.value at c.take_all-self.ensures.others) c.requires.sound.busy);
+      linked = emptied p.places.items (chain_head p.cells.entries) p.unused c.args.t (writer_head p.writers.entries) l.0 l.2 l.1 none;
+      busy = subst (λ (m : IndexMap Txn Head _). IsBusy same_txn m.entries) (sym c.take_all.ensures.writers) (busy_without was now c.args.t gone c.requires.sound.busy);
     }
+
+pub returns-in-Some-clause-room : goal.returns-in-Some-clause-room
+returns-in-Some-clause-room c n r = c.take_all.ensures.room n (record { places = r.places; cells = r.cells; writers = omega (arith, r.writers, c.swap_remove.ensures.room.0) })
+
+pub returns-in_default-clause-taken : goal.returns-in_default-clause-taken
+returns-in_default-clause-taken c x =
+    let none = sym c.swap_remove.ensures.value ∙ none_there c.swap_remove.result c.in_default.not-Some in
+    let p = c.args.self.now in
+    sym (none_left p.places.items _ (writer_head p.writers.entries) p.unused c.requires.sound.linked c.args.t (ap (λ (o : Option Head). (unwrap_or o empty).len) none) x)

@@ -8,13 +8,13 @@ use Rattle.chain_pool.proofs.pooled.PooledChainsChains.place.Goals as goal
 pub place-requires-clause-within : goal.place-requires-clause-within
 place-requires-clause-within c =
     let was = seen c.args.self.now c.self.inside.pool c.self.inside.spare c.self.view_is in
-    let n = versions_len _ _ _ _ c.self.invariant.sound.sound.linked c.args.cell in
+    let n = versions_len _ _ _ _ c.self.invariant.sound.linked c.args.cell in
     omega (arith, n, ap length (was c.args.cell), c.requires.within)
 
 pub place-requires-clause-absent : goal.place-requires-clause-absent
 place-requires-clause-absent c =
     let was = seen c.args.self.now c.self.inside.pool c.self.inside.spare c.self.view_is in
-    absent_from _ _ _ _ c.self.invariant.sound.sound.linked c.args.cell c.args.t (ap (λ (l : List Version). is_writer l c.args.t.0) (was c.args.cell) ∙ c.requires.absent)
+    absent_from _ _ _ _ c.self.invariant.sound.linked c.args.cell c.args.t (ap (λ (l : List Version). is_writer l c.args.t.0) (was c.args.cell) ∙ c.requires.absent)
 
 pub invariant_of-self : goal.invariant_of-self
 invariant_of-self c = record { sound = c.place.ensures.sound; room = c.place.ensures.room _ (less_room _ c.self.inside.spare _ (omega (arith, ap (λ (v : View). v.spare) c.self.view_is, c.requires.room)) c.self.invariant.room) }

@@ -1,16 +1,27 @@
-use Rattle.std.proofs.Common.{◌≡◌, ◌∷◌, ◌++◌, [], refl, ◌∙◌, ap, cond, length, insert, List}
+use Rattle.std.proofs.Common.{◌-◌, ◌∷◌, ◌++◌, [], ◌∙◌, sym, ap, subst, arith, cond, List}
 use Rattle.std.specs.Ordering.{is_eq}
+use Rattle.key_piles.specs.Buckets.{HasRoom}
 use Rattle.key_piles.specs.Piles.{pile_in}
+use Rattle.key_piles.proofs.SpreadPiles.{located, located_pile, located_sorted, located_room, put_spread, put_piles}
 use Rattle.key_piles.proofs.piles.Piles.push.Goals as goal
 
-insert_end : {A : Type 0} (xs : List A) (v : A) → insert xs (length xs) v ≡ xs ++ v ∷ []
-insert_end [] v = refl
-insert_end {A} (x ∷ xs) v = ap (λ (ys : List A). x ∷ ys) (insert_end xs v)
+pub push-requires-clause-sorted : goal.push-requires-clause-sorted
+push-requires-clause-sorted g c =
+    let l = located g.K.Ord.cmp g.K.Key.spread_of _ _ c.args.key _ _ c.deref.ensures.value c.place_of-at.ensures.at c.place_of-at.ensures.within c.index_mut.ensures.value in
+    located_sorted g.K.Ord.cmp g.K.Key.spread_of _ _ c.self.invariant _ _ _ l
+
+pub invariant_of-self : goal.invariant_of-self
+invariant_of-self g c =
+    let R = g.K.Ord.cmp in
+    let l = located R g.K.Key.spread_of _ _ c.args.key _ _ c.deref.ensures.value c.place_of-at.ensures.at c.place_of-at.ensures.within c.index_mut.ensures.value in
+    let room = c.push.ensures.room (c.self.inside.spare - 1) (subst (HasRoom c.index_mut.result.now) (omega (arith, c.requires, ap (λ s. s.spare) c.self.view_is)) (located_room R g.K.Key.spread_of _ _ c.self.invariant _ _ _ l)) in
+    put_spread R g.K.Key.spread_of g.met.K.Key.agrees _ _ _ _ _ _ c.self.invariant (omega arith) c.push.ensures.sorted room _ l _ c.push.ensures.piles
 
 pub returns-clause-piles : goal.returns-clause-piles
 returns-clause-piles g c q =
     let R = g.K.Ord.cmp in
-    let old = pile_in R c.args.self.now in
-    c.put.ensures.piles q
-    ∙ ap (λ (l : List _). cond (is_eq (R c.args.key q)) (insert (old c.args.key) (length l) c.args.value) (old q)) c.list-end.ensures
-    ∙ ap (λ (l : List _). cond (is_eq (R c.args.key q)) l (old q)) (insert_end (old c.args.key) c.args.value)
+    let l = located R g.K.Key.spread_of _ _ c.args.key _ _ c.deref.ensures.value c.place_of-at.ensures.at c.place_of-at.ensures.within c.index_mut.ensures.value in
+    let here = located_pile R g.K.Key.spread_of _ _ c.self.invariant _ _ _ l in
+    let room = c.push.ensures.room (c.self.inside.spare - 1) (subst (HasRoom c.index_mut.result.now) (omega (arith, c.requires, ap (λ s. s.spare) c.self.view_is)) (located_room R g.K.Key.spread_of _ _ c.self.invariant _ _ _ l)) in
+    put_piles R g.K.Key.spread_of g.met.K.Key.agrees _ _ _ _ _ _ c.self.invariant (omega arith) c.push.ensures.sorted room _ l _ c.push.ensures.piles (pile_in R c.args.self.now) (λ p. ap (λ s. pile_in R s p) c.self.view_is) q
+    ∙ ap (λ (vs : List _). cond (is_eq (R c.args.key q)) (vs ++ c.args.value ∷ []) (pile_in R c.args.self.now q)) (sym here ∙ ap (λ s. pile_in R s c.args.key) c.self.view_is)
