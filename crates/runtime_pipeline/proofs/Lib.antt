@@ -2,3 +2,6 @@ pub mod Said
 pub mod Noting
 pub mod Ways
 pub mod Ranks
+pub mod ListEdits
+pub mod Aheads
+pub mod Following

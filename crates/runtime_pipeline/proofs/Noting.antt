@@ -15,17 +15,18 @@ use Rattle.teb_history.specs.Accesses.{is_put, is_got, put_at, got_at, wrote, go
 use Rattle.teb_history.proofs.Any.{came_any}
 use Rattle.teb_rules.specs.Setup.{Setup, profile}
 use Rattle.teb_rules.specs.Tree.{row}
-use Rattle.teb_names.specs.declared.ControlKind.TheVariants.{Pipeline}
+use Rattle.teb_names.specs.declared.ControlKind.TheVariants.{Pipeline as IsPipeline}
 use Rattle.teb_names.specs.declared.Spot.{Spot}
 use Rattle.teb_rules.specs.Steps.{cursor, least_step}
 use Rattle.phase_api.specs.Told.{IsOrderly}
 use Rattle.phase_api.specs.Calls.{MayNote}
-use Rattle.hold_book.specs.Books.{Held}
 use Rattle.hold_book.proofs.Cells.{same_itself}
 use Rattle.hold_register.specs.Registered.{Registered}
 use Rattle.hold_register.proofs.Orderly.{unfinished_begun, begun_kept, new_accesses_none}
 use Rattle.cursor_book.specs.Cursors.{CursorsOf, moved}
 use Rattle.cursor_book.proofs.Moves.{cursors_began, cursors_got, cursors_put, cursors_ready, cursors_done, cursors_gone, cursors_told}
+use Rattle.runtime_pipeline.specs.declared.pipeline.Pipeline.{Pipeline}
+use Rattle.runtime_pipeline.specs.Predecessors.{PredecessorsOf}
 use Rattle.runtime_pipeline.specs.Standing.{PipelineStands, RanksOf}
 use Rattle.runtime_pipeline.proofs.Said.{has_cursor}
 
@@ -34,23 +35,23 @@ or_off false b h = (refl, h)
 or_off true b h = absurd (cc)
 
 -- whoever has accessed nothing stands at the first step
-wrote_before : (e : Event) (P : List Event) (t : ℕ) → ((x : Cell) → wrote (e ∷ P) t x ≡ false) → (x : Cell) → wrote P t x ≡ false
+pub wrote_before : (e : Event) (P : List Event) (t : ℕ) → ((x : Cell) → wrote (e ∷ P) t x ≡ false) → (x : Cell) → wrote P t x ≡ false
 unfolding wrote put_at
 wrote_before e P t f x = (or_off (is_put t x e) (wrote P t x) (ap (λ (b : Bool). is_put t x e || b) (came_any (is_put t x) P) ∙ sym (came_any (is_put t x) (e ∷ P)) ∙ f x)).1
 
-got_before : (e : Event) (P : List Event) (t : ℕ) → ((x : Cell) → got (e ∷ P) t x ≡ false) → (x : Cell) → got P t x ≡ false
+pub got_before : (e : Event) (P : List Event) (t : ℕ) → ((x : Cell) → got (e ∷ P) t x ≡ false) → (x : Cell) → got P t x ≡ false
 unfolding got got_at
 got_before e P t f x = (or_off (is_got t x e) (got P t x) (ap (λ (b : Bool). is_got t x e || b) (came_any (is_got t x) P) ∙ sym (came_any (is_got t x) (e ∷ P)) ∙ f x)).1
 
-no_put : (e : Event) (P : List Event) (t : ℕ) (x : Cell) → wrote (e ∷ P) t x ≡ false → is_put t x e ≡ false
+pub no_put : (e : Event) (P : List Event) (t : ℕ) (x : Cell) → wrote (e ∷ P) t x ≡ false → is_put t x e ≡ false
 unfolding wrote put_at
 no_put e P t x h = (or_off (is_put t x e) (wrote P t x) (ap (λ (b : Bool). is_put t x e || b) (came_any (is_put t x) P) ∙ sym (came_any (is_put t x) (e ∷ P)) ∙ h)).0
 
-no_got : (e : Event) (P : List Event) (t : ℕ) (x : Cell) → got (e ∷ P) t x ≡ false → is_got t x e ≡ false
+pub no_got : (e : Event) (P : List Event) (t : ℕ) (x : Cell) → got (e ∷ P) t x ≡ false → is_got t x e ≡ false
 unfolding got got_at
 no_got e P t x h = (or_off (is_got t x e) (got P t x) (ap (λ (b : Bool). is_got t x e || b) (came_any (is_got t x) P) ∙ sym (came_any (is_got t x) (e ∷ P)) ∙ h)).0
 
-other : (a : Bool) (x : Cell) → (a && same_cell x x) ≡ false → a ≡ false
+pub other : (a : Bool) (x : Cell) → (a && same_cell x x) ≡ false → a ≡ false
 other false x h = refl
 other true x h = absurd (both_ways _ h (same_itself x))
 
@@ -135,11 +136,13 @@ module _ (S : Setup) (H : List Event) (n : ℕ) (e : Event) (i : H ≡ e ∷ dro
     ]
   ]
 
-pub stands_next : (S : Setup) (P H : List Event) (n n' : ℕ) (b b' : Held) (rs cs cs' : List ℕ) → n' ≡ n → PipelineStands n b rs cs S P → Registered n' b' S H → CursorsOf cs' S H → PipelineStands n' b' rs cs' S H
-stands_next S P H n n' b b' rs cs cs' e s r k = record {
-  kind = subst (λ (m : ℕ). (row S.tree m).control ≡ Pipeline) (sym e) s.kind;
+pub stands_next : (S : Setup) (P H : List Event) (c c' : Pipeline) → c'.register.node.0 ≡ c.register.node.0 → c'.ranks ≡ c.ranks → PipelineStands c S P → Registered c'.register.node.0 c'.register.book S H → CursorsOf c'.cursors.cursors S H
+    → PredecessorsOf c'.predecessors S H c'.register.node.0 → PipelineStands c' S H
+stands_next S P H c c' e r s h k p = record {
+  kind = subst (λ (m : ℕ). (row S.tree m).control ≡ IsPipeline) (sym e) s.kind;
   profiled = s.profiled;
-  register = r;
-  ranks = subst (λ (m : ℕ). RanksOf rs S m) (sym e) s.ranks;
+  register = h;
+  ranks = subst (λ (m : ℕ). RanksOf c'.ranks S m) (sym e) (subst (λ (rs : List ℕ). RanksOf rs S c.register.node.0) (sym r) s.ranks);
   cursors = k;
+  predecessors = p;
 }

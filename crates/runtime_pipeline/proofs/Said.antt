@@ -1,25 +1,13 @@
--- What a pipeline node says, found among the live transactions and in the register.
-use Rattle.std.proofs.Common.{◌≡◌, ℕ, ℤ, ◌<◌, ◌≤◌, Bool, true, false, not, ◌||◌, ◌&&◌, eqb, ltb, List, [], ◌∷◌, length, find, Option, Some, None, refl, sym, ◌∙◌, ap, arith, IsTrue, lt-ltb, le-leb}
-use Rattle.std.specs.List.{list_any}
-use Rattle.std.proofs.lemmas.Bool.{and_parts, or_left}
+-- What a pipeline node says, found among those that are ahead and in the register.
+use Rattle.std.proofs.Common.{◌≡◌, ℕ, zero, suc, ◌<◌, ◌≤◌, Bool, true, false, cond, not, ◌||◌, ◌&&◌, ltb, List, [], ◌∷◌, length, map, filter, find, get_or, Option, Some, None, refl, sym, ◌∙◌, ap, arith, IsTrue}
+use Rattle.std.proofs.lemmas.Bool.{and_parts}
 use Rattle.teb_names.specs.declared.Txn.{Txn}
 use Rattle.teb_names.specs.declared.Cell.{Cell}
 use Rattle.teb_names.specs.declared.Spot.{Spot}
-use Rattle.teb_names.specs.declared.Session.{Session}
-use Rattle.teb_names.specs.declared.Kind.{Kind}
-use Rattle.teb_names.specs.declared.Cause.{Cause}
-use Rattle.teb_names.specs.Cells.{same_cell}
 use Rattle.teb_names.specs.declared.ControlKind.TheVariants.{Pipeline}
 use Rattle.teb_history.specs.declared.Event.{Event}
-use Rattle.teb_history.specs.declared.Event.TheVariants.{Began, Got, Put, Ready, Done, Gone, Told}
-use Rattle.teb_history.specs.Phases.{txns, begun, begun_count, unfinished, committed, kind_of}
-use Rattle.teb_history.specs.Accesses.{is_put, is_got, put_at, got_at, wrote, got}
-use Rattle.teb_history.specs.OwnEvents.{is_of}
-use Rattle.teb_history.specs.Conflicts.{is_conflict, has_conflict, is_earlier}
-use Rattle.teb_history.specs.Live.{live_txns, is_numbered}
-use Rattle.teb_history.specs.Written.{txn_of}
-use Rattle.teb_history.proofs.Any.{came_any}
-use Rattle.teb_history.proofs.FirstLive.{first_live}
+use Rattle.teb_history.specs.Phases.{txns, begun, unfinished, committed, kind_of}
+use Rattle.teb_history.specs.Accesses.{put_at}
 use Rattle.teb_rules.specs.Setup.{Setup}
 use Rattle.teb_rules.specs.Tree.{row, meets}
 use Rattle.teb_rules.specs.Steps.{passed, rank_of_table, rank_of_step, cursor}
@@ -28,7 +16,8 @@ use Rattle.teb_rules.specs.Verdicts.{wait_for, or_else}
 use Rattle.teb_rules.specs.declared.Verdict.TheVariants.{Go, Wait}
 use Rattle.teb_rules.specs.Controls.{earlier, blocks, entry_blocks, on_access, validate, gate}
 use Rattle.teb_rules.specs.Stops.{on_begin}
-use Rattle.phase_api.specs.Told.{IsOrderly}
+use Rattle.phase_api.specs.declared.facts.Facts.{Facts}
+use Rattle.phase_api.specs.Told.{IsOrderly, IsTyped, setup_of, events_of}
 use Rattle.hold_book.specs.declared.Hold.{Hold}
 use Rattle.hold_book.specs.Holders.{holds_in}
 use Rattle.hold_register.specs.Waits.{some_txn, wait_for_txn}
@@ -36,133 +25,43 @@ use Rattle.hold_register.proofs.Orderly.{unfinished_begun}
 use Rattle.hold_register.proofs.Blockers.{in_the_way, holder, blocks_holds, blocks_held, register_finds}
 use Rattle.cursor_book.specs.Cursors.{CursorsOf}
 use Rattle.cursor_book.proofs.Moves.{length-cursors}
-use Rattle.runtime_pipeline.specs.Standing.{holds_up}
+use Rattle.runtime_pipeline.specs.Predecessors.{numbered, is_ahead, before_in}
+use Rattle.runtime_pipeline.specs.Standing.{passed_some, holds_up}
+use Rattle.runtime_pipeline.proofs.Aheads.{ahead_unfinished}
 
--- who is earlier
-any_same : (p q : Event → Bool) → ((d : Event) → p d ≡ q d) → (P : List Event) → list_any p P ≡ list_any q P
-any_same p q f [] = refl
-any_same p q f (d ∷ P) = λ j. f d j || any_same p q f P j
-
-any_none : (p : Event → Bool) → ((d : Event) → p d ≡ false) → (P : List Event) → list_any p P ≡ false
-any_none p f [] = refl
-any_none p f (d ∷ P) = ap (λ (b : Bool). b || list_any p P) (f d) ∙ any_none p f P
-
-any_or : (p q : Event → Bool) (P : List Event) → list_any (λ d. p d || q d) P ≡ (list_any p P || list_any q P)
-any_or p q [] = refl
-any_or p q (d ∷ P) = ap (λ (b : Bool). (p d || q d) || b) (any_or p q P) ∙ swap (p d) (q d) (list_any p P) (list_any q P)
-  where
-    swap : (a b c d : Bool) → ((a || b) || (c || d)) ≡ ((a || c) || (b || d))
-    swap true b c d = refl
-    swap false true true d = refl
-    swap false true false d = refl
-    swap false false c d = refl
-
-and_none : (b : Bool) → (b && false) ≡ false
-and_none true = refl
-and_none false = refl
-
-and_either : (b c : Bool) → (b && c) ≡ ((b && c) || false)
-and_either true true = refl
-and_either true false = refl
-and_either false c = refl
-
-got_conflict : (u : ℕ) (s : Txn) (x : Cell) (w : Txn) (v : Option ℤ) (d : Event) → (is_of u d && is_conflict d (Got s x w v)) ≡ is_put u x d
-got_conflict u s x w v (Put r y z) = refl
-got_conflict u s x w v (Began r a k i) = and_none (eqb r.0 u)
-got_conflict u s x w v (Got r y z q) = and_none (eqb r.0 u)
-got_conflict u s x w v (Ready r) = and_none (eqb r.0 u)
-got_conflict u s x w v (Done r) = and_none (eqb r.0 u)
-got_conflict u s x w v (Gone r c) = and_none (eqb r.0 u)
-got_conflict u s x w v (Told r) = and_none (eqb r.0 u)
-
-put_conflict : (u : ℕ) (s : Txn) (x : Cell) (v : Option ℤ) (d : Event) → (is_of u d && is_conflict d (Put s x v)) ≡ (is_put u x d || is_got u x d)
-put_conflict u s x v (Put r y z) = and_either (eqb r.0 u) (same_cell y x)
-put_conflict u s x v (Got r y z q) = refl
-put_conflict u s x v (Began r a k i) = and_none (eqb r.0 u)
-put_conflict u s x v (Ready r) = and_none (eqb r.0 u)
-put_conflict u s x v (Done r) = and_none (eqb r.0 u)
-put_conflict u s x v (Gone r c) = and_none (eqb r.0 u)
-put_conflict u s x v (Told r) = and_none (eqb r.0 u)
-
-no_conflict : (u t : ℕ) (e : Event) → ((d : Event) → is_conflict d e ≡ false) → (P : List Event) → (is_of t e && has_conflict u e P) ≡ false
-no_conflict u t e f P = ap (λ (b : Bool). is_of t e && b) (any_none (λ d. is_of u d && is_conflict d e) (λ d. ap (λ (b : Bool). is_of u d && b) (f d) ∙ and_none (is_of u d)) P) ∙ and_none (is_of t e)
-
-no_began : (s : Txn) (a : Session) (k : Kind) (i : ℕ) (d : Event) → is_conflict d (Began s a k i) ≡ false
-no_began s a k i (Put r y z) = refl
-no_began s a k i (Got r y z q) = refl
-no_began s a k i (Began r b l m) = refl
-no_began s a k i (Ready r) = refl
-no_began s a k i (Done r) = refl
-no_began s a k i (Gone r c) = refl
-no_began s a k i (Told r) = refl
-
-no_ready : (s : Txn) (d : Event) → is_conflict d (Ready s) ≡ false
-no_ready s (Put r y z) = refl
-no_ready s (Got r y z q) = refl
-no_ready s (Began r b l m) = refl
-no_ready s (Ready r) = refl
-no_ready s (Done r) = refl
-no_ready s (Gone r c) = refl
-no_ready s (Told r) = refl
-
-no_done : (s : Txn) (d : Event) → is_conflict d (Done s) ≡ false
-no_done s (Put r y z) = refl
-no_done s (Got r y z q) = refl
-no_done s (Began r b l m) = refl
-no_done s (Ready r) = refl
-no_done s (Done r) = refl
-no_done s (Gone r c) = refl
-no_done s (Told r) = refl
-
-no_gone : (s : Txn) (g : Cause) (d : Event) → is_conflict d (Gone s g) ≡ false
-no_gone s g (Put r y z) = refl
-no_gone s g (Got r y z q) = refl
-no_gone s g (Began r b l m) = refl
-no_gone s g (Ready r) = refl
-no_gone s g (Done r) = refl
-no_gone s g (Gone r c) = refl
-no_gone s g (Told r) = refl
-
-no_told : (s : Txn) (d : Event) → is_conflict d (Told s) ≡ false
-no_told s (Put r y z) = refl
-no_told s (Got r y z q) = refl
-no_told s (Began r b l m) = refl
-no_told s (Ready r) = refl
-no_told s (Done r) = refl
-no_told s (Gone r c) = refl
-no_told s (Told r) = refl
-
-pub same_earlier : (H : List Event) (u t : ℕ) → is_earlier H u t ≡ earlier H u t
-unfolding is_earlier earlier wrote got put_at got_at
-same_earlier [] u t = refl
-same_earlier (Got s x w v ∷ P) u t = λ j. (eqb s.0 t && (any_same _ _ (got_conflict u s x w v) P ∙ sym (came_any (is_put u x) P)) j) || same_earlier P u t j
-same_earlier (Put s x v ∷ P) u t = λ j. (eqb s.0 t && (any_same _ _ (put_conflict u s x v) P ∙ any_or (is_put u x) (is_got u x) P ∙ (λ k. sym (came_any (is_put u x) P) k || sym (came_any (is_got u x) P) k)) j) || same_earlier P u t j
-same_earlier (Began s a k i ∷ P) u t = ap (λ (b : Bool). b || is_earlier P u t) (no_conflict u t (Began s a k i) (no_began s a k i) P) ∙ same_earlier P u t
-same_earlier (Ready s ∷ P) u t = ap (λ (b : Bool). b || is_earlier P u t) (no_conflict u t (Ready s) (no_ready s) P) ∙ same_earlier P u t
-same_earlier (Done s ∷ P) u t = ap (λ (b : Bool). b || is_earlier P u t) (no_conflict u t (Done s) (no_done s) P) ∙ same_earlier P u t
-same_earlier (Gone s g ∷ P) u t = ap (λ (b : Bool). b || is_earlier P u t) (no_conflict u t (Gone s g) (no_gone s g) P) ∙ same_earlier P u t
-same_earlier (Told s ∷ P) u t = ap (λ (b : Bool). b || is_earlier P u t) (no_conflict u t (Told s) (no_told s) P) ∙ same_earlier P u t
-
--- the first that holds t up is found among the live transactions
-same_txn : (o : Option ℕ) → txn_of o ≡ some_txn o
-same_txn None = refl
-same_txn (Some u) = refl
-
-module _ (S : Setup) (H : List Event) (n t : ℕ) (k : Option ℕ) (o : IsOrderly S H) where
-  unfinished_of : (u : ℕ) → holds_up S H n t k u ≡ true → unfinished H u ≡ true
-  unfinished_of u h = (and_parts _ _ (and_parts _ _ (and_parts _ _ h).0).0).0
-
-  numbered : (u : Txn) → holds_up S H n t k u.0 ≡ (is_numbered H u && holds_up S H n t k u.0)
-  numbered u = go (holds_up S H n t k u.0) (unfinished_of u.0)
+-- the first that holds t up is found among those that are ahead of it
+module _ (S : Setup) (H : List Event) (n t : ℕ) where
+  finds_up : (p : ℕ → Bool) (us : List ℕ) → find (λ (u : Txn). p u.0) (map numbered (filter (is_ahead S H n t) us)) ≡ some_txn (find (λ u. is_ahead S H n t u && p u) us)
+  finds_up p [] = refl
+  finds_up p (u ∷ us) = go (is_ahead S H n t u) (p u) refl (finds_up p us)
     where
-      go : (b : Bool) → (b ≡ true → unfinished H u.0 ≡ true) → b ≡ (is_numbered H u && b)
-      go false f = sym (and_none (is_numbered H u))
-      go true f =
-          let m = o.numbered u.0 (unfinished_begun H u.0 (f refl)) in
-          λ j. sym (lt-ltb 0 u.0 m.0) j && sym (le-leb u.0 (begun_count H) m.1) j && true
+      go : (a b : Bool) → p u ≡ b → find (λ (u : Txn). p u.0) (map numbered (filter (is_ahead S H n t) us)) ≡ some_txn (find (λ u. is_ahead S H n t u && p u) us)
+          → find (λ (u : Txn). p u.0) (map numbered (cond a (u ∷ filter (is_ahead S H n t) us) (filter (is_ahead S H n t) us))) ≡ some_txn (cond (a && p u) (Some u) (find (λ u. is_ahead S H n t u && p u) us))
+      go true true e ih = rw e refl
+      go true false e ih = rw e ih
+      go false b e ih = ih
 
-  pub first_up : find (λ (u : Txn). holds_up S H n t k u.0) (live_txns H) ≡ some_txn (find (holds_up S H n t k) (txns H))
-  first_up = (λ j. find (λ u. numbered u j) (live_txns H)) ∙ first_live H (holds_up S H n t k) (λ u h. or_left _ _ (unfinished_of u h)) ∙ same_txn (find (holds_up S H n t k) (txns H))
+  pub first_up : (k : Option ℕ) → find (λ (u : Txn). not (passed_some S H n u.0 k)) (before_in S H n t) ≡ some_txn (find (holds_up S H n t k) (txns H))
+  first_up k = finds_up (λ u. not (passed_some S H n u k)) (txns H)
+
+  -- each of them is unfinished
+  ahead_at : (us : List ℕ) (i : ℕ) (d : Txn) → i < length (map numbered (filter (is_ahead S H n t) us)) → unfinished H (get_or (map numbered (filter (is_ahead S H n t) us)) i d).0 ≡ true
+  ahead_at [] i d l = absurd (omega arith)
+  ahead_at (u ∷ us) i d l = go (is_ahead S H n t u) refl i (ahead_at us) l
+    where
+      go : (a : Bool) → is_ahead S H n t u ≡ a → (i : ℕ) → ((j : ℕ) (d : Txn) → j < length (map numbered (filter (is_ahead S H n t) us)) → unfinished H (get_or (map numbered (filter (is_ahead S H n t) us)) j d).0 ≡ true)
+          → i < length (map numbered (cond a (u ∷ filter (is_ahead S H n t) us) (filter (is_ahead S H n t) us))) → unfinished H (get_or (map numbered (cond a (u ∷ filter (is_ahead S H n t) us) (filter (is_ahead S H n t) us))) i d).0 ≡ true
+      go true e zero ih l = ahead_unfinished S H n t u e
+      go true e (suc j) ih l = ih j d (omega arith)
+      go false e i ih l = ih i d l
+
+-- so it has begun, with a type of the tree
+pub ahead_typed : (f : Facts) (n t : ℕ) (us : List Txn) (i : ℕ) (d : Txn) → IsOrderly (setup_of f) (events_of f) → us ≡ before_in (setup_of f) (events_of f) n t → i < length us → IsTyped f (get_or us i d).0
+ahead_typed f n t us i d o e l =
+    let there : i < length (before_in (setup_of f) (events_of f) n t) = omega (arith, ap (λ (l : List Txn). length l) e) in
+    let open_ : unfinished (events_of f) (get_or us i d).0 ≡ true = ap (λ (l : List Txn). unfinished (events_of f) (get_or l i d).0) e ∙ ahead_at (setup_of f) (events_of f) n t (txns (events_of f)) i d there in
+    let b = unfinished_begun (events_of f) (get_or us i d).0 open_ in
+    record { begun = b; kind = o.typed (get_or us i d).0 b }
 
 -- the first holder in the way that has not passed
 abbrev pub stops : Setup → List Event → ℕ → ℕ → Bool → ℕ → Hold → Bool

@@ -1,1 +1,2 @@
+pub mod Predecessors
 pub mod Standing

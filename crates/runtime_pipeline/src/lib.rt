@@ -3,6 +3,7 @@
 
 mod node_ranks;
 mod pipeline;
+mod predecessors;
 mod under;
 
 pub use pipeline::Pipeline;

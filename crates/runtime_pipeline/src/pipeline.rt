@@ -12,9 +12,11 @@ ghost use Rattle.phase_api.specs.Told.{setup_of, events_of, IsTyped};
 ghost use Rattle.phase_api.specs.Calls.{IsHere};
 ghost use Rattle.hold_book.specs.Holders.{holds_in};
 ghost use Rattle.hold_register.specs.Waits.{some_txn, wait_for_txn};
-ghost use Rattle.runtime_pipeline.specs.Standing.{PipelineStands, RanksOf, passed_some, holds_up};
+ghost use Rattle.runtime_pipeline.specs.Standing.{PipelineStands, RanksOf, pipeline_place, passed_some, holds_up};
+ghost use Rattle.runtime_pipeline.specs.Predecessors.{before_in};
 
 use crate::node_ranks::NodeRanks;
+use crate::predecessors::Predecessors;
 use cursor_book::Cursors;
 use hold_book::Hold;
 use hold_register::{Register, wait_for};
@@ -32,6 +34,7 @@ pub struct Pipeline {
     register: Register,
     ranks: NodeRanks,
     cursors: Cursors,
+    predecessors: Predecessors,
 }
 
 impl Pipeline {
@@ -42,19 +45,20 @@ impl Pipeline {
         requires profiled { facts.now.tree.now.types ≤ length facts.now.profiles.now }
         requires few { above_profiles facts.now.profiles.now ≤ 64 }
         ensures node { IfOk result (λ c. c.register.node ≡ node) }
-        ensures stands { IfOk result (λ c. PipelineStands c.register.node.0 c.register.book c.ranks c.cursors.cursors (setup_of facts.now) (events_of facts.now)) }
+        ensures stands { IfOk result (λ c. PipelineStands c (setup_of facts.now) (events_of facts.now)) }
     {
         let ranks = NodeRanks::of(alloc, node, facts.tree, facts.profiles)?;
         Ok(Pipeline {
             register: Register::new(alloc, node),
             ranks,
             cursors: Cursors::new(alloc),
+            predecessors: Predecessors::new(alloc),
         })
     }
 
     /// Who holds a cell: the unfinished transactions on whose path the node stands that have accessed it, in ascending number.
     pub fn holds(&self, facts: &Facts, cell: Cell) -> &[Hold]
-        requires { PipelineStands self.now.register.node.0 self.now.register.book self.now.ranks self.now.cursors.cursors (setup_of facts.now) (events_of facts.now) }
+        requires { PipelineStands self.now (setup_of facts.now) (events_of facts.now) }
         ensures { result.now ≡ holds_in (setup_of facts.now) (events_of facts.now) self.now.register.node.0 cell }
     {
         self.register.holds(facts, cell)
@@ -62,7 +66,7 @@ impl Pipeline {
 
     // The rank of the step at which a transaction stands.
     fn current_rank(&self, facts: &Facts, u: Txn) -> u8
-        requires stands { PipelineStands self.now.register.node.0 self.now.register.book self.now.ranks self.now.cursors.cursors (setup_of facts.now) (events_of facts.now) }
+        requires stands { PipelineStands self.now (setup_of facts.now) (events_of facts.now) }
         requires typed { IsTyped facts.now u.0 }
         ensures { result ≡ rank_of_step (setup_of facts.now) self.now.register.node.0 (kind_of (events_of facts.now) u.0) (cursor (setup_of facts.now) (events_of facts.now) u.0) }
     {
@@ -78,7 +82,7 @@ impl Pipeline {
 
     // Whether a transaction has passed a rank.
     fn has_passed(&self, facts: &Facts, u: Txn, rank: u8) -> bool
-        requires stands { PipelineStands self.now.register.node.0 self.now.register.book self.now.ranks self.now.cursors.cursors (setup_of facts.now) (events_of facts.now) }
+        requires stands { PipelineStands self.now (setup_of facts.now) (events_of facts.now) }
         requires typed { IsTyped facts.now u.0 }
         ensures { result ≡ passed (setup_of facts.now) (events_of facts.now) self.now.register.node.0 u.0 rank }
     {
@@ -88,30 +92,37 @@ impl Pipeline {
             || rank < self.current_rank(facts, u)
     }
 
-    // Whether a transaction holds up t, which is behind it, unless it has passed the rank that is given.
-    fn holds_up(&self, facts: &Facts, t: Txn, rank: Option<u8>, u: Txn) -> bool
-        requires stands { PipelineStands self.now.register.node.0 self.now.register.book self.now.ranks self.now.cursors.cursors (setup_of facts.now) (events_of facts.now) }
-        requires typed { IsTyped facts.now t.0 }
-        ensures { result ≡ holds_up (setup_of facts.now) (events_of facts.now) self.now.register.node.0 t.0 rank u.0 }
+    /// Those that are ahead of an unfinished transaction: the unfinished ones that meet it at the node and of which some access
+    /// stands before a conflicting access of its own. In ascending number, each once.
+    pub fn before(&self, facts: &Facts, t: Txn) -> &[Txn]
+        requires stands { PipelineStands self.now (setup_of facts.now) (events_of facts.now) }
+        requires unfinished { IsTrue (unfinished (events_of facts.now) t.0) }
+        ensures { result.now ≡ before_in (setup_of facts.now) (events_of facts.now) (pipeline_place self.now) t.0 }
     {
-        if !facts.history.is_unfinished(u) {
-            return false;
-        }
-        let passed = match rank {
-            Some(k) => self.has_passed(facts, u, k),
-            None => false,
-        };
-        !passed && facts.meet_at(self.register.node(), t, u) && facts.history.is_earlier(u, t)
+        let _ = facts;
+        self.predecessors.list(t)
     }
 
-    // The least-numbered transaction that holds up t. A walk over the live ones.
+    // Whether a transaction has passed a rank, where one is given.
+    fn has_passed_some(&self, facts: &Facts, u: Txn, rank: Option<u8>) -> bool
+        requires stands { PipelineStands self.now (setup_of facts.now) (events_of facts.now) }
+        requires typed { IsTyped facts.now u.0 }
+        ensures { result ≡ passed_some (setup_of facts.now) (events_of facts.now) self.now.register.node.0 u.0 rank }
+    {
+        match rank {
+            Some(k) => self.has_passed(facts, u, k),
+            None => false,
+        }
+    }
+
+    // The least-numbered transaction that holds up t: it is ahead of t, and has not passed the rank that is given.
     fn first_ahead(&self, facts: &Facts, t: Txn, rank: Option<u8>) -> Option<Txn>
-        requires stands { PipelineStands self.now.register.node.0 self.now.register.book self.now.ranks self.now.cursors.cursors (setup_of facts.now) (events_of facts.now) }
-        requires typed { IsTyped facts.now t.0 }
+        requires stands { PipelineStands self.now (setup_of facts.now) (events_of facts.now) }
+        requires unfinished { IsTrue (unfinished (events_of facts.now) t.0) }
         ensures { result ≡ some_txn (find (holds_up (setup_of facts.now) (events_of facts.now) self.now.register.node.0 t.0 rank) (txns (events_of facts.now))) }
     {
-        for u in facts.history.live() {
-            if self.holds_up(facts, t, rank, *u) {
+        for u in self.before(facts, t) {
+            if !self.has_passed_some(facts, *u, rank) {
                 return Some(*u);
             }
         }
@@ -120,7 +131,7 @@ impl Pipeline {
 
     // The least-numbered transaction that is in the way of an access and has not passed the cell's rank.
     fn first_holder(&self, facts: &Facts, t: Txn, cell: Cell, write: bool) -> Option<Txn>
-        requires stands { PipelineStands self.now.register.node.0 self.now.register.book self.now.ranks self.now.cursors.cursors (setup_of facts.now) (events_of facts.now) }
+        requires stands { PipelineStands self.now (setup_of facts.now) (events_of facts.now) }
         requires typed { IsTyped facts.now t.0 }
         ensures { let S = setup_of facts.now in let H = events_of facts.now in let n = self.now.register.node.0 in
             result ≡ some_txn (find (λ u. blocks S H n t.0 cell write u && not (passed S H n u (rank_of_table S n cell.table.0))) (txns H)) }
@@ -140,8 +151,9 @@ impl Pipeline {
 
     // What an access meets: first those that are earlier, where it would enter a step of a greater rank, and then the holders.
     fn before_access(&self, facts: &Facts, t: Txn, cell: Cell, write: bool) -> Verdict
-        requires stands { PipelineStands self.now.register.node.0 self.now.register.book self.now.ranks self.now.cursors.cursors (setup_of facts.now) (events_of facts.now) }
+        requires stands { PipelineStands self.now (setup_of facts.now) (events_of facts.now) }
         requires typed { IsTyped facts.now t.0 }
+        requires unfinished { IsTrue (unfinished (events_of facts.now) t.0) }
         ensures { result ≡ on_access (row (setup_of facts.now).tree self.now.register.node.0).control (setup_of facts.now) (events_of facts.now) self.now.register.node.0 t.0 cell write }
     {
         let rank = self.ranks.rank(cell.table);
@@ -155,14 +167,13 @@ impl Pipeline {
 }
 
 impl Control for Pipeline {
-    ghost use Rattle.std.specs.Prelude.{min};
-    ghost use Rattle.runtime_pipeline.specs.Standing.{PipelineStands};
+    ghost use Rattle.runtime_pipeline.specs.Standing.{PipelineStands, pipeline_place, pipeline_spare};
 
-    ghost stands = { λ c S H. PipelineStands c.register.node.0 c.register.book c.ranks c.cursors.cursors S H };
+    ghost stands = { λ c S H. PipelineStands c S H };
 
-    ghost place = { λ c. c.register.node.0 };
+    ghost place = { pipeline_place };
 
-    ghost spare = { λ c. min c.register.book.spare c.cursors.spare };
+    ghost spare = { pipeline_spare };
 
     ghost sound = { λ c S H s. s.register.orderly };
 
@@ -172,11 +183,13 @@ impl Control for Pipeline {
 
     fn reserve(&mut self) -> Result<(), AllocError> {
         self.register.reserve()?;
+        self.predecessors.reserve()?;
         self.cursors.reserve(32)
     }
 
     fn note(&mut self, facts: &Facts, e: Event) {
         self.register.note(facts, e);
+        self.predecessors.note(facts, &self.register, e);
         match e {
             Event::Began { .. } => self.cursors.begin(),
             Event::Got { txn, cell, .. } | Event::Put { txn, cell, .. } => {

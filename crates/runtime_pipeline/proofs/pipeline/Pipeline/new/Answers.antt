@@ -7,6 +7,7 @@ use Rattle.phase_api.specs.Told.{setup_of, events_of}
 use Rattle.hold_register.specs.Registered.{Registered}
 use Rattle.cursor_book.specs.Cursors.{CursorsOf}
 use Rattle.cursor_book.proofs.Moves.{cursors_none}
+use Rattle.runtime_pipeline.specs.Predecessors.{PredecessorsOf}
 use Rattle.runtime_pipeline.specs.Standing.{RanksOf}
 use Rattle.runtime_pipeline.proofs.pipeline.Pipeline.new.Goals as goal
 
@@ -20,4 +21,5 @@ returns-clause-stands c =
       register = subst (λ (m : ℕ). Registered m c.new.result.book S (events_of c.args.facts.now)) (sym n) (subst (λ (H : List Event). Registered c.args.node.0 c.new.result.book S H) (sym c.requires.empty) (c.new.ensures.stands S));
       ranks = subst (λ (m : ℕ). RanksOf c.in_ok-ranks.ranks S m) (sym n) c.in_ok-ranks.ensures;
       cursors = subst (λ (H : List Event). CursorsOf c.new-2.result.cursors S H) (sym c.requires.empty) (subst (λ (cs : List ℕ). CursorsOf cs S []) (sym c.new-2.ensures) (cursors_none S));
+      predecessors = subst (λ (H : List Event). PredecessorsOf c.new-3.result S H c.new.result.node.0) (sym c.requires.empty) (c.new-3.ensures S c.new.result.node.0);
     }

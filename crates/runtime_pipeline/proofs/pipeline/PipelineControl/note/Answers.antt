@@ -1,4 +1,4 @@
-use Rattle.std.proofs.Common.{◌≡◌, ◌∙◌, ap, sym, subst, List, ℕ}
+use Rattle.std.proofs.Common.{◌≡◌, ◌∙◌, ap, sym, subst, refl, List, ℕ}
 use Rattle.teb_names.specs.declared.Node.{Node}
 use Rattle.teb_names.specs.declared.Kind.{Kind}
 use Rattle.teb_history.specs.Phases.{kind_of}
@@ -14,13 +14,13 @@ access-requires-clause-begun c = (accessor_cursor _ _ _ c.args.e c.requires.newe
 pub returns-in-Began-clause-stands : goal.returns-in-Began-clause-stands
 returns-in-Began-clause-stands c =
     let k = began_cursors _ _ _ c.args.e c.requires.newest.is c.requires.newest.may c.requires.stands.register.orderly _ c.requires.stands.cursors c.in-Began.txn c.in-Began.session c.in-Began.kind c.in-Began.instance c.in-Began.is in
-    stands_next _ _ _ _ _ _ _ _ _ _ (ap (λ (m : Node). m.0) c.note.ensures.node) c.requires.stands c.note.ensures.stands
-    (subst (λ (cs : List ℕ). CursorsOf cs (setup_of c.args.facts.now) (events_of c.args.facts.now)) (sym c.begin.ensures.cursors) k)
+    stands_next _ _ _ _ _ (ap (λ (m : Node). m.0) c.note.ensures.node) refl c.requires.stands c.note.ensures.stands
+    (subst (λ (cs : List ℕ). CursorsOf cs (setup_of c.args.facts.now) (events_of c.args.facts.now)) (sym c.begin.ensures.cursors) k) c.note-2.ensures.stands
 
 pub returns-in-Ready-clause-stands : goal.returns-in-Ready-clause-stands
 returns-in-Ready-clause-stands c =
-    stands_next _ _ _ _ _ _ _ _ _ _ (ap (λ (m : Node). m.0) c.note.ensures.node) c.requires.stands c.note.ensures.stands
-    (left_cursors _ _ _ c.args.e c.requires.newest.is c.requires.newest.may c.requires.stands.register.orderly _ c.requires.stands.cursors c.in-Ready.is)
+    stands_next _ _ _ _ _ (ap (λ (m : Node). m.0) c.note.ensures.node) refl c.requires.stands c.note.ensures.stands
+    (left_cursors _ _ _ c.args.e c.requires.newest.is c.requires.newest.may c.requires.stands.register.orderly _ c.requires.stands.cursors c.in-Ready.is) c.note-2.ensures.stands
 
 pub returns-in-Some-clause-stands : goal.returns-in-Some-clause-stands
 returns-in-Some-clause-stands c =
@@ -31,8 +31,8 @@ returns-in-Some-clause-stands c =
     let at : c.from.result ≡ kind_of H t = c.from.ensures ∙ ap (λ (k : Kind). k.0) (kind_is H t c.in-Some.kind b (sym c.in-Some.is ∙ c.kind.ensures)) in
     let steps : c.index-facts-from.result ≡ profile S (kind_of H t) = profile_is S (kind_of H t) c.from.result c.index-facts-from.result c.requires.stands.profiled (c.note.ensures.stands.orderly.typed t b) at c.index-facts-from.is in
     let k = accessed_cursors S H _ c.args.e c.requires.newest.is c.requires.newest.may c.requires.stands.register.orderly _ c.requires.stands.cursors c.in-Got.txn c.in-Got.cell _ c.in-Got.is (sym c.index-facts-from.is ∙ steps) in
-    stands_next _ _ _ _ _ _ _ _ _ _ (ap (λ (m : Node). m.0) c.note.ensures.node) c.requires.stands c.note.ensures.stands
-    (subst (λ (cs : List ℕ). CursorsOf cs S H) (sym c.access.ensures.cursors) k)
+    stands_next _ _ _ _ _ (ap (λ (m : Node). m.0) c.note.ensures.node) refl c.requires.stands c.note.ensures.stands
+    (subst (λ (cs : List ℕ). CursorsOf cs S H) (sym c.access.ensures.cursors) k) c.note-2.ensures.stands
 
 pub returns-in_default-clause-stands : goal.returns-in_default-clause-stands
 returns-in_default-clause-stands c =

@@ -1,0 +1,187 @@
+-- What edits make of the lists that are kept by transaction.
+use Rattle.std.proofs.Common.{◌≡◌, ◌≢◌, ◌⊎◌, ℕ, zero, suc, ◌+◌, ◌<◌, ◌≤◌, Bool, true, false, cond, not, ◌||◌, ltb, eqb, List, [], ◌∷◌, ◌++◌, length, drop, take, get_or, Result, Ok, Err, refl, sym, ◌∙◌, ap, subst, arith, inl, inr}
+use Rattle.std.specs.List.{remove}
+use Rattle.std.specs.Ordering.{is_eq, nat_cmp}
+use Rattle.std.proofs.lemmas.Bool.{ne_eqb}
+use Rattle.std.proofs.lemmas.Bool.Decides.{eqb_tells, nat_tests}
+use Rattle.std.proofs.Math.Seq.{drop-cons}
+use Rattle.teb_names.specs.declared.Txn.{Txn}
+use Rattle.teb_history.specs.Ascending.{AllAbove, IsAscendingBy, next_place, place_of, put_by}
+use Rattle.teb_history.specs.Live.{number_of}
+use Rattle.teb_history.proofs.Comparisons.{ltb_tells}
+use Rattle.teb_history.proofs.AscendingLists.{above-mono, ascending-filter, ascending-put, put-same, put-insert}
+use Rattle.key_piles.specs.Piles.{Shown, pile_in}
+use Rattle.hold_book.specs.declared.Hold.{Hold}
+use Rattle.dependency_book.specs.Books.{txn_cmp}
+use Rattle.dependency_book.specs.Dependencies.{has}
+use Rattle.dependency_book.proofs.PileEdits.{one_txn}
+use Rattle.runtime_pipeline.specs.Predecessors.{joined, without}
+
+eqb-is_eq : (m n : ℕ) → is_eq (nat_cmp m n) ≡ eqb m n
+eqb-is_eq m n = grind (arith, nat_tests)
+
+-- an edit of the list of t
+module _ (f : Txn → List Txn) (g : List Txn → List Txn) (t v : Txn) where
+  pub edited : (xs : List Txn) → xs ≡ g (f t) → cond (is_eq (txn_cmp t v)) xs (f v) ≡ cond (eqb t.0 v.0) (g (f v)) (f v)
+  edited xs e = ap (λ (b : Bool). cond b xs (f v)) (eqb-is_eq t.0 v.0) ∙ go (eqb t.0 v.0) refl
+    where
+      go : (b : Bool) → eqb t.0 v.0 ≡ b → cond b xs (f v) ≡ cond b (g (f v)) (f v)
+      go true h = e ∙ ap (λ (z : Txn). g (f z)) (one_txn t v h)
+      go false h = refl
+
+  -- and none, where the edit changes nothing
+  pub unedited : f t ≡ g (f t) → f v ≡ cond (eqb t.0 v.0) (g (f v)) (f v)
+  unedited e = go (eqb t.0 v.0) refl
+    where
+      go : (b : Bool) → eqb t.0 v.0 ≡ b → f v ≡ cond b (g (f v)) (f v)
+      go true h = subst (λ (z : Txn). f z ≡ g (f z)) (one_txn t v h) e
+      go false h = refl
+
+pub there : (a : Txn) (us : List Txn) (i : ℕ) → place_of number_of us a.0 ≡ Ok i → us ≡ put_by number_of a us
+there a us i h = put-same number_of a (λ x e. ap (λ (n : ℕ). record { 0 = n }) e) us i h
+
+pub gone_in : (a : Txn) (us : List Txn) (i : ℕ) → place_of number_of us a.0 ≡ Err i → take i us ++ a ∷ drop i us ≡ put_by number_of a us
+gone_in a us i h = sym (put-insert number_of a us i h)
+
+-- a list without t, which is not there
+pub without_above : (t : ℕ) (us : List Txn) → AllAbove number_of t us → us ≡ without t us
+without_above t [] h = refl
+without_above t (u ∷ us) h = rw (ne_eqb u.0 t (λ e. let l : t < u.0 = h.0 in omega arith)) (ap (λ (l : List Txn). u ∷ l) (without_above t us h.1))
+
+pub without_missing : (t : ℕ) (us : List Txn) (i : ℕ) → IsAscendingBy number_of us → place_of number_of us t ≡ Err i → us ≡ without t us
+without_missing t [] i a h = refl
+without_missing t (u ∷ us) i a h = go (λ j q. without_missing t us j a.1 q) (ltb_tells u.0 t) (eqb_tells u.0 t)
+  where
+    later : ((j : ℕ) → place_of number_of us t ≡ Err j → us ≡ without t us) → (r : Result ℕ ℕ) → place_of number_of us t ≡ r → next_place r ≡ Err i → us ≡ without t us
+    later ih (Ok j) q e = absurd (cc)
+    later ih (Err j) q e = ih j q
+
+    go : ((j : ℕ) → place_of number_of us t ≡ Err j → us ≡ without t us) → ((ltb u.0 t ≡ true) × (u.0 < t)) ⊎ ((ltb u.0 t ≡ false) × (t ≤ u.0)) → ((eqb u.0 t ≡ true) × (u.0 ≡ t)) ⊎ ((eqb u.0 t ≡ false) × (u.0 ≢ t)) → u ∷ us ≡ without t (u ∷ us)
+    go ih (inl p) (inl q) = absurd (omega (arith, p.1, q.1))
+    go ih (inl p) (inr q) = ap (λ (l : List Txn). u ∷ l) (later ih (place_of number_of us t) refl (rw p.0 at h)) ∙ sym (ap (λ (b : Bool). cond (not b) (u ∷ without t us) (without t us)) q.0)
+    go ih (inr p) (inl q) = absurd (let z : Ok 0 ≡ Err i = sym (ap (λ (b : Bool). cond b (next_place (place_of number_of us t)) (cond (eqb u.0 t) (Ok 0) (Err 0))) p.0 ∙ ap (λ (b : Bool). cond b (Ok 0) (Err 0)) q.0) ∙ h in cc)
+    go ih (inr p) (inr q) = without_above t (u ∷ us) ((let l : t < u.0 = omega (arith, p.1, q.1) in l), above-mono number_of t u.0 us p.1 a.0)
+
+-- and one from which it is taken out
+pub without_found : (t : ℕ) (us : List Txn) (i : ℕ) → IsAscendingBy number_of us → place_of number_of us t ≡ Ok i → remove us i ≡ without t us
+without_found t [] i a h = absurd (cc)
+without_found t (u ∷ us) i a h = go (λ j q. without_found t us j a.1 q) (ltb_tells u.0 t) (eqb_tells u.0 t)
+  where
+    later : ((j : ℕ) → place_of number_of us t ≡ Ok j → remove us j ≡ without t us) → (r : Result ℕ ℕ) → place_of number_of us t ≡ r → next_place r ≡ Ok i → remove (u ∷ us) i ≡ u ∷ without t us
+    later ih (Err j) q e = absurd (cc)
+    later ih (Ok j) q e =
+        let s : suc j ≡ i = cc in
+        subst (λ (k : ℕ). remove (u ∷ us) k ≡ u ∷ without t us) s (ap (λ (l : List Txn). u ∷ l) (ih j q))
+
+    go : ((j : ℕ) → place_of number_of us t ≡ Ok j → remove us j ≡ without t us) → ((ltb u.0 t ≡ true) × (u.0 < t)) ⊎ ((ltb u.0 t ≡ false) × (t ≤ u.0)) → ((eqb u.0 t ≡ true) × (u.0 ≡ t)) ⊎ ((eqb u.0 t ≡ false) × (u.0 ≢ t)) → remove (u ∷ us) i ≡ without t (u ∷ us)
+    go ih (inl p) (inl q) = absurd (omega (arith, p.1, q.1))
+    go ih (inl p) (inr q) = later ih (place_of number_of us t) refl (rw p.0 at h) ∙ sym (ap (λ (b : Bool). cond (not b) (u ∷ without t us) (without t us)) q.0)
+    go ih (inr p) (inl q) =
+        let z : Ok 0 ≡ Ok i = sym (ap (λ (b : Bool). cond b (next_place (place_of number_of us t)) (cond (eqb u.0 t) (Ok 0) (Err 0))) p.0 ∙ ap (λ (b : Bool). cond b (Ok 0) (Err 0)) q.0) ∙ h in
+        let s : 0 ≡ i = cc in
+        subst (λ (k : ℕ). remove (u ∷ us) k ≡ without t (u ∷ us)) s
+        (without_above t us (subst (λ (m : ℕ). AllAbove number_of m us) q.1 a.0) ∙ sym (ap (λ (b : Bool). cond (not b) (u ∷ without t us) (without t us)) q.0))
+    go ih (inr p) (inr q) = absurd (let z : Err 0 ≡ Ok i = sym (ap (λ (b : Bool). cond b (next_place (place_of number_of us t)) (cond (eqb u.0 t) (Ok 0) (Err 0))) p.0 ∙ ap (λ (b : Bool). cond b (Ok 0) (Err 0)) q.0) ∙ h in cc)
+
+without_twice : (t : ℕ) (us : List Txn) → without t (without t us) ≡ without t us
+without_twice t [] = refl
+without_twice t (u ∷ us) = go (eqb u.0 t) refl (without_twice t us)
+  where
+    go : (b : Bool) → eqb u.0 t ≡ b → without t (without t us) ≡ without t us → without t (cond (not b) (u ∷ without t us) (without t us)) ≡ cond (not b) (u ∷ without t us) (without t us)
+    go true e ih = ih
+    go false e ih = ap (λ (b : Bool). cond (not b) (u ∷ without t (without t us)) (without t (without t us))) e ∙ ap (λ (l : List Txn). u ∷ l) ih
+
+-- t is still to be taken out of the lists of some, which then leaves the lists a
+pub record IsTaking (t : ℕ) (us rest : List Txn) (a b : Shown Txn Txn) : Type 0 where
+  pub piles : (v : Txn) → cond (has v rest) (without t (pile_in txn_cmp b v)) (pile_in txn_cmp b v) ≡ cond (has v us) (without t (pile_in txn_cmp a v)) (pile_in txn_cmp a v)
+  pub ascending : (v : Txn) → IsAscendingBy number_of (pile_in txn_cmp b v)
+  pub spare : b.spare ≡ a.spare
+
+-- some holders are still to be put into the list of t, which leaves the lists a
+pub record IsPutting (p : Hold → Bool) (t : Txn) (hs rest : List Hold) (i : ℕ) (a b : Shown Txn Txn) : Type 0 where
+  pub piles : (v : Txn) → cond (eqb t.0 v.0) (joined p rest (pile_in txn_cmp b v)) (pile_in txn_cmp b v) ≡ cond (eqb t.0 v.0) (joined p hs (pile_in txn_cmp a v)) (pile_in txn_cmp a v)
+  pub ascending : IsAscendingBy number_of (pile_in txn_cmp b t)
+  pub spare : a.spare ≤ b.spare + i
+
+drop_end : {A : Type 0} (xs : List A) (i : ℕ) → length xs ≤ i → drop i xs ≡ []
+drop_end [] zero l = refl
+drop_end [] (suc i) l = refl
+drop_end (x ∷ xs) zero l = absurd (omega arith)
+drop_end (x ∷ xs) (suc i) l = drop_end xs i (omega arith)
+
+-- the list of one more
+module _ (t : ℕ) (us : List Txn) where
+  pub taking_first : (a : Shown Txn Txn) → ((v : Txn) → IsAscendingBy number_of (pile_in txn_cmp a v)) → IsTaking t us us a a
+  taking_first a asc = record { piles = λ v. refl; ascending = asc; spare = refl }
+
+  one_more : (o r : Bool) (xs : List Txn) → cond r (without t (cond o (without t xs) xs)) (cond o (without t xs) xs) ≡ cond (o || r) (without t xs) xs
+  one_more true true xs = without_twice t xs
+  one_more true false xs = refl
+  one_more false r xs = refl
+
+  kept : (o : Bool) (xs : List Txn) → IsAscendingBy number_of xs → IsAscendingBy number_of (cond o (without t xs) xs)
+  kept true xs h = ascending-filter number_of (λ u. not (eqb u.0 t)) xs h
+  kept false xs h = h
+
+  pub taking_more : (a b c : Shown Txn Txn) (i : ℕ) (d : Txn) → i < length us → IsTaking t us (drop i us) a b
+      → ((v : Txn) → pile_in txn_cmp c v ≡ cond (eqb (get_or us i d).0 v.0) (without t (pile_in txn_cmp b v)) (pile_in txn_cmp b v)) → c.spare ≡ b.spare
+      → IsTaking t us (drop (i + 1) us) a c
+  taking_more a b c i d l was taken spare =
+      let n : suc i ≡ i + 1 = omega arith in
+      let next : drop i us ≡ get_or us i d ∷ drop (i + 1) us = drop-cons us i d l ∙ ap (λ (k : ℕ). get_or us i d ∷ drop k us) n in
+      let out = λ (v : Txn) (ts : List Txn). cond (has v ts) (without t (pile_in txn_cmp b v)) (pile_in txn_cmp b v) in
+      record {
+        piles = λ v. ap (λ (xs : List Txn). cond (has v (drop (i + 1) us)) (without t xs) xs) (taken v)
+            ∙ one_more (eqb (get_or us i d).0 v.0) (has v (drop (i + 1) us)) (pile_in txn_cmp b v) ∙ ap (out v) (sym next) ∙ was.piles v;
+        ascending = λ v. subst (IsAscendingBy number_of) (sym (taken v)) (kept (eqb (get_or us i d).0 v.0) (pile_in txn_cmp b v) (was.ascending v));
+        spare = spare ∙ was.spare;
+      }
+
+  pub taking_all : (a b : Shown Txn Txn) (i : ℕ) → length us ≤ i → IsTaking t us (drop i us) a b → (v : Txn) → pile_in txn_cmp b v ≡ cond (has v us) (without t (pile_in txn_cmp a v)) (pile_in txn_cmp a v)
+  taking_all a b i l was v = sym (ap (λ (ts : List Txn). cond (has v ts) (without t (pile_in txn_cmp b v)) (pile_in txn_cmp b v)) (drop_end us i l)) ∙ was.piles v
+
+-- one more holder
+module _ (p : Hold → Bool) (t : Txn) (hs : List Hold) where
+  pub putting_first : (a : Shown Txn Txn) → IsAscendingBy number_of (pile_in txn_cmp a t) → IsPutting p t hs hs 0 a a
+  putting_first a asc = record { piles = λ v. refl; ascending = asc; spare = omega arith }
+
+  one_put : (rest : List Hold) (o : Bool) (xs ys : List Txn) → cond o (joined p rest (cond o ys xs)) (cond o ys xs) ≡ cond o (joined p rest ys) xs
+  one_put rest true xs ys = refl
+  one_put rest false xs ys = refl
+
+  put_kept : (o q : Bool) (u : Txn) (xs : List Txn) → IsAscendingBy number_of xs → IsAscendingBy number_of (cond o (cond q (put_by number_of u xs) xs) xs)
+  put_kept true true u xs h = ascending-put number_of u xs h
+  put_kept true false u xs h = h
+  put_kept false q u xs h = h
+
+  pub putting_more : (a b c : Shown Txn Txn) (i : ℕ) (d : Hold) → i < length hs → IsPutting p t hs (drop i hs) i a b
+      → ((v : Txn) → pile_in txn_cmp c v ≡ cond (eqb t.0 v.0) (cond (p (get_or hs i d)) (put_by number_of (get_or hs i d).txn (pile_in txn_cmp b v)) (pile_in txn_cmp b v)) (pile_in txn_cmp b v)) → b.spare ≤ c.spare + 1
+      → IsPutting p t hs (drop (i + 1) hs) (i + 1) a c
+  putting_more a b c i d l was put spare =
+      let n : suc i ≡ i + 1 = omega arith in
+      let h = get_or hs i d in
+      let next : drop i hs ≡ get_or hs i d ∷ drop (i + 1) hs = drop-cons hs i d l ∙ ap (λ (k : ℕ). get_or hs i d ∷ drop k hs) n in
+      record {
+        piles = λ v. ap (λ (xs : List Txn). cond (eqb t.0 v.0) (joined p (drop (i + 1) hs) xs) xs) (put v)
+            ∙ one_put (drop (i + 1) hs) (eqb t.0 v.0) (pile_in txn_cmp b v) (cond (p h) (put_by number_of h.txn (pile_in txn_cmp b v)) (pile_in txn_cmp b v))
+            ∙ ap (λ (ks : List Hold). cond (eqb t.0 v.0) (joined p ks (pile_in txn_cmp b v)) (pile_in txn_cmp b v)) (sym next) ∙ was.piles v;
+        ascending = subst (IsAscendingBy number_of) (sym (put t)) (put_kept (eqb t.0 t.0) (p h) h.txn (pile_in txn_cmp b t) was.ascending);
+        spare = omega (arith, was.spare);
+      }
+
+  same : (o : Bool) (xs : List Txn) → xs ≡ cond o xs xs
+  same true xs = refl
+  same false xs = refl
+
+  pub putting_in : (a b c : Shown Txn Txn) (i : ℕ) (d : Hold) → i < length hs → IsPutting p t hs (drop i hs) i a b → p (get_or hs i d) ≡ true
+      → ((v : Txn) → pile_in txn_cmp c v ≡ cond (eqb t.0 v.0) (put_by number_of (get_or hs i d).txn (pile_in txn_cmp b v)) (pile_in txn_cmp b v)) → b.spare ≤ c.spare + 1
+      → IsPutting p t hs (drop (i + 1) hs) (i + 1) a c
+  putting_in a b c i d l was q put spare = putting_more a b c i d l was
+      (λ v. put v ∙ sym (ap (λ (o : Bool). cond (eqb t.0 v.0) (cond o (put_by number_of (get_or hs i d).txn (pile_in txn_cmp b v)) (pile_in txn_cmp b v)) (pile_in txn_cmp b v)) q)) spare
+
+  pub putting_none : (a b : Shown Txn Txn) (i : ℕ) (d : Hold) → i < length hs → IsPutting p t hs (drop i hs) i a b → p (get_or hs i d) ≡ false → IsPutting p t hs (drop (i + 1) hs) (i + 1) a b
+  putting_none a b i d l was q = putting_more a b b i d l was
+      (λ v. same (eqb t.0 v.0) (pile_in txn_cmp b v) ∙ sym (ap (λ (o : Bool). cond (eqb t.0 v.0) (cond o (put_by number_of (get_or hs i d).txn (pile_in txn_cmp b v)) (pile_in txn_cmp b v)) (pile_in txn_cmp b v)) q)) (omega arith)
+
+  pub putting_all : (a b : Shown Txn Txn) (i : ℕ) → length hs ≤ i → IsPutting p t hs (drop i hs) i a b → (v : Txn) → pile_in txn_cmp b v ≡ cond (eqb t.0 v.0) (joined p hs (pile_in txn_cmp a v)) (pile_in txn_cmp a v)
+  putting_all a b i l was v = same (eqb t.0 v.0) (pile_in txn_cmp b v) ∙ sym (ap (λ (ks : List Hold). cond (eqb t.0 v.0) (joined p ks (pile_in txn_cmp b v)) (pile_in txn_cmp b v)) (drop_end hs i l)) ∙ was.piles v

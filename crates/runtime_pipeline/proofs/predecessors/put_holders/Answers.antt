@@ -1,0 +1,21 @@
+use Rattle.std.proofs.Common.{◌∙◌, ◌||◌, ◌&&◌, ◌+◌, false, sym, subst, drop}
+use Rattle.teb_rules.specs.Tree.{meets}
+use Rattle.phase_api.specs.Told.{setup_of, events_of}
+use Rattle.teb_names.specs.declared.Txn.{Txn}
+use Rattle.hold_book.specs.declared.Hold.{Hold}
+use Rattle.key_piles.specs.Piles.{Shown}
+use Rattle.runtime_pipeline.proofs.ListEdits.{IsPutting, putting_in, putting_none}
+use Rattle.runtime_pipeline.proofs.predecessors.put_holders.Goals as goal
+use Rattle.runtime_pipeline.proofs.predecessors.put_holders.Goals.{then-is_in_the_way, else-is_in_the_way}
+
+pub loop-hold-preserved : goal.loop-hold-preserved
+loop-hold-preserved c =
+    let p = λ (h : Hold). (c.args.write || h.wrote) && meets (setup_of c.args.facts.now) (events_of c.args.facts.now) c.args.node.0 c.args.t.0 h.txn.0 in
+    let d : Hold = record { txn = record { 0 = 0 }; wrote = false } in
+    let i = c.loop-hold.hold-index in
+    let hs = c.args.holds.now in
+    let Next = λ (b : Shown Txn Txn). IsPutting p c.args.t hs (drop (i + 1) hs) (i + 1) c.args.lists.now b in
+    elim c.if-is_in_the_way.branch [
+      | then-is_in_the_way w ↦ subst Next (sym w.lists-is) (putting_in p c.args.t hs c.args.lists.now c.loop-hold.lists w.put.new.lists i d c.loop-hold-test.true c.loop-hold.invariant (sym c.is_in_the_way.ensures ∙ w.if-is_in_the_way.true) w.put.ensures.piles w.put.ensures.spare)
+      | else-is_in_the_way w ↦ subst Next (sym w.lists-is) (putting_none p c.args.t hs c.args.lists.now c.loop-hold.lists i d c.loop-hold-test.true c.loop-hold.invariant (sym c.is_in_the_way.ensures ∙ w.if-is_in_the_way.false))
+    ]

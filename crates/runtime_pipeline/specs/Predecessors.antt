@@ -1,0 +1,64 @@
+-- Who is ahead of whom at a node, and what is kept of it.
+use Rattle.std.specs.Prelude.{◌≡◌, ℕ, ◌+◌, ◌*◌, ◌≤◌, Bool, cond, not, ◌&&◌, eqb, List, [], ◌∷◌, map, filter, Vec, vec_len, vec_capacity, IsFalse}
+use Rattle.std.specs.declared.alloc.Global.{Global}
+use Rattle.teb_names.specs.declared.Txn.{Txn}
+use Rattle.teb_history.specs.declared.Event.{Event}
+use Rattle.teb_history.specs.Phases.{txns, begun, committed, aborted, unfinished}
+use Rattle.teb_history.specs.Ascending.{put_by}
+use Rattle.teb_history.specs.Live.{number_of}
+use Rattle.teb_rules.specs.Setup.{Setup}
+use Rattle.teb_rules.specs.Tree.{meets}
+use Rattle.teb_rules.specs.Controls.{earlier}
+use Rattle.hold_book.specs.declared.Hold.{Hold}
+use Rattle.key_piles.specs.Piles.{pile}
+use Rattle.dependency_book.specs.Books.{txn_cmp}
+
+-- the transaction with a number
+abbrev pub numbered : ℕ → Txn
+numbered u = record { 0 = u }
+
+-- u is unfinished, meets t at n, and is earlier than t
+abbrev pub is_ahead : Setup → List Event → ℕ → ℕ → ℕ → Bool
+is_ahead S H n t u = unfinished H u && meets S H n t u && earlier H u t
+
+-- those that are ahead of t at n, in ascending number
+abbrev pub before_in : Setup → List Event → ℕ → ℕ → List Txn
+before_in S H n t = map numbered (filter (is_ahead S H n t) (txns H))
+
+-- the unfinished transactions, in ascending number
+abbrev pub unfinished_in : List Event → List Txn
+unfinished_in H = map numbered (filter (unfinished H) (txns H))
+
+-- what contracts see: lists of transactions, each value beside the one whose list it is in; the unfinished ones; and for how many events there is room
+pub record Kept : Type 0 where
+  pub lists : List (Txn × Txn)
+  pub unfinished : List Txn
+  pub spare : ℕ
+
+abbrev pub list_of : Kept → Txn → List Txn
+list_of k t = pile txn_cmp k.lists t
+
+-- nobody has committed or aborted without having begun
+abbrev pub EndsFollow : List Event → Type 0
+EndsFollow H = (u : ℕ) → IsFalse (begun H u) → IsFalse (committed H u) × IsFalse (aborted H u)
+
+-- the list of each unfinished transaction has those that are ahead of it, and that of anybody else is empty
+pub record PredecessorsOf (k : Kept) (S : Setup) (H : List Event) (n : ℕ) : Type 0 where
+  pub ends : EndsFollow H
+  pub listed : k.unfinished ≡ unfinished_in H
+  pub ahead : (t : Txn) → list_of k t ≡ cond (unfinished H t.0) (before_in S H n t.0) []
+
+-- a list with the transactions of those holds that pass
+abbrev pub joined : (Hold → Bool) → List Hold → List Txn → List Txn
+joined p [] us = us
+joined p (h ∷ hs) us = joined p hs (cond (p h) (put_by number_of h.txn us) us)
+
+-- a list without t
+abbrev pub without : ℕ → List Txn → List Txn
+without t us = filter (λ u. not (eqb u.0 t)) us
+
+-- there is room for so many events, while at most so many transactions are unfinished: each event may put so many into a list
+pub record HasRoom (room : ℕ) (open_txns : Vec Txn Global) (spare most : ℕ) : Type 0 where
+  pub lists : spare * most ≤ room
+  pub few : vec_len open_txns + spare ≤ most
+  pub unfinished : vec_len open_txns + spare ≤ vec_capacity open_txns

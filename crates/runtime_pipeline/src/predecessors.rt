@@ -1,0 +1,244 @@
+//! Who is ahead of whom at a node, kept event by event.
+
+ghost use Rattle.std.specs.Prelude.{◌≡◌, ◌<◌, ◌≤◌, ◌+◌, ◌++◌, ◌∷◌, ◌&&◌, ◌||◌, ℕ, [], List, cond, drop, eqb, get_or, length, OnOk};
+ghost use Rattle.teb_names.specs.declared.Txn.{Txn};
+ghost use Rattle.teb_history.specs.declared.Event.{Event};
+ghost use Rattle.teb_history.specs.Ascending.{IsAscendingBy, place_of, put_by};
+ghost use Rattle.teb_history.specs.Live.{number_of};
+ghost use Rattle.teb_rules.specs.Setup.{Setup};
+ghost use Rattle.teb_rules.specs.Tree.{meets};
+ghost use Rattle.phase_api.specs.Told.{setup_of, events_of, IsOrderly, IsTyped};
+ghost use Rattle.phase_api.specs.Calls.{IsNewest};
+ghost use Rattle.hold_book.specs.declared.Hold.{Hold};
+ghost use Rattle.hold_register.specs.Registered.{Registered};
+ghost use Rattle.key_piles.specs.Piles.{pile_in};
+ghost use Rattle.dependency_book.specs.Books.{txn_cmp};
+ghost use Rattle.dependency_book.specs.Dependencies.{has};
+ghost use Rattle.runtime_pipeline.specs.Predecessors.{PredecessorsOf, joined, list_of, without};
+
+use hold_book::Hold;
+use hold_register::Register;
+use key_piles::Piles;
+use phase_api::Facts;
+use std::alloc::{AllocError, Global};
+use std::marker::Model;
+use teb_history::Event;
+use teb_names::{Node, Txn};
+
+// For how many events `reserve` makes room.
+const EVENTS: usize = 32;
+
+/// For each unfinished transaction, those that are ahead of it at a node. It stands for a history, and is told of each event behind it.
+#[derive(Drop)]
+pub struct Predecessors {
+    // By transaction: those that are ahead of it, in ascending number.
+    lists: Piles<Txn, Txn>,
+    // In ascending number.
+    unfinished: Vec<Txn>,
+    // For how many events there is room.
+    spare: usize,
+    // How many transactions may be unfinished while the room lasts, and so how many an event may put into a list.
+    most: usize,
+}
+
+impl Model for Predecessors {
+    ghost use Rattle.runtime_pipeline.specs.Predecessors.{Kept, HasRoom};
+
+    ghost Value = { Kept };
+
+    ghost view = { λ p. record { lists = p.lists.entries; unfinished = p.unfinished.items; spare = p.spare } };
+
+    ghost invariant = { λ p. HasRoom p.lists.spare p.unfinished p.spare p.most };
+}
+
+impl Predecessors {
+    /// Nobody, for an empty history. Takes no memory.
+    pub fn new(alloc: Global) -> Self
+        ensures { (S : Setup) (n : ℕ) → PredecessorsOf result S [] n }
+    {
+        Predecessors {
+            lists: Piles::narrow(alloc),
+            unfinished: Vec::new(alloc),
+            spare: 0,
+            most: 0,
+        }
+    }
+
+    /// Makes room for 32 events. It stands for what it stood for, also after an `Err`.
+    pub fn reserve(&mut self) -> Result<(), AllocError>
+        ensures lists { self.new.lists ≡ self.old.lists }
+        ensures unfinished { self.new.unfinished ≡ self.old.unfinished }
+        ensures room { OnOk result (32 ≤ self.new.spare) }
+    {
+        self.unfinished.reserve(EVENTS)?;
+        let most = self.unfinished.len().checked_add(EVENTS).ok_or(AllocError)?;
+        let room = most.checked_mul(EVENTS).ok_or(AllocError)?;
+        self.lists.reserve(room)?;
+        self.spare = EVENTS;
+        self.most = most;
+        Ok(())
+    }
+
+    /// The list of a transaction, in ascending number.
+    pub fn list(&self, t: Txn) -> &[Txn]
+        ensures { result.now ≡ list_of self.now t }
+    {
+        self.lists.list(t)
+    }
+
+    /// Notes the newest event of the history, which the register knows already. It takes at most one place of the room.
+    pub fn note(&mut self, facts: &Facts, register: &Register, e: Event)
+        requires newest { IsNewest facts.now e register.now.node.0 }
+        requires orderly { IsOrderly (setup_of facts.now) (drop 1 (events_of facts.now)) }
+        requires register { Registered register.now.node.0 register.now.book (setup_of facts.now) (events_of facts.now) }
+        requires stands { PredecessorsOf self.old (setup_of facts.now) (drop 1 (events_of facts.now)) register.now.node.0 }
+        requires room { 0 < self.old.spare }
+        ensures stands { PredecessorsOf self.new (setup_of facts.now) (events_of facts.now) register.now.node.0 }
+        ensures spare { self.old.spare ≤ self.new.spare + 1 }
+    {
+        match e {
+            Event::Began { txn, .. } => self.begin(txn),
+            Event::Got { txn, cell, .. } => {
+                self.access(
+                    facts,
+                    register.node(),
+                    txn,
+                    register.holds(facts, cell),
+                    false,
+                );
+            }
+            Event::Put { txn, cell, .. } => {
+                self.access(
+                    facts,
+                    register.node(),
+                    txn,
+                    register.holds(facts, cell),
+                    true,
+                );
+            }
+            Event::Done(txn) | Event::Gone { txn, .. } => self.finish(txn),
+            Event::Ready(_) | Event::Told(_) => {}
+        }
+    }
+
+    // A transaction begins, of a greater number than all before.
+    fn begin(&mut self, t: Txn)
+        requires { 0 < self.old.spare }
+        ensures lists { self.new.lists ≡ self.old.lists }
+        ensures unfinished { self.new.unfinished ≡ self.old.unfinished ++ t ∷ [] }
+        ensures spare { self.old.spare ≤ self.new.spare + 1 }
+    {
+        let _ = self.unfinished.push(t);
+        self.spare -= 1;
+    }
+
+    // A transaction accesses a cell: those that hold it and are in the way are ahead of the transaction from now on.
+    fn access(&mut self, facts: &Facts, node: Node, t: Txn, holds: &[Hold], write: bool)
+        requires room { 0 < self.old.spare }
+        requires few { length holds.now ≤ length self.old.unfinished }
+        requires ascending { IsAscendingBy number_of (list_of self.old t) }
+        requires typed { IsTyped facts.now t.0 }
+        requires holders { (i : ℕ) (d : Hold) → i < length holds.now → IsTyped facts.now (get_or holds.now i d).txn.0 }
+        ensures lists { (v : Txn) → list_of self.new v ≡ cond (eqb t.0 v.0) (joined (λ h. (write || h.wrote) && meets (setup_of facts.now) (events_of facts.now) node.0 t.0 h.txn.0) holds.now (list_of self.old v)) (list_of self.old v) }
+        ensures unfinished { self.new.unfinished ≡ self.old.unfinished }
+        ensures spare { self.old.spare ≤ self.new.spare + 1 }
+    {
+        put_holders(&mut self.lists, facts, node, t, holds, write);
+        self.spare -= 1;
+    }
+
+    // A transaction finishes: it goes out of the lists of the others, and its own is empty.
+    fn finish(&mut self, t: Txn)
+        requires room { 0 < self.old.spare }
+        requires ascending { (v : Txn) → IsAscendingBy number_of (list_of self.old v) }
+        ensures lists { (v : Txn) → list_of self.new v ≡ cond (eqb t.0 v.0) [] (cond (has v self.new.unfinished) (without t.0 (list_of self.old v)) (list_of self.old v)) }
+        ensures unfinished { self.new.unfinished ≡ without t.0 self.old.unfinished }
+        ensures spare { self.old.spare ≤ self.new.spare + 1 }
+    {
+        self.unfinished.retain(|u| *u != t);
+        take_out(&mut self.lists, &self.unfinished, t);
+        clear(&mut self.lists, t);
+        self.spare -= 1;
+    }
+}
+
+// Puts the holders that are in the way of an access into the list of the transaction that accesses.
+fn put_holders(
+    lists: &mut Piles<Txn, Txn>,
+    facts: &Facts,
+    node: Node,
+    t: Txn,
+    holds: &[Hold],
+    write: bool,
+)
+    requires room { length holds.now ≤ lists.old.spare }
+    requires ascending { IsAscendingBy number_of (pile_in txn_cmp lists.old t) }
+    requires typed { IsTyped facts.now t.0 }
+    requires holders { (i : ℕ) (d : Hold) → i < length holds.now → IsTyped facts.now (get_or holds.now i d).txn.0 }
+    ensures piles { (v : Txn) → pile_in txn_cmp lists.new v ≡ cond (eqb t.0 v.0) (joined (λ h. (write || h.wrote) && meets (setup_of facts.now) (events_of facts.now) node.0 t.0 h.txn.0) holds.now (pile_in txn_cmp lists.old v)) (pile_in txn_cmp lists.old v) }
+    ensures spare { lists.old.spare ≤ lists.new.spare + length holds.now }
+{
+    for hold in holds {
+        if is_in_the_way(facts, node, t, hold, write) {
+            put(lists, t, hold.txn);
+        }
+    }
+}
+
+// Whether a holder is in the way of t's read, or its write, of the cell.
+fn is_in_the_way(facts: &Facts, node: Node, t: Txn, hold: &Hold, write: bool) -> bool
+    requires typed { IsTyped facts.now t.0 }
+    requires holder { IsTyped facts.now hold.now.txn.0 }
+    ensures { result ≡ ((write || hold.now.wrote) && meets (setup_of facts.now) (events_of facts.now) node.0 t.0 hold.now.txn.0) }
+{
+    (write || hold.wrote) && facts.meet_at(node, t, hold.txn)
+}
+
+// Puts a transaction into the list of t, unless it is there.
+fn put(lists: &mut Piles<Txn, Txn>, t: Txn, ahead: Txn)
+    requires room { 0 < lists.old.spare }
+    requires ascending { IsAscendingBy number_of (pile_in txn_cmp lists.old t) }
+    ensures piles { (v : Txn) → pile_in txn_cmp lists.new v ≡ cond (eqb t.0 v.0) (put_by number_of ahead (pile_in txn_cmp lists.old v)) (pile_in txn_cmp lists.old v) }
+    ensures spare { lists.old.spare ≤ lists.new.spare + 1 }
+{
+    if let Err(i) = find(lists.list(t), ahead) {
+        lists.put(t, i, ahead);
+    }
+}
+
+// Takes t out of the lists of some.
+fn take_out(lists: &mut Piles<Txn, Txn>, behind: &[Txn], t: Txn)
+    requires { (v : Txn) → IsAscendingBy number_of (pile_in txn_cmp lists.old v) }
+    ensures piles { (v : Txn) → pile_in txn_cmp lists.new v ≡ cond (has v behind.now) (without t.0 (pile_in txn_cmp lists.old v)) (pile_in txn_cmp lists.old v) }
+    ensures spare { lists.new.spare ≡ lists.old.spare }
+{
+    for u in behind {
+        take(lists, *u, t);
+    }
+}
+
+// Takes a transaction out of the list of t, where it is there.
+fn take(lists: &mut Piles<Txn, Txn>, t: Txn, ahead: Txn)
+    requires { IsAscendingBy number_of (pile_in txn_cmp lists.old t) }
+    ensures piles { (v : Txn) → pile_in txn_cmp lists.new v ≡ cond (eqb t.0 v.0) (without ahead.0 (pile_in txn_cmp lists.old v)) (pile_in txn_cmp lists.old v) }
+    ensures spare { lists.new.spare ≡ lists.old.spare }
+{
+    if let Ok(i) = find(lists.list(t), ahead) {
+        lists.take(t, i);
+    }
+}
+
+// Takes all out of the list of t.
+fn clear(lists: &mut Piles<Txn, Txn>, t: Txn)
+    ensures piles { (v : Txn) → pile_in txn_cmp lists.new v ≡ cond (eqb t.0 v.0) [] (pile_in txn_cmp lists.old v) }
+    ensures spare { lists.new.spare ≡ lists.old.spare }
+{
+    lists.clear(t);
+}
+
+fn find(txns: &[Txn], t: Txn) -> Result<usize, usize>
+    requires { IsAscendingBy number_of txns.now }
+    ensures { result ≡ place_of number_of txns.now t.0 }
+{
+    txns.binary_search_by_key(&t.0, |u| u.0)
+}
