@@ -1,11 +1,12 @@
 -- Whether a batch closed before another started, told by where it closed.
-use Rattle.std.proofs.Common.{◌≡◌, ℕ, ◌≤◌, Bool, true, false, cond, ltb, List, length, Some, None, refl, sym, ◌∙◌, ap, arith, le-ltb}
+use Rattle.std.proofs.Common.{◌≡◌, ℕ, ◌≤◌, Bool, true, false, cond, ltb, List, length, Option, Some, None, refl, sym, ◌∙◌, ap, arith, le-ltb}
 use Rattle.std.proofs.lemmas.Bool.{ltb-false}
 use Rattle.teb_history.specs.declared.Event.{Event}
 use Rattle.teb_history.specs.Positions.{came}
 use Rattle.teb_history.specs.Phases.{begun}
 use Rattle.teb_rules.specs.Setup.{Setup}
 use Rattle.teb_rules.specs.Batches.{start, close}
+use Rattle.batch_book.specs.Book.{closes_before}
 use Rattle.batch_book.specs.Histories.{closing}
 use Rattle.batch_book.proofs.Intervals.{start-lt}
 
@@ -28,3 +29,10 @@ open_late S H n u h = ltb-false _ _ (not_closed (came H (close S H n u)) (close 
 
 pub still_open : (S : Setup) (H : List Event) (n u t : ℕ) → None ≡ closing S H n u → begun H t ≡ true → false ≡ ltb (close S H n u) (start S H n t)
 still_open S H n u t h b = let late = open_late S H n u (sym h) in let early = start-lt S H n t b in sym (le-ltb _ _ (omega arith))
+
+pub closes_as : (S : Setup) (H : List Event) (n u t : ℕ) → begun H t ≡ true → closes_before (closing S H n u) (start S H n t) ≡ ltb (close S H n u) (start S H n t)
+closes_as S H n u t b = go (closing S H n u) refl
+  where
+    go : (c : Option ℕ) → closing S H n u ≡ c → closes_before c (start S H n t) ≡ ltb (close S H n u) (start S H n t)
+    go (Some k) e = closed_before S H n u t k (start S H n t) (sym e) refl
+    go None e = still_open S H n u t (sym e) b

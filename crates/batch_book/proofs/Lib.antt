@@ -11,5 +11,4 @@ pub mod Leaving
 pub mod Settling
 pub mod Horizons
 pub mod Telling
-pub mod Worked
 pub mod Closings

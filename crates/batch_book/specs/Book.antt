@@ -1,5 +1,5 @@
 -- What a book of batches shows, and what a join and a finish make of it.
-use Rattle.std.specs.Prelude.{◌<◌, ℕ, suc, Bool, cond, not, eqb, leb, List, [], ◌∷◌, ◌++◌, map, filter, Option, Some, None}
+use Rattle.std.specs.Prelude.{◌<◌, ℕ, suc, Bool, cond, not, false, eqb, leb, ltb, List, [], ◌∷◌, ◌++◌, map, filter, Option, Some, None}
 use Rattle.std.specs.List.{list_any}
 
 -- a transaction that has joined: its side, and where its batch starts and closes; None while the batch is open
@@ -78,3 +78,8 @@ has_joined b t = list_any (λ r. eqb r.txn t) b.rows
 pub record IsNew (b : Book) (t : ℕ) : Type 0 where
   pub rows : AllBelow (λ (r : Row). r.txn) t b.rows
   pub running : AllBelow (λ (r : Running). r.txn) t b.running
+
+-- it closed, before position i
+abbrev pub closes_before : Option ℕ → ℕ → Bool
+closes_before None i = false
+closes_before (Some c) i = ltb c i

@@ -1,10 +1,10 @@
 -- The fields of a book, and what it shows by them.
-use Rattle.std.specs.Prelude.{◌≡◌, ◌⊎◌, ◌≤◌, ◌<◌, ℕ, suc, cond, eqb, length, get_or, List, [], ◌∷◌, map, None}
+use Rattle.std.specs.Prelude.{◌≡◌, ◌⊎◌, ◌≤◌, ◌<◌, ◌&&◌, ℕ, Bool, not, suc, cond, eqb, length, get_or, List, [], ◌∷◌, map, None}
 use Rattle.std.specs.List.{All}
 use Rattle.teb_history.specs.Ascending.{IsAscendingBy}
 use Rattle.batch_book.specs.declared.members.Member.{Member}
 use Rattle.batch_book.specs.declared.members.Batch.{Batch}
-use Rattle.batch_book.specs.Book.{Row, Running, start_on, admitted_on}
+use Rattle.batch_book.specs.Book.{Row, Running, start_on, admitted_on, closes_before}
 
 -- what stands in the place of a batch that is not there
 abbrev pub no_batch : Batch
@@ -13,6 +13,10 @@ no_batch = record { side = 0; start = 0; close = None; admitted = 0; settled = 0
 -- the batch of a member
 abbrev pub batch_at : List Batch → Member → Batch
 batch_at batches m = get_or batches m.batch no_batch
+
+-- two batches start apart, and neither closed before the other started
+abbrev pub are_overlapping : Batch → Batch → Bool
+are_overlapping a b = not (eqb a.start b.start) && not (closes_before a.close b.start) && not (closes_before b.close a.start)
 
 abbrev pub member_number : Member → ℕ
 member_number m = m.txn.0

@@ -1,6 +1,6 @@
 //! The batches of one node.
 
-ghost use Rattle.std.specs.Prelude.{◌≡◌, ◌<◌, ◌≤◌, ◌+◌, ◌∷◌, ℕ, [], List, length, ltb, cond, OnOk, IsTrue, Some, None};
+ghost use Rattle.std.specs.Prelude.{◌≡◌, ◌<◌, ◌≤◌, ◌+◌, ◌∷◌, ◌&&◌, ℕ, [], List, length, not, eqb, ltb, cond, OnOk, IsTrue, Some, None};
 ghost use Rattle.teb_history.specs.declared.Event.{Event};
 ghost use Rattle.teb_history.specs.Phases.{begun};
 ghost use Rattle.teb_history.specs.Written.{txn_of};
@@ -13,6 +13,7 @@ ghost use Rattle.batch_book.specs.Book.{has_joined, IsNew};
 use crate::members::{
     Batch, Member, enter, find_member, first_on, is_any_of, search_member, take_out,
 };
+use crate::settled::overlap;
 use std::alloc::{AllocError, Global};
 use std::marker::Model;
 use teb_names::Txn;
@@ -47,7 +48,7 @@ impl Model for Batches {
     ghost invariant = { λ b. IsKept b.joined.items b.running.items b.batches.items };
 }
 
-/// `join`, `finish` and `full` cost what the unfinished members are, `start`, `close`, `is_closed_before` and `horizon` a binary search. `join` also
+/// `join`, `finish` and `full` cost what the unfinished members are, `start`, `close`, `is_closed_before`, `overlap` and `horizon` a binary search. `join` also
 /// looks once, over all calls, at each member whose batch has closed.
 impl Batches {
     /// The batches of an empty history. A batch is full where it has admitted `size`.
@@ -151,6 +152,15 @@ impl Batches {
             Some(close) => close < self.start(t),
             None => false,
         }
+    }
+
+    /// Whether the batches of t and u are two that overlap: they start apart, and neither closed before the other started.
+    pub fn overlap(&self, t: Txn, u: Txn) -> bool
+        requires first { IsTrue (has_joined self.now t.0) }
+        requires second { IsTrue (has_joined self.now u.0) }
+        ensures { (S : Setup) (H : List Event) (n : ℕ) → BatchesOf self.now S H n → result ≡ (not (eqb (start S H n t.0) (start S H n u.0)) && not (ltb (close S H n t.0) (start S H n u.0)) && not (ltb (close S H n u.0) (start S H n t.0))) }
+    {
+        overlap(self.batch(t), self.batch(u))
     }
 
     /// A transaction that has joined, before which nobody was of the batch of t or of one concurrent with it: the first one

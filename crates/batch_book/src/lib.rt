@@ -5,7 +5,5 @@ mod batches;
 pub mod laws;
 mod members;
 mod settled;
-#[cfg(test)]
-mod tests;
 
 pub use batches::Batches;

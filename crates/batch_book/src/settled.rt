@@ -1,7 +1,9 @@
-//! How many of the first that have joined are of batches closed before a position.
+//! Whether a batch is closed before a position, and how many of the first that have joined are of such batches.
 
-ghost use Rattle.std.specs.Prelude.{◌<◌, ◌≤◌, ◌↔◌, IsTrue, length};
+ghost use Rattle.std.specs.Prelude.{◌≡◌, ◌<◌, ◌≤◌, ◌↔◌, IsTrue, length};
 ghost use Rattle.std.specs.List.{All};
+ghost use Rattle.batch_book.specs.Book.{closes_before};
+ghost use Rattle.batch_book.specs.Fields.{are_overlapping};
 ghost use Rattle.batch_book.specs.Settled.{AreClosed, IsClosedBefore, IsSettled};
 
 use crate::members::{Batch, Member};
@@ -37,10 +39,20 @@ fn settled_from(joined: &[Member], batches: &[Batch], known: usize, at: usize) -
 }
 
 fn is_closed_before(batch: Batch, at: usize) -> bool
-    ensures { IsTrue result ↔ IsClosedBefore at batch.close }
+    ensures before { IsTrue result ↔ IsClosedBefore at batch.close }
+    ensures value { result ≡ closes_before batch.close at }
 {
     match batch.close {
         Some(close) => close < at,
         None => false,
     }
+}
+
+/// Whether two batches start apart, and neither closed before the other started.
+pub(crate) fn overlap(first: Batch, second: Batch) -> bool
+    ensures { result ≡ are_overlapping first second }
+{
+    first.start != second.start
+        && !is_closed_before(first, second.start)
+        && !is_closed_before(second, first.start)
 }

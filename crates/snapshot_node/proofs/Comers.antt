@@ -8,7 +8,7 @@ use Rattle.teb_names.specs.declared.ControlKind.TheVariants.{Snapshot}
 use Rattle.teb_history.specs.declared.Event.{Event}
 use Rattle.teb_history.specs.declared.Event.TheVariants.{Put}
 use Rattle.teb_history.specs.OwnEvents.{own_events}
-use Rattle.teb_history.specs.Phases.{prepared, committed, aborted}
+use Rattle.teb_history.specs.Phases.{begun, prepared, committed, aborted}
 use Rattle.teb_rules.specs.Setup.{Setup}
 use Rattle.teb_rules.specs.Tree.{row, meets}
 use Rattle.teb_rules.specs.Batches.{concurrent, one_batch}
@@ -25,15 +25,15 @@ use Rattle.snapshot_node.specs.Slots.{is_among}
 use Rattle.snapshot_node.specs.Standing.{readers_in}
 use Rattle.snapshot_node.specs.Pivots.{is_at_stake, is_across, lesser_of, IsLeast, IsAcross, Leads, Leaves, IsLeft, Reaches, IsMiddle, IsFirst, ComesIn, ComesInBy}
 use Rattle.snapshot_node.proofs.Listed.{reads_parts, among_readers, readers_here}
-use Rattle.snapshot_node.proofs.Least.{least_as, least_either, Along, along_of, along_item}
+use Rattle.snapshot_node.proofs.Least.{Remains, least_as, least_either, lesser_twice, remains_next, Along, along_of, along_item}
 use Rattle.snapshot_node.proofs.FirstOf.{among_from, each_among}
 use Rattle.snapshot_node.proofs.Edges.{stake_stands, across_later}
 use Rattle.snapshot_node.proofs.CellEdges.{Behind, behind_leads, leads_behind}
-use Rattle.snapshot_node.proofs.Batchmates.{batch_sym}
+use Rattle.snapshot_node.proofs.Batchmates.{batch_parts, batch_sym, batch_trans}
 use Rattle.snapshot_node.proofs.Reach.{with_t}
 
 -- t is at stake where it validates
-stake_itself : (H : List Event) (t : ℕ) → is_at_stake H t t ≡ true
+pub stake_itself : (H : List Event) (t : ℕ) → is_at_stake H t t ≡ true
 stake_itself H t = or_left _ (committed H t) (or_left _ (prepared H t) (eq-eqb t t refl))
 
 -- who stands in a part of a list stands in the list
@@ -168,3 +168,29 @@ module _ (S : Setup) (H : List Event) (n t : ℕ) where
 
     pub least_comer : (o : Option Txn) → IsLeast WithFirst o → IsLeast (IsFirst S H n t) o
     least_comer o h = least_as WithFirst (IsFirst S H n t) o with_first first_with h
+
+-- a walk along those across from t asks one of each batch
+module _ (S : Setup) (H : List Event) (n t : ℕ) where
+  -- whoever reaches b's batch reaches that of its mate
+  reaches_mate : (b c u : ℕ) → one_batch S H n b c ≡ true → Reaches S H n t b u → Reaches S H n t c u
+  reaches_mate b c u h r = record { member = r.member; batch = batch_trans S H n c b r.member (batch_sym S H n b c h) r.batch; edge = r.edge }
+
+  -- the last one that was asked is t, or the least that reaches its batch is not below the best
+  pub record IsLast (last : Txn) (best : Option Txn) : Type 0 where
+    pub there : IsTrue (begun H last.0)
+    pub asked : (last.0 ≡ t) ⊎ ((o : Option Txn) × IsLeast (Reaches S H n t last.0) o × (lesser_of best o ≡ best))
+
+  pub last_first : (last : Txn) (best : Option Txn) → IsTrue (begun H last.0) → last.0 ≡ t → IsLast last best
+  last_first last best b e = record { there = b; asked = inl e }
+
+  pub last_next : (c : Txn) (best o : Option Txn) → IsTrue (begun H c.0) → IsLeast (Reaches S H n t c.0) o → IsLast c (lesser_of best o)
+  last_next c best o b k = record { there = b; asked = inr (o, k, lesser_twice best o) }
+
+  -- a mate of the last one adds nobody
+  pub remains_mate : (P : ℕ → Type 0) (last c : Txn) (best : Option Txn) (left rest : List Txn) → left ≡ c ∷ rest → IsLast last best → one_batch S H n last.0 c.0 ≡ true → IsTrue (is_at_stake H t c.0) → IsTrue (is_across S H n t c.0)
+      → Remains (ComesThrough S H n t) P left best → Remains (ComesThrough S H n t) P rest best
+  remains_mate P last c best left rest e h m st ac r = elim h.asked [
+    | inl q ↦ absurd ((meets_parts S H n t c.0 (and_parts (meets S H n t c.0) (concurrent S H n t c.0) ac).0).2 (batch_parts S H n t c.0 (subst (λ (z : ℕ). one_batch S H n z c.0 ≡ true) q m)).2)
+    | inr k ↦ subst (Remains (ComesThrough S H n t) P rest) k.2 (remains_next (ComesThrough S H n t) P c left rest best k.0 e r
+        (least_as (Reaches S H n t last.0) (ComesThrough S H n t c) k.0 (λ a z. (st, ac, reaches_mate last.0 c.0 a m z)) (λ a z. reaches_mate c.0 last.0 a (batch_sym S H n last.0 c.0 m) z.2) k.1))
+  ]

@@ -1,7 +1,7 @@
 -- An edge is found without a comparison of versions.
-use Rattle.std.proofs.Common.{◌≡◌, ℕ, ◌<◌, ◌≤◌, Bool, true, false, not, ◌&&◌, ◌||◌, eqb, ltb, List, [], ◌∷◌, filter, cond, Option, Some, None, refl, sym, ◌∙◌, ap, subst, inl, inr, arith, ℤ, length, lt-ltb, le-ltb, le_refl, eqb-true, ltb-true}
+use Rattle.std.proofs.Common.{◌≡◌, ℕ, ◌<◌, ◌≤◌, Bool, true, false, not, ◌&&◌, ◌||◌, eqb, ltb, List, [], ◌∷◌, filter, cond, Option, Some, None, refl, sym, ◌∙◌, ap, subst, inl, inr, arith, ℤ, length, lt-ltb, le-ltb, le_refl, eqb-true, eq-eqb, ltb-true}
 use Rattle.std.specs.List.{list_any}
-use Rattle.std.proofs.lemmas.Bool.{cases_lt, cases_Bool, both_ways, and_parts, and_from, or_cases, or_left, or_right, false_from_ne_true, ltb-false}
+use Rattle.std.proofs.lemmas.Bool.{cases_lt, cases_eq, cases_Bool, both_ways, ne_eqb, and_parts, and_from, or_cases, or_left, or_right, false_from_ne_true, ltb-false}
 use Rattle.teb_names.specs.declared.Txn.{Txn}
 use Rattle.teb_names.specs.declared.Cell.{Cell}
 use Rattle.teb_names.specs.declared.ControlKind.TheVariants.{Snapshot}
@@ -22,10 +22,11 @@ use Rattle.teb_laws.proofs.Positions.{upto_all}
 use Rattle.teb_laws.proofs.ReadRule.{GotAt}
 use Rattle.teb_laws.proofs.Assembly.{suffix_next, suffix_got}
 use Rattle.teb_laws.proofs.Pivots.{past_at}
-use Rattle.teb_laws.proofs.Intervals.{start_not_close}
+use Rattle.teb_laws.proofs.Intervals.{start_not_close, apart_or_same}
+use Rattle.teb_laws.proofs.Batches.{start_differs}
 use Rattle.teb_laws.proofs.Ranks.{commits}
 use Rattle.teb_laws.proofs.Serial.{commits_from}
-use Rattle.teb_laws.proofs.Nodes.{meets_parts, meets_sym}
+use Rattle.teb_laws.proofs.Nodes.{meets_parts, meets_from, meets_sym}
 use Rattle.batch_book.specs.Histories.{ClosedBelow}
 use Rattle.batch_book.proofs.Numbered.{unfinished_parts}
 use Rattle.snapshot_node.specs.Pivots.{is_at_stake, is_across}
@@ -124,17 +125,6 @@ module _ (S : Setup) (H : List Event) (n : ℕ) (l : Lawful S H) where
         | inr r ↦ ap not (le-ltb _ _ r) ∙ sym (lt-ltb _ _ (omega arith))
       ]
 
-  -- whether two meet, and neither's batch is closed before the other's starts
-  pub across_unless : (u w : ℕ) → began_at H u < length H → began_at H w < length H → on S H n u ≡ true → on S H n w ≡ true → ((meets S H n u w && not (ltb (close S H n u) (start S H n w))) && not (ltb (close S H n w) (start S H n u))) ≡ is_across S H n u w
-  across_unless u w bu bw ou ow = turn (meets S H n u w) (not (ltb (close S H n u) (start S H n w))) (not (ltb (close S H n w) (start S H n u))) ∙ ap (λ (z : Bool). meets S H n u w && z) (concurrent_unless u w bu bw ou ow)
-    where
-      turn : (m p q : Bool) → ((m && p) && q) ≡ (m && (q && p))
-      turn true true true = refl
-      turn true true false = refl
-      turn true false true = refl
-      turn true false false = refl
-      turn false p q = refl
-
 module _ (S : Setup) (H : List Event) (n : ℕ) where
   -- whoever is across from u is numbered m or above, where those below it are closed before u's batch starts
   pub across_later : (u m w : ℕ) → ClosedBelow S H n u m → begun H w ≡ true → is_across S H n u w ≡ true → m ≤ w
@@ -230,3 +220,47 @@ started false s i e = absurd (cc)
 pub unstarted : (b : Bool) (s : ℕ) → None ≡ cond b (Some s) None → b ≡ false
 unstarted true s e = absurd (cc)
 unstarted false s e = refl
+
+-- two that are here
+module _ (S : Setup) (H : List Event) (n : ℕ) (l : Lawful S H) (u w : ℕ) (bu : began_at H u < length H) (bw : began_at H w < length H) (ou : on S H n u ≡ true) (ow : on S H n w ≡ true) where
+  -- they are of one batch where theirs start at one place
+  pub one_by_start : eqb (start S H n u) (start S H n w) ≡ one_batch S H n u w
+  one_by_start = elim (cases_eq (side S H n u) (side S H n w)) [
+    | inl e ↦ one_start S H n u w ou ow (eq-eqb _ _ e)
+    | inr ne ↦ ne_eqb _ _ (start_differs S H n u w l bu bw ou ow ne) ∙ off_side S H n u w (ne_eqb _ _ ne)
+  ]
+
+  -- of two whose batches are concurrent, the batches start apart where they meet
+  apart_meet : concurrent S H n u w ≡ true → not (eqb (start S H n u) (start S H n w)) ≡ meets S H n u w
+  unfolding concurrent
+  apart_meet c = elim (cases_eq (side S H n u) (side S H n w)) [
+    | inl e ↦ (let q = and_parts (ltb (start S H n u) (close S H n w)) (ltb (start S H n w) (close S H n u)) c in
+        let x = ltb-true (start S H n u) (close S H n w) q.0 in
+        let y = ltb-true (start S H n w) (close S H n u) q.1 in
+        elim (apart_or_same S H n u w l bu bw ou ow e) [
+          | inl s ↦ ap not (eq-eqb _ _ s) ∙ sym (false_from_ne_true _ (λ m. (meets_parts S H n u w m).2 e))
+          | inr r ↦ elim r [ inl k ↦ absurd (omega arith) | inr k ↦ absurd (omega arith) ]
+        ])
+    | inr ne ↦ ap not (ne_eqb _ _ (start_differs S H n u w l bu bw ou ow ne)) ∙ sym (meets_from S H n u w ou ow ne)
+  ]
+
+  -- they are across from one another where their batches start apart, and neither is closed before the other starts
+  pub across_overlap : ((not (eqb (start S H n u) (start S H n w)) && not (ltb (close S H n u) (start S H n w))) && not (ltb (close S H n w) (start S H n u))) ≡ is_across S H n u w
+  across_overlap =
+      turn (not (eqb (start S H n u) (start S H n w))) (not (ltb (close S H n u) (start S H n w))) (not (ltb (close S H n w) (start S H n u)))
+      ∙ ap (λ (z : Bool). not (eqb (start S H n u) (start S H n w)) && z) (concurrent_unless S H n l u w bu bw ou ow)
+      ∙ elim (cases_Bool (concurrent S H n u w)) [
+        | inl c ↦ ap (λ (z : Bool). z && concurrent S H n u w) (apart_meet c)
+        | inr c ↦ (λ j. not (eqb (start S H n u) (start S H n w)) && c j) ∙ off (not (eqb (start S H n u) (start S H n w))) ∙ sym (off (meets S H n u w)) ∙ (λ j. meets S H n u w && sym c j)
+      ]
+    where
+      turn : (a x y : Bool) → ((a && x) && y) ≡ (a && (y && x))
+      turn true true true = refl
+      turn true true false = refl
+      turn true false true = refl
+      turn true false false = refl
+      turn false x y = refl
+
+      off : (a : Bool) → (a && false) ≡ false
+      off true = refl
+      off false = refl

@@ -1,42 +1,40 @@
 -- Marks that grow, and walks that make them.
-use Rattle.std.specs.Prelude.{IsTrue}
-use Rattle.std.proofs.Common.{◌≡◌, ℕ, zero, suc, ◌+◌, ◌<◌, ◌≤◌, true, false, ◌||◌, eqb, List, [], ◌∷◌, length, get_or, set, filter, leb, refl, sym, ◌∙◌, ap, subst, inl, inr, arith, eqb-true, ltb, ltb-true, le-ltb, ◌&&◌}
-use Rattle.std.proofs.Math.ListN.{length-set}
-use Rattle.std.proofs.lemmas.Bool.{cases_eq, cases_lt, or_cases, and_parts}
-use Rattle.std.proofs.lemmas.List.{get_or-set_other}
-use Rattle.std.proofs.lemmas.Grind.{get_or-set_at}
+use Rattle.std.proofs.Common.{◌≡◌, ℕ, zero, suc, ◌+◌, ◌<◌, ◌≤◌, true, false, eqb, List, [], ◌∷◌, length, get_or, filter, leb, refl, sym, ◌∙◌, ap, subst, inl, inr, arith, eqb-true, ltb, ltb-true, le-ltb}
+use Rattle.std.proofs.lemmas.Bool.{cases_lt, or_cases, and_parts}
 use Rattle.teb_names.specs.declared.Txn.{Txn}
 use Rattle.teb_history.specs.declared.Event.{Event}
+use Rattle.teb_history.specs.declared.Event.TheVariants.{Began}
+use Rattle.teb_history.specs.Phases.{begun_count}
 use Rattle.teb_rules.specs.Setup.{Setup}
 use Rattle.teb_rules.specs.Tree.{meets}
 use Rattle.teb_rules.specs.Batches.{start, close, concurrent}
 use Rattle.snapshot_node.specs.declared.marks.Mark.{Mark}
 use Rattle.snapshot_node.specs.Slots.{is_among}
 use Rattle.snapshot_node.specs.Pivots.{is_across}
-use Rattle.snapshot_node.specs.Marks.{no_mark, is_entered, is_left, HaveGrown, IsTold}
+use Rattle.snapshot_node.specs.Marks.{HaveGrown, IsTold}
 use Rattle.snapshot_node.proofs.FirstOf.{among_from}
 
+-- no more have begun than there are events
+pub begun_fewer : (H : List Event) → begun_count H ≤ length H
+unfolding begun_count
+begun_fewer [] = omega arith
+begun_fewer (Began t s k i ∷ H) = let z = begun_fewer H in omega arith
+begun_fewer (_ ∷ H) = let z = begun_fewer H in omega arith
+
 pub grown_none : (ms : List Mark) → HaveGrown ms ms
-grown_none ms = record { long = refl; entered = λ i h. h; left = λ i h. h }
+grown_none ms = record { long = refl; entered = λ i h. h; left = λ i h. h; behind = λ i h. h; ahead = λ i h. h }
 
 pub grown_then : (a b c : List Mark) → HaveGrown a b → HaveGrown b c → HaveGrown a c
-grown_then a b c h k = record { long = k.long ∙ h.long; entered = λ i x. k.entered i (h.entered i x); left = λ i x. k.left i (h.left i x) }
-
-pub grown_set : (ms : List Mark) (i : ℕ) (x : Mark) → i < length ms → (IsTrue (is_entered ms i) → IsTrue x.entered) → (IsTrue (is_left ms i) → IsTrue x.left) → HaveGrown ms (set ms i x)
-grown_set ms i x l e f = record {
-  long = length-set ms i x;
-  entered = λ j h. elim (cases_eq j i) [
-    | inl q ↦ subst (λ (m : Mark). IsTrue m.entered) (sym (get_or-set_at ms i j x no_mark q l)) (e (subst (λ (k : ℕ). IsTrue (is_entered ms k)) q h))
-    | inr n ↦ subst (λ (m : Mark). IsTrue m.entered) (sym (get_or-set_other ms i j x no_mark n)) h
-  ];
-  left = λ j h. elim (cases_eq j i) [
-    | inl q ↦ subst (λ (m : Mark). IsTrue m.left) (sym (get_or-set_at ms i j x no_mark q l)) (f (subst (λ (k : ℕ). IsTrue (is_left ms k)) q h))
-    | inr n ↦ subst (λ (m : Mark). IsTrue m.left) (sym (get_or-set_other ms i j x no_mark n)) h
-  ];
+grown_then a b c h k = record {
+  long = k.long ∙ h.long;
+  entered = λ i x. k.entered i (h.entered i x);
+  left = λ i x. k.left i (h.left i x);
+  behind = λ i x. k.behind i (h.behind i x);
+  ahead = λ i x. k.ahead i (h.ahead i x);
 }
 
 pub told_still : (S : Setup) (H : List Event) (n : ℕ) (a b : List Mark) (u w : ℕ) → HaveGrown a b → IsTold S H n a u w → IsTold S H n b u w
-told_still S H n a b u w g t = record { left = g.left _ t.left; entered = g.entered _ t.entered }
+told_still S H n a b u w g t = record { left = g.left _ t.left; entered = g.entered _ t.entered; ahead = g.ahead _ t.ahead; behind = g.behind _ t.behind }
 
 -- where one of some transactions stands
 place_among : (d : Txn) (xs : List Txn) (u : ℕ) → is_among u xs ≡ true → (j : ℕ) × (j < length xs) × ((get_or xs j d).0 ≡ u)

@@ -62,6 +62,17 @@ lesser_three (Some t) (Some u) (Some w) =
     ap (λ (o : Option Txn). lesser_of o (Some w)) (lesser_some t.0 u.0) ∙ lesser_some (lesser_number t.0 u.0) w.0 ∙ ap (λ (n : ℕ). Some (record { 0 = n })) (lesser_number_three t.0 u.0 w.0)
     ∙ sym (lesser_some t.0 (lesser_number u.0 w.0)) ∙ sym (ap (lesser_of (Some t)) (lesser_some u.0 w.0))
 
+pub lesser_twice : (a b : Option Txn) → lesser_of (lesser_of a b) b ≡ lesser_of a b
+lesser_twice a b = lesser_three a b b ∙ ap (lesser_of a) (itself b)
+  where
+    itself : (o : Option Txn) → lesser_of o o ≡ o
+    itself None = refl
+    itself (Some t) = go (ltb t.0 t.0)
+      where
+        go : (z : Bool) → Some (cond z t t) ≡ Some t
+        go true = refl
+        go false = refl
+
 -- of a walk along a list, the items `left` are still to come: the lesser of the best so far and of the least by them is the least with P
 abbrev pub Remains : {X : Type 0} → (X → ℕ → Type 0) → (ℕ → Type 0) → List X → Option Txn → Type 0
 Remains Q P left best = (o : Option Txn) → IsLeast (Along Q left) o → IsLeast P (lesser_of best o)

@@ -25,3 +25,4 @@ pub mod Covers
 pub mod Nearness
 pub mod Marked
 pub mod Grown
+pub mod Known

@@ -1,6 +1,6 @@
--- The marks of batches after one more event: those of edges that were there stay, and those at who is validated by the event are made.
+-- The marks after one more event: those of edges that were there stay, and those at who is validated by the event are made.
 use Rattle.std.specs.Prelude.{IsTrue}
-use Rattle.std.proofs.Common.{◌≡◌, ◌⊎◌, ℕ, zero, suc, ◌<◌, ◌≤◌, min, Bool, true, false, ◌&&◌, ◌||◌, eqb, ltb, List, [], ◌∷◌, ◌++◌, Option, Some, None, refl, sym, ◌∙◌, ap, subst, inl, inr, arith, length, lt-ltb, le-ltb, ltb-true, length-append, le_refl, eqb-true, eq-eqb}
+use Rattle.std.proofs.Common.{◌≡◌, ℕ, zero, suc, ◌<◌, ◌≤◌, min, Bool, true, false, ◌||◌, eqb, ltb, List, [], ◌∷◌, ◌++◌, Some, refl, sym, ◌∙◌, ap, subst, inl, inr, arith, length, get_or, lt-ltb, le-ltb, ltb-true, length-append, le_refl, eqb-true}
 use Rattle.std.proofs.lemmas.Bool.{cases_lt, both_ways, and_parts, and_from, or_cases, or_left, or_right}
 use Rattle.teb_names.specs.declared.Txn.{Txn}
 use Rattle.teb_names.specs.declared.Cell.{Cell}
@@ -8,7 +8,7 @@ use Rattle.teb_names.specs.Cells.{same_cell}
 use Rattle.teb_history.specs.declared.Event.{Event}
 use Rattle.teb_history.specs.declared.Event.TheVariants.{Got, Ready, Done}
 use Rattle.teb_history.specs.Accesses.{is_got, got, got_at, wrote, put_at}
-use Rattle.teb_history.specs.Phases.{prepared, committed, aborted, unfinished, begun, began_at, ready_at, done_at, gone_at, is_ready, is_done}
+use Rattle.teb_history.specs.Phases.{prepared, committed, aborted, begun, began_at, ready_at, done_at, is_ready, is_done}
 use Rattle.teb_history.specs.Positions.{upto, newest, first_event}
 use Rattle.teb_rules.specs.Setup.{Setup}
 use Rattle.teb_rules.specs.Tree.{meets, on}
@@ -27,8 +27,8 @@ use Rattle.batch_book.proofs.Numbered.{begun_step, unfinished_parts}
 use Rattle.phase_api.specs.Calls.{MayNote}
 use Rattle.snapshot_node.proofs.Edges.{prepared_runs}
 use Rattle.snapshot_node.specs.declared.marks.Mark.{Mark}
-use Rattle.snapshot_node.specs.Marks.{is_entered, is_left, validated_txn, HaveGrown, IsTold, Touches, AreMarked}
-use Rattle.snapshot_node.specs.Pivots.{is_at_stake, is_across}
+use Rattle.snapshot_node.specs.Marks.{no_mark, is_entered, is_left, is_behind, is_ahead, validated_txn, HaveGrown, IsTold, Touches, AreMarked}
+use Rattle.snapshot_node.specs.Pivots.{is_at_stake}
 
 -- who is prepared or committed was validated, and is not gone
 vouched : (S : Setup) (H : List Event) (u : ℕ) → Lawful S H → IsSettled H u → IsVouched H u
@@ -117,10 +117,11 @@ stake_settled H t u h = elim (or_cases (prepared H u) (committed H u) h) [ inl p
 module _ (S : Setup) (e : Event) (P : List Event) (n : ℕ) (old ms : List Mark) (m : AreMarked S P n old) where
   -- the marks have grown, and are made at who is validated by the event
   pub marked_next : suc (length P) ≤ length ms → ((i : ℕ) → IsTrue (is_left old i) → IsTrue (is_left ms i)) → ((i : ℕ) → IsTrue (is_entered old i) → IsTrue (is_entered ms i))
+      → ((i : ℕ) → IsTrue (is_behind old i) → IsTrue (is_behind ms i)) → ((i : ℕ) → IsTrue (is_ahead old i) → IsTrue (is_ahead ms i))
       → ((t : Txn) → validated_txn e ≡ Some t → Lawful S (e ∷ P) → (u : ℕ) → IsSettled (e ∷ P) t.0 → IsSettled (e ∷ P) u → Touches S (e ∷ P) n t.0 u → IsTold S (e ∷ P) n ms t.0 u)
       → ((t : Txn) → validated_txn e ≡ Some t → Lawful S (e ∷ P) → (u : ℕ) → IsSettled (e ∷ P) t.0 → IsSettled (e ∷ P) u → Touches S (e ∷ P) n u t.0 → IsTold S (e ∷ P) n ms u t.0)
       → AreMarked S (e ∷ P) n ms
-  marked_next long left entered ahead behind = record { long = long; told = told }
+  marked_next long left entered heads tails ahead behind = record { long = long; told = told }
     where
       before : upto (length P) (e ∷ P) ≡ P
       before = upto_cons (length P) e P (le_refl _) ∙ upto_all (length P) P (le_refl _)
@@ -136,7 +137,12 @@ module _ (S : Setup) (e : Event) (P : List Event) (n : ℕ) (old ms : List Mark)
           (subst (λ (G : List Event). Touches S G n u w) before (touches_before S (e ∷ P) (length P) n u w l h cu cw vu vw t)) in
           let su : start S P n u ≡ start S (e ∷ P) n u = ap (λ (G : List Event). start S G n u) (sym before) ∙ start-upto S (e ∷ P) (length P) n u l h bu in
           let sw : start S P n w ≡ start S (e ∷ P) n w = ap (λ (G : List Event). start S G n w) (sym before) ∙ start-upto S (e ∷ P) (length P) n w l h bw in
-          record { left = subst (λ (z : ℕ). IsTrue (is_left ms z)) su (left _ r.left); entered = subst (λ (z : ℕ). IsTrue (is_entered ms z)) sw (entered _ r.entered) }
+          record {
+            left = subst (λ (z : ℕ). IsTrue (is_left ms z)) su (left _ r.left);
+            entered = subst (λ (z : ℕ). IsTrue (is_entered ms z)) sw (entered _ r.entered);
+            ahead = tails _ r.ahead;
+            behind = heads _ r.behind;
+          }
 
       told : Lawful S (e ∷ P) → (u w : ℕ) → IsSettled (e ∷ P) u → IsSettled (e ∷ P) w → Touches S (e ∷ P) n u w → IsTold S (e ∷ P) n ms u w
       told l u w hu hw t =
@@ -172,15 +178,11 @@ settled_stands S H u l h = elim (or_cases (prepared H u) (committed H u) h) [
   | inr c ↦ (unfold aborted in le-ltb _ _ (commits S H u l (commits_from H u c)).1)
 ]
 
-left_pushed : (ms : List Mark) (x : Mark) (i : ℕ) → is_left ms i ≡ true → is_left (ms ++ x ∷ []) i ≡ true
-left_pushed [] x i h = absurd (cc)
-left_pushed (m ∷ ms) x zero h = h
-left_pushed (m ∷ ms) x (suc i) h = left_pushed ms x i h
-
-entered_pushed : (ms : List Mark) (x : Mark) (i : ℕ) → is_entered ms i ≡ true → is_entered (ms ++ x ∷ []) i ≡ true
-entered_pushed [] x i h = absurd (cc)
-entered_pushed (m ∷ ms) x zero h = h
-entered_pushed (m ∷ ms) x (suc i) h = entered_pushed ms x i h
+-- what is known at a place is known there with one mark more
+known_pushed : (known : Mark → Bool) → known no_mark ≡ false → (ms : List Mark) (x : Mark) (i : ℕ) → known (get_or ms i no_mark) ≡ true → known (get_or (ms ++ x ∷ []) i no_mark) ≡ true
+known_pushed known none [] x i h = absurd (both_ways _ none h)
+known_pushed known none (m ∷ ms) x zero h = h
+known_pushed known none (m ∷ ms) x (suc i) h = known_pushed known none ms x i h
 
 -- the marks tell of the edges between t and u, either way
 abbrev pub TellsOf : Setup → List Event → ℕ → List Mark → ℕ → ℕ → Type 0
@@ -194,8 +196,10 @@ module _ (S : Setup) (H : List Event) (e : Event) (P : List Event) (h : H ≡ e 
       let long : suc (length P) ≤ length ms = (let z = marked.long in omega (arith, z, ap (λ (xs : List Mark). length xs) push, length-append old (x ∷ []), g.long)) in
       subst (λ (G : List Event). AreMarked S G m ms) (sym h)
       (marked_next S e P m old ms (subst (λ (k : ℕ). AreMarked S P k old) (sym same) marked) long
-      (λ i q. g.left i (subst (λ (xs : List Mark). IsTrue (is_left xs i)) (sym push) (left_pushed old x i q)))
-      (λ i q. g.entered i (subst (λ (xs : List Mark). IsTrue (is_entered xs i)) (sym push) (entered_pushed old x i q)))
+      (λ i q. g.left i (subst (λ (xs : List Mark). IsTrue (is_left xs i)) (sym push) (known_pushed (λ (m : Mark). m.left) refl old x i q)))
+      (λ i q. g.entered i (subst (λ (xs : List Mark). IsTrue (is_entered xs i)) (sym push) (known_pushed (λ (m : Mark). m.entered) refl old x i q)))
+      (λ i q. g.behind i (subst (λ (xs : List Mark). IsTrue (is_behind xs i)) (sym push) (known_pushed (λ (m : Mark). m.behind) refl old x i q)))
+      (λ i q. g.ahead i (subst (λ (xs : List Mark). IsTrue (is_ahead xs i)) (sym push) (known_pushed (λ (m : Mark). m.ahead) refl old x i q)))
       (λ t q l u a b p. (tells t q l u a b).0 p)
       (λ t q l u a b p. (tells t q l u a b).1 p))
 

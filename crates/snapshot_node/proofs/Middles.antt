@@ -39,11 +39,11 @@ module _ {X : Type 0} (A : X → ℕ → Type 0) (R : ℕ → Type 0) where
   abbrev pub Both : X → ℕ → Type 0
   Both x u = A x u × R u
 
-  both_from : (xs : List X) (u : ℕ) → Along Both xs u → Along A xs u × R u
+  pub both_from : (xs : List X) (u : ℕ) → Along Both xs u → Along A xs u × R u
   both_from [] u h = absurd h
   both_from (x ∷ xs) u h = elim h [ inl q ↦ (inl q.0, q.1) | inr r ↦ (let z = both_from xs u r in (inr z.0, z.1)) ]
 
-  both_to : (xs : List X) (u : ℕ) → Along A xs u → R u → Along Both xs u
+  pub both_to : (xs : List X) (u : ℕ) → Along A xs u → R u → Along Both xs u
   both_to [] u h r = h
   both_to (x ∷ xs) u h r = elim h [ inl q ↦ inl (q, r) | inr k ↦ inr (both_to xs u k r) ]
 

@@ -1,27 +1,25 @@
 -- A transaction is in no pivot where it has no edge, or has edges of one kind and none of others goes on from them.
 use Rattle.std.specs.Prelude.{IsTrue, IsFalse}
-use Rattle.std.proofs.Common.{◌≡◌, ◌≢◌, ℕ, true, false, ◌||◌, eqb, List, sym, ap, subst, inl, inr, eqb-true, eq-eqb, ◌∙◌}
-use Rattle.std.proofs.lemmas.Bool.{cases_eq, both_ways, and_parts, or_cases, or_left, or_right}
+use Rattle.std.proofs.Common.{◌≡◌, ◌≢◌, ℕ, true, false, ◌||◌, eqb, List, sym, ap, subst, inl, inr, eq-eqb, ◌∙◌}
+use Rattle.std.proofs.lemmas.Bool.{cases_eq, both_ways, or_left, or_right}
 use Rattle.teb_names.specs.declared.ControlKind.TheVariants.{Snapshot}
 use Rattle.teb_names.specs.declared.Txn.{Txn}
 use Rattle.teb_history.specs.declared.Event.{Event}
-use Rattle.teb_history.specs.Phases.{prepared, committed, aborted}
+use Rattle.teb_history.specs.Phases.{aborted}
 use Rattle.teb_rules.specs.Accepted.{IsSound}
 use Rattle.teb_rules.specs.Setup.{Setup}
-use Rattle.teb_rules.specs.Tree.{row, side, meets}
+use Rattle.teb_rules.specs.Tree.{row}
 use Rattle.teb_rules.specs.Batches.{start, one_batch}
 use Rattle.teb_rules.specs.Controls.{edge}
 use Rattle.teb_laws.specs.Lawful.{Lawful}
-use Rattle.teb_laws.specs.Pivots.{IsSettled}
-use Rattle.teb_laws.specs.TreeFacts.{TreeFacts}
 use Rattle.teb_laws.proofs.Sound.{tree_facts}
 use Rattle.teb_laws.proofs.Nodes.{meets_parts}
 use Rattle.teb_laws.proofs.Pivots.{edge_parts}
 use Rattle.phase_api.specs.Told.{IsOrderly}
 use Rattle.snapshot_node.specs.declared.marks.Mark.{Mark}
 use Rattle.snapshot_node.specs.declared.validation.Validation.{Validation}
-use Rattle.snapshot_node.specs.Marks.{is_entered, is_left, AreMarked, IsTold}
-use Rattle.snapshot_node.specs.Pivots.{is_at_stake, IsAcross, Leads, Leaves, IsPivot, IsFirst}
+use Rattle.snapshot_node.specs.Marks.{is_entered, is_left, is_ahead, is_behind, place_of_txn, AreMarked, IsTold}
+use Rattle.snapshot_node.specs.Pivots.{IsAcross, Leads, IsPivot, IsFirst}
 use Rattle.snapshot_node.specs.Validating.{at, is_marked_entered, is_marked_left}
 use Rattle.snapshot_node.proofs.Batchmates.{batch_parts, batch_sym}
 use Rattle.snapshot_node.proofs.CellEdges.{edge_shared}
@@ -45,6 +43,20 @@ module _ (S : Setup) (H : List Event) (n t : ℕ) (l : Lawful S H) (o : IsOrderl
   told u w nu nw e =
       let p = edge_shared S H n t l o runs (tree_facts S i) k u w (stake_stands S H t w l runs e.to) e.edge in
       m.told l u w (settled H t u e.from nu) (settled H t w e.to nw) (record { cell = p.1.cell; read = p.1.read; put = p.1.put; across = p.0 })
+
+  -- who is not known to have an edge has at most one to t
+  pub leads_only : (c d : ℕ) → IsFalse (eqb c t || is_ahead ms (place_of_txn c)) → Leads S H n t c d → d ≡ t
+  leads_only c d unknown e = elim (cases_eq d t) [
+    | inl q ↦ q
+    | inr nd ↦ absurd (both_ways _ unknown (or_right (eqb c t) _ (told c d (λ q. both_ways _ unknown (or_left _ (is_ahead ms (place_of_txn c)) (eq-eqb c t q))) nd e).ahead))
+  ]
+
+  -- to one to whom nobody is known to have an edge t has one at most
+  pub led_to_only : (a b : ℕ) → IsFalse (eqb b t || is_behind ms (place_of_txn b)) → Leads S H n t a b → a ≡ t
+  led_to_only a b unknown e = elim (cases_eq a t) [
+    | inl q ↦ q
+    | inr na ↦ absurd (both_ways _ unknown (or_right (eqb b t) _ (told a b na (λ q. both_ways _ unknown (or_left _ (is_behind ms (place_of_txn b)) (eq-eqb b t q))) e).behind))
+  ]
 
   -- nobody comes first in a pivot
   abbrev None : Type 0

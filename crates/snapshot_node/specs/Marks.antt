@@ -1,5 +1,6 @@
--- Marks of batches: whether an edge of transactions that are prepared or committed leads into a batch, and whether one leaves it.
-use Rattle.std.specs.Prelude.{◌≡◌, ◌≤◌, ℕ, Bool, false, IsTrue, List, length, get_or, Option, Some, None}
+-- Marks of batches and of transactions: whether an edge of those that are prepared or committed leads into a batch, and whether one leaves it; and whether one
+-- leads to a transaction, and whether one leads from it.
+use Rattle.std.specs.Prelude.{◌≡◌, ◌≤◌, ◌-◌, ℕ, Bool, false, IsTrue, List, length, get_or, Option, Some, None}
 use Rattle.teb_names.specs.declared.Cell.{Cell}
 use Rattle.teb_names.specs.declared.Txn.{Txn}
 use Rattle.teb_history.specs.declared.Event.{Event}
@@ -17,7 +18,7 @@ use Rattle.snapshot_node.specs.Standing.{SnapshotStand}
 use Rattle.snapshot_node.specs.Pivots.{is_across}
 
 abbrev pub no_mark : Mark
-no_mark = record { entered = false; left = false }
+no_mark = record { entered = false; left = false; behind = false; ahead = false }
 
 -- an edge is known to lead into the batch that starts at position i, or to leave it
 abbrev pub is_entered : List Mark → ℕ → Bool
@@ -25,6 +26,17 @@ is_entered ms i = (get_or ms i no_mark).entered
 
 abbrev pub is_left : List Mark → ℕ → Bool
 is_left ms i = (get_or ms i no_mark).left
+
+-- an edge is known to lead to the transaction of place i, or from it
+abbrev pub is_behind : List Mark → ℕ → Bool
+is_behind ms i = (get_or ms i no_mark).behind
+
+abbrev pub is_ahead : List Mark → ℕ → Bool
+is_ahead ms i = (get_or ms i no_mark).ahead
+
+-- the place of transaction u: they are numbered from 1 on
+abbrev pub place_of_txn : ℕ → ℕ
+place_of_txn u = u - 1
 
 -- the transaction that an event shows to be validated
 abbrev pub validated_txn : Event → Option Txn
@@ -37,11 +49,15 @@ pub record HaveGrown (old new : List Mark) : Type 0 where
   pub long : length new ≡ length old
   pub entered : (i : ℕ) → IsTrue (is_entered old i) → IsTrue (is_entered new i)
   pub left : (i : ℕ) → IsTrue (is_left old i) → IsTrue (is_left new i)
+  pub behind : (i : ℕ) → IsTrue (is_behind old i) → IsTrue (is_behind new i)
+  pub ahead : (i : ℕ) → IsTrue (is_ahead old i) → IsTrue (is_ahead new i)
 
--- the marks tell of an edge from u to w
+-- the marks tell of an edge from u to w, at the batches of both and at both
 pub record IsTold (S : Setup) (H : List Event) (n : ℕ) (ms : List Mark) (u w : ℕ) : Type 0 where
   pub left : IsTrue (is_left ms (start S H n u))
   pub entered : IsTrue (is_entered ms (start S H n w))
+  pub ahead : IsTrue (is_ahead ms (place_of_txn u))
+  pub behind : IsTrue (is_behind ms (place_of_txn w))
 
 -- u and w are across from one another, and u has read a cell that w has put: where the rules granted each event, an edge leads from u to w
 pub record Touches (S : Setup) (H : List Event) (n u w : ℕ) : Type 0 where

@@ -38,6 +38,11 @@ lesser_of None o = o
 lesser_of (Some t) None = Some t
 lesser_of (Some t) (Some u) = Some (cond (ltb u.0 t.0) u t)
 
+-- of two edges that of the lesser tail, or the only one
+abbrev pub earlier_of : Option (Txn × Txn) → Txn × Txn → Option (Txn × Txn)
+earlier_of None f = Some f
+earlier_of (Some e) f = Some (cond (ltb f.0.0 e.0.0) f e)
+
 module _ (S : Setup) (H : List Event) (n t : ℕ) where
   -- u is at stake where t validates, and across from v, and has put x
   pub record PutsAcross (v : ℕ) (x : Cell) (u : ℕ) : Type 0 where
@@ -77,11 +82,34 @@ module _ (S : Setup) (H : List Event) (n t : ℕ) where
   IsLeastEdge b None = IsLeft b → ⊥
   IsLeastEdge b (Some e) = Leaves b e.0.0 e.1.0 × ((c d : ℕ) → Leaves b c d → e.0.0 ≤ c) × ((d : ℕ) → Leads e.0.0 d → e.1.0 ≤ d)
 
+  -- the same of those members alone that pass a test
+  abbrev pub IsLeastEdgeFrom : (ℕ → Bool) → ℕ → Option (Txn × Txn) → Type 0
+  IsLeastEdgeFrom p b None = (c d : ℕ) → IsTrue (p c) → Leaves b c d → ⊥
+  IsLeastEdgeFrom p b (Some e) = Leaves b e.0.0 e.1.0 × ((c d : ℕ) → IsTrue (p c) → Leaves b c d → e.0.0 ≤ c) × ((d : ℕ) → Leads e.0.0 d → e.1.0 ≤ d)
+
   -- a has an edge to somebody of c's batch
   pub record Reaches (c a : ℕ) : Type 0 where
     pub member : ℕ
     pub batch : IsTrue (one_batch S H n c member)
     pub edge : Leads a member
+
+  -- a has an edge to somebody of c's batch who passes a test
+  pub record ReachesOne (p : ℕ → Bool) (c a : ℕ) : Type 0 where
+    pub reach : Reaches c a
+    pub passes : IsTrue (p reach.member)
+
+  -- u is across from t, one of the transactions, and of b's batch
+  abbrev pub IsMateAmong : ℕ → List Txn → ℕ → Type 0
+  IsMateAmong b among u = IsAcross t among u × IsTrue (one_batch S H n b u)
+
+  -- u has put x, and is across from t and of b's batch
+  abbrev pub IsMateByPut : ℕ → Cell → ℕ → Type 0
+  IsMateByPut b x u = PutsAcross t x u × IsTrue (one_batch S H n b u)
+
+  -- t has an edge to u, of b's batch
+  pub record EntersAt (b u : ℕ) : Type 0 where
+    pub into : Leads t u
+    pub batch : IsTrue (one_batch S H n b u)
 
   -- a has an edge to b, whose batch an edge leaves
   pub record IsMiddle (a b : ℕ) : Type 0 where

@@ -1,5 +1,5 @@
 -- What is said of a validation.
-use Rattle.std.specs.Prelude.{ℕ, Bool, List, IsTrue}
+use Rattle.std.specs.Prelude.{ℕ, Bool, ◌||◌, eqb, List, IsTrue}
 use Rattle.teb_names.specs.declared.Txn.{Txn}
 use Rattle.teb_history.specs.declared.Event.{Event}
 use Rattle.teb_rules.specs.Setup.{Setup}
@@ -10,7 +10,7 @@ use Rattle.teb_rules.specs.declared.Verdict.{Verdict}
 use Rattle.phase_api.specs.Told.{setup_of, events_of}
 use Rattle.snapshot_node.specs.Pivots.{is_at_stake, AreHere}
 use Rattle.snapshot_node.specs.Asking.{there}
-use Rattle.snapshot_node.specs.Marks.{is_entered, is_left}
+use Rattle.snapshot_node.specs.Marks.{is_entered, is_left, is_behind, is_ahead, place_of_txn}
 use Rattle.snapshot_node.specs.declared.validation.Validation.{Validation}
 
 -- the node stands on the path of each of them
@@ -34,3 +34,10 @@ is_marked_entered v u = is_entered v.marks.now (there v.asked start u)
 
 abbrev pub is_marked_left : Validation → ℕ → Bool
 is_marked_left v u = is_left v.marks.now (there v.asked start u)
+
+-- c is the one that validates, or known to have an edge; and somebody is known to have an edge to it
+abbrev pub may_lead : Validation → ℕ → Bool
+may_lead v c = eqb c v.t.0 || is_ahead v.marks.now (place_of_txn c)
+
+abbrev pub may_be_led_to : Validation → ℕ → Bool
+may_be_led_to v b = eqb b v.t.0 || is_behind v.marks.now (place_of_txn b)

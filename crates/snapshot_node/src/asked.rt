@@ -4,7 +4,7 @@ ghost use Rattle.std.specs.Prelude.{◌≡◌, ◌&&◌, find, ltb};
 ghost use Rattle.teb_history.specs.Phases.{txns, unfinished};
 ghost use Rattle.teb_history.specs.Accesses.{wrote};
 ghost use Rattle.teb_rules.specs.Tree.{meets};
-ghost use Rattle.teb_rules.specs.Batches.{start, close, one_batch};
+ghost use Rattle.teb_rules.specs.Batches.{start, close};
 ghost use Rattle.teb_rules.specs.Controls.{is_first};
 ghost use Rattle.hold_register.specs.Waits.{some_txn};
 ghost use Rattle.snapshot_node.specs.Standing.{writers_in, readers_in};
@@ -25,7 +25,7 @@ pub(crate) struct Asked<'a> {
 }
 
 impl<'a> Asked<'a> {
-    ghost use Rattle.snapshot_node.specs.Asking.{HasBegun, IsAt, history, there};
+    ghost use Rattle.snapshot_node.specs.Asking.{IsAt, history, there};
 
     // The unfinished transactions on whose path the node stands that have put a cell, in ascending number, each once.
     pub(crate) fn unfinished(&self, cell: Cell) -> &[Txn]
@@ -51,26 +51,6 @@ impl<'a> Asked<'a> {
         ensures { result ≡ ltb (there self.now close u.0) (there self.now start t.0) }
     {
         self.register.batches.is_closed_before(u, t)
-    }
-
-    // Whether two are of one batch.
-    pub(crate) fn are_one_batch(&self, b: Txn, c: Txn) -> bool
-        requires begun_b { HasBegun self.now b.0 }
-        requires begun_c { HasBegun self.now c.0 }
-        ensures { result ≡ there self.now one_batch b.0 c.0 }
-    {
-        let register = self.register;
-        let facts = self.facts;
-        let Some(start) = register.batches.start_of(b) else {
-            return false;
-        };
-        let Some(other) = register.batches.start_of(c) else {
-            return false;
-        };
-        if start != other {
-            return false;
-        }
-        facts.side(register.node, b) == facts.side(register.node, c)
     }
 
     // The least committed transaction that wrote a cell before t. It looks from t's horizon on: whoever comes before that was of

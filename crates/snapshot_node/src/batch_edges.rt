@@ -1,13 +1,24 @@
-//! Edges at all members of a batch.
+//! Edges at all members of a batch: those at who is known to have one, and those of the one that validates.
 
 ghost use Rattle.std.specs.Prelude.{◌≡◌};
-ghost use Rattle.snapshot_node.specs.Pivots.{IsLeast, IsLeastEdge, Reaches, is_mate};
+ghost use Rattle.snapshot_node.specs.Pivots.{IsLeast, IsLeastEdge, IsLeastEdgeFrom, Reaches, ReachesOne, is_mate, earlier_of};
 ghost use Rattle.snapshot_node.specs.Asking.{HasBegun, IsAt};
-ghost use Rattle.snapshot_node.specs.Validating.{at};
+ghost use Rattle.snapshot_node.specs.Validating.{at, may_lead, may_be_led_to};
 
+use crate::marks::{mark_at, place_of};
 use crate::neighbours::{is_at_stake, lesser};
 use crate::validation::Validation;
 use teb_names::Txn;
+
+/// Of two edges that of the lesser tail, or the only one.
+fn earlier(known: Option<(Txn, Txn)>, edge: (Txn, Txn)) -> Option<(Txn, Txn)>
+    ensures { result ≡ earlier_of known edge }
+{
+    match known {
+        Some(first) => Some(if edge.0 < first.0 { edge } else { first }),
+        None => Some(edge),
+    }
+}
 
 impl<'a> Validation<'a> {
     // Whether u is of b's batch, and at stake.
@@ -16,7 +27,21 @@ impl<'a> Validation<'a> {
         requires begun_u { HasBegun self.now.asked u.0 }
         ensures { result ≡ at self.now is_mate b.0 u.0 }
     {
-        self.asked.are_one_batch(b, u) && is_at_stake(self.asked.facts.history, self.t, u)
+        self.are_one_batch(b, u) && is_at_stake(self.asked.facts.history, self.t, u)
+    }
+
+    // Whether c is t, or known to have an edge.
+    fn may_lead(&self, c: Txn) -> bool
+        ensures { result ≡ may_lead self.now c.0 }
+    {
+        c == self.t || mark_at(self.marks, place_of(c)).ahead
+    }
+
+    // Whether b is t, or somebody is known to have an edge to it.
+    fn may_be_led_to(&self, b: Txn) -> bool
+        ensures { result ≡ may_be_led_to self.now b.0 }
+    {
+        b == self.t || mark_at(self.marks, place_of(b)).behind
     }
 
     /// The least edge out of b's batch: of its least member that has one, to the least that it leads to.
@@ -24,10 +49,23 @@ impl<'a> Validation<'a> {
         requires { IsAt self.now.asked b.0 }
         ensures { at self.now IsLeastEdge b.0 result }
     {
+        let known = self.known_edge_out(b);
+        match self.least_mate_behind(b) {
+            Some(c) => earlier(known, (c, self.t)),
+            None => known,
+        }
+    }
+
+    // The same by the members that are known to have an edge, and by t.
+    fn known_edge_out(&self, b: Txn) -> Option<(Txn, Txn)>
+        requires { IsAt self.now.asked b.0 }
+        ensures { at self.now IsLeastEdgeFrom (may_lead self.now) b.0 result }
+    {
         let first = self.asked.register.batches.horizon(b).0;
         for i in first - 1..self.asked.facts.history.begun() {
             let c = Txn(i + 1);
-            if self.is_mate(b, c)
+            if self.may_lead(c)
+                && self.is_mate(b, c)
                 && let Some(d) = self.least_ahead(c)
             {
                 return Some((c, d));
@@ -41,11 +79,23 @@ impl<'a> Validation<'a> {
         requires { IsAt self.now.asked c.0 }
         ensures { IsLeast (at self.now Reaches c.0) result }
     {
+        let known = self.known_into(c);
+        match self.least_mate_ahead(c) {
+            Some(_) => lesser(known, Some(self.t)),
+            None => known,
+        }
+    }
+
+    // The same by the members to whom somebody is known to have an edge, and by t.
+    fn known_into(&self, c: Txn) -> Option<Txn>
+        requires { IsAt self.now.asked c.0 }
+        ensures { IsLeast (at self.now ReachesOne (may_be_led_to self.now) c.0) result }
+    {
         let mut least = None;
         let first = self.asked.register.batches.horizon(c).0;
         for i in first - 1..self.asked.facts.history.begun() {
             let b = Txn(i + 1);
-            if self.is_mate(c, b) {
+            if self.may_be_led_to(b) && self.is_mate(c, b) {
                 least = lesser(least, self.least_behind(b));
             }
         }

@@ -7,6 +7,7 @@ mod marking;
 mod marks;
 mod near;
 mod neighbours;
+mod own_edges;
 mod pivots;
 mod readers;
 mod register;

@@ -1,4 +1,4 @@
-//! The marks of batches at the edges of a transaction that was validated.
+//! The marks at the edges of a transaction that was validated.
 
 ghost use Rattle.std.specs.Prelude.{◌≡◌, ◌≤◌, ℕ, IsTrue, length};
 ghost use Rattle.teb_history.specs.Ascending.{IsAscendingBy};
@@ -8,7 +8,7 @@ ghost use Rattle.snapshot_node.specs.Marks.{validated_txn, HaveGrown, IsTold, To
 ghost use Rattle.snapshot_node.specs.Pivots.{is_at_stake, is_across, IsAcross};
 
 use crate::asked::Asked;
-use crate::marks::{Mark, mark_edge};
+use crate::marks::{Mark, mark_edge, mark_ends, place_of};
 use crate::neighbours::is_at_stake;
 use crate::writers::from_number;
 use teb_history::Event;
@@ -24,7 +24,7 @@ pub(crate) fn validated(e: Event) -> Option<Txn>
     }
 }
 
-/// Marks the batches at both ends of each edge between t and one that is prepared or committed.
+/// Marks both ends of each edge, and their batches, between t and one that is prepared or committed.
 pub(crate) fn mark_edges(marks: &mut [Mark], asked: &Asked, t: Txn)
     requires here { IsAt asked.now t.0 }
     requires long { length (history asked.now) ≤ length marks.old }
@@ -54,10 +54,9 @@ fn mark_ahead(marks: &mut [Mark], asked: &Asked, t: Txn, among: &[Txn])
     ensures grown { HaveGrown marks.old marks.new }
     ensures told { (u : ℕ) → there asked.now IsAcross t.0 t.0 among.now u → there asked.now IsTold marks.new t.0 u }
 {
-    let batches = &asked.register.batches;
-    for u in from_number(among, batches.horizon(t)) {
+    for u in from_number(among, asked.register.batches.horizon(t)) {
         if may_be_across(asked, t, *u) {
-            mark_edge(marks, batches.start(t), batches.start(*u));
+            mark_pair(marks, asked, t, *u);
         }
     }
 }
@@ -71,12 +70,24 @@ fn mark_behind(marks: &mut [Mark], asked: &Asked, t: Txn, among: &[Txn])
     ensures grown { HaveGrown marks.old marks.new }
     ensures told { (u : ℕ) → there asked.now IsAcross t.0 t.0 among.now u → there asked.now IsTold marks.new u t.0 }
 {
-    let batches = &asked.register.batches;
-    for u in from_number(among, batches.horizon(t)) {
+    for u in from_number(among, asked.register.batches.horizon(t)) {
         if may_be_across(asked, t, *u) {
-            mark_edge(marks, batches.start(*u), batches.start(t));
+            mark_pair(marks, asked, *u, t);
         }
     }
+}
+
+// Marks an edge from u to w.
+fn mark_pair(marks: &mut [Mark], asked: &Asked, u: Txn, w: Txn)
+    requires tail { IsAt asked.now u.0 }
+    requires head { IsAt asked.now w.0 }
+    requires long { length (history asked.now) ≤ length marks.old }
+    ensures grown { HaveGrown marks.old marks.new }
+    ensures told { there asked.now IsTold marks.new u.0 w.0 }
+{
+    let batches = &asked.register.batches;
+    mark_edge(marks, batches.start(u), batches.start(w));
+    mark_ends(marks, place_of(u), place_of(w));
 }
 
 // Whether u is at stake where t was validated, and neither batch is closed before the other starts.

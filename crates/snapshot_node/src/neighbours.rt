@@ -4,7 +4,8 @@
 ghost use Rattle.std.specs.Prelude.{◌≡◌};
 ghost use Rattle.teb_history.specs.Ascending.{IsAscendingBy};
 ghost use Rattle.teb_history.specs.Live.{number_of};
-ghost use Rattle.snapshot_node.specs.Asking.{IsAt, there};
+ghost use Rattle.teb_rules.specs.Batches.{one_batch};
+ghost use Rattle.snapshot_node.specs.Asking.{HasBegun, IsAt, there};
 ghost use Rattle.snapshot_node.specs.Validating.{AreAt, IsAtStake, at};
 ghost use Rattle.snapshot_node.specs.Pivots.{is_at_stake, is_across, lesser_of, IsLeast, IsAcross, PutsAcross, Leads};
 
@@ -32,16 +33,29 @@ pub(crate) fn lesser(a: Option<Txn>, b: Option<Txn>) -> Option<Txn>
 }
 
 impl<'a> Validation<'a> {
-    /// Whether u and v meet here, and their batches are concurrent.
+    /// Whether u and v meet here, and their batches are concurrent: they are two that overlap.
     pub(crate) fn are_across(&self, u: Txn, v: Txn) -> bool
         requires left { IsAt self.now.asked u.0 }
         requires right { IsAt self.now.asked v.0 }
         ensures { result ≡ there self.now.asked is_across u.0 v.0 }
     {
-        let asked = self.asked;
-        asked.facts.meet_at(asked.register.node, u, v)
-            && !asked.is_closed_before(u, v)
-            && !asked.is_closed_before(v, u)
+        self.asked.register.batches.overlap(u, v)
+    }
+
+    /// Whether two are of one batch: where both are here, theirs start at one place.
+    pub(crate) fn are_one_batch(&self, b: Txn, c: Txn) -> bool
+        requires begun_b { HasBegun self.now.asked b.0 }
+        requires begun_c { HasBegun self.now.asked c.0 }
+        ensures { result ≡ there self.now.asked one_batch b.0 c.0 }
+    {
+        let batches = &self.asked.register.batches;
+        let Some(start) = batches.start_of(b) else {
+            return false;
+        };
+        let Some(other) = batches.start_of(c) else {
+            return false;
+        };
+        start == other
     }
 
     /// The least of some at stake that are across from u.

@@ -66,18 +66,24 @@ impl<'a> Validation<'a> {
         least
     }
 
-    // The same by an edge to t of a reader of one cell that t has put.
+    // The same by an edge to t of a reader of one cell that t has put. Of readers that follow one another in one batch it asks the
+    // first: the others are reached by the same. `last` is the last one that was asked; at first t, who has no mate across from it.
     fn least_before_by(&self, cell: Cell) -> Option<Txn>
         ensures { IsLeast (at self.now ComesInBy cell) result }
     {
         let t = self.t;
         let mut least = None;
+        let mut last = t;
         for c in from_number(
             self.asked.readers(cell),
             self.asked.register.batches.horizon(t),
         ) {
-            if is_at_stake(self.asked.facts.history, t, *c) && self.are_across(t, *c) {
+            if is_at_stake(self.asked.facts.history, t, *c)
+                && self.are_across(t, *c)
+                && !self.are_one_batch(last, *c)
+            {
                 least = lesser(least, self.least_into(*c));
+                last = *c;
             }
         }
         least

@@ -44,15 +44,13 @@ impl Snapshot {
 }
 
 impl Control for Snapshot {
-    ghost use Rattle.std.specs.Prelude.{min, ◌-◌, vec_len, vec_capacity};
-    ghost use Rattle.snapshot_node.specs.Marks.{MarkedStand};
-    ghost use Rattle.snapshot_node.specs.Stood.{room_of};
+    ghost use Rattle.snapshot_node.specs.Controls.{SnapshotStandsFor, snapshot_place, snapshot_spare};
 
-    ghost stands = { λ c S H. MarkedStand c.register.node.0 c.register.batches c.register.readers c.register.writers c.marks.items S H };
+    ghost stands = { SnapshotStandsFor };
 
-    ghost place = { λ c. c.register.node.0 };
+    ghost place = { snapshot_place };
 
-    ghost spare = { λ c. min (room_of c.register) (vec_capacity c.marks - vec_len c.marks) };
+    ghost spare = { snapshot_spare };
 
     ghost sound = { λ c S H s. s.register.orderly };
 

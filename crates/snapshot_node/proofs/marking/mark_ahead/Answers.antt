@@ -1,14 +1,10 @@
-use Rattle.std.specs.Prelude.{IsTrue}
-use Rattle.std.proofs.Common.{◌≡◌, ◌∙◌, ◌+◌, ◌<◌, ℕ, List, length, get_or, sym, ap, subst, arith}
+use Rattle.std.proofs.Common.{◌+◌, ℕ, List, sym, subst}
 use Rattle.std.proofs.lemmas.Bool.{both_ways}
 use Rattle.teb_names.specs.declared.Txn.{Txn}
-use Rattle.teb_rules.specs.Batches.{start}
 use Rattle.phase_api.specs.Told.{setup_of, events_of}
-use Rattle.phase_api.specs.Calls.{IsHere}
 use Rattle.batch_book.proofs.Telling.{joined_from}
-use Rattle.batch_book.proofs.Intervals.{start-lt}
 use Rattle.snapshot_node.specs.declared.marks.Mark.{Mark}
-use Rattle.snapshot_node.specs.Marks.{is_entered, is_left, HaveGrown, IsTold}
+use Rattle.snapshot_node.specs.Marks.{HaveGrown, IsTold}
 use Rattle.snapshot_node.specs.Pivots.{IsAcross}
 use Rattle.snapshot_node.proofs.Edges.{across_later}
 use Rattle.snapshot_node.proofs.FirstOf.{each_among}
@@ -22,31 +18,8 @@ horizon-requires c = joined_from _ (setup_of c.args.asked.now.facts.now) (events
 pub may_be_across-requires-clause-right : goal.may_be_across-requires-clause-right
 may_be_across-requires-clause-right c = c.requires.among_here _ (each_among (record { 0 = 0 }) c.args.among.now c.from_number-u-items.result.now c.horizon.result.0 c.from_number-u-items.ensures c.loop-u.u-index c.loop-u-test.true)
 
-pub start-requires : goal.start-requires
-start-requires c = joined_from _ (setup_of c.args.asked.now.facts.now) (events_of c.args.asked.now.facts.now) c.args.asked.now.register.now.node.0 c.args.t.0 c.args.asked.now.stands.batches c.requires.here.typed.begun c.requires.here.on
-
-pub start-requires-then-may_be_across : goal.start-requires-then-may_be_across
-start-requires-then-may_be_across c = let h = c.requires.among_here _ (each_among (record { 0 = 0 }) c.args.among.now c.from_number-u-items.result.now c.horizon.result.0 c.from_number-u-items.ensures c.loop-u.u-index c.loop-u-test.true) in joined_from _ (setup_of c.args.asked.now.facts.now) (events_of c.args.asked.now.facts.now) c.args.asked.now.register.now.node.0 _ c.args.asked.now.stands.batches h.typed.begun h.on
-
-pub mark_edge-requires-clause-from : goal.mark_edge-requires-clause-from
-mark_edge-requires-clause-from c =
-    let S = setup_of c.args.asked.now.facts.now in
-    let H = events_of c.args.asked.now.facts.now in
-    let n = c.args.asked.now.register.now.node.0 in
-    let t = c.args.t.0 in
-    let e = c.start.ensures S H n c.args.asked.now.stands.batches in
-    let l = start-lt S H n _ c.requires.here.typed.begun in
-    omega (arith, e, l, c.requires.long, c.loop-u.invariant.grown.long)
-
-pub mark_edge-requires-clause-to : goal.mark_edge-requires-clause-to
-mark_edge-requires-clause-to c =
-    let S = setup_of c.args.asked.now.facts.now in
-    let H = events_of c.args.asked.now.facts.now in
-    let n = c.args.asked.now.register.now.node.0 in
-    let t = c.args.t.0 in
-    let e = c.start-then-may_be_across.ensures S H n c.args.asked.now.stands.batches in
-    let l = start-lt S H n _ (let h = c.requires.among_here _ (each_among (record { 0 = 0 }) c.args.among.now c.from_number-u-items.result.now c.horizon.result.0 c.from_number-u-items.ensures c.loop-u.u-index c.loop-u-test.true) in h.typed.begun) in
-    omega (arith, e, l, c.requires.long, c.loop-u.invariant.grown.long)
+pub mark_pair-requires-clause-head : goal.mark_pair-requires-clause-head
+mark_pair-requires-clause-head c = c.requires.among_here _ (each_among (record { 0 = 0 }) c.args.among.now c.from_number-u-items.result.now c.horizon.result.0 c.from_number-u-items.ensures c.loop-u.u-index c.loop-u-test.true)
 
 pub loop-u-preserved : goal.loop-u-preserved
 loop-u-preserved c =
@@ -61,14 +34,11 @@ loop-u-preserved c =
     let i = c.loop-u.u-index in
     let m = c.loop-u.marks in
     elim c.if-may_be_across.branch [
-      | then-may_be_across w ↦ (let k = w.mark_edge.new.marks in
-          let g = w.mark_edge.ensures.grown in
+      | then-may_be_across w ↦ (let k = w.mark_pair.new.marks in
+          let g = w.mark_pair.ensures.grown in
           subst (λ (ms : List Mark). record { grown : HaveGrown c.args.marks.now ms; told : EachBefore P (R ms) d xs (i + 1) }) (sym w.marks-is) (record {
             grown = grown_then c.args.marks.now m k c.loop-u.invariant.grown g;
-            told = each_more P (R k) d xs i (each_grown P (R m) (R k) d xs i (λ u y. told_still S H n m k t u g y) c.loop-u.invariant.told) (λ p. record {
-              left = subst (λ (z : ℕ). IsTrue (is_left k z)) (w.start.ensures S H n c.args.asked.now.stands.batches) w.mark_edge.ensures.left;
-              entered = subst (λ (z : ℕ). IsTrue (is_entered k z)) (w.start-then-may_be_across.ensures S H n c.args.asked.now.stands.batches) w.mark_edge.ensures.entered;
-            });
+            told = each_more P (R k) d xs i (each_grown P (R m) (R k) d xs i (λ u y. told_still S H n m k t u g y) c.loop-u.invariant.told) (λ p. w.mark_pair.ensures.told);
           }))
       | else-may_be_across w ↦ subst (λ (ms : List Mark). record { grown : HaveGrown c.args.marks.now ms; told : EachBefore P (R ms) d xs (i + 1) }) (sym w.marks-is) (record {
         grown = c.loop-u.invariant.grown;

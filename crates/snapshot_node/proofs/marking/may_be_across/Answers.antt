@@ -1,4 +1,4 @@
-use Rattle.std.proofs.Common.{◌≡◌, ◌∙◌, true, false, not, sym, ap}
+use Rattle.std.proofs.Common.{◌≡◌, ◌∙◌, true, not, ap}
 use Rattle.std.proofs.lemmas.Bool.{both_ways}
 use Rattle.phase_api.specs.Told.{setup_of, events_of}
 use Rattle.snapshot_node.proofs.Grown.{open_both}

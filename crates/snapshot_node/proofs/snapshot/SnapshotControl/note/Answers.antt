@@ -1,4 +1,4 @@
-use Rattle.std.proofs.Common.{◌≡◌, ◌∙◌, ◌∷◌, ◌++◌, [], ℕ, List, Some, true, sym, ap, subst, drop, take, length, arith}
+use Rattle.std.proofs.Common.{◌≡◌, ◌∙◌, ◌∷◌, ◌++◌, [], ℕ, List, Some, sym, ap, subst, drop, take, length, arith}
 use Rattle.std.proofs.Math.Seq.{take-append_seam}
 use Rattle.teb_names.specs.declared.Node.{Node}
 use Rattle.teb_names.specs.declared.Txn.{Txn}

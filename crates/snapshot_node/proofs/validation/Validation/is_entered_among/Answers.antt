@@ -1,6 +1,5 @@
 use Rattle.std.proofs.Common.{◌∙◌, sym, ap}
 use Rattle.std.proofs.lemmas.Bool.{both_ways}
-use Rattle.teb_names.specs.declared.Txn.{Txn}
 use Rattle.phase_api.specs.Told.{setup_of, events_of}
 use Rattle.batch_book.proofs.Telling.{joined_from}
 use Rattle.snapshot_node.specs.declared.marks.Mark.{Mark}

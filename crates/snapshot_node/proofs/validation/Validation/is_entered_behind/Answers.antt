@@ -1,20 +1,16 @@
 use Rattle.std.specs.Prelude.{IsTrue}
-use Rattle.std.proofs.Common.{◌∙◌, ◌∷◌, ℕ, List, ap, sym, subst}
-use Rattle.teb_names.specs.declared.Txn.{Txn}
-use Rattle.teb_history.specs.declared.Event.{Event}
-use Rattle.teb_history.specs.declared.Event.TheVariants.{Got, Put}
+use Rattle.std.proofs.Common.{◌∙◌, ℕ, sym, subst}
 use Rattle.teb_history.specs.Ascending.{IsAscendingBy}
 use Rattle.teb_history.specs.Live.{number_of}
 use Rattle.teb_history.specs.OwnEvents.{own_events}
-use Rattle.teb_history.specs.Phases.{committed, unfinished}
 use Rattle.teb_laws.proofs.Sound.{tree_facts}
 use Rattle.batch_book.proofs.Numbered.{unfinished_parts}
 use Rattle.phase_api.specs.Told.{setup_of, events_of}
-use Rattle.snapshot_node.specs.Pivots.{AreHere, IsAcross, Leads}
-use Rattle.snapshot_node.specs.Validating.{is_marked_left, is_marked_entered}
-use Rattle.snapshot_node.proofs.Listed.{writers_ascend, writers_here, readers_ascend, readers_here}
-use Rattle.snapshot_node.proofs.CellEdges.{Ahead, Behind, only_gots, only_puts, leads_ahead, leads_behind, either_across}
-use Rattle.snapshot_node.proofs.Covers.{covers_start, covers_next, covers_end}
+use Rattle.snapshot_node.specs.Pivots.{AreHere}
+use Rattle.snapshot_node.specs.Validating.{is_marked_entered}
+use Rattle.snapshot_node.proofs.Listed.{readers_ascend, readers_here}
+use Rattle.snapshot_node.proofs.CellEdges.{Behind, leads_behind}
+use Rattle.snapshot_node.proofs.Covers.{covers_start, covers_end}
 use Rattle.snapshot_node.proofs.validation.Validation.is_entered_behind.Goals as goal
 
 pub loop-event-init : goal.loop-event-init

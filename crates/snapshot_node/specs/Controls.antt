@@ -1,0 +1,17 @@
+-- What a snapshot control shows of itself.
+use Rattle.std.specs.Prelude.{ℕ, min, ◌-◌, vec_len, vec_capacity, List}
+use Rattle.teb_history.specs.declared.Event.{Event}
+use Rattle.teb_rules.specs.Setup.{Setup}
+use Rattle.snapshot_node.specs.Stood.{room_of}
+use Rattle.snapshot_node.specs.Marks.{MarkedStand}
+use Rattle.snapshot_node.specs.declared.snapshot.Snapshot.{Snapshot}
+
+-- for which setup and history it stands, the number of its node, and for how many events it has room
+abbrev pub SnapshotStandsFor : Snapshot → Setup → List Event → Type 0
+SnapshotStandsFor c S H = MarkedStand c.register.node.0 c.register.batches c.register.readers c.register.writers c.marks.items S H
+
+abbrev pub snapshot_place : Snapshot → ℕ
+snapshot_place c = c.register.node.0
+
+abbrev pub snapshot_spare : Snapshot → ℕ
+snapshot_spare c = min (room_of c.register) (vec_capacity c.marks - vec_len c.marks)

@@ -1,0 +1,78 @@
+//! Edges between the transaction that validates and the members of a batch.
+
+ghost use Rattle.std.specs.Prelude.{IsTrue};
+ghost use Rattle.teb_history.specs.Ascending.{IsAscendingBy};
+ghost use Rattle.teb_history.specs.Live.{number_of};
+ghost use Rattle.snapshot_node.specs.Asking.{IsAt};
+ghost use Rattle.snapshot_node.specs.Pivots.{IsLeast, IsMateAmong, IsMateByPut, EntersAt, Leaves};
+ghost use Rattle.snapshot_node.specs.Validating.{AreAt, at};
+
+use crate::neighbours::{is_at_stake, lesser};
+use crate::validation::Validation;
+use crate::writers::from_number;
+use teb_history::Event;
+use teb_names::{Cell, Txn};
+
+impl<'a> Validation<'a> {
+    /// The least member of b's batch that has an edge to t.
+    pub(crate) fn least_mate_behind(&self, b: Txn) -> Option<Txn>
+        requires { IsAt self.now.asked b.0 }
+        ensures { IsLeast (λ c. at self.now Leaves b.0 c self.now.t.0) result }
+    {
+        let mut least = None;
+        for event in self.asked.facts.history.own_events(self.t) {
+            if let Event::Put { cell, .. } = event {
+                let readers = self.asked.readers(cell);
+                least = lesser(least, self.first_mate_across(b, readers));
+            }
+        }
+        least
+    }
+
+    /// The least member of b's batch to whom t has an edge.
+    pub(crate) fn least_mate_ahead(&self, b: Txn) -> Option<Txn>
+        requires { IsAt self.now.asked b.0 }
+        ensures { IsLeast (at self.now EntersAt b.0) result }
+    {
+        let mut least = None;
+        for event in self.asked.facts.history.own_events(self.t) {
+            if let Event::Got { cell, .. } = event {
+                least = lesser(least, self.mate_writer(b, cell));
+            }
+        }
+        least
+    }
+
+    // The least at stake that has put a cell, is across from t, and of b's batch.
+    fn mate_writer(&self, b: Txn, cell: Cell) -> Option<Txn>
+        requires { IsAt self.now.asked b.0 }
+        ensures { IsLeast (at self.now IsMateByPut b.0 cell) result }
+    {
+        let committed = self.first_mate_across(
+            b,
+            self.asked.register.committed(self.asked.facts, cell),
+        );
+        lesser(
+            committed,
+            self.first_mate_across(b, self.asked.unfinished(cell)),
+        )
+    }
+
+    // The least of some at stake that are across from t, and of b's batch.
+    fn first_mate_across(&self, b: Txn, among: &[Txn]) -> Option<Txn>
+        requires here { IsAt self.now.asked b.0 }
+        requires ascending { IsAscendingBy number_of among.now }
+        requires among_here { AreAt self.now among.now }
+        ensures { IsLeast (at self.now IsMateAmong b.0 among.now) result }
+    {
+        for u in from_number(among, self.asked.register.batches.horizon(self.t)) {
+            if self.are_one_batch(b, *u)
+                && is_at_stake(self.asked.facts.history, self.t, *u)
+                && self.are_across(self.t, *u)
+            {
+                return Some(*u);
+            }
+        }
+        None
+    }
+}
