@@ -1,34 +1,33 @@
 -- The control of a node, of any kind.
-use Rattle.std.specs.Prelude.{ℕ, min, ◌-◌, vec_len, vec_capacity, List}
+use Rattle.std.specs.Prelude.{ℕ, List}
 use Rattle.teb_history.specs.declared.Event.{Event}
 use Rattle.teb_rules.specs.Setup.{Setup}
 use Rattle.phase_api.specs.Told.{IsOrderly}
-use Rattle.nexus_locks.specs.Standing.{LocksStand}
-use Rattle.runtime_pipeline.specs.Standing.{PipelineStands}
-use Rattle.timestamp_node.specs.Standing.{StampsStand}
-use Rattle.snapshot_node.specs.Marks.{MarkedStand}
-use Rattle.snapshot_node.specs.Stood.{room_of}
+use Rattle.nexus_locks.specs.Controls.{LocksStandFor, locks_place, locks_spare}
+use Rattle.runtime_pipeline.specs.Standing.{PipelineStands, pipeline_place, pipeline_spare}
+use Rattle.timestamp_node.specs.Controls.{StampsStandFor, stamps_place, stamps_spare}
+use Rattle.snapshot_node.specs.Controls.{SnapshotStandsFor, snapshot_place, snapshot_spare}
 use Rattle.engine_core.specs.declared.any_control.AnyControl.{AnyControl}
 use Rattle.engine_core.specs.declared.any_control.AnyControl.TheVariants.{Locks, Pipeline, Timestamp, Snapshot}
 
 -- for which setup and history it stands, its node, and for how many events it has room
 abbrev pub any_stands : AnyControl → Setup → List Event → Type 0
-any_stands (Locks c) S H = LocksStand c.register.node.0 c.register.book S H
-any_stands (Pipeline c) S H = PipelineStands c.register.node.0 c.register.book c.ranks c.cursors.cursors S H
-any_stands (Timestamp c) S H = StampsStand c.node.0 c.ordered c.batches c.reads S H
-any_stands (Snapshot c) S H = MarkedStand c.register.node.0 c.register.batches c.register.readers c.register.writers c.marks.items S H
+any_stands (Locks c) S H = LocksStandFor c S H
+any_stands (Pipeline c) S H = PipelineStands c S H
+any_stands (Timestamp c) S H = StampsStandFor c S H
+any_stands (Snapshot c) S H = SnapshotStandsFor c S H
 
 abbrev pub any_place : AnyControl → ℕ
-any_place (Locks c) = c.register.node.0
-any_place (Pipeline c) = c.register.node.0
-any_place (Timestamp c) = c.node.0
-any_place (Snapshot c) = c.register.node.0
+any_place (Locks c) = locks_place c
+any_place (Pipeline c) = pipeline_place c
+any_place (Timestamp c) = stamps_place c
+any_place (Snapshot c) = snapshot_place c
 
 abbrev pub any_spare : AnyControl → ℕ
-any_spare (Locks c) = c.register.book.spare
-any_spare (Pipeline c) = min c.register.book.spare c.cursors.spare
-any_spare (Timestamp c) = min c.batches.spare c.reads.spare
-any_spare (Snapshot c) = min (room_of c.register) (vec_capacity c.marks - vec_len c.marks)
+any_spare (Locks c) = locks_spare c
+any_spare (Pipeline c) = pipeline_spare c
+any_spare (Timestamp c) = stamps_spare c
+any_spare (Snapshot c) = snapshot_spare c
 
 -- the history for which it stands is orderly
 pub any_orderly : (c : AnyControl) (S : Setup) (H : List Event) → any_stands c S H → IsOrderly S H

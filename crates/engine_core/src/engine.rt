@@ -11,9 +11,8 @@ ghost use Rattle.dependency_book.specs.Books.{BookOf};
 ghost use Rattle.tree_toml.specs.Seen.{setup_view};
 ghost use Rattle.tree_toml.specs.Sound.{IsWhole};
 ghost use Rattle.engine_core.specs.Stores.{store_of};
-ghost use Rattle.engine_core.specs.AnyControls.{any_place, any_stands};
-ghost use Rattle.engine_core.specs.State.{IsOfEngine};
-ghost use Rattle.engine_core.specs.Wholes.{KernelIsWhole};
+ghost use Rattle.engine_core.specs.AnyControls.{any_place, any_spare, any_stands};
+ghost use Rattle.engine_core.specs.State.{IsEngine, IsOfEngine};
 
 use crate::any_control::{AnyControl, controls_of};
 use crate::carry_out::carry_out;
@@ -32,7 +31,7 @@ use version_chain::Chains;
 /// newest first, and whether there is room for an answer.
 #[derive(Drop)]
 pub struct Engine<C: Chains> {
-    kernel: Kernel<AnyControl, C>,
+    kernel: Box<Kernel<AnyControl, C>>,
     ready: bool,
 }
 
@@ -43,9 +42,9 @@ impl<C: Chains> Model for Engine<C> {
 
     ghost Value = { State };
 
-    ghost view = { λ e. record { store = store_of e.kernel.setup; names = e.kernel.setup.names; events = e.kernel.history.events; ready = e.ready } };
+    ghost view = { λ e. record { store = store_of e.kernel.value.setup; names = e.kernel.value.setup.names; events = e.kernel.value.history.events; ready = e.ready } };
 
-    ghost invariant = { λ e. IsEngine any_place any_stands any_spare C.lists C.spare e.kernel e.ready };
+    ghost invariant = { λ e. IsEngine any_place any_stands any_spare C.lists C.spare e.kernel.value e.ready };
 }
 
 impl<C: Chains> Engine<C> {
@@ -58,8 +57,9 @@ impl<C: Chains> Engine<C> {
         ensures events { IfOk result (λ e. e.events ≡ []) }
         ensures ready { IfOk result (λ e. e.ready ≡ false) }
     {
+        let kernel = new_kernel(alloc, setup, chains)?;
         Ok(Engine {
-            kernel: new_kernel(alloc, setup, chains)?,
+            kernel: Box::new(alloc, kernel)?,
             ready: false,
         })
     }
@@ -90,8 +90,7 @@ impl<C: Chains> Engine<C> {
         ensures ready { self.new.ready ≡ false }
     {
         self.ready = false;
-        let decision = self.kernel.decide(session, request);
-        carry_out(decision, &mut self.kernel)
+        answer_in(&mut self.kernel, session, request)
     }
 
     /// What has happened so far: a history of the store to which requests lead, each event of which the rules granted.
@@ -138,8 +137,24 @@ impl<C: Chains> Engine<C> {
     pub fn into_history(self) -> History
         ensures { result.events ≡ self.events }
     {
-        self.kernel.history
+        Box::into_inner(self.kernel).history
     }
+}
+
+/// Answers a request by what an engine keeps. It uses up the room, and takes no memory.
+fn answer_in<C: Chains>(
+    kernel: &mut Kernel<AnyControl, C>,
+    session: Session,
+    request: Request,
+) -> Reply
+    requires { IsEngine any_place any_stands any_spare C.lists C.spare kernel.old true }
+    ensures kept { IsEngine any_place any_stands any_spare C.lists C.spare kernel.new false }
+    ensures setup { kernel.new.setup ≡ kernel.old.setup }
+    ensures reply { result ≡ (answer (store_of kernel.old.setup) kernel.old.history.events session request).0 }
+    ensures events { kernel.new.history.events ≡ (answer (store_of kernel.old.setup) kernel.old.history.events session request).1 }
+{
+    let decision = kernel.decide(session, request);
+    carry_out(decision, kernel)
 }
 
 /// What an engine keeps of an empty history.
@@ -150,7 +165,7 @@ fn new_kernel<C: Chains>(
 ) -> Result<Kernel<AnyControl, C>, AllocError>
     requires setup { IsWhole (setup_view setup) }
     requires chains { (x : Cell) → C.lists chains x ≡ [] }
-    ensures whole { IfOk result (λ k. KernelIsWhole any_place any_stands C.lists k) }
+    ensures kept { IfOk result (λ k. IsEngine any_place any_stands any_spare C.lists C.spare k false) }
     ensures events { IfOk result (λ k. k.history.events ≡ []) }
     ensures setup { IfOk result (λ k. k.setup ≡ setup) }
 {

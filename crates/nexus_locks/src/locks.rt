@@ -65,13 +65,13 @@ impl Locks {
 }
 
 impl Control for Locks {
-    ghost use Rattle.nexus_locks.specs.Standing.{LocksStand};
+    ghost use Rattle.nexus_locks.specs.Controls.{LocksStandFor, locks_place, locks_spare};
 
-    ghost stands = { λ c S H. LocksStand c.register.node.0 c.register.book S H };
+    ghost stands = { LocksStandFor };
 
-    ghost place = { λ c. c.register.node.0 };
+    ghost place = { locks_place };
 
-    ghost spare = { λ c. c.register.book.spare };
+    ghost spare = { locks_spare };
 
     ghost sound = { λ c S H s. s.register.orderly };
 

@@ -11,7 +11,7 @@ use Rattle.teb_laws.proofs.Positions.{first-le}
 use Rattle.std.specs.Prelude.{IfSome}
 use Rattle.teb_names.specs.declared.Spot.{Spot}
 use Rattle.teb_names.specs.declared.Node.{Node}
-use Rattle.teb_names.specs.declared.ControlKind.TheVariants.{Timestamp, Snapshot}
+use Rattle.teb_names.specs.declared.ControlKind.TheVariants.{Snapshot}
 use Rattle.teb_history.specs.Phases.{spot_of}
 use Rattle.teb_rules.specs.Tree.{row, path, on_path}
 use Rattle.teb_rules.specs.Ranks.{key, rank, rank_by, has_edge_out}
@@ -56,12 +56,6 @@ among-at (n ∷ ns) (suc i) d h = or_right (eqb n (get_or ns i d)) (among (get_o
 pub book_there : (S : Setup) (H : List Event) (books : List Book) (n i : ℕ) (b : Book) → AreBooks S H books → i ≡ n → b ≡ get_or books i b → n < length S.tree → has_batches S.tree n ≡ true → BatchesOf b S H n
 book_there S H books n i b r e q low has =
     subst (λ (c : Book). BatchesOf c S H n) (sym (q ∙ ap (λ (j : ℕ). get_or books j b) e)) (r.hold n b (let z = r.one_each in omega arith) has)
-
-pub timestamp_has : (S : Setup) (n : ℕ) → (row S.tree n).control ≡ Timestamp → has_batches S.tree n ≡ true
-timestamp_has S n e = rw e refl
-
-pub snapshot_has : (S : Setup) (n : ℕ) → (row S.tree n).control ≡ Snapshot → has_batches S.tree n ≡ true
-snapshot_has S n e = rw e refl
 
 -- the rank at a snapshot node
 pub snapshot_start : (S : Setup) (H : List Event) (n t : ℕ) → (row S.tree n).control ≡ Snapshot → has_edge_out S H n t ≡ true → start S H n t ≡ rank S H n t

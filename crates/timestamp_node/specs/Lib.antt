@@ -1,3 +1,4 @@
 pub mod Reads
 pub mod Late
 pub mod Standing
+pub mod Controls

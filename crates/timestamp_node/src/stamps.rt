@@ -189,14 +189,13 @@ fn is_at_most<C: Chains>(
 }
 
 impl Control for Stamps {
-    ghost use Rattle.std.specs.Prelude.{min};
-    ghost use Rattle.timestamp_node.specs.Standing.{StampsStand};
+    ghost use Rattle.timestamp_node.specs.Controls.{StampsStandFor, stamps_place, stamps_spare};
 
-    ghost stands = { λ c S H. StampsStand c.node.0 c.ordered c.batches c.reads S H };
+    ghost stands = { StampsStandFor };
 
-    ghost place = { λ c. c.node.0 };
+    ghost place = { stamps_place };
 
-    ghost spare = { λ c. min c.batches.spare c.reads.spare };
+    ghost spare = { stamps_spare };
 
     ghost sound = { λ c S H s. s.orderly };
 

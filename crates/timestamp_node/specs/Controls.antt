@@ -1,0 +1,16 @@
+-- What a timestamp control shows of itself.
+use Rattle.std.specs.Prelude.{ℕ, min, List}
+use Rattle.teb_history.specs.declared.Event.{Event}
+use Rattle.teb_rules.specs.Setup.{Setup}
+use Rattle.timestamp_node.specs.Standing.{StampsStand}
+use Rattle.timestamp_node.specs.declared.stamps.Stamps.{Stamps}
+
+-- for which setup and history it stands, the number of its node, and for how many events it has room
+abbrev pub StampsStandFor : Stamps → Setup → List Event → Type 0
+StampsStandFor c S H = StampsStand c.node.0 c.ordered c.batches c.reads S H
+
+abbrev pub stamps_place : Stamps → ℕ
+stamps_place c = c.node.0
+
+abbrev pub stamps_spare : Stamps → ℕ
+stamps_spare c = min c.batches.spare c.reads.spare
