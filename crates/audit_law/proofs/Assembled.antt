@@ -15,6 +15,7 @@ use Rattle.teb_rules.specs.Setup.{Store}
 use Rattle.teb_laws.specs.Lawful.{Lawful}
 use Rattle.teb_laws.specs.TreeFacts.{TreeFacts}
 use Rattle.script_text.specs.Named.{CellNamed}
+use Rattle.script_text.specs.Ranges.{TxnFits}
 use Rattle.audit_check.specs.Audit.{IsAudited, first_line, fault_in, fault_of}
 use Rattle.audit_check.specs.Faults.{wrong_txn, wrong_order, wrong_after, wrong_read, wrong_row}
 use Rattle.audit_check.specs.Items.{Item, Place}
@@ -62,7 +63,7 @@ no_fault : (W : List Item) → first_line wrong_txn W ≡ None → first_line (w
 unfolding fault_in
 no_fault W t o a r w = rw (t, o, a, r, w)
 
-module _ (names : NameBook) (X : Store) (a : TreeFacts X.setup) (H : List Event) (order : List Txn) (rows : List (Cell × ℤ)) (can : CanPrint names X.rows H order rows)
+module _ (names : NameBook) (X : Store) (a : TreeFacts X.setup) (H : List Event) (order : List Txn) (rows : List (Cell × ℤ)) (can : CanPrint names X.rows H) (order_fits : All TxnFits order) (rows_fit : All (RowFits names) rows)
     (l : Lawful X.setup H) (ser : Serializes X H (map (λ t. t.0) order)) (first : Apart X.rows) (last : Apart rows) (final : (x : Cell) → row_of rows x ≡ final_table X H x) where
   abbrev ts : List ℕ
   ts = map (λ t. t.0) order
@@ -83,7 +84,7 @@ module _ (names : NameBook) (X : Store) (a : TreeFacts X.setup) (H : List Event)
   start_fit = All-reverse (RowFits names) X.rows can.starts_fit
 
   row_fit : All (RowFits names) (reverse rows)
-  row_fit = All-reverse (RowFits names) rows can.rows_fit
+  row_fit = All-reverse (RowFits names) rows rows_fit
 
   -- tables
   starting : Agree names can.names_differ (starts_in Q) (row_of X.rows)
@@ -174,17 +175,17 @@ module _ (names : NameBook) (X : Store) (a : TreeFacts X.setup) (H : List Event)
       all_fit_append [] (map start_item X.rows) (map (event_item names) (reverse H) ++ (Order ts ∷ (map row_item rows ++ End ∷ []))) (starts_fit names can.names_differ X.rows can.starts_fit first)
       (all_fit_append begun (map (event_item names) (reverse H)) (Order ts ∷ (map row_item rows ++ End ∷ []))
       (events_fit names can.names_differ (reverse H) begun (part_of_starts names can.names_differ X.rows [] (omega arith)))
-      (report_fits names can.names_differ ts rows told can.rows_fit last
+      (report_fits names can.names_differ ts rows told rows_fit last
       (part_of_events names can.names_differ (reverse H) begun (part_of_starts names can.names_differ X.rows [] (omega arith)))
       (fresh_rows names can.names_differ rows told (no_row_events names can.names_differ (reverse H) begun (no_row_starts names can.names_differ X.rows [] (λ x. refl))))))
 
   read_back : items_of (printed_run names X.rows H order rows) ≡ Ok W
   read_back =
       let events = All-reverse (EventFits names) H can.events_fit in
-      ap items_of (sym (text_is names can.names_are X.rows (reverse H) order rows can.starts_fit events can.order_fits can.rows_fit))
+      ap items_of (sym (text_is names can.names_are X.rows (reverse H) order rows can.starts_fit events order_fits rows_fit))
       ∙ text_back (lines_of names can.names_are X.rows (reverse H) order rows) said
-      (all_words names can.names_are X.rows (reverse H) order rows can.starts_fit events can.order_fits can.rows_fit)
-      (lines_say names can.names_are X.rows (reverse H) order rows can.starts_fit events can.order_fits can.rows_fit)
+      (all_words names can.names_are X.rows (reverse H) order rows can.starts_fit events order_fits rows_fit)
+      (lines_say names can.names_are X.rows (reverse H) order rows can.starts_fit events order_fits rows_fit)
       fits (ap part_after whole)
       ∙ ap (λ (is : List Item). Ok is) whole
 

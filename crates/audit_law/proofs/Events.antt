@@ -16,7 +16,8 @@ use Rattle.teb_history.specs.declared.Event.TheVariants as event
 use Rattle.script_text.specs.Texts.{name_of, event_words, cause_words, instance_words, cell_words, txn_text}
 use Rattle.script_text.specs.Names.{is_name}
 use Rattle.script_text.specs.Named.{NodeNamed}
-use Rattle.audit_law.specs.Printed.{AreNames, TxnFits, IntegerFits, RowFits, CellFits, CauseFits, EventFits, place_of, event_item}
+use Rattle.script_text.specs.Ranges.{TxnFits, IntegerFits}
+use Rattle.audit_law.specs.Printed.{AreNames, RowFits, CellFits, CauseFits, EventFits, place_of, event_item}
 use Rattle.audit_check.specs.Items.{Item, Place}
 use Rattle.audit_check.specs.Items.Item.{Start, Began, Order, Row, End}
 use Rattle.audit_check.specs.Lines.{item_of, words_of}

@@ -7,6 +7,7 @@ pub mod Behind
 pub mod Bridge
 pub mod Digits
 pub mod Events
+pub mod Fitting
 pub mod FormLaw
 pub mod Formed
 pub mod Laws
@@ -15,6 +16,7 @@ pub mod Orders
 pub mod Pieces
 pub mod Places
 pub mod ReadLaw
+pub mod Reported
 pub mod RowLaw
 pub mod Suffixes
 pub mod TextLaw

@@ -11,7 +11,8 @@ use Rattle.teb_names.specs.declared.Cell.{Cell}
 use Rattle.teb_names.specs.declared.naming.NameBook.{NameBook}
 use Rattle.script_text.specs.Texts.{name_of, txn_text, value_text}
 use Rattle.script_text.specs.Names.{is_name, is_name_byte, is_lower}
-use Rattle.audit_law.specs.Printed.{TxnFits, IntegerFits, ValueFits, place_of}
+use Rattle.script_text.specs.Ranges.{TxnFits, IntegerFits, ValueFits}
+use Rattle.audit_law.specs.Printed.{place_of}
 use Rattle.audit_check.specs.Reading.{txn_at, name_at, place_at, value_at, number_at, from_one}
 use Rattle.audit_law.proofs.Words.{is_plain, is_word}
 use Rattle.audit_law.proofs.Digits.{natural_back, integer_back, first_is_digit, number_is_word, integer_is_word}

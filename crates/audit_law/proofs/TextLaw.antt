@@ -13,10 +13,11 @@ use Rattle.teb_names.specs.declared.Txn.{Txn}
 use Rattle.teb_names.specs.declared.naming.NameBook.{NameBook}
 use Rattle.teb_history.specs.declared.Event.{Event}
 use Rattle.script_text.specs.Texts.{Words, line_text, cell_words, event_words, event_text, txn_text, rows_text, starts_text, report_text}
+use Rattle.script_text.specs.Ranges.{TxnFits}
 use Rattle.audit_check.specs.Items.{Item}
 use Rattle.audit_check.specs.Items.Item.{Start, Order, Row, End}
 use Rattle.audit_check.specs.Lines.{item_of}
-use Rattle.audit_law.specs.Printed.{AreNames, TxnFits, RowFits, EventFits, place_of, event_item}
+use Rattle.audit_law.specs.Printed.{AreNames, RowFits, EventFits, place_of, event_item}
 use Rattle.audit_law.proofs.Events.{event_line_back, start_line_back, row_line_back, order_line_back, end_line_back, event_are_words, row_are_words, txns_are_words}
 use Rattle.audit_law.proofs.Texts.{Say, are_words}
 

@@ -18,20 +18,18 @@ use Rattle.audit_check.specs.Items.{Item}
 use Rattle.audit_check.specs.Lines.{items_of}
 use Rattle.audit_check.specs.Standings.{committed}
 use Rattle.audit_check.specs.Tables.{order_in}
-use Rattle.audit_law.specs.Printed.{AreNames, TxnFits, RowFits, EventFits}
+use Rattle.audit_law.specs.Printed.{AreNames, RowFits, EventFits}
 
 -- the starting rows, the events of a history from the oldest on, and the report
 abbrev pub printed_run : NameBook → List (Cell × ℤ) → List Event → List Txn → List (Cell × ℤ) → List ℕ
 printed_run names starts H order rows = starts_text names starts ++ (flat_map (event_text names) (reverse H) ++ report_text names order rows)
 
 -- the numbers are of their types, and what is named has a name of its own
-pub record CanPrint (names : NameBook) (starts : List (Cell × ℤ)) (H : List Event) (order : List Txn) (rows : List (Cell × ℤ)) : Type 0 where
+pub record CanPrint (names : NameBook) (starts : List (Cell × ℤ)) (H : List Event) : Type 0 where
   pub names_are : AreNames names
   pub names_differ : IsDistinct bytes_eq names.tables
   pub starts_fit : All (RowFits names) starts
   pub events_fit : All (EventFits names) H
-  pub order_fits : All TxnFits order
-  pub rows_fit : All (RowFits names) rows
 
 -- the serial order of the history, and the rows of its final table, in ascending order of cells
 pub record Reports (X : Store) (H : List Event) (order : List Txn) (rows : List (Cell × ℤ)) : Type 0 where
@@ -42,7 +40,7 @@ pub record Reports (X : Store) (H : List Event) (order : List Txn) (rows : List 
 -- whatever is asked of an accepted tree, the run that is printed is audited
 abbrev pub PrintedRunsAreAudited : Type 0
 PrintedRunsAreAudited = OfEveryStore (λ X H. (names : NameBook) (order : List Txn) (rows : List (Cell × ℤ))
-    → IsAscending X.rows → CanPrint names X.rows H order rows → Reports X H order rows → IsAudited (printed_run names X.rows H order rows))
+    → IsAscending X.rows → CanPrint names X.rows H → Reports X H order rows → IsAudited (printed_run names X.rows H order rows))
 
 -- where a text has its form and its order is right, the order lists the transactions that commit
 abbrev pub OrdersListTheCommitted : Type 0

@@ -1,1 +1,2 @@
 mod Parsed
+pub mod FewLines

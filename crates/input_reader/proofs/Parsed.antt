@@ -14,8 +14,7 @@ use Rattle.script_text.specs.Input.{parts_of}
 use Rattle.script_text.specs.Lines.{lines_of}
 use Rattle.script_text.specs.Grammar.{script_of, Answers}
 use Rattle.tree_toml.specs.Meaning.{Meaning, setup_of}
-use Rattle.input_reader.specs.declared.error.InputError.{InputError}
-use Rattle.input_reader.specs.declared.error.InputError.TheVariants.{ReadFault, TooLong, NoSeparator, BadTree, BadLine, OutOfMemory}
+use Rattle.input_reader.specs.declared.error.InputError.TheVariants.{ReadFault, TooLong, BadLine, OutOfMemory}
 use Rattle.input_reader.specs.Inputs.{input_of, task_of, task_under, script_error}
 use Rattle.input_reader.specs.Reads.{read_error}
 use Rattle.input_reader.specs.Readings.{AreOf, AreReadFrom, IsRead, IsReadFrom}
@@ -61,13 +60,3 @@ pub is_unread : (left now : Option (List ℕ)) (e : ReadError) → AreReadFrom l
 is_unread left now read.ReadFault t = tt
 is_unread left now read.TooLong t = (t.0, t.1, too_many t.0 t.2)
 is_unread left now read.OutOfMemory t = tt
-
--- the bytes that were read are the input's
-pub is_read_from : (left now : Option (List ℕ)) (bytes : List ℕ) (r : Result Task InputError) → AreOf left now bytes → IsRead r (input_of bytes) → IsReadFrom left now r
-is_read_from left now bytes (Ok task) of is = (bytes, of, is)
-is_read_from left now bytes (Err ReadFault) of is = tt
-is_read_from left now bytes (Err TooLong) of is = (bytes, of, is)
-is_read_from left now bytes (Err NoSeparator) of is = (bytes, of, is)
-is_read_from left now bytes (Err (BadTree why)) of is = (bytes, of, is)
-is_read_from left now bytes (Err (BadLine n why)) of is = (bytes, of, is)
-is_read_from left now bytes (Err OutOfMemory) of is = tt

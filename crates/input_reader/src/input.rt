@@ -3,13 +3,14 @@
 ghost use Rattle.std.specs.Prelude.{◌≡◌};
 ghost use Rattle.script_text.specs.Sessions.{AreOfSessions};
 ghost use Rattle.tree_toml.specs.Seen.{setup_view};
-ghost use Rattle.tree_toml.specs.Sound.{IsWhole, IsNamed};
+ghost use Rattle.tree_toml.specs.Sound.{IsWhole, IsNamed, HasNames};
 
 use script_text::Line;
 use std::marker::Model;
 use tree_toml::Setup;
 
-/// A setup, and the lines to be run over its store. The store can be set up, each node has a name, and the lines are of sessions 1 to 32.
+/// A setup, and the lines to be run over its store. The store can be set up, each node has a name, all
+/// names are as names may be, and the lines are of sessions 1 to 32.
 #[derive(Drop)]
 pub struct Input {
     setup: Setup,
@@ -19,14 +20,14 @@ pub struct Input {
 impl Model for Input {
     ghost use Rattle.script_text.specs.Sessions.{AreOfSessions};
     ghost use Rattle.tree_toml.specs.Seen.{setup_view};
-    ghost use Rattle.tree_toml.specs.Sound.{IsWhole, IsNamed};
+    ghost use Rattle.tree_toml.specs.Sound.{IsWhole, IsNamed, HasNames};
     ghost use Rattle.input_reader.specs.Tasks.{Task};
 
     ghost Value = { Task };
 
     ghost view = { λ i. record { setup = setup_view i.setup; lines = i.lines.items } };
 
-    ghost invariant = { λ i. IsWhole (setup_view i.setup) × IsNamed (setup_view i.setup) × AreOfSessions i.lines.items };
+    ghost invariant = { λ i. IsWhole (setup_view i.setup) × IsNamed (setup_view i.setup) × HasNames (setup_view i.setup) × AreOfSessions i.lines.items };
 }
 
 impl Input {
@@ -34,10 +35,17 @@ impl Input {
     pub fn new(setup: Setup, lines: Vec<Line>) -> Input
         requires whole { IsWhole (setup_view setup) }
         requires named { IsNamed (setup_view setup) }
+        requires names { HasNames (setup_view setup) }
         requires sessions { AreOfSessions lines.items }
         ensures { result ≡ record { setup = setup_view setup; lines = lines.items } }
     {
         Input { setup, lines }
+    }
+
+    pub fn setup(&self) -> &Setup
+        ensures { setup_view result.now ≡ self.now.setup }
+    {
+        &self.setup
     }
 
     /// The setup and the lines.
@@ -45,6 +53,7 @@ impl Input {
         ensures setup { setup_view result.0 ≡ self.setup }
         ensures whole { IsWhole (setup_view result.0) }
         ensures named { IsNamed (setup_view result.0) }
+        ensures names { HasNames (setup_view result.0) }
         ensures lines { (result.1.items ≡ self.lines) × AreOfSessions result.1.items }
     {
         (self.setup, self.lines)

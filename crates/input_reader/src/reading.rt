@@ -15,7 +15,7 @@ use tree_toml::read_tree;
 const MOST_BYTES: usize = 4_194_304;
 
 /// The most lines of a script.
-const MOST_LINES: usize = 65_536;
+pub const MOST_LINES: usize = 65_536;
 
 /// Reads a source to its end, where it has at most 4,194,304 bytes.
 pub fn read_bytes<S: Source>(alloc: Global, source: &mut S) -> Result<Vec<u8>, ReadError>

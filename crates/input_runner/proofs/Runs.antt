@@ -48,7 +48,7 @@ follows_log X H ws (e ∷ entries) f =
     (follows_log X (answer X H e.session e.request).1 (round_after f.0 e.reply) entries f.5)
 
 module _ (m : Meaning) (whole : IsWhole m) (named : IsNamed m) where
-  sound : IsSound (store_of m).setup
+  pub sound : IsSound (store_of m).setup
   sound = subst (λ (types : ℕ). let S : Setup = record { types = types; profiles = m.profiles; tree = m.tree.rows } in IsSound S) (sym whole.types) whole.sound
 
   log_named : (asked : Requests) → All (λ (a : Answered). ReplyNamed (names_of m) a.reply) (log_of (store_of m) [] asked)

@@ -10,5 +10,5 @@ mod run;
 pub use driving::in_turns;
 pub use interleaving::in_order;
 pub use ran::Ran;
-pub use report::{put_ending, report_of};
+pub use report::{put_ending, put_replies, report_of};
 pub use run::{run_replay, run_turns};

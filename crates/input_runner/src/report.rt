@@ -8,7 +8,6 @@ ghost use Rattle.serial_order.specs.Tables.{IsFinalRows};
 ghost use Rattle.tree_toml.specs.Meaning.{Meaning};
 ghost use Rattle.input_runner.specs.Runs.{IsReport, IsReportAfter, IsRunOver};
 
-use crate::ran::Ran;
 use engine_core::Engine;
 use script_text::{Answered, put_reply, put_report};
 use serial_order::{order, tables};
@@ -17,13 +16,17 @@ use teb_names::NameBook;
 use version_chain::Chains;
 
 /// The replies, the serial order and the final tables.
-pub fn report_of(alloc: Global, ran: &Ran) -> Result<Vec<u8>, AllocError>
-    requires { (m : Meaning) × IsRunOver m ran.now.engine.store ran.now.engine.names ran.now.log.items ran.now.engine.events }
-    ensures { IfOk result (λ v. IsReport ran.now.engine.store ran.now.engine.names ran.now.engine.events ran.now.log.items v.items) }
+pub fn report_of<C: Chains>(
+    alloc: Global,
+    engine: &Engine<C>,
+    log: &[Answered],
+) -> Result<Vec<u8>, AllocError>
+    requires { (m : Meaning) × IsRunOver m engine.now.store engine.now.names log.now engine.now.events }
+    ensures { IfOk result (λ v. IsReport engine.now.store engine.now.names engine.now.events log.now v.items) }
 {
     let mut text = Vec::new(alloc);
-    put_replies(&mut text, &ran.engine.setup().names, &ran.log)?;
-    put_ending(alloc, &mut text, &ran.engine)?;
+    put_replies(&mut text, &engine.setup().names, log)?;
+    put_ending(alloc, &mut text, engine)?;
     Ok(text)
 }
 
@@ -41,7 +44,8 @@ pub fn put_ending<C: Chains>(
     put_report(out, &engine.setup().names, &order, &rows)
 }
 
-fn put_replies(out: &mut Vec<u8>, names: &NameBook, log: &[Answered]) -> Result<(), AllocError>
+/// Appends the replies. After an `Err` some of them are appended.
+pub fn put_replies(out: &mut Vec<u8>, names: &NameBook, log: &[Answered]) -> Result<(), AllocError>
     requires { All (λ a. ReplyNamed names.now a.reply) log.now }
     ensures { OnOk result (out.new.items ≡ out.old.items ++ flat_map (reply_text names.now) log.now) }
 {

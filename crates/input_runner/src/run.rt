@@ -16,7 +16,7 @@ pub fn run_replay(alloc: Global, input: Input) -> Result<Output, AllocError>
     ensures serialized { IfOk result (λ o. IsSerialized (λ m. input.setup ≡ m) o.history) }
 {
     let ran = in_order(alloc, input)?;
-    let text = report_of(alloc, &ran)?;
+    let text = report_of(alloc, &ran.engine, &ran.log)?;
     Ok(ran.into_output(text))
 }
 
@@ -26,6 +26,6 @@ pub fn run_turns(alloc: Global, input: Input) -> Result<Output, AllocError>
     ensures serialized { IfOk result (λ o. IsSerialized (λ m. input.setup ≡ m) o.history) }
 {
     let ran = in_turns(alloc, input)?;
-    let text = report_of(alloc, &ran)?;
+    let text = report_of(alloc, &ran.engine, &ran.log)?;
     Ok(ran.into_output(text))
 }

@@ -28,7 +28,7 @@ pub fn end_sessions<C: Chains>(
     ensures log { OnOk result (log.new.items ≡ log.old.items ++ log_of engine.old.store engine.old.events (ends_of engine.old.events)) }
     ensures events { OnOk result (engine.new.events ≡ history_after engine.old.store engine.old.events (ends_of engine.old.events)) }
 {
-    let holders = holders(alloc, engine.history())?;
+    let holders = holding_sessions(alloc, engine.history())?;
     ask_ends(engine, &holders, log)
 }
 
@@ -49,7 +49,7 @@ fn ask_ends<C: Chains>(
 }
 
 /// The sessions that hold a transaction, in ascending number.
-fn holders(alloc: Global, history: &History) -> Result<Vec<Session>, AllocError>
+pub fn holding_sessions(alloc: Global, history: &History) -> Result<Vec<Session>, AllocError>
     ensures { IfOk result (λ v. v.items ≡ holders_from 32 1 history.now.events) }
 {
     let mut holders = Vec::new(alloc);

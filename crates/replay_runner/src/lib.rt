@@ -5,4 +5,5 @@ mod ends;
 mod lines;
 mod run;
 
+pub use ends::holding_sessions;
 pub use run::replay;

@@ -1,5 +1,5 @@
 -- The lines of a script that was read are of sessions 1 to 32.
-use Rattle.std.proofs.Common.{◌≡◌, ℕ, ◌+◌, ◌<◌, ◌≤◌, ◌==◌, Bool, true, false, if◌then◌else◌, List, [], ◌∷◌, ◌++◌, Option, Some, None, Result, Ok, Err, slice_index, refl, ◌∙◌, ap, subst, arith}
+use Rattle.std.proofs.Common.{◌≡◌, ℕ, ◌+◌, ◌<◌, ◌≤◌, ◌==◌, Bool, true, false, if◌then◌else◌, List, [], ◌∷◌, ◌++◌, length, suc, Option, Some, None, Result, Ok, Err, slice_index, refl, ◌∙◌, ap, subst, arith}
 use Rattle.std.specs.Prelude.{IfOk, Vec}
 use Rattle.std.specs.declared.alloc.Global.{Global}
 use Rattle.std.specs.Option.{ok_or, option_and_then, option_to_list}
@@ -82,6 +82,21 @@ module _ (names : NameBook) (format : ℕ) where
       let z : option_to_list a.0 ++ b.0 ≡ lines = cc in
       let q = line_ok n (line_of names format n l) a.0 a.1 in
       subst AreOfSessions z (one_more a.0 b.0 (λ k h. line_session n (words_of l) k (q ∙ ap Ok h)) (script_sessions (n + 1) ls b.0 b.1))
+
+  few_more : (o : Option Line) (more : List Line) → length (option_to_list o ++ more) ≤ suc (length more)
+  few_more None more = omega arith
+  few_more (Some l) more = omega arith
+
+  -- no more lines ask something than there are
+  pub script_few : (n : ℕ) (ls : List (List ℕ)) (lines : List Line) → script_from names format n ls ≡ Ok lines → length lines ≤ length ls
+  unfolding script_from
+  script_few n [] lines e = let z : [] ≡ lines = cc in omega (arith, ap length z)
+  script_few n (l ∷ ls) lines e =
+      let rest = λ (o : Option Line). script_from names format (n + 1) ls >>= (λ (more : List Line). Ok (option_to_list o ++ more)) in
+      let a = bind_ok (at_line n (line_of names format n l)) rest lines e in
+      let b = bind_ok (script_from names format (n + 1) ls) (λ (more : List Line). Ok (option_to_list a.0 ++ more)) lines a.2 in
+      let z : option_to_list a.0 ++ b.0 ≡ lines = cc in
+      omega (arith, ap length z, few_more a.0 b.0, script_few (n + 1) ls b.0 b.1)
 
 -- the lines that were answered
 pub answered_sessions : (names : NameBook) (format : ℕ) (text : List ℕ) (r : Result (Vec Line Global) ScriptError) → Answers r (script_of names format text) → IfOk r (λ v. AreOfSessions v.items)

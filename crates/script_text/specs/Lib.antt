@@ -6,6 +6,7 @@ pub mod Grammar
 pub mod Input
 pub mod Texts
 pub mod Named
+pub mod Ranges
 pub mod Puts
 pub mod Scripts
 pub mod Lists

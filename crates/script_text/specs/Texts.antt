@@ -102,5 +102,9 @@ module _ (names : NameBook) where
   abbrev pub report_text : List Txn → List (Cell × ℤ) → List ℕ
   report_text order rows = line_text (codes "order" ∷ map txn_text order) ++ rows_text (codes "row") rows ++ line_text (codes "end" ∷ [])
 
+  -- how many commits are recovered, the rows that they leave, and the end
+  abbrev pub recovered_text : ℕ → List (Cell × ℤ) → List ℕ
+  recovered_text commits rows = line_text (codes "recovered" ∷ decimal commits ∷ []) ++ rows_text (codes "row") rows ++ line_text (codes "end" ∷ [])
+
   abbrev pub starts_text : List (Cell × ℤ) → List ℕ
   starts_text rows = rows_text (codes "start") rows

@@ -12,7 +12,7 @@ pub use input::{count_lines, split_input};
 pub use script::{number, parse_script};
 pub use scripts::{Scripts, scripts_of};
 use teb_names::{Reply, Request, Session};
-pub use text::{put_event, put_reply, put_report, put_starts};
+pub use text::{put_event, put_recovered, put_reply, put_report, put_starts};
 
 /// A line that asks something.
 #[derive(Clone, Copy, Debug, PartialEq, Eq)]

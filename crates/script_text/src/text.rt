@@ -7,4 +7,4 @@ mod word;
 
 pub use event::put_event;
 pub use reply::put_reply;
-pub use report::{put_report, put_starts};
+pub use report::{put_recovered, put_report, put_starts};

@@ -1,6 +1,7 @@
 -- The setup of the shop is whole, and its nodes are a tree.
 use Rattle.std.proofs.Common.{◌≡◌, ℕ, zero, suc, ◌+◌, ◌<◌, ◌≤◌, List, [], ◌∷◌, ◌++◌, length, map, ℤ, pos, refl, subst, arith, None, Err}
 use Rattle.std.specs.Prelude.{All}
+use Rattle.std.specs.List.{IsDistinct}
 use Rattle.std.proofs.lemmas.List.Elements.{All-nil, All-cons, All-append, All-map}
 use Rattle.std.proofs.lemmas.List.{length-map, get_or-map, map-append}
 use Rattle.teb_names.specs.declared.Cell.{Cell}
@@ -15,7 +16,7 @@ use Rattle.cc_tree.specs.Grown.{Grown, row_of, rows_of}
 use Rattle.cc_tree.specs.declared.fault.TreeError.{TreeError}
 use Rattle.cc_tree.specs.declared.fault.TreeError.TheVariants.{Shape, Misplaced, OutOfMemory}
 use Rattle.cc_tree.specs.declared.rows.NodeRow.{NodeRow as Row}
-use Rattle.tree_toml.specs.Sound.{IsWhole, IsNamed, rules_of}
+use Rattle.tree_toml.specs.Sound.{IsWhole, IsNamed, HasNames, rules_of}
 use Rattle.shop_load.specs.Shop.{shop, shop_nodes, shop_rows, shop_profiles, filled}
 
 no_fault : tree_fault shop_nodes 4 ≡ None
@@ -145,3 +146,12 @@ whole_of tables types nodes profiles tree rows a b c d e f = rw (a, b, c, d, e, 
 pub named_of : (tables types nodes : List (List ℕ)) (profiles : List (List (List ℕ))) (tree : Grown) (rows : List (Cell × ℤ)) → nodes ≡ shop.nodes → tree ≡ shop.tree
     → IsNamed (record { tables = tables; types = types; nodes = nodes; profiles = profiles; tree = tree; rows = rows; format = 1 })
 named_of tables types nodes profiles tree rows a b = rw (a, b) (let named : IsNamed shop = refl in named)
+
+shop_names : HasNames shop
+unfolding IsDistinct
+shop_names = record { tables = refl; types = refl; nodes = refl; tables_differ = ((refl, (refl, tt)), ((refl, tt), (tt, tt))) }
+
+pub names_of : (tables types nodes : List (List ℕ)) (profiles : List (List (List ℕ))) (tree : Grown) (rows : List (Cell × ℤ)) → tables ≡ shop.tables → types ≡ shop.types → nodes ≡ shop.nodes
+    → HasNames (record { tables = tables; types = types; nodes = nodes; profiles = profiles; tree = tree; rows = rows; format = 1 })
+names_of tables types nodes profiles tree rows a b c =
+    rw (a, b, c) (record { tables = shop_names.tables; types = shop_names.types; nodes = shop_names.nodes; tables_differ = shop_names.tables_differ })

@@ -3,7 +3,7 @@
 ghost use Rattle.std.specs.Prelude.{◌≡◌, ◌++◌, ◌∷◌, [], IfOk, OnOk};
 ghost use Rattle.cc_tree.specs.Grown.{row_of, rows_of, parent_number, kind_numbers};
 ghost use Rattle.tree_toml.specs.Seen.{setup_view};
-ghost use Rattle.tree_toml.specs.Sound.{IsWhole, IsNamed};
+ghost use Rattle.tree_toml.specs.Sound.{IsWhole, IsNamed, HasNames};
 ghost use Rattle.shop_load.specs.Shop.{shop as spec_shop, node as spec_node, filled};
 
 use cc_tree::{NodeRow, Tree, TreeError};
@@ -23,6 +23,7 @@ pub fn shop_setup(alloc: Global) -> Result<Setup, AllocError>
     ensures setup { IfOk result (λ s. setup_view s ≡ spec_shop) }
     ensures whole { IfOk result (λ s. IsWhole (setup_view s)) }
     ensures named { IfOk result (λ s. IsNamed (setup_view s)) }
+    ensures names { IfOk result (λ s. HasNames (setup_view s)) }
 {
     Ok(Setup {
         names: names(alloc)?,

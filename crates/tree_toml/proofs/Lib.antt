@@ -1,6 +1,7 @@
 mod Bound
 mod Documents
 mod Each
+mod NameFacts
 mod NodeFacts
 mod Numbers
 mod Placed

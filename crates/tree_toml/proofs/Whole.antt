@@ -1,5 +1,6 @@
 -- A setup that was read is whole.
 use Rattle.std.proofs.Common.{◌≡◌, ℕ, zero, suc, ◌<◌, ◌≤◌, Bool, true, false, if◌then◌else◌, List, [], ◌∷◌, length, get_or, codes, ℤ, Option, Some, None, Result, Ok, Err, refl, arith}
+use Rattle.std.specs.List.{IsDistinct}
 use Rattle.std.specs.Result.{IfOk}
 use Rattle.std.proofs.lemmas.List.Elements.{All-nil}
 use Rattle.teb_names.specs.declared.Cell.{Cell}
@@ -18,13 +19,14 @@ use Rattle.tree_toml.specs.Nodes.{nodes_of}
 use Rattle.tree_toml.specs.Rows.{rows_of}
 use Rattle.tree_toml.specs.Meaning.{Meaning, grown, shape_text, lists_in, setup_in, setup_of, document_of, document_in, plain, plain_row, is_blank}
 use Rattle.tree_toml.specs.Seen.{setup_view}
-use Rattle.tree_toml.specs.Sound.{IsWhole, IsNamed, IsOfText, rules_of}
+use Rattle.tree_toml.specs.Sound.{IsWhole, IsNamed, HasNames, IsOfText, rules_of}
 use Rattle.tree_toml.specs.declared.setup.Setup.{Setup as SetupRead}
 use Rattle.tree_toml.specs.declared.fault.ListName.TheVariants as list
 use Rattle.tree_toml.specs.declared.fault.Key.TheVariants as key
 use Rattle.tree_toml.specs.declared.fault.TreeText.{TreeText}
 use Rattle.tree_toml.specs.declared.fault.TreeText.TheVariants.{NotToml}
 use Rattle.tree_toml.proofs.Bound.{bind_ok, at_ok, ok_is}
+use Rattle.tree_toml.proofs.NameFacts.{tables_are_names, types_are_names, nodes_are_names}
 use Rattle.tree_toml.proofs.NodeFacts.{nodes_ok, within_ok}
 use Rattle.tree_toml.proofs.RowFacts.{rows_ok}
 use Rattle.tree_toml.proofs.TypeFacts.{tables_ok, types_ok, profile_filled, profiles_within}
@@ -46,7 +48,12 @@ plain_sound = record { some = omega arith; parts = parts; accepted = refl; profi
 record IsRead (m : Meaning) : Type 0 where
   whole : IsWhole m
   named : IsNamed m
+  names : HasNames m
   limits : IsOfText m
+
+plain_names : HasNames plain
+unfolding IsDistinct
+plain_names = record { tables = refl; types = refl; nodes = refl; tables_differ = (tt, tt) }
 
 plain_read : IsRead plain
 plain_read = record {
@@ -60,6 +67,7 @@ plain_read = record {
     cells = All-nil (λ (r : Cell × ℤ). r.0.table.0 < 1);
   };
   named = refl;
+  names = plain_names;
   limits = record { few_types = omega arith; few_nodes = omega arith; few_rows = omega arith; ascending = refl; format = (omega arith, omega arith) };
 }
 
@@ -97,6 +105,12 @@ lists_read format ms m known e =
         cells = starts.cells;
       };
       named = own.names;
+      names = record {
+        tables = (tables_are_names ms tables.0 tables.1).are;
+        types = (types_are_names tables.0 ms types.0 types.1).are;
+        nodes = (nodes_are_names format types.0.names ms nodes.0 nodes.1).are;
+        tables_differ = (tables_are_names ms tables.0 tables.1).differ;
+      };
       limits = record { few_types = typed.few; few_nodes = omega (arith, own.names, own.few); few_rows = starts.few; ascending = starts.ascending; format = known };
     })
 
@@ -135,6 +149,10 @@ module _ (text : List ℕ) where
   pub named_from : (r : Result SetupRead TreeText) → Answers setup_view r (setup_of text) → IfOk r (λ s. IsNamed (setup_view s))
   named_from (Ok s) read = (read_from (Ok s) read).named
   named_from (Err e) read = tt
+
+  pub names_from : (r : Result SetupRead TreeText) → Answers setup_view r (setup_of text) → IfOk r (λ s. HasNames (setup_view s))
+  names_from (Ok s) read = (read_from (Ok s) read).names
+  names_from (Err e) read = tt
 
   pub limits_from : (r : Result SetupRead TreeText) → Answers setup_view r (setup_of text) → IfOk r (λ s. IsOfText (setup_view s))
   limits_from (Ok s) read = (read_from (Ok s) read).limits

@@ -1,10 +1,12 @@
 -- What a setup that was read is good for.
-use Rattle.std.specs.Prelude.{◌≡◌, ◌<◌, ◌≤◌, length}
-use Rattle.std.specs.List.{All}
+use Rattle.std.specs.Prelude.{◌≡◌, ◌<◌, ◌≤◌, true, length}
+use Rattle.std.specs.List.{All, IsDistinct, list_all}
+use Rattle.std.specs.Str.{bytes_eq}
 use Rattle.teb_names.specs.Rows.{IsAscending}
 use Rattle.teb_rules.specs.Setup.{Setup, ranked_tables}
 use Rattle.teb_rules.specs.Accepted.{IsSound}
 use Rattle.tree_toml.specs.Meaning.{Meaning}
+use Rattle.tree_toml.specs.Names.{is_name}
 
 -- what the controls go by
 abbrev pub rules_of : Meaning → Setup
@@ -24,6 +26,13 @@ pub record IsWhole (m : Meaning) : Type 0 where
 -- each node has a name
 abbrev pub IsNamed : Meaning → Type 0
 IsNamed m = length m.tree.rows ≡ length m.nodes
+
+-- its tables, types and nodes have names as names may be, and no two tables have the same
+pub record HasNames (m : Meaning) : Type 0 where
+  pub tables : list_all is_name m.tables ≡ true
+  pub types : list_all is_name m.types ≡ true
+  pub nodes : list_all is_name m.nodes ≡ true
+  pub tables_differ : IsDistinct bytes_eq m.tables
 
 -- what a tree text can say: no more than it may have of each list, one row a cell, in ascending order, and a known format
 pub record IsOfText (m : Meaning) : Type 0 where

@@ -4,7 +4,7 @@ ghost use Rattle.std.specs.Prelude.{◌≡◌, IfOk};
 ghost use Rattle.toml.specs.View.{table_view};
 ghost use Rattle.tree_toml.specs.Reading.{Answers};
 ghost use Rattle.tree_toml.specs.Meaning.{lists_in, setup_in, document_of, setup_of, is_blank as spec_is_blank, is_blank_byte as spec_is_blank_byte};
-ghost use Rattle.tree_toml.specs.Sound.{IsWhole, IsNamed, IsOfText};
+ghost use Rattle.tree_toml.specs.Sound.{IsWhole, IsNamed, HasNames, IsOfText};
 ghost use Rattle.tree_toml.specs.Seen.{setup_view};
 
 use crate::fault::{FieldWhy, Key, ListName, TreeText, at};
@@ -43,6 +43,7 @@ pub fn read_tree(alloc: Global, text: &[u8]) -> Result<Setup, TreeText>
     ensures setup { Answers setup_view result (setup_of text.now) }
     ensures whole { IfOk result (λ s. IsWhole (setup_view s)) }
     ensures named { IfOk result (λ s. IsNamed (setup_view s)) }
+    ensures names { IfOk result (λ s. HasNames (setup_view s)) }
     ensures limits { IfOk result (λ s. IsOfText (setup_view s)) }
 {
     if is_blank(text) {

@@ -16,7 +16,6 @@ pub fn grow(alloc: Global, rows: Vec<NodeRow>, types: u8) -> Result<Tree, TreeTe
     requires rows { AreRows types (rows_of rows.items) }
     requires some { 0 < length rows.items }
     requires few { length rows.items ≤ 64 }
-    requires types { types ≤ 64 }
     ensures { Answers (λ t. t) result (grown (rows_of rows.items) types) }
 {
     match Tree::build(alloc, rows, types) {

@@ -1,14 +1,14 @@
 //! The texts of replies.
 
-ghost use Rattle.std.specs.Prelude.{◌≡◌, ◌++◌, OnOk, OnErr, map};
-ghost use Rattle.script_text.specs.Texts.{cause_words, refusal_text, reply_words, reply_text, value_text};
-ghost use Rattle.script_text.specs.Named.{CauseNamed, ReplyNamed};
+ghost use Rattle.std.specs.Prelude.{◌≡◌, ◌++◌, ◌∷◌, OnOk, OnErr, map};
+ghost use Rattle.script_text.specs.Texts.{cause_words, name_of, refusal_text, reply_words, reply_text, value_text};
+ghost use Rattle.script_text.specs.Named.{CauseNamed, NodeNamed, ReplyNamed};
 ghost use Rattle.script_text.specs.Puts.{Puts, spaced, word_text};
 
-use super::word::{Word, node, put_feed, put_spaced, put_word, put_words, table, whole};
+use super::word::{Word, node, put_cell, put_feed, put_spaced, put_word, put_words, whole};
 use crate::Answered;
 use std::alloc::AllocError;
-use teb_names::{Cause, NameBook, Refusal, Reply, ScanList};
+use teb_names::{Cause, NameBook, Node, Refusal, Reply, ScanList};
 
 /// Appends the line of a reply, or, for want of memory, nothing.
 #[tactic(auto, using(crate::proofs::Wholes::kept, crate::proofs::Wholes::taken_back))]
@@ -79,70 +79,40 @@ pub fn put_cause(out: &mut Vec<u8>, names: &NameBook, cause: &Cause) -> Result<(
     ensures { Puts out.old.items (spaced (cause_words names.now cause.now)) out.new.items result }
 {
     match cause {
-        Cause::Late {
-            node: at,
-            reader,
-            cell,
-        } => {
-            let at = node(names, *at);
-            let table = table(names, cell.table);
-            put_words(
-                out,
-                &[
-                    Word::Text("late"),
-                    at,
-                    Word::Txn(*reader),
-                    table,
-                    Word::Natural(cell.key),
-                ],
-            )
+        Cause::Late { node, reader, cell } => {
+            put_break(out, names, "late", *node, &[Word::Txn(*reader)])?;
+            put_cell(out, names, *cell)
         }
-        Cause::First {
-            node: at,
-            writer,
-            cell,
-        } => {
-            let at = node(names, *at);
-            let table = table(names, cell.table);
-            put_words(
-                out,
-                &[
-                    Word::Text("first"),
-                    at,
-                    Word::Txn(*writer),
-                    table,
-                    Word::Natural(cell.key),
-                ],
-            )
+        Cause::First { node, writer, cell } => {
+            put_break(out, names, "first", *node, &[Word::Txn(*writer)])?;
+            put_cell(out, names, *cell)
         }
-        Cause::Pivot {
-            node: at,
-            a,
-            b,
-            c,
-            d,
-        } => {
-            let at = node(names, *at);
-            put_words(
-                out,
-                &[
-                    Word::Text("pivot"),
-                    at,
-                    Word::Txn(*a),
-                    Word::Txn(*b),
-                    Word::Txn(*c),
-                    Word::Txn(*d),
-                ],
-            )
+        Cause::Pivot { node, a, b, c, d } => {
+            let four = [Word::Txn(*a), Word::Txn(*b), Word::Txn(*c), Word::Txn(*d)];
+            put_break(out, names, "pivot", *node, &four)
         }
-        Cause::Newer { node: at, other } => {
-            let at = node(names, *at);
-            put_words(out, &[Word::Text("newer"), at, Word::Txn(*other)])
+        Cause::Newer { node, other } => {
+            put_break(out, names, "newer", *node, &[Word::Txn(*other)])
         }
         Cause::After(txn) => put_words(out, &[Word::Text("after"), Word::Txn(*txn)]),
         Cause::Asked => put_words(out, &[Word::Text("asked")]),
         Cause::Ended => put_words(out, &[Word::Text("ended")]),
     }
+}
+
+// Appends the word of a break, its node, and whom it names.
+fn put_break(
+    out: &mut Vec<u8>,
+    names: &NameBook,
+    word: &str,
+    at: Node,
+    whom: &[Word],
+) -> Result<(), AllocError>
+    requires { NodeNamed names.now at }
+    ensures { Puts out.old.items (spaced (word.now ∷ name_of names.now.nodes at.0 ∷ map word_text whom.now)) out.new.items result }
+{
+    put_words(out, &[Word::Text(word), node(names, at)])?;
+    put_words(out, whom)
 }
 
 fn refusal_word(refusal: Refusal) -> Word<'static>

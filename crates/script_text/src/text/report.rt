@@ -1,9 +1,11 @@
 //! The texts of rows and reports.
 
-ghost use Rattle.std.specs.Prelude.{◌≡◌, ◌++◌, ◌∷◌, OnOk, OnErr, codes, map};
-ghost use Rattle.script_text.specs.Texts.{line_text, report_text, row_text, rows_text, starts_text, txn_text};
+ghost use Rattle.std.specs.Prelude.{◌≡◌, ◌++◌, ◌∷◌, All, OnOk, OnErr, codes, map};
+ghost use Rattle.teb_names.specs.Rows.{IsAscending};
+ghost use Rattle.script_text.specs.Texts.{line_text, recovered_text, report_text, row_text, rows_text, starts_text, txn_text};
 ghost use Rattle.script_text.specs.Named.{CellNamed, RowsNamed};
 ghost use Rattle.script_text.specs.Puts.{Puts, spaced};
+ghost use Rattle.script_text.specs.Ranges.{RowInRange};
 
 use super::word::{Word, put_feed, put_line, put_spaced, put_text, table, whole};
 use std::alloc::AllocError;
@@ -26,12 +28,31 @@ pub fn put_report(
     whole(out, start, written)
 }
 
+/// Appends how many commits are recovered, the rows that they leave, and the end. For want of memory it appends nothing.
+#[tactic(auto, using(crate::proofs::Wholes::kept, crate::proofs::Wholes::taken_back))]
+pub fn put_recovered(
+    out: &mut Vec<u8>,
+    names: &NameBook,
+    commits: u32,
+    rows: &[(Cell, i64)],
+) -> Result<(), AllocError>
+    requires { RowsNamed names.now rows.now }
+    ensures ok { OnOk result (out.new.items ≡ out.old.items ++ recovered_text names.now commits rows.now) }
+    ensures err { OnErr result (out.new.items ≡ out.old.items) }
+{
+    let start = out.len();
+    let written = put_recovered_lines(out, names, commits, rows);
+    whole(out, start, written)
+}
+
 /// Appends a line for each starting row, or, for want of memory, nothing.
 #[tactic(auto, using(crate::proofs::Wholes::kept, crate::proofs::Wholes::taken_back))]
 pub fn put_starts(out: &mut Vec<u8>, names: &NameBook, rows: &Rows) -> Result<(), AllocError>
     requires { RowsNamed names.now rows.now }
     ensures ok { OnOk result (out.new.items ≡ out.old.items ++ starts_text names.now rows.now) }
     ensures err { OnErr result (out.new.items ≡ out.old.items) }
+    ensures in_range { OnOk result (All RowInRange rows.now) }
+    ensures ascending { IsAscending rows.now }
 {
     let start = out.len();
     let written = put_rows(out, names, "start", rows.rows());
@@ -48,6 +69,20 @@ fn put_report_lines(
     ensures { Puts out.old.items (report_text names.now order.now rows.now) out.new.items result }
 {
     put_order(out, order)?;
+    put_rows(out, names, "row", rows)?;
+    put_line(out, "end", &[])
+}
+
+fn put_recovered_lines(
+    out: &mut Vec<u8>,
+    names: &NameBook,
+    commits: u32,
+    rows: &[(Cell, i64)],
+) -> Result<(), AllocError>
+    requires { RowsNamed names.now rows.now }
+    ensures { Puts out.old.items (recovered_text names.now commits rows.now) out.new.items result }
+{
+    put_line(out, "recovered", &[Word::Natural(commits)])?;
     put_rows(out, names, "row", rows)?;
     put_line(out, "end", &[])
 }
@@ -77,10 +112,11 @@ fn put_rows<'a>(
     rows: &[(Cell, i64)],
 ) -> Result<(), AllocError>
     requires { RowsNamed names.now rows.now }
-    ensures { Puts out.old.items (rows_text names.now word.now rows.now) out.new.items result }
+    ensures text { Puts out.old.items (rows_text names.now word.now rows.now) out.new.items result }
+    ensures in_range { OnOk result (All RowInRange rows.now) }
 {
     for row in rows {
-        put_row(out, names, word, row)?;
+        put_row(out, names, word, *row)?;
     }
     Ok(())
 }
@@ -89,16 +125,17 @@ fn put_row<'a>(
     out: &mut Vec<u8>,
     names: &'a NameBook,
     word: &'a str,
-    row: &(Cell, i64),
+    row: (Cell, i64),
 ) -> Result<(), AllocError>
-    requires { CellNamed names.now row.now.0 }
-    ensures { Puts out.old.items (row_text names.now word.now row.now) out.new.items result }
+    requires { CellNamed names.now row.0 }
+    ensures text { Puts out.old.items (row_text names.now word.now row) out.new.items result }
+    ensures in_range { RowInRange row }
 {
     let (cell, value) = row;
     let table = table(names, cell.table);
     put_line(
         out,
         word,
-        &[table, Word::Natural(cell.key), Word::Value(Some(*value))],
+        &[table, Word::Natural(cell.key), Word::Value(Some(value))],
     )
 }

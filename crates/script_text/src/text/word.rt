@@ -2,13 +2,13 @@
 
 ghost use Rattle.std.specs.Prelude.{◌≡◌, ◌<◌, length, ◌++◌, ◌∷◌, codes, decimal, is_ok, if◌then◌else◌, map, take};
 ghost use Rattle.std.specs.Fmt.{signed_decimal};
-ghost use Rattle.script_text.specs.Texts.{line_text, name_of};
-ghost use Rattle.script_text.specs.Named.{NodeNamed};
-ghost use Rattle.script_text.specs.Puts.{Puts, word_text, spaced_words};
+ghost use Rattle.script_text.specs.Texts.{cell_words, line_text, name_of};
+ghost use Rattle.script_text.specs.Named.{CellNamed, NodeNamed};
+ghost use Rattle.script_text.specs.Puts.{Puts, spaced, spaced_words, word_text};
 
 use itoa::Buffer;
 use std::alloc::AllocError;
-use teb_names::{Kind, NameBook, Node, Session, Table, Txn};
+use teb_names::{Cell, Kind, NameBook, Node, Session, Table, Txn};
 
 /// A word of a line.
 #[derive(Clone, Copy)]
@@ -69,6 +69,14 @@ pub fn put_words(out: &mut Vec<u8>, words: &[Word]) -> Result<(), AllocError>
         put_spaced(out, word)?;
     }
     Ok(())
+}
+
+/// Appends the words of a cell, each behind a space: the name of its table, and its key.
+pub fn put_cell(out: &mut Vec<u8>, names: &NameBook, cell: Cell) -> Result<(), AllocError>
+    requires { CellNamed names.now cell }
+    ensures { Puts out.old.items (spaced (cell_words names.now cell)) out.new.items result }
+{
+    put_words(out, &[table(names, cell.table), Word::Natural(cell.key)])
 }
 
 /// Appends a line: a first word, and others behind it.

@@ -1,5 +1,5 @@
 use Rattle.std.proofs.lemmas.Result.{err_from_is_err_and}
-use Rattle.input_reader.proofs.Parsed.{is_unread, is_read_from}
+use Rattle.input_reader.proofs.Parsed.{is_unread}
 use Rattle.input_reader.proofs.reading.read_input.Goals as goal
 
 pub returns-in_err-bytes-clause-read : goal.returns-in_err-bytes-clause-read

@@ -1,7 +1,7 @@
 use Rattle.std.proofs.Common.{append_assoc}
 use Rattle.std.proofs.lemmas.List.{append-nil}
 use Rattle.replay_runner.proofs.Holders.{holders_at, holders_done}
-use Rattle.replay_runner.proofs.ends.holders.Goals as goal
+use Rattle.replay_runner.proofs.ends.holding_sessions.Goals as goal
 
 pub loop-s-preserved : goal.loop-s-preserved
 loop-s-preserved c = rw (c.in_ok-add_holder.ensures, append_assoc, ← holders_at 33 c.loop-s.s c.args.history.now.events c.loop-s-test.true) c.loop-s.invariant
