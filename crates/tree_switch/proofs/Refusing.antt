@@ -1,6 +1,6 @@
 -- Why a phase may not be followed by the next.
-use Rattle.std.proofs.Common.{◌≡◌, ℕ, ◌+◌, ◌<◌, ◌≤◌, ◌==◌, true, List, [], ◌∷◌, length, Some, refl, subst, arith, eqb-true, inl, inr}
-use Rattle.std.proofs.lemmas.Bool.{and_parts, cases_eq}
+use Rattle.std.proofs.Common.{◌≡◌, ℕ, ◌+◌, ◌<◌, ◌≤◌, ◌==◌, true, List, [], ◌∷◌, length, Some, refl, arith, eqb-true}
+use Rattle.std.proofs.lemmas.Bool.{and_parts}
 use Rattle.std.proofs.lemmas.Bool.Decides.{nat_tests}
 use Rattle.teb_history.specs.declared.Event.{Event}
 use Rattle.teb_history.specs.Phases.{held, session_of, txns}
@@ -10,7 +10,7 @@ use Rattle.teb_laws.proofs.Holding.{Holds, held_began}
 use Rattle.teb_laws.proofs.Reachable.{find_is}
 use Rattle.teb_laws.proofs.Sessions.{session_range}
 use Rattle.engine_core.proofs.Running.{unfinished_numbered}
-use Rattle.tree_switch.specs.Refusals.{IsLeast, AreNumbered, AreOfSessions}
+use Rattle.tree_switch.specs.Refusals.{AreNumbered, AreOfSessions}
 
 pub are_numbered : (S : Setup) (H : List Event) → Lawful S H → AreNumbered H
 are_numbered S H l t u = unfinished_numbered S H t l u
@@ -26,20 +26,9 @@ are_of_sessions S H l s u =
     let same : session_of H u.txn ≡ s = eqb-true _ _ (and_parts _ _ h).0 in
     (omega (arith, range.0, same), omega (arith, range.1, same))
 
--- the first number from 1 on, where all that is so is above 0
-pub first_is_least : (P : ℕ → Type 0) (i : ℕ) → ((t : ℕ) → P t → 0 < t) → ((m : ℕ) → 0 < m → m ≤ i → ¬ P m) → P (i + 1) → IsLeast P (i + 1)
-first_is_least P i low before here = (here, λ m h k. before m (low m k) (omega (arith, h)) k)
-
 -- where there is none up to the greatest
 pub none_at_all : (P : ℕ → Type 0) (n i : ℕ) → ((t : ℕ) → P t → (0 < t) × (t ≤ n)) → n ≤ i → ((m : ℕ) → 0 < m → m ≤ i → ¬ P m) → (m : ℕ) → ¬ P m
 none_at_all P n i range h before m k = let r = range m k in before m r.0 (omega (arith, r.1, h)) k
-
--- one number more
-pub none_here : (P : ℕ → Type 0) (i : ℕ) → ((m : ℕ) → 0 < m → m ≤ i → ¬ P m) → ¬ P (i + 1) → (m : ℕ) → 0 < m → m ≤ i + 1 → ¬ P m
-none_here P i before here m h g k = elim (cases_eq m (i + 1)) [
-  | inl e ↦ here (subst P e k)
-  | inr n ↦ before m h (omega (arith, g, n)) k
-]
 
 pub no_rows : {X : Type 0} (xs : List X) → length xs == 0 ≡ true → xs ≡ []
 no_rows [] e = refl

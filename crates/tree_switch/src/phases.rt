@@ -55,6 +55,24 @@ impl<C: Chains> Phases<C> {
         }
     }
 
+    /// The past engines, the oldest first, and the present one; `from_parts` puts them together again.
+    pub fn into_parts(self) -> (Vec<Engine<C>>, Engine<C>)
+        ensures past { result.0.items ≡ self.past }
+        ensures present { result.1 ≡ self.present }
+        ensures course { IsCourse self }
+    {
+        (self.past, self.present)
+    }
+
+    /// The phases of these engines, the past ones with the oldest first.
+    pub fn from_parts(past: Vec<Engine<C>>, present: Engine<C>) -> Phases<C>
+        requires { IsCourse (record { past = past.items; present = present }) }
+        ensures past { result.past ≡ past.items }
+        ensures present { result.present ≡ present }
+    {
+        Phases { past, present }
+    }
+
     /// The engine of the present phase. Each phase has started with the tables that the one before it left, and the serial
     /// orders of all phases, one after the other, are a serial order of the whole.
     pub fn engine(&self) -> &Engine<C>

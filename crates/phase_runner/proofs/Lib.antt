@@ -1,0 +1,6 @@
+mod Drained
+mod Parted
+mod Following
+mod Running
+mod InTurn
+mod PairSteps

@@ -1,0 +1,104 @@
+//! One phase of a store.
+
+ghost use Rattle.std.specs.Prelude.{◌≡◌, ◌++◌, [], length, IfOk, OnOk};
+ghost use Rattle.teb_names.specs.declared.Cell.{Cell};
+ghost use Rattle.serial_order.specs.Tables.{IsFinalRows};
+ghost use Rattle.tree_toml.specs.Seen.{setup_view};
+ghost use Rattle.tree_toml.specs.Sound.{IsWhole};
+ghost use Rattle.tree_switch.specs.Refusals.{IsDrained, MaySwitch};
+ghost use Rattle.tree_switch.specs.Starts.{IsStarted};
+ghost use Rattle.phase_runner.specs.Runs.{IsPhase};
+ghost use Rattle.phase_runner.specs.Steps.{HasRun};
+
+use engine_core::Engine;
+use input_reader::Input;
+use input_runner::report_of;
+use replay_runner::replay;
+use script_text::Line;
+use std::alloc::{AllocError, Global};
+use tree_switch::{Phases, SwitchError};
+use tree_toml::Setup;
+use version_chain::Chains;
+
+/// The first phase, after the task has run in it over chains with no version. Its report is appended.
+pub fn first_phase<C: Chains>(
+    alloc: Global,
+    chains: C,
+    task: Input,
+    text: &mut Vec<u8>,
+) -> Result<Phases<C>, AllocError>
+    requires { (x : Cell) → C.lists chains x ≡ [] }
+    ensures { IfOk result (λ p. HasRun task.setup.rows task p.present text.old.items text.new.items) }
+{
+    let (setup, lines) = task.into_parts();
+    let engine = Engine::new(alloc, setup, chains)?;
+    run_present(alloc, Phases::new(alloc, engine), &lines, text)
+}
+
+/// The phases with one more, after the task has run in it over the tables that the phase before left. Its report is appended.
+pub fn next_phase<C: Chains>(
+    alloc: Global,
+    chains: C,
+    mut phases: Phases<C>,
+    task: Input,
+    text: &mut Vec<u8>,
+) -> Result<Phases<C>, AllocError>
+    requires chains { (x : Cell) → C.lists chains x ≡ [] }
+    requires may { MaySwitch phases.present task.setup }
+    ensures { IfOk result (λ p. (rows : _) × IsFinalRows phases.present.store phases.present.events rows × HasRun rows task p.present text.old.items text.new.items) }
+{
+    let (setup, lines) = task.into_parts();
+    switch(alloc, &mut phases, setup, chains)?;
+    run_present(alloc, phases, &lines, text)
+}
+
+/// Starts the next phase, where nothing stands against it.
+fn switch<C: Chains>(
+    alloc: Global,
+    phases: &mut Phases<C>,
+    setup: Setup,
+    chains: C,
+) -> Result<(), AllocError>
+    requires setup { IsWhole (setup_view setup) }
+    requires chains { (x : Cell) → C.lists chains x ≡ [] }
+    requires may { MaySwitch phases.old.present (setup_view setup) }
+    ensures { OnOk result (IsStarted setup phases.old.present phases.new.present) }
+{
+    match phases.switch(alloc, setup, chains) {
+        Ok(()) => Ok(()),
+        Err(why) => Err(want_of_memory(why)),
+    }
+}
+
+/// The one cause that is left where nothing stands against the switch.
+fn want_of_memory(why: SwitchError) -> AllocError
+    requires { why ≡ SwitchError.OutOfMemory }
+{
+    match why {
+        SwitchError::OutOfMemory => AllocError,
+        _ => unreachable!(),
+    }
+}
+
+/// Replays the lines in the present phase, in which nothing has happened yet, and appends the report.
+fn run_present<C: Chains>(
+    alloc: Global,
+    phases: Phases<C>,
+    lines: &[Line],
+    text: &mut Vec<u8>,
+) -> Result<Phases<C>, AllocError>
+    requires new { phases.present.events ≡ [] }
+    requires named { length phases.present.store.setup.tree ≡ length phases.present.names.nodes }
+    ensures store { IfOk result (λ p. p.present.store ≡ phases.present.store) }
+    ensures names { IfOk result (λ p. p.present.names ≡ phases.present.names) }
+    ensures drained { IfOk result (λ p. IsDrained p.present.events) }
+    ensures run { IfOk result (λ p. (front : _) × IsPhase phases.present.store phases.present.names lines.now p.present.events front × (text.new.items ≡ text.old.items ++ front)) }
+{
+    let (past, mut engine) = phases.into_parts();
+    prove!(engine.setup().tree.len() == engine.setup().names.nodes.len());
+    let mut log = Vec::new(alloc);
+    replay(alloc, &mut engine, lines, &mut log)?;
+    let report = report_of(alloc, &engine, &log)?;
+    text.extend_from_slice(&report)?;
+    Ok(Phases::from_parts(past, engine))
+}
