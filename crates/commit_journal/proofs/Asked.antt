@@ -12,7 +12,8 @@ use Rattle.teb_history.specs.Written.{txn_of}
 use Rattle.teb_rules.specs.Setup.{Setup, Store}
 use Rattle.teb_rules.specs.Cascade.{txn}
 use Rattle.record_journal.specs.declared.journal.Journal.{Journal}
-use Rattle.record_journal.specs.Format.{Record, body}
+use Rattle.crash_disk.specs.Calls.{Tally, IsUpTo}
+use Rattle.record_journal.specs.Format.{Record, body, records}
 use Rattle.record_journal.specs.Journal.{IsBody}
 use Rattle.record_journal.specs.Kept.{Keeps}
 use Rattle.commit_laws.specs.Commits.{commit_count}
@@ -117,6 +118,17 @@ module _ {D : Type 0} (seen : D → List ℕ) (may_leave : D → List ℕ → Ty
   -- all commits are acknowledged, as long as the disk has not failed
   pub all_acknowledged : (X : Store) (H : List Event) (j : Journal D) → KeepsAll seen may_leave X H j → j.stopped ≡ false → j.progress.acknowledged ≡ commit_count H
   all_acknowledged X H j d runs = (d.running runs).all ∙ length-records X.setup H
+
+  -- and the journal ends behind their records
+  pub ends_behind : (X : Store) (H : List Event) (j : Journal D) → KeepsAll seen may_leave X H j → j.stopped ≡ false → j.progress.end ≡ length (records (records_of X.setup H))
+  ends_behind X H j d runs = (d.running runs).at_rest.size
+
+-- no call
+pub no_calls : (k n : ℕ) (a b : Tally) → b ≡ a → IsUpTo k n a b
+no_calls k n a b same = subst (IsUpTo k n a) (sym same) (record { made = omega arith; written = omega arith; promise = refl })
+
+pub fewer_bytes : (k m n : ℕ) (a b : Tally) → m ≤ n → IsUpTo k m a b → IsUpTo k n a b
+fewer_bytes k m n a b le calls = record { made = calls.made; written = omega (arith, le, calls.written); promise = calls.promise }
 
 pub none_first : (X : Store) (H : List Event) (least : ℕ) (image : List ℕ) → H ≡ [] → StandsFor least [] image → HasFirst X H 0 image
 unfolding records_of

@@ -1,20 +1,23 @@
 -- The last Puts of a transaction, one event after the other.
-use Rattle.std.proofs.Common.{◌≡◌, ◌≤◌, ◌<◌, ◌+◌, ℕ, zero, suc, Bool, true, false, cond, not, eqb, ◌&&◌, ◌||◌, List, [], ◌∷◌, ◌++◌, Option, Some, None, ℤ, refl, sym, ap, subst, ◌∙◌, arith, inl, inr, length, length-append, filter, get_or, take, append_assoc, if◌then◌else◌, lt-ltb}
+use Rattle.std.proofs.Common.{◌≡◌, ◌≤◌, ◌<◌, ◌+◌, ℕ, zero, suc, Bool, true, false, cond, not, eqb, ◌&&◌, ◌||◌, List, [], ◌∷◌, ◌++◌, Option, Some, None, ℤ, refl, sym, ap, ap₂, subst, ◌∙◌, arith, inl, inr, length, length-append, filter, get_or, take, append_assoc, if◌then◌else◌, lt-ltb}
 use Rattle.std.specs.List.{list_any}
+use Rattle.std.specs.BTreeMap.{is_at}
+use Rattle.std.specs.BTreeSet.{BTreeSet, contains}
 use Rattle.std.specs.Option.{option_or}
 use Rattle.std.proofs.lemmas.Bool.{cases_lt, and_from, eq-eqb}
 use Rattle.std.proofs.lemmas.List.Elements.{filter-append}
 use Rattle.std.proofs.lemmas.List.{append-nil, take_more}
 use Rattle.teb_names.specs.declared.Cell.{Cell}
 use Rattle.teb_names.specs.declared.Txn.{Txn}
-use Rattle.teb_names.specs.Cells.{same_cell}
+use Rattle.teb_names.specs.Cells.{same_cell, cell_cmp}
+use Rattle.teb_names.proofs.CellOrder.{same_cell-cell_cmp}
 use Rattle.teb_history.specs.declared.Event.{Event}
 use Rattle.teb_history.specs.declared.Event.TheVariants.{Began, Got, Put, Ready, Done, Gone, Told}
 use Rattle.teb_laws.proofs.Timeline.{same_cell-true}
 use Rattle.record_journal.specs.declared.change.Change.{Change}
 use Rattle.record_journal.specs.Format.{Record}
 use Rattle.commit_laws.specs.Records.{last_puts, has, puts_of}
-use Rattle.commit_journal.specs.Kept.{with_event}
+use Rattle.commit_journal.specs.Kept.{with_event, AreCells}
 use Rattle.commit_laws.proofs.Lookup.{lookup, lookup_puts}
 use Rattle.teb_history.specs.Accesses.{wrote, put_at, last_put}
 use Rattle.teb_history.specs.OwnEvents.{own_events}
@@ -170,3 +173,34 @@ one_event all so_far next left rest (Told t) is step adds = subst (λ (n : Recor
 
 pub grown_few : (old new : Record) (c : Change) (i : ℕ) → new ≡ old ++ c ∷ [] → length old ≤ i → length new ≤ i + 1
 grown_few old new c i is few = omega (arith, ap length is, length-append old (c ∷ []), few)
+
+-- ---- the cells of changes
+
+pub no_cells : (cells : BTreeSet Cell) → cells.keys ≡ [] → AreCells cells []
+no_cells cells empty x = ap (λ (ks : List Cell). list_any (is_at (cell_cmp x)) ks) empty
+
+either_way : (a b : Bool) → cond a true b ≡ cond b true a
+either_way true true = refl
+either_way true false = refl
+either_way false true = refl
+either_way false false = refl
+
+pub cells_more : (old new : BTreeSet Cell) (cs : Record) (c : Change) → AreCells old cs → ((q : Cell) → contains cell_cmp new q ≡ cond (is_at (cell_cmp c.cell) q) true (contains cell_cmp old q)) → AreCells new (cs ++ c ∷ [])
+cells_more old new cs c are updates x =
+    updates x
+    ∙ ap₂ (λ (a b : Bool). cond a true b) (sym (same_cell-cell_cmp c.cell x)) (are x)
+    ∙ either_way (same_cell c.cell x) (has cs x)
+    ∙ sym (has_push cs c x)
+
+pub cells_same : (old new : BTreeSet Cell) (cs : Record) → AreCells old cs → new.keys ≡ old.keys → AreCells new cs
+cells_same old new cs are same x = ap (λ (ks : List Cell). list_any (is_at (cell_cmp x)) ks) same ∙ are x
+
+pub put_or_not : (cells : BTreeSet Cell) (cs : Record) (x : Cell) (v : Option ℤ) (added : Bool) → AreCells cells cs → added ≡ not (contains cell_cmp cells x)
+    → (if has cs x then cs else cs ++ record { cell = x; value = v } ∷ []) ≡ cond added (cs ++ record { cell = x; value = v } ∷ []) cs
+put_or_not cells cs x v added are is = go (has cs x) added (is ∙ ap not (are x))
+  where
+    go : (h b : Bool) → b ≡ not h → (if h then cs else cs ++ record { cell = x; value = v } ∷ []) ≡ cond b (cs ++ record { cell = x; value = v } ∷ []) cs
+    go true true e = absurd (cc)
+    go true false e = refl
+    go false true e = refl
+    go false false e = absurd (cc)

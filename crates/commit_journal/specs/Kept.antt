@@ -1,5 +1,8 @@
 -- What contracts see of a store on a disk, and which requests commit.
 use Rattle.std.specs.Prelude.{◌≡◌, ◌+◌, ◌*◌, ◌<◌, ◌-◌, ℕ, Bool, cond, eqb, ◌||◌, if◌then◌else◌, ◌++◌, ◌∷◌, [], List, length, Option, Some, None}
+use Rattle.std.specs.BTreeSet.{BTreeSet, contains}
+use Rattle.teb_names.specs.declared.Cell.{Cell}
+use Rattle.teb_names.specs.Cells.{cell_cmp}
 use Rattle.teb_names.specs.declared.Session.{Session}
 use Rattle.teb_names.specs.declared.Request.{Request}
 use Rattle.teb_names.specs.declared.Request.TheVariants.{Commit}
@@ -50,6 +53,10 @@ pub record IsFull (H : List Event) (left : ℕ) (s : Session) (r : Request) : Ty
 -- w is t, or it is committed
 abbrev pub counts : List Event → ℕ → ℕ → Bool
 counts H t w = eqb w t || committed H w
+
+-- the cells are those of the changes
+abbrev pub AreCells : BTreeSet Cell → Record → Type 0
+AreCells cells cs = (x : Cell) → contains cell_cmp cells x ≡ has cs x
 
 -- the changes with a Put of a cell that is not there yet
 abbrev pub with_event : Record → Event → Record

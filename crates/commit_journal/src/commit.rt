@@ -6,7 +6,7 @@ ghost use Rattle.teb_history.specs.Phases.{unfinished};
 ghost use Rattle.teb_history.specs.Written.{txn_of};
 ghost use Rattle.record_journal.specs.Journal.{IsBody};
 ghost use Rattle.commit_laws.specs.Records.{puts_of as all_puts, is_newest as newest, record_of as changes_of, has};
-ghost use Rattle.commit_journal.specs.Kept.{committing as committed_by, counts, with_event, IsFull};
+ghost use Rattle.commit_journal.specs.Kept.{committing as committed_by, counts, with_event, AreCells, IsFull};
 ghost use Rattle.version_chain.specs.Lists.{last_place, writers_of};
 ghost use Rattle.commit_journal.specs.declared.error.DurableError.TheVariants as errors;
 
@@ -14,6 +14,7 @@ use crate::DurableError;
 use engine_core::Engine;
 use record_journal::{Change, encode};
 use std::alloc::{AllocError, Global};
+use std::collections::BTreeSet;
 use teb_history::{Event, History};
 use teb_names::{Cell, Request, Session, Txn};
 use version_chain::Chains;
@@ -64,41 +65,50 @@ fn committing(history: &History, session: Session, request: Request) -> Option<T
     }
 }
 
-// A transaction's last Put of each cell that it has put, the newest first. It costs the square of what it has put.
+// A transaction's last Put of each cell that it has put, the newest first.
 fn puts_of(alloc: Global, history: &History, t: Txn) -> Result<Vec<Change>, AllocError>
     ensures { IfOk result (λ found. found.items ≡ all_puts history.now.events t.0) }
 {
     let mut puts = Vec::new(alloc);
+    let mut cells = BTreeSet::new(alloc);
     for event in history.own_events(t) {
-        add_event(&mut puts, event)?;
+        add_event(&mut puts, &mut cells, event)?;
     }
     Ok(puts)
 }
 
-// A Put of a cell that is not there yet.
-fn add_event(puts: &mut Vec<Change>, event: Event) -> Result<(), AllocError>
-    ensures { OnOk result (puts.new.items ≡ with_event puts.old.items event) }
+// A Put of a cell that is not there yet. The cells are those of the changes.
+fn add_event(
+    puts: &mut Vec<Change>,
+    cells: &mut BTreeSet<Cell>,
+    event: Event,
+) -> Result<(), AllocError>
+    requires { AreCells cells.old puts.old.items }
+    ensures cells { OnOk result (AreCells cells.new puts.new.items) }
+    ensures puts { OnOk result (puts.new.items ≡ with_event puts.old.items event) }
 {
     match event {
-        Event::Put { cell, value, .. } => add_put(puts, cell, value),
+        Event::Put { cell, value, .. } => add_put(puts, cells, cell, value),
         _ => Ok(()),
     }
 }
 
-fn add_put(puts: &mut Vec<Change>, cell: Cell, value: Option<i64>) -> Result<(), AllocError>
-    ensures { OnOk result (puts.new.items ≡ (if has puts.old.items cell then puts.old.items else puts.old.items ++ record { cell = cell; value = value } ∷ [])) }
+#[tactic(auto, using(crate::proofs::Puts::cells_more, crate::proofs::Puts::cells_same, crate::proofs::Puts::put_or_not))]
+fn add_put(
+    puts: &mut Vec<Change>,
+    cells: &mut BTreeSet<Cell>,
+    cell: Cell,
+    value: Option<i64>,
+) -> Result<(), AllocError>
+    requires { AreCells cells.old puts.old.items }
+    ensures cells { OnOk result (AreCells cells.new puts.new.items) }
+    ensures puts { OnOk result (puts.new.items ≡ (if has puts.old.items cell then puts.old.items else puts.old.items ++ record { cell = cell; value = value } ∷ [])) }
 {
-    if !has_cell(puts, cell) {
-        puts.push(Change { cell, value })?;
+    if !cells.insert(cell)? {
+        return Ok(());
     }
+    puts.push(Change { cell, value })?;
     Ok(())
-}
-
-// Whether one of the changes is of the cell.
-fn has_cell(changes: &[Change], cell: Cell) -> bool
-    ensures { result ≡ has changes.now cell }
-{
-    changes.iter().any(|change| change.cell == cell)
 }
 
 // Of the last Puts of a transaction that is about to commit, those that no committed version follows.

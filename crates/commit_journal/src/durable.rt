@@ -7,8 +7,8 @@ ghost use Rattle.teb_rules.specs.Answer.{answer};
 ghost use Rattle.crash_disk.specs.Disk.{LeavesOnly};
 ghost use Rattle.commit_laws.specs.Commits.{commit_count};
 ghost use Rattle.commit_laws.specs.Laws.{IsOfSerialRun};
-ghost use Rattle.crash_disk.specs.Calls.{AreSure, Fails};
-ghost use Rattle.record_journal.specs.Format.{recovered, Whole};
+ghost use Rattle.crash_disk.specs.Calls.{AreSure, Fails, IsUpTo};
+ghost use Rattle.record_journal.specs.Format.{records, recovered, Whole};
 ghost use Rattle.commit_laws.specs.Records.{records_of, puts_of};
 ghost use Rattle.commit_journal.specs.Kept.{IsFull, IsSameStore, committing};
 ghost use Rattle.commit_journal.specs.Whole.{HasFirst};
@@ -55,7 +55,8 @@ impl<C: Chains, D: Disk> Durable<C, D> {
         ensures images { IfOk result (λ d. (image : List ℕ) → D.may_leave d.disk image → HasFirst d.store d.events 0 image) }
         ensures sure { AreSure (D.tally disk).promise.writes 2 1 (D.tally disk) → IsOk result }
         ensures fails { Fails 2 (D.tally disk) → IsErr result }
-        ensures counted { IfOk result (λ d. (D.tally disk).made + 2 < 2 ^ 64 → (D.tally d.disk).made ≡ (D.tally disk).made + 2) }
+        ensures counted { IfOk result (λ d. IsUpTo 2 1 (D.tally disk) (D.tally d.disk) × ((D.tally disk).made + 2 < 2 ^ 64 → (D.tally d.disk).made ≡ (D.tally disk).made + 2)) }
+        ensures back { (back : D) → IsErrOf result (CreateError.DiskFault back) → IsUpTo 2 1 (D.tally disk) (D.tally back) }
         ensures not_safe { (back : D) → IsErrOf result (CreateError.DiskFault back) → D.safe back ≡ D.safe disk }
         ensures cause { (back : D) → IsErrOf result (CreateError.DiskFault back) → Rose (D.faults disk) (D.faults back) }
     {
@@ -80,12 +81,15 @@ impl<C: Chains, D: Disk> Durable<C, D> {
         ensures acknowledged { IfOk result (λ reply. reply ≡ replies.Committed → self.new.acknowledged ≡ self.old.acknowledged + 1) }
         ensures others { IfOk result (λ reply. (reply ≡ replies.Committed → ⊥) → self.new.acknowledged ≡ self.old.acknowledged) }
         ensures all { self.new.stopped ≡ false → self.new.acknowledged ≡ commit_count self.new.events }
+        // The journal ends behind their records.
+        ensures end { self.new.stopped ≡ false → self.new.end ≡ length (records (records_of self.new.store.setup self.new.events)) }
 
         // Whatever image a crash leaves, at a moment of the call or behind it, has the records of the first commits: at
         // least of those that were acknowledged before.
         ensures any_moment { LeavesOnly D.moment D.left_since self.old.disk self.new.disk (HasFirst self.new.store self.new.events self.old.acknowledged) }
         ensures images { (image : List ℕ) → D.may_leave self.new.disk image → HasFirst self.new.store self.new.events self.new.acknowledged image }
 
+        ensures goes_on { OnOk result (self.new.stopped ≡ false) }
         ensures stopped { IsErrOf result errors.Stopped → self.old.stopped ≡ true }
         ensures stays { self.old.stopped ≡ true → IsErrOf result errors.Stopped }
         ensures full { IsErrOf result errors.Full → IsFull self.old.events (1048576 - self.old.end) session request }
@@ -100,9 +104,12 @@ impl<C: Chains, D: Disk> Durable<C, D> {
         // What was safe at the last good sync has the commits from before it alone.
         ensures not_added { IsErrOf result errors.DiskFault → recovered (D.safe self.new.disk) ≡ Whole (records_of self.old.store.setup self.old.events) }
 
-        // A commit makes four calls of the disk, up to the first that fails; nothing else touches the disk.
+        // A commit makes four calls of the disk, up to the first that fails, and writes one byte more than the journal grows; nothing
+        // else touches the disk.
         ensures untouched { IfOk result (λ reply. (reply ≡ replies.Committed → ⊥) → self.new.disk ≡ self.old.disk) }
         ensures counted { IfOk result (λ reply. reply ≡ replies.Committed → (D.tally self.old.disk).made + 4 < 2 ^ 64 → (D.tally self.new.disk).made ≡ (D.tally self.old.disk).made + 4) }
+        ensures written { IfOk result (λ reply. (D.tally self.new.disk).written + self.old.end ≤ (D.tally self.old.disk).written + self.new.end + 1) }
+        ensures up_to { (t : ℕ) → committing self.old.events session request ≡ Some t → IsUpTo 4 (6 + 14 * length (puts_of self.old.events t)) (D.tally self.old.disk) (D.tally self.new.disk) }
         ensures sure { (t : ℕ) → committing self.old.events session request ≡ Some t
             → AreSure (D.tally self.old.disk).promise.writes 4 (6 + 14 * length (puts_of self.old.events t)) (D.tally self.old.disk) → IsErrOf result errors.DiskFault → ⊥ }
         ensures fails { Fails 4 (D.tally self.old.disk) → IfOk result (λ reply. reply ≡ replies.Committed → ⊥) }

@@ -3,11 +3,12 @@
 ghost use Rattle.std.specs.Prelude.{◌≡◌, ◌≤◌, List, ℕ, length, IfOk, OnOk, IsErrOf};
 ghost use Rattle.teb_io.specs.Faults.{Rose};
 ghost use Rattle.teb_names.specs.declared.Cell.{Cell as TheCell};
-ghost use Rattle.teb_names.specs.Rows.{row_of};
+ghost use Rattle.teb_names.specs.Rows.{row_of, IsAscending};
 ghost use Rattle.teb_history.specs.declared.Event.{Event};
 ghost use Rattle.teb_rules.specs.Setup.{Store};
 ghost use Rattle.teb_rules.specs.Accepted.{IsSound};
 ghost use Rattle.teb_laws.specs.Lawful.{Lawful};
+ghost use Rattle.crash_disk.specs.Calls.{AreSure};
 ghost use Rattle.crash_disk.specs.Disk.{IsQuiet, Only};
 ghost use Rattle.record_journal.specs.Format.{Record, recovered, Whole, Damaged};
 ghost use Rattle.record_journal.specs.Journal.{after_records};
@@ -29,6 +30,8 @@ pub fn recover<D: Disk>(
     ensures found { IfOk result (λ found. (rs : List Record) × (recovered (D.seen disk.old) ≡ Whole rs) × (found.commits ≡ length rs)
         × ((x : TheCell) → row_of found.rows.items x ≡ after_records rs (row_of start.now) x)) }
 
+    ensures ascending { IfOk result (λ found. IsAscending found.rows.items) }
+
     // Damage is told where the bytes have it.
     ensures damaged { (at : ℕ) → IsErrOf result (RecoverError.Damaged at) → recovered (D.seen disk.old) ≡ Damaged at }
 
@@ -43,6 +46,9 @@ pub fn recover<D: Disk>(
     ensures durable { OnOk result (Only (D.seen disk.old) (D.may_leave disk.new)) }
     ensures quiet { IsQuiet D.seen D.may_leave D.moment D.left_since D.faults disk.old disk.new }
     ensures cause { IsErrOf result RecoverError.DiskFault → Rose (D.faults disk.old) (D.faults disk.new) }
+    // It makes a sync, and then as many calls at most as there are bytes, and one.
+    ensures sure { AreSure (D.tally disk.old).promise.writes 1 0 (D.tally disk.old) → AreSure (D.tally disk.old).promise.reads 1048578 0 (D.tally disk.old)
+        → IsErrOf result RecoverError.DiskFault → ⊥ }
 {
     read_rows(alloc, disk, start.rows())
 }

@@ -52,7 +52,7 @@ same_table X a e P l f x =
     (same_latest X.setup a (e ∷ P) l (length P) (let z : length P ≤ length (e ∷ P) = omega arith in z) x X)
 
 -- the records leave the final table
-records_final : (X : Store) (a : TreeFacts X.setup) (H : List Event) → Lawful X.setup H → (x : Cell) → after_records (records_of X.setup H) (row_of X.rows) x ≡ final_table X H x
+pub records_final : (X : Store) (a : TreeFacts X.setup) (H : List Event) → Lawful X.setup H → (x : Cell) → after_records (records_of X.setup H) (row_of X.rows) x ≡ final_table X H x
 unfolding records_of Lawful
 records_final X a [] l x = unfold final_table latest txns numbers begun_count in refl
 records_final X a (Done t ∷ P) l x =

@@ -3,3 +3,4 @@ pub mod OneCommit
 pub mod Lookup
 pub mod Prefixes
 pub mod Laws
+pub mod Sizes

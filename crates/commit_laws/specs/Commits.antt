@@ -1,7 +1,7 @@
 -- The first commits of a history, and the table that they leave.
 use Rattle.std.specs.Prelude.{ℕ, zero, suc, cond, leb, ◌&&◌, List, [], ◌∷◌, filter}
 use Rattle.teb_history.specs.declared.Event.{Event}
-use Rattle.teb_history.specs.declared.Event.TheVariants.{Done}
+use Rattle.teb_history.specs.declared.Event.TheVariants.{Put, Done}
 use Rattle.teb_history.specs.Phases.{txns, committed}
 use Rattle.teb_history.specs.Accesses.{wrote}
 use Rattle.teb_rules.specs.Setup.{Store}
@@ -14,6 +14,12 @@ unfoldable pub commit_count : List Event → ℕ
 commit_count [] = zero
 commit_count (Done t ∷ P) = suc (commit_count P)
 commit_count (_ ∷ P) = commit_count P
+
+-- how many puts there are
+unfoldable pub put_count : List Event → ℕ
+put_count [] = zero
+put_count (Put t x v ∷ P) = suc (put_count P)
+put_count (_ ∷ P) = put_count P
 
 -- the history up to its k-th commit, that one included
 unfoldable pub up_to_commit : ℕ → List Event → List Event

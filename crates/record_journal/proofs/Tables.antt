@@ -1,14 +1,20 @@
 -- The rows that records leave, one change after the other.
-use Rattle.std.proofs.Common.{◌≡◌, ℕ, ◌+◌, ◌<◌, Bool, cond, List, [], ◌∷◌, ◌++◌, length, get_or, take, drop, Option, Some, ℤ, Vec, Ordering, refl, sym, ◌∙◌, ap, arith}
+use Rattle.std.proofs.Common.{◌≡◌, ℕ, ◌+◌, ◌<◌, Bool, true, cond, List, [], ◌∷◌, ◌++◌, length, get_or, take, drop, Option, Some, ℤ, Vec, Ordering, refl, sym, ◌∙◌, ap, arith}
 use Rattle.std.specs.BTreeMap.{is_at}
-use Rattle.std.specs.Map.{lookup}
+use Rattle.std.specs.Map.{lookup, keys_of}
+use Rattle.std.specs.List.{list_all, AllByRecursion}
+use Rattle.std.specs.List.Sorted.{IsStrictlySortedBy}
+use Rattle.std.specs.Ordering.{is_lt}
+use Rattle.std.specs.declared.cmp.Ordering.TheVariants.{Less}
 use Rattle.std.specs.declared.alloc.Global.{Global}
 use Rattle.std.proofs.lemmas.List.{take_more, drop_more, map_push}
+use Rattle.std.proofs.lemmas.Bool.{and_from}
+use Rattle.std.proofs.lemmas.Map.Keys.{sorted_tail, sorted_head}
 use Rattle.std.proofs.lemmas.Grind.{common_steps}
 use Rattle.teb_names.specs.declared.Cell.{Cell}
 use Rattle.teb_names.specs.contracts.CellOrd.TheImpl.{ghosts}
-use Rattle.teb_names.specs.Cells.{same_cell}
-use Rattle.teb_names.specs.Rows.{row_of}
+use Rattle.teb_names.specs.Cells.{same_cell, is_before}
+use Rattle.teb_names.specs.Rows.{row_of, is_ascending, IsAscending}
 use Rattle.teb_rules.specs.Replay.{Values, put_in}
 use Rattle.record_journal.specs.declared.change.Change.{Change}
 use Rattle.record_journal.specs.Format.{Record}
@@ -24,6 +30,18 @@ is_same x k = grind (arith, common_steps)
 pub row_of_entries : (es : List (Cell × ℤ)) (x : Cell) → row_of es x ≡ lookup (is_at (cell_cmp x)) es
 row_of_entries [] x = refl
 row_of_entries (e ∷ es) x = ap (λ (b : Bool). cond b (Some e.1) (row_of es x)) (sym (is_same x e.0)) ∙ ap (λ (r : Option ℤ). cond (is_at (cell_cmp x) e.0) (Some e.1) r) (row_of_entries es x)
+
+less_before : (y k : Cell) → cell_cmp y k ≡ Less → is_before y k ≡ true
+less_before y k h = ap is_lt h
+
+all_before : (es : List (Cell × ℤ)) (y : Cell) → AllByRecursion (λ k. cell_cmp y k ≡ Less) (keys_of es) → list_all (λ s. is_before y s.0) es ≡ true
+all_before [] y h = refl
+all_before (e ∷ es) y h = and_from (is_before y e.0) (list_all (λ s. is_before y s.0) es) (less_before y e.0 h.0) (all_before es y h.1)
+
+-- the entries of a map from cells are rows in ascending order
+pub entries_ascend : (es : List (Cell × ℤ)) → IsStrictlySortedBy cell_cmp (keys_of es) → IsAscending es
+entries_ascend [] s = refl
+entries_ascend (e ∷ es) s = and_from (list_all (λ r. is_before e.0 r.0) es) (is_ascending es) (all_before es e.0 (sorted_head cell_cmp e.0 (keys_of es) s)) (entries_ascend es (sorted_tail cell_cmp e.0 (keys_of es) s))
 
 after_changes-push : (r : Record) (c : Change) (T : Values) (x : Cell) → after_changes (r ++ c ∷ []) T x ≡ put_in c.cell c.value (after_changes r T) x
 after_changes-push [] c T x = refl

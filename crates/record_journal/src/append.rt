@@ -54,6 +54,7 @@ impl<D: Disk> Journal<D> {
             → LeavesOnly D.moment D.left_since self.old.disk self.new.disk (StandsFor self.old.progress.acknowledged (asked ++ r ∷ [])) }
 
         ensures acknowledged { OnOk result ((self.new.stopped ≡ false) × (self.new.progress.acknowledged ≡ self.old.progress.acknowledged + 1)) }
+        ensures end { OnOk result (self.new.progress.end ≡ self.old.progress.end + length body.now) }
         ensures not_acknowledged { OnErr result ((self.new.stopped ≡ true) × (self.new.progress.acknowledged ≡ self.old.progress.acknowledged)) }
         // After an `Err` what was safe at the last good sync has the acknowledged records alone.
         ensures not_added { (asked : List Record) (r : Record) → IsBody r body.now → Keeps D.seen D.may_leave asked self.old → OnErr result (recovered (D.safe self.new.disk) ≡ Whole asked) }

@@ -1,7 +1,8 @@
 // What a disk stands for, after a crash too.
 ghost use Rattle.std.specs.Prelude.{◌≡◌, ◌≤◌, List, ℕ, length, take, IfOk, OnOk, IsErrOf};
 ghost use Rattle.teb_names.specs.declared.Cell.{Cell as TheCell};
-ghost use Rattle.teb_names.specs.Rows.{row_of};
+ghost use Rattle.teb_names.specs.Rows.{row_of, IsAscending};
+ghost use Rattle.crash_disk.specs.Calls.{AreSure};
 ghost use Rattle.crash_disk.specs.Disk.{IsQuiet, Only};
 ghost use Rattle.teb_io.specs.Faults.{Rose};
 ghost use Rattle.record_journal.specs.Format.{Record, recovered, Whole, Damaged};
@@ -32,6 +33,8 @@ pub fn read_rows<D: Disk>(
     ensures found { IfOk result (λ found. (rs : List Record) × (recovered (D.seen disk.old) ≡ Whole rs) × (found.commits ≡ length rs)
         × ((x : TheCell) → row_of found.rows.items x ≡ after_records rs (row_of start.now) x)) }
 
+    ensures ascending { IfOk result (λ found. IsAscending found.rows.items) }
+
     // Damage is told where the bytes have it.
     ensures damaged { (at : ℕ) → IsErrOf result (RecoverError.Damaged at) → recovered (D.seen disk.old) ≡ Damaged at }
 
@@ -46,6 +49,9 @@ pub fn read_rows<D: Disk>(
     ensures durable { OnOk result (Only (D.seen disk.old) (D.may_leave disk.new)) }
     ensures quiet { IsQuiet D.seen D.may_leave D.moment D.left_since D.faults disk.old disk.new }
     ensures cause { IsErrOf result RecoverError.DiskFault → Rose (D.faults disk.old) (D.faults disk.new) }
+    // It makes a sync, and then as many calls at most as there are bytes, and one.
+    ensures sure { AreSure (D.tally disk.old).promise.writes 1 0 (D.tally disk.old) → AreSure (D.tally disk.old).promise.reads 1048578 0 (D.tally disk.old)
+        → IsErrOf result RecoverError.DiskFault → ⊥ }
 {
     disk.sync()?;
     let bytes = read_whole(alloc, disk)?;

@@ -1,9 +1,8 @@
 // The rows that records leave.
-ghost use Rattle.std.specs.Prelude.{◌≡◌, length, map, OnOk, IfOk};
-ghost use Rattle.std.specs.List.Sorted.{IsStrictlySortedBy};
+ghost use Rattle.std.specs.Prelude.{◌≡◌, length, OnOk, IfOk};
 ghost use Rattle.std.specs.BTreeMap.{get};
 ghost use Rattle.teb_names.specs.declared.Cell.{Cell as TheCell};
-ghost use Rattle.teb_names.specs.Rows.{row_of};
+ghost use Rattle.teb_names.specs.Rows.{row_of, IsAscending};
 ghost use Rattle.teb_rules.specs.Replay.{put_in};
 ghost use Rattle.record_journal.specs.Journal.{after_changes, after_records};
 ghost use Rattle.record_journal.specs.Views.{record_lists};
@@ -20,6 +19,7 @@ pub fn rows_after(
     records: &[Vec<Change>],
 ) -> Result<Vec<(Cell, i64)>, AllocError>
     ensures rows { IfOk result (λ rows. (x : TheCell) → row_of rows.items x ≡ after_records (record_lists records.now) (row_of start.now) x) }
+    ensures ascending { IfOk result (λ rows. IsAscending rows.items) }
 {
     let mut rows = first_rows(alloc, start)?;
     for record in records {
@@ -75,7 +75,7 @@ fn first_rows(alloc: Global, start: &[(Cell, i64)]) -> Result<BTreeMap<Cell, i64
 fn listed(alloc: Global, rows: &BTreeMap<Cell, i64>) -> Result<Vec<(Cell, i64)>, AllocError>
     ensures entries { IfOk result (λ list. list.items ≡ rows.now.entries) }
     ensures rows { IfOk result (λ list. (x : TheCell) → row_of list.items x ≡ get ⟦<Cell as Ord>⟧.cmp rows.now x) }
-    ensures ascending { IfOk result (λ list. IsStrictlySortedBy ⟦<Cell as Ord>⟧.cmp (map (λ row. row.0) list.items)) }
+    ensures ascending { IfOk result (λ list. IsAscending list.items) }
 {
     let mut list = Vec::new(alloc);
     for (cell, value) in rows {

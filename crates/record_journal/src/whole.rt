@@ -1,5 +1,6 @@
 // All that a journal may use of a disk.
-ghost use Rattle.std.specs.Prelude.{◌≡◌, ◌≤◌, ℕ, length, take, IfOk, OnOk, IsErrOf};
+ghost use Rattle.std.specs.Prelude.{◌≡◌, ◌≤◌, ℕ, length, take, IfOk, OnOk, IsOk, IsErrOf};
+ghost use Rattle.crash_disk.specs.Calls.{AreSure};
 ghost use Rattle.crash_disk.specs.Disk.{IsQuiet};
 ghost use Rattle.teb_io.specs.Faults.{HasCause, Rose};
 
@@ -13,6 +14,8 @@ pub fn read_whole<D: Disk>(alloc: Global, disk: &mut D) -> Result<Vec<u8>, Recov
     ensures bytes { IfOk result (λ bytes. bytes.items ≡ take 1048576 (D.seen disk.old)) }
     ensures quiet { IsQuiet D.seen D.may_leave D.moment D.left_since D.faults disk.old disk.new }
     ensures cause { IsErrOf result RecoverError.DiskFault → Rose (D.faults disk.old) (D.faults disk.new) }
+    // It asks for the length, and then reads a byte at least by each call.
+    ensures sure { AreSure (D.tally disk.old).promise.reads 1048577 0 (D.tally disk.old) → IsErrOf result RecoverError.DiskFault → ⊥ }
     ensures not_damaged { (at : ℕ) → IsErrOf result (RecoverError.Damaged at) → ⊥ }
 {
     let len = disk.len()?.min(1048576) as usize;
@@ -27,6 +30,7 @@ fn fill<D: Disk>(disk: &mut D, buf: &mut [u8]) -> Result<(), Failed>
     ensures filled { OnOk result (buf.new ≡ take (length buf.old) (D.seen disk.old)) }
     ensures quiet { IsQuiet D.seen D.may_leave D.moment D.left_since D.faults disk.old disk.new }
     ensures cause { HasCause (D.faults disk.old) (D.faults disk.new) result }
+    ensures sure { AreSure (D.tally disk.old).promise.reads (length buf.old) 0 (D.tally disk.old) → IsOk result }
 {
     let mut filled = 0;
     while filled < buf.len() {

@@ -1,4 +1,5 @@
 use Rattle.std.proofs.Common.{◌-◌, ◌≡◌, ◌≤◌, length, take}
+use Rattle.crash_disk.specs.Calls.{IsUpTo}
 use Rattle.crash_disk.specs.Disk.{IsQuiet}
 use Rattle.record_journal.proofs.whole.fill.Given as goal
 
@@ -7,6 +8,7 @@ invariant-loop-filled g l = record {
   within : l.filled ≤ length l.buf;
   front : take l.filled l.buf ≡ take l.filled (g.D.Disk.seen l.fn.disk);
   quiet : IsQuiet g.D.Disk.seen g.D.Disk.may_leave g.D.Disk.moment g.D.Disk.left_since g.D.Disk.faults l.fn.disk l.disk;
+  calls : IsUpTo l.filled 0 (g.D.Disk.tally l.fn.disk) (g.D.Disk.tally l.disk);
 }
 
 abbrev pub decreases-loop-filled : goal.decreases-loop-filled

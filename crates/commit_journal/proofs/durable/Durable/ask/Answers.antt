@@ -5,7 +5,7 @@ use Rattle.teb_history.specs.declared.Event.TheVariants.{Done}
 use Rattle.teb_rules.specs.Cascade.{txn}
 use Rattle.teb_rules.specs.Answer.{answer}
 use Rattle.crash_disk.specs.Disk.{LeavesOnly}
-use Rattle.record_journal.specs.Format.{Record, recovered, Whole}
+use Rattle.record_journal.specs.Format.{Record, records, recovered, Whole}
 use Rattle.record_journal.specs.Journal.{IsBody, StandsFor}
 use Rattle.record_journal.proofs.Moments.{started}
 use Rattle.commit_laws.specs.Commits.{commit_count}
@@ -13,7 +13,7 @@ use Rattle.commit_laws.specs.Records.{records_of, record_of}
 use Rattle.commit_journal.specs.Kept.{Kept, committing}
 use Rattle.commit_journal.specs.Whole.{HasFirst}
 use Rattle.commit_journal.proofs.Replies.{outcome, committed_now, records_same}
-use Rattle.commit_journal.proofs.Asked.{keeps_same, keeps_more, records_more, all_acknowledged, body_some, has_room}
+use Rattle.commit_journal.proofs.Asked.{keeps_same, keeps_more, records_more, all_acknowledged, ends_behind, body_some, has_room}
 use Rattle.commit_journal.proofs.durable.Durable.ask.Goals as goal
 
 pub returns-in_err-body-clause-all : goal.returns-in_err-body-clause-all
@@ -22,12 +22,26 @@ returns-in_err-body-clause-all g c =
     let m = c.self.inside in
     subst (λ (o : Kept _). o.stopped ≡ false → o.acknowledged ≡ commit_count o.events) c.self.view_is (all_acknowledged d.seen d.may_leave m.engine.store m.engine.events m.journal c.self.invariant)
 
+pub returns-in_err-body-clause-end : goal.returns-in_err-body-clause-end
+returns-in_err-body-clause-end g c =
+    let d = g.D.Disk in
+    let m = c.self.inside in
+    subst (λ (o : Kept _). o.stopped ≡ false → o.end ≡ length (records (records_of o.store.setup o.events))) c.self.view_is (ends_behind d.seen d.may_leave m.engine.store m.engine.events m.journal c.self.invariant)
+
 pub returns-in_err-ready-clause-all : goal.returns-in_err-ready-clause-all
 returns-in_err-ready-clause-all g c =
     let d = g.D.Disk in
     let m = c.self.inside in
     let one = c.ready.new.self in
     all_acknowledged d.seen d.may_leave one.store one.events m.journal
+    (keeps_same d.seen d.may_leave m.engine.store one.store m.engine.events one.events m.journal c.self.invariant c.ready.ensures.store (ap (records_of m.engine.store.setup) c.ready.ensures.events))
+
+pub returns-in_err-ready-clause-end : goal.returns-in_err-ready-clause-end
+returns-in_err-ready-clause-end g c =
+    let d = g.D.Disk in
+    let m = c.self.inside in
+    let one = c.ready.new.self in
+    ends_behind d.seen d.may_leave one.store one.events m.journal
     (keeps_same d.seen d.may_leave m.engine.store one.store m.engine.events one.events m.journal c.self.invariant c.ready.ensures.store (ap (records_of m.engine.store.setup) c.ready.ensures.events))
 
 pub invariant_of-self-then-ne : goal.invariant_of-self-then-ne
@@ -57,6 +71,20 @@ returns-then-ne-clause-all g c =
     let quiet = records_same one.store.setup one.events s r (answer one.store one.events s r) (outcome one.store one.events s r) (λ q. other (c.ask-reply.ensures.reply ∙ q)) in
     let kept = keeps_same d.seen d.may_leave one.store two.store one.events two.events m.journal first c.ask-reply.ensures.store (ap (records_of one.store.setup) c.ask-reply.ensures.events ∙ quiet) in
     all_acknowledged d.seen d.may_leave two.store two.events m.journal kept
+
+pub returns-then-ne-clause-end : goal.returns-then-ne-clause-end
+returns-then-ne-clause-end g c =
+    let d = g.D.Disk in
+    let m = c.self.inside in
+    let one = c.ready.new.self in
+    let two = c.ask-reply.new.self in
+    let s = c.args.session in
+    let r = c.args.request in
+    let other : (c.ask-reply.result ≡ Committed → ⊥) = search rules in
+    let first = keeps_same d.seen d.may_leave m.engine.store one.store m.engine.events one.events m.journal c.self.invariant c.ready.ensures.store (ap (records_of m.engine.store.setup) c.ready.ensures.events) in
+    let quiet = records_same one.store.setup one.events s r (answer one.store one.events s r) (outcome one.store one.events s r) (λ q. other (c.ask-reply.ensures.reply ∙ q)) in
+    let kept = keeps_same d.seen d.may_leave one.store two.store one.events two.events m.journal first c.ask-reply.ensures.store (ap (records_of one.store.setup) c.ask-reply.ensures.events ∙ quiet) in
+    ends_behind d.seen d.may_leave two.store two.events m.journal kept
 
 pub returns-then-ne-clause-any_moment : goal.returns-then-ne-clause-any_moment
 returns-then-ne-clause-any_moment g c =
@@ -154,6 +182,26 @@ returns-in-Ok-clause-all g c =
     let grown = records_more m.engine.store two.store m.engine.events two.events now.0 store events in
     let kept = keeps_more d.seen d.may_leave m.engine.store two.store m.engine.events two.events now.0 c.append.new.self store events (c.append.ensures.kept (records_of m.engine.store.setup m.engine.events) change bytes c.self.invariant) in
     all_acknowledged d.seen d.may_leave two.store two.events c.append.new.self kept
+
+pub returns-in-Ok-clause-end : goal.returns-in-Ok-clause-end
+returns-in-Ok-clause-end g c =
+    let d = g.D.Disk in
+    let m = c.self.inside in
+    let one = c.ready.new.self in
+    let two = c.ask-reply.new.self in
+    let s = c.args.session in
+    let r = c.args.request in
+    let is : c.ask-reply.result ≡ Committed = search rules in
+    let now = committed_now one.store.setup one.events s r (answer one.store one.events s r) (outcome one.store one.events s r) (sym c.ask-reply.ensures.reply ∙ is) in
+    let asked = ap (λ (P : List Event). committing P s r) (sym c.ready.ensures.events) ∙ now.1 in
+    let has = c.in_ok-body.ensures.body now.0 asked in
+    let change = record_of m.engine.store.setup m.engine.events now.0 in
+    let bytes = subst (IsBody change) (sym c.deref.ensures.value) has.0 in
+    let store = c.ask-reply.ensures.store ∙ c.ready.ensures.store in
+    let events = c.ask-reply.ensures.events ∙ now.2 ∙ ap (λ (P : List Event). Done (txn now.0) ∷ P) c.ready.ensures.events in
+    let grown = records_more m.engine.store two.store m.engine.events two.events now.0 store events in
+    let kept = keeps_more d.seen d.may_leave m.engine.store two.store m.engine.events two.events now.0 c.append.new.self store events (c.append.ensures.kept (records_of m.engine.store.setup m.engine.events) change bytes c.self.invariant) in
+    ends_behind d.seen d.may_leave two.store two.events c.append.new.self kept
 
 pub returns-in-Ok-clause-any_moment : goal.returns-in-Ok-clause-any_moment
 returns-in-Ok-clause-any_moment g c =

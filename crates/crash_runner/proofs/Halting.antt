@@ -1,0 +1,29 @@
+-- Errors of a run.
+use Rattle.std.proofs.Common.{◌≡◌, Result, Ok, Err, OnOk, refl, sym, subst}
+use Rattle.std.specs.Prelude.{IsErrOf, IsOk, IsErr}
+use Rattle.commit_journal.specs.declared.error.CreateError.{CreateError}
+use Rattle.commit_journal.specs.declared.error.DurableError.{DurableError}
+use Rattle.record_journal.proofs.Counting.{never_fails}
+use Rattle.crash_runner.specs.declared.halt.Halt.{Halt}
+
+pub as_error : {T : Type 0} (e x : DurableError) → e ≡ x → IsErrOf {T = T} (Err e) x
+as_error e x is = cc is
+
+pub as_halt : {T : Type 0} (h x : Halt) → h ≡ x → IsErrOf {T = T} (Err h) x
+as_halt h x is = cc is
+
+pub of_halt : {T : Type 0} (h x : Halt) → IsErrOf {T = T} (Err h) x → h ≡ x
+of_halt h x is = cc is
+
+pub on_ok : {T E P Q : Type 0} (r : Result T E) → (P → Q) → OnOk r P → OnOk r Q
+on_ok (Ok v) f p = f p
+on_ok (Err e) f p = tt
+
+pub as_create_error : {T D : Type 0} (e x : CreateError D) → e ≡ x → IsErrOf {T = T} (Err e) x
+as_create_error e x is = cc is
+
+pub not_ok_and_err : {T E : Type 0} (r : Result T E) (v : T) → r ≡ Ok v → IsErr r → ⊥
+not_ok_and_err {T = T} {E = E} r v is f = never_fails r (subst (λ (q : Result T E). IsOk q) (sym is) refl) f
+
+pub not_err_and_ok : {T E : Type 0} (r : Result T E) (e : E) → r ≡ Err e → IsOk r → ⊥
+not_err_and_ok {T = T} {E = E} r e is f = never_fails r f (subst (λ (q : Result T E). IsErr q) (sym is) refl)

@@ -1,0 +1,9 @@
+pub mod Effects
+pub mod Steps
+pub mod Along
+pub mod Courses
+pub mod Naming
+pub mod Copies
+pub mod Results
+pub mod Halting
+pub mod Memory

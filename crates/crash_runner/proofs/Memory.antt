@@ -1,0 +1,36 @@
+-- A disk in memory, as a run begins on it.
+use Rattle.std.proofs.Common.{◌≡◌, ℕ, List, [], length, sym, ap, subst, arith}
+use Rattle.teb_rules.specs.Setup.{Setup}
+use Rattle.teb_rules.specs.Accepted.{IsSound}
+use Rattle.crash_disk.specs.declared.memory.MemDisk.{MemDisk}
+use Rattle.crash_disk.specs.Calls.{Tally, memory_tally}
+use Rattle.crash_disk.specs.Log.{Step, byte_count, contents, safe_contents, synced_image, bytes_of, blank, MayLeave}
+use Rattle.crash_disk.specs.LogLaws.{safe_is_left}
+use Rattle.tree_toml.specs.Meaning.{Meaning}
+use Rattle.tree_toml.specs.Sound.{IsWhole}
+use Rattle.input_reader.specs.Stores.{store_of}
+use Rattle.crash_runner.specs.Underway.{IsRoomy}
+
+abbrev pub tally_of : MemDisk → Tally
+tally_of m = memory_tally m.counter.made (byte_count m.log) m.counter.stop
+
+abbrev pub safe_of : MemDisk → List ℕ
+safe_of m = safe_contents m.log
+
+abbrev pub MayBeLeft : MemDisk → List ℕ → Type 0
+MayBeLeft m image = MayLeave m.log image
+
+pub is_left : (m : MemDisk) → MayBeLeft m (safe_of m)
+is_left m = safe_is_left m.log
+
+pub roomy : (made written stop : ℕ) → IsRoomy (memory_tally made written stop).promise
+roomy made written stop = record { reads = omega arith; writes = omega arith; bytes = omega arith }
+
+pub unwritten : (log : List Step) → log ≡ [] → byte_count log ≡ 0
+unwritten log is = ap byte_count is
+
+pub nothing_safe : (log : List Step) → log ≡ [] → safe_contents log ≡ []
+nothing_safe log is = ap safe_contents is
+
+pub sound_of : (m : Meaning) → IsWhole m → IsSound (store_of m).setup
+sound_of m whole = subst (λ (types : ℕ). let S : Setup = record { types = types; profiles = m.profiles; tree = m.tree.rows } in IsSound S) (sym whole.types) whole.sound

@@ -1,0 +1,43 @@
+-- What is shown of a run on a disk has a name.
+use Rattle.std.proofs.Common.{◌≡◌, ◌<◌, ℕ, Bool, List, [], ◌∷◌, ◌++◌, length, get_or, refl, sym, ◌∙◌, ap, subst, arith, length-append, ℤ}
+use Rattle.std.specs.Prelude.{All}
+use Rattle.std.proofs.Math.ListN.{get_or-append}
+use Rattle.std.proofs.lemmas.List.{append-nil}
+use Rattle.teb_names.specs.declared.Cell.{Cell}
+use Rattle.teb_names.specs.declared.naming.NameBook.{NameBook}
+use Rattle.teb_history.specs.declared.Event.{Event}
+use Rattle.teb_rules.specs.Setup.{Store}
+use Rattle.teb_rules.specs.Run.{history_after}
+use Rattle.engine_core.specs.State.{IsReached}
+use Rattle.serial_order.specs.Tables.{IsFinalRows}
+use Rattle.script_text.specs.declared.Answered.{Answered}
+use Rattle.script_text.specs.Named.{ReplyNamed, RowsNamed}
+use Rattle.replay_runner.specs.Logs.{Requests, log_of}
+use Rattle.tree_toml.specs.Meaning.{Meaning}
+use Rattle.tree_toml.specs.Sound.{IsWhole, IsNamed}
+use Rattle.input_reader.specs.Stores.{store_of, names_of}
+use Rattle.input_runner.specs.Runs.{IsRunOver}
+use Rattle.input_runner.proofs.Runs.{replies_named, rows_named}
+use Rattle.crash_runner.specs.Crashes.{Course, Through, AtOnce, AtCommit}
+
+all_front : {A : Type 0} (P : A → Type 0) (xs ys : List A) → All P (xs ++ ys) → All P xs
+all_front P xs ys all k d low = subst P (get_or-append xs ys d k low) (all k d (omega (arith, low, length-append xs ys)))
+
+-- the replies that were given are the first ones
+given_first : (stop : ℕ) (log : List Answered) (commits : ℕ) (given : List Answered) (stopped : Bool) (kept : ℕ) → Course stop log commits given stopped kept → (more : List Answered) × (log ≡ given ++ more)
+given_first stop log commits given stopped kept (Through b all s n) = ([], sym all ∙ sym (append-nil given))
+given_first stop log commits given stopped kept (AtOnce b c none s n) = (log, ap (λ (w : List Answered). w ++ log) (sym none))
+given_first stop log commits given stopped kept (AtCommit b c n before s) = (before.commit ∷ before.behind, before.parts)
+
+module _ (m : Meaning) (whole : IsWhole m) (nodes : IsNamed m) where
+  over : (asked : Requests) (H : List Event) → H ≡ history_after (store_of m) [] asked → IsRunOver m (store_of m) (names_of m) (log_of (store_of m) [] asked) H
+  over asked H is = record { whole = whole; nodes = nodes; store = refl; named = refl; asked = asked; replies = refl; events = is }
+
+  pub given_named : (asked : Requests) (stop commits : ℕ) (given : List Answered) (stopped : Bool) (kept : ℕ) → Course stop (log_of (store_of m) [] asked) commits given stopped kept → All (λ (a : Answered). ReplyNamed (names_of m) a.reply) given
+  given_named asked stop commits given stopped kept course =
+      let front = given_first stop (log_of (store_of m) [] asked) commits given stopped kept course in
+      let all = replies_named m (store_of m) (names_of m) (log_of (store_of m) [] asked) (history_after (store_of m) [] asked) (over asked (history_after (store_of m) [] asked) refl) (names_of m) (given ++ front.0) refl (sym front.1) in
+      all_front (λ (a : Answered). ReplyNamed (names_of m) a.reply) given front.0 all
+
+  pub kept_named : (H : List Event) → IsReached (store_of m) H → (rows : List (Cell × ℤ)) → IsFinalRows (store_of m) H rows → RowsNamed (names_of m) rows
+  kept_named H r rows f = rows_named m (store_of m) (names_of m) (log_of (store_of m) [] r.0) H (over r.0 H r.1) rows f

@@ -1,0 +1,59 @@
+//! One request of a run on a disk.
+
+ghost use Rattle.std.specs.Prelude.{◌≡◌, ◌+◌, ◌≤◌, ◌++◌, ◌∷◌, [], OnOk, IsErrOf};
+ghost use Rattle.teb_rules.specs.Run.{history_after};
+ghost use Rattle.commit_journal.specs.Kept.{IsSameStore};
+ghost use Rattle.replay_runner.specs.Logs.{Requests, log_of};
+ghost use Rattle.crash_runner.specs.Underway.{IsUnderway, HasAsked, StopsAt, effects, weight};
+ghost use Rattle.commit_journal.specs.declared.error.DurableError.TheVariants as errors;
+ghost use Rattle.crash_runner.specs.declared.halt.Halt.TheVariants as halts;
+
+use crate::halt::Halt;
+use commit_journal::{Durable, DurableError};
+use crash_disk::Disk;
+use script_text::Answered;
+use std::alloc::Global;
+use teb_names::{Request, Session};
+use version_chain::Chains;
+
+/// Asks one request, and logs the reply. Where the disk fails, the request was a commit, and nothing is logged.
+pub(crate) fn ask<C: Chains, D: Disk>(
+    alloc: Global,
+    durable: &mut Durable<C, D>,
+    session: Session,
+    request: Request,
+    log: &mut Vec<Answered>,
+) -> Result<(), Halt>
+    requires underway { IsUnderway (D.tally durable.old.disk).promise D.tally D.safe durable.old log.old.items }
+    requires few { weight request + effects durable.old.events ≤ 65536 }
+    ensures store { IsSameStore durable.old durable.new }
+    ensures underway { OnOk result (IsUnderway (D.tally durable.old.disk).promise D.tally D.safe durable.new log.new.items) }
+    ensures asked { OnOk result (HasAsked durable.old.store ((session, request) ∷ []) log.old.items durable.old.events log.new.items durable.new.events) }
+    ensures few { OnOk result (effects durable.new.events ≤ weight request + effects durable.old.events) }
+    ensures one { OnOk result (effects durable.new.events ≤ 1 + effects durable.old.events) }
+    // Whatever would have been asked behind it.
+    ensures stopped { (rest : Requests) → IsErrOf result halts.Stopped
+        → StopsAt (D.tally durable.old.disk).promise durable.old.store (log.old.items ++ log_of durable.old.store durable.old.events ((session, request) ∷ rest)) (history_after durable.old.store durable.old.events ((session, request) ∷ rest))
+        log.new.items (D.tally durable.new.disk) (D.safe durable.new.disk) }
+{
+    match durable.ask(alloc, session, request) {
+        Ok(reply) => {
+            log.push(Answered { session, reply })?;
+            Ok(())
+        }
+        Err(error) => Err(halt_of(error)),
+    }
+}
+
+// A disk that has not failed before, and has room, can only fail now.
+fn halt_of(error: DurableError) -> Halt
+    requires running { error ≡ errors.Stopped → ⊥ }
+    requires room { error ≡ errors.Full → ⊥ }
+    ensures { result ≡ halts.Stopped → error ≡ errors.DiskFault }
+{
+    match error {
+        DurableError::DiskFault => Halt::Stopped,
+        DurableError::OutOfMemory => Halt::OutOfMemory,
+        DurableError::Stopped | DurableError::Full => unreachable!(),
+    }
+}

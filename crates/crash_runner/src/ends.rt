@@ -1,0 +1,42 @@
+//! The Ends of the sessions that hold a transaction, asked on a disk.
+
+ghost use Rattle.std.specs.Prelude.{◌≤◌, ◌++◌, map, OnOk, IsErrOf};
+ghost use Rattle.teb_rules.specs.Run.{history_after};
+ghost use Rattle.commit_journal.specs.Kept.{IsSameStore};
+ghost use Rattle.replay_runner.specs.Holders.{end_of};
+ghost use Rattle.replay_runner.specs.Logs.{Requests, log_of};
+ghost use Rattle.crash_runner.specs.Underway.{IsUnderway, HasAsked, StopsAt, effects};
+ghost use Rattle.crash_runner.specs.declared.halt.Halt.TheVariants as halts;
+
+use crate::asking::ask;
+use crate::halt::Halt;
+use commit_journal::Durable;
+use crash_disk::Disk;
+use script_text::Answered;
+use std::alloc::Global;
+use teb_names::{Request, Session};
+use version_chain::Chains;
+
+/// Asks End for each of the sessions, and logs the replies.
+pub(crate) fn ask_ends<C: Chains, D: Disk>(
+    alloc: Global,
+    durable: &mut Durable<C, D>,
+    holders: &[Session],
+    log: &mut Vec<Answered>,
+) -> Result<(), Halt>
+    requires underway { IsUnderway (D.tally durable.old.disk).promise D.tally D.safe durable.old log.old.items }
+    requires few { effects durable.old.events ≤ 65536 }
+    ensures store { IsSameStore durable.old durable.new }
+    ensures underway { OnOk result (IsUnderway (D.tally durable.old.disk).promise D.tally D.safe durable.new log.new.items) }
+    ensures asked { OnOk result (HasAsked durable.old.store (map end_of holders.now) log.old.items durable.old.events log.new.items durable.new.events) }
+    ensures few { OnOk result (effects durable.new.events ≤ 65536) }
+    // Whatever would have been asked behind them.
+    ensures stopped { (rest : Requests) → IsErrOf result halts.Stopped
+        → StopsAt (D.tally durable.old.disk).promise durable.old.store (log.old.items ++ log_of durable.old.store durable.old.events (map end_of holders.now ++ rest)) (history_after durable.old.store durable.old.events (map end_of holders.now ++ rest))
+        log.new.items (D.tally durable.new.disk) (D.safe durable.new.disk) }
+{
+    for session in holders {
+        ask(alloc, durable, *session, Request::End, log)?;
+    }
+    Ok(())
+}

@@ -1,0 +1,34 @@
+//! What is recovered from a disk that a run has left.
+
+ghost use Rattle.std.specs.Prelude.{◌≡◌, List, length, IfOk};
+ghost use Rattle.teb_names.specs.declared.Cell.{Cell};
+ghost use Rattle.teb_names.specs.Rows.{row_of, IsAscending};
+ghost use Rattle.record_journal.specs.Format.{Record, recovered, Whole};
+ghost use Rattle.record_journal.specs.Journal.{after_records};
+ghost use Rattle.crash_runner.specs.Underway.{HasRoom};
+
+use commit_journal::recover;
+use crash_disk::{Disk, MemDisk};
+use record_journal::{RecoverError, Recovered};
+use std::alloc::{AllocError, Global};
+use teb_names::Rows;
+
+/// The rows that the records of a disk leave over some starting rows, where all that was not safe is lost.
+pub(crate) fn recover_left(
+    alloc: Global,
+    disk: MemDisk,
+    start: &Rows,
+) -> Result<Recovered, AllocError>
+    requires room { HasRoom (⟦<MemDisk as Disk>⟧.tally disk) }
+    requires whole { (rs : List Record) × (recovered (⟦<MemDisk as Disk>⟧.safe disk) ≡ Whole rs) }
+    ensures found { IfOk result (λ found. (rs : List Record) → recovered (⟦<MemDisk as Disk>⟧.safe disk) ≡ Whole rs
+        → (found.commits ≡ length rs) × ((x : Cell) → row_of found.rows.items x ≡ after_records rs (row_of start.now) x)) }
+    ensures ascending { IfOk result (λ found. IsAscending found.rows.items) }
+{
+    let mut left = disk.left();
+    match recover(alloc, &mut left, start) {
+        Ok(found) => Ok(found),
+        Err(RecoverError::OutOfMemory) => Err(AllocError),
+        Err(RecoverError::DiskFault | RecoverError::Damaged { .. }) => unreachable!(),
+    }
+}

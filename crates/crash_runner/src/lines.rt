@@ -1,0 +1,40 @@
+//! The lines of a script, asked in order on a disk.
+
+ghost use Rattle.std.specs.Prelude.{◌≡◌, ◌+◌, ◌≤◌, ◌++◌, length, OnOk, IsErrOf};
+ghost use Rattle.teb_rules.specs.Run.{history_after};
+ghost use Rattle.commit_journal.specs.Kept.{IsSameStore};
+ghost use Rattle.replay_runner.specs.Logs.{Requests, log_of, requests_of};
+ghost use Rattle.crash_runner.specs.Underway.{IsUnderway, HasAsked, StopsAt, effects};
+ghost use Rattle.crash_runner.specs.declared.halt.Halt.TheVariants as halts;
+
+use crate::asking::ask;
+use crate::halt::Halt;
+use commit_journal::Durable;
+use crash_disk::Disk;
+use script_text::{Answered, Line};
+use std::alloc::Global;
+use version_chain::Chains;
+
+/// Asks each line, and logs the replies, up to the first commit at which the disk fails.
+pub(crate) fn ask_lines<C: Chains, D: Disk>(
+    alloc: Global,
+    durable: &mut Durable<C, D>,
+    lines: &[Line],
+    log: &mut Vec<Answered>,
+) -> Result<(), Halt>
+    requires underway { IsUnderway (D.tally durable.old.disk).promise D.tally D.safe durable.old log.old.items }
+    requires few { length lines.now + effects durable.old.events ≤ 65536 }
+    ensures store { IsSameStore durable.old durable.new }
+    ensures underway { OnOk result (IsUnderway (D.tally durable.old.disk).promise D.tally D.safe durable.new log.new.items) }
+    ensures asked { OnOk result (HasAsked durable.old.store (requests_of lines.now) log.old.items durable.old.events log.new.items durable.new.events) }
+    ensures few { OnOk result (effects durable.new.events ≤ length lines.now + effects durable.old.events) }
+    // Whatever would have been asked behind them.
+    ensures stopped { (rest : Requests) → IsErrOf result halts.Stopped
+        → StopsAt (D.tally durable.old.disk).promise durable.old.store (log.old.items ++ log_of durable.old.store durable.old.events (requests_of lines.now ++ rest)) (history_after durable.old.store durable.old.events (requests_of lines.now ++ rest))
+        log.new.items (D.tally durable.new.disk) (D.safe durable.new.disk) }
+{
+    for line in lines {
+        ask(alloc, durable, line.session, line.request, log)?;
+    }
+    Ok(())
+}
