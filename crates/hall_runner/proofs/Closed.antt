@@ -14,6 +14,8 @@ use Rattle.script_text.specs.declared.Answered.{Answered}
 use Rattle.script_walk.specs.Places.{requests_on}
 use Rattle.replay_runner.specs.Logs.{log_of}
 use Rattle.tree_toml.specs.Meaning.{Meaning}
+use Rattle.tree_toml.specs.Sound.{HasNames}
+use Rattle.audit_check.specs.Audit.{IsAudited}
 use Rattle.command_output.specs.Shown.{Shown}
 use Rattle.input_reader.specs.Stores.{store_of, names_of}
 use Rattle.input_runner.specs.Runs.{IsReportAfter, IsRunOver}
@@ -37,8 +39,8 @@ module _ (X Y : Store) (names book : NameBook) (setup : AreSetUp X names) (entri
     events = history;
   }
 
-  pub run_of : (s : Meaning) × (log : List Answered) × IsRunOver s Y book log H
-  run_of = (setup.setup, log_of Y [] (requests_of entries), over)
+  pub run_of : (s : Meaning) × (log : List Answered) × HasNames s × IsRunOver s Y book log H
+  run_of = (setup.setup, log_of Y [] (requests_of entries), setup.has_names, over)
 
   pub serialized_over : (o : Shown) → o.history ≡ Some H → IsSerializedOver X o.history
   serialized_over o kept =
@@ -50,8 +52,8 @@ module _ (X Y : Store) (names book : NameBook) (setup : AreSetUp X names) (entri
   pub are_served : (scripts : List (Session × List Line)) (o : Shown) → IsLegal Y entries
       → ((i : ℕ) (s : Session) (lines : List Line) → slice_get scripts i ≡ Some (s, lines) → IsWalk (requests_on lines) (entries_of s.0 entries))
       → ((s : Session) → ((i : ℕ) (lines : List Line) → slice_get scripts i ≢ Some (s, lines)) → entries_of s.0 entries ≡ [])
-      → IsPrinted Y book H o → AreServed X names scripts entries o
-  are_served scripts o legal walks others printed =
+      → IsPrinted Y book H o → IsAudited o.text → AreServed X names scripts entries o
+  are_served scripts o legal walks others printed audited =
       let same : H ≡ history_of X entries = history ∙ ap (λ (Z : Store). history_of Z entries) store in
       let all : IsPrinted X names (history_of X entries) o =
       subst (λ (Z : Store). IsPrinted Z names (history_of X entries) o) store (subst (λ (b : NameBook). IsPrinted Y b (history_of X entries) o) named (subst (λ (G : List Event). IsPrinted Y book G o) same printed)) in
@@ -62,4 +64,5 @@ module _ (X Y : Store) (names book : NameBook) (setup : AreSetUp X names) (entri
         status = all.0;
         kept = all.1;
         text = all.2;
+        audited = audited;
       }

@@ -1,2 +1,4 @@
+mod Audited
 mod Closed
 mod Walks
+mod Written

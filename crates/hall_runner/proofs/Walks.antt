@@ -15,8 +15,8 @@ use Rattle.session_server.specs.declared.hall.Hall.{Hall}
 use Rattle.session_server.specs.declared.pass.Pass.{Pass}
 use Rattle.session_server.specs.Passes.{IsWithin, number_of, seen, mine}
 use Rattle.session_server.proofs.Numbers.{has_all}
-use Rattle.thread_runner.specs.Scripted.{Scripted}
-use Rattle.thread_runner.specs.Served.{IsServed}
+use Rattle.session_tasks.specs.Scripted.{Scripted}
+use Rattle.session_tasks.specs.Served.{IsServed}
 
 -- an element with this number, of which P holds
 pick : {A : Type 0} (f : A → ℕ) (P : A → Type 0) (xs : List A) (s : ℕ) → Has (map f xs) s → All P xs → (x : A) × (f x ≡ s) × P x

@@ -12,7 +12,7 @@ use Rattle.script_text.specs.declared.Line.{Line}
 use Rattle.script_text.specs.Scripts.{scripts_of}
 use Rattle.session_server.specs.declared.pass.Pass.{Pass}
 use Rattle.tree_toml.specs.Meaning.{Meaning}
-use Rattle.tree_toml.specs.Sound.{IsWhole, IsNamed}
+use Rattle.tree_toml.specs.Sound.{IsWhole, IsNamed, HasNames}
 use Rattle.command_output.specs.Shown.{Shown}
 use Rattle.input_reader.specs.Stores.{store_of, names_of}
 use Rattle.input_reader.specs.Tasks.{Task}
@@ -48,5 +48,6 @@ pub record AreSetUp (X : Store) (names : NameBook) : Type 0 where
   pub setup : Meaning
   pub whole : IsWhole setup
   pub nodes : IsNamed setup
+  pub has_names : HasNames setup
   pub store : X ≡ store_of setup
   pub named : names ≡ names_of setup

@@ -11,6 +11,7 @@ use Rattle.teb_rules.specs.Scripts.{IsWalk, entries_of}
 use Rattle.script_text.specs.declared.Line.{Line}
 use Rattle.script_text.specs.Texts.{starts_text, event_text}
 use Rattle.script_walk.specs.Places.{requests_on}
+use Rattle.audit_check.specs.Audit.{IsAudited}
 use Rattle.command_output.specs.Shown.{Shown}
 use Rattle.input_runner.specs.Runs.{IsReportAfter}
 
@@ -18,7 +19,7 @@ use Rattle.input_runner.specs.Runs.{IsReportAfter}
 abbrev pub lines_of_run : Store → NameBook → List Event → List ℕ
 lines_of_run X names H = starts_text names X.rows ++ flat_map (event_text names) (reverse H)
 
--- the entries are one legal run; those of each session with a script are a whole walk along it, and no other session has one; what is shown is the run's own history, the lines of that and the report
+-- the entries are one legal run; those of each session with a script are a whole walk along it, and no other session has one; what is shown is the run's own history, and the lines of that and the report, which are audited
 pub record AreServed (X : Store) (names : NameBook) (scripts : List (Session × List Line)) (entries : List Entry) (d : Shown) : Type 0 where
   pub legal : IsLegal X entries
   pub walks : (i : ℕ) (s : Session) (lines : List Line) → slice_get scripts i ≡ Some (s, lines) → IsWalk (requests_on lines) (entries_of s.0 entries)
@@ -26,3 +27,4 @@ pub record AreServed (X : Store) (names : NameBook) (scripts : List (Session × 
   pub status : d.status ≡ 0
   pub kept : d.history ≡ Some (history_of X entries)
   pub text : IsReportAfter (lines_of_run X names (history_of X entries)) X names (history_of X entries) d.text
+  pub audited : IsAudited d.text

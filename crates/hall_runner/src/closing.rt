@@ -5,7 +5,7 @@ ghost use Rattle.teb_history.specs.Phases.{numbers};
 ghost use Rattle.teb_rules.specs.Driver.{Ascending};
 ghost use Rattle.fair_driver.specs.Seats.{scripts_on};
 ghost use Rattle.session_server.specs.Passes.{base_of, number_of};
-ghost use Rattle.thread_runner.specs.Served.{IsServed};
+ghost use Rattle.session_tasks.specs.Served.{IsServed};
 ghost use Rattle.hall_runner.specs.Outcomes.{IsServedOver, IsSerializedOver, AreSetUp, history_in};
 
 use crate::printed::output_of;

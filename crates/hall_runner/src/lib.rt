@@ -4,7 +4,7 @@
 mod closing;
 mod printed;
 mod served;
-mod threads;
+mod serving;
 
 pub use served::Served;
-pub use threads::serve_by_threads;
+pub use serving::{serve_by_pool, serve_by_threads};

@@ -1,4 +1,1 @@
-pub mod Placing
 pub mod Dealing
-pub mod Serving
-pub mod Distinct

@@ -1,11 +1,19 @@
 -- The tasks as they are dealt to the workers.
-use Rattle.std.specs.Prelude.{◌≡◌, ℕ, ◌<◌, ◌==◌, if◌then◌else◌, List, [], ◌∷◌, ◌++◌, length, slice_index_or, Vec}
+use Rattle.std.specs.Prelude.{◌≡◌, ℕ, ◌<◌, ◌==◌, ◌%◌, if◌then◌else◌, List, [], ◌∷◌, ◌++◌, length, slice_index_or, Option, Some, None, Vec}
 use Rattle.std.specs.declared.alloc.Global.{Global}
 use Rattle.version_chain.specs.declared.chains.Chains.{Ghosts}
 use Rattle.session_server.specs.declared.hall.Hall.{Hall}
-use Rattle.thread_runner.specs.Scripted.{Scripted, hand_of}
-use Rattle.thread_runner.specs.Tasks.{AreTasks}
-use Rattle.thread_runner.specs.declared.task.Task.{Task}
+use Rattle.session_tasks.specs.Scripted.{Scripted, place_in}
+use Rattle.session_tasks.specs.Tasks.{AreTasks}
+use Rattle.session_tasks.specs.declared.task.Task.{Task}
+
+-- the workers take the scripts in turn; a session without a script is with the first
+abbrev pub hand_at : ℕ → Option ℕ → ℕ
+hand_at workers None = 0
+hand_at workers (Some i) = i % workers
+
+abbrev pub hand_of : Scripted → ℕ → ℕ → ℕ
+hand_of scripts workers s = hand_at workers (place_in scripts s)
 
 -- those of the sessions that are in a hand. The first of them lies on top, that is, stands last
 abbrev pub held : (ℕ → ℕ) → ℕ → List ℕ → List ℕ

@@ -1,4 +1,1 @@
-pub mod Scripted
-pub mod Served
-pub mod Tasks
 pub mod Hands

@@ -5,33 +5,30 @@ ghost use Rattle.teb_history.specs.Phases.{numbers};
 ghost use Rattle.session_server.specs.Passes.{IsNew, number_of};
 ghost use Rattle.thread_runner.specs.Hands.{AreDealt};
 
-use crate::place::hand_of;
-use crate::run::Run;
-use crate::task::Task;
+use crate::hand::hand_of;
 use session_server::{Gate, Pass};
+use session_tasks::{Run, Task};
 use std::alloc::{AllocError, Global};
 use version_chain::Chains;
 
-impl<C: Chains, G: Gate> Run<'_, C, G> {
-    /// Begins a task for each pass, and deals them into so many hands, the last session first.
-    pub(crate) fn deal(
-        &self,
-        alloc: Global,
-        mut passes: Vec<Pass<C>>,
-        workers: usize,
-    ) -> Result<Vec<Vec<Task<C>>>, AllocError>
-        requires workers { 0 < workers }
-        requires sessions { map number_of passes.items ≡ numbers 32 }
-        requires new { All (IsNew self.now.hall.now) passes.items }
-        ensures { IfOk result (λ v. AreDealt self.now.hall.now self.now.scripts.now workers (numbers 32) v.items) }
-    {
-        let mut hands = empty_hands(alloc, workers)?;
-        while let Some(pass) = passes.pop() {
-            let hand = hand_of(self.scripts, pass.session(), workers);
-            hands[hand].push(self.begin(pass))?;
-        }
-        Ok(hands)
+/// Begins a task for each pass, and deals them into so many hands, the last session first.
+pub(crate) fn deal<C: Chains, G: Gate>(
+    run: &Run<'_, C, G>,
+    alloc: Global,
+    mut passes: Vec<Pass<C>>,
+    workers: usize,
+) -> Result<Vec<Vec<Task<C>>>, AllocError>
+    requires workers { 0 < workers }
+    requires sessions { map number_of passes.items ≡ numbers 32 }
+    requires new { All (IsNew run.now.hall.now) passes.items }
+    ensures { IfOk result (λ v. AreDealt run.now.hall.now run.now.scripts.now workers (numbers 32) v.items) }
+{
+    let mut hands = empty_hands(alloc, workers)?;
+    while let Some(pass) = passes.pop() {
+        let hand = hand_of(run.scripts, pass.session(), workers);
+        hands[hand].push(run.begin(pass))?;
     }
+    Ok(hands)
 }
 
 /// So many hands with nothing in them.

@@ -3,26 +3,19 @@
 ghost use Rattle.std.specs.Prelude.{◌≡◌, ◌≤◌, All, map, IfOk, IfErr};
 ghost use Rattle.teb_history.specs.Phases.{numbers};
 ghost use Rattle.session_server.specs.Passes.{IsNew, number_of};
-ghost use Rattle.thread_runner.specs.Scripted.{AreDistinct};
-ghost use Rattle.thread_runner.specs.Served.{IsServed, IsCause};
+ghost use Rattle.session_tasks.specs.Scripted.{AreDistinct};
+ghost use Rattle.session_tasks.specs.Served.{IsServed, IsCause};
 
+use crate::deal::deal;
+use crate::gather::gather;
+use crate::worker::work;
 use script_text::Scripts;
 use session_server::{Gate, Hall, Pass, RunError};
+use session_tasks::Run;
 use std::alloc::Global;
 use std::sync::Wait;
 use std::thread::Threads;
 use version_chain::Chains;
-
-/// How many sessions there are.
-pub(crate) const SESSIONS: u8 = 32;
-
-/// What a run is over: the hall, the scripts of its sessions, and the gate that is called round each request.
-#[derive(Drop)]
-pub(crate) struct Run<'a, C: Chains, G> {
-    pub hall: &'a Hall<C>,
-    pub scripts: &'a Scripts,
-    pub gate: &'a G,
-}
 
 /// Serves each session that has a script along it, by so many workers, from 1 to 16, each in a thread of its own.
 ///
@@ -56,10 +49,10 @@ pub fn run_threads<C: Chains + Send, G: Gate + Sync, R: Threads + Wait + Sync>(
         scripts,
         gate,
     };
-    let Ok(mut hands) = run.deal(alloc, passes, usize::from(workers)) else {
+    let Ok(mut hands) = deal(&run, alloc, passes, usize::from(workers)) else {
         return Err(RunError::OutOfMemory);
     };
-    run.work(rt, &mut hands);
-    let tasks = run.gather(alloc, hands)?;
+    work(&run, rt, &mut hands);
+    let tasks = gather(&run, alloc, hands)?;
     run.finish(rt, alloc, tasks)
 }

@@ -1,0 +1,73 @@
+//! A stop word, raised before a session is served.
+
+ghost use Rattle.std.specs.Prelude.{◌≡◌, All, map};
+ghost use Rattle.teb_history.specs.Phases.{numbers};
+ghost use Rattle.session_server.specs.Passes.{IsPassOf, IsNew, number_of};
+
+use crate::hold::Unheld;
+use crate::plain::{ANY, CELL, plain_hall};
+use script_text::Line;
+use session_server::{Hall, Pass, Stops, Walker, serve};
+use std::process::Abort;
+use std::sync::Wait;
+use std::sync::atomic::AtomicIn;
+use std::test::Fail;
+use teb_history::History;
+use teb_names::{Request, Session};
+use version_chain::Chains;
+
+fn line(number: u32, request: Request) -> Line {
+    Line {
+        number,
+        session: Session(32),
+        request,
+    }
+}
+
+fn script() -> [Line; 3] {
+    [
+        line(1, Request::Begin(ANY)),
+        line(2, Request::Write(CELL, 5)),
+        line(3, Request::Commit),
+    ]
+}
+
+// A raised word stops the session before it asks. Without one it goes on from there, to the end of its script.
+fn stop_and_go_on<C: Chains, R: Wait + Abort>(rt: &R, hall: &Hall<C>, pass: &mut Pass<C>)
+    requires { IsNew hall.now pass.old }
+    ensures { IsPassOf hall.now pass.new × (pass.new.session ≡ pass.old.session) }
+{
+    let raised: AtomicIn<Stops> = AtomicIn::new(1);
+    let lines = script();
+    let mut walker = Walker::new();
+    let stopped = serve(rt, hall, pass, &lines, &mut walker, Some(&raised), &Unheld);
+    assert_eq!(rt; stopped, Ok(false));
+    assert_eq!(rt; pass.asks(), 0);
+    let ended = serve::<C, Unheld, Stops, R>(rt, hall, pass, &lines, &mut walker, None, &Unheld);
+    assert_eq!(rt; ended, Ok(true));
+    assert_eq!(rt; pass.asks(), 3);
+}
+
+// The history once session 32 was stopped and has gone on.
+fn history_after<C: Chains, R: Wait + Abort>(
+    rt: &R,
+    hall: Hall<C>,
+    mut passes: Vec<Pass<C>>,
+) -> History
+    requires new { All (IsNew hall) passes.items }
+    requires sessions { map number_of passes.items ≡ numbers 32 }
+{
+    let mut pass = passes.pop().expect(rt, "session 32");
+    stop_and_go_on(rt, &hall, &mut pass);
+    passes.push_reserved(pass);
+    let (engine, _) = hall.close(passes);
+    engine.into_history()
+}
+
+#[test]
+fn a_session_that_was_stopped_goes_on_to_its_end(rt: HostRuntime) -> Result<(), Fail> {
+    let (hall, passes) = plain_hall(&rt, rt.alloc())?;
+    let history = history_after(&rt, hall, passes);
+    assert_eq!(rt; history.len(), 3);
+    Ok(())
+}

@@ -1,0 +1,127 @@
+//! Sessions served by several workers at the same time.
+
+use crate::hold::{Hold, Place, Unheld};
+use hall_runner::{Served, serve_by_pool, serve_by_threads};
+use input_reader::{Input, read_input};
+use session_server::Gate;
+use std::alloc::{AllocError, Global};
+use std::process::Abort;
+use std::sync::Wait;
+use std::test::Fail;
+use std::thread::Threads;
+use teb_history::Event;
+use teb_io::MemSource;
+use teb_names::Session;
+
+/// How many transactions each session has, where it has many.
+const MANY: usize = 100;
+
+/// A transaction of each of three sessions, on a cell of its own.
+const FIRST: &[u8] = b"1 begin any\n1 add t 1 1\n1 commit\n";
+
+const SECOND: &[u8] = b"2 begin any\n2 add t 2 1\n2 commit\n";
+
+const THIRD: &[u8] = b"3 begin any\n3 add t 3 1\n3 commit\n";
+
+fn input_of(alloc: Global, text: Vec<u8>) -> Result<Input, Fail> {
+    let mut source = MemSource::new(text, 4096, Vec::new(alloc));
+    Ok(read_input(alloc, &mut source)?)
+}
+
+// How many transactions commit where two workers serve the scripts of an input.
+fn commits<R: Threads + Wait + Abort + Sync, G: Gate + Sync>(
+    rt: &R,
+    alloc: Global,
+    text: Vec<u8>,
+    gate: &G,
+) -> Result<usize, Fail> {
+    let input = input_of(alloc, text)?;
+    let served = serve_by_threads(rt, alloc, input, 2, gate)?;
+    Ok(commits_in(rt, served))
+}
+
+// The same where the two workers take the sessions from a queue.
+fn pool_commits<R: Threads + Wait + Abort + Sync, G: Gate + Sync>(
+    rt: &R,
+    alloc: Global,
+    text: Vec<u8>,
+    gate: &G,
+) -> Result<usize, Fail> {
+    let input = input_of(alloc, text)?;
+    let served = serve_by_pool(rt, alloc, input, 2, gate)?;
+    Ok(commits_in(rt, served))
+}
+
+fn commits_in<R: Abort>(rt: &R, served: Served) -> usize {
+    match served {
+        Served::Through { output, .. } => {
+            let (_, _, history) = output.into_parts();
+            let history = history.expect(rt, "a history");
+            done_count(history.events())
+        }
+        Served::Spent(_) => panic!(rt; "a pass is spent"),
+    }
+}
+
+fn done_count(events: &[Event]) -> usize {
+    events
+        .iter()
+        .filter(|event| matches!(event, Event::Done(_)))
+        .count()
+}
+
+// The scripts of two sessions, each with so many transactions, on a cell of its own.
+fn scripts_of_two(alloc: Global, transactions: usize) -> Result<Vec<u8>, AllocError> {
+    let mut text = b"%%\n".to_vec(alloc)?;
+    for _ in 0..transactions {
+        text.extend_from_slice(FIRST)?;
+    }
+    for _ in 0..transactions {
+        text.extend_from_slice(SECOND)?;
+    }
+    Ok(text)
+}
+
+// One thread that served both sessions would never come to the second: it is held at the first line of the first.
+#[test]
+fn a_session_is_served_while_another_is_held(rt: HostRuntime) -> Result<(), Fail> {
+    let first = Place {
+        session: Session(1),
+        line: 1,
+    };
+    let last = Place {
+        session: Session(2),
+        line: 6,
+    };
+    let gate = Hold::new(first, last);
+    let text = scripts_of_two(rt.alloc(), 1)?;
+    assert_eq!(rt; commits(&rt, rt.alloc(), text, &gate)?, 2);
+    assert!(rt; !gate.gave_up());
+    Ok(())
+}
+
+// Where session i went to worker i mod 2, session 3 would wait behind session 1, which is held for it.
+#[test]
+fn a_worker_takes_the_next_session_while_another_is_held(rt: HostRuntime) -> Result<(), Fail> {
+    let first = Place {
+        session: Session(1),
+        line: 1,
+    };
+    let last = Place {
+        session: Session(3),
+        line: 9,
+    };
+    let gate = Hold::new(first, last);
+    let mut text = scripts_of_two(rt.alloc(), 1)?;
+    text.extend_from_slice(THIRD)?;
+    assert_eq!(rt; pool_commits(&rt, rt.alloc(), text, &gate)?, 3);
+    assert!(rt; !gate.gave_up());
+    Ok(())
+}
+
+#[test]
+fn two_threads_commit_all_that_they_are_asked(rt: HostRuntime) -> Result<(), Fail> {
+    let text = scripts_of_two(rt.alloc(), MANY)?;
+    assert_eq!(rt; commits(&rt, rt.alloc(), text, &Unheld)?, 2 * MANY);
+    Ok(())
+}

@@ -1,0 +1,9 @@
+pub mod Sums
+pub mod Risings
+pub mod Handing
+pub mod Scripting
+pub mod Takings
+pub mod Ordering
+pub mod Pushing
+pub mod Working
+pub mod Dividing

@@ -1,0 +1,9 @@
+use Rattle.std.proofs.Common.{◌≡◌, [], All, vec_len, vec_capacity}
+use Rattle.session_pool.proofs.run.empty_hands.Given as goal
+
+abbrev pub invariant-loop : goal.invariant-loop
+invariant-loop g l = record {
+  len : vec_len l.hands ≡ l.counter;
+  room : vec_capacity l.hands ≡ l.workers;
+  empty : All (λ hand. hand.items ≡ []) l.hands.items;
+}

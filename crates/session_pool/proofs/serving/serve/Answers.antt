@@ -1,0 +1,32 @@
+use Rattle.std.proofs.Common.{◌≡◌, ◌+◌, ◌-◌, ◌<◌, vec_len, vec_capacity, length, ap, ◌∙◌, arith}
+use Rattle.teb_names.specs.declared.Session.{Session}
+use Rattle.session_tasks.specs.Tasks.{number_in}
+use Rattle.session_pool.proofs.Working.{at_work_on, at_work_room}
+use Rattle.session_pool.proofs.serving.serve.Goals as goal
+
+pub push_reserved-requires : goal.push_reserved-requires
+push_reserved-requires g c =
+    let w = c.loop-task.worker in
+    let inv = c.loop-task.invariant in
+    let t = rw c.in-Some.is at c.take.ensures.taken in
+    let l = at_work_room c.args.run.now.hall.now c.args.run.now.scripts.now c.args.line.now w inv t.1.0 in
+    let z = w.hand.ok.0 in
+    let r = inv.room in omega arith
+
+pub loop-task-preserved : goal.loop-task-preserved
+loop-task-preserved g c =
+    let t = rw c.in-Some.is at c.take.ensures.taken in
+    at_work_on c.args.run.now.hall.now c.args.run.now.scripts.now c.args.line.now c.loop-task.worker c.take.new.token c.push_reserved.new.self c.advance.new.task (number_in c.in-Some.task) c.loop-task.invariant c.take.ensures.token t.0 t.1
+    c.advance.ensures.task (ap (λ (s : Session). s.0) c.advance.ensures.session) c.push_reserved.ensures.items c.push_reserved.ensures.capacity
+
+pub returns-in-Open : goal.returns-in-Open
+returns-in-Open g c =
+    let t = rw c.in-Some.is at c.take.ensures.taken in
+    at_work_on c.args.run.now.hall.now c.args.run.now.scripts.now c.args.line.now c.loop-task.worker c.take.new.token c.push_reserved.new.self c.advance.new.task (number_in c.in-Some.task) c.loop-task.invariant c.take.ensures.token t.0 t.1
+    c.advance.ensures.task (ap (λ (s : Session). s.0) c.advance.ensures.session) c.push_reserved.ensures.items c.push_reserved.ensures.capacity
+
+pub returns-in-Failed : goal.returns-in-Failed
+returns-in-Failed g c =
+    let t = rw c.in-Some.is at c.take.ensures.taken in
+    at_work_on c.args.run.now.hall.now c.args.run.now.scripts.now c.args.line.now c.loop-task.worker c.take.new.token c.push_reserved.new.self c.advance.new.task (number_in c.in-Some.task) c.loop-task.invariant c.take.ensures.token t.0 t.1
+    c.advance.ensures.task (ap (λ (s : Session). s.0) c.advance.ensures.session) c.push_reserved.ensures.items c.push_reserved.ensures.capacity

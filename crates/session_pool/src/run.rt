@@ -1,0 +1,164 @@
+//! The run of all sessions.
+
+ghost use Rattle.std.specs.Prelude.{◌≡◌, ℕ, ◌<◌, ◌≤◌, [], All, map, length, IfOk, IfErr};
+ghost use Rattle.std.specs.VecDeque.{deque_len};
+ghost use Rattle.teb_history.specs.Phases.{numbers};
+ghost use Rattle.turn_lock.specs.Counts.{total};
+ghost use Rattle.session_server.specs.Passes.{IsNew, number_of};
+ghost use Rattle.session_tasks.specs.Scripted.{AreDistinct};
+ghost use Rattle.session_tasks.specs.Served.{IsServed, IsCause};
+ghost use Rattle.session_tasks.specs.Tasks.{IsTask, number_in};
+ghost use Rattle.session_pool.specs.Hands.{AreHands};
+ghost use Rattle.session_pool.specs.Suits.{Suits};
+ghost use Rattle.session_pool.specs.Taken.{AreTaken, numbers_in};
+ghost use Rattle.session_pool.specs.Waits.{IsUnused, IsWaiting, number_at, scripted};
+
+use crate::divide::divide;
+use crate::filling::fill;
+use crate::order::{all_tasks, in_order, sessions_in};
+use crate::queue::{Line, Roster};
+use crate::rest::{dismiss, take_rest};
+use crate::serving::{hire, work};
+use crate::waiting::Waiting;
+use script_text::Scripts;
+use session_server::{Gate, Hall, Pass, RunError};
+use session_tasks::{Run, Task};
+use std::alloc::{AllocError, Global};
+use std::collections::VecDeque;
+use std::marker::Brand;
+use std::sync::Wait;
+use std::thread::Threads;
+use teb_names::Session;
+use version_chain::Chains;
+
+/// What a run by a queue leaves.
+#[derive(Drop)]
+pub struct Pooled<C: Chains> {
+    /// The passes of the sessions 1 to 32, in order.
+    pub passes: Vec<Pass<C>>,
+    /// The sessions that each worker took, in order.
+    pub taken: Vec<Vec<Session>>,
+}
+
+/// Serves each session that has a script along it, by so many workers, from 1 to 16, each in a thread of its own.
+///
+/// The sessions wait in a queue, in ascending order, and a worker takes the next when it is through with one. Where no
+/// thread can be made the workers go one after another. A worker whose session meets an error stops the others; where
+/// no session met one, the caller serves on those that were stopped, and then takes and serves, as the first worker, what
+/// is left in the queue. `Ok` hands back the passes of the sessions 1 to 32 in order, and whom each worker took.
+///
+/// # Errors
+/// The error of the least session that met one. `PassSpent` hands back the pass that has asked 2^40 times. The other
+/// passes are gone, so the hall cannot be closed.
+pub fn run_pool<C: Chains + Send, G: Gate + Sync, R: Threads + Wait + Sync>(
+    rt: &R,
+    alloc: Global,
+    hall: &Hall<C>,
+    passes: Vec<Pass<C>>,
+    scripts: &Scripts,
+    workers: u8,
+    gate: &G,
+) -> Result<Pooled<C>, RunError<C>>
+    requires sessions { map number_of passes.items ≡ numbers 32 }
+    requires new { All (IsNew hall.now) passes.items }
+    requires scripts { AreDistinct scripts.now }
+    requires workers { 1 ≤ workers }
+    ensures sessions { IfOk result (λ p. map number_of p.passes.items ≡ numbers 32) }
+    ensures served { IfOk result (λ p. All (IsServed hall.now scripts.now) p.passes.items) }
+    ensures taken { IfOk result (λ p. AreTaken scripts.now workers (numbers_in p.taken.items)) }
+    ensures cause { IfErr result (IsCause hall.now scripts.now) }
+{
+    let run = Run {
+        hall,
+        scripts,
+        gate,
+    };
+    let Ok((taken, tasks)) = serve_all(rt, alloc, &run, passes, workers) else {
+        return Err(RunError::OutOfMemory);
+    };
+    let tasks = in_order(&run, tasks)?;
+    let passes = run.finish(rt, alloc, tasks)?;
+    Ok(Pooled { passes, taken })
+}
+
+/// Whom each worker took, and the tasks of all sessions.
+fn serve_all<C: Chains + Send, G: Gate + Sync, R: Threads + Wait + Sync>(
+    rt: &R,
+    alloc: Global,
+    run: &Run<'_, C, G>,
+    passes: Vec<Pass<C>>,
+    workers: u8,
+) -> Result<(Vec<Vec<Session>>, Vec<Task<C>>), AllocError>
+    requires sessions { map number_of passes.items ≡ numbers 32 }
+    requires new { All (IsNew run.now.hall.now) passes.items }
+    requires workers { 1 ≤ workers }
+    ensures taken { IfOk result (λ r. AreTaken run.now.scripts.now workers (numbers_in r.0.items)) }
+    ensures tasks { IfOk result (λ r. All (IsTask run.now.hall.now run.now.scripts.now) r.1.items) }
+    ensures all { IfOk result (λ r. (weight : ℕ → ℕ) → total weight (map number_in r.1.items) ≡ total weight (numbers 32)) }
+{
+    let divided = divide(run, alloc, passes)?;
+    let hands = fill_hands(rt, alloc, run, divided.waiting, workers)?;
+    let taken = sessions_in(alloc, &hands)?;
+    let tasks = all_tasks(divided.idle, hands)?;
+    Ok((taken, tasks))
+}
+
+/// The hands of the workers, after all that waits was taken.
+fn fill_hands<C: Chains + Send, G: Gate + Sync, R: Threads + Wait + Sync>(
+    rt: &R,
+    alloc: Global,
+    run: &Run<'_, C, G>,
+    waiting: VecDeque<Waiting<C>>,
+    workers: u8,
+) -> Result<Vec<Vec<Task<C>>>, AllocError>
+    requires workers { 1 ≤ workers }
+    requires waiting { map number_at waiting.items ≡ scripted run.now.scripts.now }
+    requires fitting { All (IsWaiting run.now.hall.now) waiting.items }
+    ensures { IfOk result (λ v. AreHands run.now.hall.now run.now.scripts.now workers (scripted run.now.scripts.now) v.items) }
+{
+    if waiting.is_empty() {
+        return empty_hands(alloc, workers);
+    }
+    by_queue::<Brand, C, G, R>(rt, alloc, run, waiting, workers)
+}
+
+/// So many hands with nothing in them.
+fn empty_hands<C: Chains>(alloc: Global, workers: u8) -> Result<Vec<Vec<Task<C>>>, AllocError>
+    ensures count { IfOk result (λ v. length v.items ≡ workers) }
+    ensures empty { IfOk result (λ v. All (λ hand. hand.items ≡ []) v.items) }
+{
+    let mut hands = Vec::with_capacity(alloc, usize::from(workers))?;
+    for _ in 0..workers {
+        hands.push_reserved(Vec::new(alloc));
+    }
+    Ok(hands)
+}
+
+/// The hands of the workers, after they took what waits from a queue.
+fn by_queue<J, C, G, R>(
+    rt: &R,
+    alloc: Global,
+    run: &Run<'_, C, G>,
+    waiting: VecDeque<Waiting<C>>,
+    workers: u8,
+) -> Result<Vec<Vec<Task<C>>>, AllocError>
+where
+    C: Chains + Send,
+    G: Gate + Sync,
+    J: Roster + Send + Sync,
+    R: Threads + Wait + Sync,
+    requires workers { 1 ≤ workers }
+    requires some { 0 < deque_len waiting }
+    requires suits { Suits run.now.hall.now J.numbers J.hall }
+    requires numbers { map number_at waiting.items ≡ J.numbers }
+    requires unused { All (IsUnused J.hall) waiting.items }
+    ensures { IfOk result (λ v. AreHands run.now.hall.now run.now.scripts.now workers J.numbers v.items) }
+{
+    let (line, mut token) = Line::<C, J>::ruled(alloc, waiting.len())?;
+    fill(rt, &line, &mut token, waiting);
+    let mut workers = hire(alloc, &line, &mut token, workers)?;
+    work(rt, run, &line, &mut workers);
+    let mut hands = dismiss(alloc, &line, &mut token, workers)?;
+    take_rest(rt, run, &line, &mut token, &mut hands[0]);
+    Ok(hands)
+}

@@ -1,0 +1,118 @@
+//! The workers.
+
+ghost use Rattle.std.specs.Prelude.{◌≡◌, ◌-◌, ◌<◌, [], true, All, length, IfOk, IfSome, IfNone, OnOk, vec_len};
+ghost use Rattle.crossbeam_queue.specs.Passes.{view, IsPassOf};
+ghost use Rattle.session_tasks.specs.Tasks.{IsTask, number_in};
+ghost use Rattle.session_pool.specs.HandedOut.{IsTaken};
+ghost use Rattle.session_pool.specs.Suits.{Suits};
+ghost use Rattle.session_pool.specs.Tallies.{tally, after_pop};
+ghost use Rattle.session_pool.specs.Workers.{IsHired, IsAtWork};
+
+use crate::queue::{Line, Roster, Token};
+use crate::steps::{Part, Take};
+use crate::worker::Worker;
+use session_server::{Gate, Stops};
+use session_tasks::{Progress, Run, SESSIONS, Task};
+use std::alloc::{AllocError, Global};
+use std::sync::Wait;
+use std::sync::atomic::AtomicIn;
+use std::sync::atomic::Ordering::SeqCst;
+use std::thread;
+use std::thread::Threads;
+use version_chain::Chains;
+
+/// So many workers with nothing in their hands. The token gives a part to each.
+pub(crate) fn hire<C: Chains, J: Roster>(
+    alloc: Global,
+    line: &Line<C, J>,
+    token: &mut Token<C>,
+    workers: u8,
+) -> Result<Vec<Worker<C>>, AllocError>
+    requires token { IsPassOf line.now token.old × (view token.old ≡ tally 256 true (length J.numbers) []) }
+    ensures token { IsPassOf line.now token.new }
+    ensures knows { OnOk result (view token.new ≡ tally (256 - workers) true (length J.numbers) []) }
+    ensures count { IfOk result (λ v. vec_len v ≡ workers) }
+    ensures workers { IfOk result (λ v. All (IsHired line.now) v.items) }
+{
+    let mut hired = Vec::with_capacity(alloc, usize::from(workers))?;
+    for _ in 0..workers {
+        let hand = Vec::with_capacity(alloc, usize::from(SESSIONS))?;
+        let token = line.another::<Part>(token);
+        hired.push_reserved(Worker { token, hand });
+    }
+    Ok(hired)
+}
+
+/// Has each worker take sessions and serve them, in a thread of its own.
+pub(crate) fn work<C, G, J, R>(
+    rt: &R,
+    run: &Run<'_, C, G>,
+    line: &Line<C, J>,
+    workers: &mut [Worker<C>],
+)
+where
+    C: Chains + Send,
+    G: Gate + Sync,
+    J: Roster + Send + Sync,
+    R: Threads + Wait + Sync,
+    requires some { 0 < length workers.old }
+    requires suits { Suits run.now.hall.now J.numbers J.hall }
+    requires workers { All (IsAtWork line.now run.now.hall.now run.now.scripts.now) workers.old }
+    ensures { All (IsAtWork line.now run.now.hall.now run.now.scripts.now) workers.new }
+{
+    let stop = AtomicIn::<Stops>::new(0);
+    let threads = workers.len();
+    thread::for_each_mut(
+        rt,
+        workers,
+        threads,
+        &|_, worker| serve(rt, run, line, worker, &stop),
+    );
+}
+
+/// Takes sessions from the queue and serves them, until none is left, or one is stopped or meets an error.
+fn serve<C: Chains, G: Gate, J: Roster, R: Wait>(
+    rt: &R,
+    run: &Run<'_, C, G>,
+    line: &Line<C, J>,
+    worker: &mut Worker<C>,
+    stop: &AtomicIn<Stops>,
+)
+    requires suits { Suits run.now.hall.now J.numbers J.hall }
+    requires worker { IsAtWork line.now run.now.hall.now run.now.scripts.now worker.old }
+    ensures { IsAtWork line.now run.now.hall.now run.now.scripts.now worker.new }
+{
+    while let Some(mut task) = take(rt, run, line, &mut worker.token) {
+        run.advance(rt, &mut task, Some(stop));
+        let progress = task.progress;
+        worker.hand.push_reserved(task);
+        match progress {
+            Progress::Through => {}
+            Progress::Open => return,
+            Progress::Failed(_) => {
+                stop.store(1, SeqCst);
+                return;
+            }
+        }
+    }
+}
+
+/// Takes the next session from the queue, and begins it.
+fn take<C: Chains, G: Gate, J: Roster, R: Wait>(
+    rt: &R,
+    run: &Run<'_, C, G>,
+    line: &Line<C, J>,
+    token: &mut Token<C>,
+) -> Option<Task<C>>
+    requires suits { Suits run.now.hall.now J.numbers J.hall }
+    requires token { IsPassOf line.now token.old × (0 < (view token.old).parts) }
+    ensures token { IsPassOf line.now token.new }
+    ensures task { IfSome result (IsTask run.now.hall.now run.now.scripts.now) }
+    ensures taken { IfSome result (λ t. (view token.new ≡ after_pop (view token.old) (number_in t)) × IsTaken 32 (view token.old) (view token.new)) }
+    ensures none { IfNone result (view token.new ≡ view token.old) }
+{
+    match line.pop_as::<Take<J>, R>(rt, token) {
+        Some(next) => Some(run.begin(next.pass)),
+        None => None,
+    }
+}

@@ -1,0 +1,4 @@
+pub mod Placing
+pub mod InOrder
+pub mod Serving
+pub mod Distinct

@@ -1,0 +1,3 @@
+pub mod Scripted
+pub mod Served
+pub mod Tasks

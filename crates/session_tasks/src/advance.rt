@@ -1,0 +1,77 @@
+//! How a session is begun and served on.
+
+ghost use Rattle.std.specs.Prelude.{◌≡◌};
+ghost use Rattle.std.specs.Option.{IsSome};
+ghost use Rattle.session_server.specs.Passes.{IsNew};
+ghost use Rattle.session_tasks.specs.Tasks.{IsTask, progress_at, progress_after};
+ghost use Rattle.session_tasks.specs.declared.task.Progress.TheVariants.{Open};
+
+use crate::place::{lines_at, place_in};
+use crate::run::Run;
+use crate::task::{Progress, Task};
+use script_walk::Walker;
+use session_server::{AskError, Gate, Pass, serve};
+use std::sync::Wait;
+use std::sync::atomic::{AtomicIn, Rule};
+use version_chain::Chains;
+
+impl<C: Chains, G: Gate> Run<'_, C, G> {
+    /// A session before its first request.
+    pub fn begin(&self, pass: Pass<C>) -> Task<C>
+        requires { IsNew self.now.hall.now pass }
+        ensures task { IsTask self.now.hall.now self.now.scripts.now result }
+        ensures session { result.pass.session ≡ pass.session }
+    {
+        let place = place_in(self.scripts, pass.session());
+        Task {
+            place,
+            pass,
+            walker: Walker::new(),
+            progress: progress_at(place),
+        }
+    }
+
+    /// Serves a session from where it stands, unless that is over. It stays open only where there is a stop word.
+    pub fn advance<S: Rule, R: Wait>(&self, rt: &R, task: &mut Task<C>, stop: Option<&AtomicIn<S>>)
+        requires { IsTask self.now.hall.now self.now.scripts.now task.old }
+        ensures task { IsTask self.now.hall.now self.now.scripts.now task.new }
+        ensures session { task.new.pass.session ≡ task.old.pass.session }
+        ensures stopped { task.new.progress ≡ Open → IsSome stop.entry }
+    {
+        if task.progress != Progress::Open {
+            return;
+        }
+        let lines = lines_at(self.scripts, task.place);
+        let answer = serve(
+            rt,
+            self.hall,
+            &mut task.pass,
+            lines,
+            &mut task.walker,
+            stop,
+            self.gate,
+        );
+        task.progress = progress_after(answer);
+    }
+}
+
+/// How far a session has come before its first request: one without a script is through.
+fn progress_at(place: Option<usize>) -> Progress
+    ensures { result ≡ progress_at place }
+{
+    match place {
+        Some(_) => Progress::Open,
+        None => Progress::Through,
+    }
+}
+
+/// How far a session has come, after it was served.
+fn progress_after(answer: Result<bool, AskError>) -> Progress
+    ensures { result ≡ progress_after answer }
+{
+    match answer {
+        Ok(true) => Progress::Through,
+        Ok(false) => Progress::Open,
+        Err(error) => Progress::Failed(error),
+    }
+}

@@ -1,0 +1,69 @@
+//! How the sessions that were stopped are served to their end.
+
+ghost use Rattle.std.specs.Prelude.{◌≡◌, All, map, IfOk, IfErr};
+ghost use Rattle.teb_history.specs.Phases.{numbers};
+ghost use Rattle.session_server.specs.Passes.{number_of};
+ghost use Rattle.session_tasks.specs.Scripted.{AreDistinct};
+ghost use Rattle.session_tasks.specs.Tasks.{IsTask, AreTasks};
+ghost use Rattle.session_tasks.specs.Served.{IsServed, IsCause};
+ghost use Rattle.session_tasks.specs.declared.task.Progress.TheVariants.{Failed};
+
+use crate::run::{Run, SESSIONS};
+use crate::task::{Progress, Task};
+use session_server::{AskError, Gate, Pass, RunError, Stops};
+use std::alloc::Global;
+use std::collections::VecDeque;
+use std::sync::Wait;
+use version_chain::Chains;
+
+impl<C: Chains, G: Gate> Run<'_, C, G> {
+    /// Serves each session to its end, in order, and hands back their passes.
+    pub fn finish<R: Wait>(
+        &self,
+        rt: &R,
+        alloc: Global,
+        mut tasks: VecDeque<Task<C>>,
+    ) -> Result<Vec<Pass<C>>, RunError<C>>
+        requires tasks { AreTasks self.now.hall.now self.now.scripts.now (numbers 32) tasks.items }
+        requires scripts { AreDistinct self.now.scripts.now }
+        ensures sessions { IfOk result (λ v. map number_of v.items ≡ numbers 32) }
+        ensures served { IfOk result (λ v. All (IsServed self.now.hall.now self.now.scripts.now) v.items) }
+        ensures cause { IfErr result (IsCause self.now.hall.now self.now.scripts.now) }
+    {
+        let Ok(mut passes) = Vec::with_capacity(alloc, usize::from(SESSIONS)) else {
+            return Err(RunError::OutOfMemory);
+        };
+        while let Some(task) = tasks.pop_front() {
+            passes.push_reserved(self.finish_task(rt, task)?);
+        }
+        Ok(passes)
+    }
+
+    /// Serves a session to its end, and hands back its pass.
+    fn finish_task<R: Wait>(&self, rt: &R, mut task: Task<C>) -> Result<Pass<C>, RunError<C>>
+        requires task { IsTask self.now.hall.now self.now.scripts.now task }
+        requires scripts { AreDistinct self.now.scripts.now }
+        ensures session { IfOk result (λ p. p.session ≡ task.pass.session) }
+        ensures served { IfOk result (IsServed self.now.hall.now self.now.scripts.now) }
+        ensures cause { IfErr result (IsCause self.now.hall.now self.now.scripts.now) }
+    {
+        self.advance::<Stops, R>(rt, &mut task, None);
+        match task.progress {
+            Progress::Through => Ok(task.pass),
+            Progress::Failed(error) => Err(self.fail(task, error)),
+            Progress::Open => unreachable!(),
+        }
+    }
+
+    /// The error of a run in which a session met one.
+    pub fn fail(&self, task: Task<C>, error: AskError) -> RunError<C>
+        requires task { IsTask self.now.hall.now self.now.scripts.now task }
+        requires failed { task.progress ≡ Failed error }
+        ensures { IsCause self.now.hall.now self.now.scripts.now result }
+    {
+        match error {
+            AskError::PassSpent => RunError::PassSpent(task.pass),
+            AskError::OutOfMemory => RunError::OutOfMemory,
+        }
+    }
+}

@@ -1,0 +1,17 @@
+use Rattle.std.proofs.Common.{◌≡◌, suc, ◌-◌, ◌≤◌, All, map, vec_len}
+use Rattle.teb_history.specs.Phases.{numbers}
+use Rattle.turn_lock.specs.Counts.{count_from}
+use Rattle.session_server.specs.Passes.{IsNew, number_of}
+use Rattle.thread_runner.specs.Hands.{AreDealt}
+use Rattle.thread_runner.proofs.deal.deal.Given as goal
+
+abbrev pub invariant-loop-pass : goal.invariant-loop-pass
+invariant-loop-pass g l = record {
+  few : vec_len l.passes ≤ 32;
+  sessions : map number_of l.passes.items ≡ numbers (vec_len l.passes);
+  new : All (IsNew l.run.hall.now) l.passes.items;
+  dealt : AreDealt l.run.hall.now l.run.scripts.now l.workers (count_from (suc (vec_len l.passes)) (32 - vec_len l.passes)) l.hands.items;
+}
+
+abbrev pub decreases-loop-pass : goal.decreases-loop-pass
+decreases-loop-pass g l = vec_len l.passes

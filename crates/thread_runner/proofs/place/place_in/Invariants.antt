@@ -1,5 +1,0 @@
-use Rattle.thread_runner.proofs.Placing.{NoneBefore}
-use Rattle.thread_runner.proofs.place.place_in.Given as goal
-
-abbrev pub invariant-loop-i : goal.invariant-loop-i
-invariant-loop-i l = NoneBefore l.scripts l.session.0 l.i

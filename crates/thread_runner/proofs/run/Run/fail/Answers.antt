@@ -1,7 +1,0 @@
-use Rattle.std.proofs.Common.{ap, ◌∙◌}
-use Rattle.thread_runner.specs.declared.task.Progress.TheVariants.{Failed}
-use Rattle.thread_runner.proofs.Serving.{task_spent}
-use Rattle.thread_runner.proofs.run.Run.fail.Goals as goal
-
-pub returns-in-PassSpent : goal.returns-in-PassSpent
-returns-in-PassSpent g c = task_spent c.args.self.now.hall.now c.args.self.now.scripts.now c.args.task c.requires.task (c.requires.failed ∙ ap Failed c.in-PassSpent.is)
