@@ -1,5 +1,5 @@
 -- How a command ends, from what was read and what was written.
-use Rattle.std.proofs.Common.{◌≡◌, ◌≢◌, ℕ, true, false, List, [], Option, Some, None, Result, Ok, Err, IfOk, MatchResult, length, inl, refl, sym, ◌∙◌, subst}
+use Rattle.std.proofs.Common.{◌≡◌, ◌≢◌, ℕ, true, false, List, [], Option, Some, None, Result, Ok, Err, IfOk, MatchResult, length, inl, refl, sym, ◌∙◌, ap, subst}
 use Rattle.std.proofs.lemmas.List.{append-nil}
 use Rattle.std.specs.Io.KnownBytes.{Keeps, Appends}
 use Rattle.std.proofs.lemmas.Bool.{le-ltb, lt-ltb}
@@ -22,14 +22,16 @@ use Rattle.input_runner.specs.Runs.{IsSerialized}
 use Rattle.std.proofs.lemmas.Result.{IfOk-weaker}
 use Rattle.shop_load.specs.Shop.{shop}
 use Rattle.shop_load.specs.Runs.{IsLoad}
+use Rattle.audit_check.specs.Audit.{IsAudited}
+use Rattle.audit_runner.specs.Verdicts.{verdict}
 use Rattle.hall_runner.specs.Outcomes.{IsServedBy, history_in}
 use Rattle.hall_runner.specs.declared.served.Served.{Served}
 use Rattle.hall_runner.specs.declared.served.Served.TheVariants.{Through, Spent}
 use Rattle.tebaldi.specs.Commands.{reads}
 use Rattle.tebaldi.specs.Endings.{IsWritten, IsServedAndWritten, IsRight}
-use Rattle.tebaldi.specs.Shows.{Ends, SetsUp, ShowsBytes, IsAlone}
+use Rattle.tebaldi.specs.Shows.{Ends, SetsUp, ServesInput, ShowsBytes, IsAlone, IsAuditedYes}
 use Rattle.tebaldi.specs.declared.command.Command.{Command}
-use Rattle.tebaldi.specs.declared.command.Command.TheVariants.{Threads, Load}
+use Rattle.tebaldi.specs.declared.command.Command.TheVariants.{Threads, Pool, Load}
 use Rattle.tebaldi.specs.declared.ended.Ended.{Ended}
 
 -- what is serialized over one kind of setups is so over another that has them all
@@ -54,6 +56,13 @@ refusal_ends e command R ends bytes why is = ends bytes (refusal why) (rw is ref
 
 pub threads_refused : (workers : ℕ) (e : Ended) → IsAlone e → (bytes : List ℕ) (why : InputError) → input_of bytes ≡ Err why → Ends (Some (Threads workers)) bytes e (refusal why)
 threads_refused workers e alone bytes why is = rw is (refl, alone)
+
+pub pool_refused : (workers : ℕ) (e : Ended) → IsAlone e → (bytes : List ℕ) (why : InputError) → input_of bytes ≡ Err why → Ends (Some (Pool workers)) bytes e (refusal why)
+pool_refused workers e alone bytes why is = rw is (refl, alone)
+
+-- a text that is audited is one that `audit` answers yes to
+audited_yes : (text : List ℕ) → IsAudited text → IsAuditedYes text
+audited_yes text is few = rw (le-ltb 4194304 (length text) few) (sym (ap verdict is))
 
 module _ (left rest : Option (List ℕ)) (e : Ended) (before now : Option (List ℕ)) where
   -- a command whose input is refused
@@ -113,26 +122,35 @@ module _ (left rest : Option (List ℕ)) (e : Ended) (before now : Option (List 
     bytes_refused read.TooLong are x is written fault memory nf nm = shown_bytes (refusal TooLong) are.0 are.1 (rw (lt-ltb 4194304 (length are.0) are.2) refl) refl (subst (λ (y : InputError). IsWritten (refusal y) e.status e.history before now) is written)
 
   -- several threads
-  module _ (workers : ℕ) where
-    pub served_of : (task : Task) → IsReadFrom left rest (Ok task) → (r : Result Served AllocError) → IfOk r (IsServedBy task) → IfOk r (λ s. IsSerialized (λ m. task.setup ≡ m) (history_in s))
-        → MatchResult r (λ s. IsServedAndWritten s e before now) (λ _. e.status ≡ 8) → e.status ≢ 8 → IsRight (Some (Threads workers)) left rest e before now
-    served_of task read (Ok (Through o entries)) served serialized written ne = record {
+  module _ (command : Option Command) (ends : (bytes : List ℕ) (d : Shown) → ServesInput bytes e d → Ends command bytes e d) (sets_up : (bytes : List ℕ) (m : Meaning) → IsSetUp bytes m → SetsUp command bytes m) where
+    served_by : (task : Task) → IsReadFrom left rest (Ok task) → (r : Result Served AllocError) → IfOk r (IsServedBy task) → IfOk r (λ s. IsSerialized (λ m. task.setup ≡ m) (history_in s))
+        → MatchResult r (λ s. IsServedAndWritten s e before now) (λ _. e.status ≡ 8) → e.status ≢ 8 → IsRight command left rest e before now
+    served_by task read (Ok (Through o entries)) served serialized written ne = record {
       bytes = read.0;
       read = λ _. read.1;
       shown = o;
-      ends = rw (read.2, written.1, written.2) served;
+      ends = ends read.0 o (rw (read.2, written.1, written.2) (served, audited_yes o.text served.audited));
       written = written.0;
-      serialized = serialized_by read.0 task (IsSetUp read.0) (λ m s. s) read.2 (events_of e.history) o.history written.0.history serialized;
+      serialized = serialized_by read.0 task (SetsUp command read.0) (sets_up read.0) read.2 (events_of e.history) o.history written.0.history serialized;
     }
-    served_of task read (Ok (Spent p)) spent serialized written ne = record {
+    served_by task read (Ok (Spent p)) spent serialized written ne = record {
       bytes = read.0;
       read = λ _. read.1;
       shown = record { status = 10; text = []; history = None };
-      ends = rw (read.2, written.3, written.4) (spent, refl);
+      ends = ends read.0 (record { status = 10; text = []; history = None }) (rw (read.2, written.3, written.4) ((spent, refl), tt));
       written = record { written = inl (written.0, nothing_added before now written.1); history = rw written.2 refl };
       serialized = rw written.2 tt;
     }
-    served_of task read (Err w) served serialized written ne = absurd (ne written)
+    served_by task read (Err w) served serialized written ne = absurd (ne written)
+
+  module _ (workers : ℕ) where
+    pub served_of : (task : Task) → IsReadFrom left rest (Ok task) → (r : Result Served AllocError) → IfOk r (IsServedBy task) → IfOk r (λ s. IsSerialized (λ m. task.setup ≡ m) (history_in s))
+        → MatchResult r (λ s. IsServedAndWritten s e before now) (λ _. e.status ≡ 8) → e.status ≢ 8 → IsRight (Some (Threads workers)) left rest e before now
+    served_of task read r served serialized written ne = served_by (Some (Threads workers)) (λ bytes d s. s) (λ bytes m s. s) task read r served serialized written ne
+
+    pub pooled_of : (task : Task) → IsReadFrom left rest (Ok task) → (r : Result Served AllocError) → IfOk r (IsServedBy task) → IfOk r (λ s. IsSerialized (λ m. task.setup ≡ m) (history_in s))
+        → MatchResult r (λ s. IsServedAndWritten s e before now) (λ _. e.status ≡ 8) → e.status ≢ 8 → IsRight (Some (Pool workers)) left rest e before now
+    pooled_of task read r served serialized written ne = served_by (Some (Pool workers)) (λ bytes d s. s) (λ bytes m s. s) task read r served serialized written ne
 
   -- a command that reads nothing
   module _ (command : Option Command) (unread : reads command ≡ false) where

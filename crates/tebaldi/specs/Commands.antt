@@ -41,6 +41,7 @@ command_of _ = None
 -- the numbers are within their limits
 abbrev pub IsWithin : Command → Type 0
 IsWithin (command.Threads workers) = 1 ≤ workers
+IsWithin (command.Pool workers) = 1 ≤ workers
 IsWithin (command.Load number size) = (number < 2 ^ 31) × (size ≤ 2000)
 IsWithin _ = Unit {0}
 
@@ -49,7 +50,10 @@ abbrev pub reads : Option Command → Bool
 reads (Some command.Replay) = true
 reads (Some command.Turns) = true
 reads (Some command.Audit) = true
+reads (Some command.Phases) = true
 reads (Some (command.Threads workers)) = true
+reads (Some (command.Crash stop)) = true
+reads (Some (command.Pool workers)) = true
 reads _ = false
 
 abbrev pub texts : List (String Global) → List (List ℕ)

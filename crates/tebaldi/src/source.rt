@@ -11,9 +11,11 @@ use crate::ended::Ended;
 use crate::writing::{put_out, put_served, silent};
 use audit_runner::run_audit;
 use command_output::status::READ_FAULT;
-use hall_runner::serve_by_threads;
+use crash_runner::run_crash;
+use hall_runner::{serve_by_pool, serve_by_threads};
 use input_reader::{InputError, read_bytes, read_input, refusal};
 use input_runner::{run_replay, run_turns};
+use phase_runner::run_phases;
 use session_server::Gate;
 use std::alloc::Global;
 use std::sync::Wait;
@@ -67,6 +69,45 @@ pub fn serve_source<R: Threads + Wait + Sync, S: Source, K: Sink, G: Gate + Sync
     }
 }
 
+/// Reads an input, and serves the script of each session by so many workers, who take the sessions from a queue.
+pub fn pool_source<R: Threads + Wait + Sync, S: Source, K: Sink, G: Gate + Sync>(
+    rt: &R,
+    alloc: Global,
+    workers: u8,
+    input: &mut S,
+    out: &mut K,
+    gate: &G,
+) -> Ended
+    requires { 1 ≤ workers }
+    ensures right { result.status ≢ 3 → result.status ≢ 8 → IsRight (Some (Command.Pool workers)) (S.left input.old) (S.left input.new) result (K.written out.old) (K.written out.new) }
+    ensures read_fault { result.status ≡ 3 → Rose (S.faults input.old) (S.faults input.new) × IsSilent result (K.written out.old) (K.written out.new) }
+    ensures write_fault { result.status ≡ 4 → Rose (K.faults out.old) (K.faults out.new) }
+    ensures out_of_memory { result.status ≡ 8 → IsSilent result (K.written out.old) (K.written out.new) }
+{
+    match read_input(alloc, input) {
+        Ok(read) => put_served(out, serve_by_pool(rt, alloc, read, workers, gate)),
+        Err(error) => refuse(alloc, out, &error),
+    }
+}
+
+/// Reads an input, and replays it on a disk that fails from its call `stop` on.
+pub fn crash_source<S: Source, K: Sink>(
+    alloc: Global,
+    stop: u32,
+    input: &mut S,
+    out: &mut K,
+) -> Ended
+    ensures right { result.status ≢ 3 → result.status ≢ 8 → IsRight (Some (Command.Crash stop)) (S.left input.old) (S.left input.new) result (K.written out.old) (K.written out.new) }
+    ensures read_fault { result.status ≡ 3 → Rose (S.faults input.old) (S.faults input.new) × IsSilent result (K.written out.old) (K.written out.new) }
+    ensures write_fault { result.status ≡ 4 → Rose (K.faults out.old) (K.faults out.new) }
+    ensures out_of_memory { result.status ≡ 8 → IsSilent result (K.written out.old) (K.written out.new) }
+{
+    match read_input(alloc, input) {
+        Ok(read) => put_out(out, run_crash(alloc, stop, read)),
+        Err(error) => refuse(alloc, out, &error),
+    }
+}
+
 /// Reads a printed run, and checks it.
 pub fn audit_source<S: Source, K: Sink>(alloc: Global, input: &mut S, out: &mut K) -> Ended
     ensures right { result.status ≢ 3 → result.status ≢ 8 → IsRight (Some Command.Audit) (S.left input.old) (S.left input.new) result (K.written out.old) (K.written out.new) }
@@ -76,6 +117,19 @@ pub fn audit_source<S: Source, K: Sink>(alloc: Global, input: &mut S, out: &mut 
 {
     match read_bytes(alloc, input) {
         Ok(text) => put_out(out, run_audit(alloc, &text)),
+        Err(error) => refuse(alloc, out, &InputError::from(error)),
+    }
+}
+
+/// Reads an input of phases, and runs them one after another.
+pub fn phase_source<S: Source, K: Sink>(alloc: Global, input: &mut S, out: &mut K) -> Ended
+    ensures right { result.status ≢ 3 → result.status ≢ 8 → IsRight (Some Command.Phases) (S.left input.old) (S.left input.new) result (K.written out.old) (K.written out.new) }
+    ensures read_fault { result.status ≡ 3 → Rose (S.faults input.old) (S.faults input.new) × IsSilent result (K.written out.old) (K.written out.new) }
+    ensures write_fault { result.status ≡ 4 → Rose (K.faults out.old) (K.faults out.new) }
+    ensures out_of_memory { result.status ≡ 8 → IsSilent result (K.written out.old) (K.written out.new) }
+{
+    match read_bytes(alloc, input) {
+        Ok(bytes) => put_out(out, run_phases(alloc, &bytes)),
         Err(error) => refuse(alloc, out, &InputError::from(error)),
     }
 }

@@ -7,8 +7,10 @@ ghost use Rattle.tebaldi.specs.Endings.{IsRight, IsSilent};
 
 use crate::command::{Command, command_of};
 use crate::ended::Ended;
-use crate::source::{audit_source, replay_source, serve_source, turn_source};
-use crate::writing::{not_built, put_out, write};
+use crate::source::{
+    audit_source, crash_source, phase_source, pool_source, replay_source, serve_source, turn_source,
+};
+use crate::writing::{put_out, write};
 use command_output::status::BAD_WORDS;
 use session_server::Gate;
 use shop_load::run_load;
@@ -18,8 +20,8 @@ use std::thread::Threads;
 use teb_io::{Sink, Source};
 
 /// Does what the words say: reads the input, runs it, and writes the whole text at once. The words are looked at
-/// first, and only `replay`, `turns`, `threads` and `audit` read. Where a read fails or memory is wanting, nothing is written and
-/// nothing is kept. Only `threads` waits and starts threads; the gate is called round each of its requests.
+/// first, and all but `load` read. Where a read fails or memory is wanting, nothing is written and nothing is kept. Only
+/// `threads` and `pool` wait and start threads; the gate is called round each of their requests.
 pub fn run_tebaldi<R: Threads + Wait + Sync, S: Source, K: Sink, G: Gate + Sync>(
     rt: &R,
     alloc: Global,
@@ -28,7 +30,7 @@ pub fn run_tebaldi<R: Threads + Wait + Sync, S: Source, K: Sink, G: Gate + Sync>
     out: &mut K,
     gate: &G,
 ) -> Ended
-    // There are bytes, those of the source where it tells them, by which the words come to what was written. Of the history of any run, over the store that these bytes set up, or over the shop: the serial order, executed whole, gives every read its value and the final tables; it keeps every node's order; nobody commits before a transaction it read from.
+    // There are bytes, those of the source where it tells them, by which the words come to what was written. Of the history of any run, over the store that these bytes set up, or over the shop: the serial order, executed whole, gives every read its value and the final tables; it keeps every node's order; nobody commits before a transaction it read from. To what `threads` writes of a whole run, `audit` answers yes.
     ensures right { result.status ≢ 3 → result.status ≢ 8 → IsRight (command_of (texts words.now.items)) (S.left input.old) (S.left input.new) result (K.written out.old) (K.written out.new) }
     ensures read_fault { result.status ≡ 3 → Rose (S.faults input.old) (S.faults input.new) × IsSilent result (K.written out.old) (K.written out.new) }
     ensures write_fault { result.status ≡ 4 → Rose (K.faults out.old) (K.faults out.new) }
@@ -41,9 +43,9 @@ pub fn run_tebaldi<R: Threads + Wait + Sync, S: Source, K: Sink, G: Gate + Sync>
         Some(Command::Threads(workers)) => serve_source(rt, alloc, workers, input, out, gate),
         Some(Command::Audit) => audit_source(alloc, input, out),
         Some(Command::Load { number, size }) => put_out(out, run_load(alloc, number, size)),
-        Some(Command::Crash(_)) => not_built(out),
-        Some(Command::Phases) => not_built(out),
-        Some(Command::Pool(_)) => not_built(out),
+        Some(Command::Crash(stop)) => crash_source(alloc, stop, input, out),
+        Some(Command::Phases) => phase_source(alloc, input, out),
+        Some(Command::Pool(workers)) => pool_source(rt, alloc, workers, input, out, gate),
         None => write(out, BAD_WORDS, b"bad words\n", None),
     }
 }

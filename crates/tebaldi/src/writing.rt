@@ -4,11 +4,11 @@ ghost use Rattle.std.specs.Prelude.{◌≡◌, ◌≢◌, MatchResult};
 ghost use Rattle.teb_io.specs.Faults.{Rose};
 ghost use Rattle.command_output.specs.Shown.{events_of, IsShowable};
 ghost use Rattle.tebaldi.specs.Endings.{IsWritten, IsServedAndWritten, IsSilent};
-ghost use Rattle.tebaldi.specs.Shows.{IsAlone, not_built};
+ghost use Rattle.tebaldi.specs.Shows.{IsAlone};
 
 use crate::ended::Ended;
 use command_output::Output;
-use command_output::status::{NOT_BUILT, OUT_OF_MEMORY, PASS_SPENT, WRITE_FAULT};
+use command_output::status::{OUT_OF_MEMORY, PASS_SPENT, WRITE_FAULT};
 use hall_runner::Served;
 use std::alloc::AllocError;
 use teb_history::History;
@@ -44,16 +44,6 @@ pub fn write<K: Sink>(out: &mut K, status: u8, text: &[u8], history: Option<Hist
         entries: None,
         spent: None,
     }
-}
-
-/// Writes that the program does not have the command yet.
-pub fn not_built<K: Sink>(out: &mut K) -> Ended
-    ensures written { IsWritten not_built result.status result.history (K.written out.old) (K.written out.new) }
-    ensures fault { result.status ≡ 4 → Rose (K.faults out.old) (K.faults out.new) }
-    ensures loud { (result.status ≢ 3) × (result.status ≢ 8) }
-    ensures alone { IsAlone result }
-{
-    write(out, NOT_BUILT, b"not built\n", None)
 }
 
 /// Writes what a command puts out; nothing where memory is wanting.

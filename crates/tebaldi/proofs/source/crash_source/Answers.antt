@@ -1,0 +1,18 @@
+use Rattle.std.proofs.Common.{Some}
+use Rattle.input_reader.proofs.FewLines.{few_lines}
+use Rattle.crash_runner.specs.Crashes.{IsCrash}
+use Rattle.tebaldi.specs.declared.command.Command.TheVariants.{Crash}
+use Rattle.tebaldi.proofs.Rightness.{right_of, refusal_ends, refused_of}
+use Rattle.tebaldi.proofs.source.crash_source.Goals as goal
+
+pub run_crash-requires : goal.run_crash-requires
+run_crash-requires g c = few_lines c.in-Ok.ensures.read.0 c.in-Ok.read c.in-Ok.ensures.read.2
+
+pub returns-in-Ok-clause-right : goal.returns-in-Ok-clause-right
+returns-in-Ok-clause-right g c = λ nf nm.
+    right_of _ _ c.put_out.result _ _ (Some (Crash c.args.stop)) (IsCrash c.args.stop) (λ bytes d s. (s, c.put_out.ensures.alone)) (λ bytes m s. s) c.in-Ok.read c.in-Ok.ensures.read c.run_crash.result c.run_crash.ensures.shown c.run_crash.ensures.serialized c.put_out.ensures.written nm
+
+pub returns-in-Err-clause-right : goal.returns-in-Err-clause-right
+returns-in-Err-clause-right g c = λ nf nm.
+    refused_of _ _ c.refuse.result _ _ (Some (Crash c.args.stop)) (refusal_ends c.refuse.result (Some (Crash c.args.stop)) (IsCrash c.args.stop) (λ bytes d s. (s, c.refuse.ensures.alone)))
+    c.in-Err.error c.in-Err.ensures.read (c.refuse.ensures.written nf nm) c.refuse.ensures.history c.refuse.ensures.read_fault c.refuse.ensures.memory nf nm
