@@ -20,9 +20,6 @@ pub const BAD_SCRIPT: u8 = 7;
 
 pub const OUT_OF_MEMORY: u8 = 8;
 
-/// The words are of a command that the program does not have yet.
-pub const NOT_BUILT: u8 = 9;
-
 /// A session has asked as often as it may.
 pub const PASS_SPENT: u8 = 10;
 

@@ -6,7 +6,7 @@ ghost use Rattle.std.specs.Ordering.{is_eq};
 ghost use Rattle.teb_names.specs.declared.Cell.{Cell};
 ghost use Rattle.teb_names.specs.declared.Txn.{Txn};
 ghost use Rattle.teb_names.specs.Cells.{cell_cmp, same_cell};
-ghost use Rattle.teb_history.specs.Ascending.{IsAscendingBy, place_of, put_by};
+ghost use Rattle.teb_history.specs.Ascending.{IsAscendingBy, put_by};
 ghost use Rattle.teb_history.specs.Live.{number_of};
 ghost use Rattle.key_piles.specs.Piles.{pile_in};
 ghost use Rattle.key_piles.specs.LastMatches.{IsLastPlace, without_last, without_lasts};
@@ -15,6 +15,7 @@ ghost use Rattle.dependency_book.specs.Books.{txn_cmp};
 
 use crate::access::Access;
 use key_piles::Piles;
+use teb_history::find_txn;
 use teb_names::{Cell, Txn};
 
 /// Takes out all values of t.
@@ -35,16 +36,9 @@ pub(crate) fn add_source(sources: &mut Piles<Txn, Txn>, t: Txn, from: Txn)
     if from == t || from.0 == 0 {
         return;
     }
-    if let Err(i) = find(sources.list(t), from) {
+    if let Err(i) = find_txn(sources.list(t), from) {
         sources.put(t, i, from);
     }
-}
-
-fn find(txns: &[Txn], t: Txn) -> Result<usize, usize>
-    requires { IsAscendingBy number_of txns.now }
-    ensures { result ≡ place_of number_of txns.now t.0 }
-{
-    txns.binary_search_by_key(&t.0, |u| u.0)
 }
 
 /// Whether one of the accesses puts a cell.

@@ -17,6 +17,7 @@ use Rattle.teb_history.proofs.AscendingLists.{ascending-filter, filter-put_in, a
 use Rattle.teb_rules.specs.Setup.{Setup}
 use Rattle.teb_rules.specs.Tree.{on, on_path}
 use Rattle.teb_rules.specs.Serializes.{In}
+use Rattle.teb_laws.proofs.AscendingNumbers.{number, numbers_ascending, above_in}
 use Rattle.teb_laws.proofs.Locks.{In-numbers}
 use Rattle.teb_laws.proofs.Serial.{numbers-In}
 use Rattle.teb_laws.proofs.Holding.{unfinished_same}
@@ -25,27 +26,6 @@ use Rattle.hold_book.proofs.Cells.{same_is, same_itself}
 use Rattle.hold_book.specs.Books.{Held, shown, hold_number, has_put, accessed, released}
 use Rattle.hold_book.specs.Holders.{holds, hold_of, holds_in, HoldsOf, MayHold, LeavesHolds}
 use Rattle.teb_history.proofs.Newest.{wrote-cons, got-cons, unfinished-cons}
-
--- a list of numbers, as one that ascends
-abbrev number : ℕ → ℕ
-number n = n
-
-above_snoc : (n m : ℕ) (us : List ℕ) → n < m → AllAbove number n us → AllAbove number n (us ++ m ∷ [])
-above_snoc n m [] l h = (l, tt)
-above_snoc n m (u ∷ us) l h = (h.0, above_snoc n m us l h.1)
-
-ascending_snoc : (m : ℕ) (us : List ℕ) → ((u : ℕ) → In u us → u < m) → IsAscendingBy number us → IsAscendingBy number (us ++ m ∷ [])
-ascending_snoc m [] f h = (tt, tt)
-ascending_snoc m (u ∷ us) f h = (above_snoc u m us (f u (inl refl)) h.0, ascending_snoc m us (λ v i. f v (inr i)) h.1)
-
-numbers_ascending : (n : ℕ) → IsAscendingBy number (numbers n)
-unfolding numbers
-numbers_ascending zero = tt
-numbers_ascending (suc n) = ascending_snoc (suc n) (numbers n) (λ u i. let l = numbers-In n u i in omega arith) (numbers_ascending n)
-
-above_in : (n t : ℕ) (us : List ℕ) → AllAbove number n us → In t us → n < t
-above_in n t [] h i = absurd i
-above_in n t (u ∷ us) h i = elim i [ inl e ↦ subst (λ (z : ℕ). n < z) e h.0 | inr j ↦ above_in n t us h.1 j ]
 
 put_itself : (t : ℕ) (us : List ℕ) → IsAscendingBy number us → In t us → put_by number t us ≡ us
 put_itself t [] h i = absurd i

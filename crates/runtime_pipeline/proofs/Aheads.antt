@@ -11,37 +11,13 @@ use Rattle.teb_history.proofs.AscendingLists.{above-filter, ascending-filter}
 use Rattle.teb_rules.specs.Setup.{Setup, among}
 use Rattle.teb_rules.specs.Controls.{blocks}
 use Rattle.teb_rules.specs.Serializes.{In}
-use Rattle.teb_laws.proofs.Serial.{numbers-In}
+use Rattle.teb_laws.proofs.AscendingNumbers.{number, txns_ascending, above_in}
 use Rattle.hold_book.specs.declared.Hold.{Hold}
 use Rattle.hold_book.specs.Holders.{holds, hold_of, holds_in}
 use Rattle.hold_register.proofs.Blockers.{in_the_way, blocks_holds, blocks_held}
 use Rattle.runtime_pipeline.specs.Predecessors.{numbered, is_ahead, before_in, unfinished_in, joined, without}
 
--- numbers that ascend, and the transactions with them
-abbrev number : ℕ → ℕ
-number n = n
-
-above_last : (n m : ℕ) (us : List ℕ) → n < m → AllAbove number n us → AllAbove number n (us ++ m ∷ [])
-above_last n m [] l h = (l, tt)
-above_last n m (u ∷ us) l h = (h.0, above_last n m us l h.1)
-
-ascending_last : (m : ℕ) (us : List ℕ) → ((u : ℕ) → In u us → u < m) → IsAscendingBy number us → IsAscendingBy number (us ++ m ∷ [])
-ascending_last m [] f h = (tt, tt)
-ascending_last m (u ∷ us) f h = (above_last u m us (f u (inl refl)) h.0, ascending_last m us (λ v i. f v (inr i)) h.1)
-
-numbers_ascend : (n : ℕ) → IsAscendingBy number (numbers n)
-unfolding numbers
-numbers_ascend zero = tt
-numbers_ascend (suc n) = ascending_last (suc n) (numbers n) (λ u i. let l = numbers-In n u i in omega arith) (numbers_ascend n)
-
-txns_ascend : (H : List Event) → IsAscendingBy number (txns H)
-unfolding txns
-txns_ascend H = numbers_ascend (begun_count H)
-
-above_in : (n t : ℕ) (us : List ℕ) → AllAbove number n us → In t us → n < t
-above_in n t [] h i = absurd i
-above_in n t (u ∷ us) h i = elim i [ inl e ↦ subst (λ (z : ℕ). n < z) e h.0 | inr j ↦ above_in n t us h.1 j ]
-
+-- the transactions of numbers that ascend
 made_above : (n : ℕ) (us : List ℕ) → AllAbove number n us → AllAbove number_of n (map numbered us)
 made_above n [] h = tt
 made_above n (u ∷ us) h = (h.0, made_above n us h.1)
@@ -51,7 +27,7 @@ made_ascend [] h = tt
 made_ascend (u ∷ us) h = (made_above u us h.0, made_ascend us h.1)
 
 pub before_ascends : (S : Setup) (H : List Event) (n t : ℕ) → IsAscendingBy number_of (before_in S H n t)
-before_ascends S H n t = made_ascend (filter (is_ahead S H n t) (txns H)) (ascending-filter number (is_ahead S H n t) (txns H) (txns_ascend H))
+before_ascends S H n t = made_ascend (filter (is_ahead S H n t) (txns H)) (ascending-filter number (is_ahead S H n t) (txns H) (txns_ascending H))
 
 -- tests that agree on a list, and what no one passes
 filter_agree : (p q : ℕ → Bool) (us : List ℕ) → ((u : ℕ) → In u us → q u ≡ p u) → filter q us ≡ filter p us
@@ -154,7 +130,7 @@ module _ (S : Setup) (H : List Event) (n t : ℕ) (x : Cell) (write : Bool) wher
 
   pub joined_all : (q : ℕ → Bool) → joined (in_the_way S H n t write) (holds_in S H n x) (map numbered (filter q (txns H))) ≡ map numbered (filter (λ u. q u || blocks S H n t x write u) (txns H))
   joined_all q =
-      joined_among (txns H) (txns H) (txns_ascend H) (λ u i. i) q
+      joined_among (txns H) (txns H) (txns_ascending H) (λ u i. i) q
       ∙ ap (map numbered) (filter_agree (λ u. q u || blocks S H n t x write u) (λ u. q u || (among u (txns H) && blocks S H n t x write u)) (txns H) (λ u i. ap (λ (b : Bool). q u || (b && blocks S H n t x write u)) (among_in u (txns H) i)))
 
 -- each that is ahead is unfinished

@@ -3,7 +3,7 @@
 ghost use Rattle.std.specs.Prelude.{◌≡◌, ◌<◌, ◌≤◌, ◌+◌, ◌++◌, ◌∷◌, ◌&&◌, ◌||◌, ℕ, [], List, cond, drop, eqb, get_or, length, OnOk};
 ghost use Rattle.teb_names.specs.declared.Txn.{Txn};
 ghost use Rattle.teb_history.specs.declared.Event.{Event};
-ghost use Rattle.teb_history.specs.Ascending.{IsAscendingBy, place_of, put_by};
+ghost use Rattle.teb_history.specs.Ascending.{IsAscendingBy, put_by};
 ghost use Rattle.teb_history.specs.Live.{number_of};
 ghost use Rattle.teb_rules.specs.Setup.{Setup};
 ghost use Rattle.teb_rules.specs.Tree.{meets};
@@ -22,7 +22,7 @@ use key_piles::Piles;
 use phase_api::Facts;
 use std::alloc::{AllocError, Global};
 use std::marker::Model;
-use teb_history::Event;
+use teb_history::{Event, find_txn};
 use teb_names::{Node, Txn};
 
 // For how many events `reserve` makes room.
@@ -201,7 +201,7 @@ fn put(lists: &mut Piles<Txn, Txn>, t: Txn, ahead: Txn)
     ensures piles { (v : Txn) → pile_in txn_cmp lists.new v ≡ cond (eqb t.0 v.0) (put_by number_of ahead (pile_in txn_cmp lists.old v)) (pile_in txn_cmp lists.old v) }
     ensures spare { lists.old.spare ≤ lists.new.spare + 1 }
 {
-    if let Err(i) = find(lists.list(t), ahead) {
+    if let Err(i) = find_txn(lists.list(t), ahead) {
         lists.put(t, i, ahead);
     }
 }
@@ -223,7 +223,7 @@ fn take(lists: &mut Piles<Txn, Txn>, t: Txn, ahead: Txn)
     ensures piles { (v : Txn) → pile_in txn_cmp lists.new v ≡ cond (eqb t.0 v.0) (without ahead.0 (pile_in txn_cmp lists.old v)) (pile_in txn_cmp lists.old v) }
     ensures spare { lists.new.spare ≡ lists.old.spare }
 {
-    if let Ok(i) = find(lists.list(t), ahead) {
+    if let Ok(i) = find_txn(lists.list(t), ahead) {
         lists.take(t, i);
     }
 }
@@ -234,11 +234,4 @@ fn clear(lists: &mut Piles<Txn, Txn>, t: Txn)
     ensures spare { lists.new.spare ≡ lists.old.spare }
 {
     lists.clear(t);
-}
-
-fn find(txns: &[Txn], t: Txn) -> Result<usize, usize>
-    requires { IsAscendingBy number_of txns.now }
-    ensures { result ≡ place_of number_of txns.now t.0 }
-{
-    txns.binary_search_by_key(&t.0, |u| u.0)
 }

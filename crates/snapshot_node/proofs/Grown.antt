@@ -3,8 +3,6 @@ use Rattle.std.proofs.Common.{◌≡◌, ℕ, zero, suc, ◌+◌, ◌<◌, ◌�
 use Rattle.std.proofs.lemmas.Bool.{cases_lt, or_cases, and_parts}
 use Rattle.teb_names.specs.declared.Txn.{Txn}
 use Rattle.teb_history.specs.declared.Event.{Event}
-use Rattle.teb_history.specs.declared.Event.TheVariants.{Began}
-use Rattle.teb_history.specs.Phases.{begun_count}
 use Rattle.teb_rules.specs.Setup.{Setup}
 use Rattle.teb_rules.specs.Tree.{meets}
 use Rattle.teb_rules.specs.Batches.{start, close, concurrent}
@@ -13,13 +11,6 @@ use Rattle.snapshot_node.specs.Slots.{is_among}
 use Rattle.snapshot_node.specs.Pivots.{is_across}
 use Rattle.snapshot_node.specs.Marks.{HaveGrown, IsTold}
 use Rattle.snapshot_node.proofs.FirstOf.{among_from}
-
--- no more have begun than there are events
-pub begun_fewer : (H : List Event) → begun_count H ≤ length H
-unfolding begun_count
-begun_fewer [] = omega arith
-begun_fewer (Began t s k i ∷ H) = let z = begun_fewer H in omega arith
-begun_fewer (_ ∷ H) = let z = begun_fewer H in omega arith
 
 pub grown_none : (ms : List Mark) → HaveGrown ms ms
 grown_none ms = record { long = refl; entered = λ i h. h; left = λ i h. h; behind = λ i h. h; ahead = λ i h. h }

@@ -12,6 +12,7 @@ use Rattle.teb_history.proofs.AscendingLists.{ascending-filter}
 use Rattle.teb_rules.specs.Setup.{Setup}
 use Rattle.teb_rules.specs.Tree.{on}
 use Rattle.teb_rules.specs.Serializes.{In}
+use Rattle.teb_laws.proofs.AscendingNumbers.{number, numbers_ascending}
 use Rattle.teb_laws.proofs.Locks.{In-numbers}
 use Rattle.teb_laws.proofs.Serial.{numbers-In, In-filter, filter-In}
 use Rattle.phase_api.specs.declared.facts.Facts.{Facts}
@@ -23,22 +24,6 @@ use Rattle.snapshot_node.specs.Slots.{is_among}
 use Rattle.snapshot_node.specs.Standing.{puts_in, writers_in, has_read_in, readers_in}
 use Rattle.snapshot_node.specs.Pivots.{AreHere}
 use Rattle.snapshot_node.proofs.Among.{among_same}
-
-abbrev number : ℕ → ℕ
-number n = n
-
-above_snoc : (n m : ℕ) (us : List ℕ) → n < m → AllAbove number n us → AllAbove number n (us ++ m ∷ [])
-above_snoc n m [] l h = (l, tt)
-above_snoc n m (u ∷ us) l h = (h.0, above_snoc n m us l h.1)
-
-ascending_snoc : (m : ℕ) (us : List ℕ) → ((u : ℕ) → In u us → u < m) → IsAscendingBy number us → IsAscendingBy number (us ++ m ∷ [])
-ascending_snoc m [] f h = (tt, tt)
-ascending_snoc m (u ∷ us) f h = (above_snoc u m us (f u (inl refl)) h.0, ascending_snoc m us (λ v i. f v (inr i)) h.1)
-
-numbers_ascending : (n : ℕ) → IsAscendingBy number (numbers n)
-unfolding numbers
-numbers_ascending zero = tt
-numbers_ascending (suc n) = ascending_snoc (suc n) (numbers n) (λ u i. let l = numbers-In n u i in omega arith) (numbers_ascending n)
 
 abbrev pub as_txn : ℕ → Txn
 as_txn u = record { 0 = u }

@@ -6,9 +6,8 @@ ghost use Rattle.teb_names.specs.Cells.{same_cell};
 ghost use Rattle.teb_history.specs.Accesses.{got};
 ghost use Rattle.snapshot_node.specs.Readers.{reads_in_pile, AreFiled};
 
-use crate::writers::find;
 use key_piles::Piles;
-use teb_history::{Event, History};
+use teb_history::{Event, History, find_txn};
 use teb_names::{Cell, Txn};
 
 /// Puts a transaction among the readers of a cell, in ascending number, unless it is there. It takes one place of the room at
@@ -20,7 +19,7 @@ pub(crate) fn put_reader(readers: &mut Piles<Cell, Txn>, cell: Cell, t: Txn)
     ensures readers { (x : Cell) (u : ℕ) → reads_in_pile readers.new x u ≡ (reads_in_pile readers.old x u || (same_cell cell x && eqb t.0 u)) }
     ensures spare { readers.old.spare ≤ readers.new.spare + 1 }
 {
-    if let Err(i) = find(readers.list(cell), t) {
+    if let Err(i) = find_txn(readers.list(cell), t) {
         readers.put(cell, i, t);
     }
 }
@@ -32,7 +31,7 @@ fn take_reader(readers: &mut Piles<Cell, Txn>, cell: Cell, t: Txn)
     ensures readers { (x : Cell) (u : ℕ) → reads_in_pile readers.new x u ≡ (reads_in_pile readers.old x u && not (same_cell cell x && eqb t.0 u)) }
     ensures spare { readers.new.spare ≡ readers.old.spare }
 {
-    if let Ok(i) = find(readers.list(cell), t) {
+    if let Ok(i) = find_txn(readers.list(cell), t) {
         readers.take(cell, i);
     }
 }

@@ -5,14 +5,14 @@ ghost use Rattle.teb_names.specs.declared.Cell.{Cell};
 ghost use Rattle.teb_names.specs.declared.Txn.{Txn};
 ghost use Rattle.teb_names.specs.Cells.{same_cell};
 ghost use Rattle.teb_history.specs.Accesses.{wrote};
-ghost use Rattle.teb_history.specs.Ascending.{IsAscendingBy, place_of};
+ghost use Rattle.teb_history.specs.Ascending.{IsAscendingBy};
 ghost use Rattle.teb_history.specs.Live.{number_of};
 ghost use Rattle.key_piles.specs.Piles.{pile_in};
 ghost use Rattle.snapshot_node.specs.declared.writers.Slot.{Slot};
 ghost use Rattle.snapshot_node.specs.Slots.{slot_cmp, slot_spread, slot_agrees, same_slot, is_among, writes_in, IsFiled};
 
 use key_piles::{Key, Piles};
-use teb_history::{Event, History};
+use teb_history::{Event, History, find_txn};
 use teb_names::{Cell, Txn};
 
 /// The writers of a cell that are committed, or those that are unfinished.
@@ -41,7 +41,7 @@ pub(crate) fn put_in(writers: &mut Piles<Slot, Txn>, slot: Slot, t: Txn)
     ensures writers { (q : Slot) (u : ℕ) → is_among u (pile_in slot_cmp writers.new q) ≡ (is_among u (pile_in slot_cmp writers.old q) || (same_slot slot q && eqb t.0 u)) }
     ensures spare { writers.old.spare ≤ writers.new.spare + 1 }
 {
-    if let Err(i) = find(writers.list(slot), t) {
+    if let Err(i) = find_txn(writers.list(slot), t) {
         writers.put(slot, i, t);
     }
 }
@@ -53,7 +53,7 @@ pub(crate) fn take_out(writers: &mut Piles<Slot, Txn>, slot: Slot, t: Txn)
     ensures writers { (q : Slot) (u : ℕ) → is_among u (pile_in slot_cmp writers.new q) ≡ (is_among u (pile_in slot_cmp writers.old q) && not (same_slot slot q && eqb t.0 u)) }
     ensures spare { writers.new.spare ≡ writers.old.spare }
 {
-    if let Ok(i) = find(writers.list(slot), t) {
+    if let Ok(i) = find_txn(writers.list(slot), t) {
         writers.take(slot, i);
     }
 }
@@ -74,8 +74,8 @@ fn hand_over(writers: &mut Piles<Slot, Txn>, cell: Cell, t: Txn)
         cell,
         committed: true,
     };
-    if let Ok(i) = find(writers.list(running), t) {
-        match find(writers.list(done), t) {
+    if let Ok(i) = find_txn(writers.list(running), t) {
+        match find_txn(writers.list(done), t) {
             Ok(_) => writers.take(running, i),
             Err(j) => writers.transfer(running, i, done, j, t),
         }
@@ -123,12 +123,4 @@ pub(crate) fn from_number(txns: &[Txn], first: Txn) -> &[Txn]
 {
     let start = txns.partition_point(|u| u.0 < first.0);
     &txns[start..]
-}
-
-/// Where a transaction stands among ascending ones, or would stand.
-pub(crate) fn find(txns: &[Txn], t: Txn) -> Result<usize, usize>
-    requires { IsAscendingBy number_of txns.now }
-    ensures { result ≡ place_of number_of txns.now t.0 }
-{
-    txns.binary_search_by_key(&t.0, |u| u.0)
 }

@@ -51,7 +51,8 @@ pub fn keep_txn(txns: &mut Vec<Txn>, t: Txn, is_in: bool)
     }
 }
 
-fn find_txn(txns: &[Txn], t: Txn) -> Result<usize, usize>
+/// Where a transaction stands among ascending ones, or would stand: `Ok` of its index, or `Err` of the index at which it goes in.
+pub fn find_txn(txns: &[Txn], t: Txn) -> Result<usize, usize>
     requires { IsAscendingBy number_of txns.now }
     ensures { result ≡ place_of number_of txns.now t.0 }
 {

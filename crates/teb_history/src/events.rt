@@ -3,7 +3,6 @@
 ghost use Rattle.std.specs.Prelude.{◌≡◌};
 ghost use Rattle.teb_history.specs.OwnEvents.{event_txn, put_in, got_in, gets_from};
 ghost use Rattle.teb_history.specs.Written.{is_begin};
-ghost use Rattle.teb_history.specs.Conflicts.{is_conflict};
 
 use super::Event;
 use teb_names::{Cell, Txn};
@@ -56,17 +55,5 @@ impl Event {
         ensures { result ≡ gets_from u.0 self.now }
     {
         matches!(self, Event::Got { from, .. } if *from == u)
-    }
-
-    // Whether the event and a later one are accesses of one cell, of which one is a Put.
-    pub(crate) fn conflicts_with(&self, later: Event) -> bool
-        ensures { result ≡ is_conflict self.now later }
-    {
-        match (*self, later) {
-            (Event::Put { cell: x, .. }, Event::Got { cell: y, .. })
-            | (Event::Put { cell: x, .. }, Event::Put { cell: y, .. })
-            | (Event::Got { cell: x, .. }, Event::Put { cell: y, .. }) => x == y,
-            _ => false,
-        }
     }
 }

@@ -13,13 +13,13 @@ use Rattle.dependency_book.proofs.edits.add_source.Goals as goal
 pub put-requires-clause-within : goal.put-requires-clause-within
 put-requires-clause-within c =
     let place = λ (xs : List Txn). place_of number_of xs c.args.from.0 in
-    gap_in number_of _ c.args.from.0 _ (ap place (sym c.list.ensures) ∙ sym c.find.ensures ∙ c.in-Err.is)
+    gap_in number_of _ c.args.from.0 _ (ap place (sym c.list.ensures) ∙ sym c.find_txn.ensures ∙ c.in-Err.is)
 
 pub returns-in-Err-clause-piles : goal.returns-in-Err-clause-piles
 returns-in-Err-clause-piles c u =
     let f = λ (t : Txn). pile_in txn_cmp c.args.sources.now t in
     let place = λ (xs : List Txn). place_of number_of xs c.args.from.0 in
-    let gone_in = put-insert number_of c.args.from (f c.args.t) c.in-Err.i (ap place (sym c.list.ensures) ∙ sym c.find.ensures ∙ c.in-Err.is) in
+    let gone_in = put-insert number_of c.args.from (f c.args.t) c.in-Err.i (ap place (sym c.list.ensures) ∙ sym c.find_txn.ensures ∙ c.in-Err.is) in
     c.put.ensures.piles u ∙ ap (λ (l : List Txn). cond (is_eq (txn_cmp c.args.t u)) l (f u)) (sym gone_in)
     ∙ source_in f c.args.t c.args.from u (lt-ltb 0 c.args.from.0 (omega arith)) (sym c.eq.ensures ∙ c.if-eq.false)
 
@@ -27,4 +27,4 @@ pub returns-in_default-clause-piles : goal.returns-in_default-clause-piles
 returns-in_default-clause-piles c u =
     let f = λ (t : Txn). pile_in txn_cmp c.args.sources.now t in
     let place = λ (xs : List Txn). place_of number_of xs c.args.from.0 in
-    source_there f c.args.t c.args.from u (put-same number_of c.args.from (λ x e. ap (λ (n : ℕ). record { 0 = n }) e) (f c.args.t) _ (ap place (sym c.list.ensures) ∙ sym c.find.ensures ∙ c.in_default.is))
+    source_there f c.args.t c.args.from u (put-same number_of c.args.from (λ x e. ap (λ (n : ℕ). record { 0 = n }) e) (f c.args.t) _ (ap place (sym c.list.ensures) ∙ sym c.find_txn.ensures ∙ c.in_default.is))

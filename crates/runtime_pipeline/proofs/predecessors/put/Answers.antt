@@ -11,16 +11,16 @@ use Rattle.runtime_pipeline.proofs.predecessors.put.Goals as goal
 pub put-requires-clause-within : goal.put-requires-clause-within
 put-requires-clause-within c =
     let place = λ (xs : List Txn). place_of number_of xs c.args.ahead.0 in
-    gap_in number_of _ c.args.ahead.0 _ (ap place (sym c.list.ensures) ∙ sym c.find.ensures ∙ c.in-Err.is)
+    gap_in number_of _ c.args.ahead.0 _ (ap place (sym c.list.ensures) ∙ sym c.find_txn.ensures ∙ c.in-Err.is)
 
 pub returns-in-Err-clause-piles : goal.returns-in-Err-clause-piles
 returns-in-Err-clause-piles c v =
     let f = λ (t : Txn). pile_in txn_cmp c.args.lists.now t in
     let place = λ (xs : List Txn). place_of number_of xs c.args.ahead.0 in
-    c.put.ensures.piles v ∙ edited f (λ (l : List Txn). put_by number_of c.args.ahead l) c.args.t v _ (gone_in c.args.ahead (f c.args.t) c.in-Err.i (ap place (sym c.list.ensures) ∙ sym c.find.ensures ∙ c.in-Err.is))
+    c.put.ensures.piles v ∙ edited f (λ (l : List Txn). put_by number_of c.args.ahead l) c.args.t v _ (gone_in c.args.ahead (f c.args.t) c.in-Err.i (ap place (sym c.list.ensures) ∙ sym c.find_txn.ensures ∙ c.in-Err.is))
 
 pub returns-in_default-clause-piles : goal.returns-in_default-clause-piles
 returns-in_default-clause-piles c v =
     let f = λ (t : Txn). pile_in txn_cmp c.args.lists.now t in
     let place = λ (xs : List Txn). place_of number_of xs c.args.ahead.0 in
-    unedited f (λ (l : List Txn). put_by number_of c.args.ahead l) c.args.t v (there c.args.ahead (f c.args.t) _ (ap place (sym c.list.ensures) ∙ sym c.find.ensures ∙ c.in_default.is))
+    unedited f (λ (l : List Txn). put_by number_of c.args.ahead l) c.args.t v (there c.args.ahead (f c.args.t) _ (ap place (sym c.list.ensures) ∙ sym c.find_txn.ensures ∙ c.in_default.is))

@@ -12,16 +12,16 @@ use Rattle.runtime_pipeline.proofs.predecessors.take.Goals as goal
 pub take-requires : goal.take-requires
 take-requires c =
     let place = λ (xs : List Txn). place_of number_of xs c.args.ahead.0 in
-    place_in number_of _ c.args.ahead.0 _ (ap place (sym c.list.ensures) ∙ sym c.find.ensures ∙ c.in-Ok.is)
+    place_in number_of _ c.args.ahead.0 _ (ap place (sym c.list.ensures) ∙ sym c.find_txn.ensures ∙ c.in-Ok.is)
 
 pub returns-in-Ok-clause-piles : goal.returns-in-Ok-clause-piles
 returns-in-Ok-clause-piles c v =
     let f = λ (t : Txn). pile_in txn_cmp c.args.lists.now t in
     let place = λ (xs : List Txn). place_of number_of xs c.args.ahead.0 in
-    c.take.ensures.piles v ∙ edited f (without c.args.ahead.0) c.args.t v _ (without_found c.args.ahead.0 (f c.args.t) c.in-Ok.i c.requires (ap place (sym c.list.ensures) ∙ sym c.find.ensures ∙ c.in-Ok.is))
+    c.take.ensures.piles v ∙ edited f (without c.args.ahead.0) c.args.t v _ (without_found c.args.ahead.0 (f c.args.t) c.in-Ok.i c.requires (ap place (sym c.list.ensures) ∙ sym c.find_txn.ensures ∙ c.in-Ok.is))
 
 pub returns-in_default-clause-piles : goal.returns-in_default-clause-piles
 returns-in_default-clause-piles c v =
     let f = λ (t : Txn). pile_in txn_cmp c.args.lists.now t in
     let place = λ (xs : List Txn). place_of number_of xs c.args.ahead.0 in
-    unedited f (without c.args.ahead.0) c.args.t v (without_missing c.args.ahead.0 (f c.args.t) _ c.requires (ap place (sym c.list.ensures) ∙ sym c.find.ensures ∙ c.in_default.is))
+    unedited f (without c.args.ahead.0) c.args.t v (without_missing c.args.ahead.0 (f c.args.t) _ c.requires (ap place (sym c.list.ensures) ∙ sym c.find_txn.ensures ∙ c.in_default.is))

@@ -9,11 +9,11 @@ use Rattle.snapshot_node.proofs.KeyOrders.{cells}
 use Rattle.snapshot_node.proofs.Among.{placed, taken, taken_none, kept_ascending, ascending_remove}
 use Rattle.snapshot_node.proofs.readers.take_reader.Goals as goal
 
-pub find-requires : goal.find-requires
-find-requires c = subst (IsAscendingBy number_of) (sym c.list.ensures) (c.requires.ascending c.args.cell)
+pub find_txn-requires : goal.find_txn-requires
+find_txn-requires c = subst (IsAscendingBy number_of) (sym c.list.ensures) (c.requires.ascending c.args.cell)
 
 pub take-requires : goal.take-requires
-take-requires c = place_in number_of _ c.args.t.0 _ (placed c.args.t c.list.ensures c.find.ensures c.in-Ok.is)
+take-requires c = place_in number_of _ c.args.t.0 _ (placed c.args.t c.list.ensures c.find_txn.ensures c.in-Ok.is)
 
 pub returns-in-Ok-clause-filed : goal.returns-in-Ok-clause-filed
 returns-in-Ok-clause-filed c =
@@ -25,9 +25,9 @@ pub returns-in-Ok-clause-readers : goal.returns-in-Ok-clause-readers
 returns-in-Ok-clause-readers c x u =
     let f = λ (x : Cell). pile_in cell_cmp c.args.readers.now x in
     let g = λ (x : Cell). pile_in cell_cmp c.take.new.self x in
-    taken cells f g c.args.cell c.args.t c.in-Ok.i c.requires.ascending (placed c.args.t c.list.ensures c.find.ensures c.in-Ok.is) c.take.ensures.piles x u
+    taken cells f g c.args.cell c.args.t c.in-Ok.i c.requires.ascending (placed c.args.t c.list.ensures c.find_txn.ensures c.in-Ok.is) c.take.ensures.piles x u
 
 pub returns-in_default-clause-readers : goal.returns-in_default-clause-readers
 returns-in_default-clause-readers c x u =
     let f = λ (x : Cell). pile_in cell_cmp c.args.readers.now x in
-    taken_none cells f f c.args.cell c.args.t _ c.requires.ascending (placed c.args.t c.list.ensures c.find.ensures c.in_default.is) x u
+    taken_none cells f f c.args.cell c.args.t _ c.requires.ascending (placed c.args.t c.list.ensures c.find_txn.ensures c.in_default.is) x u

@@ -8,49 +8,49 @@ use Rattle.snapshot_node.proofs.Among.{placed}
 use Rattle.snapshot_node.proofs.Handing.{slot_at, handed_nothing, handed_already, handed}
 use Rattle.snapshot_node.proofs.writers.hand_over.Goals as goal
 
-pub find-requires : goal.find-requires
-find-requires c = subst (IsAscendingBy number_of) (sym c.list.ensures) (c.requires.ascending (slot_at c.args.cell false))
+pub find_txn-requires : goal.find_txn-requires
+find_txn-requires c = subst (IsAscendingBy number_of) (sym c.list.ensures) (c.requires.ascending (slot_at c.args.cell false))
 
-pub find-requires-in-Ok : goal.find-requires-in-Ok
-find-requires-in-Ok c = subst (IsAscendingBy number_of) (sym c.list-in-Ok.ensures) (c.requires.ascending (slot_at c.args.cell true))
+pub find_txn-requires-in-Ok : goal.find_txn-requires-in-Ok
+find_txn-requires-in-Ok c = subst (IsAscendingBy number_of) (sym c.list-in-Ok.ensures) (c.requires.ascending (slot_at c.args.cell true))
 
 pub take-requires : goal.take-requires
-take-requires c = place_in number_of _ c.args.t.0 _ (placed c.args.t c.list.ensures c.find.ensures c.in-Ok.is)
+take-requires c = place_in number_of _ c.args.t.0 _ (placed c.args.t c.list.ensures c.find_txn.ensures c.in-Ok.is)
 
 pub transfer-requires-clause-taken : goal.transfer-requires-clause-taken
-transfer-requires-clause-taken c = place_in number_of _ c.args.t.0 _ (placed c.args.t c.list.ensures c.find.ensures c.in-Ok.is)
+transfer-requires-clause-taken c = place_in number_of _ c.args.t.0 _ (placed c.args.t c.list.ensures c.find_txn.ensures c.in-Ok.is)
 
 pub transfer-requires-clause-put : goal.transfer-requires-clause-put
-transfer-requires-clause-put c = gap_in number_of _ c.args.t.0 _ (placed c.args.t c.list-in-Ok.ensures c.find-in-Ok.ensures c.in-Err.is)
+transfer-requires-clause-put c = gap_in number_of _ c.args.t.0 _ (placed c.args.t c.list-in-Ok.ensures c.find_txn-in-Ok.ensures c.in-Err.is)
 
 pub returns-in-Ok-find-clause-filed : goal.returns-in-Ok-find-clause-filed
 returns-in-Ok-find-clause-filed c =
-    record { ascending = (handed_already (pile_in slot_cmp c.args.writers.now) c.args.cell c.args.t c.requires.ascending _ (placed c.args.t c.list.ensures c.find.ensures c.in-Ok.is) (pile_in slot_cmp c.take.new.self) _ (placed c.args.t c.list-in-Ok.ensures c.find-in-Ok.ensures c.in-Ok-find.is) c.take.ensures.piles).ascending }
+    record { ascending = (handed_already (pile_in slot_cmp c.args.writers.now) c.args.cell c.args.t c.requires.ascending _ (placed c.args.t c.list.ensures c.find_txn.ensures c.in-Ok.is) (pile_in slot_cmp c.take.new.self) _ (placed c.args.t c.list-in-Ok.ensures c.find_txn-in-Ok.ensures c.in-Ok-find.is) c.take.ensures.piles).ascending }
 
 pub returns-in-Ok-find-clause-unfinished : goal.returns-in-Ok-find-clause-unfinished
 returns-in-Ok-find-clause-unfinished c =
-    (handed_already (pile_in slot_cmp c.args.writers.now) c.args.cell c.args.t c.requires.ascending _ (placed c.args.t c.list.ensures c.find.ensures c.in-Ok.is) (pile_in slot_cmp c.take.new.self) _ (placed c.args.t c.list-in-Ok.ensures c.find-in-Ok.ensures c.in-Ok-find.is) c.take.ensures.piles).unfinished
+    (handed_already (pile_in slot_cmp c.args.writers.now) c.args.cell c.args.t c.requires.ascending _ (placed c.args.t c.list.ensures c.find_txn.ensures c.in-Ok.is) (pile_in slot_cmp c.take.new.self) _ (placed c.args.t c.list-in-Ok.ensures c.find_txn-in-Ok.ensures c.in-Ok-find.is) c.take.ensures.piles).unfinished
 
 pub returns-in-Ok-find-clause-committed : goal.returns-in-Ok-find-clause-committed
 returns-in-Ok-find-clause-committed c =
-    (handed_already (pile_in slot_cmp c.args.writers.now) c.args.cell c.args.t c.requires.ascending _ (placed c.args.t c.list.ensures c.find.ensures c.in-Ok.is) (pile_in slot_cmp c.take.new.self) _ (placed c.args.t c.list-in-Ok.ensures c.find-in-Ok.ensures c.in-Ok-find.is) c.take.ensures.piles).committed
+    (handed_already (pile_in slot_cmp c.args.writers.now) c.args.cell c.args.t c.requires.ascending _ (placed c.args.t c.list.ensures c.find_txn.ensures c.in-Ok.is) (pile_in slot_cmp c.take.new.self) _ (placed c.args.t c.list-in-Ok.ensures c.find_txn-in-Ok.ensures c.in-Ok-find.is) c.take.ensures.piles).committed
 
 pub returns-in-Err-clause-filed : goal.returns-in-Err-clause-filed
 returns-in-Err-clause-filed c =
-    record { ascending = (handed (pile_in slot_cmp c.args.writers.now) c.args.cell c.args.t c.requires.ascending _ (placed c.args.t c.list.ensures c.find.ensures c.in-Ok.is) (pile_in slot_cmp c.transfer.new.self) _ (placed c.args.t c.list-in-Ok.ensures c.find-in-Ok.ensures c.in-Err.is) c.transfer.ensures.piles).ascending }
+    record { ascending = (handed (pile_in slot_cmp c.args.writers.now) c.args.cell c.args.t c.requires.ascending _ (placed c.args.t c.list.ensures c.find_txn.ensures c.in-Ok.is) (pile_in slot_cmp c.transfer.new.self) _ (placed c.args.t c.list-in-Ok.ensures c.find_txn-in-Ok.ensures c.in-Err.is) c.transfer.ensures.piles).ascending }
 
 pub returns-in-Err-clause-unfinished : goal.returns-in-Err-clause-unfinished
 returns-in-Err-clause-unfinished c =
-    (handed (pile_in slot_cmp c.args.writers.now) c.args.cell c.args.t c.requires.ascending _ (placed c.args.t c.list.ensures c.find.ensures c.in-Ok.is) (pile_in slot_cmp c.transfer.new.self) _ (placed c.args.t c.list-in-Ok.ensures c.find-in-Ok.ensures c.in-Err.is) c.transfer.ensures.piles).unfinished
+    (handed (pile_in slot_cmp c.args.writers.now) c.args.cell c.args.t c.requires.ascending _ (placed c.args.t c.list.ensures c.find_txn.ensures c.in-Ok.is) (pile_in slot_cmp c.transfer.new.self) _ (placed c.args.t c.list-in-Ok.ensures c.find_txn-in-Ok.ensures c.in-Err.is) c.transfer.ensures.piles).unfinished
 
 pub returns-in-Err-clause-committed : goal.returns-in-Err-clause-committed
 returns-in-Err-clause-committed c =
-    (handed (pile_in slot_cmp c.args.writers.now) c.args.cell c.args.t c.requires.ascending _ (placed c.args.t c.list.ensures c.find.ensures c.in-Ok.is) (pile_in slot_cmp c.transfer.new.self) _ (placed c.args.t c.list-in-Ok.ensures c.find-in-Ok.ensures c.in-Err.is) c.transfer.ensures.piles).committed
+    (handed (pile_in slot_cmp c.args.writers.now) c.args.cell c.args.t c.requires.ascending _ (placed c.args.t c.list.ensures c.find_txn.ensures c.in-Ok.is) (pile_in slot_cmp c.transfer.new.self) _ (placed c.args.t c.list-in-Ok.ensures c.find_txn-in-Ok.ensures c.in-Err.is) c.transfer.ensures.piles).committed
 
 pub returns-in_default-clause-unfinished : goal.returns-in_default-clause-unfinished
 returns-in_default-clause-unfinished c =
-    (handed_nothing (pile_in slot_cmp c.args.writers.now) c.args.cell c.args.t c.requires.ascending _ (placed c.args.t c.list.ensures c.find.ensures c.in_default.is)).unfinished
+    (handed_nothing (pile_in slot_cmp c.args.writers.now) c.args.cell c.args.t c.requires.ascending _ (placed c.args.t c.list.ensures c.find_txn.ensures c.in_default.is)).unfinished
 
 pub returns-in_default-clause-committed : goal.returns-in_default-clause-committed
 returns-in_default-clause-committed c =
-    (handed_nothing (pile_in slot_cmp c.args.writers.now) c.args.cell c.args.t c.requires.ascending _ (placed c.args.t c.list.ensures c.find.ensures c.in_default.is)).committed
+    (handed_nothing (pile_in slot_cmp c.args.writers.now) c.args.cell c.args.t c.requires.ascending _ (placed c.args.t c.list.ensures c.find_txn.ensures c.in_default.is)).committed
