@@ -1,5 +1,5 @@
 -- What a run on a disk comes to.
-use Rattle.std.proofs.Common.{◌≡◌, ◌≤◌, ◌<◌, ◌+◌, ◌-◌, ◌*◌, ◌/◌, ◌⊎◌, inl, inr, ℕ, suc, Bool, true, false, List, [], ◌∷◌, ◌++◌, length, take, refl, sym, ◌∙◌, ap, subst, arith, append_assoc, length-append, ℤ}
+use Rattle.std.proofs.Common.{◌≡◌, ◌≤◌, ◌<◌, ◌+◌, ◌-◌, ◌/◌, ℕ, suc, Bool, true, false, List, [], ◌∷◌, ◌++◌, length, take, refl, sym, ◌∙◌, ap, subst, arith, append_assoc, length-append, ℤ}
 use Rattle.std.proofs.lemmas.List.{take_all, take_at, append-nil, length-take}
 use Rattle.teb_names.specs.declared.Cell.{Cell}
 use Rattle.teb_names.specs.declared.Session.{Session}
@@ -12,13 +12,12 @@ use Rattle.teb_rules.specs.Setup.{Setup, Store}
 use Rattle.teb_rules.specs.Accepted.{IsSound}
 use Rattle.teb_rules.specs.Answer.{answer}
 use Rattle.teb_rules.specs.Run.{history_after}
-use Rattle.teb_laws.specs.Lawful.{Lawful}
 use Rattle.teb_laws.proofs.Sound.{tree_facts}
 use Rattle.engine_core.specs.State.{IsReached}
 use Rattle.crash_disk.specs.Calls.{Promise, Tally, IsBefore}
 use Rattle.record_journal.specs.Format.{Record, recovered, Whole}
 use Rattle.record_journal.specs.Journal.{after_records}
-use Rattle.commit_laws.specs.Commits.{commit_count, rows_after}
+use Rattle.commit_laws.specs.Commits.{commit_count}
 use Rattle.commit_laws.specs.Records.{records_of, record_of}
 use Rattle.commit_laws.proofs.Prefixes.{length-records}
 use Rattle.commit_laws.proofs.Laws.{records_final, records_leave_the_rows}
@@ -29,7 +28,7 @@ use Rattle.script_text.specs.declared.Line.{Line}
 use Rattle.script_text.specs.declared.Answered.{Answered}
 use Rattle.replay_runner.specs.Logs.{Requests, log_of, replayed}
 use Rattle.replay_runner.proofs.Logged.{history_none, history_step}
-use Rattle.crash_runner.specs.Crashes.{calls_of, Course, Through, AtOnce, AtCommit, AreRowsAfter}
+use Rattle.crash_runner.specs.Crashes.{calls_of, Through, AtOnce, AtCommit, AreRowsAfter}
 use Rattle.crash_runner.specs.Underway.{HasRoom, IsUnderway, HasAsked, StopsAt, IsRunOn}
 use Rattle.crash_runner.proofs.Steps.{lawful_of}
 

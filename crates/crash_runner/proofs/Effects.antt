@@ -1,5 +1,5 @@
 -- What an answer adds to a history: one commit or put at most, and an End none.
-use Rattle.std.proofs.Common.{◌≡◌, ◌≤◌, ◌+◌, ℕ, suc, Bool, true, false, cond, not, ◌&&◌, leb, ltb, is_none, List, [], ◌∷◌, Option, Some, None, refl, sym, ◌∙◌, ap, arith, unwrap_or, ℤ, ◌+ℤ◌}
+use Rattle.std.proofs.Common.{◌≡◌, ◌≤◌, ◌+◌, ℕ, Bool, true, false, cond, not, ◌&&◌, leb, ltb, is_none, List, [], ◌∷◌, Option, Some, None, refl, ap, arith, unwrap_or, ℤ, ◌+ℤ◌}
 use Rattle.teb_names.specs.declared.Session.{Session}
 use Rattle.teb_names.specs.declared.Spot.{Spot}
 use Rattle.teb_names.specs.declared.Cell.{Cell}
@@ -7,12 +7,12 @@ use Rattle.teb_names.specs.declared.Cause.{Cause}
 use Rattle.teb_names.specs.declared.Cause.TheVariants.{After, Asked, Ended, Newer}
 use Rattle.teb_names.specs.declared.Request.{Request}
 use Rattle.teb_names.specs.declared.Request.TheVariants.{Begin, Read, Write, Add, Delete, Scan, Prepare, Commit, Abort, End}
-use Rattle.teb_names.specs.declared.Reply.TheVariants.{Committed, Aborted, Prepared, Again, Value, Done}
+use Rattle.teb_names.specs.declared.Reply.TheVariants.{Committed, Aborted, Prepared, Again, Done}
 use Rattle.teb_names.specs.declared.Refusal.{Refusal}
 use Rattle.teb_names.specs.declared.Refusal.TheVariants.{BadSession, InTxn, UnknownType, Full, NoTxn, UnknownTable, NotInProfile, Range, NotRead, Overflow}
 use Rattle.teb_names.specs.declared.Refusal.TheVariants.{Prepared as IsPrepared}
 use Rattle.teb_history.specs.declared.Event.{Event}
-use Rattle.teb_history.specs.declared.Event.TheVariants.{Began, Got, Put, Ready, Gone, Told}
+use Rattle.teb_history.specs.declared.Event.TheVariants.{Got, Put, Ready, Gone, Told}
 use Rattle.teb_history.specs.declared.Event.TheVariants.{Done as Finished}
 use Rattle.teb_history.specs.Phases.{held, aborted, prepared, begun_count, kind_of, cause_of}
 use Rattle.teb_history.specs.Accesses.{last_put, last_got}

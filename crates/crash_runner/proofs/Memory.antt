@@ -1,10 +1,10 @@
 -- A disk in memory, as a run begins on it.
-use Rattle.std.proofs.Common.{◌≡◌, ℕ, List, [], length, sym, ap, subst, arith}
+use Rattle.std.proofs.Common.{◌≡◌, ℕ, List, [], sym, ap, subst, arith}
 use Rattle.teb_rules.specs.Setup.{Setup}
 use Rattle.teb_rules.specs.Accepted.{IsSound}
 use Rattle.crash_disk.specs.declared.memory.MemDisk.{MemDisk}
 use Rattle.crash_disk.specs.Calls.{Tally, memory_tally}
-use Rattle.crash_disk.specs.Log.{Step, byte_count, contents, safe_contents, synced_image, bytes_of, blank, MayLeave}
+use Rattle.crash_disk.specs.Log.{Step, byte_count, safe_contents, MayLeave}
 use Rattle.crash_disk.specs.LogLaws.{safe_is_left}
 use Rattle.tree_toml.specs.Meaning.{Meaning}
 use Rattle.tree_toml.specs.Sound.{IsWhole}

@@ -1,12 +1,10 @@
 -- What is shown of a run on a disk has a name.
-use Rattle.std.proofs.Common.{◌≡◌, ◌<◌, ℕ, Bool, List, [], ◌∷◌, ◌++◌, length, get_or, refl, sym, ◌∙◌, ap, subst, arith, length-append, ℤ}
+use Rattle.std.proofs.Common.{◌≡◌, ℕ, Bool, List, [], ◌∷◌, ◌++◌, length, get_or, refl, sym, ◌∙◌, ap, subst, arith, length-append, ℤ}
 use Rattle.std.specs.Prelude.{All}
 use Rattle.std.proofs.Math.ListN.{get_or-append}
 use Rattle.std.proofs.lemmas.List.{append-nil}
 use Rattle.teb_names.specs.declared.Cell.{Cell}
-use Rattle.teb_names.specs.declared.naming.NameBook.{NameBook}
 use Rattle.teb_history.specs.declared.Event.{Event}
-use Rattle.teb_rules.specs.Setup.{Store}
 use Rattle.teb_rules.specs.Run.{history_after}
 use Rattle.engine_core.specs.State.{IsReached}
 use Rattle.serial_order.specs.Tables.{IsFinalRows}

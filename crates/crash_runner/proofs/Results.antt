@@ -4,7 +4,6 @@ use Rattle.std.specs.Prelude.{All}
 use Rattle.teb_names.specs.declared.Cell.{Cell}
 use Rattle.teb_names.specs.declared.naming.NameBook.{NameBook}
 use Rattle.teb_names.specs.Rows.{row_of, IsAscending}
-use Rattle.teb_history.specs.declared.Event.{Event}
 use Rattle.teb_rules.specs.Run.{history_after}
 use Rattle.crash_disk.specs.Calls.{Tally}
 use Rattle.record_journal.specs.Format.{Record}
@@ -21,7 +20,7 @@ use Rattle.command_output.specs.Shown.{Shown}
 use Rattle.input_reader.specs.Stores.{store_of, names_of}
 use Rattle.input_reader.specs.Tasks.{Task}
 use Rattle.input_runner.proofs.Runs.{sound}
-use Rattle.crash_runner.specs.Crashes.{Course, AreRowsAfter, IsCrash, crash_text}
+use Rattle.crash_runner.specs.Crashes.{IsCrash, crash_text}
 use Rattle.crash_runner.specs.Underway.{IsRunOn}
 use Rattle.crash_runner.proofs.Courses.{rows_are_after, rows_are_final}
 use Rattle.crash_runner.proofs.Naming.{given_named, kept_named}

@@ -1,5 +1,5 @@
 -- What one request does to a run on a disk.
-use Rattle.std.proofs.Common.{◌≡◌, ◌≤◌, ◌<◌, ◌+◌, ◌-◌, ◌*◌, ◌^◌, ◌⊎◌, inl, inr, ℕ, zero, suc, Bool, true, false, cond, List, [], ◌∷◌, ◌++◌, length, Option, Some, None, refl, sym, ◌∙◌, ap, subst, subst₂, arith}
+use Rattle.std.proofs.Common.{◌≡◌, ◌≤◌, ◌<◌, ◌+◌, ◌-◌, ◌*◌, ◌^◌, inl, inr, ℕ, zero, suc, Bool, false, cond, List, [], ◌∷◌, ◌++◌, length, Some, refl, sym, ◌∙◌, ap, subst, subst₂, arith}
 use Rattle.std.proofs.lemmas.Bool.{cases_lt}
 use Rattle.std.proofs.lemmas.List.{take_all}
 use Rattle.std.proofs.lemmas.List.Sums.{sum_by-append}
@@ -23,13 +23,13 @@ use Rattle.crash_disk.specs.Calls.{Promise, Tally, IsBefore, AreSure, Fails, IsU
 use Rattle.record_journal.specs.Format.{Record, records, reading, recovered, Whole}
 use Rattle.record_journal.specs.Journal.{StandsFor}
 use Rattle.commit_laws.specs.Commits.{commit_count, put_count}
-use Rattle.commit_laws.specs.Records.{records_of, record_of, puts_of}
+use Rattle.commit_laws.specs.Records.{records_of, puts_of}
 use Rattle.commit_laws.proofs.Prefixes.{length-records}
 use Rattle.commit_laws.proofs.Sizes.{journal_length, journal_room}
 use Rattle.commit_journal.specs.Kept.{Kept, IsSameStore, IsFull, committing}
 use Rattle.commit_journal.specs.Whole.{HasFirst}
 use Rattle.commit_journal.proofs.Asked.{committing_unfinished}
-use Rattle.commit_journal.proofs.Replies.{Outcome, commits, others, outcome, committed_now}
+use Rattle.commit_journal.proofs.Replies.{commits, others, outcome, committed_now}
 use Rattle.script_text.specs.declared.Answered.{Answered}
 use Rattle.replay_runner.specs.Logs.{Requests, log_of}
 use Rattle.replay_runner.proofs.Logged.{history_none}

@@ -1,5 +1,5 @@
 -- What is shown of a run on a disk that fails from one of its calls on: the replies before that, and what is recovered.
-use Rattle.std.specs.Prelude.{◌≡◌, ◌⊎◌, ℕ, ◌+◌, ◌-◌, ◌*◌, ◌/◌, ◌<◌, ◌≤◌, Bool, true, false, if◌then◌else◌, List, [], ◌∷◌, ◌++◌, ℤ, None, codes, count_by}
+use Rattle.std.specs.Prelude.{◌≡◌, ℕ, ◌+◌, ◌-◌, ◌*◌, ◌/◌, ◌<◌, ◌≤◌, Bool, true, false, if◌then◌else◌, List, [], ◌∷◌, ◌++◌, ℤ, None, codes, count_by}
 use Rattle.std.specs.List.{flat_map}
 use Rattle.teb_names.specs.declared.Cell.{Cell}
 use Rattle.teb_names.specs.declared.Reply.{Reply}

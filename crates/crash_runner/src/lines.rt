@@ -1,6 +1,6 @@
 //! The lines of a script, asked in order on a disk.
 
-ghost use Rattle.std.specs.Prelude.{◌≡◌, ◌+◌, ◌≤◌, ◌++◌, length, OnOk, IsErrOf};
+ghost use Rattle.std.specs.Prelude.{◌+◌, ◌≤◌, ◌++◌, length, OnOk, IsErrOf};
 ghost use Rattle.teb_rules.specs.Run.{history_after};
 ghost use Rattle.commit_journal.specs.Kept.{IsSameStore};
 ghost use Rattle.replay_runner.specs.Logs.{Requests, log_of, requests_of};

@@ -2,7 +2,6 @@
 
 ghost use Rattle.std.specs.Prelude.{◌≡◌, ◌≤◌, [], length, OnOk, IfOk, IsErrOf};
 ghost use Rattle.teb_rules.specs.Run.{history_after};
-ghost use Rattle.tree_toml.specs.Meaning.{Meaning};
 ghost use Rattle.tree_toml.specs.Seen.{setup_view};
 ghost use Rattle.tree_toml.specs.Sound.{IsWhole};
 ghost use Rattle.input_reader.specs.Stores.{store_of};

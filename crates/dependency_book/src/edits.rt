@@ -1,8 +1,7 @@
 //! Edits of piles: what one access adds, and what an abort takes out.
 
-ghost use Rattle.std.specs.Prelude.{◌≡◌, ◌+◌, ◌≤◌, ◌<◌, ◌++◌, ◌∷◌, ◌&&◌, [], cond, not, eqb, ltb};
+ghost use Rattle.std.specs.Prelude.{◌≡◌, ◌+◌, ◌≤◌, ◌<◌, ◌&&◌, [], cond, not, eqb, ltb};
 ghost use Rattle.std.specs.List.{list_any, count_by};
-ghost use Rattle.std.specs.Ordering.{is_eq};
 ghost use Rattle.teb_names.specs.declared.Cell.{Cell};
 ghost use Rattle.teb_names.specs.declared.Txn.{Txn};
 ghost use Rattle.teb_names.specs.Cells.{cell_cmp, same_cell};

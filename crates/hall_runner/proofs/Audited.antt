@@ -1,5 +1,5 @@
 -- The printed run of a whole setup with names is audited.
-use Rattle.std.proofs.Common.{◌≡◌, ℕ, List, [], ◌++◌, reverse, sym, ◌∙◌, ap, subst, append_assoc, ℤ}
+use Rattle.std.proofs.Common.{◌≡◌, ℕ, List, [], reverse, sym, ◌∙◌, subst, append_assoc, ℤ}
 use Rattle.std.specs.Prelude.{All}
 use Rattle.std.specs.List.{flat_map}
 use Rattle.teb_names.specs.declared.Cell.{Cell}

@@ -17,7 +17,7 @@ use Rattle.tree_toml.specs.Meaning.{Meaning}
 use Rattle.tree_toml.specs.Sound.{HasNames}
 use Rattle.audit_check.specs.Audit.{IsAudited}
 use Rattle.command_output.specs.Shown.{Shown}
-use Rattle.input_reader.specs.Stores.{store_of, names_of}
+use Rattle.input_reader.specs.Stores.{store_of}
 use Rattle.input_runner.specs.Runs.{IsReportAfter, IsRunOver}
 use Rattle.input_runner.proofs.Runs.{is_serialized}
 use Rattle.hall_runner.specs.Served.{AreServed, lines_of_run}

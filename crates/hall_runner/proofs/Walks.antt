@@ -1,12 +1,12 @@
 -- The walks of the sessions of a hall that was closed, from what its passes have seen.
-use Rattle.std.proofs.Common.{◌≡◌, ◌≢◌, ℕ, zero, suc, ◌+◌, ◌<◌, ◌≤◌, ◌==◌, if◌then◌else◌, Bool, true, false, List, [], ◌∷◌, map, filter, Some, All, slice_get, eqb, refl, sym, ◌∙◌, ap, subst, arith, inl, inr}
+use Rattle.std.proofs.Common.{◌≡◌, ◌≢◌, ℕ, zero, suc, ◌+◌, ◌<◌, ◌≤◌, ◌==◌, if◌then◌else◌, Bool, true, false, List, [], ◌∷◌, map, Some, All, slice_get, eqb, refl, sym, ◌∙◌, ap, subst, arith, inl, inr}
 use Rattle.std.proofs.lemmas.Bool.{eqb-true, cases_lt}
 use Rattle.teb_names.specs.declared.Entry.{Entry}
 use Rattle.teb_names.specs.declared.Session.{Session}
 use Rattle.teb_history.specs.Phases.{numbers}
 use Rattle.teb_rules.specs.Driver.{Ascending}
 use Rattle.teb_rules.specs.Scripts.{IsWalk, entries_of}
-use Rattle.turn_lock.specs.Counts.{Has, same, times}
+use Rattle.turn_lock.specs.Counts.{Has, times}
 use Rattle.version_chain.specs.declared.chains.Chains.{Ghosts}
 use Rattle.script_text.specs.declared.Line.{Line}
 use Rattle.script_walk.specs.Places.{requests_on}

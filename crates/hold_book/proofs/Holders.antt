@@ -1,5 +1,5 @@
 -- Who holds a cell after one more event.
-use Rattle.std.proofs.Common.{◌≡◌, ◌≢◌, ℕ, ℤ, zero, suc, ◌<◌, Bool, true, false, cond, not, eqb, ◌&&◌, ◌||◌, List, [], ◌∷◌, ◌++◌, filter, map, Option, refl, sym, ◌∙◌, ap, subst, arith, inl, inr, lt-ltb, le-ltb}
+use Rattle.std.proofs.Common.{◌≡◌, ◌≢◌, ℕ, ℤ, suc, Bool, true, false, cond, not, eqb, ◌&&◌, ◌||◌, List, [], ◌∷◌, ◌++◌, filter, map, Option, refl, sym, ◌∙◌, ap, subst, arith, inl, inr, lt-ltb, le-ltb}
 use Rattle.std.proofs.lemmas.Bool.{cases_Bool, cases_eq, cases_order, both_ways, and_from, or_left, or_right, eq-eqb, ne_eqb}
 use Rattle.teb_names.specs.declared.Txn.{Txn}
 use Rattle.teb_names.specs.declared.Session.{Session}
@@ -9,17 +9,15 @@ use Rattle.teb_names.specs.declared.Cell.{Cell}
 use Rattle.teb_names.specs.Cells.{same_cell}
 use Rattle.teb_history.specs.declared.Event.{Event}
 use Rattle.teb_history.specs.declared.Event.TheVariants.{Began, Got, Put, Ready, Done, Gone, Told}
-use Rattle.teb_history.specs.Phases.{is_began, is_done, is_gone, began_at, done_at, gone_at, begun, committed, aborted, unfinished, begun_count, numbers, txns, spot_of}
-use Rattle.teb_history.specs.Accesses.{is_put, is_got, put_at, got_at, wrote, got}
+use Rattle.teb_history.specs.Phases.{begun, committed, aborted, unfinished, begun_count, numbers, txns, spot_of}
+use Rattle.teb_history.specs.Accesses.{wrote, got}
 use Rattle.teb_history.specs.Ascending.{AllAbove, IsAscendingBy, put_by}
-use Rattle.teb_history.proofs.Any.{came_any}
 use Rattle.teb_history.proofs.AscendingLists.{ascending-filter, filter-put_in, above-mono}
 use Rattle.teb_rules.specs.Setup.{Setup}
 use Rattle.teb_rules.specs.Tree.{on, on_path}
 use Rattle.teb_rules.specs.Serializes.{In}
 use Rattle.teb_laws.proofs.AscendingNumbers.{number, numbers_ascending, above_in}
 use Rattle.teb_laws.proofs.Locks.{In-numbers}
-use Rattle.teb_laws.proofs.Serial.{numbers-In}
 use Rattle.teb_laws.proofs.Holding.{unfinished_same}
 use Rattle.hold_book.specs.declared.Hold.{Hold}
 use Rattle.hold_book.proofs.Cells.{same_is, same_itself}

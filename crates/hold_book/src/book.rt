@@ -1,6 +1,6 @@
 //! The book of holds.
 
-ghost use Rattle.std.specs.Prelude.{◌≡◌, ◌<◌, ◌≤◌, ◌+◌, ℕ, ℤ, List, Option, Bool, [], ◌∷◌, true, false, OnOk, IsTrue, IsFalse};
+ghost use Rattle.std.specs.Prelude.{◌≡◌, ◌<◌, ◌≤◌, ◌+◌, ℕ, ℤ, List, Option, [], ◌∷◌, OnOk, IsTrue, IsFalse};
 ghost use Rattle.teb_names.specs.declared.Cell.{Cell};
 ghost use Rattle.teb_names.specs.declared.Txn.{Txn};
 ghost use Rattle.teb_names.specs.declared.Cause.{Cause};

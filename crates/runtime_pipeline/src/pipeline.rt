@@ -1,7 +1,7 @@
 //! The control of a pipeline node: an access waits for whoever has accessed the cell and has not passed its rank, and a
 //! transaction enters a step, and commits, behind those that are earlier.
 
-ghost use Rattle.std.specs.Prelude.{◌≡◌, ◌<◌, ◌≤◌, ◌&&◌, not, min, [], ℕ, Option, Some, None, IfOk, IsTrue, find, slice_index, slice_index_or, length};
+ghost use Rattle.std.specs.Prelude.{◌≡◌, ◌<◌, ◌≤◌, ◌&&◌, not, [], Option, Some, None, IfOk, IsTrue, find, slice_index_or, length};
 ghost use Rattle.teb_names.specs.declared.ControlKind.TheVariants.{Pipeline as IsPipeline};
 ghost use Rattle.teb_history.specs.Phases.{txns, unfinished, kind_of};
 ghost use Rattle.teb_rules.specs.Setup.{above_profiles};
@@ -9,10 +9,9 @@ ghost use Rattle.teb_rules.specs.Tree.{row};
 ghost use Rattle.teb_rules.specs.Steps.{passed, rank_of_table, rank_of_step, cursor};
 ghost use Rattle.teb_rules.specs.Controls.{blocks, on_access};
 ghost use Rattle.phase_api.specs.Told.{setup_of, events_of, IsTyped};
-ghost use Rattle.phase_api.specs.Calls.{IsHere};
 ghost use Rattle.hold_book.specs.Holders.{holds_in};
-ghost use Rattle.hold_register.specs.Waits.{some_txn, wait_for_txn};
-ghost use Rattle.runtime_pipeline.specs.Standing.{PipelineStands, RanksOf, pipeline_place, passed_some, holds_up};
+ghost use Rattle.hold_register.specs.Waits.{some_txn};
+ghost use Rattle.runtime_pipeline.specs.Standing.{PipelineStands, pipeline_place, passed_some, holds_up};
 ghost use Rattle.runtime_pipeline.specs.Predecessors.{before_in};
 
 use crate::node_ranks::NodeRanks;

@@ -1,6 +1,6 @@
 //! The lines of a script that ask something.
 
-ghost use Rattle.std.specs.Prelude.{◌≡◌, ◌<◌, ◌^◌, ◌++◌, length, IfOk, IfSome, OnOk, option_to_list};
+ghost use Rattle.std.specs.Prelude.{◌≡◌, ◌<◌, ◌^◌, ◌++◌, length, IfOk, OnOk, option_to_list};
 ghost use Rattle.script_text.specs.Lines.{lines_of};
 ghost use Rattle.script_text.specs.Sessions.{AreOfSessions};
 ghost use Rattle.script_text.specs.Grammar.{script_of, at_line, line_of, Answers};

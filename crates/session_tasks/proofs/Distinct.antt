@@ -1,5 +1,5 @@
 -- Which scripts are of distinct sessions: those in ascending order, and so those of any lines.
-use Rattle.std.proofs.Common.{◌≡◌, ℕ, zero, suc, ◌+◌, ◌<◌, ◌≤◌, ◌==◌, Bool, true, false, not, cond, List, [], ◌∷◌, length, filter, map, Some, refl, sym, ◌∙◌, ap, arith}
+use Rattle.std.proofs.Common.{◌≡◌, ℕ, zero, suc, ◌+◌, ◌≤◌, ◌==◌, Bool, true, false, not, cond, List, [], ◌∷◌, length, filter, map, Some, refl, ap, arith}
 use Rattle.std.specs.List.{slice_get, range_with_len}
 use Rattle.teb_names.specs.declared.Session.{Session}
 use Rattle.teb_names.specs.declared.Request.{Request}

@@ -1,10 +1,10 @@
 -- A task as it is begun, served on and ended.
-use Rattle.std.proofs.Common.{◌≡◌, ◌≢◌, ℕ, Bool, true, false, Result, Ok, Err, List, [], ◌∷◌, Option, Some, None, refl, sym, ◌∙◌, ap, subst}
+use Rattle.std.proofs.Common.{◌≡◌, ◌≢◌, ℕ, Bool, true, false, Result, Ok, Err, List, [], Option, Some, None, refl, sym, ◌∙◌, ap, subst}
 use Rattle.std.specs.List.{slice_get}
 use Rattle.teb_names.specs.declared.Entry.{Entry}
 use Rattle.teb_names.specs.declared.Session.{Session}
 use Rattle.teb_rules.specs.Run.{replies_of}
-use Rattle.teb_rules.specs.Scripts.{Place, IsWay, IsWalk, WayFrom, at_first, next, place_after, entries_of}
+use Rattle.teb_rules.specs.Scripts.{IsWay, IsWalk, WayFrom, at_first, next, place_after, entries_of}
 use Rattle.script_text.specs.declared.Line.{Line}
 use Rattle.script_walk.specs.Places.{requests_on, place_of}
 use Rattle.script_walk.specs.declared.walker.Walker.{Walker}

@@ -1,5 +1,5 @@
 -- The transactions of a history that pass a test, in ascending number: the writers of a cell, and its readers.
-use Rattle.std.proofs.Common.{◌≡◌, ℕ, zero, suc, ◌<◌, Bool, true, false, cond, not, ◌&&◌, eqb, List, [], ◌∷◌, ◌++◌, length, map, filter, find, get_or, Some, refl, sym, ◌∙◌, inl, inr, arith}
+use Rattle.std.proofs.Common.{◌≡◌, ℕ, zero, suc, ◌<◌, Bool, true, false, cond, not, ◌&&◌, eqb, List, [], ◌∷◌, length, map, filter, find, get_or, Some, refl, sym, ◌∙◌, inl, inr, arith}
 use Rattle.std.proofs.lemmas.Bool.{and_parts, or_cases, both_ways, eqb-true, eq-eqb, or_left, or_right, cases_Bool, false_from_ne_true}
 use Rattle.teb_names.specs.declared.Cell.{Cell}
 use Rattle.teb_names.specs.declared.Txn.{Txn}
@@ -14,7 +14,7 @@ use Rattle.teb_rules.specs.Tree.{on}
 use Rattle.teb_rules.specs.Serializes.{In}
 use Rattle.teb_laws.proofs.AscendingNumbers.{number, numbers_ascending}
 use Rattle.teb_laws.proofs.Locks.{In-numbers}
-use Rattle.teb_laws.proofs.Serial.{numbers-In, In-filter, filter-In}
+use Rattle.teb_laws.proofs.Serial.{In-filter, filter-In}
 use Rattle.phase_api.specs.declared.facts.Facts.{Facts}
 use Rattle.phase_api.specs.Told.{IsOrderly, setup_of, events_of}
 use Rattle.phase_api.specs.Calls.{IsHere}

@@ -1,6 +1,4 @@
 //! Edges between the transaction that validates and the members of a batch.
-
-ghost use Rattle.std.specs.Prelude.{IsTrue};
 ghost use Rattle.teb_history.specs.Ascending.{IsAscendingBy};
 ghost use Rattle.teb_history.specs.Live.{number_of};
 ghost use Rattle.snapshot_node.specs.Asking.{IsAt};

@@ -1,5 +1,5 @@
 -- What the newest event changes of where each transaction stands and of what it has read and put.
-use Rattle.std.proofs.Common.{◌≡◌, ℕ, Bool, not, ◌&&◌, ◌||◌, List, ◌∷◌, refl, sym, ◌∙◌, ap}
+use Rattle.std.proofs.Common.{◌≡◌, ℕ, Bool, not, ◌&&◌, ◌||◌, List, ◌∷◌, sym, ◌∙◌, ap}
 use Rattle.teb_names.specs.declared.Cell.{Cell}
 use Rattle.teb_history.specs.declared.Event.{Event}
 use Rattle.teb_history.specs.Positions.{first_event, came}

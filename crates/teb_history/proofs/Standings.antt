@@ -14,7 +14,7 @@ use Rattle.teb_history.specs.OwnEvents.{is_of, own_end}
 use Rattle.teb_history.specs.Live.{is_live}
 use Rattle.teb_history.specs.Standings.{start_of, standing_of, blank, standing_after, stands_unfinished, stands_live, stands_prepared, stands_session, standing_phase}
 use Rattle.teb_history.proofs.Any.{came_any}
-use Rattle.teb_history.proofs.Newest.{came-cons, begun-cons, committed-cons, ready-cons, told-cons}
+use Rattle.teb_history.proofs.Newest.{begun-cons, committed-cons, ready-cons, told-cons}
 
 -- what each part says of the newest event
 parts : (e : Event) (P : List Event) (t : ℕ) → standing_of (e ∷ P) t ≡ record {

@@ -1,6 +1,6 @@
 //! Where a transaction stands: what its events say of it, kept as they come.
 
-ghost use Rattle.std.specs.Prelude.{◌≡◌, ◌+◌, ◌≤◌, ◌<◌};
+ghost use Rattle.std.specs.Prelude.{◌≡◌, ◌<◌};
 
 use super::{Event, Phase};
 use teb_names::{Cause, Session, Spot, Txn};

@@ -1,5 +1,5 @@
 -- What is so of the names that were read.
-use Rattle.std.proofs.Common.{◌≡◌, ℕ, Bool, true, false, not, if◌then◌else◌, ◌&&◌, List, [], ◌∷◌, ◌++◌, codes, Result, Ok, Err, refl, subst}
+use Rattle.std.proofs.Common.{◌≡◌, ℕ, Bool, true, false, not, if◌then◌else◌, List, [], ◌∷◌, ◌++◌, codes, Ok, Err, refl, subst}
 use Rattle.std.specs.List.{IsDistinct, list_all}
 use Rattle.std.specs.Str.{bytes_eq}
 use Rattle.std.proofs.lemmas.Bool.{and_from, and_parts}
@@ -13,7 +13,6 @@ use Rattle.tree_toml.specs.Names.{named, is_name}
 use Rattle.tree_toml.specs.Tables.{table_in, tables_in, tables_of}
 use Rattle.tree_toml.specs.Types.{TypeList, no_types, name_in, name_text_of, steps_in, type_in, types_in, types_of}
 use Rattle.tree_toml.specs.Nodes.{NodeList, node_name, node_names, node_rows, nodes_of}
-use Rattle.tree_toml.specs.declared.fault.FieldWhy.{FieldWhy}
 use Rattle.tree_toml.specs.declared.fault.FieldWhy.TheVariants.{Name, Repeated}
 use Rattle.tree_toml.specs.declared.fault.ListName.TheVariants as list
 use Rattle.tree_toml.specs.declared.fault.Key.TheVariants as key

@@ -1,6 +1,6 @@
 //! The types of a node.
 
-ghost use Rattle.std.specs.Prelude.{◌≡◌, ◌++◌, ◌∷◌, [], map};
+ghost use Rattle.std.specs.Prelude.{◌≡◌, [], map};
 ghost use Rattle.toml.specs.View.{view, table_view};
 ghost use Rattle.cc_tree.specs.Grown.{kind_numbers};
 ghost use Rattle.tree_toml.specs.Reading.{Answers, Gives};

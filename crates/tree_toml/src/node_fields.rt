@@ -1,6 +1,6 @@
 //! The control of a node, its parent, its batch and its order of commits.
 
-ghost use Rattle.std.specs.Prelude.{◌≡◌, ◌≤◌, ◌&&◌, IfOk};
+ghost use Rattle.std.specs.Prelude.{◌≡◌};
 ghost use Rattle.toml.specs.View.{table_view};
 ghost use Rattle.cc_tree.specs.Grown.{parent_number};
 ghost use Rattle.tree_toml.specs.Reading.{Gives};

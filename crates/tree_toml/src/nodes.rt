@@ -1,6 +1,6 @@
 //! The nodes of a tree text. They are gone through twice, so that every name is known when a parent is read.
 
-ghost use Rattle.std.specs.Prelude.{◌≡◌, ◌≤◌, ◌<◌, ◌+◌, [], length, map, IfOk, OnOk};
+ghost use Rattle.std.specs.Prelude.{◌≡◌, ◌≤◌, ◌<◌, ◌+◌, [], length, map, OnOk};
 ghost use Rattle.toml.specs.View.{view, table_view};
 ghost use Rattle.cc_tree.specs.Grown.{row_of, rows_of, parent_number};
 ghost use Rattle.tree_toml.specs.Reading.{Answers};

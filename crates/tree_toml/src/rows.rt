@@ -1,9 +1,7 @@
 //! The starting rows of a tree text.
 
-ghost use Rattle.std.specs.Prelude.{◌≡◌, ◌<◌, ◌≤◌, ◌^◌, [], length, map, IfOk};
-ghost use Rattle.std.specs.BTreeMap.{IsOrdered};
+ghost use Rattle.std.specs.Prelude.{◌≡◌, ◌<◌, ◌^◌, [], length, map, IfOk};
 ghost use Rattle.toml.specs.View.{view, table_view};
-ghost use Rattle.teb_names.specs.Cells.{cell_cmp};
 ghost use Rattle.tree_toml.specs.Reading.{Answers};
 ghost use Rattle.tree_toml.specs.Rows.{row_table, row_key, row_value, row_entry, row_placed, row_in, rows_in, rows_of};
 

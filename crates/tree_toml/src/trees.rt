@@ -1,7 +1,6 @@
 //! The tree of rows that were read.
 
-ghost use Rattle.std.specs.Prelude.{◌≡◌, ◌<◌, ◌≤◌, length};
-ghost use Rattle.std.specs.List.{All};
+ghost use Rattle.std.specs.Prelude.{◌<◌, ◌≤◌, length};
 ghost use Rattle.cc_tree.specs.Grown.{rows_of};
 ghost use Rattle.tree_toml.specs.Reading.{Answers};
 ghost use Rattle.tree_toml.specs.Meaning.{grown};

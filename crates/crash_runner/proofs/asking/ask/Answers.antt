@@ -1,8 +1,7 @@
-use Rattle.std.proofs.Common.{◌≡◌, ◌∙◌, ◌≤◌, ◌+◌, ◌++◌, ◌∷◌, [], List, refl, sym, ap, subst, arith}
+use Rattle.std.proofs.Common.{◌∙◌, ◌≤◌, ◌+◌, ◌++◌, ◌∷◌, [], List, sym, ap, subst, arith}
 use Rattle.std.proofs.lemmas.Bool.{both_ways}
 use Rattle.teb_names.specs.declared.Reply.{Reply}
 use Rattle.teb_history.specs.declared.Event.{Event}
-use Rattle.script_text.specs.declared.Answered.{Answered}
 use Rattle.crash_runner.specs.Underway.{IsUnderway, effects, weight}
 use Rattle.crash_runner.proofs.Effects.{adds_few}
 use Rattle.crash_runner.proofs.Along.{asked_one, light}

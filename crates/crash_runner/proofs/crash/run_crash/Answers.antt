@@ -1,4 +1,4 @@
-use Rattle.std.proofs.Common.{◌≡◌, ◌∙◌, List, refl, sym, ap, subst, subst₂}
+use Rattle.std.proofs.Common.{◌∙◌, List, sym, ap, subst, subst₂}
 use Rattle.record_journal.specs.Format.{Whole}
 use Rattle.script_text.specs.declared.Line.{Line}
 use Rattle.script_text.specs.declared.Answered.{Answered}

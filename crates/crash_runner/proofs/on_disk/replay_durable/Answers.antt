@@ -1,4 +1,4 @@
-use Rattle.std.proofs.Common.{◌≡◌, ◌∙◌, Bool, refl, sym, ap, subst, subst₂}
+use Rattle.std.proofs.Common.{Bool, sym, subst}
 use Rattle.crash_runner.specs.Underway.{IsRunOn}
 use Rattle.crash_runner.proofs.Courses.{went_through, was_stopped}
 use Rattle.crash_runner.proofs.Halting.{as_halt}

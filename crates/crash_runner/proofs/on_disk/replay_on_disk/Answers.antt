@@ -1,4 +1,4 @@
-use Rattle.std.proofs.Common.{◌≡◌, true, ◌<◌, ◌≤◌, ◌∙◌, ℕ, [], List, refl, sym, ap, subst}
+use Rattle.std.proofs.Common.{◌≡◌, true, ◌<◌, ◌≤◌, ◌∙◌, ℕ, List, sym, subst}
 use Rattle.teb_rules.specs.Setup.{Store}
 use Rattle.teb_rules.specs.Accepted.{IsSound}
 use Rattle.script_text.specs.declared.Answered.{Answered}

@@ -1,4 +1,4 @@
-use Rattle.std.proofs.Common.{◌+◌, arith}
+use Rattle.std.proofs.Common.{arith}
 use Rattle.crash_runner.proofs.Copies.{copied_more}
 use Rattle.crash_runner.proofs.start.copy_of.Goals as goal
 

@@ -3,7 +3,6 @@ use Rattle.teb_names.specs.declared.Session.{Session}
 use Rattle.teb_rules.specs.Driver.{Ascending}
 use Rattle.script_text.specs.declared.Line.{Line}
 use Rattle.script_text.specs.Scripts.{scripts_of}
-use Rattle.script_text.specs.Sessions.{AreOfSessions}
 use Rattle.fair_driver.specs.Seats.{scripts_on}
 use Rattle.fair_driver.proofs.SessionOrder.{scripts_ascend}
 use Rattle.hall_runner.proofs.serving.serve_input.Goals as goal

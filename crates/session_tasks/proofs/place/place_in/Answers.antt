@@ -1,4 +1,4 @@
-use Rattle.std.proofs.Common.{◌≡◌, ◌+◌, sym, length, ap, subst, arith}
+use Rattle.std.proofs.Common.{◌≡◌, ◌+◌, sym, length, subst, arith}
 use Rattle.session_tasks.proofs.Placing.{NoneBefore, place_is, place_none}
 use Rattle.session_tasks.proofs.place.place_in.Goals as goal
 

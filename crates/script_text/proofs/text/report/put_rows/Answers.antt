@@ -1,5 +1,4 @@
 use Rattle.std.proofs.Common.{rules}
-use Rattle.std.proofs.lemmas.Grind.{common_steps}
 use Rattle.script_text.proofs.Wholes.{front_front}
 use Rattle.script_text.proofs.text.report.put_rows.Goals as goal
 
