@@ -1,6 +1,6 @@
 //! The form of a printed run: its lines, in their order, no cell twice.
 
-ghost use Rattle.std.specs.Prelude.{◌≡◌, ◌<◌, ◌^◌, ◌∷◌, [], ◌++◌, ◌+◌, length, not, IsTrue, IfOk, OnOk, IfErr};
+ghost use Rattle.std.specs.Prelude.{◌≡◌, ◌<◌, ◌^◌, ◌∷◌, [], ◌++◌, ◌+◌, length, not, IsTrue, IfOk, IfErr};
 ghost use Rattle.audit_check.specs.Lines.{parts_of, items_of, items_from, fits, fitting, repeats, is_over, may_follow, part, part_after};
 ghost use Rattle.audit_check.specs.Views.{nows, line_view, views, place_view, places, has_place, KeepsCells, Takes, ReadsLines};
 ghost use Rattle.audit_check.specs.declared.error.AuditError.TheVariants.{OutOfMemory};

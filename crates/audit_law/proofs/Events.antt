@@ -14,7 +14,7 @@ use Rattle.teb_names.specs.declared.naming.NameBook.{NameBook}
 use Rattle.teb_history.specs.declared.Event.{Event}
 use Rattle.teb_history.specs.declared.Event.TheVariants as event
 use Rattle.script_text.specs.Texts.{name_of, event_words, cause_words, instance_words, cell_words, txn_text}
-use Rattle.script_text.specs.Names.{is_name}
+use Rattle.teb_names.specs.Names.{is_name}
 use Rattle.script_text.specs.Named.{NodeNamed}
 use Rattle.script_text.specs.Ranges.{TxnFits, IntegerFits}
 use Rattle.audit_law.specs.Printed.{AreNames, RowFits, CellFits, CauseFits, EventFits, place_of, event_item}

@@ -10,7 +10,7 @@ use Rattle.teb_names.specs.declared.Txn.{Txn}
 use Rattle.teb_names.specs.declared.Cell.{Cell}
 use Rattle.teb_names.specs.declared.naming.NameBook.{NameBook}
 use Rattle.script_text.specs.Texts.{name_of, txn_text, value_text}
-use Rattle.script_text.specs.Names.{is_name, is_name_byte, is_lower}
+use Rattle.teb_names.specs.Names.{is_name, is_name_byte, is_lower}
 use Rattle.script_text.specs.Ranges.{TxnFits, IntegerFits, ValueFits}
 use Rattle.audit_law.specs.Printed.{place_of}
 use Rattle.audit_check.specs.Reading.{txn_at, name_at, place_at, value_at, number_at, from_one}

@@ -14,7 +14,6 @@ use Rattle.teb_laws.specs.Lawful.{Lawful}
 use Rattle.teb_laws.proofs.Reachable.{run_good, empty_good}
 use Rattle.teb_laws.proofs.Sound.{tree_facts}
 use Rattle.script_text.specs.declared.Answered.{Answered}
-use Rattle.script_text.specs.Names.{is_name}
 use Rattle.script_text.specs.Ranges.{EventInRange, RowInRange}
 use Rattle.script_text.specs.Texts.{starts_text, event_text, report_text}
 use Rattle.tree_toml.specs.Meaning.{Meaning}
@@ -33,7 +32,6 @@ sound_store : (m : Meaning) → IsWhole m → IsSound (store_of m).setup
 sound_store m whole = subst (λ (types : ℕ). let S : Setup = record { types = types; profiles = m.profiles; tree = m.tree.rows } in IsSound S) (sym whole.types) whole.sound
 
 names_are : (m : Meaning) → HasNames m → AreNames (names_of m)
-unfolding is_name
 names_are m has = record { tables = has.tables; types = has.types; nodes = has.nodes }
 
 module _ (m : Meaning) (X : Store) (names : NameBook) (log : List Answered) (H : List Event) (over : IsRunOver m X names log H) (has : HasNames m)

@@ -13,7 +13,7 @@ use Rattle.teb_names.specs.declared.naming.NameBook.{NameBook}
 use Rattle.script_text.specs.Lines.{lines_of}
 use Rattle.script_text.specs.Words.{words_of}
 use Rattle.script_text.specs.Numbers.{number_upto, number_from_one, integer_of}
-use Rattle.script_text.specs.Names.{is_name}
+use Rattle.teb_names.specs.Names.{is_name}
 use Rattle.script_text.specs.declared.script.grammar.Verb.{Verb}
 use Rattle.script_text.specs.declared.script.grammar.Verb.TheVariants as verb
 use Rattle.script_text.specs.declared.error.LineWhy.{LineWhy}

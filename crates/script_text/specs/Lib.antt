@@ -1,7 +1,6 @@
 pub mod Lines
 pub mod Words
 pub mod Numbers
-pub mod Names
 pub mod Grammar
 pub mod Input
 pub mod Texts

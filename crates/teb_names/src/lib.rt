@@ -1,10 +1,12 @@
 //! Numbers for transactions, sessions, tables, types and nodes, and the words between a session and the engine.
 #![tactic(auto)]
 
+mod name_form;
 mod naming;
 mod rows;
 mod scan;
 
+pub use name_form::is_name;
 pub use naming::{NameBook, Names};
 pub use rows::Rows;
 pub use scan::ScanList;

@@ -9,7 +9,8 @@ use Rattle.teb_names.specs.Names.{has}
 use Rattle.toml.specs.Data.{Data, Members, as_str}
 use Rattle.tree_toml.specs.Reading.{formed, at}
 use Rattle.tree_toml.specs.Fields.{place, list_at, table_entry}
-use Rattle.tree_toml.specs.Names.{named, is_name}
+use Rattle.teb_names.specs.Names.{is_name}
+use Rattle.tree_toml.specs.Names.{named}
 use Rattle.tree_toml.specs.Tables.{table_in, tables_in, tables_of}
 use Rattle.tree_toml.specs.Types.{TypeList, no_types, name_in, name_text_of, steps_in, type_in, types_in, types_of}
 use Rattle.tree_toml.specs.Nodes.{NodeList, node_name, node_names, node_rows, nodes_of}

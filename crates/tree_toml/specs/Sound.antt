@@ -6,7 +6,7 @@ use Rattle.teb_names.specs.Rows.{IsAscending}
 use Rattle.teb_rules.specs.Setup.{Setup, ranked_tables}
 use Rattle.teb_rules.specs.Accepted.{IsSound}
 use Rattle.tree_toml.specs.Meaning.{Meaning}
-use Rattle.tree_toml.specs.Names.{is_name}
+use Rattle.teb_names.specs.Names.{is_name}
 
 -- what the controls go by
 abbrev pub rules_of : Meaning → Setup

@@ -1,15 +1,14 @@
 //! New names.
 
 ghost use Rattle.std.specs.Prelude.{◌≡◌, ◌+◌, ◌<◌, length, OnOk};
-ghost use Rattle.std.specs.List.{list_all};
 ghost use Rattle.toml.specs.View.{table_view};
 ghost use Rattle.tree_toml.specs.Reading.{Answers, Gives, at as spec_at};
 ghost use Rattle.tree_toml.specs.Types.{name_in, name_text_of};
-ghost use Rattle.tree_toml.specs.Names.{is_name as spec_is_name, is_name_byte as spec_is_name_byte, named};
+ghost use Rattle.tree_toml.specs.Names.{named};
 
 use crate::fault::{FieldWhy, Place, TreeText, at};
 use crate::fields::{required, text_at};
-use teb_names::Names;
+use teb_names::{Names, is_name};
 use toml::Table;
 
 /// Adds a new name behind the others.
@@ -43,27 +42,4 @@ fn name_text(entry: &Table) -> Result<&str, FieldWhy>
     ensures { Gives (λ s. s.now) result (name_text_of (table_view entry.now)) }
 {
     required(text_at(entry, "name")?)
-}
-
-fn is_name(text: &[u8]) -> bool
-    ensures { result ≡ spec_is_name text.now }
-{
-    if text.is_empty() {
-        return false;
-    }
-    let is_lower = text[0].is_ascii_lowercase();
-    let is_short = text.len() <= 32;
-    is_lower && is_short && are_name_bytes(text)
-}
-
-fn are_name_bytes(text: &[u8]) -> bool
-    ensures { result ≡ list_all spec_is_name_byte text.now }
-{
-    text.iter().all(|b| is_name_byte(*b))
-}
-
-fn is_name_byte(b: u8) -> bool
-    ensures { result ≡ spec_is_name_byte b }
-{
-    b.is_ascii_lowercase() || b.is_ascii_digit() || b == b'_'
 }

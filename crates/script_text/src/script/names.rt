@@ -1,8 +1,9 @@
 //! Names in a script.
 
 ghost use Rattle.std.specs.Prelude.{◌≡◌, MatchOption, true, false};
-ghost use Rattle.std.specs.List.{list_all};
-ghost use Rattle.script_text.specs.Names.{is_name, is_name_byte};
+ghost use Rattle.teb_names.specs.Names.{is_name};
+
+use teb_names::is_name;
 
 /// The word as a text, where it is a name.
 pub fn name_text(word: &[u8]) -> Option<&str>
@@ -15,28 +16,4 @@ pub fn name_text(word: &[u8]) -> Option<&str>
         Ok(text) => Some(text),
         Err(_) => None,
     }
-}
-
-#[tactic(auto, unfolding(crate::specs::Names::is_name))]
-fn is_name(word: &[u8]) -> bool
-    ensures { result ≡ is_name word.now }
-{
-    if word.is_empty() {
-        return false;
-    }
-    let lower = word[0].is_ascii_lowercase();
-    let short = word.len() <= 32;
-    lower && short && all_name_bytes(word)
-}
-
-fn all_name_bytes(word: &[u8]) -> bool
-    ensures { result ≡ list_all is_name_byte word.now }
-{
-    word.iter().all(|b| is_name_byte(*b))
-}
-
-fn is_name_byte(b: u8) -> bool
-    ensures { result ≡ is_name_byte b }
-{
-    b.is_ascii_lowercase() || b.is_ascii_digit() || b == b'_'
 }
