@@ -25,6 +25,7 @@ use Rattle.key_piles.proofs.CellPiles.{same_exact}
 use Rattle.dependency_book.proofs.PileEdits.{one_txn}
 use Rattle.dependency_book.proofs.OwnAccesses.{put_by_it, reads_counted, puts_counted, nothing_accessed}
 use Rattle.dependency_book.proofs.OrderlyHistories.{unfinished_is, unfinished_same, unfinished_parts, aborted_same, fresh}
+use Rattle.teb_history.proofs.Filters.{filter_both, filter_push}
 use Rattle.teb_history.proofs.Newest.{aborted-cons, unfinished-cons}
 
 -- filters
@@ -32,20 +33,6 @@ module _ {A : Type 0} where
   pub filter_alike : (p q : A → Bool) → ((x : A) → q x ≡ p x) → (xs : List A) → filter q xs ≡ filter p xs
   filter_alike p q same [] = refl
   filter_alike p q same (x ∷ xs) = λ j. cond (same x j) (x ∷ filter_alike p q same xs j) (filter_alike p q same xs j)
-
-  -- one filter after another
-  pub filter_both : (p r q : A → Bool) → ((x : A) → q x ≡ (r x && p x)) → (xs : List A) → filter q xs ≡ filter r (filter p xs)
-  filter_both p r q same [] = refl
-  filter_both p r q same (x ∷ xs) = ap (λ (b : Bool). cond b (x ∷ filter q xs) (filter q xs)) (same x) ∙ go (r x) refl (p x) (filter_both p r q same xs)
-    where
-      go : (b : Bool) → r x ≡ b → (c : Bool) → filter q xs ≡ filter r (filter p xs) → cond (b && c) (x ∷ filter q xs) (filter q xs) ≡ filter r (cond c (x ∷ filter p xs) (filter p xs))
-      go true e true ih = ap (λ (ys : List A). x ∷ ys) ih ∙ sym (ap (λ (o : Bool). cond o (x ∷ filter r (filter p xs)) (filter r (filter p xs))) e)
-      go true e false ih = ih
-      go false e true ih = ih ∙ sym (ap (λ (o : Bool). cond o (x ∷ filter r (filter p xs)) (filter r (filter p xs))) e)
-      go false e false ih = ih
-
-  pub filter_push : (p : A → Bool) (xs : List A) (a : A) → p a ≡ true → filter p (xs ++ a ∷ []) ≡ filter p xs ++ a ∷ []
-  filter_push p xs a h = filter-append p xs (a ∷ []) ∙ ap (λ (b : Bool). filter p xs ++ cond b (a ∷ []) []) h
 
 -- transactions as numbers
 filter_made : (p : ℕ → Bool) (q : Txn → Bool) → ((n : ℕ) → q (record { 0 = n }) ≡ p n) → (ns : List ℕ) → filter q (map (λ t. record { 0 = t }) ns) ≡ map (λ t. record { 0 = t }) (filter p ns)

@@ -12,6 +12,7 @@ use Rattle.teb_history.specs.declared.Event.{Event}
 use Rattle.teb_history.specs.declared.Event.TheVariants.{Began, Got, Put, Ready, Done, Gone, Told}
 use Rattle.teb_history.specs.Phases.{is_began, is_gone, begun, unfinished, aborted, spot_of}
 use Rattle.teb_history.specs.Accesses.{got}
+use Rattle.teb_history.proofs.Filters.{filter_both, filter_push}
 use Rattle.teb_rules.specs.Setup.{Setup}
 use Rattle.teb_rules.specs.Tree.{on, side, on_path, side_at}
 use Rattle.phase_api.specs.Told.{IsOrderly}
@@ -37,28 +38,9 @@ may_come S P n (Gone t c) m = m
 may_come S P n (Told t) m = tt
 
 module _ {A : Type 0} where
-  filter_push : (p : A → Bool) (xs : List A) (a : A) → p a ≡ true → filter p (xs ++ a ∷ []) ≡ filter p xs ++ a ∷ []
-  filter_push p [] a h = ap (λ (b : Bool). cond b (a ∷ []) []) h
-  filter_push p (x ∷ xs) a h = go (p x) (filter_push p xs a h)
-    where
-      go : (b : Bool) → filter p (xs ++ a ∷ []) ≡ filter p xs ++ a ∷ [] → cond b (x ∷ filter p (xs ++ a ∷ [])) (filter p (xs ++ a ∷ [])) ≡ cond b (x ∷ filter p xs) (filter p xs) ++ a ∷ []
-      go true ih = ap (λ (ys : List A). x ∷ ys) ih
-      go false ih = ih
-
   filter_skip : (p : A → Bool) (xs : List A) (a : A) → p a ≡ false → filter p (xs ++ a ∷ []) ≡ filter p xs
   filter_skip p [] a h = ap (λ (b : Bool). cond b (a ∷ []) []) h
   filter_skip p (x ∷ xs) a h = ap (λ (ys : List A). cond (p x) (x ∷ ys) ys) (filter_skip p xs a h)
-
-  -- one filter after another
-  filter_both : (p r q : A → Bool) → ((x : A) → q x ≡ (r x && p x)) → (xs : List A) → filter q xs ≡ filter r (filter p xs)
-  filter_both p r q same [] = refl
-  filter_both p r q same (x ∷ xs) = ap (λ (b : Bool). cond b (x ∷ filter q xs) (filter q xs)) (same x) ∙ go (r x) refl (p x) (filter_both p r q same xs)
-    where
-      go : (b : Bool) → r x ≡ b → (c : Bool) → filter q xs ≡ filter r (filter p xs) → cond (b && c) (x ∷ filter q xs) (filter q xs) ≡ filter r (cond c (x ∷ filter p xs) (filter p xs))
-      go true e true ih = ap (λ (ys : List A). x ∷ ys) ih ∙ sym (ap (λ (o : Bool). cond o (x ∷ filter r (filter p xs)) (filter r (filter p xs))) e)
-      go true e false ih = ih
-      go false e true ih = ih ∙ sym (ap (λ (o : Bool). cond o (x ∷ filter r (filter p xs)) (filter r (filter p xs))) e)
-      go false e false ih = ih
 
 -- the test of a read
 abbrev here : Setup → List Event → ℕ → Txn × Txn → Bool
