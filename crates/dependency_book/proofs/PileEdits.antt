@@ -1,9 +1,8 @@
 -- What edits make of piles.
 use Rattle.std.proofs.Common.{◌≡◌, ℕ, ◌+◌, Bool, true, false, cond, not, ltb, eqb, ◌&&◌, max, List, [], ◌∷◌, ◌++◌, refl, sym, ◌∙◌, ap, subst, arith}
 use Rattle.std.specs.List.{count_by}
-use Rattle.std.proofs.lemmas.Bool.Decides.{nat_tests}
 use Rattle.std.proofs.lemmas.Bool.{eqb-true}
-use Rattle.std.specs.Ordering.{is_eq, nat_cmp}
+use Rattle.std.specs.Ordering.{is_eq}
 use Rattle.teb_names.specs.declared.Cell.{Cell}
 use Rattle.teb_names.specs.Cells.{cell_cmp}
 use Rattle.teb_history.specs.Ascending.{IsAscendingBy, put_by}
@@ -14,11 +13,10 @@ use Rattle.teb_names.specs.declared.Txn.{Txn}
 use Rattle.dependency_book.specs.declared.registers.Registers.{Registers}
 use Rattle.dependency_book.specs.declared.access.Access.{Access}
 use Rattle.key_piles.specs.LastMatches.{without_last, without_lasts}
-use Rattle.dependency_book.specs.Books.{txn_cmp, HasRooms}
+use Rattle.key_piles.specs.Keys.{txn_cmp}
+use Rattle.key_piles.proofs.TxnKeys.{eqb-is_eq}
+use Rattle.dependency_book.specs.Books.{HasRooms}
 use Rattle.key_piles.proofs.TakenMatches.{lasts_more, count_push}
-
-pub eqb-is_eq : (m n : ℕ) → eqb m n ≡ is_eq (nat_cmp m n)
-eqb-is_eq m n = grind (arith, nat_tests)
 
 pub one_txn : (t u : Txn) → eqb t.0 u.0 ≡ true → t ≡ u
 one_txn t u h = ap (λ (n : ℕ). record { 0 = n }) (eqb-true t.0 u.0 h)

@@ -1,20 +1,16 @@
 -- What contracts see of a book, and which history it stands for.
 use Rattle.std.specs.Prelude.{◌≡◌, ℕ, ◌+◌, ◌≤◌, List, vec_len, vec_capacity}
-use Rattle.std.specs.Ordering.{nat_cmp}
-use Rattle.std.specs.declared.cmp.Ordering.{Ordering}
 use Rattle.teb_names.specs.declared.Txn.{Txn}
 use Rattle.teb_names.specs.declared.Cell.{Cell}
 use Rattle.teb_names.specs.Cells.{cell_cmp}
 use Rattle.teb_history.specs.declared.Event.{Event}
 use Rattle.teb_history.specs.Ascending.{IsAscendingBy}
 use Rattle.teb_history.specs.Live.{number_of}
+use Rattle.key_piles.specs.Keys.{txn_cmp}
 use Rattle.key_piles.specs.Piles.{pile}
 use Rattle.dependency_book.specs.declared.access.Access.{Access}
 use Rattle.dependency_book.specs.declared.registers.Registers.{Registers}
 use Rattle.dependency_book.specs.Dependencies.{readers, writers, sources, accesses, unfinished_txns, Orderly}
-
-abbrev pub txn_cmp : Txn → Txn → Ordering
-txn_cmp t u = nat_cmp t.0 u.0
 
 -- who read and who put which cell; who read from whom; who is unfinished; and what each of these accessed
 pub record Lists : Type 0 where

@@ -1,6 +1,6 @@
 //! Edits of piles: what one access adds, and what an abort takes out.
 
-ghost use Rattle.std.specs.Prelude.{◌≡◌, ◌+◌, ◌≤◌, ◌<◌, ◌&&◌, [], cond, not, eqb, ltb};
+ghost use Rattle.std.specs.Prelude.{◌≡◌, ◌+◌, ◌≤◌, ◌<◌, ◌&&◌, cond, not, eqb, ltb};
 ghost use Rattle.std.specs.List.{list_any, count_by};
 ghost use Rattle.teb_names.specs.declared.Cell.{Cell};
 ghost use Rattle.teb_names.specs.declared.Txn.{Txn};
@@ -10,20 +10,12 @@ ghost use Rattle.teb_history.specs.Live.{number_of};
 ghost use Rattle.key_piles.specs.Piles.{pile_in};
 ghost use Rattle.key_piles.specs.LastMatches.{IsLastPlace, without_last, without_lasts};
 ghost use Rattle.dependency_book.specs.Dependencies.{reads, puts};
-ghost use Rattle.dependency_book.specs.Books.{txn_cmp};
+ghost use Rattle.key_piles.specs.Keys.{txn_cmp};
 
 use crate::access::Access;
 use key_piles::Piles;
 use teb_history::find_txn;
 use teb_names::{Cell, Txn};
-
-/// Takes out all values of t.
-pub(crate) fn clear<V: Copy>(piles: &mut Piles<Txn, V>, t: Txn)
-    ensures piles { (u : Txn) → pile_in txn_cmp piles.new u ≡ cond (eqb t.0 u.0) [] (pile_in txn_cmp piles.old u) }
-    ensures spare { piles.new.spare ≡ piles.old.spare }
-{
-    piles.clear(t);
-}
 
 /// Puts a transaction that t read from among its sources, unless it is there, or is t itself or 0.
 pub(crate) fn add_source(sources: &mut Piles<Txn, Txn>, t: Txn, from: Txn)

@@ -11,7 +11,7 @@ ghost use Rattle.dependency_book.specs.Dependencies.{MayFollow};
 
 use crate::access::Access;
 use crate::edits;
-use key_piles::Piles;
+use key_piles::{Piles, clear_txn};
 use std::alloc::{AllocError, Global};
 use teb_history::Event;
 use teb_names::{Cell, Txn};
@@ -131,7 +131,7 @@ impl Registers {
         ensures book { (P : List Event) → BookOf (lists_of self.old) P → MayFollow P (event.Done t) → BookOf (lists_of self.new) (event.Done t ∷ P) }
     {
         self.unfinished.retain(|u| *u != t);
-        edits::clear(&mut self.accesses, t);
+        clear_txn(&mut self.accesses, t);
     }
 
     /// A transaction is aborted.
@@ -143,8 +143,8 @@ impl Registers {
     {
         let accesses = self.accesses.list(t);
         edits::forget_accesses(&mut self.readers, &mut self.writers, accesses, t);
-        edits::clear(&mut self.accesses, t);
-        edits::clear(&mut self.sources, t);
+        clear_txn(&mut self.accesses, t);
+        clear_txn(&mut self.sources, t);
         self.unfinished.retain(|u| *u != t);
     }
 }

@@ -2,3 +2,4 @@ pub mod SortedPiles
 pub mod SpreadPiles
 pub mod TakenMatches
 pub mod CellPiles
+pub mod TxnKeys

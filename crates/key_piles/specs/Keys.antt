@@ -1,12 +1,16 @@
--- The spreads of keys: keys that tie have the same.
+-- The order of transactions as keys, and the spreads of keys: keys that tie have the same.
 use Rattle.std.specs.Prelude.{◌≡◌, ℕ, true, eqb}
 use Rattle.std.proofs.Common.{◌∙◌}
-use Rattle.std.specs.Ordering.{is_eq}
+use Rattle.std.specs.Ordering.{nat_cmp, is_eq}
+use Rattle.std.specs.declared.cmp.Ordering.{Ordering}
 use Rattle.std.proofs.lemmas.Bool.{and_parts, eqb-true}
 use Rattle.teb_names.specs.declared.Cell.{Cell}
 use Rattle.teb_names.specs.declared.Txn.{Txn}
 use Rattle.teb_names.specs.Cells.{cell_cmp}
 use Rattle.teb_names.proofs.CellOrder.{same_cell-cell_cmp}
+
+abbrev pub txn_cmp : Txn → Txn → Ordering
+txn_cmp t u = nat_cmp t.0 u.0
 
 abbrev pub cell_spread : Cell → ℕ
 cell_spread x = x.key

@@ -1,9 +1,9 @@
 -- What edits make of the lists that are kept by transaction.
 use Rattle.std.proofs.Common.{◌≡◌, ◌≢◌, ◌⊎◌, ℕ, zero, suc, ◌+◌, ◌<◌, ◌≤◌, Bool, true, false, cond, not, ◌||◌, ltb, eqb, List, [], ◌∷◌, ◌++◌, length, drop, take, get_or, Result, Ok, Err, refl, sym, ◌∙◌, ap, subst, arith, inl, inr}
 use Rattle.std.specs.List.{remove}
-use Rattle.std.specs.Ordering.{is_eq, nat_cmp}
+use Rattle.std.specs.Ordering.{is_eq}
 use Rattle.std.proofs.lemmas.Bool.{ne_eqb}
-use Rattle.std.proofs.lemmas.Bool.Decides.{eqb_tells, nat_tests}
+use Rattle.std.proofs.lemmas.Bool.Decides.{eqb_tells}
 use Rattle.std.proofs.Math.Seq.{drop-cons}
 use Rattle.teb_names.specs.declared.Txn.{Txn}
 use Rattle.teb_history.specs.Ascending.{AllAbove, IsAscendingBy, next_place, place_of, put_by}
@@ -12,18 +12,16 @@ use Rattle.teb_history.proofs.Comparisons.{ltb_tells}
 use Rattle.teb_history.proofs.AscendingLists.{above-mono, ascending-filter, ascending-put, put-same, put-insert}
 use Rattle.key_piles.specs.Piles.{Shown, pile_in}
 use Rattle.hold_book.specs.declared.Hold.{Hold}
-use Rattle.dependency_book.specs.Books.{txn_cmp}
+use Rattle.key_piles.specs.Keys.{txn_cmp}
+use Rattle.key_piles.proofs.TxnKeys.{eqb-is_eq}
 use Rattle.dependency_book.specs.Dependencies.{has}
 use Rattle.dependency_book.proofs.PileEdits.{one_txn}
 use Rattle.runtime_pipeline.specs.Predecessors.{joined, without}
 
-eqb-is_eq : (m n : ℕ) → is_eq (nat_cmp m n) ≡ eqb m n
-eqb-is_eq m n = grind (arith, nat_tests)
-
 -- an edit of the list of t
 module _ (f : Txn → List Txn) (g : List Txn → List Txn) (t v : Txn) where
   pub edited : (xs : List Txn) → xs ≡ g (f t) → cond (is_eq (txn_cmp t v)) xs (f v) ≡ cond (eqb t.0 v.0) (g (f v)) (f v)
-  edited xs e = ap (λ (b : Bool). cond b xs (f v)) (eqb-is_eq t.0 v.0) ∙ go (eqb t.0 v.0) refl
+  edited xs e = ap (λ (b : Bool). cond b xs (f v)) (sym (eqb-is_eq t.0 v.0)) ∙ go (eqb t.0 v.0) refl
     where
       go : (b : Bool) → eqb t.0 v.0 ≡ b → cond b xs (f v) ≡ cond b (g (f v)) (f v)
       go true h = e ∙ ap (λ (z : Txn). g (f z)) (one_txn t v h)

@@ -11,7 +11,7 @@ use Rattle.teb_rules.specs.Tree.{meets}
 use Rattle.teb_rules.specs.Controls.{earlier}
 use Rattle.hold_book.specs.declared.Hold.{Hold}
 use Rattle.key_piles.specs.Piles.{pile}
-use Rattle.dependency_book.specs.Books.{txn_cmp}
+use Rattle.key_piles.specs.Keys.{txn_cmp}
 
 -- the transaction with a number
 abbrev pub numbered : ℕ → Txn

@@ -12,13 +12,13 @@ ghost use Rattle.phase_api.specs.Calls.{IsNewest};
 ghost use Rattle.hold_book.specs.declared.Hold.{Hold};
 ghost use Rattle.hold_register.specs.Registered.{Registered};
 ghost use Rattle.key_piles.specs.Piles.{pile_in};
-ghost use Rattle.dependency_book.specs.Books.{txn_cmp};
+ghost use Rattle.key_piles.specs.Keys.{txn_cmp};
 ghost use Rattle.dependency_book.specs.Dependencies.{has};
 ghost use Rattle.runtime_pipeline.specs.Predecessors.{PredecessorsOf, joined, list_of, without};
 
 use hold_book::Hold;
 use hold_register::Register;
-use key_piles::Piles;
+use key_piles::{Piles, clear_txn};
 use phase_api::Facts;
 use std::alloc::{AllocError, Global};
 use std::marker::Model;
@@ -157,7 +157,7 @@ impl Predecessors {
     {
         self.unfinished.retain(|u| *u != t);
         take_out(&mut self.lists, &self.unfinished, t);
-        clear(&mut self.lists, t);
+        clear_txn(&mut self.lists, t);
         self.spare -= 1;
     }
 }
@@ -226,12 +226,4 @@ fn take(lists: &mut Piles<Txn, Txn>, t: Txn, ahead: Txn)
     if let Ok(i) = find_txn(lists.list(t), ahead) {
         lists.take(t, i);
     }
-}
-
-// Takes all out of the list of t.
-fn clear(lists: &mut Piles<Txn, Txn>, t: Txn)
-    ensures piles { (v : Txn) → pile_in txn_cmp lists.new v ≡ cond (eqb t.0 v.0) [] (pile_in txn_cmp lists.old v) }
-    ensures spare { lists.new.spare ≡ lists.old.spare }
-{
-    lists.clear(t);
 }

@@ -5,7 +5,7 @@ use Rattle.teb_names.specs.declared.Txn.{Txn}
 use Rattle.teb_history.specs.Ascending.{place_of}
 use Rattle.teb_history.specs.Live.{number_of}
 use Rattle.teb_history.proofs.AscendingLists.{gap_in, put-same, put-insert}
-use Rattle.dependency_book.specs.Books.{txn_cmp}
+use Rattle.key_piles.specs.Keys.{txn_cmp}
 use Rattle.key_piles.specs.Piles.{pile_in}
 use Rattle.dependency_book.proofs.PileEdits.{source_in, source_there}
 use Rattle.dependency_book.proofs.edits.add_source.Goals as goal

@@ -4,7 +4,7 @@ use Rattle.teb_history.specs.Ascending.{place_of, put_by}
 use Rattle.teb_history.specs.Live.{number_of}
 use Rattle.teb_history.proofs.AscendingLists.{gap_in}
 use Rattle.key_piles.specs.Piles.{pile_in}
-use Rattle.dependency_book.specs.Books.{txn_cmp}
+use Rattle.key_piles.specs.Keys.{txn_cmp}
 use Rattle.runtime_pipeline.proofs.ListEdits.{edited, unedited, there, gone_in}
 use Rattle.runtime_pipeline.proofs.predecessors.put.Goals as goal
 

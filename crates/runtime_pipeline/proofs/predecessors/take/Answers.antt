@@ -4,7 +4,7 @@ use Rattle.teb_history.specs.Ascending.{place_of}
 use Rattle.teb_history.specs.Live.{number_of}
 use Rattle.teb_history.proofs.AscendingLists.{place_in}
 use Rattle.key_piles.specs.Piles.{pile_in}
-use Rattle.dependency_book.specs.Books.{txn_cmp}
+use Rattle.key_piles.specs.Keys.{txn_cmp}
 use Rattle.runtime_pipeline.specs.Predecessors.{without}
 use Rattle.runtime_pipeline.proofs.ListEdits.{edited, unedited, without_found, without_missing}
 use Rattle.runtime_pipeline.proofs.predecessors.take.Goals as goal

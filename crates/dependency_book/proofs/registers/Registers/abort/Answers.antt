@@ -14,9 +14,9 @@ pub returns-clause-room : goal.returns-clause-room
 returns-clause-room c n h = record {
   readers = omega (arith, h.readers, c.forget_accesses.ensures.readers_spare);
   writers = omega (arith, h.writers, c.forget_accesses.ensures.writers_spare);
-  sources = omega (arith, h.sources, c.clear-2.ensures.spare);
+  sources = omega (arith, h.sources, c.clear_txn-2.ensures.spare);
   unfinished = omega (arith, h.unfinished, c.retain.ensures.bound, c.retain.ensures.capacity);
-  accesses = omega (arith, h.accesses, c.clear.ensures.spare);
+  accesses = omega (arith, h.accesses, c.clear_txn.ensures.spare);
 }
 
 pub returns-clause-book : goal.returns-clause-book
@@ -26,6 +26,6 @@ returns-clause-book c P cause was may =
     noted_gone _ _ P was t cause may
     (λ y. c.forget_accesses.ensures.readers y ∙ ap (λ (l : List Access). without_lasts (count_by (reads y) l) (λ (r : Txn × Txn). eqb r.0.0 t.0) (pile_in cell_cmp c.args.self.now.readers y)) own)
     (λ y. c.forget_accesses.ensures.writers y ∙ ap (λ (l : List Access). without_lasts (count_by (puts y) l) (λ (u : Txn). eqb u.0 t.0) (pile_in cell_cmp c.args.self.now.writers y)) own)
-    c.clear-2.ensures.piles
+    c.clear_txn-2.ensures.piles
     (filter_same _ (λ (u : Txn). not (eqb u.0 t.0)) _ (λ x b q called. search rules) _ _ c.retain.ensures.filtered)
-    c.clear.ensures.piles
+    c.clear_txn.ensures.piles

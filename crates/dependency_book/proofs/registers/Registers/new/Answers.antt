@@ -4,7 +4,7 @@ use Rattle.teb_names.specs.declared.Cell.{Cell}
 use Rattle.teb_names.specs.Cells.{cell_cmp}
 use Rattle.key_piles.specs.Piles.{pile}
 use Rattle.dependency_book.specs.declared.access.Access.{Access}
-use Rattle.dependency_book.specs.Books.{txn_cmp}
+use Rattle.key_piles.specs.Keys.{txn_cmp}
 use Rattle.dependency_book.proofs.Noted.{noted_nothing}
 use Rattle.dependency_book.proofs.registers.Registers.new.Goals as goal
 

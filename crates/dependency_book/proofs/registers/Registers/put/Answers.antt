@@ -6,7 +6,7 @@ use Rattle.teb_names.specs.Cells.{cell_cmp, same_cell}
 use Rattle.key_piles.specs.Piles.{pile_in}
 use Rattle.dependency_book.specs.declared.access.Access.{Access}
 use Rattle.dependency_book.specs.Dependencies.{puts}
-use Rattle.dependency_book.specs.Books.{txn_cmp}
+use Rattle.key_piles.specs.Keys.{txn_cmp}
 use Rattle.key_piles.proofs.CellPiles.{pushed_cell}
 use Rattle.dependency_book.proofs.PileEdits.{pushed_txn}
 use Rattle.dependency_book.proofs.Noted.{noted_put}

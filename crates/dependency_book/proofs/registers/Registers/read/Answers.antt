@@ -4,7 +4,7 @@ use Rattle.teb_names.specs.declared.Cell.{Cell}
 use Rattle.teb_names.specs.Cells.{cell_cmp}
 use Rattle.key_piles.specs.Piles.{pile_in}
 use Rattle.dependency_book.specs.declared.access.Access.{Access}
-use Rattle.dependency_book.specs.Books.{txn_cmp}
+use Rattle.key_piles.specs.Keys.{txn_cmp}
 use Rattle.key_piles.proofs.CellPiles.{pushed_cell}
 use Rattle.dependency_book.proofs.PileEdits.{added_ascends, pushed_txn}
 use Rattle.dependency_book.proofs.Noted.{noted_got}

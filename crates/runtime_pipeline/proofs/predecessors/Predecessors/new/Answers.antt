@@ -1,7 +1,7 @@
 use Rattle.std.proofs.Common.{List, ap}
 use Rattle.teb_names.specs.declared.Txn.{Txn}
 use Rattle.key_piles.specs.Piles.{pile}
-use Rattle.dependency_book.specs.Books.{txn_cmp}
+use Rattle.key_piles.specs.Keys.{txn_cmp}
 use Rattle.runtime_pipeline.proofs.Following.{noted_none}
 use Rattle.runtime_pipeline.proofs.predecessors.Predecessors.new.Goals as goal
 
