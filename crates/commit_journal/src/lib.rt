@@ -9,6 +9,3 @@ mod recovery;
 pub use durable::Durable;
 pub use error::{CreateError, DurableError};
 pub use recovery::recover;
-
-#[cfg(test)]
-mod tests;

@@ -18,6 +18,3 @@ pub use read::read_records;
 pub use record::{encode, write_record};
 pub use recovery::{Recovered, read_rows};
 pub use whole::read_whole;
-
-#[cfg(test)]
-mod tests;
