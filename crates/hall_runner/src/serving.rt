@@ -132,9 +132,30 @@ fn serve_sessions<C: Chains + Send, R: Threads + Wait + Sync, G: Gate + Sync>(
 {
     match runner {
         Runner::Threads => run_threads(rt, alloc, hall, passes, scripts, workers, gate),
-        Runner::Pool => match run_pool(rt, alloc, hall, passes, scripts, workers, gate) {
-            Ok(pooled) => Ok(pooled.passes),
-            Err(error) => Err(error),
-        },
+        Runner::Pool => serve_from_queue(rt, alloc, hall, passes, scripts, workers, gate),
+    }
+}
+
+/// Serves the sessions from a queue, and hands back their passes in order.
+fn serve_from_queue<C: Chains + Send, R: Threads + Wait + Sync, G: Gate + Sync>(
+    rt: &R,
+    alloc: Global,
+    hall: &Hall<C>,
+    passes: Vec<Pass<C>>,
+    scripts: &Scripts,
+    workers: u8,
+    gate: &G,
+) -> Result<Vec<Pass<C>>, RunError<C>>
+    requires sessions { map number_of passes.items ≡ numbers 32 }
+    requires new { All (IsNew hall.now) passes.items }
+    requires scripts { AreDistinct scripts.now }
+    requires workers { 1 ≤ workers }
+    ensures sessions { IfOk result (λ v. map number_of v.items ≡ numbers 32) }
+    ensures served { IfOk result (λ v. All (IsServed hall.now scripts.now) v.items) }
+    ensures cause { IfErr result (IsCause hall.now scripts.now) }
+{
+    match run_pool(rt, alloc, hall, passes, scripts, workers, gate) {
+        Ok(pooled) => Ok(pooled.passes),
+        Err(error) => Err(error),
     }
 }

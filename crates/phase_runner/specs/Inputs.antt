@@ -26,12 +26,16 @@ script_in (Ok task) = Ok task
 script_in (Err e) = Err (BadInput e)
 
 -- a later phase has the tables of the one before it, and no rows of its own
-abbrev pub following : ℕ → Option Task → Meaning → Result (Unit {0}) PhaseError
-following k None m = Ok tt
-following k (Some before) m =
-    if not (same_names m.tables before.setup.tables) then Err (BadPhase k Tables)
+abbrev pub behind : ℕ → Meaning → Meaning → Result (Unit {0}) PhaseError
+behind k before m =
+    if not (same_names m.tables before.tables) then Err (BadPhase k Tables)
     else if not (length m.rows == 0) then Err (BadPhase k Rows)
     else Ok tt
+
+-- the setup of a phase behind another one, or of the first, which may be any
+abbrev pub following : ℕ → Option Task → Meaning → Result (Unit {0}) PhaseError
+following k None m = Ok tt
+following k (Some before) m = behind k before.setup m
 
 -- the task of pair k, behind another one or none: first its tree, then what stands against it, then its script
 abbrev pub task_at : ℕ → Option Task → Pair → Result Task PhaseError

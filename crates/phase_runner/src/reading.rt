@@ -4,7 +4,7 @@ ghost use Rattle.std.specs.Prelude.{◌≡◌, ◌≤◌, All, length, None};
 ghost use Rattle.std.specs.Option.{option_copied};
 ghost use Rattle.script_text.specs.Input.{parts_of};
 ghost use Rattle.tree_toml.specs.Seen.{setup_view};
-ghost use Rattle.phase_runner.specs.Inputs.{phases_of, tasks_from, task_at, following, is_long as spec_is_long};
+ghost use Rattle.phase_runner.specs.Inputs.{phases_of, tasks_from, task_at, following, behind, is_long as spec_is_long};
 ghost use Rattle.phase_runner.specs.Parts.{AreParts, pairs_of, texts};
 ghost use Rattle.phase_runner.specs.Readings.{IsRead};
 
@@ -98,14 +98,21 @@ fn read_pair(alloc: Global, before: Option<&Input>, pair: Pair) -> Result<Input,
     Ok(Input::new(setup, lines))
 }
 
-/// Whether a setup may be that of a later phase.
+/// Whether a setup may be that of a phase behind another one, or of the first.
 fn check_following(number: u8, before: Option<&Input>, setup: &Setup) -> Result<(), PhaseError>
     ensures { result ≡ following number (option_copied before.entry) (setup_view setup.now) }
 {
-    let Some(before) = before else {
-        return Ok(());
-    };
-    if !same_names(&setup.names.tables, &before.setup().names.tables) {
+    match before {
+        Some(before) => check_behind(number, before.setup(), setup),
+        None => Ok(()),
+    }
+}
+
+/// Whether a setup may be that of a phase behind one of another setup.
+fn check_behind(number: u8, before: &Setup, setup: &Setup) -> Result<(), PhaseError>
+    ensures { result ≡ behind number (setup_view before.now) (setup_view setup.now) }
+{
+    if !same_names(&setup.names.tables, &before.names.tables) {
         return Err(bad_phase(number, PhaseWhy::Tables));
     }
     if !setup.rows.is_empty() {
