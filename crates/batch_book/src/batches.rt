@@ -102,7 +102,7 @@ impl Batches {
         let _ = self.running.push(member);
     }
 
-    /// Notes the Done or the Gone of t at position `at`. Where t has not joined nothing changes.
+    /// Notes the Done or the Gone of t at position `at`, whether t has joined or not.
     pub fn finish(&mut self, t: Txn, at: usize)
         ensures batches { (S : Setup) (P : List Event) (n : ℕ) (e : Event) → BatchesOf self.old S P n → MayCome P e → Finishes t.0 e → at ≡ length P → BatchesOf self.new S (e ∷ P) n }
         ensures size { self.new.size ≡ self.old.size }
@@ -124,7 +124,7 @@ impl Batches {
         self.batch(t).start
     }
 
-    /// Where the batch of t starts; None where t has not joined.
+    /// Where the batch of t, which has begun, starts; None where the node is not on its path.
     pub fn start_of(&self, t: Txn) -> Option<usize>
         ensures { (S : Setup) (H : List Event) (n : ℕ) → BatchesOf self.now S H n → IsTrue (begun H t.0) → result ≡ cond (on S H n t.0) (Some (start S H n t.0)) None }
     {
@@ -163,8 +163,8 @@ impl Batches {
         overlap(self.batch(t), self.batch(u))
     }
 
-    /// A transaction that has joined, before which nobody was of the batch of t or of one concurrent with it: the first one
-    /// whose batch was not closed before that of t started.
+    /// A transaction that has joined, such that the batch of each member with a lesser number was closed before that of t
+    /// started.
     pub fn horizon(&self, t: Txn) -> Txn
         requires { IsTrue (has_joined self.now t.0) }
         ensures joined { IsTrue (has_joined self.now result.0) }
