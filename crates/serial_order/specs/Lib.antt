@@ -1,7 +1,10 @@
 pub mod Books
+pub mod Props
+pub mod Booked
 pub mod Commits
 pub mod Edges
 pub mod Keys
 pub mod Laws
 pub mod Tables
 pub mod Writes
+pub mod EndState

@@ -6,10 +6,10 @@ ghost use Rattle.teb_rules.specs.Tree.{has_batches, on_path, side_at};
 ghost use Rattle.teb_laws.specs.Lawful.{Lawful};
 ghost use Rattle.teb_rules.specs.Batches.{start, close};
 ghost use Rattle.phase_api.specs.Told.{setup_of, events_of};
-ghost use Rattle.phase_api.specs.Calls.{IsHere};
 ghost use Rattle.batch_book.specs.Histories.{BatchesOf};
 ghost use Rattle.serial_order.specs.Books.{AreBooks};
 
+use crate::booked::Booked;
 use batch_book::Batches;
 use phase_api::Facts;
 use std::alloc::{AllocError, Global};
@@ -28,29 +28,32 @@ pub fn books(alloc: Global, facts: &Facts) -> Result<Vec<Batches>, AllocError>
     Ok(books)
 }
 
-/// Where the batch of a transaction starts at a node.
-pub fn start_of(facts: &Facts, books: &[Batches], n: Node, t: Txn) -> usize
-    requires books { AreBooks (setup_of facts.now) (events_of facts.now) books.now }
-    requires here { IsHere facts.now n.0 t.0 }
-    requires node { n.0 < length (setup_of facts.now).tree }
-    requires batches { IsTrue (has_batches (setup_of facts.now).tree n.0) }
-    ensures { result ≡ start (setup_of facts.now) (events_of facts.now) n.0 t.0 }
-{
-    let _ = facts;
-    books[usize::from(n.0)].start(t)
-}
+impl<'a> Booked<'a> {
+    ghost use Rattle.serial_order.specs.Booked.{IsNode, HasBatches, IsAt, told};
 
-/// Where it closes: the length of the history while it is open.
-pub fn close_of(facts: &Facts, books: &[Batches], n: Node, t: Txn) -> usize
-    requires books { AreBooks (setup_of facts.now) (events_of facts.now) books.now }
-    requires here { IsHere facts.now n.0 t.0 }
-    requires node { n.0 < length (setup_of facts.now).tree }
-    requires batches { IsTrue (has_batches (setup_of facts.now).tree n.0) }
-    ensures { result ≡ close (setup_of facts.now) (events_of facts.now) n.0 t.0 }
-{
-    books[usize::from(n.0)]
-        .close(t)
-        .unwrap_or(facts.history.len())
+    /// Where the batch of a transaction starts at a node.
+    pub(crate) fn start_of(&self, n: Node, t: Txn) -> usize
+        requires here { IsAt self.now n.0 t.0 }
+        requires node { IsNode self.now n.0 }
+        requires batches { HasBatches self.now n.0 }
+        ensures { result ≡ told self.now start n.0 t.0 }
+    {
+        let books = self.books;
+        books[usize::from(n.0)].start(t)
+    }
+
+    /// Where it closes: the length of the history while it is open.
+    pub(crate) fn close_of(&self, n: Node, t: Txn) -> usize
+        requires here { IsAt self.now n.0 t.0 }
+        requires node { IsNode self.now n.0 }
+        requires batches { HasBatches self.now n.0 }
+        ensures { result ≡ told self.now close n.0 t.0 }
+    {
+        let books = self.books;
+        books[usize::from(n.0)]
+            .close(t)
+            .unwrap_or(self.facts.history.len())
+    }
 }
 
 // The book of a node; an empty one where the node has no batches.

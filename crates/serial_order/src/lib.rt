@@ -1,8 +1,10 @@
 //! The serial order of the committed transactions, and the tables that they leave.
 #![tactic(auto)]
 
+mod booked;
 mod books;
 mod edges;
+mod end_state;
 mod final_tables;
 mod keys;
 pub mod laws;

@@ -6,15 +6,13 @@ ghost use Rattle.teb_rules.specs.Ranks.{serial_order};
 ghost use Rattle.teb_rules.specs.Serializes.{Serializes};
 ghost use Rattle.teb_laws.specs.Lawful.{Lawful};
 ghost use Rattle.phase_api.specs.Told.{setup_of, events_of};
-ghost use Rattle.serial_order.specs.Books.{AreBooks};
+ghost use Rattle.serial_order.specs.Booked.{history, told};
 ghost use Rattle.serial_order.specs.Commits.{commits_in, txn_numbers};
 ghost use Rattle.serial_order.specs.Edges.{MarkEdges};
 ghost use Rattle.serial_order.specs.Keys.{entry_numbers, HaveKeys};
 
+use crate::booked::Booked;
 use crate::books::books;
-use crate::edges::edges_out;
-use crate::keys::key;
-use batch_book::Batches;
 use engine_core::Engine;
 use phase_api::Facts;
 use std::alloc::{AllocError, Global};
@@ -50,35 +48,33 @@ fn order_by_keys(alloc: Global, facts: &Facts) -> Result<Vec<Txn>, AllocError>
     ensures { IfOk result (λ v. txn_numbers v.items ≡ serial_order (setup_of facts.now) (events_of facts.now)) }
 {
     let books = books(alloc, facts)?;
-    let marks = edges_out(alloc, facts, &books)?;
-    let mut entries = entries(alloc, facts, &books, &marks)?;
+    let booked = Booked {
+        facts,
+        books: &books,
+    };
+    let marks = booked.edges_out(alloc)?;
+    let mut entries = booked.entries(alloc, &marks)?;
     entries.sort_by(|a, b| a.key.cmp(&b.key))?;
     txns_of(alloc, &entries)
 }
 
-// The committed transactions in the order of their commits, each with its key.
-fn entries(
-    alloc: Global,
-    facts: &Facts,
-    books: &[Batches],
-    marks: &[bool],
-) -> Result<Vec<Entry>, AllocError>
-    requires sound { IsSound (setup_of facts.now) }
-    requires lawful { Lawful (setup_of facts.now) (events_of facts.now) }
-    requires books { AreBooks (setup_of facts.now) (events_of facts.now) books.now }
-    requires marks { MarkEdges (setup_of facts.now) (events_of facts.now) marks.now }
-    ensures numbers { IfOk result (λ v. entry_numbers v.items ≡ commits_in (reverse (events_of facts.now))) }
-    ensures keys { IfOk result (λ v. HaveKeys (setup_of facts.now) (events_of facts.now) v.items) }
-{
-    let mut entries = Vec::new(alloc);
-    for i in 0..facts.history.len() {
-        let Event::Done(txn) = facts.history.at(i) else {
-            continue;
-        };
-        let key = key(alloc, facts, books, marks, txn, i)?;
-        entries.push(Entry { txn, key })?;
+impl<'a> Booked<'a> {
+    // The committed transactions in the order of their commits, each with its key.
+    fn entries(&self, alloc: Global, marks: &[bool]) -> Result<Vec<Entry>, AllocError>
+        requires { told self.now MarkEdges marks.now }
+        ensures numbers { IfOk result (λ v. entry_numbers v.items ≡ commits_in (reverse (history self.now))) }
+        ensures keys { IfOk result (λ v. told self.now HaveKeys v.items) }
+    {
+        let mut entries = Vec::new(alloc);
+        for i in 0..self.facts.history.len() {
+            let Event::Done(txn) = self.facts.history.at(i) else {
+                continue;
+            };
+            let key = self.key(alloc, marks, txn, i)?;
+            entries.push(Entry { txn, key })?;
+        }
+        Ok(entries)
     }
-    Ok(entries)
 }
 
 // The transactions alone.

@@ -13,8 +13,8 @@ use Rattle.serial_order.proofs.Commits.{entries_ordered}
 use Rattle.serial_order.proofs.serial.order_by_keys.Goals as goal
 
 pub returns : goal.returns
-returns c = IfOk-weaker c.txns_of.result (λ v. txn_numbers v.items ≡ entry_numbers c.deref-4.result.now) (λ v. txn_numbers v.items ≡ serial_order (setup_of c.args.facts.now) (events_of c.args.facts.now))
-    (λ v e. e ∙ ap entry_numbers c.deref-4.ensures.value ∙ entries_ordered (setup_of c.args.facts.now) (tree_facts (setup_of c.args.facts.now) c.requires.sound) (events_of c.args.facts.now) c.requires.lawful c.in_ok-entries.entries.items c.sort_by.new.self.items
+returns c = IfOk-weaker c.txns_of.result (λ v. txn_numbers v.items ≡ entry_numbers c.deref-3.result.now) (λ v. txn_numbers v.items ≡ serial_order (setup_of c.args.facts.now) (events_of c.args.facts.now))
+    (λ v e. e ∙ ap entry_numbers c.deref-3.ensures.value ∙ entries_ordered (setup_of c.args.facts.now) (tree_facts (setup_of c.args.facts.now) c.requires.sound) (events_of c.args.facts.now) c.requires.lawful c.in_ok-entries.entries.items c.sort_by.new.self.items
     c.in_ok-entries.ensures.numbers c.in_ok-entries.ensures.keys c.in_ok-sort_by.ensures.permutation
     (c.in_ok-sort_by.ensures.sorted (λ (d e : Entry). is_lt (slice_cmp nat_cmp d.key.items e.key.items)) (ranks_by nat_list_cmp_total (λ (e : Entry). e.key.items))
     (answers_always _ _ _ (λ f a r f' k. search rules))))

@@ -1,0 +1,18 @@
+use Rattle.std.proofs.Common.{ap, ◌∙◌}
+use Rattle.std.proofs.lemmas.Result.{IfOk-weaker}
+use Rattle.teb_history.specs.Phases.{txns}
+use Rattle.teb_rules.specs.Setup.{NodeRow}
+use Rattle.teb_laws.proofs.Sound.{tree_facts}
+use Rattle.phase_api.specs.Told.{setup_of, events_of}
+use Rattle.serial_order.specs.Edges.{AreMarked, MarkEdges}
+use Rattle.serial_order.proofs.EdgesOut.{root_marks, no_marks}
+use Rattle.serial_order.proofs.booked.Booked.edges_out.Goals as goal
+
+pub returns-in-Snapshot : goal.returns-in-Snapshot
+returns-in-Snapshot c = IfOk-weaker c.edges_at.result (λ v. AreMarked (setup_of c.args.self.now.facts.now) (events_of c.args.self.now.facts.now) 0 (txns (events_of c.args.self.now.facts.now)) v.items) (λ v. MarkEdges (setup_of c.args.self.now.facts.now) (events_of c.args.self.now.facts.now) v.items)
+    (λ v m. root_marks (setup_of c.args.self.now.facts.now) (tree_facts (setup_of c.args.self.now.facts.now) c.args.self.now.sound) (events_of c.args.self.now.facts.now) v.items c.args.self.now.lawful m)
+    c.edges_at.ensures
+
+pub returns-in_default : goal.returns-in_default
+returns-in_default c = no_marks (setup_of c.args.self.now.facts.now) (tree_facts (setup_of c.args.self.now.facts.now) c.args.self.now.sound) (events_of c.args.self.now.facts.now) c.new.result.items
+    (λ q. c.in_default.not-Snapshot (ap (λ (r : NodeRow). r.control) c.row.ensures ∙ q))

@@ -1,7 +1,0 @@
-use Rattle.teb_history.specs.Phases.{numbers}
-use Rattle.phase_api.specs.Told.{setup_of, events_of}
-use Rattle.serial_order.specs.Edges.{AreMarked}
-use Rattle.serial_order.proofs.edges.edges_at.Given as goal
-
-abbrev pub invariant-loop-k : goal.invariant-loop-k
-invariant-loop-k l = AreMarked (setup_of l.facts) (events_of l.facts) l.n.0 (numbers l.k) l.marks.items

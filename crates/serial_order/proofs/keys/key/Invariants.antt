@@ -1,9 +1,0 @@
-use Rattle.std.proofs.Common.{◌≡◌, ◌++◌, drop}
-use Rattle.teb_rules.specs.Ranks.{key}
-use Rattle.phase_api.specs.Told.{setup_of, events_of}
-use Rattle.cc_tree.specs.Grown.{node_numbers}
-use Rattle.serial_order.specs.Keys.{key_along}
-use Rattle.serial_order.proofs.keys.key.Given as goal
-
-abbrev pub invariant-loop-n : goal.invariant-loop-n
-invariant-loop-n l = l.key.items ++ key_along (setup_of l.facts) (events_of l.facts) l.t.0 (node_numbers (drop l.n-index l.path)) ≡ key (setup_of l.facts) (events_of l.facts) l.t.0

@@ -1,0 +1,29 @@
+-- What is said of facts with books.
+use Rattle.std.specs.Prelude.{◌<◌, ℕ, List, length, IsTrue}
+use Rattle.teb_history.specs.declared.Event.{Event}
+use Rattle.teb_rules.specs.Setup.{Setup}
+use Rattle.teb_rules.specs.Tree.{has_batches}
+use Rattle.phase_api.specs.Told.{setup_of, events_of}
+use Rattle.phase_api.specs.Calls.{IsHere}
+use Rattle.serial_order.specs.declared.booked.Booked.{Booked}
+
+abbrev pub setup : Booked → Setup
+setup b = setup_of b.facts.now
+
+abbrev pub history : Booked → List Event
+history b = events_of b.facts.now
+
+-- n is a node of the tree
+abbrev pub IsNode : Booked → ℕ → Type 0
+IsNode b n = n < length (setup_of b.facts.now).tree
+
+abbrev pub HasBatches : Booked → ℕ → Type 0
+HasBatches b n = IsTrue (has_batches (setup_of b.facts.now).tree n)
+
+-- n is on the path of t
+abbrev pub IsAt : Booked → ℕ → ℕ → Type 0
+IsAt b n t = IsHere b.facts.now n t
+
+-- a word of the setup and the history
+abbrev pub told {ℓ} : {A : Type ℓ} → Booked → (Setup → List Event → A) → A
+told b p = p (setup_of b.facts.now) (events_of b.facts.now)
