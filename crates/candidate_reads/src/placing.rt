@@ -1,7 +1,7 @@
 //! Where a transaction's version belongs.
 
 ghost use Rattle.std.specs.Prelude.{◌≡◌, slice_get, Some, IsTrue, IsFalse};
-ghost use Rattle.teb_history.specs.Phases.{aborted, unfinished};
+ghost use Rattle.teb_history.specs.Phases.{aborted};
 ghost use Rattle.teb_rules.specs.Versions.{precedes};
 ghost use Rattle.teb_laws.specs.TreeFacts.{TreeFacts};
 ghost use Rattle.teb_laws.specs.Lawful.{Lawful};
@@ -10,6 +10,7 @@ ghost use Rattle.phase_api.specs.Told.{setup_of, events_of, IsTyped};
 ghost use Rattle.phase_api.specs.Calls.{Writes};
 ghost use Rattle.phase_api.specs.Versions.{HoldsVersions, IsPlaceOf, has_version};
 ghost use Rattle.phase_api.specs.Standing.{StandAll};
+ghost use Rattle.candidate_reads.specs.Asked.{AreAsked, MayPut};
 
 use crate::node_control::control_between;
 use phase_api::{Control, Facts};
@@ -57,13 +58,9 @@ fn last_before<K: Control, C: Chains>(
     t: Txn,
     cell: Cell,
 ) -> Option<usize>
-    requires tree { TreeFacts (setup_of facts.now) }
-    requires lawful { Lawful (setup_of facts.now) (events_of facts.now) }
-    requires controls { StandAll K.place K.stands controls.now (setup_of facts.now) (events_of facts.now) }
+    requires asked { AreAsked K.place K.stands controls.now facts.now }
     requires chains { HoldsVersions (setup_of facts.now) (events_of facts.now) (C.lists chains.now) }
-    requires typed { IsTyped facts.now t.0 }
-    requires unfinished { IsTrue (unfinished (events_of facts.now) t.0) }
-    requires absent { IsFalse (has_version (events_of facts.now) cell t.0) }
+    requires put { MayPut facts.now t.0 cell }
     ensures { result ≡ last_place (λ w. precedes (setup_of facts.now) (events_of facts.now) cell w t.0) (writers_of (C.lists chains.now cell)) }
 {
     chains.last_where(cell, &|w: Txn| is_before(controls, facts, w, t, cell))
@@ -71,12 +68,8 @@ fn last_before<K: Control, C: Chains>(
 
 // Whether the version of w is before the one that t is about to put. It costs the same, however much w has done.
 fn is_before<K: Control>(controls: &[K], facts: &Facts, w: Txn, t: Txn, cell: Cell) -> bool
-    requires tree { TreeFacts (setup_of facts.now) }
-    requires lawful { Lawful (setup_of facts.now) (events_of facts.now) }
-    requires controls { StandAll K.place K.stands controls.now (setup_of facts.now) (events_of facts.now) }
-    requires typed { IsTyped facts.now t.0 }
-    requires unfinished { IsTrue (unfinished (events_of facts.now) t.0) }
-    requires absent { IsFalse (has_version (events_of facts.now) cell t.0) }
+    requires asked { AreAsked K.place K.stands controls.now facts.now }
+    requires put { MayPut facts.now t.0 cell }
     requires version { IsTrue (has_version (events_of facts.now) cell w.0) }
     ensures { result ≡ precedes (setup_of facts.now) (events_of facts.now) cell w.0 t.0 }
 {

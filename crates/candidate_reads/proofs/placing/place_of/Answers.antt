@@ -13,12 +13,12 @@ returns-in-Some g c = record {
   own = λ _. (own_found (writers_of (g.C.Chains.lists c.args.chains.now c.args.cell)) c.args.t.0 c.in-Some.own c.in-Some.ensures).1;
 }
 
-pub last_before-requires-clause-unfinished : goal.last_before-requires-clause-unfinished
-last_before-requires-clause-unfinished g c =
-    about_to (setup_of c.args.facts.now) (events_of c.args.facts.now) (g.C.Chains.lists c.args.chains.now) c.requires.lawful c.requires.chains c.args.cell c.args.t.0 c.requires.kept c.requires.writes c.in_default.ensures
-
-pub last_before-requires-clause-absent : goal.last_before-requires-clause-absent
-last_before-requires-clause-absent g c = sym (c.requires.chains.writers c.args.cell c.args.t.0) ∙ own_absent (writers_of (g.C.Chains.lists c.args.chains.now c.args.cell)) c.args.t.0 c.in_default.ensures
+pub last_before-requires-clause-put : goal.last_before-requires-clause-put
+last_before-requires-clause-put g c = record {
+  typed = c.requires.typed;
+  unfinished = about_to (setup_of c.args.facts.now) (events_of c.args.facts.now) (g.C.Chains.lists c.args.chains.now) c.requires.lawful c.requires.chains c.args.cell c.args.t.0 c.requires.kept c.requires.writes c.in_default.ensures;
+  absent = sym (c.requires.chains.writers c.args.cell c.args.t.0) ∙ own_absent (writers_of (g.C.Chains.lists c.args.chains.now c.args.cell)) c.args.t.0 c.in_default.ensures;
+}
 
 pub prove-unreachable-requires : goal.prove-unreachable-requires
 prove-unreachable-requires g c =

@@ -11,8 +11,10 @@ returns-in-Some g c =
     let r = read_own (setup_of c.args.facts.now) c.args.rows.now (events_of c.args.facts.now) c.args.t.0 c.args.cell (g.C.Chains.lists c.args.chains.now) c.requires.lawful c.requires.chains c.in-Some.own c.at.result c.in-Some.ensures c.at.ensures in
     record { source = r.0; value = r.1 }
 
-pub last_seen-requires-clause-absent : goal.last_seen-requires-clause-absent
-last_seen-requires-clause-absent g c = no_version (setup_of c.args.facts.now) c.args.rows.now (events_of c.args.facts.now) c.args.t.0 c.args.cell (g.C.Chains.lists c.args.chains.now) c.requires.lawful c.requires.chains c.in_default.ensures
+pub last_seen-requires-clause-reads : goal.last_seen-requires-clause-reads
+last_seen-requires-clause-reads g c =
+    let absent = no_version (setup_of c.args.facts.now) c.args.rows.now (events_of c.args.facts.now) c.args.t.0 c.args.cell (g.C.Chains.lists c.args.chains.now) c.requires.lawful c.requires.chains c.in_default.ensures in
+    record { typed = c.requires.typed; kept = c.requires.kept; absent = absent }
 
 pub at-requires-in-Some-last_seen : goal.at-requires-in-Some-last_seen
 at-requires-in-Some-last_seen g c = last_within _ (g.C.Chains.lists c.args.chains.now c.args.cell) c.in-Some-last_seen.i c.in-Some-last_seen.ensures

@@ -1,0 +1,30 @@
+-- What is known where a version is asked for.
+use Rattle.std.specs.Prelude.{ℕ, List, IsTrue, IsFalse}
+use Rattle.teb_names.specs.declared.Cell.{Cell}
+use Rattle.teb_history.specs.declared.Event.{Event}
+use Rattle.teb_history.specs.Phases.{aborted, unfinished}
+use Rattle.teb_rules.specs.Setup.{Setup}
+use Rattle.teb_laws.specs.TreeFacts.{TreeFacts}
+use Rattle.teb_laws.specs.Lawful.{Lawful}
+use Rattle.phase_api.specs.declared.facts.Facts.{Facts}
+use Rattle.phase_api.specs.Standing.{StandAll}
+use Rattle.phase_api.specs.Told.{setup_of, events_of, IsTyped}
+use Rattle.phase_api.specs.Versions.{has_version}
+
+-- the tree is sound and the history lawful, and each control stands for them
+pub record AreAsked {K : Type 0} (place : K → ℕ) (stands : K → Setup → List Event → Type 0) (all : List K) (f : Facts) : Type 0 where
+  pub tree : TreeFacts (setup_of f)
+  pub lawful : Lawful (setup_of f) (events_of f)
+  pub controls : StandAll place stands all (setup_of f) (events_of f)
+
+-- t may put x, and has no version of it yet
+pub record MayPut (f : Facts) (t : ℕ) (x : Cell) : Type 0 where
+  pub typed : IsTyped f t
+  pub unfinished : IsTrue (unfinished (events_of f) t)
+  pub absent : IsFalse (has_version (events_of f) x t)
+
+-- t is not aborted, and reads a version of x that is not its own
+pub record ReadsOthers (f : Facts) (t : ℕ) (x : Cell) : Type 0 where
+  pub typed : IsTyped f t
+  pub kept : IsFalse (aborted (events_of f) t)
+  pub absent : IsFalse (has_version (events_of f) x t)
