@@ -26,6 +26,7 @@ use Rattle.teb_rules.specs.declared.Stop.TheVariants as stop
 use Rattle.teb_rules.specs.Answer.{Answered, or_stop, or_refused, refuse, is_scan, answer, answer_to, answer_of, answer_new, begin_or_wait}
 use Rattle.engine_core.specs.declared.decision.Decision.{Decision}
 use Rattle.engine_core.specs.declared.decision.Decision.TheVariants.{Answer}
+use Rattle.engine_core.specs.declared.decision.ShortReply.TheVariants as short
 use Rattle.engine_core.specs.Decisions.{carried, told, IsBounded, IsRefusal, IsStopped}
 
 -- a request of t that is stopped, and one that is not
@@ -39,7 +40,7 @@ pub goes : (X : Store) (H : List Event) (t : ℕ) (s r : Stop) (o : Option Decis
 goes X H t s r o granted e k q = let f : s ≡ stop.Go = subst (IsStopped X H t s) q k in ap (λ (z : Stop). or_stop H t z granted) (sym f ∙ e)
 
 -- an access that is refused, and one that is not
-pub is_refused : (X : Store) (H : List Event) (t : ℕ) (x : Cell) (o : Option Refusal) (why : Refusal) (d : Decision) (granted : Answered) → IsRefusal X H t x o → o ≡ Some why → d ≡ Answer (Refused why) → carried X H d ≡ or_refused X H t x granted
+pub is_refused : (X : Store) (H : List Event) (t : ℕ) (x : Cell) (o : Option Refusal) (why : Refusal) (d : Decision) (granted : Answered) → IsRefusal X H t x o → o ≡ Some why → d ≡ Answer (short.Refused why) → carried X H d ≡ or_refused X H t x granted
 is_refused X H t x o why d granted k q e = let f = subst (IsRefusal X H t x) q k in ap (carried X H) e ∙ sym (f granted)
 
 pub is_not_refused : (X : Store) (H : List Event) (t : ℕ) (x : Cell) (o : Option Refusal) (granted : Answered) → IsRefusal X H t x o → o ≡ None → or_refused X H t x granted ≡ granted

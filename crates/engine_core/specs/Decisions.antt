@@ -1,7 +1,8 @@
 -- A decision, and the answer that it carries out.
 use Rattle.std.specs.Prelude.{◌≡◌, ◌≤◌, ◌<◌, ◌+◌, ◌^◌, ℕ, List, ◌∷◌, Option, Some, None, unwrap_or, cond, ℤ, ◌+ℤ◌}
 use Rattle.teb_names.specs.declared.Cause.TheVariants.{Asked}
-use Rattle.teb_names.specs.declared.Reply.TheVariants.{Aborted}
+use Rattle.teb_names.specs.declared.Reply.{Reply}
+use Rattle.teb_names.specs.declared.Reply.TheVariants as reply
 use Rattle.teb_names.specs.declared.Cell.{Cell}
 use Rattle.teb_names.specs.declared.Refusal.{Refusal}
 use Rattle.teb_history.specs.declared.Event.{Event}
@@ -13,13 +14,26 @@ use Rattle.teb_rules.specs.declared.Stop.{Stop}
 use Rattle.teb_rules.specs.declared.Stop.TheVariants as stop
 use Rattle.teb_rules.specs.Cascade.{txn}
 use Rattle.teb_rules.specs.Answer.{Answered, cells_from, read_all, got_values, broken_off, refuse, or_stop, or_refused, fits}
+use Rattle.engine_core.specs.declared.decision.ShortReply.{ShortReply}
+use Rattle.engine_core.specs.declared.decision.ShortReply.TheVariants.{Begun, Value, Done, Prepared, Committed, Again, Aborted, Refused}
 use Rattle.engine_core.specs.declared.decision.Decision.{Decision}
 use Rattle.engine_core.specs.declared.decision.Decision.TheVariants.{Answer, Grant, Scan, Fall}
 
+-- the reply as the session gets it
+abbrev pub full_reply : ShortReply → Reply
+full_reply (Begun t) = reply.Begun t
+full_reply (Value v) = reply.Value v
+full_reply Done = reply.Done
+full_reply Prepared = reply.Prepared
+full_reply Committed = reply.Committed
+full_reply (Again u n) = reply.Again u n
+full_reply (Aborted c) = reply.Aborted c
+full_reply (Refused r) = reply.Refused r
+
 -- the reply and the history after a decision
 abbrev pub carried : Store → List Event → Decision → Answered
-carried X H (Answer r) = (r, H)
-carried X H (Grant r e) = (r, e ∷ H)
+carried X H (Answer r) = (full_reply r, H)
+carried X H (Grant r e) = (full_reply r, e ∷ H)
 carried X H (Scan t x n) = got_values (read_all X H t.0 (cells_from x n))
 carried X H (Fall t c) = broken_off H t.0 c
 
@@ -50,4 +64,4 @@ sum_of b v = cond (fits (b +ℤ v)) (Some (b +ℤ v)) None
 
 -- the notice to the session of an aborted t
 abbrev pub told : List Event → ℕ → Answered
-told H t = (Aborted (unwrap_or (cause_of H t) Asked), Told (txn t) ∷ H)
+told H t = (reply.Aborted (unwrap_or (cause_of H t) Asked), Told (txn t) ∷ H)

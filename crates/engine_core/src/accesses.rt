@@ -8,12 +8,12 @@ ghost use Rattle.engine_core.specs.Wholes.{store_in, events_in, AreWhole};
 ghost use Rattle.engine_core.specs.Asking.{IsAsking};
 ghost use Rattle.engine_core.specs.Decisions.{carried, IsBounded, IsRefusal};
 
-use crate::decision::{Decision, refused, stopped};
+use crate::decision::{Decision, ShortReply, refused, stopped};
 use crate::parts::Parts;
 use crate::stops::{read_stop, write_stop};
 use phase_api::Control;
 use teb_history::Event;
-use teb_names::{Cell, Refusal, Reply, Txn};
+use teb_names::{Cell, Refusal, Txn};
 use version_chain::Chains;
 
 /// Reads a cell.
@@ -31,7 +31,7 @@ pub fn decide_read<K: Control, C: Chains>(parts: &Parts<K, C>, t: Txn, cell: Cel
     }
     let (from, value) = parts.read(t, cell);
     Decision::Grant(
-        Reply::Value(value),
+        ShortReply::Value(value),
         Event::Got {
             txn: t,
             cell,
@@ -74,7 +74,7 @@ pub fn put<K: Control, C: Chains>(
     match stopped(t, write_stop(parts, t, cell)) {
         Some(decision) => decision,
         None => Decision::Grant(
-            Reply::Done,
+            ShortReply::Done,
             Event::Put {
                 txn: t,
                 cell,

@@ -28,10 +28,10 @@ pub fn carry_out<K: Control, C: Chains>(decision: Decision, kernel: &mut Kernel<
     ensures setup { kernel.new.setup ≡ kernel.old.setup }
 {
     match decision {
-        Decision::Answer(reply) => reply,
+        Decision::Answer(reply) => reply.full(),
         Decision::Grant(reply, event) => {
             write(kernel, event);
-            reply
+            reply.full()
         }
         Decision::Scan(t, first, count) => Reply::Values(read_cells(kernel, t, first, count)),
         Decision::Fall(t, cause) => {

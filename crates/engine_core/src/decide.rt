@@ -8,13 +8,13 @@ ghost use Rattle.engine_core.specs.Decisions.{carried, told, IsBounded};
 
 use crate::accesses::{decide_read, decide_write};
 use crate::additions::decide_add;
-use crate::decision::{Decision, refused, stopped};
+use crate::decision::{Decision, ShortReply, refused, stopped};
 use crate::parts::Parts;
 use crate::scans::decide_scan;
 use crate::stops::{begin_stop, commit_stop, prepare_stop};
 use phase_api::Control;
 use teb_history::Event;
-use teb_names::{Cause, Refusal, Reply, Request, Session, Spot, Txn};
+use teb_names::{Cause, Refusal, Request, Session, Spot, Txn};
 use teb_rules::Stop;
 use version_chain::Chains;
 
@@ -87,11 +87,11 @@ fn decide_begin<K: Control, C: Chains>(
         return refused(Refusal::Full);
     }
     if let Stop::Wait { who, node } = begin_stop(parts, spot) {
-        return Decision::Answer(Reply::Again { who, node });
+        return Decision::Answer(ShortReply::Again { who, node });
     }
     let txn = Txn(begun + 1);
     Decision::Grant(
-        Reply::Begun(txn),
+        ShortReply::Begun(txn),
         Event::Began {
             txn,
             session,
@@ -108,7 +108,7 @@ fn tell<K: Control, C: Chains>(parts: &Parts<K, C>, t: Txn) -> Decision
     ensures bounded { IsBounded (store_in parts.now).setup (events_in parts.now) result }
 {
     let cause = parts.facts.history.cause(t).unwrap_or(Cause::Asked);
-    Decision::Grant(Reply::Aborted(cause), Event::Told(t))
+    Decision::Grant(ShortReply::Aborted(cause), Event::Told(t))
 }
 
 /// What the request of an unfinished transaction is answered.
@@ -143,7 +143,7 @@ fn decide_prepare<K: Control, C: Chains>(parts: &Parts<K, C>, t: Txn) -> Decisio
     }
     match stopped(t, prepare_stop(parts, t)) {
         Some(decision) => decision,
-        None => Decision::Grant(Reply::Prepared, Event::Ready(t)),
+        None => Decision::Grant(ShortReply::Prepared, Event::Ready(t)),
     }
 }
 
@@ -155,6 +155,6 @@ fn decide_commit<K: Control, C: Chains>(parts: &Parts<K, C>, t: Txn) -> Decision
 {
     match stopped(t, commit_stop(parts, t)) {
         Some(decision) => decision,
-        None => Decision::Grant(Reply::Committed, Event::Done(t)),
+        None => Decision::Grant(ShortReply::Committed, Event::Done(t)),
     }
 }

@@ -4,7 +4,7 @@ ghost use Rattle.std.specs.Prelude.{◌≡◌, List};
 ghost use Rattle.teb_history.specs.declared.Event.{Event};
 ghost use Rattle.teb_rules.specs.Setup.{Store};
 ghost use Rattle.teb_rules.specs.Verdicts.{cause_at};
-ghost use Rattle.engine_core.specs.Decisions.{IsStopped};
+ghost use Rattle.engine_core.specs.Decisions.{IsStopped, full_reply};
 
 use teb_history::Event;
 use teb_names::{Cause, Cell, Node, Refusal, Reply, Txn};
@@ -14,20 +14,51 @@ use teb_rules::{Broken, Stop};
 #[derive(Clone, Copy)]
 pub enum Decision {
     /// It replies, and writes nothing.
-    Answer(Reply),
+    Answer(ShortReply),
     /// It replies, and writes one event.
-    Grant(Reply, Event),
+    Grant(ShortReply, Event),
     /// The transaction reads so many cells from this one on.
     Scan(Txn, Cell, u8),
     /// The transaction is aborted, and all that have to fall with it.
     Fall(Txn, Cause),
 }
 
+/// A reply without the values of a scan: a decision carries one at little cost.
+#[derive(Clone, Copy)]
+pub enum ShortReply {
+    Begun(Txn),
+    Value(Option<i64>),
+    Done,
+    Prepared,
+    Committed,
+    Again { who: Txn, node: Node },
+    Aborted(Cause),
+    Refused(Refusal),
+}
+
+impl ShortReply {
+    /// The reply as the session gets it.
+    pub fn full(self) -> Reply
+        ensures { result ≡ full_reply self }
+    {
+        match self {
+            ShortReply::Begun(t) => Reply::Begun(t),
+            ShortReply::Value(value) => Reply::Value(value),
+            ShortReply::Done => Reply::Done,
+            ShortReply::Prepared => Reply::Prepared,
+            ShortReply::Committed => Reply::Committed,
+            ShortReply::Again { who, node } => Reply::Again { who, node },
+            ShortReply::Aborted(cause) => Reply::Aborted(cause),
+            ShortReply::Refused(why) => Reply::Refused(why),
+        }
+    }
+}
+
 /// A refusal.
 pub fn refused(why: Refusal) -> Decision
-    ensures { result ≡ Decision.Answer (Reply.Refused why) }
+    ensures { result ≡ Decision.Answer (ShortReply.Refused why) }
 {
-    Decision::Answer(Reply::Refused(why))
+    Decision::Answer(ShortReply::Refused(why))
 }
 
 /// What a stop makes of a request of t, if it stops it. Nobody waits for a transaction of greater number.
@@ -39,7 +70,7 @@ pub fn stopped(t: Txn, stop: Stop) -> Option<Decision>
         Stop::Wait { who, node } if t.0 < who.0 => {
             Some(Decision::Fall(t, Cause::Newer { node, other: who }))
         }
-        Stop::Wait { who, node } => Some(Decision::Answer(Reply::Again { who, node })),
+        Stop::Wait { who, node } => Some(Decision::Answer(ShortReply::Again { who, node })),
         Stop::Break { node, broken } => Some(Decision::Fall(t, cause_at(node, broken))),
     }
 }
