@@ -1,0 +1,105 @@
+//! A file meets what is asked of a disk.
+
+use crate::faults::Faults;
+use crate::reads::gives;
+use crash_disk::{Disk, MemDisk};
+use std::fs::File;
+use std::os::unix::fs::FileExt;
+use teb_io::Failed;
+
+/// A disk that is a file. A disk in memory mirrors it: the file is to have the bytes of the mirror, and the images that a crash
+/// may leave are those of the mirror.
+///
+/// A read gives what the mirror has, once the file was read and has the same; else it fails. `sync` is `sync_data` of the file.
+/// From its first failure on the disk fails at each call, and the file is left alone: so no sync makes safe what a failed write or
+/// sync has left.
+///
+/// The mirror has room for 262,147 writes and syncs, and for 2,097,152 bytes in all writes, those that the file had at its opening
+/// among them. A call for which there is no room fails.
+///
+/// What rests on the operating system alone: after a crash the file holds one of the images that are told of the disk. For this
+/// it keeps what `sync_data` made safe, and nobody else writes the file while the disk is open.
+#[derive(Drop)]
+pub struct FileDisk {
+    pub(crate) file: File,
+    pub(crate) mirror: MemDisk,
+    pub(crate) faults: Faults,
+}
+
+impl Disk for FileDisk {
+    ghost use Rattle.std.specs.Prelude.{length};
+    ghost use Rattle.crash_disk.specs.Log.{contents, safe_contents, MayLeave, LeftSince, byte_count};
+    ghost use Rattle.crash_disk.specs.LogLaws.{safe_is_left as log_safe_is_left, read_is_left as log_read_is_left, counts_now as log_counts_now, only_now as log_only_now};
+    ghost use Rattle.file_disk.specs.Unsure.{unsure};
+
+    ghost seen = { λ d. contents d.mirror.log };
+
+    ghost may_leave = { λ d c. MayLeave d.mirror.log c };
+
+    ghost moment = { λ d. length d.mirror.log };
+
+    ghost left_since = { λ d t c. LeftSince d.mirror.log t c };
+
+    ghost safe = { λ d. safe_contents d.mirror.log };
+
+    ghost faults = { λ d. d.faults.count };
+
+    ghost tally = { λ d. unsure d.mirror.counter.made (byte_count d.mirror.log) };
+
+    ghost read_is_left = { λ d. log_read_is_left d.mirror.log };
+
+    ghost safe_is_left = { λ d. log_safe_is_left d.mirror.log };
+
+    ghost counts_now = { λ d t c le left. log_counts_now d.mirror.log t c le left };
+
+    ghost only_now = { λ d c left. log_only_now d.mirror.log c left };
+
+    fn len(&mut self) -> Result<u64, Failed> {
+        if self.faults.any() {
+            return Err(self.faults.add());
+        }
+        let Ok(len) = self.mirror.len() else {
+            return Err(self.faults.add());
+        };
+        match self.file.metadata() {
+            Ok(found) if found.len() == len => Ok(len),
+            _ => Err(self.faults.add()),
+        }
+    }
+
+    fn read_at(&mut self, at: u64, buf: &mut [u8]) -> Result<usize, Failed> {
+        if self.faults.any() {
+            return Err(self.faults.add());
+        }
+        match self.mirror.read_at(at, buf) {
+            Ok(n) if gives(&self.file, at, buf.len(), &buf[..n]) => Ok(n),
+            _ => Err(self.faults.add()),
+        }
+    }
+
+    fn write_at(&mut self, at: u64, bytes: &[u8]) -> Result<(), Failed> {
+        if self.faults.any() {
+            return Err(self.faults.add());
+        }
+        let Ok(()) = self.mirror.write_at(at, bytes) else {
+            return Err(self.faults.add());
+        };
+        match self.file.write_all_at(bytes, at) {
+            Ok(()) => Ok(()),
+            Err(_) => Err(self.faults.add()),
+        }
+    }
+
+    fn sync(&mut self) -> Result<(), Failed> {
+        if self.faults.any() {
+            return Err(self.faults.add());
+        }
+        if self.file.sync_data().is_err() {
+            return Err(self.faults.add());
+        }
+        match self.mirror.sync() {
+            Ok(()) => Ok(()),
+            Err(_) => Err(self.faults.add()),
+        }
+    }
+}

@@ -1,0 +1,33 @@
+//! Why a file can't be opened as a disk.
+
+use std::alloc::AllocError;
+use std::io;
+use thiserror::Error;
+
+/// Why a file can't be opened as a disk.
+#[derive(Debug, Drop, Error)]
+pub enum OpenError {
+    /// The file has more than 1,048,576 bytes.
+    #[error("the file has more than 1048576 bytes")]
+    TooLong,
+    /// The file is locked: it is open as a disk already.
+    #[error("the file is in use")]
+    Busy,
+    /// The file can't be opened, locked, read or synced.
+    #[error("the file can't be used: {0}")]
+    Io(io::Error),
+    #[error("out of memory")]
+    OutOfMemory,
+}
+
+impl From<io::Error> for OpenError {
+    fn from(error: io::Error) -> OpenError {
+        OpenError::Io(error)
+    }
+}
+
+impl From<AllocError> for OpenError {
+    fn from(_error: AllocError) -> OpenError {
+        OpenError::OutOfMemory
+    }
+}

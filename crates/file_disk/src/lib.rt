@@ -1,0 +1,11 @@
+//! A disk that is a file of the operating system.
+#![tactic(auto)]
+
+mod disk;
+mod error;
+mod faults;
+mod opening;
+mod reads;
+
+pub use disk::FileDisk;
+pub use error::OpenError;

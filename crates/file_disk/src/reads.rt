@@ -1,0 +1,52 @@
+//! The bytes of a file.
+
+ghost use Rattle.std.specs.Prelude.{◌≤◌, length, IfOk};
+
+use crate::OpenError;
+use std::alloc::Global;
+use std::fs::File;
+use std::os::unix::fs::FileExt;
+
+/// The most bytes that a disk has.
+const MOST_BYTES: u64 = 1_048_576;
+
+/// How many bytes are compared at once.
+const PIECE: usize = 4096;
+
+/// All bytes of a file.
+pub fn read_whole(alloc: Global, file: &File) -> Result<Vec<u8>, OpenError>
+    ensures { IfOk result (λ bytes. length bytes.items ≤ 1048576) }
+{
+    let len = file.metadata()?.len();
+    if len > MOST_BYTES {
+        return Err(OpenError::TooLong);
+    }
+    let mut bytes = vec![in alloc; 0u8; len as usize]?;
+    file.read_exact_at(&mut bytes, 0)?;
+    Ok(bytes)
+}
+
+/// Whether a read of so many bytes from a place on gives these. A read that fails gives nothing.
+pub fn gives(file: &File, at: u64, count: usize, bytes: &[u8]) -> bool {
+    has(file, at, bytes)
+        && (bytes.len() == count || ends_at(file, at.saturating_add(bytes.len() as u64)))
+}
+
+/// Whether the file has these bytes at a place.
+fn has(file: &File, at: u64, bytes: &[u8]) -> bool {
+    let mut buf = [0u8; PIECE];
+    let mut place = at;
+    for piece in bytes.chunks(PIECE) {
+        let read = &mut buf[..piece.len().min(PIECE)];
+        if file.read_exact_at(read, place).is_err() || &*read != piece {
+            return false;
+        }
+        place = place.saturating_add(piece.len() as u64);
+    }
+    true
+}
+
+/// Whether the file has no byte from a place on.
+fn ends_at(file: &File, at: u64) -> bool {
+    i64::try_from(at).is_err() || matches!(file.read_at(&mut [0u8], at), Ok(0))
+}
