@@ -1,9 +1,9 @@
 #!/usr/bin/env python3
 """Refuses each allocation of a program in turn.
 
-    tools/refuse_allocations.py PROGRAM WORD.. < INPUT
+    tools/refuse_allocations.py [--first N] PROGRAM WORD.. < INPUT
 
-A run with a refused allocation has to end with status 8 and nothing written, or as the run without one. A small library, compiled by gcc for each call,
+With --first N only the first N are refused. A run with a refused allocation has to end with status 8 and nothing written, or as the run without one. A small library, compiled by gcc for each call,
 stands before the allocator of the C library and answers one call by "no memory". The last line is `refused allocations: N passed, M failed`.
 """
 import concurrent.futures
@@ -66,15 +66,18 @@ def ended(command, data, library, number):
 
 
 def main():
-    if len(sys.argv) < 3:
+    words, last = sys.argv[1:], None
+    if words[:1] == ["--first"] and len(words) > 2 and words[1].isdigit():
+        last, words = int(words[1]), words[2:]
+    if not words:
         sys.exit(__doc__)
-    command, data = [os.path.abspath(sys.argv[1]), *sys.argv[2:]], sys.stdin.buffer.read()
+    command, data = [os.path.abspath(words[0]), *words[1:]], sys.stdin.buffer.read()
     passed, statuses, failed = 0, {}, 0
     with tempfile.TemporaryDirectory() as room, concurrent.futures.ThreadPoolExecutor(len(os.sched_getaffinity(0))) as pool:
         library = compiled(room)
         whole = ended(command, data, library, 0)[:2]
         for first in itertools.count(1, 64):
-            numbers = range(first, first + 64)
+            numbers = [number for number in range(first, first + 64) if last is None or number <= last]
             runs = list(pool.map(lambda number: ended(command, data, library, number), numbers))
             for number, (status, text, met) in zip(numbers, runs):
                 if not met:
@@ -84,7 +87,7 @@ def main():
                 passed, failed = passed + is_well, failed + (not is_well)
                 if not is_well:
                     print(f"FAILED at allocation {number}: status {status}, {len(text)} bytes written")
-            if not all(met for *_, met in runs):
+            if len(numbers) < 64 or not all(met for *_, met in runs):
                 break
     print("statuses: " + ", ".join(f"{status} of {count}" for status, count in sorted(statuses.items())))
     print(f"refused allocations: {passed} passed, {failed} failed")
