@@ -11,6 +11,12 @@ use std::marker::Model;
 use teb_history::Event;
 use teb_names::{Cell, Txn};
 
+/// The most events of one answer.
+const MOST_EVENTS: usize = 32;
+
+/// For how many events room is made at a time.
+const AHEAD: usize = 256;
+
 /// Who read and who put each cell, whom each transaction read from, and which transactions are unfinished. What a transaction read and put goes out with its abort.
 #[derive(Drop)]
 pub struct Book {
@@ -46,8 +52,11 @@ impl Book {
         ensures ok { OnOk result (32 ≤ self.new.spare) }
         ensures err { OnErr result (self.new.spare ≡ self.old.spare) }
     {
-        self.registers.reserve(32)?;
-        self.spare = self.spare.max(32);
+        if self.spare >= MOST_EVENTS {
+            return Ok(());
+        }
+        self.registers.reserve(AHEAD)?;
+        self.spare = AHEAD;
         Ok(())
     }
 
