@@ -1,5 +1,5 @@
 -- A pool as contracts see it.
-use Rattle.std.proofs.Common.{true, false, ◌≡◌, ◌≢◌, ℕ, ◌≤◌, sym, ◌∙◌, ap, arith, IsFalse, max}
+use Rattle.std.proofs.Common.{true, false, ◌≡◌, ◌≢◌, ℕ, ◌≤◌, sym, ◌∙◌, ap, arith, IsFalse}
 use Rattle.teb_names.specs.declared.Cell.{Cell}
 use Rattle.teb_names.specs.Cells.{same_cell}
 use Rattle.version_chain.proofs.Cells.{same_cell-itself}
@@ -21,6 +21,3 @@ apart_from x cell differs e = let z : true ≡ false = sym (same_cell-itself x) 
 
 pub less_room : (p : Pool) (m n : ℕ) → n ≤ m → HasRoom p m → HasRoom p n
 less_room p m n le r = record { places = omega (arith, le, r.places); cells = omega (arith, le, r.cells); writers = omega (arith, le, r.writers) }
-
-pub max_room : (p : Pool) (a m : ℕ) → m ≡ max a 1 → HasRoom p a → HasRoom p 1 → HasRoom p m
-max_room p a m is r one = record { places = omega (arith, is, r.places, one.places); cells = omega (arith, is, r.cells, one.cells); writers = omega (arith, is, r.writers, one.writers) }

@@ -78,17 +78,17 @@ impl Pool {
         }
     }
 
-    /// Makes room for one version more.
-    pub(crate) fn reserve(&mut self) -> Result<(), AllocError>
+    /// Makes room for n versions more.
+    pub(crate) fn reserve(&mut self, n: usize) -> Result<(), AllocError>
         requires { IsSound self.old }
         ensures sound { IsSound self.new }
         ensures same { (x : Cell) → chain_of self.new x ≡ chain_of self.old x }
-        ensures room { OnOk result (HasRoom self.new 1) }
-        ensures kept { (n : ℕ) → HasRoom self.old n → HasRoom self.new n }
+        ensures room { OnOk result (HasRoom self.new n) }
+        ensures kept { (m : ℕ) → HasRoom self.old m → HasRoom self.new m }
     {
-        self.places.reserve(1)?;
-        self.cells.reserve(1)?;
-        self.writers.reserve(1)?;
+        self.places.reserve(n)?;
+        self.cells.reserve(n)?;
+        self.writers.reserve(n)?;
         Ok(())
     }
 

@@ -11,6 +11,9 @@ use std::marker::Model;
 use teb_names::{Cell, Txn};
 use version_chain::Chains;
 
+/// For how many versions room is made at a time.
+const AHEAD: usize = 64;
+
 /// Versions by cell, each linked by index into its cell's chain and its writer's list. A cell and a writer are found by hash;
 /// a place of a chain costs its way from the chain's end, and an abort its own versions.
 #[derive(Drop)]
@@ -47,8 +50,11 @@ impl Chains for PooledChains {
     ghost spare = { λ c. c.spare };
 
     fn reserve(&mut self) -> Result<(), AllocError> {
-        self.pool.reserve()?;
-        self.spare = self.spare.max(1);
+        if self.spare > 0 {
+            return Ok(());
+        }
+        self.pool.reserve(AHEAD)?;
+        self.spare = AHEAD;
         Ok(())
     }
 
