@@ -10,6 +10,7 @@ ghost use Rattle.phase_api.specs.Calls.{IsHere};
 ghost use Rattle.phase_api.specs.Standing.{StandAll};
 ghost use Rattle.phase_api.specs.Told.{setup_of, events_of};
 ghost use Rattle.dependency_book.specs.Books.{BookOf};
+ghost use Rattle.commit_gate.specs.Asked.{IsAsked};
 ghost use Rattle.commit_gate.specs.Ways.{IsWay, first_wait};
 
 use crate::sources::unfinished_source;
@@ -37,12 +38,8 @@ pub fn may_commit<K: Control>(controls: &[K], book: &Book, facts: &Facts, t: Txn
 // The stop along the nodes of a way down.
 #[tactic(auto, unfolding(teb_rules::specs::Stops::stop_of))]
 fn stop_along<K: Control>(way: &[Node], controls: &[K], book: &Book, facts: &Facts, t: Txn) -> Stop
-    requires tree { IsSound (setup_of facts.now) }
-    requires lawful { Lawful (setup_of facts.now) (events_of facts.now) }
+    requires asked { IsAsked K.place K.stands controls.now book.now.lists facts.now t.0 }
     requires way { IsWay facts.now t.0 (node_numbers way.now) }
-    requires controls { StandAll K.place K.stands controls.now (setup_of facts.now) (events_of facts.now) }
-    requires book { BookOf book.now.lists (events_of facts.now) }
-    requires unfinished { IsTrue (unfinished (events_of facts.now) t.0) }
     ensures { result ≡ stop_of (on_commit (setup_of facts.now) (events_of facts.now) t.0) (node_numbers way.now) }
 {
     match way {
@@ -57,13 +54,9 @@ fn stop_along<K: Control>(way: &[Node], controls: &[K], book: &Book, facts: &Fac
 
 // What one node of t's path says.
 fn verdict_at<K: Control>(controls: &[K], book: &Book, facts: &Facts, n: Node, t: Txn) -> Verdict
+    requires asked { IsAsked K.place K.stands controls.now book.now.lists facts.now t.0 }
     requires node { n.0 < length facts.now.tree.now.rows }
-    requires tree { IsSound (setup_of facts.now) }
-    requires lawful { Lawful (setup_of facts.now) (events_of facts.now) }
     requires here { IsHere facts.now n.0 t.0 }
-    requires controls { StandAll K.place K.stands controls.now (setup_of facts.now) (events_of facts.now) }
-    requires book { BookOf book.now.lists (events_of facts.now) }
-    requires unfinished { IsTrue (unfinished (events_of facts.now) t.0) }
     ensures { result ≡ on_commit (setup_of facts.now) (events_of facts.now) t.0 n.0 }
 {
     let control = control_at(controls, facts, n);

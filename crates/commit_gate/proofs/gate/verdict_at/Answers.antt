@@ -24,7 +24,7 @@ returns-in-Go g c =
     let named = c.gate.ensures ∙ ap (λ (m : ℕ). wait_for (find (gate (row S.tree m).control S H m t.0) (txns H))) at in
     let source = c.unfinished_source.ensures ∙ ap (λ (l : List Txn). find (λ w. unfinished H w.0 && meets S H n t.0 w.0) l) c.read_from.ensures in
     c.first_of.ensures ∙ (λ j. first_wait (named j) (source j))
-    ∙ commit_waits S H n t c.args.book.now.lists c.requires.book c.requires.unfinished (gate (row S.tree n).control S H n t.0)
+    ∙ commit_waits S H n t c.args.book.now.lists c.requires.asked.book c.requires.asked.unfinished (gate (row S.tree n).control S H n t.0)
     ∙ sym (ap (λ (v : Verdict). or_else v (wait_for (find (λ u. gate (row S.tree n).control S H n t.0 u || (unfinished H u && meets S H n t.0 u && read_from H t.0 u)) (txns H)))) (valid ∙ c.in-Go.is))
 
 pub returns-in_default : goal.returns-in_default
