@@ -1,5 +1,5 @@
 -- What edits make of piles.
-use Rattle.std.proofs.Common.{◌≡◌, ℕ, ◌+◌, Bool, true, false, cond, not, ltb, eqb, ◌&&◌, max, List, [], ◌∷◌, ◌++◌, refl, sym, ◌∙◌, ap, subst, arith}
+use Rattle.std.proofs.Common.{◌≡◌, ℕ, ◌+◌, Bool, true, false, cond, not, ltb, eqb, ◌&&◌, List, [], ◌∷◌, ◌++◌, refl, sym, ◌∙◌, ap, subst, arith}
 use Rattle.std.specs.List.{count_by}
 use Rattle.std.proofs.lemmas.Bool.{eqb-true}
 use Rattle.std.specs.Ordering.{is_eq}
@@ -87,12 +87,3 @@ added_ascends f g t from a e u = subst (IsAscendingBy number_of) (sym (e u)) (go
 
 pub less_rooms : (r : Registers) (n : ℕ) → HasRooms r (n + 1) → HasRooms r n
 less_rooms r n h = record { readers = omega (arith, h.readers); writers = omega (arith, h.writers); sources = omega (arith, h.sources); unfinished = omega (arith, h.unfinished); accesses = omega (arith, h.accesses) }
-
-pub most_rooms : (r : Registers) (m n : ℕ) → HasRooms r m → HasRooms r n → HasRooms r (max m n)
-most_rooms r m n a b = record {
-  readers = omega (arith, a.readers, b.readers);
-  writers = omega (arith, a.writers, b.writers);
-  sources = omega (arith, a.sources, b.sources);
-  unfinished = omega (arith, a.unfinished, b.unfinished);
-  accesses = omega (arith, a.accesses, b.accesses);
-}
