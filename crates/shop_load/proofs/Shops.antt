@@ -4,6 +4,7 @@ use Rattle.std.specs.Prelude.{All}
 use Rattle.std.specs.List.{IsDistinct}
 use Rattle.std.proofs.lemmas.List.Elements.{All-nil, All-cons, All-append, All-map}
 use Rattle.std.proofs.lemmas.List.{length-map, get_or-map, map-append}
+use Rattle.teb_names.specs.Names.{is_name}
 use Rattle.teb_names.specs.declared.Cell.{Cell}
 use Rattle.teb_names.specs.declared.Kind.{Kind}
 use Rattle.teb_names.specs.Rows.{IsAscending}
@@ -148,7 +149,7 @@ pub named_of : (tables types nodes : List (List ℕ)) (profiles : List (List (Li
 named_of tables types nodes profiles tree rows a b = rw (a, b) (let named : IsNamed shop = refl in named)
 
 shop_names : HasNames shop
-unfolding IsDistinct
+unfolding IsDistinct is_name
 shop_names = record { tables = refl; types = refl; nodes = refl; tables_differ = ((refl, (refl, tt)), ((refl, tt), (tt, tt))) }
 
 pub names_of : (tables types nodes : List (List ℕ)) (profiles : List (List (List ℕ))) (tree : Grown) (rows : List (Cell × ℤ)) → tables ≡ shop.tables → types ≡ shop.types → nodes ≡ shop.nodes

@@ -3,6 +3,7 @@ use Rattle.std.proofs.Common.{◌≡◌, ℕ, zero, suc, ◌<◌, ◌≤◌, Boo
 use Rattle.std.specs.List.{IsDistinct}
 use Rattle.std.specs.Result.{IfOk}
 use Rattle.std.proofs.lemmas.List.Elements.{All-nil}
+use Rattle.teb_names.specs.Names.{is_name}
 use Rattle.teb_names.specs.declared.Cell.{Cell}
 use Rattle.teb_rules.specs.Setup.{NodeRow, profile}
 use Rattle.teb_rules.specs.Tree.{row, no_row, below, climb, way}
@@ -52,7 +53,7 @@ record IsRead (m : Meaning) : Type 0 where
   limits : IsOfText m
 
 plain_names : HasNames plain
-unfolding IsDistinct
+unfolding IsDistinct is_name
 plain_names = record { tables = refl; types = refl; nodes = refl; tables_differ = (tt, tt) }
 
 plain_read : IsRead plain
