@@ -23,17 +23,17 @@ transfer-requires-clause-taken c = place_in number_of _ c.args.t.0 _ (placed c.a
 pub transfer-requires-clause-put : goal.transfer-requires-clause-put
 transfer-requires-clause-put c = gap_in number_of _ c.args.t.0 _ (placed c.args.t c.list-in-Ok.ensures c.find_txn-in-Ok.ensures c.in-Err.is)
 
-pub returns-in-Ok-find-clause-filed : goal.returns-in-Ok-find-clause-filed
-returns-in-Ok-find-clause-filed c =
-    record { ascending = (handed_already (pile_in slot_cmp c.args.writers.now) c.args.cell c.args.t c.requires.ascending _ (placed c.args.t c.list.ensures c.find_txn.ensures c.in-Ok.is) (pile_in slot_cmp c.take.new.self) _ (placed c.args.t c.list-in-Ok.ensures c.find_txn-in-Ok.ensures c.in-Ok-find.is) c.take.ensures.piles).ascending }
+pub returns-in-Ok-find_txn-clause-filed : goal.returns-in-Ok-find_txn-clause-filed
+returns-in-Ok-find_txn-clause-filed c =
+    record { ascending = (handed_already (pile_in slot_cmp c.args.writers.now) c.args.cell c.args.t c.requires.ascending _ (placed c.args.t c.list.ensures c.find_txn.ensures c.in-Ok.is) (pile_in slot_cmp c.take.new.self) _ (placed c.args.t c.list-in-Ok.ensures c.find_txn-in-Ok.ensures c.in-Ok-find_txn.is) c.take.ensures.piles).ascending }
 
-pub returns-in-Ok-find-clause-unfinished : goal.returns-in-Ok-find-clause-unfinished
-returns-in-Ok-find-clause-unfinished c =
-    (handed_already (pile_in slot_cmp c.args.writers.now) c.args.cell c.args.t c.requires.ascending _ (placed c.args.t c.list.ensures c.find_txn.ensures c.in-Ok.is) (pile_in slot_cmp c.take.new.self) _ (placed c.args.t c.list-in-Ok.ensures c.find_txn-in-Ok.ensures c.in-Ok-find.is) c.take.ensures.piles).unfinished
+pub returns-in-Ok-find_txn-clause-unfinished : goal.returns-in-Ok-find_txn-clause-unfinished
+returns-in-Ok-find_txn-clause-unfinished c =
+    (handed_already (pile_in slot_cmp c.args.writers.now) c.args.cell c.args.t c.requires.ascending _ (placed c.args.t c.list.ensures c.find_txn.ensures c.in-Ok.is) (pile_in slot_cmp c.take.new.self) _ (placed c.args.t c.list-in-Ok.ensures c.find_txn-in-Ok.ensures c.in-Ok-find_txn.is) c.take.ensures.piles).unfinished
 
-pub returns-in-Ok-find-clause-committed : goal.returns-in-Ok-find-clause-committed
-returns-in-Ok-find-clause-committed c =
-    (handed_already (pile_in slot_cmp c.args.writers.now) c.args.cell c.args.t c.requires.ascending _ (placed c.args.t c.list.ensures c.find_txn.ensures c.in-Ok.is) (pile_in slot_cmp c.take.new.self) _ (placed c.args.t c.list-in-Ok.ensures c.find_txn-in-Ok.ensures c.in-Ok-find.is) c.take.ensures.piles).committed
+pub returns-in-Ok-find_txn-clause-committed : goal.returns-in-Ok-find_txn-clause-committed
+returns-in-Ok-find_txn-clause-committed c =
+    (handed_already (pile_in slot_cmp c.args.writers.now) c.args.cell c.args.t c.requires.ascending _ (placed c.args.t c.list.ensures c.find_txn.ensures c.in-Ok.is) (pile_in slot_cmp c.take.new.self) _ (placed c.args.t c.list-in-Ok.ensures c.find_txn-in-Ok.ensures c.in-Ok-find_txn.is) c.take.ensures.piles).committed
 
 pub returns-in-Err-clause-filed : goal.returns-in-Err-clause-filed
 returns-in-Err-clause-filed c =
