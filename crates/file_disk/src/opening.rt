@@ -1,6 +1,6 @@
 //! How a file is opened as a disk.
 
-ghost use Rattle.std.specs.Prelude.{◌≡◌, ◌≤◌, length, IfOk, OnErr};
+ghost use Rattle.std.specs.Prelude.{◌≡◌, ◌≤◌, length, IfOk};
 ghost use Rattle.crash_disk.specs.Log.{contents, MayLeave};
 ghost use Rattle.crash_disk.specs.Disk.{Only};
 
