@@ -1,0 +1,110 @@
+//! A hall that two sessions ask.
+
+ghost use Rattle.std.specs.Prelude.{◌≡◌, ◌≤◌, All, map};
+ghost use Rattle.teb_history.specs.Phases.{numbers};
+ghost use Rattle.session_server.specs.Passes.{IsPassOf, IsNew, number_of};
+
+use crate::engine_trial::trial_engine;
+use crate::lent::lent;
+use crate::plan::{REPORT, SALE, SOLD};
+use crate::refusing::Refusing;
+use crate::room::ATTEMPTS;
+use crate::trouble::Trouble;
+use chain_pool::PooledChains;
+use engine_core::Engine;
+use session_server::{AskError, Entries, Hall, Pass};
+use std::alloc::Global;
+use std::fmt::Write;
+use std::sync::Wait;
+use teb_names::{Request, Txn};
+use version_chain::Chains;
+
+/// How many requests there are.
+pub const HALL_REQUESTS: usize = 6;
+
+type Tried = Refusing<PooledChains>;
+
+/// The entries of a hall that was closed, and what its engine lends, where the versions refuse room at the call behind so
+/// many that are served. Fails where it should be refused and is not.
+pub fn hall_text<R: Wait>(rt: &R, alloc: Global, served: usize) -> Result<String, Trouble> {
+    let Ok((hall, passes)) = Hall::make(alloc, trial_engine(alloc, served)?) else {
+        return Err(Trouble::Memory);
+    };
+    let (engine, entries) = closed_after(rt, hall, passes)?;
+    let mut text = String::new(alloc);
+    for i in 0..entries.len() {
+        writeln!(text, "{:?}", entries.at(i))?;
+    }
+    text.push_str(&lent(alloc, &engine)?)?;
+    if engine.chains().has_refused() == (served < HALL_REQUESTS) {
+        Ok(text)
+    } else {
+        Err(Trouble::Changed)
+    }
+}
+
+/// The engine and the entries, once the sessions 31 and 32 have asked.
+fn closed_after<R: Wait>(
+    rt: &R,
+    hall: Hall<Tried>,
+    mut passes: Vec<Pass<Tried>>,
+) -> Result<(Engine<Tried>, Entries), Trouble>
+    requires new { All (IsNew hall) passes.items }
+    requires sessions { map number_of passes.items ≡ numbers 32 }
+{
+    let Some(mut reader) = passes.pop() else {
+        return Err(Trouble::Changed);
+    };
+    let Some(mut writer) = passes.pop() else {
+        return Err(Trouble::Changed);
+    };
+    write_and_read(rt, &hall, &mut writer, &mut reader)?;
+    passes.push_reserved(writer);
+    passes.push_reserved(reader);
+    Ok(hall.close(passes))
+}
+
+/// A sale is written beside a report, which does not see it.
+fn write_and_read<C: Chains, R: Wait>(
+    rt: &R,
+    hall: &Hall<C>,
+    writer: &mut Pass<C>,
+    reader: &mut Pass<C>,
+) -> Result<(), Trouble>
+    requires writer { IsPassOf hall.now writer.old }
+    requires reader { IsPassOf hall.now reader.old }
+    ensures writer { IsPassOf hall.now writer.new × (writer.new.session ≡ writer.old.session) }
+    ensures reader { IsPassOf hall.now reader.new × (reader.new.session ≡ reader.old.session) }
+{
+    ask(rt, hall, writer, Request::Begin(SALE))?;
+    ask(rt, hall, writer, Request::Write(SOLD, 5))?;
+    ask(rt, hall, reader, Request::Begin(REPORT))?;
+    ask(rt, hall, reader, Request::Read(SOLD))?;
+    ask(rt, hall, writer, Request::Commit)?;
+    ask(rt, hall, reader, Request::Commit)
+}
+
+/// Asks until there is room. Where there is none, what the pass knows of the first transaction stays.
+fn ask<C: Chains, R: Wait>(
+    rt: &R,
+    hall: &Hall<C>,
+    pass: &mut Pass<C>,
+    request: Request,
+) -> Result<(), Trouble>
+    requires { IsPassOf hall.now pass.old }
+    ensures { IsPassOf hall.now pass.new × (pass.new.session ≡ pass.old.session) }
+{
+    let known = hall.poll(pass, Txn(1));
+    for _ in 0..ATTEMPTS {
+        match hall.ask(rt, pass, request) {
+            Ok(_) => return Ok(()),
+            Err(AskError::PassSpent) => return Err(Trouble::Changed),
+            Err(AskError::OutOfMemory) => {
+                if hall.poll(pass, Txn(1)) != known {
+                    return Err(Trouble::Changed);
+                }
+            }
+        }
+    }
+    Err(Trouble::Memory)
+}

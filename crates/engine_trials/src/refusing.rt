@@ -1,0 +1,81 @@
+//! Versions that refuse room once.
+
+ghost use Rattle.std.specs.Prelude.{◌≡◌};
+
+use std::alloc::AllocError;
+use teb_names::{Cell, Txn};
+use version_chain::Chains;
+
+/// Versions that are kept in other chains, and that refuse room at one call.
+#[derive(Drop)]
+pub struct Refusing<C: Chains> {
+    chains: C,
+    // How many calls come before the one that is refused; None once that has come.
+    before: Option<usize>,
+}
+
+impl<C: Chains> Refusing<C> {
+    /// Over chains that are kept so, room is refused at the call behind so many that are served.
+    pub fn after(served: usize, chains: C) -> Refusing<C>
+        ensures { result.chains ≡ chains }
+    {
+        Refusing {
+            chains,
+            before: Some(served),
+        }
+    }
+
+    /// Whether room was refused.
+    pub fn has_refused(&self) -> bool {
+        self.before.is_none()
+    }
+}
+
+impl<C: Chains> Chains for Refusing<C> {
+    ghost lists = { λ c x. C.lists c.chains x };
+
+    ghost spare = { λ c. C.spare c.chains };
+
+    fn reserve(&mut self) -> Result<(), AllocError> {
+        match self.before {
+            Some(0) => {
+                self.before = None;
+                return Err(AllocError);
+            }
+            Some(calls) => {
+                self.chains.reserve()?;
+                self.before = Some(calls - 1);
+            }
+            None => self.chains.reserve()?,
+        }
+        Ok(())
+    }
+
+    fn len_of(&self, cell: Cell) -> usize {
+        self.chains.len_of(cell)
+    }
+
+    fn at(&self, cell: Cell, i: usize) -> (Txn, Option<i64>) {
+        self.chains.at(cell, i)
+    }
+
+    fn find(&self, cell: Cell, t: Txn) -> Option<usize> {
+        self.chains.find(cell, t)
+    }
+
+    fn place(&mut self, cell: Cell, i: usize, t: Txn, value: Option<i64>) {
+        self.chains.place(cell, i, t, value);
+    }
+
+    fn overwrite(&mut self, cell: Cell, i: usize, value: Option<i64>) {
+        self.chains.overwrite(cell, i, value);
+    }
+
+    fn remove_all_of(&mut self, t: Txn) {
+        self.chains.remove_all_of(t);
+    }
+
+    fn last_where_from<F: Fn(Txn) -> bool>(&self, cell: Cell, from: usize, f: &F) -> Option<usize> {
+        self.chains.last_where_from(cell, from, f)
+    }
+}

@@ -1,0 +1,28 @@
+//! Room, asked for until it is there.
+
+ghost use Rattle.std.specs.Prelude.{OnOk, IsTrue};
+
+use crate::lent::lent;
+use crate::trouble::Trouble;
+use engine_core::Engine;
+use std::alloc::Global;
+use version_chain::Chains;
+
+/// How often room is asked for at most: two calls may be refused, one by the chains and one by the system.
+pub const ATTEMPTS: u8 = 3;
+
+/// Makes room for an answer. A call that is refused room leaves all that is lent as it was.
+pub fn make_room<C: Chains>(alloc: Global, engine: &mut Engine<C>) -> Result<(), Trouble>
+    ensures { OnOk result (IsTrue engine.new.ready) }
+{
+    let before = lent(alloc, engine)?;
+    for _ in 0..ATTEMPTS {
+        if engine.ready().is_ok() {
+            return Ok(());
+        }
+        if lent(alloc, engine)? != before {
+            return Err(Trouble::Changed);
+        }
+    }
+    Err(Trouble::Memory)
+}

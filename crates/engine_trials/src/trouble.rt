@@ -1,0 +1,16 @@
+//! Why a trial came to nothing.
+
+use std::alloc::AllocError;
+
+#[derive(Drop)]
+pub enum Trouble {
+    Memory,
+    /// Something that a refusal must leave has changed.
+    Changed,
+}
+
+impl From<AllocError> for Trouble {
+    fn from(_error: AllocError) -> Trouble {
+        Trouble::Memory
+    }
+}
