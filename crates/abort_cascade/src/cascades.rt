@@ -3,7 +3,7 @@
 ghost use Rattle.std.specs.Prelude.{◌≡◌, ◌≤◌, ◌||◌, eqb, find, length, IsTrue};
 ghost use Rattle.teb_history.specs.Phases.{unfinished};
 ghost use Rattle.teb_rules.specs.Cascade.{cascade};
-ghost use Rattle.phase_api.specs.Told.{events_of};
+ghost use Rattle.phase_api.specs.FactsView.{events_of};
 ghost use Rattle.dependency_book.specs.Books.{BookOf};
 ghost use Rattle.abort_cascade.specs.Recoverable.{IsRecoverable};
 ghost use Rattle.abort_cascade.specs.Rounds.{is_member, culprit, round_of, blames};

@@ -7,7 +7,7 @@ use Rattle.std.proofs.lemmas.List.Splits.{length-slice_split}
 use Rattle.std.proofs.lemmas.List.Sums.{count_by-le-length}
 use Rattle.audit_check.specs.Items.{Item}
 use Rattle.audit_check.specs.Lines.{is_feed, parts_of, items_from, fitting, is_over, next_line}
-use Rattle.audit_check.specs.declared.line.Place.{Place as Named}
+use Rattle.audit_check.specs.declared.line.RowKey.{RowKey as Named}
 use Rattle.audit_check.specs.declared.line.Line.{Line}
 use Rattle.audit_check.specs.Views.{nows, views, KeepsCells, Takes}
 

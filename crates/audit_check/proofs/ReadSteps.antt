@@ -13,7 +13,7 @@ use Rattle.audit_check.specs.Tables.{Values, after_puts, table_after, table_befo
 use Rattle.audit_check.specs.Keeps.{is_own, own_from, after_line, misread_now, misread_or, misread_by, HoldsTable, StepsLine, RunsTo, Replays}
 use Rattle.audit_check.specs.Marks.{is_marked, list_at}
 use Rattle.audit_check.specs.Views.{views, line_view}
-use Rattle.audit_check.specs.declared.line.Place.{Place as Key}
+use Rattle.audit_check.specs.declared.line.RowKey.{RowKey as Key}
 use Rattle.audit_check.specs.declared.line.Line.{Line}
 use Rattle.audit_check.specs.declared.line.Line.TheVariants.{End}
 use Rattle.audit_check.specs.declared.line.Line.TheVariants as line

@@ -1,24 +1,24 @@
--- A table of values, as it changes at one place.
+-- A table of values, as it changes at one row key.
 use Rattle.std.proofs.Common.{◌≡◌, Bool, true, false, if◌then◌else◌, List, [], ◌∷◌, Option, Some, refl, ap, sym, subst, ◌∙◌}
 use Rattle.std.specs.Prelude.{ℤ}
 use Rattle.std.specs.Map.{lookup}
-use Rattle.audit_check.specs.Items.{Item, Place, same_place}
+use Rattle.audit_check.specs.Items.{Item, RowKey, same_row_key}
 use Rattle.audit_check.specs.Items.Item.{Start, Began, Got, Put, Ready, Done, Gone, Told, Order, Row, End}
 use Rattle.audit_check.specs.Tables.{Values, put_at, starts_in}
 use Rattle.audit_check.specs.Keeps.{HoldsTable, row_of}
-use Rattle.audit_check.specs.Views.{place_view, line_view}
-use Rattle.audit_check.specs.declared.line.Place.{Place as Key}
+use Rattle.audit_check.specs.Views.{row_key_view, line_view}
+use Rattle.audit_check.specs.declared.line.RowKey.{RowKey as Key}
 use Rattle.audit_check.specs.declared.line.Line.{Line}
 use Rattle.audit_check.specs.declared.line.Line.TheVariants as line
 
 abbrev found : List (Key × Option ℤ) → Key → Option (Option ℤ)
-found entries q = lookup (λ r. same_place (place_view q) (place_view r)) entries
+found entries q = lookup (λ r. same_row_key (row_key_view q) (row_key_view r)) entries
 
 pub put_held : (entries entries' : List (Key × Option ℤ)) (p : Key) (v : Option ℤ) (T : Values)
-    → ((q : Key) → found entries' q ≡ (if same_place (place_view p) (place_view q) then Some v else found entries q))
-    → HoldsTable entries T → HoldsTable entries' (put_at (place_view p) v T)
+    → ((q : Key) → found entries' q ≡ (if same_row_key (row_key_view p) (row_key_view q) then Some v else found entries q))
+    → HoldsTable entries T → HoldsTable entries' (put_at (row_key_view p) v T)
 put_held entries entries' p v T puts h = record {
-  each = λ q. ap row_of (puts q) ∙ chosen (same_place (place_view p) (place_view q)) (found entries q) ∙ ap (λ o. if same_place (place_view p) (place_view q) then v else o) (h.each q);
+  each = λ q. ap row_of (puts q) ∙ chosen (same_row_key (row_key_view p) (row_key_view q)) (found entries q) ∙ ap (λ o. if same_row_key (row_key_view p) (row_key_view q) then v else o) (h.each q);
 }
   where
     chosen : (b : Bool) (o : Option (Option ℤ)) → row_of (if b then Some v else o) ≡ (if b then v else row_of o)
@@ -50,7 +50,7 @@ starts_same End past h = refl
 pub other_held : (entries : List (Key × Option ℤ)) (i : Item) (past : List Item) → is_start_line i ≡ false → HoldsTable entries (starts_in past) → HoldsTable entries (starts_in (i ∷ past))
 other_held entries i past h held = subst (λ (T : Values). HoldsTable entries T) (sym (starts_same i past h)) held
 
-pub start_held : (entries : List (Key × Option ℤ)) (x : Place) (v : ℤ) (past : List Item) → HoldsTable entries (put_at x (Some v) (starts_in past)) → HoldsTable entries (starts_in (Start x v ∷ past))
+pub start_held : (entries : List (Key × Option ℤ)) (x : RowKey) (v : ℤ) (past : List Item) → HoldsTable entries (put_at x (Some v) (starts_in past)) → HoldsTable entries (starts_in (Start x v ∷ past))
 unfolding starts_in
 start_held entries x v past h = h
 

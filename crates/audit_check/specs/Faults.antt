@@ -3,7 +3,7 @@ use Rattle.std.specs.Prelude.{ℕ, Bool, true, false, ◌+◌, not, ◌&&◌, �
 use Rattle.std.specs.List.{list_any, list_all}
 use Rattle.std.specs.Option.{option_eq}
 use Rattle.std.specs.Ordering.{int_eq}
-use Rattle.audit_check.specs.Items.{Item, Place}
+use Rattle.audit_check.specs.Items.{Item, RowKey}
 use Rattle.audit_check.specs.Items.Item.{Start, Began, Got, Put, Ready, Done, Gone, Told, Order, Row, End}
 use Rattle.audit_check.specs.Lines.{is_row}
 use Rattle.audit_check.specs.Standings.{committed, aborted, unfinished, begun_count, commits}
@@ -50,7 +50,7 @@ abbrev pub same_value : Option ℤ → Option ℤ → Bool
 same_value v w = option_eq int_eq v w
 
 -- t reads something else than its own puts so far leave in x, where it begins with T
-abbrev pub is_misread : List Item → Values → ℕ → Place → Option ℤ → Bool
+abbrev pub is_misread : List Item → Values → ℕ → RowKey → Option ℤ → Bool
 is_misread past T t x v = not (same_value (after_puts past t T x) v)
 
 -- what a transaction of the order reads is what the table then holds
@@ -58,18 +58,18 @@ abbrev pub wrong_read : List Item → List Item → Item → Bool
 wrong_read H past (Got t x u v) = is_among (order_in H) t && is_misread past (table_before H t) t x v
 wrong_read H past _ = false
 
--- the places that have had a row
-unfoldable pub places_in : List Item → List Place
-places_in [] = []
-places_in (Start x v ∷ past) = x ∷ places_in past
-places_in (Put t x v ∷ past) = x ∷ places_in past
-places_in (_ ∷ past) = places_in past
+-- the row keys that have had a row
+unfoldable pub row_keys_in : List Item → List RowKey
+row_keys_in [] = []
+row_keys_in (Start x v ∷ past) = x ∷ row_keys_in past
+row_keys_in (Put t x v ∷ past) = x ∷ row_keys_in past
+row_keys_in (_ ∷ past) = row_keys_in past
 
 -- a row of the last table without a line
-abbrev pub is_missing : List Item → List Item → Place → Bool
+abbrev pub is_missing : List Item → List Item → RowKey → Bool
 is_missing H past x = is_some (last_table H x) && not (list_any (is_row x) past)
 
 abbrev pub wrong_row : List Item → List Item → Item → Bool
 wrong_row H past (Row x v) = not (same_value (last_table H x) (Some v))
-wrong_row H past End = list_any (is_missing H past) (places_in H)
+wrong_row H past End = list_any (is_missing H past) (row_keys_in H)
 wrong_row H past _ = false

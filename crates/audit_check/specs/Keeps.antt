@@ -3,15 +3,15 @@ use Rattle.std.specs.Prelude.{◌≡◌, ℕ, ◌+◌, ◌<◌, ◌≤◌, not, 
 use Rattle.std.specs.List.{list_any}
 use Rattle.std.specs.Map.{lookup}
 use Rattle.std.specs.declared.alloc.Global.{Global}
-use Rattle.audit_check.specs.Items.{Item, Place, same_place}
+use Rattle.audit_check.specs.Items.{Item, RowKey, same_row_key}
 use Rattle.audit_check.specs.Items.Item.{Start, Got, Put, Done}
 use Rattle.audit_check.specs.Lines.{is_row}
 use Rattle.audit_check.specs.Standings.{begun, committed, aborted, begun_count}
 use Rattle.audit_check.specs.Tables.{Values, put_at, after_puts, table_after, table_before, starts_in}
 use Rattle.audit_check.specs.Faults.{is_among, are_distinct_and, reads_from, same_value, is_misread}
 use Rattle.audit_check.specs.Marks.{is_marked, list_at}
-use Rattle.audit_check.specs.Views.{place_view, line_view, views, places, has_place}
-use Rattle.audit_check.specs.declared.line.Place.{Place as Key}
+use Rattle.audit_check.specs.Views.{row_key_view, line_view, views, row_keys, has_row_key}
+use Rattle.audit_check.specs.declared.line.RowKey.{RowKey as Key}
 use Rattle.audit_check.specs.declared.line.Line.{Line}
 use Rattle.audit_check.specs.declared.line.Line.TheVariants.{End}
 
@@ -51,16 +51,16 @@ unfoldable pub own_from : ℕ → ℕ → List Line → List ℕ
 own_from t n [] = []
 own_from t n (l ∷ ls) = if is_own t (line_view l) then n ∷ own_from t (n + 1) ls else own_from t (n + 1) ls
 
--- the value of these entries at a place; none where there is no row
+-- the value of these entries at a row key; none where there is no row
 abbrev pub row_of : Option (Option ℤ) → Option ℤ
 row_of None = None
 row_of (Some v) = v
 
 abbrev pub value_at : List (Key × Option ℤ) → Key → Option ℤ
-value_at entries p = row_of (lookup (λ q. same_place (place_view p) (place_view q)) entries)
+value_at entries p = row_of (lookup (λ q. same_row_key (row_key_view p) (row_key_view q)) entries)
 
 pub record HoldsTable (entries : List (Key × Option ℤ)) (T : Values) : Type 0 where
-  pub each : (p : Key) → value_at entries p ≡ T (place_view p)
+  pub each : (p : Key) → value_at entries p ≡ T (row_key_view p)
 
 -- the table after a line of the transaction that runs
 abbrev pub after_line : Item → Values → Values
@@ -100,10 +100,10 @@ pub record Replays (ts : List ℕ) (lines : List Line) (entries : List (Key × O
 
 -- the keys of the row lines so far
 pub record SeesRows (rows : List Key) (past : List Item) : Type 0 where
-  pub each : (x : Place) → has_place (places rows) x ≡ list_any (is_row x) past
+  pub each : (x : RowKey) → has_row_key (row_keys rows) x ≡ list_any (is_row x) past
 
--- whether a line of a place that has had a row passes a test
-abbrev pub place_passes : (Place → Bool) → Item → Bool
-place_passes p (Start x v) = p x
-place_passes p (Put t x v) = p x
-place_passes p _ = false
+-- whether a line of a row key that has had a row passes a test
+abbrev pub row_key_passes : (RowKey → Bool) → Item → Bool
+row_key_passes p (Start x v) = p x
+row_key_passes p (Put t x v) = p x
+row_key_passes p _ = false

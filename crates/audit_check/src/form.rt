@@ -2,12 +2,12 @@
 
 ghost use Rattle.std.specs.Prelude.{◌≡◌, ◌<◌, ◌^◌, ◌∷◌, [], ◌++◌, ◌+◌, length, not, IsTrue, IfOk, IfErr};
 ghost use Rattle.audit_check.specs.Lines.{parts_of, items_of, items_from, fits, fitting, repeats, is_over, may_follow, part, part_after};
-ghost use Rattle.audit_check.specs.Views.{nows, line_view, views, place_view, places, has_place, KeepsCells, Takes, ReadsLines};
+ghost use Rattle.audit_check.specs.Views.{nows, line_view, views, row_key_view, row_keys, has_row_key, KeepsCells, Takes, ReadsLines};
 ghost use Rattle.audit_check.specs.declared.error.AuditError.TheVariants.{OutOfMemory};
 ghost use Rattle.audit_check.specs.declared.error.AuditWhy.TheVariants.{Form};
 
 use super::error::{AuditError, AuditWhy, no};
-use super::line::{Line, Place};
+use super::line::{Line, RowKey};
 use super::reading::read_line;
 use indexmap::IndexSet;
 use std::alloc::{AllocError, AllocFailed, Global};
@@ -16,8 +16,8 @@ use std::alloc::{AllocError, AllocFailed, Global};
 #[derive(Drop)]
 struct SoFar<'a> {
     lines: Vec<Line<'a>>,
-    starts: IndexSet<Place<'a>>,
-    rows: IndexSet<Place<'a>>,
+    starts: IndexSet<RowKey<'a>>,
+    rows: IndexSet<RowKey<'a>>,
 }
 
 /// The lines of a text, or the first one that does not fit behind those before it.
@@ -102,28 +102,28 @@ fn take_line<'a>(so_far: &mut SoFar<'a>, line: Line<'a>) -> Result<bool, AuditEr
 
 /// Whether the line is no row of a cell that had one; then keeps its cell.
 #[tactic(auto, using(crate::proofs::Cells::start_kept, crate::proofs::Cells::row_kept))]
-fn is_new<'a>(so_far: &mut SoFar<'a>, line: &Line<'a>) -> Result<bool, AllocFailed<Place<'a>>>
+fn is_new<'a>(so_far: &mut SoFar<'a>, line: &Line<'a>) -> Result<bool, AllocFailed<RowKey<'a>>>
     requires { KeepsCells so_far.old.starts.keys so_far.old.rows.keys (views so_far.old.lines.items) }
     ensures lines { so_far.new.lines.items ≡ so_far.old.lines.items }
     ensures new { IfOk result (λ new. new ≡ not (repeats (views so_far.old.lines.items) (line_view line.now))) }
     ensures kept { IfOk result (λ new. IsTrue new → KeepsCells so_far.new.starts.keys so_far.new.rows.keys (line_view line.now ∷ views so_far.old.lines.items)) }
 {
     match line {
-        Line::Start(place, _) => add_place(&mut so_far.starts, *place),
-        Line::Row(place, _) => add_place(&mut so_far.rows, *place),
+        Line::Start(row_key, _) => add_row_key(&mut so_far.starts, *row_key),
+        Line::Row(row_key, _) => add_row_key(&mut so_far.rows, *row_key),
         _ => Ok(true),
     }
 }
 
-/// Keeps a place; answers whether it is a new one.
-fn add_place<'a>(
-    set: &mut IndexSet<Place<'a>>,
-    place: Place<'a>,
-) -> Result<bool, AllocFailed<Place<'a>>>
-    ensures new { IfOk result (λ new. new ≡ not (has_place (places set.old.keys) (place_view place.entry))) }
-    ensures kept { IfOk result (λ new. IsTrue new → places set.new.keys ≡ places set.old.keys ++ place_view place.entry ∷ []) }
+/// Keeps a row key; answers whether it is a new one.
+fn add_row_key<'a>(
+    set: &mut IndexSet<RowKey<'a>>,
+    row_key: RowKey<'a>,
+) -> Result<bool, AllocFailed<RowKey<'a>>>
+    ensures new { IfOk result (λ new. new ≡ not (has_row_key (row_keys set.old.keys) (row_key_view row_key.entry))) }
+    ensures kept { IfOk result (λ new. IsTrue new → row_keys set.new.keys ≡ row_keys set.old.keys ++ row_key_view row_key.entry ∷ []) }
 {
-    set.insert(place)
+    set.insert(row_key)
 }
 
 /// The part of a printed run that a line belongs to.

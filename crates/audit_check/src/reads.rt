@@ -126,11 +126,11 @@ fn step<'a>(replay: &mut Replay<'a>, line: &Line<'a>, i: usize) -> Result<(), Al
     ensures steps { OnOk result ((T : Values) → HoldsTable replay.old.table.entries T → StepsLine T (line_view line.now) i replay.old.wrong.items replay.new.table.entries replay.new.wrong.items) }
 {
     match line {
-        Line::Got { place, value, .. } => {
-            replay.wrong[i] = value_at(&replay.table, *place) != *value;
+        Line::Got { row_key, value, .. } => {
+            replay.wrong[i] = value_at(&replay.table, *row_key) != *value;
             Ok(())
         }
-        Line::Put { place, value, .. } => put(&mut replay.table, *place, *value),
+        Line::Put { row_key, value, .. } => put(&mut replay.table, *row_key, *value),
         _ => Ok(()),
     }
 }

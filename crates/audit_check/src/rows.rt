@@ -2,16 +2,16 @@
 
 ghost use Rattle.std.specs.Prelude.{◌≡◌, ◌<◌, ◌^◌, ◌∷◌, ◌++◌, [], if◌then◌else◌, length, not, OnOk, List};
 ghost use Rattle.std.specs.List.{list_any};
-ghost use Rattle.audit_check.specs.Faults.{wrong_row, is_missing, places_in};
+ghost use Rattle.audit_check.specs.Faults.{wrong_row, is_missing, row_keys_in};
 ghost use Rattle.audit_check.specs.Findings.{Finds};
 ghost use Rattle.audit_check.specs.Items.{Item};
-ghost use Rattle.audit_check.specs.Keeps.{HoldsTable, SeesRows, place_passes};
+ghost use Rattle.audit_check.specs.Keeps.{HoldsTable, SeesRows, row_key_passes};
 ghost use Rattle.audit_check.specs.Tables.{last_table};
-ghost use Rattle.audit_check.specs.Views.{views, line_view, place_view, places, has_place};
+ghost use Rattle.audit_check.specs.Views.{views, line_view, row_key_view, row_keys, has_row_key};
 ghost use Rattle.audit_check.specs.declared.error.AuditWhy.TheVariants.{Row};
 
 use super::error::{AuditError, AuditWhy, no};
-use super::line::{Line, Place};
+use super::line::{Line, RowKey};
 use super::table::{Table, value_at};
 use indexmap::IndexSet;
 use std::alloc::{AllocFailed, Global};
@@ -37,42 +37,42 @@ pub fn check_rows<'a>(
     Ok(())
 }
 
-/// Keeps the place of a row line.
-fn see<'a>(seen: &mut IndexSet<Place<'a>>, line: &Line<'a>) -> Result<(), AllocFailed<Place<'a>>>
+/// Keeps the row key of a row line.
+fn see<'a>(seen: &mut IndexSet<RowKey<'a>>, line: &Line<'a>) -> Result<(), AllocFailed<RowKey<'a>>>
     ensures { OnOk result ((past : List Item) → SeesRows seen.old.keys past → SeesRows seen.new.keys (line_view line.now ∷ past)) }
 {
     match line {
-        Line::Row(place, _) => see_place(seen, *place),
+        Line::Row(row_key, _) => see_row_key(seen, *row_key),
         _ => Ok(()),
     }
 }
 
-fn see_place<'a>(
-    seen: &mut IndexSet<Place<'a>>,
-    place: Place<'a>,
-) -> Result<(), AllocFailed<Place<'a>>>
-    ensures { OnOk result (seen.new.keys ≡ (if has_place (places seen.old.keys) (place_view place.entry) then seen.old.keys else seen.old.keys ++ place.entry ∷ [])) }
+fn see_row_key<'a>(
+    seen: &mut IndexSet<RowKey<'a>>,
+    row_key: RowKey<'a>,
+) -> Result<(), AllocFailed<RowKey<'a>>>
+    ensures { OnOk result (seen.new.keys ≡ (if has_row_key (row_keys seen.old.keys) (row_key_view row_key.entry) then seen.old.keys else seen.old.keys ++ row_key.entry ∷ [])) }
 {
-    seen.insert(place)?;
+    seen.insert(row_key)?;
     Ok(())
 }
 
 /// Whether the line is no row that is wrong, and no end where one is missing.
-fn is_right(table: &Table, seen: &IndexSet<Place>, lines: &[Line], line: &Line) -> bool
+fn is_right(table: &Table, seen: &IndexSet<RowKey>, lines: &[Line], line: &Line) -> bool
     requires { HoldsTable table.now.entries (last_table (views lines.now)) }
     ensures { (past : List Item) → SeesRows seen.now.keys past → result ≡ not (wrong_row (views lines.now) past (line_view line.now)) }
 {
     match line {
-        Line::Row(place, value) => value_at(table, *place) == Some(*value),
+        Line::Row(row_key, value) => value_at(table, *row_key) == Some(*value),
         Line::End => !any_missing(table, seen, lines),
         _ => true,
     }
 }
 
 /// Whether a row of the table has not been seen.
-fn any_missing(table: &Table, seen: &IndexSet<Place>, lines: &[Line]) -> bool
+fn any_missing(table: &Table, seen: &IndexSet<RowKey>, lines: &[Line]) -> bool
     requires { HoldsTable table.now.entries (last_table (views lines.now)) }
-    ensures { (past : List Item) → SeesRows seen.now.keys past → result ≡ list_any (is_missing (views lines.now) past) (places_in (views lines.now)) }
+    ensures { (past : List Item) → SeesRows seen.now.keys past → result ≡ list_any (is_missing (views lines.now) past) (row_keys_in (views lines.now)) }
 {
     for i in 0..lines.len() {
         if misses(table, seen, &lines[i]) {
@@ -82,28 +82,28 @@ fn any_missing(table: &Table, seen: &IndexSet<Place>, lines: &[Line]) -> bool
     false
 }
 
-/// Whether the line is of a place that has a row and has not been seen.
-fn misses(table: &Table, seen: &IndexSet<Place>, line: &Line) -> bool
-    ensures { (H : List Item) (past : List Item) → HoldsTable table.now.entries (last_table H) → SeesRows seen.now.keys past → result ≡ place_passes (is_missing H past) (line_view line.now) }
+/// Whether the line is of a row key that has a row and has not been seen.
+fn misses(table: &Table, seen: &IndexSet<RowKey>, line: &Line) -> bool
+    ensures { (H : List Item) (past : List Item) → HoldsTable table.now.entries (last_table H) → SeesRows seen.now.keys past → result ≡ row_key_passes (is_missing H past) (line_view line.now) }
 {
     match line {
-        Line::Start(place, _) => misses_place(table, seen, *place),
-        Line::Put { place, .. } => misses_place(table, seen, *place),
+        Line::Start(row_key, _) => misses_row_key(table, seen, *row_key),
+        Line::Put { row_key, .. } => misses_row_key(table, seen, *row_key),
         _ => false,
     }
 }
 
 #[tactic(auto, using(crate::proofs::RowSteps::missed))]
-fn misses_place(table: &Table, seen: &IndexSet<Place>, place: Place) -> bool
-    ensures { (H : List Item) (past : List Item) → HoldsTable table.now.entries (last_table H) → SeesRows seen.now.keys past → result ≡ is_missing H past (place_view place.entry) }
+fn misses_row_key(table: &Table, seen: &IndexSet<RowKey>, row_key: RowKey) -> bool
+    ensures { (H : List Item) (past : List Item) → HoldsTable table.now.entries (last_table H) → SeesRows seen.now.keys past → result ≡ is_missing H past (row_key_view row_key.entry) }
 {
-    let has_row = value_at(table, place).is_some();
-    let was_seen = sees(seen, place);
+    let has_row = value_at(table, row_key).is_some();
+    let was_seen = sees(seen, row_key);
     has_row && !was_seen
 }
 
-fn sees(seen: &IndexSet<Place>, place: Place) -> bool
-    ensures { result ≡ has_place (places seen.now.keys) (place_view place.entry) }
+fn sees(seen: &IndexSet<RowKey>, row_key: RowKey) -> bool
+    ensures { result ≡ has_row_key (row_keys seen.now.keys) (row_key_view row_key.entry) }
 {
-    seen.contains(&place)
+    seen.contains(&row_key)
 }

@@ -1,17 +1,17 @@
-//! A table of values, by place.
+//! A table of values, by row key.
 
 ghost use Rattle.std.specs.Prelude.{◌≡◌, ◌∷◌, List, OnOk, IfOk};
 ghost use Rattle.audit_check.specs.Items.{Item};
 ghost use Rattle.audit_check.specs.Keeps.{HoldsTable, value_at};
 ghost use Rattle.audit_check.specs.Tables.{Values, put_at, starts_in};
-ghost use Rattle.audit_check.specs.Views.{views, line_view, place_view};
+ghost use Rattle.audit_check.specs.Views.{views, line_view, row_key_view};
 
-use super::line::{Line, Place};
+use super::line::{Line, RowKey};
 use indexmap::IndexMap;
 use std::alloc::{AllocError, Global};
 
-/// A place may be there without a row.
-pub type Table<'a> = IndexMap<Place<'a>, Option<i64>>;
+/// A row key may be there without a row.
+pub type Table<'a> = IndexMap<RowKey<'a>, Option<i64>>;
 
 /// The starting rows.
 pub fn starting_table<'a>(alloc: Global, lines: &[Line<'a>]) -> Result<Table<'a>, AllocError>
@@ -28,28 +28,28 @@ fn put_start<'a>(table: &mut Table<'a>, line: &Line<'a>) -> Result<(), AllocErro
     ensures { OnOk result ((past : List Item) → HoldsTable table.old.entries (starts_in past) → HoldsTable table.new.entries (starts_in (line_view line.now ∷ past))) }
 {
     match line {
-        Line::Start(place, value) => put(table, *place, Some(*value)),
+        Line::Start(row_key, value) => put(table, *row_key, Some(*value)),
         _ => Ok(()),
     }
 }
 
-/// Sets the value at a place; none removes the row.
+/// Sets the value at a row key; none removes the row.
 pub fn put<'a>(
     table: &mut Table<'a>,
-    place: Place<'a>,
+    row_key: RowKey<'a>,
     value: Option<i64>,
 ) -> Result<(), AllocError>
-    ensures { OnOk result ((T : Values) → HoldsTable table.old.entries T → HoldsTable table.new.entries (put_at (place_view place.entry) value T)) }
+    ensures { OnOk result ((T : Values) → HoldsTable table.old.entries T → HoldsTable table.new.entries (put_at (row_key_view row_key.entry) value T)) }
 {
-    table.insert(place, value)?;
+    table.insert(row_key, value)?;
     Ok(())
 }
 
-/// The value at a place; none where there is no row.
-pub fn value_at(table: &Table, place: Place) -> Option<i64>
-    ensures { result ≡ value_at table.now.entries place.entry }
+/// The value at a row key; none where there is no row.
+pub fn value_at(table: &Table, row_key: RowKey) -> Option<i64>
+    ensures { result ≡ value_at table.now.entries row_key.entry }
 {
-    match table.get(&place) {
+    match table.get(&row_key) {
         Some(value) => *value,
         None => None,
     }

@@ -8,7 +8,7 @@ use Rattle.teb_names.specs.declared.naming.NameBook.{NameBook}
 use Rattle.teb_history.specs.declared.Event.{Event}
 use Rattle.teb_history.specs.declared.Event.TheVariants as event
 use Rattle.teb_history.specs.Accesses.{is_from}
-use Rattle.audit_check.specs.Items.{Item, Place}
+use Rattle.audit_check.specs.Items.{Item, RowKey}
 use Rattle.audit_check.specs.Faults.{reads_from}
 use Rattle.audit_check.specs.Standings.{committed}
 use Rattle.audit_law.proofs.Bridge.{items, starts}
@@ -22,7 +22,7 @@ clash : (b : Bool) → b ≡ true → b ≡ false → ⊥
 clash true e f = cc
 clash false e f = cc
 
-module _ (names : NameBook) (rows : List (Place × ℤ)) (Z : List Item) (t : ℕ) where
+module _ (names : NameBook) (rows : List (RowKey × ℤ)) (Z : List Item) (t : ℕ) where
   got_early : (s u : ℕ) → ((eqb s t && eqb u u && not (eqb t u)) ≡ true → 0 < u → committed Z u ≡ true) → (s == t && not (u == t) && not (u == 0) && not (committed Z u)) ≡ false
   got_early s u h = go (s == t && not (u == t) && not (u == 0) && not (committed Z u)) refl
     where
@@ -39,7 +39,7 @@ module _ (names : NameBook) (rows : List (Place × ℤ)) (Z : List Item) (t : �
   pub none_early : (Q : List Event) → ((w : ℕ) → 0 < w → list_any (is_from t w) Q ≡ true → committed Z w ≡ true) → list_any (reads_from (λ u. not (committed Z u)) t) (items names rows Q) ≡ false
   none_early [] h = none rows
     where
-      none : (s : List (Place × ℤ)) → list_any (reads_from (λ u. not (committed Z u)) t) (starts s) ≡ false
+      none : (s : List (RowKey × ℤ)) → list_any (reads_from (λ u. not (committed Z u)) t) (starts s) ≡ false
       none [] = refl
       none (r ∷ s) = none s
   none_early (event.Got s x u v ∷ Q) h =

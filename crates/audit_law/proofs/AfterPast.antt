@@ -18,7 +18,7 @@ use Rattle.teb_laws.proofs.Assembly.{read_recoverable}
 use Rattle.teb_laws.proofs.Positions.{upto_all, upto_cons}
 use Rattle.teb_laws.proofs.Serial.{commits_from}
 use Rattle.teb_laws.proofs.Timeline.{committed-upto}
-use Rattle.audit_check.specs.Items.{Place}
+use Rattle.audit_check.specs.Items.{RowKey}
 use Rattle.audit_check.specs.Faults.{wrong_after}
 use Rattle.audit_law.specs.Printed.{event_item}
 use Rattle.audit_law.proofs.AfterLaw.{none_early}
@@ -50,7 +50,7 @@ module _ (S : Setup) (a : TreeFacts S) (t : Txn) (P : List Event) (l : Lawful S 
       front : upto (length P) now ≡ P
       front = upto_cons (length P) (event.Done t) P (le_refl (length P)) ∙ upto_all (length P) P (le_refl (length P))
 
-module _ (names : NameBook) (rows : List (Place × ℤ)) (S : Setup) (a : TreeFacts S) where
+module _ (names : NameBook) (rows : List (RowKey × ℤ)) (S : Setup) (a : TreeFacts S) where
   pub after_along : (H : List Event) → Lawful S H → Along (λ P e. wrong_after (items names rows P) (event_item names e) ≡ false) H
   unfolding Lawful
   after_along [] l = tt

@@ -1,4 +1,4 @@
--- Tables by place are the tables by cell.
+-- Tables by row key are the tables by cell.
 use Rattle.std.proofs.Common.{◌≡◌, ℕ, ◌==◌, Bool, true, false, cond, if◌then◌else◌, List, [], ◌∷◌, map, Option, Some, refl, ap, sym, subst}
 use Rattle.std.specs.Prelude.{ℤ}
 use Rattle.std.specs.List.{All, IsDistinct}
@@ -12,28 +12,28 @@ use Rattle.teb_history.specs.declared.Event.{Event}
 use Rattle.teb_history.specs.declared.Event.TheVariants as event
 use Rattle.teb_rules.specs.Replay as rule
 use Rattle.script_text.specs.Named.{CellNamed}
-use Rattle.audit_check.specs.Items.{Place}
+use Rattle.audit_check.specs.Items.{RowKey}
 use Rattle.audit_check.specs.Tables.{Values, put_at, after_puts, table_after, starts_in}
-use Rattle.audit_law.specs.Printed.{EventFits, RowFits, place_of}
+use Rattle.audit_law.specs.Printed.{EventFits, RowFits, row_key_of}
 use Rattle.audit_law.proofs.Bridge.{items, starts}
-use Rattle.audit_law.proofs.Places.{places_same}
+use Rattle.audit_law.proofs.RowKeys.{row_keys_same}
 
--- rows by place
-abbrev pub by_place : NameBook → List (Cell × ℤ) → List (Place × ℤ)
-by_place names rows = map (λ r. (place_of names r.0, r.1)) rows
+-- rows by row key
+abbrev pub by_row_key : NameBook → List (Cell × ℤ) → List (RowKey × ℤ)
+by_row_key names rows = map (λ r. (row_key_of names r.0, r.1)) rows
 
 module _ (names : NameBook) (distinct : IsDistinct bytes_eq names.tables) where
   -- the same value in each cell
   pub record Agree (A : Values) (T : rule.Values) : Type 0 where
-    pub each : (x : Cell) → CellNamed names x → A (place_of names x) ≡ T x
+    pub each : (x : Cell) → CellNamed names x → A (row_key_of names x) ≡ T x
 
-  put_agrees : (x : Cell) (v : Option ℤ) (A : Values) (T : rule.Values) → CellNamed names x → Agree A T → Agree (put_at (place_of names x) v A) (rule.put_in x v T)
+  put_agrees : (x : Cell) (v : Option ℤ) (A : Values) (T : rule.Values) → CellNamed names x → Agree A T → Agree (put_at (row_key_of names x) v A) (rule.put_in x v T)
   put_agrees x v A T named agree = record {
-    each = λ y there. rw (places_same names distinct x y named there) (ap (λ o. if same_cell x y then v else o) (agree.each y there));
+    each = λ y there. rw (row_keys_same names distinct x y named there) (ap (λ o. if same_cell x y then v else o) (agree.each y there));
   }
 
-  module _ (rows : List (Place × ℤ)) where
-    starts_put_nothing : (s : List (Place × ℤ)) (t : ℕ) (A : Values) → after_puts (starts s) t A ≡ A
+  module _ (rows : List (RowKey × ℤ)) where
+    starts_put_nothing : (s : List (RowKey × ℤ)) (t : ℕ) (A : Values) → after_puts (starts s) t A ≡ A
     unfolding after_puts
     starts_put_nothing [] t A = refl
     starts_put_nothing (r ∷ s) t A = starts_put_nothing s t A
@@ -48,7 +48,7 @@ module _ (names : NameBook) (distinct : IsDistinct bytes_eq names.tables) where
     puts_agree (event.Put u x v ∷ P) t A T fit agree =
         let more = puts_agree P t A T (All-tail (EventFits names) (event.Put u x v) P fit) agree in
         let here = All-head (EventFits names) (event.Put u x v) P fit in
-        if_own (u.0 == t) (put_at (place_of names x) v (after_puts (items names rows P) t A)) (after_puts (items names rows P) t A) (rule.put_in x v (rule.after_puts P t T)) (rule.after_puts P t T)
+        if_own (u.0 == t) (put_at (row_key_of names x) v (after_puts (items names rows P) t A)) (after_puts (items names rows P) t A) (rule.put_in x v (rule.after_puts P t T)) (rule.after_puts P t T)
         (put_agrees x v (after_puts (items names rows P) t A) (rule.after_puts P t T) here.1.0 more) more
     puts_agree (event.Began u s k i ∷ P) t A T fit agree = puts_agree P t A T (All-tail (EventFits names) (event.Began u s k i) P fit) agree
     puts_agree (event.Got u x w v ∷ P) t A T fit agree = puts_agree P t A T (All-tail (EventFits names) (event.Got u x w v) P fit) agree
@@ -77,13 +77,13 @@ module _ (names : NameBook) (distinct : IsDistinct bytes_eq names.tables) where
   unfolding starts_in
   no_rows = record { each = λ x named. refl }
 
-  one_row : (r : Cell × ℤ) (rs : List (Cell × ℤ)) → CellNamed names r.0 → Agree (starts_in (starts (by_place names rs))) (row_of rs) → Agree (starts_in (starts (by_place names (r ∷ rs)))) (row_of (r ∷ rs))
+  one_row : (r : Cell × ℤ) (rs : List (Cell × ℤ)) → CellNamed names r.0 → Agree (starts_in (starts (by_row_key names rs))) (row_of rs) → Agree (starts_in (starts (by_row_key names (r ∷ rs)))) (row_of (r ∷ rs))
   unfolding starts_in
-  one_row r rs named agree = record { each = (put_agrees r.0 (Some r.1) (starts_in (starts (by_place names rs))) (row_of rs) named agree).each }
+  one_row r rs named agree = record { each = (put_agrees r.0 (Some r.1) (starts_in (starts (by_row_key names rs))) (row_of rs) named agree).each }
 
-  rows_agree : (rs : List (Cell × ℤ)) → All (RowFits names) rs → Agree (starts_in (starts (by_place names rs))) (row_of rs)
+  rows_agree : (rs : List (Cell × ℤ)) → All (RowFits names) rs → Agree (starts_in (starts (by_row_key names rs))) (row_of rs)
   rows_agree [] fit = no_rows
   rows_agree (r ∷ rs) fit = one_row r rs (All-head (RowFits names) r rs fit).0.0 (rows_agree rs (All-tail (RowFits names) r rs fit))
 
-  pub starts_agree : (rs : List (Cell × ℤ)) (H : List Event) → All (RowFits names) rs → Agree (starts_in (items names (by_place names rs) H)) (row_of rs)
-  starts_agree rs H fit = subst (λ (A : Values). Agree A (row_of rs)) (sym (starts_of_items (by_place names rs) H)) (rows_agree rs fit)
+  pub starts_agree : (rs : List (Cell × ℤ)) (H : List Event) → All (RowFits names) rs → Agree (starts_in (items names (by_row_key names rs) H)) (row_of rs)
+  starts_agree rs H fit = subst (λ (A : Values). Agree A (row_of rs)) (sym (starts_of_items (by_row_key names rs) H)) (rows_agree rs fit)

@@ -18,16 +18,16 @@ use Rattle.script_text.specs.Named.{CellNamed}
 use Rattle.script_text.specs.Ranges.{TxnFits}
 use Rattle.audit_check.specs.Audit.{IsAudited, first_line, fault_in, fault_of}
 use Rattle.audit_check.specs.Faults.{wrong_txn, wrong_order, wrong_after, wrong_read, wrong_row}
-use Rattle.audit_check.specs.Items.{Item, Place}
+use Rattle.audit_check.specs.Items.{Item, RowKey}
 use Rattle.audit_check.specs.Items.Item.{Start, Order, Row, End}
 use Rattle.audit_check.specs.Lines.{items_of, part_after, is_row}
 use Rattle.audit_check.specs.Tables.{Values, before, table_before, last_table, table_after, starts_in}
 use Rattle.audit_law.specs.Law.{printed_run, CanPrint}
-use Rattle.audit_law.specs.Printed.{place_of, event_item, EventFits, RowFits}
+use Rattle.audit_law.specs.Printed.{row_key_of, event_item, EventFits, RowFits}
 use Rattle.audit_law.proofs.AfterPast.{after_along}
-use Rattle.audit_law.proofs.Agreement.{Agree, by_place, starts_agree, tables_agree}
+use Rattle.audit_law.proofs.Agreement.{Agree, by_row_key, starts_agree, tables_agree}
 use Rattle.audit_law.proofs.Ascending.{Apart, HasRow, rows_stand, row_reverse}
-use Rattle.audit_law.proofs.Behind.{with_report, row_items, none_reported, all_right, order_reported, starts_reported, table_reported, places_reported}
+use Rattle.audit_law.proofs.Behind.{with_report, row_items, none_reported, all_right, order_reported, starts_reported, table_reported, row_keys_reported}
 use Rattle.audit_law.proofs.Bridge.{items, starts, lawful_txns}
 use Rattle.audit_law.proofs.FormLaw.{all_fit_append, starts_fit, events_fit, part_of_events, part_of_starts, report_fits, fresh_rows, no_row_starts, no_row_events}
 use Rattle.audit_law.proofs.OrderLaw.{order_right}
@@ -39,7 +39,7 @@ use Rattle.audit_law.proofs.TextLaw.{lines_of, items_said, all_words, lines_say,
 use Rattle.audit_law.proofs.Texts.{onto, AllFit, text_back}
 
 -- a test of no event
-orders_along : (names : NameBook) (R : List (Place × ℤ)) (W : List Item) (H : List Event) → Along (λ P e. wrong_order W (items names R P) (event_item names e) ≡ false) H
+orders_along : (names : NameBook) (R : List (RowKey × ℤ)) (W : List Item) (H : List Event) → Along (λ P e. wrong_order W (items names R P) (event_item names e) ≡ false) H
 orders_along names R W [] = tt
 orders_along names R W (event.Began t s k i ∷ P) = (refl, orders_along names R W P)
 orders_along names R W (event.Got t x u v ∷ P) = (refl, orders_along names R W P)
@@ -49,7 +49,7 @@ orders_along names R W (event.Done t ∷ P) = (refl, orders_along names R W P)
 orders_along names R W (event.Gone t c ∷ P) = (refl, orders_along names R W P)
 orders_along names R W (event.Told t ∷ P) = (refl, orders_along names R W P)
 
-rows_along : (names : NameBook) (R : List (Place × ℤ)) (W : List Item) (H : List Event) → Along (λ P e. wrong_row W (items names R P) (event_item names e) ≡ false) H
+rows_along : (names : NameBook) (R : List (RowKey × ℤ)) (W : List Item) (H : List Event) → Along (λ P e. wrong_row W (items names R P) (event_item names e) ≡ false) H
 rows_along names R W [] = tt
 rows_along names R W (event.Began t s k i ∷ P) = (refl, rows_along names R W P)
 rows_along names R W (event.Got t x u v ∷ P) = (refl, rows_along names R W P)
@@ -68,11 +68,11 @@ module _ (names : NameBook) (X : Store) (a : TreeFacts X.setup) (H : List Event)
   abbrev ts : List ℕ
   ts = map (λ t. t.0) order
 
-  abbrev R : List (Place × ℤ)
-  R = by_place names (reverse X.rows)
+  abbrev R : List (RowKey × ℤ)
+  R = by_row_key names (reverse X.rows)
 
-  abbrev Rows : List (Place × ℤ)
-  Rows = by_place names (reverse rows)
+  abbrev Rows : List (RowKey × ℤ)
+  Rows = by_row_key names (reverse rows)
 
   abbrev Q : List Item
   Q = items names R H
@@ -123,24 +123,24 @@ module _ (names : NameBook) (X : Store) (a : TreeFacts X.setup) (H : List Event)
       (reads_along names can.names_differ R W ts (order_reported ts Q Rows) (row_of X.rows) H begins H can.events_fit (λ t among. reads_of H ts (row_of X.rows) t ser.reads among)))
       refl Rows (all_right (wrong_read W) (λ past x v. refl) Rows) refl
 
-  has_line : (x : Cell) → CellNamed names x → is_some (row_of rows x) ≡ true → list_any (is_row (place_of names x)) (row_items Rows ++ Order ts ∷ Q) ≡ true
+  has_line : (x : Cell) → CellNamed names x → is_some (row_of rows x) ≡ true → list_any (is_row (row_key_of names x)) (row_items Rows ++ Order ts ∷ Q) ≡ true
   has_line x named some = lined names can.names_differ x (reverse rows) (Order ts ∷ Q) named row_fit (ap is_some (row_reverse rows x last) ∙ some)
 
   no_row : first_line (wrong_row W) W ≡ None
   no_row =
       none_reported (wrong_row W) ts Q (none_along names R (wrong_row W) (λ past x v. refl) H (rows_along names R W H)) refl Rows
       (rows_right names can.names_differ W rows (rule.table_after H ts (row_of X.rows)) ends last_is (reverse rows) row_fit (All-reverse (HasRow rows) rows (rows_stand rows last)))
-      (none_missing names can.names_differ W rows (rule.table_after H ts (row_of X.rows)) ends last_is (reverse X.rows) H ts (row_items Rows ++ Order ts ∷ Q) start_fit can.events_fit has_line (places_reported ts Q Rows))
+      (none_missing names can.names_differ W rows (rule.table_after H ts (row_of X.rows)) ends last_is (reverse X.rows) H ts (row_items Rows ++ Order ts ∷ Q) start_fit can.events_fit has_line (row_keys_reported ts Q Rows))
 
   -- the lines are read back
   abbrev said : List Item
   said = items_said names can.names_are X.rows (reverse H) order rows
 
   abbrev start_item : Cell × ℤ → Item
-  start_item r = Start (place_of names r.0) r.1
+  start_item r = Start (row_key_of names r.0) r.1
 
   abbrev row_item : Cell × ℤ → Item
-  row_item r = Row (place_of names r.0) r.1
+  row_item r = Row (row_key_of names r.0) r.1
 
   abbrev begun : List Item
   begun = onto [] (map start_item X.rows)
@@ -149,7 +149,7 @@ module _ (names : NameBook) (X : Store) (a : TreeFacts X.setup) (H : List Event)
   told = onto begun (map (event_item names) (reverse H))
 
   begun_is : begun ≡ starts R
-  begun_is = onto_map start_item [] X.rows ∙ append-nil (map start_item (reverse X.rows)) ∙ sym (map_map (λ (r : Place × ℤ). Start r.0 r.1) (λ (r : Cell × ℤ). (place_of names r.0, r.1)) (reverse X.rows))
+  begun_is = onto_map start_item [] X.rows ∙ append-nil (map start_item (reverse X.rows)) ∙ sym (map_map (λ (r : RowKey × ℤ). Start r.0 r.1) (λ (r : Cell × ℤ). (row_key_of names r.0, r.1)) (reverse X.rows))
 
   told_is : told ≡ Q
   told_is =
@@ -161,7 +161,7 @@ module _ (names : NameBook) (X : Store) (a : TreeFacts X.setup) (H : List Event)
   reported_is past =
       onto_append (Order ts ∷ past) (map row_item rows) (End ∷ [])
       ∙ ap (λ (is : List Item). End ∷ is) (onto_map row_item (Order ts ∷ past) rows
-      ∙ ap (λ (is : List Item). is ++ Order ts ∷ past) (sym (map_map (λ (r : Place × ℤ). Row r.0 r.1) (λ (r : Cell × ℤ). (place_of names r.0, r.1)) (reverse rows))))
+      ∙ ap (λ (is : List Item). is ++ Order ts ∷ past) (sym (map_map (λ (r : RowKey × ℤ). Row r.0 r.1) (λ (r : Cell × ℤ). (row_key_of names r.0, r.1)) (reverse rows))))
 
   whole : onto [] said ≡ W
   whole =

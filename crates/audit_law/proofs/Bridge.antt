@@ -10,7 +10,7 @@ use Rattle.teb_history.specs.Phases as history
 use Rattle.teb_history.proofs.Any.{came_any}
 use Rattle.teb_rules.specs.Setup.{Setup}
 use Rattle.teb_laws.specs.Lawful.{Lawful, Granted}
-use Rattle.audit_check.specs.Items.{Item, Place}
+use Rattle.audit_check.specs.Items.{Item, RowKey}
 use Rattle.audit_check.specs.Items.Item.{Start}
 use Rattle.audit_check.specs.Audit.{first_line}
 use Rattle.audit_check.specs.Faults.{wrong_txn}
@@ -19,10 +19,10 @@ use Rattle.audit_check.specs.Standings.{is_began, is_done, is_gone, begun, commi
 use Rattle.audit_check.proofs.FirstLines.{first_more}
 
 -- the items of starting rows
-abbrev pub starts : List (Place × ℤ) → List Item
+abbrev pub starts : List (RowKey × ℤ) → List Item
 starts rows = map (λ r. Start r.0 r.1) rows
 
-module _ (names : NameBook) (rows : List (Place × ℤ)) where
+module _ (names : NameBook) (rows : List (RowKey × ℤ)) where
   abbrev pub items : List Event → List Item
   items H = map (event_item names) H ++ starts rows
 
@@ -61,7 +61,7 @@ module _ (names : NameBook) (rows : List (Place × ℤ)) where
   unfolding begun history.begun history.began_at
   begun_items H t = any_items (is_began t) (history.is_began t) (same_began t) (none_began rows) H ∙ sym (came_any (history.is_began t) H)
     where
-      none_began : (s : List (Place × ℤ)) → list_any (is_began t) (starts s) ≡ false
+      none_began : (s : List (RowKey × ℤ)) → list_any (is_began t) (starts s) ≡ false
       none_began [] = refl
       none_began (r ∷ s) = none_began s
 
@@ -69,7 +69,7 @@ module _ (names : NameBook) (rows : List (Place × ℤ)) where
   unfolding committed history.committed history.done_at
   committed_items H t = any_items (is_done t) (history.is_done t) (same_done t) (none_done rows) H ∙ sym (came_any (history.is_done t) H)
     where
-      none_done : (s : List (Place × ℤ)) → list_any (is_done t) (starts s) ≡ false
+      none_done : (s : List (RowKey × ℤ)) → list_any (is_done t) (starts s) ≡ false
       none_done [] = refl
       none_done (r ∷ s) = none_done s
 
@@ -77,7 +77,7 @@ module _ (names : NameBook) (rows : List (Place × ℤ)) where
   unfolding aborted history.aborted history.gone_at
   aborted_items H t = any_items (is_gone t) (history.is_gone t) (same_gone t) (none_gone rows) H ∙ sym (came_any (history.is_gone t) H)
     where
-      none_gone : (s : List (Place × ℤ)) → list_any (is_gone t) (starts s) ≡ false
+      none_gone : (s : List (RowKey × ℤ)) → list_any (is_gone t) (starts s) ≡ false
       none_gone [] = refl
       none_gone (r ∷ s) = none_gone s
 
@@ -89,7 +89,7 @@ module _ (names : NameBook) (rows : List (Place × ℤ)) where
   unfolding begun_count history.begun_count
   count_items [] = none_count rows
     where
-      none_count : (s : List (Place × ℤ)) → begun_count (starts s) ≡ 0
+      none_count : (s : List (RowKey × ℤ)) → begun_count (starts s) ≡ 0
       none_count [] = refl
       none_count (r ∷ s) = none_count s
   count_items (event.Began u s k i ∷ H) = ap suc (count_items H)
@@ -113,7 +113,7 @@ module _ (names : NameBook) (rows : List (Place × ℤ)) where
   granted_right S P (event.Gone t c) g = not_of _ _ (unfinished_items P t.0) g
   granted_right S P (event.Told t) g = not_of _ _ (aborted_items P t.0) g
 
-  starts_right : (s : List (Place × ℤ)) → first_line wrong_txn (starts s) ≡ None
+  starts_right : (s : List (RowKey × ℤ)) → first_line wrong_txn (starts s) ≡ None
   unfolding first_line
   starts_right [] = refl
   starts_right (r ∷ s) = rw (starts_right s)

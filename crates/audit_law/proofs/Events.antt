@@ -17,13 +17,13 @@ use Rattle.script_text.specs.Texts.{name_of, event_words, cause_words, instance_
 use Rattle.teb_names.specs.Names.{is_name}
 use Rattle.script_text.specs.Named.{NodeNamed}
 use Rattle.script_text.specs.Ranges.{TxnFits, IntegerFits}
-use Rattle.audit_law.specs.Printed.{AreNames, RowFits, CellFits, CauseFits, EventFits, place_of, event_item}
-use Rattle.audit_check.specs.Items.{Item, Place}
+use Rattle.audit_law.specs.Printed.{AreNames, RowFits, CellFits, CauseFits, EventFits, row_key_of, event_item}
+use Rattle.audit_check.specs.Items.{Item, RowKey}
 use Rattle.audit_check.specs.Items.Item.{Start, Began, Order, Row, End}
 use Rattle.audit_check.specs.Lines.{item_of, words_of}
-use Rattle.audit_check.specs.Reading.{item_in, cause_in, began_in, row_in, txns_at, name_at, place_at}
+use Rattle.audit_check.specs.Reading.{item_in, cause_in, began_in, row_in, txns_at, name_at, row_key_at}
 use Rattle.audit_law.proofs.Digits.{number_is_word, integer_back, integer_is_word}
-use Rattle.audit_law.proofs.Pieces.{txn_back, txn_is_word, key_is_word, from_one_back, name_back, name_is_word, name_of_is_name, place_back, value_back, value_is_word}
+use Rattle.audit_law.proofs.Pieces.{txn_back, txn_is_word, key_is_word, from_one_back, name_back, name_is_word, name_of_is_name, row_key_back, value_back, value_is_word}
 use Rattle.audit_law.proofs.Words.{is_word, words_back}
 
 -- a line whose words are plain says what its words say
@@ -44,8 +44,8 @@ module _ (names : NameBook) (are : AreNames names) where
   node_is_name : (n : Node) → NodeNamed names n → is_name (name_of names.nodes n.0) ≡ true
   node_is_name n h = name_of_is_name names.nodes n.0 are.nodes h
 
-  cell_back : (x : Cell) → CellFits names x → place_at (name_of names.tables x.table.0) (decimal x.key) ≡ Some (place_of names x)
-  cell_back x h = place_back names x (table_is_name x h) h.1
+  cell_back : (x : Cell) → CellFits names x → row_key_at (name_of names.tables x.table.0) (decimal x.key) ≡ Some (row_key_of names x)
+  cell_back x h = row_key_back names x (table_is_name x h) h.1
 
   table_is_word : (x : Cell) → CellFits names x → is_word (name_of names.tables x.table.0) ≡ true
   table_is_word x h = name_is_word (name_of names.tables x.table.0) (table_is_name x h)
@@ -120,8 +120,8 @@ module _ (names : NameBook) (are : AreNames names) where
   event_line_back e h = words_line_back (event_words names e) (event_item names e) (event_are_words e h) (event_back e h)
 
   -- the words of a row, on a line that begins with this word
-  row_back : (item : Place → ℤ → Item) (x : Cell) (v : ℤ) → CellFits names x → IntegerFits v
-      → row_in item (name_of names.tables x.table.0 ∷ decimal x.key ∷ signed_decimal v ∷ []) ≡ Some (item (place_of names x) v)
+  row_back : (item : RowKey → ℤ → Item) (x : Cell) (v : ℤ) → CellFits names x → IntegerFits v
+      → row_in item (name_of names.tables x.table.0 ∷ decimal x.key ∷ signed_decimal v ∷ []) ≡ Some (item (row_key_of names x) v)
   row_back item x v cell value = rw (cell_back x cell, integer_back v value)
 
   pub row_are_words : (x : Cell) (v : ℤ) → CellFits names x → IntegerFits v
@@ -130,12 +130,12 @@ module _ (names : NameBook) (are : AreNames names) where
 
   -- lines of rows
   pub start_line_back : (x : Cell) (v : ℤ) → RowFits names (x, v)
-      → item_of (join_with_byte 32 (codes "start" ∷ cell_words names x ++ signed_decimal v ∷ [])) ≡ Some (Start (place_of names x) v)
+      → item_of (join_with_byte 32 (codes "start" ∷ cell_words names x ++ signed_decimal v ∷ [])) ≡ Some (Start (row_key_of names x) v)
   unfolding item_in
   start_line_back x v h = line_back (codes "start") (cell_words names x ++ signed_decimal v ∷ []) _ (row_are_words x v h.0 h.1) (row_back Start x v h.0 h.1)
 
   pub row_line_back : (x : Cell) (v : ℤ) → RowFits names (x, v)
-      → item_of (join_with_byte 32 (codes "row" ∷ cell_words names x ++ signed_decimal v ∷ [])) ≡ Some (Row (place_of names x) v)
+      → item_of (join_with_byte 32 (codes "row" ∷ cell_words names x ++ signed_decimal v ∷ [])) ≡ Some (Row (row_key_of names x) v)
   unfolding item_in
   row_line_back x v h = line_back (codes "row") (cell_words names x ++ signed_decimal v ∷ []) _ (row_are_words x v h.0 h.1) (row_back Row x v h.0 h.1)
 

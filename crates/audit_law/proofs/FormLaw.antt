@@ -12,12 +12,12 @@ use Rattle.teb_names.specs.Cells.{same_cell}
 use Rattle.teb_history.specs.declared.Event.{Event}
 use Rattle.teb_history.specs.declared.Event.TheVariants as event
 use Rattle.script_text.specs.Named.{CellNamed}
-use Rattle.audit_check.specs.Items.{Item, Place, same_place}
+use Rattle.audit_check.specs.Items.{Item, RowKey, same_row_key}
 use Rattle.audit_check.specs.Items.Item.{Start, Order, Row, End}
 use Rattle.audit_check.specs.Lines.{part_after, may_follow, part, fits, is_start, is_row}
-use Rattle.audit_law.specs.Printed.{RowFits, place_of, event_item}
+use Rattle.audit_law.specs.Printed.{RowFits, row_key_of, event_item}
 use Rattle.audit_law.proofs.Ascending.{Apart, OthersThan}
-use Rattle.audit_law.proofs.Places.{places_same}
+use Rattle.audit_law.proofs.RowKeys.{row_keys_same}
 use Rattle.audit_law.proofs.Texts.{AllFit, onto}
 
 pub all_fit_append : (past a b : List Item) → AllFit past a → AllFit (onto past a) b → AllFit past (a ++ b)
@@ -26,22 +26,22 @@ all_fit_append past (i ∷ a) b f g = (f.0, all_fit_append (i ∷ past) a b f.1 
 
 module _ (names : NameBook) (distinct : IsDistinct bytes_eq names.tables) where
   abbrev pub start_item : Cell × ℤ → Item
-  start_item r = Start (place_of names r.0) r.1
+  start_item r = Start (row_key_of names r.0) r.1
 
   abbrev pub row_item : Cell × ℤ → Item
-  row_item r = Row (place_of names r.0) r.1
+  row_item r = Row (row_key_of names r.0) r.1
 
   -- none of these rows has had a line
-  abbrev Fresh : (Place → Item → Bool) → List Item → List (Cell × ℤ) → Type 0
+  abbrev Fresh : (RowKey → Item → Bool) → List Item → List (Cell × ℤ) → Type 0
   Fresh is past [] = Unit {0}
-  Fresh is past (r ∷ rs) = (list_any (is (place_of names r.0)) past ≡ false) × Fresh is past rs
+  Fresh is past (r ∷ rs) = (list_any (is (row_key_of names r.0)) past ≡ false) × Fresh is past rs
 
-  still_fresh : (is : Place → Item → Bool) (item : Cell × ℤ → Item) → ((x y : Cell) (v : ℤ) → is (place_of names y) (item (x, v)) ≡ same_place (place_of names y) (place_of names x))
+  still_fresh : (is : RowKey → Item → Bool) (item : Cell × ℤ → Item) → ((x y : Cell) (v : ℤ) → is (row_key_of names y) (item (x, v)) ≡ same_row_key (row_key_of names y) (row_key_of names x))
       → (past : List Item) (r : Cell × ℤ) (rs : List (Cell × ℤ)) → CellNamed names r.0 → All (RowFits names) rs → OthersThan r.0 rs → Fresh is past rs → Fresh is (item r ∷ past) rs
   still_fresh is item at past r [] named fit others fresh = tt
   still_fresh is item at past r (s ∷ ss) named fit others fresh =
-      let here : is (place_of names s.0) (item r) ≡ false = at r.0 s.0 r.1 ∙ places_same names distinct s.0 r.0 (All-head (RowFits names) s ss fit).0.0 named ∙ turned r.0 s.0 others.0 in (
-        or_from (is (place_of names s.0) (item r)) (list_any (is (place_of names s.0)) past) here fresh.0,
+      let here : is (row_key_of names s.0) (item r) ≡ false = at r.0 s.0 r.1 ∙ row_keys_same names distinct s.0 r.0 (All-head (RowFits names) s ss fit).0.0 named ∙ turned r.0 s.0 others.0 in (
+        or_from (is (row_key_of names s.0) (item r)) (list_any (is (row_key_of names s.0)) past) here fresh.0,
         still_fresh is item at past r ss named (All-tail (RowFits names) s ss fit) others.1 fresh.1,
       )
     where
@@ -51,12 +51,12 @@ module _ (names : NameBook) (distinct : IsDistinct bytes_eq names.tables) where
   starts_from : (rs : List (Cell × ℤ)) (past : List Item) → All (RowFits names) rs → Apart rs → part_after past ≡ 0 → Fresh is_start past rs → AllFit past (map start_item rs)
   starts_from [] past fit apart at fresh = tt
   starts_from (r ∷ rs) past fit apart at fresh = (
-    and_from (may_follow (part_after past) 0) (not (list_any (is_start (place_of names r.0)) past)) (ap (λ p. may_follow p 0) at) (not_from_false (list_any (is_start (place_of names r.0)) past) fresh.0),
+    and_from (may_follow (part_after past) 0) (not (list_any (is_start (row_key_of names r.0)) past)) (ap (λ p. may_follow p 0) at) (not_from_false (list_any (is_start (row_key_of names r.0)) past) fresh.0),
     starts_from rs (start_item r ∷ past) (All-tail (RowFits names) r rs fit) apart.1 refl
         (still_fresh is_start start_item (λ x y v. refl) past r rs (All-head (RowFits names) r rs fit).0.0 (All-tail (RowFits names) r rs fit) apart.0 fresh.1),
   )
 
-  none_yet : (is : Place → Item → Bool) (rs : List (Cell × ℤ)) → Fresh is [] rs
+  none_yet : (is : RowKey → Item → Bool) (rs : List (Cell × ℤ)) → Fresh is [] rs
   none_yet is [] = tt
   none_yet is (r ∷ rs) = (refl, none_yet is rs)
 
@@ -103,7 +103,7 @@ module _ (names : NameBook) (distinct : IsDistinct bytes_eq names.tables) where
       end_fits : (p : ℕ) → 2 ≤ p → p ≤ 3 → (may_follow p 4 && true) ≡ true
       end_fits p l h = grind (arith, nat_tests)
   rows_from (r ∷ rs) past fit apart low high fresh = (
-    and_from (may_follow (part_after past) 3) (not (list_any (is_row (place_of names r.0)) past)) (row_follows (part_after past) low high) (not_from_false (list_any (is_row (place_of names r.0)) past) fresh.0),
+    and_from (may_follow (part_after past) 3) (not (list_any (is_row (row_key_of names r.0)) past)) (row_follows (part_after past) low high) (not_from_false (list_any (is_row (row_key_of names r.0)) past) fresh.0),
     rows_from rs (row_item r ∷ past) (All-tail (RowFits names) r rs fit) apart.1 (omega arith) (omega arith)
         (still_fresh is_row row_item (λ x y v. refl) past r rs (All-head (RowFits names) r rs fit).0.0 (All-tail (RowFits names) r rs fit) apart.0 fresh.1),
   )
@@ -124,7 +124,7 @@ module _ (names : NameBook) (distinct : IsDistinct bytes_eq names.tables) where
 
   -- what is before the report has no row line
   abbrev NoRow : List Item → Type 0
-  NoRow past = (x : Place) → list_any (is_row x) past ≡ false
+  NoRow past = (x : RowKey) → list_any (is_row x) past ≡ false
 
   pub no_row_starts : (rs : List (Cell × ℤ)) (past : List Item) → NoRow past → NoRow (onto past (map start_item rs))
   no_row_starts [] past none = none
@@ -142,4 +142,4 @@ module _ (names : NameBook) (distinct : IsDistinct bytes_eq names.tables) where
 
   pub fresh_rows : (rs : List (Cell × ℤ)) (past : List Item) → NoRow past → Fresh is_row past rs
   fresh_rows [] past none = tt
-  fresh_rows (r ∷ rs) past none = (none (place_of names r.0), fresh_rows rs past none)
+  fresh_rows (r ∷ rs) past none = (none (row_key_of names r.0), fresh_rows rs past none)

@@ -14,7 +14,7 @@ pub mod Laws
 pub mod OrderLaw
 pub mod Orders
 pub mod Pieces
-pub mod Places
+pub mod RowKeys
 pub mod ReadLaw
 pub mod Reported
 pub mod RowLaw

@@ -8,7 +8,7 @@ use Rattle.teb_history.specs.declared.Event.{Event}
 use Rattle.teb_history.specs.Phases as history
 use Rattle.teb_rules.specs.Serializes.{In, Pairs, Serializes}
 use Rattle.teb_rules.specs.Setup.{Store}
-use Rattle.audit_check.specs.Items.{Item, Place}
+use Rattle.audit_check.specs.Items.{Item, RowKey}
 use Rattle.audit_check.specs.Items.Item.{Start, Began, Got, Put, Ready, Done, Gone, Told, Order, Row, End}
 use Rattle.audit_check.specs.Faults.{is_among, are_distinct, are_distinct_and, wrong_order}
 use Rattle.audit_check.specs.Standings.{committed, commits}
@@ -49,7 +49,7 @@ commits_in (Order us ∷ Q) t h = commits_in Q t h
 commits_in (Row x v ∷ Q) t h = commits_in Q t h
 commits_in (End ∷ Q) t h = commits_in Q t h
 
-module _ (names : NameBook) (starting rows : List (Place × ℤ)) (X : Store) (H : List Event) (order : List ℕ) (s : Serializes X H order) where
+module _ (names : NameBook) (starting rows : List (RowKey × ℤ)) (X : Store) (H : List Event) (order : List ℕ) (s : Serializes X H order) where
   abbrev W : List Item
   W = with_report rows order (items names starting H)
 

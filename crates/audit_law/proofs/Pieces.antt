@@ -12,8 +12,8 @@ use Rattle.teb_names.specs.declared.naming.NameBook.{NameBook}
 use Rattle.script_text.specs.Texts.{name_of, txn_text, value_text}
 use Rattle.teb_names.specs.Names.{is_name, is_name_byte, is_lower}
 use Rattle.script_text.specs.Ranges.{TxnFits, IntegerFits, ValueFits}
-use Rattle.audit_law.specs.Printed.{place_of}
-use Rattle.audit_check.specs.Reading.{txn_at, name_at, place_at, value_at, number_at, from_one}
+use Rattle.audit_law.specs.Printed.{row_key_of}
+use Rattle.audit_check.specs.Reading.{txn_at, name_at, row_key_at, value_at, number_at, from_one}
 use Rattle.audit_law.proofs.Words.{is_plain, is_word}
 use Rattle.audit_law.proofs.Digits.{natural_back, integer_back, first_is_digit, number_is_word, integer_is_word}
 
@@ -63,9 +63,9 @@ unfolding name_at
 name_back w h = rw h
 
 -- a cell
-pub place_back : (names : NameBook) (x : Cell) → is_name (name_of names.tables x.table.0) ≡ true → x.key < 2 ^ 32
-    → place_at (name_of names.tables x.table.0) (decimal x.key) ≡ Some (place_of names x)
-place_back names x named small = rw (name_back (name_of names.tables x.table.0) named, key_back x.key small)
+pub row_key_back : (names : NameBook) (x : Cell) → is_name (name_of names.tables x.table.0) ≡ true → x.key < 2 ^ 32
+    → row_key_at (name_of names.tables x.table.0) (decimal x.key) ≡ Some (row_key_of names x)
+row_key_back names x named small = rw (name_back (name_of names.tables x.table.0) named, key_back x.key small)
 
 -- a value
 not_none : (w : List ℕ) → (slice_index w 0 == 110) ≡ false → bytes_eq w (codes "none") ≡ false

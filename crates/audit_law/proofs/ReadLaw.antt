@@ -13,10 +13,10 @@ use Rattle.teb_history.specs.declared.Event.{Event}
 use Rattle.teb_history.specs.declared.Event.TheVariants as event
 use Rattle.teb_rules.specs.Replay as rule
 use Rattle.script_text.specs.Named.{CellNamed}
-use Rattle.audit_check.specs.Items.{Item, Place}
+use Rattle.audit_check.specs.Items.{Item, RowKey}
 use Rattle.audit_check.specs.Faults.{is_among, is_misread, same_value, wrong_read}
 use Rattle.audit_check.specs.Tables.{after_puts, before, table_before, order_in}
-use Rattle.audit_law.specs.Printed.{EventFits, place_of, event_item}
+use Rattle.audit_law.specs.Printed.{EventFits, row_key_of, event_item}
 use Rattle.audit_law.proofs.Agreement.{Agree, puts_agree}
 use Rattle.audit_law.proofs.Bridge.{items}
 use Rattle.audit_law.proofs.Suffixes.{Along}
@@ -41,20 +41,20 @@ reads_of H (s ∷ ss) T t right among = elim (cases_Bool (s == t)) [
       rw other (reads_of H ss (rule.after_puts H s T) t right.1 later)
 ]
 
-module _ (names : NameBook) (distinct : IsDistinct bytes_eq names.tables) (starting : List (Place × ℤ)) (W : List Item) (order : List ℕ) (is : order_in W ≡ order)
+module _ (names : NameBook) (distinct : IsDistinct bytes_eq names.tables) (starting : List (RowKey × ℤ)) (W : List Item) (order : List ℕ) (is : order_in W ≡ order)
     (T : rule.Values) (H : List Event) (begins : (t : ℕ) → Agree names distinct (table_before W t) (rule.table_after H (before t order) T)) where
   abbrev Right : List Event → Type 0
   Right P = (t : ℕ) → is_among order t ≡ true → rule.GotsRight P t (rule.table_after H (before t order) T)
 
   got_right : (P : List Event) (t u : ℕ) (x : Cell) (v : Option ℤ) → All (EventFits names) P → CellNamed names x
       → (is_among order t ≡ true → v ≡ rule.after_puts P t (rule.table_after H (before t order) T) x)
-      → (is_among (order_in W) t && is_misread (items names starting P) (table_before W t) t (place_of names x) v) ≡ false
+      → (is_among (order_in W) t && is_misread (items names starting P) (table_before W t) t (row_key_of names x) v) ≡ false
   got_right P t u x v fit named reads = elim (cases_Bool (is_among order t)) [
     | inl listed ↦
-        let held : after_puts (items names starting P) t (table_before W t) (place_of names x) ≡ v = (puts_agree names distinct starting P t (table_before W t) (rule.table_after H (before t order) T) fit (begins t)).each x named ∙ sym (reads listed) in
-        and_right (is_among (order_in W) t) (is_misread (items names starting P) (table_before W t) t (place_of names x) v)
-        (not_from_true (same_value (after_puts (items names starting P) t (table_before W t) (place_of names x)) v) (ap (λ w. same_value w v) held ∙ itself v))
-    | inr other ↦ and_left (is_among (order_in W) t) (is_misread (items names starting P) (table_before W t) t (place_of names x) v) (ap (λ ts. is_among ts t) is ∙ other)
+        let held : after_puts (items names starting P) t (table_before W t) (row_key_of names x) ≡ v = (puts_agree names distinct starting P t (table_before W t) (rule.table_after H (before t order) T) fit (begins t)).each x named ∙ sym (reads listed) in
+        and_right (is_among (order_in W) t) (is_misread (items names starting P) (table_before W t) t (row_key_of names x) v)
+        (not_from_true (same_value (after_puts (items names starting P) t (table_before W t) (row_key_of names x)) v) (ap (λ w. same_value w v) held ∙ itself v))
+    | inr other ↦ and_left (is_among (order_in W) t) (is_misread (items names starting P) (table_before W t) t (row_key_of names x) v) (ap (λ ts. is_among ts t) is ∙ other)
   ]
 
   pub reads_along : (P : List Event) → All (EventFits names) P → Right P → Along (λ Q e. wrong_read W (items names starting Q) (event_item names e) ≡ false) P

@@ -3,7 +3,7 @@ use Rattle.std.proofs.Common.{◌≡◌, Bool, false, List, [], ◌∷◌, None,
 use Rattle.std.specs.Prelude.{ℤ}
 use Rattle.teb_names.specs.declared.naming.NameBook.{NameBook}
 use Rattle.teb_history.specs.declared.Event.{Event}
-use Rattle.audit_check.specs.Items.{Item, Place}
+use Rattle.audit_check.specs.Items.{Item, RowKey}
 use Rattle.audit_check.specs.Items.Item.{Start}
 use Rattle.audit_check.specs.Audit.{first_line}
 use Rattle.audit_check.proofs.FirstLines.{first_more}
@@ -15,8 +15,8 @@ abbrev pub Along : (List Event → Event → Type 0) → List Event → Type 0
 Along P [] = Unit {0}
 Along P (e ∷ H) = P H e × Along P H
 
-module _ (names : NameBook) (rows : List (Place × ℤ)) (wrong : List Item → Item → Bool) (none : (past : List Item) (x : Place) (v : ℤ) → wrong past (Start x v) ≡ false) where
-  starts_none : (s : List (Place × ℤ)) → first_line wrong (starts s) ≡ None
+module _ (names : NameBook) (rows : List (RowKey × ℤ)) (wrong : List Item → Item → Bool) (none : (past : List Item) (x : RowKey) (v : ℤ) → wrong past (Start x v) ≡ false) where
+  starts_none : (s : List (RowKey × ℤ)) → first_line wrong (starts s) ≡ None
   unfolding first_line
   starts_none [] = refl
   starts_none (r ∷ s) = first_more wrong (starts s) (Start r.0 r.1) (starts_none s) (none (starts s) r.0 r.1)

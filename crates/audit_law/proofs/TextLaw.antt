@@ -17,7 +17,7 @@ use Rattle.script_text.specs.Ranges.{TxnFits}
 use Rattle.audit_check.specs.Items.{Item}
 use Rattle.audit_check.specs.Items.Item.{Start, Order, Row, End}
 use Rattle.audit_check.specs.Lines.{item_of}
-use Rattle.audit_law.specs.Printed.{AreNames, RowFits, EventFits, place_of, event_item}
+use Rattle.audit_law.specs.Printed.{AreNames, RowFits, EventFits, row_key_of, event_item}
 use Rattle.audit_law.proofs.Events.{event_line_back, start_line_back, row_line_back, order_line_back, end_line_back, event_are_words, row_are_words, txns_are_words}
 use Rattle.audit_law.proofs.Texts.{Say, are_words}
 
@@ -55,7 +55,7 @@ module _ (names : NameBook) (are : AreNames names) where
 
   abbrev pub items_said : List (Cell × ℤ) → List Event → List Txn → List (Cell × ℤ) → List Item
   items_said starts es order rows =
-      map (λ r. Start (place_of names r.0) r.1) starts ++ (map (event_item names) es ++ (Order (map (λ t. t.0) order) ∷ (map (λ r. Row (place_of names r.0) r.1) rows ++ End ∷ [])))
+      map (λ r. Start (row_key_of names r.0) r.1) starts ++ (map (event_item names) es ++ (Order (map (λ t. t.0) order) ∷ (map (λ r. Row (row_key_of names r.0) r.1) rows ++ End ∷ [])))
 
   module _ (starts : List (Cell × ℤ)) (es : List Event) (order : List Txn) (rows : List (Cell × ℤ))
       (sf : All (RowFits names) starts) (ef : All (EventFits names) es) (tf : All TxnFits order) (rf : All (RowFits names) rows) where
@@ -95,13 +95,13 @@ module _ (names : NameBook) (are : AreNames names) where
 
     said : Say joined (items_said starts es order rows)
     said =
-        say_append (map (λ r. join (start_words r)) starts) _ (map (λ r. Start (place_of names r.0) r.1) starts) _
-        (say_map (RowFits names) (λ r. join (start_words r)) (λ r. Start (place_of names r.0) r.1) (λ r h. start_line_back names are r.0 r.1 h) starts sf)
+        say_append (map (λ r. join (start_words r)) starts) _ (map (λ r. Start (row_key_of names r.0) r.1) starts) _
+        (say_map (RowFits names) (λ r. join (start_words r)) (λ r. Start (row_key_of names r.0) r.1) (λ r h. start_line_back names are r.0 r.1 h) starts sf)
         (say_append (map (λ e. join (event_words names e)) es) _ (map (event_item names) es) _
         (say_map (EventFits names) (λ e. join (event_words names e)) (event_item names) (event_line_back names are) es ef) (
           order_line_back order tf,
-          say_append (map (λ r. join (row_words r)) rows) _ (map (λ r. Row (place_of names r.0) r.1) rows) _
-              (say_map (RowFits names) (λ r. join (row_words r)) (λ r. Row (place_of names r.0) r.1) (λ r h. row_line_back names are r.0 r.1 h) rows rf)
+          say_append (map (λ r. join (row_words r)) rows) _ (map (λ r. Row (row_key_of names r.0) r.1) rows) _
+              (say_map (RowFits names) (λ r. join (row_words r)) (λ r. Row (row_key_of names r.0) r.1) (λ r h. row_line_back names are r.0 r.1 h) rows rf)
               (end_line_back, tt),
         ))
 

@@ -17,7 +17,7 @@ use Rattle.teb_laws.proofs.Nodes.{meet_is}
 use Rattle.teb_laws.proofs.Timeline.{kind-lt}
 use Rattle.teb_laws.proofs.VersionOrder.{precedes_at, orders_put, timestamp_is}
 use Rattle.phase_api.specs.declared.facts.Facts.{Facts}
-use Rattle.phase_api.specs.Told.{setup_of, events_of, IsTyped}
+use Rattle.phase_api.specs.FactsView.{setup_of, events_of, IsTyped}
 use Rattle.phase_api.specs.Calls.{IsPair}
 use Rattle.phase_api.specs.Versions.{has_version}
 use Rattle.candidate_reads.proofs.Shows.{version_parts}

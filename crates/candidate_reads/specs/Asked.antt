@@ -8,14 +8,14 @@ use Rattle.teb_laws.specs.TreeFacts.{TreeFacts}
 use Rattle.teb_laws.specs.Lawful.{Lawful}
 use Rattle.phase_api.specs.declared.facts.Facts.{Facts}
 use Rattle.phase_api.specs.Standing.{StandAll}
-use Rattle.phase_api.specs.Told.{setup_of, events_of, IsTyped}
+use Rattle.phase_api.specs.FactsView.{setup_of, events_of, IsTyped}
 use Rattle.phase_api.specs.Versions.{has_version}
 
 -- the tree is sound and the history lawful, and each control stands for them
-pub record AreAsked {K : Type 0} (place : K → ℕ) (stands : K → Setup → List Event → Type 0) (all : List K) (f : Facts) : Type 0 where
+pub record AreAsked {K : Type 0} (node_number : K → ℕ) (stands : K → Setup → List Event → Type 0) (all : List K) (f : Facts) : Type 0 where
   pub tree : TreeFacts (setup_of f)
   pub lawful : Lawful (setup_of f) (events_of f)
-  pub controls : StandAll place stands all (setup_of f) (events_of f)
+  pub controls : StandAll node_number stands all (setup_of f) (events_of f)
 
 -- t may put x, and has no version of it yet
 pub record MayPut (f : Facts) (t : ℕ) (x : Cell) : Type 0 where

@@ -5,16 +5,16 @@ ghost use Rattle.teb_rules.specs.Tree.{meets};
 ghost use Rattle.teb_laws.specs.TreeFacts.{TreeFacts};
 ghost use Rattle.teb_laws.specs.Lawful.{Lawful};
 ghost use Rattle.phase_api.specs.Standing.{StandAll};
-ghost use Rattle.phase_api.specs.Told.{setup_of, events_of, IsTyped};
+ghost use Rattle.phase_api.specs.FactsView.{setup_of, events_of, IsTyped};
 
 use phase_api::{Control, Facts};
 use teb_names::{Node, Txn};
 
 /// The control of a node, of the controls of all nodes.
 pub fn control_at<'a, K: Control>(controls: &'a [K], facts: &Facts, n: Node) -> &'a K
-    requires controls { StandAll K.place K.stands controls.now (setup_of facts.now) (events_of facts.now) }
+    requires controls { StandAll K.node_number K.stands controls.now (setup_of facts.now) (events_of facts.now) }
     requires node { n.0 < length (setup_of facts.now).tree }
-    ensures place { K.place result.now ≡ n.0 }
+    ensures node_number { K.node_number result.now ≡ n.0 }
     ensures stands { K.stands result.now (setup_of facts.now) (events_of facts.now) }
 {
     &controls[usize::from(n.0)]
@@ -24,12 +24,12 @@ pub fn control_at<'a, K: Control>(controls: &'a [K], facts: &Facts, n: Node) -> 
 pub fn control_between<'a, K: Control>(controls: &'a [K], facts: &Facts, t: Txn, u: Txn) -> &'a K
     requires tree { TreeFacts (setup_of facts.now) }
     requires lawful { Lawful (setup_of facts.now) (events_of facts.now) }
-    requires controls { StandAll K.place K.stands controls.now (setup_of facts.now) (events_of facts.now) }
+    requires controls { StandAll K.node_number K.stands controls.now (setup_of facts.now) (events_of facts.now) }
     requires left { IsTyped facts.now t.0 }
     requires right { IsTyped facts.now u.0 }
     requires differ { t.0 ≢ u.0 }
-    ensures node { K.place result.now < length (setup_of facts.now).tree }
-    ensures meet { IsTrue (meets (setup_of facts.now) (events_of facts.now) (K.place result.now) t.0 u.0) }
+    ensures node { K.node_number result.now < length (setup_of facts.now).tree }
+    ensures meet { IsTrue (meets (setup_of facts.now) (events_of facts.now) (K.node_number result.now) t.0 u.0) }
     ensures stands { K.stands result.now (setup_of facts.now) (events_of facts.now) }
 {
     let (Some(a), Some(b)) = (facts.spot(t), facts.spot(u)) else {

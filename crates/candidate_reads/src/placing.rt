@@ -6,7 +6,7 @@ ghost use Rattle.teb_rules.specs.Versions.{precedes};
 ghost use Rattle.teb_laws.specs.TreeFacts.{TreeFacts};
 ghost use Rattle.teb_laws.specs.Lawful.{Lawful};
 ghost use Rattle.version_chain.specs.Lists.{writers_of, is_writer, last_place};
-ghost use Rattle.phase_api.specs.Told.{setup_of, events_of, IsTyped};
+ghost use Rattle.phase_api.specs.FactsView.{setup_of, events_of, IsTyped};
 ghost use Rattle.phase_api.specs.Calls.{Writes};
 ghost use Rattle.phase_api.specs.Versions.{HoldsVersions, IsPlaceOf, has_version};
 ghost use Rattle.phase_api.specs.Standing.{StandAll};
@@ -28,7 +28,7 @@ pub fn place_of<K: Control, C: Chains>(
 ) -> usize
     requires tree { TreeFacts (setup_of facts.now) }
     requires lawful { Lawful (setup_of facts.now) (events_of facts.now) }
-    requires controls { StandAll K.place K.stands controls.now (setup_of facts.now) (events_of facts.now) }
+    requires controls { StandAll K.node_number K.stands controls.now (setup_of facts.now) (events_of facts.now) }
     requires chains { HoldsVersions (setup_of facts.now) (events_of facts.now) (C.lists chains.now) }
     requires typed { IsTyped facts.now t.0 }
     requires kept { IsFalse (aborted (events_of facts.now) t.0) }
@@ -58,7 +58,7 @@ fn last_before<K: Control, C: Chains>(
     t: Txn,
     cell: Cell,
 ) -> Option<usize>
-    requires asked { AreAsked K.place K.stands controls.now facts.now }
+    requires asked { AreAsked K.node_number K.stands controls.now facts.now }
     requires chains { HoldsVersions (setup_of facts.now) (events_of facts.now) (C.lists chains.now) }
     requires put { MayPut facts.now t.0 cell }
     ensures { result ≡ last_place (λ w. precedes (setup_of facts.now) (events_of facts.now) cell w t.0) (writers_of (C.lists chains.now cell)) }
@@ -68,7 +68,7 @@ fn last_before<K: Control, C: Chains>(
 
 // Whether the version of w is before the one that t is about to put. It costs the same, however much w has done.
 fn is_before<K: Control>(controls: &[K], facts: &Facts, w: Txn, t: Txn, cell: Cell) -> bool
-    requires asked { AreAsked K.place K.stands controls.now facts.now }
+    requires asked { AreAsked K.node_number K.stands controls.now facts.now }
     requires put { MayPut facts.now t.0 cell }
     requires version { IsTrue (has_version (events_of facts.now) cell w.0) }
     ensures { result ≡ precedes (setup_of facts.now) (events_of facts.now) cell w.0 t.0 }

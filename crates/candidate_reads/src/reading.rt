@@ -6,7 +6,7 @@ ghost use Rattle.teb_rules.specs.Versions.{read, sees};
 ghost use Rattle.teb_laws.specs.TreeFacts.{TreeFacts};
 ghost use Rattle.teb_laws.specs.Lawful.{Lawful};
 ghost use Rattle.version_chain.specs.Lists.{writers_of, last_place};
-ghost use Rattle.phase_api.specs.Told.{setup_of, events_of, IsTyped};
+ghost use Rattle.phase_api.specs.FactsView.{setup_of, events_of, IsTyped};
 ghost use Rattle.phase_api.specs.Versions.{HoldsVersions, has_version};
 ghost use Rattle.phase_api.specs.Standing.{StandAll};
 ghost use Rattle.candidate_reads.specs.Asked.{AreAsked, ReadsOthers};
@@ -28,7 +28,7 @@ pub fn read<K: Control, C: Chains>(
 ) -> (Txn, Option<i64>)
     requires tree { TreeFacts (setup_of facts.now) }
     requires lawful { Lawful (setup_of facts.now) (events_of facts.now) }
-    requires controls { StandAll K.place K.stands controls.now (setup_of facts.now) (events_of facts.now) }
+    requires controls { StandAll K.node_number K.stands controls.now (setup_of facts.now) (events_of facts.now) }
     requires chains { HoldsVersions (setup_of facts.now) (events_of facts.now) (C.lists chains.now) }
     requires typed { IsTyped facts.now t.0 }
     requires kept { IsFalse (aborted (events_of facts.now) t.0) }
@@ -53,7 +53,7 @@ fn last_seen<K: Control, C: Chains>(
     t: Txn,
     cell: Cell,
 ) -> Option<usize>
-    requires asked { AreAsked K.place K.stands controls.now facts.now }
+    requires asked { AreAsked K.node_number K.stands controls.now facts.now }
     requires chains { HoldsVersions (setup_of facts.now) (events_of facts.now) (C.lists chains.now) }
     requires reads { ReadsOthers facts.now t.0 cell }
     ensures { result ≡ last_place (sees (setup_of facts.now) (events_of facts.now) cell t.0) (writers_of (C.lists chains.now cell)) }
@@ -63,7 +63,7 @@ fn last_seen<K: Control, C: Chains>(
 
 // Whether t sees the version of the writer w, which the node where the two meet tells.
 fn is_seen<K: Control>(controls: &[K], facts: &Facts, t: Txn, w: Txn, cell: Cell) -> bool
-    requires asked { AreAsked K.place K.stands controls.now facts.now }
+    requires asked { AreAsked K.node_number K.stands controls.now facts.now }
     requires reads { ReadsOthers facts.now t.0 cell }
     requires version { IsTrue (has_version (events_of facts.now) cell w.0) }
     ensures { result ≡ sees (setup_of facts.now) (events_of facts.now) cell t.0 w.0 }

@@ -3,7 +3,7 @@
 ghost use Rattle.std.specs.Prelude.{◌≡◌, ℕ, IsTrue, IsFalse};
 ghost use Rattle.teb_history.specs.Phases.{aborted};
 ghost use Rattle.version_chain.specs.Lists.{writers_of, last_place};
-ghost use Rattle.phase_api.specs.Told.{setup_of, events_of, IsTyped};
+ghost use Rattle.phase_api.specs.FactsView.{setup_of, events_of, IsTyped};
 ghost use Rattle.phase_api.specs.Versions.{HoldsVersions, has_version};
 ghost use Rattle.candidate_reads.specs.Shown.{shows, later};
 
@@ -24,7 +24,7 @@ pub fn candidate<K: Control, C: Chains>(
     requires chains { HoldsVersions (setup_of facts.now) (events_of facts.now) (C.lists chains.now) }
     requires typed { IsTyped facts.now t.0 }
     requires kept { IsFalse (aborted (events_of facts.now) t.0) }
-    ensures { result ≡ last_place (shows (setup_of facts.now) (events_of facts.now) (K.place leaf.now) cell t.0) (writers_of (C.lists chains.now cell)) }
+    ensures { result ≡ last_place (shows (setup_of facts.now) (events_of facts.now) (K.node_number leaf.now) cell t.0) (writers_of (C.lists chains.now cell)) }
 {
     chains.last_where(cell, &|w: Txn| is_shown(leaf, facts, t, w, cell))
 }
@@ -44,7 +44,7 @@ pub fn amend<K: Control, C: Chains>(
     requires chains { HoldsVersions (setup_of facts.now) (events_of facts.now) (C.lists chains.now) }
     requires typed { IsTyped facts.now t.0 }
     requires kept { IsFalse (aborted (events_of facts.now) t.0) }
-    ensures { result ≡ later candidate (last_place (shows (setup_of facts.now) (events_of facts.now) (K.place node.now) cell t.0) (writers_of (C.lists chains.now cell))) }
+    ensures { result ≡ later candidate (last_place (shows (setup_of facts.now) (events_of facts.now) (K.node_number node.now) cell t.0) (writers_of (C.lists chains.now cell))) }
 {
     let above = candidate.map_or(0, |i| i.saturating_add(1));
     chains
@@ -59,7 +59,7 @@ fn is_shown<K: Control>(node: &K, facts: &Facts, t: Txn, w: Txn, cell: Cell) -> 
     requires typed { IsTyped facts.now t.0 }
     requires kept { IsFalse (aborted (events_of facts.now) t.0) }
     requires version { IsTrue (has_version (events_of facts.now) cell w.0) }
-    ensures { result ≡ shows (setup_of facts.now) (events_of facts.now) (K.place node.now) cell t.0 w.0 }
+    ensures { result ≡ shows (setup_of facts.now) (events_of facts.now) (K.node_number node.now) cell t.0 w.0 }
 {
     facts.meet_at(node.node(), t, w) && node.sees(facts, t, w, cell)
 }

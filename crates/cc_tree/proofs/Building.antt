@@ -14,7 +14,7 @@ use Rattle.cc_tree.specs.Grown.{Grown, kind_numbers, row_of, rows_of}
 use Rattle.cc_tree.specs.Homes.{part_lists, part_paths, spot_of}
 use Rattle.cc_tree.specs.Sound.{IsAccepted}
 use Rattle.cc_tree.specs.Stored.{IsStored, grown, path_among, paths_of}
-use Rattle.cc_tree.proofs.Facts.{setup_of, sound_of}
+use Rattle.cc_tree.proofs.Facts.{setup_of_tree, sound_of}
 use Rattle.cc_tree.proofs.Parts.{get_map, length_below, path_of_part}
 
 among_under : (ks : List Kind) (types k : ℕ) → All (λ j. j.0 < types) ks → among k (kind_numbers ks) ≡ true → k < types
@@ -56,7 +56,7 @@ accepted_rows rs types a e =
       faultless = e;
       parts = p;
       batches = each_row (λ r. (1 ≤ r.batch) × (r.batch ≤ 1024)) rs a.batches;
-      parents = (tree_facts (setup_of T) s).parents;
+      parents = (tree_facts (setup_of_tree T) s).parents;
       kinds = λ m k l i. each_row (λ r. among k r.types ≡ true → k < types) rs (λ j d h. among_under (get_or rs j d).types.items types k (a.kinds j d h)) m l i;
     }
 

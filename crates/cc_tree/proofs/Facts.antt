@@ -9,14 +9,14 @@ use Rattle.cc_tree.specs.Grown.{Grown}
 use Rattle.cc_tree.specs.Sound.{IsAccepted}
 
 -- a setup with this tree
-abbrev pub setup_of : Grown → Setup
-setup_of T = record { types = T.types; profiles = []; tree = T.rows }
+abbrev pub setup_of_tree : Grown → Setup
+setup_of_tree T = record { types = T.types; profiles = []; tree = T.rows }
 
-no_profiles : (T : Grown) → HasProfiles (setup_of T)
+no_profiles : (T : Grown) → HasProfiles (setup_of_tree T)
 no_profiles T = record { filled = λ k i h l. absurd (omega arith) }
 
-pub sound_of : (T : Grown) → 0 < length T.rows → ((n : ℕ) → n < length T.rows → (row T.rows n).part < (row T.rows n).parts) → tree_fault T.rows T.types ≡ None → IsSound (setup_of T)
+pub sound_of : (T : Grown) → 0 < length T.rows → ((n : ℕ) → n < length T.rows → (row T.rows n).part < (row T.rows n).parts) → tree_fault T.rows T.types ≡ None → IsSound (setup_of_tree T)
 sound_of T some parts faultless = record { some = some; parts = parts; accepted = faultless; profiles = no_profiles T }
 
-pub facts_of : (T : Grown) → IsAccepted T → TreeFacts (setup_of T)
-facts_of T a = tree_facts (setup_of T) (sound_of T a.some a.parts a.faultless)
+pub facts_of : (T : Grown) → IsAccepted T → TreeFacts (setup_of_tree T)
+facts_of T a = tree_facts (setup_of_tree T) (sound_of T a.some a.parts a.faultless)

@@ -12,7 +12,7 @@ use Rattle.teb_laws.proofs.Meeting.{Parting, parting, path_good, no_child, head_
 use Rattle.cc_tree.specs.Grown.{Grown}
 use Rattle.cc_tree.specs.Meets.{last_shared, IsLowest, IsMeet}
 use Rattle.cc_tree.specs.Sound.{IsAccepted}
-use Rattle.cc_tree.proofs.Facts.{setup_of, facts_of}
+use Rattle.cc_tree.proofs.Facts.{setup_of_tree, facts_of}
 use Rattle.cc_tree.proofs.Paths.{next_split, path_within}
 
 -- what two lists share in front is shared
@@ -31,11 +31,11 @@ parts_at S above p q r = rw (r.is_left, r.is_right) (shared_front above r.node r
 ])
 
 -- the two paths, and where they part
-pub part_of : (T : Grown) → IsAccepted T → (a b : Spot) → a.kind.0 < T.types → b.kind.0 < T.types → Parting (setup_of T) (path T.rows a) (path T.rows b)
-part_of T g a b ha hb = parting (setup_of T) (path T.rows a) (path T.rows b) (path_good (setup_of T) (facts_of T g) a ha).rooted (path_good (setup_of T) (facts_of T g) b hb).rooted
+pub part_of : (T : Grown) → IsAccepted T → (a b : Spot) → a.kind.0 < T.types → b.kind.0 < T.types → Parting (setup_of_tree T) (path T.rows a) (path T.rows b)
+part_of T g a b ha hb = parting (setup_of_tree T) (path T.rows a) (path T.rows b) (path_good (setup_of_tree T) (facts_of T g) a ha).rooted (path_good (setup_of_tree T) (facts_of T g) b hb).rooted
 
 -- two transactions are on different sides of the node where their paths part
-sides_differ : (T : Grown) (g : IsAccepted T) (a b : Spot) (ha : a.kind.0 < T.types) (hb : b.kind.0 < T.types) (r : Parting (setup_of T) (path T.rows a) (path T.rows b)) (t u : ℕ) → t ≢ u → side_at T.rows r.node a t ≢ side_at T.rows r.node b u
+sides_differ : (T : Grown) (g : IsAccepted T) (a b : Spot) (ha : a.kind.0 < T.types) (hb : b.kind.0 < T.types) (r : Parting (setup_of_tree T) (path T.rows a) (path T.rows b)) (t u : ℕ) → t ≢ u → side_at T.rows r.node a t ≢ side_at T.rows r.node b u
 unfolding side_at head_or
 sides_differ T g a b ha hb r t u ne e =
     let f = facts_of T g in
@@ -43,9 +43,9 @@ sides_differ T g a b ha hb r t u ne e =
     elim r.part [
       | inl q ↦ ne (sym (ap (head_or t) q.0) ∙ e2 ∙ ap (head_or u) q.1)
       | inr o ↦ elim o [
-        | inl q ↦ no_child (setup_of T) f a b r.node q.1.0 r.front q.1.1 ha hb (r.is_left ∙ ap (λ (z : List ℕ). r.front ++ r.node ∷ z) q.0) (r.is_right ∙ ap (λ (z : List ℕ). r.front ++ r.node ∷ z) q.1.2)
+        | inl q ↦ no_child (setup_of_tree T) f a b r.node q.1.0 r.front q.1.1 ha hb (r.is_left ∙ ap (λ (z : List ℕ). r.front ++ r.node ∷ z) q.0) (r.is_right ∙ ap (λ (z : List ℕ). r.front ++ r.node ∷ z) q.1.2)
         | inr o2 ↦ elim o2 [
-          | inl q ↦ no_child (setup_of T) f b a r.node q.0.0 r.front q.0.1 hb ha (r.is_right ∙ ap (λ (z : List ℕ). r.front ++ r.node ∷ z) q.1) (r.is_left ∙ ap (λ (z : List ℕ). r.front ++ r.node ∷ z) q.0.2)
+          | inl q ↦ no_child (setup_of_tree T) f b a r.node q.0.0 r.front q.0.1 hb ha (r.is_right ∙ ap (λ (z : List ℕ). r.front ++ r.node ∷ z) q.1) (r.is_left ∙ ap (λ (z : List ℕ). r.front ++ r.node ∷ z) q.0.2)
           | inr q ↦ q.6 (sym (ap (head_or t) q.4) ∙ e2 ∙ ap (head_or u) q.5)
         ]
       ]
@@ -59,7 +59,7 @@ unfolding on_path
 on_at T s n xs ls e = rw e (among_middle n xs ls)
 
 -- it is the lowest node on both paths
-pub lowest_of : (T : Grown) (g : IsAccepted T) (a b : Spot) → a.kind.0 < T.types → b.kind.0 < T.types → (r : Parting (setup_of T) (path T.rows a) (path T.rows b)) → IsLowest T.rows a b r.node
+pub lowest_of : (T : Grown) (g : IsAccepted T) (a b : Spot) → a.kind.0 < T.types → b.kind.0 < T.types → (r : Parting (setup_of_tree T) (path T.rows a) (path T.rows b)) → IsLowest T.rows a b r.node
 lowest_of T g a b ha hb r =
     let f = facts_of T g in
     let on_a = on_at T.rows a r.node r.front r.left r.is_left in
@@ -67,11 +67,11 @@ lowest_of T g a b ha hb r =
     record {
       on_first = on_a;
       on_second = on_b;
-      lowest = λ m i j. elim (comparable (setup_of T) f a m r.node ha i on_a) [
-        | inl e ↦ rw (e, way_front (setup_of T) f r.node) (among_middle r.node (front_of (setup_of T) f r.node) [])
+      lowest = λ m i j. elim (comparable (setup_of_tree T) f a m r.node ha i on_a) [
+        | inl e ↦ rw (e, way_front (setup_of_tree T) f r.node) (among_middle r.node (front_of (setup_of_tree T) f r.node) [])
         | inr o ↦ elim o [
-          | inl k ↦ rw (way_front (setup_of T) f r.node) (among-append_left m (front_of (setup_of T) f r.node) (r.node ∷ []) k)
-          | inr k ↦ absurd (sides_differ T g a b ha hb r 0 1 (λ e. absurd (cc)) ((above_kinds (setup_of T) f m r.node a b ha hb i j k).1 0 1))
+          | inl k ↦ rw (way_front (setup_of_tree T) f r.node) (among-append_left m (front_of (setup_of_tree T) f r.node) (r.node ∷ []) k)
+          | inr k ↦ absurd (sides_differ T g a b ha hb r 0 1 (λ e. absurd (cc)) ((above_kinds (setup_of_tree T) f m r.node a b ha hb i j k).1 0 1))
         ]
       ];
     }
@@ -81,7 +81,7 @@ find_first p n [] ls f h = rw h refl
 find_first p n (x ∷ xs) ls f h = rw (f x (or_left (eqb x x) (among x xs) (eq-eqb x x refl))) (find_first p n xs ls (λ m i. f m (or_right (eqb x m) (among m xs) i)) h)
 
 -- for any setup with this tree
-of_tree : (T : Grown) (g : IsAccepted T) (a b : Spot) → a.kind.0 < T.types → b.kind.0 < T.types → (r : Parting (setup_of T) (path T.rows a) (path T.rows b)) → (S : Setup) (H : List Event) (t u : ℕ) → S.tree ≡ T.rows → spot_of H t ≡ a → spot_of H u ≡ b → t ≢ u → find (λ n. meets S H n t u) (path S.tree (spot_of H t)) ≡ Some r.node
+of_tree : (T : Grown) (g : IsAccepted T) (a b : Spot) → a.kind.0 < T.types → b.kind.0 < T.types → (r : Parting (setup_of_tree T) (path T.rows a) (path T.rows b)) → (S : Setup) (H : List Event) (t u : ℕ) → S.tree ≡ T.rows → spot_of H t ≡ a → spot_of H u ≡ b → t ≢ u → find (λ n. meets S H n t u) (path S.tree (spot_of H t)) ≡ Some r.node
 unfolding on side on_path side_at
 of_tree T g a b ha hb r S H t u tree st su ne =
     let ea : path S.tree (spot_of H t) ≡ path T.rows a = ap (λ (z : List NodeRow). path z (spot_of H t)) tree ∙ ap (path T.rows) st in
@@ -94,7 +94,7 @@ of_tree T g a b ha hb r S H t u tree st su ne =
     (λ e. sides_differ T g a b ha hb r t u ne (ap (next_of r.node t) (sym ea) ∙ e ∙ ap (next_of r.node u) eb))))
 
 -- two different transactions with these spots meet there
-pub meet_of : (T : Grown) (g : IsAccepted T) (a b : Spot) → a.kind.0 < T.types → b.kind.0 < T.types → (r : Parting (setup_of T) (path T.rows a) (path T.rows b)) → IsMeet T.rows a b r.node
+pub meet_of : (T : Grown) (g : IsAccepted T) (a b : Spot) → a.kind.0 < T.types → b.kind.0 < T.types → (r : Parting (setup_of_tree T) (path T.rows a) (path T.rows b)) → IsMeet T.rows a b r.node
 unfolding meet
 meet_of T g a b ha hb r S H t u tree st su ne = ap (λ (o : Option ℕ). unwrap_or o 255) (of_tree T g a b ha hb r S H t u tree st su ne)
 
@@ -108,6 +108,6 @@ pub found : (T : Grown) (g : IsAccepted T) (a b : Spot) → a.kind.0 < T.types �
 unfolding on_path
 found T g a b ha hb xs ys above n ex ey e =
     let r = part_of T g a b ha hb in
-    let z : r.node ≡ n = sym (e ∙ ap (λ (z : List ℕ). last_shared above z ys) ex ∙ ap (last_shared above (path T.rows a)) ey ∙ parts_at (setup_of T) above (path T.rows a) (path T.rows b) r) in
+    let z : r.node ≡ n = sym (e ∙ ap (λ (z : List ℕ). last_shared above z ys) ex ∙ ap (last_shared above (path T.rows a)) ey ∙ parts_at (setup_of_tree T) above (path T.rows a) (path T.rows b) r) in
     let l = lowest_of T g a b ha hb r in
     subst (Found T a b) z (record { lowest = l; meet = meet_of T g a b ha hb r; within = path_within T g a ha r.node l.on_first })

@@ -14,17 +14,17 @@ use Rattle.cc_tree.specs.Grown.{Grown}
 use Rattle.cc_tree.specs.Homes.{parts_of, part_paths, spot_of}
 use Rattle.cc_tree.specs.Sound.{IsAccepted}
 use Rattle.cc_tree.specs.Stored.{path_among}
-use Rattle.cc_tree.proofs.Facts.{setup_of, sound_of, facts_of}
+use Rattle.cc_tree.proofs.Facts.{setup_of_tree, sound_of, facts_of}
 
 -- two homes of a type have the same number of parts
 same_parts : (T : Grown) → IsAccepted T → (k m n : ℕ) → m < length T.rows → n < length T.rows → among k (row T.rows m).types ≡ true → among k (row T.rows n).types ≡ true → (row T.rows m).parts ≡ (row T.rows n).parts
 same_parts T a k m n hm hn im in_n =
     let s = sound_of T a.some a.parts a.faultless in
     elim (cases_lt m n) [
-      | inl l ↦ (apart_of (setup_of T) s k m n l hn im in_n).parts
+      | inl l ↦ (apart_of (setup_of_tree T) s k m n l hn im in_n).parts
       | inr l ↦ elim (cases_eq m n) [
         | inl e ↦ ap (λ (z : ℕ). (row T.rows z).parts) e
-        | inr e ↦ (let l2 : n < m = omega arith in sym (apart_of (setup_of T) s k n m l2 hm in_n im).parts)
+        | inr e ↦ (let l2 : n < m = omega arith in sym (apart_of (setup_of_tree T) s k n m l2 hm in_n im).parts)
       ]
     ]
 

@@ -15,7 +15,7 @@ use Rattle.teb_laws.proofs.Serial.{path_leaf, end_of}
 use Rattle.teb_rules.specs.Serializes.{Pairs}
 use Rattle.cc_tree.specs.Grown.{Grown, node_numbers, side_number}
 use Rattle.cc_tree.specs.Sound.{IsAccepted}
-use Rattle.cc_tree.proofs.Facts.{setup_of, facts_of}
+use Rattle.cc_tree.proofs.Facts.{setup_of_tree, facts_of}
 
 -- a node is in a list of nodes where its number is among theirs
 pub among_numbers : (n : Node) (ns : List Node) → among n.0 (node_numbers ns) ≡ list_any (λ m. eqb m.0 n.0) ns
@@ -27,9 +27,9 @@ pub path_within : (T : Grown) → IsAccepted T → (s : Spot) → s.kind.0 < T.t
 path_within T a s h m i =
     let f = facts_of T a in
     let l = (f.housed s h).0 in
-    let j = subst (λ (xs : List ℕ). among m xs ≡ true) (path_leaf (setup_of T) f s h) i in
-    elim (among-cases m (front_of (setup_of T) f (leaf T.rows s)) (leaf T.rows s ∷ []) j) [
-      | inl k ↦ (let z = front-less (setup_of T) f (leaf T.rows s) m k in omega arith)
+    let j = subst (λ (xs : List ℕ). among m xs ≡ true) (path_leaf (setup_of_tree T) f s h) i in
+    elim (among-cases m (front_of (setup_of_tree T) f (leaf T.rows s)) (leaf T.rows s ∷ []) j) [
+      | inl k ↦ (let z = front-less (setup_of_tree T) f (leaf T.rows s) m k in omega arith)
       | inr k ↦ elim (or_cases (eqb (leaf T.rows s) m) false k) [ inl e ↦ (let z = eqb-true (leaf T.rows s) m e in omega arith) | inr q ↦ absurd (cc) ]
     ]
 
@@ -63,26 +63,26 @@ child_within T a s h n m f =
 -- behind n on a path comes what stands there, or else the own side
 pub next_split : (T : Grown) → IsAccepted T → (s : Spot) → s.kind.0 < T.types → (n : ℕ) (xs ls : List ℕ) → path T.rows s ≡ xs ++ n ∷ ls → (own : ℕ) → next_of n own (path T.rows s) ≡ head_or own ls
 next_split T a s h n xs ls e own =
-    let g = path_good (setup_of T) (facts_of T a) s h in
+    let g = path_good (setup_of_tree T) (facts_of T a) s h in
     let r : Pairs (λ a b. a < b) (xs ++ n ∷ ls) = subst (λ (z : List ℕ). Pairs (λ a b. a < b) z) e g.rising in
     ap (next_of n own) e ∙ next_at n own xs ls (rising_front xs n ls r)
 
 -- behind the leaf comes the own side
 pub side_leaf : (T : Grown) → IsAccepted T → (s : Spot) → s.kind.0 < T.types → (n own : ℕ) → n ≡ leaf T.rows s → next_of n own (path T.rows s) ≡ own
 unfolding head_or
-side_leaf T a s h n own e = ap (λ (z : ℕ). next_of z own (path T.rows s)) e ∙ next_split T a s h (leaf T.rows s) (front_of (setup_of T) (facts_of T a) (leaf T.rows s)) [] (path_leaf (setup_of T) (facts_of T a) s h) own
+side_leaf T a s h n own e = ap (λ (z : ℕ). next_of z own (path T.rows s)) e ∙ next_split T a s h (leaf T.rows s) (front_of (setup_of_tree T) (facts_of T a) (leaf T.rows s)) [] (path_leaf (setup_of_tree T) (facts_of T a) s h) own
 
 -- only behind the leaf
 pub leaf_side : (T : Grown) → IsAccepted T → (s : Spot) → s.kind.0 < T.types → (n : ℕ) → on_path T.rows n s ≡ true → ((own : ℕ) → next_of n own (path T.rows s) ≡ own) → n ≡ leaf T.rows s
 unfolding head_or
 leaf_side T a s h n on f =
     let t = facts_of T a in
-    let p = path_through (setup_of T) t s n h on in
+    let p = path_through (setup_of_tree T) t s n h on in
     go p.0 p.1
   where
-    go : (ls : List ℕ) → path T.rows s ≡ front_of (setup_of T) (facts_of T a) n ++ n ∷ ls → n ≡ leaf T.rows s
-    go [] e = sym (end_is n (front_of (setup_of T) (facts_of T a) n)) ∙ ap end_of (sym e ∙ path_leaf (setup_of T) (facts_of T a) s h) ∙ end_is (leaf T.rows s) (front_of (setup_of T) (facts_of T a) (leaf T.rows s))
-    go (l ∷ ls) e = let q : l ≡ suc l = sym (next_split T a s h n (front_of (setup_of T) (facts_of T a) n) (l ∷ ls) e (suc l)) ∙ f (suc l) in absurd (omega arith)
+    go : (ls : List ℕ) → path T.rows s ≡ front_of (setup_of_tree T) (facts_of T a) n ++ n ∷ ls → n ≡ leaf T.rows s
+    go [] e = sym (end_is n (front_of (setup_of_tree T) (facts_of T a) n)) ∙ ap end_of (sym e ∙ path_leaf (setup_of_tree T) (facts_of T a) s h) ∙ end_is (leaf T.rows s) (front_of (setup_of_tree T) (facts_of T a) (leaf T.rows s))
+    go (l ∷ ls) e = let q : l ≡ suc l = sym (next_split T a s h n (front_of (setup_of_tree T) (facts_of T a) n) (l ∷ ls) e (suc l)) ∙ f (suc l) in absurd (omega arith)
 
 -- the answer of `side` is none exactly at the leaf
 pub none_at_leaf : (T : Grown) → IsAccepted T → (s : Spot) → s.kind.0 < T.types → (n : ℕ) → on_path T.rows n s ≡ true → (r : Option Node) → ((own : ℕ) → side_number r own ≡ next_of n own (path T.rows s)) → (r ≡ None) ↔ (n ≡ leaf T.rows s)

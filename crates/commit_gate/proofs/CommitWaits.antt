@@ -16,7 +16,7 @@ use Rattle.teb_laws.specs.Lawful.{Lawful}
 use Rattle.teb_laws.proofs.Timeline.{kind-lt}
 use Rattle.teb_laws.proofs.Within.{path-below}
 use Rattle.phase_api.specs.declared.facts.Facts.{Facts}
-use Rattle.phase_api.specs.Told.{setup_of, events_of, IsTyped}
+use Rattle.phase_api.specs.FactsView.{setup_of, events_of, IsTyped}
 use Rattle.dependency_book.specs.Dependencies.{all_sources}
 use Rattle.dependency_book.specs.Books.{Lists, BookOf, sources_in}
 use Rattle.dependency_book.proofs.OrderlyHistories.{unfinished_parts, known}

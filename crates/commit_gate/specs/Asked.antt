@@ -7,13 +7,13 @@ use Rattle.teb_rules.specs.Accepted.{IsSound}
 use Rattle.teb_laws.specs.Lawful.{Lawful}
 use Rattle.phase_api.specs.declared.facts.Facts.{Facts}
 use Rattle.phase_api.specs.Standing.{StandAll}
-use Rattle.phase_api.specs.Told.{setup_of, events_of}
+use Rattle.phase_api.specs.FactsView.{setup_of, events_of}
 use Rattle.dependency_book.specs.Books.{Lists, BookOf}
 
 -- the setup is sound and the history lawful, each control and the book stand for them, and t is unfinished
-pub record IsAsked {K : Type 0} (place : K → ℕ) (stands : K → Setup → List Event → Type 0) (all : List K) (lists : Lists) (f : Facts) (t : ℕ) : Type 0 where
+pub record IsAsked {K : Type 0} (node_number : K → ℕ) (stands : K → Setup → List Event → Type 0) (all : List K) (lists : Lists) (f : Facts) (t : ℕ) : Type 0 where
   pub tree : IsSound (setup_of f)
   pub lawful : Lawful (setup_of f) (events_of f)
-  pub controls : StandAll place stands all (setup_of f) (events_of f)
+  pub controls : StandAll node_number stands all (setup_of f) (events_of f)
   pub book : BookOf lists (events_of f)
   pub unfinished : IsTrue (unfinished (events_of f) t)

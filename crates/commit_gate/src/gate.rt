@@ -8,7 +8,7 @@ ghost use Rattle.teb_laws.specs.Lawful.{Lawful};
 ghost use Rattle.cc_tree.specs.Grown.{node_numbers};
 ghost use Rattle.phase_api.specs.Calls.{IsHere};
 ghost use Rattle.phase_api.specs.Standing.{StandAll};
-ghost use Rattle.phase_api.specs.Told.{setup_of, events_of};
+ghost use Rattle.phase_api.specs.FactsView.{setup_of, events_of};
 ghost use Rattle.dependency_book.specs.Books.{BookOf};
 ghost use Rattle.commit_gate.specs.Asked.{IsAsked};
 ghost use Rattle.commit_gate.specs.Ways.{IsWay, first_wait};
@@ -24,7 +24,7 @@ use teb_rules::{Stop, Verdict};
 pub fn may_commit<K: Control>(controls: &[K], book: &Book, facts: &Facts, t: Txn) -> Stop
     requires tree { IsSound (setup_of facts.now) }
     requires lawful { Lawful (setup_of facts.now) (events_of facts.now) }
-    requires controls { StandAll K.place K.stands controls.now (setup_of facts.now) (events_of facts.now) }
+    requires controls { StandAll K.node_number K.stands controls.now (setup_of facts.now) (events_of facts.now) }
     requires book { BookOf book.now.lists (events_of facts.now) }
     requires unfinished { IsTrue (unfinished (events_of facts.now) t.0) }
     ensures { result ≡ commit_stop (setup_of facts.now) (events_of facts.now) t.0 }
@@ -38,7 +38,7 @@ pub fn may_commit<K: Control>(controls: &[K], book: &Book, facts: &Facts, t: Txn
 // The stop along the nodes of a way down.
 #[tactic(auto, unfolding(teb_rules::specs::Stops::stop_of))]
 fn stop_along<K: Control>(way: &[Node], controls: &[K], book: &Book, facts: &Facts, t: Txn) -> Stop
-    requires asked { IsAsked K.place K.stands controls.now book.now.lists facts.now t.0 }
+    requires asked { IsAsked K.node_number K.stands controls.now book.now.lists facts.now t.0 }
     requires way { IsWay facts.now t.0 (node_numbers way.now) }
     ensures { result ≡ stop_of (on_commit (setup_of facts.now) (events_of facts.now) t.0) (node_numbers way.now) }
 {
@@ -54,7 +54,7 @@ fn stop_along<K: Control>(way: &[Node], controls: &[K], book: &Book, facts: &Fac
 
 // What one node of t's path says.
 fn verdict_at<K: Control>(controls: &[K], book: &Book, facts: &Facts, n: Node, t: Txn) -> Verdict
-    requires asked { IsAsked K.place K.stands controls.now book.now.lists facts.now t.0 }
+    requires asked { IsAsked K.node_number K.stands controls.now book.now.lists facts.now t.0 }
     requires node { n.0 < length facts.now.tree.now.rows }
     requires here { IsHere facts.now n.0 t.0 }
     ensures { result ≡ on_commit (setup_of facts.now) (events_of facts.now) t.0 n.0 }
@@ -71,9 +71,9 @@ fn verdict_at<K: Control>(controls: &[K], book: &Book, facts: &Facts, n: Node, t
 
 // The control of a node.
 fn control_at<'a, K: Control>(controls: &'a [K], facts: &Facts, n: Node) -> &'a K
-    requires controls { StandAll K.place K.stands controls.now (setup_of facts.now) (events_of facts.now) }
+    requires controls { StandAll K.node_number K.stands controls.now (setup_of facts.now) (events_of facts.now) }
     requires node { n.0 < length facts.now.tree.now.rows }
-    ensures place { K.place result.now ≡ n.0 }
+    ensures node_number { K.node_number result.now ≡ n.0 }
     ensures stands { K.stands result.now (setup_of facts.now) (events_of facts.now) }
 {
     &controls[usize::from(n.0)]

@@ -3,7 +3,7 @@
 ghost use Rattle.std.specs.Prelude.{◌≡◌, ◌&&◌, find};
 ghost use Rattle.teb_history.specs.Phases.{unfinished};
 ghost use Rattle.teb_rules.specs.Tree.{meets};
-ghost use Rattle.phase_api.specs.Told.{setup_of, events_of, IsOrderly, IsTyped};
+ghost use Rattle.phase_api.specs.FactsView.{setup_of, events_of, IsOrderly, IsTyped};
 
 use phase_api::Facts;
 use teb_names::{Node, Txn};

@@ -25,7 +25,7 @@ use Rattle.teb_names.specs.Rows.{row_of}
 use Rattle.teb_rules.specs.Accepted.{IsSound}
 use Rattle.teb_laws.specs.Lawful.{Lawful, ReadsRows}
 use Rattle.teb_laws.proofs.RowReads.{run_rows}
-use Rattle.engine_core.specs.State.{IsReached}
+use Rattle.engine_core.specs.EngineModel.{IsReached}
 use Rattle.record_journal.specs.Journal.{StandsFor, after_records}
 use Rattle.commit_laws.specs.Commits.{rows_after}
 use Rattle.commit_laws.proofs.Laws.{records_leave_the_rows}

@@ -10,7 +10,7 @@ use Rattle.teb_names.specs.declared.naming.NameBook.{NameBook}
 use Rattle.teb_history.specs.declared.Event.{Event}
 use Rattle.teb_history.specs.Phases.{held, unfinished, committed}
 use Rattle.teb_rules.specs.Setup.{Store}
-use Rattle.engine_core.specs.State.{State}
+use Rattle.engine_core.specs.EngineModel.{EngineModel}
 use Rattle.record_journal.specs.declared.journal.Journal.{Journal}
 use Rattle.commit_laws.specs.Records.{puts_of, has}
 use Rattle.record_journal.specs.Format.{Record}
@@ -27,7 +27,7 @@ pub record Kept (D : Type 0) : Type 0 where
   pub acknowledged : ℕ
   pub stopped : Bool
 
-abbrev pub kept_of : {D : Type 0} → State → Journal D → Kept D
+abbrev pub kept_of : {D : Type 0} → EngineModel → Journal D → Kept D
 kept_of e j = record { store = e.store; names = e.names; events = e.events; disk = j.disk; end = j.progress.end; acknowledged = j.progress.acknowledged; stopped = j.stopped }
 
 -- the same store under the same names

@@ -13,7 +13,7 @@ use Rattle.teb_rules.specs.Accepted.{IsSound}
 use Rattle.teb_rules.specs.Answer.{answer}
 use Rattle.teb_rules.specs.Run.{history_after}
 use Rattle.teb_laws.proofs.Sound.{tree_facts}
-use Rattle.engine_core.specs.State.{IsReached}
+use Rattle.engine_core.specs.EngineModel.{IsReached}
 use Rattle.crash_disk.specs.Calls.{Promise, Tally, IsBefore}
 use Rattle.record_journal.specs.Format.{Record, recovered, Whole}
 use Rattle.record_journal.specs.Journal.{after_records}

@@ -6,9 +6,9 @@ use Rattle.crash_disk.specs.declared.memory.MemDisk.{MemDisk}
 use Rattle.crash_disk.specs.Calls.{Tally, memory_tally}
 use Rattle.crash_disk.specs.Log.{Step, byte_count, safe_contents, MayLeave}
 use Rattle.crash_disk.specs.LogLaws.{safe_is_left}
-use Rattle.tree_toml.specs.Meaning.{Meaning}
+use Rattle.tree_toml.specs.SetupView.{SetupView}
 use Rattle.tree_toml.specs.Sound.{IsWhole}
-use Rattle.input_reader.specs.Stores.{store_of}
+use Rattle.input_reader.specs.Stores.{store_of_view}
 use Rattle.crash_runner.specs.Underway.{IsRoomy}
 
 abbrev pub tally_of : MemDisk → Tally
@@ -32,5 +32,5 @@ unwritten log is = ap byte_count is
 pub nothing_safe : (log : List Step) → log ≡ [] → safe_contents log ≡ []
 nothing_safe log is = ap safe_contents is
 
-pub sound_of : (m : Meaning) → IsWhole m → IsSound (store_of m).setup
+pub sound_of : (m : SetupView) → IsWhole m → IsSound (store_of_view m).setup
 sound_of m whole = subst (λ (types : ℕ). let S : Setup = record { types = types; profiles = m.profiles; tree = m.tree.rows } in IsSound S) (sym whole.types) whole.sound

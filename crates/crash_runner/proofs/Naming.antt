@@ -6,14 +6,14 @@ use Rattle.std.proofs.lemmas.List.{append-nil}
 use Rattle.teb_names.specs.declared.Cell.{Cell}
 use Rattle.teb_history.specs.declared.Event.{Event}
 use Rattle.teb_rules.specs.Run.{history_after}
-use Rattle.engine_core.specs.State.{IsReached}
+use Rattle.engine_core.specs.EngineModel.{IsReached}
 use Rattle.serial_order.specs.Tables.{IsFinalRows}
 use Rattle.script_text.specs.declared.Answered.{Answered}
 use Rattle.script_text.specs.Named.{ReplyNamed, RowsNamed}
 use Rattle.replay_runner.specs.Logs.{Requests, log_of}
-use Rattle.tree_toml.specs.Meaning.{Meaning}
+use Rattle.tree_toml.specs.SetupView.{SetupView}
 use Rattle.tree_toml.specs.Sound.{IsWhole, IsNamed}
-use Rattle.input_reader.specs.Stores.{store_of, names_of}
+use Rattle.input_reader.specs.Stores.{store_of_view, names_of}
 use Rattle.input_runner.specs.Runs.{IsRunOver}
 use Rattle.input_runner.proofs.Runs.{replies_named, rows_named}
 use Rattle.crash_runner.specs.Crashes.{Course, Through, AtOnce, AtCommit}
@@ -27,15 +27,15 @@ given_first stop log commits given stopped kept (Through b all s n) = ([], sym a
 given_first stop log commits given stopped kept (AtOnce b c none s n) = (log, ap (λ (w : List Answered). w ++ log) (sym none))
 given_first stop log commits given stopped kept (AtCommit b c n before s) = (before.commit ∷ before.behind, before.parts)
 
-module _ (m : Meaning) (whole : IsWhole m) (nodes : IsNamed m) where
-  over : (asked : Requests) (H : List Event) → H ≡ history_after (store_of m) [] asked → IsRunOver m (store_of m) (names_of m) (log_of (store_of m) [] asked) H
+module _ (m : SetupView) (whole : IsWhole m) (nodes : IsNamed m) where
+  over : (asked : Requests) (H : List Event) → H ≡ history_after (store_of_view m) [] asked → IsRunOver m (store_of_view m) (names_of m) (log_of (store_of_view m) [] asked) H
   over asked H is = record { whole = whole; nodes = nodes; store = refl; named = refl; asked = asked; replies = refl; events = is }
 
-  pub given_named : (asked : Requests) (stop commits : ℕ) (given : List Answered) (stopped : Bool) (kept : ℕ) → Course stop (log_of (store_of m) [] asked) commits given stopped kept → All (λ (a : Answered). ReplyNamed (names_of m) a.reply) given
+  pub given_named : (asked : Requests) (stop commits : ℕ) (given : List Answered) (stopped : Bool) (kept : ℕ) → Course stop (log_of (store_of_view m) [] asked) commits given stopped kept → All (λ (a : Answered). ReplyNamed (names_of m) a.reply) given
   given_named asked stop commits given stopped kept course =
-      let front = given_first stop (log_of (store_of m) [] asked) commits given stopped kept course in
-      let all = replies_named m (store_of m) (names_of m) (log_of (store_of m) [] asked) (history_after (store_of m) [] asked) (over asked (history_after (store_of m) [] asked) refl) (names_of m) (given ++ front.0) refl (sym front.1) in
+      let front = given_first stop (log_of (store_of_view m) [] asked) commits given stopped kept course in
+      let all = replies_named m (store_of_view m) (names_of m) (log_of (store_of_view m) [] asked) (history_after (store_of_view m) [] asked) (over asked (history_after (store_of_view m) [] asked) refl) (names_of m) (given ++ front.0) refl (sym front.1) in
       all_front (λ (a : Answered). ReplyNamed (names_of m) a.reply) given front.0 all
 
-  pub kept_named : (H : List Event) → IsReached (store_of m) H → (rows : List (Cell × ℤ)) → IsFinalRows (store_of m) H rows → RowsNamed (names_of m) rows
-  kept_named H r rows f = rows_named m (store_of m) (names_of m) (log_of (store_of m) [] r.0) H (over r.0 H r.1) rows f
+  pub kept_named : (H : List Event) → IsReached (store_of_view m) H → (rows : List (Cell × ℤ)) → IsFinalRows (store_of_view m) H rows → RowsNamed (names_of m) rows
+  kept_named H r rows f = rows_named m (store_of_view m) (names_of m) (log_of (store_of_view m) [] r.0) H (over r.0 H r.1) rows f

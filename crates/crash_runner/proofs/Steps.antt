@@ -17,7 +17,7 @@ use Rattle.teb_rules.specs.Run.{history_after}
 use Rattle.teb_laws.specs.Lawful.{Lawful}
 use Rattle.teb_laws.proofs.Sound.{tree_facts}
 use Rattle.teb_laws.proofs.Reachable.{run_good, empty_good}
-use Rattle.engine_core.specs.State.{IsReached}
+use Rattle.engine_core.specs.EngineModel.{IsReached}
 use Rattle.engine_core.proofs.Reached.{reached_more}
 use Rattle.crash_disk.specs.Calls.{Promise, Tally, IsBefore, AreSure, Fails, IsUpTo}
 use Rattle.record_journal.specs.Format.{Record, records, reading, recovered, Whole}

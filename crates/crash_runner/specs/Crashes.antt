@@ -13,7 +13,7 @@ use Rattle.commit_laws.specs.Commits.{commit_count, rows_after}
 use Rattle.script_text.specs.declared.Answered.{Answered}
 use Rattle.script_text.specs.Texts.{line_text, reply_text, recovered_text}
 use Rattle.command_output.specs.Shown.{Shown}
-use Rattle.input_reader.specs.Stores.{store_of, names_of}
+use Rattle.input_reader.specs.Stores.{store_of_view, names_of}
 use Rattle.input_reader.specs.Tasks.{Task}
 use Rattle.input_runner.specs.Runs.{IsReplay}
 
@@ -61,13 +61,13 @@ crash_text names given stopped commits rows = flat_map (reply_text names) given 
 pub record IsCrash (stop : ℕ) (task : Task) (d : Shown) : Type 0 where
   pub log : List Answered
   pub history : List Event
-  pub ran : IsReplay (store_of task.setup) task.lines log history
+  pub ran : IsReplay (store_of_view task.setup) task.lines log history
   pub given : List Answered
   pub stopped : Bool
   pub kept : ℕ
   pub course : Course stop log (commit_count history) given stopped kept
   pub rows : List (Cell × ℤ)
-  pub recovered : AreRowsAfter (store_of task.setup) history kept rows
+  pub recovered : AreRowsAfter (store_of_view task.setup) history kept rows
   pub status : d.status ≡ 0
   pub unkept : d.history ≡ None
   pub text : d.text ≡ crash_text (names_of task.setup) given stopped kept rows

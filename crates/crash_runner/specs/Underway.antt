@@ -9,7 +9,7 @@ use Rattle.teb_rules.specs.Setup.{Store}
 use Rattle.teb_rules.specs.Accepted.{IsSound}
 use Rattle.teb_rules.specs.Answer.{answer}
 use Rattle.teb_rules.specs.Run.{history_after}
-use Rattle.engine_core.specs.State.{IsReached}
+use Rattle.engine_core.specs.EngineModel.{IsReached}
 use Rattle.crash_disk.specs.Calls.{Promise, Tally, IsBefore}
 use Rattle.record_journal.specs.Format.{records, recovered, Whole}
 use Rattle.commit_laws.specs.Commits.{commit_count, put_count}

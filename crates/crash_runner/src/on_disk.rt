@@ -4,7 +4,7 @@ ghost use Rattle.std.specs.Prelude.{◌≡◌, ◌≤◌, [], length, OnOk, IfOk
 ghost use Rattle.teb_rules.specs.Run.{history_after};
 ghost use Rattle.tree_toml.specs.Seen.{setup_view};
 ghost use Rattle.tree_toml.specs.Sound.{IsWhole};
-ghost use Rattle.input_reader.specs.Stores.{store_of};
+ghost use Rattle.input_reader.specs.Stores.{store_of_view};
 ghost use Rattle.commit_journal.specs.Kept.{IsSameStore};
 ghost use Rattle.replay_runner.specs.Logs.{log_of, replayed};
 ghost use Rattle.crash_runner.specs.Underway.{IsUnderway, HasAsked, StopsAt, IsRunOn, effects};
@@ -40,7 +40,7 @@ pub(crate) fn replay_on_disk(
 ) -> Result<DiskRun<MemDisk>, AllocError>
     requires whole { IsWhole (setup_view setup) }
     requires few { length lines.now ≤ 65536 }
-    ensures { IfOk result (λ run. IsRunOn stop (store_of (setup_view setup)) lines.now run.given.items run.stopped (⟦<MemDisk as Disk>⟧.tally run.disk) (⟦<MemDisk as Disk>⟧.safe run.disk)) }
+    ensures { IfOk result (λ run. IsRunOn stop (store_of_view (setup_view setup)) lines.now run.given.items run.stopped (⟦<MemDisk as Disk>⟧.tally run.disk) (⟦<MemDisk as Disk>⟧.safe run.disk)) }
 {
     let engine = Engine::new(alloc, setup, PooledChains::new(alloc))?;
     let disk = MemDisk::new(alloc, stop)?;

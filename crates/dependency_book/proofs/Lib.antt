@@ -1,4 +1,4 @@
-pub mod PileEdits
+pub mod MultimapEdits
 pub mod OrderlyHistories
 pub mod OwnAccesses
 pub mod LawfulHistories

@@ -17,12 +17,12 @@ use Rattle.teb_history.specs.Phases.{is_began, is_done, is_gone, begun, committe
 use Rattle.teb_history.specs.Ascending.{put_by}
 use Rattle.teb_history.specs.Live.{number_of}
 use Rattle.dependency_book.specs.declared.access.Access.{Access}
-use Rattle.key_piles.specs.LastMatches.{without_lasts}
+use Rattle.sorted_multimap.specs.LastMatches.{without_lasts}
 use Rattle.dependency_book.specs.Dependencies.{has, reads, puts, MayFollow, Orderly, all_readers, all_writers, all_sources, all_accesses, readers, writers, sources, accesses, unfinished_txns}
 use Rattle.dependency_book.specs.Books.{Lists, BookOf, readers_in, writers_in, sources_in, accesses_in}
-use Rattle.key_piles.proofs.TakenMatches.{without_all, count_kept}
-use Rattle.key_piles.proofs.CellPiles.{same_exact}
-use Rattle.dependency_book.proofs.PileEdits.{one_txn}
+use Rattle.sorted_multimap.proofs.TakenMatches.{without_all, count_kept}
+use Rattle.sorted_multimap.proofs.CellValues.{same_exact}
+use Rattle.dependency_book.proofs.MultimapEdits.{one_txn}
 use Rattle.dependency_book.proofs.OwnAccesses.{put_by_it, reads_counted, puts_counted, nothing_accessed}
 use Rattle.dependency_book.proofs.OrderlyHistories.{unfinished_is, unfinished_same, unfinished_parts, aborted_same, fresh}
 use Rattle.teb_history.proofs.Filters.{filter_both, filter_push}

@@ -9,9 +9,9 @@ use Rattle.teb_history.specs.declared.Event.{Event}
 use Rattle.teb_history.specs.declared.Event.TheVariants.{Began, Got, Put, Ready, Done, Gone, Told}
 use Rattle.teb_history.specs.Phases.{begun}
 use Rattle.dependency_book.specs.Dependencies.{has, reads, puts, all_readers, all_writers, all_accesses, Orderly}
-use Rattle.key_piles.proofs.TakenMatches.{count_push}
-use Rattle.key_piles.proofs.CellPiles.{same_exact}
-use Rattle.dependency_book.proofs.PileEdits.{one_txn}
+use Rattle.sorted_multimap.proofs.TakenMatches.{count_push}
+use Rattle.sorted_multimap.proofs.CellValues.{same_exact}
+use Rattle.dependency_book.proofs.MultimapEdits.{one_txn}
 use Rattle.dependency_book.proofs.OrderlyHistories.{unfinished_parts}
 use Rattle.teb_history.proofs.Newest.{begun-cons}
 

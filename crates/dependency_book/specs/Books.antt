@@ -6,8 +6,8 @@ use Rattle.teb_names.specs.Cells.{cell_cmp}
 use Rattle.teb_history.specs.declared.Event.{Event}
 use Rattle.teb_history.specs.Ascending.{IsAscendingBy}
 use Rattle.teb_history.specs.Live.{number_of}
-use Rattle.key_piles.specs.Keys.{txn_cmp}
-use Rattle.key_piles.specs.Piles.{pile}
+use Rattle.sorted_multimap.specs.Keys.{txn_cmp}
+use Rattle.sorted_multimap.specs.Multimap.{values_of}
 use Rattle.dependency_book.specs.declared.access.Access.{Access}
 use Rattle.dependency_book.specs.declared.registers.Registers.{Registers}
 use Rattle.dependency_book.specs.Dependencies.{readers, writers, sources, accesses, unfinished_txns, Orderly}
@@ -26,16 +26,16 @@ pub record Shown : Type 0 where
   pub spare : ℕ
 
 abbrev pub readers_in : Lists → Cell → List (Txn × Txn)
-readers_in b x = pile cell_cmp b.readers x
+readers_in b x = values_of cell_cmp b.readers x
 
 abbrev pub writers_in : Lists → Cell → List Txn
-writers_in b x = pile cell_cmp b.writers x
+writers_in b x = values_of cell_cmp b.writers x
 
 abbrev pub sources_in : Lists → Txn → List Txn
-sources_in b t = pile txn_cmp b.sources t
+sources_in b t = values_of txn_cmp b.sources t
 
 abbrev pub accesses_in : Lists → Txn → List Access
-accesses_in b t = pile txn_cmp b.accesses t
+accesses_in b t = values_of txn_cmp b.accesses t
 
 -- the lists are those of a history
 pub record BookOf (b : Lists) (H : List Event) : Type 0 where
@@ -57,7 +57,7 @@ lists_of r = record {
 
 -- the sources of each transaction ascend
 abbrev pub SourcesAscend : List (Txn × Txn) → Type 0
-SourcesAscend es = (t : Txn) → IsAscendingBy number_of (pile txn_cmp es t)
+SourcesAscend es = (t : Txn) → IsAscendingBy number_of (values_of txn_cmp es t)
 
 -- each list has room for n more
 pub record HasRooms (r : Registers) (n : ℕ) : Type 0 where

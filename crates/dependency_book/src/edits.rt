@@ -1,4 +1,4 @@
-//! Edits of piles: what one access adds, and what an abort takes out.
+//! Edits of multimaps: what one access adds, and what an abort takes out.
 
 ghost use Rattle.std.specs.Prelude.{◌≡◌, ◌+◌, ◌≤◌, ◌<◌, ◌&&◌, cond, not, eqb, ltb};
 ghost use Rattle.std.specs.List.{list_any, count_by};
@@ -7,21 +7,21 @@ ghost use Rattle.teb_names.specs.declared.Txn.{Txn};
 ghost use Rattle.teb_names.specs.Cells.{cell_cmp, same_cell};
 ghost use Rattle.teb_history.specs.Ascending.{IsAscendingBy, put_by};
 ghost use Rattle.teb_history.specs.Live.{number_of};
-ghost use Rattle.key_piles.specs.Piles.{pile_in};
-ghost use Rattle.key_piles.specs.LastMatches.{IsLastPlace, without_last, without_lasts};
+ghost use Rattle.sorted_multimap.specs.Multimap.{values_in};
+ghost use Rattle.sorted_multimap.specs.LastMatches.{IsLastPlace, without_last, without_lasts};
 ghost use Rattle.dependency_book.specs.Dependencies.{reads, puts};
-ghost use Rattle.key_piles.specs.Keys.{txn_cmp};
+ghost use Rattle.sorted_multimap.specs.Keys.{txn_cmp};
 
 use crate::access::Access;
-use key_piles::Piles;
+use sorted_multimap::Multimap;
 use teb_history::find_txn;
 use teb_names::{Cell, Txn};
 
 /// Puts a transaction that t read from among its sources, unless it is there, or is t itself or 0.
-pub(crate) fn add_source(sources: &mut Piles<Txn, Txn>, t: Txn, from: Txn)
-    requires ascending { IsAscendingBy number_of (pile_in txn_cmp sources.old t) }
+pub(crate) fn add_source(sources: &mut Multimap<Txn, Txn>, t: Txn, from: Txn)
+    requires ascending { IsAscendingBy number_of (values_in txn_cmp sources.old t) }
     requires room { 0 < sources.old.spare }
-    ensures piles { (u : Txn) → pile_in txn_cmp sources.new u ≡ cond (eqb t.0 u.0 && not (eqb from.0 u.0) && ltb 0 from.0) (put_by number_of from (pile_in txn_cmp sources.old u)) (pile_in txn_cmp sources.old u) }
+    ensures values { (u : Txn) → values_in txn_cmp sources.new u ≡ cond (eqb t.0 u.0 && not (eqb from.0 u.0) && ltb 0 from.0) (put_by number_of from (values_in txn_cmp sources.old u)) (values_in txn_cmp sources.old u) }
     ensures spare { sources.old.spare ≤ sources.new.spare + 1 }
 {
     if from == t || from.0 == 0 {
@@ -43,13 +43,13 @@ pub(crate) fn has_put(accesses: &[Access], cell: Cell) -> bool
 
 /// Takes out a pair of t for each of its reads of a cell, and t from the writers of each cell that it put, the last first.
 pub(crate) fn forget_accesses(
-    readers: &mut Piles<Cell, (Txn, Txn)>,
-    writers: &mut Piles<Cell, Txn>,
+    readers: &mut Multimap<Cell, (Txn, Txn)>,
+    writers: &mut Multimap<Cell, Txn>,
     accesses: &[Access],
     t: Txn,
 )
-    ensures readers { (x : Cell) → pile_in cell_cmp readers.new x ≡ without_lasts (count_by (λ a. reads x a) accesses.now) (λ r. eqb r.0.0 t.0) (pile_in cell_cmp readers.old x) }
-    ensures writers { (x : Cell) → pile_in cell_cmp writers.new x ≡ without_lasts (count_by (λ a. puts x a) accesses.now) (λ u. eqb u.0 t.0) (pile_in cell_cmp writers.old x) }
+    ensures readers { (x : Cell) → values_in cell_cmp readers.new x ≡ without_lasts (count_by (λ a. reads x a) accesses.now) (λ r. eqb r.0.0 t.0) (values_in cell_cmp readers.old x) }
+    ensures writers { (x : Cell) → values_in cell_cmp writers.new x ≡ without_lasts (count_by (λ a. puts x a) accesses.now) (λ u. eqb u.0 t.0) (values_in cell_cmp writers.old x) }
     ensures readers_spare { readers.new.spare ≡ readers.old.spare }
     ensures writers_spare { writers.new.spare ≡ writers.old.spare }
 {
@@ -63,8 +63,8 @@ pub(crate) fn forget_accesses(
 }
 
 /// Takes the last pair of t out of the readers of a cell. The search goes from the end, past what was read there since.
-fn forget_read(readers: &mut Piles<Cell, (Txn, Txn)>, cell: Cell, t: Txn)
-    ensures piles { (x : Cell) → pile_in cell_cmp readers.new x ≡ cond (same_cell cell x) (without_last (λ r. eqb r.0.0 t.0) (pile_in cell_cmp readers.old x)) (pile_in cell_cmp readers.old x) }
+fn forget_read(readers: &mut Multimap<Cell, (Txn, Txn)>, cell: Cell, t: Txn)
+    ensures values { (x : Cell) → values_in cell_cmp readers.new x ≡ cond (same_cell cell x) (without_last (λ r. eqb r.0.0 t.0) (values_in cell_cmp readers.old x)) (values_in cell_cmp readers.old x) }
     ensures spare { readers.new.spare ≡ readers.old.spare }
 {
     if let Some(i) = read_place(readers.list(cell), t) {
@@ -73,8 +73,8 @@ fn forget_read(readers: &mut Piles<Cell, (Txn, Txn)>, cell: Cell, t: Txn)
 }
 
 /// Takes t out of the writers of a cell. The search goes from the end, past what was put there since.
-fn forget_put(writers: &mut Piles<Cell, Txn>, cell: Cell, t: Txn)
-    ensures piles { (x : Cell) → pile_in cell_cmp writers.new x ≡ cond (same_cell cell x) (without_last (λ u. eqb u.0 t.0) (pile_in cell_cmp writers.old x)) (pile_in cell_cmp writers.old x) }
+fn forget_put(writers: &mut Multimap<Cell, Txn>, cell: Cell, t: Txn)
+    ensures values { (x : Cell) → values_in cell_cmp writers.new x ≡ cond (same_cell cell x) (without_last (λ u. eqb u.0 t.0) (values_in cell_cmp writers.old x)) (values_in cell_cmp writers.old x) }
     ensures spare { writers.new.spare ≡ writers.old.spare }
 {
     if let Some(i) = put_place(writers.list(cell), t) {

@@ -11,7 +11,7 @@ ghost use Rattle.dependency_book.specs.Dependencies.{MayFollow};
 
 use crate::access::Access;
 use crate::edits;
-use key_piles::{Piles, clear_txn};
+use sorted_multimap::{Multimap, clear_txn};
 use std::alloc::{AllocError, Global};
 use teb_history::Event;
 use teb_names::{Cell, Txn};
@@ -20,15 +20,15 @@ use teb_names::{Cell, Txn};
 #[derive(Drop)]
 pub struct Registers {
     // By cell: reader and writer read from, in order of access.
-    pub(crate) readers: Piles<Cell, (Txn, Txn)>,
+    pub(crate) readers: Multimap<Cell, (Txn, Txn)>,
     // By cell, in order of the first Put.
-    pub(crate) writers: Piles<Cell, Txn>,
+    pub(crate) writers: Multimap<Cell, Txn>,
     // By transaction: whom it read from, in ascending number.
-    pub(crate) sources: Piles<Txn, Txn>,
+    pub(crate) sources: Multimap<Txn, Txn>,
     // In ascending number.
     pub(crate) unfinished: Vec<Txn>,
     // By unfinished transaction, in order of access: each read, and the first put of each cell.
-    pub(crate) accesses: Piles<Txn, Access>,
+    pub(crate) accesses: Multimap<Txn, Access>,
 }
 
 impl Registers {
@@ -37,11 +37,11 @@ impl Registers {
         ensures book { BookOf (lists_of result) [] }
     {
         Registers {
-            readers: Piles::new(alloc),
-            writers: Piles::new(alloc),
-            sources: Piles::new(alloc),
+            readers: Multimap::new(alloc),
+            writers: Multimap::new(alloc),
+            sources: Multimap::new(alloc),
             unfinished: Vec::new(alloc),
-            accesses: Piles::new(alloc),
+            accesses: Multimap::new(alloc),
         }
     }
 

@@ -16,19 +16,19 @@ use Rattle.teb_laws.proofs.Sound.{tree_facts}
 use Rattle.version_chain.specs.Lists.{Version, writers_of}
 use Rattle.cc_tree.specs.Grown.{node_numbers}
 use Rattle.phase_api.specs.declared.facts.Facts.{Facts}
-use Rattle.phase_api.specs.Told.{setup_of, events_of, IsTyped}
+use Rattle.phase_api.specs.FactsView.{setup_of, events_of, IsTyped}
 use Rattle.phase_api.specs.Calls.{IsHere}
 use Rattle.phase_api.specs.Versions.{IsPlaceOf}
 use Rattle.candidate_reads.proofs.InOrder.{among_In}
 use Rattle.teb_laws.proofs.Within.{path-below}
-use Rattle.engine_core.specs.declared.parts.Parts.{Parts}
+use Rattle.engine_core.specs.declared.engine_view.EngineView.{EngineView}
 use Rattle.engine_core.specs.declared.stops.Question.{Question}
 use Rattle.engine_core.specs.declared.stops.Question.TheVariants.{Begin, Read, Write, Prepare}
 use Rattle.engine_core.specs.Wholes.{store_in, events_in}
 use Rattle.engine_core.specs.Asking.{IsAsking}
 use Rattle.engine_core.specs.Stopping.{MayAsk, MayAskAlong, verdict_on}
 
-along : {K C : Type 0} (lists : C → Cell → List Version) (p : Parts K C) (q : Question) (ns : List Node) → ((k : ℕ) (d : Node) → k < length ns → MayAsk lists p q (get_or ns k d).0) → MayAskAlong lists p q (node_numbers ns)
+along : {K C : Type 0} (lists : C → Cell → List Version) (p : EngineView K C) (q : Question) (ns : List Node) → ((k : ℕ) (d : Node) → k < length ns → MayAsk lists p q (get_or ns k d).0) → MayAskAlong lists p q (node_numbers ns)
 along lists p q [] f = tt
 along lists p q (n ∷ ns) f = (f 0 n (omega arith), along lists p q ns (λ k d h. f (suc k) d (omega arith)))
 
@@ -45,7 +45,7 @@ here_at : (f : Facts) (t : ℕ) (ns : List Node) (k : ℕ) (d : Node) → IsType
 unfolding on
 here_at f t ns k d ty e h = record { typed = ty; on = on_at (setup_of f) (spot_of (events_of f) t) ns k d e h }
 
-module _ {K C : Type 0} (lists : C → Cell → List Version) (p : Parts K C) (sound : IsSound (store_in p).setup) where
+module _ {K C : Type 0} (lists : C → Cell → List Version) (p : EngineView K C) (sound : IsSound (store_in p).setup) where
   node_at : (s : Spot) (ns : List Node) → node_numbers ns ≡ path (store_in p).setup.tree s → (k : ℕ) (d : Node) → k < length ns → (get_or ns k d).0 < length (store_in p).setup.tree
   node_at s ns e k d h = path-below (store_in p).setup (tree_facts (store_in p).setup sound) s (get_or ns k d).0 (among_In (get_or ns k d).0 (path (store_in p).setup.tree s) (subst (λ (ps : List ℕ). among (get_or ns k d).0 ps ≡ true) e (among_at ns k d h)))
 

@@ -12,7 +12,7 @@ use Rattle.teb_rules.specs.Setup.{Setup, profile}
 use Rattle.teb_rules.specs.Steps.{cursor}
 use Rattle.teb_laws.specs.Lawful.{Lawful}
 use Rattle.phase_api.specs.declared.facts.Facts.{Facts}
-use Rattle.phase_api.specs.Told.{setup_of, events_of, IsTyped}
+use Rattle.phase_api.specs.FactsView.{setup_of, events_of, IsTyped}
 use Rattle.cursor_book.specs.Cursors.{CursorsOf, moved}
 use Rattle.cursor_book.proofs.Moves.{length-cursors, cursors_began, cursors_got, cursors_put, cursors_ready, cursors_done, cursors_gone, cursors_told}
 use Rattle.teb_laws.proofs.Timeline.{begun_counted}

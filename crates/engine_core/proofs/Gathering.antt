@@ -13,9 +13,9 @@ use Rattle.teb_rules.specs.Versions.{read}
 use Rattle.teb_rules.specs.Answer.{cells_from, read_all}
 use Rattle.teb_laws.specs.Lawful.{Granted, Lawful, MayAccess}
 use Rattle.version_chain.specs.Lists.{Version}
-use Rattle.engine_core.specs.declared.kernel.Kernel.{Kernel}
+use Rattle.engine_core.specs.declared.engine_state.EngineState.{EngineState}
 use Rattle.engine_core.specs.Stores.{store_of}
-use Rattle.engine_core.specs.Wholes.{KernelIsWhole, LogHasRoom}
+use Rattle.engine_core.specs.Wholes.{StateIsWhole, LogHasRoom}
 use Rattle.engine_core.specs.Cells.{cell_at}
 
 -- the cells of a scan that are left after the first i
@@ -142,9 +142,9 @@ module _ (X Y : Store) (same : Y ≡ X) (H P : List Event) (t : Txn) (x : Cell) 
         subst (λ (vs : List (Option ℤ)). HasRead X H t.0 x n vs G (i + 1)) (sym e)
         (read_one X H t x n values P G i from v r h (ap₂ (λ (w : ℕ) (u : Option ℤ). (w, u)) from_here value_here) (q ∙ ap (λ (z : Cell). Got t z from v ∷ P) c))
 
--- how far a scan has come: what the kernel was at first, and what it is once i cells are read
-pub record IsReading {K C : Type 0} (place : K → ℕ) (stands : K → Setup → List Event → Type 0) (lists : C → Cell → List Version) (spare : K → ℕ) (first now : Kernel K C) (t : ℕ) (x : Cell) (n : ℕ) (values : List (Option ℤ)) (i : ℕ) : Type 0 where
-  pub whole : KernelIsWhole place stands lists now
+-- how far a scan has come: what the state was at first, and what it is once i cells are read
+pub record IsReading {K C : Type 0} (node_number : K → ℕ) (stands : K → Setup → List Event → Type 0) (lists : C → Cell → List Version) (spare : K → ℕ) (first now : EngineState K C) (t : ℕ) (x : Cell) (n : ℕ) (values : List (Option ℤ)) (i : ℕ) : Type 0 where
+  pub whole : StateIsWhole node_number stands lists now
   pub read : HasRead (store_of first.setup) first.history.events t x n values now.history.events i
   pub setup : now.setup ≡ first.setup
   pub room : (k : ℕ) → i + k ≡ n → LogHasRoom spare k now

@@ -8,7 +8,7 @@ pub mod VersionSteps
 pub mod CursorSteps
 pub mod Noting
 pub mod ReadSources
-pub mod Writing
+pub mod Appending
 pub mod Falling
 pub mod Carrying
 pub mod Reached

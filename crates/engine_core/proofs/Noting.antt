@@ -13,38 +13,38 @@ use Rattle.teb_rules.specs.declared.Verdict.TheVariants.{Go, Wait, Break}
 use Rattle.teb_rules.specs.Stops.{on_begin, begin_stop, stop_of, stop_with}
 use Rattle.teb_laws.specs.Lawful.{Granted}
 use Rattle.phase_api.specs.declared.facts.Facts.{Facts}
-use Rattle.phase_api.specs.Told.{setup_of, events_of}
+use Rattle.phase_api.specs.FactsView.{setup_of, events_of}
 use Rattle.phase_api.specs.Calls.{MayNote}
 use Rattle.phase_api.specs.Standing.{StandAll}
 use Rattle.engine_core.specs.Noting.{StandFrom, MayNoteFrom}
 use Rattle.engine_core.specs.Decisions.{MayBegin}
 
 -- the controls of all nodes, and the controls one after the other
-module _ {K : Type 0} (place : K → ℕ) (stands : K → Setup → List Event → Type 0) (S : Setup) (H : List Event) where
-  from_each : (n : ℕ) (cs : List K) → ((i : ℕ) (c : K) → slice_get cs i ≡ Some c → (place c ≡ n + i) × stands c S H) → StandFrom place stands n cs S H
+module _ {K : Type 0} (node_number : K → ℕ) (stands : K → Setup → List Event → Type 0) (S : Setup) (H : List Event) where
+  from_each : (n : ℕ) (cs : List K) → ((i : ℕ) (c : K) → slice_get cs i ≡ Some c → (node_number c ≡ n + i) × stands c S H) → StandFrom node_number stands n cs S H
   from_each n [] f = tt
   from_each n (c ∷ cs) f = (
-    (let q : place c ≡ n + 0 = (f 0 c refl).0 in omega arith),
+    (let q : node_number c ≡ n + 0 = (f 0 c refl).0 in omega arith),
     (f 0 c refl).1,
-    from_each (n + 1) cs (λ i d e. ((let q : place d ≡ n + suc i = (f (suc i) d e).0 in omega arith), (f (suc i) d e).1)),
+    from_each (n + 1) cs (λ i d e. ((let q : node_number d ≡ n + suc i = (f (suc i) d e).0 in omega arith), (f (suc i) d e).1)),
   )
 
-  each_from : (n : ℕ) (cs : List K) → StandFrom place stands n cs S H → (i : ℕ) (c : K) → slice_get cs i ≡ Some c → (place c ≡ n + i) × stands c S H
+  each_from : (n : ℕ) (cs : List K) → StandFrom node_number stands n cs S H → (i : ℕ) (c : K) → slice_get cs i ≡ Some c → (node_number c ≡ n + i) × stands c S H
   each_from n [] s i c e = absurd (cc)
   each_from n (d ∷ cs) s zero c e =
       let q : d ≡ c = cc in
-      let p : place d ≡ n = s.0 in
+      let p : node_number d ≡ n = s.0 in
       let r : n ≡ n + 0 = omega arith in
-      (ap place (sym q) ∙ p ∙ r, subst (λ (k : K). stands k S H) q s.1)
-  each_from n (d ∷ cs) s (suc i) c e = let r = each_from (n + 1) cs s.2 i c e in ((let q : place c ≡ (n + 1) + i = r.0 in omega arith), r.1)
+      (ap node_number (sym q) ∙ p ∙ r, subst (λ (k : K). stands k S H) q s.1)
+  each_from n (d ∷ cs) s (suc i) c e = let r = each_from (n + 1) cs s.2 i c e in ((let q : node_number c ≡ (n + 1) + i = r.0 in omega arith), r.1)
 
-  pub stand_from : (cs : List K) → StandAll place stands cs S H → StandFrom place stands 0 cs S H
-  stand_from cs s = from_each 0 cs (λ i c e. ((let q : place c ≡ i = s.in_place i c e in omega arith), s.each_stands i c e))
+  pub stand_from : (cs : List K) → StandAll node_number stands cs S H → StandFrom node_number stands 0 cs S H
+  stand_from cs s = from_each 0 cs (λ i c e. ((let q : node_number c ≡ i = s.each_numbered i c e in omega arith), s.each_stands i c e))
 
-  pub stand_all : (cs : List K) → length cs ≡ length S.tree → StandFrom place stands 0 cs S H → StandAll place stands cs S H
+  pub stand_all : (cs : List K) → length cs ≡ length S.tree → StandFrom node_number stands 0 cs S H → StandAll node_number stands cs S H
   stand_all cs l s = record {
     one_each = l;
-    in_place = λ i c e. (let q : place c ≡ 0 + i = (each_from 0 cs s i c e).0 in omega arith);
+    each_numbered = λ i c e. (let q : node_number c ≡ 0 + i = (each_from 0 cs s i c e).0 in omega arith);
     each_stands = λ i c e. (each_from 0 cs s i c e).1;
   }
 
@@ -84,13 +84,13 @@ module _ (f : Facts) (S : Setup) (H : List Event) (s : setup_of f ≡ S) (h : ev
   told_newest e cs q m = noted_from f e 0 cs (subst (λ (P : List Event). P ≡ e ∷ drop 1 P) (sym h) q)
       (λ n. subst (λ (T : Setup). MayNote T (drop 1 (events_of f)) n e) (sym s) (subst (λ (P : List Event). MayNote S (drop 1 P) n e) (sym h) (m n)))
 
-  pub told_standing : {K : Type 0} (place : K → ℕ) (stands : K → Setup → List Event → Type 0) (cs ds : List K) → ds ≡ cs → StandAll place stands cs S (drop 1 H) → StandFrom place stands 0 ds (setup_of f) (drop 1 (events_of f))
-  told_standing {K} place stands cs ds d a =
-      subst (λ (xs : List K). StandFrom place stands 0 xs (setup_of f) (drop 1 (events_of f))) (sym d)
-      (subst (λ (T : Setup). StandFrom place stands 0 cs T (drop 1 (events_of f))) (sym s)
-      (subst (λ (P : List Event). StandFrom place stands 0 cs S (drop 1 P)) (sym h) (stand_from place stands S (drop 1 H) cs a)))
+  pub told_standing : {K : Type 0} (node_number : K → ℕ) (stands : K → Setup → List Event → Type 0) (cs ds : List K) → ds ≡ cs → StandAll node_number stands cs S (drop 1 H) → StandFrom node_number stands 0 ds (setup_of f) (drop 1 (events_of f))
+  told_standing {K} node_number stands cs ds d a =
+      subst (λ (xs : List K). StandFrom node_number stands 0 xs (setup_of f) (drop 1 (events_of f))) (sym d)
+      (subst (λ (T : Setup). StandFrom node_number stands 0 cs T (drop 1 (events_of f))) (sym s)
+      (subst (λ (P : List Event). StandFrom node_number stands 0 cs S (drop 1 P)) (sym h) (stand_from node_number stands S (drop 1 H) cs a)))
 
-  pub all_standing : {K : Type 0} (place : K → ℕ) (stands : K → Setup → List Event → Type 0) (cs ds : List K) → ds ≡ cs → length cs ≡ length S.tree → StandFrom place stands 0 cs (setup_of f) (events_of f) → StandAll place stands ds S H
-  all_standing {K} place stands cs ds d l a =
-      subst (λ (xs : List K). StandAll place stands xs S H) (sym d) (stand_all place stands S H cs l
-      (subst (λ (T : Setup). StandFrom place stands 0 cs T H) s (subst (λ (P : List Event). StandFrom place stands 0 cs (setup_of f) P) h a)))
+  pub all_standing : {K : Type 0} (node_number : K → ℕ) (stands : K → Setup → List Event → Type 0) (cs ds : List K) → ds ≡ cs → length cs ≡ length S.tree → StandFrom node_number stands 0 cs (setup_of f) (events_of f) → StandAll node_number stands ds S H
+  all_standing {K} node_number stands cs ds d l a =
+      subst (λ (xs : List K). StandAll node_number stands xs S H) (sym d) (stand_all node_number stands S H cs l
+      (subst (λ (T : Setup). StandFrom node_number stands 0 cs T H) s (subst (λ (P : List Event). StandFrom node_number stands 0 cs (setup_of f) P) h a)))

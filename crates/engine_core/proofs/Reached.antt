@@ -12,7 +12,7 @@ use Rattle.teb_laws.specs.Lawful.{Settled}
 use Rattle.teb_laws.proofs.Reachable.{run_good, empty_good}
 use Rattle.teb_laws.proofs.Runs.{history_after-append}
 use Rattle.teb_laws.proofs.Sound.{tree_facts}
-use Rattle.engine_core.specs.State.{IsReached}
+use Rattle.engine_core.specs.EngineModel.{IsReached}
 
 -- no request leads to nothing
 pub reached_none : (X : Store) (H : List Event) → H ≡ [] → IsReached X H

@@ -7,7 +7,7 @@ use Rattle.teb_rules.specs.Setup.{Setup}
 use Rattle.teb_laws.specs.Lawful.{Lawful}
 use Rattle.teb_laws.proofs.Timeline.{begun_counted, kind-lt}
 use Rattle.phase_api.specs.declared.facts.Facts.{Facts}
-use Rattle.phase_api.specs.Told.{setup_of, events_of, IsTyped}
+use Rattle.phase_api.specs.FactsView.{setup_of, events_of, IsTyped}
 
 pub begun_unfinished : (H : List Event) (t : ℕ) → unfinished H t ≡ true → begun H t ≡ true
 unfolding unfinished

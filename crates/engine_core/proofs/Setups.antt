@@ -34,17 +34,17 @@ none_begun = omega arith
 lawful_none : (S : Rules) → Lawful S []
 lawful_none S = (empty_good S).legal
 
-pub whole_from_nothing : {K : Type 0} (place : K → ℕ) (stands : K → Rules → List Event → Type 0) (s : Setup) (H : List Event) (cs : List K) (L : Cell → List Version) (b : Lists) (steps : List ℕ) → toml.IsWhole (setup_view s) → H ≡ [] →
-    StandAll place stands cs (store_of s).setup H → ((x : Cell) → L x ≡ []) → BookOf b [] → steps ≡ [] → IsWhole place stands (store_of s) H cs L b steps
-whole_from_nothing {K} place stands s H cs L b steps w q sa l bo cu =
-    subst (λ (P : List Event). IsWhole place stands (store_of s) P cs L b steps) (sym q)
-    (subst (λ (ns : List ℕ). IsWhole place stands (store_of s) [] cs L b ns) (sym cu) (record {
+pub whole_from_nothing : {K : Type 0} (node_number : K → ℕ) (stands : K → Rules → List Event → Type 0) (s : Setup) (H : List Event) (cs : List K) (L : Cell → List Version) (b : Lists) (steps : List ℕ) → toml.IsWhole (setup_view s) → H ≡ [] →
+    StandAll node_number stands cs (store_of s).setup H → ((x : Cell) → L x ≡ []) → BookOf b [] → steps ≡ [] → IsWhole node_number stands (store_of s) H cs L b steps
+whole_from_nothing {K} node_number stands s H cs L b steps w q sa l bo cu =
+    subst (λ (P : List Event). IsWhole node_number stands (store_of s) P cs L b steps) (sym q)
+    (subst (λ (ns : List ℕ). IsWhole node_number stands (store_of s) [] cs L b ns) (sym cu) (record {
       sound = sound_rules s w;
       profiled = w.profiles ∙ sym w.types;
       nodes = w.few_nodes;
       lawful = lawful_none (store_of s).setup;
       few = none_begun;
-      controls = subst (StandAll place stands cs (store_of s).setup) q sa;
+      controls = subst (StandAll node_number stands cs (store_of s).setup) q sa;
       versions = versions_none (store_of s).setup L l;
       book = bo;
       cursors = cursors_none (store_of s).setup;

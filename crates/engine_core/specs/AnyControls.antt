@@ -2,11 +2,11 @@
 use Rattle.std.specs.Prelude.{ℕ, List}
 use Rattle.teb_history.specs.declared.Event.{Event}
 use Rattle.teb_rules.specs.Setup.{Setup}
-use Rattle.phase_api.specs.Told.{IsOrderly}
-use Rattle.nexus_locks.specs.Controls.{LocksStandFor, locks_place, locks_spare}
-use Rattle.runtime_pipeline.specs.Standing.{PipelineStands, pipeline_place, pipeline_spare}
-use Rattle.timestamp_node.specs.Controls.{StampsStandFor, stamps_place, stamps_spare}
-use Rattle.snapshot_node.specs.Controls.{SnapshotStandsFor, snapshot_place, snapshot_spare}
+use Rattle.phase_api.specs.FactsView.{IsOrderly}
+use Rattle.nexus_locks.specs.Controls.{LocksStandFor, locks_node_number, locks_spare}
+use Rattle.runtime_pipeline.specs.Standing.{PipelineStands, pipeline_node_number, pipeline_spare}
+use Rattle.timestamp_node.specs.Controls.{StampsStandFor, stamps_node_number, stamps_spare}
+use Rattle.snapshot_node.specs.Controls.{SnapshotStandsFor, snapshot_node_number, snapshot_spare}
 use Rattle.engine_core.specs.declared.any_control.AnyControl.{AnyControl}
 use Rattle.engine_core.specs.declared.any_control.AnyControl.TheVariants.{Locks, Pipeline, Timestamp, Snapshot}
 
@@ -17,11 +17,11 @@ any_stands (Pipeline c) S H = PipelineStands c S H
 any_stands (Timestamp c) S H = StampsStandFor c S H
 any_stands (Snapshot c) S H = SnapshotStandsFor c S H
 
-abbrev pub any_place : AnyControl → ℕ
-any_place (Locks c) = locks_place c
-any_place (Pipeline c) = pipeline_place c
-any_place (Timestamp c) = stamps_place c
-any_place (Snapshot c) = snapshot_place c
+abbrev pub any_node_number : AnyControl → ℕ
+any_node_number (Locks c) = locks_node_number c
+any_node_number (Pipeline c) = pipeline_node_number c
+any_node_number (Timestamp c) = stamps_node_number c
+any_node_number (Snapshot c) = snapshot_node_number c
 
 abbrev pub any_spare : AnyControl → ℕ
 any_spare (Locks c) = locks_spare c

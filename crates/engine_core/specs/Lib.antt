@@ -1,5 +1,5 @@
 pub mod Stores
-pub mod State
+pub mod EngineModel
 pub mod Wholes
 pub mod Asking
 pub mod Stopping

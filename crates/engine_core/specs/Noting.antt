@@ -7,8 +7,8 @@ use Rattle.phase_api.specs.Calls.{IsNewest}
 
 -- the controls of nodes n, n + 1 and so on, each standing for the history
 abbrev pub StandFrom : {K : Type 0} → (K → ℕ) → (K → Setup → List Event → Type 0) → ℕ → List K → Setup → List Event → Type 0
-StandFrom place stands n [] S H = Unit {0}
-StandFrom place stands n (c ∷ cs) S H = (place c ≡ n) × stands c S H × StandFrom place stands (n + 1) cs S H
+StandFrom node_number stands n [] S H = Unit {0}
+StandFrom node_number stands n (c ∷ cs) S H = (node_number c ≡ n) × stands c S H × StandFrom node_number stands (n + 1) cs S H
 
 -- each may note the event
 abbrev pub MayNoteFrom : {K : Type 0} → Facts → Event → ℕ → List K → Type 0

@@ -11,7 +11,7 @@ use Rattle.teb_rules.specs.Stops.{on_begin}
 use Rattle.version_chain.specs.Lists.{Version, writers_of}
 use Rattle.phase_api.specs.Calls.{IsHere, IsAccess}
 use Rattle.phase_api.specs.Versions.{IsPlaceOf}
-use Rattle.engine_core.specs.declared.parts.Parts.{Parts}
+use Rattle.engine_core.specs.declared.engine_view.EngineView.{EngineView}
 use Rattle.engine_core.specs.declared.stops.Question.{Question}
 use Rattle.engine_core.specs.declared.stops.Question.TheVariants.{Begin, Read, Write, Prepare}
 use Rattle.engine_core.specs.Wholes.{store_in, events_in}
@@ -24,16 +24,16 @@ verdict_on S H (Write t x at) n = on_access (row S.tree n).control S H n t.0 x t
 verdict_on S H (Prepare t) n = validate (row S.tree n).control S H n t.0
 
 -- the question may be asked of node n, which is on the path of who asks
-abbrev pub MayBe : {K C : Type 0} → (C → Cell → List Version) → Parts K C → Question → ℕ → Type 0
+abbrev pub MayBe : {K C : Type 0} → (C → Cell → List Version) → EngineView K C → Question → ℕ → Type 0
 MayBe lists p (Begin s) n = (s.kind.0 < (store_in p).setup.types) × IsTrue (on_path (store_in p).setup.tree n s)
 MayBe lists p (Read t x) n = IsAccess p.facts n t.0 x
 MayBe lists p (Write t x at) n = IsAccess p.facts n t.0 x × IsPlaceOf (store_in p).setup (events_in p) x t.0 at (writers_of (lists p.chains.now x))
 MayBe lists p (Prepare t) n = IsHere p.facts n t.0 × IsTrue (unfinished (events_in p) t.0)
 
-pub record MayAsk {K C : Type 0} (lists : C → Cell → List Version) (p : Parts K C) (q : Question) (n : ℕ) : Type 0 where
+pub record MayAsk {K C : Type 0} (lists : C → Cell → List Version) (p : EngineView K C) (q : Question) (n : ℕ) : Type 0 where
   pub node : n < length (store_in p).setup.tree
   pub may : MayBe lists p q n
 
-abbrev pub MayAskAlong : {K C : Type 0} → (C → Cell → List Version) → Parts K C → Question → List ℕ → Type 0
+abbrev pub MayAskAlong : {K C : Type 0} → (C → Cell → List Version) → EngineView K C → Question → List ℕ → Type 0
 MayAskAlong lists p q [] = Unit {0}
 MayAskAlong lists p q (n ∷ ns) = MayAsk lists p q n × MayAskAlong lists p q ns

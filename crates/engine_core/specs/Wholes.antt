@@ -1,4 +1,4 @@
--- What holds of all parts of an engine at once.
+-- What holds of all that an engine keeps at once.
 use Rattle.std.specs.Prelude.{◌≡◌, ◌≤◌, ◌<◌, ℕ, List, [], ◌∷◌, length}
 use Rattle.teb_names.specs.declared.Cell.{Cell}
 use Rattle.teb_history.specs.declared.Event.{Event}
@@ -7,42 +7,42 @@ use Rattle.teb_rules.specs.Setup.{Setup, Store}
 use Rattle.teb_rules.specs.Accepted.{IsSound}
 use Rattle.teb_laws.specs.Lawful.{Lawful, Settled}
 use Rattle.version_chain.specs.Lists.{Version}
-use Rattle.phase_api.specs.Told.{setup_of, events_of}
+use Rattle.phase_api.specs.FactsView.{setup_of, events_of}
 use Rattle.phase_api.specs.Standing.{StandAll}
 use Rattle.phase_api.specs.Versions.{HoldsVersions}
 use Rattle.dependency_book.specs.Books.{Lists, BookOf}
 use Rattle.cursor_book.specs.Cursors.{CursorsOf}
-use Rattle.engine_core.specs.declared.kernel.Kernel.{Kernel}
-use Rattle.engine_core.specs.declared.parts.Parts.{Parts}
+use Rattle.engine_core.specs.declared.engine_state.EngineState.{EngineState}
+use Rattle.engine_core.specs.declared.engine_view.EngineView.{EngineView}
 use Rattle.engine_core.specs.Stores.{store_of}
 
 -- a sound store, with a profile for each type, and a lawful history, for which controls, chains, book and cursors stand
-pub record IsWhole {K : Type 0} (place : K → ℕ) (stands : K → Setup → List Event → Type 0) (X : Store) (H : List Event) (cs : List K) (L : Cell → List Version) (b : Lists) (steps : List ℕ) : Type 0 where
+pub record IsWhole {K : Type 0} (node_number : K → ℕ) (stands : K → Setup → List Event → Type 0) (X : Store) (H : List Event) (cs : List K) (L : Cell → List Version) (b : Lists) (steps : List ℕ) : Type 0 where
   pub sound : IsSound X.setup
   pub profiled : length X.setup.profiles ≡ X.setup.types
   pub nodes : length X.setup.tree ≤ 64
   pub lawful : Lawful X.setup H
   pub few : begun_count H ≤ 8192
-  pub controls : StandAll place stands cs X.setup H
+  pub controls : StandAll node_number stands cs X.setup H
   pub versions : HoldsVersions X.setup H L
   pub book : BookOf b H
   pub cursors : CursorsOf steps X.setup H
 
--- the store and the history that the parts tell of
-abbrev pub store_in : {K C : Type 0} → Parts K C → Store
+-- the store and the history that a view tells of
+abbrev pub store_in : {K C : Type 0} → EngineView K C → Store
 store_in p = record { setup = setup_of p.facts; tables = p.tables; rows = p.rows.now }
 
-abbrev pub events_in : {K C : Type 0} → Parts K C → List Event
+abbrev pub events_in : {K C : Type 0} → EngineView K C → List Event
 events_in p = events_of p.facts
 
--- the parts are whole, and nobody who is not aborted has read from somebody who is
-pub record AreWhole {K C : Type 0} (place : K → ℕ) (stands : K → Setup → List Event → Type 0) (lists : C → Cell → List Version) (p : Parts K C) : Type 0 where
-  pub whole : IsWhole place stands (store_in p) (events_in p) p.controls.now (lists p.chains.now) p.book.now.lists p.cursors.now.cursors
+-- a view is whole, and nobody who is not aborted has read from somebody who is
+pub record ViewIsWhole {K C : Type 0} (node_number : K → ℕ) (stands : K → Setup → List Event → Type 0) (lists : C → Cell → List Version) (p : EngineView K C) : Type 0 where
+  pub whole : IsWhole node_number stands (store_in p) (events_in p) p.controls.now (lists p.chains.now) p.book.now.lists p.cursors.now.cursors
   pub settled : Settled (events_in p)
 
 -- the same of what the engine owns, between two answers or amid one
-abbrev pub KernelIsWhole : {K C : Type 0} → (K → ℕ) → (K → Setup → List Event → Type 0) → (C → Cell → List Version) → Kernel K C → Type 0
-KernelIsWhole place stands lists c = IsWhole place stands (store_of c.setup) c.history.events c.controls.items (lists c.chains) c.book.lists c.cursors.cursors
+abbrev pub StateIsWhole : {K C : Type 0} → (K → ℕ) → (K → Setup → List Event → Type 0) → (C → Cell → List Version) → EngineState K C → Type 0
+StateIsWhole node_number stands lists c = IsWhole node_number stands (store_of c.setup) c.history.events c.controls.items (lists c.chains) c.book.lists c.cursors.cursors
 
 -- each control has room for k events
 abbrev pub RoomFor : {K : Type 0} → (K → ℕ) → ℕ → List K → Type 0
@@ -50,13 +50,13 @@ RoomFor spare k [] = Unit {0}
 RoomFor spare k (c ∷ cs) = (k ≤ spare c) × RoomFor spare k cs
 
 -- there is room for k more events in the history, in each control and in the book
-pub record LogHasRoom {K C : Type 0} (control_spare : K → ℕ) (k : ℕ) (c : Kernel K C) : Type 0 where
+pub record LogHasRoom {K C : Type 0} (control_spare : K → ℕ) (k : ℕ) (c : EngineState K C) : Type 0 where
   pub history : k ≤ c.history.spare
   pub controls : RoomFor control_spare k c.controls.items
   pub book : k ≤ c.book.spare
 
 -- there is room for an answer: 32 events at most, one of which may put a version and one of which may be a Began
-pub record HasRoom {K C : Type 0} (control_spare : K → ℕ) (chain_spare : C → ℕ) (c : Kernel K C) : Type 0 where
+pub record HasRoom {K C : Type 0} (control_spare : K → ℕ) (chain_spare : C → ℕ) (c : EngineState K C) : Type 0 where
   pub log : LogHasRoom control_spare 32 c
   pub versions : 0 < chain_spare c.chains
   pub cursors : 0 < c.cursors.spare

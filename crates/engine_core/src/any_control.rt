@@ -2,9 +2,9 @@
 
 ghost use Rattle.std.specs.Prelude.{◌≡◌, ◌<◌, ◌≤◌, [], length, IfOk};
 ghost use Rattle.teb_rules.specs.Setup.{above_profiles};
-ghost use Rattle.phase_api.specs.Told.{setup_of, events_of};
+ghost use Rattle.phase_api.specs.FactsView.{setup_of, events_of};
 ghost use Rattle.phase_api.specs.Standing.{StandAll};
-ghost use Rattle.engine_core.specs.AnyControls.{any_place, any_stands};
+ghost use Rattle.engine_core.specs.AnyControls.{any_node_number, any_stands};
 
 use nexus_locks::Locks;
 use phase_api::{Control, Facts};
@@ -31,7 +31,7 @@ pub fn controls_of(alloc: Global, facts: &Facts) -> Result<Vec<AnyControl>, Allo
     requires profiled { (setup_of facts.now).types ≤ length (setup_of facts.now).profiles }
     requires few { above_profiles (setup_of facts.now).profiles ≤ 64 }
     requires empty { events_of facts.now ≡ [] }
-    ensures { IfOk result (λ v. StandAll any_place any_stands v.items (setup_of facts.now) (events_of facts.now)) }
+    ensures { IfOk result (λ v. StandAll any_node_number any_stands v.items (setup_of facts.now) (events_of facts.now)) }
 {
     let mut controls = Vec::new(alloc);
     for n in 0..facts.tree.len() {
@@ -45,7 +45,7 @@ fn control_of(alloc: Global, node: Node, facts: &Facts) -> Result<AnyControl, Al
     requires profiled { (setup_of facts.now).types ≤ length (setup_of facts.now).profiles }
     requires few { above_profiles (setup_of facts.now).profiles ≤ 64 }
     requires empty { events_of facts.now ≡ [] }
-    ensures place { IfOk result (λ c. any_place c ≡ node.0) }
+    ensures node_number { IfOk result (λ c. any_node_number c ≡ node.0) }
     ensures stands { IfOk result (λ c. any_stands c (setup_of facts.now) (events_of facts.now)) }
 {
     match facts.tree.row(node).control {
@@ -57,11 +57,11 @@ fn control_of(alloc: Global, node: Node, facts: &Facts) -> Result<AnyControl, Al
 }
 
 impl Control for AnyControl {
-    ghost use Rattle.engine_core.specs.AnyControls.{any_stands, any_place, any_spare, any_orderly};
+    ghost use Rattle.engine_core.specs.AnyControls.{any_stands, any_node_number, any_spare, any_orderly};
 
     ghost stands = { any_stands };
 
-    ghost place = { any_place };
+    ghost node_number = { any_node_number };
 
     ghost spare = { any_spare };
 

@@ -4,38 +4,38 @@ ghost use Rattle.std.specs.Prelude.{◌≡◌};
 ghost use Rattle.teb_laws.specs.Lawful.{Lawful, Settled};
 ghost use Rattle.engine_core.specs.Decisions.{carried, IsBounded};
 ghost use Rattle.engine_core.specs.Stores.{store_of};
-ghost use Rattle.engine_core.specs.Wholes.{KernelIsWhole, HasRoom};
+ghost use Rattle.engine_core.specs.Wholes.{StateIsWhole, HasRoom};
 
+use crate::append_event::append_event;
 use crate::decision::Decision;
+use crate::engine_state::EngineState;
 use crate::falls::fall;
-use crate::kernel::Kernel;
 use crate::read_cells::read_cells;
-use crate::write::write;
 use phase_api::Control;
 use teb_names::Reply;
 use version_chain::Chains;
 
 /// Writes the events of a decision, and gives the reply.
-pub fn carry_out<K: Control, C: Chains>(decision: Decision, kernel: &mut Kernel<K, C>) -> Reply
-    requires whole { KernelIsWhole K.place K.stands C.lists kernel.old }
-    requires settled { Settled kernel.old.history.events }
-    requires leads { Lawful (store_of kernel.old.setup).setup (carried (store_of kernel.old.setup) kernel.old.history.events decision).1 }
-    requires bounded { IsBounded (store_of kernel.old.setup).setup kernel.old.history.events decision }
-    requires room { HasRoom K.spare C.spare kernel.old }
-    ensures reply { result ≡ (carried (store_of kernel.old.setup) kernel.old.history.events decision).0 }
-    ensures events { kernel.new.history.events ≡ (carried (store_of kernel.old.setup) kernel.old.history.events decision).1 }
-    ensures whole { KernelIsWhole K.place K.stands C.lists kernel.new }
-    ensures setup { kernel.new.setup ≡ kernel.old.setup }
+pub fn carry_out<K: Control, C: Chains>(decision: Decision, state: &mut EngineState<K, C>) -> Reply
+    requires whole { StateIsWhole K.node_number K.stands C.lists state.old }
+    requires settled { Settled state.old.history.events }
+    requires leads { Lawful (store_of state.old.setup).setup (carried (store_of state.old.setup) state.old.history.events decision).1 }
+    requires bounded { IsBounded (store_of state.old.setup).setup state.old.history.events decision }
+    requires room { HasRoom K.spare C.spare state.old }
+    ensures reply { result ≡ (carried (store_of state.old.setup) state.old.history.events decision).0 }
+    ensures events { state.new.history.events ≡ (carried (store_of state.old.setup) state.old.history.events decision).1 }
+    ensures whole { StateIsWhole K.node_number K.stands C.lists state.new }
+    ensures setup { state.new.setup ≡ state.old.setup }
 {
     match decision {
         Decision::Answer(reply) => reply.full(),
         Decision::Grant(reply, event) => {
-            write(kernel, event);
+            append_event(state, event);
             reply.full()
         }
-        Decision::Scan(t, first, count) => Reply::Values(read_cells(kernel, t, first, count)),
+        Decision::Scan(t, first, count) => Reply::Values(read_cells(state, t, first, count)),
         Decision::Fall(t, cause) => {
-            fall(kernel, t, cause);
+            fall(state, t, cause);
             Reply::Aborted(cause)
         }
     }

@@ -11,12 +11,12 @@ ghost use Rattle.dependency_book.specs.Books.{BookOf};
 ghost use Rattle.tree_toml.specs.Seen.{setup_view};
 ghost use Rattle.tree_toml.specs.Sound.{IsWhole};
 ghost use Rattle.engine_core.specs.Stores.{store_of};
-ghost use Rattle.engine_core.specs.AnyControls.{any_place, any_spare, any_stands};
-ghost use Rattle.engine_core.specs.State.{IsEngine, IsOfEngine};
+ghost use Rattle.engine_core.specs.AnyControls.{any_node_number, any_spare, any_stands};
+ghost use Rattle.engine_core.specs.EngineModel.{IsEngine, IsOfEngine};
 
 use crate::any_control::{AnyControl, controls_of};
 use crate::carry_out::carry_out;
-use crate::kernel::{Kernel, facts_of};
+use crate::engine_state::{EngineState, facts_of};
 use crate::room::make_room;
 use cursor_book::Cursors;
 use dependency_book::Book;
@@ -31,20 +31,20 @@ use version_chain::Chains;
 /// newest first, and whether there is room for an answer.
 #[derive(Drop)]
 pub struct Engine<C: Chains> {
-    kernel: Box<Kernel<AnyControl, C>>,
+    state: Box<EngineState<AnyControl, C>>,
     ready: bool,
 }
 
 impl<C: Chains> Model for Engine<C> {
     ghost use Rattle.engine_core.specs.Stores.{store_of};
-    ghost use Rattle.engine_core.specs.AnyControls.{any_place, any_stands, any_spare};
-    ghost use Rattle.engine_core.specs.State.{State, IsEngine};
+    ghost use Rattle.engine_core.specs.AnyControls.{any_node_number, any_stands, any_spare};
+    ghost use Rattle.engine_core.specs.EngineModel.{EngineModel, IsEngine};
 
-    ghost Value = { State };
+    ghost Value = { EngineModel };
 
-    ghost view = { λ e. record { store = store_of e.kernel.value.setup; names = e.kernel.value.setup.names; events = e.kernel.value.history.events; ready = e.ready } };
+    ghost view = { λ e. record { store = store_of e.state.value.setup; names = e.state.value.setup.names; events = e.state.value.history.events; ready = e.ready } };
 
-    ghost invariant = { λ e. IsEngine any_place any_stands any_spare C.lists C.spare e.kernel.value e.ready };
+    ghost invariant = { λ e. IsEngine any_node_number any_stands any_spare C.lists C.spare e.state.value e.ready };
 }
 
 impl<C: Chains> Engine<C> {
@@ -57,9 +57,9 @@ impl<C: Chains> Engine<C> {
         ensures events { IfOk result (λ e. e.events ≡ []) }
         ensures ready { IfOk result (λ e. e.ready ≡ false) }
     {
-        let kernel = new_kernel(alloc, setup, chains)?;
+        let state = new_state(alloc, setup, chains)?;
         Ok(Engine {
-            kernel: Box::new(alloc, kernel)?,
+            state: Box::new(alloc, state)?,
             ready: false,
         })
     }
@@ -75,7 +75,7 @@ impl<C: Chains> Engine<C> {
         if self.ready {
             return Ok(());
         }
-        make_room(&mut self.kernel)?;
+        make_room(&mut self.state)?;
         self.ready = true;
         Ok(())
     }
@@ -90,7 +90,7 @@ impl<C: Chains> Engine<C> {
         ensures ready { self.new.ready ≡ false }
     {
         self.ready = false;
-        answer_in(&mut self.kernel, session, request)
+        answer_in(&mut self.state, session, request)
     }
 
     /// What has happened so far: a history of the store to which requests lead, each event of which the rules granted.
@@ -100,7 +100,7 @@ impl<C: Chains> Engine<C> {
         ensures reached { IsOfEngine self.now }
         ensures lawful { Lawful self.now.store.setup self.now.events }
     {
-        &self.kernel.history
+        &self.state.history
     }
 
     /// What the store is set up with.
@@ -109,69 +109,69 @@ impl<C: Chains> Engine<C> {
         ensures names { result.now.names ≡ self.now.names }
         ensures whole { IsWhole (setup_view result.now) }
     {
-        &self.kernel.setup
+        &self.state.setup
     }
 
     /// The versions of the cells.
     pub fn chains(&self) -> &C
         ensures { HoldsVersions self.now.store.setup self.now.events (C.lists result.now) }
     {
-        &self.kernel.chains
+        &self.state.chains
     }
 
     /// The controls of the nodes, in ascending number.
     pub fn controls(&self) -> &[AnyControl]
-        ensures { StandAll any_place any_stands result.now self.now.store.setup self.now.events }
+        ensures { StandAll any_node_number any_stands result.now self.now.store.setup self.now.events }
     {
-        &self.kernel.controls
+        &self.state.controls
     }
 
     /// Who read and who put each cell.
     pub fn book(&self) -> &Book
         ensures { BookOf result.now.lists self.now.events }
     {
-        &self.kernel.book
+        &self.state.book
     }
 
     /// The history alone.
     pub fn into_history(self) -> History
         ensures { result.events ≡ self.events }
     {
-        Box::into_inner(self.kernel).history
+        Box::into_inner(self.state).history
     }
 }
 
 /// Answers a request by what an engine keeps. It uses up the room, and takes no memory.
 fn answer_in<C: Chains>(
-    kernel: &mut Kernel<AnyControl, C>,
+    state: &mut EngineState<AnyControl, C>,
     session: Session,
     request: Request,
 ) -> Reply
-    requires { IsEngine any_place any_stands any_spare C.lists C.spare kernel.old true }
-    ensures kept { IsEngine any_place any_stands any_spare C.lists C.spare kernel.new false }
-    ensures setup { kernel.new.setup ≡ kernel.old.setup }
-    ensures reply { result ≡ (answer (store_of kernel.old.setup) kernel.old.history.events session request).0 }
-    ensures events { kernel.new.history.events ≡ (answer (store_of kernel.old.setup) kernel.old.history.events session request).1 }
+    requires { IsEngine any_node_number any_stands any_spare C.lists C.spare state.old true }
+    ensures kept { IsEngine any_node_number any_stands any_spare C.lists C.spare state.new false }
+    ensures setup { state.new.setup ≡ state.old.setup }
+    ensures reply { result ≡ (answer (store_of state.old.setup) state.old.history.events session request).0 }
+    ensures events { state.new.history.events ≡ (answer (store_of state.old.setup) state.old.history.events session request).1 }
 {
-    let decision = kernel.decide(session, request);
-    carry_out(decision, kernel)
+    let decision = state.decide(session, request);
+    carry_out(decision, state)
 }
 
 /// What an engine keeps of an empty history.
-fn new_kernel<C: Chains>(
+fn new_state<C: Chains>(
     alloc: Global,
     setup: Setup,
     chains: C,
-) -> Result<Kernel<AnyControl, C>, AllocError>
+) -> Result<EngineState<AnyControl, C>, AllocError>
     requires setup { IsWhole (setup_view setup) }
     requires chains { (x : Cell) → C.lists chains x ≡ [] }
-    ensures kept { IfOk result (λ k. IsEngine any_place any_stands any_spare C.lists C.spare k false) }
+    ensures kept { IfOk result (λ k. IsEngine any_node_number any_stands any_spare C.lists C.spare k false) }
     ensures events { IfOk result (λ k. k.history.events ≡ []) }
     ensures setup { IfOk result (λ k. k.setup ≡ setup) }
 {
     let history = History::new(alloc);
     let controls = controls_of(alloc, &facts_of(&history, &setup))?;
-    Ok(Kernel {
+    Ok(EngineState {
         setup,
         history,
         controls,

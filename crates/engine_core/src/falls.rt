@@ -5,10 +5,10 @@ ghost use Rattle.teb_history.specs.Phases.{unfinished};
 ghost use Rattle.teb_rules.specs.Cascade.{abort};
 ghost use Rattle.teb_laws.specs.Lawful.{Settled};
 ghost use Rattle.engine_core.specs.Stores.{store_of};
-ghost use Rattle.engine_core.specs.Wholes.{KernelIsWhole, LogHasRoom};
+ghost use Rattle.engine_core.specs.Wholes.{StateIsWhole, LogHasRoom};
 
-use crate::kernel::{Kernel, facts_of};
-use crate::write::write;
+use crate::append_event::append_event;
+use crate::engine_state::{EngineState, facts_of};
 use abort_cascade::cascade;
 use phase_api::Control;
 use teb_history::Event;
@@ -16,21 +16,21 @@ use teb_names::{Cause, Txn};
 use version_chain::Chains;
 
 /// Aborts an unfinished transaction, and then all that have to fall with it, in ascending number.
-pub fn fall<K: Control, C: Chains>(kernel: &mut Kernel<K, C>, t: Txn, cause: Cause)
-    requires whole { KernelIsWhole K.place K.stands C.lists kernel.old }
-    requires settled { Settled kernel.old.history.events }
-    requires unfinished { IsTrue (unfinished kernel.old.history.events t.0) }
-    requires room { LogHasRoom K.spare 32 kernel.old }
-    ensures whole { KernelIsWhole K.place K.stands C.lists kernel.new }
-    ensures events { kernel.new.history.events ≡ abort kernel.old.history.events t.0 cause }
-    ensures setup { kernel.new.setup ≡ kernel.old.setup }
+pub fn fall<K: Control, C: Chains>(state: &mut EngineState<K, C>, t: Txn, cause: Cause)
+    requires whole { StateIsWhole K.node_number K.stands C.lists state.old }
+    requires settled { Settled state.old.history.events }
+    requires unfinished { IsTrue (unfinished state.old.history.events t.0) }
+    requires room { LogHasRoom K.spare 32 state.old }
+    ensures whole { StateIsWhole K.node_number K.stands C.lists state.new }
+    ensures events { state.new.history.events ≡ abort state.old.history.events t.0 cause }
+    ensures setup { state.new.setup ≡ state.old.setup }
 {
-    let fallen = cascade(&kernel.book, &facts_of(&kernel.history, &kernel.setup), t);
-    write(kernel, Event::Gone { txn: t, cause });
+    let fallen = cascade(&state.book, &facts_of(&state.history, &state.setup), t);
+    append_event(state, Event::Gone { txn: t, cause });
     for i in 0..fallen.len() {
         let (txn, blamed) = fallen.at(i);
-        write(
-            kernel,
+        append_event(
+            state,
             Event::Gone {
                 txn,
                 cause: Cause::After(blamed),

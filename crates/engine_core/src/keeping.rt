@@ -7,7 +7,7 @@ ghost use Rattle.teb_laws.specs.TreeFacts.{TreeFacts};
 ghost use Rattle.teb_laws.specs.Lawful.{Lawful};
 ghost use Rattle.teb_history.specs.Phases.{kind_of};
 ghost use Rattle.teb_rules.specs.Setup.{profile};
-ghost use Rattle.phase_api.specs.Told.{setup_of, events_of, IsTyped};
+ghost use Rattle.phase_api.specs.FactsView.{setup_of, events_of, IsTyped};
 ghost use Rattle.phase_api.specs.Versions.{HoldsVersions};
 ghost use Rattle.cursor_book.specs.Cursors.{CursorsOf, moved};
 ghost use Rattle.engine_core.specs.Keeping.{HasRoomForVersion, HasPlace, PutsAt, HasRoomForCursor};

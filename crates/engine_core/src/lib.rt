@@ -4,20 +4,20 @@
 mod accesses;
 mod additions;
 mod any_control;
+mod append_event;
 mod carry_out;
 mod decide;
 mod decision;
 mod engine;
+mod engine_state;
+mod engine_view;
 mod falls;
 mod keeping;
-mod kernel;
 mod notes;
-mod parts;
 mod read_cells;
 mod room;
 mod scans;
 mod stops;
-mod write;
 
 pub use any_control::AnyControl;
 pub use engine::Engine;

@@ -3,14 +3,14 @@
 ghost use Rattle.std.specs.Prelude.{◌≡◌, ◌<◌, ◌≤◌, ◌+◌, ℕ, suc, List, drop, length, OnOk, ◌∷◌};
 ghost use Rattle.teb_history.specs.declared.Event.{Event};
 ghost use Rattle.teb_rules.specs.Setup.{Setup as Rules};
-ghost use Rattle.phase_api.specs.Told.{setup_of, events_of};
+ghost use Rattle.phase_api.specs.FactsView.{setup_of, events_of};
 ghost use Rattle.phase_api.specs.Calls.{MayNote};
 ghost use Rattle.phase_api.specs.Standing.{StandAll};
 ghost use Rattle.engine_core.specs.Noting.{StandFrom, MayNoteFrom};
 ghost use Rattle.engine_core.specs.Stores.{store_of};
 ghost use Rattle.engine_core.specs.Wholes.{RoomFor};
 
-use crate::kernel::facts_of;
+use crate::engine_state::facts_of;
 use phase_api::{Control, Facts};
 use std::alloc::AllocError;
 use teb_history::{Event, History};
@@ -18,12 +18,12 @@ use tree_toml::Setup;
 
 /// The control of each node notes the newest event.
 pub fn note_each<K: Control>(controls: &mut Vec<K>, history: &History, setup: &Setup, event: Event)
-    requires stand { StandAll K.place K.stands controls.old.items (store_of setup.now).setup (drop 1 history.now.events) }
+    requires stand { StandAll K.node_number K.stands controls.old.items (store_of setup.now).setup (drop 1 history.now.events) }
     requires newest { history.now.events ≡ event ∷ drop 1 history.now.events }
     requires may { (n : ℕ) → MayNote (store_of setup.now).setup (drop 1 history.now.events) n event }
     requires nodes { length (store_of setup.now).setup.tree ≤ 64 }
     requires room { RoomFor K.spare 1 controls.old.items }
-    ensures stand { StandAll K.place K.stands controls.new.items (store_of setup.now).setup history.now.events }
+    ensures stand { StandAll K.node_number K.stands controls.new.items (store_of setup.now).setup history.now.events }
     ensures room { (k : ℕ) → RoomFor K.spare (suc k) controls.old.items → RoomFor K.spare k controls.new.items }
 {
     let facts = facts_of(history, setup);
@@ -32,11 +32,11 @@ pub fn note_each<K: Control>(controls: &mut Vec<K>, history: &History, setup: &S
 
 /// Each control notes the newest event; the first of them is that of node n.
 pub fn note_all<K: Control>(controls: &mut [K], facts: &Facts, event: Event, n: usize)
-    requires stands { StandFrom K.place K.stands n controls.old (setup_of facts.now) (drop 1 (events_of facts.now)) }
+    requires stands { StandFrom K.node_number K.stands n controls.old (setup_of facts.now) (drop 1 (events_of facts.now)) }
     requires newest { MayNoteFrom facts.now event n controls.old }
     requires room { RoomFor K.spare 1 controls.old }
     requires few { n + length controls.old ≤ 64 }
-    ensures stands { StandFrom K.place K.stands n controls.new (setup_of facts.now) (events_of facts.now) }
+    ensures stands { StandFrom K.node_number K.stands n controls.new (setup_of facts.now) (events_of facts.now) }
     ensures room { (k : ℕ) → RoomFor K.spare (suc k) controls.old → RoomFor K.spare k controls.new }
 {
     if let Some((first, rest)) = controls.split_first_mut() {
@@ -48,7 +48,7 @@ pub fn note_all<K: Control>(controls: &mut [K], facts: &Facts, event: Event, n: 
 /// Makes room in the control of each node for the events of one answer. They stand for what they stood for, also after an
 /// `Err`.
 pub fn reserve_each<K: Control>(controls: &mut Vec<K>) -> Result<(), AllocError>
-    ensures stand { (S : Rules) (H : List Event) → StandAll K.place K.stands controls.old.items S H → StandAll K.place K.stands controls.new.items S H }
+    ensures stand { (S : Rules) (H : List Event) → StandAll K.node_number K.stands controls.old.items S H → StandAll K.node_number K.stands controls.new.items S H }
     ensures room { OnOk result (RoomFor K.spare 32 controls.new.items) }
 {
     reserve_all(controls)
@@ -56,7 +56,7 @@ pub fn reserve_each<K: Control>(controls: &mut Vec<K>) -> Result<(), AllocError>
 
 /// Makes room in each control for the events of one answer. They stand for what they stood for, also after an `Err`.
 pub fn reserve_all<K: Control>(controls: &mut [K]) -> Result<(), AllocError>
-    ensures stands { (n : ℕ) (S : Rules) (H : List Event) → StandFrom K.place K.stands n controls.old S H → StandFrom K.place K.stands n controls.new S H }
+    ensures stands { (n : ℕ) (S : Rules) (H : List Event) → StandFrom K.node_number K.stands n controls.old S H → StandFrom K.node_number K.stands n controls.new S H }
     ensures room { OnOk result (RoomFor K.spare 32 controls.new) }
 {
     if let Some((first, rest)) = controls.split_first_mut() {

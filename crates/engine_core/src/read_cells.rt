@@ -4,11 +4,11 @@ ghost use Rattle.std.specs.Prelude.{◌≡◌, ◌≤◌, ◌+◌, ◌^◌};
 ghost use Rattle.teb_rules.specs.Answer.{cells_from, read_all};
 ghost use Rattle.teb_laws.specs.Lawful.{Lawful};
 ghost use Rattle.engine_core.specs.Stores.{store_of};
-ghost use Rattle.engine_core.specs.Wholes.{KernelIsWhole, LogHasRoom};
+ghost use Rattle.engine_core.specs.Wholes.{StateIsWhole, LogHasRoom};
 
-use crate::kernel::Kernel;
+use crate::append_event::append_event;
+use crate::engine_state::EngineState;
 use crate::scans::cell_at;
-use crate::write::write;
 use phase_api::Control;
 use teb_history::Event;
 use teb_names::{Cell, ScanList, Txn};
@@ -16,27 +16,27 @@ use version_chain::Chains;
 
 /// Reads the cells one after the other, and gives their values. Each is read from the history that has the reads before it.
 pub fn read_cells<K: Control, C: Chains>(
-    kernel: &mut Kernel<K, C>,
+    state: &mut EngineState<K, C>,
     t: Txn,
     first: Cell,
     count: u8,
 ) -> ScanList
-    requires whole { KernelIsWhole K.place K.stands C.lists kernel.old }
-    requires leads { Lawful (store_of kernel.old.setup).setup (read_all (store_of kernel.old.setup) kernel.old.history.events t.0 (cells_from first count)).1 }
+    requires whole { StateIsWhole K.node_number K.stands C.lists state.old }
+    requires leads { Lawful (store_of state.old.setup).setup (read_all (store_of state.old.setup) state.old.history.events t.0 (cells_from first count)).1 }
     requires few { count ≤ 16 }
     requires keys { first.key + count ≤ 2 ^ 32 }
-    requires room { LogHasRoom K.spare 32 kernel.old }
-    ensures values { result ≡ (read_all (store_of kernel.old.setup) kernel.old.history.events t.0 (cells_from first count)).0 }
-    ensures whole { KernelIsWhole K.place K.stands C.lists kernel.new }
-    ensures events { kernel.new.history.events ≡ (read_all (store_of kernel.old.setup) kernel.old.history.events t.0 (cells_from first count)).1 }
-    ensures setup { kernel.new.setup ≡ kernel.old.setup }
+    requires room { LogHasRoom K.spare 32 state.old }
+    ensures values { result ≡ (read_all (store_of state.old.setup) state.old.history.events t.0 (cells_from first count)).0 }
+    ensures whole { StateIsWhole K.node_number K.stands C.lists state.new }
+    ensures events { state.new.history.events ≡ (read_all (store_of state.old.setup) state.old.history.events t.0 (cells_from first count)).1 }
+    ensures setup { state.new.setup ≡ state.old.setup }
 {
     let mut values = ScanList::new();
     for i in 0..count {
         let cell = cell_at(first, i);
-        let (from, value) = kernel.read(t, cell);
-        write(
-            kernel,
+        let (from, value) = state.read(t, cell);
+        append_event(
+            state,
             Event::Got {
                 txn: t,
                 cell,

@@ -1,9 +1,9 @@
 //! Room for the events of one answer.
 
 ghost use Rattle.std.specs.Prelude.{◌≡◌, OnOk};
-ghost use Rattle.engine_core.specs.Wholes.{KernelIsWhole, HasRoom};
+ghost use Rattle.engine_core.specs.Wholes.{StateIsWhole, HasRoom};
 
-use crate::kernel::Kernel;
+use crate::engine_state::EngineState;
 use crate::notes::reserve_each;
 use phase_api::Control;
 use std::alloc::AllocError;
@@ -13,17 +13,17 @@ use version_chain::Chains;
 const MOST_EVENTS: usize = 32;
 
 /// Makes room for one answer. All stands for what it stood for, also after an `Err`.
-pub fn make_room<K: Control, C: Chains>(kernel: &mut Kernel<K, C>) -> Result<(), AllocError>
-    requires { KernelIsWhole K.place K.stands C.lists kernel.old }
-    ensures whole { KernelIsWhole K.place K.stands C.lists kernel.new }
-    ensures events { kernel.new.history.events ≡ kernel.old.history.events }
-    ensures setup { kernel.new.setup ≡ kernel.old.setup }
-    ensures room { OnOk result (HasRoom K.spare C.spare kernel.new) }
+pub fn make_room<K: Control, C: Chains>(state: &mut EngineState<K, C>) -> Result<(), AllocError>
+    requires { StateIsWhole K.node_number K.stands C.lists state.old }
+    ensures whole { StateIsWhole K.node_number K.stands C.lists state.new }
+    ensures events { state.new.history.events ≡ state.old.history.events }
+    ensures setup { state.new.setup ≡ state.old.setup }
+    ensures room { OnOk result (HasRoom K.spare C.spare state.new) }
 {
-    kernel.history.reserve(MOST_EVENTS)?;
-    reserve_each(&mut kernel.controls)?;
-    kernel.book.reserve()?;
-    kernel.chains.reserve()?;
-    kernel.cursors.reserve(1)?;
+    state.history.reserve(MOST_EVENTS)?;
+    reserve_each(&mut state.controls)?;
+    state.book.reserve()?;
+    state.chains.reserve()?;
+    state.cursors.reserve(1)?;
     Ok(())
 }

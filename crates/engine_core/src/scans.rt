@@ -5,14 +5,14 @@ ghost use Rattle.teb_names.specs.declared.Request.TheVariants as request;
 ghost use Rattle.teb_history.specs.Phases.{unfinished};
 ghost use Rattle.teb_rules.specs.Stops.{scan_stop};
 ghost use Rattle.teb_rules.specs.Answer.{answer_of, cells_from, is_scan};
-ghost use Rattle.engine_core.specs.Wholes.{store_in, events_in, AreWhole};
+ghost use Rattle.engine_core.specs.Wholes.{store_in, events_in, ViewIsWhole};
 ghost use Rattle.engine_core.specs.Asking.{IsAsking};
 ghost use Rattle.engine_core.specs.Cells.{cell_at};
 ghost use Rattle.engine_core.specs.Decisions.{carried, IsBounded};
 
 use crate::accesses::refusal;
 use crate::decision::{Decision, refused, stopped};
-use crate::parts::Parts;
+use crate::engine_view::EngineView;
 use crate::stops::read_stop;
 use phase_api::Control;
 use teb_names::{Cell, Refusal, Txn};
@@ -21,23 +21,23 @@ use version_chain::Chains;
 
 /// Reads so many cells.
 pub fn decide_scan<K: Control, C: Chains>(
-    parts: &Parts<K, C>,
+    view: &EngineView<K, C>,
     t: Txn,
     first: Cell,
     count: u8,
 ) -> Decision
-    requires whole { AreWhole K.place K.stands C.lists parts.now }
-    requires unfinished { IsTrue (unfinished (events_in parts.now) t.0) }
-    ensures answer { carried (store_in parts.now) (events_in parts.now) result ≡ answer_of (store_in parts.now) (events_in parts.now) t.0 (request.Scan first count) }
-    ensures bounded { IsBounded (store_in parts.now).setup (events_in parts.now) result }
+    requires whole { ViewIsWhole K.node_number K.stands C.lists view.now }
+    requires unfinished { IsTrue (unfinished (events_in view.now) t.0) }
+    ensures answer { carried (store_in view.now) (events_in view.now) result ≡ answer_of (store_in view.now) (events_in view.now) t.0 (request.Scan first count) }
+    ensures bounded { IsBounded (store_in view.now).setup (events_in view.now) result }
 {
-    if let Some(why) = refusal(parts, t, first) {
+    if let Some(why) = refusal(view, t, first) {
         return refused(why);
     }
     if !is_scan(first, count) {
         return refused(Refusal::Range);
     }
-    if let Some(decision) = stopped(t, scan_stop(parts, t, first, count)) {
+    if let Some(decision) = stopped(t, scan_stop(view, t, first, count)) {
         return decision;
     }
     Decision::Scan(t, first, count)
@@ -63,14 +63,14 @@ pub fn cell_at(first: Cell, i: u8) -> Cell
 }
 
 /// Where a scan stops: at the first cell whose read stops.
-fn scan_stop<K: Control, C: Chains>(parts: &Parts<K, C>, t: Txn, first: Cell, count: u8) -> Stop
-    requires whole { AreWhole K.place K.stands C.lists parts.now }
-    requires asks { IsAsking (store_in parts.now).setup (events_in parts.now) t.0 first }
+fn scan_stop<K: Control, C: Chains>(view: &EngineView<K, C>, t: Txn, first: Cell, count: u8) -> Stop
+    requires whole { ViewIsWhole K.node_number K.stands C.lists view.now }
+    requires asks { IsAsking (store_in view.now).setup (events_in view.now) t.0 first }
     requires keys { first.key + count ≤ 2 ^ 32 }
-    ensures { result ≡ scan_stop (store_in parts.now).setup (events_in parts.now) t.0 (cells_from first count) }
+    ensures { result ≡ scan_stop (store_in view.now).setup (events_in view.now) t.0 (cells_from first count) }
 {
     for i in 0..count {
-        match read_stop(parts, t, cell_at(first, i)) {
+        match read_stop(view, t, cell_at(first, i)) {
             Stop::Go => {}
             stop => return stop,
         }

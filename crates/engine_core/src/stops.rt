@@ -4,11 +4,11 @@ ghost use Rattle.std.specs.Prelude.{◌≡◌, ◌<◌, length, true, false, IsT
 ghost use Rattle.teb_history.specs.Phases.{unfinished};
 ghost use Rattle.teb_rules.specs.Stops.{stop_of, access_stop, prepare_stop, commit_stop, begin_stop};
 ghost use Rattle.cc_tree.specs.Grown.{node_numbers};
-ghost use Rattle.engine_core.specs.Wholes.{store_in, events_in, AreWhole};
+ghost use Rattle.engine_core.specs.Wholes.{store_in, events_in, ViewIsWhole};
 ghost use Rattle.engine_core.specs.Stopping.{verdict_on, MayAsk, MayAskAlong};
 ghost use Rattle.engine_core.specs.Asking.{IsAsking};
 
-use crate::parts::Parts;
+use crate::engine_view::EngineView;
 use commit_gate::may_commit;
 use phase_api::Control;
 use teb_names::{Cell, Node, Spot, Txn};
@@ -25,65 +25,65 @@ pub enum Question {
 }
 
 /// Where a read stops.
-pub fn read_stop<K: Control, C: Chains>(parts: &Parts<K, C>, t: Txn, cell: Cell) -> Stop
-    requires whole { AreWhole K.place K.stands C.lists parts.now }
-    requires asks { IsAsking (store_in parts.now).setup (events_in parts.now) t.0 cell }
-    ensures { result ≡ access_stop (store_in parts.now).setup (events_in parts.now) t.0 cell false }
+pub fn read_stop<K: Control, C: Chains>(view: &EngineView<K, C>, t: Txn, cell: Cell) -> Stop
+    requires whole { ViewIsWhole K.node_number K.stands C.lists view.now }
+    requires asks { IsAsking (store_in view.now).setup (events_in view.now) t.0 cell }
+    ensures { result ≡ access_stop (store_in view.now).setup (events_in view.now) t.0 cell false }
 {
-    stop_along(parts.path_of(t), parts, Question::Read(t, cell))
+    stop_along(view.path_of(t), view, Question::Read(t, cell))
 }
 
 /// Where a write stops.
-pub fn write_stop<K: Control, C: Chains>(parts: &Parts<K, C>, t: Txn, cell: Cell) -> Stop
-    requires whole { AreWhole K.place K.stands C.lists parts.now }
-    requires asks { IsAsking (store_in parts.now).setup (events_in parts.now) t.0 cell }
-    ensures { result ≡ access_stop (store_in parts.now).setup (events_in parts.now) t.0 cell true }
+pub fn write_stop<K: Control, C: Chains>(view: &EngineView<K, C>, t: Txn, cell: Cell) -> Stop
+    requires whole { ViewIsWhole K.node_number K.stands C.lists view.now }
+    requires asks { IsAsking (store_in view.now).setup (events_in view.now) t.0 cell }
+    ensures { result ≡ access_stop (store_in view.now).setup (events_in view.now) t.0 cell true }
 {
-    let at = parts.place_of(t, cell);
-    stop_along(parts.path_of(t), parts, Question::Write(t, cell, at))
+    let at = view.place_of(t, cell);
+    stop_along(view.path_of(t), view, Question::Write(t, cell, at))
 }
 
 /// Where a Prepare stops.
-pub fn prepare_stop<K: Control, C: Chains>(parts: &Parts<K, C>, t: Txn) -> Stop
-    requires whole { AreWhole K.place K.stands C.lists parts.now }
-    requires unfinished { IsTrue (unfinished (events_in parts.now) t.0) }
-    ensures { result ≡ prepare_stop (store_in parts.now).setup (events_in parts.now) t.0 }
+pub fn prepare_stop<K: Control, C: Chains>(view: &EngineView<K, C>, t: Txn) -> Stop
+    requires whole { ViewIsWhole K.node_number K.stands C.lists view.now }
+    requires unfinished { IsTrue (unfinished (events_in view.now) t.0) }
+    ensures { result ≡ prepare_stop (store_in view.now).setup (events_in view.now) t.0 }
 {
-    stop_along(parts.path_of(t), parts, Question::Prepare(t))
+    stop_along(view.path_of(t), view, Question::Prepare(t))
 }
 
 /// Where a Commit stops.
-pub fn commit_stop<K: Control, C: Chains>(parts: &Parts<K, C>, t: Txn) -> Stop
-    requires whole { AreWhole K.place K.stands C.lists parts.now }
-    requires unfinished { IsTrue (unfinished (events_in parts.now) t.0) }
-    ensures { result ≡ commit_stop (store_in parts.now).setup (events_in parts.now) t.0 }
+pub fn commit_stop<K: Control, C: Chains>(view: &EngineView<K, C>, t: Txn) -> Stop
+    requires whole { ViewIsWhole K.node_number K.stands C.lists view.now }
+    requires unfinished { IsTrue (unfinished (events_in view.now) t.0) }
+    ensures { result ≡ commit_stop (store_in view.now).setup (events_in view.now) t.0 }
 {
-    may_commit(parts.controls, parts.book, &parts.facts, t)
+    may_commit(view.controls, view.book, &view.facts, t)
 }
 
 /// Where a Begin stops.
-pub fn begin_stop<K: Control, C: Chains>(parts: &Parts<K, C>, spot: Spot) -> Stop
-    requires whole { AreWhole K.place K.stands C.lists parts.now }
-    requires kind { spot.kind.0 < (store_in parts.now).setup.types }
-    ensures { result ≡ begin_stop (store_in parts.now).setup (events_in parts.now) spot }
+pub fn begin_stop<K: Control, C: Chains>(view: &EngineView<K, C>, spot: Spot) -> Stop
+    requires whole { ViewIsWhole K.node_number K.stands C.lists view.now }
+    requires kind { spot.kind.0 < (store_in view.now).setup.types }
+    ensures { result ≡ begin_stop (store_in view.now).setup (events_in view.now) spot }
 {
-    stop_along(parts.facts.tree.path(spot), parts, Question::Begin(spot))
+    stop_along(view.facts.tree.path(spot), view, Question::Begin(spot))
 }
 
 /// Where a question stops along some nodes, from the first on.
 #[tactic(auto, unfolding(teb_rules::specs::Stops::stop_of))]
 fn stop_along<K: Control, C: Chains>(
     nodes: &[Node],
-    parts: &Parts<K, C>,
+    view: &EngineView<K, C>,
     question: Question,
 ) -> Stop
-    requires whole { AreWhole K.place K.stands C.lists parts.now }
-    requires may { MayAskAlong C.lists parts.now question (node_numbers nodes.now) }
-    ensures { result ≡ stop_of (verdict_on (store_in parts.now).setup (events_in parts.now) question) (node_numbers nodes.now) }
+    requires whole { ViewIsWhole K.node_number K.stands C.lists view.now }
+    requires may { MayAskAlong C.lists view.now question (node_numbers nodes.now) }
+    ensures { result ≡ stop_of (verdict_on (store_in view.now).setup (events_in view.now) question) (node_numbers nodes.now) }
 {
     match nodes {
-        [node, rest @ ..] => match verdict_at(parts, question, *node) {
-            Verdict::Go => stop_along(rest, parts, question),
+        [node, rest @ ..] => match verdict_at(view, question, *node) {
+            Verdict::Go => stop_along(rest, view, question),
             Verdict::Wait(who) => Stop::Wait { who, node: *node },
             Verdict::Break(broken) => Stop::Break {
                 node: *node,
@@ -95,18 +95,22 @@ fn stop_along<K: Control, C: Chains>(
 }
 
 /// What one node says.
-fn verdict_at<K: Control, C: Chains>(parts: &Parts<K, C>, question: Question, node: Node) -> Verdict
-    requires whole { AreWhole K.place K.stands C.lists parts.now }
-    requires may { MayAsk C.lists parts.now question node.0 }
-    ensures { result ≡ verdict_on (store_in parts.now).setup (events_in parts.now) question node.0 }
+fn verdict_at<K: Control, C: Chains>(
+    view: &EngineView<K, C>,
+    question: Question,
+    node: Node,
+) -> Verdict
+    requires whole { ViewIsWhole K.node_number K.stands C.lists view.now }
+    requires may { MayAsk C.lists view.now question node.0 }
+    ensures { result ≡ verdict_on (store_in view.now).setup (events_in view.now) question node.0 }
 {
-    let control = parts.control_at(node);
+    let control = view.control_at(node);
     match question {
-        Question::Begin(spot) => control.start(&parts.facts, spot),
-        Question::Read(t, cell) => control.before_read(&parts.facts, t, cell),
+        Question::Begin(spot) => control.start(&view.facts, spot),
+        Question::Read(t, cell) => control.before_read(&view.facts, t, cell),
         Question::Write(t, cell, at) => {
-            control.before_write(&parts.facts, parts.chains, at, t, cell)
+            control.before_write(&view.facts, view.chains, at, t, cell)
         }
-        Question::Prepare(t) => control.validate(&parts.facts, t),
+        Question::Prepare(t) => control.validate(&view.facts, t),
     }
 }

@@ -1,14 +1,14 @@
 //! What an engine lends, as text.
 
 ghost use Rattle.std.specs.Prelude.{IsTrue};
-ghost use Rattle.phase_api.specs.Told.{setup_of, events_of};
+ghost use Rattle.phase_api.specs.FactsView.{setup_of, events_of};
 ghost use Rattle.phase_api.specs.Calls.{IsPair, Writes};
 ghost use Rattle.phase_api.specs.Standing.{StandAll};
 ghost use Rattle.nexus_locks.specs.Controls.{LocksStandFor};
 ghost use Rattle.runtime_pipeline.specs.Standing.{PipelineStands};
 ghost use Rattle.timestamp_node.specs.Controls.{StampsStandFor};
-ghost use Rattle.snapshot_node.specs.Controls.{SnapshotStandsFor, snapshot_place};
-ghost use Rattle.engine_core.specs.AnyControls.{any_place, any_stands};
+ghost use Rattle.snapshot_node.specs.Controls.{SnapshotStandsFor, snapshot_node_number};
+ghost use Rattle.engine_core.specs.AnyControls.{any_node_number, any_stands};
 
 use crate::plan::{ORDERED, PLACED, REPORTED, SOLD};
 use dependency_book::Book;
@@ -82,7 +82,7 @@ fn write_controls(
     facts: &Facts,
     controls: &[AnyControl],
 ) -> Result<(), AllocError>
-    requires { StandAll any_place any_stands controls.now (setup_of facts.now) (events_of facts.now) }
+    requires { StandAll any_node_number any_stands controls.now (setup_of facts.now) (events_of facts.now) }
 {
     for control in controls {
         write_control(text, facts, control)?;
@@ -174,7 +174,7 @@ fn write_snapshot(text: &mut String, facts: &Facts, snapshot: &Snapshot) -> Resu
 /// Whether two transactions meet at a node and are not aborted, and the second has put a cell or is unfinished.
 fn may_ask(facts: &Facts, snapshot: &Snapshot, t: Txn, u: Txn, cell: Cell) -> bool
     requires { SnapshotStandsFor snapshot.now (setup_of facts.now) (events_of facts.now) }
-    ensures pair { IsTrue result → IsPair facts.now (snapshot_place snapshot.now) t.0 u.0 }
+    ensures pair { IsTrue result → IsPair facts.now (snapshot_node_number snapshot.now) t.0 u.0 }
     ensures writes { IsTrue result → Writes (events_of facts.now) u.0 cell }
 {
     let history = facts.history;

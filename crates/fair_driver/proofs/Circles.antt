@@ -12,7 +12,7 @@ use Rattle.teb_history.specs.declared.Event.{Event}
 use Rattle.teb_rules.specs.Driver.{Seat, first_offer, found, offer, seated, turn}
 use Rattle.fair_driver.specs.declared.ring.Asked.{Asked}
 use Rattle.fair_driver.specs.declared.cursor.Cursor.{Cursor}
-use Rattle.script_walk.specs.Places.{requests_on}
+use Rattle.script_walk.specs.ScriptStates.{requests_on}
 use Rattle.fair_driver.specs.Seats.{seat_of, seats_in, round_from, scripts_on}
 use Rattle.fair_driver.specs.Turns.{IsFirst, IsFirstAt, IsTurn, IsTurnOf}
 use Rattle.fair_driver.proofs.Offers.{offer_turned}
@@ -84,7 +84,7 @@ others_front n i ws m l =
     ∙ ap (λ (l : List Seat). l ++ take i ws) (sym (drop-append-le (i + 1) (take n ws) (drop n ws) (omega arith)) ∙ ap (λ (l : List Seat). drop (i + 1) l) (take-append-drop n ws))
 
 nobody : Seat
-nobody = record { session = record { 0 = 0 }; place = record { rest = []; begun = None }; aborts = 0 }
+nobody = record { session = record { 0 = 0 }; state = record { rest = []; begun = None }; aborts = 0 }
 
 -- the first offer of the round
 module _ (H : List Event) (n : ℕ) (ws : List Seat) (within : n ≤ length ws) where
@@ -146,12 +146,12 @@ round_on cs i c v h e =
 
 -- the seats at the start
 pub seat_made : (scripts : List (Session × List Line)) (i : ℕ) (s : Session) (ls : List Line) → option_map (λ (x : Session × List Line). x.0) (slice_get scripts i) ≡ Some s → option_map (λ (x : Session × List Line). x.1) (slice_get scripts i) ≡ Some ls →
-    seated (scripts_on (take (i + 1) scripts)) ≡ seated (scripts_on (take i scripts)) ++ record { session = s; place = at_first (requests_on ls); aborts = 0 } ∷ []
+    seated (scripts_on (take (i + 1) scripts)) ≡ seated (scripts_on (take i scripts)) ++ record { session = s; state = at_first (requests_on ls); aborts = 0 } ∷ []
 seat_made [] i s ls a b = absurd (cc)
 seat_made (x ∷ xs) zero s ls a b = let e : x.0 ≡ s = cc in let f : x.1 ≡ ls = cc in
-    ap₂ (λ (z : Session) (l : List Line). record { session = z; place = at_first (requests_on l); aborts = 0 } ∷ []) e f
+    ap₂ (λ (z : Session) (l : List Line). record { session = z; state = at_first (requests_on l); aborts = 0 } ∷ []) e f
 seat_made (x ∷ xs) (suc i) s ls a b = let e : suc i + 1 ≡ suc (i + 1) = omega arith in
-    rw e (ap (λ (ws : List Seat). record { session = x.0; place = at_first (requests_on x.1); aborts = 0 } ∷ ws) (seat_made xs i s ls a b))
+    rw e (ap (λ (ws : List Seat). record { session = x.0; state = at_first (requests_on x.1); aborts = 0 } ∷ ws) (seat_made xs i s ls a b))
 
 pub seat_there : (cs : List Cursor) (i : ℕ) (c : Cursor) (w : Seat) → i < length cs → c ≡ get_or cs i c → slice_get (seats_in cs) i ≡ Some w → seat_of c ≡ w
 seat_there cs i c w h e g = sym (seat_read cs i c nobody h e) ∙ get_or_from_slice_get (seats_in cs) i w nobody g

@@ -1,4 +1,4 @@
-pub mod Places
+pub mod Counts
 pub mod AtWork
 pub mod Offers
 pub mod Circles

@@ -53,7 +53,7 @@ all_turned p n ws = all_append p (drop n ws) (take n ws) ∙ and_swap (list_all 
 
 -- it is offered the same wherever the round begins
 pub offer_turned : (H : List Event) (n : ℕ) (ws : List Seat) (w : Seat) → offer H (round_from n ws) w ≡ offer H ws w
-offer_turned H n ws w = ap (λ (b : Bool). unless_passed (is_some w.place.begun || b) (asks w.place))
+offer_turned H n ws w = ap (λ (b : Bool). unless_passed (is_some w.state.begun || b) (asks w.state))
     (ap₂ (λ (a b : Bool). not a || ((due w && b) && is_quiet H)) (any_turned due n ws) (all_turned (λ v. not (due v) || leb w.session.0 v.session.0) n ws))
 
 -- who may begin, by who is due and who is chosen

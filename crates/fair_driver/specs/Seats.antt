@@ -4,12 +4,12 @@ use Rattle.teb_names.specs.declared.Session.{Session}
 use Rattle.script_text.specs.declared.Line.{Line}
 use Rattle.teb_rules.specs.Scripts.{Script}
 use Rattle.teb_rules.specs.Driver.{Seat}
-use Rattle.script_walk.specs.Places.{requests_on, place_of}
+use Rattle.script_walk.specs.ScriptStates.{requests_on, state_of}
 use Rattle.fair_driver.specs.declared.cursor.Cursor.{Cursor}
 use Rattle.fair_driver.specs.declared.ring.Ring.{Ring}
 
 abbrev pub seat_of : Cursor → Seat
-seat_of c = record { session = c.session; place = place_of c.lines.now c.walker; aborts = c.aborts }
+seat_of c = record { session = c.session; state = state_of c.lines.now c.walker; aborts = c.aborts }
 
 abbrev pub seats_in : List Cursor → List Seat
 seats_in cursors = map seat_of cursors

@@ -4,7 +4,7 @@ ghost use Rattle.std.specs.Prelude.{◌≡◌, ◌≤◌, List, ◌∷◌};
 ghost use Rattle.teb_names.specs.declared.Request.{Request};
 ghost use Rattle.teb_rules.specs.Scripts.{at_first, asks};
 ghost use Rattle.teb_rules.specs.Driver.{due, counted, seat_after};
-ghost use Rattle.script_walk.specs.Places.{requests_on};
+ghost use Rattle.script_walk.specs.ScriptStates.{requests_on};
 ghost use Rattle.fair_driver.specs.Seats.{seat_of};
 
 use script_text::Line;
@@ -28,7 +28,7 @@ pub struct Cursor<'a> {
 impl<'a> Cursor<'a> {
     /// A session at the first line of its script.
     pub fn new(session: Session, lines: &'a [Line]) -> Cursor<'a>
-        ensures { seat_of result ≡ record { session = session; place = at_first (requests_on lines.now); aborts = 0 } }
+        ensures { seat_of result ≡ record { session = session; state = at_first (requests_on lines.now); aborts = 0 } }
     {
         Cursor {
             session,
@@ -40,7 +40,7 @@ impl<'a> Cursor<'a> {
 
     /// What the session asks next: its line, or behind its last line End where it holds a transaction.
     pub fn next(&self) -> Option<Request>
-        ensures { result ≡ asks (seat_of self.now).place }
+        ensures { result ≡ asks (seat_of self.now).state }
     {
         self.walker.next(self.lines)
     }
@@ -64,7 +64,7 @@ impl<'a> Cursor<'a> {
     /// How often the session was sent back, after an answer. Behind its last line that stays.
     fn aborts_after(&self, reply: &Reply) -> u8
         requires { self.now.aborts ≤ 3 }
-        ensures { result ≡ counted (seat_of self.now).place.rest reply.now self.now.aborts }
+        ensures { result ≡ counted (seat_of self.now).state.rest reply.now self.now.aborts }
     {
         if self.walker.at < self.lines.len() {
             self.aborts_at_line(reply)

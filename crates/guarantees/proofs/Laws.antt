@@ -23,7 +23,7 @@ use Rattle.guarantees.proofs.Strict.{commit_ordered, keeps_real_time}
 use Rattle.guarantees.proofs.Admitted.{Admits, in_time, keeps_admits}
 use Rattle.guarantees.proofs.Unread.{no_cascade, reads_committed}
 use Rattle.guarantees.proofs.Fallen.{Fallen, fell_after, keeps_fallen, none_fallen, positive}
-use Rattle.guarantees.proofs.Told.{answer_names}
+use Rattle.guarantees.proofs.ToldAborts.{answer_names}
 use Rattle.guarantees.proofs.Oldest.{no_deadlock}
 use Rattle.guarantees.proofs.Served.{reads_served, scans_served, writes_is}
 

@@ -4,7 +4,7 @@ pub mod Admitted
 pub mod Unread
 pub mod Fallen
 pub mod Named
-pub mod Told
+pub mod ToldAborts
 pub mod Oldest
 pub mod Served
 pub mod Laws

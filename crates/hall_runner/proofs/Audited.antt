@@ -16,9 +16,9 @@ use Rattle.teb_laws.proofs.Sound.{tree_facts}
 use Rattle.script_text.specs.declared.Answered.{Answered}
 use Rattle.script_text.specs.Ranges.{EventInRange, RowInRange}
 use Rattle.script_text.specs.Texts.{starts_text, event_text, report_text}
-use Rattle.tree_toml.specs.Meaning.{Meaning}
+use Rattle.tree_toml.specs.SetupView.{SetupView}
 use Rattle.tree_toml.specs.Sound.{IsWhole, HasNames}
-use Rattle.input_reader.specs.Stores.{store_of, names_of}
+use Rattle.input_reader.specs.Stores.{store_of_view, names_of}
 use Rattle.input_runner.specs.Runs.{IsReportAfter, IsRunOver}
 use Rattle.input_runner.proofs.Runs.{events_named, starts_named}
 use Rattle.audit_check.specs.Audit.{IsAudited}
@@ -28,13 +28,13 @@ use Rattle.audit_law.proofs.Fitting.{events_fit, starts_fit}
 use Rattle.audit_law.proofs.Laws.{printed_runs_are_audited}
 use Rattle.hall_runner.specs.Served.{lines_of_run}
 
-sound_store : (m : Meaning) → IsWhole m → IsSound (store_of m).setup
+sound_store : (m : SetupView) → IsWhole m → IsSound (store_of_view m).setup
 sound_store m whole = subst (λ (types : ℕ). let S : Setup = record { types = types; profiles = m.profiles; tree = m.tree.rows } in IsSound S) (sym whole.types) whole.sound
 
-names_are : (m : Meaning) → HasNames m → AreNames (names_of m)
+names_are : (m : SetupView) → HasNames m → AreNames (names_of m)
 names_are m has = record { tables = has.tables; types = has.types; nodes = has.nodes }
 
-module _ (m : Meaning) (X : Store) (names : NameBook) (log : List Answered) (H : List Event) (over : IsRunOver m X names log H) (has : HasNames m)
+module _ (m : SetupView) (X : Store) (names : NameBook) (log : List Answered) (H : List Event) (over : IsRunOver m X names log H) (has : HasNames m)
     (starts_in_range : All RowInRange X.rows) (starts_ascend : IsAscending X.rows) (events_in_range : All EventInRange (reverse H)) where
   sound : IsSound X.setup
   sound = subst (λ (Y : Store). IsSound Y.setup) (sym over.store) (sound_store m over.whole)

@@ -11,13 +11,13 @@ use Rattle.teb_rules.specs.Run.{IsLegal, history_of, requests_of}
 use Rattle.teb_rules.specs.Scripts.{IsWalk, entries_of}
 use Rattle.script_text.specs.declared.Line.{Line}
 use Rattle.script_text.specs.declared.Answered.{Answered}
-use Rattle.script_walk.specs.Places.{requests_on}
+use Rattle.script_walk.specs.ScriptStates.{requests_on}
 use Rattle.replay_runner.specs.Logs.{log_of}
-use Rattle.tree_toml.specs.Meaning.{Meaning}
+use Rattle.tree_toml.specs.SetupView.{SetupView}
 use Rattle.tree_toml.specs.Sound.{HasNames}
 use Rattle.audit_check.specs.Audit.{IsAudited}
 use Rattle.command_output.specs.Shown.{Shown}
-use Rattle.input_reader.specs.Stores.{store_of}
+use Rattle.input_reader.specs.Stores.{store_of_view}
 use Rattle.input_runner.specs.Runs.{IsReportAfter, IsRunOver}
 use Rattle.input_runner.proofs.Runs.{is_serialized}
 use Rattle.hall_runner.specs.Served.{AreServed, lines_of_run}
@@ -39,14 +39,14 @@ module _ (X Y : Store) (names book : NameBook) (setup : AreSetUp X names) (entri
     events = history;
   }
 
-  pub run_of : (s : Meaning) × (log : List Answered) × HasNames s × IsRunOver s Y book log H
+  pub run_of : (s : SetupView) × (log : List Answered) × HasNames s × IsRunOver s Y book log H
   run_of = (setup.setup, log_of Y [] (requests_of entries), setup.has_names, over)
 
   pub serialized_over : (o : Shown) → o.history ≡ Some H → IsSerializedOver X o.history
   serialized_over o kept =
       let there = is_serialized setup.setup Y book (log_of Y [] (requests_of entries)) H (Some H) over refl in
       let back : there.0 ≡ setup.setup = sym there.1 in
-      let here : Serializes X H (serial_order X.setup H) = subst (λ (Z : Store). Serializes Z H (serial_order Z.setup H)) (ap store_of back ∙ sym setup.store) there.2 in
+      let here : Serializes X H (serial_order X.setup H) = subst (λ (Z : Store). Serializes Z H (serial_order Z.setup H)) (ap store_of_view back ∙ sym setup.store) there.2 in
       rw kept here
 
   pub are_served : (scripts : List (Session × List Line)) (o : Shown) → IsLegal Y entries

@@ -9,7 +9,7 @@ use Rattle.teb_rules.specs.Scripts.{IsWalk, entries_of}
 use Rattle.turn_lock.specs.Counts.{Has, times}
 use Rattle.version_chain.specs.declared.chains.Chains.{Ghosts}
 use Rattle.script_text.specs.declared.Line.{Line}
-use Rattle.script_walk.specs.Places.{requests_on}
+use Rattle.script_walk.specs.ScriptStates.{requests_on}
 use Rattle.fair_driver.specs.Seats.{scripts_on}
 use Rattle.session_server.specs.declared.hall.Hall.{Hall}
 use Rattle.session_server.specs.declared.pass.Pass.{Pass}

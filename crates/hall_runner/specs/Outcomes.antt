@@ -11,10 +11,10 @@ use Rattle.version_chain.specs.declared.chains.Chains.{Ghosts}
 use Rattle.script_text.specs.declared.Line.{Line}
 use Rattle.script_text.specs.Scripts.{scripts_of}
 use Rattle.session_server.specs.declared.pass.Pass.{Pass}
-use Rattle.tree_toml.specs.Meaning.{Meaning}
+use Rattle.tree_toml.specs.SetupView.{SetupView}
 use Rattle.tree_toml.specs.Sound.{IsWhole, IsNamed, HasNames}
 use Rattle.command_output.specs.Shown.{Shown}
-use Rattle.input_reader.specs.Stores.{store_of, names_of}
+use Rattle.input_reader.specs.Stores.{store_of_view, names_of}
 use Rattle.input_reader.specs.Tasks.{Task}
 use Rattle.hall_runner.specs.Served.{AreServed}
 use Rattle.hall_runner.specs.Spent.{IsSpentOn}
@@ -27,11 +27,11 @@ IsServedOver X names scripts (Through output entries) = AreServed X names script
 IsServedOver X names scripts (Spent p) = IsSpentOn scripts p
 
 abbrev pub IsServedBy : Task → Served → Type 0
-IsServedBy task s = IsServedOver (store_of task.setup) (names_of task.setup) (scripts_of task.lines) s
+IsServedBy task s = IsServedOver (store_of_view task.setup) (names_of task.setup) (scripts_of task.lines) s
 
 -- all scripts were worked through, and the entries are kept; or a pass is spent, and nothing is shown
 abbrev pub IsServedAs : {C : Type 0} {g : Ghosts C} → Task → Option (List Entry) → Option (Pass C g) → Shown → Type 0
-IsServedAs task (Some entries) None d = AreServed (store_of task.setup) (names_of task.setup) (scripts_of task.lines) entries d
+IsServedAs task (Some entries) None d = AreServed (store_of_view task.setup) (names_of task.setup) (scripts_of task.lines) entries d
 IsServedAs task None (Some p) d = IsSpentOn (scripts_of task.lines) p × (d ≡ record { status = 10; text = []; history = None })
 IsServedAs task _ _ d = ⊥
 
@@ -45,9 +45,9 @@ IsSerializedOver X history = IfSome history (λ H. Serializes X H (serial_order 
 
 -- a store and names that are a setup's
 pub record AreSetUp (X : Store) (names : NameBook) : Type 0 where
-  pub setup : Meaning
+  pub setup : SetupView
   pub whole : IsWhole setup
   pub nodes : IsNamed setup
   pub has_names : HasNames setup
-  pub store : X ≡ store_of setup
+  pub store : X ≡ store_of_view setup
   pub named : names ≡ names_of setup

@@ -10,7 +10,7 @@ use Rattle.teb_rules.specs.Run.{IsLegal, history_of}
 use Rattle.teb_rules.specs.Scripts.{IsWalk, entries_of}
 use Rattle.script_text.specs.declared.Line.{Line}
 use Rattle.script_text.specs.Texts.{starts_text, event_text}
-use Rattle.script_walk.specs.Places.{requests_on}
+use Rattle.script_walk.specs.ScriptStates.{requests_on}
 use Rattle.audit_check.specs.Audit.{IsAudited}
 use Rattle.command_output.specs.Shown.{Shown}
 use Rattle.input_runner.specs.Runs.{IsReportAfter}

@@ -4,7 +4,7 @@ use Rattle.teb_names.specs.declared.Session.{Session}
 use Rattle.teb_rules.specs.Scripts.{IsWay}
 use Rattle.version_chain.specs.declared.chains.Chains.{Ghosts}
 use Rattle.script_text.specs.declared.Line.{Line}
-use Rattle.script_walk.specs.Places.{requests_on}
+use Rattle.script_walk.specs.ScriptStates.{requests_on}
 use Rattle.session_server.specs.declared.pass.Pass.{Pass}
 use Rattle.session_server.specs.Passes.{mine}
 

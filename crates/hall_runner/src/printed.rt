@@ -7,7 +7,7 @@ ghost use Rattle.teb_names.specs.Rows.{IsAscending};
 ghost use Rattle.script_text.specs.Named.{EventNamed, RowsNamed};
 ghost use Rattle.script_text.specs.Ranges.{EventInRange, RowInRange};
 ghost use Rattle.serial_order.specs.Tables.{IsFinalRows};
-ghost use Rattle.tree_toml.specs.Meaning.{Meaning};
+ghost use Rattle.tree_toml.specs.SetupView.{SetupView};
 ghost use Rattle.tree_toml.specs.Sound.{HasNames};
 ghost use Rattle.audit_check.specs.Audit.{IsAudited};
 ghost use Rattle.script_text.specs.declared.Answered.{Answered};
@@ -27,7 +27,7 @@ use version_chain::Chains;
 
 /// The printed run of an engine, with status 0, and its history.
 pub fn output_of(alloc: Global, engine: Engine<PooledChains>) -> Result<Output, AllocError>
-    requires { (m : Meaning) × (log : List Answered) × HasNames m × IsRunOver m engine.store engine.names log engine.events }
+    requires { (m : SetupView) × (log : List Answered) × HasNames m × IsRunOver m engine.store engine.names log engine.events }
     ensures run { IfOk result (λ o. (o.status ≡ 0) × (o.history ≡ Some engine.events)
         × IsReportAfter (lines_of_run engine.store engine.names engine.events) engine.store engine.names engine.events o.text) }
     ensures audited { IfOk result (λ o. IsAudited o.text) }

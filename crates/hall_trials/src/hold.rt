@@ -11,7 +11,7 @@ const LOOKS: u32 = 10_000_000;
 
 /// A line of a session, by its number among all lines of the script.
 #[derive(Clone, Copy, PartialEq, Eq)]
-pub(crate) struct Place {
+pub(crate) struct SessionLine {
     pub session: Session,
     pub line: u32,
 }
@@ -19,14 +19,14 @@ pub(crate) struct Place {
 /// Holds a line of one session back until a line of another was answered, or until the limit of looks.
 #[derive(Drop)]
 pub(crate) struct Hold {
-    held: Place,
-    awaited: Place,
+    held: SessionLine,
+    awaited: SessionLine,
     answered: AtomicBool,
     gave_up: AtomicBool,
 }
 
 impl Hold {
-    pub(crate) fn new(held: Place, awaited: Place) -> Hold {
+    pub(crate) fn new(held: SessionLine, awaited: SessionLine) -> Hold {
         Hold {
             held,
             awaited,
@@ -54,13 +54,13 @@ impl Hold {
 
 impl Gate for Hold {
     fn before(&self, session: Session, line: u32) {
-        if (Place { session, line }) == self.held && !self.sees_answer() {
+        if (SessionLine { session, line }) == self.held && !self.sees_answer() {
             self.gave_up.store(true, SeqCst);
         }
     }
 
     fn after(&self, session: Session, line: u32) {
-        if (Place { session, line }) == self.awaited {
+        if (SessionLine { session, line }) == self.awaited {
             self.answered.store(true, SeqCst);
         }
     }

@@ -1,6 +1,6 @@
 //! Sessions served by several workers at the same time.
 
-use crate::hold::{Hold, Place, Unheld};
+use crate::hold::{Hold, SessionLine, Unheld};
 use hall_runner::{Served, serve_by_pool, serve_by_threads};
 use input_reader::{Input, read_input};
 use session_server::Gate;
@@ -85,11 +85,11 @@ fn scripts_of_two(alloc: Global, transactions: usize) -> Result<Vec<u8>, AllocEr
 // One thread that served both sessions would never come to the second: it is held at the first line of the first.
 #[test]
 fn a_session_is_served_while_another_is_held(rt: HostRuntime) -> Result<(), Fail> {
-    let first = Place {
+    let first = SessionLine {
         session: Session(1),
         line: 1,
     };
-    let last = Place {
+    let last = SessionLine {
         session: Session(2),
         line: 6,
     };
@@ -103,11 +103,11 @@ fn a_session_is_served_while_another_is_held(rt: HostRuntime) -> Result<(), Fail
 // Where session i went to worker i mod 2, session 3 would wait behind session 1, which is held for it.
 #[test]
 fn a_worker_takes_the_next_session_while_another_is_held(rt: HostRuntime) -> Result<(), Fail> {
-    let first = Place {
+    let first = SessionLine {
         session: Session(1),
         line: 1,
     };
-    let last = Place {
+    let last = SessionLine {
         session: Session(3),
         line: 9,
     };

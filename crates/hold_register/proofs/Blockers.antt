@@ -13,7 +13,7 @@ use Rattle.teb_rules.specs.Tree.{meets}
 use Rattle.teb_rules.specs.Controls.{blocks}
 use Rattle.teb_laws.proofs.Nodes.{meets_parts}
 use Rattle.phase_api.specs.declared.facts.Facts.{Facts}
-use Rattle.phase_api.specs.Told.{IsOrderly, IsTyped, setup_of, events_of}
+use Rattle.phase_api.specs.FactsView.{IsOrderly, IsTyped, setup_of, events_of}
 use Rattle.hold_book.specs.declared.Hold.{Hold}
 use Rattle.hold_book.specs.Holders.{holds, hold_of, holds_in}
 use Rattle.hold_register.specs.Waits.{some_txn}

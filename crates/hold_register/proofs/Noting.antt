@@ -10,7 +10,7 @@ use Rattle.teb_history.specs.Phases.{begun, unfinished, spot_of}
 use Rattle.teb_rules.specs.Setup.{Setup}
 use Rattle.teb_rules.specs.Tree.{on}
 use Rattle.phase_api.specs.declared.facts.Facts.{Facts}
-use Rattle.phase_api.specs.Told.{IsOrderly, IsTyped, setup_of, events_of}
+use Rattle.phase_api.specs.FactsView.{IsOrderly, IsTyped, setup_of, events_of}
 use Rattle.phase_api.specs.Calls.{MayNote}
 use Rattle.hold_book.specs.Books.{Held}
 use Rattle.hold_book.specs.Holders.{HoldsOf, MayHold, LeavesHolds}

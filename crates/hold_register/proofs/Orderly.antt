@@ -9,7 +9,7 @@ use Rattle.teb_history.specs.Phases.{is_began, began_at, begun, begun_count, unf
 use Rattle.teb_history.specs.Accesses.{is_put, is_got, put_at, got_at, wrote, got}
 use Rattle.teb_history.proofs.Any.{came_any}
 use Rattle.teb_rules.specs.Setup.{Setup}
-use Rattle.phase_api.specs.Told.{IsOrderly}
+use Rattle.phase_api.specs.FactsView.{IsOrderly}
 use Rattle.phase_api.specs.Calls.{MayNote}
 use Rattle.teb_history.proofs.Newest.{begun-cons, wrote-cons, got-cons}
 

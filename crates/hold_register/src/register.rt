@@ -3,7 +3,7 @@
 ghost use Rattle.std.specs.Prelude.{◌≡◌, ◌<◌, ◌≤◌, ◌+◌, [], List, drop, OnOk};
 ghost use Rattle.teb_history.specs.declared.Event.{Event};
 ghost use Rattle.teb_rules.specs.Setup.{Setup};
-ghost use Rattle.phase_api.specs.Told.{setup_of, events_of};
+ghost use Rattle.phase_api.specs.FactsView.{setup_of, events_of};
 ghost use Rattle.phase_api.specs.Calls.{IsNewest};
 ghost use Rattle.hold_book.specs.Holders.{holds_in};
 ghost use Rattle.hold_register.specs.Registered.{Registered};

@@ -13,7 +13,7 @@ use Rattle.script_text.specs.declared.error.ScriptError.TheVariants as script
 use Rattle.script_text.specs.Input.{parts_of}
 use Rattle.script_text.specs.Lines.{lines_of}
 use Rattle.script_text.specs.Grammar.{script_of, Answers}
-use Rattle.tree_toml.specs.Meaning.{Meaning, setup_of}
+use Rattle.tree_toml.specs.SetupView.{SetupView, setup_of_text}
 use Rattle.input_reader.specs.declared.error.InputError.TheVariants.{ReadFault, TooLong, BadLine, OutOfMemory}
 use Rattle.input_reader.specs.Inputs.{input_of, task_of, task_under, script_error}
 use Rattle.input_reader.specs.Reads.{read_error}
@@ -21,8 +21,8 @@ use Rattle.input_reader.specs.Readings.{AreOf, AreReadFrom, IsRead, IsReadFrom}
 use Rattle.input_reader.specs.Stores.{names_of}
 use Rattle.input_reader.specs.Tasks.{Task}
 
-module _ (bytes tree text : List ℕ) (few : length bytes ≤ 4194304) (parts : parts_of bytes ≡ Some (tree, text)) (lines : length (lines_of text) ≤ 65536) (m : Meaning) (setup : setup_of tree ≡ Ok m) where
-  under : input_of bytes ≡ task_under (setup_of tree) text
+module _ (bytes tree text : List ℕ) (few : length bytes ≤ 4194304) (parts : parts_of bytes ≡ Some (tree, text)) (lines : length (lines_of text) ≤ 65536) (m : SetupView) (setup : setup_of_text tree ≡ Ok m) where
+  under : input_of bytes ≡ task_under (setup_of_text tree) text
   under = rw (le-ltb 4194304 (length bytes) few, parts, le-ltb 65536 (length (lines_of text)) lines) refl
 
   -- by what its script was read as

@@ -8,7 +8,7 @@ use Rattle.script_text.specs.Lines.{lines_of}
 use Rattle.script_text.specs.Grammar.{script_of}
 use Rattle.tree_toml.specs.declared.fault.TreeText.{TreeText}
 use Rattle.tree_toml.specs.declared.fault.TreeText.TheVariants as tree
-use Rattle.tree_toml.specs.Meaning.{Meaning, setup_of}
+use Rattle.tree_toml.specs.SetupView.{SetupView, setup_of_text}
 use Rattle.input_reader.specs.declared.error.InputError.{InputError}
 use Rattle.input_reader.specs.declared.error.InputError.TheVariants.{TooLong, NoSeparator, BadTree, BadLine, OutOfMemory}
 use Rattle.input_reader.specs.Stores.{names_of}
@@ -24,19 +24,19 @@ script_error (script.BadLine n why) = BadLine n why
 script_error script.OutOfMemory = OutOfMemory
 
 -- the lines of a script under a setup
-abbrev pub task_of : Meaning → Result (List Line) ScriptError → Result Task InputError
+abbrev pub task_of : SetupView → Result (List Line) ScriptError → Result Task InputError
 task_of m (Ok lines) = Ok (record { setup = m; lines = lines })
 task_of m (Err e) = Err (script_error e)
 
 -- a script under what the tree part is
-abbrev pub task_under : Result Meaning TreeText → List ℕ → Result Task InputError
+abbrev pub task_under : Result SetupView TreeText → List ℕ → Result Task InputError
 task_under (Ok m) text = task_of m (script_of (names_of m) m.format text)
 task_under (Err e) text = Err (tree_error e)
 
 -- at most 65,536 lines
 abbrev pub task_in : Option (List ℕ × List ℕ) → Result Task InputError
 task_in None = Err NoSeparator
-task_in (Some p) = if nat_lt 65536 (length (lines_of p.1)) then Err TooLong else task_under (setup_of p.0) p.1
+task_in (Some p) = if nat_lt 65536 (length (lines_of p.1)) then Err TooLong else task_under (setup_of_text p.0) p.1
 
 -- at most 4,194,304 bytes
 abbrev pub input_of : List ℕ → Result Task InputError

@@ -2,7 +2,7 @@
 use Rattle.std.specs.Prelude.{◌≡◌, ℕ, List, [], ◌++◌, codes, decimal, None, Result, MatchResult, IfOk}
 use Rattle.script_text.specs.declared.error.LineWhy.{LineWhy}
 use Rattle.script_text.specs.declared.error.LineWhy.TheVariants as why
-use Rattle.tree_toml.specs.Meaning.{Meaning}
+use Rattle.tree_toml.specs.SetupView.{SetupView}
 use Rattle.tree_toml.specs.Texts.{fault_text}
 use Rattle.command_output.specs.Shown.{Shown, line_alone}
 use Rattle.input_reader.specs.declared.error.InputError.{InputError}
@@ -31,5 +31,5 @@ abbrev pub ShowsInput : (Task → Shown → Type 0) → List ℕ → Shown → T
 ShowsInput R bytes d = MatchResult (input_of bytes) (λ task. R task d) (λ e. d ≡ refusal e)
 
 -- the setup of an input
-abbrev pub IsSetUp : List ℕ → Meaning → Type 0
+abbrev pub IsSetUp : List ℕ → SetupView → Type 0
 IsSetUp bytes m = IfOk (input_of bytes) (λ task. task.setup ≡ m)

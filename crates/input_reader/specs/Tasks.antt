@@ -1,9 +1,9 @@
 -- What an input asks for.
 use Rattle.std.specs.Prelude.{List}
 use Rattle.script_text.specs.declared.Line.{Line}
-use Rattle.tree_toml.specs.Meaning.{Meaning}
+use Rattle.tree_toml.specs.SetupView.{SetupView}
 
 -- a setup, and the lines to be run over its store
 pub record Task : Type 0 where
-  pub setup : Meaning
+  pub setup : SetupView
   pub lines : List Line

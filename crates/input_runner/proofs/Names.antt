@@ -12,15 +12,15 @@ use Rattle.teb_history.specs.declared.Event.{Event}
 use Rattle.teb_history.specs.declared.Event.TheVariants as event
 use Rattle.teb_laws.specs.Within.{NodeWithin, CauseWithin, ReplyWithin, EventWithin, AllWithin}
 use Rattle.script_text.specs.Named.{NodeNamed, CauseNamed, ReplyNamed, EventNamed}
-use Rattle.tree_toml.specs.Meaning.{Meaning}
+use Rattle.tree_toml.specs.SetupView.{SetupView}
 use Rattle.tree_toml.specs.Sound.{IsWhole, IsNamed}
-use Rattle.input_reader.specs.Stores.{store_of, names_of}
+use Rattle.input_reader.specs.Stores.{store_of_view, names_of}
 
-module _ (m : Meaning) (whole : IsWhole m) (named : IsNamed m) where
-  node_named : (n : Node) → NodeWithin (store_of m) n → NodeNamed (names_of m) n
+module _ (m : SetupView) (whole : IsWhole m) (named : IsNamed m) where
+  node_named : (n : Node) → NodeWithin (store_of_view m) n → NodeNamed (names_of m) n
   node_named n h = subst (λ (nodes : ℕ). n.0 < nodes) named h
 
-  cause_named : (c : Cause) → CauseWithin (store_of m) c → CauseNamed (names_of m) c
+  cause_named : (c : Cause) → CauseWithin (store_of_view m) c → CauseNamed (names_of m) c
   cause_named (cause.Late n r x) h = (node_named n h.0, h.1)
   cause_named (cause.First n w x) h = (node_named n h.0, h.1)
   cause_named (cause.Pivot n a b c d) h = node_named n h
@@ -29,7 +29,7 @@ module _ (m : Meaning) (whole : IsWhole m) (named : IsNamed m) where
   cause_named cause.Asked h = h
   cause_named cause.Ended h = h
 
-  pub reply_named : (r : Reply) → ReplyWithin (store_of m) r → ReplyNamed (names_of m) r
+  pub reply_named : (r : Reply) → ReplyWithin (store_of_view m) r → ReplyNamed (names_of m) r
   reply_named (reply.Begun t) h = h
   reply_named (reply.Value v) h = h
   reply_named (reply.Values vs) h = h
@@ -40,7 +40,7 @@ module _ (m : Meaning) (whole : IsWhole m) (named : IsNamed m) where
   reply_named (reply.Aborted c) h = cause_named c h
   reply_named (reply.Refused w) h = h
 
-  event_named : (e : Event) → EventWithin (store_of m) e → EventNamed (names_of m) e
+  event_named : (e : Event) → EventWithin (store_of_view m) e → EventNamed (names_of m) e
   event_named (event.Began t s k i) h = subst (λ (types : ℕ). k.0 < types) whole.types h
   event_named (event.Got t x u v) h = h
   event_named (event.Put t x v) h = h
@@ -50,6 +50,6 @@ module _ (m : Meaning) (whole : IsWhole m) (named : IsNamed m) where
   event_named (event.Told t) h = h
 
   -- of a history, the oldest event first
-  pub all_named : (H : List Event) → AllWithin (store_of m) H → All (EventNamed (names_of m)) (reverse H)
+  pub all_named : (H : List Event) → AllWithin (store_of_view m) H → All (EventNamed (names_of m)) (reverse H)
   all_named [] h = All-nil (EventNamed (names_of m))
   all_named (e ∷ P) h = subst (All (EventNamed (names_of m))) (sym (reverse-append (e ∷ []) P)) (All-append (EventNamed (names_of m)) (reverse P) (e ∷ []) (all_named P h.1) (All-cons (EventNamed (names_of m)) e [] (event_named e h.0) (All-nil (EventNamed (names_of m)))))

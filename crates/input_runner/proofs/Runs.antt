@@ -32,9 +32,9 @@ use Rattle.replay_runner.proofs.Logged.{history_none}
 use Rattle.replay_runner.proofs.Within.{log_within}
 use Rattle.fair_driver.specs.Logged.{IsOf, answers_of}
 use Rattle.fair_driver.specs.Seats.{scripts_on}
-use Rattle.tree_toml.specs.Meaning.{Meaning}
+use Rattle.tree_toml.specs.SetupView.{SetupView}
 use Rattle.tree_toml.specs.Sound.{IsWhole, IsNamed}
-use Rattle.input_reader.specs.Stores.{store_of, names_of}
+use Rattle.input_reader.specs.Stores.{store_of_view, names_of}
 use Rattle.input_reader.specs.Tasks.{Task}
 use Rattle.input_runner.proofs.Names.{reply_named, all_named}
 use Rattle.input_runner.specs.Runs.{IsRunOver, IsSerialized}
@@ -47,25 +47,25 @@ follows_log X H ws (e ∷ entries) f =
     ap₂ (λ (a : Reply) (more : List Answered). record { session = e.session; reply = a } ∷ more) f.4
     (follows_log X (answer X H e.session e.request).1 (round_after f.0 e.reply) entries f.5)
 
-module _ (m : Meaning) (whole : IsWhole m) (named : IsNamed m) where
-  pub sound : IsSound (store_of m).setup
+module _ (m : SetupView) (whole : IsWhole m) (named : IsNamed m) where
+  pub sound : IsSound (store_of_view m).setup
   sound = subst (λ (types : ℕ). let S : Setup = record { types = types; profiles = m.profiles; tree = m.tree.rows } in IsSound S) (sym whole.types) whole.sound
 
-  log_named : (asked : Requests) → All (λ (a : Answered). ReplyNamed (names_of m) a.reply) (log_of (store_of m) [] asked)
+  log_named : (asked : Requests) → All (λ (a : Answered). ReplyNamed (names_of m) a.reply) (log_of (store_of_view m) [] asked)
   log_named asked k d low =
-      reply_named m whole named _ (subst (λ (H : List Event). All (λ (a : Answered). ReplyWithin (store_of m) a.reply) (log_of (store_of m) H asked)) (history_none (store_of m) []) (log_within (store_of m) sound [] asked) k d low)
+      reply_named m whole named _ (subst (λ (H : List Event). All (λ (a : Answered). ReplyWithin (store_of_view m) a.reply) (log_of (store_of_view m) H asked)) (history_none (store_of_view m) []) (log_within (store_of_view m) sound [] asked) k d low)
 
-  final_rows : (asked : Requests) (rows : List (Cell × ℤ)) → IsFinalRows (store_of m) (history_after (store_of m) [] asked) rows → All (λ (r : Cell × ℤ). CellNamed (names_of m) r.0) rows
-  final_rows asked rows f = rows_within (store_of m) (history_after (store_of m) [] asked) rows (λ x v. row_within (length m.tables) m.rows x v whole.cells) (stays_within (store_of m) sound asked).events f
+  final_rows : (asked : Requests) (rows : List (Cell × ℤ)) → IsFinalRows (store_of_view m) (history_after (store_of_view m) [] asked) rows → All (λ (r : Cell × ℤ). CellNamed (names_of m) r.0) rows
+  final_rows asked rows f = rows_within (store_of_view m) (history_after (store_of_view m) [] asked) rows (λ x v. row_within (length m.tables) m.rows x v whole.cells) (stays_within (store_of_view m) sound asked).events f
 
-  events_are_named : (asked : Requests) → All (EventNamed (names_of m)) (reverse (history_after (store_of m) [] asked))
-  events_are_named asked = all_named m whole named _ (stays_within (store_of m) sound asked).events
+  events_are_named : (asked : Requests) → All (EventNamed (names_of m)) (reverse (history_after (store_of_view m) [] asked))
+  events_are_named asked = all_named m whole named _ (stays_within (store_of_view m) sound asked).events
 
 -- of such a run: what its replies and final rows name has a name, and it is serialized
-module _ (m : Meaning) (X : Store) (names : NameBook) (log : List Answered) (H : List Event) (over : IsRunOver m X names log H) where
+module _ (m : SetupView) (X : Store) (names : NameBook) (log : List Answered) (H : List Event) (over : IsRunOver m X names log H) where
   pub replies_named : (book : NameBook) (now : List Answered) → book ≡ names → now ≡ log → All (λ (a : Answered). ReplyNamed book a.reply) now
   replies_named book now b l =
-      let r : log ≡ log_of (store_of m) [] over.asked = subst (λ (Y : Store). log ≡ log_of Y [] over.asked) over.store over.replies in
+      let r : log ≡ log_of (store_of_view m) [] over.asked = subst (λ (Y : Store). log ≡ log_of Y [] over.asked) over.store over.replies in
       subst (λ (k : NameBook). All (λ (a : Answered). ReplyNamed k a.reply) now) (sym (b ∙ over.named))
       (subst (λ (w : List Answered). All (λ (a : Answered). ReplyNamed (names_of m) a.reply) w) (sym (l ∙ r)) (log_named m over.whole over.nodes over.asked))
 
@@ -76,23 +76,23 @@ module _ (m : Meaning) (X : Store) (names : NameBook) (log : List Answered) (H :
 
   pub events_named : All (EventNamed names) (reverse H)
   events_named =
-      let e : H ≡ history_after (store_of m) [] over.asked = subst (λ (Y : Store). H ≡ history_after Y [] over.asked) over.store over.events in
+      let e : H ≡ history_after (store_of_view m) [] over.asked = subst (λ (Y : Store). H ≡ history_after Y [] over.asked) over.store over.events in
       rw (e, over.named) (events_are_named m over.whole over.nodes over.asked)
 
   pub starts_named : All (λ (r : Cell × ℤ). CellNamed names r.0) X.rows
   starts_named = rw (over.store, over.named) over.whole.cells
 
-  serialized : Serializes (store_of m) H (serial_order (store_of m).setup H)
+  serialized : Serializes (store_of_view m) H (serial_order (store_of_view m).setup H)
   serialized =
-      let e : H ≡ history_after (store_of m) [] over.asked = subst (λ (Y : Store). H ≡ history_after Y [] over.asked) over.store over.events in
-      subst (λ (G : List Event). Serializes (store_of m) G (serial_order (store_of m).setup G)) (sym e) (every_run_serializes (store_of m) (sound m over.whole over.nodes) over.asked)
+      let e : H ≡ history_after (store_of_view m) [] over.asked = subst (λ (Y : Store). H ≡ history_after Y [] over.asked) over.store over.events in
+      subst (λ (G : List Event). Serializes (store_of_view m) G (serial_order (store_of_view m).setup G)) (sym e) (every_run_serializes (store_of_view m) (sound m over.whole over.nodes) over.asked)
 
 -- so the history that was kept of it is serialized
-pub is_serialized : (m : Meaning) (X : Store) (names : NameBook) (log : List Answered) (H : List Event) (history : Option (List Event)) → IsRunOver m X names log H → history ≡ Some H → IsSerialized (λ (s : Meaning). m ≡ s) history
+pub is_serialized : (m : SetupView) (X : Store) (names : NameBook) (log : List Answered) (H : List Event) (history : Option (List Event)) → IsRunOver m X names log H → history ≡ Some H → IsSerialized (λ (s : SetupView). m ≡ s) history
 is_serialized m X names log H history over kept = rw kept (m, refl, serialized m X names log H over)
 
 -- an engine's replies and history, where its store is the setup's, are a run over it
-module _ (m : Meaning) (X Y : Store) (names : NameBook) (log : List Answered) (H : List Event) (whole : IsWhole m) (nodes : IsNamed m) (store : X ≡ store_of m) (kept : Y ≡ X) (named : names ≡ names_of m) where
+module _ (m : SetupView) (X Y : Store) (names : NameBook) (log : List Answered) (H : List Event) (whole : IsWhole m) (nodes : IsNamed m) (store : X ≡ store_of_view m) (kept : Y ≡ X) (named : names ≡ names_of m) where
   run_over : (asked : Requests) → log ≡ log_of X [] asked → H ≡ history_after X [] asked → IsRunOver m Y names log H
   run_over asked replies events = record {
     whole = whole;

@@ -20,10 +20,10 @@ use Rattle.script_text.specs.Texts.{reply_text, report_text}
 use Rattle.replay_runner.specs.Logs.{Requests, log_of, replayed}
 use Rattle.fair_driver.specs.Seats.{scripts_on}
 use Rattle.fair_driver.specs.Logged.{IsOf}
-use Rattle.tree_toml.specs.Meaning.{Meaning}
+use Rattle.tree_toml.specs.SetupView.{SetupView}
 use Rattle.tree_toml.specs.Sound.{IsWhole, IsNamed}
 use Rattle.command_output.specs.Shown.{Shown}
-use Rattle.input_reader.specs.Stores.{store_of, names_of}
+use Rattle.input_reader.specs.Stores.{store_of_view, names_of}
 use Rattle.input_reader.specs.Tasks.{Task}
 
 -- which replies and which history come of these lines, over a store
@@ -41,10 +41,10 @@ pub record AreTurns (X : Store) (lines : List Line) (log : List Answered) (H : L
   pub few : length log ≤ most_requests (scripts_on (scripts_of lines))
 
 -- some requests to the store of a setup have these replies and this history
-pub record IsRunOver (m : Meaning) (X : Store) (names : NameBook) (log : List Answered) (H : List Event) : Type 0 where
+pub record IsRunOver (m : SetupView) (X : Store) (names : NameBook) (log : List Answered) (H : List Event) : Type 0 where
   pub whole : IsWhole m
   pub nodes : IsNamed m
-  pub store : X ≡ store_of m
+  pub store : X ≡ store_of_view m
   pub named : names ≡ names_of m
   pub asked : Requests
   pub replies : log ≡ log_of X [] asked
@@ -70,11 +70,11 @@ IsReport X names H log text = IsReportAfter (flat_map (reply_text names) log) X 
 pub record IsRun (R : Run) (S : Says) (task : Task) (d : Shown) : Type 0 where
   pub log : List Answered
   pub history : List Event
-  pub ran : R (store_of task.setup) task.lines log history
+  pub ran : R (store_of_view task.setup) task.lines log history
   pub status : d.status ≡ 0
   pub kept : d.history ≡ Some history
-  pub text : S (store_of task.setup) (names_of task.setup) history log d.text
+  pub text : S (store_of_view task.setup) (names_of task.setup) history log d.text
 
 -- the history, where there is one, is serialized by its serial order, over the store of a setup of which this is so
-abbrev pub IsSerialized : (Meaning → Type 0) → Option (List Event) → Type 0
-IsSerialized Is history = IfSome history (λ H. (m : Meaning) × Is m × Serializes (store_of m) H (serial_order (store_of m).setup H))
+abbrev pub IsSerialized : (SetupView → Type 0) → Option (List Event) → Type 0
+IsSerialized Is history = IfSome history (λ H. (m : SetupView) × Is m × Serializes (store_of_view m) H (serial_order (store_of_view m).setup H))

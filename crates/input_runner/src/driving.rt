@@ -7,7 +7,7 @@ ghost use Rattle.teb_rules.specs.Driver.{Turns};
 ghost use Rattle.driver_laws.specs.Laws.{most_requests};
 ghost use Rattle.fair_driver.specs.Seats.{scripts_on};
 ghost use Rattle.fair_driver.specs.Logged.{IsOf};
-ghost use Rattle.input_reader.specs.Stores.{store_of};
+ghost use Rattle.input_reader.specs.Stores.{store_of_view};
 ghost use Rattle.input_runner.specs.Runs.{AreTurns, IsRunOver};
 
 use crate::ran::Ran;
@@ -23,7 +23,7 @@ use version_chain::Chains;
 
 /// Asks the sessions in turns, each along its script, until all are worked through.
 pub fn in_turns(alloc: Global, input: Input) -> Result<Ran, AllocError>
-    ensures ran { IfOk result (λ r. AreTurns (store_of input.setup) input.lines r.log.items r.engine.events) }
+    ensures ran { IfOk result (λ r. AreTurns (store_of_view input.setup) input.lines r.log.items r.engine.events) }
     ensures over { IfOk result (λ r. IsRunOver input.setup r.engine.store r.engine.names r.log.items r.engine.events) }
 {
     let (setup, lines) = input.into_parts();

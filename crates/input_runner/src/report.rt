@@ -5,7 +5,7 @@ ghost use Rattle.std.specs.List.{flat_map};
 ghost use Rattle.script_text.specs.Texts.{reply_text};
 ghost use Rattle.script_text.specs.Named.{ReplyNamed, RowsNamed};
 ghost use Rattle.serial_order.specs.Tables.{IsFinalRows};
-ghost use Rattle.tree_toml.specs.Meaning.{Meaning};
+ghost use Rattle.tree_toml.specs.SetupView.{SetupView};
 ghost use Rattle.input_runner.specs.Runs.{IsReport, IsReportAfter, IsRunOver};
 
 use engine_core::Engine;
@@ -21,7 +21,7 @@ pub fn report_of<C: Chains>(
     engine: &Engine<C>,
     log: &[Answered],
 ) -> Result<Vec<u8>, AllocError>
-    requires { (m : Meaning) × IsRunOver m engine.now.store engine.now.names log.now engine.now.events }
+    requires { (m : SetupView) × IsRunOver m engine.now.store engine.now.names log.now engine.now.events }
     ensures { IfOk result (λ v. IsReport engine.now.store engine.now.names engine.now.events log.now v.items) }
 {
     let mut text = Vec::new(alloc);

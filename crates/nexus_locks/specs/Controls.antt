@@ -9,8 +9,8 @@ use Rattle.nexus_locks.specs.declared.locks.Locks.{Locks}
 abbrev pub LocksStandFor : Locks → Setup → List Event → Type 0
 LocksStandFor c S H = LocksStand c.register.node.0 c.register.book S H
 
-abbrev pub locks_place : Locks → ℕ
-locks_place c = c.register.node.0
+abbrev pub locks_node_number : Locks → ℕ
+locks_node_number c = c.register.node.0
 
 abbrev pub locks_spare : Locks → ℕ
 locks_spare c = c.register.book.spare

@@ -5,7 +5,7 @@ ghost use Rattle.teb_names.specs.declared.ControlKind.TheVariants.{Locks as IsLo
 ghost use Rattle.teb_history.specs.Phases.{txns};
 ghost use Rattle.teb_rules.specs.Tree.{row};
 ghost use Rattle.teb_rules.specs.Controls.{blocks};
-ghost use Rattle.phase_api.specs.Told.{setup_of, events_of};
+ghost use Rattle.phase_api.specs.FactsView.{setup_of, events_of};
 ghost use Rattle.phase_api.specs.Calls.{IsHere};
 ghost use Rattle.hold_book.specs.Holders.{holds_in};
 ghost use Rattle.hold_register.specs.Waits.{some_txn};
@@ -65,11 +65,11 @@ impl Locks {
 }
 
 impl Control for Locks {
-    ghost use Rattle.nexus_locks.specs.Controls.{LocksStandFor, locks_place, locks_spare};
+    ghost use Rattle.nexus_locks.specs.Controls.{LocksStandFor, locks_node_number, locks_spare};
 
     ghost stands = { LocksStandFor };
 
-    ghost place = { locks_place };
+    ghost node_number = { locks_node_number };
 
     ghost spare = { locks_spare };
 

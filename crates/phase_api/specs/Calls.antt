@@ -11,7 +11,7 @@ use Rattle.teb_rules.specs.Steps.{least_step, cursor}
 use Rattle.teb_rules.specs.declared.Verdict.TheVariants.{Go}
 use Rattle.teb_rules.specs.Stops.{on_begin}
 use Rattle.phase_api.specs.declared.facts.Facts.{Facts}
-use Rattle.phase_api.specs.Told.{setup_of, events_of, IsTyped}
+use Rattle.phase_api.specs.FactsView.{setup_of, events_of, IsTyped}
 
 -- t has begun, and n is on its path
 pub record IsHere (f : Facts) (n t : ℕ) : Type 0 where

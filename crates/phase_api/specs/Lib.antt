@@ -1,4 +1,4 @@
-pub mod Told
+pub mod FactsView
 pub mod Versions
 pub mod Calls
 pub mod Standing

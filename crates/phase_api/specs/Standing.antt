@@ -3,8 +3,8 @@ use Rattle.std.specs.Prelude.{◌≡◌, ℕ, List, length, slice_get, Some}
 use Rattle.teb_history.specs.declared.Event.{Event}
 use Rattle.teb_rules.specs.Setup.{Setup}
 
--- there is a control for each node; that of node n stands at place n, and stands for the history
-pub record StandAll {K : Type 0} (place : K → ℕ) (stands : K → Setup → List Event → Type 0) (controls : List K) (S : Setup) (H : List Event) : Type 0 where
+-- there is a control for each node; that of node n is the n-th, and stands for the history
+pub record StandAll {K : Type 0} (node_number : K → ℕ) (stands : K → Setup → List Event → Type 0) (controls : List K) (S : Setup) (H : List Event) : Type 0 where
   pub one_each : length controls ≡ length S.tree
-  pub in_place : (n : ℕ) (c : K) → slice_get controls n ≡ Some c → place c ≡ n
+  pub each_numbered : (n : ℕ) (c : K) → slice_get controls n ≡ Some c → node_number c ≡ n
   pub each_stands : (n : ℕ) (c : K) → slice_get controls n ≡ Some c → stands c S H

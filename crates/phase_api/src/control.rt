@@ -12,7 +12,7 @@ ghost use Rattle.teb_rules.specs.Controls.{on_access, validate, gate};
 ghost use Rattle.teb_rules.specs.Stops.{on_begin};
 ghost use Rattle.teb_laws.specs.Lawful.{Lawful};
 ghost use Rattle.version_chain.specs.Lists.{writers_of};
-ghost use Rattle.phase_api.specs.Told.{setup_of, events_of, IsOrderly};
+ghost use Rattle.phase_api.specs.FactsView.{setup_of, events_of, IsOrderly};
 ghost use Rattle.phase_api.specs.Calls.{IsHere, IsAccess, IsPair, Writes, IsNewest};
 ghost use Rattle.phase_api.specs.Versions.{HoldsVersions, IsPlaceOf, SourcesStand};
 
@@ -28,41 +28,41 @@ use version_chain::Chains;
 pub trait Control: Drop {
     ghost stands: { Self → Setup → List Event → Type 0 };
 
-    ghost place: { Self → ℕ };
+    ghost node_number: { Self → ℕ };
 
     ghost spare: { Self → ℕ };
 
     /// The node.
     fn node(&self) -> Node
-        ensures { result.0 ≡ place self.now };
+        ensures { result.0 ≡ node_number self.now };
 
     /// Makes room for the events of one answer. It stands for what it stood for, also after an `Err`.
     fn reserve(&mut self) -> Result<(), AllocError>
-        ensures place { place self.new ≡ place self.old }
+        ensures node_number { node_number self.new ≡ node_number self.old }
         ensures stands { (S : Setup) (H : List Event) → stands self.old S H → stands self.new S H }
         ensures room { OnOk result (32 ≤ spare self.new) };
 
     /// Notes the newest event of the history: a control that stood for the history before it then stands for the history with it.
     fn note(&mut self, facts: &Facts, e: Event)
-        requires newest { IsNewest facts.now e (place self.old) }
+        requires newest { IsNewest facts.now e (node_number self.old) }
         requires stands { stands self.old (setup_of facts.now) (drop 1 (events_of facts.now)) }
         requires room { 0 < spare self.old }
         ensures stands { stands self.new (setup_of facts.now) (events_of facts.now) }
-        ensures place { place self.new ≡ place self.old }
+        ensures node_number { node_number self.new ≡ node_number self.old }
         ensures spare { spare self.old ≤ spare self.new + 1 };
 
     /// What a Begin at a spot meets: where the open batch of its side is full, it waits for the batch's least unfinished member.
     fn start(&self, facts: &Facts, s: Spot) -> Verdict
         requires stands { stands self.now (setup_of facts.now) (events_of facts.now) }
         requires kind { s.kind.0 < facts.now.tree.now.types }
-        requires on { IsTrue (on_path (setup_of facts.now).tree (place self.now) s) }
-        ensures { result ≡ on_begin (setup_of facts.now) (events_of facts.now) s (place self.now) };
+        requires on { IsTrue (on_path (setup_of facts.now).tree (node_number self.now) s) }
+        ensures { result ≡ on_begin (setup_of facts.now) (events_of facts.now) s (node_number self.now) };
 
     /// What a read of a cell meets.
     fn before_read(&self, facts: &Facts, t: Txn, cell: Cell) -> Verdict
         requires stands { stands self.now (setup_of facts.now) (events_of facts.now) }
-        requires access { IsAccess facts.now (place self.now) t.0 cell }
-        ensures { result ≡ on_access (row (setup_of facts.now).tree (place self.now)).control (setup_of facts.now) (events_of facts.now) (place self.now) t.0 cell false };
+        requires access { IsAccess facts.now (node_number self.now) t.0 cell }
+        ensures { result ≡ on_access (row (setup_of facts.now).tree (node_number self.now)).control (setup_of facts.now) (events_of facts.now) (node_number self.now) t.0 cell false };
 
     /// What a write of a cell meets. `at` is the place that t's version has, or would have, among those of the cell. Whoever was
     /// read from, by somebody who is not aborted, still has its version: so it is between two answers.
@@ -75,42 +75,42 @@ pub trait Control: Drop {
         cell: Cell,
     ) -> Verdict
         requires stands { stands self.now (setup_of facts.now) (events_of facts.now) }
-        requires access { IsAccess facts.now (place self.now) t.0 cell }
+        requires access { IsAccess facts.now (node_number self.now) t.0 cell }
         requires chains { HoldsVersions (setup_of facts.now) (events_of facts.now) (C.lists chains.now) }
         requires sources { SourcesStand (events_of facts.now) cell }
         requires at { IsPlaceOf (setup_of facts.now) (events_of facts.now) cell t.0 at (writers_of (C.lists chains.now cell)) }
-        ensures { result ≡ on_access (row (setup_of facts.now).tree (place self.now)).control (setup_of facts.now) (events_of facts.now) (place self.now) t.0 cell true };
+        ensures { result ≡ on_access (row (setup_of facts.now).tree (node_number self.now)).control (setup_of facts.now) (events_of facts.now) (node_number self.now) t.0 cell true };
 
     /// Whether a reader sees a writer's version of a cell, for two that meet here.
     fn sees(&self, facts: &Facts, reader: Txn, writer: Txn, cell: Cell) -> bool
         requires stands { stands self.now (setup_of facts.now) (events_of facts.now) }
-        requires pair { IsPair facts.now (place self.now) reader.0 writer.0 }
+        requires pair { IsPair facts.now (node_number self.now) reader.0 writer.0 }
         requires writes { Writes (events_of facts.now) writer.0 cell }
-        ensures { result ≡ sees_by (row (setup_of facts.now).tree (place self.now)).control (setup_of facts.now) (events_of facts.now) (place self.now) cell reader.0 writer.0 };
+        ensures { result ≡ sees_by (row (setup_of facts.now).tree (node_number self.now)).control (setup_of facts.now) (events_of facts.now) (node_number self.now) cell reader.0 writer.0 };
 
     /// Whether u's version of a cell is before w's, for two that meet here.
     fn orders(&self, facts: &Facts, u: Txn, w: Txn, cell: Cell) -> bool
         requires stands { stands self.now (setup_of facts.now) (events_of facts.now) }
-        requires pair { IsPair facts.now (place self.now) u.0 w.0 }
+        requires pair { IsPair facts.now (node_number self.now) u.0 w.0 }
         requires left { Writes (events_of facts.now) u.0 cell }
         requires right { Writes (events_of facts.now) w.0 cell }
-        ensures { result ≡ orders (setup_of facts.now) (events_of facts.now) (place self.now) cell u.0 w.0 };
+        ensures { result ≡ orders (setup_of facts.now) (events_of facts.now) (node_number self.now) cell u.0 w.0 };
 
     /// What the validation of a transaction says. Each event of the history was granted by the rules.
     fn validate(&self, facts: &Facts, t: Txn) -> Verdict
         requires stands { stands self.now (setup_of facts.now) (events_of facts.now) }
         requires tree { IsSound (setup_of facts.now) }
         requires lawful { Lawful (setup_of facts.now) (events_of facts.now) }
-        requires here { IsHere facts.now (place self.now) t.0 }
+        requires here { IsHere facts.now (node_number self.now) t.0 }
         requires unfinished { IsTrue (unfinished (events_of facts.now) t.0) }
-        ensures { result ≡ validate (row (setup_of facts.now).tree (place self.now)).control (setup_of facts.now) (events_of facts.now) (place self.now) t.0 };
+        ensures { result ≡ validate (row (setup_of facts.now).tree (node_number self.now)).control (setup_of facts.now) (events_of facts.now) (node_number self.now) t.0 };
 
     /// Whom a Commit waits for at the gate: the least-numbered one.
     fn gate(&self, facts: &Facts, t: Txn) -> Verdict
         requires stands { stands self.now (setup_of facts.now) (events_of facts.now) }
-        requires here { IsHere facts.now (place self.now) t.0 }
+        requires here { IsHere facts.now (node_number self.now) t.0 }
         requires unfinished { IsTrue (unfinished (events_of facts.now) t.0) }
-        ensures { result ≡ wait_for (find (gate (row (setup_of facts.now).tree (place self.now)).control (setup_of facts.now) (events_of facts.now) (place self.now) t.0) (txns (events_of facts.now))) };
+        ensures { result ≡ wait_for (find (gate (row (setup_of facts.now).tree (node_number self.now)).control (setup_of facts.now) (events_of facts.now) (node_number self.now) t.0) (txns (events_of facts.now))) };
 
     ghost sound: { (c : Self) (S : Setup) (H : List Event) → stands c S H → IsOrderly S H };
 }

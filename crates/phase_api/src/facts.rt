@@ -19,7 +19,7 @@ pub struct Facts<'a> {
 impl<'a> Facts<'a> {
     ghost use Rattle.teb_history.specs.Phases.{begun, spot_of};
     ghost use Rattle.teb_rules.specs.Tree.{on, side, meets};
-    ghost use Rattle.phase_api.specs.Told.{setup_of, events_of, IsTyped};
+    ghost use Rattle.phase_api.specs.FactsView.{setup_of, events_of, IsTyped};
 
     /// The type and the instance with which a transaction began.
     pub fn spot(&self, t: Txn) -> Option<Spot>

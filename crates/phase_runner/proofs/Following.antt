@@ -6,7 +6,7 @@ use Rattle.script_text.specs.declared.Line.{Line}
 use Rattle.script_text.specs.declared.error.ScriptError.{ScriptError}
 use Rattle.script_text.specs.Input.{parts_of}
 use Rattle.script_text.specs.Grammar.{◌>>=◌, script_of}
-use Rattle.tree_toml.specs.Meaning.{Meaning, setup_of}
+use Rattle.tree_toml.specs.SetupView.{SetupView, setup_of_text}
 use Rattle.tree_switch.specs.Names.{same_names}
 use Rattle.tree_switch.proofs.Refusing.{no_rows}
 use Rattle.tree_switch.proofs.SameNames.{same_decides}
@@ -46,24 +46,24 @@ pub one_bad : (xs : List Task) (k : ℕ) (before : Option Task) (p : Pair) (more
 one_bad xs k before p more w e = rw e refl
 
 -- a setup that may follow
-follows : (k : ℕ) (before : Task) (m : Meaning) (u : Unit {0}) → following k (Some before) m ≡ Ok u → (m.tables ≡ before.setup.tables) × (m.rows ≡ [])
+follows : (k : ℕ) (before : Task) (m : SetupView) (u : Unit {0}) → following k (Some before) m ≡ Ok u → (m.tables ≡ before.setup.tables) × (m.rows ≡ [])
 follows k before m u e =
     let a = unless_fault (not (same_names m.tables before.setup.tables)) (BadPhase k Tables) _ u e in
     let b = unless_fault (not (length m.rows == 0)) (BadPhase k Rows) _ u a.1 in
     ((same_decides m.tables before.setup.tables).0 (not-false _ a.0), no_rows m.rows (not-false _ b.0))
 
-setup_is : (m : Meaning) (r : Result (List Line) ScriptError) (task : Task) → script_in (task_of m r) ≡ Ok task → m ≡ task.setup
+setup_is : (m : SetupView) (r : Result (List Line) ScriptError) (task : Task) → script_in (task_of m r) ≡ Ok task → m ≡ task.setup
 setup_is m (Ok lines) task e = let z : record { setup = m; lines = lines } ≡ task = cc in ap (λ (t : Task). t.setup) z
 setup_is m (Err w) task e = absurd (cc)
 
 task_follows : (k : ℕ) (before : Task) (p : Pair) (task : Task) → task_at k (Some before) p ≡ Ok task → (task.setup.tables ≡ before.setup.tables) × (task.setup.rows ≡ [])
 task_follows k before p task e =
-    let script = λ (m : Meaning). script_in (task_of m (script_of (names_of m) m.format p.1)) in
-    let a = gave (tree_in (setup_of p.0)) (λ (m : Meaning). following k (Some before) m >>= (λ (u : Unit {0}). script m)) task e in
+    let script = λ (m : SetupView). script_in (task_of m (script_of (names_of m) m.format p.1)) in
+    let a = gave (tree_in (setup_of_text p.0)) (λ (m : SetupView). following k (Some before) m >>= (λ (u : Unit {0}). script m)) task e in
     let b = gave (following k (Some before) a.0) (λ (u : Unit {0}). script a.0) task a.2 in
     let f = follows k before a.0 b.0 b.1 in
     let s = setup_is a.0 (script_of (names_of a.0) a.0.format p.1) task b.2 in
-    subst (λ (m : Meaning). (m.tables ≡ before.setup.tables) × (m.rows ≡ [])) s f
+    subst (λ (m : SetupView). (m.tables ≡ before.setup.tables) × (m.rows ≡ [])) s f
 
 all_follow : (k : ℕ) (before : Task) (ps : List Pair) (tasks : List Task) → tasks_from k (Some before) ps ≡ Ok tasks → AllFollow before.setup.tables tasks
 all_follow k before [] tasks e = let z : [] ≡ tasks = cc in subst (AllFollow before.setup.tables) z tt

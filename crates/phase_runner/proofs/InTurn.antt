@@ -4,25 +4,25 @@ use Rattle.std.proofs.lemmas.List.{append-nil}
 use Rattle.teb_names.specs.declared.naming.NameBook.{NameBook}
 use Rattle.teb_rules.specs.Setup.{Store}
 use Rattle.serial_order.specs.Tables.{IsFinalRows}
-use Rattle.engine_core.specs.State.{State}
+use Rattle.engine_core.specs.EngineModel.{EngineModel}
 use Rattle.tree_switch.specs.Refusals.{IsDrained, MaySwitch}
 use Rattle.input_reader.specs.Tasks.{Task}
 use Rattle.phase_runner.specs.Runs.{RunFrom, RunInTurn, Table}
 use Rattle.phase_runner.specs.Steps.{AllFollow, AreFollowing, HasRun}
 
 -- the rows that an engine leaves
-abbrev pub Leaves : State → Table → Type 0
+abbrev pub Leaves : EngineModel → Table → Type 0
 Leaves e rows = IsFinalRows e.store e.events rows
 
 -- the present engine has come to its end, and has left some rows; from them these tasks may go on, and whatever they write belongs behind the text so far
-pub record MayGoOn (all later : List Task) (e : State) (text : List ℕ) : Type 0 where
+pub record MayGoOn (all later : List Task) (e : EngineModel) (text : List ℕ) : Type 0 where
   pub drained : IsDrained e.events
   pub follow : AllFollow e.names.tables later
   pub rows : Table
   pub left : Leaves e rows
   pub goes : (R : Table) → Leaves e R → (back : List ℕ) → RunFrom R later back → RunInTurn all (text ++ back)
 
-module _ (rows : Table) (task : Task) (later : List Task) (e : State) (old new : List ℕ) (h : HasRun rows task e old new) where
+module _ (rows : Table) (task : Task) (later : List Task) (e : EngineModel) (old new : List ℕ) (h : HasRun rows task e old new) where
   -- what the tasks behind it write, behind its report
   with_later : (R : Table) → Leaves e R → (back : List ℕ) → RunFrom R later back → RunFrom rows (task ∷ later) (h.front ++ back)
   with_later R leaves back run = record {
@@ -50,21 +50,21 @@ module _ (rows : Table) (task : Task) (later : List Task) (e : State) (old new :
   }
 
 -- the first task has run
-pub first_run : (task : Task) (later : List Task) (e : State) (old new : List ℕ) → old ≡ [] → AreFollowing (task ∷ later) → HasRun task.setup.rows task e old new → MayGoOn (task ∷ later) later e new
+pub first_run : (task : Task) (later : List Task) (e : EngineModel) (old new : List ℕ) → old ≡ [] → AreFollowing (task ∷ later) → HasRun task.setup.rows task e old new → MayGoOn (task ∷ later) later e new
 first_run task later e old new o follow h =
     after_run task.setup.rows task later e old new h (task ∷ later) follow (λ text run. subst (λ (w : List ℕ). RunInTurn (task ∷ later) (w ++ text)) (sym o) run)
 
 -- the next one may run
-pub may_switch : (all : List Task) (task : Task) (later : List Task) (e : State) (text : List ℕ) → MayGoOn all (task ∷ later) e text → MaySwitch e task.setup
+pub may_switch : (all : List Task) (task : Task) (later : List Task) (e : EngineModel) (text : List ℕ) → MayGoOn all (task ∷ later) e text → MaySwitch e task.setup
 may_switch all task later e text g = record { drained = g.drained; tables = g.follow.0; rows = g.follow.1 }
 
 -- and has run
-pub next_run : (all : List Task) (task : Task) (later : List Task) (e f : State) (text new : List ℕ) → MayGoOn all (task ∷ later) e text → (rows : Table) → Leaves e rows → HasRun rows task f text new → MayGoOn all later f new
+pub next_run : (all : List Task) (task : Task) (later : List Task) (e f : EngineModel) (text new : List ℕ) → MayGoOn all (task ∷ later) e text → (rows : Table) → Leaves e rows → HasRun rows task f text new → MayGoOn all later f new
 next_run all task later e f text new g rows leaves h =
     after_run rows task later f text new h all (subst (λ (names : List (List ℕ)). AllFollow names later) (sym g.follow.0) g.follow.2) (λ back run. g.goes rows leaves back run)
 
 -- nobody is left
-pub all_run : (all : List Task) (e : State) (text : List ℕ) → MayGoOn all [] e text → RunInTurn all text
+pub all_run : (all : List Task) (e : EngineModel) (text : List ℕ) → MayGoOn all [] e text → RunInTurn all text
 all_run all e text g = subst (RunInTurn all) (append-nil text) (g.goes g.rows g.left [] refl)
 
 -- nothing was there to be taken

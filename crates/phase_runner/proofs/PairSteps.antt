@@ -12,7 +12,7 @@ use Rattle.script_text.specs.declared.error.ScriptError.TheVariants.{BadLine}
 use Rattle.script_text.specs.declared.error.ScriptError.TheVariants as script
 use Rattle.script_text.specs.Grammar.{script_of}
 use Rattle.script_text.specs.Grammar as grammar
-use Rattle.tree_toml.specs.Meaning.{Meaning, setup_of}
+use Rattle.tree_toml.specs.SetupView.{SetupView, setup_of_text}
 use Rattle.tree_switch.specs.Names.{same_names}
 use Rattle.input_reader.specs.declared.error.InputError.{InputError}
 use Rattle.input_reader.specs.declared.error.InputError.TheVariants as input
@@ -39,11 +39,11 @@ never_input k false true x e = absurd (cc)
 never_input k false false x e = absurd (cc)
 
 -- what stands against a setup is no fault of a part
-following_bad : (k : ℕ) (before : Option Task) (m : Meaning) (x : InputError) → following k before m ≡ Err (BadInput x) → ⊥
+following_bad : (k : ℕ) (before : Option Task) (m : SetupView) (x : InputError) → following k before m ≡ Err (BadInput x) → ⊥
 following_bad k None m x e = absurd (cc)
 following_bad k (Some b) m x e = never_input k (not (same_names m.tables b.setup.tables)) (not (length m.rows == 0)) x e
 
-module _ (k : ℕ) (before : Option Task) (p : Pair) (m : Meaning) (setup : setup_of p.0 ≡ Ok m) where
+module _ (k : ℕ) (before : Option Task) (p : Pair) (m : SetupView) (setup : setup_of_text p.0 ≡ Ok m) where
   pub is_refused : (w : PhaseError) → following k before m ≡ Err w → IsTask (Err w) (task_at k before p)
   is_refused (BadPhase n why) f = rw (setup, f) refl
   is_refused (BadInput x) f = absurd (following_bad k before m x f)

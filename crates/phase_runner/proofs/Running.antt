@@ -11,10 +11,10 @@ use Rattle.script_text.specs.declared.Line.{Line}
 use Rattle.script_text.specs.declared.Answered.{Answered}
 use Rattle.replay_runner.specs.Logs.{log_of, replayed}
 use Rattle.tree_toml.specs.declared.setup.Setup.{Setup}
-use Rattle.tree_toml.specs.Meaning.{Meaning}
+use Rattle.tree_toml.specs.SetupView.{SetupView}
 use Rattle.tree_toml.specs.Seen.{setup_view}
 use Rattle.tree_toml.specs.Sound.{IsNamed, IsWhole}
-use Rattle.engine_core.specs.State.{State, IsReached}
+use Rattle.engine_core.specs.EngineModel.{EngineModel, IsReached}
 use Rattle.engine_core.specs.Stores as engine
 use Rattle.tree_switch.specs.Courses.{Course, IsCourse}
 use Rattle.tree_switch.specs.declared.error.SwitchError.{SwitchError}
@@ -23,7 +23,7 @@ use Rattle.tree_switch.specs.Refusals.{IsCause, IsDrained, MaySwitch}
 use Rattle.tree_switch.specs.Starts.{IsStarted}
 use Rattle.tree_switch.proofs.GoingOn.{further}
 use Rattle.tree_switch.proofs.Starting.{present}
-use Rattle.input_reader.specs.Stores.{store_of, names_of}
+use Rattle.input_reader.specs.Stores.{store_of_view, names_of}
 use Rattle.input_reader.specs.Tasks.{Task}
 use Rattle.input_runner.specs.Runs.{IsReplay, IsReport, IsRunOver}
 use Rattle.phase_runner.specs.Runs.{IsPhase, Table, starting_with}
@@ -31,7 +31,7 @@ use Rattle.phase_runner.specs.Steps.{HasRun}
 use Rattle.phase_runner.proofs.Drained.{replay_drained}
 
 -- the engine e, in which nothing had happened, has come to f by a replay
-module _ (e f : State) (lines : List Line) (log : List Answered) (store : f.store ≡ e.store) (names : f.names ≡ e.names) where
+module _ (e f : EngineModel) (lines : List Line) (log : List Answered) (store : f.store ≡ e.store) (names : f.names ≡ e.names) where
   pub is_replay : (old : List Answered) → old ≡ [] → e.events ≡ [] → log ≡ old ++ log_of e.store e.events (replayed e.store e.events lines) → f.events ≡ history_after e.store e.events (replayed e.store e.events lines) → IsReplay e.store lines log f.events
   is_replay old o n replies events = record {
     replies = replies ∙ ap₂ (λ (w : List Answered) (G : List Event). w ++ log_of e.store G (replayed e.store G lines)) o n;
@@ -50,13 +50,13 @@ module _ (e f : State) (lines : List Line) (log : List Answered) (store : f.stor
       events = rw store run.events;
     }
 
-    pub gone_on : (past : List State) → IsCourse (record { past = past; present = e }) → IsCourse (record { past = past; present = f })
+    pub gone_on : (past : List EngineModel) → IsCourse (record { past = past; present = e }) → IsCourse (record { past = past; present = f })
     gone_on past g = further past e f store names (record {
       sound = subst (λ (X : Store). IsSound X.setup) (sym store) (present past e g).sound;
       reached = subst (λ (X : Store). IsReached X f.events) (sym store) (replayed e.store [] lines, run.events);
     }) g
 
-    pub drained : (past : List State) → IsCourse (record { past = past; present = e }) → IsDrained f.events
+    pub drained : (past : List EngineModel) → IsCourse (record { past = past; present = e }) → IsDrained f.events
     drained past g = subst IsDrained (sym run.events) (replay_drained e.store (present past e g).sound lines)
 
     pub is_phase : (text : List ℕ) → IsReport f.store f.names f.events log text → IsPhase e.store e.names lines f.events text
@@ -67,14 +67,14 @@ module _ (e f : State) (lines : List Line) (log : List Answered) (store : f.stor
     }
 
 -- the present engine e of a course, in which nothing had happened, has come to f by a replay
-module _ (p : Course) (past : List State) (e f : State) (lines : List Line) (old log : List Answered) (course : IsCourse p) (past_is : past ≡ p.past) (present_is : e ≡ p.present) (new : p.present.events ≡ [])
+module _ (p : Course) (past : List EngineModel) (e f : EngineModel) (lines : List Line) (old log : List Answered) (course : IsCourse p) (past_is : past ≡ p.past) (present_is : e ≡ p.present) (new : p.present.events ≡ [])
     (store : f.store ≡ e.store) (names : f.names ≡ e.names) (empty : old ≡ []) (replies : log ≡ old ++ log_of e.store e.events (replayed e.store e.events lines))
     (events : f.events ≡ history_after e.store e.events (replayed e.store e.events lines)) where
   parts : IsCourse (record { past = past; present = e })
-  parts = subst IsCourse (sym (ap₂ (λ (ps : List State) (d : State). let q : Course = record { past = ps; present = d } in q) past_is present_is)) course
+  parts = subst IsCourse (sym (ap₂ (λ (ps : List EngineModel) (d : EngineModel). let q : Course = record { past = ps; present = d } in q) past_is present_is)) course
 
   run : IsReplay e.store lines log f.events
-  run = is_replay e f lines log store names old empty (ap (λ (d : State). d.events) present_is ∙ new) replies events
+  run = is_replay e f lines log store names old empty (ap (λ (d : EngineModel). d.events) present_is ∙ new) replies events
 
   pub course_after : IsCourse (record { past = past; present = f })
   course_after = gone_on e f lines log store names run past parts
@@ -83,26 +83,26 @@ module _ (p : Course) (past : List State) (e f : State) (lines : List Line) (old
   drained_after = drained e f lines log store names run past parts
 
 -- what was put behind a text is a phase's report
-abbrev pub Reported : State → List Line → State → List ℕ → List ℕ → Type 0
+abbrev pub Reported : EngineModel → List Line → EngineModel → List ℕ → List ℕ → Type 0
 Reported e lines f old new = (front : List ℕ) × IsPhase e.store e.names lines f.events front × (new ≡ old ++ front)
 
 -- a task has run from these rows, where the engine that it ran in started with them
-pub has_run : (rows : Table) (task : Task) (e f : State) (lines : List Line) (old new : List ℕ) → e.store ≡ store_of (starting_with rows task.setup) → e.names ≡ names_of task.setup → lines ≡ task.lines → f.store ≡ e.store → f.names ≡ e.names → IsDrained f.events → Reported e lines f old new
+pub has_run : (rows : Table) (task : Task) (e f : EngineModel) (lines : List Line) (old new : List ℕ) → e.store ≡ store_of_view (starting_with rows task.setup) → e.names ≡ names_of task.setup → lines ≡ task.lines → f.store ≡ e.store → f.names ≡ e.names → IsDrained f.events → Reported e lines f old new
     → HasRun rows task f old new
 has_run rows task e f lines old new q n l store names drained r = record {
   store = store ∙ q;
   names = names ∙ n;
   drained = drained;
   front = r.0;
-  phase = subst (λ (ls : List Line). IsPhase (store_of (starting_with rows task.setup)) (names_of task.setup) ls f.events r.0) l
-      (subst (λ (b : NameBook). IsPhase (store_of (starting_with rows task.setup)) b lines f.events r.0) n (subst (λ (X : Store). IsPhase X e.names lines f.events r.0) q r.1));
+  phase = subst (λ (ls : List Line). IsPhase (store_of_view (starting_with rows task.setup)) (names_of task.setup) ls f.events r.0) l
+      (subst (λ (b : NameBook). IsPhase (store_of_view (starting_with rows task.setup)) b lines f.events r.0) n (subst (λ (X : Store). IsPhase X e.names lines f.events r.0) q r.1));
   joined = r.2;
 }
 
 -- the store of a phase that has started under a setup
-module _ (s : Setup) (m : Meaning) (is : setup_view s ≡ m) (before e : State) (i : IsStarted s before e) where
-  pub started_store : e.store ≡ store_of (starting_with e.store.rows m)
-  started_store = ap₂ (λ (S : Rules) (n : ℕ). record { setup = S; tables = n; rows = e.store.rows }) i.setup i.tables ∙ ap (λ (k : Meaning). store_of (starting_with e.store.rows k)) is
+module _ (s : Setup) (m : SetupView) (is : setup_view s ≡ m) (before e : EngineModel) (i : IsStarted s before e) where
+  pub started_store : e.store ≡ store_of_view (starting_with e.store.rows m)
+  started_store = ap₂ (λ (S : Rules) (n : ℕ). record { setup = S; tables = n; rows = e.store.rows }) i.setup i.tables ∙ ap (λ (k : SetupView). store_of_view (starting_with e.store.rows k)) is
 
   pub started_names : e.names ≡ names_of m
   started_names = i.names ∙ ap names_of is
@@ -111,18 +111,18 @@ module _ (s : Setup) (m : Meaning) (is : setup_view s ≡ m) (before e : State) 
   started_named named = ap (λ (S : Rules). length S.tree) i.setup ∙ named ∙ ap (λ (b : NameBook). length b.nodes) (sym i.names)
 
 -- the same of what was handed back
-pub phase_run : (rows : Table) (task : Task) (e : State) (lines : List Line) (old new : List ℕ) (r : Result Course AllocError) → e.store ≡ store_of (starting_with rows task.setup) → e.names ≡ names_of task.setup → lines ≡ task.lines
+pub phase_run : (rows : Table) (task : Task) (e : EngineModel) (lines : List Line) (old new : List ℕ) (r : Result Course AllocError) → e.store ≡ store_of_view (starting_with rows task.setup) → e.names ≡ names_of task.setup → lines ≡ task.lines
     → IfOk r (λ p. p.present.store ≡ e.store) → IfOk r (λ p. p.present.names ≡ e.names) → IfOk r (λ p. IsDrained p.present.events) → IfOk r (λ p. Reported e lines p.present old new) → IfOk r (λ p. HasRun rows task p.present old new)
 phase_run rows task e lines old new (Ok p) q n l store names drained report = has_run rows task e p.present lines old new q n l store names drained report
 phase_run rows task e lines old new (Err w) q n l store names drained report = tt
 
-pub from_rows : (task : Task) (before : State) (rows : Table) (old new : List ℕ) (r : Result Course AllocError) → IsFinalRows before.store before.events rows → IfOk r (λ p. HasRun rows task p.present old new)
+pub from_rows : (task : Task) (before : EngineModel) (rows : Table) (old new : List ℕ) (r : Result Course AllocError) → IsFinalRows before.store before.events rows → IfOk r (λ p. HasRun rows task p.present old new)
     → IfOk r (λ p. (x : Table) × IsFinalRows before.store before.events x × HasRun x task p.present old new)
 from_rows task before rows old new (Ok p) final h = (rows, final, h)
 from_rows task before rows old new (Err w) final h = tt
 
 -- where nothing stands against a switch, memory is what was wanting
-pub only_memory : (e : State) (m : Meaning) (w : SwitchError) → MaySwitch e m → IsCause e m w → w ≡ OutOfMemory
+pub only_memory : (e : EngineModel) (m : SetupView) (w : SwitchError) → MaySwitch e m → IsCause e m w → w ≡ OutOfMemory
 only_memory e m (Again t) may cause = absurd (may.drained.finished t.0 cause.0)
 only_memory e m (Untold s) may cause = absurd (may.drained.told s.0 cause.1.0)
 only_memory e m Tables may cause = absurd (cause.1 may.tables)

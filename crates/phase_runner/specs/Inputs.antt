@@ -4,7 +4,7 @@ use Rattle.script_text.specs.Input.{parts_of}
 use Rattle.script_text.specs.Lines.{lines_of}
 use Rattle.script_text.specs.Grammar.{◌>>=◌, script_of}
 use Rattle.tree_toml.specs.declared.fault.TreeText.{TreeText}
-use Rattle.tree_toml.specs.Meaning.{Meaning, setup_of}
+use Rattle.tree_toml.specs.SetupView.{SetupView, setup_of_text}
 use Rattle.tree_switch.specs.Names.{same_names}
 use Rattle.input_reader.specs.declared.error.InputError.{InputError}
 use Rattle.input_reader.specs.declared.error.InputError.TheVariants.{TooLong}
@@ -17,7 +17,7 @@ use Rattle.phase_runner.specs.declared.error.PhaseWhy.TheVariants.{Many, Script,
 use Rattle.phase_runner.specs.Parts.{Pair, pairs_of}
 
 -- a fault of a part is one of the input
-abbrev pub tree_in : Result Meaning TreeText → Result Meaning PhaseError
+abbrev pub tree_in : Result SetupView TreeText → Result SetupView PhaseError
 tree_in (Ok m) = Ok m
 tree_in (Err e) = Err (BadInput (tree_error e))
 
@@ -26,21 +26,21 @@ script_in (Ok task) = Ok task
 script_in (Err e) = Err (BadInput e)
 
 -- a later phase has the tables of the one before it, and no rows of its own
-abbrev pub behind : ℕ → Meaning → Meaning → Result (Unit {0}) PhaseError
+abbrev pub behind : ℕ → SetupView → SetupView → Result (Unit {0}) PhaseError
 behind k before m =
     if not (same_names m.tables before.tables) then Err (BadPhase k Tables)
     else if not (length m.rows == 0) then Err (BadPhase k Rows)
     else Ok tt
 
 -- the setup of a phase behind another one, or of the first, which may be any
-abbrev pub following : ℕ → Option Task → Meaning → Result (Unit {0}) PhaseError
+abbrev pub following : ℕ → Option Task → SetupView → Result (Unit {0}) PhaseError
 following k None m = Ok tt
 following k (Some before) m = behind k before.setup m
 
 -- the task of pair k, behind another one or none: first its tree, then what stands against it, then its script
 abbrev pub task_at : ℕ → Option Task → Pair → Result Task PhaseError
 task_at k before p =
-    tree_in (setup_of p.0) >>= (λ m.
+    tree_in (setup_of_text p.0) >>= (λ m.
     following k before m >>= (λ _.
     script_in (task_of m (script_of (names_of m) m.format p.1))))
 

@@ -7,9 +7,9 @@ use Rattle.teb_rules.specs.Setup.{Store}
 use Rattle.serial_order.specs.Tables.{IsFinalRows}
 use Rattle.script_text.specs.declared.Line.{Line}
 use Rattle.script_text.specs.declared.Answered.{Answered}
-use Rattle.tree_toml.specs.Meaning.{Meaning}
+use Rattle.tree_toml.specs.SetupView.{SetupView}
 use Rattle.command_output.specs.Shown.{Shown}
-use Rattle.input_reader.specs.Stores.{store_of, names_of}
+use Rattle.input_reader.specs.Stores.{store_of_view, names_of}
 use Rattle.input_reader.specs.Tasks.{Task}
 use Rattle.input_runner.specs.Runs.{IsReplay, IsReport}
 use Rattle.phase_runner.specs.Parts.{AreParts}
@@ -20,7 +20,7 @@ abbrev pub Table : Type 0
 Table = List (Cell × ℤ)
 
 -- the setup with these starting rows
-abbrev pub starting_with : Table → Meaning → Meaning
+abbrev pub starting_with : Table → SetupView → SetupView
 starting_with rows m = record m { rows = rows }
 
 -- the lines are replayed over the store with this history, and the text is the report
@@ -35,8 +35,8 @@ pub record IsFollowed (rows : Table) (task : Task) (Follows : Table → List ℕ
   pub left : Table
   pub front : List ℕ
   pub back : List ℕ
-  pub phase : IsPhase (store_of (starting_with rows task.setup)) (names_of task.setup) task.lines history front
-  pub final : IsFinalRows (store_of (starting_with rows task.setup)) history left
+  pub phase : IsPhase (store_of_view (starting_with rows task.setup)) (names_of task.setup) task.lines history front
+  pub final : IsFinalRows (store_of_view (starting_with rows task.setup)) history left
   pub follows : Follows left back
   pub joined : text ≡ front ++ back
 

@@ -1,18 +1,18 @@
 -- What one phase comes to, and which tasks may follow.
 use Rattle.std.specs.Prelude.{◌≡◌, ℕ, List, [], ◌∷◌, ◌++◌}
-use Rattle.engine_core.specs.State.{State}
+use Rattle.engine_core.specs.EngineModel.{EngineModel}
 use Rattle.tree_switch.specs.Refusals.{IsDrained}
-use Rattle.input_reader.specs.Stores.{store_of, names_of}
+use Rattle.input_reader.specs.Stores.{store_of_view, names_of}
 use Rattle.input_reader.specs.Tasks.{Task}
 use Rattle.phase_runner.specs.Runs.{Table, starting_with, IsPhase}
 
 -- the engine has run the task from these rows to its end, and its report was put behind a text
-pub record HasRun (rows : Table) (task : Task) (e : State) (before now : List ℕ) : Type 0 where
-  pub store : e.store ≡ store_of (starting_with rows task.setup)
+pub record HasRun (rows : Table) (task : Task) (e : EngineModel) (before now : List ℕ) : Type 0 where
+  pub store : e.store ≡ store_of_view (starting_with rows task.setup)
   pub names : e.names ≡ names_of task.setup
   pub drained : IsDrained e.events
   pub front : List ℕ
-  pub phase : IsPhase (store_of (starting_with rows task.setup)) (names_of task.setup) task.lines e.events front
+  pub phase : IsPhase (store_of_view (starting_with rows task.setup)) (names_of task.setup) task.lines e.events front
   pub joined : now ≡ before ++ front
 
 -- each of these tasks is over tables of these names, and has no rows of its own

@@ -23,13 +23,13 @@ use Rattle.teb_laws.proofs.Locks.{In-numbers}
 use Rattle.teb_laws.proofs.Serial.{numbers-In}
 use Rattle.teb_laws.proofs.Holding.{unfinished_same}
 use Rattle.teb_laws.proofs.Nodes.{meets_parts}
-use Rattle.phase_api.specs.Told.{IsOrderly}
+use Rattle.phase_api.specs.FactsView.{IsOrderly}
 use Rattle.phase_api.specs.Calls.{MayNote}
 use Rattle.hold_book.specs.Holders.{holds_in}
 use Rattle.hold_register.proofs.Orderly.{unfinished_begun, new_accesses_none}
 use Rattle.hold_register.proofs.Blockers.{in_the_way}
 use Rattle.dependency_book.specs.Dependencies.{has}
-use Rattle.dependency_book.proofs.PileEdits.{one_txn}
+use Rattle.dependency_book.proofs.MultimapEdits.{one_txn}
 use Rattle.runtime_pipeline.specs.Predecessors.{Kept, numbered, is_ahead, before_in, unfinished_in, list_of, joined, without, EndsFollow, PredecessorsOf}
 use Rattle.runtime_pipeline.proofs.Noting.{wrote_before, got_before, no_put, no_got, other}
 use Rattle.runtime_pipeline.proofs.Aheads.{before_ascends, few_holders, joined_all, filter_without, filter_none, and_none}

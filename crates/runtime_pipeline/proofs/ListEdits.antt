@@ -10,12 +10,12 @@ use Rattle.teb_history.specs.Ascending.{AllAbove, IsAscendingBy, next_place, pla
 use Rattle.teb_history.specs.Live.{number_of}
 use Rattle.teb_history.proofs.Comparisons.{ltb_tells}
 use Rattle.teb_history.proofs.AscendingLists.{above-mono, ascending-filter, ascending-put, put-same, put-insert}
-use Rattle.key_piles.specs.Piles.{Shown, pile_in}
+use Rattle.sorted_multimap.specs.Multimap.{Shown, values_in}
 use Rattle.hold_book.specs.declared.Hold.{Hold}
-use Rattle.key_piles.specs.Keys.{txn_cmp}
-use Rattle.key_piles.proofs.TxnKeys.{eqb-is_eq}
+use Rattle.sorted_multimap.specs.Keys.{txn_cmp}
+use Rattle.sorted_multimap.proofs.TxnKeys.{eqb-is_eq}
 use Rattle.dependency_book.specs.Dependencies.{has}
-use Rattle.dependency_book.proofs.PileEdits.{one_txn}
+use Rattle.dependency_book.proofs.MultimapEdits.{one_txn}
 use Rattle.runtime_pipeline.specs.Predecessors.{joined, without}
 
 -- an edit of the list of t
@@ -91,14 +91,14 @@ without_twice t (u ∷ us) = go (eqb u.0 t) refl (without_twice t us)
 
 -- t is still to be taken out of the lists of some, which then leaves the lists a
 pub record IsTaking (t : ℕ) (us rest : List Txn) (a b : Shown Txn Txn) : Type 0 where
-  pub piles : (v : Txn) → cond (has v rest) (without t (pile_in txn_cmp b v)) (pile_in txn_cmp b v) ≡ cond (has v us) (without t (pile_in txn_cmp a v)) (pile_in txn_cmp a v)
-  pub ascending : (v : Txn) → IsAscendingBy number_of (pile_in txn_cmp b v)
+  pub values : (v : Txn) → cond (has v rest) (without t (values_in txn_cmp b v)) (values_in txn_cmp b v) ≡ cond (has v us) (without t (values_in txn_cmp a v)) (values_in txn_cmp a v)
+  pub ascending : (v : Txn) → IsAscendingBy number_of (values_in txn_cmp b v)
   pub spare : b.spare ≡ a.spare
 
 -- some holders are still to be put into the list of t, which leaves the lists a
 pub record IsPutting (p : Hold → Bool) (t : Txn) (hs rest : List Hold) (i : ℕ) (a b : Shown Txn Txn) : Type 0 where
-  pub piles : (v : Txn) → cond (eqb t.0 v.0) (joined p rest (pile_in txn_cmp b v)) (pile_in txn_cmp b v) ≡ cond (eqb t.0 v.0) (joined p hs (pile_in txn_cmp a v)) (pile_in txn_cmp a v)
-  pub ascending : IsAscendingBy number_of (pile_in txn_cmp b t)
+  pub values : (v : Txn) → cond (eqb t.0 v.0) (joined p rest (values_in txn_cmp b v)) (values_in txn_cmp b v) ≡ cond (eqb t.0 v.0) (joined p hs (values_in txn_cmp a v)) (values_in txn_cmp a v)
+  pub ascending : IsAscendingBy number_of (values_in txn_cmp b t)
   pub spare : a.spare ≤ b.spare + i
 
 drop_end : {A : Type 0} (xs : List A) (i : ℕ) → length xs ≤ i → drop i xs ≡ []
@@ -109,8 +109,8 @@ drop_end (x ∷ xs) (suc i) l = drop_end xs i (omega arith)
 
 -- the list of one more
 module _ (t : ℕ) (us : List Txn) where
-  pub taking_first : (a : Shown Txn Txn) → ((v : Txn) → IsAscendingBy number_of (pile_in txn_cmp a v)) → IsTaking t us us a a
-  taking_first a asc = record { piles = λ v. refl; ascending = asc; spare = refl }
+  pub taking_first : (a : Shown Txn Txn) → ((v : Txn) → IsAscendingBy number_of (values_in txn_cmp a v)) → IsTaking t us us a a
+  taking_first a asc = record { values = λ v. refl; ascending = asc; spare = refl }
 
   one_more : (o r : Bool) (xs : List Txn) → cond r (without t (cond o (without t xs) xs)) (cond o (without t xs) xs) ≡ cond (o || r) (without t xs) xs
   one_more true true xs = without_twice t xs
@@ -122,26 +122,26 @@ module _ (t : ℕ) (us : List Txn) where
   kept false xs h = h
 
   pub taking_more : (a b c : Shown Txn Txn) (i : ℕ) (d : Txn) → i < length us → IsTaking t us (drop i us) a b
-      → ((v : Txn) → pile_in txn_cmp c v ≡ cond (eqb (get_or us i d).0 v.0) (without t (pile_in txn_cmp b v)) (pile_in txn_cmp b v)) → c.spare ≡ b.spare
+      → ((v : Txn) → values_in txn_cmp c v ≡ cond (eqb (get_or us i d).0 v.0) (without t (values_in txn_cmp b v)) (values_in txn_cmp b v)) → c.spare ≡ b.spare
       → IsTaking t us (drop (i + 1) us) a c
   taking_more a b c i d l was taken spare =
       let n : suc i ≡ i + 1 = omega arith in
       let next : drop i us ≡ get_or us i d ∷ drop (i + 1) us = drop-cons us i d l ∙ ap (λ (k : ℕ). get_or us i d ∷ drop k us) n in
-      let out = λ (v : Txn) (ts : List Txn). cond (has v ts) (without t (pile_in txn_cmp b v)) (pile_in txn_cmp b v) in
+      let out = λ (v : Txn) (ts : List Txn). cond (has v ts) (without t (values_in txn_cmp b v)) (values_in txn_cmp b v) in
       record {
-        piles = λ v. ap (λ (xs : List Txn). cond (has v (drop (i + 1) us)) (without t xs) xs) (taken v)
-            ∙ one_more (eqb (get_or us i d).0 v.0) (has v (drop (i + 1) us)) (pile_in txn_cmp b v) ∙ ap (out v) (sym next) ∙ was.piles v;
-        ascending = λ v. subst (IsAscendingBy number_of) (sym (taken v)) (kept (eqb (get_or us i d).0 v.0) (pile_in txn_cmp b v) (was.ascending v));
+        values = λ v. ap (λ (xs : List Txn). cond (has v (drop (i + 1) us)) (without t xs) xs) (taken v)
+            ∙ one_more (eqb (get_or us i d).0 v.0) (has v (drop (i + 1) us)) (values_in txn_cmp b v) ∙ ap (out v) (sym next) ∙ was.values v;
+        ascending = λ v. subst (IsAscendingBy number_of) (sym (taken v)) (kept (eqb (get_or us i d).0 v.0) (values_in txn_cmp b v) (was.ascending v));
         spare = spare ∙ was.spare;
       }
 
-  pub taking_all : (a b : Shown Txn Txn) (i : ℕ) → length us ≤ i → IsTaking t us (drop i us) a b → (v : Txn) → pile_in txn_cmp b v ≡ cond (has v us) (without t (pile_in txn_cmp a v)) (pile_in txn_cmp a v)
-  taking_all a b i l was v = sym (ap (λ (ts : List Txn). cond (has v ts) (without t (pile_in txn_cmp b v)) (pile_in txn_cmp b v)) (drop_end us i l)) ∙ was.piles v
+  pub taking_all : (a b : Shown Txn Txn) (i : ℕ) → length us ≤ i → IsTaking t us (drop i us) a b → (v : Txn) → values_in txn_cmp b v ≡ cond (has v us) (without t (values_in txn_cmp a v)) (values_in txn_cmp a v)
+  taking_all a b i l was v = sym (ap (λ (ts : List Txn). cond (has v ts) (without t (values_in txn_cmp b v)) (values_in txn_cmp b v)) (drop_end us i l)) ∙ was.values v
 
 -- one more holder
 module _ (p : Hold → Bool) (t : Txn) (hs : List Hold) where
-  pub putting_first : (a : Shown Txn Txn) → IsAscendingBy number_of (pile_in txn_cmp a t) → IsPutting p t hs hs 0 a a
-  putting_first a asc = record { piles = λ v. refl; ascending = asc; spare = omega arith }
+  pub putting_first : (a : Shown Txn Txn) → IsAscendingBy number_of (values_in txn_cmp a t) → IsPutting p t hs hs 0 a a
+  putting_first a asc = record { values = λ v. refl; ascending = asc; spare = omega arith }
 
   one_put : (rest : List Hold) (o : Bool) (xs ys : List Txn) → cond o (joined p rest (cond o ys xs)) (cond o ys xs) ≡ cond o (joined p rest ys) xs
   one_put rest true xs ys = refl
@@ -153,17 +153,17 @@ module _ (p : Hold → Bool) (t : Txn) (hs : List Hold) where
   put_kept false q u xs h = h
 
   pub putting_more : (a b c : Shown Txn Txn) (i : ℕ) (d : Hold) → i < length hs → IsPutting p t hs (drop i hs) i a b
-      → ((v : Txn) → pile_in txn_cmp c v ≡ cond (eqb t.0 v.0) (cond (p (get_or hs i d)) (put_by number_of (get_or hs i d).txn (pile_in txn_cmp b v)) (pile_in txn_cmp b v)) (pile_in txn_cmp b v)) → b.spare ≤ c.spare + 1
+      → ((v : Txn) → values_in txn_cmp c v ≡ cond (eqb t.0 v.0) (cond (p (get_or hs i d)) (put_by number_of (get_or hs i d).txn (values_in txn_cmp b v)) (values_in txn_cmp b v)) (values_in txn_cmp b v)) → b.spare ≤ c.spare + 1
       → IsPutting p t hs (drop (i + 1) hs) (i + 1) a c
   putting_more a b c i d l was put spare =
       let n : suc i ≡ i + 1 = omega arith in
       let h = get_or hs i d in
       let next : drop i hs ≡ get_or hs i d ∷ drop (i + 1) hs = drop-cons hs i d l ∙ ap (λ (k : ℕ). get_or hs i d ∷ drop k hs) n in
       record {
-        piles = λ v. ap (λ (xs : List Txn). cond (eqb t.0 v.0) (joined p (drop (i + 1) hs) xs) xs) (put v)
-            ∙ one_put (drop (i + 1) hs) (eqb t.0 v.0) (pile_in txn_cmp b v) (cond (p h) (put_by number_of h.txn (pile_in txn_cmp b v)) (pile_in txn_cmp b v))
-            ∙ ap (λ (ks : List Hold). cond (eqb t.0 v.0) (joined p ks (pile_in txn_cmp b v)) (pile_in txn_cmp b v)) (sym next) ∙ was.piles v;
-        ascending = subst (IsAscendingBy number_of) (sym (put t)) (put_kept (eqb t.0 t.0) (p h) h.txn (pile_in txn_cmp b t) was.ascending);
+        values = λ v. ap (λ (xs : List Txn). cond (eqb t.0 v.0) (joined p (drop (i + 1) hs) xs) xs) (put v)
+            ∙ one_put (drop (i + 1) hs) (eqb t.0 v.0) (values_in txn_cmp b v) (cond (p h) (put_by number_of h.txn (values_in txn_cmp b v)) (values_in txn_cmp b v))
+            ∙ ap (λ (ks : List Hold). cond (eqb t.0 v.0) (joined p ks (values_in txn_cmp b v)) (values_in txn_cmp b v)) (sym next) ∙ was.values v;
+        ascending = subst (IsAscendingBy number_of) (sym (put t)) (put_kept (eqb t.0 t.0) (p h) h.txn (values_in txn_cmp b t) was.ascending);
         spare = omega (arith, was.spare);
       }
 
@@ -172,14 +172,14 @@ module _ (p : Hold → Bool) (t : Txn) (hs : List Hold) where
   same false xs = refl
 
   pub putting_in : (a b c : Shown Txn Txn) (i : ℕ) (d : Hold) → i < length hs → IsPutting p t hs (drop i hs) i a b → p (get_or hs i d) ≡ true
-      → ((v : Txn) → pile_in txn_cmp c v ≡ cond (eqb t.0 v.0) (put_by number_of (get_or hs i d).txn (pile_in txn_cmp b v)) (pile_in txn_cmp b v)) → b.spare ≤ c.spare + 1
+      → ((v : Txn) → values_in txn_cmp c v ≡ cond (eqb t.0 v.0) (put_by number_of (get_or hs i d).txn (values_in txn_cmp b v)) (values_in txn_cmp b v)) → b.spare ≤ c.spare + 1
       → IsPutting p t hs (drop (i + 1) hs) (i + 1) a c
   putting_in a b c i d l was q put spare = putting_more a b c i d l was
-      (λ v. put v ∙ sym (ap (λ (o : Bool). cond (eqb t.0 v.0) (cond o (put_by number_of (get_or hs i d).txn (pile_in txn_cmp b v)) (pile_in txn_cmp b v)) (pile_in txn_cmp b v)) q)) spare
+      (λ v. put v ∙ sym (ap (λ (o : Bool). cond (eqb t.0 v.0) (cond o (put_by number_of (get_or hs i d).txn (values_in txn_cmp b v)) (values_in txn_cmp b v)) (values_in txn_cmp b v)) q)) spare
 
   pub putting_none : (a b : Shown Txn Txn) (i : ℕ) (d : Hold) → i < length hs → IsPutting p t hs (drop i hs) i a b → p (get_or hs i d) ≡ false → IsPutting p t hs (drop (i + 1) hs) (i + 1) a b
   putting_none a b i d l was q = putting_more a b b i d l was
-      (λ v. same (eqb t.0 v.0) (pile_in txn_cmp b v) ∙ sym (ap (λ (o : Bool). cond (eqb t.0 v.0) (cond o (put_by number_of (get_or hs i d).txn (pile_in txn_cmp b v)) (pile_in txn_cmp b v)) (pile_in txn_cmp b v)) q)) (omega arith)
+      (λ v. same (eqb t.0 v.0) (values_in txn_cmp b v) ∙ sym (ap (λ (o : Bool). cond (eqb t.0 v.0) (cond o (put_by number_of (get_or hs i d).txn (values_in txn_cmp b v)) (values_in txn_cmp b v)) (values_in txn_cmp b v)) q)) (omega arith)
 
-  pub putting_all : (a b : Shown Txn Txn) (i : ℕ) → length hs ≤ i → IsPutting p t hs (drop i hs) i a b → (v : Txn) → pile_in txn_cmp b v ≡ cond (eqb t.0 v.0) (joined p hs (pile_in txn_cmp a v)) (pile_in txn_cmp a v)
-  putting_all a b i l was v = same (eqb t.0 v.0) (pile_in txn_cmp b v) ∙ sym (ap (λ (ks : List Hold). cond (eqb t.0 v.0) (joined p ks (pile_in txn_cmp b v)) (pile_in txn_cmp b v)) (drop_end hs i l)) ∙ was.piles v
+  pub putting_all : (a b : Shown Txn Txn) (i : ℕ) → length hs ≤ i → IsPutting p t hs (drop i hs) i a b → (v : Txn) → values_in txn_cmp b v ≡ cond (eqb t.0 v.0) (joined p hs (values_in txn_cmp a v)) (values_in txn_cmp a v)
+  putting_all a b i l was v = same (eqb t.0 v.0) (values_in txn_cmp b v) ∙ sym (ap (λ (ks : List Hold). cond (eqb t.0 v.0) (joined p ks (values_in txn_cmp b v)) (values_in txn_cmp b v)) (drop_end hs i l)) ∙ was.values v

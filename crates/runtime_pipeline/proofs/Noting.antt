@@ -18,7 +18,7 @@ use Rattle.teb_rules.specs.Tree.{row}
 use Rattle.teb_names.specs.declared.ControlKind.TheVariants.{Pipeline as IsPipeline}
 use Rattle.teb_names.specs.declared.Spot.{Spot}
 use Rattle.teb_rules.specs.Steps.{cursor, least_step}
-use Rattle.phase_api.specs.Told.{IsOrderly}
+use Rattle.phase_api.specs.FactsView.{IsOrderly}
 use Rattle.phase_api.specs.Calls.{MayNote}
 use Rattle.hold_book.proofs.Cells.{same_itself}
 use Rattle.hold_register.specs.Registered.{Registered}

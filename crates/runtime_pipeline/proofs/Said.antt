@@ -17,7 +17,7 @@ use Rattle.teb_rules.specs.declared.Verdict.TheVariants.{Go, Wait}
 use Rattle.teb_rules.specs.Controls.{earlier, blocks, entry_blocks, on_access, validate, gate}
 use Rattle.teb_rules.specs.Stops.{on_begin}
 use Rattle.phase_api.specs.declared.facts.Facts.{Facts}
-use Rattle.phase_api.specs.Told.{IsOrderly, IsTyped, setup_of, events_of}
+use Rattle.phase_api.specs.FactsView.{IsOrderly, IsTyped, setup_of, events_of}
 use Rattle.hold_book.specs.declared.Hold.{Hold}
 use Rattle.hold_book.specs.Holders.{holds_in}
 use Rattle.hold_register.specs.Waits.{some_txn, wait_for_txn}

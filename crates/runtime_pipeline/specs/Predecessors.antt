@@ -10,8 +10,8 @@ use Rattle.teb_rules.specs.Setup.{Setup}
 use Rattle.teb_rules.specs.Tree.{meets}
 use Rattle.teb_rules.specs.Controls.{earlier}
 use Rattle.hold_book.specs.declared.Hold.{Hold}
-use Rattle.key_piles.specs.Piles.{pile}
-use Rattle.key_piles.specs.Keys.{txn_cmp}
+use Rattle.sorted_multimap.specs.Multimap.{values_of}
+use Rattle.sorted_multimap.specs.Keys.{txn_cmp}
 
 -- the transaction with a number
 abbrev pub numbered : ℕ → Txn
@@ -36,7 +36,7 @@ pub record Kept : Type 0 where
   pub spare : ℕ
 
 abbrev pub list_of : Kept → Txn → List Txn
-list_of k t = pile txn_cmp k.lists t
+list_of k t = values_of txn_cmp k.lists t
 
 -- nobody has committed or aborted without having begun
 abbrev pub EndsFollow : List Event → Type 0

@@ -15,8 +15,8 @@ abbrev pub RanksOf : List ℕ → Setup → ℕ → Type 0
 RanksOf ranks S n = (a : ℕ) → slice_index ranks a ≡ rank_of_table S n a
 
 -- the number of the node
-abbrev pub pipeline_place : Pipeline → ℕ
-pipeline_place c = c.register.node.0
+abbrev pub pipeline_node_number : Pipeline → ℕ
+pipeline_node_number c = c.register.node.0
 
 -- for how many events there is room
 abbrev pub pipeline_spare : Pipeline → ℕ

@@ -8,10 +8,10 @@ ghost use Rattle.teb_rules.specs.Setup.{above_profiles};
 ghost use Rattle.teb_rules.specs.Tree.{row};
 ghost use Rattle.teb_rules.specs.Steps.{passed, rank_of_table, rank_of_step, cursor};
 ghost use Rattle.teb_rules.specs.Controls.{blocks, on_access};
-ghost use Rattle.phase_api.specs.Told.{setup_of, events_of, IsTyped};
+ghost use Rattle.phase_api.specs.FactsView.{setup_of, events_of, IsTyped};
 ghost use Rattle.hold_book.specs.Holders.{holds_in};
 ghost use Rattle.hold_register.specs.Waits.{some_txn};
-ghost use Rattle.runtime_pipeline.specs.Standing.{PipelineStands, pipeline_place, passed_some, holds_up};
+ghost use Rattle.runtime_pipeline.specs.Standing.{PipelineStands, pipeline_node_number, passed_some, holds_up};
 ghost use Rattle.runtime_pipeline.specs.Predecessors.{before_in};
 
 use crate::node_ranks::NodeRanks;
@@ -96,7 +96,7 @@ impl Pipeline {
     pub fn before(&self, facts: &Facts, t: Txn) -> &[Txn]
         requires stands { PipelineStands self.now (setup_of facts.now) (events_of facts.now) }
         requires unfinished { IsTrue (unfinished (events_of facts.now) t.0) }
-        ensures { result.now ≡ before_in (setup_of facts.now) (events_of facts.now) (pipeline_place self.now) t.0 }
+        ensures { result.now ≡ before_in (setup_of facts.now) (events_of facts.now) (pipeline_node_number self.now) t.0 }
     {
         let _ = facts;
         self.predecessors.list(t)
@@ -166,11 +166,11 @@ impl Pipeline {
 }
 
 impl Control for Pipeline {
-    ghost use Rattle.runtime_pipeline.specs.Standing.{PipelineStands, pipeline_place, pipeline_spare};
+    ghost use Rattle.runtime_pipeline.specs.Standing.{PipelineStands, pipeline_node_number, pipeline_spare};
 
     ghost stands = { λ c S H. PipelineStands c S H };
 
-    ghost place = { pipeline_place };
+    ghost node_number = { pipeline_node_number };
 
     ghost spare = { pipeline_spare };
 

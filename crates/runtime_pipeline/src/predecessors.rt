@@ -7,19 +7,19 @@ ghost use Rattle.teb_history.specs.Ascending.{IsAscendingBy, put_by};
 ghost use Rattle.teb_history.specs.Live.{number_of};
 ghost use Rattle.teb_rules.specs.Setup.{Setup};
 ghost use Rattle.teb_rules.specs.Tree.{meets};
-ghost use Rattle.phase_api.specs.Told.{setup_of, events_of, IsOrderly, IsTyped};
+ghost use Rattle.phase_api.specs.FactsView.{setup_of, events_of, IsOrderly, IsTyped};
 ghost use Rattle.phase_api.specs.Calls.{IsNewest};
 ghost use Rattle.hold_book.specs.declared.Hold.{Hold};
 ghost use Rattle.hold_register.specs.Registered.{Registered};
-ghost use Rattle.key_piles.specs.Piles.{pile_in};
-ghost use Rattle.key_piles.specs.Keys.{txn_cmp};
+ghost use Rattle.sorted_multimap.specs.Multimap.{values_in};
+ghost use Rattle.sorted_multimap.specs.Keys.{txn_cmp};
 ghost use Rattle.dependency_book.specs.Dependencies.{has};
 ghost use Rattle.runtime_pipeline.specs.Predecessors.{PredecessorsOf, joined, list_of, without};
 
 use hold_book::Hold;
 use hold_register::Register;
-use key_piles::{Piles, clear_txn};
 use phase_api::Facts;
+use sorted_multimap::{Multimap, clear_txn};
 use std::alloc::{AllocError, Global};
 use std::marker::Model;
 use teb_history::{Event, find_txn};
@@ -32,7 +32,7 @@ const EVENTS: usize = 32;
 #[derive(Drop)]
 pub struct Predecessors {
     // By transaction: those that are ahead of it, in ascending number.
-    lists: Piles<Txn, Txn>,
+    lists: Multimap<Txn, Txn>,
     // In ascending number.
     unfinished: Vec<Txn>,
     // For how many events there is room.
@@ -57,7 +57,7 @@ impl Predecessors {
         ensures { (S : Setup) (n : ℕ) → PredecessorsOf result S [] n }
     {
         Predecessors {
-            lists: Piles::narrow(alloc),
+            lists: Multimap::narrow(alloc),
             unfinished: Vec::new(alloc),
             spare: 0,
             most: 0,
@@ -164,7 +164,7 @@ impl Predecessors {
 
 // Puts the holders that are in the way of an access into the list of the transaction that accesses.
 fn put_holders(
-    lists: &mut Piles<Txn, Txn>,
+    lists: &mut Multimap<Txn, Txn>,
     facts: &Facts,
     node: Node,
     t: Txn,
@@ -172,10 +172,10 @@ fn put_holders(
     write: bool,
 )
     requires room { length holds.now ≤ lists.old.spare }
-    requires ascending { IsAscendingBy number_of (pile_in txn_cmp lists.old t) }
+    requires ascending { IsAscendingBy number_of (values_in txn_cmp lists.old t) }
     requires typed { IsTyped facts.now t.0 }
     requires holders { (i : ℕ) (d : Hold) → i < length holds.now → IsTyped facts.now (get_or holds.now i d).txn.0 }
-    ensures piles { (v : Txn) → pile_in txn_cmp lists.new v ≡ cond (eqb t.0 v.0) (joined (λ h. (write || h.wrote) && meets (setup_of facts.now) (events_of facts.now) node.0 t.0 h.txn.0) holds.now (pile_in txn_cmp lists.old v)) (pile_in txn_cmp lists.old v) }
+    ensures values { (v : Txn) → values_in txn_cmp lists.new v ≡ cond (eqb t.0 v.0) (joined (λ h. (write || h.wrote) && meets (setup_of facts.now) (events_of facts.now) node.0 t.0 h.txn.0) holds.now (values_in txn_cmp lists.old v)) (values_in txn_cmp lists.old v) }
     ensures spare { lists.old.spare ≤ lists.new.spare + length holds.now }
 {
     for hold in holds {
@@ -195,10 +195,10 @@ fn is_in_the_way(facts: &Facts, node: Node, t: Txn, hold: &Hold, write: bool) ->
 }
 
 // Puts a transaction into the list of t, unless it is there.
-fn put(lists: &mut Piles<Txn, Txn>, t: Txn, ahead: Txn)
+fn put(lists: &mut Multimap<Txn, Txn>, t: Txn, ahead: Txn)
     requires room { 0 < lists.old.spare }
-    requires ascending { IsAscendingBy number_of (pile_in txn_cmp lists.old t) }
-    ensures piles { (v : Txn) → pile_in txn_cmp lists.new v ≡ cond (eqb t.0 v.0) (put_by number_of ahead (pile_in txn_cmp lists.old v)) (pile_in txn_cmp lists.old v) }
+    requires ascending { IsAscendingBy number_of (values_in txn_cmp lists.old t) }
+    ensures values { (v : Txn) → values_in txn_cmp lists.new v ≡ cond (eqb t.0 v.0) (put_by number_of ahead (values_in txn_cmp lists.old v)) (values_in txn_cmp lists.old v) }
     ensures spare { lists.old.spare ≤ lists.new.spare + 1 }
 {
     if let Err(i) = find_txn(lists.list(t), ahead) {
@@ -207,9 +207,9 @@ fn put(lists: &mut Piles<Txn, Txn>, t: Txn, ahead: Txn)
 }
 
 // Takes t out of the lists of some.
-fn take_out(lists: &mut Piles<Txn, Txn>, behind: &[Txn], t: Txn)
-    requires { (v : Txn) → IsAscendingBy number_of (pile_in txn_cmp lists.old v) }
-    ensures piles { (v : Txn) → pile_in txn_cmp lists.new v ≡ cond (has v behind.now) (without t.0 (pile_in txn_cmp lists.old v)) (pile_in txn_cmp lists.old v) }
+fn take_out(lists: &mut Multimap<Txn, Txn>, behind: &[Txn], t: Txn)
+    requires { (v : Txn) → IsAscendingBy number_of (values_in txn_cmp lists.old v) }
+    ensures values { (v : Txn) → values_in txn_cmp lists.new v ≡ cond (has v behind.now) (without t.0 (values_in txn_cmp lists.old v)) (values_in txn_cmp lists.old v) }
     ensures spare { lists.new.spare ≡ lists.old.spare }
 {
     for u in behind {
@@ -218,9 +218,9 @@ fn take_out(lists: &mut Piles<Txn, Txn>, behind: &[Txn], t: Txn)
 }
 
 // Takes a transaction out of the list of t, where it is there.
-fn take(lists: &mut Piles<Txn, Txn>, t: Txn, ahead: Txn)
-    requires { IsAscendingBy number_of (pile_in txn_cmp lists.old t) }
-    ensures piles { (v : Txn) → pile_in txn_cmp lists.new v ≡ cond (eqb t.0 v.0) (without ahead.0 (pile_in txn_cmp lists.old v)) (pile_in txn_cmp lists.old v) }
+fn take(lists: &mut Multimap<Txn, Txn>, t: Txn, ahead: Txn)
+    requires { IsAscendingBy number_of (values_in txn_cmp lists.old t) }
+    ensures values { (v : Txn) → values_in txn_cmp lists.new v ≡ cond (eqb t.0 v.0) (without ahead.0 (values_in txn_cmp lists.old v)) (values_in txn_cmp lists.old v) }
     ensures spare { lists.new.spare ≡ lists.old.spare }
 {
     if let Ok(i) = find_txn(lists.list(t), ahead) {

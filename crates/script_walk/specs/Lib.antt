@@ -1,2 +1,2 @@
 pub mod Advances
-pub mod Places
+pub mod ScriptStates

@@ -2,14 +2,14 @@
 
 ghost use Rattle.std.specs.Prelude.{◌≡◌, List};
 ghost use Rattle.teb_rules.specs.Scripts.{asks, after_answer, at_first};
-ghost use Rattle.script_walk.specs.Places.{place_of, requests_on};
+ghost use Rattle.script_walk.specs.ScriptStates.{state_of, requests_on};
 ghost use Rattle.script_text.specs.declared.Line.{Line};
 
 use crate::advance::{Advance, advance_after};
 use script_text::Line;
 use teb_names::{Reply, Request};
 
-/// A place in a script.
+/// Where a session stands in its script.
 #[derive(Clone, Copy, Debug, PartialEq, Eq)]
 pub struct Walker {
     /// The place of its line, from 0, or the number of lines where it has passed the last.
@@ -21,14 +21,14 @@ pub struct Walker {
 impl Walker {
     /// A session at its first line.
     pub fn new() -> Walker
-        ensures { (lines : List Line) → place_of lines result ≡ at_first (requests_on lines) }
+        ensures { (lines : List Line) → state_of lines result ≡ at_first (requests_on lines) }
     {
         Walker { at: 0, begun: None }
     }
 
     /// What the session asks next: its line, or behind its last line End where it holds a transaction.
     pub fn next(&self, lines: &[Line]) -> Option<Request>
-        ensures { result ≡ asks (place_of lines.now self.now) }
+        ensures { result ≡ asks (state_of lines.now self.now) }
     {
         if self.at < lines.len() {
             Some(lines[self.at].request)
@@ -41,7 +41,7 @@ impl Walker {
 
     /// Takes an answer to what the session asked.
     pub fn take(&mut self, lines: &[Line], reply: &Reply)
-        ensures { place_of lines.now self.new ≡ after_answer (place_of lines.now self.old) reply.now }
+        ensures { state_of lines.now self.new ≡ after_answer (state_of lines.now self.old) reply.now }
     {
         if self.at >= lines.len() {
             self.begun = None;

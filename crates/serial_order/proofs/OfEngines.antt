@@ -13,7 +13,7 @@ use Rattle.teb_laws.proofs.Ranks.{commits}
 use Rattle.teb_laws.proofs.Reachable.{run_good, empty_good}
 use Rattle.teb_laws.proofs.Serial.{commits_from}
 use Rattle.teb_laws.proofs.Sound.{tree_facts}
-use Rattle.engine_core.specs.State.{State, IsOfEngine}
+use Rattle.engine_core.specs.EngineModel.{EngineModel, IsOfEngine}
 use Rattle.engine_core.proofs.Reached.{law_of}
 use Rattle.serial_order.specs.Commits.{txn_numbers}
 use Rattle.serial_order.specs.Laws.{OfEveryEngine, OfEveryOrder, KeepsConflicts}
@@ -27,7 +27,7 @@ ranks_rise e h = law_of (λ X. RanksAgree X.setup) laws.ranks_agree e.store e.ev
 pub order_serializes : OfEveryOrder (λ e order. Serializes e.store e.events order)
 order_serializes e h ts o = subst (Serializes e.store e.events) (sym o) (law_of (λ X H. Serializes X H (serial_order X.setup H)) laws.every_run_serializes e.store e.events h.sound h.reached)
 
-module _ (e : State) (h : IsOfEngine e) (ts : List Txn) (o : txn_numbers ts ≡ serial_order e.store.setup e.events) where
+module _ (e : EngineModel) (h : IsOfEngine e) (ts : List Txn) (o : txn_numbers ts ≡ serial_order e.store.setup e.events) where
   lawful : Lawful e.store.setup e.events
   lawful = law_of (λ X. Lawful X.setup) (λ X sound asked. (run_good X (tree_facts X.setup sound) sound.profiles asked [] (empty_good X.setup)).legal) e.store e.events h.sound h.reached
 

@@ -6,7 +6,7 @@ use Rattle.teb_laws.proofs.Ranks.{commits}
 use Rattle.teb_laws.proofs.Serial.{commits_from}
 use Rattle.teb_laws.proofs.Timeline.{kind-lt}
 use Rattle.phase_api.specs.declared.facts.Facts.{Facts}
-use Rattle.phase_api.specs.Told.{setup_of, events_of, IsTyped}
+use Rattle.phase_api.specs.FactsView.{setup_of, events_of, IsTyped}
 use Rattle.serial_order.proofs.Walks.{begun_from}
 
 pub committed_typed : (f : Facts) (t : ℕ) → Lawful (setup_of f) (events_of f) → committed (events_of f) t ≡ true → IsTyped f t

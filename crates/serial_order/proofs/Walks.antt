@@ -15,7 +15,7 @@ use Rattle.teb_laws.specs.Lawful.{Lawful, Granted}
 use Rattle.teb_laws.proofs.Positions.{length-upto}
 use Rattle.teb_laws.proofs.Timeline.{Lawful-upto, granted_at, first_event-le, unfinished-upto, kind-lt}
 use Rattle.phase_api.specs.declared.facts.Facts.{Facts}
-use Rattle.phase_api.specs.Told.{setup_of, events_of, IsTyped}
+use Rattle.phase_api.specs.FactsView.{setup_of, events_of, IsTyped}
 use Rattle.batch_book.specs.Book.{Book}
 use Rattle.batch_book.specs.Histories.{IsNumbered, MayCome, BatchesOf, Passes}
 use Rattle.batch_book.proofs.Telling.{lawful_numbered, batches_passed}

@@ -9,7 +9,7 @@ use Rattle.teb_history.specs.declared.Event.TheVariants.{Put}
 use Rattle.teb_rules.specs.Setup.{Store}
 use Rattle.teb_rules.specs.Serializes.{final_table}
 use Rattle.phase_api.specs.declared.facts.Facts.{Facts}
-use Rattle.phase_api.specs.Told.{setup_of, events_of}
+use Rattle.phase_api.specs.FactsView.{setup_of, events_of}
 
 -- the rows, in ascending order of cells, are those of the final table
 pub record IsFinalRows (X : Store) (H : List Event) (rows : List (Cell × ℤ)) : Type 0 where

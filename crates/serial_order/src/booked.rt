@@ -2,7 +2,7 @@
 
 ghost use Rattle.teb_rules.specs.Accepted.{IsSound};
 ghost use Rattle.teb_laws.specs.Lawful.{Lawful};
-ghost use Rattle.phase_api.specs.Told.{setup_of, events_of};
+ghost use Rattle.phase_api.specs.FactsView.{setup_of, events_of};
 ghost use Rattle.serial_order.specs.Books.{AreBooks};
 ghost use Rattle.serial_order.specs.Props.{kept};
 

@@ -5,7 +5,7 @@ ghost use Rattle.teb_history.specs.Positions.{upto};
 ghost use Rattle.teb_rules.specs.Tree.{has_batches, on_path, side_at};
 ghost use Rattle.teb_laws.specs.Lawful.{Lawful};
 ghost use Rattle.teb_rules.specs.Batches.{start, close};
-ghost use Rattle.phase_api.specs.Told.{setup_of, events_of};
+ghost use Rattle.phase_api.specs.FactsView.{setup_of, events_of};
 ghost use Rattle.batch_book.specs.Histories.{BatchesOf};
 ghost use Rattle.serial_order.specs.Books.{AreBooks};
 

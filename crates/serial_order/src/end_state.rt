@@ -1,7 +1,7 @@
 //! What a history leaves in the cells.
 
 ghost use Rattle.teb_laws.specs.Lawful.{Lawful};
-ghost use Rattle.phase_api.specs.Told.{setup_of, events_of};
+ghost use Rattle.phase_api.specs.FactsView.{setup_of, events_of};
 ghost use Rattle.phase_api.specs.Versions.{HoldsVersions};
 ghost use Rattle.serial_order.specs.Props.{kept};
 

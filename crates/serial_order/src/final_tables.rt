@@ -7,7 +7,7 @@ ghost use Rattle.teb_names.specs.declared.Cell.{Cell};
 ghost use Rattle.teb_names.specs.Cells.{cell_cmp};
 ghost use Rattle.teb_history.specs.Phases.{committed};
 ghost use Rattle.version_chain.specs.Lists.{writers_of, last_place};
-ghost use Rattle.phase_api.specs.Told.{events_of};
+ghost use Rattle.phase_api.specs.FactsView.{events_of};
 ghost use Rattle.serial_order.specs.Tables.{kept, left_by_puts, left_in_rows, rows_in, IsFinalRows};
 
 use crate::end_state::EndState;

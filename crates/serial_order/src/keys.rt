@@ -3,7 +3,7 @@
 ghost use Rattle.std.specs.Prelude.{◌≡◌, IfOk};
 ghost use Rattle.teb_history.specs.Phases.{done_at};
 ghost use Rattle.teb_rules.specs.Ranks.{key, rank};
-ghost use Rattle.phase_api.specs.Told.{IsTyped};
+ghost use Rattle.phase_api.specs.FactsView.{IsTyped};
 ghost use Rattle.serial_order.specs.Booked.{history, IsNode, IsAt, told};
 ghost use Rattle.serial_order.specs.Edges.{MarkEdges};
 

@@ -5,7 +5,7 @@ ghost use Rattle.teb_rules.specs.Accepted.{IsSound};
 ghost use Rattle.teb_rules.specs.Ranks.{serial_order};
 ghost use Rattle.teb_rules.specs.Serializes.{Serializes};
 ghost use Rattle.teb_laws.specs.Lawful.{Lawful};
-ghost use Rattle.phase_api.specs.Told.{setup_of, events_of};
+ghost use Rattle.phase_api.specs.FactsView.{setup_of, events_of};
 ghost use Rattle.serial_order.specs.Booked.{history, told};
 ghost use Rattle.serial_order.specs.Commits.{commits_in, txn_numbers};
 ghost use Rattle.serial_order.specs.Edges.{MarkEdges};

@@ -2,12 +2,12 @@
 use Rattle.std.specs.Prelude.{◌≡◌, List}
 use Rattle.teb_names.specs.declared.Entry.{Entry}
 use Rattle.teb_rules.specs.Run.{replies_of}
-use Rattle.teb_rules.specs.Scripts.{IsWay, at_first, place_after}
+use Rattle.teb_rules.specs.Scripts.{IsWay, at_first, state_after}
 use Rattle.script_text.specs.declared.Line.{Line}
-use Rattle.script_walk.specs.Places.{requests_on, place_of}
+use Rattle.script_walk.specs.ScriptStates.{requests_on, state_of}
 use Rattle.script_walk.specs.declared.walker.Walker.{Walker}
 
 -- the entries are a way along the lines, and the walker stands where their replies lead
 pub record IsUnderWay (lines : List Line) (entries : List Entry) (w : Walker) : Type 0 where
   pub way : IsWay (requests_on lines) entries
-  pub stands : place_of lines w ≡ place_after (at_first (requests_on lines)) (replies_of entries)
+  pub stands : state_of lines w ≡ state_after (at_first (requests_on lines)) (replies_of entries)

@@ -3,7 +3,7 @@
 ghost use Rattle.std.specs.Prelude.{◌≡◌, ◌≤◌, Ok, Err, Some, true, false, IfOk};
 ghost use Rattle.std.specs.Option.{IsSome};
 ghost use Rattle.teb_rules.specs.Scripts.{IsWalk, asks};
-ghost use Rattle.script_walk.specs.Places.{requests_on, place_of};
+ghost use Rattle.script_walk.specs.ScriptStates.{requests_on, state_of};
 ghost use Rattle.session_server.specs.Passes.{IsPassOf, mine};
 ghost use Rattle.session_server.specs.Walks.{IsUnderWay};
 ghost use Rattle.session_server.specs.Stops.{FoundRaised};
@@ -81,7 +81,7 @@ fn ask_next<C: Chains, G: Gate, R: Wait>(
 ) -> Result<Reply, AskError>
     requires pass { IsPassOf hall.now pass.old }
     requires way { IsUnderWay lines.now (mine pass.old) walker.old }
-    requires next { asks (place_of lines.now walker.old) ≡ Some request }
+    requires next { asks (state_of lines.now walker.old) ≡ Some request }
     ensures pass { IsPassOf hall.now pass.new × (pass.new.session ≡ pass.old.session) }
     ensures way { IsUnderWay lines.now (mine pass.new) walker.new }
     ensures waits { IfOk result (WaitsAmong 8192) }

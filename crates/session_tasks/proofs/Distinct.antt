@@ -6,7 +6,7 @@ use Rattle.teb_names.specs.declared.Request.{Request}
 use Rattle.script_text.specs.declared.Line.{Line}
 use Rattle.script_text.specs.Scripts.{session, session_numbers, lines_for, scripts_of}
 use Rattle.teb_rules.specs.Driver.{Ascending}
-use Rattle.script_walk.specs.Places.{requests_on}
+use Rattle.script_walk.specs.ScriptStates.{requests_on}
 use Rattle.session_tasks.specs.Scripted.{Scripted, AreDistinct}
 
 -- the sessions rise, from low on

@@ -4,9 +4,9 @@ use Rattle.std.specs.List.{slice_get}
 use Rattle.teb_names.specs.declared.Entry.{Entry}
 use Rattle.teb_names.specs.declared.Session.{Session}
 use Rattle.teb_rules.specs.Run.{replies_of}
-use Rattle.teb_rules.specs.Scripts.{IsWay, IsWalk, WayFrom, at_first, next, place_after, entries_of}
+use Rattle.teb_rules.specs.Scripts.{IsWay, IsWalk, WayFrom, at_first, next, state_after, entries_of}
 use Rattle.script_text.specs.declared.Line.{Line}
-use Rattle.script_walk.specs.Places.{requests_on, place_of}
+use Rattle.script_walk.specs.ScriptStates.{requests_on, state_of}
 use Rattle.script_walk.specs.declared.walker.Walker.{Walker}
 use Rattle.version_chain.specs.declared.chains.Chains.{Ghosts}
 use Rattle.session_server.specs.declared.hall.Hall.{Hall}
@@ -24,15 +24,15 @@ use Rattle.session_tasks.specs.declared.task.Progress.TheVariants.{Open, Through
 use Rattle.session_tasks.proofs.Placing.{place_script, lines_there, script_lines}
 
 -- a walker at the first line, before any answer
-way_new : (lines : List Line) (E : List Entry) (w : Walker) → E ≡ [] → place_of lines w ≡ at_first (requests_on lines) → IsUnderWay lines E w
-unfolding WayFrom place_after
+way_new : (lines : List Line) (E : List Entry) (w : Walker) → E ≡ [] → state_of lines w ≡ at_first (requests_on lines) → IsUnderWay lines E w
+unfolding WayFrom state_after
 way_new lines E w e s = record {
   way = subst (IsWay (requests_on lines)) (sym e) tt;
-  stands = s ∙ sym (ap (λ (F : List Entry). place_after (at_first (requests_on lines)) (replies_of F)) e);
+  stands = s ∙ sym (ap (λ (F : List Entry). state_after (at_first (requests_on lines)) (replies_of F)) e);
 }
 
 walk_none : (E : List Entry) → E ≡ [] → IsWalk [] E
-unfolding WayFrom next place_after
+unfolding WayFrom next state_after
 walk_none E e = subst (IsWalk []) (sym e) (tt, refl)
 
 through_is : (r : Result Bool AskError) → progress_after r ≡ Through → r ≡ Ok true
@@ -49,7 +49,7 @@ module _ {C : Type 0} {g : Ghosts C} (h : Hall C g) (x : Scripted) where
   mine_none : (p : Pass C g) → IsNew h p → mine p ≡ []
   mine_none p n = ap (entries_of p.session.0) n.seen
 
-  begun_open : (p : Pass C g) (i : ℕ) (w : Walker) → IsNew h p → Some i ≡ place_in x p.session.0 → ((lines : List Line) → place_of lines w ≡ at_first (requests_on lines)) → IsTask h x (record { place = Some i; pass = p; walker = w; progress = Open })
+  begun_open : (p : Pass C g) (i : ℕ) (w : Walker) → IsNew h p → Some i ≡ place_in x p.session.0 → ((lines : List Line) → state_of lines w ≡ at_first (requests_on lines)) → IsTask h x (record { place = Some i; pass = p; walker = w; progress = Open })
   begun_open p i w n q s = record {
     place = q;
     hall = (n.seat, n.base);
@@ -59,7 +59,7 @@ module _ {C : Type 0} {g : Ghosts C} (h : Hall C g) (x : Scripted) where
     idle = λ e. absurd (cc);
   }
 
-  begun_idle : (p : Pass C g) (w : Walker) → IsNew h p → None ≡ place_in x p.session.0 → ((lines : List Line) → place_of lines w ≡ at_first (requests_on lines)) → IsTask h x (record { place = None; pass = p; walker = w; progress = Through })
+  begun_idle : (p : Pass C g) (w : Walker) → IsNew h p → None ≡ place_in x p.session.0 → ((lines : List Line) → state_of lines w ≡ at_first (requests_on lines)) → IsTask h x (record { place = None; pass = p; walker = w; progress = Through })
   begun_idle p w n q s = record {
     place = q;
     hall = (n.seat, n.base);
@@ -70,7 +70,7 @@ module _ {C : Type 0} {g : Ghosts C} (h : Hall C g) (x : Scripted) where
   }
 
   -- a session before the first request
-  pub begun : (p : Pass C g) (o : Option ℕ) (w : Walker) → IsNew h p → o ≡ place_in x p.session.0 → ((lines : List Line) → place_of lines w ≡ at_first (requests_on lines)) → IsTask h x (record { place = o; pass = p; walker = w; progress = progress_at o })
+  pub begun : (p : Pass C g) (o : Option ℕ) (w : Walker) → IsNew h p → o ≡ place_in x p.session.0 → ((lines : List Line) → state_of lines w ≡ at_first (requests_on lines)) → IsTask h x (record { place = o; pass = p; walker = w; progress = progress_at o })
   begun p None w n q s = begun_idle p w n q s
   begun p (Some i) w n q s = begun_open p i w n q s
 

@@ -1,7 +1,7 @@
 -- Tasks, and lists of them.
 use Rattle.std.specs.Prelude.{◌≡◌, ℕ, Bool, true, false, Result, Ok, Err, List, Option, Some, None, All, map}
 use Rattle.teb_rules.specs.Scripts.{IsWalk}
-use Rattle.script_walk.specs.Places.{requests_on}
+use Rattle.script_walk.specs.ScriptStates.{requests_on}
 use Rattle.version_chain.specs.declared.chains.Chains.{Ghosts}
 use Rattle.session_server.specs.declared.hall.Hall.{Hall}
 use Rattle.session_server.specs.declared.error.AskError.{AskError}

@@ -5,7 +5,7 @@ use Rattle.teb_names.specs.declared.ControlKind.{ControlKind}
 use Rattle.teb_names.specs.declared.ControlKind.TheVariants.{Locks, Pipeline, Snapshot}
 use Rattle.teb_history.specs.Phases.{numbers}
 use Rattle.teb_rules.specs.Setup.{NodeRow}
-use Rattle.tree_toml.specs.Meaning.{Meaning}
+use Rattle.tree_toml.specs.SetupView.{SetupView}
 
 -- a node that takes all instances of its types
 abbrev pub node : ControlKind → Option ℕ → List ℕ → ℕ → NodeRow
@@ -32,7 +32,7 @@ shop_rows = filled 0 (pos 100) 16 ++ filled 1 (pos 0) 16 ++ filled 2 (pos 1000) 
 abbrev pub shop_profiles : List (List (List ℕ))
 shop_profiles = ((0 ∷ 1 ∷ 2 ∷ []) ∷ []) ∷ ((0 ∷ []) ∷ (1 ∷ []) ∷ []) ∷ ((2 ∷ []) ∷ (1 ∷ []) ∷ []) ∷ ((1 ∷ []) ∷ (2 ∷ []) ∷ []) ∷ []
 
-abbrev pub shop : Meaning
+abbrev pub shop : SetupView
 shop = record {
   tables = codes "stock" ∷ codes "orders" ∷ codes "acct" ∷ [];
   types = codes "report" ∷ codes "new_order" ∷ codes "payment" ∷ codes "delivery" ∷ [];

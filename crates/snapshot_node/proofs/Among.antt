@@ -16,7 +16,7 @@ use Rattle.snapshot_node.proofs.KeyOrders.{Keyed}
 pub one_of : (t u : Txn) → number_of t ≡ number_of u → t ≡ u
 one_of t u e = ap (λ (n : ℕ). record { 0 = n }) e
 
--- where one is in a pile, by what a search of it found
+-- where one is among the values of a key, by what a search found
 pub placed : {xs ys : List Txn} (t : Txn) {r o : Result ℕ ℕ} → xs ≡ ys → r ≡ place_of number_of xs t.0 → r ≡ o → place_of number_of ys t.0 ≡ o
 placed t l f h = ap (λ (zs : List Txn). place_of number_of zs t.0) (sym l) ∙ sym f ∙ h
 
@@ -132,12 +132,12 @@ among_same (x ∷ xs) (y ∷ ys) a b h = elim (cases_order x.0 y.0) [
         go false p true q k = absurd (both_ways _ p (ap (λ (n : ℕ). eqb n u) e ∙ q))
         go false p false q k = k
 
--- an edit of one key's pile
+-- an edit of one key's values
 module _ {K : Type 0} (R : Keyed K) (f g : K → List Txn) (key : K) (t : Txn) where
   at : (xs : List Txn) → ((q : K) → g q ≡ cond (is_eq (R.order key q)) xs (f q)) → (q : K) → g q ≡ cond (R.same key q) xs (f q)
   at xs h q = h q ∙ ap (λ (b : Bool). cond b xs (f q)) (R.tie key q)
 
-  -- the pile of the key gets xs
+  -- the values of the key become xs
   pub edited : (xs : List Txn) (p : ℕ → Bool → Bool) → ((q : K) → g q ≡ cond (is_eq (R.order key q)) xs (f q)) → ((u : ℕ) → is_among u xs ≡ p u (is_among u (f key)))
       → (q : K) (u : ℕ) → is_among u (g q) ≡ cond (R.same key q) (p u (is_among u (f q))) (is_among u (f q))
   edited xs p h k q u = go (R.same key q) refl (at xs h q)

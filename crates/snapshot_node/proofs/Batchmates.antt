@@ -21,7 +21,7 @@ use Rattle.teb_laws.proofs.Intervals.{interval}
 use Rattle.teb_laws.proofs.Nodes.{meets_parts}
 use Rattle.teb_laws.proofs.Pivots.{edge_parts}
 use Rattle.phase_api.specs.declared.facts.Facts.{Facts}
-use Rattle.phase_api.specs.Told.{IsOrderly, setup_of, events_of}
+use Rattle.phase_api.specs.FactsView.{IsOrderly, setup_of, events_of}
 use Rattle.phase_api.specs.Calls.{IsHere}
 use Rattle.batch_book.specs.Histories.{ClosedBelow, IsNumbered}
 use Rattle.batch_book.proofs.Numbered.{begun_all}

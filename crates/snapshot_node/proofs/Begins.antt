@@ -16,7 +16,7 @@ use Rattle.teb_names.specs.declared.ControlKind.TheVariants.{Snapshot}
 use Rattle.batch_book.specs.Book.{Book}
 use Rattle.batch_book.specs.Histories.{BatchesOf}
 use Rattle.hold_register.proofs.Orderly.{orderly_none}
-use Rattle.key_piles.specs.Piles.{Shown, pile, pile_in}
+use Rattle.sorted_multimap.specs.Multimap.{Shown, values_of, values_in}
 use Rattle.snapshot_node.specs.declared.writers.Slot.{Slot}
 use Rattle.snapshot_node.specs.Slots.{slot_cmp, is_among}
 use Rattle.snapshot_node.specs.Standing.{SnapshotStand, puts_in, has_read_in}
@@ -48,8 +48,8 @@ stands_none S H n b r p e k z h c q = subst (λ (G : List Event). SnapshotStand 
   committed = λ x u. ap (is_among u) (bare (record { cell = x; committed = true })) ∙ sym (puts_none committed S n x u);
 })
   where
-    bare : (s : Slot) → pile_in slot_cmp p s ≡ []
-    bare s = ap (λ (es : List (Slot × Txn)). pile slot_cmp es s) q
+    bare : (s : Slot) → values_in slot_cmp p s ≡ []
+    bare s = ap (λ (es : List (Slot × Txn)). values_of slot_cmp es s) q
 
-    unread : (x : Cell) → pile_in cell_cmp r x ≡ []
-    unread x = ap (λ (es : List (Cell × Txn)). pile cell_cmp es x) c
+    unread : (x : Cell) → values_in cell_cmp r x ≡ []
+    unread x = ap (λ (es : List (Cell × Txn)). values_of cell_cmp es x) c

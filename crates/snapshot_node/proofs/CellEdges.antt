@@ -19,7 +19,7 @@ use Rattle.teb_rules.specs.Controls.{edge}
 use Rattle.teb_laws.specs.Lawful.{Lawful}
 use Rattle.teb_laws.specs.TreeFacts.{TreeFacts}
 use Rattle.teb_laws.proofs.Nodes.{meets_parts}
-use Rattle.phase_api.specs.Told.{IsOrderly}
+use Rattle.phase_api.specs.FactsView.{IsOrderly}
 use Rattle.batch_book.specs.Fields.{Has}
 use Rattle.batch_book.proofs.Elements.{any_Has, Has-any}
 use Rattle.batch_book.proofs.Numbered.{unfinished_from}

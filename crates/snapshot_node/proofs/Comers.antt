@@ -16,7 +16,7 @@ use Rattle.teb_laws.specs.Lawful.{Lawful}
 use Rattle.teb_laws.specs.TreeFacts.{TreeFacts}
 use Rattle.teb_laws.proofs.Nodes.{meets_parts}
 use Rattle.phase_api.specs.declared.facts.Facts.{Facts}
-use Rattle.phase_api.specs.Told.{IsOrderly, setup_of, events_of}
+use Rattle.phase_api.specs.FactsView.{IsOrderly, setup_of, events_of}
 use Rattle.phase_api.specs.Calls.{IsHere}
 use Rattle.batch_book.specs.Fields.{Has}
 use Rattle.batch_book.specs.Histories.{ClosedBelow}

@@ -13,7 +13,7 @@ use Rattle.teb_rules.specs.Tree.{row}
 use Rattle.teb_rules.specs.Batches.{one_batch}
 use Rattle.teb_laws.specs.Lawful.{Lawful}
 use Rattle.teb_laws.specs.TreeFacts.{TreeFacts}
-use Rattle.phase_api.specs.Told.{IsOrderly}
+use Rattle.phase_api.specs.FactsView.{IsOrderly}
 use Rattle.snapshot_node.specs.Standing.{writers_in}
 use Rattle.snapshot_node.specs.Pivots.{IsLeast, IsLeastEdge, IsLeastEdgeFrom, IsMateAmong, IsMateByPut, EntersAt, Leads, Leaves, Reaches, ReachesOne, lesser_of, earlier_of}
 use Rattle.snapshot_node.proofs.Least.{least_as, least_either, Along}

@@ -13,7 +13,7 @@ use Rattle.teb_rules.specs.Setup.{Setup}
 use Rattle.teb_rules.specs.Tree.{meets}
 use Rattle.teb_rules.specs.Batches.{start, close}
 use Rattle.phase_api.specs.declared.facts.Facts.{Facts}
-use Rattle.phase_api.specs.Told.{IsOrderly, setup_of, events_of}
+use Rattle.phase_api.specs.FactsView.{IsOrderly, setup_of, events_of}
 use Rattle.phase_api.specs.Calls.{IsHere}
 use Rattle.batch_book.specs.Histories.{ClosedBelow}
 use Rattle.snapshot_node.specs.Slots.{is_among}

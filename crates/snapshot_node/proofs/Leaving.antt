@@ -10,7 +10,7 @@ use Rattle.teb_history.specs.declared.Event.TheVariants.{Put}
 use Rattle.teb_history.specs.OwnEvents.{own_events, put_in}
 use Rattle.teb_history.specs.Accesses.{wrote}
 use Rattle.teb_history.proofs.OwnWalks.{wrote_own}
-use Rattle.key_piles.specs.Piles.{Shown}
+use Rattle.sorted_multimap.specs.Multimap.{Shown}
 use Rattle.snapshot_node.specs.declared.writers.Slot.{Slot}
 use Rattle.snapshot_node.specs.Slots.{writes_in, IsFiled}
 

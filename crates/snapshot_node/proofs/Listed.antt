@@ -16,7 +16,7 @@ use Rattle.teb_laws.proofs.AscendingNumbers.{number, numbers_ascending}
 use Rattle.teb_laws.proofs.Locks.{In-numbers}
 use Rattle.teb_laws.proofs.Serial.{In-filter, filter-In}
 use Rattle.phase_api.specs.declared.facts.Facts.{Facts}
-use Rattle.phase_api.specs.Told.{IsOrderly, setup_of, events_of}
+use Rattle.phase_api.specs.FactsView.{IsOrderly, setup_of, events_of}
 use Rattle.phase_api.specs.Calls.{IsHere}
 use Rattle.hold_register.specs.Waits.{some_txn}
 use Rattle.hold_register.proofs.Noting.{typed_now}

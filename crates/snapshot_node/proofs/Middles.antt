@@ -10,7 +10,7 @@ use Rattle.teb_rules.specs.Setup.{Setup}
 use Rattle.teb_rules.specs.Tree.{row}
 use Rattle.teb_laws.specs.Lawful.{Lawful}
 use Rattle.teb_laws.specs.TreeFacts.{TreeFacts}
-use Rattle.phase_api.specs.Told.{IsOrderly}
+use Rattle.phase_api.specs.FactsView.{IsOrderly}
 use Rattle.snapshot_node.specs.Standing.{writers_in}
 use Rattle.snapshot_node.specs.Pivots.{is_at_stake, lesser_of, IsLeast, IsLeastEdge, PutsAcross, IsLeft, IsMiddle, IsMiddleAmong}
 use Rattle.snapshot_node.proofs.Least.{least_as, least_either, Along}

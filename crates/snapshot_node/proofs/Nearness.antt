@@ -15,7 +15,7 @@ use Rattle.teb_laws.specs.Lawful.{Lawful}
 use Rattle.teb_laws.proofs.Sound.{tree_facts}
 use Rattle.teb_laws.proofs.Nodes.{meets_parts}
 use Rattle.teb_laws.proofs.Pivots.{edge_parts}
-use Rattle.phase_api.specs.Told.{IsOrderly}
+use Rattle.phase_api.specs.FactsView.{IsOrderly}
 use Rattle.snapshot_node.specs.declared.marks.Mark.{Mark}
 use Rattle.snapshot_node.specs.declared.validation.Validation.{Validation}
 use Rattle.snapshot_node.specs.Marks.{is_entered, is_left, is_ahead, is_behind, place_of_txn, AreMarked, IsTold}

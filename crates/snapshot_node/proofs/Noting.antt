@@ -19,9 +19,9 @@ use Rattle.batch_book.specs.Histories.{BatchesOf, MayCome, Joins, Finishes, Pass
 use Rattle.batch_book.proofs.Telling.{batches_passed, next_new}
 use Rattle.batch_book.proofs.Numbered.{spot_began, on_kept, begun_step}
 use Rattle.hold_register.proofs.Orderly.{orderly_next}
-use Rattle.key_piles.specs.Piles.{Shown}
+use Rattle.sorted_multimap.specs.Multimap.{Shown}
 use Rattle.snapshot_node.specs.declared.writers.Slot.{Slot}
-use Rattle.snapshot_node.specs.Readers.{reads_in_pile, AreFiled}
+use Rattle.snapshot_node.specs.Readers.{reads_in_values, AreFiled}
 use Rattle.snapshot_node.specs.Slots.{writes_in, IsFiled}
 use Rattle.snapshot_node.specs.Standing.{SnapshotStand, puts_in, has_read_in}
 use Rattle.snapshot_node.proofs.Reading.{got_kept, still_read, began_read, got_read, got_elsewhere, gone_read}
@@ -43,7 +43,7 @@ newest_place H e i = ap (λ (G : List Event). length G) i
 module _ (S : Setup) (P : List Event) (n : ℕ) (b : Book) (r : Shown Cell Txn) (p : Shown Slot Txn) (old : SnapshotStand n b r p S P) where
   -- with what shows the history with e
   made : (e : Event) (b' : Book) (r' : Shown Cell Txn) (p' : Shown Slot Txn) → MayNote S P n e → b'.size ≡ b.size → BatchesOf b' S (e ∷ P) n
-      → AreFiled r' → ((x : Cell) (u : ℕ) → reads_in_pile r' x u ≡ has_read_in S (e ∷ P) n x u) → IsFiled p'
+      → AreFiled r' → ((x : Cell) (u : ℕ) → reads_in_values r' x u ≡ has_read_in S (e ∷ P) n x u) → IsFiled p'
       → ((x : Cell) (u : ℕ) → writes_in p' x false u ≡ puts_in unfinished S (e ∷ P) n x u) → ((x : Cell) (u : ℕ) → writes_in p' x true u ≡ puts_in committed S (e ∷ P) n x u) → SnapshotStand n b' r' p' S (e ∷ P)
   made e b' r' p' m z h a g f run done = record { kind = old.kind; size = z ∙ old.size; orderly = orderly_next S P n e m old.orderly; batches = h; readers_filed = a; read = g; filed = f; unfinished = run; committed = done }
 
@@ -59,11 +59,11 @@ module _ (S : Setup) (P : List Event) (n : ℕ) (b : Book) (r : Shown Cell Txn) 
       (λ y u. old.unfinished y u ∙ sym (still_unfinished S P n (Told t) y u refl refl refl refl)) (λ y u. old.committed y u ∙ sym (still_committed S P n (Told t) y u refl refl refl))
 
   module _ (t : Txn) (y : Cell) (w : Txn) (v : Option ℤ) (m : MayNote S P n (Got t y w v)) where
-    read : (r' : Shown Cell Txn) → AreFiled r' → ((x : Cell) (u : ℕ) → reads_in_pile r' x u ≡ has_read_in S (Got t y w v ∷ P) n x u) → SnapshotStand n b r' p S (Got t y w v ∷ P)
+    read : (r' : Shown Cell Txn) → AreFiled r' → ((x : Cell) (u : ℕ) → reads_in_values r' x u ≡ has_read_in S (Got t y w v ∷ P) n x u) → SnapshotStand n b r' p S (Got t y w v ∷ P)
     read r' a g = made (Got t y w v) b r' p m refl (passed (Got t y w v) m tt) a g old.filed
         (λ x u. old.unfinished x u ∙ sym (still_unfinished S P n (Got t y w v) x u refl refl refl refl)) (λ x u. old.committed x u ∙ sym (still_committed S P n (Got t y w v) x u refl refl refl))
 
-    pub noted_got : (r' : Shown Cell Txn) → on S (Got t y w v ∷ P) n t.0 ≡ true → AreFiled r' → ((x : Cell) (u : ℕ) → reads_in_pile r' x u ≡ (reads_in_pile r x u || (same_cell y x && eqb t.0 u))) → SnapshotStand n b r' p S (Got t y w v ∷ P)
+    pub noted_got : (r' : Shown Cell Txn) → on S (Got t y w v ∷ P) n t.0 ≡ true → AreFiled r' → ((x : Cell) (u : ℕ) → reads_in_values r' x u ≡ (reads_in_values r x u || (same_cell y x && eqb t.0 u))) → SnapshotStand n b r' p S (Got t y w v ∷ P)
     noted_got r' o a g = read r' a (λ x u. g x u ∙ ap (λ (z : Bool). z || (same_cell y x && eqb t.0 u)) (old.read x u) ∙ sym (got_read S P n t y w v x u m.0 (sym (on_kept S (Got t y w v) P n t.0 refl) ∙ o)))
 
     pub noted_got_off : on S (Got t y w v ∷ P) n t.0 ≡ false → SnapshotStand n b r p S (Got t y w v ∷ P)
@@ -113,7 +113,7 @@ module _ (S : Setup) (P : List Event) (n : ℕ) (b : Book) (r : Shown Cell Txn) 
         (λ x u. run x u ∙ (λ j. old.unfinished x u j && not (wrote_kept (Done t) P t.0 x refl j && eqb t.0 u)) ∙ done_out S P n t x u)
         (λ x u. done x u ∙ (λ j. old.committed x u j || (wrote_kept (Done t) P t.0 x refl j && eqb t.0 u && old.unfinished x t.0 j)) ∙ done_in S P n t x u m)
 
-    pub noted_gone : (c : Cause) (r' : Shown Cell Txn) → MayNote S P n (Gone t c) → AreFiled r' → ((x : Cell) (u : ℕ) → reads_in_pile r' x u ≡ (reads_in_pile r x u && not (got (Gone t c ∷ P) t.0 x && eqb t.0 u)))
+    pub noted_gone : (c : Cause) (r' : Shown Cell Txn) → MayNote S P n (Gone t c) → AreFiled r' → ((x : Cell) (u : ℕ) → reads_in_values r' x u ≡ (reads_in_values r x u && not (got (Gone t c ∷ P) t.0 x && eqb t.0 u)))
         → ((x : Cell) (u : ℕ) → writes_in p' x false u ≡ (writes_in p x false u && not (wrote (Gone t c ∷ P) t.0 x && eqb t.0 u)))
         → ((x : Cell) (u : ℕ) → writes_in p' x true u ≡ writes_in p x true u) → SnapshotStand n b' r' p' S (Gone t c ∷ P)
     noted_gone c r' m a g run done = made (Gone t c) b' r' p' m z (h S P n (Gone t c) old.batches m refl l) a

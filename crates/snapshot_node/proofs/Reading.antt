@@ -16,7 +16,7 @@ use Rattle.teb_rules.specs.Setup.{Setup}
 use Rattle.teb_rules.specs.Tree.{on}
 use Rattle.teb_laws.proofs.Answers.{aborted_kept}
 use Rattle.batch_book.proofs.Numbered.{aborted_step, unfinished_parts, on_kept}
-use Rattle.phase_api.specs.Told.{IsOrderly}
+use Rattle.phase_api.specs.FactsView.{IsOrderly}
 use Rattle.hold_register.proofs.Orderly.{new_accesses_none}
 use Rattle.snapshot_node.specs.Standing.{has_read_in}
 

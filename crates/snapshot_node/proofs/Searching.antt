@@ -13,7 +13,7 @@ use Rattle.teb_rules.specs.Controls.{edge, edges, quads, at_stake, validate, piv
 use Rattle.teb_rules.specs.declared.Broken.TheVariants.{Pivot}
 use Rattle.teb_laws.proofs.Pivots.{Has, Has-map_from, find_has, edges_from, quads_from}
 use Rattle.teb_laws.proofs.Serial.{numbers-In, filter-In}
-use Rattle.phase_api.specs.Told.{IsOrderly}
+use Rattle.phase_api.specs.FactsView.{IsOrderly}
 use Rattle.snapshot_node.specs.Pivots.{is_at_stake, IsLeast, IsLeastEdge, Leads, IsPivot, IsFirst, IsMiddle, break_by}
 use Rattle.snapshot_node.proofs.Batchmates.{edge_begun}
 

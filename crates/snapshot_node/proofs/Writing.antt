@@ -15,7 +15,7 @@ use Rattle.teb_history.proofs.Any.{came_any}
 use Rattle.teb_rules.specs.Setup.{Setup}
 use Rattle.teb_rules.specs.Tree.{on}
 use Rattle.batch_book.proofs.Numbered.{committed_step, unfinished_step, unfinished_parts, unfinished_kept, on_kept}
-use Rattle.phase_api.specs.Told.{IsOrderly}
+use Rattle.phase_api.specs.FactsView.{IsOrderly}
 use Rattle.hold_register.proofs.Orderly.{new_accesses_none}
 use Rattle.snapshot_node.specs.Standing.{puts_in}
 

@@ -5,7 +5,7 @@ use Rattle.teb_history.specs.declared.Event.{Event}
 use Rattle.teb_history.specs.Phases.{begun, aborted}
 use Rattle.teb_rules.specs.Setup.{Setup}
 use Rattle.teb_laws.specs.Lawful.{Lawful}
-use Rattle.phase_api.specs.Told.{setup_of, events_of}
+use Rattle.phase_api.specs.FactsView.{setup_of, events_of}
 use Rattle.phase_api.specs.Calls.{IsHere}
 use Rattle.snapshot_node.specs.Pivots.{AreHere}
 use Rattle.snapshot_node.specs.declared.asked.Asked.{Asked}

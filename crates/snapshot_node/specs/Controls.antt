@@ -10,8 +10,8 @@ use Rattle.snapshot_node.specs.declared.snapshot.Snapshot.{Snapshot}
 abbrev pub SnapshotStandsFor : Snapshot → Setup → List Event → Type 0
 SnapshotStandsFor c S H = MarkedStand c.register.node.0 c.register.batches c.register.readers c.register.writers c.marks.items S H
 
-abbrev pub snapshot_place : Snapshot → ℕ
-snapshot_place c = c.register.node.0
+abbrev pub snapshot_node_number : Snapshot → ℕ
+snapshot_node_number c = c.register.node.0
 
 abbrev pub snapshot_spare : Snapshot → ℕ
 snapshot_spare c = min (room_of c.register) (vec_capacity c.marks - vec_len c.marks)

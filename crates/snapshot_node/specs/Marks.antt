@@ -11,7 +11,7 @@ use Rattle.teb_rules.specs.Batches.{start}
 use Rattle.teb_laws.specs.Lawful.{Lawful}
 use Rattle.teb_laws.specs.Pivots.{IsSettled}
 use Rattle.batch_book.specs.Book.{Book}
-use Rattle.key_piles.specs.Piles.{Shown}
+use Rattle.sorted_multimap.specs.Multimap.{Shown}
 use Rattle.snapshot_node.specs.declared.marks.Mark.{Mark}
 use Rattle.snapshot_node.specs.declared.writers.Slot.{Slot}
 use Rattle.snapshot_node.specs.Standing.{SnapshotStand}

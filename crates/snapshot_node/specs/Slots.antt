@@ -11,8 +11,8 @@ use Rattle.teb_names.specs.declared.Txn.{Txn}
 use Rattle.teb_names.specs.Cells.{same_cell, cell_cmp}
 use Rattle.teb_history.specs.Ascending.{IsAscendingBy}
 use Rattle.teb_history.specs.Live.{number_of}
-use Rattle.key_piles.specs.Keys.{cell_spread, cell_agrees}
-use Rattle.key_piles.specs.Piles.{Shown, pile_in}
+use Rattle.sorted_multimap.specs.Keys.{cell_spread, cell_agrees}
+use Rattle.sorted_multimap.specs.Multimap.{Shown, values_in}
 use Rattle.snapshot_node.specs.declared.writers.Slot.{Slot}
 
 -- the order of slots: by cell, the unfinished writers of a cell before the committed ones
@@ -41,8 +41,8 @@ is_among u ts = list_any (λ t. eqb t.0 u) ts
 
 -- u stands in the slot of x
 abbrev pub writes_in : Shown Slot Txn → Cell → Bool → ℕ → Bool
-writes_in p x committed u = is_among u (pile_in slot_cmp p (record { cell = x; committed = committed }))
+writes_in p x committed u = is_among u (values_in slot_cmp p (record { cell = x; committed = committed }))
 
 -- the transactions of a slot ascend
 pub record IsFiled (p : Shown Slot Txn) : Type 0 where
-  pub ascending : (q : Slot) → IsAscendingBy number_of (pile_in slot_cmp p q)
+  pub ascending : (q : Slot) → IsAscendingBy number_of (values_in slot_cmp p q)

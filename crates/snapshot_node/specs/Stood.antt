@@ -3,7 +3,7 @@ use Rattle.std.specs.Prelude.{ℕ, List, min}
 use Rattle.teb_history.specs.declared.Event.{Event}
 use Rattle.teb_rules.specs.Setup.{Setup}
 use Rattle.phase_api.specs.declared.facts.Facts.{Facts}
-use Rattle.phase_api.specs.Told.{setup_of, events_of}
+use Rattle.phase_api.specs.FactsView.{setup_of, events_of}
 use Rattle.snapshot_node.specs.declared.register.Register.{Register}
 use Rattle.snapshot_node.specs.Standing.{SnapshotStand}
 

@@ -7,7 +7,7 @@ use Rattle.teb_rules.specs.Tree.{row}
 use Rattle.teb_rules.specs.Batches.{start}
 use Rattle.teb_rules.specs.Controls.{validate}
 use Rattle.teb_rules.specs.declared.Verdict.{Verdict}
-use Rattle.phase_api.specs.Told.{setup_of, events_of}
+use Rattle.phase_api.specs.FactsView.{setup_of, events_of}
 use Rattle.snapshot_node.specs.Pivots.{is_at_stake, AreHere}
 use Rattle.snapshot_node.specs.Asking.{there}
 use Rattle.snapshot_node.specs.Marks.{is_entered, is_left, is_behind, is_ahead, place_of_txn}

@@ -6,7 +6,7 @@ ghost use Rattle.teb_history.specs.declared.Event.{Event};
 ghost use Rattle.teb_history.specs.Phases.{committed};
 ghost use Rattle.teb_rules.specs.Setup.{Setup};
 ghost use Rattle.teb_rules.specs.Tree.{row};
-ghost use Rattle.phase_api.specs.Told.{setup_of, events_of};
+ghost use Rattle.phase_api.specs.FactsView.{setup_of, events_of};
 ghost use Rattle.phase_api.specs.Calls.{IsNewest};
 ghost use Rattle.snapshot_node.specs.Standing.{writers_in};
 ghost use Rattle.snapshot_node.specs.Stood.{RegisterStands, StandsFor, room_of};
@@ -14,8 +14,8 @@ ghost use Rattle.snapshot_node.specs.Stood.{RegisterStands, StandsFor, room_of};
 use crate::readers::{forget_reads, put_reader};
 use crate::writers::{Slot, abort, commit, put_in};
 use batch_book::Batches;
-use key_piles::Piles;
 use phase_api::Facts;
+use sorted_multimap::Multimap;
 use std::alloc::{AllocError, Global};
 use teb_history::Event;
 use teb_names::{Cell, Node, Txn};
@@ -25,8 +25,8 @@ use teb_names::{Cell, Node, Txn};
 pub struct Register {
     pub(crate) node: Node,
     pub(crate) batches: Batches,
-    pub(crate) readers: Piles<Cell, Txn>,
-    pub(crate) writers: Piles<Slot, Txn>,
+    pub(crate) readers: Multimap<Cell, Txn>,
+    pub(crate) writers: Multimap<Slot, Txn>,
 }
 
 impl Register {
@@ -40,8 +40,8 @@ impl Register {
         Ok(Register {
             node,
             batches: Batches::new(alloc, facts.tree.row(node).batch),
-            readers: Piles::new(alloc),
-            writers: Piles::new(alloc),
+            readers: Multimap::new(alloc),
+            writers: Multimap::new(alloc),
         })
     }
 

@@ -4,7 +4,7 @@ ghost use Rattle.std.specs.Prelude.{◌≡◌, [], IfOk};
 ghost use Rattle.teb_names.specs.declared.ControlKind.TheVariants.{Snapshot as IsSnapshot};
 ghost use Rattle.teb_history.specs.declared.Event.{Event};
 ghost use Rattle.teb_rules.specs.Tree.{row};
-ghost use Rattle.phase_api.specs.Told.{setup_of, events_of};
+ghost use Rattle.phase_api.specs.FactsView.{setup_of, events_of};
 ghost use Rattle.snapshot_node.specs.Marks.{MarkedStand};
 
 use crate::asked::Asked;
@@ -44,11 +44,11 @@ impl Snapshot {
 }
 
 impl Control for Snapshot {
-    ghost use Rattle.snapshot_node.specs.Controls.{SnapshotStandsFor, snapshot_place, snapshot_spare};
+    ghost use Rattle.snapshot_node.specs.Controls.{SnapshotStandsFor, snapshot_node_number, snapshot_spare};
 
     ghost stands = { SnapshotStandsFor };
 
-    ghost place = { snapshot_place };
+    ghost node_number = { snapshot_node_number };
 
     ghost spare = { snapshot_spare };
 

@@ -1,4 +1,4 @@
-//! The writers of each cell, the committed and the unfinished ones apart, in piles.
+//! The writers of each cell, the committed and the unfinished ones apart, in a multimap.
 
 ghost use Rattle.std.specs.Prelude.{◌≡◌, ◌+◌, ◌<◌, ◌≤◌, ◌&&◌, ◌||◌, ℕ, eqb, leb, filter, not, true, false};
 ghost use Rattle.teb_names.specs.declared.Cell.{Cell};
@@ -7,11 +7,11 @@ ghost use Rattle.teb_names.specs.Cells.{same_cell};
 ghost use Rattle.teb_history.specs.Accesses.{wrote};
 ghost use Rattle.teb_history.specs.Ascending.{IsAscendingBy};
 ghost use Rattle.teb_history.specs.Live.{number_of};
-ghost use Rattle.key_piles.specs.Piles.{pile_in};
+ghost use Rattle.sorted_multimap.specs.Multimap.{values_in};
 ghost use Rattle.snapshot_node.specs.declared.writers.Slot.{Slot};
 ghost use Rattle.snapshot_node.specs.Slots.{slot_cmp, slot_spread, slot_agrees, same_slot, is_among, writes_in, IsFiled};
 
-use key_piles::{Key, Piles};
+use sorted_multimap::{Key, Multimap};
 use teb_history::{Event, History, find_txn};
 use teb_names::{Cell, Txn};
 
@@ -34,11 +34,11 @@ impl Key for Slot {
 }
 
 /// Puts a transaction into a slot, in ascending number, unless it is there. It takes one place of the room at the most.
-pub(crate) fn put_in(writers: &mut Piles<Slot, Txn>, slot: Slot, t: Txn)
+pub(crate) fn put_in(writers: &mut Multimap<Slot, Txn>, slot: Slot, t: Txn)
     requires filed { IsFiled writers.old }
     requires room { 0 < writers.old.spare }
     ensures filed { IsFiled writers.new }
-    ensures writers { (q : Slot) (u : ℕ) → is_among u (pile_in slot_cmp writers.new q) ≡ (is_among u (pile_in slot_cmp writers.old q) || (same_slot slot q && eqb t.0 u)) }
+    ensures writers { (q : Slot) (u : ℕ) → is_among u (values_in slot_cmp writers.new q) ≡ (is_among u (values_in slot_cmp writers.old q) || (same_slot slot q && eqb t.0 u)) }
     ensures spare { writers.old.spare ≤ writers.new.spare + 1 }
 {
     if let Err(i) = find_txn(writers.list(slot), t) {
@@ -47,10 +47,10 @@ pub(crate) fn put_in(writers: &mut Piles<Slot, Txn>, slot: Slot, t: Txn)
 }
 
 /// Takes a transaction out of a slot, where it is there. The room stays.
-pub(crate) fn take_out(writers: &mut Piles<Slot, Txn>, slot: Slot, t: Txn)
+pub(crate) fn take_out(writers: &mut Multimap<Slot, Txn>, slot: Slot, t: Txn)
     requires { IsFiled writers.old }
     ensures filed { IsFiled writers.new }
-    ensures writers { (q : Slot) (u : ℕ) → is_among u (pile_in slot_cmp writers.new q) ≡ (is_among u (pile_in slot_cmp writers.old q) && not (same_slot slot q && eqb t.0 u)) }
+    ensures writers { (q : Slot) (u : ℕ) → is_among u (values_in slot_cmp writers.new q) ≡ (is_among u (values_in slot_cmp writers.old q) && not (same_slot slot q && eqb t.0 u)) }
     ensures spare { writers.new.spare ≡ writers.old.spare }
 {
     if let Ok(i) = find_txn(writers.list(slot), t) {
@@ -59,7 +59,7 @@ pub(crate) fn take_out(writers: &mut Piles<Slot, Txn>, slot: Slot, t: Txn)
 }
 
 /// A transaction that stands among the unfinished writers of a cell goes over to the committed ones. The room stays.
-fn hand_over(writers: &mut Piles<Slot, Txn>, cell: Cell, t: Txn)
+fn hand_over(writers: &mut Multimap<Slot, Txn>, cell: Cell, t: Txn)
     requires { IsFiled writers.old }
     ensures filed { IsFiled writers.new }
     ensures unfinished { (x : Cell) (u : ℕ) → writes_in writers.new x false u ≡ (writes_in writers.old x false u && not (same_cell cell x && eqb t.0 u)) }
@@ -83,7 +83,7 @@ fn hand_over(writers: &mut Piles<Slot, Txn>, cell: Cell, t: Txn)
 }
 
 /// A transaction commits: in each cell that it has put it goes over to the committed writers.
-pub(crate) fn commit(writers: &mut Piles<Slot, Txn>, history: &History, t: Txn)
+pub(crate) fn commit(writers: &mut Multimap<Slot, Txn>, history: &History, t: Txn)
     requires { IsFiled writers.old }
     ensures filed { IsFiled writers.new }
     ensures unfinished { (x : Cell) (u : ℕ) → writes_in writers.new x false u ≡ (writes_in writers.old x false u && not (wrote history.now.events t.0 x && eqb t.0 u)) }
@@ -98,7 +98,7 @@ pub(crate) fn commit(writers: &mut Piles<Slot, Txn>, history: &History, t: Txn)
 }
 
 /// A transaction aborts: in each cell that it has put it leaves the unfinished writers.
-pub(crate) fn abort(writers: &mut Piles<Slot, Txn>, history: &History, t: Txn)
+pub(crate) fn abort(writers: &mut Multimap<Slot, Txn>, history: &History, t: Txn)
     requires { IsFiled writers.old }
     ensures filed { IsFiled writers.new }
     ensures unfinished { (x : Cell) (u : ℕ) → writes_in writers.new x false u ≡ (writes_in writers.old x false u && not (wrote history.now.events t.0 x && eqb t.0 u)) }

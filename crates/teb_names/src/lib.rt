@@ -31,7 +31,7 @@ pub struct Kind(pub u8);
 #[derive(Clone, Copy, Debug, PartialEq, Eq, PartialOrd, Ord)]
 pub struct Node(pub u8);
 
-/// A row's place. Cells are ordered by table, and in one table by key.
+/// A row: its table and its key. Cells are ordered by table, and in one table by key.
 #[derive(Clone, Copy, Debug, PartialEq, Eq, PartialOrd, Ord, Hash)]
 pub struct Cell {
     pub table: Table,

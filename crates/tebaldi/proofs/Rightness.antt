@@ -10,7 +10,7 @@ use Rattle.teb_io.specs.declared.source.ReadError.TheVariants as read
 use Rattle.input_reader.specs.Reads.{read_error}
 use Rattle.std.specs.declared.alloc.AllocError.{AllocError}
 use Rattle.teb_history.specs.declared.Event.{Event}
-use Rattle.tree_toml.specs.Meaning.{Meaning}
+use Rattle.tree_toml.specs.SetupView.{SetupView}
 use Rattle.command_output.specs.Shown.{Shown, events_of}
 use Rattle.input_reader.specs.declared.error.InputError.{InputError}
 use Rattle.input_reader.specs.declared.error.InputError.TheVariants.{ReadFault, TooLong, NoSeparator, BadTree, BadLine, OutOfMemory}
@@ -35,15 +35,15 @@ use Rattle.tebaldi.specs.declared.command.Command.TheVariants.{Threads, Pool, Lo
 use Rattle.tebaldi.specs.declared.ended.Ended.{Ended}
 
 -- what is serialized over one kind of setups is so over another that has them all
-serialized_over : (P Q : Meaning → Type 0) → ((m : Meaning) → P m → Q m) → (h : Option (List Event)) → IsSerialized P h → IsSerialized Q h
+serialized_over : (P Q : SetupView → Type 0) → ((m : SetupView) → P m → Q m) → (h : Option (List Event)) → IsSerialized P h → IsSerialized Q h
 serialized_over P Q f None s = tt
 serialized_over P Q f (Some h) s = (s.0, f s.0 s.1, s.2)
 
 -- over the setup of a task that some bytes are
-serialized_by : (bytes : List ℕ) (task : Task) (Q : Meaning → Type 0) → ((m : Meaning) → IsSetUp bytes m → Q m) → input_of bytes ≡ Ok task → (kept h : Option (List Event)) → kept ≡ h → IsSerialized (λ (m : Meaning). task.setup ≡ m) h → IsSerialized Q kept
+serialized_by : (bytes : List ℕ) (task : Task) (Q : SetupView → Type 0) → ((m : SetupView) → IsSetUp bytes m → Q m) → input_of bytes ≡ Ok task → (kept h : Option (List Event)) → kept ≡ h → IsSerialized (λ (m : SetupView). task.setup ≡ m) h → IsSerialized Q kept
 serialized_by bytes task Q f read kept h same s =
-    let setup : (m : Meaning) → task.setup ≡ m → Q m = λ m e. f m (rw read e) in
-    subst (IsSerialized Q) (sym same) (serialized_over (λ (m : Meaning). task.setup ≡ m) Q setup h s)
+    let setup : (m : SetupView) → task.setup ≡ m → Q m = λ m e. f m (rw read e) in
+    subst (IsSerialized Q) (sym same) (serialized_over (λ (m : SetupView). task.setup ≡ m) Q setup h s)
 
 nothing_added : (before now : Option (List ℕ)) → Keeps before now → Appends before now []
 nothing_added None now k = tt
@@ -86,7 +86,7 @@ module _ (left rest : Option (List ℕ)) (e : Ended) (before now : Option (List 
     refused_of (BadLine n why) read written none fault memory nf nm = refused (BadLine n why) read.0 read.1 read.2 written none
 
   -- a command that shows what R says of an input
-  module _ (command : Option Command) (R : Task → Shown → Type 0) (ends : (bytes : List ℕ) (d : Shown) → ShowsInput R bytes d → Ends command bytes e d) (sets_up : (bytes : List ℕ) (m : Meaning) → IsSetUp bytes m → SetsUp command bytes m) where
+  module _ (command : Option Command) (R : Task → Shown → Type 0) (ends : (bytes : List ℕ) (d : Shown) → ShowsInput R bytes d → Ends command bytes e d) (sets_up : (bytes : List ℕ) (m : SetupView) → IsSetUp bytes m → SetsUp command bytes m) where
     pub right_of : (task : Task) → IsReadFrom left rest (Ok task) → (r : Result Shown AllocError) → IfOk r (R task) → IfOk r (λ o. IsSerialized (λ m. task.setup ≡ m) o.history)
         → MatchResult r (λ o. IsWritten o e.status e.history before now) (λ _. e.status ≡ 8) → e.status ≢ 8 → IsRight command left rest e before now
     right_of task read (Ok o) ran serialized written ne = record {
@@ -122,7 +122,7 @@ module _ (left rest : Option (List ℕ)) (e : Ended) (before now : Option (List 
     bytes_refused read.TooLong are x is written fault memory nf nm = shown_bytes (refusal TooLong) are.0 are.1 (rw (lt-ltb 4194304 (length are.0) are.2) refl) refl (subst (λ (y : InputError). IsWritten (refusal y) e.status e.history before now) is written)
 
   -- several threads
-  module _ (command : Option Command) (ends : (bytes : List ℕ) (d : Shown) → ServesInput bytes e d → Ends command bytes e d) (sets_up : (bytes : List ℕ) (m : Meaning) → IsSetUp bytes m → SetsUp command bytes m) where
+  module _ (command : Option Command) (ends : (bytes : List ℕ) (d : Shown) → ServesInput bytes e d → Ends command bytes e d) (sets_up : (bytes : List ℕ) (m : SetupView) → IsSetUp bytes m → SetsUp command bytes m) where
     served_by : (task : Task) → IsReadFrom left rest (Ok task) → (r : Result Served AllocError) → IfOk r (IsServedBy task) → IfOk r (λ s. IsSerialized (λ m. task.setup ≡ m) (history_in s))
         → MatchResult r (λ s. IsServedAndWritten s e before now) (λ _. e.status ≡ 8) → e.status ≢ 8 → IsRight command left rest e before now
     served_by task read (Ok (Through o entries)) served serialized written ne = record {

@@ -1,6 +1,6 @@
 -- What the program shows, by its words and by the bytes of its input.
 use Rattle.std.specs.Prelude.{◌≡◌, ◌≤◌, ℕ, List, Option, Some, None, IfSome, MatchBool, MatchResult, nat_lt, length, codes}
-use Rattle.tree_toml.specs.Meaning.{Meaning}
+use Rattle.tree_toml.specs.SetupView.{SetupView}
 use Rattle.command_output.specs.Shown.{Shown, line_alone}
 use Rattle.input_reader.specs.Refusals.{ShowsInput, IsSetUp, refusal}
 use Rattle.input_reader.specs.Inputs.{input_of}
@@ -54,6 +54,6 @@ Ends (Some (Pool workers)) bytes e d = ServesInput bytes e d
 Ends command bytes e d = Shows command bytes d × IsAlone e
 
 -- what a command's store is set up with: the shop, or the tree part of the input
-abbrev pub SetsUp : Option Command → List ℕ → Meaning → Type 0
+abbrev pub SetsUp : Option Command → List ℕ → SetupView → Type 0
 SetsUp (Some (Load number size)) bytes m = shop ≡ m
 SetsUp _ bytes m = IsSetUp bytes m

@@ -1,4 +1,4 @@
--- A transaction's reads in piles: what a Got puts there, and what its own events take out.
+-- A transaction's reads in a multimap: what a Got puts there, and what its own events take out.
 use Rattle.std.proofs.Common.{◌≡◌, ℤ, suc, Bool, true, false, cond, not, eqb, List, [], ◌∷◌, ◌++◌, length, filter, is_some, Option, Some, None, refl, sym, ◌∙◌, ap, arith}
 use Rattle.teb_names.specs.declared.Txn.{Txn}
 use Rattle.teb_names.specs.declared.Cell.{Cell}
@@ -6,16 +6,16 @@ use Rattle.teb_names.specs.Cells.{same_cell}
 use Rattle.teb_history.specs.declared.Event.{Event}
 use Rattle.teb_history.specs.declared.Event.TheVariants.{Got}
 use Rattle.teb_history.specs.OwnEvents.{is_of, own_events, got_in}
-use Rattle.key_piles.specs.LastMatches.{without_last}
+use Rattle.sorted_multimap.specs.LastMatches.{without_last}
 use Rattle.timestamp_node.specs.Reads.{all_reads, is_by}
-use Rattle.key_piles.proofs.TakenMatches.{filter_last, fewer_pass, none_left}
+use Rattle.sorted_multimap.proofs.TakenMatches.{filter_last, fewer_pass, none_left}
 
 -- the event is a Got of x
 abbrev pub gets : Cell → Event → Bool
 gets x e = is_some (got_in x e)
 
 module _ (t : Txn) (x : Cell) where
-  -- of one pile as many are left to be taken out as Gots are left
+  -- of one cell as many are left to be taken out as Gots are left
   pub record IsForgetting (es : List Event) (all rs : List (Txn × Txn)) : Type 0 where
     pub left : length (filter (is_by t) rs) ≡ length (filter (gets x) es)
     pub others : filter (λ r. not (is_by t r)) rs ≡ filter (λ r. not (is_by t r)) all
@@ -76,7 +76,7 @@ module _ (t : Txn) (x : Cell) where
       go false false q e h = h
   own_reads (e ∷ P) = own_reads P ∙ sym (no_get e (filter (is_of t.0) P) (is_of t.0 e) refl)
 
-  -- where the pile holds what t has read none has been taken out yet
+  -- where the values of a cell hold what t has read none has been taken out yet
   pub forget_none : (H : List Event) (all : List (Txn × Txn)) → filter (is_by t) all ≡ filter (is_by t) (all_reads H x) → IsForgetting (own_events H t.0) all all
   forget_none H all h = record { left = ap (λ (l : List (Txn × Txn)). length l) h ∙ own_reads H; others = refl }
 

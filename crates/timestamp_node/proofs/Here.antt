@@ -6,7 +6,7 @@ use Rattle.teb_history.specs.Phases.{unfinished, begun}
 use Rattle.teb_rules.specs.Tree.{meets}
 use Rattle.teb_laws.proofs.Nodes.{meets_parts}
 use Rattle.phase_api.specs.declared.facts.Facts.{Facts}
-use Rattle.phase_api.specs.Told.{setup_of, events_of, IsTyped, IsOrderly}
+use Rattle.phase_api.specs.FactsView.{setup_of, events_of, IsTyped, IsOrderly}
 use Rattle.phase_api.specs.Calls.{IsHere}
 use Rattle.phase_api.specs.Versions.{SourcesStand, has_version}
 use Rattle.hold_register.proofs.Orderly.{unfinished_begun}

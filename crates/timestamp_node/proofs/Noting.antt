@@ -15,16 +15,16 @@ use Rattle.teb_history.specs.Accesses.{got}
 use Rattle.teb_history.proofs.Filters.{filter_both, filter_push}
 use Rattle.teb_rules.specs.Setup.{Setup}
 use Rattle.teb_rules.specs.Tree.{on, side, on_path, side_at}
-use Rattle.phase_api.specs.Told.{IsOrderly}
+use Rattle.phase_api.specs.FactsView.{IsOrderly}
 use Rattle.phase_api.specs.Calls.{MayNote}
 use Rattle.hold_register.proofs.Orderly.{orderly_next, unfinished_begun, begun_kept}
 use Rattle.batch_book.specs.Book.{Book}
 use Rattle.batch_book.specs.Histories.{BatchesOf, IsNumbered, MayCome, Joins, Finishes, Passes}
 use Rattle.batch_book.proofs.Numbered.{begins_once, begun_step, aborted_step, on_kept, unfinished_parts, spot_began}
 use Rattle.batch_book.proofs.Telling.{batches_passed}
-use Rattle.key_piles.specs.Piles.{pile, pile_in}
+use Rattle.sorted_multimap.specs.Multimap.{values_of, values_in}
 use Rattle.timestamp_node.specs.Reads.{all_reads, reads, is_by, IsTimely}
-use Rattle.timestamp_node.specs.Standing.{ReadPiles, ReadsOf, StampsStand}
+use Rattle.timestamp_node.specs.Standing.{ShownReads, ReadsOf, StampsStand}
 use Rattle.timestamp_node.proofs.OlderReads.{timely_next}
 use Rattle.timestamp_node.proofs.Readers.{all_map, filter_agree, filter_alike, all_got}
 
@@ -144,8 +144,8 @@ module _ (S : Setup) (H : List Event) (n : ℕ) (e : Event) (is : H ≡ e ∷ dr
   come : MayCome (drop 1 H) e
   come = may_come S (drop 1 H) n e may
 
-  module _ (o : Bool) (b : Book) (p : ReadPiles) (was : StampsStand n o b p S (drop 1 H)) where
-    next : (b' : Book) (p' : ReadPiles) → b'.size ≡ b.size → BatchesOf b' S (e ∷ drop 1 H) n → ReadsOf p' S (e ∷ drop 1 H) n → StampsStand n o b' p' S H
+  module _ (o : Bool) (b : Book) (p : ShownReads) (was : StampsStand n o b p S (drop 1 H)) where
+    next : (b' : Book) (p' : ShownReads) → b'.size ≡ b.size → BatchesOf b' S (e ∷ drop 1 H) n → ReadsOf p' S (e ∷ drop 1 H) n → StampsStand n o b' p' S H
     next b' p' z bs rs = record {
       kind = was.kind;
       ordered = was.ordered;
@@ -192,8 +192,8 @@ module _ (S : Setup) (H : List Event) (n : ℕ) (e : Event) (is : H ≡ e ∷ dr
         spot : spot_of H t.0 ≡ record { kind = k; instance = i }
         spot = ap (λ (G : List Event). spot_of G t.0) is ∙ ap (λ (d : Event). spot_of (d ∷ drop 1 H) t.0) q ∙ spot_began t s k i (drop 1 H)
 
-    pub got_on : (t : Txn) (y : Cell) (w : Txn) (v : Option ℤ) → e ≡ Got t y w v → on S H n t.0 ≡ true → (p' : ReadPiles)
-        → ((x : Cell) → pile_in cell_cmp p' x ≡ cond (same_cell y x) (pile_in cell_cmp p x ++ (t, w) ∷ []) (pile_in cell_cmp p x)) → StampsStand n o b p' S H
+    pub got_on : (t : Txn) (y : Cell) (w : Txn) (v : Option ℤ) → e ≡ Got t y w v → on S H n t.0 ≡ true → (p' : ShownReads)
+        → ((x : Cell) → values_in cell_cmp p' x ≡ cond (same_cell y x) (values_in cell_cmp p x ++ (t, w) ∷ []) (values_in cell_cmp p x)) → StampsStand n o b p' S H
     got_on t y w v q h p' pushed =
         let u : unfinished (drop 1 H) t.0 ≡ true = (subst (λ (d : Event). MayNote S (drop 1 H) n d) q may).0 in
         let before = on_before t.0 true (ap (is_began t.0) q) h in
@@ -215,12 +215,12 @@ module _ (S : Setup) (H : List Event) (n : ℕ) (e : Event) (is : H ≡ e ∷ dr
 
     gone : (t : Txn) (c : Cause) → e ≡ Gone t c → (b' : Book) (at : ℕ) → at ≡ length (drop 1 H) → b'.size ≡ b.size
         → ((S : Setup) (Q : List Event) (n : ℕ) (d : Event) → BatchesOf b S Q n → MayCome Q d → Finishes t.0 d → at ≡ length Q → BatchesOf b' S (d ∷ Q) n)
-        → (p' : ReadPiles) → ((x : Cell) → pile_in cell_cmp p' x ≡ reads S (Gone t c ∷ drop 1 H) n x) → StampsStand n o b' p' S H
+        → (p' : ShownReads) → ((x : Cell) → values_in cell_cmp p' x ≡ reads S (Gone t c ∷ drop 1 H) n x) → StampsStand n o b' p' S H
     gone t c q b' at end z finished p' shown =
         next b' p' z (finished S (drop 1 H) n e was.batches come (subst (Finishes t.0) (sym q) refl) end) (subst (λ (d : Event). ReadsOf p' S (d ∷ drop 1 H) n) (sym q) shown)
 
-    -- the piles have what an aborted one has read
-    pub gone_read : (t : Txn) (c : Cause) → e ≡ Gone t c → on S H n t.0 ≡ true → (x : Cell) → filter (is_by t) (pile_in cell_cmp p x) ≡ filter (is_by t) (all_reads H x)
+    -- the multimap has what an aborted one has read
+    pub gone_read : (t : Txn) (c : Cause) → e ≡ Gone t c → on S H n t.0 ≡ true → (x : Cell) → filter (is_by t) (values_in cell_cmp p x) ≡ filter (is_by t) (all_reads H x)
     gone_read t c q h x =
         let u : unfinished (drop 1 H) t.0 ≡ true = subst (λ (d : Event). MayNote S (drop 1 H) n d) q may in
         let before = on_before t.0 true (ap (is_began t.0) q) h in
@@ -229,7 +229,7 @@ module _ (S : Setup) (H : List Event) (n : ℕ) (e : Event) (is : H ≡ e ∷ dr
 
     pub gone_on : (t : Txn) (c : Cause) → e ≡ Gone t c → (b' : Book) (at : ℕ) → at ≡ length (drop 1 H) → b'.size ≡ b.size
         → ((S : Setup) (Q : List Event) (n : ℕ) (d : Event) → BatchesOf b S Q n → MayCome Q d → Finishes t.0 d → at ≡ length Q → BatchesOf b' S (d ∷ Q) n)
-        → (p' : ReadPiles) → ((x : Cell) → pile_in cell_cmp p' x ≡ filter (λ r. not (is_by t r)) (pile_in cell_cmp p x)) → StampsStand n o b' p' S H
+        → (p' : ShownReads) → ((x : Cell) → values_in cell_cmp p' x ≡ filter (λ r. not (is_by t r)) (values_in cell_cmp p x)) → StampsStand n o b' p' S H
     gone_on t c q b' at end z finished p' left = gone t c q b' at end z finished p' (λ x. left x ∙ ap (filter (others t)) (was.reads x) ∙ without S (drop 1 H) n t c x)
 
     pub gone_off : (t : Txn) (c : Cause) → e ≡ Gone t c → on S H n t.0 ≡ false → (b' : Book) (at : ℕ) → at ≡ length (drop 1 H) → b'.size ≡ b.size
@@ -259,6 +259,6 @@ unfolding IsTimely
 no_timely = tt
 
 -- the reads of no events
-pub no_reads : (p : ReadPiles) (S : Setup) (n : ℕ) → p.entries ≡ [] → ReadsOf p S [] n
+pub no_reads : (p : ShownReads) (S : Setup) (n : ℕ) → p.entries ≡ [] → ReadsOf p S [] n
 unfolding reads all_reads
-no_reads p S n e = λ x. ap (λ (es : List (Cell × (Txn × Txn))). pile cell_cmp es x) e
+no_reads p S n e = λ x. ap (λ (es : List (Cell × (Txn × Txn))). values_of cell_cmp es x) e

@@ -22,7 +22,7 @@ use Rattle.teb_rules.specs.declared.Verdict.{Verdict}
 use Rattle.teb_rules.specs.declared.Verdict.TheVariants.{Go, Break}
 use Rattle.teb_rules.specs.Controls.{is_late, on_access, validate, gate}
 use Rattle.teb_rules.specs.Stops.{on_begin}
-use Rattle.phase_api.specs.Told.{IsOrderly}
+use Rattle.phase_api.specs.FactsView.{IsOrderly}
 use Rattle.phase_api.specs.Versions.{IsPlaceOf}
 use Rattle.version_chain.specs.Lists.{first_place, next_place}
 use Rattle.hold_register.specs.Waits.{wait_for_txn}

@@ -9,8 +9,8 @@ use Rattle.timestamp_node.specs.declared.stamps.Stamps.{Stamps}
 abbrev pub StampsStandFor : Stamps → Setup → List Event → Type 0
 StampsStandFor c S H = StampsStand c.node.0 c.ordered c.batches c.reads S H
 
-abbrev pub stamps_place : Stamps → ℕ
-stamps_place c = c.node.0
+abbrev pub stamps_node_number : Stamps → ℕ
+stamps_node_number c = c.node.0
 
 abbrev pub stamps_spare : Stamps → ℕ
 stamps_spare c = min c.batches.spare c.reads.spare

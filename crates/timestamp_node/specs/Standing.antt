@@ -7,25 +7,25 @@ use Rattle.teb_names.specs.Cells.{cell_cmp}
 use Rattle.teb_history.specs.declared.Event.{Event}
 use Rattle.teb_rules.specs.Setup.{Setup}
 use Rattle.teb_rules.specs.Tree.{row}
-use Rattle.phase_api.specs.Told.{IsOrderly}
+use Rattle.phase_api.specs.FactsView.{IsOrderly}
 use Rattle.batch_book.specs.Book.{Book}
 use Rattle.batch_book.specs.Histories.{BatchesOf}
-use Rattle.key_piles.specs.Piles.{Shown, pile_in}
+use Rattle.sorted_multimap.specs.Multimap.{Shown, values_in}
 use Rattle.timestamp_node.specs.Reads.{reads, IsTimely}
 
-abbrev pub ReadPiles : Type 0
-ReadPiles = Shown Cell (Txn × Txn)
+abbrev pub ShownReads : Type 0
+ShownReads = Shown Cell (Txn × Txn)
 
--- the piles show who read each cell
-abbrev pub ReadsOf : ReadPiles → Setup → List Event → ℕ → Type 0
-ReadsOf piles S H n = (x : Cell) → pile_in cell_cmp piles x ≡ reads S H n x
+-- the multimap shows who read each cell
+abbrev pub ReadsOf : ShownReads → Setup → List Event → ℕ → Type 0
+ReadsOf shown S H n = (x : Cell) → values_in cell_cmp shown x ≡ reads S H n x
 
 -- node n is a timestamp node, ordered or not; the history is orderly, and its reads timely; the batches and the reads are those at n
-pub record StampsStand (n : ℕ) (is_ordered : Bool) (book : Book) (piles : ReadPiles) (S : Setup) (H : List Event) : Type 0 where
+pub record StampsStand (n : ℕ) (is_ordered : Bool) (book : Book) (shown : ShownReads) (S : Setup) (H : List Event) : Type 0 where
   pub kind : (row S.tree n).control ≡ Timestamp
   pub ordered : is_ordered ≡ (row S.tree n).ordered
   pub size : book.size ≡ (row S.tree n).batch
   pub orderly : IsOrderly S H
   pub timely : IsTimely H
   pub batches : BatchesOf book S H n
-  pub reads : ReadsOf piles S H n
+  pub reads : ReadsOf shown S H n

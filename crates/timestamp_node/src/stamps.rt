@@ -10,7 +10,7 @@ ghost use Rattle.teb_rules.specs.Batches.{start, close};
 ghost use Rattle.teb_rules.specs.Versions.{precedes};
 ghost use Rattle.teb_rules.specs.Controls.{is_late};
 ghost use Rattle.version_chain.specs.Lists.{writers_of};
-ghost use Rattle.phase_api.specs.Told.{setup_of, events_of, IsTyped};
+ghost use Rattle.phase_api.specs.FactsView.{setup_of, events_of, IsTyped};
 ghost use Rattle.phase_api.specs.Calls.{IsHere};
 ghost use Rattle.phase_api.specs.Versions.{HoldsVersions, IsPlaceOf, SourcesStand, has_version};
 ghost use Rattle.timestamp_node.specs.Reads.{reads};
@@ -20,8 +20,8 @@ ghost use Rattle.timestamp_node.specs.Standing.{StampsStand};
 use crate::reads::{forget_reads, push_read};
 use batch_book::Batches;
 use hold_register::wait_for;
-use key_piles::Piles;
 use phase_api::{Control, Facts};
+use sorted_multimap::Multimap;
 use std::alloc::{AllocError, Global};
 use teb_history::Event;
 use teb_names::{Cell, Node, Spot, Txn};
@@ -36,7 +36,7 @@ pub struct Stamps {
     ordered: bool,
     batches: Batches,
     // By cell: reader and writer read from, in the order of the history.
-    reads: Piles<Cell, (Txn, Txn)>,
+    reads: Multimap<Cell, (Txn, Txn)>,
 }
 
 impl Stamps {
@@ -52,7 +52,7 @@ impl Stamps {
             node,
             ordered: row.ordered,
             batches: Batches::new(alloc, row.batch),
-            reads: Piles::new(alloc),
+            reads: Multimap::new(alloc),
         })
     }
 
@@ -189,11 +189,11 @@ fn is_at_most<C: Chains>(
 }
 
 impl Control for Stamps {
-    ghost use Rattle.timestamp_node.specs.Controls.{StampsStandFor, stamps_place, stamps_spare};
+    ghost use Rattle.timestamp_node.specs.Controls.{StampsStandFor, stamps_node_number, stamps_spare};
 
     ghost stands = { StampsStandFor };
 
-    ghost place = { stamps_place };
+    ghost node_number = { stamps_node_number };
 
     ghost spare = { stamps_spare };
 

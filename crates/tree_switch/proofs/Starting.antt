@@ -16,7 +16,7 @@ use Rattle.serial_order.proofs.Within.{rows_within, row_within}
 use Rattle.tree_toml.specs.declared.setup.Setup.{Setup}
 use Rattle.tree_toml.specs.Seen.{setup_view}
 use Rattle.tree_toml.specs.Sound.{IsWhole}
-use Rattle.engine_core.specs.State.{State, IsOfEngine, IsReached}
+use Rattle.engine_core.specs.EngineModel.{EngineModel, IsOfEngine, IsReached}
 use Rattle.engine_core.specs.Stores.{store_of}
 use Rattle.engine_core.proofs.Reached.{law_of, reached_none, reached_more}
 use Rattle.engine_core.proofs.Setups.{sound_rules}
@@ -25,7 +25,7 @@ use Rattle.tree_switch.proofs.GoingOn.{followed}
 use Rattle.tree_switch.specs.Starts.{IsStarted}
 
 -- the rows that an engine leaves are of its tables, and so of those of a setup with the same
-pub left_within : (e : State) (s t : Setup) → IsOfEngine e → store_of s ≡ e.store → s.names ≡ e.names → IsWhole (setup_view s) → t.names.tables ≡ e.names.tables → (rows : List (Cell × ℤ)) → IsFinalRows e.store e.events rows
+pub left_within : (e : EngineModel) (s t : Setup) → IsOfEngine e → store_of s ≡ e.store → s.names ≡ e.names → IsWhole (setup_view s) → t.names.tables ≡ e.names.tables → (rows : List (Cell × ℤ)) → IsFinalRows e.store e.events rows
     → All (λ (r : Cell × ℤ). r.0.table.0 < length t.names.tables) rows
 left_within e s t i q n w same rows f =
     let within : All (λ (r : Cell × ℤ). r.0.table.0 < e.store.tables) rows = rows_within e.store e.events rows
@@ -39,22 +39,22 @@ pub whole_with : (s t : Setup) → IsWhole (setup_view s) → t.names ≡ s.name
 whole_with s t w n p r cells = rw (n, p, r) (record { sound = w.sound; profiles = w.profiles; types = w.types; few_nodes = w.few_nodes; few_tables = w.few_tables; ranked = w.ranked; cells = cells })
 
 -- what has started is a phase
-pub started : (s : Setup) (before e : State) → IsWhole (setup_view s) → IsStarted s before e → IsOfEngine e
+pub started : (s : Setup) (before e : EngineModel) → IsWhole (setup_view s) → IsStarted s before e → IsOfEngine e
 started s before e w i = record { sound = subst IsSound (sym i.setup) (sound_rules s w); reached = reached_none e.store e.events i.events }
 
-pub starts_at : (s : Setup) (before e : State) → IsStarted s before e → (x : Cell) → start_of e x ≡ end_of before x
+pub starts_at : (s : Setup) (before e : EngineModel) → IsStarted s before e → (x : Cell) → start_of e x ≡ end_of before x
 starts_at s before e i x = i.rows.each x
 
 -- what is so of the present phase
-present_of : (names : List (List ℕ)) (T : Values) (past : List State) (e : State) → GoOn names T (past ++ e ∷ []) → IsOfEngine e
+present_of : (names : List (List ℕ)) (T : Values) (past : List EngineModel) (e : EngineModel) → GoOn names T (past ++ e ∷ []) → IsOfEngine e
 present_of names T [] e g = g.0.engine
 present_of names T (d ∷ ds) e g = present_of names (end_of d) ds e g.1
 
-pub present : (past : List State) (e : State) → IsCourse (record { past = past; present = e }) → IsOfEngine e
+pub present : (past : List EngineModel) (e : EngineModel) → IsCourse (record { past = past; present = e }) → IsOfEngine e
 present past e g = present_of (first_of past e).names.tables (start_of (first_of past e)) past e g
 
 -- it stays an engine's after an answer, and where nothing has happened
-pub asked : (past : List State) (e f : State) (s : Session) (r : Request) → IsCourse (record { past = past; present = e }) → f.store ≡ e.store → f.events ≡ (answer e.store e.events s r).1 → IsOfEngine f
+pub asked : (past : List EngineModel) (e f : EngineModel) (s : Session) (r : Request) → IsCourse (record { past = past; present = e }) → f.store ≡ e.store → f.events ≡ (answer e.store e.events s r).1 → IsOfEngine f
 asked past e f s r g same step =
     let i = present past e g in
     record {
@@ -62,7 +62,7 @@ asked past e f s r g same step =
       reached = subst (λ (X : Store). IsReached X f.events) (sym same) (reached_more e.store e.events s r i.reached f.events step);
     }
 
-pub same_events : (past : List State) (e f : State) → IsCourse (record { past = past; present = e }) → f.store ≡ e.store → f.events ≡ e.events → IsOfEngine f
+pub same_events : (past : List EngineModel) (e f : EngineModel) → IsCourse (record { past = past; present = e }) → f.store ≡ e.store → f.events ≡ e.events → IsOfEngine f
 same_events past e f g same step =
     let i = present past e g in
     record {
@@ -71,7 +71,7 @@ same_events past e f g same step =
     }
 
 -- and so is the course where the next phase has started
-pub moved_on : (s : Setup) (past later : List State) (e f : State) → IsWhole (setup_view s) → s.names.tables ≡ e.names.tables → IsStarted s e f → later ≡ past ++ e ∷ [] → IsCourse (record { past = past; present = e }) → IsCourse (record { past = later; present = f })
+pub moved_on : (s : Setup) (past later : List EngineModel) (e f : EngineModel) → IsWhole (setup_view s) → s.names.tables ≡ e.names.tables → IsStarted s e f → later ≡ past ++ e ∷ [] → IsCourse (record { past = past; present = e }) → IsCourse (record { past = later; present = f })
 moved_on s past later e f w t i l g =
-    subst (λ (ps : List State). IsCourse (record { past = ps; present = f })) (sym l)
+    subst (λ (ps : List EngineModel). IsCourse (record { past = ps; present = f })) (sym l)
     (followed past e f (started s e f w i) (ap (λ (b : NameBook). b.tables) i.names ∙ t) (starts_at s e f i) g)

@@ -8,7 +8,7 @@ use Rattle.teb_rules.specs.Ranks.{serial_order}
 use Rattle.teb_rules.specs.Replay.{Values, ReplaysRight, table_after, after_puts}
 use Rattle.teb_rules.specs.Serializes.{Serializes}
 use Rattle.teb_laws.proofs.Laws.{every_run_serializes}
-use Rattle.engine_core.specs.State.{State, IsOfEngine}
+use Rattle.engine_core.specs.EngineModel.{EngineModel, IsOfEngine}
 use Rattle.engine_core.proofs.Reached.{law_of}
 use Rattle.tree_switch.specs.Courses.{Course, phases, first, start_of, end_of, StartsWith, GoOn, IsCourse}
 use Rattle.tree_switch.specs.Serial.{Order, order_of, whole_order, table_along, ReadsRight, IsSerial}
@@ -33,10 +33,10 @@ reads_both : (xs ys : Order) (T : Values) → ReadsRight xs T → ReadsRight ys 
 reads_both [] ys T a b = b
 reads_both (r ∷ xs) ys T a b = (a.0, reads_both xs ys (after_puts r.0 r.1 T) a.1 b)
 
-abbrev IsRight : State → Type 0
+abbrev IsRight : EngineModel → Type 0
 IsRight e = Serializes e.store e.events (serial_order e.store.setup e.events)
 
-serializes : (e : State) → IsOfEngine e → IsRight e
+serializes : (e : EngineModel) → IsOfEngine e → IsRight e
 serializes e i = law_of (λ X H. Serializes X H (serial_order X.setup H)) every_run_serializes e.store e.events i.sound i.reached
 
 -- two tables with the same values are the same
@@ -44,7 +44,7 @@ same_table : (T U : Values) → ((x : Cell) → T x ≡ U x) → T ≡ U
 same_table T U h = λ i x. h x i
 
 -- one phase leads from the table with which it starts to the one that it leaves
-module _ (names : List (List ℕ)) (T : Values) (e : State) (s : StartsWith names T e) where
+module _ (names : List (List ℕ)) (T : Values) (e : EngineModel) (s : StartsWith names T e) where
   right : IsRight e
   right = serializes e s.engine
 
@@ -61,16 +61,16 @@ module _ (names : List (List ℕ)) (T : Values) (e : State) (s : StartsWith name
   reads_phase = reads_one e.events (serial_order e.store.setup e.events) T (subst (ReplaysRight e.events (serial_order e.store.setup e.events)) starts right.reads)
 
 -- what the last of the phases leaves
-last_end : Values → List State → Values
+last_end : Values → List EngineModel → Values
 last_end T [] = T
 last_end T (e ∷ es) = last_end (end_of e) es
 
-last_is : (T : Values) (past : List State) (e : State) → last_end T (past ++ e ∷ []) ≡ end_of e
+last_is : (T : Values) (past : List EngineModel) (e : EngineModel) → last_end T (past ++ e ∷ []) ≡ end_of e
 unfolding last_end
 last_is T [] e = refl
 last_is T (d ∷ ds) e = last_is (end_of d) ds e
 
-along_all : (names : List (List ℕ)) (T : Values) (es : List State) → GoOn names T es → table_along (whole_order es) T ≡ last_end T es
+along_all : (names : List (List ℕ)) (T : Values) (es : List EngineModel) → GoOn names T es → table_along (whole_order es) T ≡ last_end T es
 unfolding last_end
 along_all names T [] g = refl
 along_all names T (e ∷ es) g =
@@ -78,13 +78,13 @@ along_all names T (e ∷ es) g =
     ∙ ap (table_along (whole_order es)) (along_phase names T e g.0)
     ∙ along_all names (end_of e) es g.1
 
-reads_all : (names : List (List ℕ)) (T : Values) (es : List State) → GoOn names T es → ReadsRight (whole_order es) T
+reads_all : (names : List (List ℕ)) (T : Values) (es : List EngineModel) → GoOn names T es → ReadsRight (whole_order es) T
 reads_all names T [] g = tt
 reads_all names T (e ∷ es) g =
     reads_both (order_of e) (whole_order es) T (reads_phase names T e g.0)
     (subst (ReadsRight (whole_order es)) (sym (along_phase names T e g.0)) (reads_all names (end_of e) es g.1))
 
-each_right : (names : List (List ℕ)) (T : Values) (es : List State) → GoOn names T es → All IsRight es
+each_right : (names : List (List ℕ)) (T : Values) (es : List EngineModel) → GoOn names T es → All IsRight es
 each_right names T [] g = All-nil IsRight
 each_right names T (e ∷ es) g = All-cons IsRight e es (serializes e g.0.engine) (each_right names (end_of e) es g.1)
 

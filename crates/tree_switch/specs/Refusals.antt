@@ -2,8 +2,8 @@
 use Rattle.std.specs.Prelude.{◌≡◌, ◌≢◌, ℕ, ◌<◌, ◌≤◌, List, [], Some, MatchResult, Result, IsTrue}
 use Rattle.teb_history.specs.declared.Event.{Event}
 use Rattle.teb_history.specs.Phases.{begun_count, unfinished, aborted, held}
-use Rattle.engine_core.specs.State.{State}
-use Rattle.tree_toml.specs.Meaning.{Meaning}
+use Rattle.engine_core.specs.EngineModel.{EngineModel}
+use Rattle.tree_toml.specs.SetupView.{SetupView}
 use Rattle.tree_switch.specs.declared.error.SwitchError.{SwitchError}
 use Rattle.tree_switch.specs.declared.error.SwitchError.TheVariants.{Again, Untold, Tables, Rows, OutOfMemory}
 
@@ -39,13 +39,13 @@ abbrev pub AreOfSessions : List Event → Type 0
 AreOfSessions H = (s : ℕ) → IsUntold H s → (0 < s) × (s ≤ 32)
 
 -- the engine has come to its end, and the setup has its tables and no rows of its own
-pub record MaySwitch (e : State) (m : Meaning) : Type 0 where
+pub record MaySwitch (e : EngineModel) (m : SetupView) : Type 0 where
   pub drained : IsDrained e.events
   pub tables : m.tables ≡ e.names.tables
   pub rows : m.rows ≡ []
 
 -- what stands against it first
-abbrev pub IsCause : State → Meaning → SwitchError → Type 0
+abbrev pub IsCause : EngineModel → SetupView → SwitchError → Type 0
 IsCause e m (Again t) = IsLeast (IsUnfinished e.events) t.0
 IsCause e m (Untold s) = AllFinished e.events × IsLeast (IsUntold e.events) s.0
 IsCause e m Tables = IsDrained e.events × (m.tables ≢ e.names.tables)
@@ -53,5 +53,5 @@ IsCause e m Rows = IsDrained e.events × (m.tables ≡ e.names.tables) × (m.row
 IsCause e m OutOfMemory = MaySwitch e m
 
 -- refused by a cause, or not at all
-abbrev pub IsRefusedBy : {X : Type 0} → State → Meaning → Result X SwitchError → Type 0
+abbrev pub IsRefusedBy : {X : Type 0} → EngineModel → SetupView → Result X SwitchError → Type 0
 IsRefusedBy e m r = MatchResult r (λ _. MaySwitch e m) (IsCause e m)

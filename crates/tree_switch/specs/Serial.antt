@@ -6,7 +6,7 @@ use Rattle.teb_history.specs.declared.Event.{Event}
 use Rattle.teb_rules.specs.Ranks.{serial_order}
 use Rattle.teb_rules.specs.Replay.{Values, GotsRight, after_puts}
 use Rattle.teb_rules.specs.Serializes.{Serializes}
-use Rattle.engine_core.specs.State.{State}
+use Rattle.engine_core.specs.EngineModel.{EngineModel}
 use Rattle.tree_switch.specs.Courses.{Course, phases, first, start_of, end_of}
 
 -- transactions, each with the history of its phase
@@ -14,10 +14,10 @@ abbrev pub Order : Type 0
 Order = List (List Event × ℕ)
 
 -- the serial order of a phase, and those of phases one after the other
-abbrev pub order_of : State → Order
+abbrev pub order_of : EngineModel → Order
 order_of e = map (λ t. (e.events, t)) (serial_order e.store.setup e.events)
 
-abbrev pub whole_order : List State → Order
+abbrev pub whole_order : List EngineModel → Order
 whole_order es = flat_map order_of es
 
 -- the table after the transactions of an order, one after the other, and that all that they read is right

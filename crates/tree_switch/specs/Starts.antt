@@ -1,12 +1,12 @@
 -- How a phase starts.
 use Rattle.std.specs.Prelude.{◌≡◌, [], false}
 use Rattle.tree_toml.specs.declared.setup.Setup.{Setup}
-use Rattle.engine_core.specs.State.{State}
+use Rattle.engine_core.specs.EngineModel.{EngineModel}
 use Rattle.engine_core.specs.Stores.{store_of}
 use Rattle.serial_order.specs.Tables.{IsFinalRows}
 
 -- nothing has happened in it; it has the types, the tree and the names of the setup, and the rows that the phase before it left
-pub record IsStarted (s : Setup) (before e : State) : Type 0 where
+pub record IsStarted (s : Setup) (before e : EngineModel) : Type 0 where
   pub events : e.events ≡ []
   pub ready : e.ready ≡ false
   pub names : e.names ≡ s.names

@@ -6,7 +6,7 @@ ghost use Rattle.teb_names.specs.Rows.{IsAscending};
 ghost use Rattle.teb_rules.specs.Answer.{answer};
 ghost use Rattle.tree_toml.specs.Seen.{setup_view};
 ghost use Rattle.tree_toml.specs.Sound.{IsWhole};
-ghost use Rattle.engine_core.specs.State.{IsOfEngine};
+ghost use Rattle.engine_core.specs.EngineModel.{IsOfEngine};
 ghost use Rattle.tree_switch.specs.Courses.{IsCourse};
 ghost use Rattle.tree_switch.specs.Refusals.{IsRefusedBy};
 ghost use Rattle.tree_switch.specs.Serial.{IsSerial};

@@ -5,7 +5,7 @@ use Rattle.std.proofs.lemmas.Str.{IsUtf8-from_is_utf8, is_utf8-from_IsUtf8}
 use Rattle.toml.specs.Data.{Members}
 use Rattle.toml.specs.Parse.{parse_document}
 use Rattle.tree_toml.specs.Reading.{Answers}
-use Rattle.tree_toml.specs.Meaning.{setup_in, document_of, document_in}
+use Rattle.tree_toml.specs.SetupView.{setup_in, document_of, document_in}
 use Rattle.tree_toml.specs.Seen.{setup_view}
 use Rattle.tree_toml.specs.declared.setup.Setup.{Setup}
 use Rattle.tree_toml.specs.declared.fault.TreeText.{TreeText}

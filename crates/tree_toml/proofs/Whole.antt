@@ -18,7 +18,7 @@ use Rattle.tree_toml.specs.Tables.{format_of, tables_of}
 use Rattle.tree_toml.specs.Types.{types_of}
 use Rattle.tree_toml.specs.Nodes.{nodes_of}
 use Rattle.tree_toml.specs.Rows.{rows_of}
-use Rattle.tree_toml.specs.Meaning.{Meaning, grown, shape_text, lists_in, setup_in, setup_of, document_of, document_in, plain, plain_row, is_blank}
+use Rattle.tree_toml.specs.SetupView.{SetupView, grown, shape_text, lists_in, setup_in, setup_of_text, document_of, document_in, plain, plain_row, is_blank}
 use Rattle.tree_toml.specs.Seen.{setup_view}
 use Rattle.tree_toml.specs.Sound.{IsWhole, IsNamed, HasNames, IsOfText, rules_of}
 use Rattle.tree_toml.specs.declared.setup.Setup.{Setup as SetupRead}
@@ -46,7 +46,7 @@ plain_sound = record { some = omega arith; parts = parts; accepted = refl; profi
     filled (suc k) i h j = absurd (omega arith)
 
 -- all that is so of a setup that was read
-record IsRead (m : Meaning) : Type 0 where
+record IsRead (m : SetupView) : Type 0 where
   whole : IsWhole m
   named : IsNamed m
   names : HasNames m
@@ -77,7 +77,7 @@ grown_by : (rows : List NodeRow) (types : ℕ) (tree : Grown) (o : Option (ℕ �
 grown_by rows types tree None e = (refl, ok_is _ _ tree refl e)
 grown_by rows types tree (Some w) e = absurd (cc)
 
-lists_read : (format : ℕ) (ms : Members) (m : Meaning) → (1 ≤ format) × (format ≤ 3) → lists_in format ms ≡ Ok m → IsRead m
+lists_read : (format : ℕ) (ms : Members) (m : SetupView) → (1 ≤ format) × (format ≤ 3) → lists_in format ms ≡ Ok m → IsRead m
 unfolding lists_in
 lists_read format ms m known e =
     let tables = bind_ok (tables_of ms) _ m e in
@@ -115,54 +115,54 @@ lists_read format ms m known e =
       limits = record { few_types = typed.few; few_nodes = omega (arith, own.names, own.few); few_rows = starts.few; ascending = starts.ascending; format = known };
     })
 
-known_by : (b : Bool) (ms : Members) (w : TreeText) (m : Meaning) → (if b then at (at_top key.Format) (format_of ms) >>= (λ format. lists_in format ms) else Err w) ≡ Ok m → IsRead m
+known_by : (b : Bool) (ms : Members) (w : TreeText) (m : SetupView) → (if b then at (at_top key.Format) (format_of ms) >>= (λ format. lists_in format ms) else Err w) ≡ Ok m → IsRead m
 known_by true ms w m e =
     let format = bind_ok (at (at_top key.Format) (format_of ms)) _ m e in
     let read = bind_ok (integer_at (codes "format") ms >>= required) (within 1 3) format.0 (at_ok _ _ format.0 format.1) in
     lists_read format.0 ms m (within_ok 1 3 read.0 format.0 read.2) format.2
 known_by false ms w m e = absurd (cc)
 
-setup_read : (ms : Members) (m : Meaning) → setup_in ms ≡ Ok m → IsRead m
+setup_read : (ms : Members) (m : SetupView) → setup_in ms ≡ Ok m → IsRead m
 unfolding setup_in
 setup_read ms m e = known_by (all_known list.Top 1 ms) ms _ m e
 
-document_read : (o : Option Members) (b : Bool) (m : Meaning) → (if b then document_in o else Err NotToml) ≡ Ok m → IsRead m
+document_read : (o : Option Members) (b : Bool) (m : SetupView) → (if b then document_in o else Err NotToml) ≡ Ok m → IsRead m
 document_read None true m e = absurd (cc)
 document_read (Some ms) true m e = setup_read ms m e
 document_read o false m e = absurd (cc)
 
-text_read : (b : Bool) (text : List ℕ) (m : Meaning) → (if b then Ok plain else document_of text) ≡ Ok m → IsRead m
+text_read : (b : Bool) (text : List ℕ) (m : SetupView) → (if b then Ok plain else document_of text) ≡ Ok m → IsRead m
 unfolding document_of
 text_read true text m e = rw (← ok_is _ plain m refl e) plain_read
 text_read false text m e = document_read (parse_document text) (is_utf8 text) m e
 
 -- of what a text is, whatever it is read into
 module _ (text : List ℕ) where
-  read_from : (r : Result SetupRead TreeText) → Answers setup_view r (setup_of text) → IfOk r (λ s. IsRead (setup_view s))
-  unfolding setup_of
+  read_from : (r : Result SetupRead TreeText) → Answers setup_view r (setup_of_text text) → IfOk r (λ s. IsRead (setup_view s))
+  unfolding setup_of_text
   read_from (Ok s) read = text_read (is_blank text) text (setup_view s) read
   read_from (Err e) read = tt
 
-  pub whole_from : (r : Result SetupRead TreeText) → Answers setup_view r (setup_of text) → IfOk r (λ s. IsWhole (setup_view s))
+  pub whole_from : (r : Result SetupRead TreeText) → Answers setup_view r (setup_of_text text) → IfOk r (λ s. IsWhole (setup_view s))
   whole_from (Ok s) read = (read_from (Ok s) read).whole
   whole_from (Err e) read = tt
 
-  pub named_from : (r : Result SetupRead TreeText) → Answers setup_view r (setup_of text) → IfOk r (λ s. IsNamed (setup_view s))
+  pub named_from : (r : Result SetupRead TreeText) → Answers setup_view r (setup_of_text text) → IfOk r (λ s. IsNamed (setup_view s))
   named_from (Ok s) read = (read_from (Ok s) read).named
   named_from (Err e) read = tt
 
-  pub names_from : (r : Result SetupRead TreeText) → Answers setup_view r (setup_of text) → IfOk r (λ s. HasNames (setup_view s))
+  pub names_from : (r : Result SetupRead TreeText) → Answers setup_view r (setup_of_text text) → IfOk r (λ s. HasNames (setup_view s))
   names_from (Ok s) read = (read_from (Ok s) read).names
   names_from (Err e) read = tt
 
-  pub limits_from : (r : Result SetupRead TreeText) → Answers setup_view r (setup_of text) → IfOk r (λ s. IsOfText (setup_view s))
+  pub limits_from : (r : Result SetupRead TreeText) → Answers setup_view r (setup_of_text text) → IfOk r (λ s. IsOfText (setup_view s))
   limits_from (Ok s) read = (read_from (Ok s) read).limits
   limits_from (Err e) read = tt
 
-pub blank_is : (text : List ℕ) (r : Result SetupRead TreeText) → is_blank text ≡ true → Answers setup_view r (Ok plain) → Answers setup_view r (setup_of text)
-unfolding setup_of
+pub blank_is : (text : List ℕ) (r : Result SetupRead TreeText) → is_blank text ≡ true → Answers setup_view r (Ok plain) → Answers setup_view r (setup_of_text text)
+unfolding setup_of_text
 blank_is text r blank read = rw blank read
 
-pub document_is : (text : List ℕ) (r : Result SetupRead TreeText) → is_blank text ≡ false → Answers setup_view r (document_of text) → Answers setup_view r (setup_of text)
-unfolding setup_of
+pub document_is : (text : List ℕ) (r : Result SetupRead TreeText) → is_blank text ≡ false → Answers setup_view r (document_of text) → Answers setup_view r (setup_of_text text)
+unfolding setup_of_text
 document_is text r blank read = rw blank read

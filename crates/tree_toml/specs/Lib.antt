@@ -5,7 +5,7 @@ pub mod Tables
 pub mod Types
 pub mod Nodes
 pub mod Rows
-pub mod Meaning
+pub mod SetupView
 pub mod Seen
 pub mod Kept
 pub mod Sound

@@ -5,16 +5,16 @@ use Rattle.std.specs.Str.{bytes_eq}
 use Rattle.teb_names.specs.Rows.{IsAscending}
 use Rattle.teb_rules.specs.Setup.{Setup, ranked_tables}
 use Rattle.teb_rules.specs.Accepted.{IsSound}
-use Rattle.tree_toml.specs.Meaning.{Meaning}
+use Rattle.tree_toml.specs.SetupView.{SetupView}
 use Rattle.teb_names.specs.Names.{is_name}
 
 -- what the controls go by
-abbrev pub rules_of : Meaning → Setup
+abbrev pub rules_of : SetupView → Setup
 rules_of m = record { types = length m.types; profiles = m.profiles; tree = m.tree.rows }
 
 -- a store can be set up with it: as many profiles as names of types, and a sound tree of at most 64 nodes, built for so many types; at
 -- most 64 tables, among which is each table of a profile or of a starting row
-pub record IsWhole (m : Meaning) : Type 0 where
+pub record IsWhole (m : SetupView) : Type 0 where
   pub sound : IsSound (rules_of m)
   pub profiles : length m.profiles ≡ length m.types
   pub types : m.tree.types ≡ length m.types
@@ -24,18 +24,18 @@ pub record IsWhole (m : Meaning) : Type 0 where
   pub cells : All (λ r. r.0.table.0 < length m.tables) m.rows
 
 -- each node has a name
-abbrev pub IsNamed : Meaning → Type 0
+abbrev pub IsNamed : SetupView → Type 0
 IsNamed m = length m.tree.rows ≡ length m.nodes
 
 -- its tables, types and nodes have names as names may be, and no two tables have the same
-pub record HasNames (m : Meaning) : Type 0 where
+pub record HasNames (m : SetupView) : Type 0 where
   pub tables : list_all is_name m.tables ≡ true
   pub types : list_all is_name m.types ≡ true
   pub nodes : list_all is_name m.nodes ≡ true
   pub tables_differ : IsDistinct bytes_eq m.tables
 
 -- what a tree text can say: no more than it may have of each list, one row a cell, in ascending order, and a known format
-pub record IsOfText (m : Meaning) : Type 0 where
+pub record IsOfText (m : SetupView) : Type 0 where
   pub few_types : length m.types ≤ 64
   pub few_nodes : length m.nodes ≤ 64
   pub few_rows : length m.rows ≤ 16384

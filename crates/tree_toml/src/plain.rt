@@ -4,7 +4,7 @@ ghost use Rattle.std.specs.Prelude.{◌≡◌, ◌∷◌, [], IfOk, Ok, codes};
 ghost use Rattle.cc_tree.specs.Grown.{rows_of};
 ghost use Rattle.txn_profile.specs.Steps.{steps_of};
 ghost use Rattle.tree_toml.specs.Reading.{Answers};
-ghost use Rattle.tree_toml.specs.Meaning.{plain as spec_plain, plain_row};
+ghost use Rattle.tree_toml.specs.SetupView.{plain as spec_plain, plain_row};
 ghost use Rattle.tree_toml.specs.Seen.{setup_view};
 
 use crate::fault::TreeText;

@@ -3,7 +3,7 @@
 ghost use Rattle.std.specs.Prelude.{◌≡◌, IfOk};
 ghost use Rattle.toml.specs.View.{table_view};
 ghost use Rattle.tree_toml.specs.Reading.{Answers};
-ghost use Rattle.tree_toml.specs.Meaning.{lists_in, setup_in, document_of, setup_of, is_blank as spec_is_blank, is_blank_byte as spec_is_blank_byte};
+ghost use Rattle.tree_toml.specs.SetupView.{lists_in, setup_in, document_of, setup_of_text, is_blank as spec_is_blank, is_blank_byte as spec_is_blank_byte};
 ghost use Rattle.tree_toml.specs.Sound.{IsWhole, IsNamed, HasNames, IsOfText};
 ghost use Rattle.tree_toml.specs.Seen.{setup_view};
 
@@ -40,7 +40,7 @@ pub struct Setup {
 /// fault of the nodes as a tree, `Shape` or `Misplaced`. At any text that is not refused before, memory may be wanting:
 /// then the error is `OutOfMemory`.
 pub fn read_tree(alloc: Global, text: &[u8]) -> Result<Setup, TreeText>
-    ensures setup { Answers setup_view result (setup_of text.now) }
+    ensures setup { Answers setup_view result (setup_of_text text.now) }
     ensures whole { IfOk result (λ s. IsWhole (setup_view s)) }
     ensures named { IfOk result (λ s. IsNamed (setup_view s)) }
     ensures names { IfOk result (λ s. HasNames (setup_view s)) }
@@ -79,7 +79,7 @@ fn is_blank_byte(b: u8) -> bool
     b == b' ' || b == b'\t' || b == b'\r' || b == b'\n'
 }
 
-#[tactic(auto, unfolding(crate::specs::Meaning::setup_in))]
+#[tactic(auto, unfolding(crate::specs::SetupView::setup_in))]
 fn read_setup(alloc: Global, table: &Table) -> Result<Setup, TreeText>
     ensures { Answers setup_view result (setup_in (table_view table.now)) }
 {
@@ -90,7 +90,7 @@ fn read_setup(alloc: Global, table: &Table) -> Result<Setup, TreeText>
     read_lists(alloc, format, table)
 }
 
-#[tactic(auto, unfolding(crate::specs::Meaning::lists_in))]
+#[tactic(auto, unfolding(crate::specs::SetupView::lists_in))]
 fn read_lists(alloc: Global, format: u8, table: &Table) -> Result<Setup, TreeText>
     ensures { Answers setup_view result (lists_in format (table_view table.now)) }
 {

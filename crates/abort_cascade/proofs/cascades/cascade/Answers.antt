@@ -1,5 +1,5 @@
 use Rattle.std.proofs.Common.{◌≢◌, ◌<◌, ◌∙◌, ap, sym, arith, length, suc}
-use Rattle.phase_api.specs.Told.{events_of}
+use Rattle.phase_api.specs.FactsView.{events_of}
 use Rattle.abort_cascade.specs.Rounds.{round_of}
 use Rattle.abort_cascade.proofs.RoundsOf.{first_stage, round_stage, round_last, round_length, round_grows, fallen_numbers}
 use Rattle.abort_cascade.proofs.cascades.cascade.Goals as goal

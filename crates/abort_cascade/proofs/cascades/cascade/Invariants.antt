@@ -1,5 +1,5 @@
 use Rattle.std.proofs.Common.{◌-◌, length}
-use Rattle.phase_api.specs.Told.{events_of}
+use Rattle.phase_api.specs.FactsView.{events_of}
 use Rattle.abort_cascade.proofs.RoundsOf.{IsStage}
 use Rattle.abort_cascade.proofs.cascades.cascade.Given as goal
 

@@ -1,7 +1,7 @@
 use Rattle.std.proofs.Common.{◌∙◌, refl}
-use Rattle.audit_check.specs.contracts.line.PlacePartialEq.TheImpl.{eq-value}
-use Rattle.audit_check.proofs.Cells.{has_places}
+use Rattle.audit_check.specs.contracts.line.RowKeyPartialEq.TheImpl.{eq-value}
+use Rattle.audit_check.proofs.Cells.{has_row_keys}
 use Rattle.audit_check.proofs.rows.sees.Goals as goal
 
 pub returns : goal.returns
-returns c = c.contains.ensures ∙ has_places eq-value.it (λ p q. refl) c.args.seen.now.keys c.args.place
+returns c = c.contains.ensures ∙ has_row_keys eq-value.it (λ p q. refl) c.args.seen.now.keys c.args.row_key

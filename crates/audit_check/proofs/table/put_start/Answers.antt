@@ -4,7 +4,7 @@ use Rattle.std.proofs.lemmas.Int.{to_z-of_z}
 use Rattle.std.proofs.lemmas.Result.{on_ok_weaker}
 use Rattle.audit_check.specs.Keeps.{HoldsTable}
 use Rattle.audit_check.specs.Tables.{put_at, starts_in}
-use Rattle.audit_check.specs.Views.{place_view}
+use Rattle.audit_check.specs.Views.{row_key_view}
 use Rattle.audit_check.proofs.TableSteps.{start_held, other_held, not_start}
 use Rattle.audit_check.proofs.table.put_start.Goals as goal
 
@@ -12,7 +12,7 @@ pub returns-in-Start : goal.returns-in-Start
 returns-in-Start c =
     let fits : FitsSigned w64 c.in-Start.value = search rules in
     let entries = c.put.new.table.entries in
-    let x = place_view c.in-Start.place in
+    let x = row_key_view c.in-Start.row_key in
     on_ok_weaker c.put.result
     (λ puts past held. rw c.in-Start.is (start_held entries x c.in-Start.value past
     (subst (λ (z : ℤ). HoldsTable entries (put_at x (Some z) (starts_in past))) (to_z-of_z w64 c.in-Start.value fits) (puts (starts_in past) held))))

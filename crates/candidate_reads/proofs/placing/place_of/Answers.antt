@@ -1,7 +1,7 @@
 use Rattle.std.proofs.Common.{arith, sym, ◌∙◌}
 use Rattle.std.proofs.lemmas.Bool.{both_ways}
 use Rattle.version_chain.specs.Lists.{writers_of}
-use Rattle.phase_api.specs.Told.{setup_of, events_of}
+use Rattle.phase_api.specs.FactsView.{setup_of, events_of}
 use Rattle.candidate_reads.proofs.InOrder.{own_found, own_absent}
 use Rattle.candidate_reads.proofs.Sources.{last_within}
 use Rattle.candidate_reads.proofs.Placed.{versions_counted, place_own, place_after, place_at_front, about_to}

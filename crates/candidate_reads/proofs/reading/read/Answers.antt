@@ -1,5 +1,5 @@
 use Rattle.std.proofs.Common.{◌∙◌}
-use Rattle.phase_api.specs.Told.{setup_of, events_of}
+use Rattle.phase_api.specs.FactsView.{setup_of, events_of}
 use Rattle.candidate_reads.proofs.Sources.{first_within, last_within, read_own, no_version, read_seen, read_row}
 use Rattle.candidate_reads.proofs.reading.read.Goals as goal
 

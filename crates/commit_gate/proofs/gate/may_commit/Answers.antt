@@ -3,7 +3,7 @@ use Rattle.teb_names.specs.declared.Spot.{Spot}
 use Rattle.teb_rules.specs.Tree.{path}
 use Rattle.teb_rules.specs.Stops.{commit_stop, on_commit, stop_of}
 use Rattle.teb_laws.proofs.Sound.{tree_facts}
-use Rattle.phase_api.specs.Told.{setup_of, events_of}
+use Rattle.phase_api.specs.FactsView.{setup_of, events_of}
 use Rattle.commit_gate.specs.Ways.{IsWay}
 use Rattle.commit_gate.proofs.CommitWaits.{path_way, typed_now}
 use Rattle.commit_gate.proofs.gate.may_commit.Goals as goal

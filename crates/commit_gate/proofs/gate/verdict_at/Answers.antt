@@ -7,7 +7,7 @@ use Rattle.teb_rules.specs.Controls.{validate, gate}
 use Rattle.teb_rules.specs.Stops.{on_commit}
 use Rattle.teb_rules.specs.Verdicts.{wait_for, or_else}
 use Rattle.teb_rules.specs.declared.Verdict.{Verdict}
-use Rattle.phase_api.specs.Told.{setup_of, events_of}
+use Rattle.phase_api.specs.FactsView.{setup_of, events_of}
 use Rattle.commit_gate.specs.Ways.{first_wait}
 use Rattle.commit_gate.proofs.CommitWaits.{stopped, commit_waits}
 use Rattle.commit_gate.proofs.gate.verdict_at.Goals as goal
@@ -19,7 +19,7 @@ returns-in-Go g c =
     let H = events_of c.args.facts.now in
     let n = c.args.n.0 in
     let t = c.args.t in
-    let at = c.control_at-control.ensures.place in
+    let at = c.control_at-control.ensures.node_number in
     let valid : validate (row S.tree n).control S H n t.0 ≡ c.validate.result = sym (c.validate.ensures ∙ ap (λ (m : ℕ). validate (row S.tree m).control S H m t.0) at) in
     let named = c.gate.ensures ∙ ap (λ (m : ℕ). wait_for (find (gate (row S.tree m).control S H m t.0) (txns H))) at in
     let source = c.unfinished_source.ensures ∙ ap (λ (l : List Txn). find (λ w. unfinished H w.0 && meets S H n t.0 w.0) l) c.read_from.ensures in
@@ -34,7 +34,7 @@ returns-in_default g c =
     let H = events_of c.args.facts.now in
     let n = c.args.n.0 in
     let t = c.args.t in
-    let at = c.control_at-control.ensures.place in
+    let at = c.control_at-control.ensures.node_number in
     let valid : c.validate.result ≡ validate (row S.tree n).control S H n t.0 = c.validate.ensures ∙ ap (λ (m : ℕ). validate (row S.tree m).control S H m t.0) at in
     let rest = wait_for (find (λ u. gate (row S.tree n).control S H n t.0 u || (unfinished H u && meets S H n t.0 u && read_from H t.0 u)) (txns H)) in
     stopped c.validate.result rest c.in_default.not-Go ∙ ap (λ (v : Verdict). or_else v rest) valid

@@ -1,5 +1,5 @@
 use Rattle.std.proofs.Common.{◌∙◌, sym}
-use Rattle.phase_api.specs.Told.{events_of}
+use Rattle.phase_api.specs.FactsView.{events_of}
 use Rattle.dependency_book.proofs.OrderlyHistories.{unfinished_parts}
 use Rattle.commit_gate.proofs.sources.is_waited_for.Goals as goal
 

@@ -2,7 +2,7 @@ use Rattle.std.proofs.Common.{◌≡◌, ℕ, suc, ◌+◌, ◌&&◌, ◌∙◌,
 use Rattle.teb_names.specs.declared.Txn.{Txn}
 use Rattle.teb_history.specs.Phases.{unfinished}
 use Rattle.teb_rules.specs.Tree.{meets}
-use Rattle.phase_api.specs.Told.{setup_of, events_of}
+use Rattle.phase_api.specs.FactsView.{setup_of, events_of}
 use Rattle.commit_gate.proofs.Finds.{find_hit, find_miss}
 use Rattle.commit_gate.proofs.sources.unfinished_source.Goals as goal
 

@@ -3,7 +3,7 @@ use Rattle.teb_rules.specs.Setup.{Store}
 use Rattle.teb_rules.specs.Accepted.{IsSound}
 use Rattle.script_text.specs.declared.Answered.{Answered}
 use Rattle.tree_toml.specs.Seen.{setup_view}
-use Rattle.input_reader.specs.Stores.{store_of}
+use Rattle.input_reader.specs.Stores.{store_of_view}
 use Rattle.crash_runner.specs.Underway.{IsRunOn}
 use Rattle.crash_runner.proofs.Courses.{never_began}
 use Rattle.crash_runner.proofs.Halting.{as_create_error, not_ok_and_err, not_err_and_ok}
@@ -16,7 +16,7 @@ replay_durable-requires-clause-underway c =
     let disk = c.in_ok-disk.disk in
     let k = c.in-Ok.durable in
     let m = setup_view c.args.setup in
-    let store : k.store ≡ store_of m = c.in-Ok.ensures.store.0 ∙ c.in_ok-engine.ensures.store in
+    let store : k.store ≡ store_of_view m = c.in-Ok.ensures.store.0 ∙ c.in_ok-engine.ensures.store in
     begins tally_of safe_of MayBeLeft is_left disk c.in_ok-disk.ensures.made (unwritten disk.log c.in_ok-disk.ensures.empty) (roomy disk.counter.made 0 disk.counter.stop) k (subst (λ (X : Store). IsSound X.setup) (sym store) (sound_of m c.requires.whole))
     c.in-Ok.ensures.store.2 c.in-Ok.ensures.empty.0 c.in-Ok.ensures.empty.2 c.in-Ok.ensures.images c.in-Ok.ensures.counted.0 c.in-Ok.ensures.counted.1 (λ f. not_ok_and_err c.create.result _ c.in-Ok.is (c.create.ensures.fails f))
 
@@ -24,7 +24,7 @@ pub returns-in-Err-DiskFault : goal.returns-in-Err-DiskFault
 returns-in-Err-DiskFault c =
     let disk = c.in_ok-disk.disk in
     let back = c.in-Err-DiskFault.disk in
-    let X = store_of (setup_view c.args.setup) in
+    let X = store_of_view (setup_view c.args.setup) in
     let none = c.in_ok-disk.ensures.made in
     let empty = unwritten disk.log c.in_ok-disk.ensures.empty in
     let room = roomy disk.counter.made 0 disk.counter.stop in

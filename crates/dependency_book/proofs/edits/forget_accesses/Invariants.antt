@@ -1,7 +1,7 @@
 use Rattle.std.proofs.Common.{take, eqb}
 use Rattle.teb_names.specs.declared.Txn.{Txn}
 use Rattle.dependency_book.specs.Dependencies.{reads, puts}
-use Rattle.dependency_book.proofs.PileEdits.{IsForgotten}
+use Rattle.dependency_book.proofs.MultimapEdits.{IsForgotten}
 use Rattle.dependency_book.proofs.edits.forget_accesses.Given as goal
 
 abbrev pub invariant-loop-access : goal.invariant-loop-access

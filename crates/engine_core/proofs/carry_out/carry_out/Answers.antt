@@ -7,13 +7,13 @@ use Rattle.engine_core.proofs.Falling.{less_log_room, abort_unfinished}
 use Rattle.engine_core.proofs.Carrying.{leads_granted}
 use Rattle.engine_core.proofs.carry_out.carry_out.Goals as goal
 
-pub write-requires-clause-granted : goal.write-requires-clause-granted
-write-requires-clause-granted g c = leads_granted (store_of c.args.kernel.now.setup).setup c.args.kernel.now.history.events c.in-Grant.event
-    (subst (λ (d : Decision). Lawful (store_of c.args.kernel.now.setup).setup (carried (store_of c.args.kernel.now.setup) c.args.kernel.now.history.events d).1) c.in-Grant.is c.requires.leads)
+pub append_event-requires-clause-granted : goal.append_event-requires-clause-granted
+append_event-requires-clause-granted g c = leads_granted (store_of c.args.state.now.setup).setup c.args.state.now.history.events c.in-Grant.event
+    (subst (λ (d : Decision). Lawful (store_of c.args.state.now.setup).setup (carried (store_of c.args.state.now.setup) c.args.state.now.history.events d).1) c.in-Grant.is c.requires.leads)
 
-pub write-requires-clause-room : goal.write-requires-clause-room
-write-requires-clause-room g c = less_log_room g.K.Control.spare 1 32 c.args.kernel.now (omega arith) c.requires.room.log
+pub append_event-requires-clause-room : goal.append_event-requires-clause-room
+append_event-requires-clause-room g c = less_log_room g.K.Control.spare 1 32 c.args.state.now (omega arith) c.requires.room.log
 
 pub fall-requires-clause-unfinished : goal.fall-requires-clause-unfinished
-fall-requires-clause-unfinished g c = abort_unfinished (store_of c.args.kernel.now.setup).setup c.args.kernel.now.history.events c.in-Fall.t.0 c.in-Fall.cause
-    (subst (λ (d : Decision). Lawful (store_of c.args.kernel.now.setup).setup (carried (store_of c.args.kernel.now.setup) c.args.kernel.now.history.events d).1) c.in-Fall.is c.requires.leads)
+fall-requires-clause-unfinished g c = abort_unfinished (store_of c.args.state.now.setup).setup c.args.state.now.history.events c.in-Fall.t.0 c.in-Fall.cause
+    (subst (λ (d : Decision). Lawful (store_of c.args.state.now.setup).setup (carried (store_of c.args.state.now.setup) c.args.state.now.history.events d).1) c.in-Fall.is c.requires.leads)

@@ -5,11 +5,11 @@ use Rattle.engine_core.proofs.decide.decide_commit.Goals as goal
 
 pub returns-in-Some-clause-answer : goal.returns-in-Some-clause-answer
 unfolding answer_of
-returns-in-Some-clause-answer g c = stops (store_in c.args.parts.now) (events_in c.args.parts.now) c.args.t.0 _ _ _ c.in-Some.decision _ c.commit_stop.ensures (c.stopped.ensures (store_in c.args.parts.now) (events_in c.args.parts.now)) c.in-Some.is
+returns-in-Some-clause-answer g c = stops (store_in c.args.view.now) (events_in c.args.view.now) c.args.t.0 _ _ _ c.in-Some.decision _ c.commit_stop.ensures (c.stopped.ensures (store_in c.args.view.now) (events_in c.args.view.now)) c.in-Some.is
 
 pub returns-in-Some-clause-bounded : goal.returns-in-Some-clause-bounded
-returns-in-Some-clause-bounded g c = stops_bounded (store_in c.args.parts.now) (events_in c.args.parts.now) c.args.t.0 _ _ c.in-Some.decision (c.stopped.ensures (store_in c.args.parts.now) (events_in c.args.parts.now)) c.in-Some.is
+returns-in-Some-clause-bounded g c = stops_bounded (store_in c.args.view.now) (events_in c.args.view.now) c.args.t.0 _ _ c.in-Some.decision (c.stopped.ensures (store_in c.args.view.now) (events_in c.args.view.now)) c.in-Some.is
 
 pub returns-in-None-clause-answer : goal.returns-in-None-clause-answer
 unfolding answer_of
-returns-in-None-clause-answer g c = goes (store_in c.args.parts.now) (events_in c.args.parts.now) c.args.t.0 _ _ _ _ c.commit_stop.ensures (c.stopped.ensures (store_in c.args.parts.now) (events_in c.args.parts.now)) c.in-None.is
+returns-in-None-clause-answer g c = goes (store_in c.args.view.now) (events_in c.args.view.now) c.args.t.0 _ _ _ _ c.commit_stop.ensures (c.stopped.ensures (store_in c.args.view.now) (events_in c.args.view.now)) c.in-None.is

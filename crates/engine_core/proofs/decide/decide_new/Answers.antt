@@ -5,4 +5,4 @@ use Rattle.engine_core.proofs.Deciding.{holds_nothing}
 use Rattle.engine_core.proofs.decide.decide_new.Goals as goal
 
 pub returns-in_default-clause-answer : goal.returns-in_default-clause-answer
-returns-in_default-clause-answer g c = ap (carried (store_in c.args.parts.now) (events_in c.args.parts.now)) c.refused.ensures ∙ sym (holds_nothing (store_in c.args.parts.now).setup (events_in c.args.parts.now) c.args.session c.args.request c.in_default.not-Begin)
+returns-in_default-clause-answer g c = ap (carried (store_in c.args.view.now) (events_in c.args.view.now)) c.refused.ensures ∙ sym (holds_nothing (store_in c.args.view.now).setup (events_in c.args.view.now) c.args.session c.args.request c.in_default.not-Begin)

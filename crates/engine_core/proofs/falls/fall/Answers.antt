@@ -14,54 +14,54 @@ use Rattle.engine_core.proofs.falls.fall.Goals as goal
 
 pub cascade-fallen-requires-clause-recoverable : goal.cascade-fallen-requires-clause-recoverable
 cascade-fallen-requires-clause-recoverable g c = subst (λ (h : Written). IsRecoverable h.events) (sym c.facts_of.ensures.history)
-    (good_recoverable (store_of c.args.kernel.now.setup).setup (tree_facts _ c.requires.whole.sound) c.args.kernel.now.history.events (record { legal = c.requires.whole.lawful; settled = c.requires.settled }))
+    (good_recoverable (store_of c.args.state.now.setup).setup (tree_facts _ c.requires.whole.sound) c.args.state.now.history.events (record { legal = c.requires.whole.lawful; settled = c.requires.settled }))
 
 pub cascade-fallen-requires-clause-few : goal.cascade-fallen-requires-clause-few
 cascade-fallen-requires-clause-few g c =
-    let few : length (cascade c.args.kernel.now.history.events c.args.t.0) ≤ 31 = cascade_few (store_of c.args.kernel.now.setup).setup (tree_facts _ c.requires.whole.sound) c.args.kernel.now.history.events c.args.t.0 (record { legal = c.requires.whole.lawful; settled = c.requires.settled }) c.requires.unfinished in
-    let e : length (cascade c.facts_of.result.history.now.events c.args.t.0) ≡ length (cascade c.args.kernel.now.history.events c.args.t.0) = ap (λ (h : Written). length (cascade h.events c.args.t.0)) c.facts_of.ensures.history in
+    let few : length (cascade c.args.state.now.history.events c.args.t.0) ≤ 31 = cascade_few (store_of c.args.state.now.setup).setup (tree_facts _ c.requires.whole.sound) c.args.state.now.history.events c.args.t.0 (record { legal = c.requires.whole.lawful; settled = c.requires.settled }) c.requires.unfinished in
+    let e : length (cascade c.facts_of.result.history.now.events c.args.t.0) ≡ length (cascade c.args.state.now.history.events c.args.t.0) = ap (λ (h : Written). length (cascade h.events c.args.t.0)) c.facts_of.ensures.history in
     omega arith
 
-pub write-requires-clause-room : goal.write-requires-clause-room
-write-requires-clause-room g c = less_log_room g.K.Control.spare 1 32 c.args.kernel.now (omega arith) c.requires.room
+pub append_event-requires-clause-room : goal.append_event-requires-clause-room
+append_event-requires-clause-room g c = less_log_room g.K.Control.spare 1 32 c.args.state.now (omega arith) c.requires.room
 
 pub loop-i-init : goal.loop-i-init
 loop-i-init g c =
-    let few : length (cascade c.args.kernel.now.history.events c.args.t.0) ≤ 31 = cascade_few (store_of c.args.kernel.now.setup).setup (tree_facts _ c.requires.whole.sound) c.args.kernel.now.history.events c.args.t.0 (record { legal = c.requires.whole.lawful; settled = c.requires.settled }) c.requires.unfinished in
+    let few : length (cascade c.args.state.now.history.events c.args.t.0) ≤ 31 = cascade_few (store_of c.args.state.now.setup).setup (tree_facts _ c.requires.whole.sound) c.args.state.now.history.events c.args.t.0 (record { legal = c.requires.whole.lawful; settled = c.requires.settled }) c.requires.unfinished in
     record {
-      whole = c.write.ensures.whole;
-      events = first_events c.args.kernel.now.history.events c.write.new.kernel.history.events c.args.t c.args.cause c.write.ensures.events;
-      setup = c.write.ensures.setup;
-      room = λ k e. c.write.ensures.room k (less_log_room g.K.Control.spare (suc k) 32 c.args.kernel.now (omega arith) c.requires.room);
+      whole = c.append_event.ensures.whole;
+      events = first_events c.args.state.now.history.events c.append_event.new.state.history.events c.args.t c.args.cause c.append_event.ensures.events;
+      setup = c.append_event.ensures.setup;
+      room = λ k e. c.append_event.ensures.room k (less_log_room g.K.Control.spare (suc k) 32 c.args.state.now (omega arith) c.requires.room);
     }
 
-pub write-requires-in-loop-i-clause-whole : goal.write-requires-in-loop-i-clause-whole
-write-requires-in-loop-i-clause-whole g c = c.loop-i.invariant.whole
+pub append_event-requires-in-loop-i-clause-whole : goal.append_event-requires-in-loop-i-clause-whole
+append_event-requires-in-loop-i-clause-whole g c = c.loop-i.invariant.whole
 
-pub write-requires-in-loop-i-clause-granted : goal.write-requires-in-loop-i-clause-granted
-write-requires-in-loop-i-clause-granted g c =
+pub append_event-requires-in-loop-i-clause-granted : goal.append_event-requires-in-loop-i-clause-granted
+append_event-requires-in-loop-i-clause-granted g c =
     let blame = c.cascade-fallen.ensures ∙ ap (λ (h : Written). blames h.events c.args.t.0) c.facts_of.ensures.history in
-    next_unfinished (store_of c.args.kernel.now.setup).setup (tree_facts _ c.requires.whole.sound) c.args.kernel.now.history.events c.loop-i.kernel.history.events c.args.t.0 c.args.cause c.loop-i.i c.at.result
+    next_unfinished (store_of c.args.state.now.setup).setup (tree_facts _ c.requires.whole.sound) c.args.state.now.history.events c.loop-i.state.history.events c.args.t.0 c.args.cause c.loop-i.i c.at.result
     (record { legal = c.requires.whole.lawful; settled = c.requires.settled }) c.requires.unfinished c.loop-i.invariant.events
-    (next_fallen c.args.kernel.now.history.events c.args.t.0 c.loop-i.i c.at.result (subst (λ (ps : List (Txn × Txn)). slice_get ps c.loop-i.i ≡ Some c.at.result) blame c.at.ensures))
+    (next_fallen c.args.state.now.history.events c.args.t.0 c.loop-i.i c.at.result (subst (λ (ps : List (Txn × Txn)). slice_get ps c.loop-i.i ≡ Some c.at.result) blame c.at.ensures))
 
-pub write-requires-in-loop-i-clause-room : goal.write-requires-in-loop-i-clause-room
-write-requires-in-loop-i-clause-room g c =
+pub append_event-requires-in-loop-i-clause-room : goal.append_event-requires-in-loop-i-clause-room
+append_event-requires-in-loop-i-clause-room g c =
     let blame = c.cascade-fallen.ensures ∙ ap (λ (h : Written). blames h.events c.args.t.0) c.facts_of.ensures.history in
-    let n : length c.cascade-fallen.result ≡ length (cascade c.args.kernel.now.history.events c.args.t.0) = ap length blame ∙ length-map (cascade c.args.kernel.now.history.events c.args.t.0) (λ (u : ℕ). (txn u, txn (blamed c.args.kernel.now.history.events c.args.t.0 u))) in
-    let h : c.loop-i.i < length (cascade c.args.kernel.now.history.events c.args.t.0) = omega arith in
-    less_log_room g.K.Control.spare 1 (length (cascade c.args.kernel.now.history.events c.args.t.0) - c.loop-i.i) c.loop-i.kernel (omega arith)
-    (c.loop-i.invariant.room (length (cascade c.args.kernel.now.history.events c.args.t.0) - c.loop-i.i) (omega arith))
+    let n : length c.cascade-fallen.result ≡ length (cascade c.args.state.now.history.events c.args.t.0) = ap length blame ∙ length-map (cascade c.args.state.now.history.events c.args.t.0) (λ (u : ℕ). (txn u, txn (blamed c.args.state.now.history.events c.args.t.0 u))) in
+    let h : c.loop-i.i < length (cascade c.args.state.now.history.events c.args.t.0) = omega arith in
+    less_log_room g.K.Control.spare 1 (length (cascade c.args.state.now.history.events c.args.t.0) - c.loop-i.i) c.loop-i.state (omega arith)
+    (c.loop-i.invariant.room (length (cascade c.args.state.now.history.events c.args.t.0) - c.loop-i.i) (omega arith))
 
 pub loop-i-preserved : goal.loop-i-preserved
 loop-i-preserved g c =
     let blame = c.cascade-fallen.ensures ∙ ap (λ (h : Written). blames h.events c.args.t.0) c.facts_of.ensures.history in
     record {
-      whole = c.write-in-loop-i.ensures.whole;
-      events = next_events c.args.kernel.now.history.events c.loop-i.kernel.history.events c.write-in-loop-i.new.kernel.history.events c.args.t.0 c.args.cause c.loop-i.i c.at.result c.loop-i.invariant.events
-          (next_fallen c.args.kernel.now.history.events c.args.t.0 c.loop-i.i c.at.result (subst (λ (ps : List (Txn × Txn)). slice_get ps c.loop-i.i ≡ Some c.at.result) blame c.at.ensures)) c.write-in-loop-i.ensures.events;
-      setup = c.write-in-loop-i.ensures.setup ∙ c.loop-i.invariant.setup;
-      room = λ k e. c.write-in-loop-i.ensures.room k (c.loop-i.invariant.room (suc k) (omega arith));
+      whole = c.append_event-in-loop-i.ensures.whole;
+      events = next_events c.args.state.now.history.events c.loop-i.state.history.events c.append_event-in-loop-i.new.state.history.events c.args.t.0 c.args.cause c.loop-i.i c.at.result c.loop-i.invariant.events
+          (next_fallen c.args.state.now.history.events c.args.t.0 c.loop-i.i c.at.result (subst (λ (ps : List (Txn × Txn)). slice_get ps c.loop-i.i ≡ Some c.at.result) blame c.at.ensures)) c.append_event-in-loop-i.ensures.events;
+      setup = c.append_event-in-loop-i.ensures.setup ∙ c.loop-i.invariant.setup;
+      room = λ k e. c.append_event-in-loop-i.ensures.room k (c.loop-i.invariant.room (suc k) (omega arith));
     }
 
 pub returns-clause-whole : goal.returns-clause-whole
@@ -70,9 +70,9 @@ returns-clause-whole g c = c.loop-i.invariant.whole
 pub returns-clause-events : goal.returns-clause-events
 returns-clause-events g c =
     let blame = c.cascade-fallen.ensures ∙ ap (λ (h : Written). blames h.events c.args.t.0) c.facts_of.ensures.history in
-    let n : length c.cascade-fallen.result ≡ length (cascade c.args.kernel.now.history.events c.args.t.0) = ap length blame ∙ length-map (cascade c.args.kernel.now.history.events c.args.t.0) (λ (u : ℕ). (txn u, txn (blamed c.args.kernel.now.history.events c.args.t.0 u))) in
-    let e : c.loop-i.i ≡ length (cascade c.args.kernel.now.history.events c.args.t.0) = omega arith in
-    last_events c.args.kernel.now.history.events c.loop-i.kernel.history.events c.args.t.0 c.args.cause c.loop-i.i e c.loop-i.invariant.events
+    let n : length c.cascade-fallen.result ≡ length (cascade c.args.state.now.history.events c.args.t.0) = ap length blame ∙ length-map (cascade c.args.state.now.history.events c.args.t.0) (λ (u : ℕ). (txn u, txn (blamed c.args.state.now.history.events c.args.t.0 u))) in
+    let e : c.loop-i.i ≡ length (cascade c.args.state.now.history.events c.args.t.0) = omega arith in
+    last_events c.args.state.now.history.events c.loop-i.state.history.events c.args.t.0 c.args.cause c.loop-i.i e c.loop-i.invariant.events
 
 pub returns-clause-setup : goal.returns-clause-setup
 returns-clause-setup g c = c.loop-i.invariant.setup

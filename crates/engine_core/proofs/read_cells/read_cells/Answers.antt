@@ -7,44 +7,44 @@ use Rattle.engine_core.proofs.read_cells.read_cells.Goals as goal
 pub loop-i-init : goal.loop-i-init
 loop-i-init g c = record {
   whole = c.requires.whole;
-  read = subst (λ (vs : List (Option ℤ)). HasRead (store_of c.args.kernel.now.setup) c.args.kernel.now.history.events c.args.t.0 c.args.first c.args.count vs c.args.kernel.now.history.events 0) (sym c.new-values.ensures)
-      (read_none (store_of c.args.kernel.now.setup) c.args.kernel.now.history.events c.args.t.0 c.args.first c.args.count);
+  read = subst (λ (vs : List (Option ℤ)). HasRead (store_of c.args.state.now.setup) c.args.state.now.history.events c.args.t.0 c.args.first c.args.count vs c.args.state.now.history.events 0) (sym c.new-values.ensures)
+      (read_none (store_of c.args.state.now.setup) c.args.state.now.history.events c.args.t.0 c.args.first c.args.count);
   setup = refl;
-  room = λ k e. less_log_room g.K.Control.spare k 32 c.args.kernel.now (let few = c.requires.few in omega arith) c.requires.room;
+  room = λ k e. less_log_room g.K.Control.spare k 32 c.args.state.now (let few = c.requires.few in omega arith) c.requires.room;
 }
 
 pub read-value-requires-clause-settled : goal.read-value-requires-clause-settled
-read-value-requires-clause-settled g c = (may_read (store_of c.args.kernel.now.setup) (store_of c.loop-i.kernel.setup) (ap store_of c.loop-i.invariant.setup) c.args.kernel.now.history.events c.loop-i.kernel.history.events c.args.t c.args.first c.args.count c.loop-i.i c.loop-i.values c.loop-i.invariant.read c.loop-i-test.true c.requires.leads).settled
+read-value-requires-clause-settled g c = (may_read (store_of c.args.state.now.setup) (store_of c.loop-i.state.setup) (ap store_of c.loop-i.invariant.setup) c.args.state.now.history.events c.loop-i.state.history.events c.args.t c.args.first c.args.count c.loop-i.i c.loop-i.values c.loop-i.invariant.read c.loop-i-test.true c.requires.leads).settled
 
 pub read-value-requires-clause-unfinished : goal.read-value-requires-clause-unfinished
-read-value-requires-clause-unfinished g c = (may_read (store_of c.args.kernel.now.setup) (store_of c.loop-i.kernel.setup) (ap store_of c.loop-i.invariant.setup) c.args.kernel.now.history.events c.loop-i.kernel.history.events c.args.t c.args.first c.args.count c.loop-i.i c.loop-i.values c.loop-i.invariant.read c.loop-i-test.true c.requires.leads).unfinished
+read-value-requires-clause-unfinished g c = (may_read (store_of c.args.state.now.setup) (store_of c.loop-i.state.setup) (ap store_of c.loop-i.invariant.setup) c.args.state.now.history.events c.loop-i.state.history.events c.args.t c.args.first c.args.count c.loop-i.i c.loop-i.values c.loop-i.invariant.read c.loop-i-test.true c.requires.leads).unfinished
 
-pub write-requires-clause-granted : goal.write-requires-clause-granted
-write-requires-clause-granted g c = got_granted (store_of c.args.kernel.now.setup) (store_of c.loop-i.kernel.setup) (ap store_of c.loop-i.invariant.setup) c.args.kernel.now.history.events c.loop-i.kernel.history.events c.args.t c.args.first c.args.count c.loop-i.i c.loop-i.values c.loop-i.invariant.read c.loop-i-test.true
+pub append_event-requires-clause-granted : goal.append_event-requires-clause-granted
+append_event-requires-clause-granted g c = got_granted (store_of c.args.state.now.setup) (store_of c.loop-i.state.setup) (ap store_of c.loop-i.invariant.setup) c.args.state.now.history.events c.loop-i.state.history.events c.args.t c.args.first c.args.count c.loop-i.i c.loop-i.values c.loop-i.invariant.read c.loop-i-test.true
     c.cell_at-cell.result c.read-value.result.0 c.read-value.result.1 c.cell_at-cell.ensures c.read-value.ensures.source c.read-value.ensures.value c.requires.leads
 
-pub write-requires-clause-room : goal.write-requires-clause-room
-write-requires-clause-room g c =
+pub append_event-requires-clause-room : goal.append_event-requires-clause-room
+append_event-requires-clause-room g c =
     let h : c.loop-i.i < c.args.count = c.loop-i-test.true in
-    less_log_room g.K.Control.spare 1 (c.args.count - c.loop-i.i) c.loop-i.kernel (omega arith) (c.loop-i.invariant.room (c.args.count - c.loop-i.i) (omega arith))
+    less_log_room g.K.Control.spare 1 (c.args.count - c.loop-i.i) c.loop-i.state (omega arith) (c.loop-i.invariant.room (c.args.count - c.loop-i.i) (omega arith))
 
 pub loop-i-preserved : goal.loop-i-preserved
 loop-i-preserved g c = record {
-  whole = c.write.ensures.whole;
-  read = read_next (store_of c.args.kernel.now.setup) (store_of c.loop-i.kernel.setup) (ap store_of c.loop-i.invariant.setup) c.args.kernel.now.history.events c.loop-i.kernel.history.events c.args.t c.args.first c.args.count c.loop-i.i c.loop-i.values c.loop-i.invariant.read c.loop-i-test.true
-      c.cell_at-cell.result c.read-value.result.0 c.read-value.result.1 c.cell_at-cell.ensures c.read-value.ensures.source c.read-value.ensures.value c.push.new.self c.write.new.kernel.history.events c.write.ensures.events c.push.ensures;
-  setup = c.write.ensures.setup ∙ c.loop-i.invariant.setup;
-  room = λ k e. c.write.ensures.room k (c.loop-i.invariant.room (suc k) (omega arith));
+  whole = c.append_event.ensures.whole;
+  read = read_next (store_of c.args.state.now.setup) (store_of c.loop-i.state.setup) (ap store_of c.loop-i.invariant.setup) c.args.state.now.history.events c.loop-i.state.history.events c.args.t c.args.first c.args.count c.loop-i.i c.loop-i.values c.loop-i.invariant.read c.loop-i-test.true
+      c.cell_at-cell.result c.read-value.result.0 c.read-value.result.1 c.cell_at-cell.ensures c.read-value.ensures.source c.read-value.ensures.value c.push.new.self c.append_event.new.state.history.events c.append_event.ensures.events c.push.ensures;
+  setup = c.append_event.ensures.setup ∙ c.loop-i.invariant.setup;
+  room = λ k e. c.append_event.ensures.room k (c.loop-i.invariant.room (suc k) (omega arith));
 }
 
 pub returns-clause-values : goal.returns-clause-values
 returns-clause-values g c =
     let e : c.loop-i.i ≡ c.args.count = omega arith in
-    (read_whole (store_of c.args.kernel.now.setup) c.args.kernel.now.history.events c.args.t.0 c.args.first c.args.count c.loop-i.values c.loop-i.kernel.history.events
-    (subst (HasRead (store_of c.args.kernel.now.setup) c.args.kernel.now.history.events c.args.t.0 c.args.first c.args.count c.loop-i.values c.loop-i.kernel.history.events) e c.loop-i.invariant.read)).0
+    (read_whole (store_of c.args.state.now.setup) c.args.state.now.history.events c.args.t.0 c.args.first c.args.count c.loop-i.values c.loop-i.state.history.events
+    (subst (HasRead (store_of c.args.state.now.setup) c.args.state.now.history.events c.args.t.0 c.args.first c.args.count c.loop-i.values c.loop-i.state.history.events) e c.loop-i.invariant.read)).0
 
 pub returns-clause-events : goal.returns-clause-events
 returns-clause-events g c =
     let e : c.loop-i.i ≡ c.args.count = omega arith in
-    (read_whole (store_of c.args.kernel.now.setup) c.args.kernel.now.history.events c.args.t.0 c.args.first c.args.count c.loop-i.values c.loop-i.kernel.history.events
-    (subst (HasRead (store_of c.args.kernel.now.setup) c.args.kernel.now.history.events c.args.t.0 c.args.first c.args.count c.loop-i.values c.loop-i.kernel.history.events) e c.loop-i.invariant.read)).1
+    (read_whole (store_of c.args.state.now.setup) c.args.state.now.history.events c.args.t.0 c.args.first c.args.count c.loop-i.values c.loop-i.state.history.events
+    (subst (HasRead (store_of c.args.state.now.setup) c.args.state.now.history.events c.args.t.0 c.args.first c.args.count c.loop-i.values c.loop-i.state.history.events) e c.loop-i.invariant.read)).1

@@ -1,7 +1,7 @@
 use Rattle.std.proofs.Common.{◌∙◌, ap}
-use Rattle.engine_core.specs.State.{State}
-use Rattle.tree_toml.specs.Meaning.{Meaning}
-use Rattle.input_reader.specs.Stores.{store_of, names_of}
+use Rattle.engine_core.specs.EngineModel.{EngineModel}
+use Rattle.tree_toml.specs.SetupView.{SetupView}
+use Rattle.input_reader.specs.Stores.{store_of_view, names_of}
 use Rattle.phase_runner.proofs.Running.{phase_run}
 use Rattle.phase_runner.proofs.phase.first_phase.Goals as goal
 
@@ -10,6 +10,6 @@ returns g c =
     let e = c.new-2.result.present in
     let is = c.into_parts-setup.ensures.setup in
     phase_run c.args.task.setup.rows c.args.task e c.deref.result.now c.args.text.now.items c.run_present.new.text.items c.run_present.result
-    (ap (λ (d : State). d.store) c.new-2.ensures.present ∙ c.in_ok-engine.ensures.store ∙ ap (λ (m : Meaning). store_of m) is)
-    (ap (λ (d : State). d.names) c.new-2.ensures.present ∙ c.in_ok-engine.ensures.names ∙ ap (λ (m : Meaning). names_of m) is)
+    (ap (λ (d : EngineModel). d.store) c.new-2.ensures.present ∙ c.in_ok-engine.ensures.store ∙ ap (λ (m : SetupView). store_of_view m) is)
+    (ap (λ (d : EngineModel). d.names) c.new-2.ensures.present ∙ c.in_ok-engine.ensures.names ∙ ap (λ (m : SetupView). names_of m) is)
     (c.deref.ensures.value ∙ c.into_parts-setup.ensures.lines.0) c.run_present.ensures.store c.run_present.ensures.names c.run_present.ensures.drained c.run_present.ensures.run

@@ -1,9 +1,9 @@
 use Rattle.std.proofs.Common.{◌∙◌, ◌||◌, ◌&&◌, ◌+◌, false, sym, subst, drop}
 use Rattle.teb_rules.specs.Tree.{meets}
-use Rattle.phase_api.specs.Told.{setup_of, events_of}
+use Rattle.phase_api.specs.FactsView.{setup_of, events_of}
 use Rattle.teb_names.specs.declared.Txn.{Txn}
 use Rattle.hold_book.specs.declared.Hold.{Hold}
-use Rattle.key_piles.specs.Piles.{Shown}
+use Rattle.sorted_multimap.specs.Multimap.{Shown}
 use Rattle.runtime_pipeline.proofs.ListEdits.{IsPutting, putting_in, putting_none}
 use Rattle.runtime_pipeline.proofs.predecessors.put_holders.Goals as goal
 use Rattle.runtime_pipeline.proofs.predecessors.put_holders.Goals.{then-is_in_the_way, else-is_in_the_way}
@@ -16,6 +16,6 @@ loop-hold-preserved c =
     let hs = c.args.holds.now in
     let Next = λ (b : Shown Txn Txn). IsPutting p c.args.t hs (drop (i + 1) hs) (i + 1) c.args.lists.now b in
     elim c.if-is_in_the_way.branch [
-      | then-is_in_the_way w ↦ subst Next (sym w.lists-is) (putting_in p c.args.t hs c.args.lists.now c.loop-hold.lists w.put.new.lists i d c.loop-hold-test.true c.loop-hold.invariant (sym c.is_in_the_way.ensures ∙ w.if-is_in_the_way.true) w.put.ensures.piles w.put.ensures.spare)
+      | then-is_in_the_way w ↦ subst Next (sym w.lists-is) (putting_in p c.args.t hs c.args.lists.now c.loop-hold.lists w.put.new.lists i d c.loop-hold-test.true c.loop-hold.invariant (sym c.is_in_the_way.ensures ∙ w.if-is_in_the_way.true) w.put.ensures.values w.put.ensures.spare)
       | else-is_in_the_way w ↦ subst Next (sym w.lists-is) (putting_none p c.args.t hs c.args.lists.now c.loop-hold.lists i d c.loop-hold-test.true c.loop-hold.invariant (sym c.is_in_the_way.ensures ∙ w.if-is_in_the_way.false))
     ]

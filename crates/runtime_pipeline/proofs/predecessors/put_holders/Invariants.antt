@@ -1,6 +1,6 @@
 use Rattle.std.proofs.Common.{drop, ◌||◌, ◌&&◌}
 use Rattle.teb_rules.specs.Tree.{meets}
-use Rattle.phase_api.specs.Told.{setup_of, events_of}
+use Rattle.phase_api.specs.FactsView.{setup_of, events_of}
 use Rattle.hold_book.specs.declared.Hold.{Hold}
 use Rattle.runtime_pipeline.proofs.ListEdits.{IsPutting}
 use Rattle.runtime_pipeline.proofs.predecessors.put_holders.Given as goal

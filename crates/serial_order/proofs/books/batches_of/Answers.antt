@@ -1,7 +1,7 @@
 use Rattle.std.proofs.Common.{◌≡◌, List, length, subst, sym, ap, ◌∙◌, ℕ, arith}
 use Rattle.teb_history.specs.declared.Event.{Event}
 use Rattle.teb_history.proofs.Chains.{upto-zero, upto-all}
-use Rattle.phase_api.specs.Told.{setup_of, events_of}
+use Rattle.phase_api.specs.FactsView.{setup_of, events_of}
 use Rattle.teb_history.specs.Positions.{upto}
 use Rattle.batch_book.specs.Histories.{BatchesOf}
 use Rattle.serial_order.proofs.books.batches_of.Goals as goal

@@ -1,5 +1,5 @@
 use Rattle.teb_history.specs.Positions.{upto}
-use Rattle.phase_api.specs.Told.{setup_of, events_of}
+use Rattle.phase_api.specs.FactsView.{setup_of, events_of}
 use Rattle.batch_book.specs.Histories.{BatchesOf}
 use Rattle.serial_order.proofs.books.batches_of.Given as goal
 

@@ -2,7 +2,7 @@ use Rattle.std.proofs.Common.{◌+◌, ℕ, List, length, ap, subst, sym, ◌∙
 use Rattle.teb_rules.specs.Tree.{has_batches}
 use Rattle.batch_book.specs.Book.{Book}
 use Rattle.batch_book.specs.Histories.{BatchesOf}
-use Rattle.phase_api.specs.Told.{setup_of, events_of}
+use Rattle.phase_api.specs.FactsView.{setup_of, events_of}
 use Rattle.serial_order.specs.Books.{HoldBatches}
 use Rattle.serial_order.proofs.Places.{hold_more, length-more}
 use Rattle.serial_order.proofs.books.books.Goals as goal

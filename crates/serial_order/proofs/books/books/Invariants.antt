@@ -1,5 +1,5 @@
 use Rattle.std.proofs.Common.{◌≡◌, length}
-use Rattle.phase_api.specs.Told.{setup_of, events_of}
+use Rattle.phase_api.specs.FactsView.{setup_of, events_of}
 use Rattle.serial_order.specs.Books.{HoldBatches}
 use Rattle.serial_order.proofs.books.books.Given as goal
 

@@ -1,7 +1,7 @@
 use Rattle.std.proofs.Common.{refl, sym, ◌∙◌}
 use Rattle.teb_history.specs.declared.Event.TheVariants.{Began, Done, Gone}
 use Rattle.teb_history.specs.Positions.{upto}
-use Rattle.phase_api.specs.Told.{setup_of, events_of}
+use Rattle.phase_api.specs.FactsView.{setup_of, events_of}
 use Rattle.batch_book.proofs.Telling.{next_new}
 use Rattle.serial_order.proofs.Walks.{granted_there, may_come, place_there, stands_next, stands_passed, passes_rest}
 use Rattle.serial_order.proofs.books.note.Goals as goal

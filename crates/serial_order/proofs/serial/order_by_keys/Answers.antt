@@ -5,7 +5,7 @@ use Rattle.std.specs.Cmp.Lexicographic.{slice_cmp, nat_list_cmp_total}
 use Rattle.std.specs.Ordering.{nat_cmp, is_lt}
 use Rattle.teb_laws.proofs.Sound.{tree_facts}
 use Rattle.teb_rules.specs.Ranks.{serial_order}
-use Rattle.phase_api.specs.Told.{setup_of, events_of}
+use Rattle.phase_api.specs.FactsView.{setup_of, events_of}
 use Rattle.serial_order.specs.Commits.{txn_numbers}
 use Rattle.serial_order.specs.Keys.{entry_numbers}
 use Rattle.serial_order.specs.declared.serial.Entry.{Entry}

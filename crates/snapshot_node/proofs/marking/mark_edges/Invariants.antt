@@ -1,6 +1,6 @@
 use Rattle.std.proofs.Common.{ℕ}
 use Rattle.teb_history.specs.OwnEvents.{own_events}
-use Rattle.phase_api.specs.Told.{setup_of, events_of}
+use Rattle.phase_api.specs.FactsView.{setup_of, events_of}
 use Rattle.snapshot_node.specs.Asking.{IsGranted}
 use Rattle.snapshot_node.specs.Marks.{HaveGrown, IsTold}
 use Rattle.snapshot_node.proofs.CellEdges.{Ahead, Behind}

@@ -1,5 +1,5 @@
 use Rattle.std.proofs.Common.{◌≡◌, ◌-◌, arith}
-use Rattle.phase_api.specs.Told.{setup_of, events_of}
+use Rattle.phase_api.specs.FactsView.{setup_of, events_of}
 use Rattle.batch_book.proofs.Telling.{joined_from}
 use Rattle.batch_book.proofs.Intervals.{start-lt}
 use Rattle.teb_history.proofs.Counting.{begun_fewer}

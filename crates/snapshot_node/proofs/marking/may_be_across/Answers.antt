@@ -1,6 +1,6 @@
 use Rattle.std.proofs.Common.{◌≡◌, ◌∙◌, true, not, ap}
 use Rattle.std.proofs.lemmas.Bool.{both_ways}
-use Rattle.phase_api.specs.Told.{setup_of, events_of}
+use Rattle.phase_api.specs.FactsView.{setup_of, events_of}
 use Rattle.snapshot_node.proofs.Grown.{open_both}
 use Rattle.snapshot_node.proofs.marking.may_be_across.Goals as goal
 use Rattle.snapshot_node.proofs.marking.may_be_across.Goals.{then-not-is_closed_before, else-not-is_closed_before, then-not-is_closed_before-2, else-not-is_closed_before-2}

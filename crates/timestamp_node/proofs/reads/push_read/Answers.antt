@@ -1,8 +1,8 @@
 use Rattle.std.proofs.Common.{◌∙◌}
 use Rattle.teb_names.specs.Cells.{cell_cmp}
-use Rattle.key_piles.specs.Piles.{pile_in}
-use Rattle.key_piles.proofs.CellPiles.{pushed_cell}
+use Rattle.sorted_multimap.specs.Multimap.{values_in}
+use Rattle.sorted_multimap.proofs.CellValues.{pushed_cell}
 use Rattle.timestamp_node.proofs.reads.push_read.Goals as goal
 
-pub returns-clause-piles : goal.returns-clause-piles
-returns-clause-piles c x = c.push.ensures.piles x ∙ pushed_cell (pile_in cell_cmp c.args.reads.now) c.args.cell x (c.args.t, c.args.from)
+pub returns-clause-values : goal.returns-clause-values
+returns-clause-values c x = c.push.ensures.values x ∙ pushed_cell (values_in cell_cmp c.args.reads.now) c.args.cell x (c.args.t, c.args.from)

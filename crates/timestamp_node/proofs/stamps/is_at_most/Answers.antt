@@ -1,6 +1,6 @@
 use Rattle.std.proofs.Common.{◌∙◌, ◌||◌, ℕ, Bool, sym, ap, inl, inr}
 use Rattle.std.proofs.lemmas.Bool.{both_ways, or_left, or_right}
-use Rattle.phase_api.specs.Told.{setup_of, events_of}
+use Rattle.phase_api.specs.FactsView.{setup_of, events_of}
 use Rattle.teb_rules.specs.Versions.{precedes}
 use Rattle.version_chain.specs.Lists.{writers_of}
 use Rattle.timestamp_node.proofs.Said.{before_all, found_place, not_found, place_tells}

@@ -3,9 +3,9 @@ use Rattle.std.specs.List.{count_by}
 use Rattle.std.proofs.lemmas.Fn.{filter_same}
 use Rattle.teb_names.specs.declared.Txn.{Txn}
 use Rattle.teb_names.specs.Cells.{cell_cmp}
-use Rattle.key_piles.specs.Piles.{pile_in}
+use Rattle.sorted_multimap.specs.Multimap.{values_in}
 use Rattle.dependency_book.specs.declared.access.Access.{Access}
-use Rattle.key_piles.specs.LastMatches.{without_lasts}
+use Rattle.sorted_multimap.specs.LastMatches.{without_lasts}
 use Rattle.dependency_book.specs.Dependencies.{reads, puts}
 use Rattle.dependency_book.proofs.Noted.{noted_gone}
 use Rattle.dependency_book.proofs.registers.Registers.abort.Goals as goal
@@ -24,8 +24,8 @@ returns-clause-book c P cause was may =
     let t = c.args.t in
     let own = c.list-accesses.ensures in
     noted_gone _ _ P was t cause may
-    (λ y. c.forget_accesses.ensures.readers y ∙ ap (λ (l : List Access). without_lasts (count_by (reads y) l) (λ (r : Txn × Txn). eqb r.0.0 t.0) (pile_in cell_cmp c.args.self.now.readers y)) own)
-    (λ y. c.forget_accesses.ensures.writers y ∙ ap (λ (l : List Access). without_lasts (count_by (puts y) l) (λ (u : Txn). eqb u.0 t.0) (pile_in cell_cmp c.args.self.now.writers y)) own)
-    c.clear_txn-2.ensures.piles
+    (λ y. c.forget_accesses.ensures.readers y ∙ ap (λ (l : List Access). without_lasts (count_by (reads y) l) (λ (r : Txn × Txn). eqb r.0.0 t.0) (values_in cell_cmp c.args.self.now.readers y)) own)
+    (λ y. c.forget_accesses.ensures.writers y ∙ ap (λ (l : List Access). without_lasts (count_by (puts y) l) (λ (u : Txn). eqb u.0 t.0) (values_in cell_cmp c.args.self.now.writers y)) own)
+    c.clear_txn-2.ensures.values
     (filter_same _ (λ (u : Txn). not (eqb u.0 t.0)) _ (λ x b q called. search rules) _ _ c.retain.ensures.filtered)
-    c.clear_txn.ensures.piles
+    c.clear_txn.ensures.values

@@ -2,7 +2,7 @@ use Rattle.std.proofs.Common.{◌∷◌, subst, sym, inl, inr}
 use Rattle.teb_history.specs.declared.Event.{Event}
 use Rattle.dependency_book.specs.Dependencies.{MayFollow}
 use Rattle.dependency_book.specs.Books.{BookOf, lists_of}
-use Rattle.dependency_book.proofs.PileEdits.{less_rooms}
+use Rattle.dependency_book.proofs.MultimapEdits.{less_rooms}
 use Rattle.dependency_book.proofs.Noted.{noted_ready, noted_told}
 use Rattle.dependency_book.proofs.registers.Registers.note.Goals as goal
 

@@ -3,12 +3,12 @@ use Rattle.std.specs.List.{list_any}
 use Rattle.teb_names.specs.declared.Txn.{Txn}
 use Rattle.teb_names.specs.declared.Cell.{Cell}
 use Rattle.teb_names.specs.Cells.{cell_cmp, same_cell}
-use Rattle.key_piles.specs.Piles.{pile_in}
+use Rattle.sorted_multimap.specs.Multimap.{values_in}
 use Rattle.dependency_book.specs.declared.access.Access.{Access}
 use Rattle.dependency_book.specs.Dependencies.{puts}
-use Rattle.key_piles.specs.Keys.{txn_cmp}
-use Rattle.key_piles.proofs.CellPiles.{pushed_cell}
-use Rattle.dependency_book.proofs.PileEdits.{pushed_txn}
+use Rattle.sorted_multimap.specs.Keys.{txn_cmp}
+use Rattle.sorted_multimap.proofs.CellValues.{pushed_cell}
+use Rattle.dependency_book.proofs.MultimapEdits.{pushed_txn}
 use Rattle.dependency_book.proofs.Noted.{noted_put}
 use Rattle.dependency_book.proofs.registers.Registers.put.Goals as goal
 
@@ -28,7 +28,7 @@ pub returns-then-has_put-clause-book : goal.returns-then-has_put-clause-book
 returns-then-has_put-clause-book c P v was may =
     let t = c.args.t in
     let x = c.args.cell in
-    let is : true ≡ list_any (puts x) (pile_in txn_cmp c.args.self.now.accesses t) = sym c.if-has_put.true ∙ c.has_put.ensures ∙ ap (λ (l : List Access). list_any (puts x) l) c.list.ensures in
+    let is : true ≡ list_any (puts x) (values_in txn_cmp c.args.self.now.accesses t) = sym c.if-has_put.true ∙ c.has_put.ensures ∙ ap (λ (l : List Access). list_any (puts x) l) c.list.ensures in
     noted_put _ _ P was t x v may (λ y. refl)
     (λ y. kept _ (same_cell x y) _ _ is)
     (λ u. refl) refl
@@ -39,8 +39,8 @@ returns-clause-book c P v was may =
     let t = c.args.t in
     let x = c.args.cell in
     let access : Access = record { cell = x; wrote = true } in
-    let is : false ≡ list_any (puts x) (pile_in txn_cmp c.args.self.now.accesses t) = sym c.if-has_put.false ∙ c.has_put.ensures ∙ ap (λ (l : List Access). list_any (puts x) l) c.list.ensures in
+    let is : false ≡ list_any (puts x) (values_in txn_cmp c.args.self.now.accesses t) = sym c.if-has_put.false ∙ c.has_put.ensures ∙ ap (λ (l : List Access). list_any (puts x) l) c.list.ensures in
     noted_put _ _ P was t x v may (λ y. refl)
-    (λ y. c.push.ensures.piles y ∙ pushed_cell (λ (z : Cell). pile_in cell_cmp c.args.self.now.writers z) x y t ∙ added _ (same_cell x y) _ _ is)
+    (λ y. c.push.ensures.values y ∙ pushed_cell (λ (z : Cell). values_in cell_cmp c.args.self.now.writers z) x y t ∙ added _ (same_cell x y) _ _ is)
     (λ u. refl) refl
-    (λ u. c.push-2.ensures.piles u ∙ pushed_txn (λ (z : Txn). pile_in txn_cmp c.args.self.now.accesses z) t u access ∙ added _ (eqb t.0 u.0) _ _ is)
+    (λ u. c.push-2.ensures.values u ∙ pushed_txn (λ (z : Txn). values_in txn_cmp c.args.self.now.accesses z) t u access ∙ added _ (eqb t.0 u.0) _ _ is)

@@ -1,4 +1,4 @@
-use Rattle.fair_driver.proofs.Places.{counted_at, counted_over}
+use Rattle.fair_driver.proofs.Counts.{counted_at, counted_over}
 use Rattle.fair_driver.proofs.cursor.Cursor.aborts_after.Goals as goal
 
 pub returns-then-self : goal.returns-then-self

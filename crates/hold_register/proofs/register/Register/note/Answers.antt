@@ -1,5 +1,5 @@
 use Rattle.std.proofs.Common.{◌∙◌, sym, refl, inl, inr}
-use Rattle.phase_api.specs.Told.{setup_of, events_of}
+use Rattle.phase_api.specs.FactsView.{setup_of, events_of}
 use Rattle.hold_register.proofs.Noting.{orderly_now, accessor_begun, writer_begun, got_on, got_off, put_on, put_off, finished, began, readied, told, typed_now}
 use Rattle.hold_register.proofs.register.Register.note.Goals as goal
 

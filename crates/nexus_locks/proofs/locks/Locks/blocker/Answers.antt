@@ -2,7 +2,7 @@ use Rattle.std.proofs.Common.{◌≡◌, ◌∙◌, ◌||◌, ◌&&◌, Bool, Li
 use Rattle.teb_names.specs.declared.Node.{Node}
 use Rattle.teb_rules.specs.Tree.{meets}
 use Rattle.hold_book.specs.declared.Hold.{Hold}
-use Rattle.phase_api.specs.Told.{setup_of, events_of}
+use Rattle.phase_api.specs.FactsView.{setup_of, events_of}
 use Rattle.hold_register.proofs.Blockers.{in_the_way, holder, blocks_holds, blocks_held, register_finds, held_typed, find_here, find_end}
 use Rattle.nexus_locks.proofs.locks.Locks.blocker.Goals as goal
 use Rattle.nexus_locks.proofs.locks.Locks.blocker.Goals.{then-write, else-write}

@@ -1,5 +1,5 @@
 use Rattle.std.proofs.Common.{◌≡◌, drop, find}
-use Rattle.phase_api.specs.Told.{setup_of, events_of}
+use Rattle.phase_api.specs.FactsView.{setup_of, events_of}
 use Rattle.hold_register.proofs.Blockers.{in_the_way}
 use Rattle.nexus_locks.proofs.locks.Locks.blocker.Given as goal
 

@@ -1,5 +1,5 @@
 use Rattle.std.proofs.Common.{◌∙◌, ap, true}
-use Rattle.phase_api.specs.Told.{setup_of, events_of}
+use Rattle.phase_api.specs.FactsView.{setup_of, events_of}
 use Rattle.hold_register.specs.Waits.{wait_for_txn}
 use Rattle.nexus_locks.proofs.Said.{locks_access}
 use Rattle.nexus_locks.proofs.locks.LocksControl.before_write.Goals as goal

@@ -1,5 +1,5 @@
 use Rattle.std.proofs.Common.{◌∙◌}
-use Rattle.phase_api.specs.Told.{setup_of, events_of}
+use Rattle.phase_api.specs.FactsView.{setup_of, events_of}
 use Rattle.nexus_locks.proofs.Said.{locks_sees}
 use Rattle.nexus_locks.proofs.locks.LocksControl.sees.Goals as goal
 

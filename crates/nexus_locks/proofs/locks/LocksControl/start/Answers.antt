@@ -1,4 +1,4 @@
-use Rattle.phase_api.specs.Told.{setup_of, events_of}
+use Rattle.phase_api.specs.FactsView.{setup_of, events_of}
 use Rattle.nexus_locks.proofs.Said.{locks_start}
 use Rattle.nexus_locks.proofs.locks.LocksControl.start.Goals as goal
 

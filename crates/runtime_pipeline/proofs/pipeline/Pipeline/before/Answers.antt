@@ -1,5 +1,5 @@
 use Rattle.std.proofs.Common.{◌∙◌, Bool, [], cond, ap}
-use Rattle.phase_api.specs.Told.{setup_of, events_of}
+use Rattle.phase_api.specs.FactsView.{setup_of, events_of}
 use Rattle.runtime_pipeline.specs.Predecessors.{before_in}
 use Rattle.runtime_pipeline.proofs.pipeline.Pipeline.before.Goals as goal
 

@@ -1,7 +1,7 @@
 use Rattle.std.proofs.Common.{◌≡◌, ◌∙◌, ap, sym, ℕ, Some, ltb, find, lt-ltb, le-ltb}
 use Rattle.teb_history.specs.Phases.{txns}
 use Rattle.teb_rules.specs.Steps.{rank_of_table}
-use Rattle.phase_api.specs.Told.{setup_of, events_of}
+use Rattle.phase_api.specs.FactsView.{setup_of, events_of}
 use Rattle.hold_register.specs.Waits.{some_txn, wait_for_txn}
 use Rattle.runtime_pipeline.specs.Standing.{holds_up}
 use Rattle.runtime_pipeline.proofs.Said.{access_stays, access_enters, access_held}

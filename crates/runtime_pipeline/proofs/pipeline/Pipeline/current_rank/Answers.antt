@@ -3,7 +3,7 @@ use Rattle.teb_names.specs.declared.Kind.{Kind}
 use Rattle.teb_history.specs.Phases.{kind_of}
 use Rattle.teb_rules.specs.Setup.{profile}
 use Rattle.teb_rules.specs.Steps.{cursor, rank_of_step, rank_of_table}
-use Rattle.phase_api.specs.Told.{setup_of, events_of}
+use Rattle.phase_api.specs.FactsView.{setup_of, events_of}
 use Rattle.cursor_book.proofs.Moves.{cursor_at}
 use Rattle.runtime_pipeline.proofs.Said.{has_cursor}
 use Rattle.runtime_pipeline.proofs.Noting.{kind_is, profile_is}

@@ -1,6 +1,6 @@
 use Rattle.std.proofs.Common.{◌∙◌, ap, sym, not, List, find}
 use Rattle.teb_names.specs.declared.Txn.{Txn}
-use Rattle.phase_api.specs.Told.{setup_of, events_of}
+use Rattle.phase_api.specs.FactsView.{setup_of, events_of}
 use Rattle.hold_register.proofs.Blockers.{find_here, find_next, find_end}
 use Rattle.runtime_pipeline.specs.Standing.{passed_some}
 use Rattle.runtime_pipeline.proofs.Said.{first_up, ahead_typed}

@@ -3,7 +3,7 @@ use Rattle.teb_names.specs.declared.Node.{Node}
 use Rattle.teb_rules.specs.Tree.{meets}
 use Rattle.teb_rules.specs.Steps.{passed, rank_of_table}
 use Rattle.hold_book.specs.declared.Hold.{Hold}
-use Rattle.phase_api.specs.Told.{setup_of, events_of}
+use Rattle.phase_api.specs.FactsView.{setup_of, events_of}
 use Rattle.hold_register.specs.Waits.{some_txn}
 use Rattle.hold_register.proofs.Blockers.{holder, held_typed, find_here, find_end}
 use Rattle.teb_rules.specs.Controls.{blocks}

@@ -1,5 +1,5 @@
 use Rattle.std.proofs.Common.{◌≡◌, drop, find}
-use Rattle.phase_api.specs.Told.{setup_of, events_of}
+use Rattle.phase_api.specs.FactsView.{setup_of, events_of}
 use Rattle.runtime_pipeline.proofs.Said.{stops}
 use Rattle.runtime_pipeline.proofs.pipeline.Pipeline.first_holder.Given as goal
 

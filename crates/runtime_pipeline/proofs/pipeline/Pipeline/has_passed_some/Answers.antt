@@ -1,5 +1,5 @@
 use Rattle.std.proofs.Common.{◌∙◌, ap, sym}
-use Rattle.phase_api.specs.Told.{setup_of, events_of}
+use Rattle.phase_api.specs.FactsView.{setup_of, events_of}
 use Rattle.runtime_pipeline.specs.Standing.{passed_some}
 use Rattle.runtime_pipeline.proofs.pipeline.Pipeline.has_passed_some.Goals as goal
 

@@ -1,5 +1,5 @@
 use Rattle.std.proofs.Common.{◌∙◌, ap}
-use Rattle.phase_api.specs.Told.{setup_of, events_of}
+use Rattle.phase_api.specs.FactsView.{setup_of, events_of}
 use Rattle.hold_register.specs.Waits.{wait_for_txn}
 use Rattle.runtime_pipeline.proofs.Said.{pipeline_gate}
 use Rattle.runtime_pipeline.proofs.pipeline.PipelineControl.gate.Goals as goal

@@ -3,7 +3,7 @@ use Rattle.teb_names.specs.declared.Node.{Node}
 use Rattle.teb_names.specs.declared.Kind.{Kind}
 use Rattle.teb_history.specs.Phases.{kind_of}
 use Rattle.teb_rules.specs.Setup.{profile}
-use Rattle.phase_api.specs.Told.{setup_of, events_of}
+use Rattle.phase_api.specs.FactsView.{setup_of, events_of}
 use Rattle.cursor_book.specs.Cursors.{CursorsOf}
 use Rattle.runtime_pipeline.proofs.Noting.{began_cursors, accessor_cursor, accessor_begun, kind_there, accessed_cursors, left_cursors, kind_is, profile_is, stands_next}
 use Rattle.runtime_pipeline.proofs.pipeline.PipelineControl.note.Goals as goal

@@ -1,5 +1,5 @@
 use Rattle.std.proofs.Common.{◌∙◌, ltb}
-use Rattle.phase_api.specs.Told.{setup_of, events_of}
+use Rattle.phase_api.specs.FactsView.{setup_of, events_of}
 use Rattle.runtime_pipeline.proofs.Said.{pipeline_orders}
 use Rattle.runtime_pipeline.proofs.pipeline.PipelineControl.orders.Goals as goal
 

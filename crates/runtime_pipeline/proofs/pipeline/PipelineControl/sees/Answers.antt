@@ -1,6 +1,6 @@
 use Rattle.std.proofs.Common.{◌∙◌, ◌||◌, Bool, ap, sym}
 use Rattle.teb_rules.specs.Steps.{passed, rank_of_table}
-use Rattle.phase_api.specs.Told.{setup_of, events_of}
+use Rattle.phase_api.specs.FactsView.{setup_of, events_of}
 use Rattle.runtime_pipeline.proofs.Said.{pipeline_sees}
 use Rattle.runtime_pipeline.proofs.pipeline.PipelineControl.sees.Goals as goal
 

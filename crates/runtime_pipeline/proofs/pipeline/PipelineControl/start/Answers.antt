@@ -1,4 +1,4 @@
-use Rattle.phase_api.specs.Told.{setup_of, events_of}
+use Rattle.phase_api.specs.FactsView.{setup_of, events_of}
 use Rattle.runtime_pipeline.proofs.Said.{pipeline_start}
 use Rattle.runtime_pipeline.proofs.pipeline.PipelineControl.start.Goals as goal
 

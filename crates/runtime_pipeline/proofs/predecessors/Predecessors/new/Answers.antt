@@ -1,9 +1,9 @@
 use Rattle.std.proofs.Common.{List, ap}
 use Rattle.teb_names.specs.declared.Txn.{Txn}
-use Rattle.key_piles.specs.Piles.{pile}
-use Rattle.key_piles.specs.Keys.{txn_cmp}
+use Rattle.sorted_multimap.specs.Multimap.{values_of}
+use Rattle.sorted_multimap.specs.Keys.{txn_cmp}
 use Rattle.runtime_pipeline.proofs.Following.{noted_none}
 use Rattle.runtime_pipeline.proofs.predecessors.Predecessors.new.Goals as goal
 
 pub returns : goal.returns
-returns c S n = noted_none S n _ (λ t. ap (λ (es : List (Txn × Txn)). pile txn_cmp es t) c.narrow.ensures.entries) c.new.ensures.items
+returns c S n = noted_none S n _ (λ t. ap (λ (es : List (Txn × Txn)). values_of txn_cmp es t) c.narrow.ensures.entries) c.new.ensures.items

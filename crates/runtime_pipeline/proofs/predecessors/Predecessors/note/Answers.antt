@@ -1,6 +1,6 @@
 use Rattle.std.proofs.Common.{◌≤◌, ◌∙◌, ap, sym, subst, List, length, true, false, cond, eqb}
 use Rattle.teb_names.specs.declared.Node.{Node}
-use Rattle.phase_api.specs.Told.{setup_of, events_of}
+use Rattle.phase_api.specs.FactsView.{setup_of, events_of}
 use Rattle.hold_book.specs.declared.Hold.{Hold}
 use Rattle.hold_register.proofs.Noting.{accessor_begun, writer_begun, typed_now}
 use Rattle.hold_register.proofs.Blockers.{in_the_way, held_typed}

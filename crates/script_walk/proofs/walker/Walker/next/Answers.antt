@@ -1,5 +1,5 @@
 use Rattle.std.proofs.Common.{sym}
-use Rattle.script_walk.proofs.Places.{asks_line}
+use Rattle.script_walk.proofs.ScriptStates.{asks_line}
 use Rattle.script_walk.proofs.walker.Walker.next.Goals as goal
 
 pub returns-then-self-lines : goal.returns-then-self-lines

@@ -1,7 +1,7 @@
 use Rattle.std.proofs.Common.{drop, None, sym, ap, ◌∙◌}
 use Rattle.teb_rules.specs.Scripts.{Move, moved}
-use Rattle.script_walk.specs.Places.{requests_on, lines_from, place_at}
-use Rattle.script_walk.proofs.Places.{line_at, rest_at, stays, enters, leaves, returns_to, goes}
+use Rattle.script_walk.specs.ScriptStates.{requests_on, lines_from, state_at}
+use Rattle.script_walk.proofs.ScriptStates.{line_at, rest_at, stays, enters, leaves, returns_to, goes}
 use Rattle.script_walk.specs.Advances.{move_at}
 use Rattle.script_walk.proofs.walker.Walker.take.Goals as goal
 
@@ -39,7 +39,7 @@ returns-in-Return c =
     let L = requests_on lines in
     let b = lines_from L k.begun in
     let there = rest_at lines k.at (line_at lines k.at c.if-self-lines.false) c.if-self-lines.false in
-    ap (λ n. place_at L n None) c.unwrap_or-self.ensures ∙ sym (ap (λ (m : Move). moved (drop k.at L) b m) (sym c.advance_after.ensures ∙ ap move_at c.in-Return.is) ∙ returns_to L k.at _ _ k.begun there)
+    ap (λ n. state_at L n None) c.unwrap_or-self.ensures ∙ sym (ap (λ (m : Move). moved (drop k.at L) b m) (sym c.advance_after.ensures ∙ ap move_at c.in-Return.is) ∙ returns_to L k.at _ _ k.begun there)
 
 pub returns-in-Go : goal.returns-in-Go
 returns-in-Go c =

@@ -1,5 +1,5 @@
 use Rattle.std.proofs.Common.{ℕ, ap, unwrap_or, ◌∙◌}
-use Rattle.phase_api.specs.Told.{setup_of, events_of}
+use Rattle.phase_api.specs.FactsView.{setup_of, events_of}
 use Rattle.batch_book.proofs.Telling.{joined_from}
 use Rattle.serial_order.proofs.Places.{book_there, close_told}
 use Rattle.serial_order.proofs.booked.Booked.close_of.Goals as goal

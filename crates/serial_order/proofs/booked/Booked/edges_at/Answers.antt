@@ -2,7 +2,7 @@ use Rattle.std.proofs.Common.{sym, ap, ◌∙◌, ◌≡◌, ◌+◌, ◌<◌, �
 use Rattle.teb_history.specs.Phases.{begun_count, numbers}
 use Rattle.teb_rules.specs.Batches.{start}
 use Rattle.serial_order.specs.Edges.{AreMarked}
-use Rattle.phase_api.specs.Told.{setup_of, events_of}
+use Rattle.phase_api.specs.FactsView.{setup_of, events_of}
 use Rattle.serial_order.proofs.Typed.{committed_typed}
 use Rattle.serial_order.proofs.EdgesOut.{marks_none, marks_same, marks_more, marks_all, leads_here, leads_within}
 use Rattle.serial_order.proofs.booked.Booked.edges_at.Goals as goal

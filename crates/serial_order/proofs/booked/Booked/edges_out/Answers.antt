@@ -3,7 +3,7 @@ use Rattle.std.proofs.lemmas.Result.{IfOk-weaker}
 use Rattle.teb_history.specs.Phases.{txns}
 use Rattle.teb_rules.specs.Setup.{NodeRow}
 use Rattle.teb_laws.proofs.Sound.{tree_facts}
-use Rattle.phase_api.specs.Told.{setup_of, events_of}
+use Rattle.phase_api.specs.FactsView.{setup_of, events_of}
 use Rattle.serial_order.specs.Edges.{AreMarked, MarkEdges}
 use Rattle.serial_order.proofs.EdgesOut.{root_marks, no_marks}
 use Rattle.serial_order.proofs.booked.Booked.edges_out.Goals as goal

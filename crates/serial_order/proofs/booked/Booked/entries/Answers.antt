@@ -1,6 +1,6 @@
 use Rattle.std.proofs.Common.{◌≡◌, ◌<◌, ◌+◌, ◌++◌, List, drop, reverse, subst, length, refl, sym, arith}
 use Rattle.teb_history.specs.declared.Event.TheVariants.{Done}
-use Rattle.phase_api.specs.Told.{setup_of, events_of}
+use Rattle.phase_api.specs.FactsView.{setup_of, events_of}
 use Rattle.serial_order.specs.Commits.{commits_in}
 use Rattle.serial_order.specs.Keys.{entry_numbers, HaveKeys}
 use Rattle.serial_order.specs.declared.serial.Entry.{Entry}

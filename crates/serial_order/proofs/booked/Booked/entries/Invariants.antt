@@ -1,5 +1,5 @@
 use Rattle.std.proofs.Common.{◌≡◌, ◌++◌, drop, reverse}
-use Rattle.phase_api.specs.Told.{setup_of, events_of}
+use Rattle.phase_api.specs.FactsView.{setup_of, events_of}
 use Rattle.serial_order.specs.Commits.{commits_in}
 use Rattle.serial_order.specs.Keys.{entry_numbers, HaveKeys}
 use Rattle.serial_order.proofs.booked.Booked.entries.Given as goal

@@ -1,7 +1,7 @@
 use Rattle.std.proofs.Common.{List, sym, ap, ◌∙◌}
 use Rattle.std.specs.List.{list_any}
 use Rattle.teb_history.specs.declared.Event.{Event}
-use Rattle.phase_api.specs.Told.{setup_of, events_of}
+use Rattle.phase_api.specs.FactsView.{setup_of, events_of}
 use Rattle.teb_laws.proofs.Sound.{tree_facts}
 use Rattle.serial_order.specs.Edges.{gets_overwritten, IsReader}
 use Rattle.serial_order.proofs.AnyOf.{any_first, any_later}

@@ -1,6 +1,6 @@
 use Rattle.std.proofs.Common.{◌≡◌, ◌++◌, drop}
 use Rattle.teb_rules.specs.Ranks.{key}
-use Rattle.phase_api.specs.Told.{setup_of, events_of}
+use Rattle.phase_api.specs.FactsView.{setup_of, events_of}
 use Rattle.cc_tree.specs.Grown.{node_numbers}
 use Rattle.serial_order.specs.Keys.{key_along}
 use Rattle.serial_order.proofs.booked.Booked.key.Given as goal

@@ -1,4 +1,4 @@
-use Rattle.phase_api.specs.Told.{setup_of, events_of}
+use Rattle.phase_api.specs.FactsView.{setup_of, events_of}
 use Rattle.batch_book.proofs.Telling.{joined_from}
 use Rattle.serial_order.proofs.Places.{book_there}
 use Rattle.serial_order.proofs.booked.Booked.start_of.Goals as goal

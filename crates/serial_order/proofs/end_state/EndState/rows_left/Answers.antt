@@ -6,7 +6,7 @@ use Rattle.teb_names.specs.declared.Cell.{Cell}
 use Rattle.teb_names.specs.Cells.{cell_cmp}
 use Rattle.teb_rules.specs.Serializes.{final_table}
 use Rattle.teb_laws.proofs.Replay.{or_value}
-use Rattle.phase_api.specs.Told.{events_of}
+use Rattle.phase_api.specs.FactsView.{events_of}
 use Rattle.serial_order.specs.Tables.{store_with, left_in, left_in_rows, rows_in, IsFinalRows}
 use Rattle.serial_order.proofs.Left.{whole_left, tables_alike}
 use Rattle.serial_order.proofs.Values.{rows_value, rows_ascend}

@@ -1,5 +1,5 @@
 use Rattle.std.proofs.Common.{◌∙◌}
-use Rattle.phase_api.specs.Told.{setup_of, events_of}
+use Rattle.phase_api.specs.FactsView.{setup_of, events_of}
 use Rattle.candidate_reads.proofs.Sources.{last_within}
 use Rattle.serial_order.proofs.LastCommitted.{final_there, final_row}
 use Rattle.serial_order.proofs.end_state.EndState.value.Goals as goal

@@ -6,7 +6,7 @@ use Rattle.teb_history.specs.Ascending.{IsAscendingBy}
 use Rattle.teb_history.specs.Live.{number_of}
 use Rattle.teb_rules.specs.Tree.{meets}
 use Rattle.teb_rules.specs.Batches.{start, close}
-use Rattle.phase_api.specs.Told.{setup_of, events_of}
+use Rattle.phase_api.specs.FactsView.{setup_of, events_of}
 use Rattle.batch_book.proofs.Telling.{joined_from}
 use Rattle.hold_register.proofs.Blockers.{find_here, find_end}
 use Rattle.snapshot_node.proofs.Found.{comes_first, first_found}

@@ -1,5 +1,5 @@
 use Rattle.std.proofs.Common.{◌∙◌}
-use Rattle.phase_api.specs.Told.{setup_of, events_of}
+use Rattle.phase_api.specs.FactsView.{setup_of, events_of}
 use Rattle.snapshot_node.specs.Standing.{has_read_in}
 use Rattle.snapshot_node.proofs.Listed.{listed, reader_begun}
 use Rattle.snapshot_node.proofs.asked.Asked.readers.Goals as goal

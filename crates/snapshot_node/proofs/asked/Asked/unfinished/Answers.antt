@@ -1,6 +1,6 @@
 use Rattle.std.proofs.Common.{◌∙◌, false}
 use Rattle.teb_history.specs.Phases.{unfinished}
-use Rattle.phase_api.specs.Told.{setup_of, events_of}
+use Rattle.phase_api.specs.FactsView.{setup_of, events_of}
 use Rattle.snapshot_node.specs.Standing.{puts_in}
 use Rattle.snapshot_node.proofs.Listed.{listed, putter_begun}
 use Rattle.snapshot_node.proofs.asked.Asked.unfinished.Goals as goal

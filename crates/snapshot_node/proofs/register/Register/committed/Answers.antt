@@ -1,6 +1,6 @@
 use Rattle.std.proofs.Common.{◌∙◌, true}
 use Rattle.teb_history.specs.Phases.{committed}
-use Rattle.phase_api.specs.Told.{setup_of, events_of}
+use Rattle.phase_api.specs.FactsView.{setup_of, events_of}
 use Rattle.snapshot_node.specs.Standing.{puts_in}
 use Rattle.snapshot_node.proofs.Listed.{listed, putter_begun}
 use Rattle.snapshot_node.proofs.register.Register.committed.Goals as goal

@@ -1,6 +1,6 @@
 use Rattle.std.proofs.Common.{◌∙◌, ap}
 use Rattle.teb_rules.specs.Setup.{NodeRow}
-use Rattle.phase_api.specs.Told.{setup_of, events_of}
+use Rattle.phase_api.specs.FactsView.{setup_of, events_of}
 use Rattle.snapshot_node.proofs.Begins.{stands_none}
 use Rattle.snapshot_node.proofs.register.Register.new.Goals as goal
 

@@ -6,10 +6,10 @@ use Rattle.teb_history.specs.declared.Event.TheVariants.{Began, Got, Put, Done, 
 use Rattle.teb_history.specs.Phases.{begun}
 use Rattle.teb_history.specs.Accesses.{wrote, got}
 use Rattle.teb_rules.specs.Tree.{on, side}
-use Rattle.phase_api.specs.Told.{setup_of, events_of}
+use Rattle.phase_api.specs.FactsView.{setup_of, events_of}
 use Rattle.phase_api.specs.Calls.{MayNote}
 use Rattle.hold_register.proofs.Noting.{orderly_now, accessor_begun, writer_begun, typed_now}
-use Rattle.snapshot_node.specs.Readers.{reads_in_pile}
+use Rattle.snapshot_node.specs.Readers.{reads_in_values}
 use Rattle.snapshot_node.specs.Slots.{writes_in}
 use Rattle.snapshot_node.specs.Standing.{SnapshotStand}
 use Rattle.snapshot_node.proofs.Leaving.{on_slot, off_put}
@@ -199,7 +199,7 @@ returns-in-Gone-clause-stands c =
     let l : c.len-at.result - 1 ≡ length P = omega (arith, c.len-at.ensures, z) in
     let h : H ≡ Gone t c.in-Gone.cause ∷ P = c.requires.newest.is ∙ ap (λ (d : Event). d ∷ P) c.in-Gone.is in
     let m = subst (λ (d : Event). MayNote S P n d) c.in-Gone.is c.requires.newest.may in
-    subst (λ (G : List Event). ((x : Cell) (u : ℕ) → reads_in_pile k x u ≡ (reads_in_pile r x u && not (got G t.0 x && eqb t.0 u))) → ((x : Cell) (u : ℕ) → writes_in q x false u ≡ (writes_in p x false u && not (wrote G t.0 x && eqb t.0 u))) → SnapshotStand n b' k q S G) (sym h)
+    subst (λ (G : List Event). ((x : Cell) (u : ℕ) → reads_in_values k x u ≡ (reads_in_values r x u && not (got G t.0 x && eqb t.0 u))) → ((x : Cell) (u : ℕ) → writes_in q x false u ≡ (writes_in p x false u && not (wrote G t.0 x && eqb t.0 u))) → SnapshotStand n b' k q S G) (sym h)
     (λ g run. noted_gone S P n b r p c.requires.stands t b' q (c.len-at.result - 1) l c.finish-in-Gone.ensures.size c.abort.ensures.filed c.finish-in-Gone.ensures.batches c.in-Gone.cause k m c.forget_reads.ensures.filed g run c.abort.ensures.committed)
     c.forget_reads.ensures.readers c.abort.ensures.unfinished
 

@@ -1,4 +1,4 @@
-use Rattle.phase_api.specs.Told.{setup_of, events_of}
+use Rattle.phase_api.specs.FactsView.{setup_of, events_of}
 use Rattle.snapshot_node.proofs.Said.{snapshot_read}
 use Rattle.snapshot_node.proofs.snapshot.SnapshotControl.before_read.Goals as goal
 

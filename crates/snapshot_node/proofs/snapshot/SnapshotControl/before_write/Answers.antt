@@ -1,5 +1,5 @@
 use Rattle.std.proofs.Common.{◌∙◌, sym}
-use Rattle.phase_api.specs.Told.{setup_of, events_of}
+use Rattle.phase_api.specs.FactsView.{setup_of, events_of}
 use Rattle.snapshot_node.proofs.Said.{snapshot_first, snapshot_write}
 use Rattle.snapshot_node.proofs.snapshot.SnapshotControl.before_write.Goals as goal
 

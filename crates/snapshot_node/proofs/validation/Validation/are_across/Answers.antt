@@ -1,5 +1,5 @@
 use Rattle.std.proofs.Common.{◌∙◌}
-use Rattle.phase_api.specs.Told.{setup_of, events_of}
+use Rattle.phase_api.specs.FactsView.{setup_of, events_of}
 use Rattle.batch_book.proofs.Telling.{joined_from}
 use Rattle.snapshot_node.proofs.Edges.{across_overlap, begun_place}
 use Rattle.snapshot_node.proofs.validation.Validation.are_across.Goals as goal

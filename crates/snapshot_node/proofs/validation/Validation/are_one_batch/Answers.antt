@@ -1,7 +1,7 @@
 use Rattle.std.proofs.Common.{◌∙◌, eqb, sym}
 use Rattle.teb_rules.specs.Tree.{on}
 use Rattle.teb_rules.specs.Batches.{start}
-use Rattle.phase_api.specs.Told.{setup_of, events_of}
+use Rattle.phase_api.specs.FactsView.{setup_of, events_of}
 use Rattle.snapshot_node.proofs.Edges.{off_left, off_right, one_by_start, begun_place, started, unstarted}
 use Rattle.snapshot_node.proofs.validation.Validation.are_one_batch.Goals as goal
 

@@ -1,6 +1,6 @@
 use Rattle.std.proofs.Common.{sym, subst}
 use Rattle.batch_book.proofs.Numbered.{unfinished_parts}
-use Rattle.phase_api.specs.Told.{setup_of, events_of}
+use Rattle.phase_api.specs.FactsView.{setup_of, events_of}
 use Rattle.snapshot_node.specs.Pivots.{IsLeastEdge}
 use Rattle.snapshot_node.specs.Validating.{may_lead}
 use Rattle.snapshot_node.proofs.Known.{edge_with, edge_without}

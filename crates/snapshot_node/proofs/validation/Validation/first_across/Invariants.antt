@@ -1,4 +1,4 @@
-use Rattle.phase_api.specs.Told.{setup_of, events_of}
+use Rattle.phase_api.specs.FactsView.{setup_of, events_of}
 use Rattle.snapshot_node.specs.Pivots.{IsAcross}
 use Rattle.snapshot_node.proofs.FirstOf.{NoneBefore}
 use Rattle.snapshot_node.proofs.validation.Validation.first_across.Given as goal

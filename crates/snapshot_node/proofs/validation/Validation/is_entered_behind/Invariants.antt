@@ -1,6 +1,6 @@
 use Rattle.std.specs.Prelude.{IsTrue}
 use Rattle.teb_history.specs.OwnEvents.{own_events}
-use Rattle.phase_api.specs.Told.{events_of}
+use Rattle.phase_api.specs.FactsView.{events_of}
 use Rattle.snapshot_node.specs.Validating.{at, is_marked_entered}
 use Rattle.snapshot_node.proofs.CellEdges.{Behind}
 use Rattle.snapshot_node.proofs.Covers.{Covers}

@@ -9,7 +9,7 @@ use Rattle.teb_history.specs.OwnEvents.{own_events}
 use Rattle.teb_history.specs.Phases.{committed, unfinished}
 use Rattle.teb_laws.proofs.Sound.{tree_facts}
 use Rattle.batch_book.proofs.Numbered.{unfinished_parts}
-use Rattle.phase_api.specs.Told.{setup_of, events_of}
+use Rattle.phase_api.specs.FactsView.{setup_of, events_of}
 use Rattle.snapshot_node.specs.Pivots.{AreHere, IsAcross}
 use Rattle.snapshot_node.specs.Validating.{is_marked_left}
 use Rattle.snapshot_node.proofs.Listed.{writers_ascend, writers_here}

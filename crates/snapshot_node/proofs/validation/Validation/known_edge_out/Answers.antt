@@ -1,5 +1,5 @@
 use Rattle.std.proofs.Common.{◌≡◌, ◌∙◌, ◌+◌, None, sym, subst, arith}
-use Rattle.phase_api.specs.Told.{setup_of, events_of}
+use Rattle.phase_api.specs.FactsView.{setup_of, events_of}
 use Rattle.batch_book.proofs.Numbered.{begun_all}
 use Rattle.batch_book.proofs.Telling.{joined_from, joined_began}
 use Rattle.snapshot_node.specs.Pivots.{IsLeast, Leads}

@@ -1,4 +1,4 @@
-use Rattle.phase_api.specs.Told.{setup_of, events_of}
+use Rattle.phase_api.specs.FactsView.{setup_of, events_of}
 use Rattle.snapshot_node.specs.Validating.{may_lead}
 use Rattle.snapshot_node.proofs.Batchmates.{LeaveAbove}
 use Rattle.snapshot_node.proofs.validation.Validation.known_edge_out.Given as goal

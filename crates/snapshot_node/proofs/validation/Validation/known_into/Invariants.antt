@@ -1,4 +1,4 @@
-use Rattle.phase_api.specs.Told.{setup_of, events_of}
+use Rattle.phase_api.specs.FactsView.{setup_of, events_of}
 use Rattle.snapshot_node.specs.Pivots.{IsLeast}
 use Rattle.snapshot_node.specs.Validating.{may_be_led_to}
 use Rattle.snapshot_node.proofs.Batchmates.{ReachesBy}

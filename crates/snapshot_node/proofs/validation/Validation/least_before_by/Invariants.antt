@@ -1,5 +1,5 @@
 use Rattle.std.proofs.Common.{drop}
-use Rattle.phase_api.specs.Told.{setup_of, events_of}
+use Rattle.phase_api.specs.FactsView.{setup_of, events_of}
 use Rattle.snapshot_node.specs.Pivots.{ComesInBy}
 use Rattle.snapshot_node.proofs.Least.{Remains}
 use Rattle.snapshot_node.proofs.Comers.{ComesThrough, IsLast}

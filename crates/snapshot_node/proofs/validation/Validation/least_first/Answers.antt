@@ -1,6 +1,6 @@
 use Rattle.std.proofs.Common.{◌≡◌, ◌∙◌, ◌≤◌, ℕ, refl, sym, subst, le_refl}
 use Rattle.teb_laws.proofs.Sound.{tree_facts}
-use Rattle.phase_api.specs.Told.{setup_of, events_of}
+use Rattle.phase_api.specs.FactsView.{setup_of, events_of}
 use Rattle.snapshot_node.specs.Pivots.{IsLeast, Leads, IsLeft, Reaches, IsMiddle}
 use Rattle.snapshot_node.proofs.Middles.{least_some, least_none, is_left, not_left}
 use Rattle.snapshot_node.proofs.Comers.{WithFourth, WithThird, WithSecond, WithFirst, least_with, least_without, least_comer}

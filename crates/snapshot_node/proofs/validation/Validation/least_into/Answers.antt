@@ -1,6 +1,6 @@
 use Rattle.std.proofs.Common.{sym, subst}
 use Rattle.batch_book.proofs.Numbered.{unfinished_parts}
-use Rattle.phase_api.specs.Told.{setup_of, events_of}
+use Rattle.phase_api.specs.FactsView.{setup_of, events_of}
 use Rattle.snapshot_node.specs.Pivots.{IsLeast, Reaches}
 use Rattle.snapshot_node.specs.Validating.{may_be_led_to}
 use Rattle.snapshot_node.proofs.Known.{into_with, into_without}

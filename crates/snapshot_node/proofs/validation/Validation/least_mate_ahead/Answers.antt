@@ -4,7 +4,7 @@ use Rattle.teb_history.specs.declared.Event.TheVariants.{Got}
 use Rattle.teb_history.specs.OwnEvents.{own_events}
 use Rattle.teb_laws.proofs.Sound.{tree_facts}
 use Rattle.batch_book.proofs.Numbered.{unfinished_parts}
-use Rattle.phase_api.specs.Told.{setup_of, events_of}
+use Rattle.phase_api.specs.FactsView.{setup_of, events_of}
 use Rattle.snapshot_node.specs.Pivots.{EntersAt}
 use Rattle.snapshot_node.proofs.Least.{Remains, remains_start, remains_next, remains_skip, remains_end}
 use Rattle.snapshot_node.proofs.CellEdges.{Ahead, only_gots}

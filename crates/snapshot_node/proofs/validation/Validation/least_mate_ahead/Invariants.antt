@@ -1,4 +1,4 @@
-use Rattle.phase_api.specs.Told.{setup_of, events_of}
+use Rattle.phase_api.specs.FactsView.{setup_of, events_of}
 use Rattle.snapshot_node.specs.Pivots.{EntersAt}
 use Rattle.snapshot_node.proofs.Least.{Remains}
 use Rattle.snapshot_node.proofs.CellEdges.{Ahead}

@@ -5,7 +5,7 @@ use Rattle.teb_history.specs.declared.Event.TheVariants.{Put}
 use Rattle.teb_history.specs.OwnEvents.{own_events}
 use Rattle.teb_laws.proofs.Sound.{tree_facts}
 use Rattle.batch_book.proofs.Numbered.{unfinished_parts}
-use Rattle.phase_api.specs.Told.{setup_of, events_of}
+use Rattle.phase_api.specs.FactsView.{setup_of, events_of}
 use Rattle.teb_history.specs.Ascending.{IsAscendingBy}
 use Rattle.teb_history.specs.Live.{number_of}
 use Rattle.snapshot_node.specs.Pivots.{AreHere, IsLeast, IsMateAmong, Leaves}

@@ -4,7 +4,7 @@ use Rattle.teb_history.specs.Phases.{committed, unfinished}
 use Rattle.teb_history.specs.Ascending.{IsAscendingBy}
 use Rattle.teb_history.specs.Live.{number_of}
 use Rattle.batch_book.proofs.Numbered.{unfinished_parts}
-use Rattle.phase_api.specs.Told.{setup_of, events_of}
+use Rattle.phase_api.specs.FactsView.{setup_of, events_of}
 use Rattle.snapshot_node.specs.Pivots.{AreHere, IsAcross, PutsAcross, IsLeast}
 use Rattle.snapshot_node.proofs.Listed.{writers_ascend, writers_here}
 use Rattle.snapshot_node.proofs.CellEdges.{writers_across}

@@ -1,7 +1,7 @@
 use Rattle.std.proofs.Common.{◌≡◌, ◌∙◌, List, Some, None, sym, subst, ltb-true}
 use Rattle.teb_names.specs.declared.Txn.{Txn}
 use Rattle.teb_history.specs.Phases.{begun_count}
-use Rattle.phase_api.specs.Told.{setup_of, events_of}
+use Rattle.phase_api.specs.FactsView.{setup_of, events_of}
 use Rattle.timestamp_node.specs.Reads.{reads}
 use Rattle.timestamp_node.specs.Late.{is_after}
 use Rattle.timestamp_node.proofs.Here.{reader_begun, reader_typed, source_stands}

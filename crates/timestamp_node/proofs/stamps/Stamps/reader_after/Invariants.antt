@@ -1,5 +1,5 @@
 use Rattle.teb_history.specs.Phases.{begun_count}
-use Rattle.phase_api.specs.Told.{setup_of, events_of}
+use Rattle.phase_api.specs.FactsView.{setup_of, events_of}
 use Rattle.timestamp_node.specs.Reads.{reads}
 use Rattle.timestamp_node.specs.Late.{is_after}
 use Rattle.timestamp_node.proofs.Late.{IsWalked}

@@ -1,4 +1,4 @@
-use Rattle.phase_api.specs.Told.{setup_of, events_of}
+use Rattle.phase_api.specs.FactsView.{setup_of, events_of}
 use Rattle.timestamp_node.proofs.Said.{stamps_read}
 use Rattle.timestamp_node.proofs.stamps.StampsControl.before_read.Goals as goal
 

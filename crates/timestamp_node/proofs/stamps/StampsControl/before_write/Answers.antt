@@ -1,5 +1,5 @@
 use Rattle.std.proofs.Common.{◌∙◌, None, Some, sym}
-use Rattle.phase_api.specs.Told.{setup_of, events_of}
+use Rattle.phase_api.specs.FactsView.{setup_of, events_of}
 use Rattle.timestamp_node.proofs.Said.{stamps_write}
 use Rattle.timestamp_node.proofs.stamps.StampsControl.before_write.Goals as goal
 

@@ -1,7 +1,7 @@
 use Rattle.std.proofs.Common.{◌∙◌, ◌-◌, drop, sym, ap, subst, refl, inl, inr, eq-eqb}
 use Rattle.teb_history.specs.declared.Event.{Event}
 use Rattle.teb_history.specs.Phases.{is_began}
-use Rattle.phase_api.specs.Told.{setup_of, events_of}
+use Rattle.phase_api.specs.FactsView.{setup_of, events_of}
 use Rattle.phase_api.specs.Calls.{MayNote}
 use Rattle.hold_register.proofs.Noting.{typed_now}
 use Rattle.batch_book.proofs.Telling.{next_new}
@@ -79,7 +79,7 @@ returns-then-is_on-2-clause-stands c =
     let n = c.args.self.now.node.0 in
     let is = c.requires.newest.is in
     let may = c.requires.newest.may in
-    got_on S H n c.args.e is may c.args.self.now.ordered c.args.self.now.batches c.args.self.now.reads c.requires.stands c.in-Got.txn c.in-Got.cell c.in-Got.from c.in-Got.value c.in-Got.is (sym c.is_on-in-Got.ensures ∙ c.if-is_on-2.true) c.push_read.new.reads c.push_read.ensures.piles
+    got_on S H n c.args.e is may c.args.self.now.ordered c.args.self.now.batches c.args.self.now.reads c.requires.stands c.in-Got.txn c.in-Got.cell c.in-Got.from c.in-Got.value c.in-Got.is (sym c.is_on-in-Got.ensures ∙ c.if-is_on-2.true) c.push_read.new.reads c.push_read.ensures.values
 
 pub returns-else-is_on-2-clause-stands : goal.returns-else-is_on-2-clause-stands
 returns-else-is_on-2-clause-stands c =
@@ -117,7 +117,7 @@ returns-then-is_on-3-clause-stands c =
     let is = c.requires.newest.is in
     let may = c.requires.newest.may in
     gone_on S H n c.args.e is may c.args.self.now.ordered c.args.self.now.batches c.args.self.now.reads c.requires.stands c.in-Gone.txn c.in-Gone.cause c.in-Gone.is c.finish-in-Gone.new.self (c.len-at.result - 1)
-    (at_end S H n c.args.e is may (c.len-at.result - 1) c.len-at.result c.len-at.ensures refl) c.finish-in-Gone.ensures.size c.finish-in-Gone.ensures.batches c.forget_reads.new.reads c.forget_reads.ensures.piles
+    (at_end S H n c.args.e is may (c.len-at.result - 1) c.len-at.result c.len-at.ensures refl) c.finish-in-Gone.ensures.size c.finish-in-Gone.ensures.batches c.forget_reads.new.reads c.forget_reads.ensures.values
 
 pub returns-else-is_on-3-clause-stands : goal.returns-else-is_on-3-clause-stands
 returns-else-is_on-3-clause-stands c =

@@ -1,5 +1,5 @@
 use Rattle.std.proofs.Common.{◌∙◌, ltb}
-use Rattle.phase_api.specs.Told.{setup_of, events_of}
+use Rattle.phase_api.specs.FactsView.{setup_of, events_of}
 use Rattle.timestamp_node.proofs.Here.{left_here, right_here}
 use Rattle.timestamp_node.proofs.Said.{stamps_orders}
 use Rattle.timestamp_node.proofs.stamps.StampsControl.orders.Goals as goal

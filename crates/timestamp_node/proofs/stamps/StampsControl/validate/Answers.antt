@@ -1,4 +1,4 @@
-use Rattle.phase_api.specs.Told.{setup_of, events_of}
+use Rattle.phase_api.specs.FactsView.{setup_of, events_of}
 use Rattle.timestamp_node.proofs.Said.{stamps_validate}
 use Rattle.timestamp_node.proofs.stamps.StampsControl.validate.Goals as goal
 

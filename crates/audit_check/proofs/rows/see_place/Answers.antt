@@ -1,7 +1,0 @@
-use Rattle.std.proofs.Common.{refl}
-use Rattle.audit_check.specs.contracts.line.PlacePartialEq.TheImpl.{eq-value}
-use Rattle.audit_check.proofs.Cells.{has_places}
-use Rattle.audit_check.proofs.rows.see_place.Goals as goal
-
-pub returns : goal.returns
-returns c = rw (← (has_places eq-value.it (λ p q. refl) c.args.seen.now.keys c.args.place)) c.in_ok-insert.ensures.keys

@@ -1,0 +1,92 @@
+-- What is kept of the history, before and after one more event.
+use Rattle.std.proofs.Common.{◌≡◌, ℕ, zero, suc, ◌≤◌, true, List, [], ◌∷◌, length, slice_get, Some, Option, ℤ, refl, sym, subst, arith, IsTrue}
+use Rattle.teb_names.specs.declared.Cell.{Cell}
+use Rattle.teb_names.specs.declared.Txn.{Txn}
+use Rattle.teb_history.specs.declared.Event.{Event}
+use Rattle.teb_history.specs.declared.Event.TheVariants.{Began, Got, Put, Ready, Done, Gone, Told}
+use Rattle.teb_history.specs.Written.{Written}
+use Rattle.teb_history.specs.Phases.{begun_count}
+use Rattle.teb_rules.specs.Setup.{Setup, Store}
+use Rattle.teb_laws.specs.Lawful.{Granted, Lawful, Settled, MayAccess}
+use Rattle.teb_laws.proofs.Answers.{lawful_cons}
+use Rattle.version_chain.specs.Lists.{Version, writers_of, is_writer}
+use Rattle.phase_api.specs.Standing.{StandAll}
+use Rattle.phase_api.specs.Versions.{HoldsVersions, IsPlaceOf}
+use Rattle.dependency_book.specs.Books.{Lists, Shown, BookOf}
+use Rattle.cursor_book.specs.Cursors.{Kept, CursorsOf}
+use Rattle.engine_core.specs.declared.engine_state.EngineState.{EngineState}
+use Rattle.engine_core.specs.declared.engine_view.EngineView.{EngineView}
+use Rattle.engine_core.specs.Stores.{store_of}
+use Rattle.engine_core.specs.Wholes.{IsWhole, StateIsWhole, ViewIsWhole, store_in, events_in}
+use Rattle.engine_core.specs.Keeping.{HasPlace, PutsAt}
+use Rattle.engine_core.specs.Decisions.{MayBegin}
+
+-- the view of a whole state is whole
+module _ {K C : Type 0} (node_number : K → ℕ) (stands : K → Setup → List Event → Type 0) (lists : C → Cell → List Version) (k : EngineState K C) (p : EngineView K C)
+    (x : store_in p ≡ store_of k.setup) (h : p.facts.history.now ≡ k.history) (l : p.chains.now ≡ k.chains) where
+  pub view_whole : p.controls.now ≡ k.controls.items → p.book.now ≡ k.book → p.cursors.now ≡ k.cursors → StateIsWhole node_number stands lists k → Settled k.history.events → ViewIsWhole node_number stands lists p
+  view_whole c b s w t = record {
+    whole =
+        subst (λ (Y : Store). IsWhole node_number stands Y (events_in p) p.controls.now (lists p.chains.now) p.book.now.lists p.cursors.now.cursors) (sym x)
+        (subst (λ (H : Written). IsWhole node_number stands (store_of k.setup) H.events p.controls.now (lists p.chains.now) p.book.now.lists p.cursors.now.cursors) (sym h)
+        (subst (λ (cs : List K). IsWhole node_number stands (store_of k.setup) k.history.events cs (lists p.chains.now) p.book.now.lists p.cursors.now.cursors) (sym c)
+        (subst (λ (ch : C). IsWhole node_number stands (store_of k.setup) k.history.events k.controls.items (lists ch) p.book.now.lists p.cursors.now.cursors) (sym l)
+        (subst (λ (d : Shown). IsWhole node_number stands (store_of k.setup) k.history.events k.controls.items (lists k.chains) d.lists p.cursors.now.cursors) (sym b)
+        (subst (λ (d : Kept). IsWhole node_number stands (store_of k.setup) k.history.events k.controls.items (lists k.chains) k.book.lists d.cursors) (sym s) w)))));
+    settled = subst (λ (H : Written). Settled H.events) (sym h) t;
+  }
+
+  -- the place that the view tells for a Put
+  pub put_place : (e : Event) (t : Txn) (y : Cell) (v : Option ℤ) (at : ℕ) → e ≡ Put t y v → IsPlaceOf (store_in p).setup (events_in p) y t.0 at (writers_of (lists p.chains.now y)) →
+      (IsTrue (is_writer (lists p.chains.now y) t.0) → slice_get (writers_of (lists p.chains.now y)) at ≡ Some t.0) → HasPlace (lists k.chains) e at × PutsAt (store_of k.setup).setup k.history.events (lists k.chains) e at
+  put_place e t y v at q i o =
+      let to = λ (X : Store) (H : Written) (ch : C) (d : Event). HasPlace (lists ch) d at × PutsAt X.setup H.events (lists ch) d at in
+      subst (λ (X : Store). to X k.history k.chains e) x
+      (subst (λ (H : Written). to (store_in p) H k.chains e) h
+      (subst (λ (ch : C). to (store_in p) p.facts.history.now ch e) l
+      (subst (λ (d : Event). to (store_in p) p.facts.history.now p.chains.now d) (sym q)
+      ((within_chain (lists p.chains.now y) at i.within, o), i))))
+    where
+      within_chain : (vs : List Version) (i : ℕ) → i ≤ length (writers_of vs) → i ≤ length vs
+      within_chain [] i b = b
+      within_chain (w ∷ vs) zero b = omega arith
+      within_chain (w ∷ vs) (suc i) b = let r = within_chain vs i (let z : suc i ≤ suc (length (writers_of vs)) = b in omega arith) in omega arith
+
+pub no_place : (S : Setup) (P : List Event) (L : Cell → List Version) (e : Event) (at : ℕ) → ((t : Txn) (y : Cell) (v : Option ℤ) → e ≡ Put t y v → ⊥) → HasPlace L e at × PutsAt S P L e at
+no_place S P L (Put t y v) at f = absurd (f t y v refl)
+no_place S P L (Began t s k i) at f = (tt, tt)
+no_place S P L (Got t y w v) at f = (tt, tt)
+no_place S P L (Ready t) at f = (tt, tt)
+no_place S P L (Done t) at f = (tt, tt)
+no_place S P L (Gone t c) at f = (tt, tt)
+no_place S P L (Told t) at f = (tt, tt)
+
+-- who puts may access
+pub put_granted : (S : Setup) (P : List Event) (e : Event) (t : Txn) (y : Cell) (v : Option ℤ) → e ≡ Put t y v → Granted S P e → MayAccess S P t.0 y true
+put_granted S P e t y v q g = let to = λ (d : Event). Granted S P d in subst to q g
+
+-- no more than 8,192 begin
+begun_after : (S : Setup) (P : List Event) (e : Event) → begun_count P ≤ 8192 → MayBegin S P e → begun_count (e ∷ P) ≤ 8192
+unfolding begun_count
+begun_after S P (Began t s k i) h b = b.0
+begun_after S P (Got t y w v) h b = h
+begun_after S P (Put t y v) h b = h
+begun_after S P (Ready t) h b = h
+begun_after S P (Done t) h b = h
+begun_after S P (Gone t c) h b = h
+begun_after S P (Told t) h b = h
+
+-- all is whole after an event that the rules grant, once all that is kept of the history keeps up
+pub whole_after : {K : Type 0} (node_number : K → ℕ) (stands : K → Setup → List Event → Type 0) (X : Store) (H G : List Event) (e : Event) (cs ds : List K) (L M : Cell → List Version) (b d : Lists) (steps more : List ℕ) →
+    IsWhole node_number stands X H cs L b steps → Granted X.setup H e → MayBegin X.setup H e → G ≡ e ∷ H → StandAll node_number stands ds X.setup G → HoldsVersions X.setup (e ∷ H) M → BookOf d (e ∷ H) → CursorsOf more X.setup G → IsWhole node_number stands X G ds M d more
+whole_after node_number stands X H G e cs ds L M b d steps more w g m q sa hv bo cu = record {
+  sound = w.sound;
+  profiled = w.profiled;
+  nodes = w.nodes;
+  lawful = subst (Lawful X.setup) (sym q) (lawful_cons X.setup e H g w.lawful);
+  few = subst (λ (P : List Event). begun_count P ≤ 8192) (sym q) (begun_after X.setup H e w.few m);
+  controls = sa;
+  versions = subst (λ (P : List Event). HoldsVersions X.setup P M) (sym q) hv;
+  book = subst (BookOf d) (sym q) bo;
+  cursors = cu;
+}

@@ -1,0 +1,39 @@
+use Rattle.std.proofs.Common.{sym, ap, subst, List, drop, arith}
+use Rattle.teb_history.specs.declared.Event.{Event}
+use Rattle.teb_laws.specs.Lawful.{Lawful}
+use Rattle.teb_laws.proofs.Answers.{lawful_cons}
+use Rattle.teb_laws.proofs.Sound.{tree_facts}
+use Rattle.phase_api.specs.Calls.{MayNote}
+use Rattle.dependency_book.proofs.LawfulHistories.{granted_follows}
+use Rattle.engine_core.specs.Stores.{store_of}
+use Rattle.engine_core.proofs.Noting.{granted_noted}
+use Rattle.engine_core.proofs.Appending.{whole_after}
+use Rattle.engine_core.proofs.append_event.append_event.Goals as goal
+
+pub note_each-requires-clause-may : goal.note_each-requires-clause-may
+note_each-requires-clause-may g c = λ n.
+    subst (λ (P : List Event). MayNote (store_of c.args.state.now.setup).setup P n c.args.event) (sym (ap (drop 1) c.push.ensures.events))
+    (granted_noted (store_of c.args.state.now.setup).setup c.args.state.now.history.events c.args.event c.requires.granted c.requires.begins n)
+
+pub move_cursors-requires-clause-lawful : goal.move_cursors-requires-clause-lawful
+move_cursors-requires-clause-lawful g c =
+    subst (Lawful (store_of c.args.state.now.setup).setup) (sym c.push.ensures.events)
+    (lawful_cons (store_of c.args.state.now.setup).setup c.args.event c.args.state.now.history.events c.requires.granted c.requires.whole.lawful)
+
+pub returns-clause-whole : goal.returns-clause-whole
+returns-clause-whole g c =
+    let S = (store_of c.args.state.now.setup).setup in
+    let H = c.args.state.now.history.events in
+    whole_after g.K.Control.node_number g.K.Control.stands (store_of c.args.state.now.setup) H c.push.new.self.events c.args.event c.args.state.now.controls.items c.note_each.new.controls.items
+    (g.C.Chains.lists c.args.state.now.chains) (g.C.Chains.lists c.keep_versions.new.chains) c.args.state.now.book.lists c.note.new.self.lists c.args.state.now.cursors.cursors c.move_cursors.new.cursors.cursors
+    c.requires.whole c.requires.granted c.requires.begins c.push.ensures.events c.note_each.ensures.stand
+    (c.keep_versions.ensures S H (tree_facts S c.requires.whole.sound) (lawful_cons S c.args.event H c.requires.granted c.requires.whole.lawful) c.requires.whole.versions c.place_for-at.ensures.order)
+    (c.note.ensures.book H c.requires.whole.book (granted_follows S H c.args.event c.requires.granted))
+    c.move_cursors.ensures
+
+pub returns-clause-room : goal.returns-clause-room
+returns-clause-room g c = λ k r. record {
+  history = (let a = r.history in let b = c.push.ensures.spare in omega arith);
+  controls = c.note_each.ensures.room k r.controls;
+  book = (let a = r.book in let b = c.note.ensures.spare in omega arith);
+}

@@ -1,0 +1,30 @@
+use Rattle.std.proofs.Common.{◌≡◌, ◌≤◌, ◌<◌, ℕ, List, [], get_or, arith, ap, ap₂, ◌∙◌, is_some, length}
+use Rattle.std.proofs.lemmas.List.{get_or_default}
+use Rattle.teb_names.specs.declared.Spot.{Spot}
+use Rattle.teb_rules.specs.Setup.{profile}
+use Rattle.phase_api.specs.FactsView.{setup_of, events_of}
+use Rattle.teb_history.specs.Phases.{begun_count, kind_of}
+use Rattle.teb_rules.specs.Steps.{least_step, cursor}
+use Rattle.cursor_book.proofs.Moves.{length-cursors, cursor_at}
+use Rattle.engine_core.proofs.Running.{unfinished_numbered}
+use Rattle.engine_core.proofs.engine_view.EngineView.has_step.Goals as goal
+
+pub cursor-requires-clause-above : goal.cursor-requires-clause-above
+cursor-requires-clause-above g c = (unfinished_numbered (setup_of c.args.self.now.facts) (events_of c.args.self.now.facts) c.args.t.0 c.requires.whole.whole.lawful c.requires.unfinished).0
+
+pub cursor-requires-clause-begun : goal.cursor-requires-clause-begun
+cursor-requires-clause-begun g c =
+    let e : length c.args.self.now.cursors.now.cursors ≡ begun_count (events_of c.args.self.now.facts) = length-cursors _ (setup_of c.args.self.now.facts) _ c.requires.whole.whole.cursors in
+    let b : c.args.t.0 ≤ begun_count (events_of c.args.self.now.facts) = (unfinished_numbered (setup_of c.args.self.now.facts) (events_of c.args.self.now.facts) c.args.t.0 c.requires.whole.whole.lawful c.requires.unfinished).1 in
+    omega arith
+
+pub returns : goal.returns
+returns g c =
+    let S = setup_of c.args.self.now.facts in
+    let H = events_of c.args.self.now.facts in
+    let n = unfinished_numbered S H c.args.t.0 c.requires.whole.whole.lawful c.requires.unfinished in
+    let k : c.from.result ≡ kind_of H c.args.t.0 = c.from.ensures ∙ ap (λ (s : Spot). s.kind.0) c.spot_of-spot.ensures.spot in
+    let b : c.from.result < length c.args.self.now.facts.profiles.now = omega (arith, c.spot_of-spot.ensures.kind, c.from.ensures, c.requires.whole.whole.profiled) in
+    let q : get_or c.args.self.now.facts.profiles.now c.from.result c.index-self-from.result ≡ profile S (kind_of H c.args.t.0) = get_or_default _ c.from.result _ [] b ∙ ap (profile S) k in
+    let m : c.cursor.result ≡ cursor S H c.args.t.0 = c.cursor.ensures ∙ cursor_at _ S H c.args.t.0 c.requires.whole.whole.cursors n.0 n.1 in
+    c.is_some.ensures ∙ ap is_some (c.cursor_after.ensures ∙ ap₂ (λ (steps : List (List ℕ)) (at : ℕ). least_step steps at c.args.table.0) q m)

@@ -1,0 +1,39 @@
+-- What contracts see of an engine, and what holds of each.
+use Rattle.std.specs.Prelude.{◌≡◌, ℕ, Bool, true, List}
+use Rattle.teb_names.specs.declared.Cell.{Cell}
+use Rattle.teb_names.specs.declared.Session.{Session}
+use Rattle.teb_names.specs.declared.Request.{Request}
+use Rattle.teb_names.specs.declared.naming.NameBook.{NameBook}
+use Rattle.teb_history.specs.declared.Event.{Event}
+use Rattle.teb_rules.specs.Setup.{Setup, Store}
+use Rattle.teb_rules.specs.Accepted.{IsSound}
+use Rattle.teb_laws.specs.Laws.{reached}
+use Rattle.version_chain.specs.Lists.{Version}
+use Rattle.tree_toml.specs.Seen.{setup_view}
+use Rattle.tree_toml.specs.Sound as SetUp
+use Rattle.engine_core.specs.declared.engine_state.EngineState.{EngineState}
+use Rattle.engine_core.specs.Stores.{store_of}
+use Rattle.engine_core.specs.Wholes.{StateIsWhole, HasRoom}
+
+-- the store, its names, its history, the newest event first, and whether there is room for the events of one answer
+pub record EngineModel : Type 0 where
+  pub store : Store
+  pub names : NameBook
+  pub events : List Event
+  pub ready : Bool
+
+-- some list of requests leads to this history of the store
+abbrev pub IsReached : Store → List Event → Type 0
+IsReached X H = (asked : List (Session × Request)) × (H ≡ reached X asked)
+
+-- what holds of the value of each engine: its setup is sound, and its history is one that requests lead to
+pub record IsOfEngine (e : EngineModel) : Type 0 where
+  pub sound : IsSound e.store.setup
+  pub reached : IsReached e.store e.events
+
+-- the setup is one that a store can be set up with, the state is whole, its history is one that requests lead to, and where it is ready there is room
+pub record IsEngine {K C : Type 0} (node_number : K → ℕ) (stands : K → Setup → List Event → Type 0) (spare : K → ℕ) (lists : C → Cell → List Version) (chain_spare : C → ℕ) (k : EngineState K C) (ready : Bool) : Type 0 where
+  pub setup : SetUp.IsWhole (setup_view k.setup)
+  pub whole : StateIsWhole node_number stands lists k
+  pub reached : IsReached (store_of k.setup) k.history.events
+  pub room : ready ≡ true → HasRoom spare chain_spare k

@@ -1,0 +1,103 @@
+//! What an engine keeps: `Engine` holds it in a box, `EngineView` lends it.
+
+ghost use Rattle.std.specs.Prelude.{◌≡◌, IsTrue};
+ghost use Rattle.teb_history.specs.Phases.{unfinished};
+ghost use Rattle.teb_rules.specs.Answer.{answer};
+ghost use Rattle.teb_rules.specs.Versions.{read};
+ghost use Rattle.teb_laws.specs.Lawful.{Granted, Settled};
+ghost use Rattle.phase_api.specs.FactsView.{setup_of};
+ghost use Rattle.engine_core.specs.Stores.{store_of};
+ghost use Rattle.engine_core.specs.Decisions.{carried, IsBounded};
+ghost use Rattle.engine_core.specs.Keeping.{HasPlace, PutsAt};
+
+use crate::decide::decide;
+use crate::decision::Decision;
+use crate::engine_view::EngineView;
+use cursor_book::Cursors;
+use dependency_book::Book;
+use phase_api::{Control, Facts};
+use teb_history::{Event, History};
+use teb_names::{Cell, Request, Session, Txn};
+use tree_toml::Setup;
+use version_chain::Chains;
+
+/// A store with its history, and what is kept of the history: a control for each node, the versions, who read from whom,
+/// and where each transaction stands in its profile.
+#[derive(Drop)]
+pub struct EngineState<K: Control, C: Chains> {
+    pub setup: Setup,
+    pub history: History,
+    pub controls: Vec<K>,
+    pub chains: C,
+    pub book: Book,
+    pub cursors: Cursors,
+}
+
+impl<K: Control, C: Chains> EngineState<K, C> {
+    ghost use Rattle.engine_core.specs.Wholes.{store_in, StateIsWhole};
+
+    /// All of it, lent to be read.
+    pub fn view(&self) -> EngineView<'_, K, C>
+        ensures store { store_in result ≡ store_of self.now.setup }
+        ensures history { result.facts.history.now ≡ self.now.history }
+        ensures controls { result.controls.now ≡ self.now.controls.items }
+        ensures chains { result.chains.now ≡ self.now.chains }
+        ensures book { result.book.now ≡ self.now.book }
+        ensures cursors { result.cursors.now ≡ self.now.cursors }
+    {
+        EngineView {
+            facts: facts_of(&self.history, &self.setup),
+            controls: &self.controls,
+            chains: &self.chains,
+            book: &self.book,
+            cursors: &self.cursors,
+            rows: &self.setup.rows,
+            tables: self.setup.names.tables.len(),
+        }
+    }
+    /// What a request of a session is answered.
+    pub fn decide(&self, session: Session, request: Request) -> Decision
+        requires whole { StateIsWhole K.node_number K.stands C.lists self.now }
+        requires settled { Settled self.now.history.events }
+        ensures answer { carried (store_of self.now.setup) self.now.history.events result ≡ answer (store_of self.now.setup) self.now.history.events session request }
+        ensures bounded { IsBounded (store_of self.now.setup).setup self.now.history.events result }
+    {
+        decide(&self.view(), session, request)
+    }
+
+    /// What an unfinished transaction reads of a cell: from whom, and the value.
+    pub fn read(&self, t: Txn, cell: Cell) -> (Txn, Option<i64>)
+        requires whole { StateIsWhole K.node_number K.stands C.lists self.now }
+        requires settled { Settled self.now.history.events }
+        requires unfinished { IsTrue (unfinished self.now.history.events t.0) }
+        ensures source { result.0.0 ≡ (read (store_of self.now.setup).setup (store_of self.now.setup).rows self.now.history.events t.0 cell).0 }
+        ensures value { result.1 ≡ (read (store_of self.now.setup).setup (store_of self.now.setup).rows self.now.history.events t.0 cell).1 }
+    {
+        self.view().read(t, cell)
+    }
+
+    /// The place of a Put in the chain of its cell, and 0 for any other event.
+    pub fn place_for(&self, event: Event) -> usize
+        requires whole { StateIsWhole K.node_number K.stands C.lists self.now }
+        requires granted { Granted (store_of self.now.setup).setup self.now.history.events event }
+        ensures place { HasPlace (C.lists self.now.chains) event result }
+        ensures order { PutsAt (store_of self.now.setup).setup self.now.history.events (C.lists self.now.chains) event result }
+    {
+        match event {
+            Event::Put { txn, cell, .. } => self.view().place_of(txn, cell),
+            _ => 0,
+        }
+    }
+}
+
+/// What controls are told.
+pub fn facts_of<'a>(history: &'a History, setup: &'a Setup) -> Facts<'a>
+    ensures setup { setup_of result ≡ (store_of setup.now).setup }
+    ensures history { result.history.now ≡ history.now }
+{
+    Facts {
+        history,
+        tree: &setup.tree,
+        profiles: &setup.profiles,
+    }
+}

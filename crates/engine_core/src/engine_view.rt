@@ -1,0 +1,113 @@
+//! What a decision looks at: what an engine keeps, lent. Of it controls are told the `Facts`.
+
+ghost use Rattle.std.specs.Prelude.{◌≡◌, ◌<◌, ltb, length, IsTrue, is_some, slice_get, Some};
+ghost use Rattle.teb_rules.specs.Versions.{read};
+ghost use Rattle.version_chain.specs.Lists.{writers_of, is_writer};
+ghost use Rattle.phase_api.specs.Versions.{IsPlaceOf};
+ghost use Rattle.teb_history.specs.Phases.{unfinished, kind_of, spot_of};
+ghost use Rattle.teb_rules.specs.Tree.{path};
+ghost use Rattle.cc_tree.specs.Grown.{node_numbers};
+ghost use Rattle.teb_rules.specs.Setup.{profile};
+ghost use Rattle.teb_rules.specs.Steps.{least_step, cursor};
+
+use candidate_reads::{place_of, read};
+use cursor_book::Cursors;
+use dependency_book::Book;
+use phase_api::{Control, Facts};
+use teb_names::{Cell, Kind, Node, Rows, Spot, Table, Txn};
+use version_chain::Chains;
+
+/// What an engine keeps (`EngineState`), lent to be read.
+#[derive(Drop)]
+pub struct EngineView<'a, K: Control, C: Chains> {
+    pub facts: Facts<'a>,
+    pub controls: &'a [K],
+    pub chains: &'a C,
+    pub book: &'a Book,
+    pub cursors: &'a Cursors,
+    pub rows: &'a Rows,
+    pub tables: u8,
+}
+
+impl<'a, K: Control, C: Chains> EngineView<'a, K, C> {
+    ghost use Rattle.engine_core.specs.Wholes.{store_in, events_in, ViewIsWhole};
+
+    /// Whether the store has a table.
+    pub fn has_table(&self, table: Table) -> bool
+        ensures { result ≡ ltb table.0 (store_in self.now).tables }
+    {
+        table.0 < self.tables
+    }
+
+    /// Whether the store has a type.
+    pub fn has_type(&self, kind: Kind) -> bool
+        ensures { result ≡ ltb kind.0 (store_in self.now).setup.types }
+    {
+        kind.0 < self.facts.tree.types()
+    }
+
+    /// Whether the profile of a transaction has a step on a table, from where the transaction stands.
+    pub fn has_step(&self, t: Txn, table: Table) -> bool
+        requires whole { ViewIsWhole K.node_number K.stands C.lists self.now }
+        requires unfinished { IsTrue (unfinished (events_in self.now) t.0) }
+        ensures { result ≡ is_some (least_step (profile (store_in self.now).setup (kind_of (events_in self.now) t.0)) (cursor (store_in self.now).setup (events_in self.now) t.0) table.0) }
+    {
+        let spot = self.spot_of(t);
+        let profile = &self.facts.profiles[usize::from(spot.kind.0)];
+        profile
+            .cursor_after(self.cursors.cursor(t), table)
+            .is_some()
+    }
+
+    /// The type and the instance of an unfinished transaction.
+    pub fn spot_of(&self, t: Txn) -> Spot
+        requires whole { ViewIsWhole K.node_number K.stands C.lists self.now }
+        requires unfinished { IsTrue (unfinished (events_in self.now) t.0) }
+        ensures spot { result ≡ spot_of (events_in self.now) t.0 }
+        ensures kind { result.kind.0 < (store_in self.now).setup.types }
+    {
+        let Some(spot) = self.facts.spot(t) else {
+            unreachable!()
+        };
+        spot
+    }
+
+    /// The nodes on the path of an unfinished transaction, from the root to its leaf.
+    pub fn path_of(&self, t: Txn) -> &'a [Node]
+        requires whole { ViewIsWhole K.node_number K.stands C.lists self.now }
+        requires unfinished { IsTrue (unfinished (events_in self.now) t.0) }
+        ensures { node_numbers result.now ≡ path (store_in self.now).setup.tree (spot_of (events_in self.now) t.0) }
+    {
+        self.facts.tree.path(self.spot_of(t))
+    }
+
+    /// The control of a node.
+    pub fn control_at(&self, n: Node) -> &'a K
+        requires whole { ViewIsWhole K.node_number K.stands C.lists self.now }
+        requires node { n.0 < length (store_in self.now).setup.tree }
+        ensures node_number { K.node_number result.now ≡ n.0 }
+        ensures stands { K.stands result.now (store_in self.now).setup (events_in self.now) }
+    {
+        &self.controls[usize::from(n.0)]
+    }
+
+    /// What an unfinished transaction reads of a cell: from whom, and the value.
+    pub fn read(&self, t: Txn, cell: Cell) -> (Txn, Option<i64>)
+        requires whole { ViewIsWhole K.node_number K.stands C.lists self.now }
+        requires unfinished { IsTrue (unfinished (events_in self.now) t.0) }
+        ensures source { result.0.0 ≡ (read (store_in self.now).setup (store_in self.now).rows (events_in self.now) t.0 cell).0 }
+        ensures value { result.1 ≡ (read (store_in self.now).setup (store_in self.now).rows (events_in self.now) t.0 cell).1 }
+    {
+        read(self.controls, self.chains, self.rows, &self.facts, t, cell)
+    }
+
+    /// The place that the version of an unfinished transaction has, or would have, in the chain of a cell.
+    pub fn place_of(&self, t: Txn, cell: Cell) -> usize
+        requires whole { ViewIsWhole K.node_number K.stands C.lists self.now }
+        requires unfinished { IsTrue (unfinished (events_in self.now) t.0) }
+        ensures place { IsPlaceOf (store_in self.now).setup (events_in self.now) cell t.0 result (writers_of (C.lists self.now.chains.now cell)) }
+        ensures own { IsTrue (is_writer (C.lists self.now.chains.now cell) t.0) → slice_get (writers_of (C.lists self.now.chains.now cell)) result ≡ Some t.0 }
+    {
+        place_of(self.controls, self.chains, &self.facts, t, cell)
+    }
+}

@@ -1,4 +1,0 @@
-pub mod Piles
-pub mod Keys
-pub mod Buckets
-pub mod LastMatches

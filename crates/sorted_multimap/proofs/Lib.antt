@@ -1,0 +1,5 @@
+pub mod SortedEntries
+pub mod SpreadEntries
+pub mod TakenMatches
+pub mod CellValues
+pub mod TxnKeys

@@ -1,0 +1,4 @@
+pub mod Multimap
+pub mod Keys
+pub mod Buckets
+pub mod LastMatches

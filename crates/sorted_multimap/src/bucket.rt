@@ -1,0 +1,133 @@
+//! One bucket: the values of some keys in two vectors that are sorted by key.
+
+ghost use Rattle.std.specs.Prelude.{ℕ, ◌≡◌, ◌<◌, ◌≤◌, ◌+◌, ◌-◌, ◌++◌, ◌∷◌, length, cond, [], insert, remove, vec_len, vec_capacity, OnOk};
+ghost use Rattle.std.specs.List.{remove_range};
+ghost use Rattle.std.specs.Ordering.{is_eq};
+ghost use Rattle.sorted_multimap.specs.Buckets.{bucket_values, IsSorted, HasRoom, IsKept, lows, tops, Ascends};
+
+use std::alloc::{AllocError, Global};
+use std::cmp::Ordering;
+use vec_room::put_in;
+
+/// Values, each beside its key.
+#[derive(Drop)]
+pub(crate) struct Bucket<K, V> {
+    keys: Vec<K>,
+    values: Vec<V>,
+}
+
+impl<K: Ord + Copy, V: Copy> Bucket<K, V> {
+    /// No values, and no room.
+    pub(crate) fn new(alloc: Global) -> Self
+        ensures keys { result.keys.items ≡ [] }
+        ensures values { result.values.items ≡ [] }
+        ensures sorted { IsSorted K.cmp result }
+    {
+        Bucket {
+            keys: Vec::new(alloc),
+            values: Vec::new(alloc),
+        }
+    }
+
+    /// Makes room for n more values. It holds the same, also after an `Err`.
+    pub(crate) fn reserve(&mut self, n: usize) -> Result<(), AllocError>
+        ensures kept { IsKept K.cmp self.old self.new }
+        ensures room { OnOk result (HasRoom self.new n) }
+    {
+        self.keys.reserve(n)?;
+        self.values.reserve(n)?;
+        Ok(())
+    }
+
+    /// The values of a key, in their order.
+    pub(crate) fn list(&self, key: K) -> &[V]
+        requires { IsSorted K.cmp self.now }
+        ensures { result.now ≡ bucket_values K.cmp self.now key }
+    {
+        let start = first(&self.keys, key);
+        let end = behind(&self.keys, key);
+        &self.values[start..end]
+    }
+
+    /// Puts a value among those of a key, at an index.
+    pub(crate) fn put(&mut self, key: K, i: usize, value: V)
+        requires sorted { IsSorted K.cmp self.old }
+        requires room { HasRoom self.old 1 }
+        requires within { i ≤ length (bucket_values K.cmp self.old key) }
+        ensures sorted { IsSorted K.cmp self.new }
+        ensures values { (q : K) → bucket_values K.cmp self.new q ≡ cond (is_eq (K.cmp key q)) (insert (bucket_values K.cmp self.old key) i value) (bucket_values K.cmp self.old q) }
+        ensures room { (n : ℕ) → HasRoom self.old (n + 1) → HasRoom self.new n }
+    {
+        let at = first(&self.keys, key) + i;
+        put_in(&mut self.keys, at, key);
+        put_in(&mut self.values, at, value);
+    }
+
+    /// Puts a value behind those of a key.
+    pub(crate) fn push(&mut self, key: K, value: V)
+        requires sorted { IsSorted K.cmp self.old }
+        requires room { HasRoom self.old 1 }
+        ensures sorted { IsSorted K.cmp self.new }
+        ensures values { (q : K) → bucket_values K.cmp self.new q ≡ cond (is_eq (K.cmp key q)) (bucket_values K.cmp self.old key ++ value ∷ []) (bucket_values K.cmp self.old q) }
+        ensures room { (n : ℕ) → HasRoom self.old (n + 1) → HasRoom self.new n }
+    {
+        let end = behind(&self.keys, key);
+        put_in(&mut self.keys, end, key);
+        put_in(&mut self.values, end, value);
+    }
+
+    /// Takes out all values of a key.
+    pub(crate) fn clear(&mut self, key: K)
+        requires { IsSorted K.cmp self.old }
+        ensures sorted { IsSorted K.cmp self.new }
+        ensures values { (q : K) → bucket_values K.cmp self.new q ≡ cond (is_eq (K.cmp key q)) [] (bucket_values K.cmp self.old q) }
+        ensures room { (n : ℕ) → HasRoom self.old n → HasRoom self.new n }
+    {
+        let start = first(&self.keys, key);
+        let end = behind(&self.keys, key);
+        cut(&mut self.keys, start, end);
+        cut(&mut self.values, start, end);
+    }
+
+    /// Takes out the value at an index among those of a key.
+    pub(crate) fn take(&mut self, key: K, i: usize)
+        requires sorted { IsSorted K.cmp self.old }
+        requires within { i < length (bucket_values K.cmp self.old key) }
+        ensures sorted { IsSorted K.cmp self.new }
+        ensures values { (q : K) → bucket_values K.cmp self.new q ≡ cond (is_eq (K.cmp key q)) (remove (bucket_values K.cmp self.old key) i) (bucket_values K.cmp self.old q) }
+        ensures room { (n : ℕ) → HasRoom self.old n → HasRoom self.new (n + 1) }
+    {
+        let at = first(&self.keys, key) + i;
+        self.keys.remove(at);
+        self.values.remove(at);
+    }
+}
+
+/// Takes a range out of a vector.
+fn cut<T: Copy>(v: &mut Vec<T>, start: usize, end: usize)
+    requires order { start ≤ end }
+    requires within { end ≤ vec_len v.old }
+    ensures items { v.new.items ≡ remove_range v.old.items start end }
+    ensures len { vec_len v.new + (end - start) ≡ vec_len v.old }
+    ensures capacity { vec_capacity v.old ≤ vec_capacity v.new }
+{
+    v.drain(start..end);
+}
+
+/// Where the keys from a key on begin.
+fn first<K: Ord + Copy>(keys: &[K], key: K) -> usize
+    requires { Ascends K.cmp keys.now }
+    ensures at { result ≡ lows K.cmp keys.now key }
+    ensures low { result ≤ tops K.cmp keys.now key }
+{
+    keys.partition_point(|k| k.cmp(&key) == Ordering::Less)
+}
+
+/// Where the keys above a key begin.
+fn behind<K: Ord + Copy>(keys: &[K], key: K) -> usize
+    requires { Ascends K.cmp keys.now }
+    ensures at { result ≡ tops K.cmp keys.now key }
+    ensures within { result ≤ length keys.now }
+{
+    keys.partition_point(|k| k.cmp(&key) != Ordering::Greater)
+}

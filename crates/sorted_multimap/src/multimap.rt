@@ -1,0 +1,229 @@
+//! A multimap, in buckets of keys.
+
+ghost use Rattle.std.specs.Prelude.{ℕ, ◌≡◌, ◌<◌, ◌≤◌, ◌+◌, ◌%◌, ◌++◌, ◌∷◌, length, get_or, cond, [], insert, remove, OnOk, IfOk, IsFalse};
+ghost use Rattle.std.specs.Ordering.{is_eq};
+ghost use Rattle.sorted_multimap.specs.Multimap.{values_in};
+ghost use Rattle.sorted_multimap.specs.declared.bucket.Bucket.{Bucket};
+ghost use Rattle.sorted_multimap.specs.Buckets.{entries_of, IsSpread, AreKept, HasRoom};
+
+use crate::Key;
+use crate::bucket::Bucket;
+use std::alloc::{AllocError, Global};
+use std::marker::Model;
+
+// Among how many buckets the keys are spread.
+#[derive(Clone, Copy)]
+enum Width {
+    One,
+    Many,
+}
+
+impl Width {
+    fn buckets(self) -> usize
+        ensures { 0 < result }
+    {
+        match self {
+            Width::One => 1,
+            Width::Many => 64,
+        }
+    }
+}
+
+// For how many values each bucket gets room at the least, so that not every `reserve` goes through all of them.
+const AHEAD: usize = 64;
+
+/// A multimap: values, each beside its key. Those of a key stand in an order of their own, and are lent as one slice.
+///
+/// An edit moves what stands behind its place in the bucket of its key, and a look-up is two binary searches there.
+#[derive(Drop)]
+pub struct Multimap<K: Key, V: Copy> {
+    alloc: Global,
+    width: Width,
+    // A key lies in the bucket whose number is the remainder of its spread. There are none before the first `reserve`.
+    buckets: Vec<Bucket<K, V>>,
+    // For how many more values each bucket has room.
+    spare: usize,
+}
+
+impl<K: Key, V: Copy> Model for Multimap<K, V> {
+    ghost use Rattle.sorted_multimap.specs.Multimap.{Shown};
+
+    ghost Value = { Shown K V };
+
+    ghost use Rattle.sorted_multimap.specs.Buckets.{entries_of, IsSpread};
+
+    ghost view = { λ p. record { entries = entries_of p.buckets.items; spare = p.spare } };
+
+    ghost invariant = { λ p. IsSpread K.cmp K.spread_of p.buckets.items p.spare };
+}
+
+impl<K: Key, V: Copy> Multimap<K, V> {
+    /// No values, and no room, for values of many keys: in 64 buckets. Takes no memory.
+    pub fn new(alloc: Global) -> Self
+        ensures entries { result.entries ≡ [] }
+        ensures spare { result.spare ≡ 0 }
+    {
+        Multimap {
+            alloc,
+            width: Width::Many,
+            buckets: Vec::new(alloc),
+            spare: 0,
+        }
+    }
+
+    /// No values, and no room, for a few values: in one bucket, so that room costs little. Takes no memory.
+    pub fn narrow(alloc: Global) -> Self
+        ensures entries { result.entries ≡ [] }
+        ensures spare { result.spare ≡ 0 }
+    {
+        Multimap {
+            alloc,
+            width: Width::One,
+            buckets: Vec::new(alloc),
+            spare: 0,
+        }
+    }
+
+    /// Makes room for n more values, whatever their keys. The values stay, also after an `Err`.
+    pub fn reserve(&mut self, n: usize) -> Result<(), AllocError>
+        ensures entries { self.new.entries ≡ self.old.entries }
+        ensures room { OnOk result (n ≤ self.new.spare) }
+        ensures kept { self.old.spare ≤ self.new.spare }
+    {
+        if n <= self.spare {
+            return Ok(());
+        }
+        make_buckets(self.alloc, self.width, &mut self.buckets)?;
+        let room = n.max(AHEAD);
+        make_room(&mut self.buckets, room)?;
+        self.spare = room;
+        Ok(())
+    }
+
+    /// The values of a key, in their order.
+    pub fn list(&self, key: K) -> &[V]
+        ensures { result.now ≡ values_in K.cmp self.now key }
+    {
+        if self.buckets.is_empty() {
+            return &[];
+        }
+        self.buckets[place_of(&self.buckets, key)].list(key)
+    }
+
+    /// Puts a value among those of a key, at an index. It takes the room of one.
+    pub fn put(&mut self, key: K, i: usize, value: V)
+        requires room { 0 < self.old.spare }
+        requires within { i ≤ length (values_in K.cmp self.old key) }
+        ensures values { (q : K) → values_in K.cmp self.new q ≡ cond (is_eq (K.cmp key q)) (insert (values_in K.cmp self.old key) i value) (values_in K.cmp self.old q) }
+        ensures spare { self.old.spare ≡ self.new.spare + 1 }
+    {
+        let at = place_of(&self.buckets, key);
+        self.buckets[at].put(key, i, value);
+        self.spare -= 1;
+    }
+
+    /// Puts a value behind those of a key. It takes one place of the room.
+    pub fn push(&mut self, key: K, value: V)
+        requires { 0 < self.old.spare }
+        ensures values { (q : K) → values_in K.cmp self.new q ≡ cond (is_eq (K.cmp key q)) (values_in K.cmp self.old key ++ value ∷ []) (values_in K.cmp self.old q) }
+        ensures spare { self.old.spare ≡ self.new.spare + 1 }
+    {
+        let at = place_of(&self.buckets, key);
+        self.buckets[at].push(key, value);
+        self.spare -= 1;
+    }
+
+    /// Takes out the value at an index among those of a key.
+    pub fn take(&mut self, key: K, i: usize)
+        requires { i < length (values_in K.cmp self.old key) }
+        ensures values { (q : K) → values_in K.cmp self.new q ≡ cond (is_eq (K.cmp key q)) (remove (values_in K.cmp self.old key) i) (values_in K.cmp self.old q) }
+        ensures spare { self.new.spare ≡ self.old.spare }
+    {
+        let at = place_of(&self.buckets, key);
+        self.buckets[at].take(key, i);
+    }
+
+    /// Takes out all values of a key.
+    pub fn clear(&mut self, key: K)
+        ensures values { (q : K) → values_in K.cmp self.new q ≡ cond (is_eq (K.cmp key q)) [] (values_in K.cmp self.old q) }
+        ensures spare { self.new.spare ≡ self.old.spare }
+    {
+        if self.buckets.is_empty() {
+            return;
+        }
+        let at = place_of(&self.buckets, key);
+        self.buckets[at].clear(key);
+    }
+
+    /// Takes out the value at an index among those of a key, and puts one among those of another key with the same spread. It
+    /// takes no room.
+    pub fn transfer(&mut self, from: K, i: usize, to: K, j: usize, value: V)
+        requires spread { K.spread_of from ≡ K.spread_of to }
+        requires apart { IsFalse (is_eq (K.cmp from to)) }
+        requires taken { i < length (values_in K.cmp self.old from) }
+        requires put { j ≤ length (values_in K.cmp self.old to) }
+        ensures values { (q : K) → values_in K.cmp self.new q ≡ cond (is_eq (K.cmp to q)) (insert (values_in K.cmp self.old to) j value) (cond (is_eq (K.cmp from q)) (remove (values_in K.cmp self.old from) i) (values_in K.cmp self.old q)) }
+        ensures spare { self.new.spare ≡ self.old.spare }
+    {
+        let at = place_of(&self.buckets, from);
+        let bucket = &mut self.buckets[at];
+        bucket.take(from, i);
+        bucket.put(to, j, value);
+    }
+}
+
+/// The number of the bucket of a key.
+fn place_of<K: Key, V: Copy>(buckets: &[Bucket<K, V>], key: K) -> usize
+    requires { 0 < length buckets.now }
+    ensures at { result ≡ K.spread_of key % length buckets.now }
+    ensures within { result < length buckets.now }
+{
+    key.spread() % buckets.len()
+}
+
+/// Makes the buckets where there are none.
+fn make_buckets<K: Key, V: Copy>(
+    alloc: Global,
+    width: Width,
+    buckets: &mut Vec<Bucket<K, V>>,
+) -> Result<(), AllocError>
+    ensures some { OnOk result (0 < length buckets.new.items) }
+    ensures entries { entries_of buckets.new.items ≡ entries_of buckets.old.items }
+    ensures spread { (n : ℕ) → IsSpread K.cmp K.spread_of buckets.old.items n → IsSpread K.cmp K.spread_of buckets.new.items n }
+{
+    if buckets.is_empty() {
+        *buckets = empty_buckets(alloc, width.buckets())?;
+    }
+    Ok(())
+}
+
+/// Buckets with no values and no room.
+fn empty_buckets<K: Key, V: Copy>(
+    alloc: Global,
+    count: usize,
+) -> Result<Vec<Bucket<K, V>>, AllocError>
+    requires { 0 < count }
+    ensures some { IfOk result (λ bs. 0 < length bs.items) }
+    ensures spread { IfOk result (λ bs. IsSpread K.cmp K.spread_of bs.items 0) }
+    ensures entries { IfOk result (λ bs. entries_of bs.items ≡ []) }
+{
+    let mut buckets = Vec::with_capacity(alloc, count)?;
+    for _ in 0..count {
+        buckets.push(Bucket::new(alloc))?;
+    }
+    Ok(buckets)
+}
+
+/// Makes room in each bucket.
+fn make_room<K: Key, V: Copy>(
+    buckets: &mut Vec<Bucket<K, V>>,
+    room: usize,
+) -> Result<(), AllocError>
+    ensures kept { AreKept K.cmp buckets.old.items buckets.new.items }
+    ensures room { OnOk result ((i : ℕ) (d : Bucket K V) → i < length buckets.new.items → HasRoom (get_or buckets.new.items i d) room) }
+{
+    for i in 0..buckets.len() {
+        buckets[i].reserve(room)?;
+    }
+    Ok(())
+}
