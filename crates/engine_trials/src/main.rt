@@ -1,8 +1,7 @@
 //! An engine as an embedder has it: what its registers lend, and that nothing changes where a request finds no room.
 //!
 //! It prints the replies to a list of requests, what is lent in their midst and at their end, and the entries of a hall. Then
-//! it does all of it again, once for each request at which the versions refuse room, and says how often all was the same. A run
-//! with one refused allocation ends with status 8 and no text, or with this text.
+//! it does all of it again, once for each request at which the versions refuse room, and says how often all was the same.
 #![tactic(auto)]
 
 mod engine_trial;
