@@ -6,6 +6,8 @@ ghost use Rattle.std.specs.List.{position_or_len};
 ghost use Rattle.std.specs.Str.Lines.{strip_carriage_return};
 ghost use Rattle.script_text.specs.Lines.{is_feed, lines_of};
 
+use memchr::memchr;
+
 /// The lines of these bytes, each without its line feed and the one carriage return before it. A last
 /// line without a feed counts only where it is not empty.
 #[derive(Clone, Copy)]
@@ -40,10 +42,11 @@ pub fn line_len(text: &[u8]) -> usize
     first_feed(text).unwrap_or(text.len())
 }
 
+#[tactic(auto, using(crate::proofs::Places::position_first))]
 fn first_feed(text: &[u8]) -> Option<usize>
     ensures { result ≡ position is_feed text.now }
 {
-    text.iter().position(|b| *b == b'\n')
+    memchr(b'\n', text)
 }
 
 /// What follows the first line, of this length, and its line feed.
