@@ -1,5 +1,6 @@
 pub mod Places
 pub mod LineSteps
+pub mod VerbWords
 pub mod WordSteps
 pub mod Digits
 pub mod NameBytes

@@ -1,20 +1,17 @@
 -- The words of a line, one after the other.
-use Rattle.std.proofs.Common.{◌≡◌, ℕ, suc, ◌+◌, ◌<◌, ◌≤◌, ◌==◌, Bool, true, false, if◌then◌else◌, not, inl, inr, List, [], ◌∷◌, ◌++◌, take, drop, set, length, refl, ap, sym, ◌∙◌, arith, take_all, get_or, drop_of_length-le, append_assoc}
+use Rattle.std.proofs.Common.{◌≡◌, ℕ, suc, ◌+◌, ◌<◌, ◌≤◌, ◌==◌, Bool, true, false, if◌then◌else◌, not, inl, inr, List, [], ◌∷◌, ◌++◌, take, drop, set, length, refl, ap, sym, ◌∙◌, arith, take_all, get_or, slice_index, drop_of_length-le, append_assoc}
 use Rattle.std.specs.Borrow.{Bor}
 use Rattle.std.specs.List.{slice_split, position_or_len}
-use Rattle.std.proofs.lemmas.Bool.{cases_lt}
+use Rattle.std.proofs.lemmas.Bool.{and_parts, cases_lt, eqb-true, leb-true}
 use Rattle.std.proofs.lemmas.Bool.Decides.{nat_tests}
 use Rattle.std.proofs.lemmas.List.{drop_more, length-take-le, length-take, length-map, take_more_set, map_push, append-nil, take_at}
 use Rattle.std.proofs.lemmas.List.Splits.{slice_split_first, slice_split_none}
 use Rattle.std.proofs.lemmas.List.Sums.{fails_before_first, prefix_len_stops}
 use Rattle.std.proofs.lemmas.List.Elements.{All-from_get_or}
-use Rattle.script_text.specs.Words.{is_blank, nows, words_of}
+use Rattle.script_text.specs.Words.{has_run, is_blank, nows, without_blanks, words_of}
 
 abbrev pub is_inside : ℕ → Bool
 is_inside b = not (is_blank b)
-
-abbrev pub without_blanks : List ℕ → List ℕ
-without_blanks xs = drop (position_or_len is_inside xs) xs
 
 words_blank : (x : ℕ) (xs : List ℕ) → is_blank x ≡ true → words_of (x ∷ xs) ≡ words_of xs
 unfolding words_of
@@ -26,6 +23,40 @@ one_more n x xs = let e : 1 + n ≡ suc n = omega arith in rw e
 inside_cons : (x : ℕ) (xs : List ℕ) (b : Bool) → is_blank x ≡ b → without_blanks (x ∷ xs) ≡ (if b then without_blanks xs else x ∷ xs)
 inside_cons x xs true h = rw h (one_more (position_or_len is_inside xs) x xs)
 inside_cons x xs false h = rw h
+
+behind_space : (x : ℕ) (xs : List ℕ) → x ≡ 32 → without_blanks xs ≡ without_blanks (x ∷ xs)
+behind_space x xs is = sym (inside_cons x xs true (grind (arith, nat_tests)))
+
+-- eight spaces at the front
+behind_spaces : (xs : List ℕ) → 8 ≤ length xs → slice_index xs 0 ≡ 32 → slice_index xs 1 ≡ 32 → slice_index xs 2 ≡ 32 → slice_index xs 3 ≡ 32
+    → slice_index xs 4 ≡ 32 → slice_index xs 5 ≡ 32 → slice_index xs 6 ≡ 32 → slice_index xs 7 ≡ 32 → without_blanks (drop 8 xs) ≡ without_blanks xs
+behind_spaces (a ∷ b ∷ c ∷ d ∷ e ∷ f ∷ g ∷ h ∷ xs) long ia ib ic id ie iff ig ih =
+    behind_space h xs ih ∙ behind_space g (h ∷ xs) ig ∙ behind_space f (g ∷ h ∷ xs) iff ∙ behind_space e (f ∷ g ∷ h ∷ xs) ie
+    ∙ behind_space d (e ∷ f ∷ g ∷ h ∷ xs) id ∙ behind_space c (d ∷ e ∷ f ∷ g ∷ h ∷ xs) ic ∙ behind_space b (c ∷ d ∷ e ∷ f ∷ g ∷ h ∷ xs) ib ∙ behind_space a (b ∷ c ∷ d ∷ e ∷ f ∷ g ∷ h ∷ xs) ia
+behind_spaces (a ∷ b ∷ c ∷ d ∷ e ∷ f ∷ g ∷ []) long ia ib ic id ie iff ig ih = absurd (omega (arith, long))
+behind_spaces (a ∷ b ∷ c ∷ d ∷ e ∷ f ∷ []) long ia ib ic id ie iff ig ih = absurd (omega (arith, long))
+behind_spaces (a ∷ b ∷ c ∷ d ∷ e ∷ []) long ia ib ic id ie iff ig ih = absurd (omega (arith, long))
+behind_spaces (a ∷ b ∷ c ∷ d ∷ []) long ia ib ic id ie iff ig ih = absurd (omega (arith, long))
+behind_spaces (a ∷ b ∷ c ∷ []) long ia ib ic id ie iff ig ih = absurd (omega (arith, long))
+behind_spaces (a ∷ b ∷ []) long ia ib ic id ie iff ig ih = absurd (omega (arith, long))
+behind_spaces (a ∷ []) long ia ib ic id ie iff ig ih = absurd (omega (arith, long))
+behind_spaces [] long ia ib ic id ie iff ig ih = absurd (omega (arith, long))
+
+pub behind_run : (xs : List ℕ) → has_run xs ≡ true → without_blanks (drop 8 xs) ≡ without_blanks xs
+behind_run xs h =
+    let p7 = and_parts _ _ h in
+    let p6 = and_parts _ _ p7.0 in
+    let p5 = and_parts _ _ p6.0 in
+    let p4 = and_parts _ _ p5.0 in
+    let p3 = and_parts _ _ p4.0 in
+    let p2 = and_parts _ _ p3.0 in
+    let p1 = and_parts _ _ p2.0 in
+    let p0 = and_parts _ _ p1.0 in
+    behind_spaces xs (leb-true 8 (length xs) p0.0) (eqb-true _ _ p0.1) (eqb-true _ _ p1.1) (eqb-true _ _ p2.1) (eqb-true _ _ p3.1) (eqb-true _ _ p4.1) (eqb-true _ _ p5.1) (eqb-true _ _ p6.1)
+    (eqb-true _ _ p7.1)
+
+pub run_within : (xs : List ℕ) → has_run xs ≡ true → 8 ≤ length xs
+run_within xs h = leb-true 8 (length xs) (and_parts _ _ (and_parts _ _ (and_parts _ _ (and_parts _ _ (and_parts _ _ (and_parts _ _ (and_parts _ _ (and_parts _ _ h).0).0).0).0).0).0).0).0
 
 -- spaces and tabs at the front change no word
 pub words_inside : (xs : List ℕ) → words_of (without_blanks xs) ≡ words_of xs

@@ -1,7 +1,7 @@
 //! What a line of a script asks.
 
 ghost use Rattle.std.specs.Prelude.{◌≡◌, ◌==◌, slice_index};
-ghost use Rattle.std.specs.Str.{bytes_eq};
+ghost use Rattle.teb_names.specs.Names.{number_of};
 ghost use Rattle.script_text.specs.Words.{nows};
 ghost use Rattle.script_text.specs.Numbers.{number_from_one};
 ghost use Rattle.script_text.specs.Grammar.{verb_of, name_at, number_at, session_at, value_at, cell_at, cell_in, cell_and_value_in, cell_and_count_in, spot_in, nothing_in, arguments, after_session, line_in, line_of};
@@ -104,37 +104,22 @@ fn request(names: &NameBook, format: u8, words: &[&[u8]]) -> Result<Request, Lin
     }
 }
 
-#[tactic(auto, unfolding(crate::specs::Grammar::verb_of))]
+#[tactic(auto, using(crate::proofs::VerbWords::is_commit, crate::proofs::VerbWords::is_delete, crate::proofs::VerbWords::is_prepare), unfolding(crate::specs::Grammar::verb_of))]
 fn verb_in(format: u8, word: &[u8]) -> Option<Verb>
     ensures { result ≡ verb_of format word.now }
 {
-    if is_word(word, "begin") {
-        Some(Verb::Begin)
-    } else if is_word(word, "read") {
-        Some(Verb::Read)
-    } else if is_word(word, "write") {
-        Some(Verb::Write)
-    } else if is_word(word, "add") {
-        Some(Verb::Add)
-    } else if is_word(word, "prepare") {
-        Some(Verb::Prepare)
-    } else if is_word(word, "commit") {
-        Some(Verb::Commit)
-    } else if is_word(word, "abort") {
-        Some(Verb::Abort)
-    } else if format >= 3 && is_word(word, "delete") {
-        Some(Verb::Delete)
-    } else if format >= 3 && is_word(word, "scan") {
-        Some(Verb::Scan)
-    } else {
-        None
+    match word {
+        b"begin" => Some(Verb::Begin),
+        b"read" => Some(Verb::Read),
+        b"write" => Some(Verb::Write),
+        b"add" => Some(Verb::Add),
+        b"prepare" => Some(Verb::Prepare),
+        b"commit" => Some(Verb::Commit),
+        b"abort" => Some(Verb::Abort),
+        b"delete" if format >= 3 => Some(Verb::Delete),
+        b"scan" if format >= 3 => Some(Verb::Scan),
+        _ => None,
     }
-}
-
-fn is_word(word: &[u8], text: &str) -> bool
-    ensures { result ≡ bytes_eq word.now text.now }
-{
-    word == text.as_bytes()
 }
 
 fn arguments(names: &NameBook, format: u8, verb: Verb, words: &[&[u8]]) -> Result<Request, LineWhy>
@@ -255,11 +240,24 @@ fn name(names: &Names, word: &[u8]) -> Result<u8, LineWhy>
 {
     match name_text(word) {
         None => Err(LineWhy::Name),
-        Some(text) => match names.number(text) {
+        Some(text) => match number_of(names, text) {
             None => Ok(255),
             Some(n) => Ok(n),
         },
     }
+}
+
+/// The number of a name, which is often one of the first.
+fn number_of(names: &Names, text: &str) -> Option<u8>
+    ensures { result ≡ number_of names.now text.now }
+{
+    let few = names.len().min(4);
+    for i in 0..few {
+        if names.name(i).as_bytes() == text.as_bytes() {
+            return Some(i);
+        }
+    }
+    names.number(text)
 }
 
 #[tactic(auto, unfolding(crate::specs::Grammar::number_at))]

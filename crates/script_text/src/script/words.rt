@@ -3,7 +3,7 @@
 ghost use Rattle.std.specs.Prelude.{◌≡◌, ◌≤◌, not, length, drop, take, position};
 ghost use Rattle.std.specs.Iterator.{YieldsFirstRef, item_count};
 ghost use Rattle.std.specs.List.{position_or_len};
-ghost use Rattle.script_text.specs.Words.{is_blank, nows, words_of};
+ghost use Rattle.script_text.specs.Words.{has_run, is_blank, nows, without_blanks, words_of};
 
 /// The words of a line, which stand between spaces and tabs.
 #[derive(Clone, Copy)]
@@ -49,12 +49,46 @@ fn is_blank(b: u8) -> bool
 }
 
 /// What is left behind the spaces and tabs at the front.
-#[tactic(auto, using(crate::proofs::Places::unwrap_position, crate::proofs::Places::position_within))]
 fn without_blanks(text: &[u8]) -> &[u8]
-    ensures { result.now ≡ drop (position_or_len (λ b. not (is_blank b)) text.now) text.now }
+    ensures { result.now ≡ without_blanks text.now }
+{
+    without_few(without_runs(text))
+}
+
+/// The same, byte by byte.
+#[tactic(auto, using(crate::proofs::Places::unwrap_position, crate::proofs::Places::position_within))]
+fn without_few(text: &[u8]) -> &[u8]
+    ensures { result.now ≡ without_blanks text.now }
 {
     let len = first_inside(text).unwrap_or(text.len());
     &text[len..]
+}
+
+/// What is left behind whole runs of eight spaces at the front, which are often those at the end of a line.
+#[tactic(auto, using(crate::proofs::WordSteps::behind_run, crate::proofs::WordSteps::run_within))]
+fn without_runs(text: &[u8]) -> &[u8]
+    ensures { without_blanks result.now ≡ without_blanks text.now }
+{
+    let mut rest = text;
+    while has_run(rest) {
+        rest = &rest[8..];
+    }
+    rest
+}
+
+/// Whether eight spaces stand at the front.
+fn has_run(text: &[u8]) -> bool
+    ensures { result ≡ has_run text.now }
+{
+    text.len() >= 8
+        && text[0] == b' '
+        && text[1] == b' '
+        && text[2] == b' '
+        && text[3] == b' '
+        && text[4] == b' '
+        && text[5] == b' '
+        && text[6] == b' '
+        && text[7] == b' '
 }
 
 fn first_inside(text: &[u8]) -> Option<usize>

@@ -5,7 +5,9 @@ ghost use Rattle.script_text.specs.Texts.{cause_words, name_of, refusal_text, re
 ghost use Rattle.script_text.specs.Named.{CauseNamed, NodeNamed, ReplyNamed};
 ghost use Rattle.script_text.specs.Puts.{Puts, spaced, word_text};
 
-use super::word::{Word, node, put_cell, put_feed, put_spaced, put_word, put_words, whole};
+use super::word::{
+    Word, node, put_cell, put_feed, put_spaced, put_text, put_word, put_words, whole,
+};
 use crate::Answered;
 use std::alloc::AllocError;
 use teb_names::{Cause, NameBook, Node, Refusal, Reply, ScanList};
@@ -36,19 +38,22 @@ fn put_reply_words(out: &mut Vec<u8>, names: &NameBook, reply: &Reply) -> Result
     ensures { Puts out.old.items (spaced (reply_words names.now reply.now)) out.new.items result }
 {
     match reply {
-        Reply::Begun(txn) => put_words(out, &[Word::Text("begun"), Word::Txn(*txn)]),
-        Reply::Value(None) => put_words(out, &[Word::Text("none")]),
-        Reply::Value(Some(value)) => put_words(
-            out,
-            &[Word::Text("value"), Word::Value(Some(*value))],
-        ),
+        Reply::Begun(txn) => {
+            put_text(out, " begun ")?;
+            put_word(out, &Word::Txn(*txn))
+        }
+        Reply::Value(None) => put_text(out, " none"),
+        Reply::Value(Some(value)) => {
+            put_text(out, " value ")?;
+            put_word(out, &Word::Value(Some(*value)))
+        }
         Reply::Values(values) => {
             put_words(out, &[Word::Text("values")])?;
             put_values(out, values)
         }
-        Reply::Done => put_words(out, &[Word::Text("done")]),
-        Reply::Prepared => put_words(out, &[Word::Text("prepared")]),
-        Reply::Committed => put_words(out, &[Word::Text("committed")]),
+        Reply::Done => put_text(out, " done"),
+        Reply::Prepared => put_text(out, " prepared"),
+        Reply::Committed => put_text(out, " committed"),
         Reply::Again { who, node: at } => {
             let at = node(names, *at);
             put_words(

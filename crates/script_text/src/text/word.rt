@@ -53,7 +53,7 @@ pub fn put_word(out: &mut Vec<u8>, word: &Word) -> Result<(), AllocError>
         Word::Session(session) => put_natural(out, u32::from(session.0)),
         Word::Natural(n) => put_natural(out, *n),
         Word::Txn(txn) => {
-            put_text(out, "t")?;
+            out.push(b't')?;
             put_natural(out, txn.0)
         }
         Word::Value(None) => put_text(out, "none"),
@@ -96,7 +96,7 @@ pub fn put_line<'a>(
 pub fn put_spaced(out: &mut Vec<u8>, word: &Word) -> Result<(), AllocError>
     ensures { Puts out.old.items (codes " " ++ word_text word.now) out.new.items result }
 {
-    put_text(out, " ")?;
+    out.push(b' ')?;
     put_word(out, word)
 }
 
@@ -104,7 +104,8 @@ pub fn put_spaced(out: &mut Vec<u8>, word: &Word) -> Result<(), AllocError>
 pub fn put_feed(out: &mut Vec<u8>) -> Result<(), AllocError>
     ensures { Puts out.old.items (codes "\n") out.new.items result }
 {
-    put_text(out, "\n")
+    out.push(b'\n')?;
+    Ok(())
 }
 
 /// Appends a text.
