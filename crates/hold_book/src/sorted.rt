@@ -1,6 +1,7 @@
 //! Holds beside their cells, sorted by cell and, for one cell, by transaction.
 
-ghost use Rattle.std.specs.Prelude.{◌≡◌, ◌<◌, ◌≤◌, ◌+◌, length, vec_len, vec_capacity, IsFalse};
+ghost use Rattle.std.specs.Prelude.{◌≡◌, ◌<◌, ◌≤◌, ◌+◌, true, false, length, vec_len, vec_capacity, IsFalse};
+ghost use Rattle.std.specs.List.Sorted.{IsPartitionedBy, IsPartitionPoint};
 ghost use Rattle.teb_names.specs.declared.Cell.{Cell};
 ghost use Rattle.teb_names.specs.Cells.{same_cell};
 ghost use Rattle.teb_history.specs.Ascending.{IsAscendingBy, place_of};
@@ -10,14 +11,31 @@ ghost use Rattle.hold_book.specs.Ranges.{IsRange, IsPlace, kept};
 use crate::Hold;
 use teb_names::{Cell, Txn};
 
+/// How many cells a search for the end of a run looks at by themselves.
+const NEAR: usize = 4;
+
 /// Where the places of a cell begin, and how many there are.
 pub(crate) fn range_of(cells: &[Cell], cell: Cell) -> (usize, usize)
     requires { IsSorted cells.now }
     ensures { IsRange cells.now cell result.0 result.1 }
 {
     let start = cells.partition_point(|c| *c < cell);
-    let len = cells[start..].partition_point(|c| *c == cell);
+    let len = run_of(&cells[start..], cell);
     (start, len)
+}
+
+/// How many of the first cells are a cell, which no later ones are. A few are looked at by themselves, since few hold one cell.
+fn run_of(cells: &[Cell], cell: Cell) -> usize
+    requires { IsPartitionedBy (λ c. same_cell c cell) cells.now }
+    ensures within { result ≤ length cells.now }
+    ensures parted { IsPartitionPoint (λ c. same_cell c cell ≡ true) (λ c. same_cell c cell ≡ false) cells.now result }
+{
+    let near = cells.len().min(NEAR);
+    let len = cells[..near].partition_point(|c| *c == cell);
+    if len < near {
+        return len;
+    }
+    cells.partition_point(|c| *c == cell)
 }
 
 /// The holds on a cell.

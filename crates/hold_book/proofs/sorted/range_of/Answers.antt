@@ -13,8 +13,16 @@ returns c =
     let start = c.partition_point-start.result in
     let within = c.partition_point-start.ensures.bound in
     let before = λ (y : Cell). is_before y x in
-    let here = λ (y : Cell). same_cell y x in
     let tail = rest_all cs start in
     let starts = IsPartitionPoint-from_clause before cs start c.partition_point-start.ensures.partitioned (parted_before cs x c.requires) (λ a r f called. search rules) in
-    let ends = IsPartitionPoint-from_clause here _ c.partition_point-len.result c.partition_point-len.ensures.partitioned (subst (IsPartitionedBy here) (sym tail) (parted_here cs x c.requires start within starts)) (λ a r f called. search rules) in
-    ranged cs x c.requires start within starts c.partition_point-len.result (rw tail at c.partition_point-len.ensures.bound) (rw tail at ends)
+    ranged cs x c.requires start within starts c.run_of-len.result (rw tail at c.run_of-len.ensures.within) (rw tail at c.run_of-len.ensures.parted)
+
+pub run_of-len-requires : goal.run_of-len-requires
+run_of-len-requires c =
+    let cs = c.args.cells.now in
+    let x = c.args.cell in
+    let start = c.partition_point-start.result in
+    let within = c.partition_point-start.ensures.bound in
+    let before = λ (y : Cell). is_before y x in
+    let starts = IsPartitionPoint-from_clause before cs start c.partition_point-start.ensures.partitioned (parted_before cs x c.requires) (λ a r f called. search rules) in
+    subst (IsPartitionedBy (λ (y : Cell). same_cell y x)) (sym (rest_all cs start)) (parted_here cs x c.requires start within starts)
