@@ -115,6 +115,18 @@ module _ {K : Type 0} (R : K → K → Ordering) (total : IsTotalOrder R) where
   pub tops_length : (ks : List K) (k : K) → tops R ks k ≤ length ks
   tops_length ks k = passing_length (λ j. not (is_gt (R j k))) ks
 
+  -- those that are not above k, parted at some of them
+  pub tops_behind : (ks : List K) (k : K) (n : ℕ) → Ascends R ks → n ≤ tops R ks k → n + tops R (drop n ks) k ≡ tops R ks k
+  tops_behind ks k zero a le = omega arith
+  tops_behind [] k (suc n) a le = absurd (omega arith)
+  tops_behind (j ∷ js) k (suc n) a le = go (R j k) refl le (tops_behind js k n a.1)
+    where
+      go : (o : Ordering) → R j k ≡ o → suc n ≤ cond (not (is_gt o)) (suc (tops R js k)) (tops R js k) → (n ≤ tops R js k → n + tops R (drop n js) k ≡ tops R js k)
+          → suc n + tops R (drop n js) k ≡ cond (not (is_gt o)) (suc (tops R js k)) (tops R js k)
+      go Less e le ih = let more = ih (omega arith) in omega arith
+      go Equal e le ih = let more = ih (omega arith) in omega arith
+      go Greater e le ih = let z = tops_rest j k js a.0 e in absurd (omega arith)
+
   pub lows_tops : (ks : List K) (k : K) → Ascends R ks → lows R ks k ≤ tops R ks k
   lows_tops [] k a = omega arith
   lows_tops (j ∷ js) k a = elim (compared (R j k)) [
@@ -280,7 +292,7 @@ module _ {K : Type 0} (R : K → K → Ordering) (total : IsTotalOrder R) where
   none_cut j [] (suc a) (suc b) le n = n
   none_cut j (i ∷ is) (suc a) (suc b) le n = (n.0, none_cut j is a b (omega arith) n.1)
 
-  ascends_drop : (ks : List K) (b : ℕ) → Ascends R ks → Ascends R (drop b ks)
+  pub ascends_drop : (ks : List K) (b : ℕ) → Ascends R ks → Ascends R (drop b ks)
   ascends_drop ks zero a = a
   ascends_drop [] (suc b) a = a
   ascends_drop (j ∷ js) (suc b) a = ascends_drop js b a.1

@@ -9,6 +9,9 @@ use std::alloc::{AllocError, Global};
 use std::cmp::Ordering;
 use vec_room::put_in;
 
+/// How many keys a search for the end of a run looks at by themselves.
+const NEAR: usize = 4;
+
 /// Values, each beside its key.
 #[derive(Drop)]
 pub(crate) struct Bucket<K, V> {
@@ -45,7 +48,7 @@ impl<K: Ord + Copy, V: Copy> Bucket<K, V> {
         ensures { result.now ≡ bucket_values K.cmp self.now key }
     {
         let start = first(&self.keys, key);
-        let end = behind(&self.keys, key);
+        let end = end_from(&self.keys, start, key);
         &self.values[start..end]
     }
 
@@ -84,7 +87,7 @@ impl<K: Ord + Copy, V: Copy> Bucket<K, V> {
         ensures room { (n : ℕ) → HasRoom self.old n → HasRoom self.new n }
     {
         let start = first(&self.keys, key);
-        let end = behind(&self.keys, key);
+        let end = end_from(&self.keys, start, key);
         cut(&mut self.keys, start, end);
         cut(&mut self.values, start, end);
     }
@@ -119,6 +122,7 @@ fn first<K: Ord + Copy>(keys: &[K], key: K) -> usize
     requires { Ascends K.cmp keys.now }
     ensures at { result ≡ lows K.cmp keys.now key }
     ensures low { result ≤ tops K.cmp keys.now key }
+    ensures within { result ≤ length keys.now }
 {
     keys.partition_point(|k| k.cmp(&key) == Ordering::Less)
 }
@@ -129,5 +133,30 @@ fn behind<K: Ord + Copy>(keys: &[K], key: K) -> usize
     ensures at { result ≡ tops K.cmp keys.now key }
     ensures within { result ≤ length keys.now }
 {
+    keys.partition_point(|k| k.cmp(&key) != Ordering::Greater)
+}
+
+/// Where the keys above a key begin, from where that key begins. Most keys have few values: the first places are searched by themselves.
+fn end_from<K: Ord + Copy>(keys: &[K], start: usize, key: K) -> usize
+    requires ascends { Ascends K.cmp keys.now }
+    requires start { start ≡ lows K.cmp keys.now key }
+    requires inside { start ≤ length keys.now }
+    ensures at { result ≡ tops K.cmp keys.now key }
+    ensures within { result ≤ length keys.now }
+{
+    start + run_of(&keys[start..], key)
+}
+
+/// How many of the first keys are not above a key.
+fn run_of<K: Ord + Copy>(keys: &[K], key: K) -> usize
+    requires { Ascends K.cmp keys.now }
+    ensures at { result ≡ tops K.cmp keys.now key }
+    ensures within { result ≤ length keys.now }
+{
+    let near = keys.len().min(NEAR);
+    let len = keys[..near].partition_point(|k| k.cmp(&key) != Ordering::Greater);
+    if len < near {
+        return len;
+    }
     keys.partition_point(|k| k.cmp(&key) != Ordering::Greater)
 }
