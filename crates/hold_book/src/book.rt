@@ -17,6 +17,12 @@ use std::alloc::{AllocError, Global};
 use std::marker::Model;
 use teb_names::{Cell, Txn};
 
+/// The most accesses of one answer.
+const MOST_ACCESSES: usize = 32;
+
+/// For how many accesses room is made at a time.
+const AHEAD: usize = 128;
+
 /// Who holds which cell. Contracts see the holds beside their cells, and for how many accesses there is room.
 #[derive(Drop)]
 pub struct HoldBook {
@@ -56,9 +62,12 @@ impl HoldBook {
         ensures room { OnOk result (32 ≤ self.new.spare) }
         ensures kept { self.old.spare ≤ self.new.spare }
     {
-        self.cells.reserve(32)?;
-        self.holds.reserve(32)?;
-        self.spare = self.spare.max(32);
+        if self.spare >= MOST_ACCESSES {
+            return Ok(());
+        }
+        self.cells.reserve(AHEAD)?;
+        self.holds.reserve(AHEAD)?;
+        self.spare = AHEAD;
         Ok(())
     }
 
