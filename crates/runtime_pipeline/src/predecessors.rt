@@ -25,8 +25,11 @@ use std::marker::Model;
 use teb_history::{Event, find_txn};
 use teb_names::{Node, Txn};
 
-// For how many events `reserve` makes room.
-const EVENTS: usize = 32;
+// The most events of one answer.
+const MOST_EVENTS: usize = 32;
+
+// For how many events room is made at a time.
+const AHEAD: usize = 64;
 
 /// For each unfinished transaction, those that are ahead of it at a node. It stands for a history, and is told of each event behind it.
 #[derive(Drop)]
@@ -70,11 +73,14 @@ impl Predecessors {
         ensures unfinished { self.new.unfinished ≡ self.old.unfinished }
         ensures room { OnOk result (32 ≤ self.new.spare) }
     {
-        self.unfinished.reserve(EVENTS)?;
-        let most = self.unfinished.len().checked_add(EVENTS).ok_or(AllocError)?;
-        let room = most.checked_mul(EVENTS).ok_or(AllocError)?;
+        if self.spare >= MOST_EVENTS {
+            return Ok(());
+        }
+        self.unfinished.reserve(AHEAD)?;
+        let most = self.unfinished.len().checked_add(AHEAD).ok_or(AllocError)?;
+        let room = most.checked_mul(AHEAD).ok_or(AllocError)?;
         self.lists.reserve(room)?;
-        self.spare = EVENTS;
+        self.spare = AHEAD;
         self.most = most;
         Ok(())
     }
@@ -185,12 +191,15 @@ fn put_holders(
     }
 }
 
-// Whether a holder is in the way of t's read, or its write, of the cell.
+// Whether a holder is in the way of t's read, or its write, of the cell. Its own hold never is.
 fn is_in_the_way(facts: &Facts, node: Node, t: Txn, hold: &Hold, write: bool) -> bool
     requires typed { IsTyped facts.now t.0 }
     requires holder { IsTyped facts.now hold.now.txn.0 }
     ensures { result ≡ ((write || hold.now.wrote) && meets (setup_of facts.now) (events_of facts.now) node.0 t.0 hold.now.txn.0) }
 {
+    if hold.txn == t {
+        return false;
+    }
     (write || hold.wrote) && facts.meet_at(node, t, hold.txn)
 }
 
