@@ -25,8 +25,8 @@ pub record IsPlace (cs : List Cell) (hs : List Hold) (x : Cell) (t : ℕ) (found
   pub range : IsRange cs x start len
   pub is : found ≡ shifted start (place_of hold_number (beside x cs hs) t)
 
--- the cells beside holds of others than t
-abbrev pub kept : ℕ → List Cell → List Hold → List Cell
+-- of values that stand beside holds, those beside holds of others than t
+abbrev pub kept : {A : Type 0} → ℕ → List A → List Hold → List A
 kept t [] hs = []
-kept t (c ∷ cs) [] = []
-kept t (c ∷ cs) (h ∷ hs) = let r = kept t cs hs in cond (eqb h.txn.0 t) r (c ∷ r)
+kept t (x ∷ xs) [] = []
+kept t (x ∷ xs) (h ∷ hs) = let r = kept t xs hs in cond (eqb h.txn.0 t) r (x ∷ r)

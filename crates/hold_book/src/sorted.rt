@@ -106,12 +106,14 @@ pub(crate) fn take_out(cells: &mut Vec<Cell>, holds: &mut Vec<Hold>, t: Txn)
     ensures holds_capacity { vec_capacity holds.new ≡ vec_capacity holds.old }
 {
     let mut left = 0;
-    for (i, hold) in holds.iter().enumerate() {
+    for i in 0..holds.len() {
+        let hold = holds[i];
         if hold.txn != t {
             cells[left] = cells[i];
+            holds[left] = hold;
             left += 1;
         }
     }
     cells.truncate(left);
-    holds.retain(|hold| hold.txn != t);
+    holds.truncate(left);
 }
