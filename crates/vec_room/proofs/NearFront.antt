@@ -14,7 +14,10 @@ module _ {X : Type 0} (p : X → Bool) (xs : List X) (n : ℕ) (fits : n ≤ len
       near_at i d (omega arith) ∙ parted i j d le (omega arith) (sym (near_at j d m) ∙ e)
 
   pub near_point : (i : ℕ) → i < n → IsPartitionPoint (λ x. p x ≡ true) (λ x. p x ≡ false) (take n xs) i → IsPartitionPoint (λ x. p x ≡ true) (λ x. p x ≡ false) xs i
-  near_point i l point = ((λ k d a b. sym (near_at k d (omega arith)) ∙ point.0 k d a b), λ k d a b. elim (cases_Bool (p (get_or xs k d))) [
-    | inl e ↦ absurd (both_ways (p (get_or xs i d)) (sym (near_at i d l) ∙ point.1 i d (omega arith) (let m = length-take n xs in omega arith)) (parted i k d a b e))
-    | inr e ↦ e
-  ])
+  near_point i l point = (
+    (λ k d a b. sym (near_at k d (omega arith)) ∙ point.0 k d a b),
+    λ k d a b. elim (cases_Bool (p (get_or xs k d))) [
+      | inl e ↦ absurd (both_ways (p (get_or xs i d)) (sym (near_at i d l) ∙ point.1 i d (omega arith) (let m = length-take n xs in omega arith)) (parted i k d a b e))
+      | inr e ↦ e
+    ],
+  )
