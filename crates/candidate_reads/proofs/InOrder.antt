@@ -82,5 +82,8 @@ is_first p us o e = subst (λ (r : Option ℕ). IsFirst p us r) (sym e) (first_p
 pub own_found : (us : List ℕ) (u i : ℕ) → Some i ≡ first_place (λ w. eqb w u) us → (i < length us) × (slice_get us i ≡ Some u)
 own_found us u i e = let r = is_first (λ w. eqb w u) us (Some i) e in (r.0, slice_get-get_or us i 0 r.0 ∙ ap (λ (z : ℕ). Some z) (eqb-true _ _ r.1))
 
+pub own_there : (us : List ℕ) (u i : ℕ) → Some i ≡ first_place (λ w. eqb w u) us → among u us ≡ true
+own_there us u i e = let r = is_first (λ w. eqb w u) us (Some i) e in In_among u us (subst (λ (z : ℕ). In z us) (eqb-true _ _ r.1) (at-In us i r.0))
+
 pub own_absent : (us : List ℕ) (u : ℕ) → None ≡ first_place (λ w. eqb w u) us → among u us ≡ false
 own_absent us u e = false_from_ne_true _ (λ q. let k = In-at u us (among_In u us q) in both_ways _ (is_first (λ w. eqb w u) us None e k.0 (omega arith) k.1) (eq-eqb _ _ k.2))

@@ -17,6 +17,22 @@ use phase_api::{Control, Facts};
 use teb_names::{Cell, ControlKind, Txn};
 use version_chain::Chains;
 
+/// A place in the chain of a cell for the version of a transaction.
+#[derive(Clone, Copy)]
+pub struct Place {
+    pub at: usize,
+    /// Whether the version stands there, and not another one or none.
+    pub is_there: bool,
+}
+
+impl Place {
+    /// The place at the front of a chain, for a version that is not there.
+    pub const FRONT: Place = Place {
+        at: 0,
+        is_there: false,
+    };
+}
+
 /// The place of t's version of a cell among the versions that are there, in version order: where it stands, or else where it
 /// will stand once t puts the cell. The starting row is not counted.
 pub fn place_of<K: Control, C: Chains>(
@@ -25,7 +41,7 @@ pub fn place_of<K: Control, C: Chains>(
     facts: &Facts,
     t: Txn,
     cell: Cell,
-) -> usize
+) -> Place
     requires tree { TreeFacts (setup_of facts.now) }
     requires lawful { Lawful (setup_of facts.now) (events_of facts.now) }
     requires controls { StandAll K.node_number K.stands controls.now (setup_of facts.now) (events_of facts.now) }
@@ -33,20 +49,27 @@ pub fn place_of<K: Control, C: Chains>(
     requires typed { IsTyped facts.now t.0 }
     requires kept { IsFalse (aborted (events_of facts.now) t.0) }
     requires writes { Writes (events_of facts.now) t.0 cell }
-    ensures place { IsPlaceOf (setup_of facts.now) (events_of facts.now) cell t.0 result (writers_of (C.lists chains.now cell)) }
-    ensures own { IsTrue (is_writer (C.lists chains.now cell) t.0) → slice_get (writers_of (C.lists chains.now cell)) result ≡ Some t.0 }
+    ensures place { IsPlaceOf (setup_of facts.now) (events_of facts.now) cell t.0 result.at (writers_of (C.lists chains.now cell)) }
+    ensures own { IsTrue (is_writer (C.lists chains.now cell) t.0) → slice_get (writers_of (C.lists chains.now cell)) result.at ≡ Some t.0 }
+    ensures there { result.is_there ≡ is_writer (C.lists chains.now cell) t.0 }
 {
     if let Some(own) = chains.find(cell, t) {
-        return own;
+        return Place {
+            at: own,
+            is_there: true,
+        };
     }
     let begun = facts.history.begun();
     match last_before(controls, chains, facts, t, cell) {
         Some(last) => {
             // A cell has at most one version of each transaction.
             prove!(last <= begun as usize);
-            last + 1
+            Place {
+                at: last + 1,
+                is_there: false,
+            }
         }
-        None => 0,
+        None => Place::FRONT,
     }
 }
 

@@ -7,11 +7,12 @@ use Rattle.teb_history.specs.declared.Event.TheVariants.{Began, Got, Put, Ready,
 use Rattle.teb_history.specs.Written.{Written}
 use Rattle.teb_history.specs.Phases.{begun_count}
 use Rattle.teb_rules.specs.Setup.{Setup, Store}
-use Rattle.teb_laws.specs.Lawful.{Granted, Lawful, Settled, MayAccess}
+use Rattle.teb_laws.specs.Lawful.{Granted, Lawful, Settled}
 use Rattle.teb_laws.proofs.Answers.{lawful_cons}
 use Rattle.version_chain.specs.Lists.{Version, writers_of, is_writer}
 use Rattle.phase_api.specs.Standing.{StandAll}
 use Rattle.phase_api.specs.Versions.{HoldsVersions, IsPlaceOf}
+use Rattle.candidate_reads.specs.declared.placing.Place.{Place}
 use Rattle.dependency_book.specs.Books.{Lists, Shown, BookOf}
 use Rattle.cursor_book.specs.Cursors.{Kept, CursorsOf}
 use Rattle.engine_core.specs.declared.engine_state.EngineState.{EngineState}
@@ -36,34 +37,15 @@ module _ {K C : Type 0} (node_number : K → ℕ) (stands : K → Setup → List
     settled = subst (λ (H : Written). Settled H.events) (sym h) t;
   }
 
-  -- the place that the view tells for a Put
-  pub put_place : (e : Event) (t : Txn) (y : Cell) (v : Option ℤ) (at : ℕ) → e ≡ Put t y v → IsPlaceOf (store_in p).setup (events_in p) y t.0 at (writers_of (lists p.chains.now y)) →
-      (IsTrue (is_writer (lists p.chains.now y) t.0) → slice_get (writers_of (lists p.chains.now y)) at ≡ Some t.0) → HasPlace (lists k.chains) e at × PutsAt (store_of k.setup).setup k.history.events (lists k.chains) e at
-  put_place e t y v at q i o =
-      let to = λ (X : Store) (H : Written) (ch : C) (d : Event). HasPlace (lists ch) d at × PutsAt X.setup H.events (lists ch) d at in
-      subst (λ (X : Store). to X k.history k.chains e) x
-      (subst (λ (H : Written). to (store_in p) H k.chains e) h
-      (subst (λ (ch : C). to (store_in p) p.facts.history.now ch e) l
-      (subst (λ (d : Event). to (store_in p) p.facts.history.now p.chains.now d) (sym q)
-      ((within_chain (lists p.chains.now y) at i.within, o), i))))
-    where
-      within_chain : (vs : List Version) (i : ℕ) → i ≤ length (writers_of vs) → i ≤ length vs
-      within_chain [] i b = b
-      within_chain (w ∷ vs) zero b = omega arith
-      within_chain (w ∷ vs) (suc i) b = let r = within_chain vs i (let z : suc i ≤ suc (length (writers_of vs)) = b in omega arith) in omega arith
+within_chain : (vs : List Version) (i : ℕ) → i ≤ length (writers_of vs) → i ≤ length vs
+within_chain [] i b = b
+within_chain (w ∷ vs) zero b = omega arith
+within_chain (w ∷ vs) (suc i) b = let r = within_chain vs i (let z : suc i ≤ suc (length (writers_of vs)) = b in omega arith) in omega arith
 
-pub no_place : (S : Setup) (P : List Event) (L : Cell → List Version) (e : Event) (at : ℕ) → ((t : Txn) (y : Cell) (v : Option ℤ) → e ≡ Put t y v → ⊥) → HasPlace L e at × PutsAt S P L e at
-no_place S P L (Put t y v) at f = absurd (f t y v refl)
-no_place S P L (Began t s k i) at f = (tt, tt)
-no_place S P L (Got t y w v) at f = (tt, tt)
-no_place S P L (Ready t) at f = (tt, tt)
-no_place S P L (Done t) at f = (tt, tt)
-no_place S P L (Gone t c) at f = (tt, tt)
-no_place S P L (Told t) at f = (tt, tt)
-
--- who puts may access
-pub put_granted : (S : Setup) (P : List Event) (e : Event) (t : Txn) (y : Cell) (v : Option ℤ) → e ≡ Put t y v → Granted S P e → MayAccess S P t.0 y true
-put_granted S P e t y v q g = let to = λ (d : Event). Granted S P d in subst to q g
+-- the place of a Put
+pub put_placed : (S : Setup) (H : List Event) (L : Cell → List Version) (t : Txn) (y : Cell) (v : Option ℤ) (p : Place) → IsPlaceOf S H y t.0 p.at (writers_of (L y)) →
+    (IsTrue (is_writer (L y) t.0) → slice_get (writers_of (L y)) p.at ≡ Some t.0) → p.is_there ≡ is_writer (L y) t.0 → MayBegin S H (Put t y v) × HasPlace L (Put t y v) p × PutsAt S H L (Put t y v) p
+put_placed S H L t y v p i o h = (tt, (within_chain (L y) p.at i.within, o, h), i)
 
 -- no more than 8,192 begin
 begun_after : (S : Setup) (P : List Event) (e : Event) → begun_count P ≤ 8192 → MayBegin S P e → begun_count (e ∷ P) ≤ 8192

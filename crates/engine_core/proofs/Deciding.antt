@@ -24,6 +24,7 @@ use Rattle.teb_rules.specs.Setup.{Store}
 use Rattle.teb_rules.specs.declared.Stop.{Stop}
 use Rattle.teb_rules.specs.declared.Stop.TheVariants as stop
 use Rattle.teb_rules.specs.Answer.{Answered, or_stop, or_refused, refuse, is_scan, answer, answer_to, answer_of, answer_new, begin_or_wait}
+use Rattle.version_chain.specs.Lists.{Version}
 use Rattle.engine_core.specs.declared.decision.Decision.{Decision}
 use Rattle.engine_core.specs.declared.decision.Decision.TheVariants.{Answer}
 use Rattle.engine_core.specs.declared.decision.ShortReply.TheVariants as short
@@ -33,8 +34,8 @@ use Rattle.engine_core.specs.Decisions.{carried, told, IsBounded, IsRefusal, IsS
 pub stops : (X : Store) (H : List Event) (t : ℕ) (s r : Stop) (o : Option Decision) (d : Decision) (granted : Answered) → s ≡ r → IsStopped X H t s o → o ≡ Some d → carried X H d ≡ or_stop H t r granted
 stops X H t s r o d granted e k q = let f = subst (IsStopped X H t s) q k in f.0 granted ∙ ap (λ (z : Stop). or_stop H t z granted) e
 
-pub stops_bounded : (X : Store) (H : List Event) (t : ℕ) (s : Stop) (o : Option Decision) (d : Decision) → IsStopped X H t s o → o ≡ Some d → IsBounded X.setup H d
-stops_bounded X H t s o d k q = (subst (IsStopped X H t s) q k).1
+pub stops_bounded : (X : Store) (L : Cell → List Version) (H : List Event) (t : ℕ) (s : Stop) (o : Option Decision) (d : Decision) → IsStopped X H t s o → o ≡ Some d → IsBounded L X.setup H d
+stops_bounded X L H t s o d k q = (subst (IsStopped X H t s) q k).1 L
 
 pub goes : (X : Store) (H : List Event) (t : ℕ) (s r : Stop) (o : Option Decision) (granted : Answered) → s ≡ r → IsStopped X H t s o → o ≡ None → granted ≡ or_stop H t r granted
 goes X H t s r o granted e k q = let f : s ≡ stop.Go = subst (IsStopped X H t s) q k in ap (λ (z : Stop). or_stop H t z granted) (sym f ∙ e)

@@ -1,5 +1,6 @@
 pub mod Running
 pub mod Along
+pub mod HeldTxns
 pub mod Deciding
 pub mod Adding
 pub mod Gathering

@@ -14,6 +14,8 @@ use Rattle.teb_rules.specs.declared.Stop.{Stop}
 use Rattle.teb_rules.specs.declared.Stop.TheVariants as stop
 use Rattle.teb_rules.specs.Cascade.{txn}
 use Rattle.teb_rules.specs.Answer.{Answered, cells_from, read_all, got_values, broken_off, refuse, or_stop, or_refused, fits}
+use Rattle.version_chain.specs.Lists.{Version}
+use Rattle.engine_core.specs.Keeping.{HasPlace, PutsAt}
 use Rattle.engine_core.specs.declared.decision.ShortReply.{ShortReply}
 use Rattle.engine_core.specs.declared.decision.ShortReply.TheVariants.{Begun, Value, Done, Prepared, Committed, Again, Aborted, Refused}
 use Rattle.engine_core.specs.declared.decision.Decision.{Decision}
@@ -33,7 +35,7 @@ full_reply (Refused r) = reply.Refused r
 -- the reply and the history after a decision
 abbrev pub carried : Store → List Event → Decision → Answered
 carried X H (Answer r) = (full_reply r, H)
-carried X H (Grant r e) = (full_reply r, e ∷ H)
+carried X H (Grant r e p) = (full_reply r, e ∷ H)
 carried X H (Scan t x n) = got_values (read_all X H t.0 (cells_from x n))
 carried X H (Fall t c) = broken_off H t.0 c
 
@@ -42,11 +44,11 @@ abbrev pub MayBegin : Setup → List Event → Event → Type 0
 MayBegin S H (Began t s k i) = (begun_count H < 8192) × (begin_stop S H (record { kind = k; instance = i }) ≡ stop.Go)
 MayBegin S H _ = Unit {0}
 
--- at most 16 cells are read, each of which has a key
-abbrev pub IsBounded : Setup → List Event → Decision → Type 0
-IsBounded S H (Grant r e) = MayBegin S H e
-IsBounded S H (Scan t x n) = (n ≤ 16) × (x.key + n ≤ 2 ^ 32)
-IsBounded S H _ = Unit {0}
+-- a Put comes with its version's place among those that are there; at most 16 cells are read, each of which has a key
+abbrev pub IsBounded : (Cell → List Version) → Setup → List Event → Decision → Type 0
+IsBounded L S H (Grant r e p) = MayBegin S H e × HasPlace L e p × PutsAt S H L e p
+IsBounded L S H (Scan t x n) = (n ≤ 16) × (x.key + n ≤ 2 ^ 32)
+IsBounded L S H _ = Unit {0}
 
 -- the refusal of an access, if there is one
 abbrev pub IsRefusal : Store → List Event → ℕ → Cell → Option Refusal → Type 0
@@ -56,7 +58,7 @@ IsRefusal X H t x (Some r) = (granted : Answered) → or_refused X H t x granted
 -- what a stop makes of a request of t, if it stops it
 abbrev pub IsStopped : Store → List Event → ℕ → Stop → Option Decision → Type 0
 IsStopped X H t s None = s ≡ stop.Go
-IsStopped X H t s (Some d) = ((granted : Answered) → carried X H d ≡ or_stop H t s granted) × IsBounded X.setup H d
+IsStopped X H t s (Some d) = ((granted : Answered) → carried X H d ≡ or_stop H t s granted) × ((L : Cell → List Version) → IsBounded L X.setup H d)
 
 -- the sum of two numbers, where it fits
 abbrev pub sum_of : ℤ → ℤ → Option ℤ

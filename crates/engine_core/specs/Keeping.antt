@@ -6,6 +6,7 @@ use Rattle.teb_history.specs.declared.Event.TheVariants.{Began, Put}
 use Rattle.teb_rules.specs.Setup.{Setup}
 use Rattle.version_chain.specs.Lists.{Version, writers_of, is_writer}
 use Rattle.phase_api.specs.Versions.{IsPlaceOf}
+use Rattle.candidate_reads.specs.declared.placing.Place.{Place}
 
 -- there is room for the version that the event may put, and for the cursor of a transaction that begins
 abbrev pub HasRoomForVersion : ℕ → Event → Type 0
@@ -16,12 +17,12 @@ abbrev pub HasRoomForCursor : ℕ → Event → Type 0
 HasRoomForCursor spare (Began t s k i) = 0 < spare
 HasRoomForCursor spare _ = Unit {0}
 
--- where the event is a Put: the place is within the chain, and it is that of the transaction's version, if it has one
-abbrev pub HasPlace : (Cell → List Version) → Event → ℕ → Type 0
-HasPlace L (Put t x v) at = (at ≤ length (L x)) × (IsTrue (is_writer (L x) t.0) → slice_get (writers_of (L x)) at ≡ Some t.0)
-HasPlace L _ at = Unit {0}
+-- where the event is a Put: the place is within the chain, it is that of the transaction's version, if it has one, and it tells whether it has
+abbrev pub HasPlace : (Cell → List Version) → Event → Place → Type 0
+HasPlace L (Put t x v) p = (p.at ≤ length (L x)) × (IsTrue (is_writer (L x) t.0) → slice_get (writers_of (L x)) p.at ≡ Some t.0) × (p.is_there ≡ is_writer (L x) t.0)
+HasPlace L _ p = Unit {0}
 
 -- and it is the place in version order
-abbrev pub PutsAt : Setup → List Event → (Cell → List Version) → Event → ℕ → Type 0
-PutsAt S P L (Put t x v) at = IsPlaceOf S P x t.0 at (writers_of (L x))
-PutsAt S P L _ at = Unit {0}
+abbrev pub PutsAt : Setup → List Event → (Cell → List Version) → Event → Place → Type 0
+PutsAt S P L (Put t x v) p = IsPlaceOf S P x t.0 p.at (writers_of (L x))
+PutsAt S P L _ p = Unit {0}

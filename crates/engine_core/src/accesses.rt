@@ -11,6 +11,7 @@ ghost use Rattle.engine_core.specs.Decisions.{carried, IsBounded, IsRefusal};
 use crate::decision::{Decision, ShortReply, refused, stopped};
 use crate::engine_view::EngineView;
 use crate::stops::{read_stop, write_stop};
+use candidate_reads::Place;
 use phase_api::Control;
 use teb_history::Event;
 use teb_names::{Cell, Refusal, Txn};
@@ -21,7 +22,7 @@ pub fn decide_read<K: Control, C: Chains>(view: &EngineView<K, C>, t: Txn, cell:
     requires whole { ViewIsWhole K.node_number K.stands C.lists view.now }
     requires unfinished { IsTrue (unfinished (events_in view.now) t.0) }
     ensures answer { carried (store_in view.now) (events_in view.now) result ≡ answer_of (store_in view.now) (events_in view.now) t.0 (request.Read cell) }
-    ensures bounded { IsBounded (store_in view.now).setup (events_in view.now) result }
+    ensures bounded { IsBounded (C.lists view.now.chains.now) (store_in view.now).setup (events_in view.now) result }
 {
     if let Some(why) = refusal(view, t, cell) {
         return refused(why);
@@ -38,6 +39,7 @@ pub fn decide_read<K: Control, C: Chains>(view: &EngineView<K, C>, t: Txn, cell:
             from,
             value,
         },
+        Place::FRONT,
     )
 }
 
@@ -51,7 +53,7 @@ pub fn decide_write<K: Control, C: Chains>(
     requires whole { ViewIsWhole K.node_number K.stands C.lists view.now }
     requires unfinished { IsTrue (unfinished (events_in view.now) t.0) }
     ensures answer { carried (store_in view.now) (events_in view.now) result ≡ or_refused (store_in view.now) (events_in view.now) t.0 cell (put_value (store_in view.now).setup (events_in view.now) t.0 cell value) }
-    ensures bounded { IsBounded (store_in view.now).setup (events_in view.now) result }
+    ensures bounded { IsBounded (C.lists view.now.chains.now) (store_in view.now).setup (events_in view.now) result }
 {
     match refusal(view, t, cell) {
         Some(why) => refused(why),
@@ -69,9 +71,10 @@ pub fn put<K: Control, C: Chains>(
     requires whole { ViewIsWhole K.node_number K.stands C.lists view.now }
     requires asks { IsAsking (store_in view.now).setup (events_in view.now) t.0 cell }
     ensures answer { carried (store_in view.now) (events_in view.now) result ≡ put_value (store_in view.now).setup (events_in view.now) t.0 cell value }
-    ensures bounded { IsBounded (store_in view.now).setup (events_in view.now) result }
+    ensures bounded { IsBounded (C.lists view.now.chains.now) (store_in view.now).setup (events_in view.now) result }
 {
-    match stopped(t, write_stop(view, t, cell)) {
+    let place = view.place_of(t, cell);
+    match stopped(t, write_stop(view, t, cell, place.at)) {
         Some(decision) => decision,
         None => Decision::Grant(
             ShortReply::Done,
@@ -80,6 +83,7 @@ pub fn put<K: Control, C: Chains>(
                 cell,
                 value,
             },
+            place,
         ),
     }
 }

@@ -20,7 +20,7 @@ pub fn carry_out<K: Control, C: Chains>(decision: Decision, state: &mut EngineSt
     requires whole { StateIsWhole K.node_number K.stands C.lists state.old }
     requires settled { Settled state.old.history.events }
     requires leads { Lawful (store_of state.old.setup).setup (carried (store_of state.old.setup) state.old.history.events decision).1 }
-    requires bounded { IsBounded (store_of state.old.setup).setup state.old.history.events decision }
+    requires bounded { IsBounded (C.lists state.old.chains) (store_of state.old.setup).setup state.old.history.events decision }
     requires room { HasRoom K.spare C.spare state.old }
     ensures reply { result ≡ (carried (store_of state.old.setup) state.old.history.events decision).0 }
     ensures events { state.new.history.events ≡ (carried (store_of state.old.setup) state.old.history.events decision).1 }
@@ -29,8 +29,8 @@ pub fn carry_out<K: Control, C: Chains>(decision: Decision, state: &mut EngineSt
 {
     match decision {
         Decision::Answer(reply) => reply.full(),
-        Decision::Grant(reply, event) => {
-            append_event(state, event);
+        Decision::Grant(reply, event, place) => {
+            append_event(state, event, place);
             reply.full()
         }
         Decision::Scan(t, first, count) => Reply::Values(read_cells(state, t, first, count)),

@@ -10,8 +10,10 @@ use crate::accesses::{decide_read, decide_write};
 use crate::additions::decide_add;
 use crate::decision::{Decision, ShortReply, refused, stopped};
 use crate::engine_view::EngineView;
+use crate::holders::held;
 use crate::scans::decide_scan;
 use crate::stops::{begin_stop, commit_stop, prepare_stop};
+use candidate_reads::Place;
 use phase_api::Control;
 use teb_history::Event;
 use teb_names::{Cause, Refusal, Request, Session, Spot, Txn};
@@ -30,12 +32,12 @@ pub fn decide<K: Control, C: Chains>(
 ) -> Decision
     requires { ViewIsWhole K.node_number K.stands C.lists view.now }
     ensures answer { carried (store_in view.now) (events_in view.now) result ≡ answer (store_in view.now) (events_in view.now) session request }
-    ensures bounded { IsBounded (store_in view.now).setup (events_in view.now) result }
+    ensures bounded { IsBounded (C.lists view.now.chains.now) (store_in view.now).setup (events_in view.now) result }
 {
     if !is_session(session) {
         return refused(Refusal::BadSession);
     }
-    match view.facts.history.held(session) {
+    match held(view, session) {
         None => decide_new(view, session, request),
         Some(t) => {
             if view.facts.history.is_aborted(t) {
@@ -62,7 +64,7 @@ fn decide_new<K: Control, C: Chains>(
 ) -> Decision
     requires { ViewIsWhole K.node_number K.stands C.lists view.now }
     ensures answer { carried (store_in view.now) (events_in view.now) result ≡ answer_new (store_in view.now).setup (events_in view.now) session request }
-    ensures bounded { IsBounded (store_in view.now).setup (events_in view.now) result }
+    ensures bounded { IsBounded (C.lists view.now.chains.now) (store_in view.now).setup (events_in view.now) result }
 {
     match request {
         Request::Begin(spot) => decide_begin(view, session, spot),
@@ -77,7 +79,7 @@ fn decide_begin<K: Control, C: Chains>(
 ) -> Decision
     requires { ViewIsWhole K.node_number K.stands C.lists view.now }
     ensures answer { carried (store_in view.now) (events_in view.now) result ≡ answer_new (store_in view.now).setup (events_in view.now) session (Request.Begin spot) }
-    ensures bounded { IsBounded (store_in view.now).setup (events_in view.now) result }
+    ensures bounded { IsBounded (C.lists view.now.chains.now) (store_in view.now).setup (events_in view.now) result }
 {
     let begun = view.facts.history.begun();
     if !view.has_type(spot.kind) {
@@ -98,6 +100,7 @@ fn decide_begin<K: Control, C: Chains>(
             kind: spot.kind,
             instance: spot.instance,
         },
+        Place::FRONT,
     )
 }
 
@@ -105,10 +108,10 @@ fn decide_begin<K: Control, C: Chains>(
 fn tell<K: Control, C: Chains>(view: &EngineView<K, C>, t: Txn) -> Decision
     requires { ViewIsWhole K.node_number K.stands C.lists view.now }
     ensures answer { carried (store_in view.now) (events_in view.now) result ≡ told (events_in view.now) t.0 }
-    ensures bounded { IsBounded (store_in view.now).setup (events_in view.now) result }
+    ensures bounded { IsBounded (C.lists view.now.chains.now) (store_in view.now).setup (events_in view.now) result }
 {
     let cause = view.facts.history.cause(t).unwrap_or(Cause::Asked);
-    Decision::Grant(ShortReply::Aborted(cause), Event::Told(t))
+    Decision::Grant(ShortReply::Aborted(cause), Event::Told(t), Place::FRONT)
 }
 
 /// What the request of an unfinished transaction is answered.
@@ -116,7 +119,7 @@ fn decide_of<K: Control, C: Chains>(view: &EngineView<K, C>, t: Txn, request: Re
     requires whole { ViewIsWhole K.node_number K.stands C.lists view.now }
     requires unfinished { IsTrue (unfinished (events_in view.now) t.0) }
     ensures answer { carried (store_in view.now) (events_in view.now) result ≡ answer_of (store_in view.now) (events_in view.now) t.0 request }
-    ensures bounded { IsBounded (store_in view.now).setup (events_in view.now) result }
+    ensures bounded { IsBounded (C.lists view.now.chains.now) (store_in view.now).setup (events_in view.now) result }
 {
     match request {
         Request::Begin(_) => refused(Refusal::InTxn),
@@ -136,14 +139,14 @@ fn decide_prepare<K: Control, C: Chains>(view: &EngineView<K, C>, t: Txn) -> Dec
     requires whole { ViewIsWhole K.node_number K.stands C.lists view.now }
     requires unfinished { IsTrue (unfinished (events_in view.now) t.0) }
     ensures answer { carried (store_in view.now) (events_in view.now) result ≡ answer_of (store_in view.now) (events_in view.now) t.0 Request.Prepare }
-    ensures bounded { IsBounded (store_in view.now).setup (events_in view.now) result }
+    ensures bounded { IsBounded (C.lists view.now.chains.now) (store_in view.now).setup (events_in view.now) result }
 {
     if view.facts.history.is_prepared(t) {
         return refused(Refusal::Prepared);
     }
     match stopped(t, prepare_stop(view, t)) {
         Some(decision) => decision,
-        None => Decision::Grant(ShortReply::Prepared, Event::Ready(t)),
+        None => Decision::Grant(ShortReply::Prepared, Event::Ready(t), Place::FRONT),
     }
 }
 
@@ -151,10 +154,10 @@ fn decide_commit<K: Control, C: Chains>(view: &EngineView<K, C>, t: Txn) -> Deci
     requires whole { ViewIsWhole K.node_number K.stands C.lists view.now }
     requires unfinished { IsTrue (unfinished (events_in view.now) t.0) }
     ensures answer { carried (store_in view.now) (events_in view.now) result ≡ answer_of (store_in view.now) (events_in view.now) t.0 Request.Commit }
-    ensures bounded { IsBounded (store_in view.now).setup (events_in view.now) result }
+    ensures bounded { IsBounded (C.lists view.now.chains.now) (store_in view.now).setup (events_in view.now) result }
 {
     match stopped(t, commit_stop(view, t)) {
         Some(decision) => decision,
-        None => Decision::Grant(ShortReply::Committed, Event::Done(t)),
+        None => Decision::Grant(ShortReply::Committed, Event::Done(t), Place::FRONT),
     }
 }

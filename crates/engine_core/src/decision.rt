@@ -6,6 +6,7 @@ ghost use Rattle.teb_rules.specs.Setup.{Store};
 ghost use Rattle.teb_rules.specs.Verdicts.{cause_at};
 ghost use Rattle.engine_core.specs.Decisions.{IsStopped, full_reply};
 
+use candidate_reads::Place;
 use teb_history::Event;
 use teb_names::{Cause, Cell, Node, Refusal, Reply, Txn};
 use teb_rules::{Broken, Stop};
@@ -15,8 +16,8 @@ use teb_rules::{Broken, Stop};
 pub enum Decision {
     /// It replies, and writes nothing.
     Answer(ShortReply),
-    /// It replies, and writes one event.
-    Grant(ShortReply, Event),
+    /// It replies, and writes one event. A Put gives its transaction's version a value at the place; else the place says nothing.
+    Grant(ShortReply, Event, Place),
     /// The transaction reads so many cells from this one on.
     Scan(Txn, Cell, u8),
     /// The transaction is aborted, and all that have to fall with it.

@@ -17,6 +17,7 @@ ghost use Rattle.engine_core.specs.EngineModel.{IsEngine, IsOfEngine};
 use crate::any_control::{AnyControl, controls_of};
 use crate::carry_out::carry_out;
 use crate::engine_state::{EngineState, facts_of};
+use crate::latest_txns::LatestTxns;
 use crate::room::make_room;
 use cursor_book::Cursors;
 use dependency_book::Book;
@@ -178,5 +179,6 @@ fn new_state<C: Chains>(
         chains,
         book: Book::new(alloc),
         cursors: Cursors::new(alloc),
+        latest: LatestTxns::new(),
     })
 }

@@ -4,25 +4,25 @@ ghost use Rattle.std.specs.Prelude.{◌≡◌, IsTrue};
 ghost use Rattle.teb_history.specs.Phases.{unfinished};
 ghost use Rattle.teb_rules.specs.Answer.{answer};
 ghost use Rattle.teb_rules.specs.Versions.{read};
-ghost use Rattle.teb_laws.specs.Lawful.{Granted, Settled};
+ghost use Rattle.teb_laws.specs.Lawful.{Settled};
 ghost use Rattle.phase_api.specs.FactsView.{setup_of};
 ghost use Rattle.engine_core.specs.Stores.{store_of};
 ghost use Rattle.engine_core.specs.Decisions.{carried, IsBounded};
-ghost use Rattle.engine_core.specs.Keeping.{HasPlace, PutsAt};
 
 use crate::decide::decide;
 use crate::decision::Decision;
 use crate::engine_view::EngineView;
+use crate::latest_txns::LatestTxns;
 use cursor_book::Cursors;
 use dependency_book::Book;
 use phase_api::{Control, Facts};
-use teb_history::{Event, History};
+use teb_history::History;
 use teb_names::{Cell, Request, Session, Txn};
 use tree_toml::Setup;
 use version_chain::Chains;
 
 /// A store with its history, and what is kept of the history: a control for each node, the versions, who read from whom,
-/// and where each transaction stands in its profile.
+/// where each transaction stands in its profile, and which one each session began last.
 #[derive(Drop)]
 pub struct EngineState<K: Control, C: Chains> {
     pub setup: Setup,
@@ -31,6 +31,7 @@ pub struct EngineState<K: Control, C: Chains> {
     pub chains: C,
     pub book: Book,
     pub cursors: Cursors,
+    pub latest: LatestTxns,
 }
 
 impl<K: Control, C: Chains> EngineState<K, C> {
@@ -51,16 +52,18 @@ impl<K: Control, C: Chains> EngineState<K, C> {
             chains: &self.chains,
             book: &self.book,
             cursors: &self.cursors,
+            latest: &self.latest,
             rows: &self.setup.rows,
             tables: self.setup.names.tables.len(),
         }
     }
+
     /// What a request of a session is answered.
     pub fn decide(&self, session: Session, request: Request) -> Decision
         requires whole { StateIsWhole K.node_number K.stands C.lists self.now }
         requires settled { Settled self.now.history.events }
         ensures answer { carried (store_of self.now.setup) self.now.history.events result ≡ answer (store_of self.now.setup) self.now.history.events session request }
-        ensures bounded { IsBounded (store_of self.now.setup).setup self.now.history.events result }
+        ensures bounded { IsBounded (C.lists self.now.chains) (store_of self.now.setup).setup self.now.history.events result }
     {
         decide(&self.view(), session, request)
     }
@@ -74,19 +77,6 @@ impl<K: Control, C: Chains> EngineState<K, C> {
         ensures value { result.1 ≡ (read (store_of self.now.setup).setup (store_of self.now.setup).rows self.now.history.events t.0 cell).1 }
     {
         self.view().read(t, cell)
-    }
-
-    /// The place of a Put in the chain of its cell, and 0 for any other event.
-    pub fn place_for(&self, event: Event) -> usize
-        requires whole { StateIsWhole K.node_number K.stands C.lists self.now }
-        requires granted { Granted (store_of self.now.setup).setup self.now.history.events event }
-        ensures place { HasPlace (C.lists self.now.chains) event result }
-        ensures order { PutsAt (store_of self.now.setup).setup self.now.history.events (C.lists self.now.chains) event result }
-    {
-        match event {
-            Event::Put { txn, cell, .. } => self.view().place_of(txn, cell),
-            _ => 0,
-        }
     }
 }
 

@@ -10,7 +10,8 @@ ghost use Rattle.cc_tree.specs.Grown.{node_numbers};
 ghost use Rattle.teb_rules.specs.Setup.{profile};
 ghost use Rattle.teb_rules.specs.Steps.{least_step, cursor};
 
-use candidate_reads::{place_of, read};
+use crate::latest_txns::LatestTxns;
+use candidate_reads::{Place, place_of, read};
 use cursor_book::Cursors;
 use dependency_book::Book;
 use phase_api::{Control, Facts};
@@ -25,6 +26,7 @@ pub struct EngineView<'a, K: Control, C: Chains> {
     pub chains: &'a C,
     pub book: &'a Book,
     pub cursors: &'a Cursors,
+    pub latest: &'a LatestTxns,
     pub rows: &'a Rows,
     pub tables: u8,
 }
@@ -102,11 +104,12 @@ impl<'a, K: Control, C: Chains> EngineView<'a, K, C> {
     }
 
     /// The place that the version of an unfinished transaction has, or would have, in the chain of a cell.
-    pub fn place_of(&self, t: Txn, cell: Cell) -> usize
+    pub fn place_of(&self, t: Txn, cell: Cell) -> Place
         requires whole { ViewIsWhole K.node_number K.stands C.lists self.now }
         requires unfinished { IsTrue (unfinished (events_in self.now) t.0) }
-        ensures place { IsPlaceOf (store_in self.now).setup (events_in self.now) cell t.0 result (writers_of (C.lists self.now.chains.now cell)) }
-        ensures own { IsTrue (is_writer (C.lists self.now.chains.now cell) t.0) → slice_get (writers_of (C.lists self.now.chains.now cell)) result ≡ Some t.0 }
+        ensures place { IsPlaceOf (store_in self.now).setup (events_in self.now) cell t.0 result.at (writers_of (C.lists self.now.chains.now cell)) }
+        ensures own { IsTrue (is_writer (C.lists self.now.chains.now cell) t.0) → slice_get (writers_of (C.lists self.now.chains.now cell)) result.at ≡ Some t.0 }
+        ensures there { result.is_there ≡ is_writer (C.lists self.now.chains.now cell) t.0 }
     {
         place_of(self.controls, self.chains, &self.facts, t, cell)
     }

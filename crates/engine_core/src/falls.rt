@@ -10,6 +10,7 @@ ghost use Rattle.engine_core.specs.Wholes.{StateIsWhole, LogHasRoom};
 use crate::append_event::append_event;
 use crate::engine_state::{EngineState, facts_of};
 use abort_cascade::cascade;
+use candidate_reads::Place;
 use phase_api::Control;
 use teb_history::Event;
 use teb_names::{Cause, Txn};
@@ -26,7 +27,7 @@ pub fn fall<K: Control, C: Chains>(state: &mut EngineState<K, C>, t: Txn, cause:
     ensures setup { state.new.setup ≡ state.old.setup }
 {
     let fallen = cascade(&state.book, &facts_of(&state.history, &state.setup), t);
-    append_event(state, Event::Gone { txn: t, cause });
+    append_event(state, Event::Gone { txn: t, cause }, Place::FRONT);
     for i in 0..fallen.len() {
         let (txn, blamed) = fallen.at(i);
         append_event(
@@ -35,6 +36,7 @@ pub fn fall<K: Control, C: Chains>(state: &mut EngineState<K, C>, t: Txn, cause:
                 txn,
                 cause: Cause::After(blamed),
             },
+            Place::FRONT,
         );
     }
 }

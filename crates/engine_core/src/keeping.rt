@@ -12,25 +12,26 @@ ghost use Rattle.phase_api.specs.Versions.{HoldsVersions};
 ghost use Rattle.cursor_book.specs.Cursors.{CursorsOf, moved};
 ghost use Rattle.engine_core.specs.Keeping.{HasRoomForVersion, HasPlace, PutsAt, HasRoomForCursor};
 
+use candidate_reads::Place;
 use cursor_book::Cursors;
 use phase_api::Facts;
 use teb_history::Event;
 use teb_names::{Cell, Txn};
 use version_chain::Chains;
 
-/// The versions after an event: a Put gives its transaction's version the value, at the place `at`, and an abort takes
+/// The versions after an event: a Put gives its transaction's version the value, at the place, and an abort takes
 /// away all versions of its transaction.
-pub fn keep_versions<C: Chains>(chains: &mut C, event: Event, at: usize)
+pub fn keep_versions<C: Chains>(chains: &mut C, event: Event, place: Place)
     requires room { HasRoomForVersion (C.spare chains.old) event }
-    requires place { HasPlace (C.lists chains.old) event at }
-    ensures { (S : Setup) (P : List Event) → TreeFacts S → Lawful S (event ∷ P) → HoldsVersions S P (C.lists chains.old) → PutsAt S P (C.lists chains.old) event at → HoldsVersions S (event ∷ P) (C.lists chains.new) }
+    requires place { HasPlace (C.lists chains.old) event place }
+    ensures { (S : Setup) (P : List Event) → TreeFacts S → Lawful S (event ∷ P) → HoldsVersions S P (C.lists chains.old) → PutsAt S P (C.lists chains.old) event place → HoldsVersions S (event ∷ P) (C.lists chains.new) }
 {
     match event {
         Event::Put { txn, cell, value } => {
-            if chains.find(cell, txn).is_some() {
-                chains.overwrite(cell, at, value);
+            if place.is_there {
+                chains.overwrite(cell, place.at, value);
             } else {
-                chains.place(cell, at, txn, value);
+                chains.place(cell, place.at, txn, value);
             }
         }
         Event::Gone { txn, .. } => chains.remove_all_of(txn),

@@ -9,6 +9,7 @@ ghost use Rattle.engine_core.specs.Wholes.{StateIsWhole, LogHasRoom};
 use crate::append_event::append_event;
 use crate::engine_state::EngineState;
 use crate::scans::cell_at;
+use candidate_reads::Place;
 use phase_api::Control;
 use teb_history::Event;
 use teb_names::{Cell, ScanList, Txn};
@@ -43,6 +44,7 @@ pub fn read_cells<K: Control, C: Chains>(
                 from,
                 value,
             },
+            Place::FRONT,
         );
         values.push(value);
     }

@@ -29,7 +29,7 @@ pub fn decide_scan<K: Control, C: Chains>(
     requires whole { ViewIsWhole K.node_number K.stands C.lists view.now }
     requires unfinished { IsTrue (unfinished (events_in view.now) t.0) }
     ensures answer { carried (store_in view.now) (events_in view.now) result ≡ answer_of (store_in view.now) (events_in view.now) t.0 (request.Scan first count) }
-    ensures bounded { IsBounded (store_in view.now).setup (events_in view.now) result }
+    ensures bounded { IsBounded (C.lists view.now.chains.now) (store_in view.now).setup (events_in view.now) result }
 {
     if let Some(why) = refusal(view, t, first) {
         return refused(why);

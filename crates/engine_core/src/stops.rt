@@ -4,6 +4,8 @@ ghost use Rattle.std.specs.Prelude.{◌≡◌, ◌<◌, length, true, false, IsT
 ghost use Rattle.teb_history.specs.Phases.{unfinished};
 ghost use Rattle.teb_rules.specs.Stops.{stop_of, access_stop, prepare_stop, commit_stop, begin_stop};
 ghost use Rattle.cc_tree.specs.Grown.{node_numbers};
+ghost use Rattle.version_chain.specs.Lists.{writers_of};
+ghost use Rattle.phase_api.specs.Versions.{IsPlaceOf};
 ghost use Rattle.engine_core.specs.Wholes.{store_in, events_in, ViewIsWhole};
 ghost use Rattle.engine_core.specs.Stopping.{verdict_on, MayAsk, MayAskAlong};
 ghost use Rattle.engine_core.specs.Asking.{IsAsking};
@@ -33,13 +35,18 @@ pub fn read_stop<K: Control, C: Chains>(view: &EngineView<K, C>, t: Txn, cell: C
     stop_along(view.path_of(t), view, Question::Read(t, cell))
 }
 
-/// Where a write stops.
-pub fn write_stop<K: Control, C: Chains>(view: &EngineView<K, C>, t: Txn, cell: Cell) -> Stop
+/// Where a write stops, whose version has, or would have, the place `at`.
+pub fn write_stop<K: Control, C: Chains>(
+    view: &EngineView<K, C>,
+    t: Txn,
+    cell: Cell,
+    at: usize,
+) -> Stop
     requires whole { ViewIsWhole K.node_number K.stands C.lists view.now }
     requires asks { IsAsking (store_in view.now).setup (events_in view.now) t.0 cell }
+    requires place { IsPlaceOf (store_in view.now).setup (events_in view.now) cell t.0 at (writers_of (C.lists view.now.chains.now cell)) }
     ensures { result ≡ access_stop (store_in view.now).setup (events_in view.now) t.0 cell true }
 {
-    let at = view.place_of(t, cell);
     stop_along(view.path_of(t), view, Question::Write(t, cell, at))
 }
 

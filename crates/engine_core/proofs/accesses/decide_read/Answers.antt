@@ -15,7 +15,7 @@ returns-in-Some-stopped-clause-answer g c =
     ∙ sym (is_not_refused (store_in c.args.view.now) (events_in c.args.view.now) c.args.t.0 c.args.cell _ _ c.refusal.ensures.refusal c.in_default.is)
 
 pub returns-in-Some-stopped-clause-bounded : goal.returns-in-Some-stopped-clause-bounded
-returns-in-Some-stopped-clause-bounded g c = stops_bounded (store_in c.args.view.now) (events_in c.args.view.now) c.args.t.0 _ _ c.in-Some-stopped.decision (c.stopped.ensures (store_in c.args.view.now) (events_in c.args.view.now)) c.in-Some-stopped.is
+returns-in-Some-stopped-clause-bounded g c = stops_bounded (store_in c.args.view.now) (g.C.Chains.lists c.args.view.now.chains.now) (events_in c.args.view.now) c.args.t.0 _ _ c.in-Some-stopped.decision (c.stopped.ensures (store_in c.args.view.now) (events_in c.args.view.now)) c.in-Some-stopped.is
 
 pub returns-clause-answer : goal.returns-clause-answer
 unfolding answer_of

@@ -27,7 +27,7 @@ returns-clause-whole g c =
     whole_after g.K.Control.node_number g.K.Control.stands (store_of c.args.state.now.setup) H c.push.new.self.events c.args.event c.args.state.now.controls.items c.note_each.new.controls.items
     (g.C.Chains.lists c.args.state.now.chains) (g.C.Chains.lists c.keep_versions.new.chains) c.args.state.now.book.lists c.note.new.self.lists c.args.state.now.cursors.cursors c.move_cursors.new.cursors.cursors
     c.requires.whole c.requires.granted c.requires.begins c.push.ensures.events c.note_each.ensures.stand
-    (c.keep_versions.ensures S H (tree_facts S c.requires.whole.sound) (lawful_cons S c.args.event H c.requires.granted c.requires.whole.lawful) c.requires.whole.versions c.place_for-at.ensures.order)
+    (c.keep_versions.ensures S H (tree_facts S c.requires.whole.sound) (lawful_cons S c.args.event H c.requires.granted c.requires.whole.lawful) c.requires.whole.versions c.requires.order)
     (c.note.ensures.book H c.requires.whole.book (granted_follows S H c.args.event c.requires.granted))
     c.move_cursors.ensures
 

@@ -8,7 +8,7 @@ unfolding answer_of
 returns-in-Some-clause-answer g c = stops (store_in c.args.view.now) (events_in c.args.view.now) c.args.t.0 _ _ _ c.in-Some.decision _ c.commit_stop.ensures (c.stopped.ensures (store_in c.args.view.now) (events_in c.args.view.now)) c.in-Some.is
 
 pub returns-in-Some-clause-bounded : goal.returns-in-Some-clause-bounded
-returns-in-Some-clause-bounded g c = stops_bounded (store_in c.args.view.now) (events_in c.args.view.now) c.args.t.0 _ _ c.in-Some.decision (c.stopped.ensures (store_in c.args.view.now) (events_in c.args.view.now)) c.in-Some.is
+returns-in-Some-clause-bounded g c = stops_bounded (store_in c.args.view.now) (g.C.Chains.lists c.args.view.now.chains.now) (events_in c.args.view.now) c.args.t.0 _ _ c.in-Some.decision (c.stopped.ensures (store_in c.args.view.now) (events_in c.args.view.now)) c.in-Some.is
 
 pub returns-in-None-clause-answer : goal.returns-in-None-clause-answer
 unfolding answer_of

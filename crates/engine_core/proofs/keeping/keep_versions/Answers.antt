@@ -1,31 +1,31 @@
 use Rattle.std.proofs.Common.{sym, ◌∙◌, subst}
 use Rattle.teb_history.specs.declared.Event.{Event}
 use Rattle.engine_core.specs.Keeping.{HasPlace}
-use Rattle.engine_core.proofs.VersionSteps.{found_writer, place_within, after_overwrite, after_place, after_removal, after_others}
+use Rattle.engine_core.proofs.VersionSteps.{place_within, after_overwrite, after_place, after_removal, after_others}
 use Rattle.engine_core.proofs.keeping.keep_versions.Goals as goal
 
 pub overwrite-requires : goal.overwrite-requires
 overwrite-requires g c =
-    let p = subst (λ (e : Event). HasPlace (g.C.Chains.lists c.args.chains.now) e c.args.at) c.in-Put.is c.requires.place in
-    let w = sym (found_writer (g.C.Chains.lists c.args.chains.now c.in-Put.cell) c.in-Put.txn.0 c.find.result c.is_some.result c.find.ensures c.is_some.ensures) ∙ c.if-is_some.true in
-    place_within _ c.args.at c.in-Put.txn.0 (p.1 w)
+    let p = subst (λ (e : Event). HasPlace (g.C.Chains.lists c.args.chains.now) e c.args.place) c.in-Put.is c.requires.place in
+    place_within _ c.args.place.at c.in-Put.txn.0 (p.1 (sym p.2 ∙ c.if-place.true))
 
 pub place-requires-clause-absent : goal.place-requires-clause-absent
-place-requires-clause-absent g c = sym (found_writer (g.C.Chains.lists c.args.chains.now c.in-Put.cell) c.in-Put.txn.0 c.find.result c.is_some.result c.find.ensures c.is_some.ensures) ∙ c.if-is_some.false
+place-requires-clause-absent g c =
+    let p = subst (λ (e : Event). HasPlace (g.C.Chains.lists c.args.chains.now) e c.args.place) c.in-Put.is c.requires.place in
+    sym p.2 ∙ c.if-place.false
 
-pub returns-then-is_some : goal.returns-then-is_some
-returns-then-is_some g c = λ S P a l h q.
-    let p = subst (λ (e : Event). HasPlace (g.C.Chains.lists c.args.chains.now) e c.args.at) c.in-Put.is c.requires.place in
-    let w = sym (found_writer (g.C.Chains.lists c.args.chains.now c.in-Put.cell) c.in-Put.txn.0 c.find.result c.is_some.result c.find.ensures c.is_some.ensures) ∙ c.if-is_some.true in
-    after_overwrite c.args.event c.args.at _ _ S P a l h c.in-Put.txn c.in-Put.cell c.in-Put.value c.in-Put.is (p.1 w) c.overwrite.ensures.here c.overwrite.ensures.elsewhere
+pub returns-then-place : goal.returns-then-place
+returns-then-place g c = λ S P a l h q.
+    let p = subst (λ (e : Event). HasPlace (g.C.Chains.lists c.args.chains.now) e c.args.place) c.in-Put.is c.requires.place in
+    after_overwrite c.args.event c.args.place _ _ S P a l h c.in-Put.txn c.in-Put.cell c.in-Put.value c.in-Put.is (p.1 (sym p.2 ∙ c.if-place.true)) c.overwrite.ensures.here c.overwrite.ensures.elsewhere
 
-pub returns-else-is_some : goal.returns-else-is_some
-returns-else-is_some g c = λ S P a l h q.
-    let w = sym (found_writer (g.C.Chains.lists c.args.chains.now c.in-Put.cell) c.in-Put.txn.0 c.find.result c.is_some.result c.find.ensures c.is_some.ensures) ∙ c.if-is_some.false in
-    after_place c.args.event c.args.at _ _ S P a l h c.in-Put.txn c.in-Put.cell c.in-Put.value c.in-Put.is w q c.place.ensures.here c.place.ensures.elsewhere
+pub returns-else-place : goal.returns-else-place
+returns-else-place g c = λ S P a l h q.
+    let p = subst (λ (e : Event). HasPlace (g.C.Chains.lists c.args.chains.now) e c.args.place) c.in-Put.is c.requires.place in
+    after_place c.args.event c.args.place _ _ S P a l h c.in-Put.txn c.in-Put.cell c.in-Put.value c.in-Put.is (sym p.2 ∙ c.if-place.false) q c.place.ensures.here c.place.ensures.elsewhere
 
 pub returns-in-Gone : goal.returns-in-Gone
-returns-in-Gone g c = λ S P a l h q. after_removal c.args.event c.args.at _ _ S P a l h c.in-Gone.txn c.in-Gone.cause c.in-Gone.is c.remove_all_of.ensures.lists
+returns-in-Gone g c = λ S P a l h q. after_removal c.args.event c.args.place _ _ S P a l h c.in-Gone.txn c.in-Gone.cause c.in-Gone.is c.remove_all_of.ensures.lists
 
 pub returns-in_default : goal.returns-in_default
 returns-in_default g c = λ S P a l h q. after_others c.args.event _ S P a l h c.in_default.not-Put c.in_default.not-Gone

@@ -1,7 +1,9 @@
-use Rattle.std.proofs.Common.{◌≡◌, subst}
+use Rattle.std.proofs.Common.{◌≡◌, List, ap, subst}
+use Rattle.teb_names.specs.declared.Cell.{Cell}
 use Rattle.teb_history.specs.Written.{Written}
 use Rattle.teb_rules.specs.Setup.{Store}
 use Rattle.teb_rules.specs.Answer.{answer}
+use Rattle.version_chain.specs.Lists.{Version}
 use Rattle.engine_core.specs.Decisions.{carried, IsBounded}
 use Rattle.engine_core.specs.Stores.{store_of}
 use Rattle.engine_core.specs.Wholes.{events_in}
@@ -19,5 +21,6 @@ returns-clause-answer g c =
 
 pub returns-clause-bounded : goal.returns-clause-bounded
 returns-clause-bounded g c =
-    subst (λ (h : Written). IsBounded (store_of c.args.self.now.setup).setup h.events c.decide.result) c.view.ensures.history
-    (subst (λ (X : Store). IsBounded X.setup (events_in c.view.result) c.decide.result) c.view.ensures.store c.decide.ensures.bounded)
+    subst (λ (L : Cell → List Version). IsBounded L (store_of c.args.self.now.setup).setup c.args.self.now.history.events c.decide.result) (ap g.C.Chains.lists c.view.ensures.chains)
+    (subst (λ (h : Written). IsBounded (g.C.Chains.lists c.view.result.chains.now) (store_of c.args.self.now.setup).setup h.events c.decide.result) c.view.ensures.history
+    (subst (λ (X : Store). IsBounded (g.C.Chains.lists c.view.result.chains.now) X.setup (events_in c.view.result) c.decide.result) c.view.ensures.store c.decide.ensures.bounded))
