@@ -68,10 +68,10 @@ Listed : (Txn → Bool) → List Txn → Option Txn → Type 0
 Listed q ts None = (t : Txn) → has t.0 ts ≡ true → q t ≡ false
 Listed q ts (Some t) = IsFirstTxn q ts t
 
-same_txn : (t u : Txn) → t.0 ≡ u.0 → t ≡ u
+pub same_txn : (t u : Txn) → t.0 ≡ u.0 → t ≡ u
 same_txn t u e = ap (λ (n : ℕ). record { 0 = n }) e
 
-has-above : (n : ℕ) (ts : List Txn) → AllAbove number_of n ts → (t : ℕ) → has t ts ≡ true → n < t
+pub has-above : (n : ℕ) (ts : List Txn) → AllAbove number_of n ts → (t : ℕ) → has t ts ≡ true → n < t
 unfolding has
 has-above n [] h t a = absurd (cc)
 has-above n (u ∷ us) h t a = go (eqb u.0 t) refl a (has-above n us h.1 t)

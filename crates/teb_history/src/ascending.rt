@@ -36,14 +36,18 @@ pub fn put_standing(standings: &mut Vec<Standing>, standing: Standing)
     }
 }
 
-/// Puts a transaction in, or takes it out.
-pub fn keep_txn(txns: &mut Vec<Txn>, t: Txn, is_in: bool)
+/// Puts a transaction in, or takes it out; where it is to be as it was, nothing is looked at.
+pub fn keep_txn(txns: &mut Vec<Txn>, t: Txn, was_in: bool, is_in: bool)
     requires ascending { IsAscendingBy number_of txns.old.items }
+    requires kept { txns.old.items ≡ cond was_in (put_by number_of t txns.old.items) (filter (λ u. not (eqb u.0 t.0)) txns.old.items) }
     requires room { vec_len txns.old < vec_capacity txns.old }
     ensures items { txns.new.items ≡ cond is_in (put_by number_of t txns.old.items) (filter (λ u. not (eqb u.0 t.0)) txns.old.items) }
     ensures len { vec_len txns.new ≤ vec_len txns.old + 1 }
     ensures capacity { vec_capacity txns.old ≤ vec_capacity txns.new }
 {
+    if was_in == is_in {
+        return;
+    }
     if !is_in {
         txns.retain(|u| *u != t);
     } else if let Err(i) = find_txn(txns, t) {

@@ -1,0 +1,47 @@
+-- A transaction that is live as before changes nothing in the list of those that are live.
+use Rattle.std.proofs.Common.{◌≡◌, ℕ, ◌<◌, ◌≤◌, Bool, true, false, cond, not, ◌||◌, ltb, eqb, List, [], ◌∷◌, filter, ◌⊎◌, inl, inr, ◌≢◌, refl, sym, ◌∙◌, ap, arith}
+use Rattle.std.proofs.lemmas.Bool.Decides.{eqb_tells}
+use Rattle.teb_names.specs.declared.Txn.{Txn}
+use Rattle.teb_history.specs.declared.Event.{Event}
+use Rattle.teb_history.specs.Ascending.{IsAscendingBy, put_by}
+use Rattle.teb_history.specs.Live.{number_of, is_live, live_txns}
+use Rattle.teb_history.proofs.Comparisons.{ltb_tells}
+use Rattle.teb_history.proofs.Mentioned.{has, live-ascending}
+use Rattle.teb_history.proofs.FirstLive.{same_txn, has-above, live_listed, listed_live}
+
+-- one that is there is put in for itself
+put-there : (t : Txn) (ts : List Txn) → IsAscendingBy number_of ts → has t.0 ts ≡ true → ts ≡ put_by number_of t ts
+unfolding has
+put-there t [] a h = absurd (cc)
+put-there t (x ∷ xs) a h = go (ltb_tells x.0 t.0) (eqb_tells x.0 t.0) (put-there t xs a.1)
+  where
+    among : eqb x.0 t.0 ≡ false → has t.0 xs ≡ true
+    among e = ap (λ (b : Bool). b || has t.0 xs) (sym e) ∙ h
+
+    go : ((ltb x.0 t.0 ≡ true) × (x.0 < t.0)) ⊎ ((ltb x.0 t.0 ≡ false) × (t.0 ≤ x.0)) → ((eqb x.0 t.0 ≡ true) × (x.0 ≡ t.0)) ⊎ ((eqb x.0 t.0 ≡ false) × (x.0 ≢ t.0)) → (has t.0 xs ≡ true → xs ≡ put_by number_of t xs)
+        → x ∷ xs ≡ put_by number_of t (x ∷ xs)
+    go (inl l) (inl e) ih = absurd (omega (arith, l.1, e.1))
+    go (inl l) (inr e) ih = rw l.0 (ap (λ (ys : List Txn). x ∷ ys) (ih (among e.0)))
+    go (inr l) (inl e) ih = rw (l.0, e.0) (ap (λ (y : Txn). y ∷ xs) (same_txn x t e.1))
+    go (inr l) (inr e) ih = absurd (let above = has-above x.0 xs a.0 t.0 (among e.0) in omega (arith, l.1))
+
+-- one that is not there is taken out for nothing
+filter-absent : (t : ℕ) (ts : List Txn) → has t ts ≡ false → ts ≡ filter (λ u. not (eqb u.0 t)) ts
+unfolding has
+filter-absent t [] h = refl
+filter-absent t (x ∷ xs) h = go (eqb x.0 t) h (filter-absent t xs)
+  where
+    go : (b : Bool) → (b || has t xs) ≡ false → (has t xs ≡ false → xs ≡ filter (λ u. not (eqb u.0 t)) xs) → x ∷ xs ≡ cond (not b) (x ∷ filter (λ u. not (eqb u.0 t)) xs) (filter (λ u. not (eqb u.0 t)) xs)
+    go true h ih = absurd (cc)
+    go false h ih = ap (λ (ys : List Txn). x ∷ ys) (ih h)
+
+pub live-kept : (H : List Event) (t : Txn) → live_txns H ≡ cond (is_live H t.0) (put_by number_of t (live_txns H)) (filter (λ u. not (eqb u.0 t.0)) (live_txns H))
+live-kept H t = go (is_live H t.0) refl
+  where
+    absent : (b : Bool) → has t.0 (live_txns H) ≡ b → is_live H t.0 ≡ false → has t.0 (live_txns H) ≡ false
+    absent true h q = absurd (let l = listed_live H t h in cc)
+    absent false h q = h
+
+    go : (b : Bool) → is_live H t.0 ≡ b → live_txns H ≡ cond b (put_by number_of t (live_txns H)) (filter (λ u. not (eqb u.0 t.0)) (live_txns H))
+    go true q = put-there t (live_txns H) (live-ascending H) (live_listed H t q)
+    go false q = filter-absent t.0 (live_txns H) (absent (has t.0 (live_txns H)) refl q)
