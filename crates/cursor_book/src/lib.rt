@@ -9,6 +9,9 @@ use std::marker::Model;
 use teb_names::{Table, Txn};
 use txn_profile::Profile;
 
+/// For how many transactions more than are asked for room is made at a time.
+const AHEAD: usize = 256;
+
 /// The cursor of each transaction that has begun, by its number. Contracts see the list of them, that of transaction 1
 /// first, and for how many more there is room.
 #[derive(Drop)]
@@ -39,15 +42,19 @@ impl Cursors {
         }
     }
 
-    /// Makes room for n more transactions. An `Err` leaves all as it was.
+    /// Makes room for n more transactions, and for some more where there is less. An `Err` leaves all as it was.
     pub fn reserve(&mut self, n: usize) -> Result<(), AllocError>
         ensures cursors { self.new.cursors ≡ self.old.cursors }
         ensures ok { OnOk result (n ≤ self.new.spare) }
         ensures err { OnErr result (self.new ≡ self.old) }
         ensures kept { self.old.spare ≤ self.new.spare }
     {
-        self.cursors.reserve(n)?;
-        self.spare = self.spare.max(n);
+        if n <= self.spare {
+            return Ok(());
+        }
+        let room = n.saturating_add(AHEAD);
+        self.cursors.reserve(room)?;
+        self.spare = room;
         Ok(())
     }
 
