@@ -1,14 +1,16 @@
 -- Whether a batch closed before another started, told by where it closed.
-use Rattle.std.proofs.Common.{◌≡◌, ℕ, ◌≤◌, Bool, true, false, cond, ltb, List, length, Option, Some, None, refl, sym, ◌∙◌, ap, arith, le-ltb}
-use Rattle.std.proofs.lemmas.Bool.{ltb-false}
+use Rattle.std.proofs.Common.{◌≡◌, ℕ, ◌≤◌, Bool, true, false, cond, ltb, List, [], ◌∷◌, length, Option, Some, None, refl, sym, ◌∙◌, ap, arith, le-ltb, inl, inr}
+use Rattle.std.proofs.lemmas.Bool.{ltb-false, both_ways, cases_Bool}
 use Rattle.teb_history.specs.declared.Event.{Event}
 use Rattle.teb_history.specs.Positions.{came}
-use Rattle.teb_history.specs.Phases.{begun}
+use Rattle.teb_history.specs.Phases.{begun, unfinished}
 use Rattle.teb_rules.specs.Setup.{Setup}
+use Rattle.teb_rules.specs.Tree.{on, side}
 use Rattle.teb_rules.specs.Batches.{start, close}
-use Rattle.batch_book.specs.Book.{closes_before}
-use Rattle.batch_book.specs.Histories.{closing}
-use Rattle.batch_book.proofs.Intervals.{start-lt}
+use Rattle.batch_book.specs.Book.{closes_before, closed_at}
+use Rattle.batch_book.specs.Histories.{IsNumbered, closing}
+use Rattle.batch_book.proofs.Numbered.{begun_none, begins_once, unfinished_parts, unfinished_before, on_kept, side_kept}
+use Rattle.batch_book.proofs.Intervals.{start-lt, busy_idle, closing_step, closing_here}
 
 closed : (b : Bool) (c s k : ℕ) → cond b (Some c) None ≡ Some k → ltb k s ≡ ltb c s
 closed true c s k h = let e : c ≡ k = cc in ap (λ (m : ℕ). ltb m s) (sym e)
@@ -36,3 +38,15 @@ closes_as S H n u t b = go (closing S H n u) refl
     go : (c : Option ℕ) → closing S H n u ≡ c → closes_before c (start S H n t) ≡ ltb (close S H n u) (start S H n t)
     go (Some k) e = closed_before S H n u t k (start S H n t) (sym e) refl
     go None e = still_open S H n u t (sym e) b
+
+-- the batch of one that is unfinished has not closed
+pub unfinished_open : (S : Setup) (H : List Event) (n u : ℕ) → IsNumbered H → unfinished H u ≡ true → on S H n u ≡ true → closing S H n u ≡ None
+unfolding IsNumbered
+unfinished_open S [] n u k h o = absurd (both_ways _ (begun_none u) (unfinished_parts [] u h).0)
+unfinished_open S (e ∷ P) n u k h o = elim (cases_Bool (begun P u)) [
+  | inl b ↦ (let other = begins_once e P u k.1 k.0 b in
+      let busy = busy_idle S (e ∷ P) n (side S P n u) u k h o (side_kept S e P n u other) in
+      let before = unfinished_open S P n u k.1 (unfinished_before e P u other h) (sym (on_kept S e P n u other) ∙ o) in
+      closing_step S e P n u b other ∙ (λ j. closed_at (busy j) (length P) (before j)))
+  | inr f ↦ closing_here S e P n u f (busy_idle S (e ∷ P) n (side S (e ∷ P) n u) u k h o refl)
+]
