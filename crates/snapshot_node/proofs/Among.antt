@@ -9,7 +9,7 @@ use Rattle.teb_history.proofs.Comparisons.{ltb_tells}
 use Rattle.teb_history.specs.Ascending.{AllAbove, IsAscendingBy, next_place, place_of, put_by}
 use Rattle.teb_history.specs.Live.{number_of}
 use Rattle.teb_history.proofs.AscendingLists.{put-insert, put-same, ascending-put}
-use Rattle.snapshot_node.specs.Slots.{is_among}
+use Rattle.snapshot_node.specs.Accessors.{is_among}
 use Rattle.snapshot_node.proofs.KeyOrders.{Keyed}
 
 -- a transaction is its number

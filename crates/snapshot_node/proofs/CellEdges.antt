@@ -1,7 +1,7 @@
 -- To whom edges lead from a transaction, and from whom they lead to it, cell by cell.
-use Rattle.std.proofs.Common.{◌≡◌, ℕ, Bool, true, false, cond, not, ◌&&◌, List, ◌⊎◌, inl, inr, Option, Some, None, is_some, ℤ, refl, sym, ◌∙◌, ap}
+use Rattle.std.proofs.Common.{◌≡◌, ℕ, Bool, true, false, cond, not, ◌&&◌, List, inl, inr, Option, Some, None, is_some, ℤ, refl, sym, ◌∙◌, ap}
 use Rattle.std.specs.List.{list_any}
-use Rattle.std.proofs.lemmas.Bool.{and_parts, and_from, cases_Bool, not_from_false}
+use Rattle.std.proofs.lemmas.Bool.{and_parts, and_from, cases_Bool, not_from_false, or_left, or_right}
 use Rattle.teb_names.specs.declared.Cell.{Cell}
 use Rattle.teb_names.specs.declared.Txn.{Txn}
 use Rattle.teb_names.specs.declared.ControlKind.TheVariants.{Snapshot}
@@ -24,11 +24,11 @@ use Rattle.batch_book.specs.Fields.{Has}
 use Rattle.batch_book.proofs.Elements.{any_Has, Has-any}
 use Rattle.batch_book.proofs.Numbered.{unfinished_from}
 use Rattle.version_chain.proofs.Cells.{same_cell-itself, same_cell-exact}
-use Rattle.snapshot_node.specs.Standing.{writers_in, readers_in}
-use Rattle.snapshot_node.specs.Pivots.{is_at_stake, is_across, lesser_of, IsLeast, IsAcross, PutsAcross, Leads}
-use Rattle.snapshot_node.proofs.Leaving.{some_if}
+use Rattle.snapshot_node.specs.Standing.{counts, writers_in, readers_in}
+use Rattle.snapshot_node.specs.Pivots.{is_at_stake, is_across, IsAcross, PutsAcross, Leads}
+use Rattle.snapshot_node.proofs.Forgetting.{some_if}
 use Rattle.snapshot_node.proofs.Listed.{puts_parts, among_writers, reads_parts, among_readers}
-use Rattle.snapshot_node.proofs.Least.{least_as, least_either, Along, along_of, along_item}
+use Rattle.snapshot_node.proofs.Least.{Along, along_of, along_item}
 use Rattle.snapshot_node.proofs.Edges.{gets_put, edge_found, stake_stands, across_turned}
 
 -- a cell that a has read and b has put
@@ -95,32 +95,26 @@ module _ (S : Setup) (H : List Event) (n t : ℕ) where
 
 -- those at stake, where t is not aborted
 module _ (S : Setup) (H : List Event) (n t : ℕ) (l : Lawful S H) (o : IsOrderly S H) (runs : aborted H t ≡ false) where
-  pub puts_across : (phase : List Event → ℕ → Bool) (c : ℕ) (x : Cell) (u : ℕ) → IsAcross S H n t c (writers_in phase S H n x) u → PutsAcross S H n t c x u
-  puts_across phase c x u h = record {
-    put = (puts_parts phase S H n x u (sym (among_writers phase S H n x u o) ∙ h.listed)).2;
-    stake = h.stake;
-    across = h.across;
-  }
-
-  listed_across : (phase : List Event → ℕ → Bool) (c : ℕ) (x : Cell) (u : ℕ) → phase H u ≡ true → PutsAcross S H n t c x u → IsAcross S H n t c (writers_in phase S H n x) u
-  listed_across phase c x u p h = record {
-    listed = among_writers phase S H n x u o ∙ and_from _ _ (and_from _ _ (meets_parts S H n c u (and_parts (meets S H n c u) (concurrent S H n c u) h.across).0).1 p) h.put;
-    stake = h.stake;
-    across = h.across;
-  }
-
-  -- the writers at stake are the committed and the unfinished ones
-  pub either_across : (c : ℕ) (x : Cell) (u : ℕ) → PutsAcross S H n t c x u → IsAcross S H n t c (writers_in committed S H n x) u ⊎ IsAcross S H n t c (writers_in unfinished S H n x) u
-  either_across c x u h = elim (cases_Bool (committed H u)) [
-    | inl e ↦ inl (listed_across committed c x u e h)
-    | inr e ↦ inr (listed_across unfinished c x u (unfinished_from H u (o.wrote u x h.put) e (stake_stands S H t u l runs h.stake)) h)
+  -- who is at stake and has put a cell is among its writers
+  stake_counts : (u : ℕ) (x : Cell) → wrote H u x ≡ true → is_at_stake H t u ≡ true → counts H u ≡ true
+  stake_counts u x w st = elim (cases_Bool (committed H u)) [
+    | inl e ↦ or_right (unfinished H u) _ e
+    | inr e ↦ or_left (unfinished H u) _ (unfinished_from H u (o.wrote u x w) e (stake_stands S H t u l runs st))
   ]
 
-  pub writers_across : (c : ℕ) (x : Cell) (a b : Option Txn) → IsLeast (IsAcross S H n t c (writers_in committed S H n x)) a → IsLeast (IsAcross S H n t c (writers_in unfinished S H n x)) b → IsLeast (PutsAcross S H n t c x) (lesser_of a b)
-  writers_across c x a b p q =
-      let P = IsAcross S H n t c (writers_in committed S H n x) in
-      let Q = IsAcross S H n t c (writers_in unfinished S H n x) in
-      least_as (λ u. P u ⊎ Q u) (PutsAcross S H n t c x) (lesser_of a b) (λ u h. elim h [ inl y ↦ puts_across committed c x u y | inr y ↦ puts_across unfinished c x u y ]) (either_across c x) (least_either P Q a b p q)
+  pub puts_across : (c : ℕ) (x : Cell) (u : ℕ) → IsAcross S H n t c (writers_in S H n x) u → PutsAcross S H n t c x u
+  puts_across c x u h = record {
+    put = (puts_parts S H n x u (sym (among_writers S H n x u o) ∙ h.listed)).2;
+    stake = h.stake;
+    across = h.across;
+  }
+
+  pub listed_across : (c : ℕ) (x : Cell) (u : ℕ) → PutsAcross S H n t c x u → IsAcross S H n t c (writers_in S H n x) u
+  listed_across c x u h = record {
+    listed = among_writers S H n x u o ∙ and_from _ _ (and_from _ _ (meets_parts S H n c u (and_parts (meets S H n c u) (concurrent S H n c u) h.across).0).1 (stake_counts u x h.put h.stake)) h.put;
+    stake = h.stake;
+    across = h.across;
+  }
 
   -- at a snapshot node
   module _ (a : TreeFacts S) (k : (row S.tree n).control ≡ Snapshot) where

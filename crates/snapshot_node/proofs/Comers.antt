@@ -21,7 +21,7 @@ use Rattle.phase_api.specs.Calls.{IsHere}
 use Rattle.batch_book.specs.Fields.{Has}
 use Rattle.batch_book.specs.Histories.{ClosedBelow}
 use Rattle.batch_book.proofs.Elements.{any_Has, Has-any}
-use Rattle.snapshot_node.specs.Slots.{is_among}
+use Rattle.snapshot_node.specs.Accessors.{is_among}
 use Rattle.snapshot_node.specs.Standing.{readers_in}
 use Rattle.snapshot_node.specs.Pivots.{is_at_stake, is_across, lesser_of, IsLeast, IsAcross, Leads, Leaves, IsLeft, Reaches, IsMiddle, IsFirst, ComesIn, ComesInBy}
 use Rattle.snapshot_node.proofs.Listed.{reads_parts, among_readers, readers_here}

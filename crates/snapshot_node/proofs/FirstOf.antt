@@ -6,7 +6,7 @@ use Rattle.teb_names.specs.declared.Txn.{Txn}
 use Rattle.teb_history.specs.Ascending.{AllAbove, IsAscendingBy}
 use Rattle.teb_history.specs.Live.{number_of}
 use Rattle.teb_history.proofs.AscendingLists.{ascending-filter}
-use Rattle.snapshot_node.specs.Slots.{is_among}
+use Rattle.snapshot_node.specs.Accessors.{is_among}
 use Rattle.snapshot_node.specs.Pivots.{IsLeast}
 use Rattle.snapshot_node.proofs.Among.{among_above}
 use Rattle.snapshot_node.proofs.Later.{kept_among}

@@ -7,7 +7,7 @@ use Rattle.teb_rules.specs.Setup.{Setup}
 use Rattle.teb_rules.specs.Tree.{meets}
 use Rattle.teb_rules.specs.Batches.{start, close, concurrent}
 use Rattle.snapshot_node.specs.declared.marks.Mark.{Mark}
-use Rattle.snapshot_node.specs.Slots.{is_among}
+use Rattle.snapshot_node.specs.Accessors.{is_among}
 use Rattle.snapshot_node.specs.Pivots.{is_across}
 use Rattle.snapshot_node.specs.Marks.{HaveGrown, IsTold}
 use Rattle.snapshot_node.proofs.FirstOf.{among_from}

@@ -7,7 +7,7 @@ use Rattle.teb_names.specs.declared.Txn.{Txn}
 use Rattle.teb_names.specs.declared.ControlKind.TheVariants.{Snapshot}
 use Rattle.teb_history.specs.declared.Event.{Event}
 use Rattle.teb_history.specs.OwnEvents.{own_events}
-use Rattle.teb_history.specs.Phases.{committed, unfinished, aborted}
+use Rattle.teb_history.specs.Phases.{aborted}
 use Rattle.teb_rules.specs.Setup.{Setup}
 use Rattle.teb_rules.specs.Tree.{row}
 use Rattle.teb_rules.specs.Batches.{one_batch}
@@ -18,7 +18,7 @@ use Rattle.snapshot_node.specs.Standing.{writers_in}
 use Rattle.snapshot_node.specs.Pivots.{IsLeast, IsLeastEdge, IsLeastEdgeFrom, IsMateAmong, IsMateByPut, EntersAt, Leads, Leaves, Reaches, ReachesOne, lesser_of, earlier_of}
 use Rattle.snapshot_node.proofs.Least.{least_as, least_either, Along}
 use Rattle.snapshot_node.proofs.Middles.{Both, both_from, both_to}
-use Rattle.snapshot_node.proofs.CellEdges.{Ahead, Behind, puts_across, either_across, ahead_leads, leads_ahead, behind_leads, leads_behind}
+use Rattle.snapshot_node.proofs.CellEdges.{Ahead, Behind, puts_across, listed_across, ahead_leads, leads_ahead, behind_leads, leads_behind}
 use Rattle.snapshot_node.proofs.Comers.{stake_itself}
 
 -- who does not pass the test has edges to t alone
@@ -80,18 +80,9 @@ module _ (S : Setup) (H : List Event) (n t b : ℕ) where
   IsMateOf u = IsTrue (one_batch S H n b u)
 
   module _ (l : Lawful S H) (o : IsOrderly S H) (runs : aborted H t ≡ false) where
-    -- whoever has put a cell is among the committed writers of the cell or among the unfinished ones
-    pub mate_writers : (x : Cell) (p q : Option Txn) → IsLeast (IsMateAmong S H n t b (writers_in committed S H n x)) p → IsLeast (IsMateAmong S H n t b (writers_in unfinished S H n x)) q → IsLeast (IsMateByPut S H n t b x) (lesser_of p q)
-    mate_writers x p q h k =
-        let P = IsMateAmong S H n t b (writers_in committed S H n x) in
-        let Q = IsMateAmong S H n t b (writers_in unfinished S H n x) in
-        least_as (λ u. P u ⊎ Q u) (IsMateByPut S H n t b x) (lesser_of p q)
-        (λ u h. elim h [
-          | inl y ↦ (puts_across S H n t l o runs committed t x u y.0, y.1)
-          | inr y ↦ (puts_across S H n t l o runs unfinished t x u y.0, y.1)
-        ])
-        (λ u h. elim (either_across S H n t l o runs t x u h.0) [ inl y ↦ inl (y, h.1) | inr y ↦ inr (y, h.1) ])
-        (least_either P Q p q h k)
+    -- whoever has put a cell is among its writers
+    pub mate_writers : (x : Cell) (p : Option Txn) → IsLeast (IsMateAmong S H n t b (writers_in S H n x)) p → IsLeast (IsMateByPut S H n t b x) p
+    mate_writers x p h = least_as (IsMateAmong S H n t b (writers_in S H n x)) (IsMateByPut S H n t b x) p (λ u y. (puts_across S H n t l o runs t x u y.0, y.1)) (λ u y. (listed_across S H n t l o runs t x u y.0, y.1)) h
 
     module _ (f : TreeFacts S) (k : (row S.tree n).control ≡ Snapshot) where
       pub along_behind : (c : ℕ) → Along (Both (Behind S H n t t) IsMateOf) (own_events H t) c → Leaves S H n t b c t

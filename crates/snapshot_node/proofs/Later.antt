@@ -1,12 +1,12 @@
 -- The transactions of an ascending list from a number on.
-use Rattle.std.proofs.Common.{◌≡◌, ℕ, zero, suc, ◌<◌, ◌≤◌, Bool, true, false, cond, not, ltb, leb, eqb, eq-eqb, lt-ltb, le-ltb, List, [], ◌∷◌, length, drop, filter, find, get_or, Some, refl, sym, ◌∙◌, ap, subst, inl, inr, arith}
+use Rattle.std.proofs.Common.{◌≡◌, ℕ, zero, suc, ◌<◌, ◌≤◌, Bool, true, false, cond, not, ◌&&◌, ltb, leb, eqb, eq-eqb, lt-ltb, le-ltb, List, [], ◌∷◌, length, drop, filter, find, get_or, Some, refl, sym, ◌∙◌, ap, subst, inl, inr, arith}
 use Rattle.std.specs.List.Sorted.{IsNonDecreasingBy, IsPartitionPoint}
 use Rattle.std.proofs.lemmas.Bool.{and_parts, both_ways, or_left, or_right, cases_lt}
 use Rattle.std.proofs.lemmas.Bool.Decides.{nat_tests}
 use Rattle.teb_names.specs.declared.Cell.{Cell}
 use Rattle.teb_names.specs.declared.Txn.{Txn}
 use Rattle.teb_history.specs.declared.Event.{Event}
-use Rattle.teb_history.specs.Phases.{committed}
+use Rattle.teb_history.specs.Phases.{begun, committed, unfinished}
 use Rattle.teb_history.specs.Ascending.{AllAbove, IsAscendingBy}
 use Rattle.teb_history.specs.Live.{number_of}
 use Rattle.teb_rules.specs.Setup.{Setup}
@@ -15,11 +15,12 @@ use Rattle.teb_rules.specs.Batches.{start, close}
 use Rattle.phase_api.specs.declared.facts.Facts.{Facts}
 use Rattle.phase_api.specs.FactsView.{IsOrderly, setup_of, events_of}
 use Rattle.phase_api.specs.Calls.{IsHere}
-use Rattle.batch_book.specs.Histories.{ClosedBelow}
-use Rattle.snapshot_node.specs.Slots.{is_among}
+use Rattle.batch_book.specs.Histories.{IsNumbered, ClosedBelow}
+use Rattle.batch_book.proofs.Closings.{still_open, unfinished_open}
+use Rattle.snapshot_node.specs.Accessors.{is_among}
 use Rattle.snapshot_node.specs.Standing.{writers_in}
 use Rattle.snapshot_node.proofs.Listed.{puts_parts, among_writers, writers_here}
-use Rattle.snapshot_node.proofs.Found.{comes_first}
+use Rattle.snapshot_node.proofs.Found.{comes_first, is_met}
 
 above_at : (n : ℕ) (xs : List Txn) → AllAbove number_of n xs → (i : ℕ) (d : Txn) → i < length xs → n < number_of (get_or xs i d)
 above_at n [] h i d l = absurd (omega arith)
@@ -73,27 +74,46 @@ kept_among r (x ∷ xs) i d l = go (r x) i (λ j. kept_among r xs j d) l
     go true (suc j) ih l = or_right (eqb x.0 (get_or (filter r xs) j d).0) _ (ih j (omega arith))
     go false i ih l = or_right (eqb x.0 (get_or (filter r xs) i d).0) _ (ih i l)
 
--- whoever wrote the cell first is numbered from the horizon m of t on
-only : (S : Setup) (H : List Event) (n m : ℕ) (x : Cell) → IsOrderly S H → (t : ℕ) → ClosedBelow S H n t m → (u : Txn) → is_among u.0 (writers_in committed S H n x) ≡ true → comes_first S H n t u ≡ true → leb m u.0 ≡ true
-only S H n m x o t below u a h = elim (cases_lt u.0 m) [
-  | inl l ↦ (let p = puts_parts committed S H n x u.0 (sym (among_writers committed S H n x u.0 o) ∙ a) in
-      let c = lt-ltb _ _ (below u.0 l (o.wrote u.0 x p.2) p.0) in
-      absurd (both_ways _ (ap not c) (and_parts (meets S H n t u.0) (not (ltb (close S H n u.0) (start S H n t))) h).1))
-  | inr l ↦ leb_ltb m u.0 false (le-ltb _ _ l)
-]
+-- whoever is of a batch that is not closed before t's starts is numbered from the horizon m of t on
+module _ (S : Setup) (H : List Event) (n m : ℕ) (x : Cell) (o : IsOrderly S H) (t : ℕ) (below : ClosedBelow S H n t m) (u : Txn) (a : is_among u.0 (writers_in S H n x) ≡ true) where
+  late : not (ltb (close S H n u.0) (start S H n t)) ≡ true → leb m u.0 ≡ true
+  late h = elim (cases_lt u.0 m) [
+    | inl l ↦ (let p = puts_parts S H n x u.0 (sym (among_writers S H n x u.0 o) ∙ a) in
+        let c = lt-ltb _ _ (below u.0 l (o.wrote u.0 x p.2) p.0) in
+        absurd (both_ways _ (ap not c) h))
+    | inr l ↦ leb_ltb m u.0 false (le-ltb _ _ l)
+  ]
+
+  -- so is whoever wrote the cell first
+  first_late : comes_first S H n t u ≡ true → leb m u.0 ≡ true
+  first_late h = late (and_parts (committed H u.0) (not (ltb (close S H n u.0) (start S H n t))) (and_parts (committed H u.0 && not (ltb (close S H n u.0) (start S H n t))) (meets S H n t u.0) h).0).1
+
+  -- and whoever is unfinished
+  met_late : IsNumbered H → begun H t ≡ true → is_met S H n t u ≡ true → leb m u.0 ≡ true
+  met_late k b h =
+      let p = puts_parts S H n x u.0 (sym (among_writers S H n x u.0 o) ∙ a) in
+      late (ap not (sym (still_open S H n u.0 t (sym (unfinished_open S H n u.0 k (and_parts (unfinished H u.0) (meets S H n t u.0) h).0 p.0)) b)))
 
 -- what is kept of one list is kept of the other
 pub kept : (m : ℕ) {xs ys ts : List Txn} → xs ≡ ys → ts ≡ filter (λ u. leb m u.0) xs → ts ≡ filter (λ u. leb m u.0) ys
 kept m e h = h ∙ ap (filter (λ (u : Txn). leb m u.0)) e
 
--- the committed writers of a cell from the horizon m of t on
-module _ (f : Facts) (n m : ℕ) (x : Cell) (o : IsOrderly (setup_of f) (events_of f)) (ts : List Txn) (e : ts ≡ filter (λ u. leb m u.0) (writers_in committed (setup_of f) (events_of f) n x)) where
+-- the writers of a cell from the horizon m of t on
+module _ (f : Facts) (n m : ℕ) (x : Cell) (o : IsOrderly (setup_of f) (events_of f)) (ts : List Txn) (e : ts ≡ filter (λ u. leb m u.0) (writers_in (setup_of f) (events_of f) n x)) where
   -- each of them is here
   pub later_here : (i : ℕ) (d : Txn) → i < length ts → IsHere f n (get_or ts i d).0
   later_here i d l =
-      let xs = writers_in committed (setup_of f) (events_of f) n x in
-      subst (λ (us : List Txn). IsHere f n (get_or us i d).0) (sym e) (writers_here f n x o committed _ (kept_among (λ u. leb m u.0) xs i d (omega (arith, ap (λ (us : List Txn). length us) e))))
+      let xs = writers_in (setup_of f) (events_of f) n x in
+      subst (λ (us : List Txn). IsHere f n (get_or us i d).0) (sym e) (writers_here f n x o _ (kept_among (λ u. leb m u.0) xs i d (omega (arith, ap (λ (us : List Txn). length us) e))))
 
-  -- the first one among them is the first one of all
-  pub first_later : (t : ℕ) → ClosedBelow (setup_of f) (events_of f) n t m → find (comes_first (setup_of f) (events_of f) n t) ts ≡ find (comes_first (setup_of f) (events_of f) n t) (writers_in committed (setup_of f) (events_of f) n x)
-  first_later t below = ap (λ (us : List Txn). find (comes_first (setup_of f) (events_of f) n t) us) e ∙ find_kept (comes_first (setup_of f) (events_of f) n t) (λ u. leb m u.0) (writers_in committed (setup_of f) (events_of f) n x) (only (setup_of f) (events_of f) n m x o t below)
+  module _ (t : ℕ) (below : ClosedBelow (setup_of f) (events_of f) n t m) where
+    found_later : (p : Txn → Bool) → ((u : Txn) → is_among u.0 (writers_in (setup_of f) (events_of f) n x) ≡ true → p u ≡ true → leb m u.0 ≡ true) → find p ts ≡ find p (writers_in (setup_of f) (events_of f) n x)
+    found_later p only = ap (λ (us : List Txn). find p us) e ∙ find_kept p (λ u. leb m u.0) (writers_in (setup_of f) (events_of f) n x) only
+
+    -- the first one among them is the first one of all
+    pub first_later : find (comes_first (setup_of f) (events_of f) n t) ts ≡ find (comes_first (setup_of f) (events_of f) n t) (writers_in (setup_of f) (events_of f) n x)
+    first_later = found_later (comes_first (setup_of f) (events_of f) n t) (first_late (setup_of f) (events_of f) n m x o t below)
+
+    -- and so is the first unfinished one
+    pub met_later : IsNumbered (events_of f) → begun (events_of f) t ≡ true → find (is_met (setup_of f) (events_of f) n t) ts ≡ find (is_met (setup_of f) (events_of f) n t) (writers_in (setup_of f) (events_of f) n x)
+    met_later k b = found_later (is_met (setup_of f) (events_of f) n t) (λ u a. met_late (setup_of f) (events_of f) n m x o t below u a k b)

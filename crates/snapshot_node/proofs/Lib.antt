@@ -1,7 +1,5 @@
 pub mod Among
 pub mod KeyOrders
-pub mod Handing
-pub mod Leaving
 pub mod Forgetting
 pub mod Said
 pub mod Listed

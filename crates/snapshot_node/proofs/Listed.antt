@@ -20,8 +20,8 @@ use Rattle.phase_api.specs.FactsView.{IsOrderly, setup_of, events_of}
 use Rattle.phase_api.specs.Calls.{IsHere}
 use Rattle.hold_register.specs.Waits.{some_txn}
 use Rattle.hold_register.proofs.Noting.{typed_now}
-use Rattle.snapshot_node.specs.Slots.{is_among}
-use Rattle.snapshot_node.specs.Standing.{puts_in, writers_in, has_read_in, readers_in}
+use Rattle.snapshot_node.specs.Accessors.{is_among}
+use Rattle.snapshot_node.specs.Standing.{counts, has_put_in, writers_in, has_read_in, readers_in}
 use Rattle.snapshot_node.specs.Pivots.{AreHere}
 use Rattle.snapshot_node.proofs.Among.{among_same}
 
@@ -88,21 +88,21 @@ at_among [] i d l = absurd (omega arith)
 at_among (t ∷ ts) zero d l = or_left _ _ (eq-eqb t.0 t.0 refl)
 at_among (t ∷ ts) (suc i) d l = or_right _ _ (at_among ts i d (omega arith))
 
-module _ (phase : List Event → ℕ → Bool) (S : Setup) (H : List Event) (n : ℕ) (x : Cell) where
-  pub puts_parts : (u : ℕ) → puts_in phase S H n x u ≡ true → (on S H n u ≡ true) × (phase H u ≡ true) × (wrote H u x ≡ true)
+module _ (S : Setup) (H : List Event) (n : ℕ) (x : Cell) where
+  pub puts_parts : (u : ℕ) → has_put_in S H n x u ≡ true → (on S H n u ≡ true) × (counts H u ≡ true) × (wrote H u x ≡ true)
   puts_parts u h =
-      let p = and_parts (on S H n u && phase H u) (wrote H u x) h in
-      let q = and_parts (on S H n u) (phase H u) p.0 in
+      let p = and_parts (on S H n u && counts H u) (wrote H u x) h in
+      let q = and_parts (on S H n u) (counts H u) p.0 in
       (q.0, q.1, p.1)
 
-  pub putter_begun : IsOrderly S H → (u : ℕ) → puts_in phase S H n x u ≡ true → begun H u ≡ true
+  pub putter_begun : IsOrderly S H → (u : ℕ) → has_put_in S H n x u ≡ true → begun H u ≡ true
   putter_begun o u h = o.wrote u x (puts_parts u h).2
 
-  pub among_writers : (u : ℕ) → IsOrderly S H → is_among u (writers_in phase S H n x) ≡ puts_in phase S H n x u
-  among_writers u o = among_those (puts_in phase S H n x) H o (putter_begun o) u
+  pub among_writers : (u : ℕ) → IsOrderly S H → is_among u (writers_in S H n x) ≡ has_put_in S H n x u
+  among_writers u o = among_those (has_put_in S H n x) H o (putter_begun o) u
 
-  pub writers_ascend : IsAscendingBy number_of (writers_in phase S H n x)
-  writers_ascend = those_ascend (puts_in phase S H n x) H
+  pub writers_ascend : IsAscendingBy number_of (writers_in S H n x)
+  writers_ascend = those_ascend (has_put_in S H n x) H
 
 module _ (S : Setup) (H : List Event) (n : ℕ) (x : Cell) where
   pub reads_parts : (u : ℕ) → has_read_in S H n x u ≡ true → (on S H n u ≡ true) × (not (aborted H u) ≡ true) × (got H u x ≡ true)
@@ -126,10 +126,10 @@ here_from f n u o b h = record { typed = typed_now f u o b; on = h }
 
 -- so each of them is
 module _ (f : Facts) (n : ℕ) (x : Cell) (o : IsOrderly (setup_of f) (events_of f)) where
-  pub writers_here : (phase : List Event → ℕ → Bool) → AreHere f n (writers_in phase (setup_of f) (events_of f) n x)
-  writers_here phase u a =
-      let h = sym (among_writers phase (setup_of f) (events_of f) n x u o) ∙ a in
-      here_from f n u o (putter_begun phase (setup_of f) (events_of f) n x o u h) (puts_parts phase (setup_of f) (events_of f) n x u h).0
+  pub writers_here : AreHere f n (writers_in (setup_of f) (events_of f) n x)
+  writers_here u a =
+      let h = sym (among_writers (setup_of f) (events_of f) n x u o) ∙ a in
+      here_from f n u o (putter_begun (setup_of f) (events_of f) n x o u h) (puts_parts (setup_of f) (events_of f) n x u h).0
 
   pub readers_here : AreHere f n (readers_in (setup_of f) (events_of f) n x)
   readers_here u a =

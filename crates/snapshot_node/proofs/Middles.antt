@@ -1,20 +1,20 @@
 -- Whom an edge leads to, and whose batch an edge leaves: the middle of a pivot.
-use Rattle.std.proofs.Common.{◌≡◌, ℕ, Bool, true, false, List, [], ◌∷◌, ◌⊎◌, inl, inr, Option, Some, None, is_some}
+use Rattle.std.proofs.Common.{◌≡◌, ℕ, Bool, true, false, List, [], ◌∷◌, inl, inr, Option, Some, None, is_some}
 use Rattle.teb_names.specs.declared.Cell.{Cell}
 use Rattle.teb_names.specs.declared.Txn.{Txn}
 use Rattle.teb_names.specs.declared.ControlKind.TheVariants.{Snapshot}
 use Rattle.teb_history.specs.declared.Event.{Event}
 use Rattle.teb_history.specs.OwnEvents.{own_events}
-use Rattle.teb_history.specs.Phases.{committed, unfinished, aborted}
+use Rattle.teb_history.specs.Phases.{aborted}
 use Rattle.teb_rules.specs.Setup.{Setup}
 use Rattle.teb_rules.specs.Tree.{row}
 use Rattle.teb_laws.specs.Lawful.{Lawful}
 use Rattle.teb_laws.specs.TreeFacts.{TreeFacts}
 use Rattle.phase_api.specs.FactsView.{IsOrderly}
 use Rattle.snapshot_node.specs.Standing.{writers_in}
-use Rattle.snapshot_node.specs.Pivots.{is_at_stake, lesser_of, IsLeast, IsLeastEdge, PutsAcross, IsLeft, IsMiddle, IsMiddleAmong}
-use Rattle.snapshot_node.proofs.Least.{least_as, least_either, Along}
-use Rattle.snapshot_node.proofs.CellEdges.{Ahead, puts_across, either_across, ahead_leads, leads_ahead}
+use Rattle.snapshot_node.specs.Pivots.{is_at_stake, IsLeast, IsLeastEdge, PutsAcross, IsLeft, IsMiddle, IsMiddleAmong}
+use Rattle.snapshot_node.proofs.Least.{least_as, Along}
+use Rattle.snapshot_node.proofs.CellEdges.{Ahead, puts_across, listed_across, ahead_leads, leads_ahead}
 
 -- what an option says of whether there is one
 pub least_some : (P : ℕ → Type 0) (o : Option Txn) (b : Bool) → b ≡ is_some o → b ≡ true → IsLeast P o → (u : ℕ) × P u
@@ -48,19 +48,12 @@ module _ {X : Type 0} (A : X → ℕ → Type 0) (R : ℕ → Type 0) where
   both_to (x ∷ xs) u h r = elim h [ inl q ↦ inl (q, r) | inr k ↦ inr (both_to xs u k r) ]
 
 module _ (S : Setup) (H : List Event) (n t : ℕ) (l : Lawful S H) (o : IsOrderly S H) (runs : aborted H t ≡ false) where
-  -- one that has put a cell is the middle, and is among the committed writers of the cell or among the unfinished ones
-  pub middle_writers : (a : ℕ) (x : Cell) (p q : Option Txn) → IsLeast (IsMiddleAmong S H n t a (writers_in committed S H n x)) p → IsLeast (IsMiddleAmong S H n t a (writers_in unfinished S H n x)) q →
-      IsLeast (λ b. PutsAcross S H n t a x b × IsLeft S H n t b) (lesser_of p q)
-  middle_writers a x p q h k =
-      let P = IsMiddleAmong S H n t a (writers_in committed S H n x) in
-      let Q = IsMiddleAmong S H n t a (writers_in unfinished S H n x) in
-      least_as (λ u. P u ⊎ Q u) (λ b. PutsAcross S H n t a x b × IsLeft S H n t b) (lesser_of p q)
-      (λ u h. elim h [
-        | inl y ↦ (puts_across S H n t l o runs committed a x u y.across, y.left)
-        | inr y ↦ (puts_across S H n t l o runs unfinished a x u y.across, y.left)
-      ])
-      (λ u h. elim (either_across S H n t l o runs a x u h.0) [ inl y ↦ inl (record { across = y; left = h.1 }) | inr y ↦ inr (record { across = y; left = h.1 }) ])
-      (least_either P Q p q h k)
+  -- one that has put a cell is the middle, and is among the writers of the cell
+  pub middle_writers : (a : ℕ) (x : Cell) (p : Option Txn) → IsLeast (IsMiddleAmong S H n t a (writers_in S H n x)) p → IsLeast (λ b. PutsAcross S H n t a x b × IsLeft S H n t b) p
+  middle_writers a x p h =
+      least_as (IsMiddleAmong S H n t a (writers_in S H n x)) (λ b. PutsAcross S H n t a x b × IsLeft S H n t b) p
+      (λ u y. (puts_across S H n t l o runs a x u y.across, y.left))
+      (λ u y. record { across = listed_across S H n t l o runs a x u y.0; left = y.1 }) h
 
   -- by the events of a
   module _ (f : TreeFacts S) (k : (row S.tree n).control ≡ Snapshot) (a : ℕ) where

@@ -9,7 +9,7 @@ use Rattle.teb_names.specs.declared.Kind.{Kind}
 use Rattle.teb_names.specs.Cells.{same_cell}
 use Rattle.teb_history.specs.declared.Event.{Event}
 use Rattle.teb_history.specs.declared.Event.TheVariants.{Began, Got, Put, Ready, Done, Gone, Told}
-use Rattle.teb_history.specs.Phases.{unfinished, committed, begun}
+use Rattle.teb_history.specs.Phases.{begun}
 use Rattle.teb_history.specs.Accesses.{wrote, got}
 use Rattle.teb_rules.specs.Setup.{Setup}
 use Rattle.teb_rules.specs.Tree.{on, side, on_path, side_at}
@@ -20,12 +20,10 @@ use Rattle.batch_book.proofs.Telling.{batches_passed, next_new}
 use Rattle.batch_book.proofs.Numbered.{spot_began, on_kept, begun_step}
 use Rattle.hold_register.proofs.Orderly.{orderly_next}
 use Rattle.sorted_multimap.specs.Multimap.{Shown}
-use Rattle.snapshot_node.specs.declared.writers.Slot.{Slot}
-use Rattle.snapshot_node.specs.Readers.{reads_in_values, AreFiled}
-use Rattle.snapshot_node.specs.Slots.{writes_in, IsFiled}
-use Rattle.snapshot_node.specs.Standing.{SnapshotStand, puts_in, has_read_in}
+use Rattle.snapshot_node.specs.Accessors.{is_accessor, AreFiled}
+use Rattle.snapshot_node.specs.Standing.{SnapshotStand, has_put_in, has_read_in}
 use Rattle.snapshot_node.proofs.Reading.{got_kept, still_read, began_read, got_read, got_elsewhere, gone_read}
-use Rattle.snapshot_node.proofs.Writing.{still_unfinished, still_committed, began_unfinished, began_committed, put_unfinished, put_committed, put_elsewhere, done_out, gone_out, done_in, wrote_kept}
+use Rattle.snapshot_node.proofs.Writing.{still_put, began_put, put_put, put_elsewhere, done_put, gone_put, wrote_kept}
 
 pub may_come : (S : Setup) (P : List Event) (n : ℕ) (e : Event) → MayNote S P n e → MayCome P e
 may_come S P n (Began t s k i) m = m.0
@@ -40,30 +38,30 @@ may_come S P n (Told t) m = tt
 pub newest_place : (H : List Event) (e : Event) → H ≡ e ∷ drop 1 H → length H ≡ suc (length (drop 1 H))
 newest_place H e i = ap (λ (G : List Event). length G) i
 
-module _ (S : Setup) (P : List Event) (n : ℕ) (b : Book) (r : Shown Cell Txn) (p : Shown Slot Txn) (old : SnapshotStand n b r p S P) where
+module _ (S : Setup) (P : List Event) (n : ℕ) (b : Book) (r p : Shown Cell Txn) (old : SnapshotStand n b r p S P) where
   -- with what shows the history with e
-  made : (e : Event) (b' : Book) (r' : Shown Cell Txn) (p' : Shown Slot Txn) → MayNote S P n e → b'.size ≡ b.size → BatchesOf b' S (e ∷ P) n
-      → AreFiled r' → ((x : Cell) (u : ℕ) → reads_in_values r' x u ≡ has_read_in S (e ∷ P) n x u) → IsFiled p'
-      → ((x : Cell) (u : ℕ) → writes_in p' x false u ≡ puts_in unfinished S (e ∷ P) n x u) → ((x : Cell) (u : ℕ) → writes_in p' x true u ≡ puts_in committed S (e ∷ P) n x u) → SnapshotStand n b' r' p' S (e ∷ P)
-  made e b' r' p' m z h a g f run done = record { kind = old.kind; size = z ∙ old.size; orderly = orderly_next S P n e m old.orderly; batches = h; readers_filed = a; read = g; filed = f; unfinished = run; committed = done }
+  made : (e : Event) (b' : Book) (r' p' : Shown Cell Txn) → MayNote S P n e → b'.size ≡ b.size → BatchesOf b' S (e ∷ P) n
+      → AreFiled r' → ((x : Cell) (u : ℕ) → is_accessor r' x u ≡ has_read_in S (e ∷ P) n x u)
+      → AreFiled p' → ((x : Cell) (u : ℕ) → is_accessor p' x u ≡ has_put_in S (e ∷ P) n x u) → SnapshotStand n b' r' p' S (e ∷ P)
+  made e b' r' p' m z h a g f w = record { kind = old.kind; size = z ∙ old.size; orderly = orderly_next S P n e m old.orderly; batches = h; readers_filed = a; read = g; writers_filed = f; put = w }
 
   passed : (e : Event) → MayNote S P n e → Passes S P n e → BatchesOf b S (e ∷ P) n
   passed e m q = batches_passed b S P n e old.batches (may_come S P n e m) q
 
   pub noted_ready : (t : Txn) → MayNote S P n (Ready t) → SnapshotStand n b r p S (Ready t ∷ P)
-  noted_ready t m = made (Ready t) b r p m refl (passed (Ready t) m tt) old.readers_filed (λ y u. old.read y u ∙ sym (still_read S P n (Ready t) y u refl refl refl)) old.filed
-      (λ y u. old.unfinished y u ∙ sym (still_unfinished S P n (Ready t) y u refl refl refl refl)) (λ y u. old.committed y u ∙ sym (still_committed S P n (Ready t) y u refl refl refl))
+  noted_ready t m = made (Ready t) b r p m refl (passed (Ready t) m tt) old.readers_filed (λ y u. old.read y u ∙ sym (still_read S P n (Ready t) y u refl refl refl)) old.writers_filed
+      (λ y u. old.put y u ∙ sym (still_put S P n (Ready t) y u refl refl refl refl))
 
   pub noted_told : (t : Txn) → MayNote S P n (Told t) → SnapshotStand n b r p S (Told t ∷ P)
-  noted_told t m = made (Told t) b r p m refl (passed (Told t) m tt) old.readers_filed (λ y u. old.read y u ∙ sym (still_read S P n (Told t) y u refl refl refl)) old.filed
-      (λ y u. old.unfinished y u ∙ sym (still_unfinished S P n (Told t) y u refl refl refl refl)) (λ y u. old.committed y u ∙ sym (still_committed S P n (Told t) y u refl refl refl))
+  noted_told t m = made (Told t) b r p m refl (passed (Told t) m tt) old.readers_filed (λ y u. old.read y u ∙ sym (still_read S P n (Told t) y u refl refl refl)) old.writers_filed
+      (λ y u. old.put y u ∙ sym (still_put S P n (Told t) y u refl refl refl refl))
 
   module _ (t : Txn) (y : Cell) (w : Txn) (v : Option ℤ) (m : MayNote S P n (Got t y w v)) where
-    read : (r' : Shown Cell Txn) → AreFiled r' → ((x : Cell) (u : ℕ) → reads_in_values r' x u ≡ has_read_in S (Got t y w v ∷ P) n x u) → SnapshotStand n b r' p S (Got t y w v ∷ P)
-    read r' a g = made (Got t y w v) b r' p m refl (passed (Got t y w v) m tt) a g old.filed
-        (λ x u. old.unfinished x u ∙ sym (still_unfinished S P n (Got t y w v) x u refl refl refl refl)) (λ x u. old.committed x u ∙ sym (still_committed S P n (Got t y w v) x u refl refl refl))
+    read : (r' : Shown Cell Txn) → AreFiled r' → ((x : Cell) (u : ℕ) → is_accessor r' x u ≡ has_read_in S (Got t y w v ∷ P) n x u) → SnapshotStand n b r' p S (Got t y w v ∷ P)
+    read r' a g = made (Got t y w v) b r' p m refl (passed (Got t y w v) m tt) a g old.writers_filed
+        (λ x u. old.put x u ∙ sym (still_put S P n (Got t y w v) x u refl refl refl refl))
 
-    pub noted_got : (r' : Shown Cell Txn) → on S (Got t y w v ∷ P) n t.0 ≡ true → AreFiled r' → ((x : Cell) (u : ℕ) → reads_in_values r' x u ≡ (reads_in_values r x u || (same_cell y x && eqb t.0 u))) → SnapshotStand n b r' p S (Got t y w v ∷ P)
+    pub noted_got : (r' : Shown Cell Txn) → on S (Got t y w v ∷ P) n t.0 ≡ true → AreFiled r' → ((x : Cell) (u : ℕ) → is_accessor r' x u ≡ (is_accessor r x u || (same_cell y x && eqb t.0 u))) → SnapshotStand n b r' p S (Got t y w v ∷ P)
     noted_got r' o a g = read r' a (λ x u. g x u ∙ ap (λ (z : Bool). z || (same_cell y x && eqb t.0 u)) (old.read x u) ∙ sym (got_read S P n t y w v x u m.0 (sym (on_kept S (Got t y w v) P n t.0 refl) ∙ o)))
 
     pub noted_got_off : on S (Got t y w v ∷ P) n t.0 ≡ false → SnapshotStand n b r p S (Got t y w v ∷ P)
@@ -83,8 +81,8 @@ module _ (S : Setup) (P : List Event) (n : ℕ) (b : Book) (r : Shown Cell Txn) 
     began_new = next_new b S P n t.0 old.batches m.0
 
     began : (b' : Book) → b'.size ≡ b.size → BatchesOf b' S (Began t s k i ∷ P) n → SnapshotStand n b' r p S (Began t s k i ∷ P)
-    began b' z h = made (Began t s k i) b' r p m z h old.readers_filed (λ y u. old.read y u ∙ sym (began_read S P n t s k i old.orderly m.0 y u)) old.filed
-        (λ y u. old.unfinished y u ∙ sym (began_unfinished S P n t s k i old.orderly m.0 y u)) (λ y u. old.committed y u ∙ sym (began_committed S P n t s k i old.orderly m.0 y u))
+    began b' z h = made (Began t s k i) b' r p m z h old.readers_filed (λ y u. old.read y u ∙ sym (began_read S P n t s k i old.orderly m.0 y u)) old.writers_filed
+        (λ y u. old.put y u ∙ sym (began_put S P n t s k i old.orderly m.0 y u))
 
     pub noted_began : (b' : Book) (d at : ℕ) → on S (Began t s k i ∷ P) n t.0 ≡ true → d ≡ side S (Began t s k i ∷ P) n t.0 → at ≡ length P → b'.size ≡ b.size
         → ((S : Setup) (P : List Event) (n : ℕ) (e : Event) → BatchesOf b S P n → MayCome P e → Joins S n d t.0 e → at ≡ length P → BatchesOf b' S (e ∷ P) n) → SnapshotStand n b' r p S (Began t s k i ∷ P)
@@ -94,32 +92,26 @@ module _ (S : Setup) (P : List Event) (n : ℕ) (b : Book) (r : Shown Cell Txn) 
     noted_began_off o = began b refl (passed (Began t s k i) m (sym on_now ∙ o))
 
   module _ (t : Txn) (y : Cell) (v : Option ℤ) (m : MayNote S P n (Put t y v)) where
-    pub noted_put : (p' : Shown Slot Txn) → on S (Put t y v ∷ P) n t.0 ≡ true → IsFiled p'
-        → ((x : Cell) (u : ℕ) → writes_in p' x false u ≡ (writes_in p x false u || (same_cell y x && eqb t.0 u))) → ((x : Cell) (u : ℕ) → writes_in p' x true u ≡ writes_in p x true u) → SnapshotStand n b r p' S (Put t y v ∷ P)
-    noted_put p' o f run done = made (Put t y v) b r p' m refl (passed (Put t y v) m tt) old.readers_filed (λ x u. old.read x u ∙ sym (still_read S P n (Put t y v) x u refl refl refl)) f
-        (λ x u. run x u ∙ ap (λ (z : Bool). z || (same_cell y x && eqb t.0 u)) (old.unfinished x u) ∙ sym (put_unfinished S P n t y v m.0 x u (sym (on_kept S (Put t y v) P n t.0 refl) ∙ o)))
-        (λ x u. done x u ∙ old.committed x u ∙ sym (put_committed S P n t y v m.0 x u))
+    pub noted_put : (p' : Shown Cell Txn) → on S (Put t y v ∷ P) n t.0 ≡ true → AreFiled p'
+        → ((x : Cell) (u : ℕ) → is_accessor p' x u ≡ (is_accessor p x u || (same_cell y x && eqb t.0 u))) → SnapshotStand n b r p' S (Put t y v ∷ P)
+    noted_put p' o f w = made (Put t y v) b r p' m refl (passed (Put t y v) m tt) old.readers_filed (λ x u. old.read x u ∙ sym (still_read S P n (Put t y v) x u refl refl refl)) f
+        (λ x u. w x u ∙ ap (λ (z : Bool). z || (same_cell y x && eqb t.0 u)) (old.put x u) ∙ sym (put_put S P n t y v x u m.0 (sym (on_kept S (Put t y v) P n t.0 refl) ∙ o)))
 
     pub noted_put_off : on S (Put t y v ∷ P) n t.0 ≡ false → SnapshotStand n b r p S (Put t y v ∷ P)
-    noted_put_off o = made (Put t y v) b r p m refl (passed (Put t y v) m tt) old.readers_filed (λ x u. old.read x u ∙ sym (still_read S P n (Put t y v) x u refl refl refl)) old.filed
-        (λ x u. old.unfinished x u ∙ sym (put_elsewhere S P n t y v m.0 x u (sym (on_kept S (Put t y v) P n t.0 refl) ∙ o)))
-        (λ x u. old.committed x u ∙ sym (put_committed S P n t y v m.0 x u))
+    noted_put_off o = made (Put t y v) b r p m refl (passed (Put t y v) m tt) old.readers_filed (λ x u. old.read x u ∙ sym (still_read S P n (Put t y v) x u refl refl refl)) old.writers_filed
+        (λ x u. old.put x u ∙ sym (put_elsewhere S P n t y v x u (sym (on_kept S (Put t y v) P n t.0 refl) ∙ o)))
 
-  module _ (t : Txn) (b' : Book) (p' : Shown Slot Txn) (at : ℕ) (l : at ≡ length P) (z : b'.size ≡ b.size) (f : IsFiled p')
+  module _ (t : Txn) (b' : Book) (at : ℕ) (l : at ≡ length P) (z : b'.size ≡ b.size)
       (h : (S : Setup) (P : List Event) (n : ℕ) (e : Event) → BatchesOf b S P n → MayCome P e → Finishes t.0 e → at ≡ length P → BatchesOf b' S (e ∷ P) n) where
-    pub noted_done : MayNote S P n (Done t) → ((x : Cell) (u : ℕ) → writes_in p' x false u ≡ (writes_in p x false u && not (wrote (Done t ∷ P) t.0 x && eqb t.0 u)))
-        → ((x : Cell) (u : ℕ) → writes_in p' x true u ≡ (writes_in p x true u || (wrote (Done t ∷ P) t.0 x && eqb t.0 u && writes_in p x false t.0))) → SnapshotStand n b' r p' S (Done t ∷ P)
-    noted_done m run done = made (Done t) b' r p' m z (h S P n (Done t) old.batches m refl l) old.readers_filed (λ x u. old.read x u ∙ sym (still_read S P n (Done t) x u refl refl refl)) f
-        (λ x u. run x u ∙ (λ j. old.unfinished x u j && not (wrote_kept (Done t) P t.0 x refl j && eqb t.0 u)) ∙ done_out S P n t x u)
-        (λ x u. done x u ∙ (λ j. old.committed x u j || (wrote_kept (Done t) P t.0 x refl j && eqb t.0 u && old.unfinished x t.0 j)) ∙ done_in S P n t x u m)
+    pub noted_done : MayNote S P n (Done t) → SnapshotStand n b' r p S (Done t ∷ P)
+    noted_done m = made (Done t) b' r p m z (h S P n (Done t) old.batches m refl l) old.readers_filed (λ x u. old.read x u ∙ sym (still_read S P n (Done t) x u refl refl refl)) old.writers_filed
+        (λ x u. old.put x u ∙ sym (done_put S P n t x u m))
 
-    pub noted_gone : (c : Cause) (r' : Shown Cell Txn) → MayNote S P n (Gone t c) → AreFiled r' → ((x : Cell) (u : ℕ) → reads_in_values r' x u ≡ (reads_in_values r x u && not (got (Gone t c ∷ P) t.0 x && eqb t.0 u)))
-        → ((x : Cell) (u : ℕ) → writes_in p' x false u ≡ (writes_in p x false u && not (wrote (Gone t c ∷ P) t.0 x && eqb t.0 u)))
-        → ((x : Cell) (u : ℕ) → writes_in p' x true u ≡ writes_in p x true u) → SnapshotStand n b' r' p' S (Gone t c ∷ P)
-    noted_gone c r' m a g run done = made (Gone t c) b' r' p' m z (h S P n (Gone t c) old.batches m refl l) a
+    pub noted_gone : (c : Cause) (r' p' : Shown Cell Txn) → MayNote S P n (Gone t c) → AreFiled r' → ((x : Cell) (u : ℕ) → is_accessor r' x u ≡ (is_accessor r x u && not (got (Gone t c ∷ P) t.0 x && eqb t.0 u)))
+        → AreFiled p' → ((x : Cell) (u : ℕ) → is_accessor p' x u ≡ (is_accessor p x u && not (wrote (Gone t c ∷ P) t.0 x && eqb t.0 u))) → SnapshotStand n b' r' p' S (Gone t c ∷ P)
+    noted_gone c r' p' m a g f w = made (Gone t c) b' r' p' m z (h S P n (Gone t c) old.batches m refl l) a
         (λ x u. g x u ∙ (λ j. old.read x u j && not (got_kept (Gone t c) P t.0 x refl j && eqb t.0 u)) ∙ gone_read S P n t c x u) f
-        (λ x u. run x u ∙ (λ j. old.unfinished x u j && not (wrote_kept (Gone t c) P t.0 x refl j && eqb t.0 u)) ∙ gone_out S P n t c x u)
-        (λ x u. done x u ∙ old.committed x u ∙ sym (still_committed S P n (Gone t c) x u refl refl refl))
+        (λ x u. w x u ∙ (λ j. old.put x u j && not (wrote_kept (Gone t c) P t.0 x refl j && eqb t.0 u)) ∙ gone_put S P n t c x u m)
 
 -- t has begun by the newest event
 pub began_begun : (P : List Event) (t : Txn) (s : Session) (k : Kind) (i : ℕ) → begun (Began t s k i ∷ P) t.0 ≡ true

@@ -1,5 +1,4 @@
-pub mod Slots
-pub mod Readers
+pub mod Accessors
 pub mod Standing
 pub mod Stood
 pub mod Marks

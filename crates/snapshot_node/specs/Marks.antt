@@ -13,7 +13,6 @@ use Rattle.teb_laws.specs.Pivots.{IsSettled}
 use Rattle.batch_book.specs.Book.{Book}
 use Rattle.sorted_multimap.specs.Multimap.{Shown}
 use Rattle.snapshot_node.specs.declared.marks.Mark.{Mark}
-use Rattle.snapshot_node.specs.declared.writers.Slot.{Slot}
 use Rattle.snapshot_node.specs.Standing.{SnapshotStand}
 use Rattle.snapshot_node.specs.Pivots.{is_across}
 
@@ -72,6 +71,6 @@ pub record AreMarked (S : Setup) (H : List Event) (n : ℕ) (ms : List Mark) : T
   pub told : Lawful S H → (u w : ℕ) → IsSettled H u → IsSettled H w → Touches S H n u w → IsTold S H n ms u w
 
 -- for what a snapshot control stands, by its register and its marks
-pub record MarkedStand (n : ℕ) (book : Book) (readers : Shown Cell Txn) (writers : Shown Slot Txn) (marks : List Mark) (S : Setup) (H : List Event) : Type 0 where
+pub record MarkedStand (n : ℕ) (book : Book) (readers writers : Shown Cell Txn) (marks : List Mark) (S : Setup) (H : List Event) : Type 0 where
   pub register : SnapshotStand n book readers writers S H
   pub marked : AreMarked S H n marks

@@ -1,5 +1,5 @@
 -- For what a snapshot control stands.
-use Rattle.std.specs.Prelude.{◌≡◌, ℕ, Bool, true, false, not, ◌&&◌, List, map, filter}
+use Rattle.std.specs.Prelude.{◌≡◌, ℕ, Bool, not, ◌&&◌, ◌||◌, List, map, filter}
 use Rattle.teb_names.specs.declared.Cell.{Cell}
 use Rattle.teb_names.specs.declared.Txn.{Txn}
 use Rattle.teb_names.specs.declared.ControlKind.TheVariants.{Snapshot}
@@ -12,17 +12,19 @@ use Rattle.phase_api.specs.FactsView.{IsOrderly}
 use Rattle.batch_book.specs.Book.{Book}
 use Rattle.batch_book.specs.Histories.{BatchesOf}
 use Rattle.sorted_multimap.specs.Multimap.{Shown}
-use Rattle.snapshot_node.specs.declared.writers.Slot.{Slot}
-use Rattle.snapshot_node.specs.Readers.{reads_in_values, AreFiled}
-use Rattle.snapshot_node.specs.Slots.{writes_in, IsFiled}
+use Rattle.snapshot_node.specs.Accessors.{is_accessor, AreFiled}
 
--- u has put x, n is on its path, and it is in a phase
-abbrev pub puts_in : (List Event → ℕ → Bool) → Setup → List Event → ℕ → Cell → ℕ → Bool
-puts_in phase S H n x u = on S H n u && phase H u && wrote H u x
+-- u is unfinished or committed
+abbrev pub counts : List Event → ℕ → Bool
+counts H u = unfinished H u || committed H u
 
--- the transactions in a phase, with n on their path, that have put x, in ascending number
-abbrev pub writers_in : (List Event → ℕ → Bool) → Setup → List Event → ℕ → Cell → List Txn
-writers_in phase S H n x = map (λ (u : ℕ). record { 0 = u }) (filter (puts_in phase S H n x) (txns H))
+-- u has put x, n is on its path, and it counts
+abbrev pub has_put_in : Setup → List Event → ℕ → Cell → ℕ → Bool
+has_put_in S H n x u = on S H n u && counts H u && wrote H u x
+
+-- those, in ascending number
+abbrev pub writers_in : Setup → List Event → ℕ → Cell → List Txn
+writers_in S H n x = map (λ (u : ℕ). record { 0 = u }) (filter (has_put_in S H n x) (txns H))
 
 -- u has read x, n is on its path, and it is not aborted
 abbrev pub has_read_in : Setup → List Event → ℕ → Cell → ℕ → Bool
@@ -33,13 +35,12 @@ abbrev pub readers_in : Setup → List Event → ℕ → Cell → List Txn
 readers_in S H n x = map (λ (u : ℕ). record { 0 = u }) (filter (has_read_in S H n x) (txns H))
 
 -- node n is a snapshot node, the book shows its batches, and the multimaps the readers and the writers of each cell
-pub record SnapshotStand (n : ℕ) (book : Book) (readers : Shown Cell Txn) (writers : Shown Slot Txn) (S : Setup) (H : List Event) : Type 0 where
+pub record SnapshotStand (n : ℕ) (book : Book) (readers writers : Shown Cell Txn) (S : Setup) (H : List Event) : Type 0 where
   pub kind : (row S.tree n).control ≡ Snapshot
   pub size : book.size ≡ (row S.tree n).batch
   pub orderly : IsOrderly S H
   pub batches : BatchesOf book S H n
   pub readers_filed : AreFiled readers
-  pub read : (x : Cell) (u : ℕ) → reads_in_values readers x u ≡ has_read_in S H n x u
-  pub filed : IsFiled writers
-  pub unfinished : (x : Cell) (u : ℕ) → writes_in writers x false u ≡ puts_in unfinished S H n x u
-  pub committed : (x : Cell) (u : ℕ) → writes_in writers x true u ≡ puts_in committed S H n x u
+  pub read : (x : Cell) (u : ℕ) → is_accessor readers x u ≡ has_read_in S H n x u
+  pub writers_filed : AreFiled writers
+  pub put : (x : Cell) (u : ℕ) → is_accessor writers x u ≡ has_put_in S H n x u

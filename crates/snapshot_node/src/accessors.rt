@@ -1,38 +1,38 @@
-//! The readers of each cell, in a multimap.
+//! The readers of each cell, and its writers, each in a multimap.
 
 ghost use Rattle.std.specs.Prelude.{◌≡◌, ◌+◌, ◌<◌, ◌≤◌, ◌&&◌, ◌||◌, ℕ, eqb, not};
 ghost use Rattle.teb_names.specs.declared.Cell.{Cell};
 ghost use Rattle.teb_names.specs.Cells.{same_cell};
-ghost use Rattle.teb_history.specs.Accesses.{got};
-ghost use Rattle.snapshot_node.specs.Readers.{reads_in_values, AreFiled};
+ghost use Rattle.teb_history.specs.Accesses.{got, wrote};
+ghost use Rattle.snapshot_node.specs.Accessors.{is_accessor, AreFiled};
 
 use sorted_multimap::Multimap;
 use teb_history::{Event, History, find_txn};
 use teb_names::{Cell, Txn};
 
-/// Puts a transaction among the readers of a cell, in ascending number, unless it is there. It takes one place of the room at
+/// Puts a transaction among the accessors of a cell, in ascending number, unless it is there. It takes one place of the room at
 /// the most.
-pub(crate) fn put_reader(readers: &mut Multimap<Cell, Txn>, cell: Cell, t: Txn)
-    requires filed { AreFiled readers.old }
-    requires room { 0 < readers.old.spare }
-    ensures filed { AreFiled readers.new }
-    ensures readers { (x : Cell) (u : ℕ) → reads_in_values readers.new x u ≡ (reads_in_values readers.old x u || (same_cell cell x && eqb t.0 u)) }
-    ensures spare { readers.old.spare ≤ readers.new.spare + 1 }
+pub(crate) fn put_in(accessors: &mut Multimap<Cell, Txn>, cell: Cell, t: Txn)
+    requires filed { AreFiled accessors.old }
+    requires room { 0 < accessors.old.spare }
+    ensures filed { AreFiled accessors.new }
+    ensures accessors { (x : Cell) (u : ℕ) → is_accessor accessors.new x u ≡ (is_accessor accessors.old x u || (same_cell cell x && eqb t.0 u)) }
+    ensures spare { accessors.old.spare ≤ accessors.new.spare + 1 }
 {
-    if let Err(i) = find_txn(readers.list(cell), t) {
-        readers.put(cell, i, t);
+    if let Err(i) = find_txn(accessors.list(cell), t) {
+        accessors.put(cell, i, t);
     }
 }
 
-/// Takes a transaction out from among the readers of a cell, where it is there. The room stays.
-fn take_reader(readers: &mut Multimap<Cell, Txn>, cell: Cell, t: Txn)
-    requires { AreFiled readers.old }
-    ensures filed { AreFiled readers.new }
-    ensures readers { (x : Cell) (u : ℕ) → reads_in_values readers.new x u ≡ (reads_in_values readers.old x u && not (same_cell cell x && eqb t.0 u)) }
-    ensures spare { readers.new.spare ≡ readers.old.spare }
+/// Takes a transaction out from among the accessors of a cell, where it is there. The room stays.
+fn take_out(accessors: &mut Multimap<Cell, Txn>, cell: Cell, t: Txn)
+    requires { AreFiled accessors.old }
+    ensures filed { AreFiled accessors.new }
+    ensures accessors { (x : Cell) (u : ℕ) → is_accessor accessors.new x u ≡ (is_accessor accessors.old x u && not (same_cell cell x && eqb t.0 u)) }
+    ensures spare { accessors.new.spare ≡ accessors.old.spare }
 {
-    if let Ok(i) = find_txn(readers.list(cell), t) {
-        readers.take(cell, i);
+    if let Ok(i) = find_txn(accessors.list(cell), t) {
+        accessors.take(cell, i);
     }
 }
 
@@ -40,12 +40,26 @@ fn take_reader(readers: &mut Multimap<Cell, Txn>, cell: Cell, t: Txn)
 pub(crate) fn forget_reads(readers: &mut Multimap<Cell, Txn>, history: &History, t: Txn)
     requires { AreFiled readers.old }
     ensures filed { AreFiled readers.new }
-    ensures readers { (x : Cell) (u : ℕ) → reads_in_values readers.new x u ≡ (reads_in_values readers.old x u && not (got history.now.events t.0 x && eqb t.0 u)) }
+    ensures readers { (x : Cell) (u : ℕ) → is_accessor readers.new x u ≡ (is_accessor readers.old x u && not (got history.now.events t.0 x && eqb t.0 u)) }
     ensures spare { readers.new.spare ≡ readers.old.spare }
 {
     for event in history.own_events(t) {
         if let Event::Got { cell, .. } = event {
-            take_reader(readers, cell, t);
+            take_out(readers, cell, t);
+        }
+    }
+}
+
+/// The same of the writers of the cells that it has put.
+pub(crate) fn forget_puts(writers: &mut Multimap<Cell, Txn>, history: &History, t: Txn)
+    requires { AreFiled writers.old }
+    ensures filed { AreFiled writers.new }
+    ensures writers { (x : Cell) (u : ℕ) → is_accessor writers.new x u ≡ (is_accessor writers.old x u && not (wrote history.now.events t.0 x && eqb t.0 u)) }
+    ensures spare { writers.new.spare ≡ writers.old.spare }
+{
+    for event in history.own_events(t) {
+        if let Event::Put { cell, .. } = event {
+            take_out(writers, cell, t);
         }
     }
 }

@@ -11,8 +11,8 @@ ghost use Rattle.snapshot_node.specs.Standing.{writers_in, readers_in};
 ghost use Rattle.snapshot_node.specs.Stood.{StandsFor};
 ghost use Rattle.snapshot_node.specs.Props.{kept};
 
+use crate::numbered::from_number;
 use crate::register::Register;
-use crate::writers::{Slot, from_number};
 use phase_api::Facts;
 use teb_names::{Cell, Txn};
 
@@ -27,17 +27,14 @@ pub(crate) struct Asked<'a> {
 impl<'a> Asked<'a> {
     ghost use Rattle.snapshot_node.specs.Asking.{IsAt, history, there};
 
-    // The unfinished transactions on whose path the node stands that have put a cell, in ascending number, each once.
-    pub(crate) fn unfinished(&self, cell: Cell) -> &[Txn]
-        ensures { result.now ≡ there self.now (writers_in unfinished) cell }
+    // Those on whose path the node stands that have put a cell and are not aborted, in ascending number, each once.
+    pub(crate) fn writers(&self, cell: Cell) -> &[Txn]
+        ensures { result.now ≡ there self.now writers_in cell }
     {
-        self.register.writers.list(Slot {
-            cell,
-            committed: false,
-        })
+        self.register.writers.list(cell)
     }
 
-    // Those on whose path the node stands that have read it and are not aborted.
+    // The same of those that have read it.
     pub(crate) fn readers(&self, cell: Cell) -> &[Txn]
         ensures { result.now ≡ there self.now readers_in cell }
     {
@@ -60,21 +57,28 @@ impl<'a> Asked<'a> {
         ensures { result ≡ some_txn (find (there self.now is_first t.0 cell) (txns (history self.now))) }
     {
         let horizon = self.register.batches.horizon(t);
-        for u in from_number(self.register.committed(self.facts, cell), horizon) {
-            if self.facts.meet_at(self.register.node, t, *u) && !self.is_closed_before(*u, t) {
+        for u in from_number(self.writers(cell), horizon) {
+            if self.facts.history.is_committed(*u)
+                && !self.is_closed_before(*u, t)
+                && self.facts.meet_at(self.register.node, t, *u)
+            {
                 return Some(*u);
             }
         }
         None
     }
 
-    // The least unfinished transaction that t's write of a cell waits for.
+    // The least unfinished transaction that t's write of a cell waits for. The batch of each is open, so that none comes before
+    // t's horizon.
     pub(crate) fn blocker(&self, t: Txn, cell: Cell) -> Option<Txn>
         requires { IsAt self.now t.0 }
         ensures { let H = history self.now in result ≡ some_txn (find (λ u. unfinished H u && there self.now meets t.0 u && wrote H u cell) (txns H)) }
     {
-        for u in self.unfinished(cell) {
-            if self.facts.meet_at(self.register.node, t, *u) {
+        let horizon = self.register.batches.horizon(t);
+        for u in from_number(self.writers(cell), horizon) {
+            if self.facts.history.is_unfinished(*u)
+                && self.facts.meet_at(self.register.node, t, *u)
+            {
                 return Some(*u);
             }
         }

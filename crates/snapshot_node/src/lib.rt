@@ -1,18 +1,18 @@
 //! Snapshots: the control of a snapshot node.
 #![tactic(auto)]
 
+mod accessors;
 mod asked;
 mod batch_edges;
 mod marking;
 mod marks;
 mod near;
 mod neighbours;
+mod numbered;
 mod own_edges;
 mod pivots;
-mod readers;
 mod register;
 mod snapshot;
 mod validation;
-mod writers;
 
 pub use snapshot::Snapshot;

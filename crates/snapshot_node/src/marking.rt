@@ -10,7 +10,7 @@ ghost use Rattle.snapshot_node.specs.Pivots.{is_at_stake, is_across, IsAcross};
 use crate::asked::Asked;
 use crate::marks::{Mark, mark_edge, mark_ends, place_of};
 use crate::neighbours::is_at_stake;
-use crate::writers::from_number;
+use crate::numbered::from_number;
 use teb_history::Event;
 use teb_names::Txn;
 
@@ -34,11 +34,7 @@ pub(crate) fn mark_edges(marks: &mut [Mark], asked: &Asked, t: Txn)
 {
     for event in asked.facts.history.own_events(t) {
         match event {
-            Event::Got { cell, .. } => {
-                let committed = asked.register.committed(asked.facts, cell);
-                mark_ahead(marks, asked, t, committed);
-                mark_ahead(marks, asked, t, asked.unfinished(cell));
-            }
+            Event::Got { cell, .. } => mark_ahead(marks, asked, t, asked.writers(cell)),
             Event::Put { cell, .. } => mark_behind(marks, asked, t, asked.readers(cell)),
             _ => {}
         }

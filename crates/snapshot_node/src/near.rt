@@ -11,8 +11,8 @@ ghost use Rattle.snapshot_node.specs.Validating.{AreAt, at, is_marked_entered, i
 
 use crate::marks::{Mark, mark_at};
 use crate::neighbours::is_at_stake;
+use crate::numbered::from_number;
 use crate::validation::Validation;
-use crate::writers::from_number;
 use teb_history::Event;
 use teb_names::Txn;
 
@@ -51,10 +51,8 @@ impl<'a> Validation<'a> {
     {
         for event in self.asked.facts.history.own_events(self.t) {
             if let Event::Got { cell, .. } = event {
-                let committed = self.is_left_among(
-                    self.asked.register.committed(self.asked.facts, cell),
-                );
-                if committed || self.is_left_among(self.asked.unfinished(cell)) {
+                let writers = self.asked.writers(cell);
+                if self.is_left_among(writers) {
                     return true;
                 }
             }

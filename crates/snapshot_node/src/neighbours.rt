@@ -9,8 +9,8 @@ ghost use Rattle.snapshot_node.specs.Asking.{HasBegun, IsAt, there};
 ghost use Rattle.snapshot_node.specs.Validating.{AreAt, IsAtStake, at};
 ghost use Rattle.snapshot_node.specs.Pivots.{is_at_stake, is_across, lesser_of, IsLeast, IsAcross, PutsAcross, Leads};
 
+use crate::numbered::from_number;
 use crate::validation::Validation;
-use crate::writers::from_number;
 use teb_history::{Event, History};
 use teb_names::{Cell, Txn};
 
@@ -93,8 +93,7 @@ impl<'a> Validation<'a> {
         requires { IsAt self.now.asked c.0 }
         ensures { IsLeast (at self.now PutsAcross c.0 cell) result }
     {
-        let committed = self.first_across(c, self.asked.register.committed(self.asked.facts, cell));
-        lesser(committed, self.first_across(c, self.asked.unfinished(cell)))
+        self.first_across(c, self.asked.writers(cell))
     }
 
     /// The least one that has an edge to b, which is at stake.

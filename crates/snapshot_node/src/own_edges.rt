@@ -6,8 +6,8 @@ ghost use Rattle.snapshot_node.specs.Pivots.{IsLeast, IsMateAmong, IsMateByPut, 
 ghost use Rattle.snapshot_node.specs.Validating.{AreAt, at};
 
 use crate::neighbours::{is_at_stake, lesser};
+use crate::numbered::from_number;
 use crate::validation::Validation;
-use crate::writers::from_number;
 use teb_history::Event;
 use teb_names::{Cell, Txn};
 
@@ -46,14 +46,7 @@ impl<'a> Validation<'a> {
         requires { IsAt self.now.asked b.0 }
         ensures { IsLeast (at self.now IsMateByPut b.0 cell) result }
     {
-        let committed = self.first_mate_across(
-            b,
-            self.asked.register.committed(self.asked.facts, cell),
-        );
-        lesser(
-            committed,
-            self.first_mate_across(b, self.asked.unfinished(cell)),
-        )
+        self.first_mate_across(b, self.asked.writers(cell))
     }
 
     // The least of some at stake that are across from t, and of b's batch.

@@ -11,8 +11,8 @@ ghost use Rattle.snapshot_node.specs.Validating.{AreAt, IsAtStake, ruled, at};
 ghost use Rattle.snapshot_node.specs.Pivots.{IsLeast, IsMiddle, IsMiddleAmong, IsFirst, ComesIn, ComesInBy, break_by};
 
 use crate::neighbours::{is_at_stake, lesser};
+use crate::numbered::from_number;
 use crate::validation::Validation;
-use crate::writers::from_number;
 use teb_history::Event;
 use teb_names::{Cell, Txn};
 use teb_rules::Broken;
@@ -98,11 +98,7 @@ impl<'a> Validation<'a> {
         let mut least = None;
         for event in self.asked.facts.history.own_events(a) {
             if let Event::Got { cell, .. } = event {
-                least = lesser(
-                    least,
-                    self.middle_by(a, self.asked.register.committed(self.asked.facts, cell)),
-                );
-                least = lesser(least, self.middle_by(a, self.asked.unfinished(cell)));
+                least = lesser(least, self.middle_by(a, self.asked.writers(cell)));
             }
         }
         least

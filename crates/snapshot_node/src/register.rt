@@ -3,16 +3,13 @@
 ghost use Rattle.std.specs.Prelude.{◌≡◌, ◌<◌, ◌≤◌, ◌+◌, [], List, drop, IfOk, OnOk};
 ghost use Rattle.teb_names.specs.declared.ControlKind.TheVariants.{Snapshot as IsSnapshot};
 ghost use Rattle.teb_history.specs.declared.Event.{Event};
-ghost use Rattle.teb_history.specs.Phases.{committed};
 ghost use Rattle.teb_rules.specs.Setup.{Setup};
 ghost use Rattle.teb_rules.specs.Tree.{row};
 ghost use Rattle.phase_api.specs.FactsView.{setup_of, events_of};
 ghost use Rattle.phase_api.specs.Calls.{IsNewest};
-ghost use Rattle.snapshot_node.specs.Standing.{writers_in};
 ghost use Rattle.snapshot_node.specs.Stood.{RegisterStands, StandsFor, room_of};
 
-use crate::readers::{forget_reads, put_reader};
-use crate::writers::{Slot, abort, commit, put_in};
+use crate::accessors::{forget_puts, forget_reads, put_in};
 use batch_book::Batches;
 use phase_api::Facts;
 use sorted_multimap::Multimap;
@@ -26,7 +23,7 @@ pub struct Register {
     pub(crate) node: Node,
     pub(crate) batches: Batches,
     pub(crate) readers: Multimap<Cell, Txn>,
-    pub(crate) writers: Multimap<Slot, Txn>,
+    pub(crate) writers: Multimap<Cell, Txn>,
 }
 
 impl Register {
@@ -42,18 +39,6 @@ impl Register {
             batches: Batches::new(alloc, facts.tree.row(node).batch),
             readers: Multimap::new(alloc),
             writers: Multimap::new(alloc),
-        })
-    }
-
-    /// The committed transactions on whose path the node stands that have put a cell, in ascending number, each once.
-    pub(crate) fn committed(&self, facts: &Facts, cell: Cell) -> &[Txn]
-        requires { StandsFor self.now facts.now }
-        ensures { result.now ≡ writers_in committed (setup_of facts.now) (events_of facts.now) self.now.node.0 cell }
-    {
-        let _ = facts;
-        self.writers.list(Slot {
-            cell,
-            committed: true,
         })
     }
 
@@ -86,25 +71,18 @@ impl Register {
             }
             Event::Got { txn, cell, .. } => {
                 if facts.is_on(self.node, txn) {
-                    put_reader(&mut self.readers, cell, txn);
+                    put_in(&mut self.readers, cell, txn);
                 }
             }
             Event::Put { txn, cell, .. } => {
                 if facts.is_on(self.node, txn) {
-                    let running = Slot {
-                        cell,
-                        committed: false,
-                    };
-                    put_in(&mut self.writers, running, txn);
+                    put_in(&mut self.writers, cell, txn);
                 }
             }
-            Event::Done(txn) => {
-                commit(&mut self.writers, facts.history, txn);
-                self.batches.finish(txn, at);
-            }
+            Event::Done(txn) => self.batches.finish(txn, at),
             Event::Gone { txn, .. } => {
                 forget_reads(&mut self.readers, facts.history, txn);
-                abort(&mut self.writers, facts.history, txn);
+                forget_puts(&mut self.writers, facts.history, txn);
                 self.batches.finish(txn, at);
             }
             Event::Ready(_) | Event::Told(_) => {}

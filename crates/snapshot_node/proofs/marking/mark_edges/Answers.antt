@@ -1,18 +1,17 @@
-use Rattle.std.proofs.Common.{◌∙◌, ◌∷◌, ℕ, List, ap, sym, subst, inl, inr}
+use Rattle.std.proofs.Common.{◌∙◌, ◌∷◌, ℕ, List, ap, sym, subst}
 use Rattle.teb_names.specs.declared.Txn.{Txn}
 use Rattle.teb_history.specs.declared.Event.{Event}
 use Rattle.teb_history.specs.declared.Event.TheVariants.{Got}
 use Rattle.teb_history.specs.Ascending.{IsAscendingBy}
 use Rattle.teb_history.specs.Live.{number_of}
 use Rattle.teb_history.specs.OwnEvents.{own_events}
-use Rattle.teb_history.specs.Phases.{committed, unfinished}
 use Rattle.phase_api.specs.FactsView.{setup_of, events_of}
 use Rattle.snapshot_node.specs.declared.marks.Mark.{Mark}
 use Rattle.snapshot_node.specs.Marks.{IsTold}
 use Rattle.snapshot_node.specs.Pivots.{AreHere, IsAcross}
 use Rattle.snapshot_node.proofs.Listed.{writers_ascend, writers_here, readers_ascend, readers_here}
 use Rattle.snapshot_node.proofs.Edges.{stake_stands}
-use Rattle.snapshot_node.proofs.CellEdges.{Ahead, Behind, either_across, shared_ahead, shared_behind}
+use Rattle.snapshot_node.proofs.CellEdges.{Ahead, Behind, listed_across, shared_ahead, shared_behind}
 use Rattle.snapshot_node.proofs.Covers.{covers_next, covers_end, covers_more}
 use Rattle.snapshot_node.proofs.Grown.{grown_then, told_still}
 use Rattle.snapshot_node.proofs.marking.mark_edges.Goals as goal
@@ -22,32 +21,12 @@ mark_ahead-requires-clause-ascending c =
     let S = setup_of c.args.asked.now.facts.now in
     let H = events_of c.args.asked.now.facts.now in
     let n = c.args.asked.now.register.now.node.0 in
-    let t = c.args.t.0 in
-    subst (IsAscendingBy number_of) (sym c.committed-committed.ensures) (writers_ascend committed S H n c.in-Got.cell)
+    subst (IsAscendingBy number_of) (sym c.writers.ensures) (writers_ascend S H n c.in-Got.cell)
 
 pub mark_ahead-requires-clause-among_here : goal.mark_ahead-requires-clause-among_here
 mark_ahead-requires-clause-among_here c =
-    let S = setup_of c.args.asked.now.facts.now in
-    let H = events_of c.args.asked.now.facts.now in
     let n = c.args.asked.now.register.now.node.0 in
-    let t = c.args.t.0 in
-    subst (AreHere c.args.asked.now.facts.now n) (sym c.committed-committed.ensures) (writers_here c.args.asked.now.facts.now n c.in-Got.cell c.args.asked.now.stands.orderly committed)
-
-pub mark_ahead-requires-in-Got-clause-ascending : goal.mark_ahead-requires-in-Got-clause-ascending
-mark_ahead-requires-in-Got-clause-ascending c =
-    let S = setup_of c.args.asked.now.facts.now in
-    let H = events_of c.args.asked.now.facts.now in
-    let n = c.args.asked.now.register.now.node.0 in
-    let t = c.args.t.0 in
-    subst (IsAscendingBy number_of) (sym c.unfinished.ensures) (writers_ascend unfinished S H n c.in-Got.cell)
-
-pub mark_ahead-requires-in-Got-clause-among_here : goal.mark_ahead-requires-in-Got-clause-among_here
-mark_ahead-requires-in-Got-clause-among_here c =
-    let S = setup_of c.args.asked.now.facts.now in
-    let H = events_of c.args.asked.now.facts.now in
-    let n = c.args.asked.now.register.now.node.0 in
-    let t = c.args.t.0 in
-    subst (AreHere c.args.asked.now.facts.now n) (sym c.unfinished.ensures) (writers_here c.args.asked.now.facts.now n c.in-Got.cell c.args.asked.now.stands.orderly unfinished)
+    subst (AreHere c.args.asked.now.facts.now n) (sym c.writers.ensures) (writers_here c.args.asked.now.facts.now n c.in-Got.cell c.args.asked.now.stands.orderly)
 
 pub mark_behind-requires-clause-ascending : goal.mark_behind-requires-clause-ascending
 mark_behind-requires-clause-ascending c =
@@ -80,17 +59,12 @@ loop-event-preserved-in-Got c =
     let steps = c.in-Some.ensures.steps ∙ ap (λ (z : Event). z ∷ rest) c.in-Got.is in
     let m = c.loop-event.marks in
     let k = c.mark_ahead.new.marks in
-    let r = c.mark_ahead-in-Got.new.marks in
-    let g = c.mark_ahead-in-Got.ensures.grown in
-    let grown = grown_then m k r c.mark_ahead.ensures.grown g in
+    let grown = c.mark_ahead.ensures.grown in
     record {
-      grown = grown_then c.args.marks.now m r c.loop-event.invariant.grown grown;
-      ahead = λ q. covers_next (Ahead S H n t t) (A r) all e left rest steps (covers_more (Ahead S H n t t) (A m) all (A r) left (λ u y. told_still S H n m r t u grown y) (c.loop-event.invariant.ahead q))
-          (λ u y. elim (either_across S H n t q.lawful c.args.asked.now.stands.orderly q.runs t c.in-Got.cell u y) [
-            | inl z ↦ told_still S H n k r t u g (c.mark_ahead.ensures.told u (subst (λ (ts : List Txn). IsAcross S H n t t ts u) (sym c.committed-committed.ensures) z))
-            | inr z ↦ c.mark_ahead-in-Got.ensures.told u (subst (λ (ts : List Txn). IsAcross S H n t t ts u) (sym c.unfinished.ensures) z)
-          ]);
-      behind = λ q. covers_next (Behind S H n t t) (B r) all e left rest steps (covers_more (Behind S H n t t) (B m) all (B r) left (λ u y. told_still S H n m r u t grown y) (c.loop-event.invariant.behind q)) (λ u y. absurd y);
+      grown = grown_then c.args.marks.now m k c.loop-event.invariant.grown grown;
+      ahead = λ q. covers_next (Ahead S H n t t) (A k) all e left rest steps (covers_more (Ahead S H n t t) (A m) all (A k) left (λ u y. told_still S H n m k t u grown y) (c.loop-event.invariant.ahead q))
+          (λ u y. c.mark_ahead.ensures.told u (subst (λ (ts : List Txn). IsAcross S H n t t ts u) (sym c.writers.ensures) (listed_across S H n t q.lawful c.args.asked.now.stands.orderly q.runs t c.in-Got.cell u y)));
+      behind = λ q. covers_next (Behind S H n t t) (B k) all e left rest steps (covers_more (Behind S H n t t) (B m) all (B k) left (λ u y. told_still S H n m k u t grown y) (c.loop-event.invariant.behind q)) (λ u y. absurd y);
     }
 
 pub returns-clause-ahead : goal.returns-clause-ahead

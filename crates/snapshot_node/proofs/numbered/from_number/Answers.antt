@@ -4,7 +4,7 @@ use Rattle.std.proofs.lemmas.List.Sorted.{IsPartitionedBy-ltb, IsPartitionPoint-
 use Rattle.teb_names.specs.declared.Txn.{Txn}
 use Rattle.teb_history.specs.Live.{number_of}
 use Rattle.snapshot_node.proofs.Later.{numbers_rise, part_from}
-use Rattle.snapshot_node.proofs.writers.from_number.Goals as goal
+use Rattle.snapshot_node.proofs.numbered.from_number.Goals as goal
 
 pub returns : goal.returns
 returns c =

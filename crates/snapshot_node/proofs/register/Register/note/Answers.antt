@@ -1,6 +1,5 @@
-use Rattle.std.proofs.Common.{◌≡◌, ◌∙◌, ◌∷◌, ◌-◌, ◌&&◌, ◌||◌, ℕ, List, Bool, true, false, not, eqb, sym, ap, subst, arith, drop, length, inl, inr}
+use Rattle.std.proofs.Common.{◌≡◌, ◌∙◌, ◌∷◌, ◌-◌, ◌&&◌, ℕ, List, true, false, not, eqb, sym, ap, subst, arith, drop, length, inl, inr}
 use Rattle.teb_names.specs.declared.Cell.{Cell}
-use Rattle.teb_names.specs.Cells.{same_cell}
 use Rattle.teb_history.specs.declared.Event.{Event}
 use Rattle.teb_history.specs.declared.Event.TheVariants.{Began, Got, Put, Done, Gone}
 use Rattle.teb_history.specs.Phases.{begun}
@@ -9,10 +8,8 @@ use Rattle.teb_rules.specs.Tree.{on, side}
 use Rattle.phase_api.specs.FactsView.{setup_of, events_of}
 use Rattle.phase_api.specs.Calls.{MayNote}
 use Rattle.hold_register.proofs.Noting.{orderly_now, accessor_begun, writer_begun, typed_now}
-use Rattle.snapshot_node.specs.Readers.{reads_in_values}
-use Rattle.snapshot_node.specs.Slots.{writes_in}
+use Rattle.snapshot_node.specs.Accessors.{is_accessor}
 use Rattle.snapshot_node.specs.Standing.{SnapshotStand}
-use Rattle.snapshot_node.proofs.Leaving.{on_slot, off_put}
 use Rattle.snapshot_node.proofs.Noting.{newest_place, began_begun, began_new, noted_began, noted_began_off, noted_put, noted_put_off, noted_done, noted_gone, noted_got, noted_got_off, noted_ready, noted_told}
 use Rattle.snapshot_node.proofs.register.Register.note.Goals as goal
 
@@ -103,11 +100,11 @@ returns-then-is_on-2-clause-stands c =
     let b = c.args.self.now.batches in
     let r = c.args.self.now.readers in
     let p = c.args.self.now.writers in
-    let k = c.put_reader.new.readers in
+    let k = c.put_in.new.accessors in
     let h : H ≡ Got t c.in-Got.cell c.in-Got.from c.in-Got.value ∷ P = c.requires.newest.is ∙ ap (λ (d : Event). d ∷ P) c.in-Got.is in
     let m = subst (λ (d : Event). MayNote S P n d) c.in-Got.is c.requires.newest.may in
     subst (λ (G : List Event). on S G n t.0 ≡ true → SnapshotStand n b k p S G) (sym h)
-    (λ o. noted_got S P n b r p c.requires.stands t c.in-Got.cell c.in-Got.from c.in-Got.value m k o c.put_reader.ensures.filed c.put_reader.ensures.readers)
+    (λ o. noted_got S P n b r p c.requires.stands t c.in-Got.cell c.in-Got.from c.in-Got.value m k o c.put_in.ensures.filed c.put_in.ensures.accessors)
     (sym c.is_on-in-Got.ensures ∙ c.if-is_on-2.true)
 
 pub returns-else-is_on-2-clause-stands : goal.returns-else-is_on-2-clause-stands
@@ -137,13 +134,11 @@ returns-then-is_on-3-clause-stands c =
     let b = c.args.self.now.batches in
     let r = c.args.self.now.readers in
     let p = c.args.self.now.writers in
-    let q = c.put_in.new.writers in
+    let q = c.put_in-then-is_on-3.new.accessors in
     let h : H ≡ Put t y c.in-Put.value ∷ P = c.requires.newest.is ∙ ap (λ (d : Event). d ∷ P) c.in-Put.is in
     let m = subst (λ (d : Event). MayNote S P n d) c.in-Put.is c.requires.newest.may in
     subst (λ (G : List Event). on S G n t.0 ≡ true → SnapshotStand n b r q S G) (sym h)
-    (λ o. noted_put S P n b r p c.requires.stands t y c.in-Put.value m q o c.put_in.ensures.filed
-    (λ x u. c.put_in.ensures.writers (record { cell = x; committed = false }) u ∙ ap (λ (s : Bool). writes_in p x false u || (s && eqb t.0 u)) (on_slot (same_cell y x)))
-    (λ x u. c.put_in.ensures.writers (record { cell = x; committed = true }) u ∙ off_put (writes_in p x true u) (same_cell y x) (eqb t.0 u)))
+    (λ o. noted_put S P n b r p c.requires.stands t y c.in-Put.value m q o c.put_in-then-is_on-3.ensures.filed c.put_in-then-is_on-3.ensures.accessors)
     (sym c.is_on-in-Put.ensures ∙ c.if-is_on-3.true)
 
 pub returns-else-is_on-3-clause-stands : goal.returns-else-is_on-3-clause-stands
@@ -173,14 +168,11 @@ returns-in-Done-clause-stands c =
     let r = c.args.self.now.readers in
     let p = c.args.self.now.writers in
     let b' = c.finish.new.self in
-    let q = c.commit.new.writers in
     let h : H ≡ Done t ∷ P = c.requires.newest.is ∙ ap (λ (d : Event). d ∷ P) c.in-Done.is in
     let m = subst (λ (d : Event). MayNote S P n d) c.in-Done.is c.requires.newest.may in
     let z = newest_place H c.args.e c.requires.newest.is in
     let l : c.len-at.result - 1 ≡ length P = omega (arith, c.len-at.ensures, z) in
-    subst (λ (G : List Event). ((x : Cell) (u : ℕ) → writes_in q x false u ≡ (writes_in p x false u && not (wrote G t.0 x && eqb t.0 u))) → ((x : Cell) (u : ℕ) → writes_in q x true u ≡ (writes_in p x true u || (wrote G t.0 x && eqb t.0 u && writes_in p x false t.0))) → SnapshotStand n b' r q S G) (sym h)
-    (λ run done. noted_done S P n b r p c.requires.stands t b' q (c.len-at.result - 1) l c.finish.ensures.size c.commit.ensures.filed c.finish.ensures.batches m run done)
-    c.commit.ensures.unfinished c.commit.ensures.committed
+    subst (λ (G : List Event). SnapshotStand n b' r p S G) (sym h) (noted_done S P n b r p c.requires.stands t b' (c.len-at.result - 1) l c.finish.ensures.size c.finish.ensures.batches m)
 
 pub returns-in-Gone-clause-stands : goal.returns-in-Gone-clause-stands
 returns-in-Gone-clause-stands c =
@@ -194,14 +186,14 @@ returns-in-Gone-clause-stands c =
     let p = c.args.self.now.writers in
     let b' = c.finish-in-Gone.new.self in
     let k = c.forget_reads.new.readers in
-    let q = c.abort.new.writers in
+    let q = c.forget_puts.new.writers in
     let z = newest_place H c.args.e c.requires.newest.is in
     let l : c.len-at.result - 1 ≡ length P = omega (arith, c.len-at.ensures, z) in
     let h : H ≡ Gone t c.in-Gone.cause ∷ P = c.requires.newest.is ∙ ap (λ (d : Event). d ∷ P) c.in-Gone.is in
     let m = subst (λ (d : Event). MayNote S P n d) c.in-Gone.is c.requires.newest.may in
-    subst (λ (G : List Event). ((x : Cell) (u : ℕ) → reads_in_values k x u ≡ (reads_in_values r x u && not (got G t.0 x && eqb t.0 u))) → ((x : Cell) (u : ℕ) → writes_in q x false u ≡ (writes_in p x false u && not (wrote G t.0 x && eqb t.0 u))) → SnapshotStand n b' k q S G) (sym h)
-    (λ g run. noted_gone S P n b r p c.requires.stands t b' q (c.len-at.result - 1) l c.finish-in-Gone.ensures.size c.abort.ensures.filed c.finish-in-Gone.ensures.batches c.in-Gone.cause k m c.forget_reads.ensures.filed g run c.abort.ensures.committed)
-    c.forget_reads.ensures.readers c.abort.ensures.unfinished
+    subst (λ (G : List Event). ((x : Cell) (u : ℕ) → is_accessor k x u ≡ (is_accessor r x u && not (got G t.0 x && eqb t.0 u))) → ((x : Cell) (u : ℕ) → is_accessor q x u ≡ (is_accessor p x u && not (wrote G t.0 x && eqb t.0 u))) → SnapshotStand n b' k q S G) (sym h)
+    (λ g w. noted_gone S P n b r p c.requires.stands t b' (c.len-at.result - 1) l c.finish-in-Gone.ensures.size c.finish-in-Gone.ensures.batches c.in-Gone.cause k q m c.forget_reads.ensures.filed g c.forget_puts.ensures.filed w)
+    c.forget_reads.ensures.readers c.forget_puts.ensures.writers
 
 pub returns-in-Ready-clause-stands : goal.returns-in-Ready-clause-stands
 returns-in-Ready-clause-stands c =

@@ -1,17 +1,16 @@
-use Rattle.std.proofs.Common.{◌∙◌, ◌∷◌, List, Option, ap, sym, subst}
+use Rattle.std.proofs.Common.{◌∙◌, ◌∷◌, List, ap, sym, subst}
 use Rattle.teb_names.specs.declared.Txn.{Txn}
 use Rattle.teb_history.specs.declared.Event.{Event}
 use Rattle.teb_history.specs.declared.Event.TheVariants.{Got}
 use Rattle.teb_history.specs.Ascending.{IsAscendingBy}
 use Rattle.teb_history.specs.Live.{number_of}
 use Rattle.teb_history.specs.OwnEvents.{own_events}
-use Rattle.teb_history.specs.Phases.{committed, unfinished}
 use Rattle.teb_laws.proofs.Sound.{tree_facts}
 use Rattle.batch_book.proofs.Numbered.{unfinished_parts}
 use Rattle.phase_api.specs.FactsView.{setup_of, events_of}
-use Rattle.snapshot_node.specs.Pivots.{AreHere, IsLeast, IsLeft, IsMiddle, IsMiddleAmong, lesser_of}
+use Rattle.snapshot_node.specs.Pivots.{AreHere, IsLeast, IsLeft, IsMiddle, IsMiddleAmong}
 use Rattle.snapshot_node.proofs.Listed.{writers_ascend, writers_here}
-use Rattle.snapshot_node.proofs.Least.{Remains, lesser_three, remains_start, remains_next, remains_skip, remains_end}
+use Rattle.snapshot_node.proofs.Least.{Remains, remains_start, remains_next, remains_skip, remains_end}
 use Rattle.snapshot_node.proofs.CellEdges.{Ahead, only_gots}
 use Rattle.snapshot_node.proofs.Middles.{Both, along_middle, middle_along, middle_writers}
 use Rattle.snapshot_node.proofs.validation.Validation.least_middle.Goals as goal
@@ -29,16 +28,10 @@ loop-event-init c =
     (middle_along S H n t c.args.self.now.lawful c.args.self.now.asked.stands.orderly (unfinished_parts (events_of c.args.self.now.asked.facts.now) c.args.self.now.t.0 c.args.self.now.unfinished).2 f c.args.self.now.asked.stands.kind a)
 
 pub middle_by-requires-clause-ascending : goal.middle_by-requires-clause-ascending
-middle_by-requires-clause-ascending c = subst (IsAscendingBy number_of) (sym c.committed.ensures) (writers_ascend committed (setup_of c.args.self.now.asked.facts.now) (events_of c.args.self.now.asked.facts.now) c.args.self.now.asked.register.now.node.0 c.in-Got.cell)
+middle_by-requires-clause-ascending c = subst (IsAscendingBy number_of) (sym c.writers.ensures) (writers_ascend (setup_of c.args.self.now.asked.facts.now) (events_of c.args.self.now.asked.facts.now) c.args.self.now.asked.register.now.node.0 c.in-Got.cell)
 
 pub middle_by-requires-clause-among_here : goal.middle_by-requires-clause-among_here
-middle_by-requires-clause-among_here c = subst (AreHere c.args.self.now.asked.facts.now c.args.self.now.asked.register.now.node.0) (sym c.committed.ensures) (writers_here c.args.self.now.asked.facts.now c.args.self.now.asked.register.now.node.0 c.in-Got.cell c.args.self.now.asked.stands.orderly committed)
-
-pub middle_by-requires-in-Got-clause-ascending : goal.middle_by-requires-in-Got-clause-ascending
-middle_by-requires-in-Got-clause-ascending c = subst (IsAscendingBy number_of) (sym c.unfinished.ensures) (writers_ascend unfinished (setup_of c.args.self.now.asked.facts.now) (events_of c.args.self.now.asked.facts.now) c.args.self.now.asked.register.now.node.0 c.in-Got.cell)
-
-pub middle_by-requires-in-Got-clause-among_here : goal.middle_by-requires-in-Got-clause-among_here
-middle_by-requires-in-Got-clause-among_here c = subst (AreHere c.args.self.now.asked.facts.now c.args.self.now.asked.register.now.node.0) (sym c.unfinished.ensures) (writers_here c.args.self.now.asked.facts.now c.args.self.now.asked.register.now.node.0 c.in-Got.cell c.args.self.now.asked.stands.orderly unfinished)
+middle_by-requires-clause-among_here c = subst (AreHere c.args.self.now.asked.facts.now c.args.self.now.asked.register.now.node.0) (sym c.writers.ensures) (writers_here c.args.self.now.asked.facts.now c.args.self.now.asked.register.now.node.0 c.in-Got.cell c.args.self.now.asked.stands.orderly)
 
 pub loop-event-preserved-in-Got : goal.loop-event-preserved-in-Got
 loop-event-preserved-in-Got c =
@@ -50,12 +43,10 @@ loop-event-preserved-in-Got c =
     let Q = Both (Ahead S H n t a) (IsLeft S H n t) in
     let e : Event = Got c.in-Got.txn c.in-Got.cell c.in-Got.from c.in-Got.value in
     let p = c.middle_by.result in
-    let q = c.middle_by-in-Got.result in
-    subst (Remains Q (IsMiddle S H n t a) c.next.new.self) (sym (c.lesser-least-in-Got.ensures ∙ ap (λ (o : Option Txn). lesser_of o q) c.lesser-least.ensures ∙ lesser_three c.loop-event.least p q))
-    (remains_next Q (IsMiddle S H n t a) e c.loop-event.event-iterator c.next.new.self c.loop-event.least (lesser_of p q) (c.in-Some.ensures.steps ∙ ap (λ (z : Event). z ∷ c.next.new.self) c.in-Got.is) c.loop-event.invariant
-    (middle_writers S H n t c.args.self.now.lawful c.args.self.now.asked.stands.orderly (unfinished_parts (events_of c.args.self.now.asked.facts.now) c.args.self.now.t.0 c.args.self.now.unfinished).2 a c.in-Got.cell p q
-    (subst (λ (ts : List Txn). IsLeast (IsMiddleAmong S H n t a ts) p) c.committed.ensures c.middle_by.ensures)
-    (subst (λ (ts : List Txn). IsLeast (IsMiddleAmong S H n t a ts) q) c.unfinished.ensures c.middle_by-in-Got.ensures)))
+    subst (Remains Q (IsMiddle S H n t a) c.next.new.self) (sym c.lesser-least.ensures)
+    (remains_next Q (IsMiddle S H n t a) e c.loop-event.event-iterator c.next.new.self c.loop-event.least p (c.in-Some.ensures.steps ∙ ap (λ (z : Event). z ∷ c.next.new.self) c.in-Got.is) c.loop-event.invariant
+    (middle_writers S H n t c.args.self.now.lawful c.args.self.now.asked.stands.orderly (unfinished_parts (events_of c.args.self.now.asked.facts.now) c.args.self.now.t.0 c.args.self.now.unfinished).2 a c.in-Got.cell p
+    (subst (λ (ts : List Txn). IsLeast (IsMiddleAmong S H n t a ts) p) c.writers.ensures c.middle_by.ensures)))
 
 pub loop-event-preserved : goal.loop-event-preserved
 loop-event-preserved c =
