@@ -1,6 +1,6 @@
 -- Who comes first in a pivot, by where the transaction that validates stands in it.
 use Rattle.std.specs.Prelude.{IsTrue}
-use Rattle.std.proofs.Common.{◌≡◌, ◌<◌, length, get_or, ℕ, Bool, true, false, cond, eqb, leb, List, [], ◌∷◌, ◌⊎◌, inl, inr, filter, Option, refl, sym, ◌∙◌, ap, subst, eqb-true, eq-eqb}
+use Rattle.std.proofs.Common.{◌≡◌, ◌<◌, length, get_or, ℕ, Bool, true, false, cond, eqb, leb, List, [], ◌∷◌, ◌⊎◌, inl, inr, filter, Option, Some, None, ◌≤◌, le_refl, refl, sym, ◌∙◌, ap, subst, eqb-true, eq-eqb}
 use Rattle.std.proofs.lemmas.Bool.{and_parts, and_from, or_cases, or_left, or_right, not_from_false}
 use Rattle.teb_names.specs.declared.Cell.{Cell}
 use Rattle.teb_names.specs.declared.Txn.{Txn}
@@ -23,7 +23,7 @@ use Rattle.batch_book.specs.Histories.{ClosedBelow}
 use Rattle.batch_book.proofs.Elements.{any_Has, Has-any}
 use Rattle.snapshot_node.specs.Accessors.{is_among}
 use Rattle.snapshot_node.specs.Standing.{readers_in}
-use Rattle.snapshot_node.specs.Pivots.{is_at_stake, is_across, lesser_of, IsLeast, IsAcross, Leads, Leaves, IsLeft, Reaches, IsMiddle, IsFirst, ComesIn, ComesInBy}
+use Rattle.snapshot_node.specs.Pivots.{is_at_stake, is_across, lesser_of, IsLeast, IsAcross, Leads, Leaves, Reaches, IsMiddle, IsFirst, ComesBefore, ComesAfter, ComesIn, ComesInBy}
 use Rattle.snapshot_node.proofs.Listed.{reads_parts, among_readers, readers_here}
 use Rattle.snapshot_node.proofs.Least.{Remains, least_as, least_either, lesser_twice, remains_next, Along, along_of, along_item}
 use Rattle.snapshot_node.proofs.FirstOf.{among_from, each_among}
@@ -128,28 +128,19 @@ pub least_without : (P Q : ℕ → Type 0) (C : Type 0) (best : Option Txn) → 
 least_without P Q C best n h = least_as P (λ u. P u ⊎ (Q u × C)) best (λ u p. inl p) (λ u z. elim z [ inl p ↦ p | inr q ↦ absurd (n q.1) ]) h
 
 module _ (S : Setup) (H : List Event) (n t : ℕ) where
-  -- t is the fourth, or the third, or the second, or the first
-  abbrev pub WithFourth : ℕ → Type 0
-  WithFourth = ComesIn S H n t
-
-  abbrev pub WithThird : ℕ → Type 0
-  WithThird a = WithFourth a ⊎ (Reaches S H n t t a × ((d : ℕ) × Leads S H n t t d))
-
-  abbrev pub WithSecond : ℕ → Type 0
-  WithSecond a = WithThird a ⊎ (Leads S H n t a t × IsLeft S H n t t)
-
-  abbrev pub WithFirst : ℕ → Type 0
-  WithFirst a = WithSecond a ⊎ ((a ≡ t) × ((b : ℕ) × IsMiddle S H n t t b))
+  -- t is the fourth or the second, or the third or the first
+  abbrev WithFirst : ℕ → Type 0
+  WithFirst a = ComesBefore S H n t a ⊎ ComesAfter S H n t a
 
   with_first : (a : ℕ) → WithFirst a → IsFirst S H n t a
   with_first a h = elim h [
-    | inr q ↦ subst (IsFirst S H n t) (sym q.0) (record { second = q.1.0; third = q.1.1.left.from; fourth = q.1.1.left.to; pivot = record { into = q.1.1.into; out = q.1.1.left.out } })
     | inl h ↦ elim h [
+      | inl q ↦ record { second = q.into.member; third = q.third; fourth = t; pivot = record { into = q.into.edge; out = record { batch = batch_sym S H n q.third q.into.member q.into.batch; out = q.out } } }
       | inr q ↦ record { second = t; third = q.1.from; fourth = q.1.to; pivot = record { into = q.0; out = q.1.out } }
-      | inl h ↦ elim h [
-        | inr q ↦ record { second = q.0.member; third = t; fourth = q.1.0; pivot = record { into = q.0.edge; out = record { batch = batch_sym S H n t q.0.member q.0.batch; out = q.1.1 } } }
-        | inl q ↦ record { second = q.into.member; third = q.third; fourth = t; pivot = record { into = q.into.edge; out = record { batch = batch_sym S H n q.third q.into.member q.into.batch; out = q.out } } }
-      ]
+    ]
+    | inr h ↦ elim h [
+      | inl q ↦ record { second = q.0.member; third = t; fourth = q.1.0; pivot = record { into = q.0.edge; out = record { batch = batch_sym S H n t q.0.member q.0.batch; out = q.1.1 } } }
+      | inr q ↦ subst (IsFirst S H n t) (sym q.0) (record { second = q.1.0; third = q.1.1.left.from; fourth = q.1.1.left.to; pivot = record { into = q.1.1.into; out = q.1.1.left.out } })
     ]
   ]
 
@@ -161,13 +152,29 @@ module _ (S : Setup) (H : List Event) (n t : ℕ) where
         let y = h.second in let c = h.third in let d = h.fourth in
         let batch = batch_sym S H n y c p.out.batch in
         with_t S H n t l f k a y c d p (WithFirst a)
-        (λ q. inr (q, (y, subst (λ (z : ℕ). IsMiddle S H n t z y) q (record { into = p.into; left = record { from = c; to = d; out = p.out } }))))
+        (λ q. inr (inr (q, (y, subst (λ (z : ℕ). IsMiddle S H n t z y) q (record { into = p.into; left = record { from = c; to = d; out = p.out } })))))
         (λ q. inl (inr (subst (λ (z : ℕ). Leads S H n t a z) q p.into, record { from = c; to = d; out = subst (λ (z : ℕ). Leaves S H n t z c d) q p.out })))
-        (λ q. inl (inl (inr (record { member = y; batch = subst (λ (z : ℕ). one_batch S H n z y ≡ true) q batch; edge = p.into }, (d, subst (λ (z : ℕ). Leads S H n t z d) q p.out.out)))))
-        (λ q. inl (inl (inl (record { third = c; into = record { member = y; batch = batch; edge = p.into }; out = subst (λ (z : ℕ). Leads S H n t c z) q p.out.out }))))
+        (λ q. inr (inl (record { member = y; batch = subst (λ (z : ℕ). one_batch S H n z y ≡ true) q batch; edge = p.into }, (d, subst (λ (z : ℕ). Leads S H n t z d) q p.out.out))))
+        (λ q. inl (inl (record { third = c; into = record { member = y; batch = batch; edge = p.into }; out = subst (λ (z : ℕ). Leads S H n t c z) q p.out.out })))
 
-    pub least_comer : (o : Option Txn) → IsLeast WithFirst o → IsLeast (IsFirst S H n t) o
-    least_comer o h = least_as WithFirst (IsFirst S H n t) o with_first first_with h
+    pub least_comer : (o w : Option Txn) → IsLeast (ComesBefore S H n t) o → IsLeast (ComesAfter S H n t) w → IsLeast (IsFirst S H n t) (lesser_of o w)
+    least_comer o w h g = least_as WithFirst (IsFirst S H n t) (lesser_of o w) with_first first_with (least_either (ComesBefore S H n t) (ComesAfter S H n t) o w h g)
+
+  -- where no edge leads to t, nobody comes before it, and where none leads from it, nobody after
+  pub none_before : ((a : ℕ) → Leads S H n t a t → ⊥) → IsLeast (ComesBefore S H n t) None
+  none_before none = λ a h. elim h [ inl q ↦ none q.third q.out | inr q ↦ none a q.0 ]
+
+  pub none_after : ((b : ℕ) → Leads S H n t t b → ⊥) → IsLeast (ComesAfter S H n t) None
+  none_after none = λ a h. elim h [ inl q ↦ none q.1.0 q.1.1 | inr q ↦ none q.1.0 q.1.1.into ]
+
+  -- with an edge from t, by who leads into its batch and by whether it has a middle
+  pub after_with : (d : ℕ) → Leads S H n t t d → (o : Option Txn) (u : Txn) → u.0 ≡ t → IsLeast (Reaches S H n t t) o → (b : ℕ) × IsMiddle S H n t t b → IsLeast (ComesAfter S H n t) (lesser_of o (Some u))
+  after_with d e o u q h m =
+      least_as (λ a. Reaches S H n t t a ⊎ (a ≡ t)) (ComesAfter S H n t) (lesser_of o (Some u)) (λ a z. elim z [ inl r ↦ inl (r, (d, e)) | inr x ↦ inr (x, m) ]) (λ a z. elim z [ inl r ↦ inl r.0 | inr x ↦ inr x.0 ])
+      (least_either (Reaches S H n t t) (λ a. a ≡ t) o (Some u) h (q, λ a x. subst (λ (z : ℕ). u.0 ≤ z) (sym x) (subst (λ (z : ℕ). u.0 ≤ z) q (le_refl u.0))))
+
+  pub after_without : (d : ℕ) → Leads S H n t t d → (o : Option Txn) → IsLeast (Reaches S H n t t) o → ((b : ℕ) → IsMiddle S H n t t b → ⊥) → IsLeast (ComesAfter S H n t) o
+  after_without d e o h none = least_as (Reaches S H n t t) (ComesAfter S H n t) o (λ a r. inl (r, (d, e))) (λ a z. elim z [ inl r ↦ r.0 | inr x ↦ absurd (none x.1.0 x.1.1) ]) h
 
 -- a walk along those across from t asks one of each batch
 module _ (S : Setup) (H : List Event) (n t : ℕ) where

@@ -1,7 +1,7 @@
 -- Edges at a batch: those at who is known to have one, and those of the one that validates.
 use Rattle.std.specs.Prelude.{IsTrue}
-use Rattle.std.proofs.Common.{◌≡◌, ℕ, ◌<◌, ◌≤◌, Bool, false, cond, List, ◌⊎◌, inl, inr, Option, Some, None, lt-ltb, le-ltb, refl, sym, subst, arith}
-use Rattle.std.proofs.lemmas.Bool.{cases_lt, cases_Bool}
+use Rattle.std.proofs.Common.{◌≡◌, ℕ, ◌<◌, ◌≤◌, Bool, false, cond, List, inl, inr, Option, Some, None, lt-ltb, le-ltb, le_refl, sym, subst, arith}
+use Rattle.std.proofs.lemmas.Bool.{cases_lt, cases_eq, cases_Bool, both_ways}
 use Rattle.teb_names.specs.declared.Cell.{Cell}
 use Rattle.teb_names.specs.declared.Txn.{Txn}
 use Rattle.teb_names.specs.declared.ControlKind.TheVariants.{Snapshot}
@@ -15,64 +15,97 @@ use Rattle.teb_laws.specs.Lawful.{Lawful}
 use Rattle.teb_laws.specs.TreeFacts.{TreeFacts}
 use Rattle.phase_api.specs.FactsView.{IsOrderly}
 use Rattle.snapshot_node.specs.Standing.{writers_in}
-use Rattle.snapshot_node.specs.Pivots.{IsLeast, IsLeastEdge, IsLeastEdgeFrom, IsMateAmong, IsMateByPut, EntersAt, Leads, Leaves, Reaches, ReachesOne, lesser_of, earlier_of}
-use Rattle.snapshot_node.proofs.Least.{least_as, least_either, Along}
+use Rattle.snapshot_node.specs.Pivots.{IsLeast, IsLeastEdge, IsLeastEdgeAside, IsLeastEdgeFrom, IsLeastAside, IsMateAmong, IsMateByPut, EntersAt, Leads, Leaves, Reaches, ReachesOne, lesser_of, earlier_of}
+use Rattle.snapshot_node.proofs.Least.{least_as, Along}
 use Rattle.snapshot_node.proofs.Middles.{Both, both_from, both_to}
 use Rattle.snapshot_node.proofs.CellEdges.{Ahead, Behind, puts_across, listed_across, ahead_leads, leads_ahead, behind_leads, leads_behind}
 use Rattle.snapshot_node.proofs.Comers.{stake_itself}
 
--- who does not pass the test has edges to t alone
-module _ (S : Setup) (H : List Event) (n : ℕ) (t : Txn) (b : ℕ) (p : ℕ → Bool) (only : (c d : ℕ) → p c ≡ false → Leads S H n t.0 c d → d ≡ t.0) where
-  to_t : (c d : ℕ) → p c ≡ false → Leaves S H n t.0 b c d → Leaves S H n t.0 b c t.0
-  to_t c d f e = subst (λ (z : ℕ). Leaves S H n t.0 b c z) (only c d f e.out) e
-
-  pub edge_with : (known : Option (Txn × Txn)) (c : Txn) → IsLeastEdgeFrom S H n t.0 p b known → IsLeast (λ u. Leaves S H n t.0 b u t.0) (Some c) → IsLeastEdge S H n t.0 b (earlier_of known (c, t))
+-- with the least member of b's batch that has an edge to t, the least edge out of it is known
+module _ (S : Setup) (H : List Event) (n : ℕ) (t : Txn) (b : ℕ) where
+  pub edge_with : (known : Option (Txn × Txn)) (c : Txn) → IsLeastEdgeAside S H n t.0 b known → IsLeast (λ u. Leaves S H n t.0 b u t.0) (Some c) → IsLeastEdge S H n t.0 b (earlier_of known (c, t))
   edge_with None c known least = (least.0, first, ends)
     where
       first : (u d : ℕ) → Leaves S H n t.0 b u d → c.0 ≤ u
-      first u d e = elim (cases_Bool (p u)) [ inl y ↦ absurd (known u d y e) | inr f ↦ least.1 u (to_t u d f e) ]
+      first u d e = least.1 u (subst (λ (z : ℕ). Leaves S H n t.0 b u z) (known u d e) e)
 
       ends : (d : ℕ) → Leads S H n t.0 c.0 d → t.0 ≤ d
-      ends d e = elim (cases_Bool (p c.0)) [ inl y ↦ absurd (known c.0 t.0 y least.0) | inr f ↦ (let q = only c.0 d f e in omega arith) ]
+      ends d e = let q = known c.0 d (record { batch = least.0.batch; out = e }) in omega arith
   edge_with (Some e) c known least = elim (cases_lt c.0 e.0.0) [
     | inl l ↦ subst (λ (z : Bool). IsLeastEdge S H n t.0 b (Some (cond z (c, t) e))) (sym (lt-ltb c.0 e.0.0 l)) (least.0, first l, ends l)
     | inr l ↦ subst (λ (z : Bool). IsLeastEdge S H n t.0 b (Some (cond z (c, t) e))) (sym (le-ltb c.0 e.0.0 l)) (known.0, least_known l, known.2)
   ]
     where
       first : c.0 < e.0.0 → (u d : ℕ) → Leaves S H n t.0 b u d → c.0 ≤ u
-      first l u d x = elim (cases_Bool (p u)) [ inl y ↦ (let z = known.1 u d y x in omega arith) | inr f ↦ least.1 u (to_t u d f x) ]
+      first l u d x = elim (cases_eq d t.0) [ inl q ↦ least.1 u (subst (λ (z : ℕ). Leaves S H n t.0 b u z) q x) | inr ne ↦ (let z = known.1 u d x ne in omega arith) ]
 
       ends : c.0 < e.0.0 → (d : ℕ) → Leads S H n t.0 c.0 d → t.0 ≤ d
-      ends l d x = elim (cases_Bool (p c.0)) [ inl y ↦ (let z = known.1 c.0 t.0 y least.0 in absurd (omega arith)) | inr f ↦ (let q = only c.0 d f x in omega arith) ]
+      ends l d x = elim (cases_eq d t.0) [ inl q ↦ omega arith | inr ne ↦ (let z = known.1 c.0 d (record { batch = least.0.batch; out = x }) ne in absurd (omega arith)) ]
 
       least_known : e.0.0 ≤ c.0 → (u d : ℕ) → Leaves S H n t.0 b u d → e.0.0 ≤ u
-      least_known l u d x = elim (cases_Bool (p u)) [ inl y ↦ known.1 u d y x | inr f ↦ (let z = least.1 u (to_t u d f x) in omega arith) ]
+      least_known l u d x = elim (cases_eq d t.0) [ inl q ↦ (let z = least.1 u (subst (λ (z : ℕ). Leaves S H n t.0 b u z) q x) in omega arith) | inr ne ↦ known.1 u d x ne ]
 
-  pub edge_without : (known : Option (Txn × Txn)) → IsLeastEdgeFrom S H n t.0 p b known → IsLeast (λ u. Leaves S H n t.0 b u t.0) None → IsLeastEdge S H n t.0 b known
-  edge_without None known none = λ e. elim (cases_Bool (p e.from)) [ inl y ↦ known e.from e.to y e.out | inr f ↦ none e.from (to_t e.from e.to f e.out) ]
-  edge_without (Some e) known none = (known.0, λ u d x. elim (cases_Bool (p u)) [ inl y ↦ known.1 u d y x | inr f ↦ absurd (none u (to_t u d f x)) ], known.2)
+  pub edge_without : (known : Option (Txn × Txn)) → IsLeastEdgeAside S H n t.0 b known → IsLeast (λ u. Leaves S H n t.0 b u t.0) None → IsLeastEdge S H n t.0 b known
+  edge_without None known none = λ e. none e.from (subst (λ (z : ℕ). Leaves S H n t.0 b e.from z) (known e.from e.to e.out) e.out)
+  edge_without (Some e) known none = (known.0, λ u d x. elim (cases_eq d t.0) [ inl q ↦ absurd (none u (subst (λ (z : ℕ). Leaves S H n t.0 b u z) q x)) | inr ne ↦ known.1 u d x ne ], known.2)
 
--- to one that does not pass the test leads an edge from t alone
-module _ (S : Setup) (H : List Event) (n : ℕ) (t : Txn) (c : ℕ) (p : ℕ → Bool) (only : (a b : ℕ) → p b ≡ false → Leads S H n t.0 a b → a ≡ t.0) where
-  pub into_with : (known : Option Txn) (m : Txn) → IsLeast (ReachesOne S H n t.0 p c) known → IsLeast (EntersAt S H n t.0 c) (Some m) → IsLeast (Reaches S H n t.0 c) (lesser_of known (Some t))
-  into_with known m h k = least_as (λ u. ReachesOne S H n t.0 p c u ⊎ (u ≡ t.0)) (Reaches S H n t.0 c) (lesser_of known (Some t)) to from
-      (least_either (ReachesOne S H n t.0 p c) (λ u. u ≡ t.0) known (Some t) h (refl, λ u e. (let z : u ≡ t.0 = e in omega arith)))
+  -- who does not pass the test has edges to t alone
+  pub aside_known : (p : ℕ → Bool) → ((c d : ℕ) → p c ≡ false → Leads S H n t.0 c d → d ≡ t.0) → (known : Option (Txn × Txn)) → IsLeastEdgeFrom S H n t.0 p b known → IsLeastEdgeAside S H n t.0 b known
+  aside_known p only None h = λ c d e. elim (cases_Bool (p c)) [ inl y ↦ absurd (h c d y e) | inr f ↦ only c d f e.out ]
+  aside_known p only (Some k) h = (h.0, λ c d e ne. elim (cases_Bool (p c)) [ inl y ↦ h.1 c d y e | inr f ↦ absurd (ne (only c d f e.out)) ], h.2)
+
+  -- nobody else of the batch has an edge but to t
+  module _ (mine : (c d : ℕ) → Leaves S H n t.0 b c d → (d ≡ t.0 → ⊥) → c ≡ t.0) where
+    pub aside_none : ((d : ℕ) → Leaves S H n t.0 b t.0 d → ⊥) → IsLeastEdgeAside S H n t.0 b None
+    aside_none none = λ c d e. elim (cases_eq d t.0) [ inl q ↦ q | inr ne ↦ absurd (none d (subst (λ (z : ℕ). Leaves S H n t.0 b z d) (mine c d e ne) e)) ]
+
+    pub aside_own : (d : Txn) → IsTrue (one_batch S H n b t.0) → IsLeast (Leads S H n t.0 t.0) (Some d) → IsLeastEdgeAside S H n t.0 b (Some (t, d))
+    aside_own d m h = (record { batch = m; out = h.0 }, λ c w e ne. subst (λ (z : ℕ). t.0 ≤ z) (sym (mine c w e ne)) (le_refl t.0), h.1)
+
+-- with whether t has an edge into c's batch, the least that has one is known
+module _ (S : Setup) (H : List Event) (n : ℕ) (t : Txn) (c : ℕ) where
+  pub into_with : (known : Option Txn) (m : Txn) → IsLeastAside S H n t.0 c known → IsLeast (EntersAt S H n t.0 c) (Some m) → IsLeast (Reaches S H n t.0 c) (lesser_of known (Some t))
+  into_with known m h k = go known h
     where
-      to : (u : ℕ) → ReachesOne S H n t.0 p c u ⊎ (u ≡ t.0) → Reaches S H n t.0 c u
-      to u z = elim z [
-        | inl r ↦ r.reach
-        | inr q ↦ subst (Reaches S H n t.0 c) (sym q) (record { member = m.0; batch = k.0.batch; edge = k.0.into })
+      reach : Reaches S H n t.0 c t.0
+      reach = record { member = m.0; batch = k.0.batch; edge = k.0.into }
+
+      go : (o : Option Txn) → IsLeastAside S H n t.0 c o → IsLeast (Reaches S H n t.0 c) (lesser_of o (Some t))
+      go None h = (reach, λ a r. (let q = h a r in omega arith))
+      go (Some u) h = elim (cases_lt t.0 u.0) [
+        | inl l ↦ subst (λ (z : Bool). IsLeast (Reaches S H n t.0 c) (Some (cond z t u))) (sym (lt-ltb t.0 u.0 l)) (reach, λ a r. elim (cases_eq a t.0) [ inl q ↦ omega arith | inr ne ↦ (let z = h.1 a r ne in omega arith) ])
+        | inr l ↦ subst (λ (z : Bool). IsLeast (Reaches S H n t.0 c) (Some (cond z t u))) (sym (le-ltb t.0 u.0 l)) (h.0, λ a r. elim (cases_eq a t.0) [ inl q ↦ omega arith | inr ne ↦ h.1 a r ne ])
       ]
 
-      from : (u : ℕ) → Reaches S H n t.0 c u → ReachesOne S H n t.0 p c u ⊎ (u ≡ t.0)
-      from u r = elim (cases_Bool (p r.member)) [ inl y ↦ inl (record { reach = r; passes = y }) | inr f ↦ inr (only u r.member f r.edge) ]
+  pub into_without : (known : Option Txn) → IsLeastAside S H n t.0 c known → IsLeast (EntersAt S H n t.0 c) None → IsLeast (Reaches S H n t.0 c) known
+  into_without known h none = go known h
+    where
+      never : (a : ℕ) → Reaches S H n t.0 c a → a ≡ t.0 → ⊥
+      never a r q = none r.member (record { into = subst (λ (z : ℕ). Leads S H n t.0 z r.member) q r.edge; batch = r.batch })
 
-  pub into_without : (known : Option Txn) → IsLeast (ReachesOne S H n t.0 p c) known → IsLeast (EntersAt S H n t.0 c) None → IsLeast (Reaches S H n t.0 c) known
-  into_without known h none = least_as (ReachesOne S H n t.0 p c) (Reaches S H n t.0 c) known (λ u r. r.reach)
-      (λ u r. elim (cases_Bool (p r.member)) [
-        | inl y ↦ record { reach = r; passes = y }
-        | inr f ↦ absurd (none r.member (record { into = subst (λ (z : ℕ). Leads S H n t.0 z r.member) (only u r.member f r.edge) r.edge; batch = r.batch }))
-      ]) h
+      go : (o : Option Txn) → IsLeastAside S H n t.0 c o → IsLeast (Reaches S H n t.0 c) o
+      go None h = λ a r. never a r (h a r)
+      go (Some u) h = (h.0, λ a r. h.1 a r (never a r))
+
+  -- to one that does not pass the test leads an edge from t alone
+  pub into_known : (p : ℕ → Bool) → ((a b : ℕ) → p b ≡ false → Leads S H n t.0 a b → a ≡ t.0) → (known : Option Txn) → IsLeast (ReachesOne S H n t.0 p c) known → IsLeastAside S H n t.0 c known
+  into_known p only None h = λ a r. elim (cases_Bool (p r.member)) [ inl y ↦ absurd (h a (record { reach = r; passes = y })) | inr f ↦ only a r.member f r.edge ]
+  into_known p only (Some u) h = (h.0.reach, λ a r ne. elim (cases_Bool (p r.member)) [ inl y ↦ h.1 a (record { reach = r; passes = y }) | inr f ↦ absurd (ne (only a r.member f r.edge)) ])
+
+  -- edges of others into the batch lead to t alone
+  module _ (mine : (a b : ℕ) → IsTrue (one_batch S H n c b) → Leads S H n t.0 a b → (a ≡ t.0 → ⊥) → b ≡ t.0) where
+    pub into_none : (one_batch S H n c t.0 ≡ false) → IsLeastAside S H n t.0 c None
+    into_none f = λ a r. elim (cases_eq a t.0) [ inl q ↦ q | inr ne ↦ absurd (both_ways _ f (subst (λ (z : ℕ). IsTrue (one_batch S H n c z)) (mine a r.member r.batch r.edge ne) r.batch)) ]
+
+    pub into_own : (o : Option Txn) → IsTrue (one_batch S H n c t.0) → IsLeast (λ a. Leads S H n t.0 a t.0) o → IsLeastAside S H n t.0 c o
+    into_own o m h = go o h
+      where
+        to_t : (a : ℕ) (r : Reaches S H n t.0 c a) → (a ≡ t.0 → ⊥) → Leads S H n t.0 a t.0
+        to_t a r ne = subst (λ (z : ℕ). Leads S H n t.0 a z) (mine a r.member r.batch r.edge ne) r.edge
+
+        go : (o : Option Txn) → IsLeast (λ a. Leads S H n t.0 a t.0) o → IsLeastAside S H n t.0 c o
+        go None h = λ a r. elim (cases_eq a t.0) [ inl q ↦ q | inr ne ↦ absurd (h a (to_t a r ne)) ]
+        go (Some u) h = (record { member = t.0; batch = m; edge = h.0 }, λ a r ne. h.1 a (to_t a r ne))
 
 module _ (S : Setup) (H : List Event) (n t b : ℕ) where
   -- u is of b's batch

@@ -19,7 +19,7 @@ use Rattle.phase_api.specs.FactsView.{IsOrderly}
 use Rattle.snapshot_node.specs.declared.marks.Mark.{Mark}
 use Rattle.snapshot_node.specs.declared.validation.Validation.{Validation}
 use Rattle.snapshot_node.specs.Marks.{is_entered, is_left, is_ahead, is_behind, place_of_txn, AreMarked, IsTold}
-use Rattle.snapshot_node.specs.Pivots.{IsAcross, Leads, IsPivot, IsFirst}
+use Rattle.snapshot_node.specs.Pivots.{IsAcross, Leads, Leaves, IsPivot, IsFirst}
 use Rattle.snapshot_node.specs.Validating.{at, is_marked_entered, is_marked_left}
 use Rattle.snapshot_node.proofs.Batchmates.{batch_parts, batch_sym}
 use Rattle.snapshot_node.proofs.CellEdges.{edge_shared}
@@ -56,6 +56,20 @@ module _ (S : Setup) (H : List Event) (n t : ℕ) (l : Lawful S H) (o : IsOrderl
   led_to_only a b unknown e = elim (cases_eq a t) [
     | inl q ↦ q
     | inr na ↦ absurd (both_ways _ unknown (or_right (eqb b t) _ (told a b na (λ q. both_ways _ unknown (or_left _ (is_behind ms (place_of_txn b)) (eq-eqb b t q))) e).behind))
+  ]
+
+  -- where no edge is known to leave b's batch, only t has one out of it but to t
+  pub left_only : (b : ℕ) → IsFalse (is_left ms (start S H n b)) → (c d : ℕ) → Leaves S H n t b c d → (d ≡ t → ⊥) → c ≡ t
+  left_only b unknown c d e nd = elim (cases_eq c t) [
+    | inl q ↦ q
+    | inr nc ↦ absurd (both_ways _ unknown (subst (λ (z : ℕ). IsTrue (is_left ms z)) (sym (batch_parts S H n b c e.batch).3) (told c d nc nd e.out).left))
+  ]
+
+  -- where no edge is known to lead into c's batch, those of others lead to t
+  pub entered_only : (c : ℕ) → IsFalse (is_entered ms (start S H n c)) → (a b : ℕ) → IsTrue (one_batch S H n c b) → Leads S H n t a b → (a ≡ t → ⊥) → b ≡ t
+  entered_only c unknown a b batch e na = elim (cases_eq b t) [
+    | inl q ↦ q
+    | inr nb ↦ absurd (both_ways _ unknown (subst (λ (z : ℕ). IsTrue (is_entered ms z)) (sym (batch_parts S H n c b batch).3) (told a b na nb e).entered))
   ]
 
   -- nobody comes first in a pivot

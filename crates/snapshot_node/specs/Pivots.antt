@@ -1,5 +1,5 @@
 -- Pivots: two edges among those at stake, into a batch and out of it, and the least of those that have a property.
-use Rattle.std.specs.Prelude.{ℕ, ◌≤◌, Bool, IsTrue, cond, eqb, ltb, ◌&&◌, ◌||◌, List, Option, Some, None}
+use Rattle.std.specs.Prelude.{◌≡◌, ◌⊎◌, ℕ, ◌≤◌, Bool, IsTrue, cond, eqb, ltb, ◌&&◌, ◌||◌, List, Option, Some, None}
 use Rattle.teb_names.specs.declared.Cell.{Cell}
 use Rattle.teb_names.specs.declared.Txn.{Txn}
 use Rattle.teb_history.specs.declared.Event.{Event}
@@ -87,6 +87,11 @@ module _ (S : Setup) (H : List Event) (n t : ℕ) where
   IsLeastEdgeFrom p b None = (c d : ℕ) → IsTrue (p c) → Leaves b c d → ⊥
   IsLeastEdgeFrom p b (Some e) = Leaves b e.0.0 e.1.0 × ((c d : ℕ) → IsTrue (p c) → Leaves b c d → e.0.0 ≤ c) × ((d : ℕ) → Leads e.0.0 d → e.1.0 ≤ d)
 
+  -- the same, but for edges of others to t, of which it may leave some out
+  abbrev pub IsLeastEdgeAside : ℕ → Option (Txn × Txn) → Type 0
+  IsLeastEdgeAside b None = (c d : ℕ) → Leaves b c d → d ≡ t
+  IsLeastEdgeAside b (Some e) = Leaves b e.0.0 e.1.0 × ((c d : ℕ) → Leaves b c d → (d ≡ t → ⊥) → e.0.0 ≤ c) × ((d : ℕ) → Leads e.0.0 d → e.1.0 ≤ d)
+
   -- a has an edge to somebody of c's batch
   pub record Reaches (c a : ℕ) : Type 0 where
     pub member : ℕ
@@ -101,6 +106,11 @@ module _ (S : Setup) (H : List Event) (n t : ℕ) where
   -- u is across from t, one of the transactions, and of b's batch
   abbrev pub IsMateAmong : ℕ → List Txn → ℕ → Type 0
   IsMateAmong b among u = IsAcross t among u × IsTrue (one_batch S H n b u)
+
+  -- the least that has an edge to somebody of c's batch, but for t, which it may leave out
+  abbrev pub IsLeastAside : ℕ → Option Txn → Type 0
+  IsLeastAside c None = (a : ℕ) → Reaches c a → a ≡ t
+  IsLeastAside c (Some u) = Reaches c u.0 × ((a : ℕ) → Reaches c a → (a ≡ t → ⊥) → u.0 ≤ a)
 
   -- u has put x, and is across from t and of b's batch
   abbrev pub IsMateByPut : ℕ → Cell → ℕ → Type 0
@@ -139,7 +149,15 @@ module _ (S : Setup) (H : List Event) (n t : ℕ) where
     pub into : Reaches third a
     pub out : Leads third t
 
-  -- the same by one that has read x and is across from t
+  -- a comes first in a pivot in which t is last, or second
+  abbrev pub ComesBefore : ℕ → Type 0
+  ComesBefore a = ComesIn a ⊎ (Leads a t × IsLeft t)
+
+  -- a comes first in a pivot in which t is third, or first
+  abbrev pub ComesAfter : ℕ → Type 0
+  ComesAfter a = (Reaches t a × ((d : ℕ) × Leads t d)) ⊎ ((a ≡ t) × ((b : ℕ) × IsMiddle t b))
+
+  -- a comes in by one that has read x and is across from t
   pub record ComesInBy (x : Cell) (a : ℕ) : Type 0 where
     pub third : ℕ
     pub into : Reaches third a

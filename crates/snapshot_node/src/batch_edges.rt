@@ -1,7 +1,7 @@
 //! Edges at all members of a batch: those at who is known to have one, and those of the one that validates.
 
 ghost use Rattle.std.specs.Prelude.{◌≡◌};
-ghost use Rattle.snapshot_node.specs.Pivots.{IsLeast, IsLeastEdge, IsLeastEdgeFrom, Reaches, ReachesOne, is_mate, earlier_of};
+ghost use Rattle.snapshot_node.specs.Pivots.{IsLeast, IsLeastEdge, IsLeastEdgeAside, IsLeastEdgeFrom, IsLeastAside, Reaches, ReachesOne, is_mate, earlier_of};
 ghost use Rattle.snapshot_node.specs.Asking.{HasBegun, IsAt};
 ghost use Rattle.snapshot_node.specs.Validating.{at, may_lead, may_be_led_to};
 
@@ -49,11 +49,27 @@ impl<'a> Validation<'a> {
         requires { IsAt self.now.asked b.0 }
         ensures { at self.now IsLeastEdge b.0 result }
     {
-        let known = self.known_edge_out(b);
+        let known = self.edge_aside(b);
         match self.least_mate_behind(b) {
             Some(c) => earlier(known, (c, self.t)),
             None => known,
         }
+    }
+
+    // The same, but for edges of others to t: it may leave some of them out. Where no edge is known to leave b's batch, t's are the
+    // only others.
+    fn edge_aside(&self, b: Txn) -> Option<(Txn, Txn)>
+        requires { IsAt self.now.asked b.0 }
+        ensures { at self.now IsLeastEdgeAside b.0 result }
+    {
+        if self.mark_of(b).left {
+            return self.known_edge_out(b);
+        }
+        if !self.are_one_batch(b, self.t) {
+            return None;
+        }
+        let d = self.least_ahead(self.t)?;
+        Some((self.t, d))
     }
 
     // The same by the members that are known to have an edge, and by t.
@@ -79,11 +95,25 @@ impl<'a> Validation<'a> {
         requires { IsAt self.now.asked c.0 }
         ensures { IsLeast (at self.now Reaches c.0) result }
     {
-        let known = self.known_into(c);
+        let known = self.into_aside(c);
         match self.least_mate_ahead(c) {
             Some(_) => lesser(known, Some(self.t)),
             None => known,
         }
+    }
+
+    // The same, but for t: it may leave t out. Where no edge is known to lead into c's batch, those to t are the only others.
+    fn into_aside(&self, c: Txn) -> Option<Txn>
+        requires { IsAt self.now.asked c.0 }
+        ensures { at self.now IsLeastAside c.0 result }
+    {
+        if self.mark_of(c).entered {
+            return self.known_into(c);
+        }
+        if !self.are_one_batch(c, self.t) {
+            return None;
+        }
+        self.least_behind(self.t)
     }
 
     // The same by the members to whom somebody is known to have an edge, and by t.

@@ -17,13 +17,13 @@ use teb_history::Event;
 use teb_names::Txn;
 
 impl<'a> Validation<'a> {
-    /// Whether t may be in a pivot. With an edge from t and one to t it may. With edges of one kind only, an edge of others has
-    /// to enter or to leave the batch of t, or of one at the other end.
-    pub(crate) fn is_near(&self) -> bool
+    /// Whether t may be in a pivot, by whether an edge leads from t, and whether one leads to it. With both it may. With edges of
+    /// one kind only, an edge of others has to enter or to leave the batch of t, or of one at the other end.
+    pub(crate) fn is_near(&self, ahead: bool, behind: bool) -> bool
+        requires ahead { IsFalse ahead → (b : ℕ) → at self.now Leads self.now.t.0 b → ⊥ }
+        requires behind { IsFalse behind → (a : ℕ) → at self.now Leads a self.now.t.0 → ⊥ }
         ensures { IsFalse result → (a : ℕ) → at self.now IsFirst a → ⊥ }
     {
-        let ahead = self.least_ahead(self.t).is_some();
-        let behind = self.least_behind(self.t).is_some();
         if ahead && behind {
             return true;
         }
@@ -37,8 +37,8 @@ impl<'a> Validation<'a> {
         false
     }
 
-    // The mark of u's batch.
-    fn mark_of(&self, u: Txn) -> Mark
+    /// The mark of u's batch.
+    pub(crate) fn mark_of(&self, u: Txn) -> Mark
         requires { IsAt self.now.asked u.0 }
         ensures { result ≡ get_or self.now.marks.now (there self.now.asked start u.0) no_mark }
     {

@@ -8,7 +8,7 @@ ghost use Rattle.teb_history.specs.Ascending.{IsAscendingBy};
 ghost use Rattle.teb_history.specs.Live.{number_of};
 ghost use Rattle.snapshot_node.specs.Asking.{IsAt};
 ghost use Rattle.snapshot_node.specs.Validating.{AreAt, IsAtStake, ruled, at};
-ghost use Rattle.snapshot_node.specs.Pivots.{IsLeast, IsMiddle, IsMiddleAmong, IsFirst, ComesIn, ComesInBy, break_by};
+ghost use Rattle.snapshot_node.specs.Pivots.{IsLeast, IsMiddle, IsMiddleAmong, IsFirst, Leads, ComesBefore, ComesAfter, ComesIn, ComesInBy, break_by};
 
 use crate::neighbours::{is_at_stake, lesser};
 use crate::numbered::from_number;
@@ -25,30 +25,54 @@ impl<'a> Validation<'a> {
         if self.asked.facts.history.is_prepared(self.t) {
             return None;
         }
-        if !self.is_near() {
+        let ahead = self.least_ahead(self.t);
+        let behind = self.least_behind(self.t);
+        if !self.is_near(ahead.is_some(), behind.is_some()) {
             return None;
         }
-        let a = self.least_first()?;
+        let a = self.least_first(ahead, behind)?;
         let b = self.least_middle(a)?;
         let (c, d) = self.edge_out(b)?;
         Some(Broken::Pivot { a, b, c, d })
     }
 
-    // The least one that comes first in a pivot. With t first, an edge leads from t into a batch that an edge leaves; with t
-    // second, an edge leaves t's batch; with t third, t has an edge; with t last, an edge leads to t.
-    fn least_first(&self) -> Option<Txn>
+    // The least one that comes first in a pivot, by the least to whom t has an edge, and the least that has an edge to t.
+    fn least_first(&self, ahead: Option<Txn>, behind: Option<Txn>) -> Option<Txn>
+        requires ahead { IsLeast (at self.now Leads self.now.t.0) ahead }
+        requires behind { IsLeast (λ a. at self.now Leads a self.now.t.0) behind }
         ensures { IsLeast (at self.now IsFirst) result }
     {
-        let t = self.t;
-        let mut least = self.least_before();
-        if self.least_ahead(t).is_some() {
-            least = lesser(least, self.least_into(t));
+        lesser(self.first_before(behind), self.first_after(ahead))
+    }
+
+    // The same with t last or second. With t last, an edge leads to t, and one into the batch of whoever has it; with t second, an
+    // edge leads to t, and one leaves t's batch.
+    fn first_before(&self, behind: Option<Txn>) -> Option<Txn>
+        requires { IsLeast (λ a. at self.now Leads a self.now.t.0) behind }
+        ensures { IsLeast (at self.now ComesBefore) result }
+    {
+        if behind.is_none() {
+            return None;
         }
-        if self.edge_out(t).is_some() {
-            least = lesser(least, self.least_behind(t));
+        let least = self.least_before();
+        if self.edge_out(self.t).is_some() {
+            return lesser(least, behind);
         }
-        if self.least_middle(t).is_some() {
-            least = lesser(least, Some(t));
+        least
+    }
+
+    // The same with t third or first. With t third, an edge leads from t, and one into t's batch; with t first, an edge leads from
+    // t into a batch that one leaves.
+    fn first_after(&self, ahead: Option<Txn>) -> Option<Txn>
+        requires { IsLeast (at self.now Leads self.now.t.0) ahead }
+        ensures { IsLeast (at self.now ComesAfter) result }
+    {
+        if ahead.is_none() {
+            return None;
+        }
+        let least = self.least_into(self.t);
+        if self.least_middle(self.t).is_some() {
+            return lesser(least, Some(self.t));
         }
         least
     }

@@ -1,10 +1,8 @@
-use Rattle.std.proofs.Common.{◌≡◌, ◌∙◌, ℕ, false, sym, ap}
+use Rattle.std.proofs.Common.{◌≡◌, ◌∙◌, false, sym, ap}
 use Rattle.std.proofs.lemmas.Bool.{both_ways}
 use Rattle.phase_api.specs.FactsView.{setup_of, events_of}
 use Rattle.batch_book.proofs.Numbered.{unfinished_parts}
 use Rattle.snapshot_node.specs.declared.marks.Mark.{Mark}
-use Rattle.snapshot_node.specs.Pivots.{Leads}
-use Rattle.snapshot_node.proofs.Middles.{least_none}
 use Rattle.snapshot_node.proofs.Nearness.{none_alone, none_ahead, none_behind}
 use Rattle.snapshot_node.proofs.validation.Validation.is_near.Goals as goal
 use Rattle.snapshot_node.proofs.validation.Validation.is_near.Goals.{else-ahead-via-then-ahead+else-behind, else-ahead-via-else-ahead}
@@ -16,12 +14,12 @@ returns-else-mark c h =
     let H = events_of v.asked.facts.now in
     let n = v.asked.register.now.node.0 in
     let t = v.t.0 in
-    let alone : c.is_some-behind.result ≡ false = elim c.else-ahead.branch [
+    let alone : c.args.behind ≡ false = elim c.else-ahead.branch [
       | else-ahead-via-then-ahead+else-behind w ↦ w.if-behind.false
       | else-ahead-via-else-ahead w ↦ absurd (both_ways _ w.if-ahead.false c.if-ahead-2.true)
     ] in
     none_ahead S H n t v.lawful v.asked.stands.orderly (unfinished_parts H t v.unfinished).2 v.tree v.asked.stands.kind v.marks.now v.marked
-    (λ a. least_none (λ (a : ℕ). Leads S H n t a t) _ _ c.is_some-behind.ensures alone c.least_behind.ensures a)
+    (c.requires.behind alone)
     (ap (λ (m : Mark). m.entered) (sym c.mark_of-mark.ensures) ∙ c.if-mark.false) (c.is_left_ahead.ensures h)
 
 pub returns-else-mark-2 : goal.returns-else-mark-2
@@ -32,7 +30,7 @@ returns-else-mark-2 c h =
     let n = v.asked.register.now.node.0 in
     let t = v.t.0 in
     none_behind S H n t v.lawful v.asked.stands.orderly (unfinished_parts H t v.unfinished).2 v.tree v.asked.stands.kind v.marks.now v.marked
-    (λ b. least_none (Leads S H n t t) _ _ c.is_some-ahead.ensures c.if-ahead-2.false c.least_ahead.ensures b)
+    (c.requires.ahead c.if-ahead-2.false)
     (ap (λ (m : Mark). m.left) (sym c.mark_of-mark.ensures) ∙ c.if-mark-2.false) (c.is_entered_behind.ensures h)
 
 pub returns : goal.returns
@@ -43,5 +41,5 @@ returns c h =
     let n = v.asked.register.now.node.0 in
     let t = v.t.0 in
     none_alone S H n t v.lawful v.asked.stands.orderly (unfinished_parts H t v.unfinished).2 v.tree v.asked.stands.kind v.marks.now v.marked
-    (λ b. least_none (Leads S H n t t) _ _ c.is_some-ahead.ensures c.if-ahead-2.false c.least_ahead.ensures b)
-    (λ a. least_none (λ (a : ℕ). Leads S H n t a t) _ _ c.is_some-behind.ensures c.if-behind-2.false c.least_behind.ensures a)
+    (c.requires.ahead c.if-ahead-2.false)
+    (c.requires.behind c.if-behind-2.false)
