@@ -3,6 +3,8 @@
 ghost use Rattle.std.specs.Prelude.{◌≡◌, ◌≤◌, ℕ, IsTrue, length};
 ghost use Rattle.teb_history.specs.Ascending.{IsAscendingBy};
 ghost use Rattle.teb_history.specs.Live.{number_of};
+ghost use Rattle.teb_laws.specs.Lawful.{Lawful};
+ghost use Rattle.phase_api.specs.FactsView.{setup_of};
 ghost use Rattle.snapshot_node.specs.Asking.{IsAt, AreThere, IsGranted, history, there};
 ghost use Rattle.snapshot_node.specs.Marks.{validated_txn, HaveGrown, IsTold, Touches};
 ghost use Rattle.snapshot_node.specs.Pivots.{is_at_stake, is_across, IsAcross};
@@ -48,7 +50,7 @@ fn mark_ahead(marks: &mut [Mark], asked: &Asked, t: Txn, among: &[Txn])
     requires ascending { IsAscendingBy number_of among.now }
     requires among_here { AreThere asked.now among.now }
     ensures grown { HaveGrown marks.old marks.new }
-    ensures told { (u : ℕ) → there asked.now IsAcross t.0 t.0 among.now u → there asked.now IsTold marks.new t.0 u }
+    ensures told { Lawful (setup_of asked.now.facts.now) (history asked.now) → (u : ℕ) → there asked.now IsAcross t.0 t.0 among.now u → there asked.now IsTold marks.new t.0 u }
 {
     for u in from_number(among, asked.register.batches.horizon(t)) {
         if may_be_across(asked, t, *u) {
@@ -64,7 +66,7 @@ fn mark_behind(marks: &mut [Mark], asked: &Asked, t: Txn, among: &[Txn])
     requires ascending { IsAscendingBy number_of among.now }
     requires among_here { AreThere asked.now among.now }
     ensures grown { HaveGrown marks.old marks.new }
-    ensures told { (u : ℕ) → there asked.now IsAcross t.0 t.0 among.now u → there asked.now IsTold marks.new u t.0 }
+    ensures told { Lawful (setup_of asked.now.facts.now) (history asked.now) → (u : ℕ) → there asked.now IsAcross t.0 t.0 among.now u → there asked.now IsTold marks.new u t.0 }
 {
     for u in from_number(among, asked.register.batches.horizon(t)) {
         if may_be_across(asked, t, *u) {
@@ -86,14 +88,12 @@ fn mark_pair(marks: &mut [Mark], asked: &Asked, u: Txn, w: Txn)
     mark_ends(marks, place_of(u), place_of(w));
 }
 
-// Whether u is at stake where t was validated, and neither batch is closed before the other starts.
+// Whether u is at stake where t was validated, and their batches are two that overlap: where the rules granted each event, whether
+// it is across from t.
 fn may_be_across(asked: &Asked, t: Txn, u: Txn) -> bool
     requires left { IsAt asked.now t.0 }
     requires right { IsAt asked.now u.0 }
-    ensures { IsTrue (is_at_stake (history asked.now) t.0 u.0) → IsTrue (there asked.now is_across t.0 u.0) → IsTrue result }
+    ensures { Lawful (setup_of asked.now.facts.now) (history asked.now) → IsTrue (is_at_stake (history asked.now) t.0 u.0) → IsTrue (there asked.now is_across t.0 u.0) → IsTrue result }
 {
-    !asked.is_closed_before(u, t)
-        && !asked.is_closed_before(t, u)
-        && is_at_stake(asked.facts.history, t, u)
-        && asked.facts.meet_at(asked.register.node, t, u)
+    asked.register.batches.overlap(t, u) && is_at_stake(asked.facts.history, t, u)
 }

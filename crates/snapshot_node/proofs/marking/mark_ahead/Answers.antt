@@ -1,6 +1,7 @@
 use Rattle.std.proofs.Common.{◌+◌, ℕ, List, sym, subst}
 use Rattle.std.proofs.lemmas.Bool.{both_ways}
 use Rattle.teb_names.specs.declared.Txn.{Txn}
+use Rattle.teb_laws.specs.Lawful.{Lawful}
 use Rattle.phase_api.specs.FactsView.{setup_of, events_of}
 use Rattle.batch_book.proofs.Telling.{joined_from}
 use Rattle.snapshot_node.specs.declared.marks.Mark.{Mark}
@@ -27,7 +28,7 @@ loop-u-preserved c =
     let H = events_of c.args.asked.now.facts.now in
     let n = c.args.asked.now.register.now.node.0 in
     let t = c.args.t.0 in
-    let P = IsAcross S H n t t c.args.among.now in
+    let P = λ (u : ℕ). Lawful S H × IsAcross S H n t t c.args.among.now u in
     let R = λ (ms : List Mark) (u : ℕ). IsTold S H n ms t u in
     let d : Txn = record { 0 = 0 } in
     let xs = c.from_number-u-items.result.now in
@@ -42,17 +43,17 @@ loop-u-preserved c =
           }))
       | else-may_be_across w ↦ subst (λ (ms : List Mark). record { grown : HaveGrown c.args.marks.now ms; told : EachBefore P (R ms) d xs (i + 1) }) (sym w.marks-is) (record {
         grown = c.loop-u.invariant.grown;
-        told = each_more P (R m) d xs i c.loop-u.invariant.told (λ p. absurd (both_ways _ w.if-may_be_across.false (c.may_be_across.ensures p.stake p.across)));
+        told = each_more P (R m) d xs i c.loop-u.invariant.told (λ p. absurd (both_ways _ w.if-may_be_across.false (c.may_be_across.ensures p.0 p.1.stake p.1.across)));
       })
     ]
 
 pub returns-clause-told : goal.returns-clause-told
-returns-clause-told c u p =
+returns-clause-told c l u p =
     let S = setup_of c.args.asked.now.facts.now in
     let H = events_of c.args.asked.now.facts.now in
     let n = c.args.asked.now.register.now.node.0 in
     let t = c.args.t.0 in
     let m = c.horizon.result.0 in
     let ms = c.loop-u.marks in
-    each_from (IsAcross S H n t t c.args.among.now) (λ (u : ℕ). IsTold S H n ms t u) (record { 0 = 0 }) c.args.among.now c.from_number-u-items.result.now m c.loop-u.u-index u c.from_number-u-items.ensures c.loop-u-test.false c.loop-u.invariant.told
-    (across_later S H n t m u (c.horizon.ensures.closed S H n c.args.asked.now.stands.batches) (c.requires.among_here u p.listed).typed.begun p.across) p.listed p
+    each_from (λ (u : ℕ). Lawful S H × IsAcross S H n t t c.args.among.now u) (λ (u : ℕ). IsTold S H n ms t u) (record { 0 = 0 }) c.args.among.now c.from_number-u-items.result.now m c.loop-u.u-index u c.from_number-u-items.ensures c.loop-u-test.false c.loop-u.invariant.told
+    (across_later S H n t m u (c.horizon.ensures.closed S H n c.args.asked.now.stands.batches) (c.requires.among_here u p.listed).typed.begun p.across) p.listed (l, p)

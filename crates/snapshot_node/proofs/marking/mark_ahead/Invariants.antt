@@ -1,4 +1,5 @@
 use Rattle.std.proofs.Common.{ℕ}
+use Rattle.teb_laws.specs.Lawful.{Lawful}
 use Rattle.phase_api.specs.FactsView.{setup_of, events_of}
 use Rattle.snapshot_node.specs.Marks.{HaveGrown, IsTold}
 use Rattle.snapshot_node.specs.Pivots.{IsAcross}
@@ -13,5 +14,5 @@ invariant-loop-u l =
     let t = l.fn.t.0 in
     record {
       grown : HaveGrown l.fn.marks l.marks;
-      told : EachBefore (IsAcross S H n t t l.fn.among) (λ (u : ℕ). IsTold S H n l.marks t u) (record { 0 = 0 }) l.u-items l.u-index;
+      told : EachBefore (λ (u : ℕ). Lawful S H × IsAcross S H n t t l.fn.among u) (λ (u : ℕ). IsTold S H n l.marks t u) (record { 0 = 0 }) l.u-items l.u-index;
     }

@@ -1,7 +1,7 @@
 use Rattle.std.proofs.Common.{◌∙◌, ◌∷◌, ℕ, List, ap, sym, subst}
 use Rattle.teb_names.specs.declared.Txn.{Txn}
 use Rattle.teb_history.specs.declared.Event.{Event}
-use Rattle.teb_history.specs.declared.Event.TheVariants.{Got}
+use Rattle.teb_history.specs.declared.Event.TheVariants.{Got, Put}
 use Rattle.teb_history.specs.Ascending.{IsAscendingBy}
 use Rattle.teb_history.specs.Live.{number_of}
 use Rattle.teb_history.specs.OwnEvents.{own_events}
@@ -63,8 +63,31 @@ loop-event-preserved-in-Got c =
     record {
       grown = grown_then c.args.marks.now m k c.loop-event.invariant.grown grown;
       ahead = λ q. covers_next (Ahead S H n t t) (A k) all e left rest steps (covers_more (Ahead S H n t t) (A m) all (A k) left (λ u y. told_still S H n m k t u grown y) (c.loop-event.invariant.ahead q))
-          (λ u y. c.mark_ahead.ensures.told u (subst (λ (ts : List Txn). IsAcross S H n t t ts u) (sym c.writers.ensures) (listed_across S H n t q.lawful c.args.asked.now.stands.orderly q.runs t c.in-Got.cell u y)));
+          (λ u y. c.mark_ahead.ensures.told q.lawful u (subst (λ (ts : List Txn). IsAcross S H n t t ts u) (sym c.writers.ensures) (listed_across S H n t q.lawful c.args.asked.now.stands.orderly q.runs t c.in-Got.cell u y)));
       behind = λ q. covers_next (Behind S H n t t) (B k) all e left rest steps (covers_more (Behind S H n t t) (B m) all (B k) left (λ u y. told_still S H n m k u t grown y) (c.loop-event.invariant.behind q)) (λ u y. absurd y);
+    }
+
+pub loop-event-preserved-in-Put : goal.loop-event-preserved-in-Put
+loop-event-preserved-in-Put c =
+    let S = setup_of c.args.asked.now.facts.now in
+    let H = events_of c.args.asked.now.facts.now in
+    let n = c.args.asked.now.register.now.node.0 in
+    let t = c.args.t.0 in
+    let all = own_events H t in
+    let left = c.loop-event.event-iterator in
+    let rest = c.next.new.self in
+    let A = λ (ms : List Mark) (u : ℕ). IsTold S H n ms t u in
+    let B = λ (ms : List Mark) (u : ℕ). IsTold S H n ms u t in
+    let e : Event = Put c.in-Put.txn c.in-Put.cell c.in-Put.value in
+    let steps = c.in-Some.ensures.steps ∙ ap (λ (z : Event). z ∷ rest) c.in-Put.is in
+    let m = c.loop-event.marks in
+    let k = c.mark_behind.new.marks in
+    let grown = c.mark_behind.ensures.grown in
+    record {
+      grown = grown_then c.args.marks.now m k c.loop-event.invariant.grown grown;
+      ahead = λ q. covers_next (Ahead S H n t t) (A k) all e left rest steps (covers_more (Ahead S H n t t) (A m) all (A k) left (λ u y. told_still S H n m k t u grown y) (c.loop-event.invariant.ahead q)) (λ u y. absurd y);
+      behind = λ q. covers_next (Behind S H n t t) (B k) all e left rest steps (covers_more (Behind S H n t t) (B m) all (B k) left (λ u y. told_still S H n m k u t grown y) (c.loop-event.invariant.behind q))
+          (λ u y. c.mark_behind.ensures.told q.lawful u (subst (λ (ts : List Txn). IsAcross S H n t t ts u) (sym c.readers.ensures) y));
     }
 
 pub returns-clause-ahead : goal.returns-clause-ahead

@@ -1,21 +1,20 @@
-use Rattle.std.proofs.Common.{◌≡◌, ◌∙◌, true, not, ap}
+use Rattle.std.proofs.Common.{◌∙◌}
 use Rattle.std.proofs.lemmas.Bool.{both_ways}
 use Rattle.phase_api.specs.FactsView.{setup_of, events_of}
-use Rattle.snapshot_node.proofs.Grown.{open_both}
+use Rattle.batch_book.proofs.Telling.{joined_from}
+use Rattle.snapshot_node.proofs.Edges.{across_overlap, begun_place}
 use Rattle.snapshot_node.proofs.marking.may_be_across.Goals as goal
-use Rattle.snapshot_node.proofs.marking.may_be_across.Goals.{then-not-is_closed_before, else-not-is_closed_before, then-not-is_closed_before-2, else-not-is_closed_before-2}
 
-pub returns-else-is_at_stake : goal.returns-else-is_at_stake
-returns-else-is_at_stake c h k =
+pub overlap-requires-clause-first : goal.overlap-requires-clause-first
+overlap-requires-clause-first c = joined_from _ (setup_of c.args.asked.now.facts.now) (events_of c.args.asked.now.facts.now) c.args.asked.now.register.now.node.0 c.args.t.0 c.args.asked.now.stands.batches c.requires.left.typed.begun c.requires.left.on
+
+pub overlap-requires-clause-second : goal.overlap-requires-clause-second
+overlap-requires-clause-second c = joined_from _ (setup_of c.args.asked.now.facts.now) (events_of c.args.asked.now.facts.now) c.args.asked.now.register.now.node.0 c.args.u.0 c.args.asked.now.stands.batches c.requires.right.typed.begun c.requires.right.on
+
+pub returns-else-overlap : goal.returns-else-overlap
+returns-else-overlap c l h k =
     let S = setup_of c.args.asked.now.facts.now in
     let H = events_of c.args.asked.now.facts.now in
     let n = c.args.asked.now.register.now.node.0 in
-    let t = c.args.t.0 in
-    let o = open_both S H n t c.args.u.0 k in
-    elim c.if-not-is_closed_before-2.branch as (λ x. c.if-not-is_closed_before-2.value ≡ true) [
-      | then-not-is_closed_before-2 w ↦ w.value-is ∙ w.is_at_stake.ensures ∙ h
-      | else-not-is_closed_before-2 w ↦ absurd (both_ways _ w.if-not-is_closed_before-2.false (elim c.if-not-is_closed_before.branch as (λ x. c.if-not-is_closed_before.value ≡ true) [
-        | then-not-is_closed_before v ↦ v.value-is ∙ ap not (v.is_closed_before-then-not-is_closed_before.ensures ∙ o.1)
-        | else-not-is_closed_before v ↦ absurd (both_ways _ (c.is_closed_before.ensures ∙ o.0) v.if-not-is_closed_before.false)
-      ]))
-    ]
+    absurd (both_ways _ c.if-overlap.false (c.overlap.ensures S H n c.args.asked.now.stands.batches
+    ∙ across_overlap S H n l c.args.t.0 c.args.u.0 (begun_place H c.args.t.0 c.requires.left.typed.begun) (begun_place H c.args.u.0 c.requires.right.typed.begun) c.requires.left.on c.requires.right.on ∙ k))
