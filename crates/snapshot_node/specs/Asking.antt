@@ -1,5 +1,6 @@
 -- What is said of a control that is asked.
-use Rattle.std.specs.Prelude.{ℕ, List, IsTrue, IsFalse}
+use Rattle.std.specs.Prelude.{◌≡◌, ℕ, List, IsTrue, IsFalse, filter, leb}
+use Rattle.teb_names.specs.declared.Cell.{Cell}
 use Rattle.teb_names.specs.declared.Txn.{Txn}
 use Rattle.teb_history.specs.declared.Event.{Event}
 use Rattle.teb_history.specs.Phases.{begun, aborted}
@@ -7,6 +8,8 @@ use Rattle.teb_rules.specs.Setup.{Setup}
 use Rattle.teb_laws.specs.Lawful.{Lawful}
 use Rattle.phase_api.specs.FactsView.{setup_of, events_of}
 use Rattle.phase_api.specs.Calls.{IsHere}
+use Rattle.batch_book.specs.Histories.{ClosedBelow}
+use Rattle.snapshot_node.specs.Standing.{writers_in}
 use Rattle.snapshot_node.specs.Pivots.{AreHere}
 use Rattle.snapshot_node.specs.declared.asked.Asked.{Asked}
 
@@ -27,6 +30,12 @@ there a p = p (setup_of a.facts.now) (events_of a.facts.now) a.register.now.node
 -- the node stands on the path of each of them
 abbrev pub AreThere : Asked → List Txn → Type 0
 AreThere a ts = AreHere a.facts.now a.register.now.node.0 ts
+
+-- the writers of x from a number on, where those below it are of batches that closed before t's started
+pub record AreLate (a : Asked) (t : ℕ) (x : Cell) (us : List Txn) : Type 0 where
+  pub from : ℕ
+  pub below : there a ClosedBelow t from
+  pub are : us ≡ filter (λ u. leb from u.0) (there a writers_in x)
 
 -- the rules granted each event, and t is not aborted
 pub record IsGranted (a : Asked) (t : ℕ) : Type 0 where

@@ -25,7 +25,7 @@ pub(crate) struct Asked<'a> {
 }
 
 impl<'a> Asked<'a> {
-    ghost use Rattle.snapshot_node.specs.Asking.{IsAt, history, there};
+    ghost use Rattle.snapshot_node.specs.Asking.{AreLate, IsAt, history, there};
 
     // Those on whose path the node stands that have put a cell and are not aborted, in ascending number, each once.
     pub(crate) fn writers(&self, cell: Cell) -> &[Txn]
@@ -50,14 +50,22 @@ impl<'a> Asked<'a> {
         self.register.batches.is_closed_before(u, t)
     }
 
-    // The least committed transaction that wrote a cell before t. It looks from t's horizon on: whoever comes before that was of
-    // a batch closed before t's start.
-    pub(crate) fn first_writer(&self, t: Txn, cell: Cell) -> Option<Txn>
+    // Those that have put a cell, from t's horizon on: whoever comes before that was of a batch closed before t's start.
+    pub(crate) fn late_writers(&self, t: Txn, cell: Cell) -> &[Txn]
         requires { IsAt self.now t.0 }
+        ensures { AreLate self.now t.0 cell result.now }
+    {
+        from_number(self.writers(cell), self.register.batches.horizon(t))
+    }
+
+    // The least committed transaction that wrote a cell before t: it is a late writer.
+    pub(crate) fn first_writer(&self, t: Txn, cell: Cell, among: &[Txn]) -> Option<Txn>
+        requires here { IsAt self.now t.0 }
+        requires late { AreLate self.now t.0 cell among.now }
         ensures { result ≡ some_txn (find (there self.now is_first t.0 cell) (txns (history self.now))) }
     {
-        let horizon = self.register.batches.horizon(t);
-        for u in from_number(self.writers(cell), horizon) {
+        let _ = cell;
+        for u in among {
             if self.facts.history.is_committed(*u)
                 && !self.is_closed_before(*u, t)
                 && self.facts.meet_at(self.register.node, t, *u)
@@ -68,14 +76,14 @@ impl<'a> Asked<'a> {
         None
     }
 
-    // The least unfinished transaction that t's write of a cell waits for. The batch of each is open, so that none comes before
-    // t's horizon.
-    pub(crate) fn blocker(&self, t: Txn, cell: Cell) -> Option<Txn>
-        requires { IsAt self.now t.0 }
+    // The least unfinished transaction that t's write of a cell waits for: its batch is open, so that it is a late writer.
+    pub(crate) fn blocker(&self, t: Txn, cell: Cell, among: &[Txn]) -> Option<Txn>
+        requires here { IsAt self.now t.0 }
+        requires late { AreLate self.now t.0 cell among.now }
         ensures { let H = history self.now in result ≡ some_txn (find (λ u. unfinished H u && there self.now meets t.0 u && wrote H u cell) (txns H)) }
     {
-        let horizon = self.register.batches.horizon(t);
-        for u in from_number(self.writers(cell), horizon) {
+        let _ = cell;
+        for u in among {
             if self.facts.history.is_unfinished(*u)
                 && self.facts.meet_at(self.register.node, t, *u)
             {

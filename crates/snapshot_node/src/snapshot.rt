@@ -100,9 +100,10 @@ impl Control for Snapshot {
             register: &self.register,
             facts,
         };
-        match asked.first_writer(t, cell) {
+        let among = asked.late_writers(t, cell);
+        match asked.first_writer(t, cell, among) {
             Some(writer) => Verdict::Break(Broken::First { writer, cell }),
-            None => wait_for(asked.blocker(t, cell)),
+            None => wait_for(asked.blocker(t, cell, among)),
         }
     }
 

@@ -1,26 +1,16 @@
-use Rattle.std.proofs.Common.{◌≡◌, ◌∙◌, get_or, sym, subst, true}
+use Rattle.std.proofs.Common.{◌≡◌, ◌∙◌, get_or, sym, true}
 use Rattle.std.proofs.lemmas.Bool.{and_from}
 use Rattle.teb_names.specs.declared.Txn.{Txn}
-use Rattle.teb_history.specs.Ascending.{IsAscendingBy}
-use Rattle.teb_history.specs.Live.{number_of}
 use Rattle.teb_history.specs.Phases.{unfinished}
 use Rattle.teb_rules.specs.Tree.{meets}
 use Rattle.phase_api.specs.FactsView.{setup_of, events_of}
-use Rattle.batch_book.proofs.Telling.{joined_from}
 use Rattle.hold_register.proofs.Blockers.{find_here, find_end}
 use Rattle.snapshot_node.proofs.Found.{is_met, met_found}
-use Rattle.snapshot_node.proofs.Listed.{writers_ascend}
-use Rattle.snapshot_node.proofs.Later.{kept, later_here, met_later}
+use Rattle.snapshot_node.proofs.Later.{later_here, met_later}
 use Rattle.snapshot_node.proofs.asked.Asked.blocker.Goals as goal
 
-pub horizon-horizon-requires : goal.horizon-horizon-requires
-horizon-horizon-requires c = joined_from _ (setup_of c.args.self.now.facts.now) (events_of c.args.self.now.facts.now) c.args.self.now.register.now.node.0 c.args.t.0 c.args.self.now.stands.batches c.requires.typed.begun c.requires.on
-
-pub from_number-u-items-requires : goal.from_number-u-items-requires
-from_number-u-items-requires c = subst (IsAscendingBy number_of) (sym c.writers.ensures) (writers_ascend (setup_of c.args.self.now.facts.now) (events_of c.args.self.now.facts.now) c.args.self.now.register.now.node.0 c.args.cell)
-
 pub meet_at-requires-clause-right : goal.meet_at-requires-clause-right
-meet_at-requires-clause-right c = (later_here c.args.self.now.facts.now c.args.self.now.register.now.node.0 c.horizon-horizon.result.0 c.args.cell c.args.self.now.stands.orderly c.from_number-u-items.result.now (kept c.horizon-horizon.result.0 c.writers.ensures c.from_number-u-items.ensures) c.loop-u.u-index _ c.loop-u-test.true).typed
+meet_at-requires-clause-right c = (later_here c.args.self.now.facts.now c.args.self.now.register.now.node.0 c.requires.late.from c.args.cell c.args.self.now.stands.orderly c.args.among.now c.requires.late.are c.loop-u.u-index _ c.loop-u-test.true).typed
 
 pub returns-then-meet_at : goal.returns-then-meet_at
 returns-then-meet_at c =
@@ -29,13 +19,13 @@ returns-then-meet_at c =
     let H = events_of f in
     let n = c.args.self.now.register.now.node.0 in
     let t = c.args.t.0 in
-    let m = c.horizon-horizon.result.0 in
-    let us = c.from_number-u-items.result.now in
+    let m = c.requires.late.from in
+    let us = c.args.among.now in
     let i = c.loop-u.u-index in
     let d : Txn = record { 0 = 0 } in
     let met : is_met S H n t (get_or us i d) ≡ true = and_from (unfinished H (get_or us i d).0) (meets S H n t (get_or us i d).0) (sym c.is_unfinished.ensures ∙ c.if-is_unfinished.true) (sym c.meet_at.ensures ∙ c.if-meet_at.true) in
     find_here (is_met S H n t) us i d c.loop-u-test.true met c.loop-u.invariant
-    ∙ met_later f n m c.args.cell c.args.self.now.stands.orderly us (kept m c.writers.ensures c.from_number-u-items.ensures) t (c.horizon-horizon.ensures.closed S H n c.args.self.now.stands.batches) c.args.self.now.stands.batches.numbered c.requires.typed.begun
+    ∙ met_later f n m c.args.cell c.args.self.now.stands.orderly us c.requires.late.are t c.requires.late.below c.args.self.now.stands.batches.numbered c.requires.here.typed.begun
     ∙ met_found S H n t c.args.cell
 
 pub returns : goal.returns
@@ -45,8 +35,8 @@ returns c =
     let H = events_of f in
     let n = c.args.self.now.register.now.node.0 in
     let t = c.args.t.0 in
-    let m = c.horizon-horizon.result.0 in
-    let us = c.from_number-u-items.result.now in
+    let m = c.requires.late.from in
+    let us = c.args.among.now in
     find_end (is_met S H n t) us c.loop-u.u-index c.loop-u-test.false c.loop-u.invariant
-    ∙ met_later f n m c.args.cell c.args.self.now.stands.orderly us (kept m c.writers.ensures c.from_number-u-items.ensures) t (c.horizon-horizon.ensures.closed S H n c.args.self.now.stands.batches) c.args.self.now.stands.batches.numbered c.requires.typed.begun
+    ∙ met_later f n m c.args.cell c.args.self.now.stands.orderly us c.requires.late.are t c.requires.late.below c.args.self.now.stands.batches.numbered c.requires.here.typed.begun
     ∙ met_found S H n t c.args.cell
