@@ -10,10 +10,19 @@ use std::alloc::{AllocError, Global};
 use std::marker::Model;
 
 /// At most 255 distinct names, each with its number from 0. Contracts see the list of their bytes.
-#[derive(Drop)]
 pub struct Names {
     alloc: Global,
     set: IndexSet<String>,
+}
+
+/// A call of its own, so that no owner has to prove anew how a set is dropped.
+impl Drop for Names {
+    fn drop(self) {
+        let Names {
+            alloc: _alloc,
+            set: _set,
+        } = self;
+    }
 }
 
 impl Model for Names {
