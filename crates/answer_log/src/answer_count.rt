@@ -1,0 +1,43 @@
+//! The count of answers.
+
+ghost use Rattle.std.specs.Prelude.{◌≡◌};
+
+use crate::Log;
+use script_text::Answered;
+use std::alloc::AllocError;
+use teb_names::NameBook;
+
+/// How many answers there are.
+#[derive(Drop)]
+pub struct AnswerCount {
+    pub count: usize,
+}
+
+impl AnswerCount {
+    /// No answers.
+    pub fn new() -> AnswerCount
+        ensures { result.count ≡ 0 }
+    {
+        AnswerCount { count: 0 }
+    }
+}
+
+impl Log for AnswerCount {
+    ghost use Rattle.std.specs.Prelude.{◌≡◌, ◌+◌, ◌<◌, ◌^◌, length};
+
+    ghost tells = { λ log _ answers. log.count ≡ length answers };
+
+    ghost has_room = { λ log. log.count + 1 < 2 ^ 64 };
+
+    /// An `Err` where no more can be counted.
+    fn ready(&mut self, _: &NameBook) -> Result<(), AllocError> {
+        if self.count == usize::MAX {
+            return Err(AllocError);
+        }
+        Ok(())
+    }
+
+    fn add(&mut self, _: &NameBook, _: &Answered) {
+        self.count += 1;
+    }
+}

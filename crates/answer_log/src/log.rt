@@ -1,0 +1,30 @@
+//! What a run asks of where its answers go.
+
+ghost use Rattle.std.specs.Prelude.{◌++◌, ◌∷◌, [], List, OnOk};
+ghost use Rattle.teb_names.specs.declared.naming.NameBook.{NameBook};
+ghost use Rattle.script_text.specs.declared.Answered.{Answered};
+
+use script_text::Answered;
+use std::alloc::AllocError;
+use teb_names::NameBook;
+
+/// Where the answers of a run go, the first one first. Nodes and tables go by the names of a book, which is the same at
+/// each call.
+pub trait Log: Drop {
+    /// The log tells these answers.
+    ghost tells: { Self → NameBook → List Answered → Type 0 };
+
+    /// There is room for one answer.
+    ghost has_room: { Self → Type 0 };
+
+    /// Makes room for one answer. The log tells what it told, after an `Err` too.
+    fn ready(&mut self, names: &NameBook) -> Result<(), AllocError>
+        ensures told { (answers : List Answered) → tells self.old names.now answers → tells self.new names.now answers }
+        ensures room { OnOk result (has_room self.new) };
+
+    /// Adds an answer behind the others. It uses up the room.
+    fn add(&mut self, names: &NameBook, answered: &Answered)
+        requires { has_room self.old }
+        ensures { (answers : List Answered) → tells self.old names.now answers
+            → tells self.new names.now (answers ++ answered.now ∷ []) };
+}

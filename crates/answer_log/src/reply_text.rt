@@ -1,0 +1,82 @@
+//! The text of answers.
+
+ghost use Rattle.std.specs.Prelude.{◌≡◌, ◌++◌, [], All, IfOk, List, OnErr, OnOk};
+ghost use Rattle.std.specs.List.{flat_map};
+ghost use Rattle.teb_names.specs.declared.naming.NameBook.{NameBook};
+ghost use Rattle.script_text.specs.declared.Answered.{Answered};
+ghost use Rattle.script_text.specs.Named.{ReplyNamed};
+ghost use Rattle.script_text.specs.Texts.{reply_text};
+ghost use Rattle.answer_log.specs.Lines.{line_of};
+ghost use Rattle.answer_log.specs.Telling.{HasLines};
+
+use crate::Log;
+use crate::named::is_named;
+use script_text::{Answered, put_reply};
+use std::alloc::{AllocError, Global};
+use teb_names::NameBook;
+
+/// The text of answers, a line for each, written as it comes. An answer that names what has no name gets no line.
+#[derive(Drop)]
+pub struct ReplyText {
+    text: Vec<u8>,
+    // The last answer, where memory was wanting for its line.
+    waiting: Option<Answered>,
+}
+
+impl ReplyText {
+    /// No answers. Takes no memory.
+    pub fn new(alloc: Global) -> ReplyText
+        ensures { (names : NameBook) → HasLines result names [] }
+    {
+        ReplyText {
+            text: Vec::new(alloc),
+            waiting: None,
+        }
+    }
+
+    /// The text, whole.
+    pub fn into_text(mut self, names: &NameBook) -> Result<Vec<u8>, AllocError>
+        ensures { (answers : List Answered) → HasLines self names.now answers → All (λ a. ReplyNamed names.now a.reply) answers
+            → IfOk result (λ text. text.items ≡ flat_map (reply_text names.now) answers) }
+    {
+        self.ready(names)?;
+        Ok(self.text)
+    }
+}
+
+impl Log for ReplyText {
+    ghost use Rattle.std.specs.Prelude.{◌≡◌, None};
+    ghost use Rattle.answer_log.specs.Telling.{HasLines};
+
+    ghost tells = { HasLines };
+
+    ghost has_room = { λ log. log.waiting ≡ None };
+
+    /// Writes the line that waits.
+    fn ready(&mut self, names: &NameBook) -> Result<(), AllocError> {
+        if let Some(answered) = self.waiting {
+            put_line(&mut self.text, names, &answered)?;
+            self.waiting = None;
+        }
+        Ok(())
+    }
+
+    /// Writes a line, or lets it wait.
+    fn add(&mut self, names: &NameBook, answered: &Answered) {
+        if put_line(&mut self.text, names, answered).is_err() {
+            self.waiting = Some(*answered);
+        }
+    }
+}
+
+/// Appends the line of an answer, or, for want of memory, nothing.
+fn put_line(out: &mut Vec<u8>, names: &NameBook, answered: &Answered) -> Result<(), AllocError>
+    ensures ok { OnOk result (out.new.items ≡ out.old.items ++ line_of names.now answered.now) }
+    ensures err { OnErr result (out.new.items ≡ out.old.items) }
+{
+    if is_named(names, &answered.reply) {
+        put_reply(out, names, answered)
+    } else {
+        Ok(())
+    }
+}
