@@ -1,5 +1,7 @@
 -- Logs of lists of requests, one after another.
-use Rattle.std.proofs.Common.{◌≡◌, List, [], ◌∷◌, ◌++◌, append_assoc, refl, sym, ap, ap₂, ◌∙◌}
+use Rattle.std.proofs.Common.{◌≡◌, ℕ, ◌+◌, ◌<◌, List, [], ◌∷◌, ◌++◌, length, map, drop, get_or, append_assoc, refl, sym, ap, ap₂, ◌∙◌, subst}
+use Rattle.std.proofs.lemmas.List.{append-nil, drop_more}
+use Rattle.teb_names.specs.declared.naming.NameBook.{NameBook}
 use Rattle.teb_names.specs.declared.Session.{Session}
 use Rattle.teb_names.specs.declared.Request.{Request}
 use Rattle.teb_history.specs.declared.Event.{Event}
@@ -36,6 +38,38 @@ history_none X H = refl
 
 pub history_append : (X : Store) (H : List Event) (xs ys : Requests) → history_after X H (xs ++ ys) ≡ history_after X (history_after X H xs) ys
 history_append = history_after-append
+
+-- some answers are told, and with those that are left they are all
+pub record HasFront (Tells : List Answered → Type 0) (rest all : List Answered) : Type 0 where
+  pub answers : List Answered
+  pub told : Tells answers
+  pub joined : answers ++ rest ≡ all
+
+-- one of some requests is asked, and then those behind it
+module _ {A : Type 0} (f : A → Session × Request) (xs : List A) (i : ℕ) (d : A) (within : i < length xs) (s : Session) (q : Request) (is : (s, q) ≡ f (get_or xs i d)) (X Y : Store) (H K : List Event) (same : Y ≡ X) (on : K ≡ (answer X H s q).1) where
+  left : map f (drop i xs) ≡ (s, q) ∷ map f (drop (i + 1) xs)
+  left = ap (map f) (drop_more xs i d within) ∙ ap (λ (r : Session × Request). r ∷ map f (drop (i + 1) xs)) (sym is)
+
+  pub one_after : after Y K (map f (drop (i + 1) xs)) ≡ after X H (map f (drop i xs))
+  one_after = ap₂ (λ (Z : Store) (J : List Event). after Z J (map f (drop (i + 1) xs))) same on ∙ ap (λ (w : Requests). after X H w) (sym left)
+
+  -- its answer is told behind the others
+  pub one_told : (Tells Then : NameBook → List Answered → Type 0) (m n : NameBook) (all : List Answered) → m ≡ n
+      → ((told : List Answered) → Tells m told → Then m (told ++ record { session = s; reply = (answer X H s q).0 } ∷ []))
+      → HasFront (Tells n) (log_of X H (map f (drop i xs))) all → HasFront (Then n) (log_of Y K (map f (drop (i + 1) xs))) all
+  one_told Tells Then m n all e next front =
+      let a : Answered = record { session = s; reply = (answer X H s q).0 } in
+      let more = map f (drop (i + 1) xs) in
+      record {
+        answers = front.answers ++ a ∷ [];
+        told = subst (λ (b : NameBook). Then b (front.answers ++ a ∷ [])) e (next front.answers (subst (λ (b : NameBook). Tells b front.answers) (sym e) front.told));
+        joined = ap₂ (λ (Z : Store) (J : List Event). (front.answers ++ a ∷ []) ++ log_of Z J more) same on ∙ append_assoc front.answers (a ∷ []) (log_of X (answer X H s q).1 more)
+            ∙ ap (λ (w : Requests). front.answers ++ log_of X H w) (sym left) ∙ front.joined;
+      }
+
+-- none is left
+pub all_told : (Tells : List Answered → Type 0) (X : Store) (H : List Event) (rs : Requests) (all : List Answered) → rs ≡ [] → HasFront Tells (log_of X H rs) all → Tells all
+all_told Tells X H rs all e f = subst Tells (sym (append-nil f.answers) ∙ ap (λ (w : Requests). f.answers ++ log_of X H w) (sym e) ∙ f.joined) f.told
 
 -- the log of a script, and behind it that of the Ends
 pub replay_log : (X Y : Store) (H G : List Event) (lines : List Line) (old mid new : List Answered) → Y ≡ X → G ≡ history_after X H (requests_of lines)

@@ -1,13 +1,14 @@
 //! The end of each session that holds a transaction.
 
-ghost use Rattle.std.specs.Prelude.{◌≡◌, ◌++◌, IfOk, OnOk, map};
+ghost use Rattle.std.specs.Prelude.{◌≡◌, ◌++◌, IfOk, List, OnOk, map};
 ghost use Rattle.teb_rules.specs.Run.{history_after, ends_of};
+ghost use Rattle.script_text.specs.declared.Answered.{Answered};
 ghost use Rattle.replay_runner.specs.Logs.{log_of};
 ghost use Rattle.replay_runner.specs.Holders.{holder_at, holders_from, end_of};
 
 use crate::lines::ask;
+use answer_log::Log;
 use engine_core::Engine;
-use script_text::Answered;
 use std::alloc::{AllocError, Global};
 use teb_history::History;
 use teb_names::{Request, Session};
@@ -18,28 +19,30 @@ const SESSIONS: u8 = 32;
 
 /// Asks End for each session that holds a transaction, in ascending number, and logs the replies.
 #[tactic(auto, using(crate::proofs::Holders::ends_of_holders))]
-pub fn end_sessions<C: Chains>(
+pub fn end_sessions<C: Chains, L: Log>(
     alloc: Global,
     engine: &mut Engine<C>,
-    log: &mut Vec<Answered>,
+    log: &mut L,
 ) -> Result<(), AllocError>
     ensures store { engine.new.store ≡ engine.old.store }
     ensures names { engine.new.names ≡ engine.old.names }
-    ensures log { OnOk result (log.new.items ≡ log.old.items ++ log_of engine.old.store engine.old.events (ends_of engine.old.events)) }
+    ensures log { OnOk result ((told : List Answered) → L.tells log.old engine.old.names told
+        → L.tells log.new engine.old.names (told ++ log_of engine.old.store engine.old.events (ends_of engine.old.events))) }
     ensures events { OnOk result (engine.new.events ≡ history_after engine.old.store engine.old.events (ends_of engine.old.events)) }
 {
     let holders = holding_sessions(alloc, engine.history())?;
     ask_ends(engine, &holders, log)
 }
 
-fn ask_ends<C: Chains>(
+fn ask_ends<C: Chains, L: Log>(
     engine: &mut Engine<C>,
     holders: &[Session],
-    log: &mut Vec<Answered>,
+    log: &mut L,
 ) -> Result<(), AllocError>
     ensures store { engine.new.store ≡ engine.old.store }
     ensures names { engine.new.names ≡ engine.old.names }
-    ensures log { OnOk result (log.new.items ≡ log.old.items ++ log_of engine.old.store engine.old.events (map end_of holders.now)) }
+    ensures log { OnOk result ((told : List Answered) → L.tells log.old engine.old.names told
+        → L.tells log.new engine.old.names (told ++ log_of engine.old.store engine.old.events (map end_of holders.now))) }
     ensures events { OnOk result (engine.new.events ≡ history_after engine.old.store engine.old.events (map end_of holders.now)) }
 {
     for session in holders {

@@ -1,10 +1,12 @@
 //! The requests of a script, in order.
 
-ghost use Rattle.std.specs.Prelude.{◌≡◌, ◌++◌, ◌∷◌, [], OnOk};
+ghost use Rattle.std.specs.Prelude.{◌≡◌, ◌++◌, ◌∷◌, [], List, OnOk};
 ghost use Rattle.teb_rules.specs.Answer.{answer};
 ghost use Rattle.teb_rules.specs.Run.{history_after};
+ghost use Rattle.script_text.specs.declared.Answered.{Answered};
 ghost use Rattle.replay_runner.specs.Logs.{log_of, requests_of};
 
+use answer_log::Log;
 use engine_core::Engine;
 use script_text::{Answered, Line};
 use std::alloc::AllocError;
@@ -12,14 +14,15 @@ use teb_names::{Request, Session};
 use version_chain::Chains;
 
 /// Asks each line, and logs the replies.
-pub fn ask_lines<C: Chains>(
+pub fn ask_lines<C: Chains, L: Log>(
     engine: &mut Engine<C>,
     lines: &[Line],
-    log: &mut Vec<Answered>,
+    log: &mut L,
 ) -> Result<(), AllocError>
     ensures store { engine.new.store ≡ engine.old.store }
     ensures names { engine.new.names ≡ engine.old.names }
-    ensures log { OnOk result (log.new.items ≡ log.old.items ++ log_of engine.old.store engine.old.events (requests_of lines.now)) }
+    ensures log { OnOk result ((told : List Answered) → L.tells log.old engine.old.names told
+        → L.tells log.new engine.old.names (told ++ log_of engine.old.store engine.old.events (requests_of lines.now))) }
     ensures events { OnOk result (engine.new.events ≡ history_after engine.old.store engine.old.events (requests_of lines.now)) }
 {
     for line in lines {
@@ -29,20 +32,21 @@ pub fn ask_lines<C: Chains>(
 }
 
 /// Asks one request, and logs the reply.
-pub fn ask<C: Chains>(
+pub fn ask<C: Chains, L: Log>(
     engine: &mut Engine<C>,
     session: Session,
     request: Request,
-    log: &mut Vec<Answered>,
+    log: &mut L,
 ) -> Result<(), AllocError>
     ensures store { engine.new.store ≡ engine.old.store }
     ensures names { engine.new.names ≡ engine.old.names }
-    ensures log { OnOk result (log.new.items ≡ log.old.items
-        ++ record { session = session; reply = (answer engine.old.store engine.old.events session request).0 } ∷ []) }
+    ensures log { OnOk result ((told : List Answered) → L.tells log.old engine.old.names told → L.tells log.new engine.old.names
+        (told ++ record { session = session; reply = (answer engine.old.store engine.old.events session request).0 } ∷ [])) }
     ensures events { OnOk result (engine.new.events ≡ (answer engine.old.store engine.old.events session request).1) }
 {
+    log.ready(&engine.setup().names)?;
     engine.ready()?;
     let reply = engine.ask(session, request);
-    log.push(Answered { session, reply })?;
+    log.add(&engine.setup().names, &Answered { session, reply });
     Ok(())
 }
