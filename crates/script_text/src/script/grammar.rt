@@ -1,7 +1,7 @@
 //! What a line of a script asks.
 
-ghost use Rattle.std.specs.Prelude.{◌≡◌, ◌==◌, slice_index};
-ghost use Rattle.teb_names.specs.Names.{number_of};
+ghost use Rattle.std.specs.Prelude.{◌≡◌, ◌==◌, slice_index, true};
+ghost use Rattle.teb_names.specs.Names.{is_name, number_of};
 ghost use Rattle.script_text.specs.Words.{nows};
 ghost use Rattle.script_text.specs.Numbers.{number_from_one};
 ghost use Rattle.script_text.specs.Grammar.{verb_of, name_at, number_at, session_at, value_at, cell_at, cell_in, cell_and_value_in, cell_and_count_in, spot_in, nothing_in, arguments, after_session, line_in, line_of};
@@ -10,7 +10,7 @@ use super::names::name_text;
 use super::numbers::{integer, number};
 use super::words::first_words;
 use crate::{Line, LineWhy};
-use teb_names::{Cell, Kind, NameBook, Names, Request, Session, Spot, Table};
+use teb_names::{Cell, Kind, NameBook, Names, Request, Session, Spot, Table, is_name};
 
 /// The words that may follow a session.
 #[derive(Clone, Copy)]
@@ -238,26 +238,30 @@ fn cell_at(tables: &Names, table: &[u8], key: &[u8]) -> Result<Cell, LineWhy>
 fn name(names: &Names, word: &[u8]) -> Result<u8, LineWhy>
     ensures { result ≡ name_at names.now word.now }
 {
-    match name_text(word) {
-        None => Err(LineWhy::Name),
-        Some(text) => match number_of(names, text) {
-            None => Ok(255),
-            Some(n) => Ok(n),
-        },
+    if !is_name(word) {
+        return Err(LineWhy::Name);
+    }
+    match number_of(names, word) {
+        None => Ok(255),
+        Some(n) => Ok(n),
     }
 }
 
 /// The number of a name, which is often one of the first.
-fn number_of(names: &Names, text: &str) -> Option<u8>
-    ensures { result ≡ number_of names.now text.now }
+fn number_of(names: &Names, word: &[u8]) -> Option<u8>
+    requires { is_name word.now ≡ true }
+    ensures { result ≡ number_of names.now word.now }
 {
     let few = names.len().min(4);
     for i in 0..few {
-        if names.name(i).as_bytes() == text.as_bytes() {
+        if names.name(i).as_bytes() == word {
             return Some(i);
         }
     }
-    names.number(text)
+    match name_text(word) {
+        None => None,
+        Some(text) => names.number(text),
+    }
 }
 
 #[tactic(auto, unfolding(crate::specs::Grammar::number_at))]

@@ -65,7 +65,7 @@ fn without_few(text: &[u8]) -> &[u8]
 }
 
 /// What is left behind whole runs of eight spaces at the front, which are often those at the end of a line.
-#[tactic(auto, using(crate::proofs::WordSteps::behind_run, crate::proofs::WordSteps::run_within))]
+#[tactic(auto, using(crate::proofs::WordSteps::run_within))]
 fn without_runs(text: &[u8]) -> &[u8]
     ensures { without_blanks result.now ≡ without_blanks text.now }
 {
