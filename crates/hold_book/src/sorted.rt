@@ -95,7 +95,7 @@ pub(crate) fn put_in(cells: &mut Vec<Cell>, holds: &mut Vec<Hold>, cell: Cell, t
     }
 }
 
-/// Takes out the holds of a transaction, with their cells. One pass over all.
+/// Takes out the holds of a transaction, with their cells. One pass over all holds.
 pub(crate) fn take_out(cells: &mut Vec<Cell>, holds: &mut Vec<Hold>, t: Txn)
     requires { length cells.old.items ≡ length holds.old.items }
     ensures cells { cells.new.items ≡ kept t.0 cells.old.items holds.old.items }
