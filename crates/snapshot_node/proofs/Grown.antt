@@ -62,13 +62,3 @@ each_grown P R Q d xs i f h = λ j l p. f (get_or xs j d).0 (h j l p)
 -- those listed are listed from the number m on
 pub each_from : (P R : ℕ → Type 0) (d : Txn) (xs ys : List Txn) (m i u : ℕ) → ys ≡ filter (λ w. leb m w.0) xs → length ys ≤ i → EachBefore P R d ys i → m ≤ u → is_among u xs ≡ true → P u → R u
 each_from P R d xs ys m i u e l h k a p = each_all P R d ys i u l h (ap (is_among u) e ∙ among_from m u xs k a) p
-
--- where two are across from one another, the batch of neither is closed before the other's starts
-pub open_both : (S : Setup) (H : List Event) (n t u : ℕ) → is_across S H n t u ≡ true → (ltb (close S H n u) (start S H n t) ≡ false) × (ltb (close S H n t) (start S H n u) ≡ false)
-unfolding concurrent
-open_both S H n t u h =
-    let p = and_parts (meets S H n t u) (concurrent S H n t u) h in
-    let q = and_parts (ltb (start S H n t) (close S H n u)) (ltb (start S H n u) (close S H n t)) p.1 in
-    let x = ltb-true _ _ q.0 in
-    let y = ltb-true _ _ q.1 in
-    (le-ltb _ _ (let z : start S H n t ≤ close S H n u = omega arith in z), le-ltb _ _ (let z : start S H n u ≤ close S H n t = omega arith in z))

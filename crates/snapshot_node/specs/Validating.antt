@@ -8,10 +8,11 @@ use Rattle.teb_rules.specs.Batches.{start}
 use Rattle.teb_rules.specs.Controls.{validate}
 use Rattle.teb_rules.specs.declared.Verdict.{Verdict}
 use Rattle.phase_api.specs.FactsView.{setup_of, events_of}
-use Rattle.snapshot_node.specs.Pivots.{is_at_stake, AreHere}
+use Rattle.snapshot_node.specs.Pivots.{is_at_stake, AreHere, IsLeast, Leads}
 use Rattle.snapshot_node.specs.Asking.{there}
 use Rattle.snapshot_node.specs.Marks.{is_entered, is_left, is_behind, is_ahead, place_of_txn}
 use Rattle.snapshot_node.specs.declared.validation.Validation.{Validation}
+use Rattle.snapshot_node.specs.declared.validation.Own.{Own}
 
 -- the node stands on the path of each of them
 abbrev pub AreAt : Validation → List Txn → Type 0
@@ -27,6 +28,11 @@ ruled v = there v.asked (validate (row (setup_of v.asked.facts.now).tree v.asked
 -- a word of the setup, the history, the node and the one that validates
 abbrev pub at {ℓ} : {A : Type ℓ} → Validation → (Setup → List Event → ℕ → ℕ → A) → A
 at v p = there v.asked p v.t.0
+
+-- the least to whom the one that validates has an edge, and the least that has an edge to it
+pub record AreOwn (v : Validation) (own : Own) : Type 0 where
+  pub ahead : IsLeast (at v Leads v.t.0) own.ahead
+  pub behind : IsLeast (λ a. at v Leads a v.t.0) own.behind
 
 -- an edge is known to lead into the batch of u, or to leave it
 abbrev pub is_marked_entered : Validation → ℕ → Bool

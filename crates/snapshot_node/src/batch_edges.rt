@@ -3,11 +3,11 @@
 ghost use Rattle.std.specs.Prelude.{◌≡◌};
 ghost use Rattle.snapshot_node.specs.Pivots.{IsLeast, IsLeastEdge, IsLeastEdgeAside, IsLeastEdgeFrom, IsLeastAside, Reaches, ReachesOne, is_mate, earlier_of};
 ghost use Rattle.snapshot_node.specs.Asking.{HasBegun, IsAt};
-ghost use Rattle.snapshot_node.specs.Validating.{at, may_lead, may_be_led_to};
+ghost use Rattle.snapshot_node.specs.Validating.{at, AreOwn, may_lead, may_be_led_to};
 
 use crate::marks::{mark_at, place_of};
 use crate::neighbours::{is_at_stake, lesser};
-use crate::validation::Validation;
+use crate::validation::{Own, Validation};
 use teb_names::Txn;
 
 /// Of two edges that of the lesser tail, or the only one.
@@ -45,11 +45,15 @@ impl<'a> Validation<'a> {
     }
 
     /// The least edge out of b's batch: of its least member that has one, to the least that it leads to.
-    pub(crate) fn edge_out(&self, b: Txn) -> Option<(Txn, Txn)>
-        requires { IsAt self.now.asked b.0 }
+    pub(crate) fn edge_out(&self, b: Txn, own: Own) -> Option<(Txn, Txn)>
+        requires here { IsAt self.now.asked b.0 }
+        requires own { AreOwn self.now own }
         ensures { at self.now IsLeastEdge b.0 result }
     {
-        let known = self.edge_aside(b);
+        let known = self.edge_aside(b, own);
+        if own.behind.is_none() {
+            return known;
+        }
         match self.least_mate_behind(b) {
             Some(c) => earlier(known, (c, self.t)),
             None => known,
@@ -58,8 +62,9 @@ impl<'a> Validation<'a> {
 
     // The same, but for edges of others to t: it may leave some of them out. Where no edge is known to leave b's batch, t's are the
     // only others.
-    fn edge_aside(&self, b: Txn) -> Option<(Txn, Txn)>
-        requires { IsAt self.now.asked b.0 }
+    fn edge_aside(&self, b: Txn, own: Own) -> Option<(Txn, Txn)>
+        requires here { IsAt self.now.asked b.0 }
+        requires own { AreOwn self.now own }
         ensures { at self.now IsLeastEdgeAside b.0 result }
     {
         if self.mark_of(b).left {
@@ -68,8 +73,10 @@ impl<'a> Validation<'a> {
         if !self.are_one_batch(b, self.t) {
             return None;
         }
-        let d = self.least_ahead(self.t)?;
-        Some((self.t, d))
+        match own.ahead {
+            Some(d) => Some((self.t, d)),
+            None => None,
+        }
     }
 
     // The same by the members that are known to have an edge, and by t.
@@ -91,11 +98,15 @@ impl<'a> Validation<'a> {
     }
 
     /// The least one that has an edge to a member of c's batch.
-    pub(crate) fn least_into(&self, c: Txn) -> Option<Txn>
-        requires { IsAt self.now.asked c.0 }
+    pub(crate) fn least_into(&self, c: Txn, own: Own) -> Option<Txn>
+        requires here { IsAt self.now.asked c.0 }
+        requires own { AreOwn self.now own }
         ensures { IsLeast (at self.now Reaches c.0) result }
     {
-        let known = self.into_aside(c);
+        let known = self.into_aside(c, own);
+        if own.ahead.is_none() {
+            return known;
+        }
         match self.least_mate_ahead(c) {
             Some(_) => lesser(known, Some(self.t)),
             None => known,
@@ -103,8 +114,9 @@ impl<'a> Validation<'a> {
     }
 
     // The same, but for t: it may leave t out. Where no edge is known to lead into c's batch, those to t are the only others.
-    fn into_aside(&self, c: Txn) -> Option<Txn>
-        requires { IsAt self.now.asked c.0 }
+    fn into_aside(&self, c: Txn, own: Own) -> Option<Txn>
+        requires here { IsAt self.now.asked c.0 }
+        requires own { AreOwn self.now own }
         ensures { at self.now IsLeastAside c.0 result }
     {
         if self.mark_of(c).entered {
@@ -113,7 +125,7 @@ impl<'a> Validation<'a> {
         if !self.are_one_batch(c, self.t) {
             return None;
         }
-        self.least_behind(self.t)
+        own.behind
     }
 
     // The same by the members to whom somebody is known to have an edge, and by t.

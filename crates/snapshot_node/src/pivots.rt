@@ -7,12 +7,12 @@ ghost use Rattle.std.specs.Prelude.{◌≡◌};
 ghost use Rattle.teb_history.specs.Ascending.{IsAscendingBy};
 ghost use Rattle.teb_history.specs.Live.{number_of};
 ghost use Rattle.snapshot_node.specs.Asking.{IsAt};
-ghost use Rattle.snapshot_node.specs.Validating.{AreAt, IsAtStake, ruled, at};
-ghost use Rattle.snapshot_node.specs.Pivots.{IsLeast, IsMiddle, IsMiddleAmong, IsFirst, Leads, ComesBefore, ComesAfter, ComesIn, ComesInBy, break_by};
+ghost use Rattle.snapshot_node.specs.Validating.{AreAt, AreOwn, IsAtStake, ruled, at};
+ghost use Rattle.snapshot_node.specs.Pivots.{IsLeast, IsMiddle, IsMiddleAmong, IsFirst, ComesBefore, ComesAfter, ComesIn, ComesInBy, break_by};
 
 use crate::neighbours::{is_at_stake, lesser};
 use crate::numbered::from_number;
-use crate::validation::Validation;
+use crate::validation::{Own, Validation};
 use teb_history::Event;
 use teb_names::{Cell, Txn};
 use teb_rules::Broken;
@@ -30,61 +30,62 @@ impl<'a> Validation<'a> {
         if !self.is_near(ahead.is_some(), behind.is_some()) {
             return None;
         }
-        let a = self.least_first(ahead, behind)?;
-        let b = self.least_middle(a)?;
-        let (c, d) = self.edge_out(b)?;
+        let own = Own { ahead, behind };
+        let a = self.least_first(own)?;
+        let b = self.least_middle(a, own)?;
+        let (c, d) = self.edge_out(b, own)?;
         Some(Broken::Pivot { a, b, c, d })
     }
 
-    // The least one that comes first in a pivot, by the least to whom t has an edge, and the least that has an edge to t.
-    fn least_first(&self, ahead: Option<Txn>, behind: Option<Txn>) -> Option<Txn>
-        requires ahead { IsLeast (at self.now Leads self.now.t.0) ahead }
-        requires behind { IsLeast (λ a. at self.now Leads a self.now.t.0) behind }
+    // The least one that comes first in a pivot.
+    fn least_first(&self, own: Own) -> Option<Txn>
+        requires { AreOwn self.now own }
         ensures { IsLeast (at self.now IsFirst) result }
     {
-        lesser(self.first_before(behind), self.first_after(ahead))
+        lesser(self.first_before(own), self.first_after(own))
     }
 
     // The same with t last or second. With t last, an edge leads to t, and one into the batch of whoever has it; with t second, an
     // edge leads to t, and one leaves t's batch.
-    fn first_before(&self, behind: Option<Txn>) -> Option<Txn>
-        requires { IsLeast (λ a. at self.now Leads a self.now.t.0) behind }
+    fn first_before(&self, own: Own) -> Option<Txn>
+        requires { AreOwn self.now own }
         ensures { IsLeast (at self.now ComesBefore) result }
     {
-        if behind.is_none() {
+        if own.behind.is_none() {
             return None;
         }
-        let least = self.least_before();
-        if self.edge_out(self.t).is_some() {
-            return lesser(least, behind);
+        let least = self.least_before(own);
+        if self.edge_out(self.t, own).is_some() {
+            return lesser(least, own.behind);
         }
         least
     }
 
     // The same with t third or first. With t third, an edge leads from t, and one into t's batch; with t first, an edge leads from
     // t into a batch that one leaves.
-    fn first_after(&self, ahead: Option<Txn>) -> Option<Txn>
-        requires { IsLeast (at self.now Leads self.now.t.0) ahead }
+    fn first_after(&self, own: Own) -> Option<Txn>
+        requires { AreOwn self.now own }
         ensures { IsLeast (at self.now ComesAfter) result }
     {
-        if ahead.is_none() {
+        if own.ahead.is_none() {
             return None;
         }
-        let least = self.least_into(self.t);
-        if self.least_middle(self.t).is_some() {
+        let least = self.least_into(self.t, own);
+        if self.least_middle(self.t, own).is_some() {
             return lesser(least, Some(self.t));
         }
         least
     }
 
     // The least one with an edge into a batch that an edge leads from to t.
-    fn least_before(&self) -> Option<Txn>
+    fn least_before(&self, own: Own) -> Option<Txn>
+        requires { AreOwn self.now own }
         ensures { IsLeast (at self.now ComesIn) result }
     {
         let mut least = None;
         for event in self.asked.facts.history.own_events(self.t) {
             if let Event::Put { cell, .. } = event {
-                least = lesser(least, self.least_before_by(cell));
+                least = lesser(least, self.least_before_by(cell, own));
             }
         }
         least
@@ -92,7 +93,8 @@ impl<'a> Validation<'a> {
 
     // The same by an edge to t of a reader of one cell that t has put. Of readers that follow one another in one batch it asks the
     // first: the others are reached by the same. `last` is the last one that was asked; at first t, who has no mate across from it.
-    fn least_before_by(&self, cell: Cell) -> Option<Txn>
+    fn least_before_by(&self, cell: Cell, own: Own) -> Option<Txn>
+        requires { AreOwn self.now own }
         ensures { IsLeast (at self.now ComesInBy cell) result }
     {
         let t = self.t;
@@ -106,7 +108,7 @@ impl<'a> Validation<'a> {
                 && self.are_across(t, *c)
                 && !self.are_one_batch(last, *c)
             {
-                least = lesser(least, self.least_into(*c));
+                least = lesser(least, self.least_into(*c, own));
                 last = *c;
             }
         }
@@ -114,23 +116,25 @@ impl<'a> Validation<'a> {
     }
 
     // The least one to whom a, which is at stake, has an edge, and whose batch an edge leaves.
-    fn least_middle(&self, a: Txn) -> Option<Txn>
+    fn least_middle(&self, a: Txn, own: Own) -> Option<Txn>
         requires here { IsAt self.now.asked a.0 }
         requires stake { IsAtStake self.now a.0 }
+        requires own { AreOwn self.now own }
         ensures { IsLeast (at self.now IsMiddle a.0) result }
     {
         let mut least = None;
         for event in self.asked.facts.history.own_events(a) {
             if let Event::Got { cell, .. } = event {
-                least = lesser(least, self.middle_by(a, self.asked.writers(cell)));
+                least = lesser(least, self.middle_by(a, self.asked.writers(cell), own));
             }
         }
         least
     }
 
     // The first of some at stake that are across from a, and whose batch an edge leaves.
-    fn middle_by(&self, a: Txn, among: &[Txn]) -> Option<Txn>
+    fn middle_by(&self, a: Txn, among: &[Txn], own: Own) -> Option<Txn>
         requires here { IsAt self.now.asked a.0 }
+        requires own { AreOwn self.now own }
         requires ascending { IsAscendingBy number_of among.now }
         requires among_here { AreAt self.now among.now }
         ensures { IsLeast (at self.now IsMiddleAmong a.0 among.now) result }
@@ -138,7 +142,7 @@ impl<'a> Validation<'a> {
         for b in from_number(among, self.asked.register.batches.horizon(a)) {
             if is_at_stake(self.asked.facts.history, self.t, *b)
                 && self.are_across(a, *b)
-                && self.edge_out(*b).is_some()
+                && self.edge_out(*b, own).is_some()
             {
                 return Some(*b);
             }

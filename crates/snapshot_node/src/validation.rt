@@ -1,4 +1,4 @@
-//! A transaction that validates at a snapshot control.
+//! A transaction that validates at a snapshot control, and its own edges.
 
 ghost use Rattle.std.specs.Prelude.{IsTrue};
 ghost use Rattle.teb_history.specs.Phases.{unfinished};
@@ -24,4 +24,11 @@ pub(crate) struct Validation<'a> {
     ghost here: { IsHere asked.facts.now asked.register.now.node.0 t.0 },
     ghost unfinished: { IsTrue (unfinished (events_of asked.facts.now) t.0) },
     ghost marked: { AreMarked (setup_of asked.facts.now) (events_of asked.facts.now) asked.register.now.node.0 marks.now } by { Prim.hlevel kept },
+}
+
+/// The least to whom the one that validates has an edge, and the least that has an edge to it.
+#[derive(Clone, Copy)]
+pub(crate) struct Own {
+    pub(crate) ahead: Option<Txn>,
+    pub(crate) behind: Option<Txn>,
 }

@@ -12,7 +12,7 @@ returns-then-is_none c =
     let H = events_of v.asked.facts.now in
     let n = v.asked.register.now.node.0 in
     let t = v.t.0 in
-    none_after S H n t (least_none (Leads S H n t t) c.args.ahead _ refl (c.is_none.ensures ∙ ap not c.if-is_none.true) c.requires)
+    none_after S H n t (least_none (Leads S H n t t) c.args.own.ahead _ refl (c.is_none.ensures ∙ ap not c.if-is_none.true) c.requires.ahead)
 
 pub returns-then-is_some : goal.returns-then-is_some
 returns-then-is_some c =
@@ -21,7 +21,7 @@ returns-then-is_some c =
     let H = events_of v.asked.facts.now in
     let n = v.asked.register.now.node.0 in
     let t = v.t.0 in
-    let e = least_some (Leads S H n t t) c.args.ahead _ refl (c.is_none.ensures ∙ ap not c.if-is_none.false) c.requires in
+    let e = least_some (Leads S H n t t) c.args.own.ahead _ refl (c.is_none.ensures ∙ ap not c.if-is_none.false) c.requires.ahead in
     subst (IsLeast (ComesAfter S H n t)) (sym c.lesser.ensures)
     (after_with S H n t e.0 e.1 _ v.t refl c.least_into-least.ensures (least_some (IsMiddle S H n t t) _ _ c.is_some.ensures c.if-is_some.true c.least_middle.ensures))
 
@@ -32,5 +32,5 @@ returns c =
     let H = events_of v.asked.facts.now in
     let n = v.asked.register.now.node.0 in
     let t = v.t.0 in
-    let e = least_some (Leads S H n t t) c.args.ahead _ refl (c.is_none.ensures ∙ ap not c.if-is_none.false) c.requires in
+    let e = least_some (Leads S H n t t) c.args.own.ahead _ refl (c.is_none.ensures ∙ ap not c.if-is_none.false) c.requires.ahead in
     after_without S H n t e.0 e.1 _ c.least_into-least.ensures (least_none (IsMiddle S H n t t) _ _ c.is_some.ensures c.if-is_some.false c.least_middle.ensures)

@@ -12,7 +12,7 @@ returns-then-is_none c =
     let H = events_of v.asked.facts.now in
     let n = v.asked.register.now.node.0 in
     let t = v.t.0 in
-    none_before S H n t (least_none (λ (a : ℕ). Leads S H n t a t) c.args.behind _ refl (c.is_none.ensures ∙ ap not c.if-is_none.true) c.requires)
+    none_before S H n t (least_none (λ (a : ℕ). Leads S H n t a t) c.args.own.behind _ refl (c.is_none.ensures ∙ ap not c.if-is_none.true) c.requires.behind)
 
 pub returns-then-is_some : goal.returns-then-is_some
 returns-then-is_some c =
@@ -22,7 +22,7 @@ returns-then-is_some c =
     let n = v.asked.register.now.node.0 in
     let t = v.t.0 in
     subst (IsLeast (ComesBefore S H n t)) (sym c.lesser.ensures)
-    (least_with (ComesIn S H n t) (λ (a : ℕ). Leads S H n t a t) (IsLeft S H n t t) _ _ (is_left S H n t t _ _ c.is_some.ensures c.if-is_some.true c.edge_out.ensures) c.least_before-least.ensures c.requires)
+    (least_with (ComesIn S H n t) (λ (a : ℕ). Leads S H n t a t) (IsLeft S H n t t) _ _ (is_left S H n t t _ _ c.is_some.ensures c.if-is_some.true c.edge_out.ensures) c.least_before-least.ensures c.requires.behind)
 
 pub returns : goal.returns
 returns c =

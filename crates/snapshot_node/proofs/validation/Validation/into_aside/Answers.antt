@@ -31,4 +31,4 @@ returns c =
     let H = events_of v.asked.facts.now in
     let n = v.asked.register.now.node.0 in
     let mine = entered_only S H n v.t.0 v.lawful v.asked.stands.orderly (unfinished_parts H v.t.0 v.unfinished).2 v.tree v.asked.stands.kind v.marks.now v.marked c.args.c.0 (ap (λ (m : Mark). m.entered) (sym c.mark_of.ensures) ∙ c.if-mark_of.false) in
-    into_own S H n v.t c.args.c.0 mine _ (sym c.are_one_batch.ensures ∙ c.if-not-are_one_batch.false) c.least_behind.ensures
+    into_own S H n v.t c.args.c.0 mine _ (sym c.are_one_batch.ensures ∙ c.if-not-are_one_batch.false) c.requires.own.behind

@@ -49,8 +49,8 @@ are_one_batch-requires-clause-begun_b c = c.loop-c.invariant.last.there
 pub are_one_batch-requires-clause-begun_c : goal.are_one_batch-requires-clause-begun_c
 are_one_batch-requires-clause-begun_c c = (reader_here c.args.self.now.asked.facts.now c.args.self.now.asked.register.now.node.0 c.args.cell c.horizon.result.0 c.args.self.now.asked.stands.orderly c.from_number-c-items.result.now (kept c.horizon.result.0 c.readers.ensures c.from_number-c-items.ensures) c.loop-c.c-index c.loop-c-test.true).typed.begun
 
-pub least_into-requires : goal.least_into-requires
-least_into-requires c = reader_here c.args.self.now.asked.facts.now c.args.self.now.asked.register.now.node.0 c.args.cell c.horizon.result.0 c.args.self.now.asked.stands.orderly c.from_number-c-items.result.now (kept c.horizon.result.0 c.readers.ensures c.from_number-c-items.ensures) c.loop-c.c-index c.loop-c-test.true
+pub least_into-requires-clause-here : goal.least_into-requires-clause-here
+least_into-requires-clause-here c = reader_here c.args.self.now.asked.facts.now c.args.self.now.asked.register.now.node.0 c.args.cell c.horizon.result.0 c.args.self.now.asked.stands.orderly c.from_number-c-items.result.now (kept c.horizon.result.0 c.readers.ensures c.from_number-c-items.ensures) c.loop-c.c-index c.loop-c-test.true
 
 pub loop-c-preserved : goal.loop-c-preserved
 loop-c-preserved c =

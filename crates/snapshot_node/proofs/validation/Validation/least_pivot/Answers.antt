@@ -27,6 +27,15 @@ pub returns-then-not-is_near : goal.returns-then-not-is_near
 returns-then-not-is_near c =
     none_said (setup_of c.args.self.now.asked.facts.now) (events_of c.args.self.now.asked.facts.now) c.args.self.now.asked.register.now.node.0 c.args.self.now.t.0 c.args.self.now.asked.stands.kind (λ x y z w p. c.is_near.ensures c.if-not-is_near.true x (record { second = y; third = z; fourth = w; pivot = p }))
 
+pub least_first-requires : goal.least_first-requires
+least_first-requires c = record { ahead = c.least_ahead-ahead.ensures; behind = c.least_behind-behind.ensures }
+
+pub least_middle-requires-clause-own : goal.least_middle-requires-clause-own
+least_middle-requires-clause-own c = record { ahead = c.least_ahead-ahead.ensures; behind = c.least_behind-behind.ensures }
+
+pub edge_out-requires-clause-own : goal.edge_out-requires-clause-own
+edge_out-requires-clause-own c = record { ahead = c.least_ahead-ahead.ensures; behind = c.least_behind-behind.ensures }
+
 pub returns-in_err-a : goal.returns-in_err-a
 returns-in_err-a c = ap break_by c.from_residual.ensures ∙
     none_said (setup_of c.args.self.now.asked.facts.now) (events_of c.args.self.now.asked.facts.now) c.args.self.now.asked.register.now.node.0 c.args.self.now.t.0 c.args.self.now.asked.stands.kind (λ x y z w p. c.in_err-a.ensures x (record { second = y; third = z; fourth = w; pivot = p }))
@@ -34,8 +43,8 @@ returns-in_err-a c = ap break_by c.from_residual.ensures ∙
 pub least_middle-requires-clause-here : goal.least_middle-requires-clause-here
 least_middle-requires-clause-here c = (leads_here c.args.self.now.asked.facts.now c.args.self.now.asked.register.now.node.0 c.args.self.now.t.0 _ _ c.args.self.now.asked.stands.orderly c.in_ok-a.ensures.0.pivot.into).0
 
-pub edge_out-requires : goal.edge_out-requires
-edge_out-requires c = (leads_here c.args.self.now.asked.facts.now c.args.self.now.asked.register.now.node.0 c.args.self.now.t.0 _ _ c.args.self.now.asked.stands.orderly c.in_ok-b.ensures.0.into).1
+pub edge_out-requires-clause-here : goal.edge_out-requires-clause-here
+edge_out-requires-clause-here c = (leads_here c.args.self.now.asked.facts.now c.args.self.now.asked.register.now.node.0 c.args.self.now.t.0 _ _ c.args.self.now.asked.stands.orderly c.in_ok-b.ensures.0.into).1
 
 pub returns : goal.returns
 returns c = pivot_said (setup_of c.args.self.now.asked.facts.now) (events_of c.args.self.now.asked.facts.now) c.args.self.now.asked.register.now.node.0 c.args.self.now.t.0 c.args.self.now.asked.stands.orderly c.in_ok-a.a c.in_ok-b.b c.in_ok-c.c c.in_ok-c.d c.in_ok-a.ensures c.in_ok-b.ensures c.in_ok-c.ensures c.args.self.now.asked.stands.kind

@@ -19,8 +19,8 @@ loop-b-init c = none_yet (IsMiddleAmong (setup_of c.args.self.now.asked.facts.no
 pub are_across-requires-clause-right : goal.are_across-requires-clause-right
 are_across-requires-clause-right c = c.requires.among_here _ (each_among (record { 0 = 0 }) c.args.among.now c.from_number-b-items.result.now c.horizon.result.0 c.from_number-b-items.ensures c.loop-b.b-index c.loop-b-test.true)
 
-pub edge_out-requires : goal.edge_out-requires
-edge_out-requires c = c.requires.among_here _ (each_among (record { 0 = 0 }) c.args.among.now c.from_number-b-items.result.now c.horizon.result.0 c.from_number-b-items.ensures c.loop-b.b-index c.loop-b-test.true)
+pub edge_out-requires-clause-here : goal.edge_out-requires-clause-here
+edge_out-requires-clause-here c = c.requires.among_here _ (each_among (record { 0 = 0 }) c.args.among.now c.from_number-b-items.result.now c.horizon.result.0 c.from_number-b-items.ensures c.loop-b.b-index c.loop-b-test.true)
 
 pub returns-then-is_some : goal.returns-then-is_some
 returns-then-is_some c =
