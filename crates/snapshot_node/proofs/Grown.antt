@@ -1,14 +1,11 @@
 -- Marks that grow, and walks that make them.
-use Rattle.std.proofs.Common.{◌≡◌, ℕ, zero, suc, ◌+◌, ◌<◌, ◌≤◌, true, false, eqb, List, [], ◌∷◌, length, get_or, filter, leb, refl, sym, ◌∙◌, ap, subst, inl, inr, arith, eqb-true, ltb, ltb-true, le-ltb}
-use Rattle.std.proofs.lemmas.Bool.{cases_lt, or_cases, and_parts}
+use Rattle.std.proofs.Common.{◌≡◌, ℕ, zero, suc, ◌+◌, ◌<◌, ◌≤◌, true, eqb, List, [], ◌∷◌, length, get_or, filter, leb, refl, sym, ◌∙◌, ap, subst, inl, inr, arith, eqb-true}
+use Rattle.std.proofs.lemmas.Bool.{cases_lt, or_cases}
 use Rattle.teb_names.specs.declared.Txn.{Txn}
 use Rattle.teb_history.specs.declared.Event.{Event}
 use Rattle.teb_rules.specs.Setup.{Setup}
-use Rattle.teb_rules.specs.Tree.{meets}
-use Rattle.teb_rules.specs.Batches.{start, close, concurrent}
 use Rattle.snapshot_node.specs.declared.marks.Mark.{Mark}
 use Rattle.snapshot_node.specs.Accessors.{is_among}
-use Rattle.snapshot_node.specs.Pivots.{is_across}
 use Rattle.snapshot_node.specs.Marks.{HaveGrown, IsTold}
 use Rattle.snapshot_node.proofs.FirstOf.{among_from}
 
