@@ -9,6 +9,7 @@ use crate::standing::Standing;
 use teb_names::Txn;
 
 /// Where the standing of t is, or where it would go. It costs one look where the transactions are numbered from 1 without a gap, and else a binary search.
+#[inline(always)]
 pub fn find_standing(standings: &[Standing], t: Txn) -> Result<usize, usize>
     requires { IsAscendingBy standing_number standings.now }
     ensures { result ≡ place_of standing_number standings.now t.0 }
@@ -17,6 +18,14 @@ pub fn find_standing(standings: &[Standing], t: Txn) -> Result<usize, usize>
     if first < standings.len() && standings[first].txn == t {
         return Ok(first);
     }
+    search_standing(standings, t)
+}
+
+/// Where the standing of t is, or where it would go, by a binary search.
+fn search_standing(standings: &[Standing], t: Txn) -> Result<usize, usize>
+    requires { IsAscendingBy standing_number standings.now }
+    ensures { result ≡ place_of standing_number standings.now t.0 }
+{
     standings.binary_search_by_key(&t.0, |standing| standing.txn.0)
 }
 
