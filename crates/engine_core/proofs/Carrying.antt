@@ -1,5 +1,7 @@
 -- What a decision comes to when it is carried out.
-use Rattle.std.proofs.Common.{◌≡◌, ℕ, ◌<◌, List, ◌∷◌, sym, subst}
+use Rattle.std.proofs.Common.{◌≡◌, ℕ, ◌<◌, List, ◌∷◌, refl, sym, subst}
+use Rattle.teb_names.specs.declared.Cell.{Cell}
+use Rattle.teb_names.specs.declared.Txn.{Txn}
 use Rattle.teb_names.specs.declared.Session.{Session}
 use Rattle.teb_names.specs.declared.Request.{Request}
 use Rattle.teb_history.specs.declared.Event.{Event}
@@ -11,7 +13,8 @@ use Rattle.teb_laws.proofs.Reachable.{answer_good}
 use Rattle.teb_laws.proofs.Sound.{tree_facts}
 use Rattle.teb_rules.specs.Accepted.{IsSound}
 use Rattle.engine_core.specs.declared.decision.Decision.{Decision}
-use Rattle.engine_core.specs.Decisions.{carried}
+use Rattle.engine_core.specs.declared.decision.Decision.TheVariants.{Answer, Grant, Scan, Fall}
+use Rattle.engine_core.specs.Decisions.{carried, IsShort}
 use Rattle.engine_core.specs.Keeping.{HasRoomForVersion, HasRoomForCursor}
 
 pub room_for_version : (n : ℕ) (e : Event) → 0 < n → HasRoomForVersion n e
@@ -31,6 +34,13 @@ room_for_cursor n (Ready t) h = tt
 room_for_cursor n (Done t) h = tt
 room_for_cursor n (Gone t c) h = tt
 room_for_cursor n (Told t) h = tt
+
+-- what is no scan
+pub is_short : (d : Decision) → ((t : Txn) (x : Cell) (n : ℕ) → d ≡ Scan t x n → ⊥) → IsShort d
+is_short (Scan t x n) f = f t x n refl
+is_short (Answer r) f = tt
+is_short (Grant r e p) f = tt
+is_short (Fall t c) f = tt
 
 -- what is granted, where its history is lawful
 pub leads_granted : (S : Setup) (P : List Event) (e : Event) → Lawful S (e ∷ P) → Granted S P e

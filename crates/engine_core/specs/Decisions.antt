@@ -50,6 +50,11 @@ IsBounded L S H (Grant r e p) = MayBegin S H e × HasPlace L e p × PutsAt S H L
 IsBounded L S H (Scan t x n) = (n ≤ 16) × (x.key + n ≤ 2 ^ 32)
 IsBounded L S H _ = Unit {0}
 
+-- the decision is no scan
+abbrev pub IsShort : Decision → Type 0
+IsShort (Scan t x n) = ⊥
+IsShort _ = Unit {0}
+
 -- the refusal of an access, if there is one
 abbrev pub IsRefusal : Store → List Event → ℕ → Cell → Option Refusal → Type 0
 IsRefusal X H t x None = (granted : Answered) → or_refused X H t x granted ≡ granted
