@@ -24,7 +24,7 @@ impl Width {
     {
         match self {
             Width::One => 1,
-            Width::Many => 64,
+            Width::Many => 256,
         }
     }
 }
@@ -59,7 +59,7 @@ impl<K: Key, V: Copy> Model for Multimap<K, V> {
 }
 
 impl<K: Key, V: Copy> Multimap<K, V> {
-    /// No values, and no room, for values of many keys: in 64 buckets. Takes no memory.
+    /// No values, and no room, for values of many keys: in 256 buckets. Takes no memory.
     pub fn new(alloc: Global) -> Self
         ensures entries { result.entries ≡ [] }
         ensures spare { result.spare ≡ 0 }
