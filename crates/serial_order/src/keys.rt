@@ -29,7 +29,7 @@ impl<'a> Booked<'a> {
         let facts = self.facts;
         let spot = facts.spot(t).unwrap();
         let path = facts.tree.path(spot);
-        let mut key = Vec::new(alloc);
+        let mut key = Vec::with_capacity(alloc, path.len().saturating_mul(2))?;
         for n in path {
             key.push(self.rank(marks, *n, t, done))?;
             key.push(facts.side(*n, t) as usize)?;

@@ -7,7 +7,7 @@ use Rattle.serial_order.proofs.Places.{on_at, key_starts, spot_told}
 use Rattle.serial_order.proofs.booked.Booked.key.Goals as goal
 
 pub loop-n-init : goal.loop-n-init
-loop-n-init c = ap (λ (ks : List ℕ). ks ++ key_along (setup_of c.args.self.now.facts.now) (events_of c.args.self.now.facts.now) c.args.t.0 (node_numbers c.path-path.result.now)) c.new-key.ensures.items
+loop-n-init c = ap (λ (ks : List ℕ). ks ++ key_along (setup_of c.args.self.now.facts.now) (events_of c.args.self.now.facts.now) c.args.t.0 (node_numbers c.path-path.result.now)) c.in_ok-key.ensures.items
     ∙ key_starts (setup_of c.args.self.now.facts.now) (events_of c.args.self.now.facts.now) c.args.t.0 (node_numbers c.path-path.result.now) (c.path-path.ensures.nodes ∙ ap (path (setup_of c.args.self.now.facts.now).tree) (spot_told (events_of c.args.self.now.facts.now) c.args.t.0 c.spot.result c.unwrap-spot.result c.spot.ensures.spot c.unwrap-spot.ensures))
 
 pub rank-requires-clause-here : goal.rank-requires-clause-here
