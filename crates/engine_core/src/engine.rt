@@ -30,10 +30,19 @@ use version_chain::Chains;
 
 /// A store with its history, and the answers that go on with it. Contracts see the store, its names, the events, the
 /// newest first, and whether there is room for an answer.
-#[derive(Drop)]
 pub struct Engine<C: Chains> {
     state: Box<EngineState<AnyControl, C>>,
     ready: bool,
+}
+
+/// A call of its own, so that no owner has to prove anew how a state is dropped.
+impl<C: Chains> Drop for Engine<C> {
+    fn drop(self) {
+        let Engine {
+            state: _state,
+            ready: _ready,
+        } = self;
+    }
 }
 
 impl<C: Chains> Model for Engine<C> {
@@ -138,7 +147,11 @@ impl<C: Chains> Engine<C> {
     pub fn into_history(self) -> History
         ensures { result.events ≡ self.events }
     {
-        Box::into_inner(self.state).history
+        let Engine {
+            state,
+            ready: _ready,
+        } = self;
+        Box::into_inner(state).history
     }
 }
 
