@@ -1,15 +1,17 @@
 -- The parts of a text, one after the other.
 use Rattle.std.proofs.Common.{◌≡◌, ℕ, ◌+◌, ◌-◌, ◌^◌, ◌<◌, Bool, true, false, List, [], ◌∷◌, length, drop, get_or, Option, Some, None, refl, ap, sym, ◌∙◌, arith, drop_of_length-le}
-use Rattle.std.specs.Prelude.{Ok, Err}
+use Rattle.std.specs.Prelude.{Result, Ok, Err}
 use Rattle.std.specs.Borrow.{Bor}
 use Rattle.std.proofs.lemmas.List.{drop_more, length-map}
 use Rattle.std.proofs.lemmas.List.Splits.{length-slice_split}
 use Rattle.std.proofs.lemmas.List.Sums.{count_by-le-length}
 use Rattle.audit_check.specs.Items.{Item}
 use Rattle.audit_check.specs.Lines.{is_feed, parts_of, items_from, fitting, is_over, next_line}
+use Rattle.audit_check.specs.declared.error.AuditError.{AuditError}
+use Rattle.audit_check.specs.declared.error.AuditError.TheVariants as errors
 use Rattle.audit_check.specs.declared.line.RowKey.{RowKey as Named}
 use Rattle.audit_check.specs.declared.line.Line.{Line}
-use Rattle.audit_check.specs.Views.{nows, views, KeepsCells, Takes}
+use Rattle.audit_check.specs.Views.{nows, views, KeepsCells, Takes, ReadsLines, ReadsInto}
 
 -- a text has a part
 pub has_part : (xs : List (Bor (List ℕ))) (text : List ℕ) → nows xs ≡ parts_of text → 0 < length xs
@@ -73,8 +75,12 @@ pub taken_length : (past new : List Item) (ok : Bool) (o : Option Item) → Take
 taken_length past new ok None takes is = absurd (cc)
 taken_length past new ok (Some i) takes is = rw (takes.1) (omega arith)
 
-pub none_yet : (starts rows : List Named) (lines : List Line) → starts ≡ [] → rows ≡ [] → lines ≡ [] → KeepsCells starts rows (views lines)
-none_yet starts rows lines s r l = rw (s, r, l) (record { start_cells = λ x. refl; row_cells = λ x. refl })
+pub none_yet : (starts rows : List Named) → starts ≡ [] → rows ≡ [] → KeepsCells starts rows []
+none_yet starts rows s r = rw (s, r) (record { start_cells = λ x. refl; row_cells = λ x. refl })
+
+pub not_read : (e : AuditError) (lines : List Line) (items : Result (List Item) ℕ) → ReadsInto (Err e) lines items → ReadsLines (Err e) items
+not_read (errors.No n w) lines items h = h
+not_read errors.OutOfMemory lines items h = tt
 
 -- a text that is not too long has few parts
 pub few_parts : (text : List ℕ) → length text < 2 ^ 32 - 1 → length (parts_of text) < 2 ^ 32

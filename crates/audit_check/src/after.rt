@@ -1,6 +1,6 @@
 //! Who commits before one that it read from.
 
-ghost use Rattle.std.specs.Prelude.{◌≡◌, ℕ, ◌<◌, ◌^◌, ◌||◌, ◌&&◌, ◌==◌, Bool, length, not, OnOk, List};
+ghost use Rattle.std.specs.Prelude.{◌≡◌, ℕ, ◌<◌, ◌^◌, ◌||◌, ◌&&◌, ◌==◌, Bool, [], length, not, OnOk, List};
 ghost use Rattle.std.specs.List.{list_any};
 ghost use Rattle.audit_check.specs.Faults.{wrong_after, reads_from};
 ghost use Rattle.audit_check.specs.Findings.{Finds};
@@ -23,13 +23,28 @@ pub fn check_after(alloc: Global, lines: &[Line]) -> Result<(), AuditError>
 {
     let mut done = Vec::new(alloc);
     let mut sources = Vec::new(alloc);
+    first_early(alloc, &mut done, &mut sources, lines)
+}
+
+/// The same, where nothing is marked or kept yet.
+fn first_early(
+    alloc: Global,
+    done: &mut Vec<bool>,
+    sources: &mut Vec<Vec<u32>>,
+    lines: &[Line],
+) -> Result<(), AuditError>
+    requires done { done.old.items ≡ [] }
+    requires sources { sources.old.items ≡ [] }
+    requires few { length lines.now < 2 ^ 32 }
+    ensures { Finds After wrong_after (views lines.now) result }
+{
     for i in 0..lines.len() {
         let line = &lines[i];
-        if is_early(&done, &sources, line) {
+        if is_early(done, sources, line) {
             return Err(no(i, AuditWhy::After));
         }
-        mark_commit(&mut done, line)?;
-        keep_source(alloc, &mut sources, line)?;
+        mark_commit(done, line)?;
+        keep_source(alloc, sources, line)?;
     }
     Ok(())
 }

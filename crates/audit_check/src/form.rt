@@ -1,8 +1,9 @@
 //! The form of a printed run: its lines, in their order, no cell twice.
 
-ghost use Rattle.std.specs.Prelude.{◌≡◌, ◌<◌, ◌^◌, ◌∷◌, [], ◌++◌, ◌+◌, length, not, IsTrue, IfOk, IfErr};
+ghost use Rattle.std.specs.Prelude.{◌≡◌, ◌<◌, ◌^◌, ◌∷◌, [], ◌++◌, ◌+◌, length, not, IsTrue, IfOk, OnOk, IfErr, List};
+ghost use Rattle.audit_check.specs.Items.{Item};
 ghost use Rattle.audit_check.specs.Lines.{parts_of, items_of, items_from, fits, fitting, repeats, is_over, may_follow, part, part_after};
-ghost use Rattle.audit_check.specs.Views.{nows, line_view, views, row_key_view, row_keys, has_row_key, KeepsCells, Takes, ReadsLines};
+ghost use Rattle.audit_check.specs.Views.{nows, line_view, views, row_key_view, row_keys, has_row_key, KeepsCells, Takes, ReadsLines, ReadsInto};
 ghost use Rattle.audit_check.specs.declared.error.AuditError.TheVariants.{OutOfMemory};
 ghost use Rattle.audit_check.specs.declared.error.AuditWhy.TheVariants.{Form};
 
@@ -12,10 +13,9 @@ use super::reading::read_line;
 use indexmap::IndexSet;
 use std::alloc::{AllocError, AllocFailed, Global};
 
-/// The lines so far, with the cells of the starting rows and of the final rows.
+/// The cells of the starting rows so far, and of the final rows.
 #[derive(Drop)]
-struct SoFar<'a> {
-    lines: Vec<Line<'a>>,
+struct Cells<'a> {
     starts: IndexSet<RowKey<'a>>,
     rows: IndexSet<RowKey<'a>>,
 }
@@ -32,25 +32,61 @@ pub fn read_lines<'a>(alloc: Global, text: &'a [u8]) -> Result<Vec<Line<'a>>, Au
 }
 
 /// The same of the parts of a text.
+#[tactic(auto, using(crate::proofs::FormSteps::not_read))]
 fn lines_in<'a>(alloc: Global, parts: &[&'a [u8]]) -> Result<Vec<Line<'a>>, AuditError>
     requires some { 0 < length parts.now }
     requires few { length parts.now < 2 ^ 32 }
     ensures lines { ReadsLines result (items_from [] (nows parts.now)) }
     ensures few { IfOk result (λ v. length v.items < length parts.now) }
 {
-    let last = parts.len() - 1;
-    let mut so_far = SoFar {
-        lines: Vec::new(alloc),
+    let mut lines = Vec::new(alloc);
+    match add_lines(alloc, &mut lines, parts) {
+        Ok(()) => Ok(lines),
+        Err(error) => Err(error),
+    }
+}
+
+/// Puts the lines of the parts into a list that has none.
+fn add_lines<'a>(
+    alloc: Global,
+    lines: &mut Vec<Line<'a>>,
+    parts: &[&'a [u8]],
+) -> Result<(), AuditError>
+    requires first { lines.old.items ≡ [] }
+    requires some { 0 < length parts.now }
+    requires few { length parts.now < 2 ^ 32 }
+    ensures lines { ReadsInto result lines.new.items (items_from [] (nows parts.now)) }
+    ensures few { OnOk result (length lines.new.items < length parts.now) }
+{
+    let mut cells = Cells {
         starts: IndexSet::new(alloc),
         rows: IndexSet::new(alloc),
     };
+    take_parts(alloc, lines, &mut cells, parts)
+}
+
+/// The same, where no cell is kept yet.
+fn take_parts<'a>(
+    alloc: Global,
+    lines: &mut Vec<Line<'a>>,
+    cells: &mut Cells<'a>,
+    parts: &[&'a [u8]],
+) -> Result<(), AuditError>
+    requires first { lines.old.items ≡ [] }
+    requires cells { KeepsCells cells.old.starts.keys cells.old.rows.keys [] }
+    requires some { 0 < length parts.now }
+    requires few { length parts.now < 2 ^ 32 }
+    ensures lines { ReadsInto result lines.new.items (items_from [] (nows parts.now)) }
+    ensures few { OnOk result (length lines.new.items < length parts.now) }
+{
+    let last = parts.len() - 1;
     for i in 0..last {
-        if !take_part(alloc, &mut so_far, parts[i])? {
+        if !take_part(alloc, lines, cells, parts[i])? {
             return Err(no(i, AuditWhy::Form));
         }
     }
-    if is_over(&so_far, parts[last]) {
-        Ok(so_far.lines)
+    if is_over(lines, parts[last]) {
+        Ok(())
     } else {
         Err(no(last, AuditWhy::Form))
     }
@@ -62,55 +98,62 @@ fn parts(alloc: Global, text: &[u8]) -> Result<Vec<&[u8]>, AllocError>
     text.split(|b| *b == b'\n').collect(alloc)
 }
 
-fn is_over(so_far: &SoFar, rest: &[u8]) -> bool
-    ensures { result ≡ is_over (views so_far.now.lines.items) rest.now }
+fn is_over(lines: &[Line], rest: &[u8]) -> bool
+    ensures { result ≡ is_over (views lines.now) rest.now }
 {
-    last_part(&so_far.lines) == 4 && rest.is_empty()
+    last_part(lines) == 4 && rest.is_empty()
 }
 
 /// Puts the line behind the others, where it fits; answers whether it did.
 #[tactic(auto, unfolding(crate::specs::Lines::fitting))]
-fn take_part<'a>(alloc: Global, so_far: &mut SoFar<'a>, part: &'a [u8]) -> Result<bool, AuditError>
-    requires { KeepsCells so_far.old.starts.keys so_far.old.rows.keys (views so_far.old.lines.items) }
-    ensures fits { IfOk result (λ ok. Takes (views so_far.old.lines.items) ok (views so_far.new.lines.items) (fitting (views so_far.old.lines.items) part.now)) }
-    ensures kept { IfOk result (λ ok. IsTrue ok → KeepsCells so_far.new.starts.keys so_far.new.rows.keys (views so_far.new.lines.items)) }
+fn take_part<'a>(
+    alloc: Global,
+    lines: &mut Vec<Line<'a>>,
+    cells: &mut Cells<'a>,
+    part: &'a [u8],
+) -> Result<bool, AuditError>
+    requires { KeepsCells cells.old.starts.keys cells.old.rows.keys (views lines.old.items) }
+    ensures fits { IfOk result (λ ok. Takes (views lines.old.items) ok (views lines.new.items) (fitting (views lines.old.items) part.now)) }
+    ensures kept { IfOk result (λ ok. IsTrue ok → KeepsCells cells.new.starts.keys cells.new.rows.keys (views lines.new.items)) }
     ensures err { IfErr result (λ e. e ≡ OutOfMemory) }
 {
     match read_line(alloc, part)? {
         None => Ok(false),
-        Some(line) => take_line(so_far, line),
+        Some(line) => take_line(lines, cells, line),
     }
 }
 
 #[tactic(auto, using(crate::proofs::Cells::views_push))]
-fn take_line<'a>(so_far: &mut SoFar<'a>, line: Line<'a>) -> Result<bool, AuditError>
-    requires { KeepsCells so_far.old.starts.keys so_far.old.rows.keys (views so_far.old.lines.items) }
-    ensures fits { IfOk result (λ ok. ok ≡ fits (views so_far.old.lines.items) (line_view line.entry)) }
-    ensures taken { IfOk result (λ ok. IsTrue ok → views so_far.new.lines.items ≡ line_view line.entry ∷ views so_far.old.lines.items) }
-    ensures kept { IfOk result (λ ok. IsTrue ok → KeepsCells so_far.new.starts.keys so_far.new.rows.keys (views so_far.new.lines.items)) }
+fn take_line<'a>(
+    lines: &mut Vec<Line<'a>>,
+    cells: &mut Cells<'a>,
+    line: Line<'a>,
+) -> Result<bool, AuditError>
+    requires { KeepsCells cells.old.starts.keys cells.old.rows.keys (views lines.old.items) }
+    ensures fits { IfOk result (λ ok. ok ≡ fits (views lines.old.items) (line_view line.entry)) }
+    ensures taken { IfOk result (λ ok. IsTrue ok → views lines.new.items ≡ line_view line.entry ∷ views lines.old.items) }
+    ensures kept { IfOk result (λ ok. IsTrue ok → KeepsCells cells.new.starts.keys cells.new.rows.keys (views lines.new.items)) }
     ensures err { IfErr result (λ e. e ≡ OutOfMemory) }
 {
-    if !may_follow(last_part(&so_far.lines), part(&line)) {
+    if !may_follow(last_part(lines), part(&line)) {
         return Ok(false);
     }
-    if !is_new(so_far, &line)? {
+    if !is_new(cells, &line)? {
         return Ok(false);
     }
-    so_far.lines.push(line)?;
+    lines.push(line)?;
     Ok(true)
 }
 
 /// Whether the line is no row of a cell that had one; then keeps its cell.
 #[tactic(auto, using(crate::proofs::Cells::start_kept, crate::proofs::Cells::row_kept))]
-fn is_new<'a>(so_far: &mut SoFar<'a>, line: &Line<'a>) -> Result<bool, AllocFailed<RowKey<'a>>>
-    requires { KeepsCells so_far.old.starts.keys so_far.old.rows.keys (views so_far.old.lines.items) }
-    ensures lines { so_far.new.lines.items ≡ so_far.old.lines.items }
-    ensures new { IfOk result (λ new. new ≡ not (repeats (views so_far.old.lines.items) (line_view line.now))) }
-    ensures kept { IfOk result (λ new. IsTrue new → KeepsCells so_far.new.starts.keys so_far.new.rows.keys (line_view line.now ∷ views so_far.old.lines.items)) }
+fn is_new<'a>(cells: &mut Cells<'a>, line: &Line<'a>) -> Result<bool, AllocFailed<RowKey<'a>>>
+    ensures new { IfOk result (λ new. (past : List Item) → KeepsCells cells.old.starts.keys cells.old.rows.keys past → new ≡ not (repeats past (line_view line.now))) }
+    ensures kept { IfOk result (λ new. (past : List Item) → KeepsCells cells.old.starts.keys cells.old.rows.keys past → IsTrue new → KeepsCells cells.new.starts.keys cells.new.rows.keys (line_view line.now ∷ past)) }
 {
     match line {
-        Line::Start(row_key, _) => add_row_key(&mut so_far.starts, *row_key),
-        Line::Row(row_key, _) => add_row_key(&mut so_far.rows, *row_key),
+        Line::Start(row_key, _) => add_row_key(&mut cells.starts, *row_key),
+        Line::Row(row_key, _) => add_row_key(&mut cells.rows, *row_key),
         _ => Ok(true),
     }
 }

@@ -27,12 +27,26 @@ pub fn check_rows<'a>(
     ensures { Finds Row (wrong_row (views lines.now)) (views lines.now) result }
 {
     let mut seen = IndexSet::new(alloc);
+    see_rows(&mut seen, table, lines)
+}
+
+/// The same, where no row has been seen.
+fn see_rows<'a>(
+    seen: &mut IndexSet<RowKey<'a>>,
+    table: &Table<'a>,
+    lines: &[Line<'a>],
+) -> Result<(), AuditError>
+    requires none { seen.old.keys ≡ [] }
+    requires few { length lines.now < 2 ^ 32 }
+    requires table { HoldsTable table.now.entries (last_table (views lines.now)) }
+    ensures { Finds Row (wrong_row (views lines.now)) (views lines.now) result }
+{
     for i in 0..lines.len() {
         let line = &lines[i];
-        if !is_right(table, &seen, lines, line) {
+        if !is_right(table, seen, lines, line) {
             return Err(no(i, AuditWhy::Row));
         }
-        see(&mut seen, line)?;
+        see(seen, line)?;
     }
     Ok(())
 }

@@ -21,7 +21,7 @@ use Rattle.audit_law.specs.Printed.{AreNames, RowFits, CellFits, CauseFits, Even
 use Rattle.audit_check.specs.Items.{Item, RowKey}
 use Rattle.audit_check.specs.Items.Item.{Start, Began, Order, Row, End}
 use Rattle.audit_check.specs.Lines.{item_of, words_of}
-use Rattle.audit_check.specs.Reading.{item_in, cause_in, began_in, row_in, txns_at, name_at, row_key_at}
+use Rattle.audit_check.specs.Reading.{item_in, later_item, cause_in, began_in, row_in, txns_at, name_at, row_key_at}
 use Rattle.audit_law.proofs.Digits.{number_is_word, integer_back, integer_is_word}
 use Rattle.audit_law.proofs.Pieces.{txn_back, txn_is_word, key_is_word, from_one_back, name_back, name_is_word, name_of_is_name, row_key_back, value_back, value_is_word}
 use Rattle.audit_law.proofs.Words.{is_word, words_back}
@@ -98,7 +98,7 @@ module _ (names : NameBook) (are : AreNames names) where
       rw (told, txn_is_word t fits, number_is_word s (omega (arith, most)), kind_is_word k kind, key_is_word (suc i) small)
 
   event_back : (e : Event) → EventFits names e → item_in (event_words names e) ≡ Some (event_item names e)
-  unfolding item_in
+  unfolding item_in later_item
   event_back (event.Began t s k i) h = began_back t s.0 k.0 i h.0 h.1 h.2 h.3 h.4
   event_back (event.Got t x u v) h = rw (txn_back t h.0, cell_back x h.1, txn_back u h.2, value_back v h.3)
   event_back (event.Put t x v) h = rw (txn_back t h.0, cell_back x h.1, value_back v h.2)
@@ -136,7 +136,7 @@ module _ (names : NameBook) (are : AreNames names) where
 
   pub row_line_back : (x : Cell) (v : ℤ) → RowFits names (x, v)
       → item_of (join_with_byte 32 (codes "row" ∷ cell_words names x ++ signed_decimal v ∷ [])) ≡ Some (Row (row_key_of names x) v)
-  unfolding item_in
+  unfolding item_in later_item
   row_line_back x v h = line_back (codes "row") (cell_words names x ++ signed_decimal v ∷ []) _ (row_are_words x v h.0 h.1) (row_back Row x v h.0 h.1)
 
 -- the order
@@ -150,9 +150,9 @@ txns_are_words [] h = refl
 txns_are_words (t ∷ ts) h = rw (txn_is_word t (All-head TxnFits t ts h), txns_are_words ts (All-tail TxnFits t ts h))
 
 pub order_line_back : (ts : List Txn) → All TxnFits ts → item_of (join_with_byte 32 (codes "order" ∷ map txn_text ts)) ≡ Some (Order (map (λ t. t.0) ts))
-unfolding item_in
+unfolding item_in later_item
 order_line_back ts h = line_back (codes "order") (map txn_text ts) _ (txns_are_words ts h) (rw (txns_back ts h))
 
 pub end_line_back : item_of (codes "end") ≡ Some End
-unfolding item_of words_of item_in
+unfolding item_of words_of item_in later_item
 end_line_back = refl

@@ -4,10 +4,10 @@ use Rattle.audit_check.specs.Keeps.{MarksCommits, KeepsSources}
 use Rattle.audit_check.specs.Views.{views, line_view}
 use Rattle.audit_check.proofs.AfterRules.{commit_marked, no_commits, sources_more, no_sources}
 use Rattle.audit_check.proofs.FirstLines.{views_next, right_line, wrong_line, no_lines}
-use Rattle.audit_check.proofs.after.check_after.Goals as goal
+use Rattle.audit_check.proofs.after.first_early.Goals as goal
 
 pub loop-i-init : goal.loop-i-init
-loop-i-init c = record { done = no_commits _ c.new-done.ensures.items; sources = no_sources _ c.new-sources.ensures.items; none = no_lines wrong_after }
+loop-i-init c = record { done = no_commits _ c.requires.done; sources = no_sources _ c.requires.sources; none = no_lines wrong_after }
 
 pub loop-i-preserved : goal.loop-i-preserved
 loop-i-preserved c =

@@ -3,7 +3,7 @@ use Rattle.audit_check.specs.Audit.{first_line}
 use Rattle.audit_check.specs.Faults.{wrong_row}
 use Rattle.audit_check.specs.Keeps.{SeesRows}
 use Rattle.audit_check.specs.Views.{views}
-use Rattle.audit_check.proofs.rows.check_rows.Given as goal
+use Rattle.audit_check.proofs.rows.see_rows.Given as goal
 
 abbrev pub invariant-loop-i : goal.invariant-loop-i
 invariant-loop-i l = record {

@@ -3,7 +3,7 @@ use Rattle.audit_check.specs.Audit.{first_line}
 use Rattle.audit_check.specs.Faults.{wrong_after}
 use Rattle.audit_check.specs.Keeps.{MarksCommits, KeepsSources}
 use Rattle.audit_check.specs.Views.{views}
-use Rattle.audit_check.proofs.after.check_after.Given as goal
+use Rattle.audit_check.proofs.after.first_early.Given as goal
 
 abbrev pub invariant-loop-i : goal.invariant-loop-i
 invariant-loop-i l = record {

@@ -4,10 +4,10 @@ use Rattle.audit_check.specs.Views.{views, line_view}
 use Rattle.audit_check.proofs.FirstLines.{views_next, right_line, wrong_line, no_lines}
 use Rattle.audit_check.proofs.RowSteps.{none_seen}
 use Rattle.audit_check.proofs.TxnSteps.{not_false, not_true}
-use Rattle.audit_check.proofs.rows.check_rows.Goals as goal
+use Rattle.audit_check.proofs.rows.see_rows.Goals as goal
 
 pub loop-i-init : goal.loop-i-init
-loop-i-init c = record { seen = none_seen _ c.new-seen.ensures.empty; none = no_lines (wrong_row (views c.args.lines.now)) }
+loop-i-init c = record { seen = none_seen _ c.requires.none; none = no_lines (wrong_row (views c.args.lines.now)) }
 
 pub loop-i-preserved : goal.loop-i-preserved
 loop-i-preserved c =
