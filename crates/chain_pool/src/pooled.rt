@@ -16,10 +16,19 @@ const AHEAD: usize = 64;
 
 /// Versions by cell, each linked by index into its cell's chain and its writer's list. A cell and a writer are found by hash;
 /// a place of a chain costs its way from the chain's end, and an abort its own versions.
-#[derive(Drop)]
 pub struct PooledChains {
     pool: Pool,
     spare: usize,
+}
+
+/// A call of its own, so that no owner has to prove anew how a pool is dropped.
+impl Drop for PooledChains {
+    fn drop(self) {
+        let PooledChains {
+            pool: _pool,
+            spare: _spare,
+        } = self;
+    }
 }
 
 impl Model for PooledChains {
