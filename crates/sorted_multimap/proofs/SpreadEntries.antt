@@ -184,24 +184,6 @@ module _ {K V : Type 0} (R : K → K → Ordering) (spread : K → ℕ) where
       unfolding one
       one_values = edited_values one bs i m n b d is lt le sorted room edit elsewhere_one
 
-    -- two are
-    module _ (j k : K) (first : i ≡ spread j % length bs) (second : i ≡ spread k % length bs) (old new : List V)
-        (edit : (q : K) → bucket_values R b q ≡ cond (is_eq (R k q)) new (cond (is_eq (R j q)) old (bucket_values R (get_or bs i d) q))) where
-      two : K → List V → List V
-      two q vs = cond (is_eq (R k q)) new (cond (is_eq (R j q)) old vs)
-
-      elsewhere_two : (q : K) (vs : List V) → spread q % length bs ≢ i → two q vs ≡ vs
-      unfolding two
-      elsewhere_two q vs off = ap (λ (o : Bool). cond o new (cond (is_eq (R j q)) old vs)) (apart k q second off) ∙ ap (λ (o : Bool). cond o old vs) (apart j q first off)
-
-      pub two_spread : IsSpread R spread (set bs i b) n
-      unfolding two
-      two_spread = edited_spread two bs i m n b d is lt le sorted room edit elsewhere_two
-
-      pub two_values : (q : K) → values_of R (entries_of (set bs i b)) q ≡ cond (is_eq (R k q)) new (cond (is_eq (R j q)) old (values_of R (entries_of bs) q))
-      unfolding two
-      two_values = edited_values two bs i m n b d is lt le sorted room edit elsewhere_two
-
 -- each of the buckets is empty
 abbrev pub AreEmpty : {K V : Type 0} → (K → K → Ordering) → List (Bucket K V) → Type 0
 AreEmpty R [] = Unit {0}
@@ -236,9 +218,6 @@ module _ {K V : Type 0} (R : K → K → Ordering) (spread : K → ℕ) where
 pub less_room : {K V : Type 0} (b : Bucket K V) (n : ℕ) → HasRoom b (n + 1) → HasRoom b n
 less_room b n r = record { keys = omega (arith, r.keys); values = omega (arith, r.values) }
 
-pub low_room : {K V : Type 0} (b : Bucket K V) (n : ℕ) → HasRoom b n → HasRoom b 0
-low_room b n r = record { keys = omega (arith, r.keys); values = omega (arith, r.values) }
-
 -- k lies in b, which is number i of the buckets
 pub record IsLocated {K V : Type 0} (spread : K → ℕ) (bs : List (Bucket K V)) (k : K) (i : ℕ) (b : Bucket K V) : Type 0 where
   pub within : i < length bs
@@ -248,9 +227,6 @@ pub record IsLocated {K V : Type 0} (spread : K → ℕ) (bs : List (Bucket K V)
 module _ {K V : Type 0} (R : K → K → Ordering) (spread : K → ℕ) where
   pub located : (xs bs : List (Bucket K V)) (k : K) (i : ℕ) (b : Bucket K V) → xs ≡ bs → i ≡ spread k % length xs → i < length xs → b ≡ get_or bs i b → IsLocated spread bs k i b
   located xs bs k i b e at lt is = record { within = omega (arith, ap length e); at = at ∙ ap (λ (l : List (Bucket K V)). spread k % length l) e; is = is }
-
-  pub located_too : (bs : List (Bucket K V)) (j k : K) (i : ℕ) (b : Bucket K V) → IsLocated spread bs j i b → spread j ≡ spread k → IsLocated spread bs k i b
-  located_too bs j k i b l e = record { within = l.within; at = l.at ∙ ap (λ (s : ℕ). s % length bs) e; is = l.is }
 
   pub located_values : (bs : List (Bucket K V)) (m : ℕ) → IsSpread R spread bs m → (k : K) (i : ℕ) (b : Bucket K V) → IsLocated spread bs k i b → values_of R (entries_of bs) k ≡ bucket_values R b k
   located_values bs m is k i b l = values_there R spread bs m is k i b l.within l.at ∙ ap (λ (x : Bucket K V). bucket_values R x k) (sym l.is)
@@ -275,17 +251,6 @@ module _ {K V : Type 0} (R : K → K → Ordering) (spread : K → ℕ) where
 
       pub put_values : (old : K → List V) → ((q : K) → values_of R (entries_of bs) q ≡ old q) → (q : K) → values_of R (entries_of (set bs i c)) q ≡ cond (is_eq (R k q)) new (old q)
       put_values old shown q = one_values R spread agrees bs i m n c b is l.within le sorted room k l.at new there q ∙ ap (λ (vs : List V). cond (is_eq (R k q)) new vs) (shown q)
-
-    module _ (j k : K) (l : IsLocated spread bs j i b) (same : spread j ≡ spread k) (old new : List V)
-        (edit : (q : K) → bucket_values R c q ≡ cond (is_eq (R k q)) new (cond (is_eq (R j q)) old (bucket_values R b q))) where
-      there_two : (q : K) → bucket_values R c q ≡ cond (is_eq (R k q)) new (cond (is_eq (R j q)) old (bucket_values R (get_or bs i b) q))
-      there_two q = edit q ∙ ap (λ (x : Bucket K V). cond (is_eq (R k q)) new (cond (is_eq (R j q)) old (bucket_values R x q))) l.is
-
-      pub transfer_spread : IsSpread R spread (set bs i c) n
-      transfer_spread = two_spread R spread agrees bs i m n c b is l.within le sorted room j k l.at (l.at ∙ ap (λ (s : ℕ). s % length bs) same) old new there_two
-
-      pub transfer_values : (was : K → List V) → ((q : K) → values_of R (entries_of bs) q ≡ was q) → (q : K) → values_of R (entries_of (set bs i c)) q ≡ cond (is_eq (R k q)) new (cond (is_eq (R j q)) old (was q))
-      transfer_values was shown q = two_values R spread agrees bs i m n c b is l.within le sorted room j k l.at (l.at ∙ ap (λ (s : ℕ). s % length bs) same) old new there_two q ∙ ap (λ (vs : List V). cond (is_eq (R k q)) new (cond (is_eq (R j q)) old vs)) (shown q)
 
 module _ {K V : Type 0} (R : K → K → Ordering) (spread : K → ℕ) where
   -- no buckets have no room, and so have empty ones

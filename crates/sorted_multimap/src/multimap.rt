@@ -1,6 +1,6 @@
 //! A multimap, in buckets of keys.
 
-ghost use Rattle.std.specs.Prelude.{ℕ, ◌≡◌, ◌<◌, ◌≤◌, ◌+◌, ◌%◌, ◌++◌, ◌∷◌, length, get_or, cond, [], insert, remove, OnOk, IfOk, IsFalse};
+ghost use Rattle.std.specs.Prelude.{ℕ, ◌≡◌, ◌<◌, ◌≤◌, ◌+◌, ◌%◌, ◌++◌, ◌∷◌, length, get_or, cond, [], insert, remove, OnOk, IfOk};
 ghost use Rattle.std.specs.Ordering.{is_eq};
 ghost use Rattle.sorted_multimap.specs.Multimap.{values_in};
 ghost use Rattle.sorted_multimap.specs.declared.bucket.Bucket.{Bucket};
@@ -154,22 +154,6 @@ impl<K: Key, V: Copy> Multimap<K, V> {
         }
         let at = place_of(&self.buckets, key);
         self.buckets[at].clear(key);
-    }
-
-    /// Takes out the value at an index among those of a key, and puts one among those of another key with the same spread. It
-    /// takes no room.
-    pub fn transfer(&mut self, from: K, i: usize, to: K, j: usize, value: V)
-        requires spread { K.spread_of from ≡ K.spread_of to }
-        requires apart { IsFalse (is_eq (K.cmp from to)) }
-        requires taken { i < length (values_in K.cmp self.old from) }
-        requires put { j ≤ length (values_in K.cmp self.old to) }
-        ensures values { (q : K) → values_in K.cmp self.new q ≡ cond (is_eq (K.cmp to q)) (insert (values_in K.cmp self.old to) j value) (cond (is_eq (K.cmp from q)) (remove (values_in K.cmp self.old from) i) (values_in K.cmp self.old q)) }
-        ensures spare { self.new.spare ≡ self.old.spare }
-    {
-        let at = place_of(&self.buckets, from);
-        let bucket = &mut self.buckets[at];
-        bucket.take(from, i);
-        bucket.put(to, j, value);
     }
 }
 
