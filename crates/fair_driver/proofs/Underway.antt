@@ -1,7 +1,8 @@
 -- The driver underway: what its log, its history and its ring are of.
-use Rattle.std.proofs.Common.{◌≡◌, ℕ, zero, suc, ◌+◌, ◌<◌, ◌≤◌, List, [], ◌∷◌, ◌++◌, Option, Some, None, Result, Ok, Err, is_ok, OnErr, if◌then◌else◌, length, take, drop, refl, sym, ◌∙◌, ap, ap₂, subst, arith}
+use Rattle.std.proofs.Common.{◌≡◌, ℕ, zero, suc, ◌+◌, ◌<◌, ◌≤◌, Bool, true, false, List, [], ◌∷◌, ◌++◌, Option, Some, None, Result, Ok, Err, OnErr, length, take, drop, refl, sym, ◌∙◌, ap, ap₂, subst, subst₂, arith, length-append}
 use Rattle.std.specs.Prelude.{All}
 use Rattle.std.proofs.lemmas.List.{length-map, take-append-drop, map_push}
+use Rattle.teb_names.specs.declared.naming.NameBook.{NameBook}
 use Rattle.teb_names.specs.declared.Reply.{Reply}
 use Rattle.teb_names.specs.declared.Entry.{Entry}
 use Rattle.teb_history.specs.declared.Event.{Event}
@@ -22,7 +23,7 @@ use Rattle.script_text.specs.declared.Answered.{Answered}
 use Rattle.fair_driver.specs.declared.ring.Asked.{Asked}
 use Rattle.fair_driver.specs.Seats.{round_from}
 use Rattle.fair_driver.specs.Turns.{IsTurnOf}
-use Rattle.fair_driver.specs.Logged.{answered, answers_of, IsOf, IsAnswered}
+use Rattle.fair_driver.specs.Logged.{answered, answers_of, AreAnswers, IsOf, IsAnswered, IsMade}
 
 -- one turn: who is asked, the answer, and the round behind it
 pub turn_taken : (X Y : Store) (H G K : List Event) (n : ℕ) (ws rs : List Seat) (a : Asked) (q : Reply) → (t : IsTurnOf H n ws a) → Y ≡ X → G ≡ H → q ≡ (answer Y G a.session a.request).0 → K ≡ (answer Y G a.session a.request).1 →
@@ -37,11 +38,6 @@ turn_taken X Y H G K n ws rs a q t x g p k r = (
   ap₂ (λ (J : List Event) (vs : List Seat). record { history = J; round = vs }) (k ∙ ap₂ (λ (Z : Store) (J : List Event). (answer Z J a.session a.request).1) x g)
       (r ∙ ap (λ (vs : List Seat). vs ++ seat_after t.of.seat q ∷ []) (sym t.others) ∙ sym (ap (λ (u : Option Turn). next_round u (round_from n ws) q) t.is)),
 )
-
--- a reply is added where there is room
-pub reply_added : {A E : Type 0} (r : Result A E) (room n : ℕ) (xs ys zs : List Answered) (x : Answered) → OnErr r (room ≤ n) → n + 1 ≤ room → zs ≡ (if is_ok r then xs ++ x ∷ [] else xs) → xs ≡ ys → zs ≡ ys ++ x ∷ []
-reply_added (Ok y) room n xs ys zs x h l e f = e ∙ ap (λ (v : List Answered). v ++ x ∷ []) f
-reply_added (Err y) room n xs ys zs x h l e f = absurd (omega (arith, h, l))
 
 every_all : (P : Seat → Type 0) (ws : List Seat) → Every P ws → All P ws
 every_all P [] h k d l = absurd (omega (arith, l))
@@ -108,6 +104,66 @@ underway_few X a scripts h log H n ws u =
     let P : Seat → Type 0 = SeatOk X.setup H in
     let both : Every P (take n ws ++ drop n ws) = every_append P (take n ws) (drop n ws) (every_back P (drop n ws) (take n ws) o.seats) (every_front P (drop n ws) (take n ws) o.seats) in
     every_all (λ (w : Seat). w.aborts ≤ 3) ws (every_more P (λ (w : Seat). w.aborts ≤ 3) ws (λ w k. k.few) (subst (Every P) (take-append-drop n ws) both))
+
+-- a log tells the replies of the driver underway, and a count of requests has risen by one for each
+pub record IsLogged (X : Store) (scripts : List Script) (Tells : List Answered → Type 0) (H : List Event) (ws : List Seat) (start steps : ℕ) : Type 0 where
+  pub answers : List Answered
+  pub told : Tells answers
+  pub underway : IsUnderway X scripts answers H ws
+  pub counted : steps ≡ start + length answers
+
+pub logged_start : (X : Store) (scripts : List Script) (Tells : List Answered → Type 0) (H : List Event) (ws : List Seat) (start : ℕ) → Tells [] → H ≡ [] → ws ≡ seated scripts → IsLogged X scripts Tells H ws start start
+logged_start X scripts Tells H ws start t a b = record { answers = []; told = t; underway = underway_start X scripts [] H ws refl a b; counted = omega arith }
+
+-- memory was wanting: the history is as it was, and the log tells what it told
+pub logged_made : (X : Store) → IsSound X.setup → (scripts : List Script) → Ascending 0 scripts → (Tells Then : NameBook → List Answered → Type 0) (m n : NameBook) (H K : List Event) (ws : List Seat) (start steps : ℕ) → m ≡ n → K ≡ H
+    → ((told : List Answered) → Tells m told → Then m told) → IsLogged X scripts (Tells n) H ws start steps → AreAnswers (Follows X [] (seated scripts)) X scripts (Then n) K start steps
+logged_made X sound scripts ascending Tells Then m n H K ws start steps e k keep l = record {
+  answers = l.answers;
+  told = subst (λ (b : NameBook). Then b l.answers) e (keep l.answers (subst (λ (b : NameBook). Tells b l.answers) (sym e) l.told));
+  of = subst (λ (J : List Event). IsOf (Follows X [] (seated scripts)) X l.answers J) (sym k) (underway_made X scripts l.answers H ws l.underway);
+  steps = l.counted;
+  bound = underway_bound X sound scripts ascending l.answers H ws l.underway;
+}
+
+-- what one call made of a log in these names, by whether somebody was asked
+module _ (X Y : Store) (sound : IsSound X.setup) (scripts : List Script) (ascending : Ascending 0 scripts) (Tells Then : NameBook → List Answered → Type 0) (m n : NameBook) (asked : Bool) (H K : List Event) (ws vs : List Seat) (start steps : ℕ)
+    (same : Y ≡ X) (names : m ≡ n) (made : (told : List Answered) → Tells m told → (now : List Answered) × Then m now × IsMade Y asked (record { history = H; round = ws }) told (record { history = K; round = vs }) now)
+    (l : IsLogged X scripts (Tells n) H ws start steps) where
+  abbrev now : List Answered
+  now = (made l.answers (subst (λ (b : NameBook). Tells b l.answers) (sym names) l.told)).0
+
+  now_told : Then n now
+  now_told = subst (λ (b : NameBook). Then b now) names (made l.answers (subst (λ (b : NameBook). Tells b l.answers) (sym names) l.told)).1
+
+  is_made : (b : Bool) → asked ≡ b → IsMade X b (record { history = H; round = ws }) l.answers (record { history = K; round = vs }) now
+  is_made b e = subst₂ (λ (Z : Store) (c : Bool). IsMade Z c (record { history = H; round = ws }) l.answers (record { history = K; round = vs }) now) same e (made l.answers (subst (λ (b : NameBook). Tells b l.answers) (sym names) l.told)).2
+
+  pub logged_next : (then_steps : ℕ) → asked ≡ true → then_steps ≡ steps + 1 → IsLogged X scripts (Then n) K vs start then_steps
+  logged_next then_steps e t =
+      let one : IsAnswered X (record { history = H; round = ws }) l.answers (record { history = K; round = vs }) now = is_made true e in
+      let size : length now ≡ length l.answers + 1 = ap length one.replies ∙ length-append l.answers (answered one.entry ∷ []) in
+      let counted = l.counted in
+      record { answers = now; told = now_told; underway = underway_next X scripts l.answers now H K ws vs l.underway one; counted = omega arith }
+
+  pub logged_short : asked ≡ true → steps < most_requests scripts + start
+  logged_short e =
+      let short = underway_short X sound scripts ascending l.answers now H K ws vs l.underway (is_made true e) in
+      let counted = l.counted in omega arith
+
+  pub logged_ended : asked ≡ false → AreAnswers (Turns X scripts) X scripts (Then n) K start steps
+  logged_ended e =
+      let none : Stepped X (record { history = H; round = ws }) None (record { history = K; round = vs }) × (now ≡ l.answers) = is_made false e in
+      let size : length now ≡ length l.answers = ap length none.1 in
+      let counted = l.counted in
+      let bound = underway_bound X sound scripts ascending l.answers H ws l.underway in
+      record {
+        answers = now;
+        told = now_told;
+        of = subst₂ (λ (log : List Answered) (J : List Event). IsOf (Turns X scripts) X log J) (sym none.1) (sym (ap (λ (d : Drive). d.history) none.0.1)) (underway_ended X scripts l.answers H K ws vs l.underway none.0);
+        steps = omega arith;
+        bound = omega arith;
+      }
 
 -- what holds whatever the result
 pub on_err : {T E P : Type 0} (r : Result T E) → P → OnErr r P

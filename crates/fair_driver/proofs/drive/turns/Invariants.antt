@@ -1,16 +1,15 @@
-use Rattle.std.proofs.Common.{◌≡◌, ◌+◌, ◌-◌, length}
+use Rattle.std.proofs.Common.{◌≡◌, ◌+◌, ◌-◌}
 use Rattle.driver_laws.specs.Laws.{most_requests}
 use Rattle.fair_driver.specs.Seats.{round_of, scripts_on}
-use Rattle.fair_driver.proofs.Underway.{IsUnderway}
+use Rattle.fair_driver.proofs.Underway.{IsLogged}
 use Rattle.fair_driver.proofs.drive.turns.Given as goal
 
 abbrev pub invariant-loop-ring : goal.invariant-loop-ring
 invariant-loop-ring g l = record {
   store : l.engine.store ≡ l.fn.engine.store;
   names : l.engine.names ≡ l.fn.engine.names;
-  underway : IsUnderway l.fn.engine.store (scripts_on l.scripts) l.log.items l.engine.events (round_of l.ring);
-  steps : l.steps ≡ l.fn.steps + length l.log.items;
+  logged : IsLogged l.fn.engine.store (scripts_on l.scripts) (g.G.Log.tells l.log l.fn.engine.names) l.engine.events (round_of l.ring) l.fn.steps l.steps;
 }
 
 abbrev pub decreases-loop-ring : goal.decreases-loop-ring
-decreases-loop-ring g l = most_requests (scripts_on l.scripts) - length l.log.items
+decreases-loop-ring g l = most_requests (scripts_on l.scripts) + l.fn.steps - l.steps
