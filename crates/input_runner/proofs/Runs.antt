@@ -1,13 +1,11 @@
 -- Runs over the store of a whole setup: what they name has a name, and their serial order serializes them.
-use Rattle.std.proofs.Common.{◌≡◌, ℕ, zero, suc, ◌<◌, Option, Bool, true, false, cond, List, [], ◌∷◌, ◌++◌, length, reverse, Some, refl, sym, ◌∙◌, ap, ap₂, subst, arith, ℤ}
+use Rattle.std.proofs.Common.{◌≡◌, ℕ, Option, List, [], ◌∷◌, ◌++◌, length, reverse, Some, refl, sym, ◌∙◌, ap, ap₂, subst, subst₂, ℤ}
 use Rattle.std.specs.Prelude.{All, ◌≤◌}
 use Rattle.teb_names.specs.declared.Cell.{Cell}
 use Rattle.teb_names.specs.declared.Entry.{Entry}
 use Rattle.teb_names.specs.declared.Session.{Session}
 use Rattle.teb_names.specs.declared.Reply.{Reply}
 use Rattle.teb_names.specs.declared.naming.NameBook.{NameBook}
-use Rattle.teb_names.specs.Cells.{same_cell}
-use Rattle.teb_names.specs.Rows.{row_of}
 use Rattle.teb_history.specs.declared.Event.{Event}
 use Rattle.teb_rules.specs.Setup.{Store, Setup}
 use Rattle.teb_rules.specs.Accepted.{IsSound}
@@ -18,7 +16,6 @@ use Rattle.driver_laws.specs.Laws.{most_requests}
 use Rattle.teb_rules.specs.Ranks.{serial_order}
 use Rattle.teb_rules.specs.Serializes.{Serializes}
 use Rattle.teb_laws.specs.Within.{ReplyWithin}
-use Rattle.teb_laws.proofs.Timeline.{same_cell-true}
 use Rattle.teb_laws.proofs.Within.{stays_within}
 use Rattle.teb_laws.proofs.Laws.{every_run_serializes}
 use Rattle.serial_order.specs.Tables.{IsFinalRows}
@@ -30,14 +27,16 @@ use Rattle.script_text.specs.Named.{CellNamed, EventNamed, ReplyNamed}
 use Rattle.replay_runner.specs.Logs.{Requests, log_of, replayed}
 use Rattle.replay_runner.proofs.Logged.{history_none}
 use Rattle.replay_runner.proofs.Within.{log_within}
-use Rattle.fair_driver.specs.Logged.{IsOf, answers_of}
+use Rattle.fair_driver.specs.Logged.{AreAnswers, IsOf, answers_of}
 use Rattle.fair_driver.specs.Seats.{scripts_on}
 use Rattle.tree_toml.specs.SetupView.{SetupView}
 use Rattle.tree_toml.specs.Sound.{IsWhole, IsNamed}
 use Rattle.input_reader.specs.Stores.{store_of_view, names_of}
 use Rattle.input_reader.specs.Tasks.{Task}
 use Rattle.input_runner.proofs.Names.{reply_named, all_named}
-use Rattle.input_runner.specs.Runs.{IsRunOver, IsSerialized}
+use Rattle.engine_core.specs.EngineModel.{EngineModel}
+use Rattle.command_output.specs.Shown.{Shown}
+use Rattle.input_runner.specs.Runs.{AreTurns, HasRun, IsReplay, IsRun, IsRunOver, IsSerialized, Run, Says}
 
 -- the log of the driver has the replies to its requests
 follows_log : (X : Store) (H : List Event) (ws : List Seat) (entries : List Entry) → Follows X H ws entries → answers_of entries ≡ log_of X H (requests_of entries)
@@ -87,6 +86,19 @@ module _ (m : SetupView) (X : Store) (names : NameBook) (log : List Answered) (H
       let e : H ≡ history_after (store_of_view m) [] over.asked = subst (λ (Y : Store). H ≡ history_after Y [] over.asked) over.store over.events in
       subst (λ (G : List Event). Serializes (store_of_view m) G (serial_order (store_of_view m).setup G)) (sym e) (every_run_serializes (store_of_view m) (sound m over.whole over.nodes) over.asked)
 
+-- what is put out of a run, where its text says so
+pub is_run : (R : Run) (S : Says) (Tells : NameBook → List Answered → Type 0) (task : Task) (e : EngineModel) (d : Shown) (text : List ℕ) (run : HasRun R Tells task e) → S e.store e.names e.events run.answers text
+    → d ≡ record { status = 0; text = text; history = Some e.events } → IsRun R S task d
+is_run R S Tells task e d text run said put = record {
+  log = run.answers;
+  history = e.events;
+  ran = run.ran;
+  status = ap (λ (o : Shown). o.status) put;
+  kept = ap (λ (o : Shown). o.history) put;
+  text = subst₂ (λ (X : Store) (names : NameBook). S X names e.events run.answers d.text) run.over.store run.over.named
+      (subst (λ (t : List ℕ). S e.store e.names e.events run.answers t) (sym (ap (λ (o : Shown). o.text) put)) said);
+}
+
 -- so the history that was kept of it is serialized
 pub is_serialized : (m : SetupView) (X : Store) (names : NameBook) (log : List Answered) (H : List Event) (history : Option (List Event)) → IsRunOver m X names log H → history ≡ Some H → IsSerialized (λ (s : SetupView). m ≡ s) history
 is_serialized m X names log H history over kept = rw kept (m, refl, serialized m X names log H over)
@@ -110,3 +122,22 @@ module _ (m : SetupView) (X Y : Store) (names : NameBook) (log : List Answered) 
 
   pub turns_over : (scripts : List (Session × List Line)) → IsOf (Turns X (scripts_on scripts)) X log H → IsRunOver m Y names log H
   turns_over scripts of = run_over (requests_of of.entries) (of.replies ∙ follows_log X [] (seated (scripts_on scripts)) of.entries of.holds.follows) of.events
+
+-- the answers of a replay that begins with nothing
+pub replayed_is : (X Y : Store) (H K : List Event) (xs ys : List Line) → X ≡ Y → H ≡ [] → xs ≡ ys → K ≡ history_after X H (replayed X H xs) → IsReplay Y ys (log_of X H (replayed X H xs)) K
+replayed_is X Y H K xs ys same none lines events = record {
+  replies = ap₂ (λ (Z : Store) (J : List Event). log_of Z J (replayed Z J xs)) same none ∙ ap (λ (ls : List Line). log_of Y [] (replayed Y [] ls)) lines;
+  events = events ∙ ap₂ (λ (Z : Store) (J : List Event). history_after Z J (replayed Z J xs)) same none ∙ ap (λ (ls : List Line). history_after Y [] (replayed Y [] ls)) lines;
+}
+
+-- the answers of the driver to the scripts of lines
+pub turned : (X : Store) (lines : List Line) (scripts : List (Session × List Line)) (Tells : List Answered → Type 0) (H : List Event) (before after : ℕ) → scripts ≡ scripts_of lines
+    → AreAnswers (Turns X (scripts_on scripts)) X (scripts_on scripts) Tells H before after → (answers : List Answered) × Tells answers × AreTurns X lines answers H
+turned X lines scripts Tells H before after e a = (
+  a.answers,
+  a.told,
+  record {
+    turns = subst (λ (ss : List (Session × List Line)). IsOf (Turns X (scripts_on ss)) X a.answers H) e a.of;
+    few = subst (λ (ss : List (Session × List Line)). length a.answers ≤ most_requests (scripts_on ss)) e a.bound;
+  },
+)

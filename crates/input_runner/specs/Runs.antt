@@ -11,6 +11,7 @@ use Rattle.teb_rules.specs.Ranks.{serial_order}
 use Rattle.teb_rules.specs.Serializes.{Serializes}
 use Rattle.teb_rules.specs.Driver.{Turns}
 use Rattle.driver_laws.specs.Laws.{most_requests}
+use Rattle.engine_core.specs.EngineModel.{EngineModel}
 use Rattle.serial_order.specs.Commits.{txn_numbers}
 use Rattle.serial_order.specs.Tables.{IsFinalRows}
 use Rattle.script_text.specs.declared.Line.{Line}
@@ -49,6 +50,13 @@ pub record IsRunOver (m : SetupView) (X : Store) (names : NameBook) (log : List 
   pub asked : Requests
   pub replies : log ≡ log_of X [] asked
   pub events : H ≡ history_after X [] asked
+
+-- a log tells the replies of a run of the lines over the setup's store, at the end of which an engine stands so
+pub record HasRun (R : Run) (Tells : NameBook → List Answered → Type 0) (task : Task) (e : EngineModel) : Type 0 where
+  pub answers : List Answered
+  pub told : Tells e.names answers
+  pub ran : R (store_of_view task.setup) task.lines answers e.events
+  pub over : IsRunOver task.setup e.store e.names answers e.events
 
 -- what a text says of the replies and the history of a run
 abbrev pub Says : Type 1

@@ -1,58 +1,59 @@
 //! The run of an input as one script for each session, in turns.
 
-ghost use Rattle.std.specs.Prelude.{◌≡◌, ◌≤◌, ◌<◌, [], length, IfOk};
-ghost use Rattle.script_text.specs.Scripts.{scripts_of as spec_scripts_of};
+ghost use Rattle.std.specs.Prelude.{◌≡◌, ◌<◌, [], IfOk, List, OnOk};
+ghost use Rattle.script_text.specs.declared.Answered.{Answered};
 ghost use Rattle.script_text.specs.Sessions.{AreOfSessions};
-ghost use Rattle.teb_rules.specs.Driver.{Turns};
-ghost use Rattle.driver_laws.specs.Laws.{most_requests};
-ghost use Rattle.fair_driver.specs.Seats.{scripts_on};
-ghost use Rattle.fair_driver.specs.Logged.{IsOf};
-ghost use Rattle.input_reader.specs.Stores.{store_of_view};
-ghost use Rattle.input_runner.specs.Runs.{AreTurns, IsRunOver};
+ghost use Rattle.input_reader.specs.Stores.{names_of};
+ghost use Rattle.input_runner.specs.Runs.{AreTurns, HasRun};
 
-use crate::ran::Ran;
+use answer_log::Log;
 use chain_pool::PooledChains;
 use engine_core::Engine;
 use fair_driver::{Steps, turns};
 use input_reader::Input;
-use script_text::{Answered, Line, scripts_of};
+use script_text::{Line, scripts_of};
 use std::alloc::{AllocError, Global};
 use std::marker::Brand;
 use std::sync::ledger::{Blank, Ledger};
 use version_chain::Chains;
 
-/// Asks the sessions in turns, each along its script, until all are worked through.
-pub fn in_turns(alloc: Global, input: Input) -> Result<Ran, AllocError>
-    ensures ran { IfOk result (λ r. AreTurns (store_of_view input.setup) input.lines r.log.items r.engine.events) }
-    ensures over { IfOk result (λ r. IsRunOver input.setup r.engine.store r.engine.names r.log.items r.engine.events) }
+/// Asks the sessions in turns, each along its script, until all are worked through. The log takes up the replies. The
+/// engine as it stands after it.
+pub fn in_turns<G: Log>(
+    alloc: Global,
+    input: Input,
+    log: &mut G,
+) -> Result<Engine<PooledChains>, AllocError>
+    requires blank { G.tells log.old (names_of input.setup) [] }
+    ensures { IfOk result (HasRun AreTurns (G.tells log.new) input) }
 {
     let (setup, lines) = input.into_parts();
     let mut engine = Engine::new(alloc, setup, PooledChains::new(alloc))?;
-    let log = drive::<PooledChains, Brand>(alloc, &mut engine, &lines, Blank::new(1))?;
-    Ok(Ran { engine, log })
+    drive::<PooledChains, G, Brand>(alloc, &mut engine, &lines, log, Blank::new(1))?;
+    Ok(engine)
 }
 
-/// The replies of an engine to which nothing has happened yet. The driver counts its requests on the ledger that the blank
-/// opens.
-fn drive<C: Chains, L: Ledger>(
+/// Logs the replies of an engine to which nothing has happened yet. The driver counts its requests on the ledger that the
+/// blank opens.
+fn drive<C: Chains, G: Log, L: Ledger>(
     alloc: Global,
     engine: &mut Engine<C>,
     lines: &[Line],
+    log: &mut G,
     blank: Blank,
-) -> Result<Vec<Answered>, AllocError>
+) -> Result<(), AllocError>
     requires name { blank.name ≡ L.name }
     requires parts { blank.parts ≡ L.parts }
     requires some { 0 < L.parts }
     requires new { engine.old.events ≡ [] }
+    requires told { G.tells log.old engine.old.names [] }
     requires sessions { AreOfSessions lines.now }
-    ensures turns { IfOk result (λ log. IsOf (Turns engine.old.store (scripts_on (spec_scripts_of lines.now))) engine.old.store log.items engine.new.events) }
-    ensures few { IfOk result (λ log. length log.items ≤ most_requests (scripts_on (spec_scripts_of lines.now))) }
+    ensures turns { OnOk result ((answers : List Answered) × G.tells log.new engine.old.names answers
+        × AreTurns engine.old.store lines.now answers engine.new.events) }
     ensures store { engine.new.store ≡ engine.old.store }
     ensures names { engine.new.names ≡ engine.old.names }
 {
     let scripts = scripts_of(alloc, lines)?;
-    let mut log = Vec::new(alloc);
     let mut steps = Steps::<L>::new(blank);
-    turns(alloc, engine, &scripts, &mut log, &mut steps)?;
-    Ok(log)
+    turns(alloc, engine, &scripts, log, &mut steps)
 }

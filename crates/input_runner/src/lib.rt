@@ -3,12 +3,12 @@
 
 mod driving;
 mod interleaving;
-mod ran;
+mod output;
 mod report;
 mod run;
 
 pub use driving::in_turns;
 pub use interleaving::in_order;
-pub use ran::Ran;
+pub use output::output_of;
 pub use report::{put_ending, put_replies, report_of};
 pub use run::{run_replay, run_turns};

@@ -1,13 +1,16 @@
 //! The report of a run.
 
-ghost use Rattle.std.specs.Prelude.{◌≡◌, ◌++◌, All, IfOk, OnOk};
+ghost use Rattle.std.specs.Prelude.{◌≡◌, ◌++◌, All, IfOk, List, OnOk};
 ghost use Rattle.std.specs.List.{flat_map};
+ghost use Rattle.script_text.specs.declared.Answered.{Answered};
 ghost use Rattle.script_text.specs.Texts.{reply_text};
 ghost use Rattle.script_text.specs.Named.{ReplyNamed, RowsNamed};
 ghost use Rattle.serial_order.specs.Tables.{IsFinalRows};
 ghost use Rattle.tree_toml.specs.SetupView.{SetupView};
+ghost use Rattle.answer_log.specs.Telling.{HasLines};
 ghost use Rattle.input_runner.specs.Runs.{IsReport, IsReportAfter, IsRunOver};
 
+use answer_log::ReplyText;
 use engine_core::Engine;
 use script_text::{Answered, put_reply, put_report};
 use serial_order::{order, tables};
@@ -15,17 +18,18 @@ use std::alloc::{AllocError, Global};
 use teb_names::NameBook;
 use version_chain::Chains;
 
-/// The replies, the serial order and the final tables.
+/// The replies, the serial order and the final tables. The text of the replies becomes that of the report.
 pub fn report_of<C: Chains>(
     alloc: Global,
     engine: &Engine<C>,
-    log: &[Answered],
+    replies: ReplyText,
 ) -> Result<Vec<u8>, AllocError>
-    requires { (m : SetupView) × IsRunOver m engine.now.store engine.now.names log.now engine.now.events }
-    ensures { IfOk result (λ v. IsReport engine.now.store engine.now.names engine.now.events log.now v.items) }
+    requires { (m : SetupView) × (answers : List Answered) × IsRunOver m engine.now.store engine.now.names answers engine.now.events }
+    ensures { IfOk result (λ v. (m : SetupView) (answers : List Answered)
+        → IsRunOver m engine.now.store engine.now.names answers engine.now.events → HasLines replies engine.now.names answers
+        → IsReport engine.now.store engine.now.names engine.now.events answers v.items) }
 {
-    let mut text = Vec::new(alloc);
-    put_replies(&mut text, &engine.setup().names, log)?;
+    let mut text = replies.into_text(&engine.setup().names)?;
     put_ending(alloc, &mut text, engine)?;
     Ok(text)
 }

@@ -5,7 +5,9 @@ ghost use Rattle.input_runner.specs.Runs.{IsReplay, AreTurns, IsReport, IsRun, I
 
 use crate::driving::in_turns;
 use crate::interleaving::in_order;
+use crate::output::output_of;
 use crate::report::report_of;
+use answer_log::ReplyText;
 use command_output::Output;
 use input_reader::Input;
 use std::alloc::{AllocError, Global};
@@ -15,9 +17,10 @@ pub fn run_replay(alloc: Global, input: Input) -> Result<Output, AllocError>
     ensures shown { IfOk result (IsRun IsReplay IsReport input) }
     ensures serialized { IfOk result (λ o. IsSerialized (λ m. input.setup ≡ m) o.history) }
 {
-    let ran = in_order(alloc, input)?;
-    let text = report_of(alloc, &ran.engine, &ran.log)?;
-    Ok(ran.into_output(text))
+    let mut replies = ReplyText::new(alloc);
+    let engine = in_order(alloc, input, &mut replies)?;
+    let text = report_of(alloc, &engine, replies)?;
+    Ok(output_of(engine, text))
 }
 
 /// Runs one script for each session, in turns, and reports.
@@ -25,7 +28,8 @@ pub fn run_turns(alloc: Global, input: Input) -> Result<Output, AllocError>
     ensures shown { IfOk result (IsRun AreTurns IsReport input) }
     ensures serialized { IfOk result (λ o. IsSerialized (λ m. input.setup ≡ m) o.history) }
 {
-    let ran = in_turns(alloc, input)?;
-    let text = report_of(alloc, &ran.engine, &ran.log)?;
-    Ok(ran.into_output(text))
+    let mut replies = ReplyText::new(alloc);
+    let engine = in_turns(alloc, input, &mut replies)?;
+    let text = report_of(alloc, &engine, replies)?;
+    Ok(output_of(engine, text))
 }
