@@ -9,9 +9,10 @@ ghost use Rattle.shop_load.specs.Shop.{shop as spec_shop};
 use crate::lines::loaded_lines;
 use crate::shop::shop_setup;
 use crate::summary::summary_of;
+use answer_log::AnswerCount;
 use command_output::Output;
 use input_reader::Input;
-use input_runner::in_turns;
+use input_runner::{in_turns, output_of};
 use std::alloc::{AllocError, Global};
 
 /// Runs `size` transactions that are drawn from a number, and tells the summary.
@@ -21,9 +22,10 @@ pub fn run_load(alloc: Global, number: u32, size: u32) -> Result<Output, AllocEr
     ensures shown { IfOk result (IsLoad number size) }
     ensures serialized { IfOk result (λ o. IsSerialized (λ m. spec_shop ≡ m) o.history) }
 {
-    let ran = in_turns(alloc, load_input(alloc, number, size)?)?;
-    let text = summary_of(alloc, number, size, &ran.engine, &ran.log)?;
-    Ok(ran.into_output(text))
+    let mut requests = AnswerCount::new();
+    let engine = in_turns(alloc, load_input(alloc, number, size)?, &mut requests)?;
+    let text = summary_of(alloc, number, size, &engine, requests.count)?;
+    Ok(output_of(engine, text))
 }
 
 /// The shop, and the lines of `size` transactions that are drawn from a number.

@@ -1,13 +1,13 @@
 //! The summary of a generated load.
 
-ghost use Rattle.std.specs.Prelude.{◌≡◌, ◌++◌, ◌∷◌, [], codes, decimal, IfOk, OnOk};
+ghost use Rattle.std.specs.Prelude.{◌≡◌, ◌++◌, ◌∷◌, [], codes, decimal, IfOk, length, List, OnOk};
+ghost use Rattle.script_text.specs.declared.Answered.{Answered};
 ghost use Rattle.script_text.specs.Texts.{line_text};
 ghost use Rattle.teb_history.specs.Phases.{committed as is_committed, aborted as is_aborted};
 ghost use Rattle.shop_load.specs.Summaries.{IsSummary, count_of, count_line, added, sum_in, sum_line};
 
 use engine_core::Engine;
 use itoa::Buffer;
-use script_text::Answered;
 use serial_order::tables;
 use std::alloc::{AllocError, Global};
 use teb_history::History;
@@ -21,9 +21,10 @@ pub fn summary_of<C: Chains>(
     number: u32,
     size: u32,
     engine: &Engine<C>,
-    log: &[Answered],
+    requests: usize,
 ) -> Result<Vec<u8>, AllocError>
-    ensures { IfOk result (λ v. IsSummary number size engine.now.store engine.now.events log.now v.items) }
+    ensures { IfOk result (λ v. (answers : List Answered) → length answers ≡ requests
+        → IsSummary number size engine.now.store engine.now.events answers v.items) }
 {
     let rows = tables(alloc, engine)?;
     let Counts { committed, aborted } = counts_of(engine.history());
@@ -31,7 +32,7 @@ pub fn summary_of<C: Chains>(
     put_load(&mut text, number, size)?;
     put_count(&mut text, "committed", committed as usize)?;
     put_count(&mut text, "aborted", aborted as usize)?;
-    put_count(&mut text, "requests", log.len())?;
+    put_count(&mut text, "requests", requests)?;
     put_sum(&mut text, "stock", sum_in(&rows, Table(0)))?;
     put_sum(&mut text, "orders", sum_in(&rows, Table(1)))?;
     put_sum(&mut text, "acct", sum_in(&rows, Table(2)))?;
