@@ -82,6 +82,20 @@ module _ (p : Course) (past : List EngineModel) (e f : EngineModel) (lines : Lis
   pub drained_after : IsDrained f.events
   drained_after = drained e f lines log store names run past parts
 
+  -- a report of it that was put behind a text
+  pub reported_after : (d : EngineModel) (text before behind : List ℕ) → d ≡ f → IsReport f.store f.names f.events log text → behind ≡ before ++ text → (front : List ℕ) × IsPhase p.present.store p.present.names lines d.events front × (behind ≡ before ++ front)
+  reported_after d text before behind same told joined = (
+    text,
+    subst (λ (k : EngineModel). IsPhase p.present.store p.present.names lines k.events text) (sym same) (subst (λ (k : EngineModel). IsPhase k.store k.names lines f.events text) present_is (is_phase e f lines log store names run text told)),
+    joined,
+  )
+
+  -- it is a run over the setup of the present engine
+  pub over_after : (s : Setup) → IsWhole (setup_view s) → engine.store_of s ≡ e.store → s.names ≡ e.names → length p.present.store.setup.tree ≡ length p.present.names.nodes → IsRunOver (setup_view s) f.store f.names log f.events
+  over_after s whole q n named =
+      let nodes : length e.store.setup.tree ≡ length e.names.nodes = ap (λ (d : EngineModel). length d.store.setup.tree) present_is ∙ named ∙ sym (ap (λ (d : EngineModel). length d.names.nodes) present_is) in
+      run_over e f lines log store names run s whole (ap (λ (X : Store). length X.setup.tree) q ∙ nodes ∙ sym (ap (λ (b : NameBook). length b.nodes) n)) q n
+
 -- what was put behind a text is a phase's report
 abbrev pub Reported : EngineModel → List Line → EngineModel → List ℕ → List ℕ → Type 0
 Reported e lines f old new = (front : List ℕ) × IsPhase e.store e.names lines f.events front × (new ≡ old ++ front)

@@ -10,6 +10,7 @@ ghost use Rattle.tree_switch.specs.Starts.{IsStarted};
 ghost use Rattle.phase_runner.specs.Runs.{IsPhase};
 ghost use Rattle.phase_runner.specs.Steps.{HasRun};
 
+use answer_log::ReplyText;
 use engine_core::Engine;
 use input_reader::Input;
 use input_runner::report_of;
@@ -96,9 +97,9 @@ fn run_present<C: Chains>(
 {
     let (past, mut engine) = phases.into_parts();
     prove!(engine.setup().tree.len() == engine.setup().names.nodes.len());
-    let mut log = Vec::new(alloc);
-    replay(alloc, &mut engine, lines, &mut log)?;
-    let report = report_of(alloc, &engine, &log)?;
+    let mut replies = ReplyText::new(alloc);
+    replay(alloc, &mut engine, lines, &mut replies)?;
+    let report = report_of(alloc, &engine, replies)?;
     text.extend_from_slice(&report)?;
     Ok(Phases::from_parts(past, engine))
 }
