@@ -1,11 +1,9 @@
-use Rattle.std.proofs.Common.{◌≡◌, ◌+◌, List, ap, subst, sym}
-use Rattle.teb_names.specs.declared.naming.NameBook.{NameBook}
+use Rattle.std.proofs.Common.{◌≡◌, ap, subst, sym}
 use Rattle.command_output.specs.Shown.{Shown}
 use Rattle.input_reader.specs.Tasks.{Task}
 use Rattle.input_runner.specs.Runs.{AreTurns, IsRun, IsSerialized}
 use Rattle.input_runner.proofs.Runs.{is_run, is_serialized}
 use Rattle.tree_toml.specs.SetupView.{SetupView}
-use Rattle.script_text.specs.declared.Answered.{Answered}
 use Rattle.shop_load.specs.Summaries.{IsSummary}
 use Rattle.shop_load.proofs.load.run_load.Goals as goal
 
