@@ -9,7 +9,6 @@ how the cost grows: 2 where it is in proportion. --quick leaves out callgrind, a
 """
 import argparse
 import dataclasses
-import os
 import pathlib
 import re
 import subprocess
@@ -20,13 +19,22 @@ from inputs import SET, made
 from worked_runs import BUILT
 
 
+# Runs a program on a file, and prints its status, its seconds of processor time and its kilobytes at the peak. The peak that the system tells of a
+# process is at least what its parent held when it began, so the parent is this small one.
+SMALL_PARENT = """
+import os, subprocess, sys
+with open(sys.argv[1], "rb") as source:
+    process = subprocess.Popen(sys.argv[2:], stdin=source, stdout=subprocess.DEVNULL)
+_, status, usage = os.wait4(process.pid, 0)
+print(os.waitstatus_to_exitcode(status), usage.ru_utime + usage.ru_stime, usage.ru_maxrss)
+"""
+
+
 def used(program, words, file):
     """The status, the seconds of processor time and the megabytes at the peak."""
-    with open(file, "rb") as source:
-        process = subprocess.Popen([program, *words], stdin=source, stdout=subprocess.DEVNULL)
-        _, status, usage = os.wait4(process.pid, 0)
-        process.returncode = os.waitstatus_to_exitcode(status)
-    return process.returncode, usage.ru_utime + usage.ru_stime, usage.ru_maxrss / 1024
+    ran = subprocess.run([sys.executable, "-S", "-c", SMALL_PARENT, file, program, *words], capture_output=True, text=True, check=True)
+    status, seconds, kilobytes = ran.stdout.split()
+    return int(status), float(seconds), int(kilobytes) / 1024
 
 
 def instructions(program, words, file):
