@@ -1,0 +1,42 @@
+//! The list of answers.
+
+ghost use Rattle.std.specs.Prelude.{◌≡◌, []};
+
+use crate::Log;
+use script_text::Answered;
+use std::alloc::{AllocError, Global};
+use teb_names::NameBook;
+
+/// The answers themselves, the first one first.
+#[derive(Drop)]
+pub struct AnswerList {
+    pub answers: Vec<Answered>,
+}
+
+impl AnswerList {
+    /// No answers. Takes no memory.
+    pub fn new(alloc: Global) -> AnswerList
+        ensures { result.answers.items ≡ [] }
+    {
+        AnswerList {
+            answers: Vec::new(alloc),
+        }
+    }
+}
+
+impl Log for AnswerList {
+    ghost use Rattle.std.specs.Prelude.{◌≡◌, ◌<◌, vec_len, vec_capacity};
+
+    ghost tells = { λ log _ answers. log.answers.items ≡ answers };
+
+    ghost has_room = { λ log. vec_len log.answers < vec_capacity log.answers };
+
+    fn ready(&mut self, _: &NameBook) -> Result<(), AllocError> {
+        self.answers.reserve(1)
+    }
+
+    fn add(&mut self, _: &NameBook, answered: &Answered) {
+        let Answered { session, reply } = *answered;
+        self.answers.push_reserved(Answered { session, reply });
+    }
+}
