@@ -1,5 +1,5 @@
 -- A multimap in two lists that are sorted by key: where the values of a key stand, and what edits among them make.
-use Rattle.std.proofs.Common.{◌≡◌, ℕ, zero, suc, ◌+◌, ◌-◌, ◌<◌, ◌≤◌, Bool, true, false, cond, not, List, [], ◌∷◌, ◌++◌, length, take, drop, get_or, refl, sym, ◌∙◌, ap, subst, arith}
+use Rattle.std.proofs.Common.{◌≡◌, ℕ, zero, suc, ◌+◌, ◌-◌, ◌<◌, ◌≤◌, Bool, true, false, cond, not, List, [], ◌∷◌, ◌++◌, length, take, drop, get_or, set, refl, sym, ◌∙◌, ap, subst, arith}
 use Rattle.std.specs.declared.cmp.Ordering.{Ordering}
 use Rattle.std.specs.declared.cmp.Ordering.TheVariants.{Less, Equal, Greater}
 use Rattle.std.specs.Ordering.{is_lt, is_eq, is_gt, ordering_reverse}
@@ -228,6 +228,35 @@ module _ {K : Type 0} (R : K → K → Ordering) (total : IsTotalOrder R) where
           rw m (ap (λ (xs : List V). w ∷ xs) (ih p (omega arith) (omega arith)))
       go Greater r e lt ih = let t : tops R js k ≡ 0 = tops_rest j k js a.0 r in absurd (omega arith)
 
+  pub values_set_other : {V : Type 0} (ks : List K) (vs : List V) (p : ℕ) (q d : K) (v : V) → p < length ks → is_eq (R (get_or ks p d) q) ≡ false → values_beside R ks (set vs p v) q ≡ values_beside R ks vs q
+  values_set_other [] vs p q d v lt off = absurd (omega arith)
+  values_set_other (j ∷ js) [] p q d v lt off = refl
+  values_set_other (j ∷ js) (w ∷ vs) zero q d v lt off = rw off refl
+  values_set_other {V} (j ∷ js) (w ∷ vs) (suc p) q d v lt off = ap (λ (r : List V). cond (is_eq (R j q)) (w ∷ r) r) (values_set_other js vs p q d v (omega arith) off)
+
+  pub values_set_here : {V : Type 0} (ks : List K) (vs : List V) (p i : ℕ) (k : K) (v : V) → Ascends R ks → length ks ≡ length vs → p ≡ lows R ks k + i → p < tops R ks k
+      → values_beside R ks (set vs p v) k ≡ set (values_beside R ks vs k) i v
+  values_set_here [] vs p i k v a n e lt = absurd (omega arith)
+  values_set_here (j ∷ js) [] p i k v a n e lt = absurd (omega arith)
+  values_set_here {V} (j ∷ js) (w ∷ vs) zero i k v a n e lt = go (R j k) refl e lt
+    where
+      go : (o : Ordering) → R j k ≡ o → 0 ≡ cond (is_lt o) (suc (lows R js k)) (lows R js k) + i → 0 < cond (not (is_gt o)) (suc (tops R js k)) (tops R js k)
+          → cond (is_eq o) (v ∷ values_beside R js vs k) (values_beside R js vs k) ≡ set (cond (is_eq o) (w ∷ values_beside R js vs k) (values_beside R js vs k)) i v
+      go Less r e lt = absurd (omega arith)
+      go Equal r e lt = let z : i ≡ 0 = omega arith in rw z refl
+      go Greater r e lt = let t : tops R js k ≡ 0 = tops_rest j k js a.0 r in absurd (omega arith)
+  values_set_here {V} (j ∷ js) (w ∷ vs) (suc p) i k v a n e lt = go (R j k) refl e lt (λ h. values_set_here js vs p h k v a.1 (omega arith))
+    where
+      go : (o : Ordering) → R j k ≡ o → suc p ≡ cond (is_lt o) (suc (lows R js k)) (lows R js k) + i → suc p < cond (not (is_gt o)) (suc (tops R js k)) (tops R js k)
+          → ((h : ℕ) → p ≡ lows R js k + h → p < tops R js k → values_beside R js (set vs p v) k ≡ set (values_beside R js vs k) h v)
+          → cond (is_eq o) (w ∷ values_beside R js (set vs p v) k) (values_beside R js (set vs p v) k) ≡ set (cond (is_eq o) (w ∷ values_beside R js vs k) (values_beside R js vs k)) i v
+      go Less r e lt ih = ih i (omega arith) (omega arith)
+      go Equal r e lt ih =
+          let z : lows R js k ≡ 0 = lows_rest j k js a.0 (ap is_lt r) in
+          let m : i ≡ suc p = omega arith in
+          rw m (ap (λ (xs : List V). w ∷ xs) (ih p (omega arith) (omega arith)))
+      go Greater r e lt ih = let t : tops R js k ≡ 0 = tops_rest j k js a.0 r in absurd (omega arith)
+
   -- the key at an index among its values
   pub key_here : (ks : List K) (p : ℕ) (k d : K) → Ascends R ks → lows R ks k ≤ p → p < tops R ks k → R (get_or ks p d) k ≡ Equal
   key_here [] p k d a le lt = absurd (omega arith)
@@ -361,3 +390,11 @@ module _ {K : Type 0} (R : K → K → Ordering) (total : IsTotalOrder R) where
       go : (b : Bool) → is_eq (R k q) ≡ b → values_beside R (remove ks p) (remove vs p) q ≡ cond b (remove (values_beside R ks vs k) i) (values_beside R ks vs q)
       go true h = values_tied (remove ks p) (remove vs p) k q (is_equal _ h) ∙ values_remove_here ks vs p i k a n e lt
       go false h = values_remove_other ks vs p q k n (let z = tops_length ks k in omega arith) (ap is_eq (total.congr _ k q (key_here ks p k k a (omega arith) lt)) ∙ h)
+
+  pub values_set : {V : Type 0} (ks : List K) (vs : List V) (p i : ℕ) (k : K) (v : V) → Ascends R ks → length ks ≡ length vs → p ≡ lows R ks k + i → p < tops R ks k
+      → (q : K) → values_beside R ks (set vs p v) q ≡ cond (is_eq (R k q)) (set (values_beside R ks vs k) i v) (values_beside R ks vs q)
+  values_set ks vs p i k v a n e lt q = go (is_eq (R k q)) refl
+    where
+      go : (b : Bool) → is_eq (R k q) ≡ b → values_beside R ks (set vs p v) q ≡ cond b (set (values_beside R ks vs k) i v) (values_beside R ks vs q)
+      go true h = values_tied ks (set vs p v) k q (is_equal _ h) ∙ values_set_here ks vs p i k v a n e lt
+      go false h = values_set_other ks vs p q k v (let z = tops_length ks k in omega arith) (ap is_eq (total.congr _ k q (key_here ks p k k a (omega arith) lt)) ∙ h)

@@ -1,6 +1,6 @@
 //! One bucket: the values of some keys in two vectors that are sorted by key.
 
-ghost use Rattle.std.specs.Prelude.{ℕ, ◌≡◌, ◌<◌, ◌≤◌, ◌+◌, ◌-◌, ◌++◌, ◌∷◌, length, cond, [], insert, remove, vec_len, vec_capacity, OnOk};
+ghost use Rattle.std.specs.Prelude.{ℕ, ◌≡◌, ◌<◌, ◌≤◌, ◌+◌, ◌-◌, ◌++◌, ◌∷◌, length, cond, [], insert, remove, set, vec_len, vec_capacity, OnOk};
 ghost use Rattle.std.specs.List.{remove_range};
 ghost use Rattle.std.specs.Ordering.{is_eq};
 ghost use Rattle.sorted_multimap.specs.Buckets.{bucket_values, IsSorted, HasRoom, IsKept, lows, tops, Ascends};
@@ -90,6 +90,18 @@ impl<K: Ord + Copy, V: Copy> Bucket<K, V> {
         let end = end_from(&self.keys, start, key);
         cut(&mut self.keys, start, end);
         cut(&mut self.values, start, end);
+    }
+
+    /// Replaces the value at an index among those of a key.
+    pub(crate) fn replace(&mut self, key: K, i: usize, value: V)
+        requires sorted { IsSorted K.cmp self.old }
+        requires within { i < length (bucket_values K.cmp self.old key) }
+        ensures sorted { IsSorted K.cmp self.new }
+        ensures values { (q : K) → bucket_values K.cmp self.new q ≡ cond (is_eq (K.cmp key q)) (set (bucket_values K.cmp self.old key) i value) (bucket_values K.cmp self.old q) }
+        ensures room { (n : ℕ) → HasRoom self.old n → HasRoom self.new n }
+    {
+        let at = first(&self.keys, key) + i;
+        self.values[at] = value;
     }
 
     /// Takes out the value at an index among those of a key.

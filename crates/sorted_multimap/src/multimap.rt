@@ -1,6 +1,6 @@
 //! A multimap, in buckets of keys.
 
-ghost use Rattle.std.specs.Prelude.{ℕ, ◌≡◌, ◌<◌, ◌≤◌, ◌+◌, ◌%◌, ◌++◌, ◌∷◌, length, get_or, cond, [], insert, remove, OnOk, IfOk};
+ghost use Rattle.std.specs.Prelude.{ℕ, ◌≡◌, ◌<◌, ◌≤◌, ◌+◌, ◌%◌, ◌++◌, ◌∷◌, length, get_or, cond, [], insert, remove, set, OnOk, IfOk};
 ghost use Rattle.std.specs.Ordering.{is_eq};
 ghost use Rattle.sorted_multimap.specs.Multimap.{values_in};
 ghost use Rattle.sorted_multimap.specs.declared.bucket.Bucket.{Bucket};
@@ -15,6 +15,7 @@ use std::marker::Model;
 #[derive(Clone, Copy)]
 enum Width {
     One,
+    Few,
     Many,
 }
 
@@ -24,6 +25,7 @@ impl Width {
     {
         match self {
             Width::One => 1,
+            Width::Few => 16,
             Width::Many => 256,
         }
     }
@@ -67,6 +69,19 @@ impl<K: Key, V: Copy> Multimap<K, V> {
         Multimap {
             alloc,
             width: Width::Many,
+            buckets: Vec::new(alloc),
+            spare: 0,
+        }
+    }
+
+    /// No values, and no room, for some hundred values: in 16 buckets, so that room for many at a time costs little. Takes no memory.
+    pub fn small(alloc: Global) -> Self
+        ensures entries { result.entries ≡ [] }
+        ensures spare { result.spare ≡ 0 }
+    {
+        Multimap {
+            alloc,
+            width: Width::Few,
             buckets: Vec::new(alloc),
             spare: 0,
         }
@@ -132,6 +147,16 @@ impl<K: Key, V: Copy> Multimap<K, V> {
         let at = place_of(&self.buckets, key);
         self.buckets[at].push(key, value);
         self.spare -= 1;
+    }
+
+    /// Replaces the value at an index among those of a key.
+    pub fn replace(&mut self, key: K, i: usize, value: V)
+        requires { i < length (values_in K.cmp self.old key) }
+        ensures values { (q : K) → values_in K.cmp self.new q ≡ cond (is_eq (K.cmp key q)) (set (values_in K.cmp self.old key) i value) (values_in K.cmp self.old q) }
+        ensures spare { self.new.spare ≡ self.old.spare }
+    {
+        let at = place_of(&self.buckets, key);
+        self.buckets[at].replace(key, i, value);
     }
 
     /// Takes out the value at an index among those of a key.
