@@ -15,11 +15,9 @@ use Rattle.dependency_book.specs.declared.access.Access.{Access}
 use Rattle.sorted_multimap.specs.LastMatches.{without_last, without_lasts}
 use Rattle.sorted_multimap.specs.Keys.{txn_cmp}
 use Rattle.sorted_multimap.proofs.TxnKeys.{eqb-is_eq}
+pub use Rattle.sorted_multimap.proofs.TxnKeys.{one_txn, pushed_txn}
 use Rattle.dependency_book.specs.Books.{HasRooms}
 use Rattle.sorted_multimap.proofs.TakenMatches.{lasts_more, count_push}
-
-pub one_txn : (t u : Txn) → eqb t.0 u.0 ≡ true → t ≡ u
-one_txn t u h = ap (λ (n : ℕ). record { 0 = n }) (eqb-true t.0 u.0 h)
 
 -- a source that goes among those of t, and one that is there already
 module _ (f : Txn → List Txn) (t from u : Txn) where
@@ -48,14 +46,6 @@ module _ (f : Txn → List Txn) (t from u : Txn) where
       go true h true false = refl
       go true h false d = refl
       go false h c d = refl
-
--- a value behind those of t
-pub pushed_txn : {V : Type 0} (f : Txn → List V) (t u : Txn) (v : V) → cond (is_eq (txn_cmp t u)) (f t ++ v ∷ []) (f u) ≡ cond (eqb t.0 u.0) (f u ++ v ∷ []) (f u)
-pushed_txn {V} f t u v = go (eqb t.0 u.0) refl
-  where
-    go : (b : Bool) → eqb t.0 u.0 ≡ b → cond (is_eq (txn_cmp t u)) (f t ++ v ∷ []) (f u) ≡ cond b (f u ++ v ∷ []) (f u)
-    go true h = ap (λ (o : Bool). cond o (f t ++ v ∷ []) (f u)) (sym (eqb-is_eq t.0 u.0) ∙ h) ∙ ap (λ (z : Txn). f z ++ v ∷ []) (one_txn t u h)
-    go false h = ap (λ (o : Bool). cond o (f t ++ v ∷ []) (f u)) (sym (eqb-is_eq t.0 u.0) ∙ h)
 
 -- for each access that passes at its cell the last value that passes is taken out of the values a, which leaves the values b
 pub record IsForgotten {V : Type 0} (p : V → Bool) (q : Cell → Access → Bool) (accesses : List Access) (a b : Shown Cell V) : Type 0 where

@@ -1,11 +1,14 @@
 -- A multimap in two lists that are sorted by key: where the values of a key stand, and what edits among them make.
-use Rattle.std.proofs.Common.{◌≡◌, ℕ, zero, suc, ◌+◌, ◌-◌, ◌<◌, ◌≤◌, Bool, true, false, cond, not, List, [], ◌∷◌, ◌++◌, length, take, drop, get_or, set, refl, sym, ◌∙◌, ap, subst, arith}
+use Rattle.std.proofs.Common.{◌≡◌, ℕ, zero, suc, ◌+◌, ◌-◌, ◌<◌, ◌≤◌, Bool, true, false, cond, not, List, [], ◌∷◌, ◌++◌, length, take, drop, get_or, set, refl, sym, ◌∙◌, ap, subst, arith, inl, inr}
 use Rattle.std.specs.declared.cmp.Ordering.{Ordering}
 use Rattle.std.specs.declared.cmp.Ordering.TheVariants.{Less, Equal, Greater}
 use Rattle.std.specs.Ordering.{is_lt, is_eq, is_gt, ordering_reverse}
 use Rattle.std.specs.Cmp.{IsTotalOrder}
 use Rattle.std.specs.List.{insert, remove, remove_range}
 use Rattle.std.specs.List.Sorted.{IsPartitionPoint, IsPartitionedBy}
+use Rattle.std.proofs.lemmas.Bool.{cases_Bool}
+use Rattle.std.proofs.lemmas.Bool.Decides.{eqb_tells}
+use Rattle.std.proofs.lemmas.List.{get_or_default}
 use Rattle.std.proofs.lemmas.Cmp.{upto, tied_itself, alike_right}
 use Rattle.sorted_multimap.specs.Buckets.{values_beside, NoneBelow, Ascends, passing, lows, tops}
 
@@ -67,6 +70,20 @@ passing_parted p (j ∷ js) (suc n) le h =
     let ih = passing_parted p js n (omega arith) (λ i d a b. h.0 (suc i) d (omega arith) (omega arith), λ i d a b. h.1 (suc i) d (omega arith) (omega arith)) in
     rw on (ap suc ih)
 
+-- the first n keys are not above k
+abbrev pub FirstPass : {K : Type 0} → (K → K → Ordering) → List K → K → ℕ → Type 0
+FirstPass {K} R ks k n = (j : ℕ) (d : K) → j < n → not (is_gt (R (get_or ks j d) k)) ≡ true
+
+pub first_none : {K : Type 0} (R : K → K → Ordering) (ks : List K) (k : K) → FirstPass R ks k 0
+first_none R ks k j d l = absurd (omega arith)
+
+-- and so is the next
+pub first_more : {K : Type 0} (R : K → K → Ordering) (ks : List K) (k i : K) (n : ℕ) → n < length ks → i ≡ get_or ks n i → is_gt (R i k) ≡ false → FirstPass R ks k n → FirstPass R ks k (n + 1)
+first_more R ks k i n l at off f j d lt = elim (eqb_tells j n) [
+  | inl (hit, same) ↦ ap (λ x. not (is_gt (R x k))) (ap (λ m. get_or ks m d) same ∙ get_or_default ks n d i l ∙ sym at) ∙ ap not off
+  | inr (miss, other) ↦ f j d (omega arith)
+]
+
 module _ {K : Type 0} (R : K → K → Ordering) (total : IsTotalOrder R) where
   -- a test that passes what is not above one that passes
   abbrev pub Falls : (K → Bool) → Type 0
@@ -95,6 +112,21 @@ module _ {K : Type 0} (R : K → K → Ordering) (total : IsTotalOrder R) where
 
   pub tops_fall : (k : K) → Falls (λ j. not (is_gt (R j k)))
   tops_fall k i j le h = ap not (upto total i j k le (flipped _ h))
+
+  -- where the first n keys are not above k, and the next is, or there is none
+  pub first_ends : (ks : List K) (k i : K) (n : ℕ) → Ascends R ks → n < length ks → i ≡ get_or ks n i → is_gt (R i k) ≡ true → FirstPass R ks k n → n ≡ tops R ks k
+  first_ends ks k i n a l at on f =
+      let p = λ (j : K). not (is_gt (R j k)) in
+      passing_parted p ks n (omega arith) (
+        (λ j d le lt. f j d lt),
+        (λ j d le lt. elim (cases_Bool (p (get_or ks j d))) [
+          | inl e ↦ absurd (clash _ (parted p (tops_fall k) ks a n j d le lt e) (ap p (get_or_default ks n d i l ∙ sym at) ∙ ap not on))
+          | inr e ↦ e
+        ]),
+      )
+
+  pub first_all : (ks : List K) (k : K) (n : ℕ) → n ≡ length ks → FirstPass R ks k n → n ≡ tops R ks k
+  first_all ks k n e f = passing_parted (λ (j : K). not (is_gt (R j k))) ks n (omega arith) ((λ j d le lt. f j d lt), (λ j d le lt. absurd (omega arith)))
 
   -- behind one that does not pass none does
   rest_none : (p : K → Bool) → Falls p → (j : K) (js : List K) → NoneBelow R j js → p j ≡ false → passing p js ≡ 0

@@ -118,7 +118,7 @@ impl<K: Ord + Copy, V: Copy> Bucket<K, V> {
     }
 }
 
-/// Takes a range out of a vector.
+/// Takes a range out of a vector. What stands behind it moves down.
 fn cut<T: Copy>(v: &mut Vec<T>, start: usize, end: usize)
     requires order { start ≤ end }
     requires within { end ≤ vec_len v.old }
@@ -126,7 +126,8 @@ fn cut<T: Copy>(v: &mut Vec<T>, start: usize, end: usize)
     ensures len { vec_len v.new + (end - start) ≡ vec_len v.old }
     ensures capacity { vec_capacity v.old ≤ vec_capacity v.new }
 {
-    v.drain(start..end);
+    v.copy_within(end.., start);
+    v.truncate(v.len() - (end - start));
 }
 
 /// Where the keys from a key on begin.
@@ -166,9 +167,13 @@ fn run_of<K: Ord + Copy>(keys: &[K], key: K) -> usize
     ensures within { result ≤ length keys.now }
 {
     let near = keys.len().min(NEAR);
-    let len = keys[..near].partition_point(|k| k.cmp(&key) != Ordering::Greater);
-    if len < near {
-        return len;
+    for i in 0..near {
+        if keys[i].cmp(&key) == Ordering::Greater {
+            return i;
+        }
+    }
+    if near < NEAR {
+        return near;
     }
     keys.partition_point(|k| k.cmp(&key) != Ordering::Greater)
 }

@@ -25,7 +25,7 @@ impl Width {
     {
         match self {
             Width::One => 1,
-            Width::Few => 16,
+            Width::Few => 64,
             Width::Many => 256,
         }
     }
@@ -74,7 +74,7 @@ impl<K: Key, V: Copy> Multimap<K, V> {
         }
     }
 
-    /// No values, and no room, for some hundred values: in 16 buckets, so that room for many at a time costs little. Takes no memory.
+    /// No values, and no room, for some hundred values: in 64 buckets, so that room costs less. Takes no memory.
     pub fn small(alloc: Global) -> Self
         ensures entries { result.entries ≡ [] }
         ensures spare { result.spare ≡ 0 }
