@@ -1,5 +1,3 @@
 pub mod Cells
-pub mod Ranges
-pub mod TakingOut
-pub mod Filed
+pub mod Filing
 pub mod Holders

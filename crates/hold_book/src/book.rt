@@ -12,24 +12,25 @@ ghost use Rattle.hold_book.specs.Books.{shown, accessed, released};
 ghost use Rattle.hold_book.specs.Holders.{HoldsOf, MayHold};
 
 use crate::Hold;
-use crate::sorted::{holds_on, put_in, take_out};
+use crate::filed::{put_in, take_out};
+use sorted_multimap::Multimap;
 use std::alloc::{AllocError, Global};
 use std::marker::Model;
 use teb_names::{Cell, Txn};
 
-/// The most accesses of one answer.
-const MOST_ACCESSES: usize = 32;
-
-/// For how many accesses room is made at a time.
+/// For how many accesses room is made at a time, at the least.
 const AHEAD: usize = 128;
 
 /// Who holds which cell. Contracts see the holds beside their cells, and for how many accesses there is room.
+///
+/// An access costs a search by its cell, and a finish as much as its transaction holds.
 #[derive(Drop)]
 pub struct HoldBook {
-    // The cell of each hold, ascending.
-    cells: Vec<Cell>,
-    // The holds, those of one cell in ascending number.
-    holds: Vec<Hold>,
+    // By cell: the holds on it, in ascending number.
+    holds: Multimap<Cell, Hold>,
+    // By transaction: the cells that it holds.
+    cells: Multimap<Txn, Cell>,
+    // For how many accesses there is room.
     spare: usize,
 }
 
@@ -38,9 +39,9 @@ impl Model for HoldBook {
 
     ghost Value = { Held };
 
-    ghost view = { λ b. record { cells = b.cells.items; holds = b.holds.items; spare = b.spare } };
+    ghost view = { λ b. record { holds = b.holds.entries; spare = b.spare } };
 
-    ghost invariant = { λ b. IsBook b.cells b.holds b.spare };
+    ghost invariant = { λ b. IsBook b.holds b.cells b.spare };
 }
 
 impl HoldBook {
@@ -50,24 +51,25 @@ impl HoldBook {
         ensures empty { (S : Setup) (n : ℕ) → HoldsOf result S [] n }
     {
         HoldBook {
-            cells: Vec::new(alloc),
-            holds: Vec::new(alloc),
+            holds: Multimap::small(alloc),
+            cells: Multimap::small(alloc),
             spare: 0,
         }
     }
 
-    /// Makes room for 32 accesses. It shows what it showed, also after an `Err`.
-    pub fn reserve(&mut self) -> Result<(), AllocError>
+    /// Makes room for n accesses. It shows what it showed, also after an `Err`.
+    pub fn reserve(&mut self, n: usize) -> Result<(), AllocError>
         ensures shown { (x : Cell) → shown self.new x ≡ shown self.old x }
-        ensures room { OnOk result (32 ≤ self.new.spare) }
+        ensures room { OnOk result (n ≤ self.new.spare) }
         ensures kept { self.old.spare ≤ self.new.spare }
     {
-        if self.spare >= MOST_ACCESSES {
+        if n <= self.spare {
             return Ok(());
         }
-        self.cells.reserve(AHEAD)?;
-        self.holds.reserve(AHEAD)?;
-        self.spare = AHEAD;
+        let room = n.max(AHEAD);
+        self.holds.reserve(room)?;
+        self.cells.reserve(room)?;
+        self.spare = room;
         Ok(())
     }
 
@@ -82,7 +84,7 @@ impl HoldBook {
         ensures got { (S : Setup) (P : List Event) (n : ℕ) (w : Txn) (v : Option ℤ) → IsFalse wrote → MayHold S P n t.0 → HoldsOf self.old S P n → HoldsOf self.new S (Got t cell w v ∷ P) n }
         ensures put { (S : Setup) (P : List Event) (n : ℕ) (v : Option ℤ) → IsTrue wrote → MayHold S P n t.0 → HoldsOf self.old S P n → HoldsOf self.new S (Put t cell v ∷ P) n }
     {
-        put_in(&mut self.cells, &mut self.holds, cell, t, wrote);
+        put_in(&mut self.holds, &mut self.cells, cell, t, wrote);
         self.spare -= 1;
     }
 
@@ -95,13 +97,13 @@ impl HoldBook {
         ensures done { (S : Setup) (P : List Event) (n : ℕ) → HoldsOf self.old S P n → HoldsOf self.new S (Done t ∷ P) n }
         ensures gone { (S : Setup) (P : List Event) (n : ℕ) (c : Cause) → HoldsOf self.old S P n → HoldsOf self.new S (Gone t c ∷ P) n }
     {
-        take_out(&mut self.cells, &mut self.holds, t);
+        take_out(&mut self.holds, &mut self.cells, t);
     }
 
     /// The holds on a cell, in ascending number of their transactions.
     pub fn holds(&self, cell: Cell) -> &[Hold]
         ensures { result.now ≡ shown self.now cell }
     {
-        holds_on(&self.cells, &self.holds, cell)
+        self.holds.list(cell)
     }
 }

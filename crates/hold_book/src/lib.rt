@@ -2,7 +2,7 @@
 #![tactic(auto)]
 
 mod book;
-mod sorted;
+mod filed;
 
 pub use book::HoldBook;
 use teb_names::Txn;

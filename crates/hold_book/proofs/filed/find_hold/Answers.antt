@@ -2,7 +2,7 @@ use Rattle.std.proofs.Common.{rules}
 use Rattle.std.proofs.lemmas.List.Sorted.{answers_always}
 use Rattle.hold_book.specs.Books.{hold_number}
 use Rattle.teb_history.proofs.AscendingLists.{searched}
-use Rattle.hold_book.proofs.sorted.find_hold.Goals as goal
+use Rattle.hold_book.proofs.filed.find_hold.Goals as goal
 
 pub returns : goal.returns
 returns c =
