@@ -40,14 +40,14 @@ impl Register {
         self.node
     }
 
-    /// Makes room for 32 events. It stands for what it stood for, also after an `Err`.
-    pub fn reserve(&mut self) -> Result<(), AllocError>
+    /// Makes room for n events. It stands for what it stood for, also after an `Err`.
+    pub fn reserve(&mut self, n: usize) -> Result<(), AllocError>
         ensures node { self.new.node ≡ self.old.node }
         ensures stands { (S : Setup) (H : List Event) → Registered self.old.node.0 self.old.book S H → Registered self.new.node.0 self.new.book S H }
-        ensures room { OnOk result (32 ≤ self.new.book.spare) }
+        ensures room { OnOk result (n ≤ self.new.book.spare) }
         ensures kept { self.old.book.spare ≤ self.new.book.spare }
     {
-        self.book.reserve()
+        self.book.reserve(n)
     }
 
     /// Notes the newest event of the history, and takes at most one place of the room.

@@ -80,7 +80,7 @@ impl Control for Locks {
     }
 
     fn reserve(&mut self) -> Result<(), AllocError> {
-        self.register.reserve()
+        self.register.reserve(32)
     }
 
     fn note(&mut self, facts: &Facts, e: Event) {

@@ -181,7 +181,7 @@ impl Control for Pipeline {
     }
 
     fn reserve(&mut self) -> Result<(), AllocError> {
-        self.register.reserve()?;
+        self.register.reserve(32)?;
         self.predecessors.reserve()?;
         self.cursors.reserve(32)
     }
