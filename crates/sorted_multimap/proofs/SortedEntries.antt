@@ -128,6 +128,20 @@ module _ {K : Type 0} (R : K → K → Ordering) (total : IsTotalOrder R) where
   pub first_all : (ks : List K) (k : K) (n : ℕ) → n ≡ length ks → FirstPass R ks k n → n ≡ tops R ks k
   first_all ks k n e f = passing_parted (λ (j : K). not (is_gt (R j k))) ks n (omega arith) ((λ j d le lt. f j d lt), (λ j d le lt. absurd (omega arith)))
 
+  -- where the first key is not below k, and where the last is not above it
+  pub lows_none : (ks : List K) (k i : K) → Ascends R ks → i ≡ get_or ks 0 i → is_lt (R i k) ≡ false → lows R ks k ≡ 0
+  lows_none ks k i a at off =
+      let p = λ (j : K). is_lt (R j k) in
+      passing_none p ks (λ j d lt. elim (cases_Bool (p (get_or ks j d))) [
+        | inl e ↦ absurd (clash _ (parted p (lows_fall k) ks a 0 j d (omega arith) lt e) (ap p (get_or_default ks 0 d i (omega arith) ∙ sym at) ∙ off))
+        | inr e ↦ e
+      ])
+
+  pub tops_all : (ks : List K) (k i : K) (n : ℕ) → Ascends R ks → n < length ks → length ks ≡ n + 1 → i ≡ get_or ks n i → is_gt (R i k) ≡ false → tops R ks k ≡ length ks
+  tops_all ks k i n a l e at off =
+      let p = λ (j : K). not (is_gt (R j k)) in
+      sym (first_all ks k (length ks) refl (λ j d lt. parted p (tops_fall k) ks a j n d (omega arith) l (ap p (get_or_default ks n d i l ∙ sym at) ∙ ap not off)))
+
   -- behind one that does not pass none does
   rest_none : (p : K → Bool) → Falls p → (j : K) (js : List K) → NoneBelow R j js → p j ≡ false → passing p js ≡ 0
   rest_none p f j [] n h = refl

@@ -1,6 +1,6 @@
 //! One bucket: the values of some keys in two vectors that are sorted by key.
 
-ghost use Rattle.std.specs.Prelude.{ℕ, ◌≡◌, ◌<◌, ◌≤◌, ◌+◌, ◌-◌, ◌++◌, ◌∷◌, length, cond, [], insert, remove, set, vec_len, vec_capacity, OnOk};
+ghost use Rattle.std.specs.Prelude.{ℕ, ◌≡◌, ◌<◌, ◌≤◌, ◌+◌, ◌-◌, ◌++◌, ◌∷◌, length, cond, [], insert, remove, set, vec_len, vec_capacity, OnOk, IsTrue};
 ghost use Rattle.std.specs.List.{remove_range};
 ghost use Rattle.std.specs.Ordering.{is_eq};
 ghost use Rattle.sorted_multimap.specs.Buckets.{bucket_values, IsSorted, HasRoom, IsKept, lows, tops, Ascends};
@@ -137,7 +137,26 @@ fn first<K: Ord + Copy>(keys: &[K], key: K) -> usize
     ensures low { result ≤ tops K.cmp keys.now key }
     ensures within { result ≤ length keys.now }
 {
+    if none_below(keys, key) {
+        return 0;
+    }
     keys.partition_point(|k| k.cmp(&key) == Ordering::Less)
+}
+
+/// Whether the first key says that none is below a key.
+fn none_below<K: Ord + Copy>(keys: &[K], key: K) -> bool
+    requires { Ascends K.cmp keys.now }
+    ensures { IsTrue result → lows K.cmp keys.now key ≡ 0 }
+{
+    keys.is_empty() || keys[0].cmp(&key) != Ordering::Less
+}
+
+/// Whether the last key says that none is above a key.
+fn none_above<K: Ord + Copy>(keys: &[K], key: K) -> bool
+    requires { Ascends K.cmp keys.now }
+    ensures { IsTrue result → tops K.cmp keys.now key ≡ length keys.now }
+{
+    keys.is_empty() || keys[keys.len() - 1].cmp(&key) != Ordering::Greater
 }
 
 /// Where the keys above a key begin.
@@ -146,6 +165,9 @@ fn behind<K: Ord + Copy>(keys: &[K], key: K) -> usize
     ensures at { result ≡ tops K.cmp keys.now key }
     ensures within { result ≤ length keys.now }
 {
+    if none_above(keys, key) {
+        return keys.len();
+    }
     keys.partition_point(|k| k.cmp(&key) != Ordering::Greater)
 }
 
@@ -174,6 +196,9 @@ fn run_of<K: Ord + Copy>(keys: &[K], key: K) -> usize
     }
     if near < NEAR {
         return near;
+    }
+    if none_above(keys, key) {
+        return keys.len();
     }
     keys.partition_point(|k| k.cmp(&key) != Ordering::Greater)
 }

@@ -11,5 +11,9 @@ pub fn put_in<T: Copy>(v: &mut Vec<T>, i: usize, x: T)
     ensures len { vec_len v.new ≡ vec_len v.old + 1 }
     ensures capacity { vec_capacity v.old ≤ vec_capacity v.new }
 {
-    let _ = v.insert(i, x);
+    if i == v.len() {
+        let _ = v.push(x);
+    } else {
+        let _ = v.insert(i, x);
+    }
 }
