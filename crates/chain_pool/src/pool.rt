@@ -1,11 +1,12 @@
 //! Places in chains and writers' lists, and the steps that put a version in and take versions out.
 
-ghost use Rattle.std.specs.Prelude.{◌≡◌, ◌<◌, ◌≤◌, ◌+◌, ℕ, Bool, [], length, slice_get, insert, vec_len, vec_capacity, IsTrue, OnOk, None, Some, eqb};
+ghost use Rattle.std.specs.Prelude.{◌≡◌, ◌<◌, ◌≤◌, ◌+◌, ℕ, Bool, [], length, slice_get, insert, vec_len, vec_capacity, IsTrue, IsFalse, OnOk, IfSome, None, Some, eqb};
+ghost use Rattle.std.specs.Option.{option_map};
 ghost use Rattle.std.specs.Bool.{OnTrue};
 ghost use Rattle.indexmap.specs.IndexMap.{spare};
 ghost use Rattle.teb_names.specs.declared.Cell.{Cell};
 ghost use Rattle.teb_names.specs.declared.Txn.{Txn};
-ghost use Rattle.version_chain.specs.Lists.{without, set_value, writers_of, is_writer, first_place, last_place, unless_below};
+ghost use Rattle.version_chain.specs.Lists.{without, set_value, writers_of, is_writer, first_place, last_place, unless_below, own_or_last as spec_own_or_last};
 ghost use Rattle.chain_pool.specs.Places.{InChain, IsOwned};
 ghost use Rattle.chain_pool.specs.Heads.{IsBusy, chain_head, writer_head, with_head, same_txn};
 ghost use Rattle.chain_pool.specs.Linked.{Linked, versions};
@@ -16,6 +17,7 @@ use crate::{heads, walks};
 use indexmap::IndexMap;
 use std::alloc::{AllocError, Global};
 use teb_names::{Cell, Txn};
+use version_chain::Found;
 
 /// Puts a version into the first free place, and that into its cell's chain and its writer's list. Gives the free places that
 /// are left.
@@ -105,6 +107,16 @@ impl Pool {
         ensures { slice_get (chain_of self.now cell) i ≡ Some result }
     {
         let chain = heads::head_of(&self.cells, &cell);
+        self.version_in(chain, i)
+    }
+
+    /// The i-th version of a chain.
+    fn version_in(&self, chain: Head, i: usize) -> (Txn, Option<i64>)
+        requires sound { IsSound self.now }
+        requires chain { (x : Cell) × (chain ≡ chain_head self.now.cells.entries x) }
+        requires within { i < length (versions self.now.places.items chain) }
+        ensures { slice_get (versions self.now.places.items chain) i ≡ Some result }
+    {
         let place = walks::place_of(&self.places, chain, i);
         walks::pair_at(&self.places, place)
     }
@@ -114,9 +126,10 @@ impl Pool {
         requires sound { IsSound self.now }
         requires chain { (x : Cell) × (chain ≡ chain_head self.now.cells.entries x) }
         requires callable { (u : Txn) → IsTrue (is_writer (versions self.now.places.items chain) u.0) → F.pre f.now u }
-        ensures { (p : ℕ → Bool)
+        ensures place { (p : ℕ → Bool)
             → ((u : Txn) (b : Bool) → IsTrue (is_writer (versions self.now.places.items chain) u.0) → F.post f.now u b → b ≡ p u.0)
             → result ≡ unless_below from (last_place p (writers_of (versions self.now.places.items chain))) }
+        ensures within { IfSome result (λ i. i < length (versions self.now.places.items chain)) }
     {
         walks::last_accepted(&self.places, chain, from, f)
     }
@@ -130,9 +143,10 @@ impl Pool {
     ) -> Option<usize>
         requires sound { IsSound self.now }
         requires callable { (u : Txn) → IsTrue (is_writer (chain_of self.now cell) u.0) → F.pre f.now u }
-        ensures { (p : ℕ → Bool)
+        ensures place { (p : ℕ → Bool)
             → ((u : Txn) (b : Bool) → IsTrue (is_writer (chain_of self.now cell) u.0) → F.post f.now u b → b ≡ p u.0)
             → result ≡ unless_below from (last_place p (writers_of (chain_of self.now cell))) }
+        ensures within { IfSome result (λ i. i < length (chain_of self.now cell)) }
     {
         let chain = heads::head_of(&self.cells, &cell);
         self.last_in(chain, from, f)
@@ -147,17 +161,49 @@ impl Pool {
         own.len < chain.len && !walks::has_cell(&self.places, own, cell)
     }
 
-    /// The place of a writer's version in the chain of a cell. Where the writer's list is the shorter one, it says first whether
-    /// there is one.
+    /// The place of a writer's version in the chain of a cell.
     pub(crate) fn find(&self, cell: Cell, t: Txn) -> Option<usize>
         requires sound { IsSound self.now }
         ensures { result ≡ first_place (λ w. eqb w t.0) (writers_of (chain_of self.now cell)) }
     {
         let chain = heads::head_of(&self.cells, &cell);
+        self.find_in(cell, chain, t)
+    }
+
+    /// The place of a writer's version in a chain, which is that of the cell. Where the writer's list is the shorter one, it says
+    /// first whether there is one.
+    fn find_in(&self, cell: Cell, chain: Head, t: Txn) -> Option<usize>
+        requires sound { IsSound self.now }
+        requires chain { chain ≡ chain_head self.now.cells.entries cell }
+        ensures { result ≡ first_place (λ w. eqb w t.0) (writers_of (chain_of self.now cell)) }
+    {
         if chain.len > 1 && self.lacks(cell, chain, t) {
             return None;
         }
         self.last_in(chain, 0, &|w: Txn| w.0 == t.0)
+    }
+
+    /// The version of a writer, or else the last one whose writer f accepts.
+    pub(crate) fn own_or_last<F: Fn(Txn) -> bool>(&self, cell: Cell, t: Txn, f: &F) -> Option<Found>
+        requires sound { IsSound self.now }
+        requires callable { IsFalse (is_writer (chain_of self.now cell) t.0) → (u : Txn) → IsTrue (is_writer (chain_of self.now cell) u.0) → F.pre f.now u }
+        ensures place { (p : ℕ → Bool)
+            → (IsFalse (is_writer (chain_of self.now cell) t.0) → (u : Txn) (b : Bool) → IsTrue (is_writer (chain_of self.now cell) u.0) → F.post f.now u b → b ≡ p u.0)
+            → option_map (λ v. v.at) result ≡ spec_own_or_last t.0 p (writers_of (chain_of self.now cell)) }
+        ensures version { IfSome result (λ v. slice_get (chain_of self.now cell) v.at ≡ Some (v.writer, v.value)) }
+    {
+        let chain = heads::head_of(&self.cells, &cell);
+        let place = match self.find_in(cell, chain, t) {
+            Some(own) => Some(own),
+            None => self.last_in(chain, 0, f),
+        };
+        match place {
+            Some(at) => {
+                let (writer, value) = self.version_in(chain, at);
+                Some(Found { at, writer, value })
+            }
+            None => None,
+        }
     }
 
     /// Makes a free place where there is none.

@@ -9,7 +9,7 @@ use crate::pool::Pool;
 use std::alloc::{AllocError, Global};
 use std::marker::Model;
 use teb_names::{Cell, Txn};
-use version_chain::Chains;
+use version_chain::{Chains, Found};
 
 /// For how many versions room is made at a time.
 const AHEAD: usize = 64;
@@ -99,5 +99,9 @@ impl Chains for PooledChains {
 
     fn last_where_from<F: Fn(Txn) -> bool>(&self, cell: Cell, from: usize, f: &F) -> Option<usize> {
         self.pool.last_where_from(cell, from, f)
+    }
+
+    fn own_or_last<F: Fn(Txn) -> bool>(&self, cell: Cell, t: Txn, f: &F) -> Option<Found> {
+        self.pool.own_or_last(cell, t, f)
     }
 }

@@ -1,6 +1,6 @@
 //! Walks along the links.
 
-ghost use Rattle.std.specs.Prelude.{◌≡◌, ◌<◌, ◌≤◌, ◌+◌, ◌-◌, ℕ, length, MatchOption, IsSome, Some, true, false};
+ghost use Rattle.std.specs.Prelude.{◌≡◌, ◌<◌, ◌≤◌, ◌+◌, ◌-◌, ℕ, length, MatchOption, IfSome, IsSome, Some, true, false};
 ghost use Rattle.std.specs.Bool.{OnFalse};
 ghost use Rattle.chain_pool.specs.Threads.{steps};
 ghost use Rattle.chain_pool.specs.Places.{slot_at, previous_at, sibling_at, cell_in, pair_at as spec_pair_at};
@@ -79,7 +79,8 @@ pub(crate) fn last_accepted<F: Fn(Txn) -> bool>(
     requires safe { (n : ℕ) → 0 < chain.len → steps (previous_at places.now) n chain.first < length places.now }
     requires used { (n : ℕ) → 0 < chain.len → IsSome (slot_at places.now (steps (previous_at places.now) n chain.first)).version }
     requires callable { (j : ℕ) → j < chain.len → F.pre f.now (spec_pair_at places.now (nth_place places.now chain j)).0 }
-    ensures { MatchOption result
+    ensures within { IfSome result (λ i. i < chain.len) }
+    ensures found { MatchOption result
         ((j : ℕ) → from ≤ j → j < chain.len → F.post f.now (spec_pair_at places.now (nth_place places.now chain j)).0 false)
         (λ i. (from ≤ i) × (i < chain.len) × F.post f.now (spec_pair_at places.now (nth_place places.now chain i)).0 true
         × ((j : ℕ) → i < j → j < chain.len → F.post f.now (spec_pair_at places.now (nth_place places.now chain j)).0 false)) }

@@ -1,10 +1,10 @@
 -- What the first and the last place of a list are, place by place.
-use Rattle.std.proofs.Common.{◌≡◌, ℕ, zero, suc, ◌≤◌, ◌<◌, Bool, true, false, cond, eqb, IsTrue, List, [], ◌∷◌, length, get_or, refl, sym, ap, subst, ◌∙◌, arith, Option, Some, None, MatchOption, inl, inr, eq-eqb, ne_eqb}
+use Rattle.std.proofs.Common.{◌≡◌, ◌⊎◌, ℕ, zero, suc, ◌≤◌, ◌<◌, Bool, true, false, cond, eqb, IsTrue, List, [], ◌∷◌, length, get_or, refl, sym, ap, subst, ◌∙◌, arith, Option, Some, None, MatchOption, inl, inr, eq-eqb, ne_eqb}
 use Rattle.std.proofs.lemmas.Bool.{cases_lt, cases_order, or_right, or_from, le-leb, lt-leb}
 use Rattle.std.specs.List.{list_any}
 use Rattle.std.proofs.lemmas.List.{get_or-map, length-map}
 use Rattle.teb_names.specs.declared.Txn.{Txn}
-use Rattle.version_chain.specs.Lists.{Version, writers_of, is_writer, next_place, first_place, last_place, unless_below}
+use Rattle.version_chain.specs.Lists.{Version, writers_of, is_writer, next_place, first_place, last_place, unless_below, own_or_last}
 
 -- p fails at each place from low on and below high
 abbrev pub FailsWithin : (ℕ → Bool) → List ℕ → ℕ → ℕ → Type 0
@@ -146,3 +146,24 @@ is_writer-none vs t e = none (writers_of vs) (subst (λ o. IsFirst (λ w. eqb w 
     none : (ws : List ℕ) → FailsWithin (λ w. eqb w t) ws 0 (length ws) → list_any (λ w. eqb w t) ws ≡ false
     none [] h = refl
     none (w ∷ ws) h = or_from _ _ (h 0 (omega arith) (omega arith)) (none ws (λ j le lt. h (suc j) (omega arith) (omega (arith, lt))))
+
+-- what is found of t, and of others where t has none, is the place of either
+pub own_is : (vs : List Version) (t i : ℕ) (p : ℕ → Bool) → Some i ≡ first_place (λ w. eqb w t) (writers_of vs) → Some i ≡ own_or_last t p (writers_of vs)
+own_is vs t i p e = ap (λ (o : Option ℕ). elim o [ None ↦ last_place p (writers_of vs) | Some i ↦ Some i ]) e
+
+pub other_is : (vs : List Version) (t : ℕ) (r : Option ℕ) (p : ℕ → Bool) → None ≡ first_place (λ w. eqb w t) (writers_of vs) → r ≡ last_place p (writers_of vs) → r ≡ own_or_last t p (writers_of vs)
+other_is vs t r p e last = last ∙ ap (λ (o : Option ℕ). elim o [ None ↦ last_place p (writers_of vs) | Some i ↦ Some i ]) e
+
+-- the place of a writer's version is one of the chain
+pub own_within : (vs : List Version) (t i : ℕ) → Some i ≡ first_place (λ w. eqb w t) (writers_of vs) → i < length vs
+own_within vs t i e = let found = subst (λ o. IsFirst (λ w. eqb w t) (writers_of vs) o) (sym e) (first_place-found (λ w. eqb w t) (writers_of vs)) in omega (arith, found.0, length-writers vs)
+
+-- a place that was found is that of t, or else t has none and it is the last that passes
+pub own_or_last_cases : (t : ℕ) (p : ℕ → Bool) (ws : List ℕ) (r : Option ℕ) → r ≡ own_or_last t p ws
+    → ((r ≡ first_place (λ w. eqb w t) ws) × (r ≡ None → ⊥)) ⊎ ((None ≡ first_place (λ w. eqb w t) ws) × (r ≡ last_place p ws))
+own_or_last_cases t p ws r e = go (first_place (λ w. eqb w t) ws) refl e
+  where
+    go : (o : Option ℕ) → o ≡ first_place (λ w. eqb w t) ws → r ≡ elim o [ None ↦ last_place p ws | Some i ↦ Some i ]
+        → ((r ≡ first_place (λ w. eqb w t) ws) × (r ≡ None → ⊥)) ⊎ ((None ≡ first_place (λ w. eqb w t) ws) × (r ≡ last_place p ws))
+    go None first e = inr (first, e)
+    go (Some i) first e = inl (e ∙ first, λ none. let z : Some i ≡ None = sym e ∙ none in cc)

@@ -34,6 +34,10 @@ abbrev pub unless_below : ℕ → Option ℕ → Option ℕ
 unless_below n None = None
 unless_below n (Some i) = if nat_le n i then Some i else None
 
+-- the place of t, or else the last place that passes
+abbrev pub own_or_last : ℕ → (ℕ → Bool) → List ℕ → Option ℕ
+own_or_last t p ws = elim (first_place (λ w. eqb w t) ws) [ None ↦ last_place p ws | Some i ↦ Some i ]
+
 -- the i-th version with another value
 abbrev pub set_value : ℕ → Option ℤ → List Version → List Version
 set_value i value [] = []

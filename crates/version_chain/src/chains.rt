@@ -1,13 +1,23 @@
 //! What a store of versions is asked.
 
-ghost use Rattle.std.specs.Prelude.{◌≡◌, ◌<◌, ◌≤◌, ◌+◌, ℕ, ℤ, Option, List, Bool, length, insert, slice_get, eqb, OnOk, IsTrue, IsFalse, Some};
+ghost use Rattle.std.specs.Prelude.{◌≡◌, ◌<◌, ◌≤◌, ◌+◌, ℕ, ℤ, Option, List, Bool, length, insert, slice_get, eqb, OnOk, IfSome, IsTrue, IsFalse, Some};
+ghost use Rattle.std.specs.Option.{option_map};
 ghost use Rattle.teb_names.specs.declared.Cell.{Cell};
 ghost use Rattle.teb_names.specs.declared.Txn.{Txn};
 ghost use Rattle.teb_names.specs.Cells.{same_cell};
-ghost use Rattle.version_chain.specs.Lists.{writers_of, is_writer, first_place, last_place, unless_below, set_value, without};
+ghost use Rattle.version_chain.specs.Lists.{writers_of, is_writer, first_place, last_place, unless_below, own_or_last as spec_own_or_last, set_value, without};
 
 use std::alloc::AllocError;
 use teb_names::{Cell, Txn};
+
+/// A version that was found, and its place in the chain of its cell.
+#[derive(Clone, Copy)]
+pub struct Found {
+    pub at: usize,
+    pub writer: Txn,
+    /// None where the row is deleted.
+    pub value: Option<i64>,
+}
 
 /// Versions by cell. A version is its writer and a value, None where the row is deleted; those of a cell stand in version
 /// order, the oldest at place 0. Contracts see a list for each cell, and how many versions may be placed without memory.
@@ -59,9 +69,10 @@ pub trait Chains: Drop {
     /// The last place whose writer f accepts. It is looked for from the last place down.
     fn last_where<F: Fn(Txn) -> bool>(&self, cell: Cell, f: &F) -> Option<usize>
         requires { (u : Txn) → IsTrue (is_writer (lists self.now cell) u.0) → F.pre f.now u }
-        ensures { (p : ℕ → Bool)
+        ensures place { (p : ℕ → Bool)
             → ((u : Txn) (b : Bool) → IsTrue (is_writer (lists self.now cell) u.0) → F.post f.now u b → b ≡ p u.0)
             → result ≡ last_place p (writers_of (lists self.now cell)) }
+        ensures within { IfSome result (λ i. i < length (lists self.now cell)) }
     {
         self.last_where_from(cell, 0, f)
     }
@@ -69,7 +80,29 @@ pub trait Chains: Drop {
     /// The last place whose writer f accepts, where it is `from` or above. Nothing below `from` is looked at.
     fn last_where_from<F: Fn(Txn) -> bool>(&self, cell: Cell, from: usize, f: &F) -> Option<usize>
         requires { (u : Txn) → IsTrue (is_writer (lists self.now cell) u.0) → F.pre f.now u }
-        ensures { (p : ℕ → Bool)
+        ensures place { (p : ℕ → Bool)
             → ((u : Txn) (b : Bool) → IsTrue (is_writer (lists self.now cell) u.0) → F.post f.now u b → b ≡ p u.0)
-            → result ≡ unless_below from (last_place p (writers_of (lists self.now cell))) };
+            → result ≡ unless_below from (last_place p (writers_of (lists self.now cell))) }
+        ensures within { IfSome result (λ i. i < length (lists self.now cell)) };
+
+    /// The version of a writer, or else the last one whose writer f accepts. Where the writer has one, f is not asked.
+    fn own_or_last<F: Fn(Txn) -> bool>(&self, cell: Cell, t: Txn, f: &F) -> Option<Found>
+        requires { IsFalse (is_writer (lists self.now cell) t.0) → (u : Txn) → IsTrue (is_writer (lists self.now cell) u.0) → F.pre f.now u }
+        ensures place { (p : ℕ → Bool)
+            → (IsFalse (is_writer (lists self.now cell) t.0) → (u : Txn) (b : Bool) → IsTrue (is_writer (lists self.now cell) u.0) → F.post f.now u b → b ≡ p u.0)
+            → option_map (λ v. v.at) result ≡ spec_own_or_last t.0 p (writers_of (lists self.now cell)) }
+        ensures version { IfSome result (λ v. slice_get (lists self.now cell) v.at ≡ Some (v.writer, v.value)) }
+    {
+        let place = match self.find(cell, t) {
+            Some(own) => Some(own),
+            None => self.last_where(cell, f),
+        };
+        match place {
+            Some(at) => {
+                let (writer, value) = self.at(cell, at);
+                Some(Found { at, writer, value })
+            }
+            None => None,
+        }
+    }
 }

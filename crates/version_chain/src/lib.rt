@@ -5,5 +5,5 @@ mod chains;
 mod plain;
 mod sorted;
 
-pub use chains::Chains;
+pub use chains::{Chains, Found};
 pub use plain::PlainChains;

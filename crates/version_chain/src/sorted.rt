@@ -1,6 +1,6 @@
 //! Stored versions in one slice, sorted by cell and, within a cell, in version order.
 
-ghost use Rattle.std.specs.Prelude.{◌≡◌, ◌<◌, ◌≤◌, ◌+◌, ℕ, Bool, length, map, IsTrue, IsFalse, eqb};
+ghost use Rattle.std.specs.Prelude.{◌≡◌, ◌<◌, ◌≤◌, ◌+◌, ℕ, Bool, length, map, IfSome, IsTrue, IsFalse, eqb};
 ghost use Rattle.teb_names.specs.declared.Txn.{Txn};
 ghost use Rattle.version_chain.specs.Lists.{writers_of, is_writer, first_place, last_place, unless_below};
 ghost use Rattle.version_chain.specs.Stored.{IsSortedByCell, IsRange, of_cell, version};
@@ -44,9 +44,10 @@ pub fn place_of(chain: &[Stored], t: Txn) -> Option<usize>
 /// The last place of a chain whose writer f accepts, where it is `from` or above.
 pub fn last_accepted<F: Fn(Txn) -> bool>(chain: &[Stored], from: usize, f: &F) -> Option<usize>
     requires { (u : Txn) → IsTrue (is_writer (map version chain.now) u.0) → F.pre f.now u }
-    ensures { (p : ℕ → Bool)
+    ensures place { (p : ℕ → Bool)
         → ((u : Txn) (b : Bool) → IsTrue (is_writer (map version chain.now) u.0) → F.post f.now u b → b ≡ p u.0)
         → result ≡ unless_below from (last_place p (writers_of (map version chain.now))) }
+    ensures within { IfSome result (λ i. i < length (map version chain.now)) }
 {
     let mut end = chain.len();
     while from < end {

@@ -21,8 +21,8 @@ accepts-requires g c =
     let same = c.pair_at.ensures ∙ ap (λ p. pair_at ps (previous_at ps p)) c.loop-above.invariant.place in
     subst (λ (u : Txn). g.F.Fn.pre c.args.f.now (u, tt)) (ap (λ k. (pair_at ps (steps (previous_at ps) k c.args.chain.first)).0) n ∙ sym (ap (λ v. v.0) same)) (c.requires.callable j lt)
 
-pub returns-then-accepts : goal.returns-then-accepts
-returns-then-accepts g c =
+pub returns-then-accepts-clause-found : goal.returns-then-accepts-clause-found
+returns-then-accepts-clause-found g c =
     let ps = c.args.places.now in
     let j = c.args.chain.len - 1 - c.loop-above.above in
     let lt : j < c.args.chain.len = omega (arith, c.loop-above-test.true, c.saturating_sub-above-end.ensures) in
@@ -36,8 +36,8 @@ returns-then-accepts g c =
           subst (λ i. g.F.Fn.post c.args.f.now ((pair_at ps (steps (previous_at ps) i c.args.chain.first)).0, tt) false) m (c.loop-above.invariant.refused (c.args.chain.len - 1 - k) (omega (arith, above, low, c.loop-above-test.true))),
     )
 
-pub returns : goal.returns
-returns g c k above low =
+pub returns-clause-found : goal.returns-clause-found
+returns-clause-found g c k above low =
     let ps = c.args.places.now in
     let m : c.args.chain.len - 1 - k + 1 ≡ c.args.chain.len - k = omega (arith, low) in
     subst (λ i. g.F.Fn.post c.args.f.now ((pair_at ps (steps (previous_at ps) i c.args.chain.first)).0, tt) false) m (c.loop-above.invariant.refused (c.args.chain.len - 1 - k) (omega (arith, above, low, c.loop-above-test.false, c.saturating_sub-above-end.ensures)))

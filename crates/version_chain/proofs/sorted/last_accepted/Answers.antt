@@ -24,8 +24,8 @@ accepts-requires g c =
     let m : Stored = record { cell = record { table = record { 0 = 0 }; key = 0 }; writer = record { 0 = 0 }; value = None } in
     subst (λ (u : Txn). g.F.Fn.pre c.args.f.now (u, tt)) (writer_of ms j m d lt) (c.requires _ (is_writer-at (map version ms) j d (omega (arith, lt, n))))
 
-pub returns-then-accepts : goal.returns-then-accepts
-returns-then-accepts g c p agrees =
+pub returns-then-accepts-clause-place : goal.returns-then-accepts-clause-place
+returns-then-accepts-clause-place g c p agrees =
     let ms = c.args.chain.now in
     let j = c.loop-end.end - 1 in
     let lt : j < length ms = omega (arith, c.loop-end.invariant.within, c.loop-end-test.true) in
@@ -40,10 +40,13 @@ returns-then-accepts g c p agrees =
           subst (λ (u : Txn). g.F.Fn.post c.args.f.now (u, tt) false) (sym (writer_of ms k (blank d) d inside)) (c.loop-end.invariant.refused k (blank d) (omega (arith, above, c.loop-end-test.true)) inside),
     )
 
-pub returns : goal.returns
-returns g c p agrees =
+pub returns-clause-place : goal.returns-clause-place
+returns-clause-place g c p agrees =
     let ms = c.args.chain.now in
     let n = length-map ms version in
     last_where_is (map version ms) p (λ u b. g.F.Fn.post c.args.f.now (u, tt) b) agrees c.args.from None (λ k d above low.
     let inside : k < length ms = omega (arith, low, n) in
     subst (λ (u : Txn). g.F.Fn.post c.args.f.now (u, tt) false) (sym (writer_of ms k (blank d) d inside)) (c.loop-end.invariant.refused k (blank d) (omega (arith, above, c.loop-end-test.false)) inside))
+
+pub returns-then-accepts-clause-within : goal.returns-then-accepts-clause-within
+returns-then-accepts-clause-within g c = omega (arith, c.loop-end.invariant.within, c.loop-end-test.true, length-map c.args.chain.now version)

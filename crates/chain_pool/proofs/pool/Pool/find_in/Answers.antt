@@ -3,14 +3,14 @@ use Rattle.version_chain.specs.Lists.{last_place, unless_below, writers_of}
 use Rattle.chain_pool.specs.declared.places.Head.{Head}
 use Rattle.chain_pool.specs.Linked.{versions}
 use Rattle.chain_pool.proofs.Chains.{find_last}
-use Rattle.chain_pool.proofs.pool.Pool.find.Goals as goal
+use Rattle.chain_pool.proofs.pool.Pool.find_in.Goals as goal
 
 pub last_in-requires-clause-chain : goal.last_in-requires-clause-chain
-last_in-requires-clause-chain c = (c.args.cell, c.head_of-chain.ensures)
+last_in-requires-clause-chain c = (c.args.cell, c.requires.chain)
 
 pub returns : goal.returns
 returns c =
     let ps = c.args.self.now.places.items in
-    c.last_in.ensures (λ w. eqb w c.args.t.0) (λ u b there called. search rules)
-    ∙ (ap (λ (h : Head). unless_below 0 (last_place (λ w. eqb w c.args.t.0) (writers_of (versions ps h)))) c.head_of-chain.ensures
+    c.last_in.ensures.place (λ w. eqb w c.args.t.0) (λ u b there called. search rules)
+    ∙ (ap (λ (h : Head). unless_below 0 (last_place (λ w. eqb w c.args.t.0) (writers_of (versions ps h)))) c.requires.chain
     ∙ find_last ps _ _ c.args.self.now.unused c.requires.sound.linked c.args.cell c.args.t.0)
