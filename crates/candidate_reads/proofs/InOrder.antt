@@ -2,7 +2,6 @@
 use Rattle.std.proofs.Common.{◌≡◌, ℕ, zero, suc, ◌<◌, Bool, true, false, cond, ◌||◌, max, eqb, List, [], ◌∷◌, length, get_or, slice_get, find, Option, Some, None, refl, sym, ap, ap₂, subst, ◌∙◌, arith, inl, inr, eqb-true, eq-eqb}
 use Rattle.std.proofs.lemmas.Bool.{both_ways, false_from_ne_true, or_cases, or_left, or_right}
 use Rattle.std.proofs.lemmas.Option.{slice_get-get_or}
-use Rattle.std.specs.List.{list_any}
 use Rattle.teb_rules.specs.Serializes.{In, Pairs}
 use Rattle.teb_rules.specs.Setup.{among}
 use Rattle.version_chain.specs.Lists.{first_place, last_place}

@@ -17,8 +17,8 @@ use Rattle.teb_laws.proofs.Locks.{In-txns}
 use Rattle.teb_laws.proofs.Serial.{In-filter, filter-In}
 use Rattle.teb_laws.proofs.ReadRule.{list_all_at, list_all_from, sees_parts}
 use Rattle.teb_laws.proofs.VersionOrder.{precedes_irreflexive}
-use Rattle.version_chain.specs.Lists.{Version, writers_of, first_place, last_place}
-use Rattle.version_chain.proofs.Places.{IsLast, last_place-found}
+use Rattle.version_chain.specs.Lists.{Version, writers_of, first_place, last_place, own_or_last}
+use Rattle.version_chain.proofs.Places.{IsLast, last_place-found, own_or_last_cases}
 use Rattle.phase_api.specs.Versions.{HoldsVersions, HaveLastValues, has_version}
 use Rattle.candidate_reads.proofs.InOrder.{among_In, In_among, at-In, In-at, Pairs-at, find_only, find_nothing, is_last, own_found, own_absent}
 use Rattle.candidate_reads.proofs.Shows.{version_parts}
@@ -135,10 +135,6 @@ module _ (S : Setup) (R : List (Cell × ℤ)) (H : List Event) (t : ℕ) (x : Ce
   not_wrote : aborted H t ≡ false → None ≡ first_place (λ w. eqb w t) (writers_of (L x)) → wrote H t x ≡ false
   not_wrote na e = false_from_ne_true _ (λ w. both_ways _ (own_absent (writers_of (L x)) t e) (h.writers x t ∙ and_from _ _ w (not_from_false _ na)))
 
-  -- who has no place has no version
-  pub no_version : None ≡ first_place (λ w. eqb w t) (writers_of (L x)) → has_version H x t ≡ false
-  no_version e = sym (h.writers x t) ∙ own_absent (writers_of (L x)) t e
-
   module _ (na : aborted H t ≡ false) (e : None ≡ first_place (λ w. eqb w t) (writers_of (L x))) where
     source_there : source S H t x ≡ writer_at (writers_of (L x)) (last_place (sees S H x t) (writers_of (L x)))
     source_there = source_place S H x t (writers_of (L x)) l (not_wrote na e) have held (h.order x)
@@ -151,9 +147,39 @@ module _ (S : Setup) (R : List (Cell × ℤ)) (H : List Event) (t : ℕ) (x : Ce
     pub read_row : None ≡ last_place (sees S H x t) (writers_of (L x)) → IsRead S R H t x 0 (row_of R x)
     read_row p = read_from_source S R H t x 0 (row_of R x) (source_there ∙ ap (writer_at (writers_of (L x))) (sym p)) refl
 
--- a place that a test gives is one of the list
-pub first_within : (vs : List Version) (t i : ℕ) → Some i ≡ first_place (λ w. eqb w t) (writers_of vs) → i < length vs
-first_within vs t i e = rw length-map at (own_found (writers_of vs) t i e).0
+  -- what is found of its own, or else of those that it sees, is what it reads
+  pub read_found : aborted H t ≡ false → (i : ℕ) (v : Version) → Some i ≡ own_or_last t (sees S H x t) (writers_of (L x)) → slice_get (L x) i ≡ Some v → IsRead S R H t x v.0.0 v.1
+  read_found na i v e g = elim (own_or_last_cases t (sees S H x t) (writers_of (L x)) (Some i) e) [
+    | inl own ↦ read_own i v own.0 g
+    | inr last ↦ read_seen na last.0 i v last.1 g
+  ]
 
+  -- and else it reads the starting row
+  pub read_nothing : aborted H t ≡ false → None ≡ own_or_last t (sees S H x t) (writers_of (L x)) → IsRead S R H t x 0 (row_of R x)
+  read_nothing na e = elim (own_or_last_cases t (sees S H x t) (writers_of (L x)) None e) [
+    | inl own ↦ absurd (own.1 refl)
+    | inr last ↦ read_row na last.0 last.1
+  ]
+
+-- the version at the place of t's own is t's, and that at a later place is not
+pub own_at : (vs : List Version) (t i : ℕ) (p : ℕ → Bool) (v : Version) → Some i ≡ own_or_last t p (writers_of vs) → slice_get vs i ≡ Some v → v.0.0 ≡ t → Some i ≡ first_place (λ w. eqb w t) (writers_of vs)
+own_at vs t i p v e g is = elim (own_or_last_cases t p (writers_of vs) (Some i) e) [
+  | inl own ↦ own.0
+  | inr last ↦ absurd (both_ways _ (own_absent (writers_of vs) t last.0) (In_among t (writers_of vs) (subst (λ (w : ℕ). In w (writers_of vs)) is (at-writer vs i v g).1)))
+]
+
+pub other_at : (vs : List Version) (t i : ℕ) (p : ℕ → Bool) (v : Version) → Some i ≡ own_or_last t p (writers_of vs) → slice_get vs i ≡ Some v → (v.0.0 ≡ t → ⊥) → (None ≡ first_place (λ w. eqb w t) (writers_of vs)) × (Some i ≡ last_place p (writers_of vs))
+other_at vs t i p v e g other = elim (own_or_last_cases t p (writers_of vs) (Some i) e) [
+  | inl own ↦ absurd (other (sym (at-writer vs i v g).0 ∙ get_or_from_slice_get (writers_of vs) i t 0 (own_found (writers_of vs) t i own.0).1))
+  | inr last ↦ last
+]
+
+pub nothing_at : (t : ℕ) (p : ℕ → Bool) (ws : List ℕ) → None ≡ own_or_last t p ws → (None ≡ first_place (λ w. eqb w t) ws) × (None ≡ last_place p ws)
+nothing_at t p ws e = elim (own_or_last_cases t p ws None e) [
+  | inl own ↦ absurd (own.1 refl)
+  | inr last ↦ last
+]
+
+-- a place that a test gives is one of the list
 pub last_within : (p : ℕ → Bool) (vs : List Version) (i : ℕ) → Some i ≡ last_place p (writers_of vs) → i < length vs
 last_within p vs i e = rw length-map at (is_last p (writers_of vs) (Some i) e).0

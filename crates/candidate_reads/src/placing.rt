@@ -1,11 +1,12 @@
 //! Where a transaction's version belongs.
 
-ghost use Rattle.std.specs.Prelude.{◌≡◌, slice_get, Some, IsTrue, IsFalse};
+ghost use Rattle.std.specs.Prelude.{◌≡◌, slice_get, Some, IfSome, IsTrue, IsFalse};
+ghost use Rattle.std.specs.Option.{option_map};
 ghost use Rattle.teb_history.specs.Phases.{aborted};
 ghost use Rattle.teb_rules.specs.Versions.{precedes};
 ghost use Rattle.teb_laws.specs.TreeFacts.{TreeFacts};
 ghost use Rattle.teb_laws.specs.Lawful.{Lawful};
-ghost use Rattle.version_chain.specs.Lists.{writers_of, is_writer, last_place};
+ghost use Rattle.version_chain.specs.Lists.{writers_of, is_writer, own_or_last};
 ghost use Rattle.phase_api.specs.FactsView.{setup_of, events_of, IsTyped};
 ghost use Rattle.phase_api.specs.Calls.{Writes};
 ghost use Rattle.phase_api.specs.Versions.{HoldsVersions, IsPlaceOf, has_version};
@@ -15,7 +16,7 @@ ghost use Rattle.candidate_reads.specs.Asked.{AreAsked, MayPut};
 use crate::node_control::control_between;
 use phase_api::{Control, Facts};
 use teb_names::{Cell, ControlKind, Txn};
-use version_chain::Chains;
+use version_chain::{Chains, Found};
 
 /// A place in the chain of a cell for the version of a transaction.
 #[derive(Clone, Copy)]
@@ -53,19 +54,17 @@ pub fn place_of<K: Control, C: Chains>(
     ensures own { IsTrue (is_writer (C.lists chains.now cell) t.0) → slice_get (writers_of (C.lists chains.now cell)) result.at ≡ Some t.0 }
     ensures there { result.is_there ≡ is_writer (C.lists chains.now cell) t.0 }
 {
-    if let Some(own) = chains.find(cell, t) {
-        return Place {
-            at: own,
-            is_there: true,
-        };
-    }
     let begun = facts.history.begun();
-    match last_before(controls, chains, facts, t, cell) {
-        Some(last) => {
+    match own_or_before(controls, chains, facts, t, cell) {
+        Some(found) if found.writer == t => Place {
+            at: found.at,
+            is_there: true,
+        },
+        Some(found) => {
             // A cell has at most one version of each transaction.
-            prove!(last <= begun as usize);
+            prove!(found.at <= begun as usize);
             Place {
-                at: last + 1,
+                at: found.at + 1,
                 is_there: false,
             }
         }
@@ -73,20 +72,23 @@ pub fn place_of<K: Control, C: Chains>(
     }
 }
 
-// The place of the last version that is before the one that t is about to put.
-fn last_before<K: Control, C: Chains>(
+// The version of t, or else the last one that is before the one that t is about to put.
+fn own_or_before<K: Control, C: Chains>(
     controls: &[K],
     chains: &C,
     facts: &Facts,
     t: Txn,
     cell: Cell,
-) -> Option<usize>
+) -> Option<Found>
     requires asked { AreAsked K.node_number K.stands controls.now facts.now }
     requires chains { HoldsVersions (setup_of facts.now) (events_of facts.now) (C.lists chains.now) }
-    requires put { MayPut facts.now t.0 cell }
-    ensures { result ≡ last_place (λ w. precedes (setup_of facts.now) (events_of facts.now) cell w t.0) (writers_of (C.lists chains.now cell)) }
+    requires typed { IsTyped facts.now t.0 }
+    requires kept { IsFalse (aborted (events_of facts.now) t.0) }
+    requires writes { Writes (events_of facts.now) t.0 cell }
+    ensures place { option_map (λ v. v.at) result ≡ own_or_last t.0 (λ w. precedes (setup_of facts.now) (events_of facts.now) cell w t.0) (writers_of (C.lists chains.now cell)) }
+    ensures version { IfSome result (λ v. slice_get (C.lists chains.now cell) v.at ≡ Some (v.writer, v.value)) }
 {
-    chains.last_where(cell, &|w: Txn| is_before(controls, facts, w, t, cell))
+    chains.own_or_last(cell, t, &|w: Txn| is_before(controls, facts, w, t, cell))
 }
 
 // Whether the version of w is before the one that t is about to put. It costs the same, however much w has done.

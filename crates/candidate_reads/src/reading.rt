@@ -1,11 +1,12 @@
 //! What a transaction reads.
 
-ghost use Rattle.std.specs.Prelude.{◌≡◌, IsTrue, IsFalse};
+ghost use Rattle.std.specs.Prelude.{◌≡◌, slice_get, Some, IfSome, IsTrue, IsFalse};
+ghost use Rattle.std.specs.Option.{option_map};
 ghost use Rattle.teb_history.specs.Phases.{aborted};
 ghost use Rattle.teb_rules.specs.Versions.{read, sees};
 ghost use Rattle.teb_laws.specs.TreeFacts.{TreeFacts};
 ghost use Rattle.teb_laws.specs.Lawful.{Lawful};
-ghost use Rattle.version_chain.specs.Lists.{writers_of, last_place};
+ghost use Rattle.version_chain.specs.Lists.{writers_of, own_or_last};
 ghost use Rattle.phase_api.specs.FactsView.{setup_of, events_of, IsTyped};
 ghost use Rattle.phase_api.specs.Versions.{HoldsVersions, has_version};
 ghost use Rattle.phase_api.specs.Standing.{StandAll};
@@ -14,7 +15,7 @@ ghost use Rattle.candidate_reads.specs.Asked.{AreAsked, ReadsOthers};
 use crate::node_control::control_between;
 use phase_api::{Control, Facts};
 use teb_names::{Cell, Rows, Txn};
-use version_chain::Chains;
+use version_chain::{Chains, Found};
 
 /// Whose version of a cell t reads, and its value: its own, or else the last one that it sees, or else the starting row, whose
 /// writer is 0. The value is none where there is no row.
@@ -35,30 +36,29 @@ pub fn read<K: Control, C: Chains>(
     ensures source { result.0.0 ≡ (read (setup_of facts.now) rows.now (events_of facts.now) t.0 cell).0 }
     ensures value { result.1 ≡ (read (setup_of facts.now) rows.now (events_of facts.now) t.0 cell).1 }
 {
-    if let Some(own) = chains.find(cell, t) {
-        return chains.at(cell, own);
-    }
-    match last_seen(controls, chains, facts, t, cell) {
-        Some(i) => chains.at(cell, i),
+    match own_or_seen(controls, chains, facts, t, cell) {
+        Some(found) => (found.writer, found.value),
         None => (Txn(0), rows.get(cell)),
     }
 }
 
-// The place of the last version that t sees, where it has none of its own. The versions are asked for one by one from the last
-// one on, so that a read costs those that t does not see.
-fn last_seen<K: Control, C: Chains>(
+// The version of t, or else the last one that it sees. The versions are asked for one by one from the last one on, so that a
+// read costs those that t does not see.
+fn own_or_seen<K: Control, C: Chains>(
     controls: &[K],
     chains: &C,
     facts: &Facts,
     t: Txn,
     cell: Cell,
-) -> Option<usize>
+) -> Option<Found>
     requires asked { AreAsked K.node_number K.stands controls.now facts.now }
     requires chains { HoldsVersions (setup_of facts.now) (events_of facts.now) (C.lists chains.now) }
-    requires reads { ReadsOthers facts.now t.0 cell }
-    ensures { result ≡ last_place (sees (setup_of facts.now) (events_of facts.now) cell t.0) (writers_of (C.lists chains.now cell)) }
+    requires typed { IsTyped facts.now t.0 }
+    requires kept { IsFalse (aborted (events_of facts.now) t.0) }
+    ensures place { option_map (λ v. v.at) result ≡ own_or_last t.0 (sees (setup_of facts.now) (events_of facts.now) cell t.0) (writers_of (C.lists chains.now cell)) }
+    ensures version { IfSome result (λ v. slice_get (C.lists chains.now cell) v.at ≡ Some (v.writer, v.value)) }
 {
-    chains.last_where(cell, &|w: Txn| is_seen(controls, facts, t, w, cell))
+    chains.own_or_last(cell, t, &|w: Txn| is_seen(controls, facts, t, w, cell))
 }
 
 // Whether t sees the version of the writer w, which the node where the two meet tells.

@@ -1,8 +1,9 @@
 -- What contracts see of a tree, and how numbers stand in it.
-use Rattle.std.specs.Prelude.{ℕ, List, map, Option, Some, None}
+use Rattle.std.specs.Prelude.{ℕ, cond, List, map, Option, Some, None}
 use Rattle.teb_names.specs.declared.Kind.{Kind}
 use Rattle.teb_names.specs.declared.Node.{Node}
-use Rattle.teb_rules.specs.Setup.{NodeRow}
+use Rattle.teb_rules.specs.Setup.{NodeRow, among}
+use Rattle.teb_rules.specs.Tree.{next_of}
 use Rattle.cc_tree.specs.declared.rows.NodeRow.{NodeRow as Row}
 
 -- the rows of a tree, and for how many types it was built
@@ -31,3 +32,7 @@ rows_of rs = map row_of rs
 abbrev pub side_number : Option Node → ℕ → ℕ
 side_number None own = own
 side_number (Some m) own = m.0
+
+-- the side of n on a path, for a transaction with the number own; none where n is not on it
+abbrev pub side_found : ℕ → ℕ → List ℕ → Option ℕ
+side_found n own ns = cond (among n ns) (Some (next_of n own ns)) None

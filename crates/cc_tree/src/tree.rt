@@ -1,6 +1,6 @@
 //! An accepted tree with the path to each leaf.
 
-ghost use Rattle.std.specs.Prelude.{◌≡◌, ◌↔◌, ◌<◌, ◌≤◌, ℕ, length, None, IfSome, IsTrue};
+ghost use Rattle.std.specs.Prelude.{◌≡◌, ◌↔◌, ◌<◌, ◌≤◌, ℕ, length, cond, Some, None, IfSome, IsTrue};
 ghost use Rattle.std.specs.List.{All};
 ghost use Rattle.cc_tree.specs.Answers.{Answers};
 ghost use Rattle.cc_tree.specs.Grown.{node_numbers, row_of, rows_of, side_number};
@@ -108,6 +108,16 @@ impl Tree {
         ensures within { IfSome result (λ m. m.0 < length self.now.rows) }
     {
         path::next_on(self.path(s), n)
+    }
+
+    /// The number of the side of a node on which a transaction is that has this spot and the number `own`: the child's above
+    /// its leaf, and its own at the leaf. None exactly where the node is not on its path.
+    #[tactic(auto, unfolding(teb_rules::specs::Tree::on_path, teb_rules::specs::Tree::side_at))]
+    pub fn side_on(&self, n: Node, s: Spot, own: u32) -> Option<u32>
+        requires { s.kind.0 < self.now.types }
+        ensures { result ≡ cond (on_path self.now.rows n.0 s) (Some (side_at self.now.rows n.0 s own)) None }
+    {
+        path::side_on(self.path(s), n, own)
     }
 
     /// The lowest node on the paths of two spots: the node at which two transactions with these spots meet.

@@ -1,6 +1,6 @@
 //! What controls are told.
 
-ghost use Rattle.std.specs.Prelude.{◌≡◌, IfSome, IsSome, IsNone, IsTrue, ◌↔◌};
+ghost use Rattle.std.specs.Prelude.{◌≡◌, ◌↔◌, ◌&&◌, not, eqb, cond, Some, None, IfSome, IsSome, IsTrue};
 
 use cc_tree::Tree;
 use teb_history::History;
@@ -55,12 +55,37 @@ impl<'a> Facts<'a> {
         }
     }
 
+    /// The number of the side of a node on which a transaction is; none where the node is not on its path.
+    pub fn side_on(&self, n: Node, t: Txn) -> Option<u32>
+        requires { IsTyped self.now t.0 }
+        ensures { result ≡ cond (on (setup_of self.now) (events_of self.now) n.0 t.0) (Some (side (setup_of self.now) (events_of self.now) n.0 t.0)) None }
+    {
+        match self.spot(t) {
+            Some(spot) => self.tree.side_on(n, spot, t.0),
+            None => None,
+        }
+    }
+
     /// Whether two transactions meet at a node: it is on the paths of both, and they are on different sides of it.
     pub fn meet_at(&self, n: Node, t: Txn, u: Txn) -> bool
         requires left { IsTyped self.now t.0 }
         requires right { IsTyped self.now u.0 }
         ensures { result ≡ meets (setup_of self.now) (events_of self.now) n.0 t.0 u.0 }
     {
-        self.is_on(n, t) && self.is_on(n, u) && self.side(n, t) != self.side(n, u)
+        match self.side_on(n, t) {
+            Some(own) => self.is_across(n, own, u),
+            None => false,
+        }
+    }
+
+    // Whether a node is on the path of a transaction, which is on another side of it than `own`.
+    fn is_across(&self, n: Node, own: u32, u: Txn) -> bool
+        requires { IsTyped self.now u.0 }
+        ensures { result ≡ (on (setup_of self.now) (events_of self.now) n.0 u.0 && not (eqb own (side (setup_of self.now) (events_of self.now) n.0 u.0))) }
+    {
+        match self.side_on(n, u) {
+            Some(other) => own != other,
+            None => false,
+        }
     }
 }
