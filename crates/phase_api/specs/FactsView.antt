@@ -1,5 +1,5 @@
 -- What facts tell, in the words of the rules.
-use Rattle.std.specs.Prelude.{◌≡◌, ◌<◌, ◌≤◌, ℕ, List, IsTrue}
+use Rattle.std.specs.Prelude.{◌<◌, ◌≤◌, ℕ, List, IsTrue}
 use Rattle.teb_names.specs.declared.Cell.{Cell}
 use Rattle.teb_history.specs.declared.Event.{Event}
 use Rattle.teb_history.specs.Phases.{begun, kind_of, begun_count}
