@@ -43,8 +43,8 @@ returns-in-Some-place-clause-place g c p agrees =
     sym c.in-Some-place.is ∙ elim c.match-find_in.branch [
       | in-Some w ↦ w.place-is ∙ own_is vs c.args.t.0 w.in-Some.own p w.in-Some.ensures
       | in-None w ↦ w.place-is ∙ other_is vs c.args.t.0 _ p w.in-None.ensures
-        (w.last_in-place.ensures.place p (λ u b there answers. agrees (is_writer-none vs c.args.t.0 w.in-None.ensures) u b (ap (λ (h : Head). is_writer (ws h) u.0) (sym is) ∙ there) answers)
-        ∙ (ap (λ (h : Head). unless_below 0 (last_place p (writers_of (ws h)))) is ∙ from_front (last_place p (writers_of vs))))
+          (w.last_in-place.ensures.place p (λ u b there answers. agrees (is_writer-none vs c.args.t.0 w.in-None.ensures) u b (ap (λ (h : Head). is_writer (ws h) u.0) (sym is) ∙ there) answers)
+          ∙ (ap (λ (h : Head). unless_below 0 (last_place p (writers_of (ws h)))) is ∙ from_front (last_place p (writers_of vs))))
     ]
 
 pub returns-in-None-place-clause-place : goal.returns-in-None-place-clause-place
@@ -55,8 +55,8 @@ returns-in-None-place-clause-place g c p agrees =
     sym c.in-None-place.is ∙ elim c.match-find_in.branch [
       | in-Some w ↦ w.place-is ∙ own_is vs c.args.t.0 w.in-Some.own p w.in-Some.ensures
       | in-None w ↦ w.place-is ∙ other_is vs c.args.t.0 _ p w.in-None.ensures
-        (w.last_in-place.ensures.place p (λ u b there answers. agrees (is_writer-none vs c.args.t.0 w.in-None.ensures) u b (ap (λ (h : Head). is_writer (ws h) u.0) (sym is) ∙ there) answers)
-        ∙ (ap (λ (h : Head). unless_below 0 (last_place p (writers_of (ws h)))) is ∙ from_front (last_place p (writers_of vs))))
+          (w.last_in-place.ensures.place p (λ u b there answers. agrees (is_writer-none vs c.args.t.0 w.in-None.ensures) u b (ap (λ (h : Head). is_writer (ws h) u.0) (sym is) ∙ there) answers)
+          ∙ (ap (λ (h : Head). unless_below 0 (last_place p (writers_of (ws h)))) is ∙ from_front (last_place p (writers_of vs))))
     ]
 
 pub returns-in-Some-place-clause-version : goal.returns-in-Some-place-clause-version
