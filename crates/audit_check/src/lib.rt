@@ -56,6 +56,6 @@ fn check_lines(alloc: Global, lines: &[Line]) -> Result<(), AuditError>
     check_txns(alloc, lines)?;
     check_order(alloc, lines)?;
     check_after(alloc, lines)?;
-    let table = check_reads(alloc, lines)?;
-    check_rows(alloc, &table, lines)
+    let replay = check_reads(alloc, lines)?;
+    check_rows(alloc, &replay.table, lines)
 }

@@ -17,22 +17,31 @@ use super::table::{Table, put, starting_table, value_at};
 use std::alloc::{AllocError, Global};
 
 /// What the order gives: the last table, and for each line whether it is a read that is wrong.
-#[derive(Drop)]
-struct Replay<'a> {
-    table: Table<'a>,
+pub struct Replay<'a> {
+    pub table: Table<'a>,
     wrong: Vec<bool>,
 }
 
-/// Looks for the first read that is wrong; answers the last table.
-pub fn check_reads<'a>(alloc: Global, lines: &[Line<'a>]) -> Result<Table<'a>, AuditError>
+/// A call of its own, as for a table.
+impl<'a> Drop for Replay<'a> {
+    fn drop(self) {
+        let Replay {
+            table: _table,
+            wrong: _wrong,
+        } = self;
+    }
+}
+
+/// Looks for the first read that is wrong; answers what the order gives.
+pub fn check_reads<'a>(alloc: Global, lines: &[Line<'a>]) -> Result<Replay<'a>, AuditError>
     requires few { length lines.now < 2 ^ 32 }
     requires once { are_distinct (order_in (views lines.now)) ≡ true }
     ensures read { Finds Read (wrong_read (views lines.now)) (views lines.now) result }
-    ensures table { IfOk result (λ t. HoldsTable t.entries (last_table (views lines.now))) }
+    ensures table { IfOk result (λ r. HoldsTable r.table.values.entries (last_table (views lines.now))) }
 {
     let replay = replayed(alloc, lines)?;
     first_wrong(lines, &replay.wrong)?;
-    Ok(replay.table)
+    Ok(replay)
 }
 
 /// The first line that is marked.
@@ -54,7 +63,7 @@ fn replayed<'a>(alloc: Global, lines: &[Line<'a>]) -> Result<Replay<'a>, AllocEr
     requires few { length lines.now < 2 ^ 32 }
     requires once { are_distinct (order_in (views lines.now)) ≡ true }
     ensures length { IfOk result (λ r. length r.wrong.items ≡ length lines.now) }
-    ensures replays { IfOk result (λ r. Replays (order_in (views lines.now)) lines.now r.table.entries r.wrong.items) }
+    ensures replays { IfOk result (λ r. Replays (order_in (views lines.now)) lines.now r.table.values.entries r.wrong.items) }
 {
     let own = own_lines(alloc, lines)?;
     let mut replay = Replay {
@@ -110,7 +119,7 @@ fn run<'a>(
     requires own { (t : ℕ) → list_at own.now t ≡ own_from t 0 lines.now }
     requires all { length replay.old.wrong.items ≡ length lines.now }
     ensures length { OnOk result (length replay.new.wrong.items ≡ length lines.now) }
-    ensures runs { OnOk result ((T : Values) → HoldsTable replay.old.table.entries T → RunsTo (length lines.now) txn lines.now T replay.old.wrong.items replay.new.table.entries replay.new.wrong.items) }
+    ensures runs { OnOk result ((T : Values) → HoldsTable replay.old.table.values.entries T → RunsTo (length lines.now) txn lines.now T replay.old.wrong.items replay.new.table.values.entries replay.new.wrong.items) }
 {
     for at in list_at(own, txn) {
         let i = *at as usize;
@@ -123,7 +132,7 @@ fn run<'a>(
 fn step<'a>(replay: &mut Replay<'a>, line: &Line<'a>, i: usize) -> Result<(), AllocError>
     requires { i < length replay.old.wrong.items }
     ensures length { OnOk result (length replay.new.wrong.items ≡ length replay.old.wrong.items) }
-    ensures steps { OnOk result ((T : Values) → HoldsTable replay.old.table.entries T → StepsLine T (line_view line.now) i replay.old.wrong.items replay.new.table.entries replay.new.wrong.items) }
+    ensures steps { OnOk result ((T : Values) → HoldsTable replay.old.table.values.entries T → StepsLine T (line_view line.now) i replay.old.wrong.items replay.new.table.values.entries replay.new.wrong.items) }
 {
     match line {
         Line::Got { row_key, value, .. } => {

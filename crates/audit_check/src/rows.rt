@@ -23,7 +23,7 @@ pub fn check_rows<'a>(
     lines: &[Line<'a>],
 ) -> Result<(), AuditError>
     requires few { length lines.now < 2 ^ 32 }
-    requires table { HoldsTable table.now.entries (last_table (views lines.now)) }
+    requires table { HoldsTable table.now.values.entries (last_table (views lines.now)) }
     ensures { Finds Row (wrong_row (views lines.now)) (views lines.now) result }
 {
     let mut seen = IndexSet::new(alloc);
@@ -38,7 +38,7 @@ fn see_rows<'a>(
 ) -> Result<(), AuditError>
     requires none { seen.old.keys ≡ [] }
     requires few { length lines.now < 2 ^ 32 }
-    requires table { HoldsTable table.now.entries (last_table (views lines.now)) }
+    requires table { HoldsTable table.now.values.entries (last_table (views lines.now)) }
     ensures { Finds Row (wrong_row (views lines.now)) (views lines.now) result }
 {
     for i in 0..lines.len() {
@@ -73,7 +73,7 @@ fn see_row_key<'a>(
 
 /// Whether the line is no row that is wrong, and no end where one is missing.
 fn is_right(table: &Table, seen: &IndexSet<RowKey>, lines: &[Line], line: &Line) -> bool
-    requires { HoldsTable table.now.entries (last_table (views lines.now)) }
+    requires { HoldsTable table.now.values.entries (last_table (views lines.now)) }
     ensures { (past : List Item) → SeesRows seen.now.keys past → result ≡ not (wrong_row (views lines.now) past (line_view line.now)) }
 {
     match line {
@@ -85,7 +85,7 @@ fn is_right(table: &Table, seen: &IndexSet<RowKey>, lines: &[Line], line: &Line)
 
 /// Whether a row of the table has not been seen.
 fn any_missing(table: &Table, seen: &IndexSet<RowKey>, lines: &[Line]) -> bool
-    requires { HoldsTable table.now.entries (last_table (views lines.now)) }
+    requires { HoldsTable table.now.values.entries (last_table (views lines.now)) }
     ensures { (past : List Item) → SeesRows seen.now.keys past → result ≡ list_any (is_missing (views lines.now) past) (row_keys_in (views lines.now)) }
 {
     for i in 0..lines.len() {
@@ -98,7 +98,7 @@ fn any_missing(table: &Table, seen: &IndexSet<RowKey>, lines: &[Line]) -> bool
 
 /// Whether the line is of a row key that has a row and has not been seen.
 fn misses(table: &Table, seen: &IndexSet<RowKey>, line: &Line) -> bool
-    ensures { (H : List Item) (past : List Item) → HoldsTable table.now.entries (last_table H) → SeesRows seen.now.keys past → result ≡ row_key_passes (is_missing H past) (line_view line.now) }
+    ensures { (H : List Item) (past : List Item) → HoldsTable table.now.values.entries (last_table H) → SeesRows seen.now.keys past → result ≡ row_key_passes (is_missing H past) (line_view line.now) }
 {
     match line {
         Line::Start(row_key, _) => misses_row_key(table, seen, *row_key),
@@ -109,7 +109,7 @@ fn misses(table: &Table, seen: &IndexSet<RowKey>, line: &Line) -> bool
 
 #[tactic(auto, using(crate::proofs::RowSteps::missed))]
 fn misses_row_key(table: &Table, seen: &IndexSet<RowKey>, row_key: RowKey) -> bool
-    ensures { (H : List Item) (past : List Item) → HoldsTable table.now.entries (last_table H) → SeesRows seen.now.keys past → result ≡ is_missing H past (row_key_view row_key.entry) }
+    ensures { (H : List Item) (past : List Item) → HoldsTable table.now.values.entries (last_table H) → SeesRows seen.now.keys past → result ≡ is_missing H past (row_key_view row_key.entry) }
 {
     let has_row = value_at(table, row_key).is_some();
     let was_seen = sees(seen, row_key);

@@ -10,14 +10,25 @@ use super::line::{Line, RowKey};
 use indexmap::IndexMap;
 use std::alloc::{AllocError, Global};
 
-/// A row key may be there without a row.
-pub type Table<'a> = IndexMap<RowKey<'a>, Option<i64>>;
+/// The values of rows, by row key. A row key may be there without a row.
+pub struct Table<'a> {
+    values: IndexMap<RowKey<'a>, Option<i64>>,
+}
+
+/// A call of its own, so that no owner has to prove anew how a table is dropped.
+impl<'a> Drop for Table<'a> {
+    fn drop(self) {
+        let Table { values: _values } = self;
+    }
+}
 
 /// The starting rows.
 pub fn starting_table<'a>(alloc: Global, lines: &[Line<'a>]) -> Result<Table<'a>, AllocError>
-    ensures { IfOk result (λ t. HoldsTable t.entries (starts_in (views lines.now))) }
+    ensures { IfOk result (λ t. HoldsTable t.values.entries (starts_in (views lines.now))) }
 {
-    let mut table = IndexMap::new(alloc);
+    let mut table = Table {
+        values: IndexMap::new(alloc),
+    };
     for i in 0..lines.len() {
         put_start(&mut table, &lines[i])?;
     }
@@ -25,7 +36,7 @@ pub fn starting_table<'a>(alloc: Global, lines: &[Line<'a>]) -> Result<Table<'a>
 }
 
 fn put_start<'a>(table: &mut Table<'a>, line: &Line<'a>) -> Result<(), AllocError>
-    ensures { OnOk result ((past : List Item) → HoldsTable table.old.entries (starts_in past) → HoldsTable table.new.entries (starts_in (line_view line.now ∷ past))) }
+    ensures { OnOk result ((past : List Item) → HoldsTable table.old.values.entries (starts_in past) → HoldsTable table.new.values.entries (starts_in (line_view line.now ∷ past))) }
 {
     match line {
         Line::Start(row_key, value) => put(table, *row_key, Some(*value)),
@@ -39,17 +50,17 @@ pub fn put<'a>(
     row_key: RowKey<'a>,
     value: Option<i64>,
 ) -> Result<(), AllocError>
-    ensures { OnOk result ((T : Values) → HoldsTable table.old.entries T → HoldsTable table.new.entries (put_at (row_key_view row_key.entry) value T)) }
+    ensures { OnOk result ((T : Values) → HoldsTable table.old.values.entries T → HoldsTable table.new.values.entries (put_at (row_key_view row_key.entry) value T)) }
 {
-    table.insert(row_key, value)?;
+    table.values.insert(row_key, value)?;
     Ok(())
 }
 
 /// The value at a row key; none where there is no row.
 pub fn value_at(table: &Table, row_key: RowKey) -> Option<i64>
-    ensures { result ≡ value_at table.now.entries row_key.entry }
+    ensures { result ≡ value_at table.now.values.entries row_key.entry }
 {
-    match table.get(&row_key) {
+    match table.values.get(&row_key) {
         Some(value) => *value,
         None => None,
     }

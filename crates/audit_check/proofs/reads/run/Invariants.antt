@@ -9,5 +9,5 @@ invariant-loop-at l = record {
   to : ℕ;
   within : to ≤ length l.lines;
   rest : own_from l.txn to (drop to l.lines) ≡ drop l.at-index l.at-items;
-  runs : (T : Values) → HoldsTable l.initial.replay.table.entries T → RunsTo to l.txn l.lines T l.initial.replay.wrong.items l.replay.table.entries l.replay.wrong.items;
+  runs : (T : Values) → HoldsTable l.initial.replay.table.values.entries T → RunsTo to l.txn l.lines T l.initial.replay.wrong.items l.replay.table.values.entries l.replay.wrong.items;
 }

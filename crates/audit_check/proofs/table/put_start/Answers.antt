@@ -11,7 +11,7 @@ use Rattle.audit_check.proofs.table.put_start.Goals as goal
 pub returns-in-Start : goal.returns-in-Start
 returns-in-Start c =
     let fits : FitsSigned w64 c.in-Start.value = search rules in
-    let entries = c.put.new.table.entries in
+    let entries = c.put.new.table.values.entries in
     let x = row_key_view c.in-Start.row_key in
     on_ok_weaker c.put.result
     (λ puts past held. rw c.in-Start.is (start_held entries x c.in-Start.value past
