@@ -138,7 +138,10 @@ pub fn all_known(list: ListName, format: u8, table: &Table) -> bool
 fn is_top_key(key: &str) -> bool
     ensures { result ≡ has (keys_of Top 0) key.now }
 {
-    key == "format" || key == "tables" || key == "type" || key == "node" || key == "row"
+    match key {
+        "format" | "tables" | "type" | "node" | "row" => true,
+        _ => false,
+    }
 }
 
 #[tactic(auto, unfolding(crate::specs::Fields::keys_of))]

@@ -24,16 +24,12 @@ pub fn read_control(entry: &Table) -> Result<ControlKind, FieldWhy>
 fn control_named(word: &str) -> Result<ControlKind, FieldWhy>
     ensures { result ≡ spec_control_named word.now }
 {
-    if word == "locks" {
-        Ok(ControlKind::Locks)
-    } else if word == "pipeline" {
-        Ok(ControlKind::Pipeline)
-    } else if word == "timestamp" {
-        Ok(ControlKind::Timestamp)
-    } else if word == "snapshot" {
-        Ok(ControlKind::Snapshot)
-    } else {
-        Err(FieldWhy::NoSuch)
+    match word {
+        "locks" => Ok(ControlKind::Locks),
+        "pipeline" => Ok(ControlKind::Pipeline),
+        "timestamp" => Ok(ControlKind::Timestamp),
+        "snapshot" => Ok(ControlKind::Snapshot),
+        _ => Err(FieldWhy::NoSuch),
     }
 }
 
@@ -100,11 +96,9 @@ pub fn read_commit(entry: &Table) -> Result<bool, FieldWhy>
 fn commit_named(word: &str) -> Result<bool, FieldWhy>
     ensures { result ≡ spec_commit_named word.now }
 {
-    if word == "free" {
-        Ok(false)
-    } else if word == "ordered" {
-        Ok(true)
-    } else {
-        Err(FieldWhy::NoSuch)
+    match word {
+        "free" => Ok(false),
+        "ordered" => Ok(true),
+        _ => Err(FieldWhy::NoSuch),
     }
 }
