@@ -14,6 +14,8 @@ A run is a line of the table in runs/FOLDER/README.md. Its columns:
              a text that the command audit answers by yes
     Input    another file for the input, seen from the folder. A folder cannot be read. "prefixes of FILE": a run for each of them
     Output   another file for the output
+    Fails    `read`: the read behind the last byte of the input fails, in place of finding the end
+    Room     how many bytes the output takes, and then each write fails; `less than the text`: a run for each such number
     Formats  the formats that the run is made in: each takes the place of the input's own
     Times    how often it is run
     Line     the last line of the input, to be read beside the text
@@ -27,7 +29,9 @@ import dataclasses
 import os
 import pathlib
 import re
+import resource
 import shlex
+import socket
 import subprocess
 import sys
 import tempfile
@@ -66,11 +70,13 @@ class Run:
     input: object  # the bytes, or the path of what cannot be read
     output: pathlib.Path = None
     times: int = 1
+    breaks: bool = False  # whether the input ends in a fault
+    room: int = None  # how many bytes the output takes
 
     def differs(self, program):
         """Runs it, and returns why it failed, or None."""
         for _ in range(self.times):
-            why = self.wrong(*ended(program, self.words, self.input, self.output), program)
+            why = self.wrong(*ended(program, self.words, self.input, self.output, self.breaks, self.room), program)
             if why:
                 return why
         return None
@@ -86,9 +92,14 @@ class Run:
         return None if text == self.text else difference(self.text, text)
 
 
-def ended(program, words, data=b"", output=None):
+def ended(program, words, data=b"", output=None, breaks=False, room=None):
     """Runs the program, and returns its status and what it wrote. A status below 0 is the signal that ended it."""
-    source = {"input": data} if isinstance(data, bytes) else {"stdin": os.open(data, os.O_RDONLY)}
+    if room is not None:
+        return ended_in(program, words, data, room)
+    if breaks:
+        source = {"stdin": broken_off(data)}
+    else:
+        source = {"input": data} if isinstance(data, bytes) else {"stdin": os.open(data, os.O_RDONLY)}
     sink = open(output, "wb") if output else subprocess.PIPE
     try:
         ran = subprocess.run([program, *words], stdout=sink, stderr=subprocess.DEVNULL, timeout=SECONDS, **source)
@@ -100,6 +111,26 @@ def ended(program, words, data=b"", output=None):
             os.close(source["stdin"])
         if output:
             sink.close()
+
+
+def ended_in(program, words, data, room):
+    """The same, where the output is a file that takes so many bytes, of a process that is not ended by a write beyond them."""
+    with tempfile.TemporaryFile() as sink:
+        ran = subprocess.run(
+            [program, *words], input=data, stdout=sink, stderr=subprocess.DEVNULL, timeout=SECONDS, restore_signals=False,
+            preexec_fn=lambda: resource.setrlimit(resource.RLIMIT_FSIZE, (room, room)),
+        )
+        sink.seek(0)
+        return ran.returncode, sink.read()
+
+
+def broken_off(data):
+    """A descriptor that gives these few bytes, and then fails: a socket whose other end was closed with bytes unread."""
+    near, far = socket.socketpair()
+    near.send(b"unread")
+    far.sendall(data)
+    far.close()
+    return near.detach()
 
 
 def shown(text):
@@ -181,7 +212,11 @@ def runs_of(folder):
             "text": text_of(folder, row, used),
             "output": folder / row["Output"].strip("`") if row.get("Output") else None,
             "times": int(row.get("Times") or 1),
+            "breaks": row.get("Fails") == "`read`",
         }
+        if row.get("Room"):
+            yield from in_rooms(Run(name, input=inputs_of(folder, row, used)[0], **common), row["Room"])
+            continue
         for data in inputs_of(folder, row, used):
             if "Line" in row and plain(row["Line"]) != data.removesuffix(b"\n").split(b"\n")[-1]:
                 yield broken(f"{name}: the last line of its input is another one than the table says")
@@ -189,6 +224,12 @@ def runs_of(folder):
             yield from (Run(named, input=changed, **common) for named, changed in variants(row, of, data))
     for file in sorted(set(folder.iterdir()) - used):
         yield broken(f"{folder.name}/{file.name} belongs to no run")
+
+
+def in_rooms(run, room):
+    """A run whose output takes so many bytes, or one for each number below the length of its text."""
+    for room in range(len(run.text)) if room == "less than the text" else [int(room)]:
+        yield dataclasses.replace(run, name=f"{run.name} with room for {room}", text=run.text[:room], room=room)
 
 
 def broken(why):
@@ -229,7 +270,7 @@ def compared(runs, program):
 
 def tried(runs):
     """Runs those that read a short input and write an output, all by one call of rt try, and yields each with why it failed."""
-    runs = [it for it in runs if isinstance(it, Run) and isinstance(it.input, bytes) and not it.output and len(it.input) < SHORT and it.times == 1 and it.text != "form"]
+    runs = [it for it in runs if isinstance(it, Run) and isinstance(it.input, bytes) and not it.output and not it.breaks and it.room is None and len(it.input) < SHORT and it.times == 1 and it.text != "form"]
     with tempfile.TemporaryDirectory() as room:
         for number, run in enumerate(runs):
             pathlib.Path(room, str(number)).write_bytes(run.input)
