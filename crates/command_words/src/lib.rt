@@ -1,10 +1,13 @@
-//! The words of the command line.
+//! The words of the command line, and the command that they ask for.
 #![tactic(auto)]
+
+mod command;
 
 ghost use Rattle.std.specs.Prelude.{◌≡◌, drop, IfOk};
 ghost use Rattle.std.specs.Vec.Iter.{into_iter_items};
 ghost use Rattle.command_words.specs.Words.{words_in};
 
+pub use command::{Command, command_of};
 use std::alloc::{AllocError, Global};
 use std::env::Args;
 use std::io::{self, ErrorKind};

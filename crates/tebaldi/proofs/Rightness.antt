@@ -27,11 +27,12 @@ use Rattle.audit_runner.specs.Verdicts.{verdict}
 use Rattle.hall_runner.specs.Outcomes.{IsServedBy, history_in}
 use Rattle.hall_runner.specs.declared.served.Served.{Served}
 use Rattle.hall_runner.specs.declared.served.Served.TheVariants.{Through, Spent}
-use Rattle.tebaldi.specs.Commands.{reads}
-use Rattle.tebaldi.specs.Endings.{IsWritten, IsServedAndWritten, IsRight}
+use Rattle.command_words.specs.Commands.{reads}
+use Rattle.output_writer.specs.Endings.{IsWritten}
+use Rattle.tebaldi.specs.Endings.{IsServedAndWritten, IsRight}
 use Rattle.tebaldi.specs.Shows.{Ends, SetsUp, ServesInput, ShowsBytes, IsAlone, IsAuditedYes}
-use Rattle.tebaldi.specs.declared.command.Command.{Command}
-use Rattle.tebaldi.specs.declared.command.Command.TheVariants.{Threads, Pool, Load}
+use Rattle.command_words.specs.declared.command.Command.{Command}
+use Rattle.command_words.specs.declared.command.Command.TheVariants.{Threads, Pool, Load}
 use Rattle.tebaldi.specs.declared.ended.Ended.{Ended}
 
 -- what is serialized over one kind of setups is so over another that has them all

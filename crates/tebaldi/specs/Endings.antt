@@ -1,23 +1,16 @@
--- How a command ends: what was shown, and what of it was written.
-use Rattle.std.specs.Prelude.{◌≡◌, ◌⊎◌, ℕ, true, List, Option, Some, None}
-use Rattle.std.specs.Io.KnownBytes.{Appends, Keeps}
-use Rattle.teb_history.specs.Written.{Written}
-use Rattle.teb_io.specs.Bytes.{AppendsFront}
-use Rattle.teb_io.specs.Faults.{Rose}
+-- How the program ends: what was shown, and what is kept of it.
+use Rattle.std.specs.Prelude.{◌≡◌, ℕ, true, List, Option, Some, None}
+use Rattle.std.specs.Io.KnownBytes.{Keeps}
 use Rattle.command_output.specs.Shown.{Shown, events_of}
+use Rattle.output_writer.specs.Endings.{IsWritten}
 use Rattle.input_reader.specs.Readings.{AreOf}
 use Rattle.input_runner.specs.Runs.{IsSerialized}
 use Rattle.hall_runner.specs.declared.served.Served.{Served}
 use Rattle.hall_runner.specs.declared.served.Served.TheVariants.{Through, Spent}
-use Rattle.tebaldi.specs.Commands.{reads}
+use Rattle.command_words.specs.Commands.{reads}
 use Rattle.tebaldi.specs.Shows.{Ends, SetsUp, IsAlone}
-use Rattle.tebaldi.specs.declared.command.Command.{Command}
+use Rattle.command_words.specs.declared.command.Command.{Command}
 use Rattle.tebaldi.specs.declared.ended.Ended.{Ended}
-
--- the text was written whole and the status is its own, or the status is 4 and a part of the text was written; the history is its own either way
-pub record IsWritten (d : Shown) (status : ℕ) (kept : Option Written) (before now : Option (List ℕ)) : Type 0 where
-  pub written : ((status ≡ d.status) × Appends before now d.text) ⊎ ((status ≡ 4) × AppendsFront before now d.text)
-  pub history : events_of kept ≡ d.history
 
 -- the output was written, and the entries are kept; or nothing was written, and the spent pass is kept
 abbrev pub IsServedAndWritten : Served → Ended → Option (List ℕ) → Option (List ℕ) → Type 0

@@ -12,8 +12,8 @@ use Rattle.hall_runner.specs.Outcomes.{IsServedAs}
 use Rattle.phase_runner.specs.Runs.{ArePhases}
 use Rattle.shop_load.specs.Runs.{IsLoad}
 use Rattle.shop_load.specs.Shop.{shop}
-use Rattle.tebaldi.specs.declared.command.Command.{Command}
-use Rattle.tebaldi.specs.declared.command.Command.TheVariants.{Replay, Turns, Threads, Pool, Load, Audit, Crash, Phases}
+use Rattle.command_words.specs.declared.command.Command.{Command}
+use Rattle.command_words.specs.declared.command.Command.TheVariants.{Replay, Turns, Threads, Pool, Load, Audit, Crash, Phases}
 use Rattle.tebaldi.specs.declared.ended.Ended.{Ended}
 
 abbrev pub bad_words : Shown

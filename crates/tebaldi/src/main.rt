@@ -1,16 +1,14 @@
 //! A transactional store of whole numbers, whose program runs scripts of sessions.
 #![tactic(auto)]
 
-mod command;
 mod ended;
-mod exit;
 mod source;
 mod top;
 mod writing;
 
 use command_output::status::OUT_OF_MEMORY;
 use command_words::words_of;
-use exit::exit_code;
+use output_writer::exit_code;
 use session_server::Gate;
 use std::env;
 use std::process::ExitCode;
@@ -35,8 +33,5 @@ fn main(rt: HostRuntime) -> ExitCode {
         Ok(words) => run_tebaldi(&rt, rt.alloc(), &words, &mut input, &mut out, &Unguarded),
         Err(_) => silent(OUT_OF_MEMORY),
     };
-    exit_code(&ended)
+    exit_code(ended.status)
 }
-
-#[cfg(test)]
-mod tests;

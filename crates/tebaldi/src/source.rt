@@ -3,14 +3,15 @@
 ghost use Rattle.std.specs.Prelude.{◌≡◌, ◌≢◌, ◌≤◌, Some, None};
 ghost use Rattle.teb_io.specs.Faults.{Rose};
 ghost use Rattle.input_reader.specs.Refusals.{refusal as refusal_shown};
-ghost use Rattle.tebaldi.specs.Endings.{IsRight, IsWritten, IsSilent};
+ghost use Rattle.output_writer.specs.Endings.{IsWritten};
+ghost use Rattle.tebaldi.specs.Endings.{IsRight, IsSilent};
 ghost use Rattle.tebaldi.specs.Shows.{IsAlone};
 
-use crate::command::Command;
 use crate::ended::Ended;
 use crate::writing::{put_out, put_served, silent};
 use audit_runner::run_audit;
 use command_output::status::READ_FAULT;
+use command_words::Command;
 use crash_runner::run_crash;
 use hall_runner::{serve_by_pool, serve_by_threads};
 use input_reader::{InputError, read_bytes, read_input, refusal};

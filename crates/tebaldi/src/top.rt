@@ -2,16 +2,16 @@
 
 ghost use Rattle.std.specs.Prelude.{◌≡◌, ◌≢◌, false, Some, None};
 ghost use Rattle.teb_io.specs.Faults.{Rose};
-ghost use Rattle.tebaldi.specs.Commands.{command_of, reads, texts};
+ghost use Rattle.command_words.specs.Commands.{command_of, reads, texts};
 ghost use Rattle.tebaldi.specs.Endings.{IsRight, IsSilent};
 
-use crate::command::{Command, command_of};
 use crate::ended::Ended;
 use crate::source::{
     audit_source, crash_source, phase_source, pool_source, replay_source, serve_source, turn_source,
 };
 use crate::writing::{put_out, write};
 use command_output::status::BAD_WORDS;
+use command_words::{Command, command_of};
 use session_server::Gate;
 use shop_load::run_load;
 use std::alloc::Global;

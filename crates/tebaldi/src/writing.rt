@@ -1,29 +1,39 @@
-//! The writing of what a command shows.
+//! The writing of what a command puts out.
 
-ghost use Rattle.std.specs.Prelude.{◌≡◌, ◌≢◌, MatchResult};
+ghost use Rattle.std.specs.Prelude.{◌≡◌, ◌≢◌, None, MatchResult};
 ghost use Rattle.teb_io.specs.Faults.{Rose};
 ghost use Rattle.command_output.specs.Shown.{events_of, IsShowable};
-ghost use Rattle.tebaldi.specs.Endings.{IsWritten, IsServedAndWritten, IsSilent};
+ghost use Rattle.output_writer.specs.Endings.{IsWritten};
+ghost use Rattle.tebaldi.specs.Endings.{IsServedAndWritten, IsSilent};
 ghost use Rattle.tebaldi.specs.Shows.{IsAlone};
 
 use crate::ended::Ended;
 use command_output::Output;
-use command_output::status::{OUT_OF_MEMORY, PASS_SPENT, WRITE_FAULT};
+use command_output::status::{OUT_OF_MEMORY, PASS_SPENT};
 use hall_runner::Served;
+use output_writer::Ending;
 use std::alloc::AllocError;
 use teb_history::History;
-use teb_io::{Sink, write_whole};
+use teb_io::Sink;
+
+/// The end of a command that one thread ran.
+fn alone(ending: Ending) -> Ended
+    ensures { result ≡ record { status = ending.status; history = ending.history; entries = None; spent = None } }
+{
+    let Ending { status, history } = ending;
+    Ended {
+        status,
+        history,
+        entries: None,
+        spent: None,
+    }
+}
 
 /// Ends with a status where there is nothing to write and nothing to keep.
 pub fn silent(status: u8) -> Ended
     ensures { result ≡ record { status = status; history = None; entries = None; spent = None } }
 {
-    Ended {
-        status,
-        history: None,
-        entries: None,
-        spent: None,
-    }
+    alone(output_writer::silent(status))
 }
 
 /// Writes the text, and ends with the status, or, where the text can't be written whole, with that of a write fault.
@@ -34,16 +44,7 @@ pub fn write<K: Sink>(out: &mut K, status: u8, text: &[u8], history: Option<Hist
     ensures loud { (result.status ≢ 3) × (result.status ≢ 8) }
     ensures alone { IsAlone result }
 {
-    let status = match write_whole(out, text) {
-        Ok(()) => status,
-        Err(_) => WRITE_FAULT,
-    };
-    Ended {
-        status,
-        history,
-        entries: None,
-        spent: None,
-    }
+    alone(output_writer::write(out, status, text, history))
 }
 
 /// Writes what a command puts out; nothing where memory is wanting.
@@ -54,13 +55,7 @@ pub fn put_out<K: Sink>(out: &mut K, output: Result<Output, AllocError>) -> Ende
     ensures read { result.status ≢ 3 }
     ensures alone { IsAlone result }
 {
-    match output {
-        Ok(output) => {
-            let (status, text, history) = output.into_parts();
-            write(out, status, &text, history)
-        }
-        Err(_) => silent(OUT_OF_MEMORY),
-    }
+    alone(output_writer::put_out(out, output))
 }
 
 /// Writes what several threads come to; nothing where a pass is spent or memory is wanting.
@@ -73,11 +68,7 @@ pub fn put_served<K: Sink>(out: &mut K, served: Result<Served, AllocError>) -> E
     match served {
         Ok(Served::Through { output, entries }) => {
             let (status, text, history) = output.into_parts();
-            let Ended {
-                status,
-                history,
-                ..
-            } = write(out, status, &text, history);
+            let Ending { status, history } = output_writer::write(out, status, &text, history);
             Ended {
                 status,
                 history,

@@ -1,7 +1,7 @@
 use Rattle.std.proofs.Common.{◌≡◌, Some, ℕ, List, IfOk, subst}
 use Rattle.command_output.specs.Shown.{Shown}
 use Rattle.audit_runner.specs.Verdicts.{audited}
-use Rattle.tebaldi.specs.declared.command.Command.TheVariants.{Audit}
+use Rattle.command_words.specs.declared.command.Command.TheVariants.{Audit}
 use Rattle.tebaldi.proofs.Rightness.{bytes_of, bytes_refused}
 use Rattle.tebaldi.proofs.source.audit_source.Goals as goal
 

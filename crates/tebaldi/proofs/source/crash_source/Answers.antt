@@ -1,7 +1,7 @@
 use Rattle.std.proofs.Common.{Some}
 use Rattle.input_reader.proofs.FewLines.{few_lines}
 use Rattle.crash_runner.specs.Crashes.{IsCrash}
-use Rattle.tebaldi.specs.declared.command.Command.TheVariants.{Crash}
+use Rattle.command_words.specs.declared.command.Command.TheVariants.{Crash}
 use Rattle.tebaldi.proofs.Rightness.{right_of, refusal_ends, refused_of}
 use Rattle.tebaldi.proofs.source.crash_source.Goals as goal
 

@@ -1,7 +1,7 @@
 use Rattle.std.proofs.Common.{◌≡◌, Some, ℕ, List, IfOk, subst}
 use Rattle.command_output.specs.Shown.{Shown}
 use Rattle.phase_runner.specs.Runs.{ArePhases}
-use Rattle.tebaldi.specs.declared.command.Command.TheVariants.{Phases}
+use Rattle.command_words.specs.declared.command.Command.TheVariants.{Phases}
 use Rattle.tebaldi.proofs.Rightness.{bytes_of, bytes_refused}
 use Rattle.tebaldi.proofs.source.phase_source.Goals as goal
 

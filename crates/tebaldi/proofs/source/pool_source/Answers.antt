@@ -1,5 +1,5 @@
 use Rattle.std.proofs.Common.{Some}
-use Rattle.tebaldi.specs.declared.command.Command.TheVariants.{Pool}
+use Rattle.command_words.specs.declared.command.Command.TheVariants.{Pool}
 use Rattle.tebaldi.proofs.Rightness.{pooled_of, pool_refused, refused_of}
 use Rattle.tebaldi.proofs.source.pool_source.Goals as goal
 

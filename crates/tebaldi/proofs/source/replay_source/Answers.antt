@@ -1,6 +1,6 @@
 use Rattle.std.proofs.Common.{Some}
 use Rattle.input_runner.specs.Runs.{IsRun, IsReplay, IsReport}
-use Rattle.tebaldi.specs.declared.command.Command.TheVariants.{Replay}
+use Rattle.command_words.specs.declared.command.Command.TheVariants.{Replay}
 use Rattle.tebaldi.proofs.Rightness.{right_of, refusal_ends, refused_of}
 use Rattle.tebaldi.proofs.source.replay_source.Goals as goal
 

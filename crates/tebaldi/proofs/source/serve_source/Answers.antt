@@ -1,5 +1,5 @@
 use Rattle.std.proofs.Common.{Some}
-use Rattle.tebaldi.specs.declared.command.Command.TheVariants.{Threads}
+use Rattle.command_words.specs.declared.command.Command.TheVariants.{Threads}
 use Rattle.tebaldi.proofs.Rightness.{served_of, threads_refused, refused_of}
 use Rattle.tebaldi.proofs.source.serve_source.Goals as goal
 

@@ -1,7 +1,7 @@
 //! The commands, by the words of the command line.
 
 ghost use Rattle.std.specs.Prelude.{◌≡◌, ◌≤◌, IfSome};
-ghost use Rattle.tebaldi.specs.Commands.{command_of, lone_command, counted_command, load_command, number_within, texts, IsWithin};
+ghost use Rattle.command_words.specs.Commands.{command_of, lone_command, counted_command, load_command, number_within, texts, IsWithin};
 
 use script_text::number;
 
@@ -44,16 +44,12 @@ fn lone_command(word: &str) -> Option<Command>
     ensures command { result ≡ lone_command word.now }
     ensures within { IfSome result IsWithin }
 {
-    if word == "replay" {
-        Some(Command::Replay)
-    } else if word == "turns" {
-        Some(Command::Turns)
-    } else if word == "audit" {
-        Some(Command::Audit)
-    } else if word == "phases" {
-        Some(Command::Phases)
-    } else {
-        None
+    match word {
+        "replay" => Some(Command::Replay),
+        "turns" => Some(Command::Turns),
+        "audit" => Some(Command::Audit),
+        "phases" => Some(Command::Phases),
+        _ => None,
     }
 }
 
@@ -62,17 +58,20 @@ fn counted_command(word: &str, number: &str) -> Option<Command>
     ensures command { result ≡ counted_command word.now number.now }
     ensures within { IfSome result IsWithin }
 {
-    if word == "threads" {
-        let workers = number_within(number, 1, 16)?;
-        Some(Command::Threads(workers as u8))
-    } else if word == "pool" {
-        let workers = number_within(number, 1, 16)?;
-        Some(Command::Pool(workers as u8))
-    } else if word == "crash" {
-        let call = number_within(number, 0, 2_147_483_647)?;
-        Some(Command::Crash(call))
-    } else {
-        None
+    match word {
+        "threads" => {
+            let workers = number_within(number, 1, 16)?;
+            Some(Command::Threads(workers as u8))
+        }
+        "pool" => {
+            let workers = number_within(number, 1, 16)?;
+            Some(Command::Pool(workers as u8))
+        }
+        "crash" => {
+            let call = number_within(number, 0, 2_147_483_647)?;
+            Some(Command::Crash(call))
+        }
+        _ => None,
     }
 }
 

@@ -3,12 +3,11 @@
 ghost use Rattle.std.specs.Prelude.{◌≡◌};
 ghost use Rattle.std.specs.Process.{exit_status};
 
-use crate::ended::Ended;
 use std::process::ExitCode;
 
 /// The status of the process is that of the end.
-pub fn exit_code(ended: &Ended) -> ExitCode
-    ensures { exit_status result ≡ ended.now.status }
+pub fn exit_code(status: u8) -> ExitCode
+    ensures { exit_status result ≡ status }
 {
-    ExitCode::from(ended.status)
+    ExitCode::from(status)
 }

@@ -3,8 +3,8 @@ use Rattle.std.specs.Prelude.{ℕ, Bool, true, false, ◌-◌, ◌^◌, ◌<◌,
 use Rattle.std.specs.declared.alloc.Global.{Global}
 use Rattle.std.specs.Str.{bytes_eq}
 use Rattle.script_text.specs.Numbers.{number_upto}
-use Rattle.tebaldi.specs.declared.command.Command.{Command}
-use Rattle.tebaldi.specs.declared.command.Command.TheVariants as command
+use Rattle.command_words.specs.declared.command.Command.{Command}
+use Rattle.command_words.specs.declared.command.Command.TheVariants as command
 
 -- one to ten digits with a value from low to high
 unfoldable pub number_within : ℕ → ℕ → List ℕ → Option ℕ
