@@ -7,6 +7,7 @@ pub mod NameBytes
 pub mod ScriptSteps
 pub mod LineWords
 pub mod InputSteps
+pub mod Tails
 pub mod Wholes
 pub mod SessionLists
 pub mod ParsedSessions

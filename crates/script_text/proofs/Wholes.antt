@@ -45,3 +45,12 @@ spaced-append (x ∷ xs) ys = ap (λ l. 32 ∷ (x ++ l)) (spaced-append xs ys) �
 pub two_parts : (one two three : List ℕ) (xs ys : List (List ℕ)) → two ≡ one ++ spaced xs → three ≡ two ++ spaced ys → three ≡ one ++ spaced (xs ++ ys)
 two_parts one two three xs ys first second =
     second ∙ ap (λ l. l ++ spaced ys) first ∙ append_assoc one (spaced xs) (spaced ys) ∙ ap (λ l. one ++ l) (sym (spaced-append xs ys))
+
+-- the words of a line and its feed, behind the first word
+pub whole_line : (w : List ℕ) (ws : List (List ℕ)) → w ++ (spaced ws ++ codes "\n") ≡ line_text (w ∷ ws)
+whole_line w ws = sym (append_assoc w (spaced ws) (codes "\n")) ∙ ap (λ l. l ++ codes "\n") (sym (joined w ws))
+
+-- a text that is appended at once
+pub put_at_once : {E : Type 0} (old text bytes new : List ℕ) (r : Result (Unit {0}) E) → new ≡ (if is_ok r then old ++ bytes else old) → bytes ≡ text → Puts old text new r
+put_at_once old text bytes new (Ok u) is same = is ∙ ap (λ l. old ++ l) same
+put_at_once old text bytes new (Err e) is same = record { more = []; grown = is ∙ sym (append-nil old) }

@@ -1,10 +1,14 @@
 -- The words of a line, one after the other.
-use Rattle.std.proofs.Common.{◌≡◌, ℕ, suc, ◌+◌, ◌<◌, ◌≤◌, ◌==◌, Bool, true, false, if◌then◌else◌, not, inl, inr, List, [], ◌∷◌, ◌++◌, take, drop, set, length, refl, ap, sym, ◌∙◌, arith, take_all, get_or, slice_index, drop_of_length-le, append_assoc}
+use Rattle.std.proofs.Common.{◌≡◌, ℕ, suc, ◌+◌, ◌<◌, ◌≤◌, ◌==◌, nat_eq, Bool, true, false, if◌then◌else◌, not, inl, inr, List, [], ◌∷◌, ◌++◌, codes, take, drop, set, length, refl, ap, sym, ◌∙◌, arith, take_all, get_or, drop_of_length-le, append_assoc}
 use Rattle.std.specs.Borrow.{Bor}
+use Rattle.std.specs.Int.{w64, from_le_bytes, to_le_bytes}
+use Rattle.std.specs.Str.{bytes_eq}
 use Rattle.std.specs.List.{slice_split, position_or_len}
-use Rattle.std.proofs.lemmas.Bool.{and_parts, cases_lt, eqb-true, leb-true}
-use Rattle.std.proofs.lemmas.Bool.Decides.{nat_tests}
-use Rattle.std.proofs.lemmas.List.{drop_more, length-take-le, length-take, length-map, take_more_set, map_push, append-nil, take_at}
+use Rattle.std.proofs.lemmas.Bool.{and_parts, cases_lt, leb-true}
+use Rattle.std.proofs.lemmas.Bool.Decides.{nat_tests, Decides-eqb, Decides-like, same_from_decides}
+use Rattle.std.proofs.lemmas.List.{drop_more, length-take-le, length-take, length-map, take_more_set, map_push, append-nil, take_at, take-append-drop}
+use Rattle.std.proofs.lemmas.Nat.{le_bytes_8}
+use Rattle.std.proofs.lemmas.Slice.Eq.{bytes_eq-Decides}
 use Rattle.std.proofs.lemmas.List.Splits.{slice_split_first, slice_split_none}
 use Rattle.std.proofs.lemmas.List.Sums.{fails_before_first, prefix_len_stops}
 use Rattle.std.proofs.lemmas.List.Elements.{All-from_get_or}
@@ -24,39 +28,28 @@ inside_cons : (x : ℕ) (xs : List ℕ) (b : Bool) → is_blank x ≡ b → with
 inside_cons x xs true h = rw h (one_more (position_or_len is_inside xs) x xs)
 inside_cons x xs false h = rw h
 
-behind_space : (x : ℕ) (xs : List ℕ) → x ≡ 32 → without_blanks xs ≡ without_blanks (x ∷ xs)
-behind_space x xs is = sym (inside_cons x xs true (grind (arith, nat_tests)))
+behind_space : (xs : List ℕ) → without_blanks xs ≡ without_blanks (32 ∷ xs)
+behind_space xs = sym (inside_cons 32 xs true refl)
 
--- eight spaces at the front
-behind_spaces : (xs : List ℕ) → 8 ≤ length xs → slice_index xs 0 ≡ 32 → slice_index xs 1 ≡ 32 → slice_index xs 2 ≡ 32 → slice_index xs 3 ≡ 32
-    → slice_index xs 4 ≡ 32 → slice_index xs 5 ≡ 32 → slice_index xs 6 ≡ 32 → slice_index xs 7 ≡ 32 → without_blanks (drop 8 xs) ≡ without_blanks xs
-behind_spaces (a ∷ b ∷ c ∷ d ∷ e ∷ f ∷ g ∷ h ∷ xs) long ia ib ic id ie iff ig ih =
-    behind_space h xs ih ∙ behind_space g (h ∷ xs) ig ∙ behind_space f (g ∷ h ∷ xs) iff ∙ behind_space e (f ∷ g ∷ h ∷ xs) ie
-    ∙ behind_space d (e ∷ f ∷ g ∷ h ∷ xs) id ∙ behind_space c (d ∷ e ∷ f ∷ g ∷ h ∷ xs) ic ∙ behind_space b (c ∷ d ∷ e ∷ f ∷ g ∷ h ∷ xs) ib ∙ behind_space a (b ∷ c ∷ d ∷ e ∷ f ∷ g ∷ h ∷ xs) ia
-behind_spaces (a ∷ b ∷ c ∷ d ∷ e ∷ f ∷ g ∷ []) long ia ib ic id ie iff ig ih = absurd (omega (arith, long))
-behind_spaces (a ∷ b ∷ c ∷ d ∷ e ∷ f ∷ []) long ia ib ic id ie iff ig ih = absurd (omega (arith, long))
-behind_spaces (a ∷ b ∷ c ∷ d ∷ e ∷ []) long ia ib ic id ie iff ig ih = absurd (omega (arith, long))
-behind_spaces (a ∷ b ∷ c ∷ d ∷ []) long ia ib ic id ie iff ig ih = absurd (omega (arith, long))
-behind_spaces (a ∷ b ∷ c ∷ []) long ia ib ic id ie iff ig ih = absurd (omega (arith, long))
-behind_spaces (a ∷ b ∷ []) long ia ib ic id ie iff ig ih = absurd (omega (arith, long))
-behind_spaces (a ∷ []) long ia ib ic id ie iff ig ih = absurd (omega (arith, long))
-behind_spaces [] long ia ib ic id ie iff ig ih = absurd (omega (arith, long))
+behind_spaces : (xs : List ℕ) → without_blanks xs ≡ without_blanks (codes "        " ++ xs)
+behind_spaces xs =
+    behind_space xs ∙ behind_space (codes " " ++ xs) ∙ behind_space (codes "  " ++ xs) ∙ behind_space (codes "   " ++ xs)
+    ∙ behind_space (codes "    " ++ xs) ∙ behind_space (codes "     " ++ xs) ∙ behind_space (codes "      " ++ xs) ∙ behind_space (codes "       " ++ xs)
+
+-- eight bytes read as one number, which is that of eight spaces only where they are
+pub spaces_read : (front : List ℕ) (n : ℕ) → length front ≡ 8 → ((i : ℕ) → get_or front i 0 < 256) → n ≡ from_le_bytes w64 front → nat_eq n 2314885530818453536 ≡ bytes_eq front (codes "        ")
+spaces_read front n long small read =
+    same_from_decides _ _
+    (Decides-like (nat_eq n 2314885530818453536) (λ is. sym (le_bytes_8 front n long small read) ∙ ap (to_le_bytes w64) is) (λ is. read ∙ ap (from_le_bytes w64) is) (Decides-eqb n 2314885530818453536))
+    (bytes_eq-Decides front (codes "        "))
 
 pub behind_run : (xs : List ℕ) → has_run xs ≡ true → without_blanks (drop 8 xs) ≡ without_blanks xs
 behind_run xs h =
-    let p7 = and_parts _ _ h in
-    let p6 = and_parts _ _ p7.0 in
-    let p5 = and_parts _ _ p6.0 in
-    let p4 = and_parts _ _ p5.0 in
-    let p3 = and_parts _ _ p4.0 in
-    let p2 = and_parts _ _ p3.0 in
-    let p1 = and_parts _ _ p2.0 in
-    let p0 = and_parts _ _ p1.0 in
-    behind_spaces xs (leb-true 8 (length xs) p0.0) (eqb-true _ _ p0.1) (eqb-true _ _ p1.1) (eqb-true _ _ p2.1) (eqb-true _ _ p3.1) (eqb-true _ _ p4.1) (eqb-true _ _ p5.1) (eqb-true _ _ p6.1)
-    (eqb-true _ _ p7.1)
+    let run : take 8 xs ≡ codes "        " = (bytes_eq-Decides (take 8 xs) (codes "        ")).0 (and_parts _ _ h).1 in
+    behind_spaces (drop 8 xs) ∙ ap without_blanks (ap (λ l. l ++ drop 8 xs) (sym run) ∙ take-append-drop 8 xs)
 
 pub run_within : (xs : List ℕ) → has_run xs ≡ true → 8 ≤ length xs
-run_within xs h = leb-true 8 (length xs) (and_parts _ _ (and_parts _ _ (and_parts _ _ (and_parts _ _ (and_parts _ _ (and_parts _ _ (and_parts _ _ (and_parts _ _ h).0).0).0).0).0).0).0).0
+run_within xs h = leb-true 8 (length xs) (and_parts _ _ h).0
 
 -- spaces and tabs at the front change no word
 pub words_inside : (xs : List ℕ) → words_of (without_blanks xs) ≡ words_of xs

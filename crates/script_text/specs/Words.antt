@@ -1,5 +1,6 @@
 -- Words of a line.
-use Rattle.std.specs.Prelude.{ℕ, Bool, not, ◌||◌, ◌&&◌, ◌==◌, nat_le, List, length, slice_index, drop, filter, map}
+use Rattle.std.specs.Prelude.{ℕ, Bool, not, ◌||◌, ◌&&◌, ◌==◌, nat_le, List, length, codes, take, drop, filter, map}
+use Rattle.std.specs.Str.{bytes_eq}
 use Rattle.std.specs.Borrow.{Bor}
 use Rattle.std.specs.List.{slice_split, position_or_len}
 
@@ -12,9 +13,7 @@ without_blanks line = drop (position_or_len (λ b. not (is_blank b)) line) line
 
 -- whether eight spaces stand at the front
 abbrev pub has_run : List ℕ → Bool
-has_run line =
-    nat_le 8 (length line) && slice_index line 0 == 32 && slice_index line 1 == 32 && slice_index line 2 == 32 && slice_index line 3 == 32
-    && slice_index line 4 == 32 && slice_index line 5 == 32 && slice_index line 6 == 32 && slice_index line 7 == 32
+has_run line = nat_le 8 (length line) && bytes_eq (take 8 line) (codes "        ")
 
 -- what stands between spaces and tabs, and is not empty
 unfoldable pub words_of : List ℕ → List (List ℕ)

@@ -3,6 +3,7 @@
 mod event;
 mod reply;
 mod report;
+mod tail;
 mod word;
 
 pub use event::put_event;

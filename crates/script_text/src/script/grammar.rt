@@ -36,7 +36,8 @@ pub fn parse_line(
 ) -> Result<Option<Line>, LineWhy>
     ensures { result ≡ line_of names.now format number text.now }
 {
-    let (words, len) = first_words(text);
+    let mut words: [&[u8]; 6] = [b""; 6];
+    let len = first_words(text, &mut words);
     line_in(names, format, number, &words[..len])
 }
 

@@ -1,9 +1,13 @@
 //! The words of a line.
 
-ghost use Rattle.std.specs.Prelude.{◌≡◌, ◌≤◌, not, length, drop, take, position};
+ghost use Rattle.std.specs.Prelude.{◌≡◌, ◌≤◌, not, codes, length, drop, take, position};
 ghost use Rattle.std.specs.Iterator.{YieldsFirstRef, item_count};
 ghost use Rattle.std.specs.List.{position_or_len};
+ghost use Rattle.std.specs.Str.{bytes_eq};
 ghost use Rattle.script_text.specs.Words.{has_run, is_blank, nows, without_blanks, words_of};
+
+// Eight spaces, read as one number.
+const EIGHT_SPACES: u64 = 0x2020_2020_2020_2020;
 
 /// The words of a line, which stand between spaces and tabs.
 #[derive(Clone, Copy)]
@@ -24,22 +28,21 @@ impl<'a> Iterator for Words<'a> {
     }
 }
 
-/// The first six words of a line, and how many of the six there are. No line that asks something has more
+/// Writes the first six words of a line, and tells how many of the six there are. No line that asks something has more
 /// than five.
-pub fn first_words(line: &[u8]) -> ([&[u8]; 6], usize)
-    ensures words { nows (take result.1 result.0) ≡ take 6 (words_of line.now) }
-    ensures within { result.1 ≤ 6 }
+pub fn first_words<'a>(line: &'a [u8], words: &mut [&'a [u8]; 6]) -> usize
+    ensures words { nows (take result words.new) ≡ take 6 (words_of line.now) }
+    ensures within { result ≤ length words.new }
 {
-    let mut words: [&[u8]; 6] = [b""; 6];
     let mut len = 0;
     for word in Words(line) {
         if len == 6 {
-            return (words, len);
+            return len;
         }
         words[len] = word;
         len += 1;
     }
-    (words, len)
+    len
 }
 
 fn is_blank(b: u8) -> bool
@@ -80,15 +83,17 @@ fn without_runs(text: &[u8]) -> &[u8]
 fn has_run(text: &[u8]) -> bool
     ensures { result ≡ has_run text.now }
 {
-    text.len() >= 8
-        && text[0] == b' '
-        && text[1] == b' '
-        && text[2] == b' '
-        && text[3] == b' '
-        && text[4] == b' '
-        && text[5] == b' '
-        && text[6] == b' '
-        && text[7] == b' '
+    match text.first_chunk::<8>() {
+        Some(front) => is_run(*front),
+        None => false,
+    }
+}
+
+/// Whether these are eight spaces.
+fn is_run(bytes: [u8; 8]) -> bool
+    ensures { result ≡ bytes_eq bytes (codes "        ") }
+{
+    u64::from_le_bytes(bytes) == EIGHT_SPACES
 }
 
 fn first_inside(text: &[u8]) -> Option<usize>

@@ -1,16 +1,15 @@
 //! The texts of replies.
 
-ghost use Rattle.std.specs.Prelude.{◌≡◌, ◌++◌, ◌∷◌, OnOk, OnErr, map};
-ghost use Rattle.script_text.specs.Texts.{cause_words, name_of, refusal_text, reply_words, reply_text, value_text};
+ghost use Rattle.std.specs.Prelude.{◌≡◌, ◌≤◌, ◌++◌, ◌∷◌, [], IsTrue, OnOk, OnErr, codes, decimal, false, length, map};
+ghost use Rattle.script_text.specs.Texts.{cause_words, name_of, refusal_text, reply_text, reply_words, txn_text, value_text};
 ghost use Rattle.script_text.specs.Named.{CauseNamed, NodeNamed, ReplyNamed};
-ghost use Rattle.script_text.specs.Puts.{Puts, spaced, word_text};
+ghost use Rattle.script_text.specs.Puts.{IsLong, Puts, spaced, word_text};
 
-use super::word::{
-    Word, node, put_cell, put_feed, put_spaced, put_text, put_word, put_words, whole,
-};
+use super::tail::Tail;
+use super::word::{Word, node, put_cell, put_feed, put_spaced, put_text, put_words, whole};
 use crate::Answered;
 use std::alloc::AllocError;
-use teb_names::{Cause, NameBook, Node, Refusal, Reply, ScanList};
+use teb_names::{Cause, NameBook, Node, Refusal, Reply, ScanList, Session, Txn};
 
 /// Appends the line of a reply, or, for want of memory, nothing.
 #[tactic(auto, using(crate::proofs::Wholes::kept, crate::proofs::Wholes::taken_back))]
@@ -28,32 +27,93 @@ fn put_answered(out: &mut Vec<u8>, names: &NameBook, answered: &Answered) -> Res
     requires { ReplyNamed names.now answered.now.reply }
     ensures { Puts out.old.items (reply_text names.now answered.now) out.new.items result }
 {
-    put_word(out, &Word::Session(answered.session))?;
-    put_reply_words(out, names, &answered.reply)?;
-    put_feed(out)
+    let mut line = Tail::new();
+    if !put_short(&mut line, names, &answered.reply) {
+        return put_long(out, names, answered);
+    }
+    line.put_natural(u32::from(answered.session.0));
+    out.extend_from_slice(line.as_bytes())
 }
 
-fn put_reply_words(out: &mut Vec<u8>, names: &NameBook, reply: &Reply) -> Result<(), AllocError>
-    requires { ReplyNamed names.now reply.now }
-    ensures { Puts out.old.items (spaced (reply_words names.now reply.now)) out.new.items result }
+// Puts the words of a reply, each behind a space, and a line feed. False where they may not fit.
+fn put_short(line: &mut Tail, names: &NameBook, reply: &Reply) -> bool
+    requires empty { line.old ≡ [] }
+    requires named { ReplyNamed names.now reply.now }
+    ensures text { IsTrue result → line.new ≡ spaced (reply_words names.now reply.now) ++ codes "\n" }
+    ensures short { IsTrue result → length line.new ≤ 62 }
+    ensures long { result ≡ false → IsLong reply.now }
 {
     match reply {
         Reply::Begun(txn) => {
-            put_text(out, " begun ")?;
-            put_word(out, &Word::Txn(*txn))
+            line.put(b"\n");
+            line.put_natural(txn.0);
+            line.put(b" begun t");
         }
-        Reply::Value(None) => put_text(out, " none"),
+        Reply::Value(None) => line.put(b" none\n"),
         Reply::Value(Some(value)) => {
-            put_text(out, " value ")?;
-            put_word(out, &Word::Value(Some(*value)))
+            line.put(b"\n");
+            line.put_integer(*value);
+            line.put(b" value ");
         }
+        Reply::Done => line.put(b" done\n"),
+        Reply::Prepared => line.put(b" prepared\n"),
+        Reply::Committed => line.put(b" committed\n"),
+        Reply::Refused(refusal) => {
+            line.put(b"\n");
+            line.put(refusal_text(*refusal).as_bytes());
+            line.put(b" refused ");
+        }
+        Reply::Again { who, node } => return put_again(line, names.nodes.name(node.0), *who),
+        Reply::Values(_) | Reply::Aborted(_) => return false,
+    }
+    true
+}
+
+// The same for a reply to ask again, where the name of the node has at most 32 bytes.
+fn put_again(line: &mut Tail, node: &str, who: Txn) -> bool
+    requires { line.old ≡ [] }
+    ensures text { IsTrue result → line.new ≡ spaced (codes "again" ∷ txn_text who ∷ codes "at" ∷ node.now ∷ []) ++ codes "\n" }
+    ensures short { IsTrue result → length line.new ≤ 62 }
+{
+    if node.len() > 32 {
+        return false;
+    }
+    line.put(b"\n");
+    line.put(node.as_bytes());
+    line.put(b" at ");
+    line.put_natural(who.0);
+    line.put(b" again t");
+    true
+}
+
+fn put_long(out: &mut Vec<u8>, names: &NameBook, answered: &Answered) -> Result<(), AllocError>
+    requires named { ReplyNamed names.now answered.now.reply }
+    requires long { IsLong answered.now.reply }
+    ensures { Puts out.old.items (reply_text names.now answered.now) out.new.items result }
+{
+    put_session(out, answered.session)?;
+    put_long_words(out, names, &answered.reply)?;
+    put_feed(out)
+}
+
+fn put_session(out: &mut Vec<u8>, session: Session) -> Result<(), AllocError>
+    ensures { Puts out.old.items (decimal session.0) out.new.items result }
+{
+    let mut number = Tail::new();
+    number.put_natural(u32::from(session.0));
+    out.extend_from_slice(number.as_bytes())
+}
+
+fn put_long_words(out: &mut Vec<u8>, names: &NameBook, reply: &Reply) -> Result<(), AllocError>
+    requires named { ReplyNamed names.now reply.now }
+    requires long { IsLong reply.now }
+    ensures { Puts out.old.items (spaced (reply_words names.now reply.now)) out.new.items result }
+{
+    match reply {
         Reply::Values(values) => {
-            put_words(out, &[Word::Text("values")])?;
+            put_text(out, " values")?;
             put_values(out, values)
         }
-        Reply::Done => put_text(out, " done"),
-        Reply::Prepared => put_text(out, " prepared"),
-        Reply::Committed => put_text(out, " committed"),
         Reply::Again { who, node: at } => {
             let at = node(names, *at);
             put_words(
@@ -62,10 +122,10 @@ fn put_reply_words(out: &mut Vec<u8>, names: &NameBook, reply: &Reply) -> Result
             )
         }
         Reply::Aborted(cause) => {
-            put_words(out, &[Word::Text("aborted")])?;
+            put_text(out, " aborted")?;
             put_cause(out, names, cause)
         }
-        Reply::Refused(refusal) => put_words(out, &[Word::Text("refused"), refusal_word(*refusal)]),
+        _ => Ok(()),
     }
 }
 
@@ -120,10 +180,11 @@ fn put_break(
     put_words(out, whom)
 }
 
-fn refusal_word(refusal: Refusal) -> Word<'static>
-    ensures { word_text result ≡ refusal_text refusal }
+fn refusal_text(refusal: Refusal) -> &'static str
+    ensures text { result.now ≡ refusal_text refusal }
+    ensures short { length result.now ≤ 14 }
 {
-    Word::Text(match refusal {
+    match refusal {
         Refusal::BadSession => "bad-session",
         Refusal::InTxn => "in-txn",
         Refusal::UnknownType => "unknown-type",
@@ -135,5 +196,5 @@ fn refusal_word(refusal: Refusal) -> Word<'static>
         Refusal::Range => "range",
         Refusal::NotRead => "not-read",
         Refusal::Overflow => "overflow",
-    })
+    }
 }

@@ -1,12 +1,11 @@
 //! Words of a line.
 
-ghost use Rattle.std.specs.Prelude.{◌≡◌, ◌<◌, length, ◌++◌, ◌∷◌, codes, decimal, is_ok, if◌then◌else◌, map, take};
-ghost use Rattle.std.specs.Fmt.{signed_decimal};
+ghost use Rattle.std.specs.Prelude.{◌≡◌, ◌<◌, length, ◌++◌, ◌∷◌, codes, is_ok, if◌then◌else◌, map, take};
 ghost use Rattle.script_text.specs.Texts.{cell_words, line_text, name_of};
 ghost use Rattle.script_text.specs.Named.{CellNamed, NodeNamed};
 ghost use Rattle.script_text.specs.Puts.{Puts, spaced, spaced_words, word_text};
 
-use itoa::Buffer;
+use super::tail::Tail;
 use std::alloc::AllocError;
 use teb_names::{Cell, Kind, NameBook, Node, Session, Table, Txn};
 
@@ -44,23 +43,6 @@ pub fn kind<'a>(names: &'a NameBook, kind: Kind) -> Word<'a>
     Word::Text(names.types.name(kind.0))
 }
 
-/// Appends a word.
-pub fn put_word(out: &mut Vec<u8>, word: &Word) -> Result<(), AllocError>
-    ensures { Puts out.old.items (word_text word.now) out.new.items result }
-{
-    match word {
-        Word::Text(text) => put_text(out, text),
-        Word::Session(session) => put_natural(out, u32::from(session.0)),
-        Word::Natural(n) => put_natural(out, *n),
-        Word::Txn(txn) => {
-            out.push(b't')?;
-            put_natural(out, txn.0)
-        }
-        Word::Value(None) => put_text(out, "none"),
-        Word::Value(Some(value)) => put_value(out, *value),
-    }
-}
-
 /// Appends words, each behind a space.
 pub fn put_words(out: &mut Vec<u8>, words: &[Word]) -> Result<(), AllocError>
     ensures { Puts out.old.items (spaced_words words.now) out.new.items result }
@@ -96,8 +78,23 @@ pub fn put_line<'a>(
 pub fn put_spaced(out: &mut Vec<u8>, word: &Word) -> Result<(), AllocError>
     ensures { Puts out.old.items (codes " " ++ word_text word.now) out.new.items result }
 {
-    out.push(b' ')?;
-    put_word(out, word)
+    let mut tail = Tail::new();
+    match word {
+        Word::Text(text) => {
+            out.push(b' ')?;
+            return put_text(out, text);
+        }
+        Word::Session(session) => tail.put_natural(u32::from(session.0)),
+        Word::Natural(n) => tail.put_natural(*n),
+        Word::Txn(txn) => {
+            tail.put_natural(txn.0);
+            tail.put(b"t");
+        }
+        Word::Value(None) => tail.put(b"none"),
+        Word::Value(Some(value)) => tail.put_integer(*value),
+    }
+    tail.put(b" ");
+    out.extend_from_slice(tail.as_bytes())
 }
 
 /// Appends a line feed.
@@ -113,20 +110,6 @@ pub fn put_text(out: &mut Vec<u8>, text: &str) -> Result<(), AllocError>
     ensures { Puts out.old.items text.now out.new.items result }
 {
     out.extend_from_slice(text.as_bytes())
-}
-
-fn put_natural(out: &mut Vec<u8>, n: u32) -> Result<(), AllocError>
-    ensures { Puts out.old.items (decimal n) out.new.items result }
-{
-    let mut buffer = Buffer::new();
-    out.extend_from_slice(buffer.format(n).as_bytes())
-}
-
-fn put_value(out: &mut Vec<u8>, n: i64) -> Result<(), AllocError>
-    ensures { Puts out.old.items (signed_decimal n) out.new.items result }
-{
-    let mut buffer = Buffer::new();
-    out.extend_from_slice(buffer.format(n).as_bytes())
 }
 
 /// Passes on how a text was written that began at this length, and takes it back where memory ran out.

@@ -1,5 +1,9 @@
-use Rattle.script_text.proofs.Wholes.{line_ends}
+use Rattle.std.proofs.Common.{◌++◌, decimal, refl, ap, ◌∙◌}
+use Rattle.script_text.proofs.Wholes.{put_at_once, whole_line}
 use Rattle.script_text.proofs.text.reply.put_answered.Goals as goal
 
 pub returns : goal.returns
-returns c = line_ends _ _ _ _ _ _ _ c.in_ok-put_word.ensures c.in_ok-put_reply_words.ensures c.put_feed.ensures
+returns c =
+    put_at_once _ _ _ _ _ c.extend_from_slice.ensures.items
+    (c.as_bytes.ensures ∙ c.put_natural.ensures.text ∙ ap (λ n. decimal n ++ c.put_short.new.line) c.from.ensures
+    ∙ ap (λ l. decimal c.args.answered.now.session.0 ++ l) (c.if-not-put_short.ensures.text refl) ∙ whole_line _ _)

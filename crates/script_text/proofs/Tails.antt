@@ -1,0 +1,19 @@
+-- How long the text of a number is, and the text of a number with a sign.
+use Rattle.std.proofs.Common.{◌≡◌, ℕ, suc, ◌^◌, ◌<◌, ◌≤◌, List, ◌∷◌, ◌++◌, ◌+◌, length, ℤ, pos, negsuc, true, int_lt, unsigned_abs, refl, ap, ◌∙◌, arith, length-append}
+use Rattle.std.proofs.lemmas.Bool.{leb-true}
+use Rattle.std.specs.Fmt.{decimal, signed_decimal}
+use Rattle.std.proofs.lemmas.Fmt.{length-decimal-le}
+
+pub length_natural : (n : ℕ) → n < 2 ^ 32 → length (decimal n) ≤ 10
+length_natural n h = length-decimal-le 10 n (omega arith) (omega (arith, h)) (omega (arith, h))
+
+pub length_magnitude : (n : ℕ) → n ≤ 2 ^ 63 → length (decimal n) ≤ 19
+length_magnitude n h = length-decimal-le 19 n (omega arith) (omega (arith, h)) (omega (arith, h))
+
+pub minus_first : (n : ℤ) → int_lt n (pos 0) ≡ true → 45 ∷ decimal (unsigned_abs n) ≡ signed_decimal n
+minus_first (pos n) h = absurd (omega (arith, leb-true (suc n) 0 h))
+minus_first (negsuc n) h = refl
+
+-- what stands in front of the rest
+pub length_in_front : (w rest all : List ℕ) (n : ℕ) → all ≡ w ++ rest → length w ≤ n → length all ≤ length rest + n
+length_in_front w rest all n is short = omega (arith, short, ap length is ∙ length-append w rest)
