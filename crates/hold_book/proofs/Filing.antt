@@ -19,6 +19,10 @@ use Rattle.hold_book.specs.declared.Hold.{Hold}
 use Rattle.hold_book.specs.Books.{hold_number, has_put, has_hold, accessed, released, is_among, IsFiled}
 use Rattle.hold_book.proofs.Cells.{same_itself}
 
+or_false : (b : Bool) → (b || false) ≡ b
+or_false true = refl
+or_false false = refl
+
 -- nobody of a number that is below all
 none_above : (t : ℕ) (hs : List Hold) → AllAbove hold_number t hs → has_put t hs ≡ false
 none_above t [] a = refl
@@ -39,10 +43,6 @@ put_found t (g ∷ hs) i d a h = elim (cases_order g.txn.0 t) [
   ]
 ]
   where
-    or_false : (b : Bool) → (b || false) ≡ b
-    or_false true = refl
-    or_false false = refl
-
     here : g.txn.0 ≡ t → 0 ≡ i → ((get_or (g ∷ hs) i d).txn.0 ≡ t) × (has_put t (g ∷ hs) ≡ (get_or (g ∷ hs) i d).wrote)
     here e q =
         subst (λ (k : ℕ). ((get_or (g ∷ hs) k d).txn.0 ≡ t) × (has_put t (g ∷ hs) ≡ (get_or (g ∷ hs) k d).wrote)) q
@@ -184,10 +184,6 @@ pub put_anew : (t : Txn) (wrote : Bool) (hs : List Hold) (i : ℕ) → IsAscendi
 put_anew t wrote hs i a p =
     let made : Bool → Hold = λ b. record { txn = t; wrote = b } in
     sym (put-insert hold_number (made wrote) hs i p) ∙ ap (λ (b : Bool). put_by hold_number (made b) hs) (sym (or_false wrote) ∙ ap (λ (b : Bool). wrote || b) (sym (put_absent t.0 hs i a p)))
-  where
-    or_false : (b : Bool) → (b || false) ≡ b
-    or_false true = refl
-    or_false false = refl
 
 -- an edit at one cell alone
 module _ (f : Cell → List Hold) (x : Cell) (g : List Hold → List Hold) where
