@@ -64,15 +64,15 @@ impl Batches {
         }
     }
 
-    /// Makes room for 32 joins. The batches stay, also after an `Err`.
-    pub fn reserve(&mut self) -> Result<(), AllocError>
+    /// Makes room for n joins. The batches stay, also after an `Err`.
+    pub fn reserve(&mut self, n: usize) -> Result<(), AllocError>
         ensures batches { (S : Setup) (H : List Event) (n : ℕ) → BatchesOf self.old S H n → BatchesOf self.new S H n }
         ensures size { self.new.size ≡ self.old.size }
-        ensures room { OnOk result (32 ≤ self.new.spare) }
+        ensures room { OnOk result (n ≤ self.new.spare) }
     {
-        self.joined.reserve(32)?;
-        self.running.reserve(32)?;
-        self.batches.reserve(32)?;
+        self.joined.reserve(n)?;
+        self.running.reserve(n)?;
+        self.batches.reserve(n)?;
         Ok(())
     }
 

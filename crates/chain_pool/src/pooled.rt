@@ -11,9 +11,6 @@ use std::marker::Model;
 use teb_names::{Cell, Txn};
 use version_chain::{Chains, Found};
 
-/// For how many versions room is made at a time.
-const AHEAD: usize = 64;
-
 /// Versions by cell, each linked by index into its cell's chain and its writer's list. A cell and a writer are found by hash;
 /// a place of a chain costs its way from the chain's end, and an abort its own versions.
 pub struct PooledChains {
@@ -58,12 +55,12 @@ impl Chains for PooledChains {
 
     ghost spare = { λ c. c.spare };
 
-    fn reserve(&mut self) -> Result<(), AllocError> {
-        if self.spare > 0 {
+    fn reserve(&mut self, n: usize) -> Result<(), AllocError> {
+        if n <= self.spare {
             return Ok(());
         }
-        self.pool.reserve(AHEAD)?;
-        self.spare = AHEAD;
+        self.pool.reserve(n)?;
+        self.spare = n;
         Ok(())
     }
 

@@ -11,10 +11,7 @@ use std::marker::Model;
 use teb_history::Event;
 use teb_names::{Cell, Txn};
 
-/// The most events of one answer.
-const MOST_EVENTS: usize = 32;
-
-/// For how many events room is made at a time.
+/// For how many events room is made at the least, so that not every `reserve` goes through all buckets.
 const AHEAD: usize = 256;
 
 /// Who read and who put each cell, whom each transaction read from, and which transactions are unfinished. What a transaction read and put goes out with its abort.
@@ -46,17 +43,18 @@ impl Book {
         }
     }
 
-    /// Makes room for the events of one answer. It stands for what it stood for, also after an `Err`.
-    pub fn reserve(&mut self) -> Result<(), AllocError>
+    /// Makes room for n events. It stands for what it stood for, also after an `Err`.
+    pub fn reserve(&mut self, n: usize) -> Result<(), AllocError>
         ensures lists { self.new.lists ≡ self.old.lists }
-        ensures ok { OnOk result (32 ≤ self.new.spare) }
+        ensures ok { OnOk result (n ≤ self.new.spare) }
         ensures err { OnErr result (self.new.spare ≡ self.old.spare) }
     {
-        if self.spare >= MOST_EVENTS {
+        if n <= self.spare {
             return Ok(());
         }
-        self.registers.reserve(AHEAD)?;
-        self.spare = AHEAD;
+        let room = n.max(AHEAD);
+        self.registers.reserve(room)?;
+        self.spare = room;
         Ok(())
     }
 

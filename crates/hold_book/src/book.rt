@@ -18,9 +18,6 @@ use std::alloc::{AllocError, Global};
 use std::marker::Model;
 use teb_names::{Cell, Txn};
 
-/// For how many accesses room is made at a time, at the least.
-const AHEAD: usize = 128;
-
 /// Who holds which cell. Contracts see the holds beside their cells, and for how many accesses there is room.
 ///
 /// An access costs a search by its cell, and a finish as much as its transaction holds.
@@ -66,10 +63,9 @@ impl HoldBook {
         if n <= self.spare {
             return Ok(());
         }
-        let room = n.max(AHEAD);
-        self.holds.reserve(room)?;
-        self.cells.reserve(room)?;
-        self.spare = room;
+        self.holds.reserve(n)?;
+        self.cells.reserve(n)?;
+        self.spare = n;
         Ok(())
     }
 

@@ -79,8 +79,8 @@ impl Control for Locks {
         self.register.node()
     }
 
-    fn reserve(&mut self) -> Result<(), AllocError> {
-        self.register.reserve(32)
+    fn reserve(&mut self, n: usize) -> Result<(), AllocError> {
+        self.register.reserve(n)
     }
 
     fn note(&mut self, facts: &Facts, e: Event) {
@@ -99,7 +99,7 @@ impl Control for Locks {
         &self,
         facts: &Facts,
         _chains: &C,
-        _at: usize,
+        _at: Option<usize>,
         t: Txn,
         cell: Cell,
     ) -> Verdict {

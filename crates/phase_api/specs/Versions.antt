@@ -1,5 +1,5 @@
 -- What it is that chains hold the versions of a history.
-use Rattle.std.specs.Prelude.{◌≡◌, ◌⊎◌, ◌≤◌, ◌<◌, ℕ, Bool, true, false, not, ◌&&◌, eqb, List, [], ◌∷◌, length, slice_get, Some, IsTrue, IsFalse}
+use Rattle.std.specs.Prelude.{◌≡◌, ◌⊎◌, ◌≤◌, ◌<◌, ℕ, Bool, true, false, not, ◌&&◌, eqb, List, [], ◌∷◌, length, slice_get, Option, Some, None, IsTrue, IsFalse}
 use Rattle.std.specs.List.{list_any}
 use Rattle.teb_names.specs.declared.Cell.{Cell}
 use Rattle.teb_names.specs.Cells.{same_cell}
@@ -8,6 +8,7 @@ use Rattle.teb_history.specs.declared.Event.TheVariants.{Got}
 use Rattle.teb_history.specs.Phases.{aborted}
 use Rattle.teb_history.specs.Accesses.{wrote, last_put}
 use Rattle.teb_rules.specs.Setup.{Setup}
+use Rattle.teb_rules.specs.Tree.{row, is_timestamp}
 use Rattle.teb_rules.specs.Versions.{precedes}
 use Rattle.teb_rules.specs.Serializes.{Pairs}
 use Rattle.version_chain.specs.Lists.{Version, writers_of, is_writer}
@@ -32,6 +33,11 @@ pub record IsPlaceOf (S : Setup) (H : List Event) (x : Cell) (t at : ℕ) (ws : 
   pub within : at ≤ length ws
   pub before : (i w : ℕ) → i < at → slice_get ws i ≡ Some w → precedes S H x w t ≡ true
   pub behind : (i w : ℕ) → at ≤ i → slice_get ws i ≡ Some w → precedes S H x w t ≡ false
+
+-- what node n is told of the place of t's version of x: a timestamp node is told the place
+abbrev pub IsToldPlace : Setup → List Event → ℕ → Cell → ℕ → Option ℕ → List ℕ → Type 0
+IsToldPlace S H n x t (Some at) ws = IsPlaceOf S H x t at ws
+IsToldPlace S H n x t None ws = IsFalse (is_timestamp (row S.tree n).control)
 
 -- the event is a Got of x by u, from w
 abbrev pub reads_from : ℕ → Cell → ℕ → Event → Bool

@@ -14,7 +14,7 @@ ghost use Rattle.teb_laws.specs.Lawful.{Lawful};
 ghost use Rattle.version_chain.specs.Lists.{writers_of};
 ghost use Rattle.phase_api.specs.FactsView.{setup_of, events_of, IsOrderly};
 ghost use Rattle.phase_api.specs.Calls.{IsHere, IsAccess, IsPair, Writes, IsNewest};
-ghost use Rattle.phase_api.specs.Versions.{HoldsVersions, IsPlaceOf, SourcesStand};
+ghost use Rattle.phase_api.specs.Versions.{HoldsVersions, IsToldPlace, SourcesStand};
 
 use crate::facts::Facts;
 use std::alloc::AllocError;
@@ -36,11 +36,11 @@ pub trait Control: Drop {
     fn node(&self) -> Node
         ensures { result.0 ≡ node_number self.now };
 
-    /// Makes room for the events of one answer. It stands for what it stood for, also after an `Err`.
-    fn reserve(&mut self) -> Result<(), AllocError>
+    /// Makes room for n events. It stands for what it stood for, also after an `Err`.
+    fn reserve(&mut self, n: usize) -> Result<(), AllocError>
         ensures node_number { node_number self.new ≡ node_number self.old }
         ensures stands { (S : Setup) (H : List Event) → stands self.old S H → stands self.new S H }
-        ensures room { OnOk result (32 ≤ spare self.new) };
+        ensures room { OnOk result (n ≤ spare self.new) };
 
     /// Notes the newest event of the history: a control that stood for the history before it then stands for the history with it.
     fn note(&mut self, facts: &Facts, e: Event)
@@ -64,13 +64,13 @@ pub trait Control: Drop {
         requires access { IsAccess facts.now (node_number self.now) t.0 cell }
         ensures { result ≡ on_access (row (setup_of facts.now).tree (node_number self.now)).control (setup_of facts.now) (events_of facts.now) (node_number self.now) t.0 cell false };
 
-    /// What a write of a cell meets. `at` is the place that t's version has, or would have, among those of the cell. Whoever was
-    /// read from, by somebody who is not aborted, still has its version: so it is between two answers.
+    /// What a write of a cell meets. `at` is the place that t's version has, or would have, among those of the cell; it is missing at
+    /// no timestamp node. Whoever was read from, by somebody who is not aborted, still has its version: so it is between two answers.
     fn before_write<C: Chains>(
         &self,
         facts: &Facts,
         chains: &C,
-        at: usize,
+        at: Option<usize>,
         t: Txn,
         cell: Cell,
     ) -> Verdict
@@ -78,7 +78,7 @@ pub trait Control: Drop {
         requires access { IsAccess facts.now (node_number self.now) t.0 cell }
         requires chains { HoldsVersions (setup_of facts.now) (events_of facts.now) (C.lists chains.now) }
         requires sources { SourcesStand (events_of facts.now) cell }
-        requires at { IsPlaceOf (setup_of facts.now) (events_of facts.now) cell t.0 at (writers_of (C.lists chains.now cell)) }
+        requires at { IsToldPlace (setup_of facts.now) (events_of facts.now) (node_number self.now) cell t.0 at (writers_of (C.lists chains.now cell)) }
         ensures { result ≡ on_access (row (setup_of facts.now).tree (node_number self.now)).control (setup_of facts.now) (events_of facts.now) (node_number self.now) t.0 cell true };
 
     /// Whether a reader sees a writer's version of a cell, for two that meet here.

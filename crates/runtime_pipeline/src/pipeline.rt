@@ -180,10 +180,10 @@ impl Control for Pipeline {
         self.register.node()
     }
 
-    fn reserve(&mut self) -> Result<(), AllocError> {
-        self.register.reserve(32)?;
-        self.predecessors.reserve()?;
-        self.cursors.reserve(32)
+    fn reserve(&mut self, n: usize) -> Result<(), AllocError> {
+        self.register.reserve(n)?;
+        self.predecessors.reserve(n)?;
+        self.cursors.reserve(n)
     }
 
     fn note(&mut self, facts: &Facts, e: Event) {
@@ -213,7 +213,7 @@ impl Control for Pipeline {
         &self,
         facts: &Facts,
         _chains: &C,
-        _at: usize,
+        _at: Option<usize>,
         t: Txn,
         cell: Cell,
     ) -> Verdict {

@@ -25,12 +25,6 @@ use std::marker::Model;
 use teb_history::{Event, find_txn};
 use teb_names::{Node, Txn};
 
-// The most events of one answer.
-const MOST_EVENTS: usize = 32;
-
-// For how many events room is made at a time.
-const AHEAD: usize = 64;
-
 /// For each unfinished transaction, those that are ahead of it at a node. It stands for a history, and is told of each event behind it.
 #[derive(Drop)]
 pub struct Predecessors {
@@ -67,20 +61,20 @@ impl Predecessors {
         }
     }
 
-    /// Makes room for 32 events. It stands for what it stood for, also after an `Err`.
-    pub fn reserve(&mut self) -> Result<(), AllocError>
+    /// Makes room for n events. It stands for what it stood for, also after an `Err`.
+    pub fn reserve(&mut self, n: usize) -> Result<(), AllocError>
         ensures lists { self.new.lists ≡ self.old.lists }
         ensures unfinished { self.new.unfinished ≡ self.old.unfinished }
-        ensures room { OnOk result (32 ≤ self.new.spare) }
+        ensures room { OnOk result (n ≤ self.new.spare) }
     {
-        if self.spare >= MOST_EVENTS {
+        if n <= self.spare {
             return Ok(());
         }
-        self.unfinished.reserve(AHEAD)?;
-        let most = self.unfinished.len().checked_add(AHEAD).ok_or(AllocError)?;
-        let room = most.checked_mul(AHEAD).ok_or(AllocError)?;
+        self.unfinished.reserve(n)?;
+        let most = self.unfinished.len().checked_add(n).ok_or(AllocError)?;
+        let room = most.checked_mul(n).ok_or(AllocError)?;
         self.lists.reserve(room)?;
-        self.spare = AHEAD;
+        self.spare = n;
         self.most = most;
         Ok(())
     }

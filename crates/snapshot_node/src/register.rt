@@ -42,15 +42,15 @@ impl Register {
         })
     }
 
-    /// Makes room for 32 events. It stays as it was, also after an `Err`.
-    pub(crate) fn reserve(&mut self) -> Result<(), AllocError>
+    /// Makes room for n events. It stays as it was, also after an `Err`.
+    pub(crate) fn reserve(&mut self, n: usize) -> Result<(), AllocError>
         ensures node { self.new.node ≡ self.old.node }
         ensures stands { (S : Setup) (H : List Event) → RegisterStands self.old S H → RegisterStands self.new S H }
-        ensures room { OnOk result (32 ≤ room_of self.new) }
+        ensures room { OnOk result (n ≤ room_of self.new) }
     {
-        self.batches.reserve()?;
-        self.readers.reserve(32)?;
-        self.writers.reserve(32)
+        self.batches.reserve(n)?;
+        self.readers.reserve(n)?;
+        self.writers.reserve(n)
     }
 
     /// Notes the newest event of the history, which takes one place of the room at the most.

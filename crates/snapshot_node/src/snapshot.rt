@@ -58,9 +58,9 @@ impl Control for Snapshot {
         self.register.node
     }
 
-    fn reserve(&mut self) -> Result<(), AllocError> {
-        self.register.reserve()?;
-        self.marks.reserve(32)
+    fn reserve(&mut self, n: usize) -> Result<(), AllocError> {
+        self.register.reserve(n)?;
+        self.marks.reserve(n)
     }
 
     fn note(&mut self, facts: &Facts, e: Event) {
@@ -92,7 +92,7 @@ impl Control for Snapshot {
         &self,
         facts: &Facts,
         _chains: &C,
-        _at: usize,
+        _at: Option<usize>,
         t: Txn,
         cell: Cell,
     ) -> Verdict {

@@ -33,12 +33,13 @@ impl<K: Ord + Copy, V: Copy> Bucket<K, V> {
     }
 
     /// Makes room for n more values. It holds the same, also after an `Err`.
+    #[inline(always)]
     pub(crate) fn reserve(&mut self, n: usize) -> Result<(), AllocError>
         ensures kept { IsKept K.cmp self.old self.new }
         ensures room { OnOk result (HasRoom self.new n) }
     {
-        self.keys.reserve(n)?;
-        self.values.reserve(n)?;
+        make_room(&mut self.keys, n)?;
+        make_room(&mut self.values, n)?;
         Ok(())
     }
 
@@ -116,6 +117,20 @@ impl<K: Ord + Copy, V: Copy> Bucket<K, V> {
         self.keys.remove(at);
         self.values.remove(at);
     }
+}
+
+/// Makes room for n more items. It costs a comparison where there is room.
+#[inline(always)]
+fn make_room<T>(items: &mut Vec<T>, n: usize) -> Result<(), AllocError>
+    ensures items { items.new.items ≡ items.old.items }
+    ensures len { vec_len items.new ≡ vec_len items.old }
+    ensures room { OnOk result (vec_len items.new + n ≤ vec_capacity items.new) }
+    ensures kept { vec_capacity items.old ≤ vec_capacity items.new }
+{
+    if n <= items.capacity() - items.len() {
+        return Ok(());
+    }
+    items.reserve(n)
 }
 
 /// Takes a range out of a vector. What stands behind it moves down.

@@ -203,9 +203,9 @@ impl Control for Stamps {
         self.node
     }
 
-    fn reserve(&mut self) -> Result<(), AllocError> {
-        self.batches.reserve()?;
-        self.reads.reserve(32)
+    fn reserve(&mut self, n: usize) -> Result<(), AllocError> {
+        self.batches.reserve(n)?;
+        self.reads.reserve(n)
     }
 
     fn note(&mut self, facts: &Facts, e: Event) {
@@ -252,10 +252,11 @@ impl Control for Stamps {
         &self,
         facts: &Facts,
         chains: &C,
-        at: usize,
+        at: Option<usize>,
         t: Txn,
         cell: Cell,
     ) -> Verdict {
+        let Some(at) = at else { unreachable!() };
         match self.reader_after(facts, chains, at, t, cell) {
             Some(reader) => Verdict::Break(Broken::Late { reader, cell }),
             None => Verdict::Go,

@@ -26,10 +26,10 @@ pub trait Chains: Drop {
 
     ghost spare: { Self → ℕ };
 
-    /// Makes room for one version. An `Err` leaves the lists as they were.
-    fn reserve(&mut self) -> Result<(), AllocError>
+    /// Makes room for n versions. An `Err` leaves the lists as they were.
+    fn reserve(&mut self, n: usize) -> Result<(), AllocError>
         ensures lists { (x : Cell) → lists self.new x ≡ lists self.old x }
-        ensures room { OnOk result (1 ≤ spare self.new) }
+        ensures room { OnOk result (n ≤ spare self.new) }
         ensures kept { spare self.old ≤ spare self.new };
 
     /// How many versions a cell has.

@@ -44,9 +44,9 @@ impl Chains for PlainChains {
 
     ghost spare = { λ c. c.spare };
 
-    fn reserve(&mut self) -> Result<(), AllocError> {
-        self.versions.reserve(1)?;
-        self.spare = self.spare.max(1);
+    fn reserve(&mut self, n: usize) -> Result<(), AllocError> {
+        self.versions.reserve(n)?;
+        self.spare = self.spare.max(n);
         Ok(())
     }
 
