@@ -1,5 +1,5 @@
 -- A question may be asked at each node of a path.
-use Rattle.std.proofs.Common.{◌≡◌, ℕ, zero, suc, ◌<◌, true, false, List, [], ◌∷◌, length, get_or, IsTrue, arith, eqb, eq-eqb, refl, subst, ap, ◌∙◌}
+use Rattle.std.proofs.Common.{◌≡◌, ℕ, zero, suc, ◌<◌, true, false, List, [], ◌∷◌, length, get_or, Option, IsTrue, arith, eqb, eq-eqb, refl, subst, ap, ◌∙◌}
 use Rattle.std.proofs.lemmas.Bool.{or_left, or_right}
 use Rattle.teb_names.specs.declared.Cell.{Cell}
 use Rattle.teb_names.specs.declared.Node.{Node}
@@ -18,7 +18,6 @@ use Rattle.cc_tree.specs.Grown.{node_numbers}
 use Rattle.phase_api.specs.declared.facts.Facts.{Facts}
 use Rattle.phase_api.specs.FactsView.{setup_of, events_of, IsTyped}
 use Rattle.phase_api.specs.Calls.{IsHere}
-use Rattle.phase_api.specs.Versions.{IsPlaceOf}
 use Rattle.candidate_reads.proofs.InOrder.{among_In}
 use Rattle.teb_laws.proofs.Within.{path-below}
 use Rattle.engine_core.specs.declared.engine_view.EngineView.{EngineView}
@@ -26,7 +25,7 @@ use Rattle.engine_core.specs.declared.stops.Question.{Question}
 use Rattle.engine_core.specs.declared.stops.Question.TheVariants.{Begin, Read, Write, Prepare}
 use Rattle.engine_core.specs.Wholes.{store_in, events_in}
 use Rattle.engine_core.specs.Asking.{IsAsking}
-use Rattle.engine_core.specs.Stopping.{MayAsk, MayAskAlong, verdict_on}
+use Rattle.engine_core.specs.Stopping.{MayAsk, MayAskAlong, AreTold, verdict_on}
 
 along : {K C : Type 0} (lists : C → Cell → List Version) (p : EngineView K C) (q : Question) (ns : List Node) → ((k : ℕ) (d : Node) → k < length ns → MayAsk lists p q (get_or ns k d).0) → MayAskAlong lists p q (node_numbers ns)
 along lists p q [] f = tt
@@ -58,8 +57,8 @@ module _ {K C : Type 0} (lists : C → Cell → List Version) (p : EngineView K 
     pub read_along : (x : Cell) → IsAsking (store_in p).setup (events_in p) t.0 x → MayAskAlong lists p (Read t x) (node_numbers ns)
     read_along x a = along lists p (Read t x) ns (λ k d h. record { node = node_at (spot_of (events_in p) t.0) ns e k d h; may = record { here = here_at p.facts t.0 ns k d ty e h; unfinished = a.unfinished; unprepared = a.unprepared; step = a.step } })
 
-    pub write_along : (x : Cell) (at : ℕ) → IsAsking (store_in p).setup (events_in p) t.0 x → IsPlaceOf (store_in p).setup (events_in p) x t.0 at (writers_of (lists p.chains.now x)) → MayAskAlong lists p (Write t x at) (node_numbers ns)
-    write_along x at a w = along lists p (Write t x at) ns (λ k d h. record { node = node_at (spot_of (events_in p) t.0) ns e k d h; may = (record { here = here_at p.facts t.0 ns k d ty e h; unfinished = a.unfinished; unprepared = a.unprepared; step = a.step }, w) })
+    pub write_along : (x : Cell) (at : Option ℕ) → IsAsking (store_in p).setup (events_in p) t.0 x → AreTold (store_in p).setup (events_in p) x t.0 at (writers_of (lists p.chains.now x)) → MayAskAlong lists p (Write t x at) (node_numbers ns)
+    write_along x at a w = along lists p (Write t x at) ns (λ k d h. record { node = node_at (spot_of (events_in p) t.0) ns e k d h; may = (record { here = here_at p.facts t.0 ns k d ty e h; unfinished = a.unfinished; unprepared = a.unprepared; step = a.step }, w (get_or ns k d).0 (on_at (store_in p).setup (spot_of (events_in p) t.0) ns k d e h)) })
 
     pub prepare_along : IsTrue (unfinished (events_in p) t.0) → MayAskAlong lists p (Prepare t) (node_numbers ns)
     prepare_along u = along lists p (Prepare t) ns (λ k d h. record { node = node_at (spot_of (events_in p) t.0) ns e k d h; may = (here_at p.facts t.0 ns k d ty e h, u) })
@@ -69,7 +68,7 @@ pub access_stop-along : (S : Setup) (H : List Event) (t : Txn) (x : Cell) (ns : 
 unfolding access_stop
 access_stop-along S H t x ns s e k = k ∙ ap (stop_of (verdict_on S H (Read t x))) e
 
-pub write_stop-along : (S : Setup) (H : List Event) (t : Txn) (x : Cell) (at : ℕ) (ns : List ℕ) (s : Stop) → ns ≡ path S.tree (spot_of H t.0) → s ≡ stop_of (verdict_on S H (Write t x at)) ns → s ≡ access_stop S H t.0 x true
+pub write_stop-along : (S : Setup) (H : List Event) (t : Txn) (x : Cell) (at : Option ℕ) (ns : List ℕ) (s : Stop) → ns ≡ path S.tree (spot_of H t.0) → s ≡ stop_of (verdict_on S H (Write t x at)) ns → s ≡ access_stop S H t.0 x true
 unfolding access_stop
 write_stop-along S H t x at ns s e k = k ∙ ap (stop_of (verdict_on S H (Write t x at))) e
 

@@ -1,5 +1,5 @@
 -- What is kept of the history, before and after one more event.
-use Rattle.std.proofs.Common.{◌≡◌, ℕ, zero, suc, ◌≤◌, true, List, [], ◌∷◌, length, slice_get, Some, Option, ℤ, refl, sym, subst, arith, IsTrue}
+use Rattle.std.proofs.Common.{◌≡◌, ℕ, zero, suc, ◌≤◌, true, List, [], ◌∷◌, length, Option, ℤ, sym, subst, arith}
 use Rattle.teb_names.specs.declared.Cell.{Cell}
 use Rattle.teb_names.specs.declared.Txn.{Txn}
 use Rattle.teb_history.specs.declared.Event.{Event}
@@ -9,9 +9,9 @@ use Rattle.teb_history.specs.Phases.{begun_count}
 use Rattle.teb_rules.specs.Setup.{Setup, Store}
 use Rattle.teb_laws.specs.Lawful.{Granted, Lawful, Settled}
 use Rattle.teb_laws.proofs.Answers.{lawful_cons}
-use Rattle.version_chain.specs.Lists.{Version, writers_of, is_writer}
+use Rattle.version_chain.specs.Lists.{Version, writers_of}
 use Rattle.phase_api.specs.Standing.{StandAll}
-use Rattle.phase_api.specs.Versions.{HoldsVersions, IsPlaceOf}
+use Rattle.phase_api.specs.Versions.{HoldsVersions}
 use Rattle.candidate_reads.specs.declared.placing.Place.{Place}
 use Rattle.dependency_book.specs.Books.{Lists, Shown, BookOf}
 use Rattle.cursor_book.specs.Cursors.{Kept, CursorsOf}
@@ -19,7 +19,7 @@ use Rattle.engine_core.specs.declared.engine_state.EngineState.{EngineState}
 use Rattle.engine_core.specs.declared.engine_view.EngineView.{EngineView}
 use Rattle.engine_core.specs.Stores.{store_of}
 use Rattle.engine_core.specs.Wholes.{IsWhole, StateIsWhole, ViewIsWhole, store_in, events_in}
-use Rattle.engine_core.specs.Keeping.{HasPlace, PutsAt}
+use Rattle.engine_core.specs.Keeping.{HasPlace, PutsAt, IsPlaced}
 use Rattle.engine_core.specs.Decisions.{MayBegin}
 
 -- the view of a whole state is whole
@@ -43,9 +43,8 @@ within_chain (w ∷ vs) zero b = omega arith
 within_chain (w ∷ vs) (suc i) b = let r = within_chain vs i (let z : suc i ≤ suc (length (writers_of vs)) = b in omega arith) in omega arith
 
 -- the place of a Put
-pub put_placed : (S : Setup) (H : List Event) (L : Cell → List Version) (t : Txn) (y : Cell) (v : Option ℤ) (p : Place) → IsPlaceOf S H y t.0 p.at (writers_of (L y)) →
-    (IsTrue (is_writer (L y) t.0) → slice_get (writers_of (L y)) p.at ≡ Some t.0) → p.is_there ≡ is_writer (L y) t.0 → MayBegin S H (Put t y v) × HasPlace L (Put t y v) p × PutsAt S H L (Put t y v) p
-put_placed S H L t y v p i o h = (tt, (within_chain (L y) p.at i.within, o, h), i)
+pub put_placed : (S : Setup) (H : List Event) (L : Cell → List Version) (t : Txn) (y : Cell) (v : Option ℤ) (p : Place) → IsPlaced S H L t.0 y p → HasPlace L (Put t y v) p × PutsAt S H L (Put t y v) p
+put_placed S H L t y v p i = ((within_chain (L y) p.at i.place.within, i.own, i.there), i.place)
 
 -- no more than 8,192 begin
 begun_after : (S : Setup) (P : List Event) (e : Event) → begun_count P ≤ 8192 → MayBegin S P e → begun_count (e ∷ P) ≤ 8192

@@ -1,5 +1,5 @@
 -- What a decision comes to when it is carried out.
-use Rattle.std.proofs.Common.{◌≡◌, ℕ, ◌<◌, List, ◌∷◌, refl, sym, subst}
+use Rattle.std.proofs.Common.{◌≡◌, ℕ, List, ◌∷◌, refl, sym, subst}
 use Rattle.teb_names.specs.declared.Cell.{Cell}
 use Rattle.teb_names.specs.declared.Txn.{Txn}
 use Rattle.teb_names.specs.declared.Session.{Session}
@@ -8,38 +8,34 @@ use Rattle.teb_history.specs.declared.Event.{Event}
 use Rattle.teb_history.specs.declared.Event.TheVariants.{Began, Got, Put, Ready, Done, Gone, Told}
 use Rattle.teb_rules.specs.Setup.{Setup, Store}
 use Rattle.teb_rules.specs.Answer.{Answered, answer}
+use Rattle.version_chain.specs.Lists.{Version}
+use Rattle.candidate_reads.specs.declared.placing.Place.{Place}
 use Rattle.teb_laws.specs.Lawful.{Granted, Lawful, Settled}
 use Rattle.teb_laws.proofs.Reachable.{answer_good}
 use Rattle.teb_laws.proofs.Sound.{tree_facts}
 use Rattle.teb_rules.specs.Accepted.{IsSound}
 use Rattle.engine_core.specs.declared.decision.Decision.{Decision}
 use Rattle.engine_core.specs.declared.decision.Decision.TheVariants.{Answer, Grant, Scan, Fall}
-use Rattle.engine_core.specs.Decisions.{carried, IsShort}
-use Rattle.engine_core.specs.Keeping.{HasRoomForVersion, HasRoomForCursor}
+use Rattle.engine_core.specs.declared.decision.Decision.TheVariants as decision
+use Rattle.engine_core.specs.Decisions.{carried, IsShort, IsNoPut}
+use Rattle.engine_core.specs.Keeping.{HasPlace, PutsAt}
 
-pub room_for_version : (n : ℕ) (e : Event) → 0 < n → HasRoomForVersion n e
-room_for_version n (Put t x v) h = h
-room_for_version n (Began t s k i) h = tt
-room_for_version n (Got t x w v) h = tt
-room_for_version n (Ready t) h = tt
-room_for_version n (Done t) h = tt
-room_for_version n (Gone t c) h = tt
-room_for_version n (Told t) h = tt
-
-pub room_for_cursor : (n : ℕ) (e : Event) → 0 < n → HasRoomForCursor n e
-room_for_cursor n (Began t s k i) h = h
-room_for_cursor n (Put t x v) h = tt
-room_for_cursor n (Got t x w v) h = tt
-room_for_cursor n (Ready t) h = tt
-room_for_cursor n (Done t) h = tt
-room_for_cursor n (Gone t c) h = tt
-room_for_cursor n (Told t) h = tt
+-- what is no Put needs no place
+pub no_put_placed : (S : Setup) (H : List Event) (L : Cell → List Version) (e : Event) (p : Place) → IsNoPut e → HasPlace L e p × PutsAt S H L e p
+no_put_placed S H L (Put t x v) p h = absurd h
+no_put_placed S H L (Began t s k i) p h = (tt, tt)
+no_put_placed S H L (Got t x w v) p h = (tt, tt)
+no_put_placed S H L (Ready t) p h = (tt, tt)
+no_put_placed S H L (Done t) p h = (tt, tt)
+no_put_placed S H L (Gone t c) p h = (tt, tt)
+no_put_placed S H L (Told t) p h = (tt, tt)
 
 -- what is no scan
 pub is_short : (d : Decision) → ((t : Txn) (x : Cell) (n : ℕ) → d ≡ Scan t x n → ⊥) → IsShort d
 is_short (Scan t x n) f = f t x n refl
 is_short (Answer r) f = tt
-is_short (Grant r e p) f = tt
+is_short (Grant r e) f = tt
+is_short (decision.Put t x v p) f = tt
 is_short (Fall t c) f = tt
 
 -- what is granted, where its history is lawful

@@ -16,26 +16,15 @@ use Rattle.teb_laws.proofs.Cascades.{abort_good}
 use Rattle.version_chain.specs.Lists.{Version}
 use Rattle.abort_cascade.specs.Rounds.{blames}
 use Rattle.engine_core.specs.declared.engine_state.EngineState.{EngineState}
-use Rattle.engine_core.specs.Wholes.{StateIsWhole, LogHasRoom, RoomFor}
-
--- less room
-less_room : {K : Type 0} (spare : K → ℕ) (j k : ℕ) (cs : List K) → j ≤ k → RoomFor spare k cs → RoomFor spare j cs
-less_room spare j k [] h r = tt
-less_room spare j k (c ∷ cs) h r = ((let a : k ≤ spare c = r.0 in omega arith), less_room spare j k cs h r.1)
-
-pub less_log_room : {K C : Type 0} (spare : K → ℕ) (j k : ℕ) (e : EngineState K C) → j ≤ k → LogHasRoom spare k e → LogHasRoom spare j e
-less_log_room spare j k e h r = record {
-  history = (let a = r.history in omega arith);
-  controls = less_room spare j k e.controls.items h r.controls;
-  book = (let a = r.book in omega arith);
-}
+use Rattle.engine_core.specs.Wholes.{StateIsWhole, HasRoom}
 
 -- how far an abort of t has come: whom the state was at first, and what it is once i of those that fall with t have fallen
-pub record HasFallen {K C : Type 0} (node_number : K → ℕ) (stands : K → Setup → List Event → Type 0) (lists : C → Cell → List Version) (spare : K → ℕ) (first now : EngineState K C) (t : ℕ) (c : Cause) (i : ℕ) : Type 0 where
+pub record HasFallen {K C : Type 0} (node_number : K → ℕ) (stands : K → Setup → List Event → Type 0) (lists : C → Cell → List Version) (spare : K → ℕ) (chain_spare : C → ℕ) (first now : EngineState K C) (t : ℕ) (c : Cause) (i : ℕ) : Type 0 where
   pub whole : StateIsWhole node_number stands lists now
   pub events : fall_in_turn first.history.events t (drop i (cascade first.history.events t)) now.history.events ≡ abort first.history.events t c
   pub setup : now.setup ≡ first.setup
-  pub room : (k : ℕ) → i + k ≡ length (cascade first.history.events t) → LogHasRoom spare k now
+  pub room : HasRoom spare chain_spare now
+  pub left : length (cascade first.history.events t) ≤ i + now.room
 
 -- the i-th that falls
 pub record IsNext (H : List Event) (t i : ℕ) (p : Txn × Txn) : Type 0 where

@@ -1,5 +1,5 @@
 -- The cells of a scan, one after the other.
-use Rattle.std.proofs.Common.{◌≡◌, ℕ, suc, ◌+◌, ◌-◌, ◌<◌, false, List, [], ◌∷◌, ◌++◌, length, Option, ℤ, refl, sym, ◌∙◌, ap, ap₂, subst, arith, append_assoc, append-nil, length-append}
+use Rattle.std.proofs.Common.{◌≡◌, ℕ, suc, ◌+◌, ◌-◌, ◌<◌, ◌≤◌, false, List, [], ◌∷◌, ◌++◌, length, Option, ℤ, refl, sym, ◌∙◌, ap, ap₂, subst, arith, append_assoc, append-nil, length-append}
 use Rattle.teb_names.specs.declared.Cell.{Cell}
 use Rattle.teb_names.specs.declared.Txn.{Txn}
 use Rattle.teb_history.specs.declared.Event.{Event}
@@ -15,7 +15,7 @@ use Rattle.teb_laws.specs.Lawful.{Granted, Lawful, MayAccess}
 use Rattle.version_chain.specs.Lists.{Version}
 use Rattle.engine_core.specs.declared.engine_state.EngineState.{EngineState}
 use Rattle.engine_core.specs.Stores.{store_of}
-use Rattle.engine_core.specs.Wholes.{StateIsWhole, LogHasRoom}
+use Rattle.engine_core.specs.Wholes.{StateIsWhole, HasRoom}
 use Rattle.engine_core.specs.Cells.{cell_at}
 
 -- the cells of a scan that are left after the first i
@@ -143,8 +143,9 @@ module _ (X Y : Store) (same : Y ≡ X) (H P : List Event) (t : Txn) (x : Cell) 
         (read_one X H t x n values P G i from v r h (ap₂ (λ (w : ℕ) (u : Option ℤ). (w, u)) from_here value_here) (q ∙ ap (λ (z : Cell). Got t z from v ∷ P) c))
 
 -- how far a scan has come: what the state was at first, and what it is once i cells are read
-pub record IsReading {K C : Type 0} (node_number : K → ℕ) (stands : K → Setup → List Event → Type 0) (lists : C → Cell → List Version) (spare : K → ℕ) (first now : EngineState K C) (t : ℕ) (x : Cell) (n : ℕ) (values : List (Option ℤ)) (i : ℕ) : Type 0 where
+pub record IsReading {K C : Type 0} (node_number : K → ℕ) (stands : K → Setup → List Event → Type 0) (lists : C → Cell → List Version) (spare : K → ℕ) (chain_spare : C → ℕ) (first now : EngineState K C) (t : ℕ) (x : Cell) (n : ℕ) (values : List (Option ℤ)) (i : ℕ) : Type 0 where
   pub whole : StateIsWhole node_number stands lists now
   pub read : HasRead (store_of first.setup) first.history.events t x n values now.history.events i
   pub setup : now.setup ≡ first.setup
-  pub room : (k : ℕ) → i + k ≡ n → LogHasRoom spare k now
+  pub room : HasRoom spare chain_spare now
+  pub left : n ≤ i + now.room

@@ -1,18 +1,26 @@
 -- Histories that requests lead to, and what holds of them.
-use Rattle.std.proofs.Common.{◌≡◌, List, [], ◌∷◌, ◌++◌, refl, sym, ◌∙◌, ap, subst}
+use Rattle.std.proofs.Common.{◌≡◌, ℕ, true, false, List, [], ◌∷◌, ◌++◌, refl, sym, ◌∙◌, ap, subst}
+use Rattle.teb_names.specs.declared.Cell.{Cell}
 use Rattle.teb_names.specs.declared.Session.{Session}
 use Rattle.teb_names.specs.declared.Request.{Request}
 use Rattle.teb_history.specs.declared.Event.{Event}
 use Rattle.teb_rules.specs.Accepted.{IsSound}
 use Rattle.teb_rules.specs.Answer.{answer}
 use Rattle.teb_rules.specs.Run.{history_after}
-use Rattle.teb_rules.specs.Setup.{Store}
+use Rattle.teb_rules.specs.Setup.{Setup, Store}
 use Rattle.teb_laws.specs.Laws.{OfEveryStore, reached}
 use Rattle.teb_laws.specs.Lawful.{Settled}
 use Rattle.teb_laws.proofs.Reachable.{run_good, empty_good}
 use Rattle.teb_laws.proofs.Runs.{history_after-append}
 use Rattle.teb_laws.proofs.Sound.{tree_facts}
-use Rattle.engine_core.specs.EngineModel.{IsReached}
+use Rattle.version_chain.specs.Lists.{Version}
+use Rattle.tree_toml.specs.declared.setup.Setup as kept
+use Rattle.tree_toml.specs.Seen.{setup_view}
+use Rattle.tree_toml.specs.Sound.{IsWhole}
+use Rattle.engine_core.specs.declared.engine_state.EngineState.{EngineState}
+use Rattle.engine_core.specs.EngineModel.{IsReached, IsEngine}
+use Rattle.engine_core.specs.Stores.{store_of}
+use Rattle.engine_core.specs.Wholes.{StateIsWhole, HasRoom}
 
 -- no request leads to nothing
 pub reached_none : (X : Store) (H : List Event) → H ≡ [] → IsReached X H
@@ -33,3 +41,15 @@ law_of P law X H sound (asked, e) = subst (P X) (sym e) (law X sound asked)
 -- nobody who is not aborted has read from somebody who is
 pub settled_of : (X : Store) (H : List Event) → IsSound X.setup → IsReached X H → Settled H
 settled_of X H = law_of (λ Y G. Settled G) (λ Y sound asked. (run_good Y (tree_facts Y.setup sound) sound.profiles asked [] (empty_good Y.setup)).settled) X H
+
+-- what an engine keeps, after an answer
+pub answered_engine : {K C : Type 0} (node_number : K → ℕ) (stands : K → Setup → List Event → Type 0) (spare : K → ℕ) (lists : C → Cell → List Version) (chain_spare : C → ℕ) (old new : EngineState K C) (s : Session) (r : Request) →
+    IsEngine node_number stands spare lists chain_spare old true → new.setup ≡ old.setup → StateIsWhole node_number stands lists new → HasRoom spare chain_spare new → new.history.events ≡ (answer (store_of old.setup) old.history.events s r).1 →
+    IsEngine node_number stands spare lists chain_spare new false
+answered_engine node_number stands spare lists chain_spare old new s r was same whole room next = record {
+  setup = subst (λ (u : kept.Setup). IsWhole (setup_view u)) (sym same) was.setup;
+  whole = whole;
+  reached = subst (λ (u : kept.Setup). IsReached (store_of u) new.history.events) (sym same) (reached_more (store_of old.setup) old.history.events s r was.reached new.history.events next);
+  room = room;
+  enough = λ f. absurd (cc);
+}

@@ -1,5 +1,5 @@
--- All is whole after room was made.
-use Rattle.std.proofs.Common.{◌≡◌, ℕ, true, false, List, sym, ◌∙◌, ap, subst}
+-- What room is left, and that all is whole after room was made.
+use Rattle.std.proofs.Common.{◌≡◌, ℕ, ◌≤◌, true, false, List, [], ◌∷◌, sym, ◌∙◌, ap, subst, arith}
 use Rattle.teb_names.specs.declared.Cell.{Cell}
 use Rattle.teb_history.specs.declared.Event.{Event}
 use Rattle.teb_rules.specs.Setup.{Setup, Store}
@@ -9,7 +9,27 @@ use Rattle.version_chain.specs.Lists.{Version, writers_of, is_writer}
 use Rattle.phase_api.specs.Standing.{StandAll}
 use Rattle.phase_api.specs.Versions.{HoldsVersions, HaveLastValues}
 use Rattle.dependency_book.specs.Books.{Lists}
-use Rattle.engine_core.specs.Wholes.{IsWhole}
+use Rattle.engine_core.specs.declared.engine_state.EngineState.{EngineState}
+use Rattle.engine_core.specs.Wholes.{IsWhole, RoomFor, HasRoomFor}
+
+-- less room
+pub less_room : {K : Type 0} (spare : K → ℕ) (j k : ℕ) (cs : List K) → j ≤ k → RoomFor spare k cs → RoomFor spare j cs
+less_room spare j k [] h r = tt
+less_room spare j k (c ∷ cs) h r = ((let a : k ≤ spare c = r.0 in omega arith), less_room spare j k cs h r.1)
+
+-- no room
+none_for : {K : Type 0} (spare : K → ℕ) (cs : List K) → RoomFor spare 0 cs
+none_for spare [] = tt
+none_for spare (c ∷ cs) = (omega arith, none_for spare cs)
+
+pub no_room : {K C : Type 0} (control_spare : K → ℕ) (chain_spare : C → ℕ) (c : EngineState K C) → HasRoomFor control_spare chain_spare 0 c
+no_room control_spare chain_spare c = record {
+  history = omega arith;
+  controls = none_for control_spare c.controls.items;
+  book = omega arith;
+  versions = omega arith;
+  cursors = omega arith;
+}
 
 same_versions : (S : Setup) (H : List Event) (L M : Cell → List Version) → ((x : Cell) → M x ≡ L x) → HoldsVersions S H L → HoldsVersions S H M
 same_versions S H L M m h = record {

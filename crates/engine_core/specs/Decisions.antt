@@ -7,6 +7,7 @@ use Rattle.teb_names.specs.declared.Cell.{Cell}
 use Rattle.teb_names.specs.declared.Refusal.{Refusal}
 use Rattle.teb_history.specs.declared.Event.{Event}
 use Rattle.teb_history.specs.declared.Event.TheVariants.{Began, Told}
+use Rattle.teb_history.specs.declared.Event.TheVariants as event
 use Rattle.teb_history.specs.Phases.{begun_count, cause_of}
 use Rattle.teb_rules.specs.Setup.{Setup, Store}
 use Rattle.teb_rules.specs.Stops.{begin_stop}
@@ -15,11 +16,11 @@ use Rattle.teb_rules.specs.declared.Stop.TheVariants as stop
 use Rattle.teb_rules.specs.Cascade.{txn}
 use Rattle.teb_rules.specs.Answer.{Answered, cells_from, read_all, got_values, broken_off, refuse, or_stop, or_refused, fits}
 use Rattle.version_chain.specs.Lists.{Version}
-use Rattle.engine_core.specs.Keeping.{HasPlace, PutsAt}
+use Rattle.engine_core.specs.Keeping.{IsPlaced}
 use Rattle.engine_core.specs.declared.decision.ShortReply.{ShortReply}
 use Rattle.engine_core.specs.declared.decision.ShortReply.TheVariants.{Begun, Value, Done, Prepared, Committed, Again, Aborted, Refused}
 use Rattle.engine_core.specs.declared.decision.Decision.{Decision}
-use Rattle.engine_core.specs.declared.decision.Decision.TheVariants.{Answer, Grant, Scan, Fall}
+use Rattle.engine_core.specs.declared.decision.Decision.TheVariants.{Answer, Grant, Put, Scan, Fall}
 
 -- the reply as the session gets it
 abbrev pub full_reply : ShortReply → Reply
@@ -35,7 +36,8 @@ full_reply (Refused r) = reply.Refused r
 -- the reply and the history after a decision
 abbrev pub carried : Store → List Event → Decision → Answered
 carried X H (Answer r) = (full_reply r, H)
-carried X H (Grant r e p) = (full_reply r, e ∷ H)
+carried X H (Grant r e) = (full_reply r, e ∷ H)
+carried X H (Put t x v p) = (reply.Done, event.Put t x v ∷ H)
 carried X H (Scan t x n) = got_values (read_all X H t.0 (cells_from x n))
 carried X H (Fall t c) = broken_off H t.0 c
 
@@ -44,9 +46,15 @@ abbrev pub MayBegin : Setup → List Event → Event → Type 0
 MayBegin S H (Began t s k i) = (begun_count H < 8192) × (begin_stop S H (record { kind = k; instance = i }) ≡ stop.Go)
 MayBegin S H _ = Unit {0}
 
+-- the event is no Put
+abbrev pub IsNoPut : Event → Type 0
+IsNoPut (event.Put t x v) = ⊥
+IsNoPut _ = Unit {0}
+
 -- a Put comes with its version's place among those that are there; at most 16 cells are read, each of which has a key
 abbrev pub IsBounded : (Cell → List Version) → Setup → List Event → Decision → Type 0
-IsBounded L S H (Grant r e p) = MayBegin S H e × HasPlace L e p × PutsAt S H L e p
+IsBounded L S H (Grant r e) = MayBegin S H e × IsNoPut e
+IsBounded L S H (Put t x v p) = IsPlaced S H L t.0 x p
 IsBounded L S H (Scan t x n) = (n ≤ 16) × (x.key + n ≤ 2 ^ 32)
 IsBounded L S H _ = Unit {0}
 

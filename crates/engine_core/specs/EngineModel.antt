@@ -1,5 +1,5 @@
 -- What contracts see of an engine, and what holds of each.
-use Rattle.std.specs.Prelude.{◌≡◌, ℕ, Bool, true, List}
+use Rattle.std.specs.Prelude.{◌≡◌, ◌≤◌, ℕ, Bool, true, List}
 use Rattle.teb_names.specs.declared.Cell.{Cell}
 use Rattle.teb_names.specs.declared.Session.{Session}
 use Rattle.teb_names.specs.declared.Request.{Request}
@@ -31,9 +31,10 @@ pub record IsOfEngine (e : EngineModel) : Type 0 where
   pub sound : IsSound e.store.setup
   pub reached : IsReached e.store e.events
 
--- the setup is one that a store can be set up with, the state is whole, its history is one that requests lead to, and where it is ready there is room
+-- the setup is one that a store can be set up with, the state is whole, its history is one that requests lead to, there is the room that is counted, and where it is ready there is room for an answer
 pub record IsEngine {K C : Type 0} (node_number : K → ℕ) (stands : K → Setup → List Event → Type 0) (spare : K → ℕ) (lists : C → Cell → List Version) (chain_spare : C → ℕ) (k : EngineState K C) (ready : Bool) : Type 0 where
   pub setup : SetUp.IsWhole (setup_view k.setup)
   pub whole : StateIsWhole node_number stands lists k
   pub reached : IsReached (store_of k.setup) k.history.events
-  pub room : ready ≡ true → HasRoom spare chain_spare k
+  pub room : HasRoom spare chain_spare k
+  pub enough : ready ≡ true → 32 ≤ k.room

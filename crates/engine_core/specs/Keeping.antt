@@ -1,21 +1,12 @@
--- What versions and cursors need to keep up with the history.
-use Rattle.std.specs.Prelude.{◌≡◌, ◌<◌, ◌≤◌, ℕ, List, length, slice_get, Some, IsTrue}
+-- What versions need to keep up with the history.
+use Rattle.std.specs.Prelude.{◌≡◌, ◌≤◌, ℕ, List, length, slice_get, Some, IsTrue}
 use Rattle.teb_names.specs.declared.Cell.{Cell}
 use Rattle.teb_history.specs.declared.Event.{Event}
-use Rattle.teb_history.specs.declared.Event.TheVariants.{Began, Put}
+use Rattle.teb_history.specs.declared.Event.TheVariants.{Put}
 use Rattle.teb_rules.specs.Setup.{Setup}
 use Rattle.version_chain.specs.Lists.{Version, writers_of, is_writer}
 use Rattle.phase_api.specs.Versions.{IsPlaceOf}
 use Rattle.candidate_reads.specs.declared.placing.Place.{Place}
-
--- there is room for the version that the event may put, and for the cursor of a transaction that begins
-abbrev pub HasRoomForVersion : ℕ → Event → Type 0
-HasRoomForVersion spare (Put t x v) = 0 < spare
-HasRoomForVersion spare _ = Unit {0}
-
-abbrev pub HasRoomForCursor : ℕ → Event → Type 0
-HasRoomForCursor spare (Began t s k i) = 0 < spare
-HasRoomForCursor spare _ = Unit {0}
 
 -- where the event is a Put: the place is within the chain, it is that of the transaction's version, if it has one, and it tells whether it has
 abbrev pub HasPlace : (Cell → List Version) → Event → Place → Type 0
@@ -26,3 +17,9 @@ HasPlace L _ p = Unit {0}
 abbrev pub PutsAt : Setup → List Event → (Cell → List Version) → Event → Place → Type 0
 PutsAt S P L (Put t x v) p = IsPlaceOf S P x t.0 p.at (writers_of (L x))
 PutsAt S P L _ p = Unit {0}
+
+-- the place that t's version of x has, or would have, in version order, and whether it stands there
+pub record IsPlaced (S : Setup) (H : List Event) (L : Cell → List Version) (t : ℕ) (x : Cell) (p : Place) : Type 0 where
+  pub place : IsPlaceOf S H x t p.at (writers_of (L x))
+  pub own : IsTrue (is_writer (L x) t) → slice_get (writers_of (L x)) p.at ≡ Some t
+  pub there : p.is_there ≡ is_writer (L x) t

@@ -1,5 +1,5 @@
 -- What holds of all that an engine keeps at once.
-use Rattle.std.specs.Prelude.{◌≡◌, ◌≤◌, ◌<◌, ℕ, List, [], ◌∷◌, length}
+use Rattle.std.specs.Prelude.{◌≡◌, ◌≤◌, ℕ, List, [], ◌∷◌, length}
 use Rattle.teb_names.specs.declared.Cell.{Cell}
 use Rattle.teb_history.specs.declared.Event.{Event}
 use Rattle.teb_history.specs.Phases.{begun_count}
@@ -49,14 +49,14 @@ abbrev pub RoomFor : {K : Type 0} → (K → ℕ) → ℕ → List K → Type 0
 RoomFor spare k [] = Unit {0}
 RoomFor spare k (c ∷ cs) = (k ≤ spare c) × RoomFor spare k cs
 
--- there is room for k more events in the history, in each control and in the book
-pub record LogHasRoom {K C : Type 0} (control_spare : K → ℕ) (k : ℕ) (c : EngineState K C) : Type 0 where
+-- there is room for k more events in all that is kept, whatever they are
+pub record HasRoomFor {K C : Type 0} (control_spare : K → ℕ) (chain_spare : C → ℕ) (k : ℕ) (c : EngineState K C) : Type 0 where
   pub history : k ≤ c.history.spare
   pub controls : RoomFor control_spare k c.controls.items
   pub book : k ≤ c.book.spare
+  pub versions : k ≤ chain_spare c.chains
+  pub cursors : k ≤ c.cursors.spare
 
--- there is room for an answer: 32 events at most, one of which may put a version and one of which may be a Began
-pub record HasRoom {K C : Type 0} (control_spare : K → ℕ) (chain_spare : C → ℕ) (c : EngineState K C) : Type 0 where
-  pub log : LogHasRoom control_spare 32 c
-  pub versions : 0 < chain_spare c.chains
-  pub cursors : 0 < c.cursors.spare
+-- there is the room that is counted
+abbrev pub HasRoom : {K C : Type 0} → (K → ℕ) → (C → ℕ) → EngineState K C → Type 0
+HasRoom control_spare chain_spare c = HasRoomFor control_spare chain_spare c.room c

@@ -10,8 +10,8 @@ ghost use Rattle.engine_core.specs.Decisions.{carried, IsBounded, IsRefusal};
 
 use crate::decision::{Decision, ShortReply, refused, stopped};
 use crate::engine_view::EngineView;
+use crate::put_places::{asked_place, at_of, granted_place};
 use crate::stops::{read_stop, write_stop};
-use candidate_reads::Place;
 use phase_api::Control;
 use teb_history::Event;
 use teb_names::{Cell, Refusal, Txn};
@@ -39,7 +39,6 @@ pub fn decide_read<K: Control, C: Chains>(view: &EngineView<K, C>, t: Txn, cell:
             from,
             value,
         },
-        Place::FRONT,
     )
 }
 
@@ -73,18 +72,16 @@ pub fn put<K: Control, C: Chains>(
     ensures answer { carried (store_in view.now) (events_in view.now) result ≡ put_value (store_in view.now).setup (events_in view.now) t.0 cell value }
     ensures bounded { IsBounded (C.lists view.now.chains.now) (store_in view.now).setup (events_in view.now) result }
 {
-    let place = view.place_of(t, cell);
-    match stopped(t, write_stop(view, t, cell, place.at)) {
+    let nodes = view.path_of(t);
+    let asked = asked_place(view, nodes, t, cell);
+    match stopped(t, write_stop(view, nodes, t, cell, at_of(asked))) {
         Some(decision) => decision,
-        None => Decision::Grant(
-            ShortReply::Done,
-            Event::Put {
-                txn: t,
-                cell,
-                value,
-            },
-            place,
-        ),
+        None => Decision::Put {
+            txn: t,
+            cell,
+            value,
+            place: granted_place(view, asked, t, cell),
+        },
     }
 }
 

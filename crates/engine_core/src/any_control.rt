@@ -76,12 +76,12 @@ impl Control for AnyControl {
         }
     }
 
-    fn reserve(&mut self) -> Result<(), AllocError> {
+    fn reserve(&mut self, n: usize) -> Result<(), AllocError> {
         match self {
-            AnyControl::Locks(c) => c.reserve(),
-            AnyControl::Pipeline(c) => c.reserve(),
-            AnyControl::Timestamp(c) => c.reserve(),
-            AnyControl::Snapshot(c) => c.reserve(),
+            AnyControl::Locks(c) => c.reserve(n),
+            AnyControl::Pipeline(c) => c.reserve(n),
+            AnyControl::Timestamp(c) => c.reserve(n),
+            AnyControl::Snapshot(c) => c.reserve(n),
         }
     }
 
@@ -116,7 +116,7 @@ impl Control for AnyControl {
         &self,
         facts: &Facts,
         chains: &C,
-        at: usize,
+        at: Option<usize>,
         t: Txn,
         cell: Cell,
     ) -> Verdict {

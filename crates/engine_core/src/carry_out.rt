@@ -1,76 +1,74 @@
 //! How a decision is carried out.
 
 ghost use Rattle.std.specs.Prelude.{◌≡◌, ◌≤◌, ◌+◌, ◌^◌};
+ghost use Rattle.teb_names.specs.declared.Reply.TheVariants as reply;
 ghost use Rattle.teb_laws.specs.Lawful.{Lawful, Settled};
 ghost use Rattle.engine_core.specs.Decisions.{carried, full_reply, IsBounded, IsShort};
 ghost use Rattle.engine_core.specs.Stores.{store_of};
-ghost use Rattle.engine_core.specs.Wholes.{StateIsWhole, LogHasRoom, HasRoom};
+ghost use Rattle.engine_core.specs.Wholes.{StateIsWhole, HasRoom};
 
 use crate::append_event::append_event;
 use crate::decision::{Decision, ShortReply};
 use crate::engine_state::EngineState;
 use crate::falls::fall;
 use crate::read_cells::read_cells;
+use candidate_reads::Place;
 use phase_api::Control;
-use teb_names::{Cell, Reply, Txn};
+use teb_history::Event;
+use teb_names::{Cell, ScanList, Txn};
 use version_chain::Chains;
 
-/// Writes the events of a decision, and gives the reply.
-pub fn carry_out<K: Control, C: Chains>(decision: Decision, state: &mut EngineState<K, C>) -> Reply
-    requires whole { StateIsWhole K.node_number K.stands C.lists state.old }
-    requires settled { Settled state.old.history.events }
-    requires leads { Lawful (store_of state.old.setup).setup (carried (store_of state.old.setup) state.old.history.events decision).1 }
-    requires bounded { IsBounded (C.lists state.old.chains) (store_of state.old.setup).setup state.old.history.events decision }
-    requires room { HasRoom K.spare C.spare state.old }
-    ensures reply { result ≡ (carried (store_of state.old.setup) state.old.history.events decision).0 }
-    ensures events { state.new.history.events ≡ (carried (store_of state.old.setup) state.old.history.events decision).1 }
-    ensures whole { StateIsWhole K.node_number K.stands C.lists state.new }
-    ensures setup { state.new.setup ≡ state.old.setup }
-{
-    if let Decision::Scan(t, first, count) = decision {
-        return scan(state, t, first, count);
-    }
-    write(decision, state).full()
-}
-
-/// Reads the cells of a scan.
-fn scan<K: Control, C: Chains>(
+/// Reads the cells of a scan, and gives their values.
+pub fn scan<K: Control, C: Chains>(
     state: &mut EngineState<K, C>,
     t: Txn,
     first: Cell,
     count: u8,
-) -> Reply
+) -> ScanList
     requires whole { StateIsWhole K.node_number K.stands C.lists state.old }
     requires leads { Lawful (store_of state.old.setup).setup (carried (store_of state.old.setup) state.old.history.events (Decision.Scan t first count)).1 }
     requires few { count ≤ 16 }
     requires keys { first.key + count ≤ 2 ^ 32 }
-    requires room { LogHasRoom K.spare 32 state.old }
-    ensures reply { result ≡ (carried (store_of state.old.setup) state.old.history.events (Decision.Scan t first count)).0 }
+    requires room { HasRoom K.spare C.spare state.old }
+    requires enough { 32 ≤ state.old.room }
+    ensures reply { reply.Values result ≡ (carried (store_of state.old.setup) state.old.history.events (Decision.Scan t first count)).0 }
     ensures events { state.new.history.events ≡ (carried (store_of state.old.setup) state.old.history.events (Decision.Scan t first count)).1 }
     ensures whole { StateIsWhole K.node_number K.stands C.lists state.new }
     ensures setup { state.new.setup ≡ state.old.setup }
+    ensures room { HasRoom K.spare C.spare state.new }
 {
-    Reply::Values(read_cells(state, t, first, count))
+    read_cells(state, t, first, count)
 }
 
-/// Writes the events of a decision that is no scan. Its reply is a short one, which is moved at little cost.
-fn write<K: Control, C: Chains>(decision: Decision, state: &mut EngineState<K, C>) -> ShortReply
+/// Writes the events of a decision that is no scan, and gives the reply: a short one, which is moved at little cost.
+pub fn write<K: Control, C: Chains>(decision: Decision, state: &mut EngineState<K, C>) -> ShortReply
     requires short { IsShort decision }
     requires whole { StateIsWhole K.node_number K.stands C.lists state.old }
     requires settled { Settled state.old.history.events }
     requires leads { Lawful (store_of state.old.setup).setup (carried (store_of state.old.setup) state.old.history.events decision).1 }
     requires bounded { IsBounded (C.lists state.old.chains) (store_of state.old.setup).setup state.old.history.events decision }
     requires room { HasRoom K.spare C.spare state.old }
+    requires enough { 32 ≤ state.old.room }
     ensures reply { full_reply result ≡ (carried (store_of state.old.setup) state.old.history.events decision).0 }
     ensures events { state.new.history.events ≡ (carried (store_of state.old.setup) state.old.history.events decision).1 }
     ensures whole { StateIsWhole K.node_number K.stands C.lists state.new }
     ensures setup { state.new.setup ≡ state.old.setup }
+    ensures room { HasRoom K.spare C.spare state.new }
 {
     match decision {
         Decision::Answer(reply) => reply,
-        Decision::Grant(reply, event, place) => {
-            append_event(state, event, place);
+        Decision::Grant(reply, event) => {
+            append_event(state, event, Place::FRONT);
             reply
+        }
+        Decision::Put {
+            txn,
+            cell,
+            value,
+            place,
+        } => {
+            append_event(state, Event::Put { txn, cell, value }, place);
+            ShortReply::Done
         }
         Decision::Scan(..) => unreachable!(),
         Decision::Fall(t, cause) => {

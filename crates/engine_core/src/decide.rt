@@ -13,7 +13,6 @@ use crate::engine_view::EngineView;
 use crate::holders::held;
 use crate::scans::decide_scan;
 use crate::stops::{begin_stop, commit_stop, prepare_stop};
-use candidate_reads::Place;
 use phase_api::Control;
 use teb_history::Event;
 use teb_names::{Cause, Refusal, Request, Session, Spot, Txn};
@@ -100,7 +99,6 @@ fn decide_begin<K: Control, C: Chains>(
             kind: spot.kind,
             instance: spot.instance,
         },
-        Place::FRONT,
     )
 }
 
@@ -111,7 +109,7 @@ fn tell<K: Control, C: Chains>(view: &EngineView<K, C>, t: Txn) -> Decision
     ensures bounded { IsBounded (C.lists view.now.chains.now) (store_in view.now).setup (events_in view.now) result }
 {
     let cause = view.facts.history.cause(t).unwrap_or(Cause::Asked);
-    Decision::Grant(ShortReply::Aborted(cause), Event::Told(t), Place::FRONT)
+    Decision::Grant(ShortReply::Aborted(cause), Event::Told(t))
 }
 
 /// What the request of an unfinished transaction is answered.
@@ -146,7 +144,7 @@ fn decide_prepare<K: Control, C: Chains>(view: &EngineView<K, C>, t: Txn) -> Dec
     }
     match stopped(t, prepare_stop(view, t)) {
         Some(decision) => decision,
-        None => Decision::Grant(ShortReply::Prepared, Event::Ready(t), Place::FRONT),
+        None => Decision::Grant(ShortReply::Prepared, Event::Ready(t)),
     }
 }
 
@@ -158,6 +156,6 @@ fn decide_commit<K: Control, C: Chains>(view: &EngineView<K, C>, t: Txn) -> Deci
 {
     match stopped(t, commit_stop(view, t)) {
         Some(decision) => decision,
-        None => Decision::Grant(ShortReply::Committed, Event::Done(t), Place::FRONT),
+        None => Decision::Grant(ShortReply::Committed, Event::Done(t)),
     }
 }

@@ -16,8 +16,15 @@ use teb_rules::{Broken, Stop};
 pub enum Decision {
     /// It replies, and writes nothing.
     Answer(ShortReply),
-    /// It replies, and writes one event. A Put gives its transaction's version a value at the place; else the place says nothing.
-    Grant(ShortReply, Event, Place),
+    /// It replies, and writes one event, which is no Put.
+    Grant(ShortReply, Event),
+    /// The transaction puts the cell; its version has the value then, at the place.
+    Put {
+        txn: Txn,
+        cell: Cell,
+        value: Option<i64>,
+        place: Place,
+    },
     /// The transaction reads so many cells from this one on.
     Scan(Txn, Cell, u8),
     /// The transaction is aborted, and all that have to fall with it.

@@ -15,7 +15,8 @@ ghost use Rattle.engine_core.specs.AnyControls.{any_node_number, any_spare, any_
 ghost use Rattle.engine_core.specs.EngineModel.{IsEngine, IsOfEngine};
 
 use crate::any_control::{AnyControl, controls_of};
-use crate::carry_out::carry_out;
+use crate::carry_out::{scan, write};
+use crate::decision::Decision;
 use crate::engine_state::{EngineState, facts_of};
 use crate::latest_txns::LatestTxns;
 use crate::room::make_room;
@@ -168,7 +169,10 @@ fn answer_in<C: Chains>(
     ensures events { state.new.history.events ≡ (answer (store_of state.old.setup) state.old.history.events session request).1 }
 {
     let decision = state.decide(session, request);
-    carry_out(decision, state)
+    if let Decision::Scan(t, first, count) = decision {
+        return Reply::Values(scan(state, t, first, count));
+    }
+    write(decision, state).full()
 }
 
 /// What an engine keeps of an empty history.
@@ -193,5 +197,6 @@ fn new_state<C: Chains>(
         book: Book::new(alloc),
         cursors: Cursors::new(alloc),
         latest: LatestTxns::new(),
+        room: 0,
     })
 }

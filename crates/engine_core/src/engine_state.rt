@@ -22,7 +22,8 @@ use tree_toml::Setup;
 use version_chain::Chains;
 
 /// A store with its history, and what is kept of the history: a control for each node, the versions, who read from whom,
-/// where each transaction stands in its profile, and which one each session began last.
+/// where each transaction stands in its profile, which one each session began last, and for how many more events there is room
+/// in all of it.
 #[derive(Drop)]
 pub struct EngineState<K: Control, C: Chains> {
     pub setup: Setup,
@@ -32,6 +33,7 @@ pub struct EngineState<K: Control, C: Chains> {
     pub book: Book,
     pub cursors: Cursors,
     pub latest: LatestTxns,
+    pub room: usize,
 }
 
 impl<K: Control, C: Chains> EngineState<K, C> {

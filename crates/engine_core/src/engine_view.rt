@@ -1,6 +1,6 @@
 //! What a decision looks at: what an engine keeps, lent. Of it controls are told the `Facts`.
 
-ghost use Rattle.std.specs.Prelude.{◌≡◌, ◌<◌, ltb, length, IsTrue, is_some, slice_get, Some};
+ghost use Rattle.std.specs.Prelude.{◌≡◌, ◌<◌, ltb, length, All, IsTrue, is_some, slice_get, Some};
 ghost use Rattle.teb_rules.specs.Versions.{read};
 ghost use Rattle.version_chain.specs.Lists.{writers_of, is_writer};
 ghost use Rattle.phase_api.specs.Versions.{IsPlaceOf};
@@ -78,7 +78,8 @@ impl<'a, K: Control, C: Chains> EngineView<'a, K, C> {
     pub fn path_of(&self, t: Txn) -> &'a [Node]
         requires whole { ViewIsWhole K.node_number K.stands C.lists self.now }
         requires unfinished { IsTrue (unfinished (events_in self.now) t.0) }
-        ensures { node_numbers result.now ≡ path (store_in self.now).setup.tree (spot_of (events_in self.now) t.0) }
+        ensures nodes { node_numbers result.now ≡ path (store_in self.now).setup.tree (spot_of (events_in self.now) t.0) }
+        ensures within { All (λ n. n.0 < length (store_in self.now).setup.tree) result.now }
     {
         self.facts.tree.path(self.spot_of(t))
     }

@@ -1,11 +1,11 @@
 //! An abort, with all that fall with it.
 
-ghost use Rattle.std.specs.Prelude.{◌≡◌, IsTrue};
+ghost use Rattle.std.specs.Prelude.{◌≡◌, ◌≤◌, IsTrue};
 ghost use Rattle.teb_history.specs.Phases.{unfinished};
 ghost use Rattle.teb_rules.specs.Cascade.{abort};
 ghost use Rattle.teb_laws.specs.Lawful.{Settled};
 ghost use Rattle.engine_core.specs.Stores.{store_of};
-ghost use Rattle.engine_core.specs.Wholes.{StateIsWhole, LogHasRoom};
+ghost use Rattle.engine_core.specs.Wholes.{StateIsWhole, HasRoom};
 
 use crate::append_event::append_event;
 use crate::engine_state::{EngineState, facts_of};
@@ -21,10 +21,12 @@ pub fn fall<K: Control, C: Chains>(state: &mut EngineState<K, C>, t: Txn, cause:
     requires whole { StateIsWhole K.node_number K.stands C.lists state.old }
     requires settled { Settled state.old.history.events }
     requires unfinished { IsTrue (unfinished state.old.history.events t.0) }
-    requires room { LogHasRoom K.spare 32 state.old }
+    requires room { HasRoom K.spare C.spare state.old }
+    requires enough { 32 ≤ state.old.room }
     ensures whole { StateIsWhole K.node_number K.stands C.lists state.new }
     ensures events { state.new.history.events ≡ abort state.old.history.events t.0 cause }
     ensures setup { state.new.setup ≡ state.old.setup }
+    ensures room { HasRoom K.spare C.spare state.new }
 {
     let fallen = cascade(&state.book, &facts_of(&state.history, &state.setup), t);
     append_event(state, Event::Gone { txn: t, cause }, Place::FRONT);

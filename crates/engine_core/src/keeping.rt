@@ -1,6 +1,6 @@
 //! Versions and cursors keep up with the history.
 
-ghost use Rattle.std.specs.Prelude.{◌≡◌, ◌<◌, ◌≤◌, ◌∷◌, List, length, drop};
+ghost use Rattle.std.specs.Prelude.{◌≡◌, ◌<◌, ◌≤◌, ◌+◌, ◌∷◌, List, length, drop};
 ghost use Rattle.teb_history.specs.declared.Event.{Event};
 ghost use Rattle.teb_rules.specs.Setup.{Setup};
 ghost use Rattle.teb_laws.specs.TreeFacts.{TreeFacts};
@@ -10,7 +10,7 @@ ghost use Rattle.teb_rules.specs.Setup.{profile};
 ghost use Rattle.phase_api.specs.FactsView.{setup_of, events_of, IsTyped};
 ghost use Rattle.phase_api.specs.Versions.{HoldsVersions};
 ghost use Rattle.cursor_book.specs.Cursors.{CursorsOf, moved};
-ghost use Rattle.engine_core.specs.Keeping.{HasRoomForVersion, HasPlace, PutsAt, HasRoomForCursor};
+ghost use Rattle.engine_core.specs.Keeping.{HasPlace, PutsAt};
 
 use candidate_reads::Place;
 use cursor_book::Cursors;
@@ -22,9 +22,10 @@ use version_chain::Chains;
 /// The versions after an event: a Put gives its transaction's version the value, at the place, and an abort takes
 /// away all versions of its transaction.
 pub fn keep_versions<C: Chains>(chains: &mut C, event: Event, place: Place)
-    requires room { HasRoomForVersion (C.spare chains.old) event }
+    requires room { 0 < C.spare chains.old }
     requires place { HasPlace (C.lists chains.old) event place }
-    ensures { (S : Setup) (P : List Event) → TreeFacts S → Lawful S (event ∷ P) → HoldsVersions S P (C.lists chains.old) → PutsAt S P (C.lists chains.old) event place → HoldsVersions S (event ∷ P) (C.lists chains.new) }
+    ensures spare { C.spare chains.old ≤ C.spare chains.new + 1 }
+    ensures versions { (S : Setup) (P : List Event) → TreeFacts S → Lawful S (event ∷ P) → HoldsVersions S P (C.lists chains.old) → PutsAt S P (C.lists chains.old) event place → HoldsVersions S (event ∷ P) (C.lists chains.new) }
 {
     match event {
         Event::Put { txn, cell, value } => {
@@ -45,8 +46,9 @@ pub fn keep_cursors(cursors: &mut Cursors, facts: &Facts, event: Event)
     requires lawful { Lawful (setup_of facts.now) (events_of facts.now) }
     requires profiled { length (setup_of facts.now).profiles ≡ (setup_of facts.now).types }
     requires cursors { CursorsOf cursors.old.cursors (setup_of facts.now) (drop 1 (events_of facts.now)) }
-    requires room { HasRoomForCursor cursors.old.spare event }
-    ensures { CursorsOf cursors.new.cursors (setup_of facts.now) (events_of facts.now) }
+    requires room { 0 < cursors.old.spare }
+    ensures spare { cursors.old.spare ≤ cursors.new.spare + 1 }
+    ensures cursors { CursorsOf cursors.new.cursors (setup_of facts.now) (events_of facts.now) }
 {
     match event {
         Event::Began { .. } => cursors.begin(),
@@ -62,7 +64,8 @@ fn move_cursor(cursors: &mut Cursors, facts: &Facts, t: Txn, cell: Cell)
     requires profiled { length (setup_of facts.now).profiles ≡ (setup_of facts.now).types }
     requires above { 0 < t.0 }
     requires begun { t.0 ≤ length cursors.old.cursors }
-    ensures { cursors.new.cursors ≡ moved cursors.old.cursors t.0 (profile (setup_of facts.now) (kind_of (events_of facts.now) t.0)) cell.table.0 }
+    ensures spare { cursors.new.spare ≡ cursors.old.spare }
+    ensures cursors { cursors.new.cursors ≡ moved cursors.old.cursors t.0 (profile (setup_of facts.now) (kind_of (events_of facts.now) t.0)) cell.table.0 }
 {
     let Some(spot) = facts.spot(t) else {
         unreachable!()

@@ -16,6 +16,7 @@ mod holders;
 mod keeping;
 mod latest_txns;
 mod notes;
+mod put_places;
 mod read_cells;
 mod room;
 mod scans;

@@ -45,23 +45,22 @@ pub fn note_all<K: Control>(controls: &mut [K], facts: &Facts, event: Event, n: 
     }
 }
 
-/// Makes room in the control of each node for the events of one answer. They stand for what they stood for, also after an
-/// `Err`.
-pub fn reserve_each<K: Control>(controls: &mut Vec<K>) -> Result<(), AllocError>
+/// Makes room for n events in the control of each node. They stand for what they stood for, also after an `Err`.
+pub fn reserve_each<K: Control>(controls: &mut Vec<K>, n: usize) -> Result<(), AllocError>
     ensures stand { (S : Rules) (H : List Event) → StandAll K.node_number K.stands controls.old.items S H → StandAll K.node_number K.stands controls.new.items S H }
-    ensures room { OnOk result (RoomFor K.spare 32 controls.new.items) }
+    ensures room { OnOk result (RoomFor K.spare n controls.new.items) }
 {
-    reserve_all(controls)
+    reserve_all(controls, n)
 }
 
-/// Makes room in each control for the events of one answer. They stand for what they stood for, also after an `Err`.
-pub fn reserve_all<K: Control>(controls: &mut [K]) -> Result<(), AllocError>
-    ensures stands { (n : ℕ) (S : Rules) (H : List Event) → StandFrom K.node_number K.stands n controls.old S H → StandFrom K.node_number K.stands n controls.new S H }
-    ensures room { OnOk result (RoomFor K.spare 32 controls.new) }
+/// Makes room for n events in each control. They stand for what they stood for, also after an `Err`.
+pub fn reserve_all<K: Control>(controls: &mut [K], n: usize) -> Result<(), AllocError>
+    ensures stands { (m : ℕ) (S : Rules) (H : List Event) → StandFrom K.node_number K.stands m controls.old S H → StandFrom K.node_number K.stands m controls.new S H }
+    ensures room { OnOk result (RoomFor K.spare n controls.new) }
 {
     if let Some((first, rest)) = controls.split_first_mut() {
-        first.reserve()?;
-        reserve_all(rest)?;
+        first.reserve(n)?;
+        reserve_all(rest, n)?;
     }
     Ok(())
 }

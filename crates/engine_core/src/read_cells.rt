@@ -4,7 +4,7 @@ ghost use Rattle.std.specs.Prelude.{◌≡◌, ◌≤◌, ◌+◌, ◌^◌};
 ghost use Rattle.teb_rules.specs.Answer.{cells_from, read_all};
 ghost use Rattle.teb_laws.specs.Lawful.{Lawful};
 ghost use Rattle.engine_core.specs.Stores.{store_of};
-ghost use Rattle.engine_core.specs.Wholes.{StateIsWhole, LogHasRoom};
+ghost use Rattle.engine_core.specs.Wholes.{StateIsWhole, HasRoom};
 
 use crate::append_event::append_event;
 use crate::engine_state::EngineState;
@@ -26,11 +26,13 @@ pub fn read_cells<K: Control, C: Chains>(
     requires leads { Lawful (store_of state.old.setup).setup (read_all (store_of state.old.setup) state.old.history.events t.0 (cells_from first count)).1 }
     requires few { count ≤ 16 }
     requires keys { first.key + count ≤ 2 ^ 32 }
-    requires room { LogHasRoom K.spare 32 state.old }
+    requires room { HasRoom K.spare C.spare state.old }
+    requires enough { 32 ≤ state.old.room }
     ensures values { result ≡ (read_all (store_of state.old.setup) state.old.history.events t.0 (cells_from first count)).0 }
     ensures whole { StateIsWhole K.node_number K.stands C.lists state.new }
     ensures events { state.new.history.events ≡ (read_all (store_of state.old.setup) state.old.history.events t.0 (cells_from first count)).1 }
     ensures setup { state.new.setup ≡ state.old.setup }
+    ensures room { HasRoom K.spare C.spare state.new }
 {
     let mut values = ScanList::new();
     for i in 0..count {

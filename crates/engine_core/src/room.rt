@@ -1,7 +1,7 @@
-//! Room for the events of one answer.
+//! Room for the events of answers.
 
-ghost use Rattle.std.specs.Prelude.{◌≡◌, OnOk};
-ghost use Rattle.engine_core.specs.Wholes.{StateIsWhole, HasRoom};
+ghost use Rattle.std.specs.Prelude.{◌≡◌, ◌≤◌, OnOk};
+ghost use Rattle.engine_core.specs.Wholes.{StateIsWhole, HasRoomFor, HasRoom};
 
 use crate::engine_state::EngineState;
 use crate::notes::reserve_each;
@@ -12,18 +12,44 @@ use version_chain::Chains;
 /// The most events of one answer: an abort takes at most 31 others with it, and a scan reads 16 cells.
 const MOST_EVENTS: usize = 32;
 
-/// Makes room for one answer. All stands for what it stood for, also after an `Err`.
+/// For how many events room is made at a time.
+const AHEAD: usize = 256;
+
+/// Makes room for one answer, where there is less. All stands for what it stood for, also after an `Err`.
 pub fn make_room<K: Control, C: Chains>(state: &mut EngineState<K, C>) -> Result<(), AllocError>
+    requires whole { StateIsWhole K.node_number K.stands C.lists state.old }
+    requires room { HasRoom K.spare C.spare state.old }
+    ensures whole { StateIsWhole K.node_number K.stands C.lists state.new }
+    ensures events { state.new.history.events ≡ state.old.history.events }
+    ensures setup { state.new.setup ≡ state.old.setup }
+    ensures room { HasRoom K.spare C.spare state.new }
+    ensures enough { OnOk result (32 ≤ state.new.room) }
+{
+    if state.room >= MOST_EVENTS {
+        return Ok(());
+    }
+    state.room = 0;
+    reserve(state, AHEAD)?;
+    state.room = AHEAD;
+    Ok(())
+}
+
+/// Makes room for n events in all that is kept. It stands for what it stood for, also after an `Err`.
+fn reserve<K: Control, C: Chains>(
+    state: &mut EngineState<K, C>,
+    n: usize,
+) -> Result<(), AllocError>
     requires { StateIsWhole K.node_number K.stands C.lists state.old }
     ensures whole { StateIsWhole K.node_number K.stands C.lists state.new }
     ensures events { state.new.history.events ≡ state.old.history.events }
     ensures setup { state.new.setup ≡ state.old.setup }
-    ensures room { OnOk result (HasRoom K.spare C.spare state.new) }
+    ensures left { state.new.room ≡ state.old.room }
+    ensures room { OnOk result (HasRoomFor K.spare C.spare n state.new) }
 {
-    state.history.reserve(MOST_EVENTS)?;
-    reserve_each(&mut state.controls)?;
-    state.book.reserve()?;
-    state.chains.reserve()?;
-    state.cursors.reserve(1)?;
+    state.history.reserve(n)?;
+    reserve_each(&mut state.controls, n)?;
+    state.book.reserve(n)?;
+    state.chains.reserve(n)?;
+    state.cursors.reserve(n)?;
     Ok(())
 }

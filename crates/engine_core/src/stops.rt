@@ -1,13 +1,13 @@
 //! Where a request stops: at the first node from the root that waits or breaks.
 
 ghost use Rattle.std.specs.Prelude.{◌≡◌, ◌<◌, length, true, false, IsTrue};
-ghost use Rattle.teb_history.specs.Phases.{unfinished};
+ghost use Rattle.teb_history.specs.Phases.{unfinished, spot_of};
+ghost use Rattle.teb_rules.specs.Tree.{path};
 ghost use Rattle.teb_rules.specs.Stops.{stop_of, access_stop, prepare_stop, commit_stop, begin_stop};
 ghost use Rattle.cc_tree.specs.Grown.{node_numbers};
 ghost use Rattle.version_chain.specs.Lists.{writers_of};
-ghost use Rattle.phase_api.specs.Versions.{IsPlaceOf};
 ghost use Rattle.engine_core.specs.Wholes.{store_in, events_in, ViewIsWhole};
-ghost use Rattle.engine_core.specs.Stopping.{verdict_on, MayAsk, MayAskAlong};
+ghost use Rattle.engine_core.specs.Stopping.{verdict_on, AreTold, MayAsk, MayAskAlong};
 ghost use Rattle.engine_core.specs.Asking.{IsAsking};
 
 use crate::engine_view::EngineView;
@@ -17,12 +17,13 @@ use teb_names::{Cell, Node, Spot, Txn};
 use teb_rules::{Stop, Verdict};
 use version_chain::Chains;
 
-/// What the nodes of a path are asked. A write comes with the place that its version has, or would have, in the cell's chain.
+/// What the nodes of a path are asked. A write comes with the place that its version has, or would have, in the cell's chain, at
+/// least where a timestamp node is asked.
 #[derive(Clone, Copy)]
 pub enum Question {
     Begin(Spot),
     Read(Txn, Cell),
-    Write(Txn, Cell, usize),
+    Write(Txn, Cell, Option<usize>),
     Prepare(Txn),
 }
 
@@ -35,19 +36,21 @@ pub fn read_stop<K: Control, C: Chains>(view: &EngineView<K, C>, t: Txn, cell: C
     stop_along(view.path_of(t), view, Question::Read(t, cell))
 }
 
-/// Where a write stops, whose version has, or would have, the place `at`.
+/// Where a write stops, whose version has, or would have, the place `at`. The nodes are t's path.
 pub fn write_stop<K: Control, C: Chains>(
     view: &EngineView<K, C>,
+    nodes: &[Node],
     t: Txn,
     cell: Cell,
-    at: usize,
+    at: Option<usize>,
 ) -> Stop
     requires whole { ViewIsWhole K.node_number K.stands C.lists view.now }
     requires asks { IsAsking (store_in view.now).setup (events_in view.now) t.0 cell }
-    requires place { IsPlaceOf (store_in view.now).setup (events_in view.now) cell t.0 at (writers_of (C.lists view.now.chains.now cell)) }
+    requires nodes { node_numbers nodes.now ≡ path (store_in view.now).setup.tree (spot_of (events_in view.now) t.0) }
+    requires told { AreTold (store_in view.now).setup (events_in view.now) cell t.0 at (writers_of (C.lists view.now.chains.now cell)) }
     ensures { result ≡ access_stop (store_in view.now).setup (events_in view.now) t.0 cell true }
 {
-    stop_along(view.path_of(t), view, Question::Write(t, cell, at))
+    stop_along(nodes, view, Question::Write(t, cell, at))
 }
 
 /// Where a Prepare stops.

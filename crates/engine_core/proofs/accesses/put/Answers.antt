@@ -1,5 +1,4 @@
 use Rattle.engine_core.specs.Wholes.{store_in, events_in}
-use Rattle.engine_core.proofs.Appending.{put_placed}
 use Rattle.engine_core.proofs.Deciding.{stops, stops_bounded, goes}
 use Rattle.engine_core.proofs.accesses.put.Goals as goal
 
@@ -11,7 +10,3 @@ returns-in-Some-clause-bounded g c = stops_bounded (store_in c.args.view.now) (g
 
 pub returns-in-None-clause-answer : goal.returns-in-None-clause-answer
 returns-in-None-clause-answer g c = goes (store_in c.args.view.now) (events_in c.args.view.now) c.args.t.0 _ _ _ _ c.write_stop.ensures (c.stopped.ensures (store_in c.args.view.now) (events_in c.args.view.now)) c.in-None.is
-
-pub returns-in-None-clause-bounded : goal.returns-in-None-clause-bounded
-returns-in-None-clause-bounded g c = put_placed (store_in c.args.view.now).setup (events_in c.args.view.now) (g.C.Chains.lists c.args.view.now.chains.now) c.args.t c.args.cell c.args.value c.place_of-place.result
-    c.place_of-place.ensures.place c.place_of-place.ensures.own c.place_of-place.ensures.there

@@ -1,4 +1,4 @@
-use Rattle.std.proofs.Common.{sym, ap, subst, List, drop, arith}
+use Rattle.std.proofs.Common.{◌≡◌, ℕ, suc, ◌-◌, sym, ap, subst, List, drop, arith}
 use Rattle.teb_history.specs.declared.Event.{Event}
 use Rattle.teb_laws.specs.Lawful.{Lawful}
 use Rattle.teb_laws.proofs.Answers.{lawful_cons}
@@ -6,8 +6,10 @@ use Rattle.teb_laws.proofs.Sound.{tree_facts}
 use Rattle.phase_api.specs.Calls.{MayNote}
 use Rattle.dependency_book.proofs.LawfulHistories.{granted_follows}
 use Rattle.engine_core.specs.Stores.{store_of}
+use Rattle.engine_core.specs.Wholes.{RoomFor}
 use Rattle.engine_core.proofs.Noting.{granted_noted}
 use Rattle.engine_core.proofs.Appending.{whole_after}
+use Rattle.engine_core.proofs.Rooms.{less_room}
 use Rattle.engine_core.proofs.append_event.append_event.Goals as goal
 
 pub note_each-requires-clause-may : goal.note_each-requires-clause-may
@@ -27,13 +29,21 @@ returns-clause-whole g c =
     whole_after g.K.Control.node_number g.K.Control.stands (store_of c.args.state.now.setup) H c.push.new.self.events c.args.event c.args.state.now.controls.items c.note_each.new.controls.items
     (g.C.Chains.lists c.args.state.now.chains) (g.C.Chains.lists c.keep_versions.new.chains) c.args.state.now.book.lists c.note.new.self.lists c.args.state.now.cursors.cursors c.move_cursors.new.cursors.cursors
     c.requires.whole c.requires.granted c.requires.begins c.push.ensures.events c.note_each.ensures.stand
-    (c.keep_versions.ensures S H (tree_facts S c.requires.whole.sound) (lawful_cons S c.args.event H c.requires.granted c.requires.whole.lawful) c.requires.whole.versions c.requires.order)
+    (c.keep_versions.ensures.versions S H (tree_facts S c.requires.whole.sound) (lawful_cons S c.args.event H c.requires.granted c.requires.whole.lawful) c.requires.whole.versions c.requires.order)
     (c.note.ensures.book H c.requires.whole.book (granted_follows S H c.args.event c.requires.granted))
-    c.move_cursors.ensures
+    c.move_cursors.ensures.cursors
+
+pub note_each-requires-clause-room : goal.note_each-requires-clause-room
+note_each-requires-clause-room g c = let some = c.requires.some in less_room g.K.Control.spare 1 c.args.state.now.room c.args.state.now.controls.items (omega arith) c.requires.room.controls
 
 pub returns-clause-room : goal.returns-clause-room
-returns-clause-room g c = λ k r. record {
-  history = (let a = r.history in let b = c.push.ensures.spare in omega arith);
-  controls = c.note_each.ensures.room k r.controls;
-  book = (let a = r.book in let b = c.note.ensures.spare in omega arith);
-}
+returns-clause-room g c =
+    let some = c.requires.some in
+    let one : suc (c.args.state.now.room - 1) ≡ c.args.state.now.room = omega arith in
+    record {
+      history = (let a = c.requires.room.history in let b = c.push.ensures.spare in omega arith);
+      controls = c.note_each.ensures.room (c.args.state.now.room - 1) (subst (λ (k : ℕ). RoomFor g.K.Control.spare k c.args.state.now.controls.items) (sym one) c.requires.room.controls);
+      book = (let a = c.requires.room.book in let b = c.note.ensures.spare in omega arith);
+      versions = (let a = c.requires.room.versions in let b = c.keep_versions.ensures.spare in omega arith);
+      cursors = (let a = c.requires.room.cursors in let b = c.move_cursors.ensures.spare in omega arith);
+    }

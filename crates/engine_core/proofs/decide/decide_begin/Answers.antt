@@ -22,4 +22,4 @@ returns-clause-answer g c = sym (begins (store_in c.args.view.now).setup (events
     (omega (arith, c.begun-begun.ensures, c.if-begun-ge-MOST_TXNS.false)) (λ u n e. c.in_default.not-Wait u n (c.begin_stop.ensures ∙ e)) (omega (arith, c.begun-begun.ensures)))
 
 pub returns-clause-bounded : goal.returns-clause-bounded
-returns-clause-bounded g c = ((omega (arith, c.begun-begun.ensures, c.if-begun-ge-MOST_TXNS.false), begin_goes (store_in c.args.view.now).setup (events_in c.args.view.now) c.args.spot (λ u n e. c.in_default.not-Wait u n (c.begin_stop.ensures ∙ e))), tt, tt)
+returns-clause-bounded g c = ((omega (arith, c.begun-begun.ensures, c.if-begun-ge-MOST_TXNS.false), begin_goes (store_in c.args.view.now).setup (events_in c.args.view.now) c.args.spot (λ u n e. c.in_default.not-Wait u n (c.begin_stop.ensures ∙ e))), tt)

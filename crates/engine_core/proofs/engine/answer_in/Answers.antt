@@ -1,34 +1,44 @@
-use Rattle.std.proofs.Common.{refl, subst, sym, ap, ◌∙◌}
+use Rattle.std.proofs.Common.{subst, sym, ap, ◌∙◌}
+use Rattle.teb_laws.specs.Lawful.{Lawful}
 use Rattle.teb_rules.specs.Answer.{Answered}
-use Rattle.tree_toml.specs.declared.setup.Setup.{Setup}
-use Rattle.tree_toml.specs.Seen.{setup_view}
-use Rattle.tree_toml.specs.Sound.{IsWhole}
-use Rattle.engine_core.specs.EngineModel.{IsReached}
+use Rattle.engine_core.specs.declared.decision.Decision.{Decision}
+use Rattle.engine_core.specs.AnyControls.{any_node_number, any_spare, any_stands}
+use Rattle.engine_core.specs.Decisions.{carried}
 use Rattle.engine_core.specs.Stores.{store_of}
-use Rattle.engine_core.proofs.Carrying.{leads_on}
-use Rattle.engine_core.proofs.Reached.{reached_more, settled_of}
+use Rattle.engine_core.proofs.Carrying.{leads_on, is_short}
+use Rattle.engine_core.proofs.Reached.{answered_engine, settled_of}
 use Rattle.engine_core.proofs.engine.answer_in.Goals as goal
 
 pub decide-decision-requires-clause-settled : goal.decide-decision-requires-clause-settled
 decide-decision-requires-clause-settled g c = settled_of (store_of c.args.state.now.setup) c.args.state.now.history.events c.requires.whole.sound c.requires.reached
 
-pub carry_out-requires-clause-settled : goal.carry_out-requires-clause-settled
-carry_out-requires-clause-settled g c = settled_of (store_of c.args.state.now.setup) c.args.state.now.history.events c.requires.whole.sound c.requires.reached
+pub scan-requires-clause-leads : goal.scan-requires-clause-leads
+scan-requires-clause-leads g c =
+    let X = store_of c.args.state.now.setup in
+    let H = c.args.state.now.history.events in
+    subst (λ (d : Decision). Lawful X.setup (carried X H d).1) c.in-Scan.is
+    (leads_on X H c.args.session c.args.request c.requires.whole.sound c.requires.whole.lawful (settled_of X H c.requires.whole.sound c.requires.reached) c.decide-decision.result c.decide-decision.ensures.answer)
 
-pub carry_out-requires-clause-leads : goal.carry_out-requires-clause-leads
-carry_out-requires-clause-leads g c =
+pub write-requires-clause-short : goal.write-requires-clause-short
+write-requires-clause-short g c = is_short c.decide-decision.result c.in_default.not-Scan
+
+pub write-requires-clause-settled : goal.write-requires-clause-settled
+write-requires-clause-settled g c = settled_of (store_of c.args.state.now.setup) c.args.state.now.history.events c.requires.whole.sound c.requires.reached
+
+pub write-requires-clause-leads : goal.write-requires-clause-leads
+write-requires-clause-leads g c =
     let X = store_of c.args.state.now.setup in
     let H = c.args.state.now.history.events in
     leads_on X H c.args.session c.args.request c.requires.whole.sound c.requires.whole.lawful (settled_of X H c.requires.whole.sound c.requires.reached) c.decide-decision.result c.decide-decision.ensures.answer
 
-pub returns-clause-kept : goal.returns-clause-kept
-returns-clause-kept g c =
+pub returns-in-Scan-clause-kept : goal.returns-in-Scan-clause-kept
+returns-in-Scan-clause-kept g c =
     let X = store_of c.args.state.now.setup in
     let H = c.args.state.now.history.events in
-    record {
-      setup = subst (λ (s : Setup). IsWhole (setup_view s)) (sym c.carry_out.ensures.setup) c.requires.setup;
-      whole = c.carry_out.ensures.whole;
-      reached = subst (λ (s : Setup). IsReached (store_of s) c.carry_out.new.state.history.events) (sym c.carry_out.ensures.setup)
-          (reached_more X H c.args.session c.args.request c.requires.reached c.carry_out.new.state.history.events (c.carry_out.ensures.events ∙ ap (λ (a : Answered). a.1) c.decide-decision.ensures.answer));
-      room = λ f. absurd (cc);
-    }
+    answered_engine any_node_number any_stands any_spare g.C.Chains.lists g.C.Chains.spare c.args.state.now c.scan.new.state c.args.session c.args.request c.requires c.scan.ensures.setup c.scan.ensures.whole c.scan.ensures.room
+    (c.scan.ensures.events ∙ ap (λ (d : Decision). (carried X H d).1) (sym c.in-Scan.is) ∙ ap (λ (a : Answered). a.1) c.decide-decision.ensures.answer)
+
+pub returns-clause-kept : goal.returns-clause-kept
+returns-clause-kept g c =
+    answered_engine any_node_number any_stands any_spare g.C.Chains.lists g.C.Chains.spare c.args.state.now c.write.new.state c.args.session c.args.request c.requires c.write.ensures.setup c.write.ensures.whole c.write.ensures.room
+    (c.write.ensures.events ∙ ap (λ (a : Answered). a.1) c.decide-decision.ensures.answer)

@@ -3,9 +3,10 @@ use Rattle.teb_history.specs.Written.{Written}
 use Rattle.teb_rules.specs.Setup.{Setup}
 use Rattle.phase_api.specs.FactsView.{setup_of}
 use Rattle.phase_api.specs.Standing.{StandAll}
-use Rattle.engine_core.specs.AnyControls.{any_node_number, any_stands}
+use Rattle.engine_core.specs.AnyControls.{any_node_number, any_stands, any_spare}
 use Rattle.engine_core.specs.Stores.{store_of}
 use Rattle.engine_core.proofs.Reached.{reached_none}
+use Rattle.engine_core.proofs.Rooms.{no_room}
 use Rattle.engine_core.proofs.Setups.{whole_from_nothing, enough_profiles, few_ranked}
 use Rattle.engine_core.proofs.engine.new_state.Goals as goal
 
@@ -18,7 +19,8 @@ returns-clause-kept g c = record {
       (subst (λ (h : Written). StandAll any_node_number any_stands c.in_ok-controls.controls.items (setup_of c.facts_of.result) h.events) c.facts_of.ensures.history c.in_ok-controls.ensures))
       c.requires.chains c.new.ensures c.new-2.ensures;
   reached = reached_none (store_of c.args.setup) c.new-history.result.events c.new-history.ensures;
-  room = λ f. absurd (cc);
+  room = no_room any_spare g.C.Chains.spare _;
+  enough = λ f. absurd (cc);
 }
 
 pub controls_of-requires-clause-profiled : goal.controls_of-requires-clause-profiled

@@ -9,7 +9,7 @@ use Rattle.abort_cascade.specs.Recoverable.{IsRecoverable}
 use Rattle.abort_cascade.specs.Rounds.{blames}
 use Rattle.abort_cascade.proofs.LawfulCascades.{good_recoverable}
 use Rattle.engine_core.specs.Stores.{store_of}
-use Rattle.engine_core.proofs.Falling.{less_log_room, next_fallen, next_unfinished, next_events, first_events, last_events}
+use Rattle.engine_core.proofs.Falling.{next_fallen, next_unfinished, next_events, first_events, last_events}
 use Rattle.engine_core.proofs.falls.fall.Goals as goal
 
 pub cascade-fallen-requires-clause-recoverable : goal.cascade-fallen-requires-clause-recoverable
@@ -22,9 +22,6 @@ cascade-fallen-requires-clause-few g c =
     let e : length (cascade c.facts_of.result.history.now.events c.args.t.0) ≡ length (cascade c.args.state.now.history.events c.args.t.0) = ap (λ (h : Written). length (cascade h.events c.args.t.0)) c.facts_of.ensures.history in
     omega arith
 
-pub append_event-requires-clause-room : goal.append_event-requires-clause-room
-append_event-requires-clause-room g c = less_log_room g.K.Control.spare 1 32 c.args.state.now (omega arith) c.requires.room
-
 pub loop-i-init : goal.loop-i-init
 loop-i-init g c =
     let few : length (cascade c.args.state.now.history.events c.args.t.0) ≤ 31 = cascade_few (store_of c.args.state.now.setup).setup (tree_facts _ c.requires.whole.sound) c.args.state.now.history.events c.args.t.0 (record { legal = c.requires.whole.lawful; settled = c.requires.settled }) c.requires.unfinished in
@@ -32,7 +29,8 @@ loop-i-init g c =
       whole = c.append_event.ensures.whole;
       events = first_events c.args.state.now.history.events c.append_event.new.state.history.events c.args.t c.args.cause c.append_event.ensures.events;
       setup = c.append_event.ensures.setup;
-      room = λ k e. c.append_event.ensures.room k (less_log_room g.K.Control.spare (suc k) 32 c.args.state.now (omega arith) c.requires.room);
+      room = c.append_event.ensures.room;
+      left = (let enough = c.requires.enough in let one = c.append_event.ensures.left in omega arith);
     }
 
 pub append_event-requires-in-loop-i-clause-whole : goal.append_event-requires-in-loop-i-clause-whole
@@ -46,12 +44,15 @@ append_event-requires-in-loop-i-clause-granted g c =
     (next_fallen c.args.state.now.history.events c.args.t.0 c.loop-i.i c.at.result (subst (λ (ps : List (Txn × Txn)). slice_get ps c.loop-i.i ≡ Some c.at.result) blame c.at.ensures))
 
 pub append_event-requires-in-loop-i-clause-room : goal.append_event-requires-in-loop-i-clause-room
-append_event-requires-in-loop-i-clause-room g c =
+append_event-requires-in-loop-i-clause-room g c = c.loop-i.invariant.room
+
+pub append_event-requires-in-loop-i-clause-some : goal.append_event-requires-in-loop-i-clause-some
+append_event-requires-in-loop-i-clause-some g c =
     let blame = c.cascade-fallen.ensures ∙ ap (λ (h : Written). blames h.events c.args.t.0) c.facts_of.ensures.history in
     let n : length c.cascade-fallen.result ≡ length (cascade c.args.state.now.history.events c.args.t.0) = ap length blame ∙ length-map (cascade c.args.state.now.history.events c.args.t.0) (λ (u : ℕ). (txn u, txn (blamed c.args.state.now.history.events c.args.t.0 u))) in
     let h : c.loop-i.i < length (cascade c.args.state.now.history.events c.args.t.0) = omega arith in
-    less_log_room g.K.Control.spare 1 (length (cascade c.args.state.now.history.events c.args.t.0) - c.loop-i.i) c.loop-i.state (omega arith)
-    (c.loop-i.invariant.room (length (cascade c.args.state.now.history.events c.args.t.0) - c.loop-i.i) (omega arith))
+    let left = c.loop-i.invariant.left in
+    omega arith
 
 pub loop-i-preserved : goal.loop-i-preserved
 loop-i-preserved g c =
@@ -61,7 +62,8 @@ loop-i-preserved g c =
       events = next_events c.args.state.now.history.events c.loop-i.state.history.events c.append_event-in-loop-i.new.state.history.events c.args.t.0 c.args.cause c.loop-i.i c.at.result c.loop-i.invariant.events
           (next_fallen c.args.state.now.history.events c.args.t.0 c.loop-i.i c.at.result (subst (λ (ps : List (Txn × Txn)). slice_get ps c.loop-i.i ≡ Some c.at.result) blame c.at.ensures)) c.append_event-in-loop-i.ensures.events;
       setup = c.append_event-in-loop-i.ensures.setup ∙ c.loop-i.invariant.setup;
-      room = λ k e. c.append_event-in-loop-i.ensures.room k (c.loop-i.invariant.room (suc k) (omega arith));
+      room = c.append_event-in-loop-i.ensures.room;
+      left = (let left = c.loop-i.invariant.left in let one = c.append_event-in-loop-i.ensures.left in omega arith);
     }
 
 pub returns-clause-whole : goal.returns-clause-whole
@@ -76,3 +78,6 @@ returns-clause-events g c =
 
 pub returns-clause-setup : goal.returns-clause-setup
 returns-clause-setup g c = c.loop-i.invariant.setup
+
+pub returns-clause-room : goal.returns-clause-room
+returns-clause-room g c = c.loop-i.invariant.room

@@ -19,14 +19,14 @@ move_cursor-requires-in-Put-clause-above c = (put_mover c.args.facts.now c.args.
 pub move_cursor-requires-in-Put-clause-begun : goal.move_cursor-requires-in-Put-clause-begun
 move_cursor-requires-in-Put-clause-begun c = (put_mover c.args.facts.now c.args.event _ c.requires.newest c.requires.lawful c.requires.cursors c.in-Put.txn c.in-Put.cell c.in-Put.value c.in-Put.is).begun
 
-pub returns-in-Began : goal.returns-in-Began
-returns-in-Began c = began_stands c.args.facts.now c.args.event _ c.requires.newest c.requires.lawful c.requires.cursors c.in-Began.txn c.in-Began.session c.in-Began.kind c.in-Began.instance _ c.in-Began.is c.begin.ensures.cursors
+pub returns-in-Began-clause-cursors : goal.returns-in-Began-clause-cursors
+returns-in-Began-clause-cursors c = began_stands c.args.facts.now c.args.event _ c.requires.newest c.requires.lawful c.requires.cursors c.in-Began.txn c.in-Began.session c.in-Began.kind c.in-Began.instance _ c.in-Began.is c.begin.ensures.cursors
 
-pub returns-in-Got : goal.returns-in-Got
-returns-in-Got c = got_moves c.args.facts.now c.args.event _ c.requires.newest c.requires.lawful c.requires.cursors c.in-Got.txn c.in-Got.from c.in-Got.cell c.in-Got.value _ c.in-Got.is c.move_cursor.ensures
+pub returns-in-Got-clause-cursors : goal.returns-in-Got-clause-cursors
+returns-in-Got-clause-cursors c = got_moves c.args.facts.now c.args.event _ c.requires.newest c.requires.lawful c.requires.cursors c.in-Got.txn c.in-Got.from c.in-Got.cell c.in-Got.value _ c.in-Got.is c.move_cursor.ensures.cursors
 
-pub returns-in-Put : goal.returns-in-Put
-returns-in-Put c = put_moves c.args.facts.now c.args.event _ c.requires.newest c.requires.lawful c.requires.cursors c.in-Put.txn c.in-Put.cell c.in-Put.value _ c.in-Put.is c.move_cursor-in-Put.ensures
+pub returns-in-Put-clause-cursors : goal.returns-in-Put-clause-cursors
+returns-in-Put-clause-cursors c = put_moves c.args.facts.now c.args.event _ c.requires.newest c.requires.lawful c.requires.cursors c.in-Put.txn c.in-Put.cell c.in-Put.value _ c.in-Put.is c.move_cursor-in-Put.ensures.cursors
 
-pub returns-in_default : goal.returns-in_default
-returns-in_default c = others_stand c.args.facts.now c.args.event _ c.requires.newest c.requires.lawful c.requires.cursors c.in_default.not-Began c.in_default.not-Got c.in_default.not-Put
+pub returns-in_default-clause-cursors : goal.returns-in_default-clause-cursors
+returns-in_default-clause-cursors c = others_stand c.args.facts.now c.args.event _ c.requires.newest c.requires.lawful c.requires.cursors c.in_default.not-Began c.in_default.not-Got c.in_default.not-Put

@@ -17,4 +17,4 @@ returns-clause-stand g c = λ S H a.
 pub returns-clause-room : goal.returns-clause-room
 returns-clause-room g c =
     let n : length c.reserve_all.new.controls ≡ c.args.controls.now.len = c.reserve_all.auto.controls ∙ c.deref_mut.ensures.len in
-    subst (λ (cs : List _). OnOk c.reserve_all.result (RoomFor g.K.Control.spare 32 cs)) (sym (take_at c.reserve_all.new.controls _ _ n)) c.reserve_all.ensures.room
+    subst (λ (cs : List _). OnOk c.reserve_all.result (RoomFor g.K.Control.spare c.args.n cs)) (sym (take_at c.reserve_all.new.controls _ _ n)) c.reserve_all.ensures.room

@@ -1,0 +1,87 @@
+//! The place of the version that a Put is about to write: it is looked for before the nodes are asked where one of them orders
+//! versions by it, and else once the Put is granted.
+
+ghost use Rattle.std.specs.Prelude.{◌≡◌, ◌<◌, All, IfSome, IsTrue, length};
+ghost use Rattle.std.specs.List.{list_any};
+ghost use Rattle.teb_history.specs.Phases.{unfinished, spot_of};
+ghost use Rattle.teb_rules.specs.Tree.{row, path, is_timestamp, on_path};
+ghost use Rattle.cc_tree.specs.Grown.{node_numbers};
+ghost use Rattle.version_chain.specs.Lists.{writers_of};
+ghost use Rattle.phase_api.specs.Versions.{IsToldPlace};
+ghost use Rattle.engine_core.specs.Keeping.{IsPlaced};
+ghost use Rattle.engine_core.specs.Wholes.{store_in, events_in, ViewIsWhole};
+ghost use Rattle.engine_core.specs.Stopping.{at_of, AreTold};
+
+use crate::engine_view::EngineView;
+use candidate_reads::Place;
+use cc_tree::Tree;
+use phase_api::Control;
+use teb_names::{Cell, ControlKind, Node, Txn};
+use version_chain::Chains;
+
+/// The place of t's version of a cell, where a timestamp node is on t's path.
+pub fn asked_place<K: Control, C: Chains>(
+    view: &EngineView<K, C>,
+    nodes: &[Node],
+    t: Txn,
+    cell: Cell,
+) -> Option<Place>
+    requires whole { ViewIsWhole K.node_number K.stands C.lists view.now }
+    requires unfinished { IsTrue (unfinished (events_in view.now) t.0) }
+    requires within { All (λ n. n.0 < length (store_in view.now).setup.tree) nodes.now }
+    requires nodes { node_numbers nodes.now ≡ path (store_in view.now).setup.tree (spot_of (events_in view.now) t.0) }
+    ensures placed { IfSome result (λ p. IsPlaced (store_in view.now).setup (events_in view.now) (C.lists view.now.chains.now) t.0 cell p) }
+    ensures told { AreTold (store_in view.now).setup (events_in view.now) cell t.0 (at_of result) (writers_of (C.lists view.now.chains.now cell)) }
+{
+    if has_timestamp(view.facts.tree, nodes) {
+        Some(view.place_of(t, cell))
+    } else {
+        None
+    }
+}
+
+/// The number of a place that was asked for.
+pub fn at_of(asked: Option<Place>) -> Option<usize>
+    ensures { result ≡ at_of asked }
+{
+    match asked {
+        Some(place) => Some(place.at),
+        None => None,
+    }
+}
+
+/// The place of t's version of a cell, which may have been asked for already.
+pub fn granted_place<K: Control, C: Chains>(
+    view: &EngineView<K, C>,
+    asked: Option<Place>,
+    t: Txn,
+    cell: Cell,
+) -> Place
+    requires whole { ViewIsWhole K.node_number K.stands C.lists view.now }
+    requires unfinished { IsTrue (unfinished (events_in view.now) t.0) }
+    requires asked { IfSome asked (λ p. IsPlaced (store_in view.now).setup (events_in view.now) (C.lists view.now.chains.now) t.0 cell p) }
+    ensures { IsPlaced (store_in view.now).setup (events_in view.now) (C.lists view.now.chains.now) t.0 cell result }
+{
+    match asked {
+        Some(place) => place,
+        None => view.place_of(t, cell),
+    }
+}
+
+/// Whether a timestamp node is among some nodes.
+fn has_timestamp(tree: &Tree, nodes: &[Node]) -> bool
+    requires { All (λ n. n.0 < length tree.now.rows) nodes.now }
+    ensures { result ≡ list_any (λ n. is_timestamp (row tree.now.rows n).control) (node_numbers nodes.now) }
+{
+    match nodes {
+        [node, rest @ ..] => is_timestamp(tree, *node) || has_timestamp(tree, rest),
+        [] => false,
+    }
+}
+
+fn is_timestamp(tree: &Tree, node: Node) -> bool
+    requires { node.0 < length tree.now.rows }
+    ensures { result ≡ is_timestamp (row tree.now.rows node.0).control }
+{
+    matches!(tree.row(node).control, ControlKind::Timestamp)
+}
