@@ -1,5 +1,5 @@
 -- What is kept of the history, before and after one more event.
-use Rattle.std.proofs.Common.{◌≡◌, ℕ, zero, suc, ◌≤◌, true, List, [], ◌∷◌, length, Option, ℤ, sym, subst, arith}
+use Rattle.std.proofs.Common.{◌≡◌, ℕ, zero, suc, ◌≤◌, List, [], ◌∷◌, length, Option, ℤ, sym, subst, arith}
 use Rattle.teb_names.specs.declared.Cell.{Cell}
 use Rattle.teb_names.specs.declared.Txn.{Txn}
 use Rattle.teb_history.specs.declared.Event.{Event}

@@ -10,7 +10,7 @@ use Rattle.teb_names.specs.declared.Refusal.{Refusal}
 use Rattle.teb_names.specs.declared.Refusal.TheVariants.{UnknownType, Full, NoTxn, Range, BadSession}
 use Rattle.teb_names.specs.declared.Request.{Request}
 use Rattle.teb_names.specs.declared.Request.TheVariants.{Begin}
-use Rattle.teb_names.specs.declared.Reply.TheVariants.{Refused, Again, Begun}
+use Rattle.teb_names.specs.declared.Reply.TheVariants.{Again, Begun}
 use Rattle.teb_history.specs.declared.Event.TheVariants.{Began}
 use Rattle.teb_history.specs.Phases.{begun_count, held, aborted, unfinished}
 use Rattle.teb_history.specs.Written.{held_txn, txn_of}

@@ -8,7 +8,7 @@ use Rattle.teb_rules.specs.Accepted.{IsSound}
 use Rattle.teb_rules.specs.Answer.{answer}
 use Rattle.teb_rules.specs.Run.{history_after}
 use Rattle.teb_rules.specs.Setup.{Setup, Store}
-use Rattle.teb_laws.specs.Laws.{OfEveryStore, reached}
+use Rattle.teb_laws.specs.Laws.{OfEveryStore}
 use Rattle.teb_laws.specs.Lawful.{Settled}
 use Rattle.teb_laws.proofs.Reachable.{run_good, empty_good}
 use Rattle.teb_laws.proofs.Runs.{history_after-append}

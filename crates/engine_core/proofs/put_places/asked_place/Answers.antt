@@ -1,11 +1,10 @@
 use Rattle.std.proofs.Common.{◌≡◌, inl, inr, ℕ, Bool, true, false, List, [], ◌∷◌, ◌||◌, eqb, eqb-true, refl, sym, ◌∙◌, subst}
 use Rattle.std.specs.List.{list_any}
 use Rattle.std.proofs.lemmas.Bool.{or_cases}
-use Rattle.teb_history.specs.Phases.{spot_of}
 use Rattle.teb_rules.specs.Setup.{among}
-use Rattle.teb_rules.specs.Tree.{row, path, is_timestamp, on_path}
+use Rattle.teb_rules.specs.Tree.{row, is_timestamp, on_path}
 use Rattle.cc_tree.specs.Grown.{node_numbers}
-use Rattle.engine_core.specs.Wholes.{store_in, events_in}
+use Rattle.engine_core.specs.Wholes.{store_in}
 use Rattle.engine_core.proofs.put_places.asked_place.Goals as goal
 
 neither : (a b : Bool) → (a || b) ≡ false → (a ≡ false) × (b ≡ false)
