@@ -35,10 +35,7 @@ pub fn make_room<K: Control, C: Chains>(state: &mut EngineState<K, C>) -> Result
 }
 
 /// Makes room for n events in all that is kept. It stands for what it stood for, also after an `Err`.
-fn reserve<K: Control, C: Chains>(
-    state: &mut EngineState<K, C>,
-    n: usize,
-) -> Result<(), AllocError>
+fn reserve<K: Control, C: Chains>(state: &mut EngineState<K, C>, n: usize) -> Result<(), AllocError>
     requires { StateIsWhole K.node_number K.stands C.lists state.old }
     ensures whole { StateIsWhole K.node_number K.stands C.lists state.new }
     ensures events { state.new.history.events ≡ state.old.history.events }

@@ -96,7 +96,7 @@ fn note(book: &mut Batches, facts: &Facts, n: Node, at: usize) -> Result<(), All
         } => {
             let spot = Spot { kind, instance };
             if facts.tree.is_on(n, spot) {
-                book.reserve()?;
+                book.reserve(1)?;
                 book.join(side_of(facts, n, spot, txn), txn, at);
             }
         }
