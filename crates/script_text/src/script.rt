@@ -9,6 +9,7 @@ mod grammar;
 pub mod lines;
 mod names;
 mod numbers;
+mod verbs;
 mod words;
 
 use super::{Line, ScriptError};

@@ -8,6 +8,9 @@ ghost use Rattle.script_text.specs.Grammar.{verb_of, name_at, number_at, session
 
 use super::names::name_text;
 use super::numbers::{integer, number};
+use super::verbs::{
+    is_abort, is_add, is_begin, is_commit, is_delete, is_prepare, is_read, is_scan, is_write,
+};
 use super::words::first_words;
 use crate::{Line, LineWhy};
 use teb_names::{Cell, Kind, NameBook, Names, Request, Session, Spot, Table, is_name};
@@ -105,21 +108,30 @@ fn request(names: &NameBook, format: u8, words: &[&[u8]]) -> Result<Request, Lin
     }
 }
 
-#[tactic(auto, using(crate::proofs::VerbWords::is_commit, crate::proofs::VerbWords::is_delete, crate::proofs::VerbWords::is_prepare), unfolding(crate::specs::Grammar::verb_of))]
+#[tactic(auto, unfolding(crate::specs::Grammar::verb_of))]
 fn verb_in(format: u8, word: &[u8]) -> Option<Verb>
     ensures { result ≡ verb_of format word.now }
 {
-    match word {
-        b"begin" => Some(Verb::Begin),
-        b"read" => Some(Verb::Read),
-        b"write" => Some(Verb::Write),
-        b"add" => Some(Verb::Add),
-        b"prepare" => Some(Verb::Prepare),
-        b"commit" => Some(Verb::Commit),
-        b"abort" => Some(Verb::Abort),
-        b"delete" if format >= 3 => Some(Verb::Delete),
-        b"scan" if format >= 3 => Some(Verb::Scan),
-        _ => None,
+    if is_begin(word) {
+        Some(Verb::Begin)
+    } else if is_read(word) {
+        Some(Verb::Read)
+    } else if is_write(word) {
+        Some(Verb::Write)
+    } else if is_add(word) {
+        Some(Verb::Add)
+    } else if is_prepare(word) {
+        Some(Verb::Prepare)
+    } else if is_commit(word) {
+        Some(Verb::Commit)
+    } else if is_abort(word) {
+        Some(Verb::Abort)
+    } else if format >= 3 && is_delete(word) {
+        Some(Verb::Delete)
+    } else if format >= 3 && is_scan(word) {
+        Some(Verb::Scan)
+    } else {
+        None
     }
 }
 
