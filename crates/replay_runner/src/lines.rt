@@ -46,7 +46,10 @@ pub fn ask<C: Chains, L: Log>(
 {
     log.ready(&engine.setup().names)?;
     engine.ready()?;
-    let reply = engine.ask(session, request);
-    log.add(&engine.setup().names, &Answered { session, reply });
+    let answered = Answered {
+        session,
+        reply: engine.ask(session, request),
+    };
+    log.add(&engine.setup().names, &answered);
     Ok(())
 }
