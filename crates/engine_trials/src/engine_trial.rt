@@ -3,7 +3,7 @@
 ghost use Rattle.std.specs.Prelude.{◌≡◌, [], IfOk, IsTrue};
 
 use crate::lent::lent;
-use crate::plan::{MIDST, REQUESTS, TREE, requests};
+use crate::plan::{MIDST, READER, SALE, SOLD, TREE, requests};
 use crate::refusing::Refusing;
 use crate::room::make_room;
 use crate::trouble::Trouble;
@@ -15,10 +15,11 @@ use teb_names::{Request, Session};
 use tree_toml::read_tree;
 use version_chain::Chains;
 
-/// The replies to the requests, and what is lent in their midst and at their end, where the versions refuse room at the
-/// call behind so many that are served. Fails where it should be refused and is not.
-pub fn engine_text(alloc: Global, served: usize) -> Result<String, Trouble> {
+/// The replies to the requests, and what is lent in their midst and at their end, behind a transaction of so many events, where
+/// the versions refuse room at the call behind so many that are served, or at none. Fails where it should be refused and is not.
+pub fn engine_text(alloc: Global, before: usize, served: Option<usize>) -> Result<String, Trouble> {
     let mut engine = trial_engine(alloc, served)?;
+    read_before(&mut engine, before)?;
     let mut text = String::new(alloc);
     for (i, (session, request)) in requests().into_iter().enumerate() {
         if i == MIDST {
@@ -28,15 +29,21 @@ pub fn engine_text(alloc: Global, served: usize) -> Result<String, Trouble> {
         write_reply(&mut text, &mut engine, session, request)?;
     }
     text.push_str(&lent(alloc, &engine)?)?;
-    if engine.chains().has_refused() == (served < REQUESTS) {
+    if engine.chains().has_refused() == served.is_some() {
         Ok(text)
     } else {
         Err(Trouble::Changed)
     }
 }
 
+/// More events than room is made for at a time.
+const MOST_EVENTS: usize = 8192;
+
 /// An engine that was asked nothing yet.
-pub fn trial_engine(alloc: Global, served: usize) -> Result<Engine<Refusing<PooledChains>>, Trouble>
+pub fn trial_engine(
+    alloc: Global,
+    served: Option<usize>,
+) -> Result<Engine<Refusing<PooledChains>>, Trouble>
     ensures { IfOk result (λ e. e.events ≡ []) }
 {
     let Ok(setup) = read_tree(alloc, TREE) else {
@@ -44,6 +51,38 @@ pub fn trial_engine(alloc: Global, served: usize) -> Result<Engine<Refusing<Pool
     };
     let chains = Refusing::after(served, PooledChains::new(alloc));
     Ok(Engine::new(alloc, setup, chains)?)
+}
+
+/// How many events an engine writes until it asks the versions for room a second time.
+pub fn events_of_room(alloc: Global) -> Result<usize, Trouble> {
+    let mut engine = trial_engine(alloc, None)?;
+    answer(&mut engine, Request::Begin(SALE))?;
+    for events in 1..MOST_EVENTS {
+        answer(&mut engine, Request::Read(SOLD))?;
+        if engine.chains().calls() > 1 {
+            return Ok(events);
+        }
+    }
+    Err(Trouble::Changed)
+}
+
+/// A transaction of so many events that reads, and is aborted. None where there would be fewer than two.
+fn read_before<C: Chains>(engine: &mut Engine<C>, events: usize) -> Result<(), Trouble> {
+    if events < 2 {
+        return Ok(());
+    }
+    answer(engine, Request::Begin(SALE))?;
+    for _ in 2..events {
+        answer(engine, Request::Read(SOLD))?;
+    }
+    answer(engine, Request::End)
+}
+
+/// Asks for a session that asks none of the requests.
+fn answer<C: Chains>(engine: &mut Engine<C>, request: Request) -> Result<(), Trouble> {
+    engine.ready()?;
+    let _reply = engine.ask(READER, request);
+    Ok(())
 }
 
 fn write_reply<C: Chains>(

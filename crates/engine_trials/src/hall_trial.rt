@@ -19,24 +19,29 @@ use std::sync::Wait;
 use teb_names::{Request, Txn};
 use version_chain::Chains;
 
-/// How many requests there are.
-pub const HALL_REQUESTS: usize = 6;
+/// How many events come before the last of the requests.
+pub const HALL_EVENTS: usize = 5;
 
 type Tried = Refusing<PooledChains>;
 
-/// The entries of a hall that was closed, and what its engine lends, where the versions refuse room at the call behind so
-/// many that are served. Fails where it should be refused and is not.
-pub fn hall_text<R: Wait>(rt: &R, alloc: Global, served: usize) -> Result<String, Trouble> {
+/// The entries of a hall that was closed, and what its engine lends, behind a transaction of so many events, where the versions
+/// refuse room at the call behind so many that are served, or at none. Fails where it should be refused and is not.
+pub fn hall_text<R: Wait>(
+    rt: &R,
+    alloc: Global,
+    before: usize,
+    served: Option<usize>,
+) -> Result<String, Trouble> {
     let Ok((hall, passes)) = Hall::make(alloc, trial_engine(alloc, served)?) else {
         return Err(Trouble::Memory);
     };
-    let (engine, entries) = closed_after(rt, hall, passes)?;
+    let (engine, entries) = closed_after(rt, hall, passes, before)?;
     let mut text = String::new(alloc);
     for i in 0..entries.len() {
         writeln!(text, "{:?}", entries.at(i))?;
     }
     text.push_str(&lent(alloc, &engine)?)?;
-    if engine.chains().has_refused() == (served < HALL_REQUESTS) {
+    if engine.chains().has_refused() == served.is_some() {
         Ok(text)
     } else {
         Err(Trouble::Changed)
@@ -48,6 +53,7 @@ fn closed_after<R: Wait>(
     rt: &R,
     hall: Hall<Tried>,
     mut passes: Vec<Pass<Tried>>,
+    before: usize,
 ) -> Result<(Engine<Tried>, Entries), Trouble>
     requires new { All (IsNew hall) passes.items }
     requires sessions { map number_of passes.items ≡ numbers 32 }
@@ -58,10 +64,31 @@ fn closed_after<R: Wait>(
     let Some(mut writer) = passes.pop() else {
         return Err(Trouble::Changed);
     };
+    read_before(rt, &hall, &mut writer, before)?;
     write_and_read(rt, &hall, &mut writer, &mut reader)?;
     passes.push_reserved(writer);
     passes.push_reserved(reader);
     Ok(hall.close(passes))
+}
+
+/// A transaction of so many events reads, and is aborted. There is none where there would be fewer than two.
+fn read_before<C: Chains, R: Wait>(
+    rt: &R,
+    hall: &Hall<C>,
+    pass: &mut Pass<C>,
+    events: usize,
+) -> Result<(), Trouble>
+    requires { IsPassOf hall.now pass.old }
+    ensures { IsPassOf hall.now pass.new × (pass.new.session ≡ pass.old.session) }
+{
+    if events < 2 {
+        return Ok(());
+    }
+    ask(rt, hall, pass, Request::Begin(SALE))?;
+    for _ in 2..events {
+        ask(rt, hall, pass, Request::Read(SOLD))?;
+    }
+    ask(rt, hall, pass, Request::End)
 }
 
 /// A sale is written beside a report, which does not see it.

@@ -1,7 +1,8 @@
 //! An engine as an embedder has it: what its registers lend, and that nothing changes where a request finds no room.
 //!
 //! It prints the replies to a list of requests, what is lent in their midst and at their end, and the entries of a hall. Then
-//! it does all of it again, once for each request at which the versions refuse room, and says how often all was the same.
+//! it does all of it again behind a transaction that leaves room for some of the events, so that the versions refuse room in the
+//! midst, and says how often all was the same as where they do not.
 #![tactic(auto)]
 
 mod engine_trial;
@@ -12,9 +13,9 @@ mod refusing;
 mod room;
 mod trouble;
 
-use crate::engine_trial::engine_text;
-use crate::hall_trial::{HALL_REQUESTS, hall_text};
-use crate::plan::REQUESTS;
+use crate::engine_trial::{engine_text, events_of_room};
+use crate::hall_trial::{HALL_EVENTS, hall_text};
+use crate::plan::EVENTS;
 use crate::trouble::Trouble;
 use std::alloc::Global;
 use std::process::ExitCode;
@@ -36,10 +37,11 @@ fn main(rt: HostRuntime) -> ExitCode {
 
 /// The text of all trials.
 fn trials(rt: &impl Wait, alloc: Global) -> Result<String, Trouble> {
-    let mut text = engine_text(alloc, REQUESTS)?;
-    text.push_str(&hall_text(rt, alloc, HALL_REQUESTS)?)?;
-    let engines = same_engines(alloc)?;
-    let halls = same_halls(rt, alloc)?;
+    let mut text = engine_text(alloc, 0, None)?;
+    text.push_str(&hall_text(rt, alloc, 0, None)?)?;
+    let room = events_of_room(alloc)?;
+    let engines = same_engines(alloc, room)?;
+    let halls = same_halls(rt, alloc, room)?;
     writeln!(
         text,
         "{engines} engines and {halls} halls were refused room, and went on as if they were not"
@@ -47,24 +49,31 @@ fn trials(rt: &impl Wait, alloc: Global) -> Result<String, Trouble> {
     Ok(text)
 }
 
-/// At how many requests an engine is refused room. Each such run says what one that is refused nothing says.
-fn same_engines(alloc: Global) -> Result<usize, Trouble> {
-    let whole = engine_text(alloc, REQUESTS)?;
-    for served in 0..REQUESTS {
-        if engine_text(alloc, served)? != whole {
+/// How many engines are refused room, at the first request or where the room for so many events is used up amid the requests. Each
+/// says what one that is refused nothing says.
+fn same_engines(alloc: Global, room: usize) -> Result<usize, Trouble> {
+    if engine_text(alloc, 0, Some(0))? != engine_text(alloc, 0, None)? {
+        return Err(Trouble::Changed);
+    }
+    for left in 0..=EVENTS {
+        let before = room.saturating_sub(left);
+        if engine_text(alloc, before, Some(1))? != engine_text(alloc, before, None)? {
             return Err(Trouble::Changed);
         }
     }
-    Ok(REQUESTS)
+    Ok(EVENTS + 2)
 }
 
 /// The same of halls.
-fn same_halls(rt: &impl Wait, alloc: Global) -> Result<usize, Trouble> {
-    let whole = hall_text(rt, alloc, HALL_REQUESTS)?;
-    for served in 0..HALL_REQUESTS {
-        if hall_text(rt, alloc, served)? != whole {
+fn same_halls(rt: &impl Wait, alloc: Global, room: usize) -> Result<usize, Trouble> {
+    if hall_text(rt, alloc, 0, Some(0))? != hall_text(rt, alloc, 0, None)? {
+        return Err(Trouble::Changed);
+    }
+    for left in 0..=HALL_EVENTS {
+        let before = room.saturating_sub(left);
+        if hall_text(rt, alloc, before, Some(1))? != hall_text(rt, alloc, before, None)? {
             return Err(Trouble::Changed);
         }
     }
-    Ok(HALL_REQUESTS)
+    Ok(HALL_EVENTS + 2)
 }

@@ -75,10 +75,16 @@ pub const REPORTED: Cell = Cell {
     key: 2,
 };
 
+/// A session that asks none of the requests.
+pub const READER: Session = Session(8);
+
 /// How many requests there are, and how many come before the registers are looked at for the first time.
 pub const REQUESTS: usize = 24;
 
 pub const MIDST: usize = 22;
+
+/// How many events come before the last of the requests.
+pub const EVENTS: usize = 21;
 
 /// What each session asks, in this order.
 pub fn requests() -> [(Session, Request); REQUESTS] {

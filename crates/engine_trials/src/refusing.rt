@@ -10,24 +10,39 @@ use version_chain::Chains;
 #[derive(Drop)]
 pub struct Refusing<C: Chains> {
     chains: C,
-    // How many calls come before the one that is refused; None once that has come.
+    // How many calls come before the one that is refused; None where none is, and once that has come.
     before: Option<usize>,
+    refused: bool,
+    // How often there was a call.
+    calls: usize,
 }
 
 impl<C: Chains> Refusing<C> {
-    /// Over chains that are kept so, room is refused at the call behind so many that are served.
-    pub fn after(served: usize, chains: C) -> Refusing<C>
+    /// Over chains that are kept so, room is refused at the call behind so many that are served, or at none.
+    pub fn after(served: Option<usize>, chains: C) -> Refusing<C>
         ensures { result.chains ≡ chains }
     {
         Refusing {
             chains,
-            before: Some(served),
+            before: served,
+            refused: false,
+            calls: 0,
         }
+    }
+
+    /// How often room was asked for.
+    pub fn calls(&self) -> usize {
+        self.calls
     }
 
     /// Whether room was refused.
     pub fn has_refused(&self) -> bool {
-        self.before.is_none()
+        self.refused
+    }
+
+    /// Whether room will be refused yet.
+    pub fn will_refuse(&self) -> bool {
+        self.before.is_some()
     }
 }
 
@@ -36,17 +51,19 @@ impl<C: Chains> Chains for Refusing<C> {
 
     ghost spare = { λ c. C.spare c.chains };
 
-    fn reserve(&mut self) -> Result<(), AllocError> {
+    fn reserve(&mut self, n: usize) -> Result<(), AllocError> {
+        self.calls = self.calls.saturating_add(1);
         match self.before {
             Some(0) => {
                 self.before = None;
+                self.refused = true;
                 return Err(AllocError);
             }
             Some(calls) => {
-                self.chains.reserve()?;
+                self.chains.reserve(n)?;
                 self.before = Some(calls - 1);
             }
-            None => self.chains.reserve()?,
+            None => self.chains.reserve(n)?,
         }
         Ok(())
     }

@@ -3,6 +3,7 @@
 ghost use Rattle.std.specs.Prelude.{OnOk, IsTrue};
 
 use crate::lent::lent;
+use crate::refusing::Refusing;
 use crate::trouble::Trouble;
 use engine_core::Engine;
 use std::alloc::Global;
@@ -12,9 +13,13 @@ use version_chain::Chains;
 pub const ATTEMPTS: u8 = 3;
 
 /// Makes room for an answer. A call that is refused room leaves all that is lent as it was.
-pub fn make_room<C: Chains>(alloc: Global, engine: &mut Engine<C>) -> Result<(), Trouble>
+pub fn make_room<C: Chains>(alloc: Global, engine: &mut Engine<Refusing<C>>) -> Result<(), Trouble>
     ensures { OnOk result (IsTrue engine.new.ready) }
 {
+    if !engine.chains().will_refuse() {
+        engine.ready()?;
+        return Ok(());
+    }
     let before = lent(alloc, engine)?;
     for _ in 0..ATTEMPTS {
         if engine.ready().is_ok() {
