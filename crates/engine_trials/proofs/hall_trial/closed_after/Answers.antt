@@ -16,6 +16,6 @@ close-requires-clause-passes g c =
 
 pub close-requires-clause-all : goal.close-requires-clause-all
 close-requires-clause-all g c =
-    let first = same_numbers _ _ _ _ _ _ c.pop-2.ensures.items c.in-Some-pop.is c.write_and_read.ensures.writer.1 refl in
+    let first = same_numbers _ _ _ _ _ _ c.pop-2.ensures.items c.in-Some-pop.is (c.write_and_read.ensures.writer.1 ∙ c.read_before.ensures.1) refl in
     let both = same_numbers _ _ _ _ _ _ c.pop.ensures.items c.in-Some.is c.write_and_read.ensures.reader.1 (ap (map number_of) c.push_reserved.ensures.items ∙ first) in
     has_all _ (ap (map number_of) c.push_reserved-2.ensures.items ∙ (both ∙ c.requires.sessions))
