@@ -78,7 +78,7 @@ impl<'a> Cursor<'a> {
         requires { self.now.aborts ≤ 3 }
         ensures { (r : Request) (rs : List Request) → result ≡ counted (r ∷ rs) reply.now self.now.aborts }
     {
-        if *reply == Reply::Refused(Refusal::Full) {
+        if matches!(reply, Reply::Refused(Refusal::Full)) {
             return 0;
         }
         match advance_after(reply) {

@@ -66,8 +66,11 @@ fn make_turn<C: Chains, G: Log>(
     log.ready(&engine.setup().names)?;
     engine.ready()?;
     let session = asked.session;
-    let reply = engine.ask(session, asked.request);
-    ring.take(asked.index, &reply);
-    log.add(&engine.setup().names, &Answered { session, reply });
+    let answered = Answered {
+        session,
+        reply: engine.ask(session, asked.request),
+    };
+    ring.take(asked.index, &answered.reply);
+    log.add(&engine.setup().names, &answered);
     Ok(true)
 }

@@ -1,6 +1,6 @@
 //! The sessions in a ring, and whose turn it is.
 
-ghost use Rattle.std.specs.Prelude.{◌≡◌, ℕ, ◌+◌, ◌<◌, ◌≤◌, ◌++◌, ◌∷◌, [], IfOk, IfSome, Some, slice_get, take, drop, vec_len};
+ghost use Rattle.std.specs.Prelude.{◌≡◌, ◌+◌, ◌<◌, ◌≤◌, ◌++◌, ◌∷◌, [], IfOk, IfSome, Some, slice_get, take, drop, vec_len};
 ghost use Rattle.teb_rules.specs.Driver.{Seat, offer, seated, seat_after};
 
 use crate::cursor::Cursor;
