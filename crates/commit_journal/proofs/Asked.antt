@@ -9,7 +9,7 @@ use Rattle.teb_history.specs.declared.Event.{Event}
 use Rattle.teb_history.specs.declared.Event.TheVariants.{Done}
 use Rattle.teb_history.specs.Phases.{held, unfinished}
 use Rattle.teb_history.specs.Written.{txn_of}
-use Rattle.teb_rules.specs.Setup.{Setup, Store}
+use Rattle.teb_rules.specs.Setup.{Store}
 use Rattle.teb_rules.specs.Cascade.{txn}
 use Rattle.record_journal.specs.declared.journal.Journal.{Journal}
 use Rattle.crash_disk.specs.Calls.{Tally, IsUpTo}
@@ -108,12 +108,6 @@ module _ {D : Type 0} (seen : D → List ℕ) (may_leave : D → List ℕ → Ty
   -- nothing was committed
   pub keeps_same : (X Y : Store) (H K : List Event) (j : Journal D) → KeepsAll seen may_leave X H j → Y ≡ X → records_of X.setup K ≡ records_of X.setup H → KeepsAll seen may_leave Y K j
   keeps_same X Y H K j d is-store same = subst (λ (Z : Store). KeepsAll seen may_leave Z K j) (sym is-store) (subst (λ (rs : List Record). Keeps seen may_leave rs j) (sym same) d)
-
-  -- a commit was kept
-  pub keeps_more : (X Y : Store) (H K : List Event) (t : ℕ) (j : Journal D) → Y ≡ X → K ≡ Done (txn t) ∷ H → Keeps seen may_leave (records_of X.setup H ++ record_of X.setup H t ∷ []) j → KeepsAll seen may_leave Y K j
-  unfolding records_of
-  keeps_more X Y H K t j is-store is-events more =
-      subst (λ (Z : Store). KeepsAll seen may_leave Z K j) (sym is-store) (subst (λ (P : List Event). Keeps seen may_leave (records_of X.setup P) j) (sym is-events) more)
 
   -- all commits are acknowledged, as long as the disk has not failed
   pub all_acknowledged : (X : Store) (H : List Event) (j : Journal D) → KeepsAll seen may_leave X H j → j.stopped ≡ false → j.progress.acknowledged ≡ commit_count H

@@ -2,3 +2,4 @@ pub mod Replies
 pub mod Puts
 pub mod Newest
 pub mod Asked
+pub mod Answered

@@ -1,13 +1,12 @@
 -- Whose version stands last in a chain.
-use Rattle.std.proofs.Common.{◌≡◌, ◌⊎◌, ◌<◌, ◌≤◌, ℕ, Bool, true, false, not, ◌&&◌, ◌||◌, eqb, List, [], ◌∷◌, Option, Some, None, refl, sym, ap, subst, ◌∙◌, arith, inl, inr, length, get_or, eqb-true, le-ltb}
-use Rattle.std.specs.List.{list_all}
+use Rattle.std.proofs.Common.{◌≡◌, ◌⊎◌, ◌<◌, ℕ, Bool, true, false, not, ◌&&◌, eqb, List, Some, None, refl, sym, ap, subst, ◌∙◌, arith, inl, inr, length, get_or, eqb-true, le-ltb}
 use Rattle.std.proofs.lemmas.Bool.{eq-eqb, both_ways, cases_order, cases_Bool, and_from, and_parts, or_cases, or_left, or_right, not-true, not_from_false, false_from_ne_true, eqb-false}
 use Rattle.teb_names.specs.declared.Cell.{Cell}
 use Rattle.teb_history.specs.declared.Event.{Event}
 use Rattle.teb_history.specs.Phases.{txns, committed, aborted, unfinished}
 use Rattle.teb_history.specs.Accesses.{wrote}
 use Rattle.teb_rules.specs.Setup.{Setup}
-use Rattle.teb_rules.specs.Serializes.{In, Pairs}
+use Rattle.teb_rules.specs.Serializes.{In}
 use Rattle.teb_rules.specs.Versions.{precedes}
 use Rattle.teb_laws.specs.Lawful.{Lawful}
 use Rattle.teb_laws.proofs.Locks.{In-txns}
@@ -15,9 +14,9 @@ use Rattle.teb_laws.proofs.Ranks.{commits}
 use Rattle.teb_laws.proofs.ReadRule.{list_all_at, list_all_from}
 use Rattle.teb_laws.proofs.Serial.{commits_from}
 use Rattle.teb_laws.proofs.VersionOrder.{precedes_irreflexive}
-use Rattle.version_chain.specs.Lists.{Version, writers_of, last_place}
+use Rattle.version_chain.specs.Lists.{Version, writers_of}
 use Rattle.version_chain.proofs.Places.{IsLast}
-use Rattle.phase_api.specs.Versions.{HoldsVersions, has_version}
+use Rattle.phase_api.specs.Versions.{HoldsVersions}
 use Rattle.candidate_reads.proofs.InOrder.{among_In, In_among, at-In, In-at, Pairs-at}
 use Rattle.candidate_reads.proofs.Shows.{version_parts}
 use Rattle.candidate_reads.proofs.Sources.{Strict, writer_began}

@@ -1,5 +1,5 @@
 -- What a reply says of commits.
-use Rattle.std.proofs.Common.{inl, inr, ◌≡◌, ℕ, suc, Bool, true, false, cond, not, ◌&&◌, leb, ltb, is_none, List, [], ◌∷◌, Option, Some, None, refl, sym, ◌∙◌, ap, unwrap_or, ℤ, ◌+ℤ◌}
+use Rattle.std.proofs.Common.{inl, inr, ◌≡◌, ℕ, Bool, true, false, cond, not, ◌&&◌, leb, ltb, is_none, List, [], ◌∷◌, Option, Some, None, refl, ◌∙◌, ap, unwrap_or, ℤ, ◌+ℤ◌}
 use Rattle.std.proofs.lemmas.Bool.{both_ways}
 use Rattle.teb_names.specs.declared.Session.{Session}
 use Rattle.teb_names.specs.declared.Spot.{Spot}
@@ -8,19 +8,18 @@ use Rattle.teb_names.specs.declared.Cause.{Cause}
 use Rattle.teb_names.specs.declared.Cause.TheVariants.{After, Asked, Ended, Newer}
 use Rattle.teb_names.specs.declared.Request.{Request}
 use Rattle.teb_names.specs.declared.Request.TheVariants.{Begin, Read, Write, Add, Delete, Scan, Prepare, Commit, Abort, End}
-use Rattle.teb_names.specs.declared.Reply.{Reply}
 use Rattle.teb_names.specs.declared.Reply.TheVariants.{Committed, Aborted, Prepared, Again}
 use Rattle.teb_names.specs.declared.Refusal.{Refusal}
-use Rattle.teb_names.specs.declared.Refusal.TheVariants.{BadSession, InTxn, UnknownType, Full, NoTxn, UnknownTable, NotInProfile, Range, NotRead, Overflow}
+use Rattle.teb_names.specs.declared.Refusal.TheVariants.{BadSession, InTxn, UnknownType, Full, UnknownTable, NotInProfile, Range, NotRead, Overflow}
 use Rattle.teb_names.specs.declared.Refusal.TheVariants.{Prepared as IsPrepared}
 use Rattle.teb_history.specs.declared.Event.{Event}
-use Rattle.teb_history.specs.declared.Event.TheVariants.{Began, Got, Put, Ready, Done, Gone, Told}
+use Rattle.teb_history.specs.declared.Event.TheVariants.{Got, Ready, Done, Gone, Told}
 use Rattle.teb_history.specs.Phases.{held, unfinished, aborted, prepared, begun_count, kind_of, cause_of}
 use Rattle.teb_history.specs.Accesses.{last_put, last_got}
 use Rattle.teb_rules.specs.Setup.{Setup, Store, profile}
 use Rattle.teb_rules.specs.Steps.{least_step, cursor}
 use Rattle.teb_rules.specs.Cascade.{txn, abort, fall_in_turn, cascade, blamed}
-use Rattle.teb_rules.specs.Answer.{Answered, answer, answer_to, answer_of, answer_new, refuse, broken_off, begin_or_wait, or_stop, or_refused, put_value, got_value, added, add_base, fits, read_all, got_values, scan_values, is_scan, cells_from}
+use Rattle.teb_rules.specs.Answer.{Answered, answer, answer_to, answer_of, answer_new, refuse, broken_off, begin_or_wait, or_stop, or_refused, put_value, added, add_base, fits, read_all, scan_values, is_scan, cells_from}
 use Rattle.teb_rules.specs.Stops.{begin_stop, access_stop, scan_stop, prepare_stop, commit_stop}
 use Rattle.teb_rules.specs.Verdicts.{cause_at}
 use Rattle.teb_rules.specs.Versions.{read}

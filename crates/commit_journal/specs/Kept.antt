@@ -1,5 +1,5 @@
 -- What contracts see of a store on a disk, and which requests commit.
-use Rattle.std.specs.Prelude.{◌≡◌, ◌+◌, ◌*◌, ◌<◌, ◌-◌, ℕ, Bool, cond, eqb, ◌||◌, if◌then◌else◌, ◌++◌, ◌∷◌, [], List, length, Option, Some, None}
+use Rattle.std.specs.Prelude.{◌≡◌, ◌+◌, ◌*◌, ◌<◌, ℕ, Bool, cond, eqb, ◌||◌, if◌then◌else◌, ◌++◌, ◌∷◌, [], List, length, Option, Some, None}
 use Rattle.std.specs.BTreeSet.{BTreeSet, contains}
 use Rattle.teb_names.specs.declared.Cell.{Cell}
 use Rattle.teb_names.specs.Cells.{cell_cmp}

@@ -1,7 +1,5 @@
-use Rattle.std.proofs.Common.{◌≡◌, ℕ, List, Some, None, sym, ◌∙◌, ap, arith, length, rules, subst}
-use Rattle.teb_names.specs.declared.Txn.{Txn}
+use Rattle.std.proofs.Common.{List, sym, ◌∙◌, ap}
 use Rattle.teb_history.specs.declared.Event.{Event}
-use Rattle.teb_history.specs.Written.{txn_of}
 use Rattle.commit_laws.specs.Records.{puts_of}
 use Rattle.commit_journal.specs.Kept.{committing}
 use Rattle.commit_journal.proofs.Asked.{txn_of_some, committing_unfinished}

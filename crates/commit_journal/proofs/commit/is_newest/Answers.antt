@@ -1,4 +1,4 @@
-use Rattle.std.proofs.Common.{◌≡◌, ℕ, List, eqb, Some, None, sym, ◌∙◌, ap, arith, length}
+use Rattle.std.proofs.Common.{ℕ, List, eqb, Some, None, sym, ◌∙◌, ap, arith}
 use Rattle.std.proofs.lemmas.List.{length-map}
 use Rattle.teb_history.specs.declared.Event.{Event}
 use Rattle.version_chain.specs.Lists.{last_place, writers_of}

@@ -1,4 +1,4 @@
-use Rattle.std.proofs.Common.{◌≡◌, ◌∙◌, ◌∷◌, [], List, ap, sym, subst, rules}
+use Rattle.std.proofs.Common.{◌≡◌, List, sym, subst, rules}
 use Rattle.teb_history.specs.declared.Event.{Event}
 use Rattle.teb_history.specs.OwnEvents.{own_events}
 use Rattle.record_journal.specs.Format.{Record}

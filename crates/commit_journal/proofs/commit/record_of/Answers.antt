@@ -1,7 +1,6 @@
-use Rattle.std.proofs.Common.{◌≡◌, ◌∙◌, ◌∷◌, [], ap, sym, refl, arith, length, length-append, true, false, filter, take, List, Vec, Global}
+use Rattle.std.proofs.Common.{◌∙◌, ap, sym, arith, length, true, false, filter, Vec, Global}
 use Rattle.std.proofs.lemmas.List.{take_all}
 use Rattle.record_journal.specs.declared.change.Change.{Change}
-use Rattle.record_journal.specs.Format.{Record}
 use Rattle.commit_laws.specs.Records.{is_newest}
 use Rattle.commit_journal.proofs.Puts.{put_wrote, chosen_more, grown_few}
 use Rattle.commit_journal.proofs.commit.record_of.Goals as goal

@@ -1,4 +1,4 @@
-use Rattle.std.proofs.Common.{◌≡◌, ◌∙◌, sym}
+use Rattle.std.proofs.Common.{◌∙◌, sym}
 use Rattle.commit_laws.specs.Records.{records_of}
 use Rattle.commit_journal.proofs.Asked.{if_ok_map, found_rows}
 use Rattle.commit_journal.proofs.recovery.recover.Goals as goal

@@ -1,19 +1,16 @@
-use Rattle.std.proofs.Common.{◌≡◌, ◌∙◌, ◌∷◌, ◌++◌, [], ℕ, List, false, Some, ap, sym, subst, arith, length, rules}
+use Rattle.std.proofs.Common.{◌≡◌, ◌∙◌, List, false, subst, arith, length, rules}
 use Rattle.teb_names.specs.declared.Reply.TheVariants.{Committed}
-use Rattle.teb_history.specs.declared.Event.{Event}
-use Rattle.teb_history.specs.declared.Event.TheVariants.{Done}
-use Rattle.teb_rules.specs.Cascade.{txn}
-use Rattle.teb_rules.specs.Answer.{answer}
 use Rattle.crash_disk.specs.Disk.{LeavesOnly}
 use Rattle.record_journal.specs.Format.{Record, records, recovered, Whole}
-use Rattle.record_journal.specs.Journal.{IsBody, StandsFor}
+use Rattle.record_journal.specs.Journal.{StandsFor}
+use Rattle.record_journal.specs.Kept.{Keeps}
 use Rattle.record_journal.proofs.Moments.{started}
 use Rattle.commit_laws.specs.Commits.{commit_count}
-use Rattle.commit_laws.specs.Records.{records_of, record_of}
-use Rattle.commit_journal.specs.Kept.{Kept, committing}
+use Rattle.commit_laws.specs.Records.{records_of}
+use Rattle.commit_journal.specs.Kept.{Kept}
 use Rattle.commit_journal.specs.Whole.{HasFirst}
-use Rattle.commit_journal.proofs.Replies.{outcome, committed_now, records_same}
-use Rattle.commit_journal.proofs.Asked.{keeps_same, keeps_more, records_more, all_acknowledged, ends_behind, body_some, has_room}
+use Rattle.commit_journal.proofs.Asked.{all_acknowledged, ends_behind}
+use Rattle.commit_journal.proofs.Answered.{commits, is_some, fits_in, of_before, of_behind, keeps_ready, keeps_quiet}
 use Rattle.commit_journal.proofs.durable.Durable.ask.Goals as goal
 
 pub returns-in_err-body-clause-all : goal.returns-in_err-body-clause-all
@@ -34,7 +31,7 @@ returns-in_err-ready-clause-all g c =
     let m = c.self.inside in
     let one = c.ready.new.self in
     all_acknowledged d.seen d.may_leave one.store one.events m.journal
-    (keeps_same d.seen d.may_leave m.engine.store one.store m.engine.events one.events m.journal c.self.invariant c.ready.ensures.store (ap (records_of m.engine.store.setup) c.ready.ensures.events))
+    (keeps_ready d.seen d.may_leave m.engine.store one.store m.engine.events one.events m.journal c.self.invariant c.ready.ensures.store c.ready.ensures.events)
 
 pub returns-in_err-ready-clause-end : goal.returns-in_err-ready-clause-end
 returns-in_err-ready-clause-end g c =
@@ -42,7 +39,7 @@ returns-in_err-ready-clause-end g c =
     let m = c.self.inside in
     let one = c.ready.new.self in
     ends_behind d.seen d.may_leave one.store one.events m.journal
-    (keeps_same d.seen d.may_leave m.engine.store one.store m.engine.events one.events m.journal c.self.invariant c.ready.ensures.store (ap (records_of m.engine.store.setup) c.ready.ensures.events))
+    (keeps_ready d.seen d.may_leave m.engine.store one.store m.engine.events one.events m.journal c.self.invariant c.ready.ensures.store c.ready.ensures.events)
 
 pub invariant_of-self-then-ne : goal.invariant_of-self-then-ne
 invariant_of-self-then-ne g c =
@@ -50,12 +47,8 @@ invariant_of-self-then-ne g c =
     let m = c.self.inside in
     let one = c.ready.new.self in
     let two = c.ask-reply.new.self in
-    let s = c.args.session in
-    let r = c.args.request in
     let other : (c.ask-reply.result ≡ Committed → ⊥) = search rules in
-    let first = keeps_same d.seen d.may_leave m.engine.store one.store m.engine.events one.events m.journal c.self.invariant c.ready.ensures.store (ap (records_of m.engine.store.setup) c.ready.ensures.events) in
-    let quiet = records_same one.store.setup one.events s r (answer one.store one.events s r) (outcome one.store one.events s r) (λ q. other (c.ask-reply.ensures.reply ∙ q)) in
-    let kept = keeps_same d.seen d.may_leave one.store two.store one.events two.events m.journal first c.ask-reply.ensures.store (ap (records_of one.store.setup) c.ask-reply.ensures.events ∙ quiet) in
+    let kept = keeps_quiet d.seen d.may_leave m.engine.store one.store two.store m.engine.events one.events two.events m.journal c.args.session c.args.request c.ask-reply.result c.self.invariant c.ready.ensures.store c.ready.ensures.events c.ask-reply.ensures.store c.ask-reply.ensures.reply c.ask-reply.ensures.events other in
     kept
 
 pub returns-then-ne-clause-all : goal.returns-then-ne-clause-all
@@ -64,12 +57,8 @@ returns-then-ne-clause-all g c =
     let m = c.self.inside in
     let one = c.ready.new.self in
     let two = c.ask-reply.new.self in
-    let s = c.args.session in
-    let r = c.args.request in
     let other : (c.ask-reply.result ≡ Committed → ⊥) = search rules in
-    let first = keeps_same d.seen d.may_leave m.engine.store one.store m.engine.events one.events m.journal c.self.invariant c.ready.ensures.store (ap (records_of m.engine.store.setup) c.ready.ensures.events) in
-    let quiet = records_same one.store.setup one.events s r (answer one.store one.events s r) (outcome one.store one.events s r) (λ q. other (c.ask-reply.ensures.reply ∙ q)) in
-    let kept = keeps_same d.seen d.may_leave one.store two.store one.events two.events m.journal first c.ask-reply.ensures.store (ap (records_of one.store.setup) c.ask-reply.ensures.events ∙ quiet) in
+    let kept = keeps_quiet d.seen d.may_leave m.engine.store one.store two.store m.engine.events one.events two.events m.journal c.args.session c.args.request c.ask-reply.result c.self.invariant c.ready.ensures.store c.ready.ensures.events c.ask-reply.ensures.store c.ask-reply.ensures.reply c.ask-reply.ensures.events other in
     all_acknowledged d.seen d.may_leave two.store two.events m.journal kept
 
 pub returns-then-ne-clause-end : goal.returns-then-ne-clause-end
@@ -78,12 +67,8 @@ returns-then-ne-clause-end g c =
     let m = c.self.inside in
     let one = c.ready.new.self in
     let two = c.ask-reply.new.self in
-    let s = c.args.session in
-    let r = c.args.request in
     let other : (c.ask-reply.result ≡ Committed → ⊥) = search rules in
-    let first = keeps_same d.seen d.may_leave m.engine.store one.store m.engine.events one.events m.journal c.self.invariant c.ready.ensures.store (ap (records_of m.engine.store.setup) c.ready.ensures.events) in
-    let quiet = records_same one.store.setup one.events s r (answer one.store one.events s r) (outcome one.store one.events s r) (λ q. other (c.ask-reply.ensures.reply ∙ q)) in
-    let kept = keeps_same d.seen d.may_leave one.store two.store one.events two.events m.journal first c.ask-reply.ensures.store (ap (records_of one.store.setup) c.ask-reply.ensures.events ∙ quiet) in
+    let kept = keeps_quiet d.seen d.may_leave m.engine.store one.store two.store m.engine.events one.events two.events m.journal c.args.session c.args.request c.ask-reply.result c.self.invariant c.ready.ensures.store c.ready.ensures.events c.ask-reply.ensures.store c.ask-reply.ensures.reply c.ask-reply.ensures.events other in
     ends_behind d.seen d.may_leave two.store two.events m.journal kept
 
 pub returns-then-ne-clause-any_moment : goal.returns-then-ne-clause-any_moment
@@ -92,12 +77,8 @@ returns-then-ne-clause-any_moment g c =
     let m = c.self.inside in
     let one = c.ready.new.self in
     let two = c.ask-reply.new.self in
-    let s = c.args.session in
-    let r = c.args.request in
     let other : (c.ask-reply.result ≡ Committed → ⊥) = search rules in
-    let first = keeps_same d.seen d.may_leave m.engine.store one.store m.engine.events one.events m.journal c.self.invariant c.ready.ensures.store (ap (records_of m.engine.store.setup) c.ready.ensures.events) in
-    let quiet = records_same one.store.setup one.events s r (answer one.store one.events s r) (outcome one.store one.events s r) (λ q. other (c.ask-reply.ensures.reply ∙ q)) in
-    let kept = keeps_same d.seen d.may_leave one.store two.store one.events two.events m.journal first c.ask-reply.ensures.store (ap (records_of one.store.setup) c.ask-reply.ensures.events ∙ quiet) in
+    let kept = keeps_quiet d.seen d.may_leave m.engine.store one.store two.store m.engine.events one.events two.events m.journal c.args.session c.args.request c.ask-reply.result c.self.invariant c.ready.ensures.store c.ready.ensures.events c.ask-reply.ensures.store c.ask-reply.ensures.reply c.ask-reply.ensures.events other in
     subst (λ (o : Kept _). LeavesOnly d.moment d.left_since o.disk m.journal.disk (HasFirst two.store two.events o.acknowledged)) c.self.view_is
     (started d.moment d.left_since m.journal.disk (HasFirst two.store two.events m.journal.progress.acknowledged) (λ image left. kept.each image (g.met.D.Disk.only_now m.journal.disk image left)))
 
@@ -107,12 +88,8 @@ returns-then-ne-clause-images g c =
     let m = c.self.inside in
     let one = c.ready.new.self in
     let two = c.ask-reply.new.self in
-    let s = c.args.session in
-    let r = c.args.request in
     let other : (c.ask-reply.result ≡ Committed → ⊥) = search rules in
-    let first = keeps_same d.seen d.may_leave m.engine.store one.store m.engine.events one.events m.journal c.self.invariant c.ready.ensures.store (ap (records_of m.engine.store.setup) c.ready.ensures.events) in
-    let quiet = records_same one.store.setup one.events s r (answer one.store one.events s r) (outcome one.store one.events s r) (λ q. other (c.ask-reply.ensures.reply ∙ q)) in
-    let kept = keeps_same d.seen d.may_leave one.store two.store one.events two.events m.journal first c.ask-reply.ensures.store (ap (records_of one.store.setup) c.ask-reply.ensures.events ∙ quiet) in
+    let kept = keeps_quiet d.seen d.may_leave m.engine.store one.store two.store m.engine.events one.events two.events m.journal c.args.session c.args.request c.ask-reply.result c.self.invariant c.ready.ensures.store c.ready.ensures.events c.ask-reply.ensures.store c.ask-reply.ensures.reply c.ask-reply.ensures.events other in
     kept.each
 
 pub append-requires-clause-some : goal.append-requires-clause-some
@@ -121,13 +98,9 @@ append-requires-clause-some g c =
     let m = c.self.inside in
     let one = c.ready.new.self in
     let two = c.ask-reply.new.self in
-    let s = c.args.session in
-    let r = c.args.request in
     let is : c.ask-reply.result ≡ Committed = search rules in
-    let now = committed_now one.store.setup one.events s r (answer one.store one.events s r) (outcome one.store one.events s r) (sym c.ask-reply.ensures.reply ∙ is) in
-    let asked = ap (λ (P : List Event). committing P s r) (sym c.ready.ensures.events) ∙ now.1 in
-    let has = c.in_ok-body.ensures.body now.0 asked in
-    omega (arith, body_some _ _ has.0, ap length c.deref.ensures.value)
+    let commit = commits one.store m.engine.events one.events two.events c.args.session c.args.request c.ask-reply.result c.ready.ensures.events c.ask-reply.ensures.reply c.ask-reply.ensures.events is in
+    is_some m.engine.store m.engine.events two.events c.args.session c.args.request _ _ commit c.in_ok-body.ensures.body c.deref.ensures.value
 
 pub append-requires-clause-room : goal.append-requires-clause-room
 append-requires-clause-room g c =
@@ -135,13 +108,9 @@ append-requires-clause-room g c =
     let m = c.self.inside in
     let one = c.ready.new.self in
     let two = c.ask-reply.new.self in
-    let s = c.args.session in
-    let r = c.args.request in
     let is : c.ask-reply.result ≡ Committed = search rules in
-    let now = committed_now one.store.setup one.events s r (answer one.store one.events s r) (outcome one.store one.events s r) (sym c.ask-reply.ensures.reply ∙ is) in
-    let asked = ap (λ (P : List Event). committing P s r) (sym c.ready.ensures.events) ∙ now.1 in
-    let has = c.in_ok-body.ensures.body now.0 asked in
-    omega (arith, has.1, has_room m.engine.events c.left-left.result s r now.0 asked c.in_ok-body.ensures.fits, c.left-left.ensures, ap length c.deref.ensures.value)
+    let commit = commits one.store m.engine.events one.events two.events c.args.session c.args.request c.ask-reply.result c.ready.ensures.events c.ask-reply.ensures.reply c.ask-reply.ensures.events is in
+    omega (arith, fits_in m.engine.store m.engine.events two.events c.args.session c.args.request _ _ commit c.in_ok-body.ensures.body c.deref.ensures.value c.left-left.result c.in_ok-body.ensures.fits, c.left-left.ensures)
 
 pub invariant_of-self-in-Ok : goal.invariant_of-self-in-Ok
 invariant_of-self-in-Ok g c =
@@ -149,19 +118,9 @@ invariant_of-self-in-Ok g c =
     let m = c.self.inside in
     let one = c.ready.new.self in
     let two = c.ask-reply.new.self in
-    let s = c.args.session in
-    let r = c.args.request in
     let is : c.ask-reply.result ≡ Committed = search rules in
-    let now = committed_now one.store.setup one.events s r (answer one.store one.events s r) (outcome one.store one.events s r) (sym c.ask-reply.ensures.reply ∙ is) in
-    let asked = ap (λ (P : List Event). committing P s r) (sym c.ready.ensures.events) ∙ now.1 in
-    let has = c.in_ok-body.ensures.body now.0 asked in
-    let change = record_of m.engine.store.setup m.engine.events now.0 in
-    let bytes = subst (IsBody change) (sym c.deref.ensures.value) has.0 in
-    let store = c.ask-reply.ensures.store ∙ c.ready.ensures.store in
-    let events = c.ask-reply.ensures.events ∙ now.2 ∙ ap (λ (P : List Event). Done (txn now.0) ∷ P) c.ready.ensures.events in
-    let grown = records_more m.engine.store two.store m.engine.events two.events now.0 store events in
-    let kept = keeps_more d.seen d.may_leave m.engine.store two.store m.engine.events two.events now.0 c.append.new.self store events (c.append.ensures.kept (records_of m.engine.store.setup m.engine.events) change bytes c.self.invariant) in
-    kept
+    let commit = commits one.store m.engine.events one.events two.events c.args.session c.args.request c.ask-reply.result c.ready.ensures.events c.ask-reply.ensures.reply c.ask-reply.ensures.events is in
+    of_behind m.engine.store m.engine.events two.events c.args.session c.args.request _ _ commit c.in_ok-body.ensures.body c.deref.ensures.value d.seen d.may_leave two.store m.journal (λ (rs : List Record). Keeps d.seen d.may_leave rs c.append.new.self) (c.ask-reply.ensures.store ∙ c.ready.ensures.store) c.append.ensures.kept c.self.invariant
 
 pub returns-in-Ok-clause-all : goal.returns-in-Ok-clause-all
 returns-in-Ok-clause-all g c =
@@ -169,19 +128,9 @@ returns-in-Ok-clause-all g c =
     let m = c.self.inside in
     let one = c.ready.new.self in
     let two = c.ask-reply.new.self in
-    let s = c.args.session in
-    let r = c.args.request in
     let is : c.ask-reply.result ≡ Committed = search rules in
-    let now = committed_now one.store.setup one.events s r (answer one.store one.events s r) (outcome one.store one.events s r) (sym c.ask-reply.ensures.reply ∙ is) in
-    let asked = ap (λ (P : List Event). committing P s r) (sym c.ready.ensures.events) ∙ now.1 in
-    let has = c.in_ok-body.ensures.body now.0 asked in
-    let change = record_of m.engine.store.setup m.engine.events now.0 in
-    let bytes = subst (IsBody change) (sym c.deref.ensures.value) has.0 in
-    let store = c.ask-reply.ensures.store ∙ c.ready.ensures.store in
-    let events = c.ask-reply.ensures.events ∙ now.2 ∙ ap (λ (P : List Event). Done (txn now.0) ∷ P) c.ready.ensures.events in
-    let grown = records_more m.engine.store two.store m.engine.events two.events now.0 store events in
-    let kept = keeps_more d.seen d.may_leave m.engine.store two.store m.engine.events two.events now.0 c.append.new.self store events (c.append.ensures.kept (records_of m.engine.store.setup m.engine.events) change bytes c.self.invariant) in
-    all_acknowledged d.seen d.may_leave two.store two.events c.append.new.self kept
+    let commit = commits one.store m.engine.events one.events two.events c.args.session c.args.request c.ask-reply.result c.ready.ensures.events c.ask-reply.ensures.reply c.ask-reply.ensures.events is in
+    all_acknowledged d.seen d.may_leave two.store two.events c.append.new.self (of_behind m.engine.store m.engine.events two.events c.args.session c.args.request _ _ commit c.in_ok-body.ensures.body c.deref.ensures.value d.seen d.may_leave two.store m.journal (λ (rs : List Record). Keeps d.seen d.may_leave rs c.append.new.self) (c.ask-reply.ensures.store ∙ c.ready.ensures.store) c.append.ensures.kept c.self.invariant)
 
 pub returns-in-Ok-clause-end : goal.returns-in-Ok-clause-end
 returns-in-Ok-clause-end g c =
@@ -189,19 +138,9 @@ returns-in-Ok-clause-end g c =
     let m = c.self.inside in
     let one = c.ready.new.self in
     let two = c.ask-reply.new.self in
-    let s = c.args.session in
-    let r = c.args.request in
     let is : c.ask-reply.result ≡ Committed = search rules in
-    let now = committed_now one.store.setup one.events s r (answer one.store one.events s r) (outcome one.store one.events s r) (sym c.ask-reply.ensures.reply ∙ is) in
-    let asked = ap (λ (P : List Event). committing P s r) (sym c.ready.ensures.events) ∙ now.1 in
-    let has = c.in_ok-body.ensures.body now.0 asked in
-    let change = record_of m.engine.store.setup m.engine.events now.0 in
-    let bytes = subst (IsBody change) (sym c.deref.ensures.value) has.0 in
-    let store = c.ask-reply.ensures.store ∙ c.ready.ensures.store in
-    let events = c.ask-reply.ensures.events ∙ now.2 ∙ ap (λ (P : List Event). Done (txn now.0) ∷ P) c.ready.ensures.events in
-    let grown = records_more m.engine.store two.store m.engine.events two.events now.0 store events in
-    let kept = keeps_more d.seen d.may_leave m.engine.store two.store m.engine.events two.events now.0 c.append.new.self store events (c.append.ensures.kept (records_of m.engine.store.setup m.engine.events) change bytes c.self.invariant) in
-    ends_behind d.seen d.may_leave two.store two.events c.append.new.self kept
+    let commit = commits one.store m.engine.events one.events two.events c.args.session c.args.request c.ask-reply.result c.ready.ensures.events c.ask-reply.ensures.reply c.ask-reply.ensures.events is in
+    ends_behind d.seen d.may_leave two.store two.events c.append.new.self (of_behind m.engine.store m.engine.events two.events c.args.session c.args.request _ _ commit c.in_ok-body.ensures.body c.deref.ensures.value d.seen d.may_leave two.store m.journal (λ (rs : List Record). Keeps d.seen d.may_leave rs c.append.new.self) (c.ask-reply.ensures.store ∙ c.ready.ensures.store) c.append.ensures.kept c.self.invariant)
 
 pub returns-in-Ok-clause-any_moment : goal.returns-in-Ok-clause-any_moment
 returns-in-Ok-clause-any_moment g c =
@@ -209,20 +148,10 @@ returns-in-Ok-clause-any_moment g c =
     let m = c.self.inside in
     let one = c.ready.new.self in
     let two = c.ask-reply.new.self in
-    let s = c.args.session in
-    let r = c.args.request in
     let is : c.ask-reply.result ≡ Committed = search rules in
-    let now = committed_now one.store.setup one.events s r (answer one.store one.events s r) (outcome one.store one.events s r) (sym c.ask-reply.ensures.reply ∙ is) in
-    let asked = ap (λ (P : List Event). committing P s r) (sym c.ready.ensures.events) ∙ now.1 in
-    let has = c.in_ok-body.ensures.body now.0 asked in
-    let change = record_of m.engine.store.setup m.engine.events now.0 in
-    let bytes = subst (IsBody change) (sym c.deref.ensures.value) has.0 in
-    let store = c.ask-reply.ensures.store ∙ c.ready.ensures.store in
-    let events = c.ask-reply.ensures.events ∙ now.2 ∙ ap (λ (P : List Event). Done (txn now.0) ∷ P) c.ready.ensures.events in
-    let grown = records_more m.engine.store two.store m.engine.events two.events now.0 store events in
+    let commit = commits one.store m.engine.events one.events two.events c.args.session c.args.request c.ask-reply.result c.ready.ensures.events c.ask-reply.ensures.reply c.ask-reply.ensures.events is in
     subst (λ (o : Kept _). LeavesOnly d.moment d.left_since o.disk c.append.new.self.disk (HasFirst two.store two.events o.acknowledged)) c.self.view_is
-    (subst (λ (rs : List Record). LeavesOnly d.moment d.left_since m.journal.disk c.append.new.self.disk (StandsFor m.journal.progress.acknowledged rs)) (sym grown)
-    (c.append.ensures.any_moment (records_of m.engine.store.setup m.engine.events) change bytes c.self.invariant))
+    (of_behind m.engine.store m.engine.events two.events c.args.session c.args.request _ _ commit c.in_ok-body.ensures.body c.deref.ensures.value d.seen d.may_leave two.store m.journal (λ (rs : List Record). LeavesOnly d.moment d.left_since m.journal.disk c.append.new.self.disk (StandsFor m.journal.progress.acknowledged rs)) (c.ask-reply.ensures.store ∙ c.ready.ensures.store) c.append.ensures.any_moment c.self.invariant)
 
 pub returns-in-Ok-clause-images : goal.returns-in-Ok-clause-images
 returns-in-Ok-clause-images g c =
@@ -230,19 +159,9 @@ returns-in-Ok-clause-images g c =
     let m = c.self.inside in
     let one = c.ready.new.self in
     let two = c.ask-reply.new.self in
-    let s = c.args.session in
-    let r = c.args.request in
     let is : c.ask-reply.result ≡ Committed = search rules in
-    let now = committed_now one.store.setup one.events s r (answer one.store one.events s r) (outcome one.store one.events s r) (sym c.ask-reply.ensures.reply ∙ is) in
-    let asked = ap (λ (P : List Event). committing P s r) (sym c.ready.ensures.events) ∙ now.1 in
-    let has = c.in_ok-body.ensures.body now.0 asked in
-    let change = record_of m.engine.store.setup m.engine.events now.0 in
-    let bytes = subst (IsBody change) (sym c.deref.ensures.value) has.0 in
-    let store = c.ask-reply.ensures.store ∙ c.ready.ensures.store in
-    let events = c.ask-reply.ensures.events ∙ now.2 ∙ ap (λ (P : List Event). Done (txn now.0) ∷ P) c.ready.ensures.events in
-    let grown = records_more m.engine.store two.store m.engine.events two.events now.0 store events in
-    let kept = keeps_more d.seen d.may_leave m.engine.store two.store m.engine.events two.events now.0 c.append.new.self store events (c.append.ensures.kept (records_of m.engine.store.setup m.engine.events) change bytes c.self.invariant) in
-    kept.each
+    let commit = commits one.store m.engine.events one.events two.events c.args.session c.args.request c.ask-reply.result c.ready.ensures.events c.ask-reply.ensures.reply c.ask-reply.ensures.events is in
+    (of_behind m.engine.store m.engine.events two.events c.args.session c.args.request _ _ commit c.in_ok-body.ensures.body c.deref.ensures.value d.seen d.may_leave two.store m.journal (λ (rs : List Record). Keeps d.seen d.may_leave rs c.append.new.self) (c.ask-reply.ensures.store ∙ c.ready.ensures.store) c.append.ensures.kept c.self.invariant).each
 
 pub invariant_of-self-2 : goal.invariant_of-self-2
 invariant_of-self-2 g c =
@@ -250,19 +169,9 @@ invariant_of-self-2 g c =
     let m = c.self.inside in
     let one = c.ready.new.self in
     let two = c.ask-reply.new.self in
-    let s = c.args.session in
-    let r = c.args.request in
     let is : c.ask-reply.result ≡ Committed = search rules in
-    let now = committed_now one.store.setup one.events s r (answer one.store one.events s r) (outcome one.store one.events s r) (sym c.ask-reply.ensures.reply ∙ is) in
-    let asked = ap (λ (P : List Event). committing P s r) (sym c.ready.ensures.events) ∙ now.1 in
-    let has = c.in_ok-body.ensures.body now.0 asked in
-    let change = record_of m.engine.store.setup m.engine.events now.0 in
-    let bytes = subst (IsBody change) (sym c.deref.ensures.value) has.0 in
-    let store = c.ask-reply.ensures.store ∙ c.ready.ensures.store in
-    let events = c.ask-reply.ensures.events ∙ now.2 ∙ ap (λ (P : List Event). Done (txn now.0) ∷ P) c.ready.ensures.events in
-    let grown = records_more m.engine.store two.store m.engine.events two.events now.0 store events in
-    let kept = keeps_more d.seen d.may_leave m.engine.store two.store m.engine.events two.events now.0 c.append.new.self store events (c.append.ensures.kept (records_of m.engine.store.setup m.engine.events) change bytes c.self.invariant) in
-    kept
+    let commit = commits one.store m.engine.events one.events two.events c.args.session c.args.request c.ask-reply.result c.ready.ensures.events c.ask-reply.ensures.reply c.ask-reply.ensures.events is in
+    of_behind m.engine.store m.engine.events two.events c.args.session c.args.request _ _ commit c.in_ok-body.ensures.body c.deref.ensures.value d.seen d.may_leave two.store m.journal (λ (rs : List Record). Keeps d.seen d.may_leave rs c.append.new.self) (c.ask-reply.ensures.store ∙ c.ready.ensures.store) c.append.ensures.kept c.self.invariant
 
 pub returns-clause-any_moment : goal.returns-clause-any_moment
 returns-clause-any_moment g c =
@@ -270,20 +179,10 @@ returns-clause-any_moment g c =
     let m = c.self.inside in
     let one = c.ready.new.self in
     let two = c.ask-reply.new.self in
-    let s = c.args.session in
-    let r = c.args.request in
     let is : c.ask-reply.result ≡ Committed = search rules in
-    let now = committed_now one.store.setup one.events s r (answer one.store one.events s r) (outcome one.store one.events s r) (sym c.ask-reply.ensures.reply ∙ is) in
-    let asked = ap (λ (P : List Event). committing P s r) (sym c.ready.ensures.events) ∙ now.1 in
-    let has = c.in_ok-body.ensures.body now.0 asked in
-    let change = record_of m.engine.store.setup m.engine.events now.0 in
-    let bytes = subst (IsBody change) (sym c.deref.ensures.value) has.0 in
-    let store = c.ask-reply.ensures.store ∙ c.ready.ensures.store in
-    let events = c.ask-reply.ensures.events ∙ now.2 ∙ ap (λ (P : List Event). Done (txn now.0) ∷ P) c.ready.ensures.events in
-    let grown = records_more m.engine.store two.store m.engine.events two.events now.0 store events in
+    let commit = commits one.store m.engine.events one.events two.events c.args.session c.args.request c.ask-reply.result c.ready.ensures.events c.ask-reply.ensures.reply c.ask-reply.ensures.events is in
     subst (λ (o : Kept _). LeavesOnly d.moment d.left_since o.disk c.append.new.self.disk (HasFirst two.store two.events o.acknowledged)) c.self.view_is
-    (subst (λ (rs : List Record). LeavesOnly d.moment d.left_since m.journal.disk c.append.new.self.disk (StandsFor m.journal.progress.acknowledged rs)) (sym grown)
-    (c.append.ensures.any_moment (records_of m.engine.store.setup m.engine.events) change bytes c.self.invariant))
+    (of_behind m.engine.store m.engine.events two.events c.args.session c.args.request _ _ commit c.in_ok-body.ensures.body c.deref.ensures.value d.seen d.may_leave two.store m.journal (λ (rs : List Record). LeavesOnly d.moment d.left_since m.journal.disk c.append.new.self.disk (StandsFor m.journal.progress.acknowledged rs)) (c.ask-reply.ensures.store ∙ c.ready.ensures.store) c.append.ensures.any_moment c.self.invariant)
 
 pub returns-clause-images : goal.returns-clause-images
 returns-clause-images g c =
@@ -291,19 +190,9 @@ returns-clause-images g c =
     let m = c.self.inside in
     let one = c.ready.new.self in
     let two = c.ask-reply.new.self in
-    let s = c.args.session in
-    let r = c.args.request in
     let is : c.ask-reply.result ≡ Committed = search rules in
-    let now = committed_now one.store.setup one.events s r (answer one.store one.events s r) (outcome one.store one.events s r) (sym c.ask-reply.ensures.reply ∙ is) in
-    let asked = ap (λ (P : List Event). committing P s r) (sym c.ready.ensures.events) ∙ now.1 in
-    let has = c.in_ok-body.ensures.body now.0 asked in
-    let change = record_of m.engine.store.setup m.engine.events now.0 in
-    let bytes = subst (IsBody change) (sym c.deref.ensures.value) has.0 in
-    let store = c.ask-reply.ensures.store ∙ c.ready.ensures.store in
-    let events = c.ask-reply.ensures.events ∙ now.2 ∙ ap (λ (P : List Event). Done (txn now.0) ∷ P) c.ready.ensures.events in
-    let grown = records_more m.engine.store two.store m.engine.events two.events now.0 store events in
-    let kept = keeps_more d.seen d.may_leave m.engine.store two.store m.engine.events two.events now.0 c.append.new.self store events (c.append.ensures.kept (records_of m.engine.store.setup m.engine.events) change bytes c.self.invariant) in
-    kept.each
+    let commit = commits one.store m.engine.events one.events two.events c.args.session c.args.request c.ask-reply.result c.ready.ensures.events c.ask-reply.ensures.reply c.ask-reply.ensures.events is in
+    (of_behind m.engine.store m.engine.events two.events c.args.session c.args.request _ _ commit c.in_ok-body.ensures.body c.deref.ensures.value d.seen d.may_leave two.store m.journal (λ (rs : List Record). Keeps d.seen d.may_leave rs c.append.new.self) (c.ask-reply.ensures.store ∙ c.ready.ensures.store) c.append.ensures.kept c.self.invariant).each
 
 pub returns-clause-not_added : goal.returns-clause-not_added
 returns-clause-not_added g c failed =
@@ -311,16 +200,7 @@ returns-clause-not_added g c failed =
     let m = c.self.inside in
     let one = c.ready.new.self in
     let two = c.ask-reply.new.self in
-    let s = c.args.session in
-    let r = c.args.request in
     let is : c.ask-reply.result ≡ Committed = search rules in
-    let now = committed_now one.store.setup one.events s r (answer one.store one.events s r) (outcome one.store one.events s r) (sym c.ask-reply.ensures.reply ∙ is) in
-    let asked = ap (λ (P : List Event). committing P s r) (sym c.ready.ensures.events) ∙ now.1 in
-    let has = c.in_ok-body.ensures.body now.0 asked in
-    let change = record_of m.engine.store.setup m.engine.events now.0 in
-    let bytes = subst (IsBody change) (sym c.deref.ensures.value) has.0 in
-    let store = c.ask-reply.ensures.store ∙ c.ready.ensures.store in
-    let events = c.ask-reply.ensures.events ∙ now.2 ∙ ap (λ (P : List Event). Done (txn now.0) ∷ P) c.ready.ensures.events in
-    let grown = records_more m.engine.store two.store m.engine.events two.events now.0 store events in
+    let commit = commits one.store m.engine.events one.events two.events c.args.session c.args.request c.ask-reply.result c.ready.ensures.events c.ask-reply.ensures.reply c.ask-reply.ensures.events is in
     subst (λ (o : Kept _). recovered (d.safe c.append.new.self.disk) ≡ Whole (records_of o.store.setup o.events)) c.self.view_is
-    (c.in-Err.ensures.not_added (records_of m.engine.store.setup m.engine.events) change bytes c.self.invariant)
+    (of_before m.engine.store m.engine.events two.events c.args.session c.args.request _ _ commit c.in_ok-body.ensures.body c.deref.ensures.value d.seen d.may_leave m.journal (λ (rs : List Record). recovered (d.safe c.append.new.self.disk) ≡ Whole rs) c.in-Err.ensures.not_added c.self.invariant)
