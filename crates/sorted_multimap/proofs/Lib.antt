@@ -3,3 +3,4 @@ pub mod SpreadEntries
 pub mod TakenMatches
 pub mod CellValues
 pub mod TxnKeys
+pub mod NumberedValues

@@ -187,6 +187,14 @@ module _ {K : Type 0} (R : K → K → Ordering) (total : IsTotalOrder R) where
   values_tied (j ∷ js) [] k q e = refl
   values_tied (j ∷ js) (v ∷ vs) k q e = rw (values_tied js vs k q e) (ap (λ o. cond (is_eq o) (v ∷ values_beside R js vs k) (values_beside R js vs k)) (sym (alike_right total k q j e)))
 
+  -- the values of a key, put in its own stead
+  pub values_kept : {V : Type 0} (ks : List K) (vs : List V) (k q : K) → values_beside R ks vs q ≡ cond (is_eq (R k q)) (values_beside R ks vs k) (values_beside R ks vs q)
+  values_kept ks vs k q = go (is_eq (R k q)) refl
+    where
+      go : (b : Bool) → is_eq (R k q) ≡ b → values_beside R ks vs q ≡ cond b (values_beside R ks vs k) (values_beside R ks vs q)
+      go true h = values_tied ks vs k q (is_equal _ h)
+      go false h = refl
+
   -- the values of a key stand between those of the keys below it and above it
   pub values_range : {V : Type 0} (ks : List K) (vs : List V) (k : K) → Ascends R ks → length ks ≡ length vs
       → take (tops R ks k - lows R ks k) (drop (lows R ks k) vs) ≡ values_beside R ks vs k

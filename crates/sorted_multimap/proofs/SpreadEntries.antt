@@ -1,5 +1,6 @@
 -- A multimap that is spread over buckets: where the values of a key lie, and what an edit of their bucket makes of all.
-use Rattle.std.proofs.Common.{◌≡◌, ◌≢◌, ℕ, zero, suc, ◌+◌, ◌%◌, ◌<◌, ◌≤◌, inl, inr, Bool, true, false, cond, List, [], ◌∷◌, ◌++◌, length, get_or, refl, sym, ◌∙◌, ap, subst, arith}
+use Rattle.std.proofs.Common.{◌≡◌, ◌≢◌, ℕ, zero, suc, ◌+◌, ◌-◌, ◌%◌, ◌<◌, ◌≤◌, inl, inr, Bool, true, false, cond, List, [], ◌∷◌, ◌++◌, length, get_or, refl, sym, ◌∙◌, ap, subst, arith}
+use mir.Val.{bool_byte}
 use Rattle.std.proofs.Math.ListN.{set, length-set}
 use Rattle.std.proofs.lemmas.List.{get_or-set_other, get_or_default}
 use Rattle.std.proofs.lemmas.Bool.Decides.{eqb_tells}
@@ -217,6 +218,11 @@ module _ {K V : Type 0} (R : K → K → Ordering) (spread : K → ℕ) where
 
 pub less_room : {K V : Type 0} (b : Bucket K V) (n : ℕ) → HasRoom b (n + 1) → HasRoom b n
 less_room b n r = record { keys = omega (arith, r.keys); values = omega (arith, r.values) }
+
+-- what is left of the room where it is taken, or is not
+pub left_room : (taken : Bool) (m n : ℕ) → 0 < m → n ≡ bool_byte taken → m ≡ m - n + cond taken 1 0
+left_room true m n some e = omega arith
+left_room false m n some e = omega arith
 
 -- k lies in b, which is number i of the buckets
 pub record IsLocated {K V : Type 0} (spread : K → ℕ) (bs : List (Bucket K V)) (k : K) (i : ℕ) (b : Bucket K V) : Type 0 where

@@ -1,5 +1,5 @@
 -- Buckets: in each, two lists of one length, the keys in ascending order and each value at the place of its key.
-use Rattle.std.specs.Prelude.{◌≡◌, ◌≢◌, ℕ, suc, ◌+◌, ◌%◌, ◌≤◌, ◌<◌, Bool, cond, not, List, [], ◌∷◌, ◌++◌, ⊤, length, get_or, vec_len, vec_capacity, IsFalse}
+use Rattle.std.specs.Prelude.{◌≡◌, ◌≢◌, ℕ, suc, ◌+◌, ◌%◌, ◌≤◌, ◌<◌, Bool, cond, not, List, [], ◌∷◌, ◌++◌, ⊤, length, get_or, vec_len, vec_capacity, IsFalse, Result, Ok, Err}
 use Rattle.std.specs.Ordering.{is_lt, is_eq, is_gt}
 use Rattle.std.specs.declared.cmp.Ordering.{Ordering}
 use Rattle.sorted_multimap.specs.declared.bucket.Bucket.{Bucket}
@@ -42,6 +42,11 @@ pub record IsSorted {K V : Type 0} (R : K → K → Ordering) (p : Bucket K V) :
 pub record HasRoom {K V : Type 0} (p : Bucket K V) (n : ℕ) : Type 0 where
   pub keys : vec_len p.keys + n ≤ vec_capacity p.keys
   pub values : vec_len p.values + n ≤ vec_capacity p.values
+
+-- a place, n further on
+abbrev pub further : ℕ → Result ℕ ℕ → Result ℕ ℕ
+further n (Ok i) = Ok (n + i)
+further n (Err i) = Err (n + i)
 
 -- each key beside its value
 abbrev pub beside : {K V : Type 0} → List K → List V → List (K × V)

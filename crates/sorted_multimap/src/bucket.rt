@@ -1,5 +1,7 @@
 //! One bucket: the values of some keys in two vectors that are sorted by key.
 
+mod by_number;
+
 ghost use Rattle.std.specs.Prelude.{ℕ, ◌≡◌, ◌<◌, ◌≤◌, ◌+◌, ◌-◌, ◌++◌, ◌∷◌, length, cond, [], insert, remove, set, vec_len, vec_capacity, OnOk, IsTrue};
 ghost use Rattle.std.specs.List.{remove_range};
 ghost use Rattle.std.specs.Ordering.{is_eq};
@@ -63,6 +65,19 @@ impl<K: Ord + Copy, V: Copy> Bucket<K, V> {
         ensures room { (n : ℕ) → HasRoom self.old (n + 1) → HasRoom self.new n }
     {
         let at = first(&self.keys, key) + i;
+        self.put_at(at, key, value);
+    }
+
+    // Puts a value, and its key beside it, at a place where the key may stand.
+    fn put_at(&mut self, at: usize, key: K, value: V)
+        requires sorted { IsSorted K.cmp self.old }
+        requires room { HasRoom self.old 1 }
+        requires low { lows K.cmp self.old.keys.items key ≤ at }
+        requires top { at ≤ tops K.cmp self.old.keys.items key }
+        ensures sorted { IsSorted K.cmp self.new }
+        ensures values { (i : ℕ) → at ≡ lows K.cmp self.old.keys.items key + i → (q : K) → bucket_values K.cmp self.new q ≡ cond (is_eq (K.cmp key q)) (insert (bucket_values K.cmp self.old key) i value) (bucket_values K.cmp self.old q) }
+        ensures room { (n : ℕ) → HasRoom self.old (n + 1) → HasRoom self.new n }
+    {
         put_in(&mut self.keys, at, key);
         put_in(&mut self.values, at, value);
     }
@@ -102,6 +117,17 @@ impl<K: Ord + Copy, V: Copy> Bucket<K, V> {
         ensures room { (n : ℕ) → HasRoom self.old n → HasRoom self.new n }
     {
         let at = first(&self.keys, key) + i;
+        self.replace_at(at, value);
+    }
+
+    // Replaces the value at a place.
+    fn replace_at(&mut self, at: usize, value: V)
+        requires sorted { IsSorted K.cmp self.old }
+        requires within { at < vec_len self.old.keys }
+        ensures sorted { IsSorted K.cmp self.new }
+        ensures values { (key : K) (i : ℕ) → at ≡ lows K.cmp self.old.keys.items key + i → at < tops K.cmp self.old.keys.items key → (q : K) → bucket_values K.cmp self.new q ≡ cond (is_eq (K.cmp key q)) (set (bucket_values K.cmp self.old key) i value) (bucket_values K.cmp self.old q) }
+        ensures room { (n : ℕ) → HasRoom self.old n → HasRoom self.new n }
+    {
         self.values[at] = value;
     }
 
@@ -114,6 +140,17 @@ impl<K: Ord + Copy, V: Copy> Bucket<K, V> {
         ensures room { (n : ℕ) → HasRoom self.old n → HasRoom self.new (n + 1) }
     {
         let at = first(&self.keys, key) + i;
+        self.take_at(at);
+    }
+
+    // Takes out the value at a place, and its key.
+    fn take_at(&mut self, at: usize)
+        requires sorted { IsSorted K.cmp self.old }
+        requires within { at < vec_len self.old.keys }
+        ensures sorted { IsSorted K.cmp self.new }
+        ensures values { (key : K) (i : ℕ) → at ≡ lows K.cmp self.old.keys.items key + i → at < tops K.cmp self.old.keys.items key → (q : K) → bucket_values K.cmp self.new q ≡ cond (is_eq (K.cmp key q)) (remove (bucket_values K.cmp self.old key) i) (bucket_values K.cmp self.old q) }
+        ensures room { (n : ℕ) → HasRoom self.old n → HasRoom self.new (n + 1) }
+    {
         self.keys.remove(at);
         self.values.remove(at);
     }

@@ -5,7 +5,9 @@ mod bucket;
 mod by_txn;
 mod key;
 mod multimap;
+mod number;
 
 pub use by_txn::clear_txn;
 pub use key::Key;
 pub use multimap::Multimap;
+pub use number::Numbered;

@@ -1,5 +1,7 @@
 //! A multimap, in buckets of keys.
 
+mod by_number;
+
 ghost use Rattle.std.specs.Prelude.{ℕ, ◌≡◌, ◌<◌, ◌≤◌, ◌+◌, ◌%◌, ◌++◌, ◌∷◌, length, get_or, cond, [], insert, remove, set, OnOk, IfOk};
 ghost use Rattle.std.specs.Ordering.{is_eq};
 ghost use Rattle.sorted_multimap.specs.Multimap.{values_in};

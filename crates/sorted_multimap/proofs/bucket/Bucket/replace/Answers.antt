@@ -1,6 +1,6 @@
-use Rattle.std.proofs.Common.{◌≡◌, ◌+◌, ◌∙◌, ap, arith, length, List}
+use Rattle.std.proofs.Common.{◌≡◌, ◌∙◌, ap, arith, length, List}
 use Rattle.sorted_multimap.specs.Buckets.{lows}
-use Rattle.sorted_multimap.proofs.SortedEntries.{values_length, tops_length, values_set}
+use Rattle.sorted_multimap.proofs.SortedEntries.{values_length, tops_length}
 use Rattle.sorted_multimap.proofs.bucket.Bucket.replace.Goals as goal
 
 pub overflow_add-at : goal.overflow_add-at
@@ -12,10 +12,11 @@ overflow_add-at g c =
     let vs = c.args.self.now.values.items in
     let n : length ks ≡ length vs = omega (arith, c.args.self.now.keys.ok.0, c.args.self.now.values.ok.0, c.requires.sorted.paired) in
     let start : c.first.result ≡ lows R ks k = c.first.ensures.at ∙ ap (λ (l : List _). lows R l k) c.deref.ensures.value in
-    omega (arith, start, c.requires.within, values_length R total ks vs k c.requires.sorted.ascends n, tops_length R total ks k, c.deref.ensures.len, ap length c.deref.ensures.value, c.deref.type_inv.0)
+    let fits = values_length R total ks vs k c.requires.sorted.ascends n in
+    omega (arith, start, c.requires.within, fits, tops_length R total ks k, c.deref.ensures.len, ap length c.deref.ensures.value, c.deref.type_inv.0)
 
-pub index_mut-requires : goal.index_mut-requires
-index_mut-requires g c =
+pub replace_at-requires-clause-within : goal.replace_at-requires-clause-within
+replace_at-requires-clause-within g c =
     let R = g.K.Ord.cmp in
     let total = g.met.K.Ord.total in
     let k = c.args.key in
@@ -23,7 +24,8 @@ index_mut-requires g c =
     let vs = c.args.self.now.values.items in
     let n : length ks ≡ length vs = omega (arith, c.args.self.now.keys.ok.0, c.args.self.now.values.ok.0, c.requires.sorted.paired) in
     let start : c.first.result ≡ lows R ks k = c.first.ensures.at ∙ ap (λ (l : List _). lows R l k) c.deref.ensures.value in
-    omega (arith, start, c.requires.within, c.requires.sorted.paired, values_length R total ks vs k c.requires.sorted.ascends n, tops_length R total ks k, c.deref.ensures.len, ap length c.deref.ensures.value)
+    let fits = values_length R total ks vs k c.requires.sorted.ascends n in
+    omega (arith, start, c.requires.within, fits, tops_length R total ks k)
 
 pub returns-clause-values : goal.returns-clause-values
 returns-clause-values g c q =
@@ -34,4 +36,5 @@ returns-clause-values g c q =
     let vs = c.args.self.now.values.items in
     let n : length ks ≡ length vs = omega (arith, c.args.self.now.keys.ok.0, c.args.self.now.values.ok.0, c.requires.sorted.paired) in
     let start : c.first.result ≡ lows R ks k = c.first.ensures.at ∙ ap (λ (l : List _). lows R l k) c.deref.ensures.value in
-    values_set R total ks vs (c.first.result + c.args.i) c.args.i k c.args.value c.requires.sorted.ascends n (omega (arith, start)) (omega (arith, start, values_length R total ks vs k c.requires.sorted.ascends n, c.requires.within)) q
+    let fits = values_length R total ks vs k c.requires.sorted.ascends n in
+    c.replace_at.ensures.values c.args.key c.args.i (omega (arith, start)) (omega (arith, start, c.requires.within, fits)) q

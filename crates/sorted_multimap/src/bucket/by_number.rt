@@ -1,0 +1,88 @@
+//! Edits of the values of a key that ascend by number, each by one search.
+
+ghost use Rattle.std.specs.Prelude.{ℕ, ◌≡◌, ◌+◌, cond, eqb, filter, not};
+ghost use Rattle.std.specs.Ordering.{is_eq};
+ghost use Rattle.std.specs.Result.{is_err};
+ghost use Rattle.teb_history.specs.Ascending.{IsAscendingBy, place_of, put_by};
+ghost use Rattle.sorted_multimap.specs.Buckets.{bucket_values, IsSorted, HasRoom, lows, further};
+
+use super::{Bucket, end_from, first};
+use crate::Numbered;
+
+impl<K: Ord + Copy, V: Numbered> Bucket<K, V> {
+    /// Puts a value among those of a key, instead of the one that has its number. Whether there was none.
+    pub(crate) fn put_by_number(&mut self, key: K, value: V) -> bool
+        requires sorted { IsSorted K.cmp self.old }
+        requires room { HasRoom self.old 1 }
+        requires ascending { IsAscendingBy V.numbered_by (bucket_values K.cmp self.old key) }
+        ensures added { result ≡ is_err (place_of V.numbered_by (bucket_values K.cmp self.old key) (V.numbered_by value)) }
+        ensures sorted { IsSorted K.cmp self.new }
+        ensures values { (q : K) → bucket_values K.cmp self.new q ≡ cond (is_eq (K.cmp key q)) (put_by V.numbered_by value (bucket_values K.cmp self.old key)) (bucket_values K.cmp self.old q) }
+        ensures room { (n : ℕ) → HasRoom self.old (n + cond result 1 0) → HasRoom self.new n }
+    {
+        match self.find(key, value.number()) {
+            Ok(at) => {
+                self.replace_at(at, value);
+                false
+            }
+            Err(at) => {
+                self.put_at(at, key, value);
+                true
+            }
+        }
+    }
+
+    /// Puts a value among those of a key, unless one has its number. Whether there was none.
+    pub(crate) fn add_by_number(&mut self, key: K, value: V) -> bool
+        requires sorted { IsSorted K.cmp self.old }
+        requires room { HasRoom self.old 1 }
+        requires ascending { IsAscendingBy V.numbered_by (bucket_values K.cmp self.old key) }
+        ensures added { result ≡ is_err (place_of V.numbered_by (bucket_values K.cmp self.old key) (V.numbered_by value)) }
+        ensures sorted { IsSorted K.cmp self.new }
+        ensures values { (q : K) → bucket_values K.cmp self.new q ≡ cond (is_eq (K.cmp key q)) (cond result (put_by V.numbered_by value (bucket_values K.cmp self.old key)) (bucket_values K.cmp self.old key)) (bucket_values K.cmp self.old q) }
+        ensures room { (n : ℕ) → HasRoom self.old (n + cond result 1 0) → HasRoom self.new n }
+    {
+        match self.find(key, value.number()) {
+            Ok(_) => false,
+            Err(at) => {
+                self.put_at(at, key, value);
+                true
+            }
+        }
+    }
+
+    /// Takes the value with a number out from among those of a key, where there is one.
+    pub(crate) fn take_by_number(&mut self, key: K, number: u32)
+        requires sorted { IsSorted K.cmp self.old }
+        requires ascending { IsAscendingBy V.numbered_by (bucket_values K.cmp self.old key) }
+        ensures sorted { IsSorted K.cmp self.new }
+        ensures values { (q : K) → bucket_values K.cmp self.new q ≡ cond (is_eq (K.cmp key q)) (filter (λ v. not (eqb (V.numbered_by v) number)) (bucket_values K.cmp self.old key)) (bucket_values K.cmp self.old q) }
+        ensures room { (n : ℕ) → HasRoom self.old n → HasRoom self.new n }
+    {
+        if let Ok(at) = self.find(key, number) {
+            self.take_at(at);
+        }
+    }
+
+    // The place of the value with a number among those of a key, or where it would go.
+    fn find(&self, key: K, number: u32) -> Result<usize, usize>
+        requires sorted { IsSorted K.cmp self.now }
+        requires ascending { IsAscendingBy V.numbered_by (bucket_values K.cmp self.now key) }
+        ensures { result ≡ further (lows K.cmp self.now.keys.items key) (place_of V.numbered_by (bucket_values K.cmp self.now key) number) }
+    {
+        let start = first(&self.keys, key);
+        let end = end_from(&self.keys, start, key);
+        match find_number(&self.values[start..end], number) {
+            Ok(i) => Ok(start + i),
+            Err(i) => Err(start + i),
+        }
+    }
+}
+
+// Where the value with a number stands among ascending ones, or where it would go.
+fn find_number<V: Numbered>(values: &[V], number: u32) -> Result<usize, usize>
+    requires { IsAscendingBy V.numbered_by values.now }
+    ensures { result ≡ place_of V.numbered_by values.now number }
+{
+    values.binary_search_by_key(&number, |value| value.number())
+}

@@ -1,0 +1,55 @@
+//! Edits of the values of a key that ascend by number. Each looks for its key once.
+
+ghost use Rattle.std.specs.Prelude.{◌≡◌, ◌<◌, ◌≤◌, ◌+◌, cond, eqb, filter, not};
+ghost use Rattle.std.specs.Ordering.{is_eq};
+ghost use Rattle.std.specs.Result.{is_err};
+ghost use Rattle.teb_history.specs.Ascending.{IsAscendingBy, place_of, put_by};
+ghost use Rattle.sorted_multimap.specs.Multimap.{values_in};
+
+use super::{Multimap, place_of};
+use crate::{Key, Numbered};
+
+impl<K: Key, V: Numbered> Multimap<K, V> {
+    /// Puts a value among those of a key, which ascend by number, instead of the one that has its number. Whether there was none; then it
+    /// takes one place of the room.
+    pub fn put_by_number(&mut self, key: K, value: V) -> bool
+        requires room { 0 < self.old.spare }
+        requires ascending { IsAscendingBy V.numbered_by (values_in K.cmp self.old key) }
+        ensures added { result ≡ is_err (place_of V.numbered_by (values_in K.cmp self.old key) (V.numbered_by value)) }
+        ensures values { (q : K) → values_in K.cmp self.new q ≡ cond (is_eq (K.cmp key q)) (put_by V.numbered_by value (values_in K.cmp self.old key)) (values_in K.cmp self.old q) }
+        ensures spare { self.old.spare ≡ self.new.spare + cond result 1 0 }
+    {
+        let at = place_of(&self.buckets, key);
+        let added = self.buckets[at].put_by_number(key, value);
+        self.spare -= usize::from(added);
+        added
+    }
+
+    /// Puts a value among those of a key, which ascend by number, unless one has its number. Whether there was none; then it takes one place
+    /// of the room.
+    pub fn add_by_number(&mut self, key: K, value: V) -> bool
+        requires room { 0 < self.old.spare }
+        requires ascending { IsAscendingBy V.numbered_by (values_in K.cmp self.old key) }
+        ensures added { result ≡ is_err (place_of V.numbered_by (values_in K.cmp self.old key) (V.numbered_by value)) }
+        ensures values { (q : K) → values_in K.cmp self.new q ≡ cond (is_eq (K.cmp key q)) (cond result (put_by V.numbered_by value (values_in K.cmp self.old key)) (values_in K.cmp self.old key)) (values_in K.cmp self.old q) }
+        ensures spare { self.old.spare ≡ self.new.spare + cond result 1 0 }
+    {
+        let at = place_of(&self.buckets, key);
+        let added = self.buckets[at].add_by_number(key, value);
+        self.spare -= usize::from(added);
+        added
+    }
+
+    /// Takes the value with a number out from among those of a key, which ascend by number. Where there is none, it holds the same.
+    pub fn take_by_number(&mut self, key: K, number: u32)
+        requires { IsAscendingBy V.numbered_by (values_in K.cmp self.old key) }
+        ensures values { (q : K) → values_in K.cmp self.new q ≡ cond (is_eq (K.cmp key q)) (filter (λ v. not (eqb (V.numbered_by v) number)) (values_in K.cmp self.old key)) (values_in K.cmp self.old q) }
+        ensures spare { self.new.spare ≡ self.old.spare }
+    {
+        if self.buckets.is_empty() {
+            return;
+        }
+        let at = place_of(&self.buckets, key);
+        self.buckets[at].take_by_number(key, number);
+    }
+}
