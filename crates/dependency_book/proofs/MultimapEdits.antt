@@ -1,7 +1,6 @@
 -- What edits make of multimaps.
 use Rattle.std.proofs.Common.{◌≡◌, ℕ, ◌+◌, Bool, true, false, cond, not, ltb, eqb, ◌&&◌, List, [], ◌∷◌, ◌++◌, refl, sym, ◌∙◌, ap, subst, arith}
 use Rattle.std.specs.List.{count_by}
-use Rattle.std.proofs.lemmas.Bool.{eqb-true}
 use Rattle.std.specs.Ordering.{is_eq}
 use Rattle.teb_names.specs.declared.Cell.{Cell}
 use Rattle.teb_names.specs.Cells.{cell_cmp}
@@ -19,7 +18,7 @@ pub use Rattle.sorted_multimap.proofs.TxnKeys.{one_txn, pushed_txn}
 use Rattle.dependency_book.specs.Books.{HasRooms}
 use Rattle.sorted_multimap.proofs.TakenMatches.{lasts_more, count_push}
 
--- a source that goes among those of t, and one that is there already
+-- a source that goes among those of t
 module _ (f : Txn → List Txn) (t from u : Txn) where
   abbrev Added : List Txn → Type 0
   Added xs = xs ≡ cond (eqb t.0 u.0 && not (eqb from.0 u.0) && ltb 0 from.0) (put_by number_of from (f u)) (f u)
@@ -34,18 +33,6 @@ module _ (f : Txn → List Txn) (t from u : Txn) where
           ap (λ (o : Bool). cond o (put_by number_of from (f t)) (f u)) (sym (eqb-is_eq t.0 u.0) ∙ h) ∙ ap (λ (z : Txn). put_by number_of from (f z)) e
           ∙ sym (λ j. cond (not (off j) && pos j) (put_by number_of from (f u)) (f u))
       go false h = ap (λ (o : Bool). cond o (put_by number_of from (f t)) (f u)) (sym (eqb-is_eq t.0 u.0) ∙ h)
-
-  pub source_there : f t ≡ put_by number_of from (f t) → Added (f u)
-  source_there same = go (eqb t.0 u.0) refl (not (eqb from.0 u.0)) (ltb 0 from.0)
-    where
-      there : eqb t.0 u.0 ≡ true → f u ≡ put_by number_of from (f u)
-      there h = subst (λ (z : Txn). f z ≡ put_by number_of from (f z)) (one_txn t u h) same
-
-      go : (b : Bool) → eqb t.0 u.0 ≡ b → (c d : Bool) → f u ≡ cond (b && c && d) (put_by number_of from (f u)) (f u)
-      go true h true true = there h
-      go true h true false = refl
-      go true h false d = refl
-      go false h c d = refl
 
 -- for each access that passes at its cell the last value that passes is taken out of the values a, which leaves the values b
 pub record IsForgotten {V : Type 0} (p : V → Bool) (q : Cell → Access → Bool) (accesses : List Access) (a b : Shown Cell V) : Type 0 where

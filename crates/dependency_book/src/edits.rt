@@ -14,7 +14,6 @@ ghost use Rattle.sorted_multimap.specs.Keys.{txn_cmp};
 
 use crate::access::Access;
 use sorted_multimap::Multimap;
-use teb_history::find_txn;
 use teb_names::{Cell, Txn};
 
 /// Puts a transaction that t read from among its sources, unless it is there, or is t itself or 0.
@@ -27,9 +26,7 @@ pub(crate) fn add_source(sources: &mut Multimap<Txn, Txn>, t: Txn, from: Txn)
     if from == t || from.0 == 0 {
         return;
     }
-    if let Err(i) = find_txn(sources.list(t), from) {
-        sources.put(t, i, from);
-    }
+    sources.put_by_number(t, from);
 }
 
 /// Whether one of the accesses puts a cell.
