@@ -1,5 +1,5 @@
 -- Who holds a cell after one more event.
-use Rattle.std.proofs.Common.{◌≡◌, ◌≢◌, ℕ, ℤ, suc, Bool, true, false, cond, not, eqb, ◌&&◌, ◌||◌, List, [], ◌∷◌, ◌++◌, filter, map, Option, refl, sym, ◌∙◌, ap, subst, arith, inl, inr, lt-ltb, le-ltb}
+use Rattle.std.proofs.Common.{◌≡◌, ◌≢◌, ℕ, ℤ, suc, Bool, true, false, cond, not, eqb, ◌&&◌, ◌||◌, List, [], ◌∷◌, ◌++◌, ◌⊎◌, filter, map, Option, refl, sym, ◌∙◌, ap, subst, arith, inl, inr, lt-ltb, le-ltb}
 use Rattle.std.proofs.lemmas.Bool.{cases_Bool, cases_eq, cases_order, both_ways, and_from, or_left, or_right, eq-eqb, ne_eqb}
 use Rattle.teb_names.specs.declared.Txn.{Txn}
 use Rattle.teb_names.specs.declared.Session.{Session}
@@ -159,6 +159,24 @@ unfolding holds txns
 finished_holds S P n t e x c o f w g =
     (λ j. map (hold_by (λ u. w u j)) (filter (holds S (e ∷ P) n x) (numbers (c j))))
     ∙ passes_no_more t (λ u. wrote P u x) (holds S P n x) (holds S (e ∷ P) n x) (λ u. (λ j. o u j && f u j && (w u j || g u j)) ∙ moved_not (on S P n u) (unfinished P u) (wrote P u x || got P u x) (not (eqb u t))) (numbers (begun_count P))
+
+-- one that does not hold x has no hold to release
+pub released_off : (S : Setup) (P : List Event) (n : ℕ) (x : Cell) (t : ℕ) → holds S P n x t ≡ false → released t (holds_in S P n x) ≡ holds_in S P n x
+released_off S P n x t off = sym (passes_no_more t (λ u. wrote P u x) (holds S P n x) (holds S P n x) (λ u. go u (holds S P n x u) refl (cases_eq u t)) (txns P))
+  where
+    go : (u : ℕ) (b : Bool) → holds S P n x u ≡ b → (u ≡ t) ⊎ (u ≢ t) → b ≡ (b && not (eqb u t))
+    go u true h o = elim o [ inl e ↦ absurd (both_ways _ (ap (holds S P n x) e ∙ off) h) | inr ne ↦ sym (ap not (ne_eqb u t ne)) ]
+    go u false h o = refl
+
+-- whoever holds x has accessed it
+pub holder_accessed : (S : Setup) (P : List Event) (n : ℕ) (x : Cell) (t : ℕ) → (wrote P t x || got P t x) ≡ false → holds S P n x t ≡ false
+unfolding holds
+holder_accessed S P n x t h = ap (λ (b : Bool). on S P n t && unfinished P t && b) h ∙ none (on S P n t) (unfinished P t)
+  where
+    none : (a b : Bool) → (a && b && false) ≡ false
+    none true true = refl
+    none true false = refl
+    none false b = refl
 
 done_holds : (S : Setup) (P : List Event) (n : ℕ) (t : Txn) (x : Cell) → holds_in S (Done t ∷ P) n x ≡ released t.0 (holds_in S P n x)
 done_holds S P n t x = finished_holds S P n t.0 (Done t) x (unfold begun_count in refl) (λ u. unfold on in unfold spot_of in refl) (unfinished_done P t) (λ u. wrote-cons (Done t) P u x) (λ u. got-cons (Done t) P u x)

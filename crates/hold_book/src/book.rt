@@ -3,10 +3,9 @@
 ghost use Rattle.std.specs.Prelude.{◌≡◌, ◌<◌, ◌≤◌, ◌+◌, ℕ, ℤ, List, Option, [], ◌∷◌, OnOk, IsTrue, IsFalse};
 ghost use Rattle.teb_names.specs.declared.Cell.{Cell};
 ghost use Rattle.teb_names.specs.declared.Txn.{Txn};
-ghost use Rattle.teb_names.specs.declared.Cause.{Cause};
 ghost use Rattle.teb_names.specs.Cells.{same_cell};
 ghost use Rattle.teb_history.specs.declared.Event.{Event};
-ghost use Rattle.teb_history.specs.declared.Event.TheVariants.{Got, Put, Done, Gone};
+ghost use Rattle.teb_history.specs.declared.Event.TheVariants.{Got, Put};
 ghost use Rattle.teb_rules.specs.Setup.{Setup};
 ghost use Rattle.hold_book.specs.Books.{shown, accessed, released};
 ghost use Rattle.hold_book.specs.Holders.{HoldsOf, MayHold};
@@ -20,25 +19,21 @@ use teb_names::{Cell, Txn};
 
 /// Who holds which cell. Contracts see the holds beside their cells, and for how many accesses there is room.
 ///
-/// An access costs a search by its cell, and a finish as much as its transaction holds.
+/// An access costs a search by its cell, and so does a release.
 #[derive(Drop)]
 pub struct HoldBook {
     // By cell: the holds on it, in ascending number.
     holds: Multimap<Cell, Hold>,
-    // By transaction: the cells that it holds.
-    cells: Multimap<Txn, Cell>,
-    // For how many accesses there is room.
-    spare: usize,
 }
 
 impl Model for HoldBook {
-    ghost use Rattle.hold_book.specs.Books.{Held, IsBook};
+    ghost use Rattle.hold_book.specs.Books.{Held, IsFiled};
 
     ghost Value = { Held };
 
-    ghost view = { λ b. record { holds = b.holds.entries; spare = b.spare } };
+    ghost view = { λ b. record { holds = b.holds.entries; spare = b.holds.spare } };
 
-    ghost invariant = { λ b. IsBook b.holds b.cells b.spare };
+    ghost invariant = { λ b. IsFiled b.holds };
 }
 
 impl HoldBook {
@@ -49,8 +44,6 @@ impl HoldBook {
     {
         HoldBook {
             holds: Multimap::small(alloc),
-            cells: Multimap::small(alloc),
-            spare: 0,
         }
     }
 
@@ -60,13 +53,7 @@ impl HoldBook {
         ensures room { OnOk result (n ≤ self.new.spare) }
         ensures kept { self.old.spare ≤ self.new.spare }
     {
-        if n <= self.spare {
-            return Ok(());
-        }
-        self.holds.reserve(n)?;
-        self.cells.reserve(n)?;
-        self.spare = n;
-        Ok(())
+        self.holds.reserve(n)
     }
 
     /// A transaction accesses a cell: it reads it, or puts it where `wrote` is true. Takes at most one place of the room.
@@ -80,20 +67,16 @@ impl HoldBook {
         ensures got { (S : Setup) (P : List Event) (n : ℕ) (w : Txn) (v : Option ℤ) → IsFalse wrote → MayHold S P n t.0 → HoldsOf self.old S P n → HoldsOf self.new S (Got t cell w v ∷ P) n }
         ensures put { (S : Setup) (P : List Event) (n : ℕ) (v : Option ℤ) → IsTrue wrote → MayHold S P n t.0 → HoldsOf self.old S P n → HoldsOf self.new S (Put t cell v ∷ P) n }
     {
-        put_in(&mut self.holds, &mut self.cells, cell, t, wrote);
-        self.spare -= 1;
+        put_in(&mut self.holds, cell, t, wrote);
     }
 
-    /// A transaction finishes: it holds nothing any more.
-    pub fn release(&mut self, t: Txn)
-        ensures shown { (x : Cell) → shown self.new x ≡ released t.0 (shown self.old x) }
-        ensures spare { self.old.spare ≤ self.new.spare }
-
-        // It then stands for the history with the event.
-        ensures done { (S : Setup) (P : List Event) (n : ℕ) → HoldsOf self.old S P n → HoldsOf self.new S (Done t ∷ P) n }
-        ensures gone { (S : Setup) (P : List Event) (n : ℕ) (c : Cause) → HoldsOf self.old S P n → HoldsOf self.new S (Gone t c ∷ P) n }
+    /// A transaction no longer holds a cell. The room stays.
+    pub fn release(&mut self, t: Txn, cell: Cell)
+        ensures here { shown self.new cell ≡ released t.0 (shown self.old cell) }
+        ensures elsewhere { (x : Cell) → IsFalse (same_cell cell x) → shown self.new x ≡ shown self.old x }
+        ensures spare { self.new.spare ≡ self.old.spare }
     {
-        take_out(&mut self.holds, &mut self.cells, t);
+        take_out(&mut self.holds, cell, t);
     }
 
     /// The holds on a cell, in ascending number of their transactions.

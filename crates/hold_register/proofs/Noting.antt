@@ -1,21 +1,24 @@
 -- A register after one more event.
-use Rattle.std.proofs.Common.{◌≡◌, ℕ, ℤ, true, false, List, ◌∷◌, Option, drop, refl, sym, ◌∙◌, ap, subst, IsTrue}
+use Rattle.std.proofs.Common.{◌≡◌, ℕ, ℤ, true, false, ◌||◌, List, ◌∷◌, ◌⊎◌, Option, drop, refl, sym, ◌∙◌, ap, subst, inl, inr, IsTrue}
 use Rattle.teb_names.specs.declared.Cell.{Cell}
 use Rattle.teb_names.specs.declared.Txn.{Txn}
 use Rattle.teb_names.specs.declared.Session.{Session}
 use Rattle.teb_names.specs.declared.Kind.{Kind}
+use Rattle.teb_names.specs.declared.Cause.{Cause}
 use Rattle.teb_history.specs.declared.Event.{Event}
-use Rattle.teb_history.specs.declared.Event.TheVariants.{Began, Got, Put, Ready, Told}
+use Rattle.teb_history.specs.declared.Event.TheVariants.{Began, Got, Put, Ready, Done, Gone, Told}
 use Rattle.teb_history.specs.Phases.{begun, unfinished, spot_of}
+use Rattle.teb_history.specs.Accesses.{wrote, got}
 use Rattle.teb_rules.specs.Setup.{Setup}
 use Rattle.teb_rules.specs.Tree.{on}
 use Rattle.phase_api.specs.declared.facts.Facts.{Facts}
 use Rattle.phase_api.specs.FactsView.{IsOrderly, IsTyped, setup_of, events_of}
 use Rattle.phase_api.specs.Calls.{MayNote}
-use Rattle.hold_book.specs.Books.{Held}
+use Rattle.hold_book.specs.Books.{Held, shown}
 use Rattle.hold_book.specs.Holders.{HoldsOf, MayHold, LeavesHolds}
 use Rattle.hold_book.proofs.Holders.{stands_left}
 use Rattle.hold_register.specs.Registered.{Registered}
+use Rattle.hold_register.proofs.Releasing.{released_if, released_done, released_gone}
 use Rattle.hold_register.proofs.Orderly.{orderly_next, unfinished_begun, begun_kept, new_accesses_none}
 
 -- whoever is on the path and accesses a cell may hold it
@@ -35,6 +38,9 @@ module _ (S : Setup) (H : List Event) (n : ℕ) (e : Event) (i : H ≡ e ∷ dro
 
   pub writer_begun : (t : Txn) (x : Cell) → ((v : Option ℤ) × (e ≡ Put t x v)) → IsTrue (begun H t.0)
   writer_begun t x q = begun_now t.0 (subst (λ (d : Event). MayNote S (drop 1 H) n d) q.1 m).0
+
+  pub finisher_begun : (t : Txn) → ((e ≡ Done t) ⊎ ((c : Cause) × (e ≡ Gone t c))) → IsTrue (begun H t.0)
+  finisher_begun t o = begun_now t.0 (elim o [ inl q ↦ subst (λ (d : Event). MayNote S (drop 1 H) n d) q m | inr q ↦ subst (λ (d : Event). MayNote S (drop 1 H) n d) q.1 m ])
 
   -- with the book that stands for the history with the event
   registered : (b : Held) → IsOrderly S (drop 1 H) → HoldsOf b S (e ∷ drop 1 H) n → Registered n b S H
@@ -71,8 +77,24 @@ module _ (S : Setup) (H : List Event) (n : ℕ) (e : Event) (i : H ≡ e ∷ dro
     pub put_off : (t : Txn) (x : Cell) (v : Option ℤ) → e ≡ Put t x v → on S H n t.0 ≡ false → Registered n b S H
     put_off t x v q h = left (Put t x v) q (same_on_put t x v q ∙ h)
 
-    pub finished : (b' : Held) (d : Event) → e ≡ d → HoldsOf b' S (d ∷ drop 1 H) n → Registered n b' S H
+    finished : (b' : Held) (d : Event) → e ≡ d → HoldsOf b' S (d ∷ drop 1 H) n → Registered n b' S H
     finished b' d q h = registered b' r.orderly (subst (λ (d : Event). HoldsOf b' S (d ∷ drop 1 H) n) (sym q) h)
+
+    pub finished_on : (b' : Held) (t : Txn) → ((e ≡ Done t) ⊎ ((c : Cause) × (e ≡ Gone t c)))
+        → ((x : Cell) → shown b' x ≡ released_if (wrote H t.0 x || got H t.0 x) t.0 (shown b x)) → Registered n b' S H
+    finished_on b' t o out = elim o [
+      | inl q ↦ finished b' (Done t) q (released_done b b' S (drop 1 H) n t r.holds (now (Done t) q))
+      | inr q ↦ finished b' (Gone t q.0) q.1 (released_gone b b' S (drop 1 H) n t r.holds q.0 (now (Gone t q.0) q.1))
+    ]
+      where
+        now : (d : Event) → e ≡ d → (x : Cell) → shown b' x ≡ released_if (wrote (d ∷ drop 1 H) t.0 x || got (d ∷ drop 1 H) t.0 x) t.0 (shown b x)
+        now d q x = subst (λ (G : List Event). shown b' x ≡ released_if (wrote G t.0 x || got G t.0 x) t.0 (shown b x)) (i ∙ ap (λ (d : Event). d ∷ drop 1 H) q) (out x)
+
+    pub finished_off : (t : Txn) → ((e ≡ Done t) ⊎ ((c : Cause) × (e ≡ Gone t c))) → on S H n t.0 ≡ false → Registered n b S H
+    finished_off t o h = elim o [
+      | inl q ↦ left (Done t) q (on_before (Done t) t.0 q (unfold on in unfold spot_of in refl) ∙ h)
+      | inr q ↦ left (Gone t q.0) q.1 (on_before (Gone t q.0) t.0 q.1 (unfold on in unfold spot_of in refl) ∙ h)
+    ]
 
     pub began : (t : Txn) (s : Session) (k : Kind) (j : ℕ) → e ≡ Began t s k j → Registered n b S H
     began t s k j q =

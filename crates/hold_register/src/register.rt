@@ -1,18 +1,21 @@
 //! The register.
 
-ghost use Rattle.std.specs.Prelude.{◌≡◌, ◌<◌, ◌≤◌, ◌+◌, [], List, drop, OnOk};
+ghost use Rattle.std.specs.Prelude.{◌≡◌, ◌<◌, ◌≤◌, ◌+◌, ◌||◌, [], List, cond, drop, OnOk};
+ghost use Rattle.teb_names.specs.declared.Cell.{Cell};
 ghost use Rattle.teb_history.specs.declared.Event.{Event};
+ghost use Rattle.teb_history.specs.Accesses.{wrote, got};
 ghost use Rattle.teb_rules.specs.Setup.{Setup};
 ghost use Rattle.phase_api.specs.FactsView.{setup_of, events_of};
 ghost use Rattle.phase_api.specs.Calls.{IsNewest};
+ghost use Rattle.hold_book.specs.Books.{shown, released};
 ghost use Rattle.hold_book.specs.Holders.{holds_in};
 ghost use Rattle.hold_register.specs.Registered.{Registered};
 
 use hold_book::{Hold, HoldBook};
 use phase_api::Facts;
 use std::alloc::{AllocError, Global};
-use teb_history::Event;
-use teb_names::{Cell, Node};
+use teb_history::{Event, History};
+use teb_names::{Cell, Node, Txn};
 
 /// Who holds which cell at a node. It stands for a history, and is told of each event behind it.
 #[derive(Drop)]
@@ -70,7 +73,11 @@ impl Register {
                     self.book.access(txn, cell, true);
                 }
             }
-            Event::Done(txn) | Event::Gone { txn, .. } => self.book.release(txn),
+            Event::Done(txn) | Event::Gone { txn, .. } => {
+                if facts.is_on(self.node, txn) {
+                    release_all(&mut self.book, facts.history, txn);
+                }
+            }
             Event::Began { .. } | Event::Ready(_) | Event::Told(_) => {}
         }
     }
@@ -82,5 +89,17 @@ impl Register {
     {
         let _ = facts;
         self.book.holds(cell)
+    }
+}
+
+// Takes out the holds of a transaction on the cells that it has accessed. It costs what the transaction's own events are.
+fn release_all(book: &mut HoldBook, history: &History, t: Txn)
+    ensures shown { (x : Cell) → shown book.new x ≡ cond (wrote history.now.events t.0 x || got history.now.events t.0 x) (released t.0 (shown book.old x)) (shown book.old x) }
+    ensures spare { book.new.spare ≡ book.old.spare }
+{
+    for event in history.own_events(t) {
+        if let Event::Got { cell, .. } | Event::Put { cell, .. } = event {
+            book.release(t, cell);
+        }
     }
 }

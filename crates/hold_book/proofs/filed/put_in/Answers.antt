@@ -1,4 +1,4 @@
-use Rattle.std.proofs.Common.{◌∙◌, List, insert, set, sym, ap, subst, refl}
+use Rattle.std.proofs.Common.{◌∙◌, List, insert, set, sym, ap, subst}
 use Rattle.teb_names.specs.declared.Cell.{Cell}
 use Rattle.teb_names.specs.Cells.{cell_cmp}
 use Rattle.teb_history.specs.Ascending.{IsAscendingBy, place_of}
@@ -6,7 +6,7 @@ use Rattle.teb_history.proofs.AscendingLists.{place_in, gap_in}
 use Rattle.sorted_multimap.specs.Multimap.{values_in}
 use Rattle.hold_book.specs.declared.Hold.{Hold}
 use Rattle.hold_book.specs.Books.{hold_number, accessed}
-use Rattle.hold_book.proofs.Filing.{read_again, put_again, put_anew, edited_cell, kept_cell, filed_there, filed_anew}
+use Rattle.hold_book.proofs.Filing.{read_again, put_again, put_anew, edited_cell, kept_cell, filed_access}
 use Rattle.hold_book.proofs.filed.put_in.Goals as goal
 
 pub find_hold-requires : goal.find_hold-requires
@@ -32,10 +32,7 @@ returns-then-wrote-clause-holds c x =
     c.replace.ensures.values x ∙ edited_cell f c.args.cell (accessed c.args.t c.args.wrote) (set here c.in-Ok.i hold) (put_again c.args.t c.args.wrote here c.in-Ok.i c.if-wrote.true found) x
 
 pub returns-then-wrote-clause-filed : goal.returns-then-wrote-clause-filed
-returns-then-wrote-clause-filed c =
-    let place = λ (hs : List Hold). place_of hold_number hs c.args.t.0 in
-    let found = ap place (sym c.list.ensures) ∙ sym c.find_hold.ensures ∙ c.in-Ok.is in
-    filed_there c.args.holds.now _ c.args.cells.now _ c.args.cell c.args.t c.args.wrote c.requires.filed c.in-Ok.i found (λ x. returns-then-wrote-clause-holds c x) (λ u. refl)
+returns-then-wrote-clause-filed c = filed_access c.args.holds.now _ c.args.cell c.args.t c.args.wrote c.requires.filed (λ x. returns-then-wrote-clause-holds c x)
 
 pub returns-else-wrote-clause-holds : goal.returns-else-wrote-clause-holds
 returns-else-wrote-clause-holds c x =
@@ -54,5 +51,4 @@ returns-in-Err-clause-holds c x =
     c.put.ensures.values x ∙ edited_cell f c.args.cell (accessed c.args.t c.args.wrote) (insert here c.in-Err.i hold) (put_anew c.args.t c.args.wrote here c.in-Err.i (c.requires.filed.ascending c.args.cell) absent) x
 
 pub returns-in-Err-clause-filed : goal.returns-in-Err-clause-filed
-returns-in-Err-clause-filed c =
-    filed_anew c.args.holds.now _ c.args.cells.now _ c.args.cell c.args.t c.args.wrote c.requires.filed (λ x. returns-in-Err-clause-holds c x) c.push.ensures.values
+returns-in-Err-clause-filed c = filed_access c.args.holds.now _ c.args.cell c.args.t c.args.wrote c.requires.filed (λ x. returns-in-Err-clause-holds c x)

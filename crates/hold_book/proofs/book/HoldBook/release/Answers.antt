@@ -1,13 +1,13 @@
-use Rattle.std.proofs.Common.{◌∙◌, ap}
-use Rattle.hold_book.specs.Books.{Held, shown, released}
-use Rattle.hold_book.proofs.Holders.{stands_done, stands_gone}
+use Rattle.std.proofs.Common.{◌∙◌, cond}
+use Rattle.hold_book.specs.Books.{shown, released}
+use Rattle.hold_book.proofs.Cells.{same_itself}
 use Rattle.hold_book.proofs.book.HoldBook.release.Goals as goal
 
-pub returns-clause-shown : goal.returns-clause-shown
-returns-clause-shown c x = c.take_out.ensures.holds x ∙ ap (λ (b : Held). released c.args.t.0 (shown b x)) c.self.view_is
+pub returns-clause-here : goal.returns-clause-here
+returns-clause-here c =
+    let x = c.args.cell in
+    let old = shown c.args.self.now x in
+    c.take_out.ensures.holds x ∙ (λ j. let hs = shown (c.self.view_is j) x in cond (same_itself x j) (released c.args.t.0 hs) hs)
 
-pub returns-clause-done : goal.returns-clause-done
-returns-clause-done c S P n stood = stands_done _ _ S P n c.args.t stood (λ y. returns-clause-shown c y)
-
-pub returns-clause-gone : goal.returns-clause-gone
-returns-clause-gone c S P n r stood = stands_gone _ _ S P n c.args.t stood r (λ y. returns-clause-shown c y)
+pub returns-clause-elsewhere : goal.returns-clause-elsewhere
+returns-clause-elsewhere c y e = c.take_out.ensures.holds y ∙ (λ j. let hs = shown (c.self.view_is j) y in cond (e j) (released c.args.t.0 hs) hs)

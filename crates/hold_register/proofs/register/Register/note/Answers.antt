@@ -1,6 +1,6 @@
 use Rattle.std.proofs.Common.{◌∙◌, sym, refl, inl, inr}
 use Rattle.phase_api.specs.FactsView.{setup_of, events_of}
-use Rattle.hold_register.proofs.Noting.{orderly_now, accessor_begun, writer_begun, got_on, got_off, put_on, put_off, finished, began, readied, told, typed_now}
+use Rattle.hold_register.proofs.Noting.{orderly_now, accessor_begun, writer_begun, finisher_begun, got_on, got_off, put_on, put_off, finished_on, finished_off, began, readied, told, typed_now}
 use Rattle.hold_register.proofs.register.Register.note.Goals as goal
 
 pub is_on-requires : goal.is_on-requires
@@ -44,8 +44,17 @@ returns-in-Began-clause-stands c = elim c.in-Began.is [
   ]
 ]
 
-pub returns-in-Done-clause-stands : goal.returns-in-Done-clause-stands
-returns-in-Done-clause-stands c = elim c.in-Done.is [
-  | inl q ↦ finished _ _ _ c.args.e c.requires.newest.is c.requires.newest.may _ c.requires.stands _ _ q (c.release.ensures.done _ _ _ c.requires.stands.holds)
-  | inr q ↦ finished _ _ _ c.args.e c.requires.newest.is c.requires.newest.may _ c.requires.stands _ _ q.1 (c.release.ensures.gone _ _ _ q.0 c.requires.stands.holds)
-]
+pub is_on-requires-in-Done : goal.is_on-requires-in-Done
+is_on-requires-in-Done c =
+    let H = events_of c.args.facts.now in
+    let S = setup_of c.args.facts.now in
+    typed_now c.args.facts.now c.in-Done.txn.0 (orderly_now S H _ c.args.e c.requires.newest.is c.requires.newest.may c.requires.stands.orderly)
+    (finisher_begun S H _ c.args.e c.requires.newest.is c.requires.newest.may c.in-Done.txn c.in-Done.is)
+
+pub returns-then-is_on-3-clause-stands : goal.returns-then-is_on-3-clause-stands
+returns-then-is_on-3-clause-stands c =
+    finished_on _ _ _ c.args.e c.requires.newest.is c.requires.newest.may _ c.requires.stands _ c.in-Done.txn c.in-Done.is c.release_all.ensures.shown
+
+pub returns-else-is_on-3-clause-stands : goal.returns-else-is_on-3-clause-stands
+returns-else-is_on-3-clause-stands c =
+    finished_off _ _ _ c.args.e c.requires.newest.is c.requires.newest.may _ c.requires.stands c.in-Done.txn c.in-Done.is (sym c.is_on-in-Done.ensures ∙ c.if-is_on-3.false)
