@@ -3,21 +3,12 @@
 ghost use Rattle.std.specs.Prelude.{◌≡◌, ◌<◌, ◌≤◌, ◌+◌, cond};
 ghost use Rattle.teb_names.specs.declared.Cell.{Cell};
 ghost use Rattle.teb_names.specs.Cells.{same_cell, cell_cmp};
-ghost use Rattle.teb_history.specs.Ascending.{IsAscendingBy, place_of};
 ghost use Rattle.sorted_multimap.specs.Multimap.{values_in};
-ghost use Rattle.hold_book.specs.Books.{IsFiled, hold_number, accessed, released};
+ghost use Rattle.hold_book.specs.Books.{IsFiled, accessed, released};
 
 use crate::Hold;
 use sorted_multimap::Multimap;
 use teb_names::{Cell, Txn};
-
-/// Where a transaction stands among the holds on one cell, or where it would go.
-fn find_hold(holds: &[Hold], t: Txn) -> Result<usize, usize>
-    requires { IsAscendingBy hold_number holds.now }
-    ensures { result ≡ place_of hold_number holds.now t.0 }
-{
-    holds.binary_search_by_key(&t.0, |hold| hold.txn.0)
-}
 
 /// Puts in that a transaction has accessed a cell, and whether it put it. It takes one place of the room at the most.
 pub(crate) fn put_in(holds: &mut Multimap<Cell, Hold>, cell: Cell, t: Txn, wrote: bool)
@@ -27,13 +18,11 @@ pub(crate) fn put_in(holds: &mut Multimap<Cell, Hold>, cell: Cell, t: Txn, wrote
     ensures holds { (x : Cell) → values_in cell_cmp holds.new x ≡ cond (same_cell cell x) (accessed t wrote (values_in cell_cmp holds.old x)) (values_in cell_cmp holds.old x) }
     ensures spare { holds.old.spare ≤ holds.new.spare + 1 }
 {
-    match find_hold(holds.list(cell), t) {
-        Ok(i) => {
-            if wrote {
-                holds.replace(cell, i, Hold { txn: t, wrote });
-            }
-        }
-        Err(i) => holds.put(cell, i, Hold { txn: t, wrote }),
+    let hold = Hold { txn: t, wrote };
+    if wrote {
+        holds.put_by_number(cell, hold);
+    } else {
+        holds.add_by_number(cell, hold);
     }
 }
 
@@ -44,7 +33,5 @@ pub(crate) fn take_out(holds: &mut Multimap<Cell, Hold>, cell: Cell, t: Txn)
     ensures holds { (x : Cell) → values_in cell_cmp holds.new x ≡ cond (same_cell cell x) (released t.0 (values_in cell_cmp holds.old x)) (values_in cell_cmp holds.old x) }
     ensures spare { holds.new.spare ≡ holds.old.spare }
 {
-    if let Ok(i) = find_hold(holds.list(cell), t) {
-        holds.take(cell, i);
-    }
+    holds.take_by_number(cell, t.0);
 }

@@ -1,10 +1,14 @@
 //! Who holds which cell at a node: the unfinished transactions that have accessed it.
 #![tactic(auto)]
 
+ghost use Rattle.std.specs.Prelude.{◌≡◌};
+ghost use Rattle.hold_book.specs.Books.{hold_number};
+
 mod book;
 mod filed;
 
 pub use book::HoldBook;
+use sorted_multimap::Numbered;
 use teb_names::Txn;
 
 /// A transaction that has accessed a cell, and whether it has put it.
@@ -12,4 +16,13 @@ use teb_names::Txn;
 pub struct Hold {
     pub txn: Txn,
     pub wrote: bool,
+}
+
+/// The number of the transaction that holds.
+impl Numbered for Hold {
+    ghost numbered_by = { hold_number };
+
+    fn number(self) -> u32 {
+        self.txn.0
+    }
 }

@@ -1,15 +1,11 @@
 -- What edits make of the lists that are kept by transaction.
-use Rattle.std.proofs.Common.{◌≡◌, ◌≢◌, ◌⊎◌, ℕ, zero, suc, ◌+◌, ◌<◌, ◌≤◌, Bool, true, false, cond, not, ◌||◌, ltb, eqb, List, [], ◌∷◌, ◌++◌, length, drop, take, get_or, Result, Ok, Err, refl, sym, ◌∙◌, ap, subst, arith, inl, inr}
-use Rattle.std.specs.List.{remove}
+use Rattle.std.proofs.Common.{◌≡◌, ℕ, zero, suc, ◌+◌, ◌<◌, ◌≤◌, Bool, true, false, cond, not, ◌||◌, eqb, List, [], ◌∷◌, length, drop, get_or, refl, sym, ◌∙◌, ap, subst, arith}
 use Rattle.std.specs.Ordering.{is_eq}
-use Rattle.std.proofs.lemmas.Bool.{ne_eqb}
-use Rattle.std.proofs.lemmas.Bool.Decides.{eqb_tells}
 use Rattle.std.proofs.Math.Seq.{drop-cons}
 use Rattle.teb_names.specs.declared.Txn.{Txn}
-use Rattle.teb_history.specs.Ascending.{AllAbove, IsAscendingBy, next_place, place_of, put_by}
+use Rattle.teb_history.specs.Ascending.{IsAscendingBy, put_by}
 use Rattle.teb_history.specs.Live.{number_of}
-use Rattle.teb_history.proofs.Comparisons.{ltb_tells}
-use Rattle.teb_history.proofs.AscendingLists.{above-mono, ascending-filter, ascending-put, put-same, put-insert}
+use Rattle.teb_history.proofs.AscendingLists.{ascending-filter, ascending-put}
 use Rattle.sorted_multimap.specs.Multimap.{Shown, values_in}
 use Rattle.hold_book.specs.declared.Hold.{Hold}
 use Rattle.sorted_multimap.specs.Keys.{txn_cmp}
@@ -26,60 +22,6 @@ module _ (f : Txn → List Txn) (g : List Txn → List Txn) (t v : Txn) where
       go : (b : Bool) → eqb t.0 v.0 ≡ b → cond b xs (f v) ≡ cond b (g (f v)) (f v)
       go true h = e ∙ ap (λ (z : Txn). g (f z)) (one_txn t v h)
       go false h = refl
-
-  -- and none, where the edit changes nothing
-  pub unedited : f t ≡ g (f t) → f v ≡ cond (eqb t.0 v.0) (g (f v)) (f v)
-  unedited e = go (eqb t.0 v.0) refl
-    where
-      go : (b : Bool) → eqb t.0 v.0 ≡ b → f v ≡ cond b (g (f v)) (f v)
-      go true h = subst (λ (z : Txn). f z ≡ g (f z)) (one_txn t v h) e
-      go false h = refl
-
-pub there : (a : Txn) (us : List Txn) (i : ℕ) → place_of number_of us a.0 ≡ Ok i → us ≡ put_by number_of a us
-there a us i h = put-same number_of a (λ x e. ap (λ (n : ℕ). record { 0 = n }) e) us i h
-
-pub gone_in : (a : Txn) (us : List Txn) (i : ℕ) → place_of number_of us a.0 ≡ Err i → take i us ++ a ∷ drop i us ≡ put_by number_of a us
-gone_in a us i h = sym (put-insert number_of a us i h)
-
--- a list without t, which is not there
-pub without_above : (t : ℕ) (us : List Txn) → AllAbove number_of t us → us ≡ without t us
-without_above t [] h = refl
-without_above t (u ∷ us) h = rw (ne_eqb u.0 t (λ e. let l : t < u.0 = h.0 in omega arith)) (ap (λ (l : List Txn). u ∷ l) (without_above t us h.1))
-
-pub without_missing : (t : ℕ) (us : List Txn) (i : ℕ) → IsAscendingBy number_of us → place_of number_of us t ≡ Err i → us ≡ without t us
-without_missing t [] i a h = refl
-without_missing t (u ∷ us) i a h = go (λ j q. without_missing t us j a.1 q) (ltb_tells u.0 t) (eqb_tells u.0 t)
-  where
-    later : ((j : ℕ) → place_of number_of us t ≡ Err j → us ≡ without t us) → (r : Result ℕ ℕ) → place_of number_of us t ≡ r → next_place r ≡ Err i → us ≡ without t us
-    later ih (Ok j) q e = absurd (cc)
-    later ih (Err j) q e = ih j q
-
-    go : ((j : ℕ) → place_of number_of us t ≡ Err j → us ≡ without t us) → ((ltb u.0 t ≡ true) × (u.0 < t)) ⊎ ((ltb u.0 t ≡ false) × (t ≤ u.0)) → ((eqb u.0 t ≡ true) × (u.0 ≡ t)) ⊎ ((eqb u.0 t ≡ false) × (u.0 ≢ t)) → u ∷ us ≡ without t (u ∷ us)
-    go ih (inl p) (inl q) = absurd (omega (arith, p.1, q.1))
-    go ih (inl p) (inr q) = ap (λ (l : List Txn). u ∷ l) (later ih (place_of number_of us t) refl (rw p.0 at h)) ∙ sym (ap (λ (b : Bool). cond (not b) (u ∷ without t us) (without t us)) q.0)
-    go ih (inr p) (inl q) = absurd (let z : Ok 0 ≡ Err i = sym (ap (λ (b : Bool). cond b (next_place (place_of number_of us t)) (cond (eqb u.0 t) (Ok 0) (Err 0))) p.0 ∙ ap (λ (b : Bool). cond b (Ok 0) (Err 0)) q.0) ∙ h in cc)
-    go ih (inr p) (inr q) = without_above t (u ∷ us) ((let l : t < u.0 = omega (arith, p.1, q.1) in l), above-mono number_of t u.0 us p.1 a.0)
-
--- and one from which it is taken out
-pub without_found : (t : ℕ) (us : List Txn) (i : ℕ) → IsAscendingBy number_of us → place_of number_of us t ≡ Ok i → remove us i ≡ without t us
-without_found t [] i a h = absurd (cc)
-without_found t (u ∷ us) i a h = go (λ j q. without_found t us j a.1 q) (ltb_tells u.0 t) (eqb_tells u.0 t)
-  where
-    later : ((j : ℕ) → place_of number_of us t ≡ Ok j → remove us j ≡ without t us) → (r : Result ℕ ℕ) → place_of number_of us t ≡ r → next_place r ≡ Ok i → remove (u ∷ us) i ≡ u ∷ without t us
-    later ih (Err j) q e = absurd (cc)
-    later ih (Ok j) q e =
-        let s : suc j ≡ i = cc in
-        subst (λ (k : ℕ). remove (u ∷ us) k ≡ u ∷ without t us) s (ap (λ (l : List Txn). u ∷ l) (ih j q))
-
-    go : ((j : ℕ) → place_of number_of us t ≡ Ok j → remove us j ≡ without t us) → ((ltb u.0 t ≡ true) × (u.0 < t)) ⊎ ((ltb u.0 t ≡ false) × (t ≤ u.0)) → ((eqb u.0 t ≡ true) × (u.0 ≡ t)) ⊎ ((eqb u.0 t ≡ false) × (u.0 ≢ t)) → remove (u ∷ us) i ≡ without t (u ∷ us)
-    go ih (inl p) (inl q) = absurd (omega (arith, p.1, q.1))
-    go ih (inl p) (inr q) = later ih (place_of number_of us t) refl (rw p.0 at h) ∙ sym (ap (λ (b : Bool). cond (not b) (u ∷ without t us) (without t us)) q.0)
-    go ih (inr p) (inl q) =
-        let z : Ok 0 ≡ Ok i = sym (ap (λ (b : Bool). cond b (next_place (place_of number_of us t)) (cond (eqb u.0 t) (Ok 0) (Err 0))) p.0 ∙ ap (λ (b : Bool). cond b (Ok 0) (Err 0)) q.0) ∙ h in
-        let s : 0 ≡ i = cc in
-        subst (λ (k : ℕ). remove (u ∷ us) k ≡ without t (u ∷ us)) s
-        (without_above t us (subst (λ (m : ℕ). AllAbove number_of m us) q.1 a.0) ∙ sym (ap (λ (b : Bool). cond (not b) (u ∷ without t us) (without t us)) q.0))
-    go ih (inr p) (inr q) = absurd (let z : Err 0 ≡ Ok i = sym (ap (λ (b : Bool). cond b (next_place (place_of number_of us t)) (cond (eqb u.0 t) (Ok 0) (Err 0))) p.0 ∙ ap (λ (b : Bool). cond b (Ok 0) (Err 0)) q.0) ∙ h in cc)
 
 without_twice : (t : ℕ) (us : List Txn) → without t (without t us) ≡ without t us
 without_twice t [] = refl

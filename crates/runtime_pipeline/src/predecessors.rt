@@ -3,7 +3,7 @@
 ghost use Rattle.std.specs.Prelude.{◌≡◌, ◌<◌, ◌≤◌, ◌+◌, ◌++◌, ◌∷◌, ◌&&◌, ◌||◌, ℕ, [], cond, drop, eqb, get_or, length, OnOk};
 ghost use Rattle.teb_names.specs.declared.Txn.{Txn};
 ghost use Rattle.teb_history.specs.declared.Event.{Event};
-ghost use Rattle.teb_history.specs.Ascending.{IsAscendingBy, put_by};
+ghost use Rattle.teb_history.specs.Ascending.{IsAscendingBy};
 ghost use Rattle.teb_history.specs.Live.{number_of};
 ghost use Rattle.teb_rules.specs.Setup.{Setup};
 ghost use Rattle.teb_rules.specs.Tree.{meets};
@@ -22,7 +22,7 @@ use phase_api::Facts;
 use sorted_multimap::{Multimap, clear_txn};
 use std::alloc::{AllocError, Global};
 use std::marker::Model;
-use teb_history::{Event, find_txn};
+use teb_history::Event;
 use teb_names::{Node, Txn};
 
 /// For each unfinished transaction, those that are ahead of it at a node. It stands for a history, and is told of each event behind it.
@@ -180,7 +180,7 @@ fn put_holders(
 {
     for hold in holds {
         if is_in_the_way(facts, node, t, hold, write) {
-            put(lists, t, hold.txn);
+            lists.put_by_number(t, hold.txn);
         }
     }
 }
@@ -197,18 +197,6 @@ fn is_in_the_way(facts: &Facts, node: Node, t: Txn, hold: &Hold, write: bool) ->
     (write || hold.wrote) && facts.meet_at(node, t, hold.txn)
 }
 
-// Puts a transaction into the list of t, unless it is there.
-fn put(lists: &mut Multimap<Txn, Txn>, t: Txn, ahead: Txn)
-    requires room { 0 < lists.old.spare }
-    requires ascending { IsAscendingBy number_of (values_in txn_cmp lists.old t) }
-    ensures values { (v : Txn) → values_in txn_cmp lists.new v ≡ cond (eqb t.0 v.0) (put_by number_of ahead (values_in txn_cmp lists.old v)) (values_in txn_cmp lists.old v) }
-    ensures spare { lists.old.spare ≤ lists.new.spare + 1 }
-{
-    if let Err(i) = find_txn(lists.list(t), ahead) {
-        lists.put(t, i, ahead);
-    }
-}
-
 // Takes t out of the lists of some.
 fn take_out(lists: &mut Multimap<Txn, Txn>, behind: &[Txn], t: Txn)
     requires { (v : Txn) → IsAscendingBy number_of (values_in txn_cmp lists.old v) }
@@ -216,17 +204,6 @@ fn take_out(lists: &mut Multimap<Txn, Txn>, behind: &[Txn], t: Txn)
     ensures spare { lists.new.spare ≡ lists.old.spare }
 {
     for u in behind {
-        take(lists, *u, t);
-    }
-}
-
-// Takes a transaction out of the list of t, where it is there.
-fn take(lists: &mut Multimap<Txn, Txn>, t: Txn, ahead: Txn)
-    requires { IsAscendingBy number_of (values_in txn_cmp lists.old t) }
-    ensures values { (v : Txn) → values_in txn_cmp lists.new v ≡ cond (eqb t.0 v.0) (without ahead.0 (values_in txn_cmp lists.old v)) (values_in txn_cmp lists.old v) }
-    ensures spare { lists.new.spare ≡ lists.old.spare }
-{
-    if let Ok(i) = find_txn(lists.list(t), ahead) {
-        lists.take(t, i);
+        lists.take_by_number(*u, t.0);
     }
 }

@@ -1,12 +1,20 @@
-use Rattle.std.proofs.Common.{◌∙◌, ◌||◌, ◌&&◌, ◌+◌, false, sym, subst, drop}
+use Rattle.std.proofs.Common.{◌∙◌, ◌||◌, ◌&&◌, ◌+◌, ◌≡◌, ◌≤◌, ℕ, Bool, List, cond, true, false, get_or, refl, sym, subst, drop, arith}
 use Rattle.teb_rules.specs.Tree.{meets}
 use Rattle.phase_api.specs.FactsView.{setup_of, events_of}
 use Rattle.teb_names.specs.declared.Txn.{Txn}
 use Rattle.hold_book.specs.declared.Hold.{Hold}
-use Rattle.sorted_multimap.specs.Multimap.{Shown}
-use Rattle.runtime_pipeline.proofs.ListEdits.{IsPutting, putting_in, putting_none}
+use Rattle.teb_history.specs.Ascending.{put_by}
+use Rattle.teb_history.specs.Live.{number_of}
+use Rattle.sorted_multimap.specs.Multimap.{Shown, values_in}
+use Rattle.sorted_multimap.specs.Keys.{txn_cmp}
+use Rattle.runtime_pipeline.proofs.ListEdits.{IsPutting, edited, putting_in, putting_none}
 use Rattle.runtime_pipeline.proofs.predecessors.put_holders.Goals as goal
 use Rattle.runtime_pipeline.proofs.predecessors.put_holders.Goals.{then-is_in_the_way, else-is_in_the_way}
+
+-- the room that a value takes, where it is put in
+one_more : (a b : ℕ) (added : Bool) → a ≡ b + cond added 1 0 → a ≤ b + 1
+one_more a b true e = omega arith
+one_more a b false e = omega arith
 
 pub loop-hold-preserved : goal.loop-hold-preserved
 loop-hold-preserved c =
@@ -14,8 +22,10 @@ loop-hold-preserved c =
     let d : Hold = record { txn = record { 0 = 0 }; wrote = false } in
     let i = c.loop-hold.hold-index in
     let hs = c.args.holds.now in
+    let f = λ (v : Txn). values_in txn_cmp c.loop-hold.lists v in
     let Next = λ (b : Shown Txn Txn). IsPutting p c.args.t hs (drop (i + 1) hs) (i + 1) c.args.lists.now b in
     elim c.if-is_in_the_way.branch [
-      | then-is_in_the_way w ↦ subst Next (sym w.lists-is) (putting_in p c.args.t hs c.args.lists.now c.loop-hold.lists w.put.new.lists i d c.loop-hold-test.true c.loop-hold.invariant (sym c.is_in_the_way.ensures ∙ w.if-is_in_the_way.true) w.put.ensures.values w.put.ensures.spare)
+      | then-is_in_the_way w ↦ subst Next (sym w.lists-is) (putting_in p c.args.t hs c.args.lists.now c.loop-hold.lists w.put_by_number.new.self i d c.loop-hold-test.true c.loop-hold.invariant (sym c.is_in_the_way.ensures ∙ w.if-is_in_the_way.true)
+          (λ v. w.put_by_number.ensures.values v ∙ edited f (λ (l : List Txn). put_by number_of (get_or hs i d).txn l) c.args.t v _ refl) (one_more _ _ w.put_by_number.result w.put_by_number.ensures.spare))
       | else-is_in_the_way w ↦ subst Next (sym w.lists-is) (putting_none p c.args.t hs c.args.lists.now c.loop-hold.lists i d c.loop-hold-test.true c.loop-hold.invariant (sym c.is_in_the_way.ensures ∙ w.if-is_in_the_way.false))
     ]
