@@ -74,6 +74,16 @@ module _ {A : Type 0} (key : A → ℕ) where
       go false true r ih h = let e : 0 ≡ i = cc in omega arith
       go false false r ih h = absurd (cc)
 
+  pub key_in : (xs : List A) (n i : ℕ) (d : A) → place_of key xs n ≡ Ok i → key (get_or xs i d) ≡ n
+  key_in [] n i d h = absurd (cc)
+  key_in (x ∷ xs) n i d h = go (ltb (key x) n) (eqb (key x) n) refl (place_of key xs n) (λ j e. key_in xs n j d e) h
+    where
+      go : (b c : Bool) → eqb (key x) n ≡ c → (r : Result ℕ ℕ) → ((j : ℕ) → r ≡ Ok j → key (get_or xs j d) ≡ n) → cond b (next_place r) (cond c (Ok 0) (Err 0)) ≡ Ok i → key (get_or (x ∷ xs) i d) ≡ n
+      go true c q (Ok j) ih h = let e : suc j ≡ i = cc in subst (λ (k : ℕ). key (get_or (x ∷ xs) k d) ≡ n) e (ih j refl)
+      go true c q (Err j) ih h = absurd (cc)
+      go false true q r ih h = let e : 0 ≡ i = cc in subst (λ (k : ℕ). key (get_or (x ∷ xs) k d) ≡ n) e (eqb-true _ _ q)
+      go false false q r ih h = absurd (cc)
+
   pub gap_in : (xs : List A) (n i : ℕ) → place_of key xs n ≡ Err i → i ≤ length xs
   gap_in [] n i h = let e : 0 ≡ i = cc in omega arith
   gap_in (x ∷ xs) n i h = go (ltb (key x) n) (eqb (key x) n) (place_of key xs n) (λ j e. gap_in xs n j e) h

@@ -9,7 +9,7 @@ use Rattle.teb_history.specs.declared.standing.Standing.{Standing}
 use Rattle.teb_history.specs.Ascending.{AllAbove, IsAscendingBy, next_place, place_of, put_by}
 use Rattle.teb_history.specs.OwnEvents.{event_txn}
 use Rattle.teb_history.specs.Live.{number_of, mentioned, is_live, live_txns}
-use Rattle.teb_history.specs.Standings.{standing_number, standing_of, blank, standings, stands_live}
+use Rattle.teb_history.specs.Standings.{standing_number, standing_of, blank, standings, standing_at, standing_in, stands_live}
 use Rattle.teb_history.proofs.Comparisons.{ltb_tells}
 use Rattle.teb_history.proofs.AscendingLists.{ascending-put, ascending-filter, filter-put_in, filter-put_away}
 use Rattle.teb_history.proofs.Standings.{standing_of-other, standing_of-nothing, live_standing}
@@ -105,6 +105,14 @@ no_place H t (u ∷ us) a i h = go (ltb_tells u.0 t) (eqb_tells u.0 t) (place_of
 
 pub standing-absent : (H : List Event) (t : Txn) (i : ℕ) → place_of standing_number (standings H) t.0 ≡ Err i → blank t ≡ standing_of H t.0
 standing-absent H t i h = sym (unmentioned H t (no_place H t.0 (mentioned H) (mentioned-ascending H) i h))
+
+-- where t stands, found among the standings
+pub standing_in-of : (H : List Event) (t : Txn) → standing_in (standings H) t ≡ standing_of H t.0
+standing_in-of H t = go (place_of standing_number (standings H) t.0) refl
+  where
+    go : (r : Result ℕ ℕ) → place_of standing_number (standings H) t.0 ≡ r → standing_at (standings H) t r ≡ standing_of H t.0
+    go (Ok i) q = standing-found H t.0 i (blank t) q
+    go (Err i) q = standing-absent H t i q
 
 -- the standings after one more event
 module _ (e : Event) (P : List Event) where

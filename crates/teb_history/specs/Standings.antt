@@ -1,5 +1,5 @@
 -- What is kept of each transaction that has an event.
-use Rattle.std.specs.Prelude.{◌≡◌, ℕ, Bool, true, false, cond, not, ◌&&◌, ◌||◌, List, map, reverse, is_some, Option, Some, None}
+use Rattle.std.specs.Prelude.{◌≡◌, ℕ, Bool, true, false, cond, not, ◌&&◌, ◌||◌, List, map, reverse, is_some, Option, Some, None, Result, Ok, Err, get_or}
 use Rattle.std.specs.Option.{option_map_or}
 use Rattle.teb_names.specs.declared.Txn.{Txn}
 use Rattle.teb_history.specs.declared.Event.{Event}
@@ -10,6 +10,7 @@ use Rattle.teb_history.specs.declared.standing.Start.{Start}
 use Rattle.teb_history.specs.declared.standing.Standing.{Standing}
 use Rattle.teb_history.specs.Positions.{came}
 use Rattle.teb_history.specs.Phases.{begun, committed, ready_at, told_at, spot_of, session_of, cause_of, is_after, begun_count}
+use Rattle.teb_history.specs.Ascending.{place_of}
 use Rattle.teb_history.specs.OwnEvents.{own_end, links}
 use Rattle.teb_history.specs.Live.{mentioned, live_txns}
 
@@ -28,6 +29,15 @@ standing_of H t = record { txn = record { 0 = t }; start = start_of H t; ready =
 -- where t stands while it has no event
 abbrev pub blank : Txn → Standing
 blank t = record { txn = t; start = None; ready = false; done = false; gone = None; told = false; end = 0 }
+
+-- at a place among the standings; where nothing stands there, t has no event
+abbrev pub standing_at : List Standing → Txn → Result ℕ ℕ → Standing
+standing_at kept t (Ok i) = get_or kept i (blank t)
+standing_at kept t (Err i) = blank t
+
+-- where t stands among the standings of those that have an event
+abbrev pub standing_in : List Standing → Txn → Standing
+standing_in kept t = standing_at kept t (place_of standing_number kept t.0)
 
 -- where a transaction stands after one more event of its own, with n events in the history
 abbrev pub standing_after : Event → ℕ → Standing → Standing

@@ -3,8 +3,10 @@
 ghost use Rattle.std.specs.Prelude.{◌≡◌, ◌<◌, ◌≤◌, ◌+◌, cond, eqb, not, filter, vec_len, vec_capacity};
 ghost use Rattle.teb_history.specs.Ascending.{IsAscendingBy, place_of, put_by};
 ghost use Rattle.teb_history.specs.Live.{number_of};
-ghost use Rattle.teb_history.specs.Standings.{standing_number};
+ghost use Rattle.teb_history.specs.OwnEvents.{event_txn};
+ghost use Rattle.teb_history.specs.Standings.{standing_number, standing_in, standing_after, stands_live};
 
+use super::Event;
 use crate::standing::Standing;
 use teb_names::Txn;
 
@@ -29,19 +31,52 @@ fn search_standing(standings: &[Standing], t: Txn) -> Result<usize, usize>
     standings.binary_search_by_key(&t.0, |standing| standing.txn.0)
 }
 
-/// Puts a standing at the place of its transaction, instead of the one that was there.
-pub fn put_standing(standings: &mut Vec<Standing>, standing: Standing)
+/// What an event of a transaction found of it, and what it changed.
+#[derive(Clone, Copy)]
+pub struct Noted {
+    /// The end of the transaction's events before it.
+    pub previous: usize,
+    pub was_live: bool,
+    pub is_live: bool,
+}
+
+/// The standing of an event's transaction after the event, with `end` events in the history. It costs one look.
+pub fn note_event(standings: &mut Vec<Standing>, event: Event, end: usize) -> Noted
     requires ascending { IsAscendingBy standing_number standings.old.items }
     requires room { vec_len standings.old < vec_capacity standings.old }
-    ensures items { standings.new.items ≡ put_by standing_number standing standings.old.items }
+    ensures items { standings.new.items ≡ put_by standing_number (standing_after event end (standing_in standings.old.items (event_txn event))) standings.old.items }
+    ensures previous { result.previous ≡ (standing_in standings.old.items (event_txn event)).end }
+    ensures was_live { result.was_live ≡ stands_live (standing_in standings.old.items (event_txn event)) }
+    ensures is_live { result.is_live ≡ stands_live (standing_after event end (standing_in standings.old.items (event_txn event))) }
     ensures len { vec_len standings.new ≤ vec_len standings.old + 1 }
     ensures capacity { vec_capacity standings.old ≤ vec_capacity standings.new }
 {
-    match find_standing(standings, standing.txn) {
-        Ok(i) => standings[i] = standing,
+    let txn = event.txn();
+    match find_standing(standings, txn) {
+        Ok(i) => change(&mut standings[i], event, end),
         Err(i) => {
+            let mut standing = Standing::blank(txn);
+            let noted = change(&mut standing, event, end);
             let _ = standings.insert(i, standing);
+            noted
         }
+    }
+}
+
+/// A standing after one more event of its transaction.
+fn change(standing: &mut Standing, event: Event, end: usize) -> Noted
+    ensures standing { standing.new ≡ standing_after event end standing.old }
+    ensures previous { result.previous ≡ standing.old.end }
+    ensures was_live { result.was_live ≡ stands_live standing.old }
+    ensures is_live { result.is_live ≡ stands_live (standing_after event end standing.old) }
+{
+    let previous = standing.end;
+    let was_live = standing.is_live();
+    standing.note(event, end);
+    Noted {
+        previous,
+        was_live,
+        is_live: standing.is_live(),
     }
 }
 

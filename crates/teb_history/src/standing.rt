@@ -45,35 +45,28 @@ impl Standing {
         }
     }
 
-    /// That after one more event of the transaction, with `end` events in the history.
-    pub fn after(self, event: Event, end: usize) -> Standing
-        ensures { result ≡ standing_after event end self }
+    /// One more event of the transaction, with `end` events in the history.
+    pub fn note(&mut self, event: Event, end: usize)
+        ensures { self.new ≡ standing_after event end self.old }
     {
-        let same = Standing { end, ..self };
+        self.end = end;
         match event {
             Event::Began {
                 session,
                 kind,
                 instance,
                 ..
-            } => Standing {
-                start: Some(Start {
+            } => {
+                self.start = Some(Start {
                     session,
                     spot: Spot { kind, instance },
-                }),
-                ..same
-            },
-            Event::Got { .. } | Event::Put { .. } => same,
-            Event::Ready(_) => Standing {
-                ready: true,
-                ..same
-            },
-            Event::Done(_) => Standing { done: true, ..same },
-            Event::Gone { cause, .. } => Standing {
-                gone: Some(cause),
-                ..same
-            },
-            Event::Told(_) => Standing { told: true, ..same },
+                })
+            }
+            Event::Got { .. } | Event::Put { .. } => {}
+            Event::Ready(_) => self.ready = true,
+            Event::Done(_) => self.done = true,
+            Event::Gone { cause, .. } => self.gone = Some(cause),
+            Event::Told(_) => self.told = true,
         }
     }
 
