@@ -64,7 +64,7 @@ impl Cursors {
         ensures cursors { self.new.cursors ≡ self.old.cursors ++ 0 ∷ [] }
         ensures spare { self.new.spare + 1 ≡ self.old.spare }
     {
-        let _ = self.cursors.push(0);
+        self.cursors.push_reserved(0);
         self.spare -= 1;
     }
 
