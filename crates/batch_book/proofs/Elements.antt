@@ -1,8 +1,8 @@
 -- Elements of lists.
-use Rattle.std.proofs.Common.{◌≡◌, ◌⊎◌, ℕ, suc, ◌<◌, Bool, true, false, cond, ◌||◌, eqb, ltb, List, [], ◌∷◌, ◌++◌, filter, find, map, get_or, Option, Some, None, Result, Ok, Err, refl, sym, ap, subst, inl, inr, arith, ltb-true, ltb-false}
-use Rattle.std.specs.List.{All, list_any}
+use Rattle.std.proofs.Common.{◌≡◌, ◌⊎◌, ℕ, suc, ◌<◌, Bool, true, false, cond, not, ◌||◌, eqb, ltb, List, [], ◌∷◌, ◌++◌, filter, find, map, get_or, Option, Some, None, Result, Ok, Err, refl, sym, ◌∙◌, ap, subst, inl, inr, arith, ltb-true, ltb-false}
+use Rattle.std.specs.List.{All, list_any, remove}
 use Rattle.std.specs.Option.{option_map, IsSome}
-use Rattle.std.proofs.lemmas.Bool.{cases_Bool, ne_eqb, or_cases, or_left, or_right, or_parts}
+use Rattle.std.proofs.lemmas.Bool.{cases_Bool, ne_eqb, eqb-true, or_cases, or_left, or_right, or_parts}
 use Rattle.std.proofs.lemmas.List.Elements.{All-nil, All-cons, All-head, All-tail}
 use Rattle.teb_history.specs.Ascending.{AllAbove, IsAscendingBy, next_place, place_of}
 use Rattle.batch_book.specs.Book.{AllBelow}
@@ -108,11 +108,6 @@ module _ {A : Type 0} where
   Has-none p (y ∷ xs) f = λ i. f y (inl refl) i || Has-none p xs (λ x h. f x (inr h)) i
 
   -- lists that ascend
-  pub below_Has : (key : A → ℕ) (n : ℕ) (x : A) (xs : List A) → AllBelow key n xs → Has x xs → key x < n
-  unfolding Has
-  below_Has key n x [] a h = absurd h
-  below_Has key n x (y ∷ xs) a h = elim h [ inl q ↦ subst (λ (z : A). key z < n) q a.0 | inr j ↦ below_Has key n x xs a.1 j ]
-
   above_push : (key : A → ℕ) (n : ℕ) (a : A) (xs : List A) → AllAbove key n xs → n < key a → AllAbove key n (xs ++ a ∷ [])
   above_push key n a [] h l = (l, tt)
   above_push key n a (x ∷ xs) h l = (h.0, above_push key n a xs h.1 l)
@@ -120,6 +115,26 @@ module _ {A : Type 0} where
   pub ascending_push : (key : A → ℕ) (a : A) (xs : List A) → IsAscendingBy key xs → AllBelow key (key a) xs → IsAscendingBy key (xs ++ a ∷ [])
   ascending_push key a [] h b = (tt, tt)
   ascending_push key a (x ∷ xs) h b = (above_push key (key x) a xs h.0 b.0, ascending_push key a xs h.1 b.1)
+
+  above_Has : (key : A → ℕ) (n : ℕ) (x : A) (xs : List A) → AllAbove key n xs → Has x xs → n < key x
+  unfolding Has
+  above_Has key n x [] a h = absurd h
+  above_Has key n x (y ∷ xs) a h = elim h [ inl q ↦ subst (λ (z : A). n < key z) q a.0 | inr j ↦ above_Has key n x xs a.1 j ]
+
+  -- of each key there is one
+  pub one_Has : (key : A → ℕ) (x y : A) (xs : List A) → IsAscendingBy key xs → Has x xs → Has y xs → key x ≡ key y → x ≡ y
+  unfolding Has
+  one_Has key x y [] a h k e = absurd h
+  one_Has key x y (z ∷ xs) a h k e = elim h [
+    | inl p ↦ elim k [
+      | inl q ↦ sym p ∙ q
+      | inr j ↦ absurd (let l = above_Has key (key z) y xs a.0 j in let r = ap key p in omega arith)
+    ]
+    | inr i ↦ elim k [
+      | inl q ↦ absurd (let l = above_Has key (key z) x xs a.0 i in let r = ap key q in omega arith)
+      | inr j ↦ one_Has key x y xs a.1 i j e
+    ]
+  ]
 
   -- what a search finds in one
   pub placed : (key : A → ℕ) (n i : ℕ) (d : A) (xs : List A) → place_of key xs n ≡ Ok i → find (λ x. eqb (key x) n) xs ≡ Some (get_or xs i d)
@@ -165,6 +180,32 @@ module _ {A : Type 0} where
       none : (ys : List A) → ((m : ℕ) → key x < m → n < m) → AllAbove key (key x) ys → find (λ x. eqb (key x) n) ys ≡ None
       none [] f a = refl
       none (y ∷ ys) f a = let l = f (key y) a.0 in rw (ne_eqb (key y) n (λ q. absurd (omega arith))) (none ys f a.1)
+
+  -- those above n have other keys
+  filter_above : (key : A → ℕ) (n : ℕ) (xs : List A) → AllAbove key n xs → filter (λ x. not (eqb (key x) n)) xs ≡ xs
+  filter_above key n [] a = refl
+  filter_above key n (x ∷ xs) a = let l = a.0 in rw (ne_eqb (key x) n (λ q. absurd (omega arith))) (ap (λ (ys : List A). x ∷ ys) (filter_above key n xs a.1))
+
+  -- what a search finds is taken out
+  pub removed : (key : A → ℕ) (n i : ℕ) (xs : List A) → IsAscendingBy key xs → place_of key xs n ≡ Ok i → remove xs i ≡ filter (λ x. not (eqb (key x) n)) xs
+  removed key n i [] a h = absurd (cc)
+  removed key n i (x ∷ xs) a h = elim (cases_Bool (ltb (key x) n)) [
+    | inl t ↦ (let l = ltb-true _ _ t in rw (ne_eqb (key x) n (λ q. absurd (omega arith))) (later (place_of key xs n) (λ j e. removed key n j xs a.1 e) (rw t at h)))
+    | inr f ↦ (elim (cases_Bool (eqb (key x) n)) [
+      | inl e ↦ rw e (first (eqb-true _ _ e) (rw (f, e) at h))
+      | inr e ↦ absurd (never (rw (f, e) at h))
+    ])
+  ]
+    where
+      later : (r : Result ℕ ℕ) → ((j : ℕ) → r ≡ Ok j → remove xs j ≡ filter (λ x. not (eqb (key x) n)) xs) → next_place r ≡ Ok i → remove (x ∷ xs) i ≡ x ∷ filter (λ x. not (eqb (key x) n)) xs
+      later (Ok j) ih h = let e : suc j ≡ i = cc in subst (λ (k : ℕ). remove (x ∷ xs) k ≡ x ∷ filter (λ x. not (eqb (key x) n)) xs) e (ap (λ (ys : List A). x ∷ ys) (ih j refl))
+      later (Err j) ih h = absurd (cc)
+
+      first : key x ≡ n → zero_ok ≡ Ok i → remove (x ∷ xs) i ≡ filter (λ x. not (eqb (key x) n)) xs
+      first q h = let e : 0 ≡ i = cc in subst (λ (k : ℕ). remove (x ∷ xs) k ≡ filter (λ x. not (eqb (key x) n)) xs) e (sym (filter_above key n xs (subst (λ (k : ℕ). AllAbove key k xs) q a.0)))
+
+      never : zero_err ≡ Ok i → ⊥
+      never h = cc
 
 pub below_shown : {A B : Type 0} (f : A → B) (key : B → ℕ) (n : ℕ) (xs : List A) → AllBelow key n (map f xs) → AllBelow (λ x. key (f x)) n xs
 below_shown f key n [] h = tt

@@ -9,7 +9,7 @@ use Rattle.batch_book.specs.declared.members.Member.{Member}
 use Rattle.batch_book.specs.declared.members.Batch.{Batch}
 use Rattle.batch_book.specs.Book.{full_on, start_on, admitted_on, admit, rows_joined, running_joined, AllBelow}
 use Rattle.batch_book.specs.Fields.{no_batch, batch_at, member_number, row_shown, running_shown, Has, IsHeld, Entered}
-use Rattle.batch_book.proofs.Elements.{Has-push_cases, Has-append_left, Has-push, found_Has, unfound_Has, All-Has, below_Has, ascending_push}
+use Rattle.batch_book.proofs.Elements.{Has-push_cases, Has-append_left, Has-push, found_Has, unfound_Has, All-Has, ascending_push}
 use Rattle.batch_book.proofs.Idle.{row_path, running_path}
 
 -- what a write leaves of a batch
@@ -165,6 +165,7 @@ module _ (J R : List Member) (B C : List Batch) (s at b : ℕ) (h : IsHeld J R B
   entered_held t q above_j above_r =
       record {
         ascending = ascending_push member_number t J h.ascending above_j;
+        running_ascending = ascending_push member_number t R h.running_ascending above_r;
         joined_within = All-push (λ (m : Member). m.batch < length C) J t (All-weaker (λ (m : Member). m.batch < length B) (λ (m : Member). m.batch < length C) (λ m k. let z = e.longer in longer k z) J h.joined_within) own_within;
         running_within = All-push (λ (m : Member). m.batch < length C) R t (All-weaker (λ (m : Member). m.batch < length B) (λ (m : Member). m.batch < length C) (λ m k. let z = e.longer in longer k z) R h.running_within) own_within;
         unclosed = λ m k. elim (Has-push_cases m t R k) [ inl j ↦ e.close m (in_running m j) ∙ h.unclosed m j | inr p ↦ subst (λ (o : Member). (batch_at C o).close ≡ None) p (own (λ z. z.close) None e.own_close) ];
@@ -179,16 +180,6 @@ module _ (J R : List Member) (B C : List Batch) (s at b : ℕ) (h : IsHeld J R B
           ]
           | inr r ↦ elim (Has-push_cases o t R k) [
             | inl k ↦ ap (λ (o : Member). o.batch) (sym r) ∙ q ∙ sym (e.mine o k (sym (e.side o (in_running o k)) ∙ sym c ∙ ap (λ (o : Member). (batch_at C o).side) (sym r) ∙ own (λ z. z.side) s e.own_side))
-            | inr p ↦ ap (λ (o : Member). o.batch) (sym r ∙ p)
-          ]
-        ];
-        once = λ m o j k c. elim (Has-push_cases m t R j) [
-          | inl j ↦ elim (Has-push_cases o t R k) [
-            | inl k ↦ h.once m o j k c
-            | inr p ↦ absurd (let z = below_Has member_number t.txn.0 m R above_r j in let y = ap member_number p in omega arith)
-          ]
-          | inr r ↦ elim (Has-push_cases o t R k) [
-            | inl k ↦ absurd (let z = below_Has member_number t.txn.0 o R above_r k in let y = ap member_number r in omega arith)
             | inr p ↦ ap (λ (o : Member). o.batch) (sym r ∙ p)
           ]
         ];

@@ -8,8 +8,9 @@ use Rattle.std.proofs.lemmas.List.Elements.{All-nil, All-filter}
 use Rattle.batch_book.specs.declared.members.Member.{Member}
 use Rattle.batch_book.specs.declared.members.Batch.{Batch}
 use Rattle.batch_book.specs.Book.{Running, closed_at, is_busy, running_finished, row_finished, rows_finished}
-use Rattle.batch_book.specs.Fields.{no_batch, batch_at, row_shown, running_shown, Has, IsHeld}
-use Rattle.batch_book.proofs.Elements.{filter-Has, Has-filter, found_Has, unfound_Has, any_Has, Has-any, none_Has, Has-none, All-Has}
+use Rattle.teb_history.proofs.AscendingLists.{ascending-filter}
+use Rattle.batch_book.specs.Fields.{no_batch, batch_at, member_number, row_shown, running_shown, Has, IsHeld}
+use Rattle.batch_book.proofs.Elements.{filter-Has, Has-filter, found_Has, unfound_Has, any_Has, Has-any, none_Has, Has-none, All-Has, one_Has}
 use Rattle.batch_book.proofs.Lists.{map-map, filter-map}
 use Rattle.batch_book.proofs.Idle.{row_path}
 
@@ -33,6 +34,9 @@ filter_all p (x ∷ xs) f = ap (λ (b : Bool). cond b (x ∷ filter p xs) (filte
 -- those that are left without t
 abbrev pub without : ℕ → List Member → List Member
 without t ms = filter (λ m. not (eqb m.txn.0 t)) ms
+
+pub absent_left : (t : ℕ) (R : List Member) → find (λ m. eqb m.txn.0 t) R ≡ None → without t R ≡ R
+absent_left t R e = filter_all (λ m. not (eqb m.txn.0 t)) R (λ m k. not_from_false _ (unfound_Has (λ m. eqb m.txn.0 t) m R e k))
 
 shown_without : (B : List Batch) (t : ℕ) (R : List Member) → running_finished (map (running_shown B) R) t ≡ map (running_shown B) (without t R)
 shown_without B t R = filter-map (running_shown B) (λ r. not (eqb r.txn t)) R
@@ -72,9 +76,6 @@ module _ (J R : List Member) (B : List Batch) (t : ℕ) (h : IsHeld J R B) where
       ∙ ap (λ (rs : List Running). map (row_finished rs at) (map (row_shown B) J)) (sym (shown_without B t R))
 
   -- t is not among them: nothing changes
-  pub absent_running : find (λ m. eqb m.txn.0 t) R ≡ None → map (running_shown B) R ≡ running_finished (map (running_shown B) R) t
-  absent_running e = ap (map (running_shown B)) (sym (filter_all (λ m. not (eqb m.txn.0 t)) R (λ m k. not_from_false _ (unfound_Has (λ m. eqb m.txn.0 t) m R e k)))) ∙ sym (shown_without B t R)
-
   pub absent_rows : (at : ℕ) → find (λ m. eqb m.txn.0 t) R ≡ None → map (row_shown B) J ≡ rows_finished (map (running_shown B) R) (map (row_shown B) J) t at
   absent_rows at e = rows_of B at (λ m k. row_same at m (λ c. let r = h.busy m k c in (r.0, stays r.0 r.1 (eqb-false _ _ (unfound_Has (λ m. eqb m.txn.0 t) r.0 R e r.1)), r.2)))
 
@@ -84,7 +85,7 @@ module _ (J R : List Member) (B : List Batch) (t : ℕ) (h : IsHeld J R B) where
 
     -- one of t's number has its batch
     its_batch : (o : Member) → Has o R → o.txn.0 ≡ t → o.batch ≡ member.batch
-    its_batch o k q = h.once o member k its.0 (q ∙ sym its.1)
+    its_batch o k q = ap (λ (m : Member). m.batch) (one_Has member_number o member R h.running_ascending k its.0 (q ∙ sym its.1))
 
     -- others of its batch are left
     others : list_any (λ o. eqb o.batch member.batch) (without t R) ≡ true → (m : Member) → Has m J → (batch_at B m).close ≡ None → (o : Member) × Has o (without t R) × (o.batch ≡ m.batch)
@@ -101,12 +102,12 @@ module _ (J R : List Member) (B : List Batch) (t : ℕ) (h : IsHeld J R B) where
     pub one_held : list_any (λ o. eqb o.batch member.batch) (without t R) ≡ true → IsHeld J (without t R) B
     one_held a = record {
       ascending = h.ascending;
+      running_ascending = ascending-filter member_number (λ m. not (eqb m.txn.0 t)) R h.running_ascending;
       joined_within = h.joined_within;
       running_within = All-filter (λ m. not (eqb m.txn.0 t)) (λ (m : Member). m.batch < length B) R h.running_within;
       unclosed = λ m k. h.unclosed m (left_Has m k);
       busy = others a;
       one_side = λ m o j k. h.one_side m o (left_Has m j) (left_Has o k);
-      once = λ m o j k. h.once m o (left_Has m j) (left_Has o k);
       few = λ m k. h.few m (left_Has m k);
     }
 
@@ -159,6 +160,7 @@ module _ (J R : List Member) (B : List Batch) (t : ℕ) (h : IsHeld J R B) where
       pub last_held : IsHeld J (without t R) C
       last_held = record {
         ascending = h.ascending;
+        running_ascending = ascending-filter member_number (λ m. not (eqb m.txn.0 t)) R h.running_ascending;
         joined_within = rw (length-set B member.batch x) h.joined_within;
         running_within = rw (length-set B member.batch x) (All-filter (λ m. not (eqb m.txn.0 t)) (λ (m : Member). m.batch < length B) R h.running_within);
         unclosed = λ m k. ap (λ (z : Batch). z.close) (apart m (left_apart m k)) ∙ h.unclosed m (left_Has m k);
@@ -167,7 +169,6 @@ module _ (J R : List Member) (B : List Batch) (t : ℕ) (h : IsHeld J R B) where
           | inr q ↦ others_apart m k q (ap (λ (z : Batch). z.close) (sym (apart m q)) ∙ c)
         ];
         one_side = λ m o j k c. h.one_side m o (left_Has m j) (left_Has o k) (ap (λ (z : Batch). z.side) (sym (apart m (left_apart m j))) ∙ c ∙ ap (λ (z : Batch). z.side) (apart o (left_apart o k)));
-        once = λ m o j k. h.once m o (left_Has m j) (left_Has o k);
         few = λ m k. rw (apart m (left_apart m k)) (h.few m (left_Has m k));
       }
 
@@ -176,11 +177,11 @@ pub held_none : (J R : List Member) (B : List Batch) → J ≡ [] → R ≡ [] �
 unfolding Has
 held_none J R B j r = subst (λ (z : List Member). IsHeld z R B) (sym j) (subst (λ (z : List Member). IsHeld [] z B) (sym r) (record {
   ascending = tt;
+  running_ascending = tt;
   joined_within = All-nil (λ (m : Member). m.batch < length B);
   running_within = All-nil (λ (m : Member). m.batch < length B);
   unclosed = λ m k. absurd k;
   busy = λ m k c. absurd k;
   one_side = λ m o k. absurd k;
-  once = λ m o k. absurd k;
   few = λ m k. absurd k;
 }))

@@ -35,12 +35,12 @@ Has x (y ∷ ys) = (y ≡ x) ⊎ Has x ys
 -- of those that have joined, the running ones and the batches: each open batch is that of a running member, and a side has one
 pub record IsHeld (joined running : List Member) (batches : List Batch) : Type 0 where
   pub ascending : IsAscendingBy member_number joined
+  pub running_ascending : IsAscendingBy member_number running
   pub joined_within : All (λ m. m.batch < length batches) joined
   pub running_within : All (λ m. m.batch < length batches) running
   pub unclosed : (m : Member) → Has m running → (batch_at batches m).close ≡ None
   pub busy : (m : Member) → Has m joined → (batch_at batches m).close ≡ None → (o : Member) × Has o running × (o.batch ≡ m.batch)
   pub one_side : (m o : Member) → Has m running → Has o running → (batch_at batches m).side ≡ (batch_at batches o).side → m.batch ≡ o.batch
-  pub once : (m o : Member) → Has m running → Has o running → m.txn.0 ≡ o.txn.0 → m.batch ≡ o.batch
   pub few : (m : Member) → Has m running → (batch_at batches m).admitted ≤ length joined
 
 -- one more has entered batch b of side s at position i

@@ -10,9 +10,7 @@ ghost use Rattle.teb_rules.specs.Batches.{start, close};
 ghost use Rattle.batch_book.specs.Histories.{BatchesOf, ClosedBelow, full_at, closing, Joins, Finishes, MayCome};
 ghost use Rattle.batch_book.specs.Book.{has_joined, IsNew};
 
-use crate::members::{
-    Batch, Member, enter, find_member, first_on, is_any_of, search_member, take_out,
-};
+use crate::members::{Batch, Member, enter, find_member, first_on, is_any_of, take_out};
 use crate::settled::overlap;
 use std::alloc::{AllocError, Global};
 use std::marker::Model;
@@ -108,8 +106,7 @@ impl Batches {
         ensures size { self.new.size ≡ self.old.size }
         ensures spare { self.old.spare ≤ self.new.spare }
     {
-        if let Some(member) = find_member(&self.running, t) {
-            take_out(&mut self.running, t);
+        if let Some(member) = take_out(&mut self.running, t) {
             if !is_any_of(&self.running, member.batch) {
                 self.batches[member.batch].close = Some(at);
             }
@@ -128,7 +125,7 @@ impl Batches {
     pub fn start_of(&self, t: Txn) -> Option<usize>
         ensures { (S : Setup) (H : List Event) (n : ℕ) → BatchesOf self.now S H n → IsTrue (begun H t.0) → result ≡ cond (on S H n t.0) (Some (start S H n t.0)) None }
     {
-        match search_member(&self.joined, t) {
+        match find_member(&self.joined, t) {
             Some(member) => Some(self.batches[member.batch].start),
             None => None,
         }
@@ -170,7 +167,7 @@ impl Batches {
         ensures joined { IsTrue (has_joined self.now result.0) }
         ensures closed { (S : Setup) (H : List Event) (n : ℕ) → BatchesOf self.now S H n → ClosedBelow S H n t.0 result.0 }
     {
-        let member = search_member(&self.joined, t).unwrap();
+        let member = find_member(&self.joined, t).unwrap();
         let settled = self.batches[member.batch].settled;
         self.joined[settled].txn
     }
@@ -181,7 +178,7 @@ impl Batches {
         ensures start { (S : Setup) (H : List Event) (n : ℕ) → BatchesOf self.now S H n → result.start ≡ start S H n t.0 }
         ensures close { (S : Setup) (H : List Event) (n : ℕ) → BatchesOf self.now S H n → result.close ≡ closing S H n t.0 }
     {
-        let member = search_member(&self.joined, t).unwrap();
+        let member = find_member(&self.joined, t).unwrap();
         self.batches[member.batch]
     }
 }

@@ -2,7 +2,7 @@
 
 ghost use Rattle.std.specs.Prelude.{◌≡◌, ◌<◌, ◌≤◌, ℕ, Bool, eqb, not, find, filter, length, map, option_map, IfSome, vec_len, vec_capacity, List, None, ◌+◌, ◌-◌, ◌^◌};
 ghost use Rattle.std.specs.List.{All, list_any};
-ghost use Rattle.teb_history.specs.Ascending.{IsAscendingBy};
+ghost use Rattle.teb_history.specs.Ascending.{IsAscendingBy, place_of};
 ghost use Rattle.batch_book.specs.declared.members.Member.{Member};
 ghost use Rattle.batch_book.specs.Fields.{batch_at, member_number, running_shown, Entered, IsHeld, Has};
 ghost use Rattle.batch_book.specs.Settled.{IsSettled};
@@ -41,20 +41,10 @@ pub(crate) fn first_on(members: &[Member], batches: &[Batch], side: u32) -> Opti
     None
 }
 
-/// The first of the members that is a transaction.
+/// The member of a transaction, among members in ascending number. It costs one look where they are numbered from 1 without a
+/// gap, and else a binary search.
+#[inline(always)]
 pub(crate) fn find_member(members: &[Member], t: Txn) -> Option<Member>
-    ensures { result ≡ find (λ m. eqb m.txn.0 t.0) members.now }
-{
-    for member in members {
-        if member.txn == t {
-            return Some(*member);
-        }
-    }
-    None
-}
-
-/// The same among members in ascending number, by binary search.
-pub(crate) fn search_member(members: &[Member], t: Txn) -> Option<Member>
     requires { IsAscendingBy member_number members.now }
     ensures { result ≡ find (λ m. eqb m.txn.0 t.0) members.now }
 {
@@ -62,10 +52,18 @@ pub(crate) fn search_member(members: &[Member], t: Txn) -> Option<Member>
     if first < members.len() && members[first].txn == t {
         return Some(members[first]);
     }
-    match members.binary_search_by_key(&t.0, |member| member.txn.0) {
+    match search_member(members, t) {
         Ok(i) => Some(members[i]),
         Err(_) => None,
     }
+}
+
+// Where the member of a transaction stands among members in ascending number, or would stand, by a binary search.
+fn search_member(members: &[Member], t: Txn) -> Result<usize, usize>
+    requires { IsAscendingBy member_number members.now }
+    ensures { result ≡ place_of member_number members.now t.0 }
+{
+    members.binary_search_by_key(&t.0, |member| member.txn.0)
 }
 
 /// Enters one more into the open batch of a side, or opens one at a position. It answers the number of the batch.
@@ -108,13 +106,18 @@ pub(crate) fn enter(
     }
 }
 
-/// Takes a transaction out.
-pub(crate) fn take_out(members: &mut Vec<Member>, t: Txn)
+/// Takes a transaction out of members in ascending number, where it is one of them, and answers its member.
+pub(crate) fn take_out(members: &mut Vec<Member>, t: Txn) -> Option<Member>
+    requires { IsAscendingBy member_number members.old.items }
+    ensures member { result ≡ find (λ m. eqb m.txn.0 t.0) members.old.items }
     ensures items { members.new.items ≡ filter (λ m. not (eqb m.txn.0 t.0)) members.old.items }
     ensures len { vec_len members.new ≤ vec_len members.old }
     ensures capacity { vec_capacity members.new ≡ vec_capacity members.old }
 {
-    members.retain(|member| member.txn != t);
+    match search_member(members, t) {
+        Ok(i) => Some(members.remove(i)),
+        Err(_) => None,
+    }
 }
 
 /// Whether some member is of a batch.

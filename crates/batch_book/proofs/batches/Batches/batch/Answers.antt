@@ -16,14 +16,14 @@ unwrap-member-requires c =
     let B = c.self.inside.batches.items in
     let looked = λ (js : List Member). find (λ (m : Member). eqb m.txn.0 c.args.t.0) js in
     let there : list_any (λ (r : Row). eqb r.txn c.args.t.0) (map (row_shown B) J) ≡ true = ap (λ (b : Book). list_any (λ (r : Row). eqb r.txn c.args.t.0) b.rows) c.self.view_is ∙ c.requires in
-    some_unless _ (λ none. both_ways _ (unfound_shown (row_shown B) (λ (r : Row). eqb r.txn c.args.t.0) J (ap looked (sym c.deref.ensures.value) ∙ sym c.search_member.ensures ∙ none)) there)
+    some_unless _ (λ none. both_ways _ (unfound_shown (row_shown B) (λ (r : Row). eqb r.txn c.args.t.0) J (ap looked (sym c.deref.ensures.value) ∙ sym c.find_member.ensures ∙ none)) there)
 
 pub index-requires : goal.index-requires
 index-requires c =
     let J = c.self.inside.joined.items in
     let B = c.self.inside.batches.items in
     let looked = λ (js : List Member). find (λ (m : Member). eqb m.txn.0 c.args.t.0) js in
-    let found : looked J ≡ Some c.unwrap-member.result = ap looked (sym c.deref.ensures.value) ∙ sym c.search_member.ensures ∙ c.unwrap-member.ensures in
+    let found : looked J ≡ Some c.unwrap-member.result = ap looked (sym c.deref.ensures.value) ∙ sym c.find_member.ensures ∙ c.unwrap-member.ensures in
     let within : c.unwrap-member.result.batch < length B = All-Has (λ (m : Member). m.batch < length B) c.unwrap-member.result J c.self.invariant.held.joined_within (found_Has (λ (m : Member). eqb m.txn.0 c.args.t.0) c.unwrap-member.result J found).0 in
     search (rules, within)
 
@@ -32,7 +32,7 @@ returns-clause-start c =
     let J = c.self.inside.joined.items in
     let B = c.self.inside.batches.items in
     let looked = λ (js : List Member). find (λ (m : Member). eqb m.txn.0 c.args.t.0) js in
-    let found : looked J ≡ Some c.unwrap-member.result = ap looked (sym c.deref.ensures.value) ∙ sym c.search_member.ensures ∙ c.unwrap-member.ensures in
+    let found : looked J ≡ Some c.unwrap-member.result = ap looked (sym c.deref.ensures.value) ∙ sym c.find_member.ensures ∙ c.unwrap-member.ensures in
     let within : c.unwrap-member.result.batch < length B = All-Has (λ (m : Member). m.batch < length B) c.unwrap-member.result J c.self.invariant.held.joined_within (found_Has (λ (m : Member). eqb m.txn.0 c.args.t.0) c.unwrap-member.result J found).0 in
     let same : c.index.result.now ≡ batch_at B c.unwrap-member.result = c.index.ensures ∙ get_or_default B c.unwrap-member.result.batch c.index.result.now no_batch within in
     let row = ap (λ (b : Book). find (λ (r : Row). eqb r.txn c.args.t.0) b.rows) (sym c.self.view_is) ∙ found_shown (row_shown B) (λ (r : Row). eqb r.txn c.args.t.0) J c.unwrap-member.result found in
@@ -43,7 +43,7 @@ returns-clause-close c =
     let J = c.self.inside.joined.items in
     let B = c.self.inside.batches.items in
     let looked = λ (js : List Member). find (λ (m : Member). eqb m.txn.0 c.args.t.0) js in
-    let found : looked J ≡ Some c.unwrap-member.result = ap looked (sym c.deref.ensures.value) ∙ sym c.search_member.ensures ∙ c.unwrap-member.ensures in
+    let found : looked J ≡ Some c.unwrap-member.result = ap looked (sym c.deref.ensures.value) ∙ sym c.find_member.ensures ∙ c.unwrap-member.ensures in
     let within : c.unwrap-member.result.batch < length B = All-Has (λ (m : Member). m.batch < length B) c.unwrap-member.result J c.self.invariant.held.joined_within (found_Has (λ (m : Member). eqb m.txn.0 c.args.t.0) c.unwrap-member.result J found).0 in
     let same : c.index.result.now ≡ batch_at B c.unwrap-member.result = c.index.ensures ∙ get_or_default B c.unwrap-member.result.batch c.index.result.now no_batch within in
     let row = ap (λ (b : Book). find (λ (r : Row). eqb r.txn c.args.t.0) b.rows) (sym c.self.view_is) ∙ found_shown (row_shown B) (λ (r : Row). eqb r.txn c.args.t.0) J c.unwrap-member.result found in

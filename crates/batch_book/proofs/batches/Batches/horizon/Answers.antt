@@ -19,14 +19,14 @@ unwrap-member-requires c =
     let B = c.self.inside.batches.items in
     let looked = λ (js : List Member). find (λ (m : Member). eqb m.txn.0 c.args.t.0) js in
     let there : list_any (λ (r : Row). eqb r.txn c.args.t.0) (map (row_shown B) J) ≡ true = ap (λ (b : Book). list_any (λ (r : Row). eqb r.txn c.args.t.0) b.rows) c.self.view_is ∙ c.requires in
-    some_unless _ (λ none. both_ways _ (unfound_shown (row_shown B) (λ (r : Row). eqb r.txn c.args.t.0) J (ap looked (sym c.deref.ensures.value) ∙ sym c.search_member.ensures ∙ none)) there)
+    some_unless _ (λ none. both_ways _ (unfound_shown (row_shown B) (λ (r : Row). eqb r.txn c.args.t.0) J (ap looked (sym c.deref.ensures.value) ∙ sym c.find_member.ensures ∙ none)) there)
 
 pub index-requires : goal.index-requires
 index-requires c =
     let J = c.self.inside.joined.items in
     let B = c.self.inside.batches.items in
     let looked = λ (js : List Member). find (λ (m : Member). eqb m.txn.0 c.args.t.0) js in
-    let found : looked J ≡ Some c.unwrap-member.result = ap looked (sym c.deref.ensures.value) ∙ sym c.search_member.ensures ∙ c.unwrap-member.ensures in
+    let found : looked J ≡ Some c.unwrap-member.result = ap looked (sym c.deref.ensures.value) ∙ sym c.find_member.ensures ∙ c.unwrap-member.ensures in
     let within : c.unwrap-member.result.batch < length B = All-Has (λ (m : Member). m.batch < length B) c.unwrap-member.result J c.self.invariant.held.joined_within (found_Has (λ (m : Member). eqb m.txn.0 c.args.t.0) c.unwrap-member.result J found).0 in
     search (rules, within)
 
@@ -35,7 +35,7 @@ index-requires-2 c =
     let J = c.self.inside.joined.items in
     let B = c.self.inside.batches.items in
     let looked = λ (js : List Member). find (λ (m : Member). eqb m.txn.0 c.args.t.0) js in
-    let found : looked J ≡ Some c.unwrap-member.result = ap looked (sym c.deref.ensures.value) ∙ sym c.search_member.ensures ∙ c.unwrap-member.ensures in
+    let found : looked J ≡ Some c.unwrap-member.result = ap looked (sym c.deref.ensures.value) ∙ sym c.find_member.ensures ∙ c.unwrap-member.ensures in
     let within : c.unwrap-member.result.batch < length B = All-Has (λ (m : Member). m.batch < length B) c.unwrap-member.result J c.self.invariant.held.joined_within (found_Has (λ (m : Member). eqb m.txn.0 c.args.t.0) c.unwrap-member.result J found).0 in
     let same : c.index.result.now ≡ batch_at B c.unwrap-member.result = c.index.ensures ∙ get_or_default B c.unwrap-member.result.batch c.index.result.now no_batch within in
     let fewer : c.index.result.now.settled < length J = subst (λ (z : Batch). z.settled < length J) (sym same) (c.self.invariant.settled.fewer c.unwrap-member.result.batch within) in
@@ -46,7 +46,7 @@ returns-clause-joined c =
     let J = c.self.inside.joined.items in
     let B = c.self.inside.batches.items in
     let looked = λ (js : List Member). find (λ (m : Member). eqb m.txn.0 c.args.t.0) js in
-    let found : looked J ≡ Some c.unwrap-member.result = ap looked (sym c.deref.ensures.value) ∙ sym c.search_member.ensures ∙ c.unwrap-member.ensures in
+    let found : looked J ≡ Some c.unwrap-member.result = ap looked (sym c.deref.ensures.value) ∙ sym c.find_member.ensures ∙ c.unwrap-member.ensures in
     let within : c.unwrap-member.result.batch < length B = All-Has (λ (m : Member). m.batch < length B) c.unwrap-member.result J c.self.invariant.held.joined_within (found_Has (λ (m : Member). eqb m.txn.0 c.args.t.0) c.unwrap-member.result J found).0 in
     let same : c.index.result.now ≡ batch_at B c.unwrap-member.result = c.index.ensures ∙ get_or_default B c.unwrap-member.result.batch c.index.result.now no_batch within in
     let fewer : c.index.result.now.settled < length J = subst (λ (z : Batch). z.settled < length J) (sym same) (c.self.invariant.settled.fewer c.unwrap-member.result.batch within) in
@@ -60,7 +60,7 @@ returns-clause-closed c =
     let R = c.self.inside.running.items in
     let B = c.self.inside.batches.items in
     let looked = λ (js : List Member). find (λ (m : Member). eqb m.txn.0 c.args.t.0) js in
-    let found : looked J ≡ Some c.unwrap-member.result = ap looked (sym c.deref.ensures.value) ∙ sym c.search_member.ensures ∙ c.unwrap-member.ensures in
+    let found : looked J ≡ Some c.unwrap-member.result = ap looked (sym c.deref.ensures.value) ∙ sym c.find_member.ensures ∙ c.unwrap-member.ensures in
     let within : c.unwrap-member.result.batch < length B = All-Has (λ (m : Member). m.batch < length B) c.unwrap-member.result J c.self.invariant.held.joined_within (found_Has (λ (m : Member). eqb m.txn.0 c.args.t.0) c.unwrap-member.result J found).0 in
     let same : c.index.result.now ≡ batch_at B c.unwrap-member.result = c.index.ensures ∙ get_or_default B c.unwrap-member.result.batch c.index.result.now no_batch within in
     let fewer : c.index.result.now.settled < length J = subst (λ (z : Batch). z.settled < length J) (sym same) (c.self.invariant.settled.fewer c.unwrap-member.result.batch within) in

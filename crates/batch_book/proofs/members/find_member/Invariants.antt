@@ -1,6 +1,0 @@
-use Rattle.std.proofs.Common.{◌≡◌, eqb, drop, find}
-use Rattle.batch_book.specs.declared.members.Member.{Member}
-use Rattle.batch_book.proofs.members.find_member.Given as goal
-
-abbrev pub invariant-loop-member : goal.invariant-loop-member
-invariant-loop-member l = find (λ (m : Member). eqb m.txn.0 l.t.0) (drop l.member-index l.members) ≡ find (λ (m : Member). eqb m.txn.0 l.t.0) l.members
