@@ -77,6 +77,11 @@ module _ {A : Type 0} where
       go true e h ih = absurd (cc)
       go false e h ih = elim k [ inl q ↦ subst (λ (z : A). p z ≡ false) q e | inr j ↦ ih h j ]
 
+  pub find_agree : (p q : A → Bool) (xs : List A) → ((x : A) → Has x xs → p x ≡ q x) → find p xs ≡ find q xs
+  unfolding Has
+  find_agree p q [] f = refl
+  find_agree p q (x ∷ xs) f = λ i. cond (f x (inl refl) i) (Some x) (find_agree p q xs (λ y h. f y (inr h)) i)
+
   pub All-Has : (P : A → Type 0) (x : A) (xs : List A) → All P xs → Has x xs → P x
   unfolding Has
   All-Has P x [] a h = absurd h

@@ -138,12 +138,12 @@ module _ (J R : List Member) (B C : List Batch) (s at b : ℕ) (h : IsHeld J R B
   entered_rows t q =
       map-append (row_shown C) J (t ∷ [])
       ∙ (λ i. map_Has (row_shown C) (row_shown B) J (λ m k. row_path m.txn.0 _ _ _ _ _ _ (e.side m (in_joined m k)) (e.start m (in_joined m k)) (e.close m (in_joined m k))) i
-      ++ (ap (λ (z : ℕ). row_shown C (record { txn = t.txn; batch = z })) q ∙ row_path t.txn.0 _ _ _ _ _ _ e.own_side e.own_start e.own_close) i ∷ [])
+      ++ (ap (λ (z : ℕ). row_shown C (record { txn = t.txn; side = t.side; batch = z })) q ∙ row_path t.txn.0 _ _ _ _ _ _ e.own_side e.own_start e.own_close) i ∷ [])
 
   pub entered_running : (t : Member) → t.batch ≡ b → map (running_shown C) (R ++ t ∷ []) ≡ running_joined (map (running_shown B) R) s t.txn.0 at
   entered_running t q =
       map-append (running_shown C) R (t ∷ [])
-      ∙ (λ i. each i ++ (ap (λ (z : ℕ). running_shown C (record { txn = t.txn; batch = z })) q ∙ running_path t.txn.0 _ _ _ _ _ _ e.own_side e.own_start e.own_admitted) i ∷ [])
+      ∙ (λ i. each i ++ (ap (λ (z : ℕ). running_shown C (record { txn = t.txn; side = t.side; batch = z })) q ∙ running_path t.txn.0 _ _ _ _ _ _ e.own_side e.own_start e.own_admitted) i ∷ [])
     where
       fuse : (ms : List Member) → map (admit s) (map (running_shown B) ms) ≡ map (λ m. admit s (running_shown B m)) ms
       fuse [] = refl
@@ -161,13 +161,14 @@ module _ (J R : List Member) (B C : List Batch) (s at b : ℕ) (h : IsHeld J R B
       go true a b = a
       go false a b = b
 
-  pub entered_held : (t : Member) → t.batch ≡ b → AllBelow member_number t.txn.0 J → AllBelow member_number t.txn.0 R → IsHeld (J ++ t ∷ []) (R ++ t ∷ []) C
-  entered_held t q above_j above_r =
+  pub entered_held : (t : Member) → t.batch ≡ b → t.side ≡ s → AllBelow member_number t.txn.0 J → AllBelow member_number t.txn.0 R → IsHeld (J ++ t ∷ []) (R ++ t ∷ []) C
+  entered_held t q on above_j above_r =
       record {
         ascending = ascending_push member_number t J h.ascending above_j;
         running_ascending = ascending_push member_number t R h.running_ascending above_r;
         joined_within = All-push (λ (m : Member). m.batch < length C) J t (All-weaker (λ (m : Member). m.batch < length B) (λ (m : Member). m.batch < length C) (λ m k. let z = e.longer in longer k z) J h.joined_within) own_within;
         running_within = All-push (λ (m : Member). m.batch < length C) R t (All-weaker (λ (m : Member). m.batch < length B) (λ (m : Member). m.batch < length C) (λ m k. let z = e.longer in longer k z) R h.running_within) own_within;
+        sides = λ m k. elim (Has-push_cases m t R k) [ inl j ↦ h.sides m j ∙ sym (e.side m (in_running m j)) | inr p ↦ subst (λ (o : Member). o.side ≡ (batch_at C o).side) p (on ∙ sym (own (λ z. z.side) s e.own_side)) ];
         unclosed = λ m k. elim (Has-push_cases m t R k) [ inl j ↦ e.close m (in_running m j) ∙ h.unclosed m j | inr p ↦ subst (λ (o : Member). (batch_at C o).close ≡ None) p (own (λ z. z.close) None e.own_close) ];
         busy = λ m k c. elim (Has-push_cases m t J k) [
           | inl j ↦ (let r = h.busy m j (sym (e.close m (in_joined m j)) ∙ c) in (r.0, Has-append_left r.0 R (t ∷ []) r.1, r.2))

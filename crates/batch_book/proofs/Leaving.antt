@@ -105,6 +105,7 @@ module _ (J R : List Member) (B : List Batch) (t : ℕ) (h : IsHeld J R B) where
       running_ascending = ascending-filter member_number (λ m. not (eqb m.txn.0 t)) R h.running_ascending;
       joined_within = h.joined_within;
       running_within = All-filter (λ m. not (eqb m.txn.0 t)) (λ (m : Member). m.batch < length B) R h.running_within;
+      sides = λ m k. h.sides m (left_Has m k);
       unclosed = λ m k. h.unclosed m (left_Has m k);
       busy = others a;
       one_side = λ m o j k. h.one_side m o (left_Has m j) (left_Has o k);
@@ -144,11 +145,11 @@ module _ (J R : List Member) (B : List Batch) (t : ℕ) (h : IsHeld J R B) where
 
       pub last_rows : map (row_shown C) J ≡ rows_finished (map (running_shown B) R) (map (row_shown B) J) t at
       last_rows = rows_of C at (λ m k. elim (cases_eq m.batch member.batch) [
-        | inl q ↦ (ap (λ (i : ℕ). row_shown C (record { txn = m.txn; batch = i })) q
+        | inl q ↦ (ap (λ (i : ℕ). row_shown C (record { txn = m.txn; side = m.side; batch = i })) q
             ∙ row_path m.txn.0 _ _ _ _ _ _ (ap (λ (z : Batch). z.side) (here) ∙ ap (λ (z : Batch). z.side) there) (ap (λ (z : Batch). z.start) here ∙ ap (λ (z : Batch). z.start) there)
             (ap (λ (z : Batch). z.close) here ∙ (λ i. cond (not (sym idle_now i)) (Some at) None)
             ∙ ap (closed_at (not (is_busy (map (running_shown B) (without t R)) (batch_at B member).side)) at) (sym (h.unclosed member its.0)))
-            ∙ ap (λ (i : ℕ). row_finished (map (running_shown B) (without t R)) at (row_shown B (record { txn = m.txn; batch = i }))) (sym q))
+            ∙ ap (λ (i : ℕ). row_finished (map (running_shown B) (without t R)) at (row_shown B (record { txn = m.txn; side = m.side; batch = i }))) (sym q))
         | inr q ↦ (ap (λ (z : Batch). record { txn = m.txn.0; side = z.side; start = z.start; close = z.close }) (apart m q) ∙ row_same at m (others_apart m k q))
       ])
 
@@ -163,6 +164,7 @@ module _ (J R : List Member) (B : List Batch) (t : ℕ) (h : IsHeld J R B) where
         running_ascending = ascending-filter member_number (λ m. not (eqb m.txn.0 t)) R h.running_ascending;
         joined_within = rw (length-set B member.batch x) h.joined_within;
         running_within = rw (length-set B member.batch x) (All-filter (λ m. not (eqb m.txn.0 t)) (λ (m : Member). m.batch < length B) R h.running_within);
+        sides = λ m k. h.sides m (left_Has m k) ∙ sym (ap (λ (z : Batch). z.side) (apart m (left_apart m k)));
         unclosed = λ m k. ap (λ (z : Batch). z.close) (apart m (left_apart m k)) ∙ h.unclosed m (left_Has m k);
         busy = λ m k c. elim (cases_eq m.batch member.batch) [
           | inl q ↦ absurd (let z : Some at ≡ None = sym (ap (λ (i : ℕ). (get_or C i no_batch).close) q ∙ ap (λ (z : Batch). z.close) here) ∙ c in cc)
@@ -180,6 +182,7 @@ held_none J R B j r = subst (λ (z : List Member). IsHeld z R B) (sym j) (subst 
   running_ascending = tt;
   joined_within = All-nil (λ (m : Member). m.batch < length B);
   running_within = All-nil (λ (m : Member). m.batch < length B);
+  sides = λ m k. absurd k;
   unclosed = λ m k. absurd k;
   busy = λ m k c. absurd k;
   one_side = λ m o k. absurd k;

@@ -38,6 +38,7 @@ pub record IsHeld (joined running : List Member) (batches : List Batch) : Type 0
   pub running_ascending : IsAscendingBy member_number running
   pub joined_within : All (λ m. m.batch < length batches) joined
   pub running_within : All (λ m. m.batch < length batches) running
+  pub sides : (m : Member) → Has m running → m.side ≡ (batch_at batches m).side
   pub unclosed : (m : Member) → Has m running → (batch_at batches m).close ≡ None
   pub busy : (m : Member) → Has m joined → (batch_at batches m).close ≡ None → (o : Member) × Has o running × (o.batch ≡ m.batch)
   pub one_side : (m o : Member) → Has m running → Has o running → (batch_at batches m).side ≡ (batch_at batches o).side → m.batch ≡ o.batch

@@ -6,7 +6,7 @@ use Rattle.batch_book.specs.Fields.{no_batch, batch_at, IsHeld}
 
 -- what stands in the place of a member that is not there
 abbrev pub no_member : Member
-no_member = record { txn = record { 0 = 0 }; batch = 0 }
+no_member = record { txn = record { 0 = 0 }; side = 0; batch = 0 }
 
 -- it closed, before position i
 abbrev pub IsClosedBefore : ℕ → Option ℕ → Type 0

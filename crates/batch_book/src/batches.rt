@@ -78,7 +78,7 @@ impl Batches {
     pub fn full(&self, side: u32) -> Option<Txn>
         ensures { (S : Setup) (H : List Event) (n : ℕ) → BatchesOf self.now S H n → result ≡ txn_of (full_at S H n side self.now.size) }
     {
-        match first_on(&self.running, &self.batches, side) {
+        match first_on(&self.running, side) {
             Some(first) if self.batches[first.batch].admitted >= self.size as usize => {
                 Some(first.txn)
             }
@@ -95,7 +95,11 @@ impl Batches {
         ensures spare { self.old.spare ≤ self.new.spare + 1 }
     {
         let batch = enter(&self.joined, &self.running, &mut self.batches, side, at);
-        let member = Member { txn: t, batch };
+        let member = Member {
+            txn: t,
+            side,
+            batch,
+        };
         let _ = self.joined.push(member);
         let _ = self.running.push(member);
     }

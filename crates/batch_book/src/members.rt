@@ -10,10 +10,11 @@ ghost use Rattle.batch_book.specs.Settled.{IsSettled};
 use crate::settled::settled_before;
 use teb_names::Txn;
 
-/// A transaction, and the number of its batch.
+/// A transaction, its side, and the number of its batch.
 #[derive(Clone, Copy)]
 pub(crate) struct Member {
     pub(crate) txn: Txn,
+    pub(crate) side: u32,
     pub(crate) batch: usize,
 }
 
@@ -28,13 +29,12 @@ pub(crate) struct Batch {
     pub(crate) settled: usize,
 }
 
-/// The first of the members whose batch is one of a side.
-pub(crate) fn first_on(members: &[Member], batches: &[Batch], side: u32) -> Option<Member>
-    requires { All (λ m. m.batch < length batches.now) members.now }
-    ensures { result ≡ find (λ m. eqb (batch_at batches.now m).side side) members.now }
+/// The first of the members on a side.
+pub(crate) fn first_on(members: &[Member], side: u32) -> Option<Member>
+    ensures { result ≡ find (λ m. eqb m.side side) members.now }
 {
     for member in members {
-        if batches[member.batch].side == side {
+        if member.side == side {
             return Some(*member);
         }
     }
@@ -77,6 +77,7 @@ pub(crate) fn enter(
     requires joined_within { All (λ m. m.batch < length batches.old.items) joined.now }
     requires settled { IsSettled joined.now batches.old.items (length joined.now) }
     requires within { All (λ m. m.batch < length batches.old.items) running.now }
+    requires sides { (m : Member) → Has m running.now → m.side ≡ (batch_at batches.old.items m).side }
     requires unclosed { (m : Member) → Has m running.now → (batch_at batches.old.items m).close ≡ None }
     requires one_side { (m o : Member) → Has m running.now → Has o running.now → (batch_at batches.old.items m).side ≡ (batch_at batches.old.items o).side → m.batch ≡ o.batch }
     requires few { (m : Member) → Has m running.now → (batch_at batches.old.items m).admitted < 2 ^ 64 - 1 }
@@ -86,7 +87,7 @@ pub(crate) fn enter(
     ensures len { vec_len batches.new ≤ vec_len batches.old + 1 }
     ensures capacity { vec_capacity batches.old ≤ vec_capacity batches.new }
 {
-    match first_on(running, batches, side) {
+    match first_on(running, side) {
         Some(first) => {
             batches[first.batch].admitted += 1;
             first.batch

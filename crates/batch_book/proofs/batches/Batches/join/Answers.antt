@@ -15,7 +15,7 @@ invariant_of-self c =
     let R = c.self.inside.running.items in
     let B = c.self.inside.batches.items in
     let C = c.enter-batch.new.batches.items in
-    let t : Member = record { txn = c.args.t; batch = c.enter-batch.result } in
+    let t : Member = record { txn = c.args.t; side = c.args.side; batch = c.enter-batch.result } in
     let spare = ap (λ (b : Book). b.spare) c.self.view_is in
     let e = subst (λ (ms : List Member). Entered ms B C c.args.side c.args.at c.enter-batch.result) c.deref-2.ensures.value c.enter-batch.ensures.entered in
     let in_joined : c.push.new.self.items ≡ J ++ t ∷ [] = rw (c.push.ensures.succeeds (omega arith)) at c.push.ensures.items in
@@ -25,7 +25,7 @@ invariant_of-self c =
     let settled = settled_joined J C t (subst (λ (ms : List Member). IsSettled ms C (length ms + 1)) c.deref.ensures.value c.enter-batch.ensures.settled) in
     subst (λ (js : List Member). IsKept js c.push-2.new.self.items C) (sym in_joined)
     (subst (λ (rs : List Member). IsKept (J ++ t ∷ []) rs C) (sym in_running)
-    (record { held = entered_held J R B C c.args.side c.args.at c.enter-batch.result c.self.invariant.held e t refl above_joined above_running; settled = settled }))
+    (record { held = entered_held J R B C c.args.side c.args.at c.enter-batch.result c.self.invariant.held e t refl refl above_joined above_running; settled = settled }))
 
 pub returns-clause-batches : goal.returns-clause-batches
 returns-clause-batches c =
@@ -35,7 +35,7 @@ returns-clause-batches c =
     let C = c.enter-batch.new.batches.items in
     let s = c.args.side in
     let at = c.args.at in
-    let t : Member = record { txn = c.args.t; batch = c.enter-batch.result } in
+    let t : Member = record { txn = c.args.t; side = c.args.side; batch = c.enter-batch.result } in
     let spare = ap (λ (b : Book). b.spare) c.self.view_is in
     let e = subst (λ (ms : List Member). Entered ms B C s at c.enter-batch.result) c.deref-2.ensures.value c.enter-batch.ensures.entered in
     let in_joined : c.push.new.self.items ≡ J ++ t ∷ [] = rw (c.push.ensures.succeeds (omega arith)) at c.push.ensures.items in
