@@ -3,3 +3,4 @@ pub mod Puts
 pub mod Newest
 pub mod Asked
 pub mod Answered
+pub mod Effects

@@ -1,11 +1,11 @@
 //! The record of a commit: what it leaves in the cells that it has put.
 
-ghost use Rattle.std.specs.Prelude.{◌≡◌, ◌+◌, ◌*◌, ◌<◌, ◌≤◌, List, ℕ, length, Option, Some, IsTrue, IfOk, OnOk, IsErrOf, if◌then◌else◌, ◌++◌, ◌∷◌, [], true, false};
+ghost use Rattle.std.specs.Prelude.{◌≡◌, ◌≤◌, length, IsTrue, IfOk, OnOk, IsErrOf, if◌then◌else◌, ◌++◌, ◌∷◌, []};
 ghost use Rattle.teb_history.specs.Accesses.{wrote};
 ghost use Rattle.teb_history.specs.Phases.{unfinished};
 ghost use Rattle.teb_history.specs.Written.{txn_of};
-ghost use Rattle.record_journal.specs.Journal.{IsBody};
 ghost use Rattle.commit_laws.specs.Records.{puts_of as all_puts, is_newest as newest, record_of as changes_of, has};
+ghost use Rattle.commit_journal.specs.Answered.{IsBodyFor};
 ghost use Rattle.commit_journal.specs.Kept.{committing as committed_by, counts, with_event, AreCells, IsFull};
 ghost use Rattle.version_chain.specs.Lists.{last_place, writers_of};
 ghost use Rattle.commit_journal.specs.declared.error.DurableError.TheVariants as errors;
@@ -29,8 +29,7 @@ pub fn body_of<C: Chains>(
     request: Request,
 ) -> Result<Vec<u8>, DurableError>
     requires { left ≤ 1048576 }
-    ensures body { IfOk result (λ bytes. (t : ℕ) → committed_by engine.now.events session request ≡ Some t
-        → IsBody (changes_of engine.now.store.setup engine.now.events t) bytes.items × (length bytes.items + 1 ≤ 6 + 14 * length (all_puts engine.now.events t))) }
+    ensures body { IfOk result (λ bytes. IsBodyFor engine.now.store engine.now.events session request bytes.items) }
     ensures fits { OnOk result (IsFull engine.now.events left session request → ⊥) }
     ensures full { IsErrOf result errors.Full → IsFull engine.now.events left session request }
     ensures not_stopped { IsErrOf result errors.Stopped → ⊥ }

@@ -1,6 +1,6 @@
 //! A store on a disk.
 
-ghost use Rattle.std.specs.Prelude.{◌≡◌, ◌+◌, ◌*◌, ◌-◌, ◌^◌, ◌<◌, ◌≤◌, [], List, ℕ, length, Some, true, false, IfOk, IfErr, OnOk, IsErrOf, IsOk, IsErr};
+ghost use Rattle.std.specs.Prelude.{◌≡◌, ◌+◌, ◌*◌, ◌-◌, ◌^◌, ◌<◌, ◌≤◌, [], List, ℕ, length, Some, true, false, IsTrue, IfOk, IfErr, OnOk, IsErrOf, IsOk, IsErr};
 ghost use Rattle.teb_io.specs.Faults.{Rose};
 ghost use Rattle.teb_names.specs.declared.Reply.TheVariants as replies;
 ghost use Rattle.teb_rules.specs.Answer.{answer};
@@ -10,8 +10,9 @@ ghost use Rattle.commit_laws.specs.Laws.{IsOfSerialRun};
 ghost use Rattle.crash_disk.specs.Calls.{AreSure, Fails, IsUpTo};
 ghost use Rattle.record_journal.specs.Format.{records, recovered, Whole};
 ghost use Rattle.commit_laws.specs.Records.{records_of, puts_of};
-ghost use Rattle.commit_journal.specs.Kept.{IsFull, IsSameStore, committing};
-ghost use Rattle.commit_journal.specs.Whole.{HasFirst};
+ghost use Rattle.commit_journal.specs.Answered.{Answered, IsBodyFor};
+ghost use Rattle.commit_journal.specs.Kept.{IsFull, IsSameStore, committing, kept_of};
+ghost use Rattle.commit_journal.specs.Whole.{HasFirst, KeepsAll};
 ghost use Rattle.commit_journal.specs.declared.error.DurableError.TheVariants as errors;
 
 use crate::commit::body_of;
@@ -114,20 +115,8 @@ impl<C: Chains, D: Disk> Durable<C, D> {
             → AreSure (D.tally self.old.disk).promise.writes 4 (6 + 14 * length (puts_of self.old.events t)) (D.tally self.old.disk) → IsErrOf result errors.DiskFault → ⊥ }
         ensures fails { Fails 4 (D.tally self.old.disk) → IfOk result (λ reply. reply ≡ replies.Committed → ⊥) }
     {
-        if self.journal.is_stopped() {
-            return Err(DurableError::Stopped);
-        }
-        let left = self.journal.left();
-        let body = body_of(alloc, &self.engine, left, session, request)?;
-        self.engine.ready()?;
-        let reply = self.engine.ask(session, request);
-        if reply != Reply::Committed {
-            return Ok(reply);
-        }
-        match self.journal.append(&body) {
-            Ok(()) => Ok(reply),
-            Err(Failed) => Err(DurableError::DiskFault),
-        }
+        let body = prepared(alloc, &mut self.engine, &self.journal, session, request)?;
+        answered(&mut self.engine, &mut self.journal, session, request, &body)
     }
 
     /// How many commits were answered.
@@ -152,5 +141,57 @@ impl<C: Chains, D: Disk> Durable<C, D> {
         ensures { result ≡ self.disk }
     {
         self.journal.into_disk()
+    }
+}
+
+// Makes room for the answer to a request, and the bytes of the record that it would commit. Contracts see no change of the store.
+fn prepared<C: Chains, D: Disk>(
+    alloc: Global,
+    engine: &mut Engine<C>,
+    journal: &Journal<D>,
+    session: Session,
+    request: Request,
+) -> Result<Vec<u8>, DurableError>
+    ensures same { kept_of engine.new journal.now ≡ kept_of engine.old journal.now }
+    ensures ready { OnOk result (engine.new.ready ≡ true) }
+    ensures body { IfOk result (λ body. IsBodyFor engine.old.store engine.old.events session request body.items) }
+    ensures fits { OnOk result (IsFull engine.old.events (1048576 - journal.now.progress.end) session request → ⊥) }
+    ensures full { IsErrOf result errors.Full → IsFull engine.old.events (1048576 - journal.now.progress.end) session request }
+    ensures runs { OnOk result (journal.now.stopped ≡ false) }
+    ensures stopped { IsErrOf result errors.Stopped → journal.now.stopped ≡ true }
+    ensures stays { journal.now.stopped ≡ true → IsErrOf result errors.Stopped }
+    ensures no_fault { IsErrOf result errors.DiskFault → ⊥ }
+{
+    if journal.is_stopped() {
+        return Err(DurableError::Stopped);
+    }
+    let body = body_of(alloc, engine, journal.left(), session, request)?;
+    engine.ready()?;
+    Ok(body)
+}
+
+// Answers a request from what was prepared for it. A commit is on the disk before it is answered.
+fn answered<C: Chains, D: Disk>(
+    engine: &mut Engine<C>,
+    journal: &mut Journal<D>,
+    session: Session,
+    request: Request,
+    body: &[u8],
+) -> Result<Reply, DurableError>
+    requires ready { IsTrue engine.old.ready }
+    requires runs { journal.old.stopped ≡ false }
+    requires keeps { KeepsAll D.seen D.may_leave engine.old.store engine.old.events journal.old }
+    requires body { IsBodyFor engine.old.store engine.old.events session request body.now }
+    requires fits { IsFull engine.old.events (1048576 - journal.old.progress.end) session request → ⊥ }
+    ensures keeps { KeepsAll D.seen D.may_leave engine.new.store engine.new.events journal.new }
+    ensures answered { Answered D.moment D.left_since D.safe D.faults D.tally (kept_of engine.old journal.old) (kept_of engine.new journal.new) session request result }
+{
+    let reply = engine.ask(session, request);
+    if reply != Reply::Committed {
+        return Ok(reply);
+    }
+    match journal.append(body) {
+        Ok(()) => Ok(reply),
+        Err(Failed) => Err(DurableError::DiskFault),
     }
 }

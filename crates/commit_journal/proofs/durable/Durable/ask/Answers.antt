@@ -1,206 +1,103 @@
-use Rattle.std.proofs.Common.{◌≡◌, ◌∙◌, List, false, subst, arith, length, rules}
-use Rattle.teb_names.specs.declared.Reply.TheVariants.{Committed}
-use Rattle.crash_disk.specs.Disk.{LeavesOnly}
-use Rattle.record_journal.specs.Format.{Record, records, recovered, Whole}
-use Rattle.record_journal.specs.Journal.{StandsFor}
-use Rattle.record_journal.specs.Kept.{Keeps}
-use Rattle.record_journal.proofs.Moments.{started}
-use Rattle.commit_laws.specs.Commits.{commit_count}
-use Rattle.commit_laws.specs.Records.{records_of}
-use Rattle.commit_journal.specs.Kept.{Kept}
-use Rattle.commit_journal.specs.Whole.{HasFirst}
+use Rattle.std.proofs.Common.{◌∙◌, subst, sym, ap}
+use Rattle.commit_journal.specs.declared.error.DurableError.TheVariants as errors
+use Rattle.commit_journal.specs.Answered.{Answered}
+use Rattle.commit_journal.specs.Kept.{Kept, kept_of}
 use Rattle.commit_journal.proofs.Asked.{all_acknowledged, ends_behind}
-use Rattle.commit_journal.proofs.Answered.{commits, is_some, fits_in, of_before, of_behind, keeps_ready, keeps_quiet}
+use Rattle.commit_journal.proofs.Answered.{keeps_alike}
+use Rattle.commit_journal.proofs.Effects.{acknowledges, acknowledges_none, runs_on, is_fault, changes_at_fault, fault_rose, fault_at_commit}
+use Rattle.commit_journal.proofs.Effects.{fault_adds_nothing, touches_none, makes_four, writes_one_more, makes_few, never_at_fault, fails_at_commit}
+use Rattle.commit_journal.proofs.durable.Durable.ask.Given.{Over}
 use Rattle.commit_journal.proofs.durable.Durable.ask.Goals as goal
+
+-- what the answer did to the store as it was before the call
+did : (g : Over) (c : goal.After-drop-body g)
+    → Answered g.D.Disk.moment g.D.Disk.left_since g.D.Disk.safe g.D.Disk.faults g.D.Disk.tally c.args.self.now
+    (kept_of c.answered.new.engine c.answered.new.journal) c.args.session c.args.request c.answered.result
+did g c =
+    let d = g.D.Disk in
+    let n = kept_of c.answered.new.engine c.answered.new.journal in
+    subst (λ (o : Kept _). Answered d.moment d.left_since d.safe d.faults d.tally o n c.args.session c.args.request c.answered.result)
+    (c.prepared.ensures.same ∙ c.self.view_is) c.answered.ensures.answered
+
+pub answered-requires-clause-keeps : goal.answered-requires-clause-keeps
+answered-requires-clause-keeps g c =
+    keeps_alike g.D.Disk.seen g.D.Disk.may_leave c.self.inside.engine c.prepared.new.engine c.self.inside.journal c.prepared.ensures.same c.self.invariant
+
+pub invariant_of-self : goal.invariant_of-self
+invariant_of-self g c =
+    keeps_alike g.D.Disk.seen g.D.Disk.may_leave c.self.inside.engine c.prepared.new.engine c.self.inside.journal c.prepared.ensures.same c.self.invariant
 
 pub returns-in_err-body-clause-all : goal.returns-in_err-body-clause-all
 returns-in_err-body-clause-all g c =
-    let d = g.D.Disk in
-    let m = c.self.inside in
-    subst (λ (o : Kept _). o.stopped ≡ false → o.acknowledged ≡ commit_count o.events) c.self.view_is (all_acknowledged d.seen d.may_leave m.engine.store m.engine.events m.journal c.self.invariant)
+    all_acknowledged g.D.Disk.seen g.D.Disk.may_leave c.prepared.new.engine.store c.prepared.new.engine.events c.self.inside.journal
+    (keeps_alike g.D.Disk.seen g.D.Disk.may_leave c.self.inside.engine c.prepared.new.engine c.self.inside.journal c.prepared.ensures.same c.self.invariant)
 
 pub returns-in_err-body-clause-end : goal.returns-in_err-body-clause-end
 returns-in_err-body-clause-end g c =
-    let d = g.D.Disk in
-    let m = c.self.inside in
-    subst (λ (o : Kept _). o.stopped ≡ false → o.end ≡ length (records (records_of o.store.setup o.events))) c.self.view_is (ends_behind d.seen d.may_leave m.engine.store m.engine.events m.journal c.self.invariant)
+    ends_behind g.D.Disk.seen g.D.Disk.may_leave c.prepared.new.engine.store c.prepared.new.engine.events c.self.inside.journal
+    (keeps_alike g.D.Disk.seen g.D.Disk.may_leave c.self.inside.engine c.prepared.new.engine c.self.inside.journal c.prepared.ensures.same c.self.invariant)
 
-pub returns-in_err-ready-clause-all : goal.returns-in_err-ready-clause-all
-returns-in_err-ready-clause-all g c =
-    let d = g.D.Disk in
-    let m = c.self.inside in
-    let one = c.ready.new.self in
-    all_acknowledged d.seen d.may_leave one.store one.events m.journal
-    (keeps_ready d.seen d.may_leave m.engine.store one.store m.engine.events one.events m.journal c.self.invariant c.ready.ensures.store c.ready.ensures.events)
+pub returns-clause-store : goal.returns-clause-store
+returns-clause-store g c = (did g c).store
 
-pub returns-in_err-ready-clause-end : goal.returns-in_err-ready-clause-end
-returns-in_err-ready-clause-end g c =
-    let d = g.D.Disk in
-    let m = c.self.inside in
-    let one = c.ready.new.self in
-    ends_behind d.seen d.may_leave one.store one.events m.journal
-    (keeps_ready d.seen d.may_leave m.engine.store one.store m.engine.events one.events m.journal c.self.invariant c.ready.ensures.store c.ready.ensures.events)
+pub returns-clause-reply : goal.returns-clause-reply
+returns-clause-reply g c = (did g c).reply
 
-pub invariant_of-self-then-ne : goal.invariant_of-self-then-ne
-invariant_of-self-then-ne g c =
-    let d = g.D.Disk in
-    let m = c.self.inside in
-    let one = c.ready.new.self in
-    let two = c.ask-reply.new.self in
-    let other : (c.ask-reply.result ≡ Committed → ⊥) = search rules in
-    let kept = keeps_quiet d.seen d.may_leave m.engine.store one.store two.store m.engine.events one.events two.events m.journal c.args.session c.args.request c.ask-reply.result c.self.invariant c.ready.ensures.store c.ready.ensures.events c.ask-reply.ensures.store c.ask-reply.ensures.reply c.ask-reply.ensures.events other in
-    kept
+pub returns-clause-all : goal.returns-clause-all
+returns-clause-all g c =
+    all_acknowledged g.D.Disk.seen g.D.Disk.may_leave c.answered.new.engine.store c.answered.new.engine.events c.answered.new.journal c.answered.ensures.keeps
 
-pub returns-then-ne-clause-all : goal.returns-then-ne-clause-all
-returns-then-ne-clause-all g c =
-    let d = g.D.Disk in
-    let m = c.self.inside in
-    let one = c.ready.new.self in
-    let two = c.ask-reply.new.self in
-    let other : (c.ask-reply.result ≡ Committed → ⊥) = search rules in
-    let kept = keeps_quiet d.seen d.may_leave m.engine.store one.store two.store m.engine.events one.events two.events m.journal c.args.session c.args.request c.ask-reply.result c.self.invariant c.ready.ensures.store c.ready.ensures.events c.ask-reply.ensures.store c.ask-reply.ensures.reply c.ask-reply.ensures.events other in
-    all_acknowledged d.seen d.may_leave two.store two.events m.journal kept
-
-pub returns-then-ne-clause-end : goal.returns-then-ne-clause-end
-returns-then-ne-clause-end g c =
-    let d = g.D.Disk in
-    let m = c.self.inside in
-    let one = c.ready.new.self in
-    let two = c.ask-reply.new.self in
-    let other : (c.ask-reply.result ≡ Committed → ⊥) = search rules in
-    let kept = keeps_quiet d.seen d.may_leave m.engine.store one.store two.store m.engine.events one.events two.events m.journal c.args.session c.args.request c.ask-reply.result c.self.invariant c.ready.ensures.store c.ready.ensures.events c.ask-reply.ensures.store c.ask-reply.ensures.reply c.ask-reply.ensures.events other in
-    ends_behind d.seen d.may_leave two.store two.events m.journal kept
-
-pub returns-then-ne-clause-any_moment : goal.returns-then-ne-clause-any_moment
-returns-then-ne-clause-any_moment g c =
-    let d = g.D.Disk in
-    let m = c.self.inside in
-    let one = c.ready.new.self in
-    let two = c.ask-reply.new.self in
-    let other : (c.ask-reply.result ≡ Committed → ⊥) = search rules in
-    let kept = keeps_quiet d.seen d.may_leave m.engine.store one.store two.store m.engine.events one.events two.events m.journal c.args.session c.args.request c.ask-reply.result c.self.invariant c.ready.ensures.store c.ready.ensures.events c.ask-reply.ensures.store c.ask-reply.ensures.reply c.ask-reply.ensures.events other in
-    subst (λ (o : Kept _). LeavesOnly d.moment d.left_since o.disk m.journal.disk (HasFirst two.store two.events o.acknowledged)) c.self.view_is
-    (started d.moment d.left_since m.journal.disk (HasFirst two.store two.events m.journal.progress.acknowledged) (λ image left. kept.each image (g.met.D.Disk.only_now m.journal.disk image left)))
-
-pub returns-then-ne-clause-images : goal.returns-then-ne-clause-images
-returns-then-ne-clause-images g c =
-    let d = g.D.Disk in
-    let m = c.self.inside in
-    let one = c.ready.new.self in
-    let two = c.ask-reply.new.self in
-    let other : (c.ask-reply.result ≡ Committed → ⊥) = search rules in
-    let kept = keeps_quiet d.seen d.may_leave m.engine.store one.store two.store m.engine.events one.events two.events m.journal c.args.session c.args.request c.ask-reply.result c.self.invariant c.ready.ensures.store c.ready.ensures.events c.ask-reply.ensures.store c.ask-reply.ensures.reply c.ask-reply.ensures.events other in
-    kept.each
-
-pub append-requires-clause-some : goal.append-requires-clause-some
-append-requires-clause-some g c =
-    let d = g.D.Disk in
-    let m = c.self.inside in
-    let one = c.ready.new.self in
-    let two = c.ask-reply.new.self in
-    let is : c.ask-reply.result ≡ Committed = search rules in
-    let commit = commits one.store m.engine.events one.events two.events c.args.session c.args.request c.ask-reply.result c.ready.ensures.events c.ask-reply.ensures.reply c.ask-reply.ensures.events is in
-    is_some m.engine.store m.engine.events two.events c.args.session c.args.request _ _ commit c.in_ok-body.ensures.body c.deref.ensures.value
-
-pub append-requires-clause-room : goal.append-requires-clause-room
-append-requires-clause-room g c =
-    let d = g.D.Disk in
-    let m = c.self.inside in
-    let one = c.ready.new.self in
-    let two = c.ask-reply.new.self in
-    let is : c.ask-reply.result ≡ Committed = search rules in
-    let commit = commits one.store m.engine.events one.events two.events c.args.session c.args.request c.ask-reply.result c.ready.ensures.events c.ask-reply.ensures.reply c.ask-reply.ensures.events is in
-    omega (arith, fits_in m.engine.store m.engine.events two.events c.args.session c.args.request _ _ commit c.in_ok-body.ensures.body c.deref.ensures.value c.left-left.result c.in_ok-body.ensures.fits, c.left-left.ensures)
-
-pub invariant_of-self-in-Ok : goal.invariant_of-self-in-Ok
-invariant_of-self-in-Ok g c =
-    let d = g.D.Disk in
-    let m = c.self.inside in
-    let one = c.ready.new.self in
-    let two = c.ask-reply.new.self in
-    let is : c.ask-reply.result ≡ Committed = search rules in
-    let commit = commits one.store m.engine.events one.events two.events c.args.session c.args.request c.ask-reply.result c.ready.ensures.events c.ask-reply.ensures.reply c.ask-reply.ensures.events is in
-    of_behind m.engine.store m.engine.events two.events c.args.session c.args.request _ _ commit c.in_ok-body.ensures.body c.deref.ensures.value d.seen d.may_leave two.store m.journal (λ (rs : List Record). Keeps d.seen d.may_leave rs c.append.new.self) (c.ask-reply.ensures.store ∙ c.ready.ensures.store) c.append.ensures.kept c.self.invariant
-
-pub returns-in-Ok-clause-all : goal.returns-in-Ok-clause-all
-returns-in-Ok-clause-all g c =
-    let d = g.D.Disk in
-    let m = c.self.inside in
-    let one = c.ready.new.self in
-    let two = c.ask-reply.new.self in
-    let is : c.ask-reply.result ≡ Committed = search rules in
-    let commit = commits one.store m.engine.events one.events two.events c.args.session c.args.request c.ask-reply.result c.ready.ensures.events c.ask-reply.ensures.reply c.ask-reply.ensures.events is in
-    all_acknowledged d.seen d.may_leave two.store two.events c.append.new.self (of_behind m.engine.store m.engine.events two.events c.args.session c.args.request _ _ commit c.in_ok-body.ensures.body c.deref.ensures.value d.seen d.may_leave two.store m.journal (λ (rs : List Record). Keeps d.seen d.may_leave rs c.append.new.self) (c.ask-reply.ensures.store ∙ c.ready.ensures.store) c.append.ensures.kept c.self.invariant)
-
-pub returns-in-Ok-clause-end : goal.returns-in-Ok-clause-end
-returns-in-Ok-clause-end g c =
-    let d = g.D.Disk in
-    let m = c.self.inside in
-    let one = c.ready.new.self in
-    let two = c.ask-reply.new.self in
-    let is : c.ask-reply.result ≡ Committed = search rules in
-    let commit = commits one.store m.engine.events one.events two.events c.args.session c.args.request c.ask-reply.result c.ready.ensures.events c.ask-reply.ensures.reply c.ask-reply.ensures.events is in
-    ends_behind d.seen d.may_leave two.store two.events c.append.new.self (of_behind m.engine.store m.engine.events two.events c.args.session c.args.request _ _ commit c.in_ok-body.ensures.body c.deref.ensures.value d.seen d.may_leave two.store m.journal (λ (rs : List Record). Keeps d.seen d.may_leave rs c.append.new.self) (c.ask-reply.ensures.store ∙ c.ready.ensures.store) c.append.ensures.kept c.self.invariant)
-
-pub returns-in-Ok-clause-any_moment : goal.returns-in-Ok-clause-any_moment
-returns-in-Ok-clause-any_moment g c =
-    let d = g.D.Disk in
-    let m = c.self.inside in
-    let one = c.ready.new.self in
-    let two = c.ask-reply.new.self in
-    let is : c.ask-reply.result ≡ Committed = search rules in
-    let commit = commits one.store m.engine.events one.events two.events c.args.session c.args.request c.ask-reply.result c.ready.ensures.events c.ask-reply.ensures.reply c.ask-reply.ensures.events is in
-    subst (λ (o : Kept _). LeavesOnly d.moment d.left_since o.disk c.append.new.self.disk (HasFirst two.store two.events o.acknowledged)) c.self.view_is
-    (of_behind m.engine.store m.engine.events two.events c.args.session c.args.request _ _ commit c.in_ok-body.ensures.body c.deref.ensures.value d.seen d.may_leave two.store m.journal (λ (rs : List Record). LeavesOnly d.moment d.left_since m.journal.disk c.append.new.self.disk (StandsFor m.journal.progress.acknowledged rs)) (c.ask-reply.ensures.store ∙ c.ready.ensures.store) c.append.ensures.any_moment c.self.invariant)
-
-pub returns-in-Ok-clause-images : goal.returns-in-Ok-clause-images
-returns-in-Ok-clause-images g c =
-    let d = g.D.Disk in
-    let m = c.self.inside in
-    let one = c.ready.new.self in
-    let two = c.ask-reply.new.self in
-    let is : c.ask-reply.result ≡ Committed = search rules in
-    let commit = commits one.store m.engine.events one.events two.events c.args.session c.args.request c.ask-reply.result c.ready.ensures.events c.ask-reply.ensures.reply c.ask-reply.ensures.events is in
-    (of_behind m.engine.store m.engine.events two.events c.args.session c.args.request _ _ commit c.in_ok-body.ensures.body c.deref.ensures.value d.seen d.may_leave two.store m.journal (λ (rs : List Record). Keeps d.seen d.may_leave rs c.append.new.self) (c.ask-reply.ensures.store ∙ c.ready.ensures.store) c.append.ensures.kept c.self.invariant).each
-
-pub invariant_of-self-2 : goal.invariant_of-self-2
-invariant_of-self-2 g c =
-    let d = g.D.Disk in
-    let m = c.self.inside in
-    let one = c.ready.new.self in
-    let two = c.ask-reply.new.self in
-    let is : c.ask-reply.result ≡ Committed = search rules in
-    let commit = commits one.store m.engine.events one.events two.events c.args.session c.args.request c.ask-reply.result c.ready.ensures.events c.ask-reply.ensures.reply c.ask-reply.ensures.events is in
-    of_behind m.engine.store m.engine.events two.events c.args.session c.args.request _ _ commit c.in_ok-body.ensures.body c.deref.ensures.value d.seen d.may_leave two.store m.journal (λ (rs : List Record). Keeps d.seen d.may_leave rs c.append.new.self) (c.ask-reply.ensures.store ∙ c.ready.ensures.store) c.append.ensures.kept c.self.invariant
+pub returns-clause-end : goal.returns-clause-end
+returns-clause-end g c =
+    ends_behind g.D.Disk.seen g.D.Disk.may_leave c.answered.new.engine.store c.answered.new.engine.events c.answered.new.journal c.answered.ensures.keeps
 
 pub returns-clause-any_moment : goal.returns-clause-any_moment
-returns-clause-any_moment g c =
-    let d = g.D.Disk in
-    let m = c.self.inside in
-    let one = c.ready.new.self in
-    let two = c.ask-reply.new.self in
-    let is : c.ask-reply.result ≡ Committed = search rules in
-    let commit = commits one.store m.engine.events one.events two.events c.args.session c.args.request c.ask-reply.result c.ready.ensures.events c.ask-reply.ensures.reply c.ask-reply.ensures.events is in
-    subst (λ (o : Kept _). LeavesOnly d.moment d.left_since o.disk c.append.new.self.disk (HasFirst two.store two.events o.acknowledged)) c.self.view_is
-    (of_behind m.engine.store m.engine.events two.events c.args.session c.args.request _ _ commit c.in_ok-body.ensures.body c.deref.ensures.value d.seen d.may_leave two.store m.journal (λ (rs : List Record). LeavesOnly d.moment d.left_since m.journal.disk c.append.new.self.disk (StandsFor m.journal.progress.acknowledged rs)) (c.ask-reply.ensures.store ∙ c.ready.ensures.store) c.append.ensures.any_moment c.self.invariant)
+returns-clause-any_moment g c = (did g c).any_moment
 
 pub returns-clause-images : goal.returns-clause-images
-returns-clause-images g c =
-    let d = g.D.Disk in
-    let m = c.self.inside in
-    let one = c.ready.new.self in
-    let two = c.ask-reply.new.self in
-    let is : c.ask-reply.result ≡ Committed = search rules in
-    let commit = commits one.store m.engine.events one.events two.events c.args.session c.args.request c.ask-reply.result c.ready.ensures.events c.ask-reply.ensures.reply c.ask-reply.ensures.events is in
-    (of_behind m.engine.store m.engine.events two.events c.args.session c.args.request _ _ commit c.in_ok-body.ensures.body c.deref.ensures.value d.seen d.may_leave two.store m.journal (λ (rs : List Record). Keeps d.seen d.may_leave rs c.append.new.self) (c.ask-reply.ensures.store ∙ c.ready.ensures.store) c.append.ensures.kept c.self.invariant).each
+returns-clause-images g c = c.answered.ensures.keeps.each
+
+pub returns-clause-acknowledged : goal.returns-clause-acknowledged
+returns-clause-acknowledged g c = acknowledges c.answered.result (did g c).effect
+
+pub returns-clause-others : goal.returns-clause-others
+returns-clause-others g c = acknowledges_none c.answered.result (did g c).effect
+
+pub returns-clause-not_asked : goal.returns-clause-not_asked
+returns-clause-not_asked g c = changes_at_fault c.answered.result (did g c).effect
+
+pub returns-clause-fault : goal.returns-clause-fault
+returns-clause-fault g c = fault_rose c.answered.result (did g c).effect
 
 pub returns-clause-not_added : goal.returns-clause-not_added
-returns-clause-not_added g c failed =
-    let d = g.D.Disk in
-    let m = c.self.inside in
-    let one = c.ready.new.self in
-    let two = c.ask-reply.new.self in
-    let is : c.ask-reply.result ≡ Committed = search rules in
-    let commit = commits one.store m.engine.events one.events two.events c.args.session c.args.request c.ask-reply.result c.ready.ensures.events c.ask-reply.ensures.reply c.ask-reply.ensures.events is in
-    subst (λ (o : Kept _). recovered (d.safe c.append.new.self.disk) ≡ Whole (records_of o.store.setup o.events)) c.self.view_is
-    (of_before m.engine.store m.engine.events two.events c.args.session c.args.request _ _ commit c.in_ok-body.ensures.body c.deref.ensures.value d.seen d.may_leave m.journal (λ (rs : List Record). recovered (d.safe c.append.new.self.disk) ≡ Whole rs) c.in-Err.ensures.not_added c.self.invariant)
+returns-clause-not_added g c = fault_adds_nothing c.answered.result (did g c).effect
+
+pub returns-clause-untouched : goal.returns-clause-untouched
+returns-clause-untouched g c = touches_none c.answered.result (did g c).effect
+
+pub returns-clause-counted : goal.returns-clause-counted
+returns-clause-counted g c = makes_four c.answered.result (did g c).effect
+
+pub returns-clause-written : goal.returns-clause-written
+returns-clause-written g c = writes_one_more c.answered.result (did g c).effect
+
+pub returns-clause-up_to : goal.returns-clause-up_to
+returns-clause-up_to g c = makes_few c.answered.result (did g c).effect
+
+pub returns-clause-sure : goal.returns-clause-sure
+returns-clause-sure g c = never_at_fault c.answered.result (did g c).effect
+
+pub returns-clause-fails : goal.returns-clause-fails
+returns-clause-fails g c = fails_at_commit c.answered.result (did g c).effect
+
+pub returns-clause-at_commit : goal.returns-clause-at_commit
+returns-clause-at_commit g c = fault_at_commit c.answered.result (did g c).effect (did g c).events
+
+pub returns-clause-goes_on : goal.returns-clause-goes_on
+returns-clause-goes_on g c = runs_on c.answered.result (did g c).effect (sym (ap (λ (o : Kept _). o.stopped) c.self.view_is) ∙ c.in_ok-body.ensures.runs)
+
+pub returns-clause-stopped : goal.returns-clause-stopped
+returns-clause-stopped g c is = let fault = is_fault errors.Stopped c.answered.result (did g c).effect is in absurd (cc)
+
+pub returns-clause-full : goal.returns-clause-full
+returns-clause-full g c is = let fault = is_fault errors.Full c.answered.result (did g c).effect is in absurd (cc)
