@@ -16,12 +16,9 @@ use Rattle.phase_api.specs.declared.facts.Facts.{Facts}
 use Rattle.phase_api.specs.FactsView.{IsOrderly, IsTyped, setup_of, events_of}
 use Rattle.hold_book.specs.declared.Hold.{Hold}
 use Rattle.hold_book.specs.Holders.{holds, hold_of, holds_in}
+use Rattle.hold_register.specs.Blockers.{in_the_way}
 use Rattle.hold_register.specs.Waits.{some_txn}
 use Rattle.hold_register.proofs.Orderly.{unfinished_begun}
-
--- an unfinished holder is in the way of t's access
-abbrev pub in_the_way : Setup → List Event → ℕ → ℕ → Bool → Hold → Bool
-in_the_way S H n t write h = (write || h.wrote) && meets S H n t h.txn.0
 
 -- the transaction of a hold that was found
 abbrev pub holder : Option Hold → Option Txn

@@ -1,2 +1,3 @@
+pub mod Blockers
 pub mod Registered
 pub mod Waits

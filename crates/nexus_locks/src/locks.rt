@@ -12,7 +12,7 @@ ghost use Rattle.hold_register.specs.Waits.{some_txn};
 ghost use Rattle.nexus_locks.specs.Standing.{LocksStand};
 
 use hold_book::Hold;
-use hold_register::{Register, wait_for};
+use hold_register::{Register, is_in_the_way, wait_for};
 use phase_api::{Control, Facts};
 use std::alloc::{AllocError, Global};
 use teb_history::Event;
@@ -56,7 +56,7 @@ impl Locks {
     {
         let node = self.register.node();
         for hold in self.holds(facts, cell) {
-            if (write || hold.wrote) && facts.meet_at(node, t, hold.txn) {
+            if is_in_the_way(facts, node, t, hold, write) {
                 return Some(hold.txn);
             }
         }

@@ -14,7 +14,8 @@ use Rattle.teb_rules.specs.Serializes.{In}
 use Rattle.teb_laws.proofs.AscendingNumbers.{number, txns_ascending, above_in}
 use Rattle.hold_book.specs.declared.Hold.{Hold}
 use Rattle.hold_book.specs.Holders.{holds, hold_of, holds_in}
-use Rattle.hold_register.proofs.Blockers.{in_the_way, blocks_holds, blocks_held}
+use Rattle.hold_register.specs.Blockers.{in_the_way}
+use Rattle.hold_register.proofs.Blockers.{blocks_holds, blocks_held}
 use Rattle.runtime_pipeline.specs.Predecessors.{numbered, is_ahead, before_in, unfinished_in, joined, without}
 
 -- the transactions of numbers that ascend

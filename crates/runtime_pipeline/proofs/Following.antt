@@ -27,7 +27,7 @@ use Rattle.phase_api.specs.FactsView.{IsOrderly}
 use Rattle.phase_api.specs.Calls.{MayNote}
 use Rattle.hold_book.specs.Holders.{holds_in}
 use Rattle.hold_register.proofs.Orderly.{unfinished_begun, new_accesses_none}
-use Rattle.hold_register.proofs.Blockers.{in_the_way}
+use Rattle.hold_register.specs.Blockers.{in_the_way}
 use Rattle.dependency_book.specs.Dependencies.{has}
 use Rattle.dependency_book.proofs.MultimapEdits.{one_txn}
 use Rattle.runtime_pipeline.specs.Predecessors.{Kept, numbered, is_ahead, before_in, unfinished_in, list_of, joined, without, EndsFollow, PredecessorsOf}

@@ -22,7 +22,8 @@ use Rattle.hold_book.specs.declared.Hold.{Hold}
 use Rattle.hold_book.specs.Holders.{holds_in}
 use Rattle.hold_register.specs.Waits.{some_txn, wait_for_txn}
 use Rattle.hold_register.proofs.Orderly.{unfinished_begun}
-use Rattle.hold_register.proofs.Blockers.{in_the_way, holder, blocks_holds, blocks_held, register_finds}
+use Rattle.hold_register.specs.Blockers.{in_the_way}
+use Rattle.hold_register.proofs.Blockers.{holder, blocks_holds, blocks_held, register_finds}
 use Rattle.cursor_book.specs.Cursors.{CursorsOf}
 use Rattle.cursor_book.proofs.Moves.{length-cursors}
 use Rattle.runtime_pipeline.specs.Predecessors.{numbered, is_ahead, before_in}

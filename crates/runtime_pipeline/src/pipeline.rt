@@ -18,7 +18,7 @@ use crate::node_ranks::NodeRanks;
 use crate::predecessors::Predecessors;
 use cursor_book::Cursors;
 use hold_book::Hold;
-use hold_register::{Register, wait_for};
+use hold_register::{Register, is_in_the_way, wait_for};
 use phase_api::{Control, Facts};
 use std::alloc::{AllocError, Global};
 use teb_history::Event;
@@ -138,8 +138,7 @@ impl Pipeline {
         let rank = self.ranks.rank(cell.table);
         let node = self.register.node();
         for hold in self.holds(facts, cell) {
-            if (write || hold.wrote)
-                && facts.meet_at(node, t, hold.txn)
+            if is_in_the_way(facts, node, t, hold, write)
                 && !self.has_passed(facts, hold.txn, rank)
             {
                 return Some(hold.txn);

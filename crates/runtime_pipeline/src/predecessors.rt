@@ -1,15 +1,15 @@
 //! Who is ahead of whom at a node, kept event by event.
 
-ghost use Rattle.std.specs.Prelude.{◌≡◌, ◌<◌, ◌≤◌, ◌+◌, ◌++◌, ◌∷◌, ◌&&◌, ◌||◌, ℕ, [], cond, drop, eqb, get_or, length, OnOk};
+ghost use Rattle.std.specs.Prelude.{◌≡◌, ◌<◌, ◌≤◌, ◌+◌, ◌++◌, ◌∷◌, ℕ, [], cond, drop, eqb, get_or, length, OnOk};
 ghost use Rattle.teb_names.specs.declared.Txn.{Txn};
 ghost use Rattle.teb_history.specs.declared.Event.{Event};
 ghost use Rattle.teb_history.specs.Ascending.{IsAscendingBy};
 ghost use Rattle.teb_history.specs.Live.{number_of};
 ghost use Rattle.teb_rules.specs.Setup.{Setup};
-ghost use Rattle.teb_rules.specs.Tree.{meets};
 ghost use Rattle.phase_api.specs.FactsView.{setup_of, events_of, IsOrderly, IsTyped};
 ghost use Rattle.phase_api.specs.Calls.{IsNewest};
 ghost use Rattle.hold_book.specs.declared.Hold.{Hold};
+ghost use Rattle.hold_register.specs.Blockers.{in_the_way};
 ghost use Rattle.hold_register.specs.Registered.{Registered};
 ghost use Rattle.sorted_multimap.specs.Multimap.{values_in};
 ghost use Rattle.sorted_multimap.specs.Keys.{txn_cmp};
@@ -17,7 +17,7 @@ ghost use Rattle.dependency_book.specs.Dependencies.{has};
 ghost use Rattle.runtime_pipeline.specs.Predecessors.{PredecessorsOf, joined, list_of, without};
 
 use hold_book::Hold;
-use hold_register::Register;
+use hold_register::{Register, is_in_the_way};
 use phase_api::Facts;
 use sorted_multimap::{Multimap, clear_txn};
 use std::alloc::{AllocError, Global};
@@ -139,7 +139,7 @@ impl Predecessors {
         requires ascending { IsAscendingBy number_of (list_of self.old t) }
         requires typed { IsTyped facts.now t.0 }
         requires holders { (i : ℕ) (d : Hold) → i < length holds.now → IsTyped facts.now (get_or holds.now i d).txn.0 }
-        ensures lists { (v : Txn) → list_of self.new v ≡ cond (eqb t.0 v.0) (joined (λ h. (write || h.wrote) && meets (setup_of facts.now) (events_of facts.now) node.0 t.0 h.txn.0) holds.now (list_of self.old v)) (list_of self.old v) }
+        ensures lists { (v : Txn) → list_of self.new v ≡ cond (eqb t.0 v.0) (joined (in_the_way (setup_of facts.now) (events_of facts.now) node.0 t.0 write) holds.now (list_of self.old v)) (list_of self.old v) }
         ensures unfinished { self.new.unfinished ≡ self.old.unfinished }
         ensures spare { self.old.spare ≤ self.new.spare + 1 }
     {
@@ -175,7 +175,7 @@ fn put_holders(
     requires ascending { IsAscendingBy number_of (values_in txn_cmp lists.old t) }
     requires typed { IsTyped facts.now t.0 }
     requires holders { (i : ℕ) (d : Hold) → i < length holds.now → IsTyped facts.now (get_or holds.now i d).txn.0 }
-    ensures values { (v : Txn) → values_in txn_cmp lists.new v ≡ cond (eqb t.0 v.0) (joined (λ h. (write || h.wrote) && meets (setup_of facts.now) (events_of facts.now) node.0 t.0 h.txn.0) holds.now (values_in txn_cmp lists.old v)) (values_in txn_cmp lists.old v) }
+    ensures values { (v : Txn) → values_in txn_cmp lists.new v ≡ cond (eqb t.0 v.0) (joined (in_the_way (setup_of facts.now) (events_of facts.now) node.0 t.0 write) holds.now (values_in txn_cmp lists.old v)) (values_in txn_cmp lists.old v) }
     ensures spare { lists.old.spare ≤ lists.new.spare + length holds.now }
 {
     for hold in holds {
@@ -183,18 +183,6 @@ fn put_holders(
             lists.put_by_number(t, hold.txn);
         }
     }
-}
-
-// Whether a holder is in the way of t's read, or its write, of the cell. Its own hold never is.
-fn is_in_the_way(facts: &Facts, node: Node, t: Txn, hold: &Hold, write: bool) -> bool
-    requires typed { IsTyped facts.now t.0 }
-    requires holder { IsTyped facts.now hold.now.txn.0 }
-    ensures { result ≡ ((write || hold.now.wrote) && meets (setup_of facts.now) (events_of facts.now) node.0 t.0 hold.now.txn.0) }
-{
-    if hold.txn == t {
-        return false;
-    }
-    (write || hold.wrote) && facts.meet_at(node, t, hold.txn)
 }
 
 // Takes t out of the lists of some.

@@ -1,8 +1,8 @@
-use Rattle.std.proofs.Common.{◌∙◌, ◌||◌, ◌&&◌, ◌+◌, ◌≡◌, ◌≤◌, ℕ, Bool, List, cond, true, false, get_or, refl, sym, subst, drop, arith}
-use Rattle.teb_rules.specs.Tree.{meets}
+use Rattle.std.proofs.Common.{◌∙◌, ◌+◌, ◌≡◌, ◌≤◌, ℕ, Bool, List, cond, true, false, get_or, refl, sym, subst, drop, arith}
 use Rattle.phase_api.specs.FactsView.{setup_of, events_of}
 use Rattle.teb_names.specs.declared.Txn.{Txn}
 use Rattle.hold_book.specs.declared.Hold.{Hold}
+use Rattle.hold_register.specs.Blockers.{in_the_way}
 use Rattle.teb_history.specs.Ascending.{put_by}
 use Rattle.teb_history.specs.Live.{number_of}
 use Rattle.sorted_multimap.specs.Multimap.{Shown, values_in}
@@ -18,7 +18,7 @@ one_more a b false e = omega arith
 
 pub loop-hold-preserved : goal.loop-hold-preserved
 loop-hold-preserved c =
-    let p = λ (h : Hold). (c.args.write || h.wrote) && meets (setup_of c.args.facts.now) (events_of c.args.facts.now) c.args.node.0 c.args.t.0 h.txn.0 in
+    let p = in_the_way (setup_of c.args.facts.now) (events_of c.args.facts.now) c.args.node.0 c.args.t.0 c.args.write in
     let d : Hold = record { txn = record { 0 = 0 }; wrote = false } in
     let i = c.loop-hold.hold-index in
     let hs = c.args.holds.now in

@@ -1,6 +1,6 @@
 use Rattle.std.proofs.Common.{◌≡◌, drop, find}
 use Rattle.phase_api.specs.FactsView.{setup_of, events_of}
-use Rattle.hold_register.proofs.Blockers.{in_the_way}
+use Rattle.hold_register.specs.Blockers.{in_the_way}
 use Rattle.nexus_locks.proofs.locks.Locks.blocker.Given as goal
 
 abbrev pub invariant-loop-hold : goal.invariant-loop-hold

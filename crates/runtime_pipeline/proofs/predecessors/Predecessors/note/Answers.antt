@@ -3,7 +3,8 @@ use Rattle.teb_names.specs.declared.Node.{Node}
 use Rattle.phase_api.specs.FactsView.{setup_of, events_of}
 use Rattle.hold_book.specs.declared.Hold.{Hold}
 use Rattle.hold_register.proofs.Noting.{accessor_begun, writer_begun, typed_now}
-use Rattle.hold_register.proofs.Blockers.{in_the_way, held_typed}
+use Rattle.hold_register.specs.Blockers.{in_the_way}
+use Rattle.hold_register.proofs.Blockers.{held_typed}
 use Rattle.runtime_pipeline.specs.Predecessors.{joined, list_of}
 use Rattle.runtime_pipeline.proofs.Following.{lists_ascend, began_next, ready_next, end_next, got_next, put_next, got_few, put_few}
 use Rattle.runtime_pipeline.proofs.predecessors.Predecessors.note.Goals as goal

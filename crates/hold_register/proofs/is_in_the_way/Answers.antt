@@ -5,7 +5,7 @@ use Rattle.teb_rules.specs.Setup.{Setup}
 use Rattle.teb_rules.specs.Tree.{meets, side}
 use Rattle.teb_laws.proofs.Nodes.{meets_parts}
 use Rattle.phase_api.specs.FactsView.{setup_of, events_of}
-use Rattle.runtime_pipeline.proofs.predecessors.is_in_the_way.Goals as goal
+use Rattle.hold_register.proofs.is_in_the_way.Goals as goal
 
 -- nobody meets itself
 apart : (S : Setup) (H : List Event) (n t u : ℕ) → eqb u t ≡ true → meets S H n t u ≡ false
