@@ -17,10 +17,9 @@ use Rattle.teb_laws.proofs.Timeline.{kind-lt}
 use Rattle.teb_laws.proofs.Within.{path-below}
 use Rattle.phase_api.specs.declared.facts.Facts.{Facts}
 use Rattle.phase_api.specs.FactsView.{setup_of, events_of, IsTyped}
-use Rattle.dependency_book.specs.Dependencies.{all_sources}
-use Rattle.dependency_book.specs.Books.{Lists, BookOf, sources_in}
+use Rattle.dependency_book.specs.Dependencies.{Orderly, all_sources}
 use Rattle.dependency_book.proofs.OrderlyHistories.{unfinished_parts, known}
-use Rattle.dependency_book.proofs.Sources.{has_source, sources_ascend, sources_standing, find_least, find_absent}
+use Rattle.dependency_book.proofs.Sources.{has_source, sources_ascend, find_least, find_absent}
 use Rattle.teb_history.proofs.LeastNumbers.{numbers_find, none_below, lesser, find_either}
 use Rattle.commit_gate.specs.Ways.{IsWay, first_wait}
 
@@ -45,7 +44,7 @@ stopped Go w h = absurd (h refl)
 stopped (Wait u) w h = refl
 stopped (Break b) w h = refl
 
-module _ (S : Setup) (H : List Event) (n : ℕ) (t : Txn) (b : Lists) (is : BookOf b H) (now : unfinished H t.0 ≡ true) where
+module _ (S : Setup) (H : List Event) (n : ℕ) (t : Txn) (orderly : Orderly H) where
   abbrev Waits : ℕ → Bool
   Waits u = unfinished H u && meets S H n t.0 u && read_from H t.0 u
 
@@ -58,7 +57,7 @@ module _ (S : Setup) (H : List Event) (n : ℕ) (t : Txn) (b : Lists) (is : Book
       let least = find_least Meets (all_sources H t) w (sources_ascend H t) h in
       let read = and_parts (ltb 0 w.0) (read_from H t.0 w.0) (sym (has_source H t w) ∙ least.there) in
       let un = (and_parts (unfinished H w.0) (meets S H n t.0 w.0) least.passes).0 in
-      numbers_find Waits (begun_count H) w.0 (ltb-true 0 w.0 read.0) ((known H w.0 is.orderly).begins (unfinished_parts H w.0 un).0) ((λ j. least.passes j && read.1 j))
+      numbers_find Waits (begun_count H) w.0 (ltb-true 0 w.0 read.0) ((known H w.0 orderly).begins (unfinished_parts H w.0 un).0) ((λ j. least.passes j && read.1 j))
       (λ v p lt. unmet v (λ r. least.lower (record { 0 = v }) lt (has_source H t (record { 0 = v }) ∙ (λ j. lt-ltb 0 v p j && r j))))
     where
       unmet : (v : ℕ) → (read_from H t.0 v ≡ true → (unfinished H v && meets S H n t.0 v) ≡ false) → (unfinished H v && meets S H n t.0 v && read_from H t.0 v) ≡ false
@@ -92,10 +91,9 @@ module _ (S : Setup) (H : List Event) (n : ℕ) (t : Txn) (b : Lists) (is : Book
           go true f = on_true (unfinished H v && meets S H n t.0 v) ∙ f refl
           go false f = off (unfinished H v && meets S H n t.0 v)
 
-  pub commit_waits : (g : ℕ → Bool) → first_wait (wait_for (find g (txns H))) (find (λ w. unfinished H w.0 && meets S H n t.0 w.0) (sources_in b t)) ≡ wait_for (find (λ u. g u || (unfinished H u && meets S H n t.0 u && read_from H t.0 u)) (txns H))
+  pub commit_waits : (sources : List Txn) → sources ≡ all_sources H t → (g : ℕ → Bool) → first_wait (wait_for (find g (txns H))) (find (λ w. unfinished H w.0 && meets S H n t.0 w.0) sources) ≡ wait_for (find (λ u. g u || (unfinished H u && meets S H n t.0 u && read_from H t.0 u)) (txns H))
   unfolding txns
-  commit_waits g =
-      let listed : sources_in b t ≡ all_sources H t = is.sources t ∙ sources_standing H t (unfinished_parts H t.0 now).2 in
+  commit_waits sources listed g =
       let found = source_find (find (λ w. unfinished H w.0 && meets S H n t.0 w.0) (all_sources H t)) refl in
       ap (λ (ts : List Txn). first_wait (wait_for (find g (txns H))) (find (λ w. unfinished H w.0 && meets S H n t.0 w.0) ts)) listed
       ∙ waits_merge (find g (txns H)) (find (λ w. unfinished H w.0 && meets S H n t.0 w.0) (all_sources H t))

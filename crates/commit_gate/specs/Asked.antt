@@ -1,5 +1,6 @@
 -- What is known where a Commit is asked for.
-use Rattle.std.specs.Prelude.{ℕ, List, IsTrue}
+use Rattle.std.specs.Prelude.{◌≡◌, ℕ, List, IsTrue}
+use Rattle.teb_names.specs.declared.Txn.{Txn}
 use Rattle.teb_history.specs.declared.Event.{Event}
 use Rattle.teb_history.specs.Phases.{unfinished}
 use Rattle.teb_rules.specs.Setup.{Setup}
@@ -8,12 +9,13 @@ use Rattle.teb_laws.specs.Lawful.{Lawful}
 use Rattle.phase_api.specs.declared.facts.Facts.{Facts}
 use Rattle.phase_api.specs.Standing.{StandAll}
 use Rattle.phase_api.specs.FactsView.{setup_of, events_of}
-use Rattle.dependency_book.specs.Books.{Lists, BookOf}
+use Rattle.dependency_book.specs.Dependencies.{Orderly, all_sources}
 
--- the setup is sound and the history lawful, each control and the book stand for them, and t is unfinished
-pub record IsAsked {K : Type 0} (node_number : K → ℕ) (stands : K → Setup → List Event → Type 0) (all : List K) (lists : Lists) (f : Facts) (t : ℕ) : Type 0 where
+-- the setup is sound and the history lawful, each control stands for them, and t is unfinished and read from the sources
+pub record IsAsked {K : Type 0} (node_number : K → ℕ) (stands : K → Setup → List Event → Type 0) (all : List K) (sources : List Txn) (f : Facts) (t : ℕ) : Type 0 where
   pub tree : IsSound (setup_of f)
   pub lawful : Lawful (setup_of f) (events_of f)
   pub controls : StandAll node_number stands all (setup_of f) (events_of f)
-  pub book : BookOf lists (events_of f)
+  pub orderly : Orderly (events_of f)
+  pub read_from : sources ≡ all_sources (events_of f) (record { 0 = t })
   pub unfinished : IsTrue (unfinished (events_of f) t)

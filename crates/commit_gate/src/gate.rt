@@ -30,21 +30,27 @@ pub fn may_commit<K: Control>(controls: &[K], book: &Book, facts: &Facts, t: Txn
     ensures { result ≡ commit_stop (setup_of facts.now) (events_of facts.now) t.0 }
 {
     match facts.spot(t) {
-        Some(spot) => stop_along(facts.tree.path(spot), controls, book, facts, t),
+        Some(spot) => stop_along(facts.tree.path(spot), controls, book.read_from(t), facts, t),
         None => unreachable!(),
     }
 }
 
-// The stop along the nodes of a way down.
+// The stop along the nodes of a way down, of a transaction that read from the sources.
 #[tactic(auto, unfolding(teb_rules::specs::Stops::stop_of))]
-fn stop_along<K: Control>(way: &[Node], controls: &[K], book: &Book, facts: &Facts, t: Txn) -> Stop
-    requires asked { IsAsked K.node_number K.stands controls.now book.now.lists facts.now t.0 }
+fn stop_along<K: Control>(
+    way: &[Node],
+    controls: &[K],
+    sources: &[Txn],
+    facts: &Facts,
+    t: Txn,
+) -> Stop
+    requires asked { IsAsked K.node_number K.stands controls.now sources.now facts.now t.0 }
     requires way { IsWay facts.now t.0 (node_numbers way.now) }
     ensures { result ≡ stop_of (on_commit (setup_of facts.now) (events_of facts.now) t.0) (node_numbers way.now) }
 {
     match way {
-        [n, rest @ ..] => match verdict_at(controls, book, facts, *n, t) {
-            Verdict::Go => stop_along(rest, controls, book, facts, t),
+        [n, rest @ ..] => match verdict_at(controls, sources, facts, *n, t) {
+            Verdict::Go => stop_along(rest, controls, sources, facts, t),
             Verdict::Wait(who) => Stop::Wait { who, node: *n },
             Verdict::Break(broken) => Stop::Break { node: *n, broken },
         },
@@ -53,8 +59,14 @@ fn stop_along<K: Control>(way: &[Node], controls: &[K], book: &Book, facts: &Fac
 }
 
 // What one node of t's path says.
-fn verdict_at<K: Control>(controls: &[K], book: &Book, facts: &Facts, n: Node, t: Txn) -> Verdict
-    requires asked { IsAsked K.node_number K.stands controls.now book.now.lists facts.now t.0 }
+fn verdict_at<K: Control>(
+    controls: &[K],
+    sources: &[Txn],
+    facts: &Facts,
+    n: Node,
+    t: Txn,
+) -> Verdict
+    requires asked { IsAsked K.node_number K.stands controls.now sources.now facts.now t.0 }
     requires node { n.0 < length facts.now.tree.now.rows }
     requires here { IsHere facts.now n.0 t.0 }
     ensures { result ≡ on_commit (setup_of facts.now) (events_of facts.now) t.0 n.0 }
@@ -63,7 +75,7 @@ fn verdict_at<K: Control>(controls: &[K], book: &Book, facts: &Facts, n: Node, t
     match control.validate(facts, t) {
         Verdict::Go => first_of(
             control.gate(facts, t),
-            unfinished_source(book.read_from(t), facts, n, t),
+            unfinished_source(sources, facts, n, t),
         ),
         stopped => stopped,
     }

@@ -1,5 +1,4 @@
-use Rattle.std.proofs.Common.{◌≡◌, ℕ, ◌∙◌, ◌&&◌, ◌||◌, sym, ap, find, List}
-use Rattle.teb_names.specs.declared.Txn.{Txn}
+use Rattle.std.proofs.Common.{◌≡◌, ℕ, ◌∙◌, ◌&&◌, ◌||◌, sym, ap, find}
 use Rattle.teb_history.specs.Phases.{txns, unfinished}
 use Rattle.teb_history.specs.Accesses.{read_from}
 use Rattle.teb_rules.specs.Tree.{row, meets}
@@ -22,9 +21,9 @@ returns-in-Go g c =
     let at = c.control_at-control.ensures.node_number in
     let valid : validate (row S.tree n).control S H n t.0 ≡ c.validate.result = sym (c.validate.ensures ∙ ap (λ (m : ℕ). validate (row S.tree m).control S H m t.0) at) in
     let named = c.gate.ensures ∙ ap (λ (m : ℕ). wait_for (find (gate (row S.tree m).control S H m t.0) (txns H))) at in
-    let source = c.unfinished_source.ensures ∙ ap (λ (l : List Txn). find (λ w. unfinished H w.0 && meets S H n t.0 w.0) l) c.read_from.ensures in
+    let source = c.unfinished_source.ensures in
     c.first_of.ensures ∙ (λ j. first_wait (named j) (source j))
-    ∙ commit_waits S H n t c.args.book.now.lists c.requires.asked.book c.requires.asked.unfinished (gate (row S.tree n).control S H n t.0)
+    ∙ commit_waits S H n t c.requires.asked.orderly c.args.sources.now c.requires.asked.read_from (gate (row S.tree n).control S H n t.0)
     ∙ sym (ap (λ (v : Verdict). or_else v (wait_for (find (λ u. gate (row S.tree n).control S H n t.0 u || (unfinished H u && meets S H n t.0 u && read_from H t.0 u)) (txns H)))) (valid ∙ c.in-Go.is))
 
 pub returns-in_default : goal.returns-in_default
