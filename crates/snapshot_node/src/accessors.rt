@@ -7,7 +7,7 @@ ghost use Rattle.teb_history.specs.Accesses.{got, wrote};
 ghost use Rattle.snapshot_node.specs.Accessors.{is_accessor, AreFiled};
 
 use sorted_multimap::Multimap;
-use teb_history::{Event, History, find_txn};
+use teb_history::{Event, History};
 use teb_names::{Cell, Txn};
 
 /// Puts a transaction among the accessors of a cell, in ascending number, unless it is there. It takes one place of the room at
@@ -19,9 +19,7 @@ pub(crate) fn put_in(accessors: &mut Multimap<Cell, Txn>, cell: Cell, t: Txn)
     ensures accessors { (x : Cell) (u : ℕ) → is_accessor accessors.new x u ≡ (is_accessor accessors.old x u || (same_cell cell x && eqb t.0 u)) }
     ensures spare { accessors.old.spare ≤ accessors.new.spare + 1 }
 {
-    if let Err(i) = find_txn(accessors.list(cell), t) {
-        accessors.put(cell, i, t);
-    }
+    accessors.put_by_number(cell, t);
 }
 
 /// Takes a transaction out from among the accessors of a cell, where it is there. The room stays.
@@ -31,9 +29,7 @@ fn take_out(accessors: &mut Multimap<Cell, Txn>, cell: Cell, t: Txn)
     ensures accessors { (x : Cell) (u : ℕ) → is_accessor accessors.new x u ≡ (is_accessor accessors.old x u && not (same_cell cell x && eqb t.0 u)) }
     ensures spare { accessors.new.spare ≡ accessors.old.spare }
 {
-    if let Ok(i) = find_txn(accessors.list(cell), t) {
-        accessors.take(cell, i);
-    }
+    accessors.take_by_number(cell, t.0);
 }
 
 /// A transaction aborts: it is no reader of a cell that it has read. The room stays.
