@@ -84,6 +84,23 @@ first_more R ks k i n l at off f j d lt = elim (eqb_tells j n) [
   | inr (miss, other) ↦ f j d (omega arith)
 ]
 
+-- the first n keys are below k
+abbrev pub FirstLow : {K : Type 0} → (K → K → Ordering) → List K → K → ℕ → Type 0
+FirstLow {K} R ks k n = (j : ℕ) (d : K) → j < n → is_lt (R (get_or ks j d) k) ≡ true
+
+pub low_none : {K : Type 0} (R : K → K → Ordering) (ks : List K) (k : K) → FirstLow R ks k 0
+low_none R ks k j d l = absurd (omega arith)
+
+-- and so is the next
+pub low_more : {K : Type 0} (R : K → K → Ordering) (ks : List K) (k i : K) (n : ℕ) → n < length ks → i ≡ get_or ks n i → is_lt (R i k) ≡ true → FirstLow R ks k n → FirstLow R ks k (n + 1)
+low_more R ks k i n l at on f j d lt = elim (eqb_tells j n) [
+  | inl (hit, same) ↦ ap (λ x. is_lt (R x k)) (ap (λ m. get_or ks m d) same ∙ get_or_default ks n d i l ∙ sym at) ∙ on
+  | inr (miss, other) ↦ f j d (omega arith)
+]
+
+pub low_all : {K : Type 0} (R : K → K → Ordering) (ks : List K) (k : K) (n : ℕ) → n ≡ length ks → FirstLow R ks k n → n ≡ lows R ks k
+low_all R ks k n e f = passing_parted (λ j. is_lt (R j k)) ks n (omega arith) ((λ j d le lt. f j d lt), (λ j d le lt. absurd (omega arith)))
+
 module _ {K : Type 0} (R : K → K → Ordering) (total : IsTotalOrder R) where
   -- a test that passes what is not above one that passes
   abbrev pub Falls : (K → Bool) → Type 0
@@ -121,6 +138,18 @@ module _ {K : Type 0} (R : K → K → Ordering) (total : IsTotalOrder R) where
         (λ j d le lt. f j d lt),
         (λ j d le lt. elim (cases_Bool (p (get_or ks j d))) [
           | inl e ↦ absurd (clash _ (parted p (tops_fall k) ks a n j d le lt e) (ap p (get_or_default ks n d i l ∙ sym at) ∙ ap not on))
+          | inr e ↦ e
+        ]),
+      )
+
+  -- where the first n keys are below k, and the next is not
+  pub low_ends : (ks : List K) (k i : K) (n : ℕ) → Ascends R ks → n < length ks → i ≡ get_or ks n i → is_lt (R i k) ≡ false → FirstLow R ks k n → n ≡ lows R ks k
+  low_ends ks k i n a l at off f =
+      let p = λ (j : K). is_lt (R j k) in
+      passing_parted p ks n (omega arith) (
+        (λ j d le lt. f j d lt),
+        (λ j d le lt. elim (cases_Bool (p (get_or ks j d))) [
+          | inl e ↦ absurd (clash _ (parted p (lows_fall k) ks a n j d le lt e) (ap p (get_or_default ks n d i l ∙ sym at) ∙ off))
           | inr e ↦ e
         ]),
       )

@@ -14,6 +14,9 @@ use vec_room::put_in;
 /// How many keys a search for the end of a run looks at by themselves.
 const NEAR: usize = 4;
 
+/// How many keys a search for the start of a run looks at one after the other.
+const FEW: usize = 8;
+
 /// Values, each beside its key.
 #[derive(Drop)]
 pub(crate) struct Bucket<K, V> {
@@ -182,8 +185,27 @@ fn cut<T: Copy>(v: &mut Vec<T>, start: usize, end: usize)
     v.truncate(v.len() - (end - start));
 }
 
-/// Where the keys from a key on begin.
+/// Where the keys from a key on begin. A few are looked at one after the other.
+#[inline(always)]
 fn first<K: Ord + Copy>(keys: &[K], key: K) -> usize
+    requires { Ascends K.cmp keys.now }
+    ensures at { result ≡ lows K.cmp keys.now key }
+    ensures low { result ≤ tops K.cmp keys.now key }
+    ensures within { result ≤ length keys.now }
+{
+    if keys.len() > FEW {
+        return search_first(keys, key);
+    }
+    for i in 0..keys.len() {
+        if keys[i].cmp(&key) != Ordering::Less {
+            return i;
+        }
+    }
+    keys.len()
+}
+
+/// Where the keys from a key on begin, by a binary search.
+fn search_first<K: Ord + Copy>(keys: &[K], key: K) -> usize
     requires { Ascends K.cmp keys.now }
     ensures at { result ≡ lows K.cmp keys.now key }
     ensures low { result ≤ tops K.cmp keys.now key }
@@ -224,6 +246,7 @@ fn behind<K: Ord + Copy>(keys: &[K], key: K) -> usize
 }
 
 /// Where the keys above a key begin, from where that key begins. Most keys have few values: the first places are searched by themselves.
+#[inline(always)]
 fn end_from<K: Ord + Copy>(keys: &[K], start: usize, key: K) -> usize
     requires ascends { Ascends K.cmp keys.now }
     requires start { start ≡ lows K.cmp keys.now key }
@@ -235,6 +258,7 @@ fn end_from<K: Ord + Copy>(keys: &[K], start: usize, key: K) -> usize
 }
 
 /// How many of the first keys are not above a key.
+#[inline(always)]
 fn run_of<K: Ord + Copy>(keys: &[K], key: K) -> usize
     requires { Ascends K.cmp keys.now }
     ensures at { result ≡ tops K.cmp keys.now key }

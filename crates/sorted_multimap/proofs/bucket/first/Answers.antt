@@ -1,22 +1,32 @@
-use Rattle.std.proofs.Common.{arith, rules}
+use Rattle.std.proofs.Common.{◌≡◌, ◌<◌, false, true, length, refl, arith, rules}
 use Rattle.std.specs.Ordering.{is_lt}
-use Rattle.std.proofs.lemmas.List.Sorted.{IsPartitionPoint-from_clause}
-use Rattle.sorted_multimap.proofs.SortedEntries.{parted, lows_fall, passing_parted, lows_tops}
+use Rattle.sorted_multimap.proofs.SortedEntries.{low_none, low_more, low_ends, low_all, lows_tops}
 use Rattle.sorted_multimap.proofs.bucket.first.Goals as goal
 
-pub returns-clause-at : goal.returns-clause-at
-returns-clause-at g c =
+pub loop-i-init : goal.loop-i-init
+loop-i-init g c = low_none g.K.Ord.cmp c.args.keys.now c.args.key
+
+pub loop-i-preserved : goal.loop-i-preserved
+loop-i-preserved g c =
     let R = g.K.Ord.cmp in
-    let total = g.met.K.Ord.total in
-    let at = c.partition_point.ensures in
-    let p = λ (j : _). is_lt (R j c.args.key) in
-    passing_parted p c.args.keys.now c.partition_point.result at.bound (IsPartitionPoint-from_clause p c.args.keys.now c.partition_point.result at.partitioned (parted R total p (lows_fall R total c.args.key) c.args.keys.now c.requires) (λ a r f called. search rules))
+    let ks = c.args.keys.now in
+    let l : c.loop-i.i < length ks = omega (arith, c.loop-i-test.true) in
+    let below : is_lt (R c.index-keys-i.result c.args.key) ≡ true = search rules in
+    low_more R ks c.args.key c.index-keys-i.result c.loop-i.i l (search rules) below c.loop-i.invariant
+
+pub returns-then-ne-clause-at : goal.returns-then-ne-clause-at
+returns-then-ne-clause-at g c =
+    let R = g.K.Ord.cmp in
+    let ks = c.args.keys.now in
+    let l : c.loop-i.i < length ks = omega (arith, c.loop-i-test.true) in
+    let off : is_lt (R c.index-keys-i.result c.args.key) ≡ false = search rules in
+    low_ends R g.met.K.Ord.total ks c.args.key c.index-keys-i.result c.loop-i.i c.requires l (search rules) off c.loop-i.invariant
+
+pub returns-then-ne-clause-low : goal.returns-then-ne-clause-low
+returns-then-ne-clause-low g c = omega (arith, returns-then-ne-clause-at g c, lows_tops g.K.Ord.cmp g.met.K.Ord.total c.args.keys.now c.args.key c.requires)
+
+pub returns-clause-at : goal.returns-clause-at
+returns-clause-at g c = low_all g.K.Ord.cmp c.args.keys.now c.args.key (length c.args.keys.now) refl (λ j d l. c.loop-i.invariant j d (omega (arith, c.loop-i-test.false)))
 
 pub returns-clause-low : goal.returns-clause-low
-returns-clause-low g c =
-    let R = g.K.Ord.cmp in
-    let total = g.met.K.Ord.total in
-    let at = c.partition_point.ensures in
-    let p = λ (j : _). is_lt (R j c.args.key) in
-    let e = passing_parted p c.args.keys.now c.partition_point.result at.bound (IsPartitionPoint-from_clause p c.args.keys.now c.partition_point.result at.partitioned (parted R total p (lows_fall R total c.args.key) c.args.keys.now c.requires) (λ a r f called. search rules)) in
-    omega (arith, e, lows_tops R total c.args.keys.now c.args.key c.requires)
+returns-clause-low g c = omega (arith, returns-clause-at g c, lows_tops g.K.Ord.cmp g.met.K.Ord.total c.args.keys.now c.args.key c.requires)
