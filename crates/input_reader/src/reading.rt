@@ -6,7 +6,7 @@ ghost use Rattle.input_reader.specs.Inputs.{input_of};
 ghost use Rattle.input_reader.specs.Readings.{AreReadFrom, IsRead, IsReadFrom};
 
 use crate::{Input, InputError};
-use script_text::{count_lines, parse_script, split_input};
+use script_text::{has_more_lines, parse_script, split_input};
 use std::alloc::Global;
 use teb_io::{ReadError, Source, read_all};
 use tree_toml::read_tree;
@@ -49,7 +49,7 @@ pub fn parse_input(alloc: Global, bytes: &[u8]) -> Result<Input, InputError>
     let Some((tree, script)) = split_input(bytes) else {
         return Err(InputError::NoSeparator);
     };
-    if count_lines(script) > MOST_LINES {
+    if has_more_lines(script, MOST_LINES) {
         return Err(InputError::TooLong);
     }
     let setup = read_tree(alloc, tree)?;

@@ -1,9 +1,10 @@
 -- The lines of a text, one after the other.
 use Rattle.std.proofs.Common.{◌≡◌, ℕ, suc, ◌+◌, ◌<◌, ◌≤◌, ◌==◌, Bool, true, false, cond, List, [], ◌∷◌, map, take, drop, length, refl, ap, ◌∙◌, arith, take_all, drop_of_length-le, ◌⊎◌, inl, inr}
 use Rattle.std.proofs.lemmas.Bool.{cases_lt}
-use Rattle.std.specs.List.{slice_split, onto_first, position_or_len}
+use Rattle.std.specs.List.{count_by, slice_split, onto_first, position_or_len}
 use Rattle.std.specs.Str.Lines.{strip_carriage_return}
-use Rattle.std.proofs.lemmas.List.Splits.{slice_split_first, slice_split_none}
+use Rattle.std.proofs.lemmas.List.{length-map}
+use Rattle.std.proofs.lemmas.List.Splits.{length-slice_split, slice_split_first, slice_split_none}
 use Rattle.std.proofs.lemmas.List.Sums.{fails_before_first}
 use Rattle.std.proofs.lemmas.List.Elements.{All-from_get_or}
 use Rattle.script_text.specs.Lines.{is_feed, counted, lines_of}
@@ -52,6 +53,16 @@ cond_length false b bs h = onto_length (length bs) b (parts bs) h
 parts_length : (xs : List ℕ) → length (counted (map strip_carriage_return (parts xs))) ≤ length xs
 parts_length [] = omega arith
 parts_length (b ∷ bs) = cond_length (is_feed b) b bs (parts_length bs)
+
+counted_length : (ps : List (List ℕ)) → length (counted ps) ≤ length ps
+counted_length [] = omega arith
+counted_length (p ∷ []) = single p
+counted_length (p ∷ q ∷ ps) = omega (arith, counted_length (q ∷ ps))
+
+-- a text has at most one line more than it has feeds
+pub lines_by_feeds : (xs : List ℕ) → length (lines_of xs) ≤ count_by is_feed xs + 1
+unfolding lines_of
+lines_by_feeds xs = omega (arith, counted_length (map strip_carriage_return (parts xs)), length-map (parts xs) strip_carriage_return, length-slice_split is_feed xs)
 
 -- a text has no more lines than bytes
 pub lines_length : (xs : List ℕ) → length (lines_of xs) ≤ length xs

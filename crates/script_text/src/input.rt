@@ -2,9 +2,8 @@
 
 ghost use Rattle.std.specs.Prelude.{◌≡◌, ◌≤◌, length, drop, option_map};
 ghost use Rattle.script_text.specs.Input.{is_separator, parts_of};
-ghost use Rattle.script_text.specs.Lines.{lines_of};
 
-use super::script::lines::{Lines, after_line, line_len, without_return};
+use super::script::lines::{after_line, line_len, without_return};
 
 /// The bytes before the first line that is exactly `%%`, and the bytes after its line feed. `None` where there
 /// is no such line.
@@ -24,13 +23,6 @@ pub fn split_input(bytes: &[u8]) -> Option<(&[u8], &[u8])>
         at += len + 1;
     }
     None
-}
-
-/// How many lines a script has. A last line without a line feed counts only where it is not empty.
-pub fn count_lines(script: &[u8]) -> usize
-    ensures { result ≡ length (lines_of script.now) }
-{
-    Lines(script).count()
 }
 
 #[tactic(auto, unfolding(crate::specs::Input::is_separator))]

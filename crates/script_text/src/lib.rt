@@ -3,12 +3,14 @@
 
 mod error;
 mod input;
+mod line_count;
 mod script;
 mod scripts;
 mod text;
 
 pub use error::{LineWhy, ScriptError};
-pub use input::{count_lines, split_input};
+pub use input::split_input;
+pub use line_count::{count_lines, has_more_lines};
 pub use script::{number, parse_script};
 pub use scripts::{Scripts, scripts_of};
 use teb_names::{Reply, Request, Session};

@@ -1,0 +1,47 @@
+//! How many lines a script has.
+
+ghost use Rattle.std.specs.Prelude.{◌≡◌, ◌≤◌, length, nat_lt};
+ghost use Rattle.std.specs.List.{count_by};
+ghost use Rattle.script_text.specs.Lines.{is_feed, lines_of};
+
+use crate::script::lines::Lines;
+
+/// How many bytes are looked at together. The count of so many fits a byte, and bytes are added many at a time.
+const PIECE: usize = 224;
+
+/// Whether a script has more than so many lines. They are looked at one by one only where there are so many line feeds.
+pub fn has_more_lines(script: &[u8], most: usize) -> bool
+    ensures { result ≡ nat_lt most (length (lines_of script.now)) }
+{
+    count_feeds(script) >= most && count_lines(script) > most
+}
+
+/// How many lines a script has. A last line without a line feed counts only where it is not empty.
+pub fn count_lines(script: &[u8]) -> usize
+    ensures { result ≡ length (lines_of script.now) }
+{
+    Lines(script).count()
+}
+
+fn count_feeds(text: &[u8]) -> usize
+    ensures { result ≡ count_by is_feed text.now }
+{
+    let mut count = 0;
+    for piece in text.chunks(PIECE) {
+        count += usize::from(feeds_in(piece));
+    }
+    count
+}
+
+fn feeds_in(piece: &[u8]) -> u8
+    requires { length piece.now ≤ 224 }
+    ensures { result ≡ count_by is_feed piece.now }
+{
+    let mut count = 0;
+    for b in piece {
+        if *b == b'\n' {
+            count += 1;
+        }
+    }
+    count
+}
