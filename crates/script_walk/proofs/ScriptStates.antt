@@ -3,7 +3,7 @@ use Rattle.std.proofs.Common.{◌≡◌, ℕ, ◌+◌, ◌<◌, ◌≤◌, List,
 use Rattle.std.proofs.lemmas.List.{drop_more, drop_all, drop-map, length-map}
 use Rattle.teb_names.specs.declared.Request.{Request}
 use Rattle.script_text.specs.declared.Line.{Line}
-use Rattle.teb_rules.specs.Scripts.{ScriptState, asks, asks_at, Stays, Enters, Leaves, Returns, Goes, moved}
+use Rattle.teb_rules.specs.Scripts.{asks, asks_at, Stays, Enters, Leaves, Returns, Goes, moved}
 use Rattle.script_walk.specs.ScriptStates.{requests_on, lines_from, state_at}
 
 -- a line of a list that is not empty
