@@ -1,6 +1,6 @@
 //! Numbers in a script.
 
-ghost use Rattle.std.specs.Prelude.{◌≡◌, ◌<◌, ◌≤◌, ◌+◌, ◌*◌, ◌^◌, MatchOption, IfSome, IsTrue, pos, neg_ℤ};
+ghost use Rattle.std.specs.Prelude.{◌≡◌, ◌<◌, ◌≤◌, ◌+◌, ◌*◌, ◌^◌, MatchOption, IfSome, IsTrue, false, length, pos, neg_ℤ};
 ghost use Rattle.std.specs.Str.{all_ascii_digits};
 ghost use Rattle.std.specs.Str.Parse.{digits_value};
 ghost use Rattle.script_text.specs.Numbers.{number_upto, integer_of};
@@ -38,6 +38,36 @@ pub fn integer(word: &[u8]) -> Option<i64>
 
 /// The value of these digits, where there are only digits and it has 64 bits.
 fn value_of(word: &[u8]) -> Option<u64>
+    ensures { MatchOption result
+        (IsTrue (all_ascii_digits word.now) → 2 ^ 64 ≤ digits_value 10 word.now)
+        (λ n. IsTrue (all_ascii_digits word.now) × (n ≡ digits_value 10 word.now)) }
+{
+    if word.len() < 20 {
+        short_value_of(word)
+    } else {
+        long_value_of(word)
+    }
+}
+
+/// The same of fewer than twenty digits, whose value has 64 bits.
+fn short_value_of(word: &[u8]) -> Option<u64>
+    requires { length word.now < 20 }
+    ensures { MatchOption result
+        (all_ascii_digits word.now ≡ false)
+        (λ n. IsTrue (all_ascii_digits word.now) × (n ≡ digits_value 10 word.now)) }
+{
+    let mut total = 0u64;
+    for b in word {
+        if !b.is_ascii_digit() {
+            return None;
+        }
+        total = total * 10 + u64::from(*b - b'0');
+    }
+    Some(total)
+}
+
+/// The same of any number of digits.
+fn long_value_of(word: &[u8]) -> Option<u64>
     ensures { MatchOption result
         (IsTrue (all_ascii_digits word.now) → 2 ^ 64 ≤ digits_value 10 word.now)
         (λ n. IsTrue (all_ascii_digits word.now) × (n ≡ digits_value 10 word.now)) }

@@ -2,7 +2,7 @@ use Rattle.std.proofs.Common.{◌*◌, ◌+◌, get_or, drop, arith}
 use Rattle.std.proofs.lemmas.Grind.{common_steps}
 use Rattle.std.specs.Char.{digit_value}
 use Rattle.script_text.proofs.Digits.{grows, value_first}
-use Rattle.script_text.proofs.script.numbers.value_of.Goals as goal
+use Rattle.script_text.proofs.script.numbers.long_value_of.Goals as goal
 
 pub returns-in-None : goal.returns-in-None
 returns-in-None c = λ all.
