@@ -1,6 +1,6 @@
 //! What a node shows to a reader.
 
-ghost use Rattle.std.specs.Prelude.{◌≡◌, ℕ, IsTrue, IsFalse};
+ghost use Rattle.std.specs.Prelude.{◌≡◌, IsTrue, IsFalse};
 ghost use Rattle.teb_history.specs.Phases.{aborted};
 ghost use Rattle.version_chain.specs.Lists.{writers_of, last_place};
 ghost use Rattle.phase_api.specs.FactsView.{setup_of, events_of, IsTyped};
