@@ -1,7 +1,7 @@
 //! The control of a pipeline node: an access waits for whoever has accessed the cell and has not passed its rank, and a
 //! transaction enters a step, and commits, behind those that are earlier.
 
-ghost use Rattle.std.specs.Prelude.{◌≡◌, ◌<◌, ◌≤◌, ◌&&◌, not, [], Option, Some, None, IfOk, IsTrue, find, slice_index_or, length};
+ghost use Rattle.std.specs.Prelude.{◌≡◌, ◌<◌, ◌≤◌, ◌&&◌, not, [], Option, Some, None, IfOk, IsTrue, find, ltb, slice_index_or, length};
 ghost use Rattle.teb_names.specs.declared.ControlKind.TheVariants.{Pipeline as IsPipeline};
 ghost use Rattle.teb_history.specs.Phases.{txns, unfinished, kind_of};
 ghost use Rattle.teb_rules.specs.Setup.{above_profiles};
@@ -77,6 +77,15 @@ impl Pipeline {
             }
             None => unreachable!(),
         }
+    }
+
+    // Whether an access of a table of this rank enters a step of a greater rank than the one at which the transaction stands.
+    fn enters(&self, facts: &Facts, t: Txn, rank: u8) -> bool
+        requires stands { PipelineStands self.now (setup_of facts.now) (events_of facts.now) }
+        requires typed { IsTyped facts.now t.0 }
+        ensures { result ≡ ltb (rank_of_step (setup_of facts.now) self.now.register.node.0 (kind_of (events_of facts.now) t.0) (cursor (setup_of facts.now) (events_of facts.now) t.0)) rank }
+    {
+        0 < rank && self.current_rank(facts, t) < rank
     }
 
     // Whether a transaction has passed a rank.
@@ -155,7 +164,7 @@ impl Pipeline {
         ensures { result ≡ on_access (row (setup_of facts.now).tree self.now.register.node.0).control (setup_of facts.now) (events_of facts.now) self.now.register.node.0 t.0 cell write }
     {
         let rank = self.ranks.rank(cell.table);
-        if self.current_rank(facts, t) < rank {
+        if self.enters(facts, t, rank) {
             if let Some(u) = self.first_ahead(facts, t, Some(rank)) {
                 return Verdict::Wait(u);
             }
