@@ -17,6 +17,7 @@ use Rattle.dependency_book.specs.Books.{Lists, Shown, BookOf}
 use Rattle.cursor_book.specs.Cursors.{Kept, CursorsOf}
 use Rattle.engine_core.specs.declared.engine_state.EngineState.{EngineState}
 use Rattle.engine_core.specs.declared.engine_view.EngineView.{EngineView}
+use Rattle.engine_core.specs.Latest.{AreLatest}
 use Rattle.engine_core.specs.Stores.{store_of}
 use Rattle.engine_core.specs.Wholes.{IsWhole, StateIsWhole, ViewIsWhole, store_in, events_in}
 use Rattle.engine_core.specs.Keeping.{HasPlace, PutsAt, IsPlaced}
@@ -25,15 +26,16 @@ use Rattle.engine_core.specs.Decisions.{MayBegin}
 -- the view of a whole state is whole
 module _ {K C : Type 0} (node_number : K → ℕ) (stands : K → Setup → List Event → Type 0) (lists : C → Cell → List Version) (k : EngineState K C) (p : EngineView K C)
     (x : store_in p ≡ store_of k.setup) (h : p.facts.history.now ≡ k.history) (l : p.chains.now ≡ k.chains) where
-  pub view_whole : p.controls.now ≡ k.controls.items → p.book.now ≡ k.book → p.cursors.now ≡ k.cursors → StateIsWhole node_number stands lists k → Settled k.history.events → ViewIsWhole node_number stands lists p
-  view_whole c b s w t = record {
+  pub view_whole : p.controls.now ≡ k.controls.items → p.book.now ≡ k.book → p.cursors.now ≡ k.cursors → p.latest.now ≡ k.latest → StateIsWhole node_number stands lists k → Settled k.history.events → ViewIsWhole node_number stands lists p
+  view_whole c b s m w t = record {
     whole =
-        subst (λ (Y : Store). IsWhole node_number stands Y (events_in p) p.controls.now (lists p.chains.now) p.book.now.lists p.cursors.now.cursors) (sym x)
-        (subst (λ (H : Written). IsWhole node_number stands (store_of k.setup) H.events p.controls.now (lists p.chains.now) p.book.now.lists p.cursors.now.cursors) (sym h)
-        (subst (λ (cs : List K). IsWhole node_number stands (store_of k.setup) k.history.events cs (lists p.chains.now) p.book.now.lists p.cursors.now.cursors) (sym c)
-        (subst (λ (ch : C). IsWhole node_number stands (store_of k.setup) k.history.events k.controls.items (lists ch) p.book.now.lists p.cursors.now.cursors) (sym l)
-        (subst (λ (d : Shown). IsWhole node_number stands (store_of k.setup) k.history.events k.controls.items (lists k.chains) d.lists p.cursors.now.cursors) (sym b)
-        (subst (λ (d : Kept). IsWhole node_number stands (store_of k.setup) k.history.events k.controls.items (lists k.chains) k.book.lists d.cursors) (sym s) w)))));
+        subst (λ (Y : Store). IsWhole node_number stands Y (events_in p) p.controls.now (lists p.chains.now) p.book.now.lists p.cursors.now.cursors p.latest.now) (sym x)
+        (subst (λ (H : Written). IsWhole node_number stands (store_of k.setup) H.events p.controls.now (lists p.chains.now) p.book.now.lists p.cursors.now.cursors p.latest.now) (sym h)
+        (subst (λ (cs : List K). IsWhole node_number stands (store_of k.setup) k.history.events cs (lists p.chains.now) p.book.now.lists p.cursors.now.cursors p.latest.now) (sym c)
+        (subst (λ (ch : C). IsWhole node_number stands (store_of k.setup) k.history.events k.controls.items (lists ch) p.book.now.lists p.cursors.now.cursors p.latest.now) (sym l)
+        (subst (λ (d : Shown). IsWhole node_number stands (store_of k.setup) k.history.events k.controls.items (lists k.chains) d.lists p.cursors.now.cursors p.latest.now) (sym b)
+        (subst (λ (d : Kept). IsWhole node_number stands (store_of k.setup) k.history.events k.controls.items (lists k.chains) k.book.lists d.cursors p.latest.now) (sym s)
+        (subst (λ (ts : List Txn). IsWhole node_number stands (store_of k.setup) k.history.events k.controls.items (lists k.chains) k.book.lists k.cursors.cursors ts) (sym m) w))))));
     settled = subst (λ (H : Written). Settled H.events) (sym h) t;
   }
 
@@ -58,9 +60,9 @@ begun_after S P (Gone t c) h b = h
 begun_after S P (Told t) h b = h
 
 -- all is whole after an event that the rules grant, once all that is kept of the history keeps up
-pub whole_after : {K : Type 0} (node_number : K → ℕ) (stands : K → Setup → List Event → Type 0) (X : Store) (H G : List Event) (e : Event) (cs ds : List K) (L M : Cell → List Version) (b d : Lists) (steps more : List ℕ) →
-    IsWhole node_number stands X H cs L b steps → Granted X.setup H e → MayBegin X.setup H e → G ≡ e ∷ H → StandAll node_number stands ds X.setup G → HoldsVersions X.setup (e ∷ H) M → BookOf d (e ∷ H) → CursorsOf more X.setup G → IsWhole node_number stands X G ds M d more
-whole_after node_number stands X H G e cs ds L M b d steps more w g m q sa hv bo cu = record {
+pub whole_after : {K : Type 0} (node_number : K → ℕ) (stands : K → Setup → List Event → Type 0) (X : Store) (H G : List Event) (e : Event) (cs ds : List K) (L M : Cell → List Version) (b d : Lists) (steps more : List ℕ) (latest next : List Txn) →
+    IsWhole node_number stands X H cs L b steps latest → Granted X.setup H e → MayBegin X.setup H e → G ≡ e ∷ H → StandAll node_number stands ds X.setup G → HoldsVersions X.setup (e ∷ H) M → BookOf d (e ∷ H) → CursorsOf more X.setup G → AreLatest next (e ∷ H) → IsWhole node_number stands X G ds M d more next
+whole_after node_number stands X H G e cs ds L M b d steps more latest next w g m q sa hv bo cu la = record {
   sound = w.sound;
   profiled = w.profiled;
   nodes = w.nodes;
@@ -70,4 +72,5 @@ whole_after node_number stands X H G e cs ds L M b d steps more w g m q sa hv bo
   versions = subst (λ (P : List Event). HoldsVersions X.setup P M) (sym q) hv;
   book = subst (BookOf d) (sym q) bo;
   cursors = cu;
+  latest = subst (AreLatest next) (sym q) la;
 }

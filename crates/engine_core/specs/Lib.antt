@@ -1,5 +1,6 @@
 pub mod Stores
 pub mod EngineModel
+pub mod Latest
 pub mod Wholes
 pub mod Asking
 pub mod Stopping

@@ -47,6 +47,7 @@ impl<K: Control, C: Chains> EngineState<K, C> {
         ensures chains { result.chains.now ≡ self.now.chains }
         ensures book { result.book.now ≡ self.now.book }
         ensures cursors { result.cursors.now ≡ self.now.cursors }
+        ensures latest { result.latest.now ≡ self.now.latest }
     {
         EngineView {
             facts: facts_of(&self.history, &self.setup),

@@ -9,18 +9,15 @@ use phase_api::Control;
 use teb_names::{Session, Txn};
 use version_chain::Chains;
 
-/// The transaction that a session holds. Where the last one that the session began is unfinished, it is that one; else it costs
-/// what the live transactions are.
+/// The transaction that a session holds: the one that it began last, if that is live. It costs one look.
 pub fn held<K: Control, C: Chains>(view: &EngineView<K, C>, session: Session) -> Option<Txn>
     requires { ViewIsWhole K.node_number K.stands C.lists view.now }
     ensures { result ≡ held_txn (events_in view.now) session }
 {
-    let history = view.facts.history;
     let last = view.latest.of(session);
-    if let Some(owner) = history.session(last) {
-        if owner == session && history.is_unfinished(last) {
-            return Some(last);
-        }
+    if view.facts.history.is_live(last) {
+        Some(last)
+    } else {
+        None
     }
-    history.held(session)
 }

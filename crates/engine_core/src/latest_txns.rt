@@ -1,31 +1,50 @@
 //! Which transaction each session began last.
 
+ghost use Rattle.std.specs.Prelude.{◌≡◌, ◌∷◌, [], List};
+ghost use Rattle.teb_history.specs.declared.Event.{Event};
+ghost use Rattle.engine_core.specs.Latest.{AreLatest, listed};
+
+use std::marker::Model;
 use teb_history::Event;
 use teb_names::{Session, Txn};
 
-/// For each session the transaction that it began last, and 0 where it began none. No contract speaks of it: it tells where to
-/// look first.
+/// For each session the transaction that it began last, and 0 where it began none. Contracts see their list.
 #[derive(Drop)]
 pub struct LatestTxns {
     // By the session's number.
     txns: [Txn; 256],
 }
 
+impl Model for LatestTxns {
+    ghost use Rattle.std.specs.Prelude.{List};
+    ghost use Rattle.teb_names.specs.declared.Txn.{Txn};
+
+    ghost Value = { List Txn };
+
+    ghost view = { λ l. l.txns };
+}
+
 impl LatestTxns {
     /// Nobody began one.
-    pub fn new() -> Self {
+    pub fn new() -> Self
+        ensures { AreLatest result [] }
+    {
         LatestTxns {
             txns: [Txn(0); 256],
         }
     }
 
     /// That of a session.
-    pub fn of(&self, session: Session) -> Txn {
+    pub fn of(&self, session: Session) -> Txn
+        ensures { result ≡ listed self.now session.0 }
+    {
         self.txns[usize::from(session.0)]
     }
 
     /// An event is noted.
-    pub fn note(&mut self, event: Event) {
+    pub fn note(&mut self, event: Event)
+        ensures { (H : List Event) → AreLatest self.old H → AreLatest self.new (event ∷ H) }
+    {
         if let Event::Began { txn, session, .. } = event {
             self.txns[usize::from(session.0)] = txn;
         }

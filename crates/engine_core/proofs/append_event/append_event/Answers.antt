@@ -27,11 +27,11 @@ returns-clause-whole g c =
     let S = (store_of c.args.state.now.setup).setup in
     let H = c.args.state.now.history.events in
     whole_after g.K.Control.node_number g.K.Control.stands (store_of c.args.state.now.setup) H c.push.new.self.events c.args.event c.args.state.now.controls.items c.note_each.new.controls.items
-    (g.C.Chains.lists c.args.state.now.chains) (g.C.Chains.lists c.keep_versions.new.chains) c.args.state.now.book.lists c.note.new.self.lists c.args.state.now.cursors.cursors c.move_cursors.new.cursors.cursors
+    (g.C.Chains.lists c.args.state.now.chains) (g.C.Chains.lists c.keep_versions.new.chains) c.args.state.now.book.lists c.note.new.self.lists c.args.state.now.cursors.cursors c.move_cursors.new.cursors.cursors c.args.state.now.latest c.note-2.new.self
     c.requires.whole c.requires.granted c.requires.begins c.push.ensures.events c.note_each.ensures.stand
     (c.keep_versions.ensures.versions S H (tree_facts S c.requires.whole.sound) (lawful_cons S c.args.event H c.requires.granted c.requires.whole.lawful) c.requires.whole.versions c.requires.order)
     (c.note.ensures.book H c.requires.whole.book (granted_follows S H c.args.event c.requires.granted))
-    c.move_cursors.ensures.cursors
+    c.move_cursors.ensures.cursors (c.note-2.ensures H c.requires.whole.latest)
 
 pub note_each-requires-clause-room : goal.note_each-requires-clause-room
 note_each-requires-clause-room g c = let some = c.requires.some in less_room g.K.Control.spare 1 c.args.state.now.room c.args.state.now.controls.items (omega arith) c.requires.room.controls

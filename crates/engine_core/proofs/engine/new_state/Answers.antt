@@ -13,11 +13,11 @@ use Rattle.engine_core.proofs.engine.new_state.Goals as goal
 pub returns-clause-kept : goal.returns-clause-kept
 returns-clause-kept g c = record {
   setup = c.requires.setup;
-  whole = whole_from_nothing any_node_number any_stands c.args.setup c.new-history.result.events c.in_ok-controls.controls.items (g.C.Chains.lists c.args.chains) c.new.result.lists c.new-2.result.cursors
+  whole = whole_from_nothing any_node_number any_stands c.args.setup c.new-history.result.events c.in_ok-controls.controls.items (g.C.Chains.lists c.args.chains) c.new.result.lists c.new-2.result.cursors c.new-3.result
       c.requires.setup c.new-history.ensures
       (subst (λ (S : Setup). StandAll any_node_number any_stands c.in_ok-controls.controls.items S c.new-history.result.events) c.facts_of.ensures.setup
       (subst (λ (h : Written). StandAll any_node_number any_stands c.in_ok-controls.controls.items (setup_of c.facts_of.result) h.events) c.facts_of.ensures.history c.in_ok-controls.ensures))
-      c.requires.chains c.new.ensures c.new-2.ensures;
+      c.requires.chains c.new.ensures c.new-2.ensures c.new-3.ensures;
   reached = reached_none (store_of c.args.setup) c.new-history.result.events c.new-history.ensures;
   room = no_room any_spare g.C.Chains.spare _;
   enough = λ f. absurd (cc);

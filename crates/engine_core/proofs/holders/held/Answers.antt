@@ -1,10 +1,21 @@
-use Rattle.std.proofs.Common.{◌≡◌, ◌∙◌, ℕ, Some, eqb-true, sym, ap}
+use Rattle.std.proofs.Common.{◌≡◌, ◌∙◌, Bool, cond, Some, None, sym, ap}
+use Rattle.teb_names.specs.declared.Txn.{Txn}
+use Rattle.teb_history.specs.Live.{is_live}
+use Rattle.engine_core.specs.Latest.{latest_txn}
 use Rattle.engine_core.specs.Wholes.{store_in, events_in}
-use Rattle.engine_core.proofs.HeldTxns.{owner_holds}
+use Rattle.engine_core.proofs.HeldTxns.{held_txn-latest}
 use Rattle.engine_core.proofs.holders.held.Goals as goal
 
-pub returns-then-is_unfinished : goal.returns-then-is_unfinished
-returns-then-is_unfinished g c =
-    let same : c.in-Some.owner.0 ≡ c.args.session.0 = eqb-true _ _ (sym c.eq.ensures ∙ c.if-eq.true) in
-    sym (owner_holds (store_in c.args.view.now).setup (events_in c.args.view.now) c.args.session c.of-last.result c.requires.whole.lawful (sym c.is_unfinished.ensures ∙ c.if-is_unfinished.true)
-    (sym c.session.ensures ∙ c.in-Some.is ∙ ap (λ (n : ℕ). Some (record { 0 = n })) same))
+pub returns-then-is_live : goal.returns-then-is_live
+returns-then-is_live g c =
+    let H = events_in c.args.view.now in
+    let latest : c.of-last.result ≡ latest_txn H c.args.session.0 = c.of-last.ensures ∙ c.requires.whole.latest c.args.session.0 in
+    let live = ap (λ (t : Txn). is_live H t.0) (sym latest) ∙ sym c.is_live.ensures ∙ c.if-is_live.true in
+    ap (λ (t : Txn). Some t) latest ∙ sym (held_txn-latest (store_in c.args.view.now).setup H c.args.session c.requires.whole.lawful ∙ ap (λ (b : Bool). cond b (Some (latest_txn H c.args.session.0)) None) live)
+
+pub returns-else-is_live : goal.returns-else-is_live
+returns-else-is_live g c =
+    let H = events_in c.args.view.now in
+    let latest : c.of-last.result ≡ latest_txn H c.args.session.0 = c.of-last.ensures ∙ c.requires.whole.latest c.args.session.0 in
+    let live = ap (λ (t : Txn). is_live H t.0) (sym latest) ∙ sym c.is_live.ensures ∙ c.if-is_live.false in
+    sym (held_txn-latest (store_in c.args.view.now).setup H c.args.session c.requires.whole.lawful ∙ ap (λ (b : Bool). cond b (Some (latest_txn H c.args.session.0)) None) live)

@@ -12,7 +12,7 @@ use Rattle.engine_core.proofs.engine_state.EngineState.decide.Goals as goal
 
 pub decide-requires : goal.decide-requires
 decide-requires g c = view_whole g.K.Control.node_number g.K.Control.stands g.C.Chains.lists c.args.self.now c.view.result c.view.ensures.store c.view.ensures.history c.view.ensures.chains
-    c.view.ensures.controls c.view.ensures.book c.view.ensures.cursors c.requires.whole c.requires.settled
+    c.view.ensures.controls c.view.ensures.book c.view.ensures.cursors c.view.ensures.latest c.requires.whole c.requires.settled
 
 pub returns-clause-answer : goal.returns-clause-answer
 returns-clause-answer g c =
