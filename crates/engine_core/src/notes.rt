@@ -27,20 +27,20 @@ pub fn note_each<K: Control>(controls: &mut Vec<K>, history: &History, setup: &S
     ensures room { (k : ℕ) → RoomFor K.spare (suc k) controls.old.items → RoomFor K.spare k controls.new.items }
 {
     let facts = facts_of(history, setup);
-    note_all(controls, &facts, event, 0);
+    note_all(controls, &facts, &event, 0);
 }
 
 /// Each control notes the newest event; the first of them is that of node n.
-pub fn note_all<K: Control>(controls: &mut [K], facts: &Facts, event: Event, n: usize)
+pub fn note_all<K: Control>(controls: &mut [K], facts: &Facts, event: &Event, n: usize)
     requires stands { StandFrom K.node_number K.stands n controls.old (setup_of facts.now) (drop 1 (events_of facts.now)) }
-    requires newest { MayNoteFrom facts.now event n controls.old }
+    requires newest { MayNoteFrom facts.now event.now n controls.old }
     requires room { RoomFor K.spare 1 controls.old }
     requires few { n + length controls.old ≤ 64 }
     ensures stands { StandFrom K.node_number K.stands n controls.new (setup_of facts.now) (events_of facts.now) }
     ensures room { (k : ℕ) → RoomFor K.spare (suc k) controls.old → RoomFor K.spare k controls.new }
 {
     if let Some((first, rest)) = controls.split_first_mut() {
-        first.note(facts, event);
+        first.note(facts, *event);
         note_all(rest, facts, event, n + 1);
     }
 }

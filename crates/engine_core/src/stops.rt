@@ -33,7 +33,7 @@ pub fn read_stop<K: Control, C: Chains>(view: &EngineView<K, C>, t: Txn, cell: C
     requires asks { IsAsking (store_in view.now).setup (events_in view.now) t.0 cell }
     ensures { result ≡ access_stop (store_in view.now).setup (events_in view.now) t.0 cell false }
 {
-    stop_along(view.path_of(t), view, Question::Read(t, cell))
+    stop_along(view.path_of(t), view, &Question::Read(t, cell))
 }
 
 /// Where a write stops, whose version has, or would have, the place `at`. The nodes are t's path.
@@ -50,7 +50,7 @@ pub fn write_stop<K: Control, C: Chains>(
     requires told { AreTold (store_in view.now).setup (events_in view.now) cell t.0 at (writers_of (C.lists view.now.chains.now cell)) }
     ensures { result ≡ access_stop (store_in view.now).setup (events_in view.now) t.0 cell true }
 {
-    stop_along(nodes, view, Question::Write(t, cell, at))
+    stop_along(nodes, view, &Question::Write(t, cell, at))
 }
 
 /// Where a Prepare stops.
@@ -59,7 +59,7 @@ pub fn prepare_stop<K: Control, C: Chains>(view: &EngineView<K, C>, t: Txn) -> S
     requires unfinished { IsTrue (unfinished (events_in view.now) t.0) }
     ensures { result ≡ prepare_stop (store_in view.now).setup (events_in view.now) t.0 }
 {
-    stop_along(view.path_of(t), view, Question::Prepare(t))
+    stop_along(view.path_of(t), view, &Question::Prepare(t))
 }
 
 /// Where a Commit stops.
@@ -77,7 +77,7 @@ pub fn begin_stop<K: Control, C: Chains>(view: &EngineView<K, C>, spot: Spot) ->
     requires kind { spot.kind.0 < (store_in view.now).setup.types }
     ensures { result ≡ begin_stop (store_in view.now).setup (events_in view.now) spot }
 {
-    stop_along(view.facts.tree.path(spot), view, Question::Begin(spot))
+    stop_along(view.facts.tree.path(spot), view, &Question::Begin(spot))
 }
 
 /// Where a question stops along some nodes, from the first on.
@@ -85,11 +85,11 @@ pub fn begin_stop<K: Control, C: Chains>(view: &EngineView<K, C>, spot: Spot) ->
 fn stop_along<K: Control, C: Chains>(
     nodes: &[Node],
     view: &EngineView<K, C>,
-    question: Question,
+    question: &Question,
 ) -> Stop
     requires whole { ViewIsWhole K.node_number K.stands C.lists view.now }
-    requires may { MayAskAlong C.lists view.now question (node_numbers nodes.now) }
-    ensures { result ≡ stop_of (verdict_on (store_in view.now).setup (events_in view.now) question) (node_numbers nodes.now) }
+    requires may { MayAskAlong C.lists view.now question.now (node_numbers nodes.now) }
+    ensures { result ≡ stop_of (verdict_on (store_in view.now).setup (events_in view.now) question.now) (node_numbers nodes.now) }
 {
     match nodes {
         [node, rest @ ..] => match verdict_at(view, question, *node) {
@@ -107,15 +107,15 @@ fn stop_along<K: Control, C: Chains>(
 /// What one node says.
 fn verdict_at<K: Control, C: Chains>(
     view: &EngineView<K, C>,
-    question: Question,
+    question: &Question,
     node: Node,
 ) -> Verdict
     requires whole { ViewIsWhole K.node_number K.stands C.lists view.now }
-    requires may { MayAsk C.lists view.now question node.0 }
-    ensures { result ≡ verdict_on (store_in view.now).setup (events_in view.now) question node.0 }
+    requires may { MayAsk C.lists view.now question.now node.0 }
+    ensures { result ≡ verdict_on (store_in view.now).setup (events_in view.now) question.now node.0 }
 {
     let control = view.control_at(node);
-    match question {
+    match *question {
         Question::Begin(spot) => control.start(&view.facts, spot),
         Question::Read(t, cell) => control.before_read(&view.facts, t, cell),
         Question::Write(t, cell, at) => {
