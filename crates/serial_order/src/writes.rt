@@ -47,7 +47,7 @@ impl<'a> Booked<'a> {
         ensures { IfOk result (λ v. told self.now AreWrites n.0 v.items) }
     {
         let mut writes = self.writes_put(alloc, n)?;
-        writes.sort_by_key(|write| (write.cell, write.batch.start))?;
+        writes.sort_unstable_by_key(|write| (write.cell, write.batch.start));
         Ok(writes)
     }
 
@@ -73,8 +73,15 @@ impl<'a> Booked<'a> {
         ensures { OnOk result (writes.new.items ≡ writes.old.items ++ told self.now write_if n.0 t.0 cell) }
     {
         let facts = self.facts;
-        if facts.history.is_committed(t) && facts.is_on(n, t) {
-            let batch = self.span_of(n, t);
+        if !facts.history.is_committed(t) {
+            return Ok(());
+        }
+        if let Some(side) = facts.side_on(n, t) {
+            let batch = Span {
+                side,
+                start: self.start_of(n, t),
+                close: self.close_of(n, t),
+            };
             writes.push(Write { cell, batch })?;
         }
         Ok(())
