@@ -13,7 +13,7 @@ use Rattle.teb_names.specs.declared.Spot.{Spot}
 use Rattle.teb_names.specs.declared.Node.{Node}
 use Rattle.teb_names.specs.declared.ControlKind.TheVariants.{Snapshot}
 use Rattle.teb_history.specs.Phases.{spot_of}
-use Rattle.teb_rules.specs.Tree.{row, path, on_path}
+use Rattle.teb_rules.specs.Tree.{row, path, on_path, side, side_at}
 use Rattle.teb_rules.specs.Ranks.{key, rank, rank_by, has_edge_out}
 use Rattle.cc_tree.specs.Grown.{node_numbers}
 use Rattle.serial_order.specs.Books.{HoldBatches, AreBooks}
@@ -89,6 +89,15 @@ key_starts S H t ms e = ap (key_along S H t) e
 
 pub spot_told : (H : List Event) (t : ℕ) (o : Option Spot) (s : Spot) → IfSome o (λ z. z ≡ spot_of H t) → o ≡ Some s → s ≡ spot_of H t
 spot_told H t o s h e = subst (λ (p : Option Spot). IfSome p (λ z. z ≡ spot_of H t)) e h
+
+-- whether a node is on its path, and its side there, by the spot
+pub on_told : (S : Setup) (H : List Event) (n t : ℕ) (s : Spot) → s ≡ spot_of H t → on S H n t ≡ true → on_path S.tree n s ≡ true
+unfolding on
+on_told S H n t s e h = ap (on_path S.tree n) e ∙ h
+
+pub side_told : (S : Setup) (H : List Event) (n t : ℕ) (s : Spot) → s ≡ spot_of H t → side_at S.tree n s t ≡ side S H n t
+unfolding side
+side_told S H n t s e = ap (λ (z : Spot). side_at S.tree n z t) e
 
 pub length-more : (xs : List Book) (b : Book) → length (xs ++ b ∷ []) ≡ length xs + 1
 length-more xs b = length-append xs (b ∷ [])

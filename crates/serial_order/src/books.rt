@@ -107,8 +107,8 @@ fn note(book: &mut Batches, facts: &Facts, n: Node, at: usize) -> Result<(), All
     Ok(())
 }
 
-// The number of the side of a node on which a transaction with this spot is.
-fn side_of(facts: &Facts, n: Node, spot: Spot, t: Txn) -> u32
+/// The number of the side of a node on which a transaction with this spot is.
+pub(crate) fn side_of(facts: &Facts, n: Node, spot: Spot, t: Txn) -> u32
     requires kind { spot.kind.0 < (setup_of facts.now).types }
     requires on { IsTrue (on_path (setup_of facts.now).tree n.0 spot) }
     ensures { result ≡ side_at (setup_of facts.now).tree n.0 spot t.0 }

@@ -1,15 +1,17 @@
 //! The key of a committed transaction: its ranks and its sides along its path.
 
 ghost use Rattle.std.specs.Prelude.{◌≡◌, IfOk};
-ghost use Rattle.teb_history.specs.Phases.{done_at};
+ghost use Rattle.teb_history.specs.Phases.{done_at, spot_of};
+ghost use Rattle.teb_rules.specs.Tree.{side};
 ghost use Rattle.teb_rules.specs.Ranks.{key, rank};
 ghost use Rattle.phase_api.specs.FactsView.{IsTyped};
 ghost use Rattle.serial_order.specs.Booked.{history, IsNode, IsAt, told};
 ghost use Rattle.serial_order.specs.Edges.{MarkEdges};
 
 use crate::booked::Booked;
+use crate::books::side_of;
 use std::alloc::{AllocError, Global};
-use teb_names::{ControlKind, Node, Txn};
+use teb_names::{ControlKind, Node, Spot, Txn};
 
 impl<'a> Booked<'a> {
     /// The rank and the side of a transaction at each node from the root to its leaf, at most 16 numbers. `marks` are those of the
@@ -32,9 +34,18 @@ impl<'a> Booked<'a> {
         let mut key = Vec::with_capacity(alloc, path.len().saturating_mul(2))?;
         for n in path {
             key.push(self.rank(marks, *n, t, done))?;
-            key.push(facts.side(*n, t) as usize)?;
+            key.push(self.side(*n, spot, t) as usize)?;
         }
         Ok(key)
+    }
+
+    // The number of the side of a node on which a transaction is, by its spot.
+    fn side(&self, n: Node, spot: Spot, t: Txn) -> u32
+        requires here { IsAt self.now n.0 t.0 }
+        requires spot { spot ≡ spot_of (history self.now) t.0 }
+        ensures { result ≡ told self.now side n.0 t.0 }
+    {
+        side_of(self.facts, n, spot, t)
     }
 
     // The rank of a transaction at a node.

@@ -17,6 +17,12 @@ rank-requires-clause-here c = record {
       (c.path-path.ensures.nodes ∙ ap (path (setup_of c.args.self.now.facts.now).tree) (spot_told (events_of c.args.self.now.facts.now) c.args.t.0 c.spot.result c.unwrap-spot.result c.spot.ensures.spot c.unwrap-spot.ensures)) c.loop-n-test.true;
 }
 
-pub side-requires-clause-on : goal.side-requires-clause-on
-side-requires-clause-on c = on_at (setup_of c.args.self.now.facts.now) (events_of c.args.self.now.facts.now) c.args.t.0 c.path-path.result.now c.loop-n.n-index (record { 0 = 0 })
-    (c.path-path.ensures.nodes ∙ ap (path (setup_of c.args.self.now.facts.now).tree) (spot_told (events_of c.args.self.now.facts.now) c.args.t.0 c.spot.result c.unwrap-spot.result c.spot.ensures.spot c.unwrap-spot.ensures)) c.loop-n-test.true
+pub side-requires-clause-here : goal.side-requires-clause-here
+side-requires-clause-here c = record {
+  typed = c.requires.typed;
+  on = on_at (setup_of c.args.self.now.facts.now) (events_of c.args.self.now.facts.now) c.args.t.0 c.path-path.result.now c.loop-n.n-index (record { 0 = 0 })
+      (c.path-path.ensures.nodes ∙ ap (path (setup_of c.args.self.now.facts.now).tree) (spot_told (events_of c.args.self.now.facts.now) c.args.t.0 c.spot.result c.unwrap-spot.result c.spot.ensures.spot c.unwrap-spot.ensures)) c.loop-n-test.true;
+}
+
+pub side-requires-clause-spot : goal.side-requires-clause-spot
+side-requires-clause-spot c = spot_told (events_of c.args.self.now.facts.now) c.args.t.0 c.spot.result c.unwrap-spot.result c.spot.ensures.spot c.unwrap-spot.ensures
