@@ -3,9 +3,8 @@
 ghost use Rattle.std.specs.Prelude.{◌≡◌};
 
 use crate::Log;
-use script_text::Answered;
 use std::alloc::AllocError;
-use teb_names::NameBook;
+use teb_names::{NameBook, Reply, Session};
 
 /// How many answers there are.
 #[derive(Drop)]
@@ -37,7 +36,7 @@ impl Log for AnswerCount {
         Ok(())
     }
 
-    fn add(&mut self, _: &NameBook, _: &Answered) {
+    fn add(&mut self, _: &NameBook, _: Session, _: &Reply) {
         self.count += 1;
     }
 }

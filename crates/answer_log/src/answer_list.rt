@@ -5,7 +5,7 @@ ghost use Rattle.std.specs.Prelude.{◌≡◌, []};
 use crate::Log;
 use script_text::Answered;
 use std::alloc::{AllocError, Global};
-use teb_names::NameBook;
+use teb_names::{NameBook, Reply, Session};
 
 /// The answers themselves, the first one first.
 #[derive(Drop)]
@@ -35,8 +35,8 @@ impl Log for AnswerList {
         self.answers.reserve(1)
     }
 
-    fn add(&mut self, _: &NameBook, answered: &Answered) {
-        let Answered { session, reply } = *answered;
+    fn add(&mut self, _: &NameBook, session: Session, reply: &Reply) {
+        let reply = *reply;
         self.answers.push_reserved(Answered { session, reply });
     }
 }

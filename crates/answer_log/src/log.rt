@@ -4,9 +4,8 @@ ghost use Rattle.std.specs.Prelude.{◌++◌, ◌∷◌, [], List, OnOk};
 ghost use Rattle.teb_names.specs.declared.naming.NameBook.{NameBook};
 ghost use Rattle.script_text.specs.declared.Answered.{Answered};
 
-use script_text::Answered;
 use std::alloc::AllocError;
-use teb_names::NameBook;
+use teb_names::{NameBook, Reply, Session};
 
 /// Where the answers of a run go, the first one first. Nodes and tables go by the names of a book, which is the same at
 /// each call.
@@ -22,9 +21,9 @@ pub trait Log: Drop {
         ensures told { (answers : List Answered) → tells self.old names.now answers → tells self.new names.now answers }
         ensures room { OnOk result (has_room self.new) };
 
-    /// Adds an answer behind the others. It uses up the room.
-    fn add(&mut self, names: &NameBook, answered: &Answered)
+    /// Adds the answer to a session behind the others. It uses up the room.
+    fn add(&mut self, names: &NameBook, session: Session, reply: &Reply)
         requires { has_room self.old }
         ensures { (answers : List Answered) → tells self.old names.now answers
-            → tells self.new names.now (answers ++ answered.now ∷ []) };
+            → tells self.new names.now (answers ++ record { session = session; reply = reply.now } ∷ []) };
 }

@@ -13,7 +13,7 @@ use crate::Log;
 use crate::named::is_named;
 use script_text::{Answered, put_reply};
 use std::alloc::{AllocError, Global};
-use teb_names::NameBook;
+use teb_names::{NameBook, Reply, Session};
 
 /// The text of answers, a line for each, written as it comes. An answer that names what has no name gets no line.
 #[derive(Drop)]
@@ -54,28 +54,34 @@ impl Log for ReplyText {
 
     /// Writes the line that waits.
     fn ready(&mut self, names: &NameBook) -> Result<(), AllocError> {
-        if let Some(answered) = self.waiting {
-            put_line(&mut self.text, names, &answered)?;
+        if let Some(Answered { session, reply }) = &self.waiting {
+            put_line(&mut self.text, names, *session, reply)?;
             self.waiting = None;
         }
         Ok(())
     }
 
     /// Writes a line, or lets it wait.
-    fn add(&mut self, names: &NameBook, answered: &Answered) {
-        if put_line(&mut self.text, names, answered).is_err() {
-            self.waiting = Some(*answered);
+    fn add(&mut self, names: &NameBook, session: Session, reply: &Reply) {
+        if put_line(&mut self.text, names, session, reply).is_err() {
+            let reply = *reply;
+            self.waiting = Some(Answered { session, reply });
         }
     }
 }
 
 /// Appends the line of an answer, or, for want of memory, nothing.
-fn put_line(out: &mut Vec<u8>, names: &NameBook, answered: &Answered) -> Result<(), AllocError>
-    ensures ok { OnOk result (out.new.items ≡ out.old.items ++ line_of names.now answered.now) }
+fn put_line(
+    out: &mut Vec<u8>,
+    names: &NameBook,
+    session: Session,
+    reply: &Reply,
+) -> Result<(), AllocError>
+    ensures ok { OnOk result (out.new.items ≡ out.old.items ++ line_of names.now (record { session = session; reply = reply.now })) }
     ensures err { OnErr result (out.new.items ≡ out.old.items) }
 {
-    if is_named(names, &answered.reply) {
-        put_reply(out, names, answered)
+    if is_named(names, reply) {
+        put_reply(out, names, session, reply)
     } else {
         Ok(())
     }

@@ -10,7 +10,7 @@ use crate::ring::Ring;
 use crate::steps::Steps;
 use answer_log::Log;
 use engine_core::Engine;
-use script_text::{Answered, Scripts};
+use script_text::Scripts;
 use std::alloc::{AllocError, Global};
 use std::sync::ledger::Ledger;
 use version_chain::Chains;
@@ -65,12 +65,8 @@ fn make_turn<C: Chains, G: Log>(
     };
     log.ready(&engine.setup().names)?;
     engine.ready()?;
-    let session = asked.session;
-    let answered = Answered {
-        session,
-        reply: engine.ask(session, asked.request),
-    };
-    ring.take(asked.index, &answered.reply);
-    log.add(&engine.setup().names, &answered);
+    let reply = engine.ask(asked.session, asked.request);
+    ring.take(asked.index, &reply);
+    log.add(&engine.setup().names, asked.session, &reply);
     Ok(true)
 }

@@ -54,7 +54,7 @@ pub fn put_replies(out: &mut Vec<u8>, names: &NameBook, log: &[Answered]) -> Res
     ensures { OnOk result (out.new.items ≡ out.old.items ++ flat_map (reply_text names.now) log.now) }
 {
     for answered in log {
-        put_reply(out, names, answered)?;
+        put_reply(out, names, answered.session, &answered.reply)?;
     }
     Ok(())
 }

@@ -8,7 +8,7 @@ ghost use Rattle.replay_runner.specs.Logs.{log_of, requests_of};
 
 use answer_log::Log;
 use engine_core::Engine;
-use script_text::{Answered, Line};
+use script_text::Line;
 use std::alloc::AllocError;
 use teb_names::{Request, Session};
 use version_chain::Chains;
@@ -46,10 +46,7 @@ pub fn ask<C: Chains, L: Log>(
 {
     log.ready(&engine.setup().names)?;
     engine.ready()?;
-    let answered = Answered {
-        session,
-        reply: engine.ask(session, request),
-    };
-    log.add(&engine.setup().names, &answered);
+    let reply = engine.ask(session, request);
+    log.add(&engine.setup().names, session, &reply);
     Ok(())
 }

@@ -1,37 +1,46 @@
 //! The texts of replies.
 
 ghost use Rattle.std.specs.Prelude.{◌≡◌, ◌≤◌, ◌++◌, ◌∷◌, [], IsTrue, OnOk, OnErr, codes, decimal, false, length, map};
-ghost use Rattle.script_text.specs.Texts.{cause_words, name_of, refusal_text, reply_text, reply_words, txn_text, value_text};
+ghost use Rattle.script_text.specs.Texts.{cause_words, line_text, name_of, refusal_text, reply_text, reply_words, txn_text, value_text};
 ghost use Rattle.script_text.specs.Named.{CauseNamed, NodeNamed, ReplyNamed};
 ghost use Rattle.script_text.specs.Puts.{IsLong, Puts, spaced, word_text};
 
 use super::tail::Tail;
 use super::word::{Word, node, put_cell, put_feed, put_spaced, put_text, put_words, whole};
-use crate::Answered;
 use std::alloc::AllocError;
 use teb_names::{Cause, NameBook, Node, Refusal, Reply, ScanList, Session, Txn};
 
 /// Appends the line of a reply, or, for want of memory, nothing.
 #[tactic(auto, using(crate::proofs::Wholes::kept, crate::proofs::Wholes::taken_back))]
-pub fn put_reply(out: &mut Vec<u8>, names: &NameBook, answered: &Answered) -> Result<(), AllocError>
-    requires { ReplyNamed names.now answered.now.reply }
-    ensures ok { OnOk result (out.new.items ≡ out.old.items ++ reply_text names.now answered.now) }
+pub fn put_reply(
+    out: &mut Vec<u8>,
+    names: &NameBook,
+    session: Session,
+    reply: &Reply,
+) -> Result<(), AllocError>
+    requires { ReplyNamed names.now reply.now }
+    ensures ok { OnOk result (out.new.items ≡ out.old.items ++ reply_text names.now (record { session = session; reply = reply.now })) }
     ensures err { OnErr result (out.new.items ≡ out.old.items) }
 {
     let start = out.len();
-    let written = put_answered(out, names, answered);
+    let written = put_answered(out, names, session, reply);
     whole(out, start, written)
 }
 
-fn put_answered(out: &mut Vec<u8>, names: &NameBook, answered: &Answered) -> Result<(), AllocError>
-    requires { ReplyNamed names.now answered.now.reply }
-    ensures { Puts out.old.items (reply_text names.now answered.now) out.new.items result }
+fn put_answered(
+    out: &mut Vec<u8>,
+    names: &NameBook,
+    session: Session,
+    reply: &Reply,
+) -> Result<(), AllocError>
+    requires { ReplyNamed names.now reply.now }
+    ensures { Puts out.old.items (line_text (decimal session.0 ∷ reply_words names.now reply.now)) out.new.items result }
 {
     let mut line = Tail::new();
-    if !put_short(&mut line, names, &answered.reply) {
-        return put_long(out, names, answered);
+    if !put_short(&mut line, names, reply) {
+        return put_long(out, names, session, reply);
     }
-    line.put_natural(u32::from(answered.session.0));
+    line.put_natural(u32::from(session.0));
     out.extend_from_slice(line.as_bytes())
 }
 
@@ -86,13 +95,18 @@ fn put_again(line: &mut Tail, node: &str, who: Txn) -> bool
     true
 }
 
-fn put_long(out: &mut Vec<u8>, names: &NameBook, answered: &Answered) -> Result<(), AllocError>
-    requires named { ReplyNamed names.now answered.now.reply }
-    requires long { IsLong answered.now.reply }
-    ensures { Puts out.old.items (reply_text names.now answered.now) out.new.items result }
+fn put_long(
+    out: &mut Vec<u8>,
+    names: &NameBook,
+    session: Session,
+    reply: &Reply,
+) -> Result<(), AllocError>
+    requires named { ReplyNamed names.now reply.now }
+    requires long { IsLong reply.now }
+    ensures { Puts out.old.items (line_text (decimal session.0 ∷ reply_words names.now reply.now)) out.new.items result }
 {
-    put_session(out, answered.session)?;
-    put_long_words(out, names, &answered.reply)?;
+    put_session(out, session)?;
+    put_long_words(out, names, reply)?;
     put_feed(out)
 }
 

@@ -6,4 +6,4 @@ pub returns : goal.returns
 returns c =
     put_at_once _ _ _ _ _ c.extend_from_slice.ensures.items
     (c.as_bytes.ensures ∙ c.put_natural.ensures.text ∙ ap (λ n. decimal n ++ c.put_short.new.line) c.from.ensures
-    ∙ ap (λ l. decimal c.args.answered.now.session.0 ++ l) (c.if-not-put_short.ensures.text refl) ∙ whole_line _ _)
+    ∙ ap (λ l. decimal c.args.session.0 ++ l) (c.if-not-put_short.ensures.text refl) ∙ whole_line _ _)
