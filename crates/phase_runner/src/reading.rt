@@ -11,7 +11,7 @@ ghost use Rattle.phase_runner.specs.Readings.{IsRead};
 use crate::error::{PhaseError, PhaseWhy};
 use crate::parts::parts;
 use input_reader::{Input, InputError, MOST_LINES};
-use script_text::{count_lines, parse_script, split_input};
+use script_text::{has_more_lines, parse_script, split_input};
 use std::alloc::Global;
 use std::collections::VecDeque;
 use tree_switch::same_names;
@@ -55,7 +55,7 @@ fn is_long(bytes: &[u8]) -> bool
     ensures { result ≡ spec_is_long (parts_of bytes.now) }
 {
     match split_input(bytes) {
-        Some((_, behind)) => count_lines(behind) > MOST_LINES,
+        Some((_, behind)) => has_more_lines(behind, MOST_LINES),
         None => false,
     }
 }

@@ -10,7 +10,7 @@ mod text;
 
 pub use error::{LineWhy, ScriptError};
 pub use input::split_input;
-pub use line_count::{count_lines, has_more_lines};
+pub use line_count::has_more_lines;
 pub use script::{number, parse_script};
 pub use scripts::{Scripts, scripts_of};
 use teb_names::{Reply, Request, Session};

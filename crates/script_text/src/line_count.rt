@@ -17,7 +17,7 @@ pub fn has_more_lines(script: &[u8], most: usize) -> bool
 }
 
 /// How many lines a script has. A last line without a line feed counts only where it is not empty.
-pub fn count_lines(script: &[u8]) -> usize
+fn count_lines(script: &[u8]) -> usize
     ensures { result ≡ length (lines_of script.now) }
 {
     Lines(script).count()
