@@ -1,38 +1,42 @@
-//! One bucket: the values of some keys in two vectors that are sorted by key.
+//! One bucket: the values of some keys, those of a key in one run.
 
 mod by_number;
 
-ghost use Rattle.std.specs.Prelude.{ℕ, ◌≡◌, ◌<◌, ◌≤◌, ◌+◌, ◌-◌, ◌++◌, ◌∷◌, length, cond, [], insert, remove, set, vec_len, vec_capacity, OnOk, IsTrue};
+ghost use Rattle.std.specs.Prelude.{ℕ, suc, ◌≡◌, ◌<◌, ◌≤◌, ◌+◌, ◌-◌, ◌^◌, ◌++◌, ◌∷◌, length, get_or, cond, true, [], insert, remove, set, vec_len, vec_capacity, OnOk};
 ghost use Rattle.std.specs.List.{remove_range};
 ghost use Rattle.std.specs.Ordering.{is_eq};
-ghost use Rattle.sorted_multimap.specs.Buckets.{bucket_values, IsSorted, HasRoom, IsKept, lows, tops, Ascends};
+ghost use Rattle.sorted_multimap.specs.Buckets.{bucket_values, keys_of, spread_keys, IsSorted, HasRoom, IsKept, AreRuns, lows, tops, lowest, start_at, end_at, holds_at, raised, lowered, by_key, Ascends};
 
 use std::alloc::{AllocError, Global};
 use std::cmp::Ordering;
 use vec_room::put_in;
 
-/// How many keys a search for the end of a run looks at by themselves.
-const NEAR: usize = 4;
-
-/// How many keys a search for the start of a run looks at one after the other.
+/// How many runs a search looks at one after the other.
 const FEW: usize = 8;
 
-/// Values, each beside its key.
+/// A key, beside where its values end among all. They begin where those of the run before it end.
+#[derive(Clone, Copy)]
+pub(crate) struct Run<K> {
+    key: K,
+    end: usize,
+}
+
+/// Values by key: a run for each key that has some, in ascending order of the keys, and the values, run after run.
 #[derive(Drop)]
 pub(crate) struct Bucket<K, V> {
-    keys: Vec<K>,
+    runs: Vec<Run<K>>,
     values: Vec<V>,
 }
 
 impl<K: Ord + Copy, V: Copy> Bucket<K, V> {
     /// No values, and no room.
     pub(crate) fn new(alloc: Global) -> Self
-        ensures keys { result.keys.items ≡ [] }
+        ensures keys { keys_of result ≡ [] }
         ensures values { result.values.items ≡ [] }
         ensures sorted { IsSorted K.cmp result }
     {
         Bucket {
-            keys: Vec::new(alloc),
+            runs: Vec::new(alloc),
             values: Vec::new(alloc),
         }
     }
@@ -43,7 +47,7 @@ impl<K: Ord + Copy, V: Copy> Bucket<K, V> {
         ensures kept { IsKept K.cmp self.old self.new }
         ensures room { OnOk result (HasRoom self.new n) }
     {
-        make_room(&mut self.keys, n)?;
+        make_room(&mut self.runs, n)?;
         make_room(&mut self.values, n)?;
         Ok(())
     }
@@ -53,8 +57,9 @@ impl<K: Ord + Copy, V: Copy> Bucket<K, V> {
         requires { IsSorted K.cmp self.now }
         ensures { result.now ≡ bucket_values K.cmp self.now key }
     {
-        let start = first(&self.keys, key);
-        let end = end_from(&self.keys, start, key);
+        let run = first(&self.runs, key);
+        let start = start_of(&self.runs, run);
+        let end = end_of(&self.runs, run, key);
         &self.values[start..end]
     }
 
@@ -67,22 +72,25 @@ impl<K: Ord + Copy, V: Copy> Bucket<K, V> {
         ensures values { (q : K) → bucket_values K.cmp self.new q ≡ cond (is_eq (K.cmp key q)) (insert (bucket_values K.cmp self.old key) i value) (bucket_values K.cmp self.old q) }
         ensures room { (n : ℕ) → HasRoom self.old (n + 1) → HasRoom self.new n }
     {
-        let at = first(&self.keys, key) + i;
-        self.put_at(at, key, value);
+        let run = first(&self.runs, key);
+        let at = start_of(&self.runs, run) + i;
+        self.put_at(run, at, key, value);
     }
 
     // Puts a value, and its key beside it, at a place where the key may stand.
-    fn put_at(&mut self, at: usize, key: K, value: V)
+    fn put_at(&mut self, run: usize, at: usize, key: K, value: V)
         requires sorted { IsSorted K.cmp self.old }
         requires room { HasRoom self.old 1 }
-        requires low { lows K.cmp self.old.keys.items key ≤ at }
-        requires top { at ≤ tops K.cmp self.old.keys.items key }
+        requires run { run ≡ lowest K.cmp self.old.runs.items key }
+        requires low { lows K.cmp (keys_of self.old) key ≤ at }
+        requires top { at ≤ tops K.cmp (keys_of self.old) key }
         ensures sorted { IsSorted K.cmp self.new }
-        ensures values { (i : ℕ) → at ≡ lows K.cmp self.old.keys.items key + i → (q : K) → bucket_values K.cmp self.new q ≡ cond (is_eq (K.cmp key q)) (insert (bucket_values K.cmp self.old key) i value) (bucket_values K.cmp self.old q) }
+        ensures values { (i : ℕ) → at ≡ lows K.cmp (keys_of self.old) key + i → (q : K) → bucket_values K.cmp self.new q ≡ cond (is_eq (K.cmp key q)) (insert (bucket_values K.cmp self.old key) i value) (bucket_values K.cmp self.old q) }
         ensures room { (n : ℕ) → HasRoom self.old (n + 1) → HasRoom self.new n }
     {
-        put_in(&mut self.keys, at, key);
+        open(&mut self.runs, run, key);
         put_in(&mut self.values, at, value);
+        raise(&mut self.runs, run);
     }
 
     /// Puts a value behind those of a key.
@@ -93,9 +101,9 @@ impl<K: Ord + Copy, V: Copy> Bucket<K, V> {
         ensures values { (q : K) → bucket_values K.cmp self.new q ≡ cond (is_eq (K.cmp key q)) (bucket_values K.cmp self.old key ++ value ∷ []) (bucket_values K.cmp self.old q) }
         ensures room { (n : ℕ) → HasRoom self.old (n + 1) → HasRoom self.new n }
     {
-        let end = behind(&self.keys, key);
-        put_in(&mut self.keys, end, key);
-        put_in(&mut self.values, end, value);
+        let run = first(&self.runs, key);
+        let end = end_of(&self.runs, run, key);
+        self.put_at(run, end, key, value);
     }
 
     /// Takes out all values of a key.
@@ -105,10 +113,15 @@ impl<K: Ord + Copy, V: Copy> Bucket<K, V> {
         ensures values { (q : K) → bucket_values K.cmp self.new q ≡ cond (is_eq (K.cmp key q)) [] (bucket_values K.cmp self.old q) }
         ensures room { (n : ℕ) → HasRoom self.old n → HasRoom self.new n }
     {
-        let start = first(&self.keys, key);
-        let end = end_from(&self.keys, start, key);
-        cut(&mut self.keys, start, end);
+        let run = first(&self.runs, key);
+        if !holds(&self.runs, run, key) {
+            return;
+        }
+        let start = start_of(&self.runs, run);
+        let end = self.runs[run].end;
         cut(&mut self.values, start, end);
+        lower(&mut self.runs, run, end - start);
+        self.runs.remove(run);
     }
 
     /// Replaces the value at an index among those of a key.
@@ -119,16 +132,17 @@ impl<K: Ord + Copy, V: Copy> Bucket<K, V> {
         ensures values { (q : K) → bucket_values K.cmp self.new q ≡ cond (is_eq (K.cmp key q)) (set (bucket_values K.cmp self.old key) i value) (bucket_values K.cmp self.old q) }
         ensures room { (n : ℕ) → HasRoom self.old n → HasRoom self.new n }
     {
-        let at = first(&self.keys, key) + i;
+        let run = first(&self.runs, key);
+        let at = start_of(&self.runs, run) + i;
         self.replace_at(at, value);
     }
 
     // Replaces the value at a place.
     fn replace_at(&mut self, at: usize, value: V)
         requires sorted { IsSorted K.cmp self.old }
-        requires within { at < vec_len self.old.keys }
+        requires within { at < vec_len self.old.values }
         ensures sorted { IsSorted K.cmp self.new }
-        ensures values { (key : K) (i : ℕ) → at ≡ lows K.cmp self.old.keys.items key + i → at < tops K.cmp self.old.keys.items key → (q : K) → bucket_values K.cmp self.new q ≡ cond (is_eq (K.cmp key q)) (set (bucket_values K.cmp self.old key) i value) (bucket_values K.cmp self.old q) }
+        ensures values { (key : K) (i : ℕ) → at ≡ lows K.cmp (keys_of self.old) key + i → at < tops K.cmp (keys_of self.old) key → (q : K) → bucket_values K.cmp self.new q ≡ cond (is_eq (K.cmp key q)) (set (bucket_values K.cmp self.old key) i value) (bucket_values K.cmp self.old q) }
         ensures room { (n : ℕ) → HasRoom self.old n → HasRoom self.new n }
     {
         self.values[at] = value;
@@ -140,22 +154,28 @@ impl<K: Ord + Copy, V: Copy> Bucket<K, V> {
         requires within { i < length (bucket_values K.cmp self.old key) }
         ensures sorted { IsSorted K.cmp self.new }
         ensures values { (q : K) → bucket_values K.cmp self.new q ≡ cond (is_eq (K.cmp key q)) (remove (bucket_values K.cmp self.old key) i) (bucket_values K.cmp self.old q) }
-        ensures room { (n : ℕ) → HasRoom self.old n → HasRoom self.new (n + 1) }
+        ensures room { (n : ℕ) → HasRoom self.old n → HasRoom self.new n }
     {
-        let at = first(&self.keys, key) + i;
-        self.take_at(at);
+        let run = first(&self.runs, key);
+        let at = start_of(&self.runs, run) + i;
+        self.take_at(run, at);
     }
 
-    // Takes out the value at a place, and its key.
-    fn take_at(&mut self, at: usize)
+    // Takes out the value at a place of a run, and with its last value the run.
+    fn take_at(&mut self, run: usize, at: usize)
         requires sorted { IsSorted K.cmp self.old }
-        requires within { at < vec_len self.old.keys }
+        requires within { run < length self.old.runs.items }
+        requires low { start_at 0 self.old.runs.items run ≤ at }
+        requires top { at < start_at 0 self.old.runs.items (suc run) }
         ensures sorted { IsSorted K.cmp self.new }
-        ensures values { (key : K) (i : ℕ) → at ≡ lows K.cmp self.old.keys.items key + i → at < tops K.cmp self.old.keys.items key → (q : K) → bucket_values K.cmp self.new q ≡ cond (is_eq (K.cmp key q)) (remove (bucket_values K.cmp self.old key) i) (bucket_values K.cmp self.old q) }
-        ensures room { (n : ℕ) → HasRoom self.old n → HasRoom self.new (n + 1) }
+        ensures values { (key : K) (i : ℕ) → at ≡ lows K.cmp (keys_of self.old) key + i → at < tops K.cmp (keys_of self.old) key → (q : K) → bucket_values K.cmp self.new q ≡ cond (is_eq (K.cmp key q)) (remove (bucket_values K.cmp self.old key) i) (bucket_values K.cmp self.old q) }
+        ensures room { (n : ℕ) → HasRoom self.old n → HasRoom self.new n }
     {
-        self.keys.remove(at);
         self.values.remove(at);
+        lower(&mut self.runs, run, 1);
+        if self.runs[run].end == start_of(&self.runs, run) {
+            self.runs.remove(run);
+        }
     }
 }
 
@@ -185,96 +205,95 @@ fn cut<T: Copy>(v: &mut Vec<T>, start: usize, end: usize)
     v.truncate(v.len() - (end - start));
 }
 
-/// Where the keys from a key on begin. A few are looked at one after the other.
+/// Makes a run of no values for a key that has no run.
 #[inline(always)]
-fn first<K: Ord + Copy>(keys: &[K], key: K) -> usize
-    requires { Ascends K.cmp keys.now }
-    ensures at { result ≡ lows K.cmp keys.now key }
-    ensures low { result ≤ tops K.cmp keys.now key }
-    ensures within { result ≤ length keys.now }
+fn open<K: Ord + Copy>(runs: &mut Vec<Run<K>>, run: usize, key: K)
+    requires run { run ≡ lowest K.cmp runs.old.items key }
+    requires room { vec_len runs.old < vec_capacity runs.old }
+    ensures runs { (n : ℕ) → AreRuns K.cmp 0 runs.old.items n → AreRuns K.cmp 0 runs.new.items n }
+    ensures keys { spread_keys 0 runs.new.items ≡ spread_keys 0 runs.old.items }
+    ensures holds { holds_at K.cmp runs.new.items run key ≡ true }
+    ensures len { vec_len runs.new ≤ vec_len runs.old + 1 }
+    ensures capacity { vec_capacity runs.old ≤ vec_capacity runs.new }
 {
-    if keys.len() > FEW {
-        return search_first(keys, key);
+    if !holds(runs, run, key) {
+        let end = start_of(runs, run);
+        put_in(runs, run, Run { key, end });
     }
-    for i in 0..keys.len() {
-        if keys[i].cmp(&key) != Ordering::Less {
+}
+
+/// Where a run begins.
+#[inline(always)]
+fn start_of<K: Copy>(runs: &[Run<K>], run: usize) -> usize
+    requires { run ≤ length runs.now }
+    ensures { result ≡ start_at 0 runs.now run }
+{
+    if run == 0 { 0 } else { runs[run - 1].end }
+}
+
+/// Whether a run is that of a key.
+#[inline(always)]
+fn holds<K: Ord + Copy>(runs: &[Run<K>], run: usize, key: K) -> bool
+    ensures { result ≡ holds_at K.cmp runs.now run key }
+{
+    run < runs.len() && runs[run].key.cmp(&key) == Ordering::Equal
+}
+
+/// Where the values of a key end.
+#[inline(always)]
+fn end_of<K: Ord + Copy>(runs: &[Run<K>], run: usize, key: K) -> usize
+    requires { run ≤ length runs.now }
+    ensures { result ≡ end_at K.cmp 0 runs.now run key }
+{
+    if holds(runs, run, key) {
+        return runs[run].end;
+    }
+    start_of(runs, run)
+}
+
+/// Moves the ends of a run and of those behind it up by one.
+fn raise<K: Copy>(runs: &mut [Run<K>], run: usize)
+    requires { (i : ℕ) (d : Run K) → run ≤ i → i < length runs.old → (get_or runs.old i d).end + 1 < 2 ^ 64 }
+    ensures { runs.new ≡ raised run runs.old }
+{
+    for i in run..runs.len() {
+        runs[i].end += 1;
+    }
+}
+
+/// Moves the ends of a run and of those behind it down by n.
+fn lower<K: Copy>(runs: &mut [Run<K>], run: usize, n: usize)
+    requires { (i : ℕ) (d : Run K) → run ≤ i → i < length runs.old → n ≤ (get_or runs.old i d).end }
+    ensures { runs.new ≡ lowered n run runs.old }
+{
+    for i in run..runs.len() {
+        runs[i].end -= n;
+    }
+}
+
+/// How many runs have a key below a key. A few are looked at one after the other.
+#[inline(always)]
+fn first<K: Ord + Copy>(runs: &[Run<K>], key: K) -> usize
+    requires { Ascends (by_key K.cmp) runs.now }
+    ensures at { result ≡ lowest K.cmp runs.now key }
+    ensures within { result ≤ length runs.now }
+{
+    if runs.len() > FEW {
+        return search_first(runs, key);
+    }
+    for i in 0..runs.len() {
+        if runs[i].key.cmp(&key) != Ordering::Less {
             return i;
         }
     }
-    keys.len()
+    runs.len()
 }
 
-/// Where the keys from a key on begin, by a binary search.
-fn search_first<K: Ord + Copy>(keys: &[K], key: K) -> usize
-    requires { Ascends K.cmp keys.now }
-    ensures at { result ≡ lows K.cmp keys.now key }
-    ensures low { result ≤ tops K.cmp keys.now key }
-    ensures within { result ≤ length keys.now }
+/// How many runs have a key below a key, by a binary search.
+fn search_first<K: Ord + Copy>(runs: &[Run<K>], key: K) -> usize
+    requires { Ascends (by_key K.cmp) runs.now }
+    ensures at { result ≡ lowest K.cmp runs.now key }
+    ensures within { result ≤ length runs.now }
 {
-    if none_below(keys, key) {
-        return 0;
-    }
-    keys.partition_point(|k| k.cmp(&key) == Ordering::Less)
-}
-
-/// Whether the first key says that none is below a key.
-fn none_below<K: Ord + Copy>(keys: &[K], key: K) -> bool
-    requires { Ascends K.cmp keys.now }
-    ensures { IsTrue result → lows K.cmp keys.now key ≡ 0 }
-{
-    keys.is_empty() || keys[0].cmp(&key) != Ordering::Less
-}
-
-/// Whether the last key says that none is above a key.
-fn none_above<K: Ord + Copy>(keys: &[K], key: K) -> bool
-    requires { Ascends K.cmp keys.now }
-    ensures { IsTrue result → tops K.cmp keys.now key ≡ length keys.now }
-{
-    keys.is_empty() || keys[keys.len() - 1].cmp(&key) != Ordering::Greater
-}
-
-/// Where the keys above a key begin.
-fn behind<K: Ord + Copy>(keys: &[K], key: K) -> usize
-    requires { Ascends K.cmp keys.now }
-    ensures at { result ≡ tops K.cmp keys.now key }
-    ensures within { result ≤ length keys.now }
-{
-    if none_above(keys, key) {
-        return keys.len();
-    }
-    keys.partition_point(|k| k.cmp(&key) != Ordering::Greater)
-}
-
-/// Where the keys above a key begin, from where that key begins. Most keys have few values: the first places are searched by themselves.
-#[inline(always)]
-fn end_from<K: Ord + Copy>(keys: &[K], start: usize, key: K) -> usize
-    requires ascends { Ascends K.cmp keys.now }
-    requires start { start ≡ lows K.cmp keys.now key }
-    requires inside { start ≤ length keys.now }
-    ensures at { result ≡ tops K.cmp keys.now key }
-    ensures within { result ≤ length keys.now }
-{
-    start + run_of(&keys[start..], key)
-}
-
-/// How many of the first keys are not above a key.
-#[inline(always)]
-fn run_of<K: Ord + Copy>(keys: &[K], key: K) -> usize
-    requires { Ascends K.cmp keys.now }
-    ensures at { result ≡ tops K.cmp keys.now key }
-    ensures within { result ≤ length keys.now }
-{
-    let near = keys.len().min(NEAR);
-    for i in 0..near {
-        if keys[i].cmp(&key) == Ordering::Greater {
-            return i;
-        }
-    }
-    if near < NEAR {
-        return near;
-    }
-    if none_above(keys, key) {
-        return keys.len();
-    }
-    keys.partition_point(|k| k.cmp(&key) != Ordering::Greater)
+    runs.partition_point(|r| r.key.cmp(&key) == Ordering::Less)
 }

@@ -38,9 +38,8 @@ const AHEAD: usize = 64;
 
 /// A multimap: values, each beside its key. Those of a key stand in an order of their own, and are lent as one slice.
 ///
-/// An edit moves what stands behind its place in the bucket of its key. A look-up is a search there for the first value of a key, one after
-/// the other where they are few and else a binary search, and a search for the end of its values: among the next few places, or where they
-/// do not end there, among all that follow.
+/// A look-up is a search among the keys of a bucket, each once, one after the other where they are few and else a binary search. An edit is
+/// one too, and moves the values behind its place in that bucket, and counts the ends of those keys behind it up or down.
 #[derive(Drop)]
 pub struct Multimap<K: Key, V: Copy> {
     alloc: Global,

@@ -4,9 +4,9 @@ ghost use Rattle.std.specs.Prelude.{ℕ, ◌≡◌, ◌+◌, cond, eqb, filter, 
 ghost use Rattle.std.specs.Ordering.{is_eq};
 ghost use Rattle.std.specs.Result.{is_err};
 ghost use Rattle.teb_history.specs.Ascending.{IsAscendingBy, place_of, put_by};
-ghost use Rattle.sorted_multimap.specs.Buckets.{bucket_values, IsSorted, HasRoom, lows, further};
+ghost use Rattle.sorted_multimap.specs.Buckets.{bucket_values, keys_of, IsSorted, HasRoom, lows, lowest, further};
 
-use super::{Bucket, end_from, first};
+use super::{Bucket, end_of, first, start_of};
 use crate::Numbered;
 
 impl<K: Ord + Copy, V: Numbered> Bucket<K, V> {
@@ -20,13 +20,14 @@ impl<K: Ord + Copy, V: Numbered> Bucket<K, V> {
         ensures values { (q : K) → bucket_values K.cmp self.new q ≡ cond (is_eq (K.cmp key q)) (put_by V.numbered_by value (bucket_values K.cmp self.old key)) (bucket_values K.cmp self.old q) }
         ensures room { (n : ℕ) → HasRoom self.old (n + cond result 1 0) → HasRoom self.new n }
     {
-        match self.find(key, value.number()) {
+        let run = first(&self.runs, key);
+        match self.find(run, key, value.number()) {
             Ok(at) => {
                 self.replace_at(at, value);
                 false
             }
             Err(at) => {
-                self.put_at(at, key, value);
+                self.put_at(run, at, key, value);
                 true
             }
         }
@@ -42,10 +43,11 @@ impl<K: Ord + Copy, V: Numbered> Bucket<K, V> {
         ensures values { (q : K) → bucket_values K.cmp self.new q ≡ cond (is_eq (K.cmp key q)) (cond result (put_by V.numbered_by value (bucket_values K.cmp self.old key)) (bucket_values K.cmp self.old key)) (bucket_values K.cmp self.old q) }
         ensures room { (n : ℕ) → HasRoom self.old (n + cond result 1 0) → HasRoom self.new n }
     {
-        match self.find(key, value.number()) {
+        let run = first(&self.runs, key);
+        match self.find(run, key, value.number()) {
             Ok(_) => false,
             Err(at) => {
-                self.put_at(at, key, value);
+                self.put_at(run, at, key, value);
                 true
             }
         }
@@ -59,19 +61,21 @@ impl<K: Ord + Copy, V: Numbered> Bucket<K, V> {
         ensures values { (q : K) → bucket_values K.cmp self.new q ≡ cond (is_eq (K.cmp key q)) (filter (λ v. not (eqb (V.numbered_by v) number)) (bucket_values K.cmp self.old key)) (bucket_values K.cmp self.old q) }
         ensures room { (n : ℕ) → HasRoom self.old n → HasRoom self.new n }
     {
-        if let Ok(at) = self.find(key, number) {
-            self.take_at(at);
+        let run = first(&self.runs, key);
+        if let Ok(at) = self.find(run, key, number) {
+            self.take_at(run, at);
         }
     }
 
-    // The place of the value with a number among those of a key, or where it would go.
-    fn find(&self, key: K, number: u32) -> Result<usize, usize>
+    // The place of the value with a number among those of a key, whose run it is, or where it would go.
+    fn find(&self, run: usize, key: K, number: u32) -> Result<usize, usize>
         requires sorted { IsSorted K.cmp self.now }
         requires ascending { IsAscendingBy V.numbered_by (bucket_values K.cmp self.now key) }
-        ensures { result ≡ further (lows K.cmp self.now.keys.items key) (place_of V.numbered_by (bucket_values K.cmp self.now key) number) }
+        requires run { run ≡ lowest K.cmp self.now.runs.items key }
+        ensures { result ≡ further (lows K.cmp (keys_of self.now) key) (place_of V.numbered_by (bucket_values K.cmp self.now key) number) }
     {
-        let start = first(&self.keys, key);
-        let end = end_from(&self.keys, start, key);
+        let start = start_of(&self.runs, run);
+        let end = end_of(&self.runs, run, key);
         match find_number(&self.values[start..end], number) {
             Ok(i) => Ok(start + i),
             Err(i) => Err(start + i),

@@ -1,63 +1,45 @@
-use Rattle.std.proofs.Common.{◌≡◌, ◌+◌, ◌∷◌, ◌++◌, [], ◌∙◌, sym, ap, subst, cond, arith, insert, length, refl, List}
+use Rattle.std.proofs.Common.{◌≡◌, ◌∙◌, ◌++◌, ◌∷◌, [], refl, insert, cond, ap, arith, length, List}
 use Rattle.std.specs.Ordering.{is_eq}
-use Rattle.sorted_multimap.specs.Buckets.{values_beside, lows, tops, Ascends}
-use Rattle.sorted_multimap.proofs.SortedEntries.{lows_tops, values_length, tops_length, values_insert, ascends_insert}
+use Rattle.sorted_multimap.specs.Buckets.{keys_of, tops, values_beside}
+use Rattle.sorted_multimap.proofs.BucketRuns.{bucket_ascends, bucket_paired, first_met, end_here}
+use Rattle.sorted_multimap.proofs.SortedEntries.{values_length, lows_tops}
 use Rattle.sorted_multimap.proofs.bucket.Bucket.push.Goals as goal
+
+pub first-run-requires : goal.first-run-requires
+first-run-requires g c = first_met g.K.Ord.cmp g.met.K.Ord.total c.args.self.now c.requires.sorted _ c.deref.ensures.value
+
+pub put_at-requires-clause-low : goal.put_at-requires-clause-low
+put_at-requires-clause-low g c =
+    let R = g.K.Ord.cmp in
+    let total = g.met.K.Ord.total in
+    let p = c.args.self.now in
+    let k = c.args.key in
+    let end : c.end_of-end.result ≡ tops R (keys_of p) k = end_here R total p c.requires.sorted k _ _ _ _ c.deref.ensures.value c.deref-2.ensures.value c.first-run.ensures.at c.end_of-end.ensures in
+    omega (arith, end, lows_tops R total (keys_of p) k (bucket_ascends R total p c.requires.sorted))
+
+pub put_at-requires-clause-top : goal.put_at-requires-clause-top
+put_at-requires-clause-top g c =
+    let R = g.K.Ord.cmp in
+    let total = g.met.K.Ord.total in
+    let p = c.args.self.now in
+    let k = c.args.key in
+    let end : c.end_of-end.result ≡ tops R (keys_of p) k = end_here R total p c.requires.sorted k _ _ _ _ c.deref.ensures.value c.deref-2.ensures.value c.first-run.ensures.at c.end_of-end.ensures in
+    omega (arith, end)
 
 insert_end : {A : Type 0} (xs : List A) (v : A) → insert xs (length xs) v ≡ xs ++ v ∷ []
 insert_end [] v = refl
 insert_end {A} (x ∷ xs) v = ap (λ (ys : List A). x ∷ ys) (insert_end xs v)
 
-pub put_in-requires : goal.put_in-requires
-put_in-requires g c =
-    let R = g.K.Ord.cmp in
-    let total = g.met.K.Ord.total in
-    let k = c.args.key in
-    let ks = c.args.self.now.keys.items in
-    let vs = c.args.self.now.values.items in
-    let n : length ks ≡ length vs = omega (arith, c.args.self.now.keys.ok.0, c.args.self.now.values.ok.0, c.requires.sorted.paired) in
-    let at : c.behind-end.result ≡ tops R ks k = c.behind-end.ensures.at ∙ ap (λ (l : List _). tops R l k) c.deref.ensures.value in
-    omega (arith, at, tops_length R total ks k)
-
-pub put_in-requires-2 : goal.put_in-requires-2
-put_in-requires-2 g c =
-    let R = g.K.Ord.cmp in
-    let total = g.met.K.Ord.total in
-    let k = c.args.key in
-    let ks = c.args.self.now.keys.items in
-    let vs = c.args.self.now.values.items in
-    let n : length ks ≡ length vs = omega (arith, c.args.self.now.keys.ok.0, c.args.self.now.values.ok.0, c.requires.sorted.paired) in
-    let at : c.behind-end.result ≡ tops R ks k = c.behind-end.ensures.at ∙ ap (λ (l : List _). tops R l k) c.deref.ensures.value in
-    omega (arith, at, n, tops_length R total ks k)
-
-pub returns-clause-sorted : goal.returns-clause-sorted
-returns-clause-sorted g c =
-    let R = g.K.Ord.cmp in
-    let total = g.met.K.Ord.total in
-    let k = c.args.key in
-    let ks = c.args.self.now.keys.items in
-    let vs = c.args.self.now.values.items in
-    let n : length ks ≡ length vs = omega (arith, c.args.self.now.keys.ok.0, c.args.self.now.values.ok.0, c.requires.sorted.paired) in
-    let at : c.behind-end.result ≡ tops R ks k = c.behind-end.ensures.at ∙ ap (λ (l : List _). tops R l k) c.deref.ensures.value in
-    let key_in = c.put_in.ensures.items in
-    record {
-      ascends = subst (Ascends R) (sym key_in) (ascends_insert R total ks c.behind-end.result k c.requires.sorted.ascends (omega (arith, at, lows_tops R total ks k c.requires.sorted.ascends)) (omega (arith, at)));
-      paired = omega (arith, c.put_in.ensures.len, c.put_in-2.ensures.len, c.requires.sorted.paired);
-    }
-
 pub returns-clause-values : goal.returns-clause-values
 returns-clause-values g c q =
     let R = g.K.Ord.cmp in
     let total = g.met.K.Ord.total in
+    let p = c.args.self.now in
     let k = c.args.key in
-    let ks = c.args.self.now.keys.items in
-    let vs = c.args.self.now.values.items in
-    let n : length ks ≡ length vs = omega (arith, c.args.self.now.keys.ok.0, c.args.self.now.values.ok.0, c.requires.sorted.paired) in
-    let at : c.behind-end.result ≡ tops R ks k = c.behind-end.ensures.at ∙ ap (λ (l : List _). tops R l k) c.deref.ensures.value in
-    let values_of = values_beside R ks vs k in
-    let end : c.behind-end.result ≡ lows R ks k + length values_of = at ∙ sym (values_length R total ks vs k c.requires.sorted.ascends n) in
-    let key_in = c.put_in.ensures.items in
-    let value_in = c.put_in-2.ensures.items in
-    (λ j. values_beside R (key_in j) (value_in j) q)
-    ∙ (values_insert R total ks vs c.behind-end.result (length values_of) k c.args.value c.requires.sorted.ascends n end (omega (arith, at)) q
-    ∙ ap (λ (l : List _). cond (is_eq (R k q)) l (values_beside R ks vs q)) (insert_end values_of c.args.value))
+    let ks = keys_of p in
+    let vs = p.values.items in
+    let end : c.end_of-end.result ≡ tops R ks k = end_here R total p c.requires.sorted k _ _ _ _ c.deref.ensures.value c.deref-2.ensures.value c.first-run.ensures.at c.end_of-end.ensures in
+    let here = values_beside R ks vs k in
+    let fits = values_length R total ks vs k (bucket_ascends R total p c.requires.sorted) (bucket_paired R total p c.requires.sorted) in
+    c.put_at.ensures.values (length here) (omega (arith, end, fits)) q
+    ∙ ap (λ (l : List _). cond (is_eq (R k q)) l (values_beside R ks vs q)) (insert_end here c.args.value)
