@@ -70,20 +70,6 @@ passing_parted p (j ∷ js) (suc n) le h =
     let ih = passing_parted p js n (omega arith) (λ i d a b. h.0 (suc i) d (omega arith) (omega arith), λ i d a b. h.1 (suc i) d (omega arith) (omega arith)) in
     rw on (ap suc ih)
 
--- the first n keys are not above k
-abbrev pub FirstPass : {K : Type 0} → (K → K → Ordering) → List K → K → ℕ → Type 0
-FirstPass {K} R ks k n = (j : ℕ) (d : K) → j < n → not (is_gt (R (get_or ks j d) k)) ≡ true
-
-pub first_none : {K : Type 0} (R : K → K → Ordering) (ks : List K) (k : K) → FirstPass R ks k 0
-first_none R ks k j d l = absurd (omega arith)
-
--- and so is the next
-pub first_more : {K : Type 0} (R : K → K → Ordering) (ks : List K) (k i : K) (n : ℕ) → n < length ks → i ≡ get_or ks n i → is_gt (R i k) ≡ false → FirstPass R ks k n → FirstPass R ks k (n + 1)
-first_more R ks k i n l at off f j d lt = elim (eqb_tells j n) [
-  | inl (hit, same) ↦ ap (λ x. not (is_gt (R x k))) (ap (λ m. get_or ks m d) same ∙ get_or_default ks n d i l ∙ sym at) ∙ ap not off
-  | inr (miss, other) ↦ f j d (omega arith)
-]
-
 -- the first n keys are below k
 abbrev pub FirstLow : {K : Type 0} → (K → K → Ordering) → List K → K → ℕ → Type 0
 FirstLow {K} R ks k n = (j : ℕ) (d : K) → j < n → is_lt (R (get_or ks j d) k) ≡ true
@@ -141,9 +127,6 @@ module _ {K : Type 0} (R : K → K → Ordering) (total : IsTotalOrder R) where
           | inr e ↦ e
         ]),
       )
-
-  pub first_all : (ks : List K) (k : K) (n : ℕ) → n ≡ length ks → FirstPass R ks k n → n ≡ tops R ks k
-  first_all ks k n e f = passing_parted (λ (j : K). not (is_gt (R j k))) ks n (omega arith) ((λ j d le lt. f j d lt), (λ j d le lt. absurd (omega arith)))
 
   -- behind one that does not pass none does
   rest_none : (p : K → Bool) → Falls p → (j : K) (js : List K) → NoneBelow R j js → p j ≡ false → passing p js ≡ 0
@@ -317,14 +300,6 @@ module _ {K : Type 0} (R : K → K → Ordering) (total : IsTotalOrder R) where
       go Less e le lt ih = ih (omega arith) (omega arith)
       go Equal e le lt ih = let z = lows_rest j k js a.0 (ap is_lt e) in ih (omega arith) (omega arith)
       go Greater e le lt ih = let t = tops_rest j k js a.0 e in absurd (omega arith)
-
-  none_behind : (ks : List K) (k : K) → Ascends R ks → lows R ks k ≡ 0 → NoneBelow R k ks
-  none_behind [] k a z = tt
-  none_behind (j ∷ js) k a z = go (is_lt (R j k)) refl z (none_behind js k a.1)
-    where
-      go : (b : Bool) → is_lt (R j k) ≡ b → cond b (suc (lows R js k)) (lows R js k) ≡ 0 → (lows R js k ≡ 0 → NoneBelow R k js) → NoneBelow R k (j ∷ js)
-      go true e z ih = absurd (omega arith)
-      go false e z ih = (not_under j k e, ih z)
 
   -- the values after an edit
   pub values_insert : {V : Type 0} (ks : List K) (vs : List V) (p i : ℕ) (k : K) (v : V) → Ascends R ks → length ks ≡ length vs → p ≡ lows R ks k + i → p ≤ tops R ks k

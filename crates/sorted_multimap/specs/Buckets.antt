@@ -48,7 +48,7 @@ abbrev pub IsBelow : {K : Type 0} → (K → K → Ordering) → K → List (Run
 IsBelow R k [] = ⊤
 IsBelow R k (r ∷ rs) = IsTrue (is_lt (R k r.key)) × IsBelow R k rs
 
--- the runs of n values, the first of which begins at `from`: each key is above the one before it, and each run ends where it begins or behind
+-- the runs of n values, the first of which begins at `from`: each key is above the one before it, and no run ends before it begins
 abbrev pub AreRuns : {K : Type 0} → (K → K → Ordering) → ℕ → List (Run K) → ℕ → Type 0
 AreRuns R from [] n = from ≡ n
 AreRuns R from (r ∷ rs) n = (from ≤ r.end) × IsBelow R r.key rs × AreRuns R r.end rs n

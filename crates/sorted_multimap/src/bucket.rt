@@ -77,7 +77,7 @@ impl<K: Ord + Copy, V: Copy> Bucket<K, V> {
         self.put_at(run, at, key, value);
     }
 
-    // Puts a value, and its key beside it, at a place where the key may stand.
+    // Puts a value at a place where one of a key may stand, which has that run or gets it.
     fn put_at(&mut self, run: usize, at: usize, key: K, value: V)
         requires sorted { IsSorted K.cmp self.old }
         requires room { HasRoom self.old 1 }
