@@ -1,0 +1,12 @@
+use Rattle.std.proofs.Common.{◌≡◌, ◌<◌, length, ap, rules, arith}
+use Rattle.arena_multimap.specs.Arenas.{segment_at}
+use Rattle.arena_multimap.specs.declared.arena.Segment.{Segment}
+use Rattle.arena_multimap.proofs.Segments.{read_is, shrunk}
+use Rattle.arena_multimap.proofs.arena.Arena.clear.Goals as goal
+
+pub returns-clause-sound : goal.returns-clause-sound
+returns-clause-sound g c =
+    let ss = c.args.self.now.segments.items in
+    let lt : c.args.i < length ss = search rules in
+    let is : c.index.result.now ≡ segment_at ss c.args.i = read_is ss c.args.i c.index.result.now lt c.index.ensures in
+    shrunk ss _ c.args.self.now.debt c.args.i _ c.requires lt (ap (λ (r : Segment). r.start) is) (ap (λ (r : Segment). r.room) is) (omega arith)

@@ -1,0 +1,53 @@
+-- Lists of values in one vector, each in a segment of its own.
+use Rattle.std.specs.Prelude.{◌≢◌, ◌⊎◌, ℕ, ◌+◌, ◌-◌, ◌*◌, ◌≤◌, ◌<◌, List, length, take, drop, get_or, vec_len, vec_capacity}
+use Rattle.std.specs.List.{sum_by}
+use Rattle.arena_multimap.specs.declared.arena.Arena.{Arena}
+use Rattle.arena_multimap.specs.declared.arena.Segment.{Segment}
+
+-- a segment with no place
+abbrev pub none : Segment
+none = record { start = 0; len = 0; room = 0 }
+
+-- the segment of list i, if there is one
+abbrev pub segment_at : List Segment → ℕ → Segment
+segment_at ss i = get_or ss i none
+
+-- the values of a segment
+abbrev pub values_at : {V : Type 0} → List V → Segment → List V
+values_at vs s = take s.len (drop s.start vs)
+
+-- the values of list i; a list that there is not has none
+abbrev pub list_at : {V : Type 0} → Arena V → ℕ → List V
+list_at a i = values_at a.values.items (segment_at a.segments.items i)
+
+-- how many lists there are
+abbrev pub lists : {V : Type 0} → Arena V → ℕ
+lists a = length a.segments.items
+
+-- a segment is within n places
+pub record IsWithin (s : Segment) (n : ℕ) : Type 0 where
+  pub len : s.len ≤ s.room
+  pub end : s.start + s.room ≤ n
+
+-- one of two segments ends before the other begins
+abbrev pub AreApart : Segment → Segment → Type 0
+AreApart s t = (s.start + s.room ≤ t.start) ⊎ (t.start + t.room ≤ s.start)
+
+-- what a segment takes with its next move, less what the values bring that are put in until then
+abbrev pub owed : Segment → ℕ
+owed s = 4 * s.len - 2 * s.room
+
+-- the segments lie in n places, apart, and the debt is at least what they owe
+pub record Lies (ss : List Segment) (n debt : ℕ) : Type 0 where
+  pub within : (i : ℕ) → IsWithin (segment_at ss i) n
+  pub some : (i : ℕ) → i < length ss → 0 < (segment_at ss i).room
+  pub apart : (i j : ℕ) → i ≢ j → AreApart (segment_at ss i) (segment_at ss j)
+  pub owes : sum_by owed ss ≤ debt
+
+abbrev pub IsArena : {V : Type 0} → Arena V → Type 0
+IsArena a = Lies a.segments.items (length a.values.items) a.debt
+
+-- there is room for n more values
+pub record HasRoom {V : Type 0} (a : Arena V) (n : ℕ) : Type 0 where
+  pub segments : vec_len a.segments + n ≤ vec_capacity a.segments
+  pub values : vec_len a.values + a.debt + 4 * n ≤ vec_capacity a.values

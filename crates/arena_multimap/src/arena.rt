@@ -1,0 +1,224 @@
+//! Lists of values in one vector, each by its number.
+
+ghost use Rattle.std.specs.Prelude.{ℕ, ◌≡◌, ◌<◌, ◌≤◌, ◌+◌, ◌++◌, ◌∷◌, max, length, cond, eqb, [], insert, remove, set, OnOk};
+ghost use Rattle.arena_multimap.specs.Arenas.{list_at, lists, segment_at, IsArena, HasRoom};
+
+use std::alloc::{AllocError, Global};
+
+/// How many places each value pays for: those of a new list, or a part of the next move of its segment.
+const SHARE: usize = 4;
+
+/// Where a list lies: from `start`, `len` of `room` places.
+#[derive(Clone, Copy)]
+pub(crate) struct Segment {
+    start: usize,
+    len: usize,
+    room: usize,
+}
+
+/// Lists of values, each in a segment of its own. A full one moves to the end of the vector, to twice the room.
+#[derive(Drop)]
+pub(crate) struct Arena<V> {
+    segments: Vec<Segment>,
+    values: Vec<V>,
+    // How many places the values have put by for the next moves of their segments.
+    debt: usize,
+}
+
+impl<V: Copy> Arena<V> {
+    /// No lists, and no room.
+    pub(crate) fn new(alloc: Global) -> Self
+        ensures sound { IsArena result }
+        ensures lists { lists result ≡ 0 }
+        ensures room { HasRoom result 0 }
+    {
+        Arena {
+            segments: Vec::new(alloc),
+            values: Vec::new(alloc),
+            debt: 0,
+        }
+    }
+
+    /// Makes room for n more values, each in any list or a new one. The lists stay, also after an `Err`.
+    pub(crate) fn reserve(&mut self, n: usize) -> Result<(), AllocError>
+        requires { IsArena self.old }
+        ensures sound { IsArena self.new }
+        ensures lists { lists self.new ≡ lists self.old }
+        ensures values { (j : ℕ) → list_at self.new j ≡ list_at self.old j }
+        ensures kept { (m : ℕ) → HasRoom self.old m → HasRoom self.new m }
+        ensures room { OnOk result (HasRoom self.new n) }
+    {
+        let places = n.checked_mul(SHARE).ok_or(AllocError)?;
+        let places = places.checked_add(self.debt).ok_or(AllocError)?;
+        self.values.reserve(places)?;
+        self.segments.reserve(n)
+    }
+
+    /// The values of a list; none of one that there is not.
+    pub(crate) fn list(&self, i: usize) -> &[V]
+        requires { IsArena self.now }
+        ensures { result.now ≡ list_at self.now i }
+    {
+        if i >= self.segments.len() {
+            return &[];
+        }
+        let segment = self.segments[i];
+        &self.values[segment.start..segment.start + segment.len]
+    }
+
+    /// Puts a value behind those of a list, or into the next new one.
+    pub(crate) fn push(&mut self, i: usize, value: V)
+        requires sound { IsArena self.old }
+        requires within { i ≤ lists self.old }
+        requires room { HasRoom self.old 1 }
+        ensures sound { IsArena self.new }
+        ensures lists { lists self.new ≡ max (lists self.old) (i + 1) }
+        ensures values { (j : ℕ) → list_at self.new j ≡ cond (eqb j i) (list_at self.old i ++ value ∷ []) (list_at self.old j) }
+        ensures room { (n : ℕ) → HasRoom self.old (n + 1) → HasRoom self.new n }
+    {
+        if i == self.segments.len() {
+            self.add(value);
+            return;
+        }
+        let segment = self.segments[i];
+        if segment.len == segment.room {
+            self.widen(i);
+        }
+        self.append(i, value);
+    }
+
+    // Adds a list of one value.
+    fn add(&mut self, value: V)
+        requires sound { IsArena self.old }
+        requires room { HasRoom self.old 1 }
+        ensures sound { IsArena self.new }
+        ensures lists { lists self.new ≡ lists self.old + 1 }
+        ensures values { (j : ℕ) → list_at self.new j ≡ cond (eqb j (lists self.old)) (value ∷ []) (list_at self.old j) }
+        ensures room { (n : ℕ) → HasRoom self.old (n + 1) → HasRoom self.new n }
+    {
+        let segment = Segment {
+            start: self.values.len(),
+            len: 1,
+            room: SHARE,
+        };
+        let _ = self.segments.push(segment);
+        let _ = self.values.push(value);
+        let _ = self.values.push(value);
+        let _ = self.values.push(value);
+        let _ = self.values.push(value);
+    }
+
+    // Moves a full segment to the end, to twice the room.
+    fn widen(&mut self, i: usize)
+        requires sound { IsArena self.old }
+        requires within { i < lists self.old }
+        requires full { (segment_at self.old.segments.items i).len ≡ (segment_at self.old.segments.items i).room }
+        requires room { HasRoom self.old 1 }
+        ensures sound { IsArena self.new }
+        ensures lists { lists self.new ≡ lists self.old }
+        ensures values { (j : ℕ) → list_at self.new j ≡ list_at self.old j }
+        ensures wide { (segment_at self.new.segments.items i).len < (segment_at self.new.segments.items i).room }
+        ensures room { (n : ℕ) → HasRoom self.old n → HasRoom self.new n }
+    {
+        let Segment { start, len, room } = self.segments[i];
+        self.segments[i] = Segment {
+            start: self.values.len(),
+            len,
+            room: 2 * room,
+        };
+        let _ = self.values.extend_from_within(start..start + room);
+        // Any values fill the rest of the room.
+        let _ = self.values.extend_from_within(0..room);
+        self.debt -= 2 * room;
+    }
+
+    // Writes a value behind those of a list whose segment has room.
+    fn append(&mut self, i: usize, value: V)
+        requires sound { IsArena self.old }
+        requires within { i < lists self.old }
+        requires wide { (segment_at self.old.segments.items i).len < (segment_at self.old.segments.items i).room }
+        requires room { HasRoom self.old 1 }
+        ensures sound { IsArena self.new }
+        ensures lists { lists self.new ≡ lists self.old }
+        ensures values { (j : ℕ) → list_at self.new j ≡ cond (eqb j i) (list_at self.old i ++ value ∷ []) (list_at self.old j) }
+        ensures room { (n : ℕ) → HasRoom self.old (n + 1) → HasRoom self.new n }
+    {
+        let Segment { start, len, room } = self.segments[i];
+        self.values[start + len] = value;
+        self.segments[i] = Segment {
+            start,
+            len: len + 1,
+            room,
+        };
+        self.debt += SHARE;
+    }
+
+    /// Puts a value among those of a list, or into the next new one.
+    pub(crate) fn insert(&mut self, i: usize, at: usize, value: V)
+        requires sound { IsArena self.old }
+        requires within { i ≤ lists self.old }
+        requires at { at ≤ length (list_at self.old i) }
+        requires room { HasRoom self.old 1 }
+        ensures sound { IsArena self.new }
+        ensures lists { lists self.new ≡ max (lists self.old) (i + 1) }
+        ensures values { (j : ℕ) → list_at self.new j ≡ cond (eqb j i) (insert (list_at self.old i) at value) (list_at self.old j) }
+        ensures room { (n : ℕ) → HasRoom self.old (n + 1) → HasRoom self.new n }
+    {
+        self.push(i, value);
+        let Segment { start, len, .. } = self.segments[i];
+        let place = start + at;
+        self.values.copy_within(place..start + len - 1, place + 1);
+        self.values[place] = value;
+    }
+
+    /// Replaces a value of a list.
+    pub(crate) fn replace(&mut self, i: usize, at: usize, value: V)
+        requires sound { IsArena self.old }
+        requires at { at < length (list_at self.old i) }
+        ensures sound { IsArena self.new }
+        ensures lists { lists self.new ≡ lists self.old }
+        ensures values { (j : ℕ) → list_at self.new j ≡ cond (eqb j i) (set (list_at self.old i) at value) (list_at self.old j) }
+        ensures room { (n : ℕ) → HasRoom self.old n → HasRoom self.new n }
+    {
+        let start = self.segments[i].start;
+        self.values[start + at] = value;
+    }
+
+    /// Takes a value out of a list.
+    pub(crate) fn take(&mut self, i: usize, at: usize)
+        requires sound { IsArena self.old }
+        requires at { at < length (list_at self.old i) }
+        ensures sound { IsArena self.new }
+        ensures lists { lists self.new ≡ lists self.old }
+        ensures values { (j : ℕ) → list_at self.new j ≡ cond (eqb j i) (remove (list_at self.old i) at) (list_at self.old j) }
+        ensures room { (n : ℕ) → HasRoom self.old n → HasRoom self.new n }
+    {
+        let Segment { start, len, room } = self.segments[i];
+        let place = start + at;
+        self.values.copy_within(place + 1..start + len, place);
+        self.segments[i] = Segment {
+            start,
+            len: len - 1,
+            room,
+        };
+    }
+
+    /// Takes all values out of a list, if there is one. Its segment stays.
+    pub(crate) fn clear(&mut self, i: usize)
+        requires { IsArena self.old }
+        ensures sound { IsArena self.new }
+        ensures lists { lists self.new ≡ lists self.old }
+        ensures values { (j : ℕ) → list_at self.new j ≡ cond (eqb j i) [] (list_at self.old j) }
+        ensures room { (n : ℕ) → HasRoom self.old n → HasRoom self.new n }
+    {
+        if i >= self.segments.len() {
+            return;
+        }
+        let Segment { start, room, .. } = self.segments[i];
+        self.segments[i] = Segment {
+            start,
+            len: 0,
+            room,
+        };
+    }
+}

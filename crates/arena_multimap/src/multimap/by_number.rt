@@ -1,0 +1,57 @@
+//! Edits of the values of a key that ascend by number.
+
+ghost use Rattle.std.specs.Prelude.{◌≡◌, ◌<◌, ◌+◌, cond, eqb, filter, not};
+ghost use Rattle.std.specs.Ordering.{is_eq};
+ghost use Rattle.std.specs.Result.{is_err};
+ghost use Rattle.teb_history.specs.Ascending.{IsAscendingBy, place_of as spec_place_of, put_by};
+ghost use Rattle.sorted_multimap.specs.Multimap.{values_in};
+
+use super::{ArenaMultimap, place_for, place_of};
+use sorted_multimap::Numbered;
+use std::hash::Hash;
+
+impl<K: Ord + Copy + Hash + Drop, V: Numbered> ArenaMultimap<K, V> {
+    /// Puts a value among those of a key, which ascend by number, instead of the one that has its number. Whether there was none; then it
+    /// takes one place of the room.
+    pub fn put_by_number(&mut self, key: K, value: V) -> bool
+        requires room { 0 < self.old.spare }
+        requires ascending { IsAscendingBy V.numbered_by (values_in K.cmp self.old key) }
+        ensures added { result ≡ is_err (spec_place_of V.numbered_by (values_in K.cmp self.old key) (V.numbered_by value)) }
+        ensures values { (q : K) → values_in K.cmp self.new q ≡ cond (is_eq (K.cmp key q)) (put_by V.numbered_by value (values_in K.cmp self.old key)) (values_in K.cmp self.old q) }
+        ensures spare { self.old.spare ≡ self.new.spare + cond result 1 0 }
+    {
+        let list = place_of(&self.keys, key);
+        match find_number(self.lists.list(list), value.number()) {
+            Ok(i) => {
+                self.lists.replace(list, i, value);
+                false
+            }
+            Err(i) => {
+                let place = place_for(&mut self.keys, key);
+                self.lists.insert(place, i, value);
+                self.spare -= 1;
+                true
+            }
+        }
+    }
+
+    /// Takes the value with a number out from among those of a key, which ascend by number. Where there is none, it holds the same.
+    pub fn take_by_number(&mut self, key: K, number: u32)
+        requires { IsAscendingBy V.numbered_by (values_in K.cmp self.old key) }
+        ensures values { (q : K) → values_in K.cmp self.new q ≡ cond (is_eq (K.cmp key q)) (filter (λ v. not (eqb (V.numbered_by v) number)) (values_in K.cmp self.old key)) (values_in K.cmp self.old q) }
+        ensures spare { self.new.spare ≡ self.old.spare }
+    {
+        let list = place_of(&self.keys, key);
+        if let Ok(i) = find_number(self.lists.list(list), number) {
+            self.lists.take(list, i);
+        }
+    }
+}
+
+// Where the value with a number stands among ascending ones, or where it would go.
+fn find_number<V: Numbered>(values: &[V], number: u32) -> Result<usize, usize>
+    requires { IsAscendingBy V.numbered_by values.now }
+    ensures { result ≡ spec_place_of V.numbered_by values.now number }
+{
+    values.binary_search_by_key(&number, |value| value.number())
+}
