@@ -11,7 +11,7 @@ use std::marker::Model;
 use teb_history::Event;
 use teb_names::{Cell, Txn};
 
-/// For how many events room is made at the least, so that not every `reserve` goes through all buckets.
+/// For how many events room is made at the least, so that not every `reserve` goes through all registers.
 const AHEAD: usize = 256;
 
 /// Who read and who put each cell, whom each transaction read from, and which transactions are unfinished. What a transaction read and put goes out with its abort.
@@ -60,7 +60,7 @@ impl Book {
 
     /// Notes the next event of the history. It takes one place of the room at most.
     ///
-    /// A read costs a search by its cell, and a put also goes through what its transaction accessed. A commit costs as much as
+    /// A read costs a look-up of its cell, and a put also goes through what its transaction accessed. A commit costs as much as
     /// its transaction accessed, an abort also what was read or put in the same cells since; both go through the unfinished.
     pub fn note(&mut self, e: Event)
         requires { 0 < self.old.spare }

@@ -13,11 +13,11 @@ ghost use Rattle.dependency_book.specs.Dependencies.{reads, puts};
 ghost use Rattle.sorted_multimap.specs.Keys.{txn_cmp};
 
 use crate::access::Access;
-use sorted_multimap::Multimap;
+use arena_multimap::ArenaMultimap;
 use teb_names::{Cell, Txn};
 
 /// Puts a transaction that t read from among its sources, unless it is there, or is t itself or 0.
-pub(crate) fn add_source(sources: &mut Multimap<Txn, Txn>, t: Txn, from: Txn)
+pub(crate) fn add_source(sources: &mut ArenaMultimap<Txn, Txn>, t: Txn, from: Txn)
     requires ascending { IsAscendingBy number_of (values_in txn_cmp sources.old t) }
     requires room { 0 < sources.old.spare }
     ensures values { (u : Txn) → values_in txn_cmp sources.new u ≡ cond (eqb t.0 u.0 && not (eqb from.0 u.0) && ltb 0 from.0) (put_by number_of from (values_in txn_cmp sources.old u)) (values_in txn_cmp sources.old u) }
@@ -40,8 +40,8 @@ pub(crate) fn has_put(accesses: &[Access], cell: Cell) -> bool
 
 /// Takes out a pair of t for each of its reads of a cell, and t from the writers of each cell that it put, the last first.
 pub(crate) fn forget_accesses(
-    readers: &mut Multimap<Cell, (Txn, Txn)>,
-    writers: &mut Multimap<Cell, Txn>,
+    readers: &mut ArenaMultimap<Cell, (Txn, Txn)>,
+    writers: &mut ArenaMultimap<Cell, Txn>,
     accesses: &[Access],
     t: Txn,
 )
@@ -60,7 +60,7 @@ pub(crate) fn forget_accesses(
 }
 
 /// Takes the last pair of t out of the readers of a cell. The search goes from the end, past what was read there since.
-fn forget_read(readers: &mut Multimap<Cell, (Txn, Txn)>, cell: Cell, t: Txn)
+fn forget_read(readers: &mut ArenaMultimap<Cell, (Txn, Txn)>, cell: Cell, t: Txn)
     ensures values { (x : Cell) → values_in cell_cmp readers.new x ≡ cond (same_cell cell x) (without_last (λ r. eqb r.0.0 t.0) (values_in cell_cmp readers.old x)) (values_in cell_cmp readers.old x) }
     ensures spare { readers.new.spare ≡ readers.old.spare }
 {
@@ -70,7 +70,7 @@ fn forget_read(readers: &mut Multimap<Cell, (Txn, Txn)>, cell: Cell, t: Txn)
 }
 
 /// Takes t out of the writers of a cell. The search goes from the end, past what was put there since.
-fn forget_put(writers: &mut Multimap<Cell, Txn>, cell: Cell, t: Txn)
+fn forget_put(writers: &mut ArenaMultimap<Cell, Txn>, cell: Cell, t: Txn)
     ensures values { (x : Cell) → values_in cell_cmp writers.new x ≡ cond (same_cell cell x) (without_last (λ u. eqb u.0 t.0) (values_in cell_cmp writers.old x)) (values_in cell_cmp writers.old x) }
     ensures spare { writers.new.spare ≡ writers.old.spare }
 {

@@ -11,7 +11,7 @@ ghost use Rattle.dependency_book.specs.Dependencies.{MayFollow};
 
 use crate::access::Access;
 use crate::edits;
-use sorted_multimap::{Multimap, clear_txn};
+use arena_multimap::{ArenaMultimap, clear_txn};
 use std::alloc::{AllocError, Global};
 use teb_history::Event;
 use teb_names::{Cell, Txn};
@@ -20,15 +20,15 @@ use teb_names::{Cell, Txn};
 #[derive(Drop)]
 pub struct Registers {
     // By cell: reader and writer read from, in order of access.
-    pub(crate) readers: Multimap<Cell, (Txn, Txn)>,
+    pub(crate) readers: ArenaMultimap<Cell, (Txn, Txn)>,
     // By cell, in order of the first Put.
-    pub(crate) writers: Multimap<Cell, Txn>,
+    pub(crate) writers: ArenaMultimap<Cell, Txn>,
     // By transaction: whom it read from, in ascending number.
-    pub(crate) sources: Multimap<Txn, Txn>,
+    pub(crate) sources: ArenaMultimap<Txn, Txn>,
     // In ascending number.
     pub(crate) unfinished: Vec<Txn>,
     // By unfinished transaction, in order of access: each read, and the first put of each cell.
-    pub(crate) accesses: Multimap<Txn, Access>,
+    pub(crate) accesses: ArenaMultimap<Txn, Access>,
 }
 
 impl Registers {
@@ -37,11 +37,11 @@ impl Registers {
         ensures book { BookOf (lists_of result) [] }
     {
         Registers {
-            readers: Multimap::new(alloc),
-            writers: Multimap::new(alloc),
-            sources: Multimap::new(alloc),
+            readers: ArenaMultimap::new(alloc),
+            writers: ArenaMultimap::new(alloc),
+            sources: ArenaMultimap::new(alloc),
             unfinished: Vec::new(alloc),
-            accesses: Multimap::new(alloc),
+            accesses: ArenaMultimap::new(alloc),
         }
     }
 
