@@ -10,9 +10,9 @@ ghost use Rattle.phase_api.specs.Calls.{IsNewest};
 ghost use Rattle.snapshot_node.specs.Stood.{RegisterStands, StandsFor, room_of};
 
 use crate::accessors::{forget_puts, forget_reads, put_in};
+use arena_multimap::ArenaMultimap;
 use batch_book::Batches;
 use phase_api::Facts;
-use sorted_multimap::Multimap;
 use std::alloc::{AllocError, Global};
 use teb_history::Event;
 use teb_names::{Cell, Node, Txn};
@@ -22,8 +22,8 @@ use teb_names::{Cell, Node, Txn};
 pub struct Register {
     pub(crate) node: Node,
     pub(crate) batches: Batches,
-    pub(crate) readers: Multimap<Cell, Txn>,
-    pub(crate) writers: Multimap<Cell, Txn>,
+    pub(crate) readers: ArenaMultimap<Cell, Txn>,
+    pub(crate) writers: ArenaMultimap<Cell, Txn>,
 }
 
 impl Register {
@@ -37,8 +37,8 @@ impl Register {
         Ok(Register {
             node,
             batches: Batches::new(alloc, facts.tree.row(node).batch),
-            readers: Multimap::new(alloc),
-            writers: Multimap::new(alloc),
+            readers: ArenaMultimap::new(alloc),
+            writers: ArenaMultimap::new(alloc),
         })
     }
 

@@ -18,10 +18,10 @@ ghost use Rattle.timestamp_node.specs.Late.{is_after, lesser_txn};
 ghost use Rattle.timestamp_node.specs.Standing.{StampsStand};
 
 use crate::reads::{forget_reads, push_read};
+use arena_multimap::ArenaMultimap;
 use batch_book::Batches;
 use hold_register::wait_for;
 use phase_api::{Control, Facts};
-use sorted_multimap::Multimap;
 use std::alloc::{AllocError, Global};
 use teb_history::Event;
 use teb_names::{Cell, Node, Spot, Txn};
@@ -36,7 +36,7 @@ pub struct Stamps {
     ordered: bool,
     batches: Batches,
     // By cell: reader and writer read from, in the order of the history.
-    reads: Multimap<Cell, (Txn, Txn)>,
+    reads: ArenaMultimap<Cell, (Txn, Txn)>,
 }
 
 impl Stamps {
@@ -52,7 +52,7 @@ impl Stamps {
             node,
             ordered: row.ordered,
             batches: Batches::new(alloc, row.batch),
-            reads: Multimap::new(alloc),
+            reads: ArenaMultimap::new(alloc),
         })
     }
 
