@@ -74,6 +74,12 @@ module _ {K : Type 0} (eq : K → K → Bool) (laws : IsEquivalence eq) where
       | inr e ↦ let end = place_none (eq k) ks e in let n = length-append ks (k ∷ []) in ap (λ (b : Bool). length (if b then ks else ks ++ k ∷ [])) e ∙ omega (arith, end, n)
     ]
 
+    pub put_known : (place_of eq ks k ≡ length ks → ⊥) → ks ≡ insert_key eq ks k
+    put_known h = elim (decided (list_any (eq k) ks)) [
+      | inl e ↦ sym (ap (λ (b : Bool). if b then ks else ks ++ k ∷ []) e)
+      | inr e ↦ absurd (h (place_none (eq k) ks e))
+    ]
+
     -- the place of another key stays, or is behind all keys before and after
     pub put_other : (q : K) → (place_of eq (insert_key eq ks k) q ≡ place_of eq ks q) ⊎ ((length ks ≤ place_of eq (insert_key eq ks k) q) × (length ks ≤ place_of eq ks q))
     put_other q = elim (decided (list_any (eq k) ks)) [

@@ -133,3 +133,17 @@ fn place_for<K: Ord + Copy + Hash + Drop>(keys: &mut IndexSet<K>, key: K) -> usi
         Err(_) => 0,
     }
 }
+
+/// A key whose place is known becomes the last, where it is none.
+fn add_key<K: Ord + Copy + Hash + Drop>(keys: &mut IndexSet<K>, place: usize, key: K)
+    requires room { 0 < set_spare keys.old }
+    requires unique { IsUnique K.eq keys.old }
+    requires place { place ≡ spec_place_of K.eq keys.old.keys key }
+    ensures keys { keys.new.keys ≡ insert_key K.eq keys.old.keys key }
+    ensures unique { IsUnique K.eq keys.new }
+    ensures spare { set_spare keys.old ≤ set_spare keys.new + 1 }
+{
+    if place == keys.len() {
+        let _ = keys.insert(key);
+    }
+}

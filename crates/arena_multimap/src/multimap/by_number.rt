@@ -6,7 +6,7 @@ ghost use Rattle.std.specs.Result.{is_err};
 ghost use Rattle.teb_history.specs.Ascending.{IsAscendingBy, place_of as spec_place_of, put_by};
 ghost use Rattle.sorted_multimap.specs.Multimap.{values_in};
 
-use super::{ArenaMultimap, place_for, place_of};
+use super::{ArenaMultimap, add_key, place_of};
 use sorted_multimap::Numbered;
 use std::hash::Hash;
 
@@ -27,8 +27,8 @@ impl<K: Ord + Copy + Hash + Drop, V: Numbered> ArenaMultimap<K, V> {
                 false
             }
             Err(i) => {
-                let place = place_for(&mut self.keys, key);
-                self.lists.insert(place, i, value);
+                add_key(&mut self.keys, list, key);
+                self.lists.insert(list, i, value);
                 self.spare -= 1;
                 true
             }

@@ -53,7 +53,7 @@ insert-requires-clause-within g c =
     let key = c.args.key in
     let by = g.V.Numbered.numbered_by in
     let L = list_at a (place_of g.K.PartialEq.eq ks.keys key) in
-    omega (arith, place_within g.K.PartialEq.eq g.K.Ord.cmp g.met.K.Eq.laws g.met.K.Ord.matches_eq ks a n c.self.invariant key, c.place_for-place.ensures.place)
+    omega (arith, place_within g.K.PartialEq.eq g.K.Ord.cmp g.met.K.Eq.laws g.met.K.Ord.matches_eq ks a n c.self.invariant key, c.place_of-list.ensures)
 
 pub insert-requires-clause-at : goal.insert-requires-clause-at
 insert-requires-clause-at g c =
@@ -65,7 +65,7 @@ insert-requires-clause-at g c =
     let L = list_at a (place_of g.K.PartialEq.eq ks.keys key) in
     let lent : c.list.result.now ≡ L = c.list.ensures ∙ ap (list_at a) c.place_of-list.ensures in
     let found = sym (c.find_number.ensures ∙ ap (λ (l : List _). number_place by l c.number.result) lent ∙ ap (λ (m : ℕ). number_place by L m) c.number.ensures) ∙ c.in-Err.is in
-    omega (arith, gap_in by L (by c.args.value) c.in-Err.i found, ap length (ap (list_at a) c.place_for-place.ensures.place))
+    omega (arith, gap_in by L (by c.args.value) c.in-Err.i found, ap length (ap (list_at a) c.place_of-list.ensures))
 
 pub invariant_of-self-in-Err : goal.invariant_of-self-in-Err
 invariant_of-self-in-Err g c =
@@ -76,11 +76,11 @@ invariant_of-self-in-Err g c =
     let by = g.V.Numbered.numbered_by in
     let L = list_at a (place_of g.K.PartialEq.eq ks.keys key) in
     let a' = c.insert.new.self in
-    let edit = subst (λ (i : ℕ). (j : ℕ) → list_at a' j ≡ cond (eqb j i) (insert (list_at a i) c.in-Err.i c.args.value) (list_at a j)) c.place_for-place.ensures.place c.insert.ensures.values in
-    let count = subst (λ (i : ℕ). lists a' ≡ max (lists a) (i + 1)) c.place_for-place.ensures.place c.insert.ensures.lists in
+    let edit = subst (λ (i : ℕ). (j : ℕ) → list_at a' j ≡ cond (eqb j i) (insert (list_at a i) c.in-Err.i c.args.value) (list_at a j)) c.place_of-list.ensures c.insert.ensures.values in
+    let count = subst (λ (i : ℕ). lists a' ≡ max (lists a) (i + 1)) c.place_of-list.ensures c.insert.ensures.lists in
     let one : n ≡ n - 1 + 1 = omega (arith, c.requires.room, ap (λ s. s.spare) c.self.view_is) in
-    put_keyed g.K.PartialEq.eq g.K.Ord.cmp g.met.K.Eq.laws g.met.K.Ord.matches_eq ks a n c.self.invariant a' key (insert L c.in-Err.i c.args.value) edit c.place_for-place.new.keys c.place_for-place.ensures.keys c.place_for-place.ensures.unique count
-    (n - 1) one c.place_for-place.ensures.spare c.insert.ensures.sound c.insert.ensures.room
+    put_keyed g.K.PartialEq.eq g.K.Ord.cmp g.met.K.Eq.laws g.met.K.Ord.matches_eq ks a n c.self.invariant a' key (insert L c.in-Err.i c.args.value) edit c.add_key.new.keys c.add_key.ensures.keys c.add_key.ensures.unique count
+    (n - 1) one c.add_key.ensures.spare c.insert.ensures.sound c.insert.ensures.room
 
 pub returns-in-Ok-clause-added : goal.returns-in-Ok-clause-added
 returns-in-Ok-clause-added g c =
@@ -137,8 +137,8 @@ returns-in-Err-clause-values g c q =
     let lent : c.list.result.now ≡ L = c.list.ensures ∙ ap (list_at a) c.place_of-list.ensures in
     let found = sym (c.find_number.ensures ∙ ap (λ (l : List _). number_place by l c.number.result) lent ∙ ap (λ (m : ℕ). number_place by L m) c.number.ensures) ∙ c.in-Err.is in
     let a' = c.insert.new.self in
-    let edit = subst (λ (i : ℕ). (j : ℕ) → list_at a' j ≡ cond (eqb j i) (insert (list_at a i) c.in-Err.i c.args.value) (list_at a j)) c.place_for-place.ensures.place c.insert.ensures.values in
-    let count = subst (λ (i : ℕ). lists a' ≡ max (lists a) (i + 1)) c.place_for-place.ensures.place c.insert.ensures.lists in
-    put_values g.K.PartialEq.eq g.K.Ord.cmp g.met.K.Eq.laws g.met.K.Ord.matches_eq ks a n c.self.invariant a' key (insert L c.in-Err.i c.args.value) edit c.place_for-place.new.keys c.place_for-place.ensures.keys c.place_for-place.ensures.unique count q
+    let edit = subst (λ (i : ℕ). (j : ℕ) → list_at a' j ≡ cond (eqb j i) (insert (list_at a i) c.in-Err.i c.args.value) (list_at a j)) c.place_of-list.ensures c.insert.ensures.values in
+    let count = subst (λ (i : ℕ). lists a' ≡ max (lists a) (i + 1)) c.place_of-list.ensures c.insert.ensures.lists in
+    put_values g.K.PartialEq.eq g.K.Ord.cmp g.met.K.Eq.laws g.met.K.Ord.matches_eq ks a n c.self.invariant a' key (insert L c.in-Err.i c.args.value) edit c.add_key.new.keys c.add_key.ensures.keys c.add_key.ensures.unique count q
     ∙ ap (λ s. cond (is_eq (g.K.Ord.cmp key q)) (insert L c.in-Err.i c.args.value) (values_in g.K.Ord.cmp s q)) c.self.view_is
     ∙ ap (λ (l : List _). cond (is_eq (g.K.Ord.cmp key q)) l (values_in g.K.Ord.cmp c.args.self.now q)) (sym (put-insert by c.args.value L c.in-Err.i found) ∙ ap (put_by by c.args.value) here)
