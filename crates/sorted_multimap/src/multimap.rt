@@ -18,7 +18,6 @@ use std::marker::Model;
 enum Width {
     One,
     Few,
-    Many,
 }
 
 impl Width {
@@ -28,7 +27,6 @@ impl Width {
         match self {
             Width::One => 1,
             Width::Few => 64,
-            Width::Many => 256,
         }
     }
 }
@@ -63,19 +61,6 @@ impl<K: Key, V: Copy> Model for Multimap<K, V> {
 }
 
 impl<K: Key, V: Copy> Multimap<K, V> {
-    /// No values, and no room, for values of many keys: in 256 buckets. Takes no memory.
-    pub fn new(alloc: Global) -> Self
-        ensures entries { result.entries ≡ [] }
-        ensures spare { result.spare ≡ 0 }
-    {
-        Multimap {
-            alloc,
-            width: Width::Many,
-            buckets: Vec::new(alloc),
-            spare: 0,
-        }
-    }
-
     /// No values, and no room, for some hundred values: in 64 buckets, so that room costs less. Takes no memory.
     pub fn small(alloc: Global) -> Self
         ensures entries { result.entries ≡ [] }
