@@ -11,7 +11,8 @@ ghost use Rattle.dependency_book.specs.Dependencies.{MayFollow};
 
 use crate::access::Access;
 use crate::edits;
-use arena_multimap::{ArenaMultimap, clear_txn};
+use arena_multimap::ArenaMultimap;
+use sorted_multimap::Multimap;
 use std::alloc::{AllocError, Global};
 use teb_history::Event;
 use teb_names::{Cell, Txn};
@@ -28,7 +29,7 @@ pub struct Registers {
     // In ascending number.
     pub(crate) unfinished: Vec<Txn>,
     // By unfinished transaction, in order of access: each read, and the first put of each cell.
-    pub(crate) accesses: ArenaMultimap<Txn, Access>,
+    pub(crate) accesses: Multimap<Txn, Access>,
 }
 
 impl Registers {
@@ -41,7 +42,7 @@ impl Registers {
             writers: ArenaMultimap::new(alloc),
             sources: ArenaMultimap::new(alloc),
             unfinished: Vec::new(alloc),
-            accesses: ArenaMultimap::new(alloc),
+            accesses: Multimap::small(alloc),
         }
     }
 
@@ -131,7 +132,7 @@ impl Registers {
         ensures book { (P : List Event) → BookOf (lists_of self.old) P → MayFollow P (event.Done t) → BookOf (lists_of self.new) (event.Done t ∷ P) }
     {
         self.unfinished.retain(|u| *u != t);
-        clear_txn(&mut self.accesses, t);
+        sorted_multimap::clear_txn(&mut self.accesses, t);
     }
 
     /// A transaction is aborted.
@@ -143,8 +144,8 @@ impl Registers {
     {
         let accesses = self.accesses.list(t);
         edits::forget_accesses(&mut self.readers, &mut self.writers, accesses, t);
-        clear_txn(&mut self.accesses, t);
-        clear_txn(&mut self.sources, t);
+        sorted_multimap::clear_txn(&mut self.accesses, t);
+        arena_multimap::clear_txn(&mut self.sources, t);
         self.unfinished.retain(|u| *u != t);
     }
 }

@@ -14,4 +14,4 @@ returns-clause-book c = noted_nothing _
     (λ x. ap (λ (es : List (Cell × Txn)). values_of cell_cmp es x) c.new-2.ensures.entries)
     (λ t. ap (λ (es : List (Txn × Txn)). values_of txn_cmp es t) c.new-3.ensures.entries)
     c.new-4.ensures.items
-    (λ t. ap (λ (es : List (Txn × Access)). values_of txn_cmp es t) c.new-5.ensures.entries)
+    (λ t. ap (λ (es : List (Txn × Access)). values_of txn_cmp es t) c.small.ensures.entries)
