@@ -21,13 +21,23 @@ const AHEAD: usize = 64;
 ///
 /// All values stand in one vector, where each key has a segment. A look-up costs one by hash. So does a push, apart from the moves of the
 /// values to a longer segment, which are two for each value at the most. An edit at an index moves the values of its key that stand behind.
-#[derive(Drop)]
 pub struct ArenaMultimap<K: Ord + Copy + Hash + Drop, V: Copy> {
     // Each key has the list of its place.
     keys: IndexSet<K>,
     lists: Arena<V>,
     // For how many more values there is room.
     spare: usize,
+}
+
+/// A call of its own, so that no owner has to prove anew how it is dropped.
+impl<K: Ord + Copy + Hash + Drop, V: Copy> Drop for ArenaMultimap<K, V> {
+    fn drop(self) {
+        let ArenaMultimap {
+            keys: _keys,
+            lists: _lists,
+            spare: _spare,
+        } = self;
+    }
 }
 
 impl<K: Ord + Copy + Hash + Drop, V: Copy> Model for ArenaMultimap<K, V> {
