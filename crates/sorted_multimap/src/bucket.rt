@@ -63,20 +63,6 @@ impl<K: Ord + Copy, V: Copy> Bucket<K, V> {
         &self.values[start..end]
     }
 
-    /// Puts a value among those of a key, at an index.
-    pub(crate) fn put(&mut self, key: K, i: usize, value: V)
-        requires sorted { IsSorted K.cmp self.old }
-        requires room { HasRoom self.old 1 }
-        requires within { i ≤ length (bucket_values K.cmp self.old key) }
-        ensures sorted { IsSorted K.cmp self.new }
-        ensures values { (q : K) → bucket_values K.cmp self.new q ≡ cond (is_eq (K.cmp key q)) (insert (bucket_values K.cmp self.old key) i value) (bucket_values K.cmp self.old q) }
-        ensures room { (n : ℕ) → HasRoom self.old (n + 1) → HasRoom self.new n }
-    {
-        let run = first(&self.runs, key);
-        let at = start_of(&self.runs, run) + i;
-        self.put_at(run, at, key, value);
-    }
-
     // Puts a value at a place where one of a key may stand, which has that run or gets it.
     fn put_at(&mut self, run: usize, at: usize, key: K, value: V)
         requires sorted { IsSorted K.cmp self.old }
@@ -124,19 +110,6 @@ impl<K: Ord + Copy, V: Copy> Bucket<K, V> {
         self.runs.remove(run);
     }
 
-    /// Replaces the value at an index among those of a key.
-    pub(crate) fn replace(&mut self, key: K, i: usize, value: V)
-        requires sorted { IsSorted K.cmp self.old }
-        requires within { i < length (bucket_values K.cmp self.old key) }
-        ensures sorted { IsSorted K.cmp self.new }
-        ensures values { (q : K) → bucket_values K.cmp self.new q ≡ cond (is_eq (K.cmp key q)) (set (bucket_values K.cmp self.old key) i value) (bucket_values K.cmp self.old q) }
-        ensures room { (n : ℕ) → HasRoom self.old n → HasRoom self.new n }
-    {
-        let run = first(&self.runs, key);
-        let at = start_of(&self.runs, run) + i;
-        self.replace_at(at, value);
-    }
-
     // Replaces the value at a place.
     fn replace_at(&mut self, at: usize, value: V)
         requires sorted { IsSorted K.cmp self.old }
@@ -146,19 +119,6 @@ impl<K: Ord + Copy, V: Copy> Bucket<K, V> {
         ensures room { (n : ℕ) → HasRoom self.old n → HasRoom self.new n }
     {
         self.values[at] = value;
-    }
-
-    /// Takes out the value at an index among those of a key.
-    pub(crate) fn take(&mut self, key: K, i: usize)
-        requires sorted { IsSorted K.cmp self.old }
-        requires within { i < length (bucket_values K.cmp self.old key) }
-        ensures sorted { IsSorted K.cmp self.new }
-        ensures values { (q : K) → bucket_values K.cmp self.new q ≡ cond (is_eq (K.cmp key q)) (remove (bucket_values K.cmp self.old key) i) (bucket_values K.cmp self.old q) }
-        ensures room { (n : ℕ) → HasRoom self.old n → HasRoom self.new n }
-    {
-        let run = first(&self.runs, key);
-        let at = start_of(&self.runs, run) + i;
-        self.take_at(run, at);
     }
 
     // Takes out the value at a place of a run, and with its last value the run.

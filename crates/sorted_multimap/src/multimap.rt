@@ -113,18 +113,6 @@ impl<K: Key, V: Copy> Multimap<K, V> {
         self.buckets[place_of(&self.buckets, key)].list(key)
     }
 
-    /// Puts a value among those of a key, at an index. It takes the room of one.
-    pub fn put(&mut self, key: K, i: usize, value: V)
-        requires room { 0 < self.old.spare }
-        requires within { i ≤ length (values_in K.cmp self.old key) }
-        ensures values { (q : K) → values_in K.cmp self.new q ≡ cond (is_eq (K.cmp key q)) (insert (values_in K.cmp self.old key) i value) (values_in K.cmp self.old q) }
-        ensures spare { self.old.spare ≡ self.new.spare + 1 }
-    {
-        let at = place_of(&self.buckets, key);
-        self.buckets[at].put(key, i, value);
-        self.spare -= 1;
-    }
-
     /// Puts a value behind those of a key. It takes one place of the room.
     pub fn push(&mut self, key: K, value: V)
         requires { 0 < self.old.spare }
@@ -134,26 +122,6 @@ impl<K: Key, V: Copy> Multimap<K, V> {
         let at = place_of(&self.buckets, key);
         self.buckets[at].push(key, value);
         self.spare -= 1;
-    }
-
-    /// Replaces the value at an index among those of a key.
-    pub fn replace(&mut self, key: K, i: usize, value: V)
-        requires { i < length (values_in K.cmp self.old key) }
-        ensures values { (q : K) → values_in K.cmp self.new q ≡ cond (is_eq (K.cmp key q)) (set (values_in K.cmp self.old key) i value) (values_in K.cmp self.old q) }
-        ensures spare { self.new.spare ≡ self.old.spare }
-    {
-        let at = place_of(&self.buckets, key);
-        self.buckets[at].replace(key, i, value);
-    }
-
-    /// Takes out the value at an index among those of a key.
-    pub fn take(&mut self, key: K, i: usize)
-        requires { i < length (values_in K.cmp self.old key) }
-        ensures values { (q : K) → values_in K.cmp self.new q ≡ cond (is_eq (K.cmp key q)) (remove (values_in K.cmp self.old key) i) (values_in K.cmp self.old q) }
-        ensures spare { self.new.spare ≡ self.old.spare }
-    {
-        let at = place_of(&self.buckets, key);
-        self.buckets[at].take(key, i);
     }
 
     /// Takes out all values of a key.
