@@ -1,21 +1,16 @@
 -- The words of a line, one after the other.
-use Rattle.std.proofs.Common.{◌≡◌, ℕ, suc, ◌+◌, ◌<◌, ◌≤◌, ◌==◌, nat_eq, Bool, true, false, if◌then◌else◌, not, inl, inr, List, [], ◌∷◌, ◌++◌, codes, take, drop, set, length, refl, ap, sym, ◌∙◌, arith, take_all, get_or, drop_of_length-le, append_assoc}
+use Rattle.std.proofs.Common.{ap₂, ◌-◌, length-drop, ◌≡◌, ℕ, suc, ◌+◌, ◌<◌, ◌≤◌, ◌==◌, Bool, true, false, if◌then◌else◌, not, inl, inr, List, [], ◌∷◌, ◌++◌, take, drop, set, length, refl, ap, sym, ◌∙◌, arith, take_all, get_or, drop_of_length-le, append_assoc}
 use Rattle.std.specs.Borrow.{Bor}
-use Rattle.std.specs.Int.{w64, from_le_bytes, to_le_bytes}
-use Rattle.std.specs.Str.{bytes_eq}
 use Rattle.std.specs.List.{slice_split, position_or_len}
-use Rattle.std.proofs.lemmas.Bool.{and_parts, cases_lt, leb-true}
-use Rattle.std.proofs.lemmas.Bool.Decides.{nat_tests, Decides-eqb, Decides-like, same_from_decides}
-use Rattle.std.proofs.lemmas.List.{drop_more, length-take-le, length-take, length-map, take_more_set, map_push, append-nil, take_at, take-append-drop}
-use Rattle.std.proofs.lemmas.Nat.{le_bytes_8}
-use Rattle.std.proofs.lemmas.Slice.Eq.{bytes_eq-Decides}
+use Rattle.std.proofs.lemmas.Bool.{cases_lt}
+use Rattle.std.proofs.lemmas.Bool.Decides.{nat_tests}
+use Rattle.script_text.proofs.Places.{position_within}
+use Rattle.std.proofs.lemmas.Bool.{ne_eqb}
+use Rattle.std.proofs.lemmas.List.{drop-drop, length-take-le, drop_more, length-take-le, length-take, length-map, take_more_set, map_push, append-nil, take_at}
 use Rattle.std.proofs.lemmas.List.Splits.{slice_split_first, slice_split_none}
 use Rattle.std.proofs.lemmas.List.Sums.{fails_before_first, prefix_len_stops}
 use Rattle.std.proofs.lemmas.List.Elements.{All-from_get_or}
-use Rattle.script_text.specs.Words.{has_run, is_blank, nows, without_blanks, words_of}
-
-abbrev pub is_inside : ℕ → Bool
-is_inside b = not (is_blank b)
+use Rattle.script_text.specs.Words.{is_blank, is_inside, nows, without_blanks, words_of}
 
 words_blank : (x : ℕ) (xs : List ℕ) → is_blank x ≡ true → words_of (x ∷ xs) ≡ words_of xs
 unfolding words_of
@@ -27,29 +22,6 @@ one_more n x xs = let e : 1 + n ≡ suc n = omega arith in rw e
 inside_cons : (x : ℕ) (xs : List ℕ) (b : Bool) → is_blank x ≡ b → without_blanks (x ∷ xs) ≡ (if b then without_blanks xs else x ∷ xs)
 inside_cons x xs true h = rw h (one_more (position_or_len is_inside xs) x xs)
 inside_cons x xs false h = rw h
-
-behind_space : (xs : List ℕ) → without_blanks xs ≡ without_blanks (32 ∷ xs)
-behind_space xs = sym (inside_cons 32 xs true refl)
-
-behind_spaces : (xs : List ℕ) → without_blanks xs ≡ without_blanks (codes "        " ++ xs)
-behind_spaces xs =
-    behind_space xs ∙ behind_space (codes " " ++ xs) ∙ behind_space (codes "  " ++ xs) ∙ behind_space (codes "   " ++ xs)
-    ∙ behind_space (codes "    " ++ xs) ∙ behind_space (codes "     " ++ xs) ∙ behind_space (codes "      " ++ xs) ∙ behind_space (codes "       " ++ xs)
-
--- eight bytes read as one number, which is that of eight spaces only where they are
-pub spaces_read : (front : List ℕ) (n : ℕ) → length front ≡ 8 → ((i : ℕ) → get_or front i 0 < 256) → n ≡ from_le_bytes w64 front → nat_eq n 2314885530818453536 ≡ bytes_eq front (codes "        ")
-spaces_read front n long small read =
-    same_from_decides _ _
-    (Decides-like (nat_eq n 2314885530818453536) (λ is. sym (le_bytes_8 front n long small read) ∙ ap (to_le_bytes w64) is) (λ is. read ∙ ap (from_le_bytes w64) is) (Decides-eqb n 2314885530818453536))
-    (bytes_eq-Decides front (codes "        "))
-
-pub behind_run : (xs : List ℕ) → has_run xs ≡ true → without_blanks (drop 8 xs) ≡ without_blanks xs
-behind_run xs h =
-    let run : take 8 xs ≡ codes "        " = (bytes_eq-Decides (take 8 xs) (codes "        ")).0 (and_parts _ _ h).1 in
-    behind_spaces (drop 8 xs) ∙ ap without_blanks (ap (λ l. l ++ drop 8 xs) (sym run) ∙ take-append-drop 8 xs)
-
-pub run_within : (xs : List ℕ) → has_run xs ≡ true → 8 ≤ length xs
-run_within xs h = leb-true 8 (length xs) (and_parts _ _ h).0
 
 -- spaces and tabs at the front change no word
 pub words_inside : (xs : List ℕ) → words_of (without_blanks xs) ≡ words_of xs
@@ -119,6 +91,19 @@ module _ (line : List ℕ) (n : ℕ) (is : n ≡ position_or_len is_blank (witho
       let zero : n ≡ 0 = grind (arith, nat_tests, length-take-le n (without_blanks line) within) in
       let gone : without_blanks line ≡ [] = none_inside line (sym is ∙ zero) in
       (sym (words_inside line) ∙ ap words_of gone, ap (λ l. words_of (drop n l)) gone ∙ rw zero)
+
+-- the next word of a line, looked for from a place in it
+module _ (line : List ℕ) (at start stop : ℕ) (first : start ≡ at + position_or_len is_inside (drop at line)) (last : stop ≡ start + position_or_len is_blank (drop start line)) where
+  pub word_from : start < length line → words_of (drop at line) ≡ take (stop - start) (drop start line) ∷ words_of (drop stop line)
+  word_from h =
+      let n = position_or_len is_blank (drop start line) in
+      let here : without_blanks (drop at line) ≡ drop start line = drop-drop (position_or_len is_inside (drop at line)) at line ∙ ap (λ k. drop k line) (sym first) in
+      let left : drop n (drop start line) ≡ drop stop line = drop-drop n start line ∙ ap (λ k. drop k line) (sym last) in
+      let long : length (take n (drop start line)) ≡ n = length-take-le n (drop start line) (position_within is_blank (drop start line)) in
+      let inside : n ≡ 0 → ⊥ = λ none. omega (arith, h, length-drop start line, ap length (sym here ∙ none_inside (drop at line) (ap (position_or_len is_blank) here ∙ none))) in
+      let some : (length (take n (without_blanks (drop at line))) == 0) ≡ false = rw (here, long) (ne_eqb n 0 inside) in
+      let width : stop - start ≡ n = omega (arith, last) in
+      word_next (drop at line) n (ap (position_or_len is_blank) (sym here)) some ∙ ap₂ (λ w l. w ∷ words_of l) (ap (take n) here ∙ ap (λ k. take k (drop start line)) (sym width)) (ap (drop n) here ∙ left)
 
 abbrev Texts : Type 0
 Texts = List (Bor (List ℕ))

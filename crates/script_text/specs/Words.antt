@@ -1,19 +1,17 @@
 -- Words of a line.
-use Rattle.std.specs.Prelude.{ℕ, Bool, not, ◌||◌, ◌&&◌, ◌==◌, nat_le, List, length, codes, take, drop, filter, map}
-use Rattle.std.specs.Str.{bytes_eq}
+use Rattle.std.specs.Prelude.{ℕ, Bool, not, ◌||◌, ◌==◌, List, length, drop, filter, map}
 use Rattle.std.specs.Borrow.{Bor}
 use Rattle.std.specs.List.{slice_split, position_or_len}
 
 abbrev pub is_blank : ℕ → Bool
 is_blank b = b == 32 || b == 9
 
+abbrev pub is_inside : ℕ → Bool
+is_inside b = not (is_blank b)
+
 -- what is left behind the spaces and tabs at the front
 abbrev pub without_blanks : List ℕ → List ℕ
-without_blanks line = drop (position_or_len (λ b. not (is_blank b)) line) line
-
--- whether eight spaces stand at the front
-abbrev pub has_run : List ℕ → Bool
-has_run line = nat_le 8 (length line) && bytes_eq (take 8 line) (codes "        ")
+without_blanks line = drop (position_or_len is_inside line) line
 
 -- what stands between spaces and tabs, and is not empty
 unfoldable pub words_of : List ℕ → List (List ℕ)

@@ -3,7 +3,7 @@
 ghost use Rattle.std.specs.Prelude.{◌≡◌, ◌<◌, ◌^◌, ◌++◌, length, IfOk, OnOk, option_to_list};
 ghost use Rattle.script_text.specs.Lines.{lines_of};
 ghost use Rattle.script_text.specs.Sessions.{AreOfSessions};
-ghost use Rattle.script_text.specs.Grammar.{script_of, at_line, line_of, Answers};
+ghost use Rattle.script_text.specs.Grammar.{script_of, Answers};
 
 mod grammar;
 pub mod lines;
@@ -37,24 +37,12 @@ pub fn parse_script(
     let mut number = 0;
     for text in Lines(script) {
         number += 1;
-        let line = numbered_line(names, format, number, text)?;
-        add_line(&mut lines, line)?;
+        match parse_line(names, format, number, text) {
+            Ok(line) => add_line(&mut lines, line)?,
+            Err(why) => return Err(ScriptError::BadLine { number, why }),
+        }
     }
     Ok(lines)
-}
-
-fn numbered_line(
-    names: &NameBook,
-    format: u8,
-    number: u32,
-    text: &[u8],
-) -> Result<Option<Line>, ScriptError>
-    ensures { result ≡ at_line number (line_of names.now format number text.now) }
-{
-    match parse_line(names, format, number, text) {
-        Ok(line) => Ok(line),
-        Err(why) => Err(ScriptError::BadLine { number, why }),
-    }
 }
 
 fn add_line(lines: &mut Vec<Line>, line: Option<Line>) -> Result<(), AllocError>

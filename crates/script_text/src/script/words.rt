@@ -1,13 +1,15 @@
 //! The words of a line.
 
-ghost use Rattle.std.specs.Prelude.{◌≡◌, ◌≤◌, not, codes, length, take, position};
+ghost use Rattle.std.specs.Prelude.{◌≡◌, ◌≤◌, ◌++◌, drop, length, map, take, position};
 ghost use Rattle.std.specs.Iterator.{YieldsFirstRef, item_count};
 ghost use Rattle.std.specs.List.{position_or_len};
-ghost use Rattle.std.specs.Str.{bytes_eq};
-ghost use Rattle.script_text.specs.Words.{has_run, is_blank, nows, without_blanks, words_of};
+ghost use Rattle.std.specs.Simd.Lanes.{mask_l};
+ghost use Rattle.script_text.specs.Words.{is_blank, is_inside, nows, without_blanks, words_of};
 
-// Eight spaces, read as one number.
-const EIGHT_SPACES: u64 = 0x2020_2020_2020_2020;
+use std::simd::prelude::*;
+
+/// How many bytes are looked at together.
+const LANES: usize = 16;
 
 /// The words of a line, which stand between spaces and tabs.
 #[derive(Clone, Copy)]
@@ -34,8 +36,8 @@ pub fn first_words<'a>(line: &'a [u8], words: &mut [&'a [u8]; 6]) -> usize
     ensures words { nows (take result words.new) ≡ take 6 (words_of line.now) }
     ensures within { result ≤ length words.new }
 {
-    let mut len = 0;
-    for word in Words(line) {
+    let (mut len, at) = near_words(line, words);
+    for word in Words(&line[at..]) {
         if len == 6 {
             return len;
         }
@@ -43,6 +45,38 @@ pub fn first_words<'a>(line: &'a [u8], words: &mut [&'a [u8]; 6]) -> usize
         len += 1;
     }
     len
+}
+
+/// Writes the words that end in the first 32 bytes of a line, at most six, and tells how many there are and where the last ends.
+fn near_words<'a>(line: &'a [u8], words: &mut [&'a [u8]; 6]) -> (usize, usize)
+    ensures words { nows (take result.0 words.new) ++ words_of (drop result.1 line.now) ≡ words_of line.now }
+    ensures long { length words.new ≡ 6 }
+    ensures count { result.0 ≤ 6 }
+    ensures within { result.1 ≤ length line.now }
+{
+    if line.len() < 32 {
+        return (0, 0);
+    }
+    let front = u8x32::from_slice(line);
+    let (inside, blanks) = (inside_of(front), blanks_of(front));
+    let mut len = 0;
+    let mut at = 0;
+    while len < 6 {
+        let ahead = inside >> at;
+        if ahead == 0 {
+            break;
+        }
+        let start = at + ahead.trailing_zeros() as usize;
+        let behind = blanks >> start;
+        if behind == 0 {
+            break;
+        }
+        let end = start + behind.trailing_zeros() as usize;
+        words[len] = &line[start..end];
+        len += 1;
+        at = end;
+    }
+    (len, at)
 }
 
 fn is_blank(b: u8) -> bool
@@ -55,49 +89,61 @@ fn is_blank(b: u8) -> bool
 fn without_blanks(text: &[u8]) -> &[u8]
     ensures { result.now ≡ without_blanks text.now }
 {
-    without_few(without_runs(text))
+    &text[blank_len(text)..]
 }
 
-/// The same, byte by byte.
+/// How many spaces and tabs stand at the front.
 #[tactic(auto, using(crate::proofs::Places::unwrap_position, crate::proofs::Places::position_within))]
-fn without_few(text: &[u8]) -> &[u8]
-    ensures { result.now ≡ without_blanks text.now }
+fn blank_len(text: &[u8]) -> usize
+    ensures end { result ≡ position_or_len is_inside text.now }
+    ensures within { result ≤ length text.now }
 {
-    let len = first_inside(text).unwrap_or(text.len());
-    &text[len..]
-}
-
-/// What is left behind whole runs of eight spaces at the front, which are often those at the end of a line.
-#[tactic(auto, using(crate::proofs::WordSteps::run_within))]
-fn without_runs(text: &[u8]) -> &[u8]
-    ensures { without_blanks result.now ≡ without_blanks text.now }
-{
-    let mut rest = text;
-    while has_run(rest) {
-        rest = &rest[8..];
+    if text.len() < LANES {
+        return first_inside(text).unwrap_or(text.len());
     }
-    rest
-}
-
-/// Whether eight spaces stand at the front.
-fn has_run(text: &[u8]) -> bool
-    ensures { result ≡ has_run text.now }
-{
-    match text.first_chunk::<8>() {
-        Some(front) => is_run(*front),
-        None => false,
+    let last = text.len() - LANES;
+    let mut at = 0;
+    while at < last {
+        let inside = inside_of_half(u8x16::from_slice(&text[at..]));
+        if inside != 0 {
+            return at + inside.trailing_zeros() as usize;
+        }
+        at += LANES;
     }
+    // The last bytes, some of which may have been looked at.
+    let inside = inside_of_half(u8x16::from_slice(&text[last..]));
+    if inside != 0 {
+        return last + inside.trailing_zeros() as usize;
+    }
+    text.len()
 }
 
-/// Whether these are eight spaces.
-fn is_run(bytes: [u8; 8]) -> bool
-    ensures { result ≡ bytes_eq bytes (codes "        ") }
+/// Which of these bytes are spaces or tabs: a bit for each, the lowest for the first.
+#[inline(always)]
+fn blanks_of(bytes: u8x32) -> u64
+    ensures { result ≡ mask_l (map is_blank bytes) }
 {
-    u64::from_le_bytes(bytes) == EIGHT_SPACES
+    (bytes.simd_eq(u8x32::splat(b' ')) | bytes.simd_eq(u8x32::splat(b'\t'))).to_bitmask()
+}
+
+/// Which of these bytes are neither.
+#[inline(always)]
+fn inside_of(bytes: u8x32) -> u64
+    ensures { result ≡ mask_l (map is_inside bytes) }
+{
+    (bytes.simd_ne(u8x32::splat(b' ')) & bytes.simd_ne(u8x32::splat(b'\t'))).to_bitmask()
+}
+
+/// The same of half as many bytes.
+#[inline(always)]
+fn inside_of_half(bytes: u8x16) -> u64
+    ensures { result ≡ mask_l (map is_inside bytes) }
+{
+    (bytes.simd_ne(u8x16::splat(b' ')) & bytes.simd_ne(u8x16::splat(b'\t'))).to_bitmask()
 }
 
 fn first_inside(text: &[u8]) -> Option<usize>
-    ensures { result ≡ position (λ b. not (is_blank b)) text.now }
+    ensures { result ≡ position is_inside text.now }
 {
     text.iter().position(|b| !is_blank(*b))
 }

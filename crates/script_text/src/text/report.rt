@@ -1,12 +1,14 @@
 //! The texts of rows and reports.
 
-ghost use Rattle.std.specs.Prelude.{◌≡◌, ◌++◌, ◌∷◌, All, OnOk, OnErr, codes, map};
+ghost use Rattle.std.specs.Prelude.{◌≡◌, ◌++◌, ◌∷◌, [], All, IsTrue, OnOk, OnErr, codes, decimal, map};
+ghost use Rattle.std.specs.Fmt.{signed_decimal};
 ghost use Rattle.teb_names.specs.Rows.{IsAscending};
 ghost use Rattle.script_text.specs.Texts.{line_text, recovered_text, report_text, row_text, rows_text, starts_text, txn_text};
 ghost use Rattle.script_text.specs.Named.{CellNamed, RowsNamed};
 ghost use Rattle.script_text.specs.Puts.{Puts, spaced};
 ghost use Rattle.script_text.specs.Ranges.{RowInRange};
 
+use super::tail::Tail;
 use super::word::{Word, put_feed, put_line, put_spaced, put_text, table, whole};
 use std::alloc::AllocError;
 use teb_names::{Cell, NameBook, Rows, Txn};
@@ -130,6 +132,43 @@ fn put_row<'a>(
     requires { CellNamed names.now row.0 }
     ensures text { Puts out.old.items (row_text names.now word.now row) out.new.items result }
     ensures in_range { RowInRange row }
+{
+    let (cell, value) = row;
+    let table = names.tables.name(cell.table.0);
+    let mut line = Tail::new();
+    if !put_short_row(&mut line, word, table, cell.key, value) {
+        return put_long_row(out, names, word, row);
+    }
+    out.extend_from_slice(line.as_bytes())
+}
+
+// Puts the line of a row, where both words are short. False where they may not fit.
+fn put_short_row(line: &mut Tail, word: &str, table: &str, key: u32, value: i64) -> bool
+    requires { line.old ≡ [] }
+    ensures { IsTrue result → line.new ≡ line_text (word.now ∷ table.now ∷ decimal key ∷ signed_decimal value ∷ []) }
+{
+    if word.len() > 6 || table.len() > 32 {
+        return false;
+    }
+    line.put(b"\n");
+    line.put_integer(value);
+    line.put(b" ");
+    line.put_natural(key);
+    line.put(b" ");
+    line.put(table.as_bytes());
+    line.put(b" ");
+    line.put(word.as_bytes());
+    true
+}
+
+fn put_long_row<'a>(
+    out: &mut Vec<u8>,
+    names: &'a NameBook,
+    word: &'a str,
+    row: (Cell, i64),
+) -> Result<(), AllocError>
+    requires { CellNamed names.now row.0 }
+    ensures { Puts out.old.items (row_text names.now word.now row) out.new.items result }
 {
     let (cell, value) = row;
     let table = table(names, cell.table);

@@ -1,24 +1,20 @@
 use Rattle.std.proofs.Common.{Ok, ◌+◌, length, sym, ◌∙◌, ap, arith}
-use Rattle.std.proofs.lemmas.Result.{err_from_is_err_and}
-use Rattle.script_text.specs.Grammar.{script_from}
+use Rattle.script_text.specs.Grammar.{at_line, script_from}
 use Rattle.script_text.proofs.ParsedSessions.{answered_sessions}
-use Rattle.script_text.proofs.ScriptSteps.{behind, answers_bad, script_more, script_bad, script_end}
+use Rattle.script_text.proofs.ScriptSteps.{behind, script_more, script_bad, script_end}
 use Rattle.script_text.proofs.script.parse_script.Goals as goal
 
-pub returns-in_err-line-clause-lines : goal.returns-in_err-line-clause-lines
-returns-in_err-line-clause-lines c =
-    let p = err_from_is_err_and c.from_residual.result c.from_residual.ensures.1 in
-    rw (p.1, p.2)
-    (answers_bad _ _
-    (sym c.loop-text.invariant.rest
+pub returns-in-Err-clause-lines : goal.returns-in-Err-clause-lines
+returns-in-Err-clause-lines c =
+    sym c.loop-text.invariant.rest
     ∙ ap (λ l. behind c.loop-text.lines.items (script_from c.args.names.now c.args.format (c.loop-text.number + 1) l)) c.in-Some.ensures.steps
-    ∙ script_bad _ _ _ _ _ _ _ (sym c.in_err-line.ensures)))
+    ∙ script_bad _ _ _ _ _ _ _ (ap (at_line (c.loop-text.number + 1)) (sym c.in-Err.ensures))
 
 pub loop-text-preserved : goal.loop-text-preserved
 loop-text-preserved c = record {
   count = omega (arith, c.loop-text.invariant.count, ap length c.in-Some.ensures.steps);
   rest =
-      script_more _ _ _ _ _ _ _ _ (sym c.numbered_line.ensures ∙ c.in_ok-line.was) c.in_ok-add_line.ensures
+      script_more _ _ _ _ _ _ _ _ (ap (at_line (c.loop-text.number + 1)) (sym c.in-Ok.ensures)) c.in_ok-add_line-in-Ok.ensures
       ∙ ap (λ l. behind c.loop-text.lines.items (script_from c.args.names.now c.args.format (c.loop-text.number + 1) l)) (sym c.in-Some.ensures.steps)
       ∙ c.loop-text.invariant.rest;
 }

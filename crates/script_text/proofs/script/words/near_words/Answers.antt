@@ -1,0 +1,31 @@
+use Rattle.std.proofs.Common.{length-set, ◌∙◌, arith}
+use Rattle.script_text.specs.Words.{is_blank, is_inside}
+use Rattle.script_text.proofs.Loads.{next_at, next_within}
+use Rattle.script_text.proofs.WordSteps.{words_more, word_from}
+use Rattle.script_text.proofs.script.words.near_words.Goals as goal
+
+pub overflow_shr-behind : goal.overflow_shr-behind
+overflow_shr-behind c =
+    omega (arith, next_within is_inside c.args.line.now _ _ 32 c.if-line-lt32.false (omega arith) c.inside_of-inside.ensures c.loop-len.invariant.near c.if-ahead-eq0.false)
+
+pub slice_bounds-words-end : goal.slice_bounds-words-end
+slice_bounds-words-end c =
+    let line = c.args.line.now in
+    let room = c.if-line-lt32.false in
+    let start = next_within is_inside line _ _ 32 room (omega arith) c.inside_of-inside.ensures c.loop-len.invariant.near c.if-ahead-eq0.false in
+    omega (arith, room, next_within is_blank line _ _ 32 room (omega arith) c.blanks_of-blanks.ensures (omega (arith, start)) c.if-behind-eq0.false)
+
+pub loop-len-preserved : goal.loop-len-preserved
+loop-len-preserved c =
+    let line = c.args.line.now in
+    let room = c.if-line-lt32.false in
+    let starts = next_at is_inside line _ _ 32 room (omega arith) c.inside_of-inside.ensures c.loop-len.invariant.near c.if-ahead-eq0.false in
+    let start = next_within is_inside line _ _ 32 room (omega arith) c.inside_of-inside.ensures c.loop-len.invariant.near c.if-ahead-eq0.false in
+    let stops = next_at is_blank line _ _ 32 room (omega arith) c.blanks_of-blanks.ensures (omega (arith, start)) c.if-behind-eq0.false in
+    let stop = next_within is_blank line _ _ 32 room (omega arith) c.blanks_of-blanks.ensures (omega (arith, start)) c.if-behind-eq0.false in
+    record {
+      long = length-set _ _ _ ∙ c.loop-len.invariant.long;
+      count = omega arith;
+      near = omega (arith, stop);
+      words = words_more _ _ _ _ _ _ (omega arith) c.loop-len.invariant.words (word_from line _ _ _ starts stops (omega (arith, start, room)));
+    }
