@@ -1,11 +1,15 @@
--- What is left in the cells that somebody has put and in those that have a starting row is what the final table has.
-use Rattle.std.proofs.Common.{ℕ, ◌≡◌, ◌⊎◌, Bool, true, false, cond, ◌&&◌, ◌||◌, eqb, List, [], ◌∷◌, reverse, Option, Some, None, refl, sym, ap, ◌∙◌, inl, inr, filter, ℤ}
-use Rattle.std.specs.List.{list_any}
-use Rattle.std.specs.Option.{option_or}
+-- In a cell that nobody has put and that has no starting row nothing is left.
+use Rattle.std.proofs.Common.{ℕ, ◌≡◌, Bool, true, false, cond, ◌&&◌, ◌||◌, eqb, List, [], ◌∷◌, ◌++◌, map, reverse, Some, None, refl, sym, ap, ◌∙◌, filter, ℤ}
+use Rattle.std.specs.List.{list_any, dedup, dedup_from}
+use Rattle.std.specs.List.Sorted.{IsPermutation, IsSorted}
 use Rattle.std.proofs.lemmas.Bool.{both_ways, and_parts}
+use Rattle.std.proofs.lemmas.List.Folds.{list_any-append}
+use Rattle.std.proofs.lemmas.List.Sorted.{list_any-IsPermutation, IsPermutation-append_left}
+use Rattle.std.proofs.lemmas.List.Kept.{IsStrictlySortedBy-dedup}
 use Rattle.teb_names.specs.declared.Cell.{Cell}
-use Rattle.teb_names.specs.Cells.{same_cell}
+use Rattle.teb_names.specs.Cells.{same_cell, cell_cmp}
 use Rattle.teb_names.specs.Rows.{row_of}
+use Rattle.teb_names.proofs.CellOrder.{cell_cmp_total, same_cell-cell_cmp}
 use Rattle.teb_history.specs.declared.Event.{Event}
 use Rattle.teb_history.specs.declared.Event.TheVariants.{Began, Got, Put, Ready, Done, Gone, Told}
 use Rattle.teb_history.specs.Phases.{txns}
@@ -14,66 +18,43 @@ use Rattle.teb_history.proofs.Any.{came_any, any_reverse}
 use Rattle.teb_rules.specs.Setup.{Store}
 use Rattle.teb_rules.specs.Serializes.{value_of, final_table}
 use Rattle.teb_laws.proofs.Serial.{filter-In}
-use Rattle.teb_laws.proofs.Replay.{or_value}
 use Rattle.teb_laws.proofs.Timeline.{same_cell-true}
-use Rattle.serial_order.specs.Tables.{left_along, left_by_puts, left_in_rows}
+use Rattle.serial_order.specs.Tables.{cells_put, AreCells}
 use Rattle.serial_order.proofs.LastCommitted.{latest_nobody, is_final}
 
--- no value, or that of x
-abbrev IsLeft : (Cell → Option ℤ) → Cell → Option (Option ℤ) → Type 0
-IsLeft f x o = (o ≡ None) ⊎ (o ≡ Some (f x))
+-- x is one of these cells
+abbrev pub is_among : Cell → List Cell → Bool
+is_among x xs = list_any (λ y. same_cell y x) xs
 
-is_left : (f : Cell → Option ℤ) (x y : Cell) (o : Option (Option ℤ)) → IsLeft f x o → IsLeft f x (option_or (cond (same_cell y x) (Some (f y)) None) o)
-is_left f x y o h = go (same_cell y x) refl
-  where
-    go : (b : Bool) → same_cell y x ≡ b → IsLeft f x (option_or (cond b (Some (f y)) None) o)
-    go true e = inr (ap (λ (z : Cell). Some (f z)) (same_cell-true y x e))
-    go false e = h
-
-along_left : (f : Cell → Option ℤ) (x : Cell) (es : List Event) → IsLeft f x (left_along f es x)
-along_left f x [] = inl refl
-along_left f x (Put t y v ∷ es) = is_left f x y (left_along f es x) (along_left f x es)
-along_left f x (Began t s k i ∷ es) = along_left f x es
-along_left f x (Got t y w v ∷ es) = along_left f x es
-along_left f x (Ready t ∷ es) = along_left f x es
-along_left f x (Done t ∷ es) = along_left f x es
-along_left f x (Gone t c ∷ es) = along_left f x es
-along_left f x (Told t ∷ es) = along_left f x es
-
-rows_left : (f : Cell → Option ℤ) (x : Cell) (rs : List (Cell × ℤ)) → IsLeft f x (left_in_rows f rs x)
-rows_left f x [] = inl refl
-rows_left f x (r ∷ rs) = is_left f x r.0 (left_in_rows f rs x) (rows_left f x rs)
-
--- where nothing is left
-none_parts : (b : Bool) (v : Option ℤ) (o : Option (Option ℤ)) → option_or (cond b (Some v) None) o ≡ None → (b ≡ false) × (o ≡ None)
-none_parts true v o h = absurd (cc)
-none_parts false v o h = (refl, h)
+neither : (a b : Bool) → (a || b) ≡ false → (a ≡ false) × (b ≡ false)
+neither true b h = absurd (cc)
+neither false b h = (refl, h)
 
 and_none : (a b : Bool) → b ≡ false → (a && b) ≡ false
 and_none true b h = h
 and_none false b h = refl
 
-along_none : (f : Cell → Option ℤ) (x : Cell) (w : ℕ) (es : List Event) → left_along f es x ≡ None → list_any (is_put w x) es ≡ false
-along_none f x w [] h = refl
-along_none f x w (Put t y v ∷ es) h =
-    let p = none_parts (same_cell y x) (f y) (left_along f es x) h in
-    ap (λ (b : Bool). b || list_any (is_put w x) es) (and_none (eqb t.0 w) (same_cell y x) p.0) ∙ along_none f x w es p.1
-along_none f x w (Began t s k i ∷ es) h = along_none f x w es h
-along_none f x w (Got t y u v ∷ es) h = along_none f x w es h
-along_none f x w (Ready t ∷ es) h = along_none f x w es h
-along_none f x w (Done t ∷ es) h = along_none f x w es h
-along_none f x w (Gone t c ∷ es) h = along_none f x w es h
-along_none f x w (Told t ∷ es) h = along_none f x w es h
+none_put : (x : Cell) (w : ℕ) (es : List Event) → is_among x (cells_put es) ≡ false → list_any (is_put w x) es ≡ false
+none_put x w [] h = refl
+none_put x w (Put t y v ∷ es) h =
+    let p = neither (same_cell y x) (is_among x (cells_put es)) h in
+    ap (λ (b : Bool). b || list_any (is_put w x) es) (and_none (eqb t.0 w) (same_cell y x) p.0) ∙ none_put x w es p.1
+none_put x w (Began t s k i ∷ es) h = none_put x w es h
+none_put x w (Got t y u v ∷ es) h = none_put x w es h
+none_put x w (Ready t ∷ es) h = none_put x w es h
+none_put x w (Done t ∷ es) h = none_put x w es h
+none_put x w (Gone t c ∷ es) h = none_put x w es h
+none_put x w (Told t ∷ es) h = none_put x w es h
 
-rows_none : (f : Cell → Option ℤ) (x : Cell) (rs : List (Cell × ℤ)) → left_in_rows f rs x ≡ None → row_of rs x ≡ None
-rows_none f x [] h = refl
-rows_none f x (r ∷ rs) h =
-    let p = none_parts (same_cell r.0 x) (f r.0) (left_in_rows f rs x) h in
-    ap (λ (b : Bool). cond b (Some r.1) (row_of rs x)) p.0 ∙ rows_none f x rs p.1
+no_row : (x : Cell) (rs : List (Cell × ℤ)) → is_among x (map (λ (r : Cell × ℤ). r.0) rs) ≡ false → row_of rs x ≡ None
+no_row x [] h = refl
+no_row x (r ∷ rs) h =
+    let p = neither (same_cell r.0 x) (is_among x (map (λ (s : Cell × ℤ). s.0) rs)) h in
+    ap (λ (b : Bool). cond b (Some r.1) (row_of rs x)) p.0 ∙ no_row x rs p.1
 
-not_wrote : (f : Cell → Option ℤ) (H : List Event) (x : Cell) (w : ℕ) → left_by_puts f H x ≡ None → wrote H w x ≡ false
+not_wrote : (H : List Event) (x : Cell) (w : ℕ) → is_among x (cells_put (reverse H)) ≡ false → wrote H w x ≡ false
 unfolding wrote put_at
-not_wrote f H x w h = came_any (is_put w x) H ∙ sym (any_reverse (is_put w x) H) ∙ along_none f x w (reverse H) h
+not_wrote H x w h = came_any (is_put w x) H ∙ sym (any_reverse (is_put w x) H) ∙ none_put x w (reverse H) h
 
 -- where nobody has put the cell, the starting row stands
 untouched : (X : Store) (H : List Event) (x : Cell) → ((w : ℕ) → wrote H w x ≡ false) → final_table X H x ≡ row_of X.rows x
@@ -81,17 +62,43 @@ unfolding final_table
 untouched X H x f = ap (value_of X H x) (latest_nobody X.setup H x (filter (is_final H x) (txns H)) (λ u i.
     both_ways _ (f u) (and_parts _ _ (filter-In (is_final H x) u (txns H) i).1).1))
 
-pub whole_left : (X : Store) (H : List Event) (x : Cell) → or_value (option_or (left_by_puts (final_table X H) H x) (left_in_rows (final_table X H) X.rows x)) None ≡ final_table X H x
-whole_left X H x = elim (along_left f x (reverse H)) [
-  | inr e ↦ ap (λ (o : Option (Option ℤ)). or_value (option_or o (left_in_rows f X.rows x)) None) e
-  | inl e ↦ ap (λ (o : Option (Option ℤ)). or_value (option_or o (left_in_rows f X.rows x)) None) e ∙ elim (rows_left f x X.rows) [
-    | inr r ↦ ap (λ (o : Option (Option ℤ)). or_value o None) r
-    | inl r ↦ ap (λ (o : Option (Option ℤ)). or_value o None) r ∙ sym (untouched X H x (λ w. not_wrote f H x w e) ∙ rows_none f x X.rows r)
-  ]
-]
+pub none_left : (X : Store) (H : List Event) (x : Cell) → is_among x (cells_put (reverse H) ++ map (λ (r : Cell × ℤ). r.0) X.rows) ≡ false → final_table X H x ≡ None
+none_left X H x h =
+    let puts = cells_put (reverse H) in
+    let starts = map (λ (r : Cell × ℤ). r.0) X.rows in
+    let p = neither (is_among x puts) (is_among x starts) (sym (list_any-append (λ (y : Cell). same_cell y x) puts starts) ∙ h) in
+    untouched X H x (λ w. not_wrote H x w p.0) ∙ no_row x X.rows p.1
+
+-- each cell once is as good
+or_twice : (a b : Bool) → (a || b) ≡ (a || (a || b))
+or_twice true b = refl
+or_twice false b = refl
+
+among_once_from : (x k : Cell) (ys : List Cell) → is_among x (dedup_from same_cell k ys) ≡ is_among x (k ∷ ys)
+among_once_from x k [] = refl
+among_once_from x k (y ∷ ys) = go (same_cell y k) refl (among_once_from x k ys) (among_once_from x y ys)
   where
-    f : Cell → Option ℤ
-    f = final_table X H
+    go : (b : Bool) → same_cell y k ≡ b → is_among x (dedup_from same_cell k ys) ≡ is_among x (k ∷ ys) → is_among x (dedup_from same_cell y ys) ≡ is_among x (y ∷ ys)
+        → is_among x (cond b (dedup_from same_cell k ys) (k ∷ dedup_from same_cell y ys)) ≡ is_among x (k ∷ y ∷ ys)
+    go true s here behind = here ∙ or_twice (same_cell k x) (is_among x ys) ∙ ap (λ (z : Cell). same_cell k x || (same_cell z x || is_among x ys)) (sym (same_cell-true y k s))
+    go false s here behind = ap (λ (b : Bool). same_cell k x || b) behind
+
+among_once : (x : Cell) (ys : List Cell) → is_among x (dedup same_cell ys) ≡ is_among x ys
+among_once x [] = refl
+among_once x (y ∷ ys) = among_once_from x y ys
+
+-- the cells that somebody has put and those with a starting row, sorted, and each once
+pub cells_once : (X : Store) (H : List Event) (ps qs : List Cell) → IsPermutation (cells_put (reverse H)) ps → IsPermutation (ps ++ map (λ (r : Cell × ℤ). r.0) X.rows) qs → IsSorted cell_cmp qs
+    → AreCells (final_table X H) (dedup same_cell qs)
+cells_once X H ps qs put rows sorted =
+    let puts = cells_put (reverse H) in
+    let starts = map (λ (r : Cell × ℤ). r.0) X.rows in
+    record {
+      ascending = IsStrictlySortedBy-dedup cell_cmp_total same_cell-cell_cmp qs sorted;
+      all = λ x h. none_left X H x (
+          list_any-IsPermutation (λ (y : Cell). same_cell y x) (puts ++ starts) (ps ++ starts) (IsPermutation-append_left starts puts ps put)
+          ∙ list_any-IsPermutation (λ (y : Cell). same_cell y x) (ps ++ starts) qs rows ∙ sym (among_once x qs) ∙ h);
+    }
 
 -- how many tables there are does not matter
 pub tables_alike : (X : Store) (n : ℕ) (H : List Event) (x : Cell) → final_table X H x ≡ final_table (record X { tables = n }) H x

@@ -1,8 +1,9 @@
 -- The final tables as a list of rows.
-use Rattle.std.specs.Prelude.{◌≡◌, ℕ, ℤ, cond, reverse, List, [], ◌∷◌, Option, Some, None}
-use Rattle.std.specs.Option.{option_or}
+use Rattle.std.specs.Prelude.{◌≡◌, ℕ, ℤ, false, List, [], ◌∷◌, Option, Some, None}
+use Rattle.std.specs.List.{list_any}
+use Rattle.std.specs.List.Sorted.{IsStrictlySortedBy}
 use Rattle.teb_names.specs.declared.Cell.{Cell}
-use Rattle.teb_names.specs.Cells.{same_cell}
+use Rattle.teb_names.specs.Cells.{same_cell, cell_cmp}
 use Rattle.teb_names.specs.Rows.{row_of, IsAscending}
 use Rattle.teb_history.specs.declared.Event.{Event}
 use Rattle.teb_history.specs.declared.Event.TheVariants.{Put}
@@ -24,26 +25,23 @@ store_with f R n = record { setup = setup_of f; tables = n; rows = R }
 abbrev pub left_in : Facts → List (Cell × ℤ) → Cell → Option ℤ
 left_in f R x = final_table (store_with f R 0) (events_of f) x
 
--- a value that is kept where there is none yet
-abbrev pub kept : Option (Option ℤ) → Cell → Option ℤ → Cell → Option (Option ℤ)
-kept old y v x = option_or old (cond (same_cell y x) (Some v) None)
+-- the cells that these events put
+abbrev pub cells_put : List Event → List Cell
+cells_put [] = []
+cells_put (Put t x v ∷ es) = x ∷ cells_put es
+cells_put (_ ∷ es) = cells_put es
 
--- what `left` says of a cell, where one of these events puts it, the oldest first
-abbrev pub left_along : (Cell → Option ℤ) → List Event → Cell → Option (Option ℤ)
-left_along left [] x = None
-left_along left (Put t y v ∷ es) x = option_or (cond (same_cell y x) (Some (left y)) None) (left_along left es x)
-left_along left (_ ∷ es) x = left_along left es x
+-- the cells ascend, and nothing is left in any other
+pub record AreCells (left : Cell → Option ℤ) (xs : List Cell) : Type 0 where
+  pub ascending : IsStrictlySortedBy cell_cmp xs
+  pub all : (x : Cell) → list_any (λ y. same_cell y x) xs ≡ false → left x ≡ None
 
-abbrev pub left_by_puts : (Cell → Option ℤ) → List Event → Cell → Option (Option ℤ)
-left_by_puts left H x = left_along left (reverse H) x
+-- these rows behind that of a cell, if it has a value
+abbrev pub row_before : Cell → Option ℤ → List (Cell × ℤ) → List (Cell × ℤ)
+row_before x None rows = rows
+row_before x (Some v) rows = (x, v) ∷ rows
 
--- the same, where one of these rows is of the cell
-abbrev pub left_in_rows : (Cell → Option ℤ) → List (Cell × ℤ) → Cell → Option (Option ℤ)
-left_in_rows left [] x = None
-left_in_rows left (r ∷ rs) x = option_or (cond (same_cell r.0 x) (Some (left r.0)) None) (left_in_rows left rs x)
-
--- the cells that have a value, with it
-abbrev pub rows_in : List (Cell × Option ℤ) → List (Cell × ℤ)
-rows_in [] = []
-rows_in ((x, Some v) ∷ es) = (x, v) ∷ rows_in es
-rows_in ((x, None) ∷ es) = rows_in es
+-- the cells in which a value is left, with it
+abbrev pub rows_in : (Cell → Option ℤ) → List Cell → List (Cell × ℤ)
+rows_in left [] = []
+rows_in left (x ∷ xs) = row_before x (left x) (rows_in left xs)

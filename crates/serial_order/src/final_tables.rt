@@ -1,20 +1,15 @@
 //! The final tables.
 
-ghost use Rattle.std.specs.Prelude.{◌≡◌, ℕ, IfOk, OnOk};
-ghost use Rattle.std.specs.Option.{option_or};
-ghost use Rattle.std.specs.BTreeMap.{get, IsOrdered};
-ghost use Rattle.teb_names.specs.declared.Cell.{Cell};
-ghost use Rattle.teb_names.specs.Cells.{cell_cmp};
+ghost use Rattle.std.specs.Prelude.{◌≡◌, ℕ, ◌++◌, map, reverse, IfOk, OnOk};
 ghost use Rattle.teb_history.specs.Phases.{committed};
 ghost use Rattle.version_chain.specs.Lists.{writers_of, last_place};
 ghost use Rattle.phase_api.specs.FactsView.{events_of};
-ghost use Rattle.serial_order.specs.Tables.{kept, left_by_puts, left_in_rows, rows_in, IsFinalRows};
+ghost use Rattle.serial_order.specs.Tables.{cells_put, rows_in, AreCells, IsFinalRows};
 
 use crate::end_state::EndState;
 use engine_core::Engine;
 use phase_api::Facts;
 use std::alloc::{AllocError, Global};
-use std::collections::BTreeMap;
 use teb_history::Event;
 use teb_names::{Cell, Txn};
 use version_chain::Chains;
@@ -46,42 +41,57 @@ impl<'a, C: Chains> EndState<'a, C> {
     fn rows_left(&self, alloc: Global) -> Result<Vec<(Cell, i64)>, AllocError>
         ensures { (tables : ℕ) → IfOk result (λ v. IsFinalRows (store self.now tables) (events_of self.now.facts.now) v.items) }
     {
-        let mut values = self.values_put(alloc)?;
-        self.add_rows(&mut values)?;
-        rows_of(alloc, &values)
+        let cells = self.cells(alloc)?;
+        self.rows_of(alloc, &cells)
     }
 
-    // The value that is left in each cell that somebody has put.
-    fn values_put(&self, alloc: Global) -> Result<BTreeMap<Cell, Option<i64>>, AllocError>
-        ensures { IfOk result (λ m. (x : Cell) → get cell_cmp m x ≡ left_by_puts (left self.now) (events_of self.now.facts.now) x) }
+    // The cells that somebody has put or that have a starting row, each once, in ascending order. The rows ascend, so that
+    // the last sort merges them with the others.
+    fn cells(&self, alloc: Global) -> Result<Vec<Cell>, AllocError>
+        ensures { IfOk result (λ v. AreCells (left self.now) v.items) }
     {
-        let mut values = BTreeMap::new(alloc);
+        let mut cells = self.cells_put(alloc)?;
+        cells.sort_unstable();
+        self.add_rows(&mut cells)?;
+        cells.sort()?;
+        cells.dedup();
+        Ok(cells)
+    }
+
+    // The cells that somebody has put, each as often as that.
+    fn cells_put(&self, alloc: Global) -> Result<Vec<Cell>, AllocError>
+        ensures { IfOk result (λ v. v.items ≡ cells_put (reverse (events_of self.now.facts.now))) }
+    {
+        let mut cells = Vec::new(alloc);
         for event in self.facts.history.events() {
             if let Event::Put { cell, .. } = event {
-                self.add(&mut values, *cell)?;
+                cells.push(*cell)?;
             }
         }
-        Ok(values)
+        Ok(cells)
     }
 
-    // Adds the value that is left in each cell that has a starting row.
-    fn add_rows(&self, values: &mut BTreeMap<Cell, Option<i64>>) -> Result<(), AllocError>
-        ensures { OnOk result ((x : Cell) → get cell_cmp values.new x ≡ option_or (get cell_cmp values.old x) (left_in_rows (left self.now) self.now.rows.now x)) }
+    // Adds the cells that have a starting row.
+    fn add_rows(&self, cells: &mut Vec<Cell>) -> Result<(), AllocError>
+        ensures { OnOk result (cells.new.items ≡ cells.old.items ++ map (λ r. r.0) self.now.rows.now) }
     {
         for (cell, _) in self.rows.rows() {
-            self.add(values, *cell)?;
+            cells.push(*cell)?;
         }
         Ok(())
     }
 
-    // Adds the value that is left in a cell, where it is not there yet.
-    fn add(&self, values: &mut BTreeMap<Cell, Option<i64>>, cell: Cell) -> Result<(), AllocError>
-        ensures { OnOk result ((x : Cell) → get cell_cmp values.new x ≡ kept (get cell_cmp values.old x) cell (left self.now cell) x) }
+    // Those of these cells in which a value is left, with it.
+    fn rows_of(&self, alloc: Global, cells: &[Cell]) -> Result<Vec<(Cell, i64)>, AllocError>
+        ensures { IfOk result (λ v. v.items ≡ rows_in (left self.now) cells.now) }
     {
-        if !values.contains_key(&cell) {
-            values.insert(cell, self.value(cell))?;
+        let mut rows = Vec::with_capacity(alloc, cells.len())?;
+        for cell in cells {
+            if let Some(value) = self.value(*cell) {
+                rows.push((*cell, value))?;
+            }
         }
-        Ok(())
+        Ok(rows)
     }
 
     // The value of the last committed version of a cell, or else of its starting row. It costs the versions above that one, which
@@ -103,21 +113,4 @@ impl<'a, C: Chains> EndState<'a, C> {
         self.chains
             .last_where(cell, &|w: Txn| history.is_committed(w))
     }
-}
-
-// The cells that have a value, with it.
-fn rows_of(
-    alloc: Global,
-    values: &BTreeMap<Cell, Option<i64>>,
-) -> Result<Vec<(Cell, i64)>, AllocError>
-    ensures ordered { IsOrdered cell_cmp values.now }
-    ensures rows { IfOk result (λ v. v.items ≡ rows_in values.now.entries) }
-{
-    let mut rows = Vec::with_capacity(alloc, values.len())?;
-    for (cell, value) in values {
-        if let Some(value) = value {
-            rows.push((*cell, *value))?;
-        }
-    }
-    Ok(rows)
 }

@@ -16,8 +16,8 @@ use crate::books::books;
 use engine_core::Engine;
 use phase_api::Facts;
 use std::alloc::{AllocError, Global};
-use teb_history::Event;
-use teb_names::Txn;
+use teb_history::{Event, History};
+use teb_names::{ControlKind, Node, Txn};
 use version_chain::Chains;
 
 /// A committed transaction with its key.
@@ -38,10 +38,35 @@ pub fn order<C: Chains>(alloc: Global, engine: &Engine<C>) -> Result<Vec<Txn>, A
         tree: &setup.tree,
         profiles: &setup.profiles,
     };
-    order_by_keys(alloc, &facts)
+    order_of(alloc, &facts)
 }
 
-// The same, of what controls are told: sorted by keys.
+// The same, of what controls are told. Under a root of locks or a pipeline it is the order of the commits.
+fn order_of(alloc: Global, facts: &Facts) -> Result<Vec<Txn>, AllocError>
+    requires sound { IsSound (setup_of facts.now) }
+    requires lawful { Lawful (setup_of facts.now) (events_of facts.now) }
+    ensures { IfOk result (λ v. txn_numbers v.items ≡ serial_order (setup_of facts.now) (events_of facts.now)) }
+{
+    match facts.tree.row(Node(0)).control {
+        ControlKind::Locks | ControlKind::Pipeline => order_of_commits(alloc, facts.history),
+        ControlKind::Timestamp | ControlKind::Snapshot => order_by_keys(alloc, facts),
+    }
+}
+
+// The committed transactions in the order of their commits.
+fn order_of_commits(alloc: Global, history: &History) -> Result<Vec<Txn>, AllocError>
+    ensures { IfOk result (λ v. txn_numbers v.items ≡ commits_in (reverse history.now.events)) }
+{
+    let mut txns = Vec::new(alloc);
+    for event in history.events() {
+        if let Event::Done(txn) = event {
+            txns.push(*txn)?;
+        }
+    }
+    Ok(txns)
+}
+
+// The committed transactions sorted by keys.
 fn order_by_keys(alloc: Global, facts: &Facts) -> Result<Vec<Txn>, AllocError>
     requires sound { IsSound (setup_of facts.now) }
     requires lawful { Lawful (setup_of facts.now) (events_of facts.now) }
