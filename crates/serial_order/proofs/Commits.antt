@@ -1,9 +1,9 @@
 -- The committed transactions in the order of their commits, and sorted by their keys.
 use Rattle.std.proofs.Common.{◌≡◌, ◌≢◌, ℕ, zero, suc, ◌+◌, ◌<◌, ◌≤◌, Bool, true, false, cond, ◌&&◌, ◌||◌, eqb, ltb, List, [], ◌∷◌, ◌++◌, length, length-append, get_or, reverse, drop, slice_get, Some, refl, sym, ◌∙◌, ap, ap₂, subst, inl, inr, arith, eqb-true, eq-eqb}
-use Rattle.std.proofs.lemmas.Bool.{both_ways, cases_lt}
+use Rattle.std.proofs.lemmas.Bool.{both_ways, cases_lt, cases_eq}
 use Rattle.std.proofs.lemmas.List.{reverse-append}
 use Rattle.std.proofs.lemmas.List.Sorted.{sum_by-IsPermutation, IsPermutation-map, All-permutation, sorted_far, ranks_by}
-use Rattle.std.specs.List.{sum_by}
+use Rattle.std.specs.List.{sum_by, All}
 use Rattle.std.proofs.lemmas.List.Sums.{sum_by-cons}
 use Rattle.std.specs.List.Sorted.{IsPermutation, IsSortedBy}
 use Rattle.std.specs.Ordering.{nat_cmp, is_lt, ordering_then}
@@ -13,7 +13,7 @@ use Rattle.std.specs.Cmp.Lexicographic.{slice_cmp, nat_list_cmp_total}
 use Rattle.teb_names.specs.declared.Txn.{Txn}
 use Rattle.teb_history.specs.declared.Event.{Event}
 use Rattle.teb_history.specs.declared.Event.TheVariants.{Began, Got, Put, Ready, Done, Gone, Told}
-use Rattle.teb_rules.specs.Ranks.{lex, key, serially, serial_order}
+use Rattle.teb_rules.specs.Ranks.{lex, serially, serial_order}
 use Rattle.teb_rules.specs.Serializes.{In, Pairs}
 use Rattle.teb_rules.specs.Setup.{Setup}
 use Rattle.teb_laws.specs.Lawful.{Lawful}
@@ -23,7 +23,8 @@ use Rattle.teb_laws.proofs.Commits.{committed_in, committed-In, In-committed}
 use Rattle.teb_laws.proofs.Serial.{Commits, committed_from, serial_strict, order_each, order_all, order_sorted, Pairs-append}
 use Rattle.batch_book.proofs.Numbered.{unfinished_parts}
 use Rattle.serial_order.specs.Commits.{commits_in}
-use Rattle.serial_order.specs.Keys.{entry_numbers, HaveKeys}
+use Rattle.serial_order.specs.Keys.{entry_numbers, cut_key, HaveKeys}
+use Rattle.serial_order.proofs.Cut.{serially_cut}
 use Rattle.serial_order.specs.declared.serial.Entry.{Entry}
 
 commits_append : (xs ys : List Event) → commits_in (xs ++ ys) ≡ commits_in xs ++ commits_in ys
@@ -167,20 +168,31 @@ pairs_numbers R (e ∷ es) f = (
 )
 
 -- entries with their keys, sorted by std
-module _ (S : Setup) (a : TreeFacts S) (H : List Event) (l : Lawful S H) (es : List Entry) (have : HaveKeys S H es) (up : IsSortedBy (λ d e. is_lt (slice_cmp nat_cmp d.key.items e.key.items)) es) where
+module _ (S : Setup) (a : TreeFacts S) (H : List Event) (l : Lawful S H) (es : List Entry) (done : All (λ (e : Entry). Commits H e.txn.0) es) (have : HaveKeys S H es) (up : IsSortedBy (λ d e. is_lt (slice_cmp nat_cmp d.key.items e.key.items)) es) where
   later : (i j : ℕ) (d : Entry) → i < j → j < length es → serially S H (get_or es j d).txn.0 (get_or es i d).txn.0 ≡ false
-  unfolding serially
   later i j d h k =
-      let far = sorted_far (λ (x y : Entry). is_lt (slice_cmp nat_cmp x.key.items y.key.items)) (ranks_by nat_list_cmp_total (λ (e : Entry). e.key.items)) es up i j d (omega arith) k in
-      let kj = have j d k in
-      let ki = have i d (omega arith) in
-      ap₂ lex (sym kj) (sym ki) ∙ lex_is (get_or es j d).key.items (get_or es i d).key.items ∙ far
+      let e = get_or es j d in
+      let f = get_or es i d in
+      elim (cases_eq e.txn.0 f.txn.0) [
+        | inl same ↦ subst (λ (t : ℕ). serially S H e.txn.0 t ≡ false) same ((serial_strict S a H l).irreflexive e.txn.0 (done j d k))
+        | inr ne ↦ (
+            let far = sorted_far (λ (x y : Entry). is_lt (slice_cmp nat_cmp x.key.items y.key.items)) (ranks_by nat_list_cmp_total (λ (x : Entry). x.key.items)) es up i j d (omega arith) k in
+            serially_cut S a H e.txn.0 f.txn.0 l (done j d k) (done i d (omega arith)) ne ∙ ap₂ lex (sym (have j d k)) (sym (have i d (omega arith))) ∙ lex_is e.key.items f.key.items ∙ far
+            )
+      ]
+
+number_there : (es : List Entry) (k : ℕ) (d : Entry) → k < length es → In (get_or es k d).txn.0 (entry_numbers es)
+number_there [] k d low = absurd (omega arith)
+number_there (e ∷ es) zero d low = inl refl
+number_there (e ∷ es) (suc k) d low = inr (number_there es k d (omega arith))
 
 pub entries_ordered : (S : Setup) (a : TreeFacts S) (H : List Event) → Lawful S H → (xs es : List Entry) → entry_numbers xs ≡ commits_in (reverse H) → HaveKeys S H xs → IsPermutation xs es →
     IsSortedBy (λ d e. is_lt (slice_cmp nat_cmp d.key.items e.key.items)) es → entry_numbers es ≡ serial_order S H
 entries_ordered S a H l xs es numbers have m up =
-    order_is S a H l (entry_numbers es) (subst (λ (us : List ℕ). IsPermutation us (entry_numbers es)) (numbers ∙ commits_walk H) (IsPermutation-map (λ (e : Entry). e.txn.0) xs es m))
-    (pairs_numbers (λ u t. serially S H t u ≡ false) es (λ i j d. later S a H l es (All-permutation (λ (e : Entry). e.key.items ≡ key S H e.txn.0) xs es m have) up i j d))
+    let all = numbers ∙ commits_walk H in
+    let done : All (λ (e : Entry). Commits H e.txn.0) xs = λ k d low. committed-In H (get_or xs k d).txn.0 (subst (In (get_or xs k d).txn.0) all (number_there xs k d low)) in
+    order_is S a H l (entry_numbers es) (subst (λ (us : List ℕ). IsPermutation us (entry_numbers es)) all (IsPermutation-map (λ (e : Entry). e.txn.0) xs es m))
+    (pairs_numbers (λ u t. serially S H t u ≡ false) es (λ i j d. later S a H l es (All-permutation (λ (e : Entry). Commits H e.txn.0) xs es m done) (All-permutation (λ (e : Entry). e.key.items ≡ cut_key S H e.txn.0) xs es m have) up i j d))
 
 -- one event more
 drop_there : (es : List Event) (i : ℕ) (e : Event) → slice_get es i ≡ Some e → drop i es ≡ e ∷ drop (i + 1) es
@@ -223,9 +235,9 @@ get_or-behind : (xs : List Entry) (b d : Entry) → get_or (xs ++ b ∷ []) (len
 get_or-behind [] b d = refl
 get_or-behind (x ∷ xs) b d = get_or-behind xs b d
 
-pub keys_more : (S : Setup) (H : List Event) (xs : List Entry) (e : Entry) → HaveKeys S H xs → e.key.items ≡ key S H e.txn.0 → HaveKeys S H (xs ++ e ∷ [])
+pub keys_more : (S : Setup) (H : List Event) (xs : List Entry) (e : Entry) → HaveKeys S H xs → e.key.items ≡ cut_key S H e.txn.0 → HaveKeys S H (xs ++ e ∷ [])
 keys_more S H xs e h q k d low = elim (cases_lt k (length xs)) [
-  | inl r ↦ subst (λ (x : Entry). x.key.items ≡ key S H x.txn.0) (sym (get_or-before xs e d k r)) (h k d r)
+  | inl r ↦ subst (λ (x : Entry). x.key.items ≡ cut_key S H x.txn.0) (sym (get_or-before xs e d k r)) (h k d r)
   | inr r ↦ (let z : length xs ≡ k = (let y = length-append xs (e ∷ []) in let w : k < length xs + 1 = subst (λ (m : ℕ). k < m) y low in omega arith) in
-      subst (λ (m : ℕ). (get_or (xs ++ e ∷ []) m d).key.items ≡ key S H (get_or (xs ++ e ∷ []) m d).txn.0) z (subst (λ (x : Entry). x.key.items ≡ key S H x.txn.0) (sym (get_or-behind xs e d)) q))
+      subst (λ (m : ℕ). (get_or (xs ++ e ∷ []) m d).key.items ≡ cut_key S H (get_or (xs ++ e ∷ []) m d).txn.0) z (subst (λ (x : Entry). x.key.items ≡ cut_key S H x.txn.0) (sym (get_or-behind xs e d)) q))
 ]

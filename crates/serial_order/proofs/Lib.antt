@@ -1,6 +1,7 @@
 pub mod AnyOf
 pub mod Beside
 pub mod Commits
+pub mod Cut
 pub mod EdgesOut
 pub mod LastCommitted
 pub mod Left

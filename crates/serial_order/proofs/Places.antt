@@ -14,10 +14,10 @@ use Rattle.teb_names.specs.declared.Node.{Node}
 use Rattle.teb_names.specs.declared.ControlKind.TheVariants.{Snapshot}
 use Rattle.teb_history.specs.Phases.{spot_of}
 use Rattle.teb_rules.specs.Tree.{row, path, on_path, side, side_at}
-use Rattle.teb_rules.specs.Ranks.{key, rank, rank_by, has_edge_out}
+use Rattle.teb_rules.specs.Ranks.{rank, rank_by, has_edge_out}
 use Rattle.cc_tree.specs.Grown.{node_numbers}
 use Rattle.serial_order.specs.Books.{HoldBatches, AreBooks}
-use Rattle.serial_order.specs.Keys.{key_along}
+use Rattle.serial_order.specs.Keys.{key_along, cut_key}
 
 -- one more book
 get_or-front : (xs : List Book) (b d : Book) (n : ℕ) → n < length xs → get_or (xs ++ b ∷ []) n d ≡ get_or xs n d
@@ -83,8 +83,7 @@ on_at S H t ns i m e low =
     subst (λ (ms : List ℕ). among (get_or ns i m).0 ms ≡ true) e (subst (λ (k : ℕ). among k (node_numbers ns) ≡ true) (numbers-at ns i m) a)
 
 -- a key, node by node
-pub key_starts : (S : Setup) (H : List Event) (t : ℕ) (ms : List ℕ) → ms ≡ path S.tree (spot_of H t) → key_along S H t ms ≡ key S H t
-unfolding key
+pub key_starts : (S : Setup) (H : List Event) (t : ℕ) (ms : List ℕ) → ms ≡ path S.tree (spot_of H t) → key_along S H t ms ≡ cut_key S H t
 key_starts S H t ms e = ap (key_along S H t) e
 
 pub spot_told : (H : List Event) (t : ℕ) (o : Option Spot) (s : Spot) → IfSome o (λ z. z ≡ spot_of H t) → o ≡ Some s → s ≡ spot_of H t

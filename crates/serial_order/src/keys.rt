@@ -1,12 +1,13 @@
-//! The key of a committed transaction: its ranks and its sides along its path.
+//! The key of a committed transaction: its ranks and its sides along its path, up to the rank that is its Done.
 
 ghost use Rattle.std.specs.Prelude.{◌≡◌, IfOk};
 ghost use Rattle.teb_history.specs.Phases.{done_at, spot_of};
 ghost use Rattle.teb_rules.specs.Tree.{side};
-ghost use Rattle.teb_rules.specs.Ranks.{key, rank};
+ghost use Rattle.teb_rules.specs.Ranks.{rank};
 ghost use Rattle.phase_api.specs.FactsView.{IsTyped};
 ghost use Rattle.serial_order.specs.Booked.{history, IsNode, IsAt, told};
 ghost use Rattle.serial_order.specs.Edges.{MarkEdges};
+ghost use Rattle.serial_order.specs.Keys.{cut_key, ranks_by_done};
 
 use crate::booked::Booked;
 use crate::books::side_of;
@@ -14,8 +15,9 @@ use std::alloc::{AllocError, Global};
 use teb_names::{ControlKind, Node, Spot, Txn};
 
 impl<'a> Booked<'a> {
-    /// The rank and the side of a transaction at each node from the root to its leaf, at most 16 numbers. `marks` are those of the
-    /// batches with an edge out, and `done` is the position of its Done.
+    /// The rank and the side of a transaction at each node from the root to its leaf, at most 16 numbers. A rank that is its Done is
+    /// the last number: no other transaction has it. `marks` are those of the batches with an edge out, and `done` is the
+    /// position of its Done.
     pub(crate) fn key(
         &self,
         alloc: Global,
@@ -26,7 +28,7 @@ impl<'a> Booked<'a> {
         requires marks { told self.now MarkEdges marks.now }
         requires typed { IsTyped self.now.facts.now t.0 }
         requires done { done ≡ done_at (history self.now) t.0 }
-        ensures { IfOk result (λ v. v.items ≡ told self.now key t.0) }
+        ensures { IfOk result (λ v. v.items ≡ told self.now cut_key t.0) }
     {
         let facts = self.facts;
         let spot = facts.spot(t).unwrap();
@@ -34,6 +36,9 @@ impl<'a> Booked<'a> {
         let mut key = Vec::with_capacity(alloc, path.len().saturating_mul(2))?;
         for n in path {
             key.push(self.rank(marks, *n, t, done))?;
+            if ranks_by_done(facts.tree.row(*n).control) {
+                return Ok(key);
+            }
             key.push(self.side(*n, spot, t) as usize)?;
         }
         Ok(key)
@@ -68,5 +73,15 @@ impl<'a> Booked<'a> {
                 }
             }
         }
+    }
+}
+
+// Whether a node of a kind ranks a transaction by its Done.
+fn ranks_by_done(control: ControlKind) -> bool
+    ensures { result ≡ ranks_by_done control }
+{
+    match control {
+        ControlKind::Locks | ControlKind::Pipeline => true,
+        ControlKind::Timestamp | ControlKind::Snapshot => false,
     }
 }
