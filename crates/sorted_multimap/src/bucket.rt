@@ -249,11 +249,15 @@ fn first<K: Ord + Copy>(runs: &[Run<K>], key: K) -> usize
     runs.len()
 }
 
-/// How many runs have a key below a key, by a binary search.
+/// How many runs have a key below a key: none where the first has not, and else by a binary search.
 fn search_first<K: Ord + Copy>(runs: &[Run<K>], key: K) -> usize
-    requires { Ascends (by_key K.cmp) runs.now }
+    requires some { 0 < length runs.now }
+    requires ascending { Ascends (by_key K.cmp) runs.now }
     ensures at { result ≡ lowest K.cmp runs.now key }
     ensures within { result ≤ length runs.now }
 {
+    if runs[0].key.cmp(&key) != Ordering::Less {
+        return 0;
+    }
     runs.partition_point(|r| r.key.cmp(&key) == Ordering::Less)
 }
