@@ -1,9 +1,10 @@
 -- Whole lines, and whole texts or none.
-use Rattle.std.proofs.Common.{◌≡◌, ℕ, if◌then◌else◌, List, [], ◌∷◌, ◌++◌, codes, Result, Ok, Err, is_ok, take, length, refl, sym, ap, ◌∙◌, append_assoc}
+use Rattle.std.proofs.Common.{◌≡◌, ℕ, ◌+◌, ℤ, Option, Some, slice_get, drop, map, if◌then◌else◌, List, [], ◌∷◌, ◌++◌, codes, Result, Ok, Err, is_ok, IsErr, take, length, refl, sym, ap, ◌∙◌, append_assoc}
 use Rattle.std.specs.Result.{OnOk, OnErr}
 use Rattle.std.specs.List.{join_with_byte}
-use Rattle.std.proofs.lemmas.List.{take_at, append-nil}
-use Rattle.script_text.specs.Texts.{line_text}
+use Rattle.std.proofs.lemmas.List.{take_at, append-nil, drop_more}
+use Rattle.std.proofs.lemmas.Option.{slice_get_within, get_or_from_slice_get}
+use Rattle.script_text.specs.Texts.{line_text, value_text}
 use Rattle.script_text.specs.Puts.{Puts, IsFront, spaced}
 
 joined : (w : List ℕ) (ws : List (List ℕ)) → join_with_byte 32 (w ∷ ws) ≡ w ++ spaced ws
@@ -54,3 +55,16 @@ whole_line w ws = sym (append_assoc w (spaced ws) (codes "\n")) ∙ ap (λ l. l 
 pub put_at_once : {E : Type 0} (old text bytes new : List ℕ) (r : Result (Unit {0}) E) → new ≡ (if is_ok r then old ++ bytes else old) → bytes ≡ text → Puts old text new r
 put_at_once old text bytes new (Ok u) is same = is ∙ ap (λ l. old ++ l) same
 put_at_once old text bytes new (Err e) is same = record { more = []; grown = is ∙ sym (append-nil old) }
+
+-- one of the values that are left to write
+pub next_value : (old mid new : List ℕ) (vs : List (Option ℤ)) (i : ℕ) (v : Option ℤ) → old ++ spaced (map value_text (drop i vs)) ≡ mid → slice_get vs i ≡ Some v → new ≡ old ++ (codes " " ++ value_text v)
+    → new ++ spaced (map value_text (drop (i + 1) vs)) ≡ mid
+next_value old mid new vs i v so_far read put =
+    let left : drop i vs ≡ v ∷ drop (i + 1) vs = drop_more vs i v (slice_get_within vs i v read) ∙ ap (λ w. w ∷ drop (i + 1) vs) (get_or_from_slice_get vs i v v read) in
+    ap (λ l. l ++ spaced (map value_text (drop (i + 1) vs))) put ∙ append_assoc old (codes " " ++ value_text v) (spaced (map value_text (drop (i + 1) vs)))
+    ∙ ap (λ (xs : List (Option ℤ)). old ++ spaced (map value_text xs)) (sym left) ∙ so_far
+
+-- a loop that stops for want of memory
+pub stopped : {E : Type 0} {old new : List ℕ} (text : List ℕ) (r : Result (Unit {0}) E) → IsFront old new → IsErr r → Puts old text new r
+stopped text (Ok u) front err = absurd (cc)
+stopped text (Err e) front err = front

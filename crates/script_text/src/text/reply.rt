@@ -146,8 +146,8 @@ fn put_long_words(out: &mut Vec<u8>, names: &NameBook, reply: &Reply) -> Result<
 fn put_values(out: &mut Vec<u8>, values: &ScanList) -> Result<(), AllocError>
     ensures { Puts out.old.items (spaced (map value_text values.now)) out.new.items result }
 {
-    for value in values.values() {
-        put_spaced(out, &Word::Value(*value))?;
+    for i in 0..values.len() {
+        put_spaced(out, &Word::Value(values.at(i)))?;
     }
     Ok(())
 }

@@ -3,8 +3,8 @@ use Rattle.script_text.specs.Texts.{value_text}
 use Rattle.script_text.specs.Puts.{IsFront, spaced}
 use Rattle.script_text.proofs.text.reply.put_values.Given as goal
 
-abbrev pub invariant-loop-value : goal.invariant-loop-value
-invariant-loop-value l = record {
+abbrev pub invariant-loop-i : goal.invariant-loop-i
+invariant-loop-i l = record {
   front : IsFront l.initial.out.items l.out.items;
-  rest : l.out.items ++ spaced (map value_text (drop l.value-index l.values)) ≡ l.initial.out.items ++ spaced (map value_text l.values);
+  rest : l.out.items ++ spaced (map value_text (drop l.i l.values)) ≡ l.initial.out.items ++ spaced (map value_text l.values);
 }
