@@ -1,10 +1,10 @@
--- The events of a lawful history could come where they came.
-use Rattle.std.proofs.Common.{List, [], ◌∷◌}
+-- An event that the rules grant could come where it comes.
+use Rattle.std.proofs.Common.{List}
 use Rattle.teb_history.specs.declared.Event.{Event}
 use Rattle.teb_history.specs.declared.Event.TheVariants.{Began, Got, Put, Ready, Done, Gone, Told}
 use Rattle.teb_rules.specs.Setup.{Setup}
-use Rattle.teb_laws.specs.Lawful.{Granted, Lawful}
-use Rattle.dependency_book.specs.Dependencies.{MayFollow, Orderly}
+use Rattle.teb_laws.specs.Lawful.{Granted}
+use Rattle.hold_book.specs.Orderly.{MayFollow}
 
 pub granted_follows : (S : Setup) (P : List Event) (e : Event) → Granted S P e → MayFollow P e
 granted_follows S P (Began t s k i) g = g.0
@@ -14,8 +14,3 @@ granted_follows S P (Ready t) g = g.unfinished
 granted_follows S P (Done t) g = g.unfinished
 granted_follows S P (Gone t c) g = g
 granted_follows S P (Told t) g = g
-
-pub lawful_orderly : (S : Setup) (H : List Event) → Lawful S H → Orderly H
-unfolding Lawful Orderly
-lawful_orderly S [] l = tt
-lawful_orderly S (e ∷ P) l = (granted_follows S P e l.0, lawful_orderly S P l.1)

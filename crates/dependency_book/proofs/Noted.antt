@@ -10,7 +10,7 @@ use Rattle.teb_names.specs.declared.Cell.{Cell}
 use Rattle.teb_names.specs.declared.Session.{Session}
 use Rattle.teb_names.specs.declared.Kind.{Kind}
 use Rattle.teb_names.specs.declared.Cause.{Cause}
-use Rattle.teb_names.specs.Cells.{same_cell}
+use Rattle.teb_names.specs.Cells.{cell_cmp, same_cell}
 use Rattle.teb_history.specs.declared.Event.{Event}
 use Rattle.teb_history.specs.declared.Event.TheVariants.{Began, Got, Put, Ready, Done, Gone, Told}
 use Rattle.teb_history.specs.Phases.{is_began, is_done, is_gone, begun, committed, aborted, unfinished, begun_count, numbers, txns}
@@ -18,13 +18,17 @@ use Rattle.teb_history.specs.Ascending.{put_by}
 use Rattle.teb_history.specs.Live.{number_of}
 use Rattle.dependency_book.specs.declared.access.Access.{Access}
 use Rattle.sorted_multimap.specs.LastMatches.{without_lasts}
-use Rattle.dependency_book.specs.Dependencies.{has, reads, puts, MayFollow, Orderly, all_readers, all_writers, all_sources, all_accesses, readers, writers, sources, accesses, unfinished_txns}
-use Rattle.dependency_book.specs.Books.{Lists, BookOf, readers_in, writers_in, sources_in, accesses_in}
+use Rattle.dependency_book.specs.Dependencies.{has, reads, puts, all_readers, all_writers, all_sources, all_accesses, readers, writers, sources, accesses, unfinished_txns}
+use Rattle.hold_book.specs.Orderly.{MayFollow, Orderly}
+use Rattle.dependency_book.specs.declared.registers.Registers.{Registers}
+use Rattle.dependency_book.specs.Books.{RegistersOf}
+use Rattle.sorted_multimap.specs.Keys.{txn_cmp}
+use Rattle.sorted_multimap.specs.Multimap.{values_in}
 use Rattle.sorted_multimap.proofs.TakenMatches.{without_all, count_kept}
 use Rattle.sorted_multimap.proofs.CellValues.{same_exact}
 use Rattle.dependency_book.proofs.MultimapEdits.{one_txn}
 use Rattle.dependency_book.proofs.OwnAccesses.{put_by_it, reads_counted, puts_counted, nothing_accessed}
-use Rattle.dependency_book.proofs.OrderlyHistories.{unfinished_is, unfinished_same, unfinished_parts, aborted_same, fresh}
+use Rattle.hold_book.proofs.OrderlyHistories.{unfinished_is, unfinished_same, unfinished_parts, aborted_same, fresh}
 use Rattle.teb_history.proofs.Filters.{filter_both, filter_push}
 use Rattle.teb_history.proofs.Newest.{aborted-cons, unfinished-cons}
 
@@ -82,7 +86,7 @@ gained false true as_ a f = absurd (let z : false ≡ true = f refl in cc)
 gained false false as_ a f = refl
 
 -- the book of no events
-pub noted_nothing : (b : Lists) → ((x : Cell) → readers_in b x ≡ []) → ((x : Cell) → writers_in b x ≡ []) → ((t : Txn) → sources_in b t ≡ []) → b.unfinished ≡ [] → ((t : Txn) → accesses_in b t ≡ []) → BookOf b []
+pub noted_nothing : (b : Registers) → ((x : Cell) → values_in cell_cmp b.readers x ≡ []) → ((x : Cell) → values_in cell_cmp b.writers x ≡ []) → ((t : Txn) → values_in txn_cmp b.sources t ≡ []) → b.unfinished.items ≡ [] → ((t : Txn) → values_in txn_cmp b.accesses t ≡ []) → RegistersOf b []
 unfolding Orderly readers writers sources unfinished_txns accesses all_readers all_writers all_sources all_accesses txns begun_count numbers
 noted_nothing b r w s u a = record {
   orderly = tt;
@@ -97,11 +101,11 @@ noted_nothing b r w s u a = record {
     none true = refl
     none false = refl
 
-module _ (b d : Lists) (P : List Event) (was : BookOf b P) where
+module _ (b d : Registers) (P : List Event) (was : RegistersOf b P) where
   -- nobody begins, reads, puts or finishes
   quiet : (e : Event) → MayFollow P e → ((u : ℕ) → is_began u e ≡ false) → ((u : ℕ) → is_done u e ≡ false) → ((u : ℕ) → is_gone u e ≡ false) → begun_count (e ∷ P) ≡ begun_count P
       → ((x : Cell) → all_readers (e ∷ P) x ≡ all_readers P x) → ((x : Cell) → all_writers (e ∷ P) x ≡ all_writers P x) → ((t : Txn) → all_sources (e ∷ P) t ≡ all_sources P t) → ((t : Txn) → all_accesses (e ∷ P) t ≡ all_accesses P t)
-      → BookOf b (e ∷ P)
+      → RegistersOf b (e ∷ P)
   unfolding Orderly readers writers sources accesses
   quiet e m nb nd ng n r w s a = record {
     orderly = (m, was.orderly);
@@ -112,11 +116,11 @@ module _ (b d : Lists) (P : List Event) (was : BookOf b P) where
     accesses = λ t. was.accesses t ∙ sym (ap (λ (as_ : List Access). cond (unfinished (e ∷ P) t.0) as_ []) (a t) ∙ accesses_alike e P nb nd ng t (all_accesses P t));
   }
 
-  pub noted_ready : (t : Txn) → MayFollow P (Ready t) → BookOf b (Ready t ∷ P)
+  pub noted_ready : (t : Txn) → MayFollow P (Ready t) → RegistersOf b (Ready t ∷ P)
   unfolding begun_count all_readers all_writers all_sources all_accesses
   noted_ready t m = quiet (Ready t) m (λ u. refl) (λ u. refl) (λ u. refl) refl (λ x. refl) (λ x. refl) (λ u. refl) (λ u. refl)
 
-  pub noted_told : (t : Txn) → MayFollow P (Told t) → BookOf b (Told t ∷ P)
+  pub noted_told : (t : Txn) → MayFollow P (Told t) → RegistersOf b (Told t ∷ P)
   unfolding begun_count all_readers all_writers all_sources all_accesses
   noted_told t m = quiet (Told t) m (λ u. refl) (λ u. refl) (λ u. refl) refl (λ x. refl) (λ x. refl) (λ u. refl) (λ u. refl)
 
@@ -130,8 +134,8 @@ module _ (b d : Lists) (P : List Event) (was : BookOf b P) where
 
   -- a transaction begins
   pub noted_began : (t : Txn) (s : Session) (k : Kind) (i : ℕ) → MayFollow P (Began t s k i)
-      → ((x : Cell) → readers_in d x ≡ readers_in b x) → ((x : Cell) → writers_in d x ≡ writers_in b x) → ((u : Txn) → sources_in d u ≡ sources_in b u) → d.unfinished ≡ b.unfinished ++ t ∷ [] → ((u : Txn) → accesses_in d u ≡ accesses_in b u)
-      → BookOf d (Began t s k i ∷ P)
+      → ((x : Cell) → values_in cell_cmp d.readers x ≡ values_in cell_cmp b.readers x) → ((x : Cell) → values_in cell_cmp d.writers x ≡ values_in cell_cmp b.writers x) → ((u : Txn) → values_in txn_cmp d.sources u ≡ values_in txn_cmp b.sources u) → d.unfinished.items ≡ b.unfinished.items ++ t ∷ [] → ((u : Txn) → values_in txn_cmp d.accesses u ≡ values_in txn_cmp b.accesses u)
+      → RegistersOf d (Began t s k i ∷ P)
   unfolding Orderly readers writers sources accesses unfinished_txns txns begun_count all_readers all_writers all_sources all_accesses numbers
   noted_began t s k i m r w so u a = record {
     orderly = (m, was.orderly);
@@ -180,12 +184,12 @@ module _ (b d : Lists) (P : List Event) (was : BookOf b P) where
 
   -- a transaction reads
   pub noted_got : (t : Txn) (x : Cell) (w : Txn) (v : Option ℤ) → MayFollow P (Got t x w v)
-      → ((y : Cell) → readers_in d y ≡ cond (same_cell x y) (readers_in b y ++ (t, w) ∷ []) (readers_in b y))
-      → ((y : Cell) → writers_in d y ≡ writers_in b y)
-      → ((u : Txn) → sources_in d u ≡ cond (eqb t.0 u.0 && not (eqb w.0 u.0) && ltb 0 w.0) (put_by number_of w (sources_in b u)) (sources_in b u))
-      → d.unfinished ≡ b.unfinished
-      → ((u : Txn) → accesses_in d u ≡ cond (eqb t.0 u.0) (accesses_in b u ++ record { cell = x; wrote = false } ∷ []) (accesses_in b u))
-      → BookOf d (Got t x w v ∷ P)
+      → ((y : Cell) → values_in cell_cmp d.readers y ≡ cond (same_cell x y) (values_in cell_cmp b.readers y ++ (t, w) ∷ []) (values_in cell_cmp b.readers y))
+      → ((y : Cell) → values_in cell_cmp d.writers y ≡ values_in cell_cmp b.writers y)
+      → ((u : Txn) → values_in txn_cmp d.sources u ≡ cond (eqb t.0 u.0 && not (eqb w.0 u.0) && ltb 0 w.0) (put_by number_of w (values_in txn_cmp b.sources u)) (values_in txn_cmp b.sources u))
+      → d.unfinished.items ≡ b.unfinished.items
+      → ((u : Txn) → values_in txn_cmp d.accesses u ≡ cond (eqb t.0 u.0) (values_in txn_cmp b.accesses u ++ record { cell = x; wrote = false } ∷ []) (values_in txn_cmp b.accesses u))
+      → RegistersOf d (Got t x w v ∷ P)
   unfolding Orderly readers writers sources accesses begun_count all_readers all_writers all_sources all_accesses
   noted_got t x w v m r wr so u a = record {
     orderly = (m, was.orderly);
@@ -220,12 +224,12 @@ module _ (b d : Lists) (P : List Event) (was : BookOf b P) where
 
   -- a transaction puts
   pub noted_put : (t : Txn) (x : Cell) (v : Option ℤ) → MayFollow P (Put t x v)
-      → ((y : Cell) → readers_in d y ≡ readers_in b y)
-      → ((y : Cell) → writers_in d y ≡ cond (same_cell x y && not (list_any (puts x) (accesses_in b t))) (writers_in b y ++ t ∷ []) (writers_in b y))
-      → ((u : Txn) → sources_in d u ≡ sources_in b u)
-      → d.unfinished ≡ b.unfinished
-      → ((u : Txn) → accesses_in d u ≡ cond (eqb t.0 u.0 && not (list_any (puts x) (accesses_in b t))) (accesses_in b u ++ record { cell = x; wrote = true } ∷ []) (accesses_in b u))
-      → BookOf d (Put t x v ∷ P)
+      → ((y : Cell) → values_in cell_cmp d.readers y ≡ values_in cell_cmp b.readers y)
+      → ((y : Cell) → values_in cell_cmp d.writers y ≡ cond (same_cell x y && not (list_any (puts x) (values_in txn_cmp b.accesses t))) (values_in cell_cmp b.writers y ++ t ∷ []) (values_in cell_cmp b.writers y))
+      → ((u : Txn) → values_in txn_cmp d.sources u ≡ values_in txn_cmp b.sources u)
+      → d.unfinished.items ≡ b.unfinished.items
+      → ((u : Txn) → values_in txn_cmp d.accesses u ≡ cond (eqb t.0 u.0 && not (list_any (puts x) (values_in txn_cmp b.accesses t))) (values_in txn_cmp b.accesses u ++ record { cell = x; wrote = true } ∷ []) (values_in txn_cmp b.accesses u))
+      → RegistersOf d (Put t x v ∷ P)
   unfolding Orderly readers writers sources accesses begun_count all_readers all_writers all_sources all_accesses
   noted_put t x v m r wr so u a = record {
     orderly = (m, was.orderly);
@@ -248,7 +252,7 @@ module _ (b d : Lists) (P : List Event) (was : BookOf b P) where
       stands : aborted P t.0 ≡ false
       stands = (unfinished_parts P t.0 m).2
 
-      own : list_any (puts x) (accesses_in b t) ≡ list_any (puts x) (all_accesses P t)
+      own : list_any (puts x) (values_in txn_cmp b.accesses t) ≡ list_any (puts x) (all_accesses P t)
       own = ap (list_any (puts x)) (was.accesses t ∙ standing P t m)
 
       where_it_is : (c h k : Bool) → (c ≡ true → h ≡ k) → (c && not h) ≡ (c && not k)
@@ -281,9 +285,9 @@ module _ (b d : Lists) (P : List Event) (was : BookOf b P) where
 
   -- a transaction commits
   pub noted_done : (t : Txn) → MayFollow P (Done t)
-      → ((y : Cell) → readers_in d y ≡ readers_in b y) → ((y : Cell) → writers_in d y ≡ writers_in b y) → ((u : Txn) → sources_in d u ≡ sources_in b u)
-      → d.unfinished ≡ filter (λ u. not (eqb u.0 t.0)) b.unfinished → ((u : Txn) → accesses_in d u ≡ cond (eqb t.0 u.0) [] (accesses_in b u))
-      → BookOf d (Done t ∷ P)
+      → ((y : Cell) → values_in cell_cmp d.readers y ≡ values_in cell_cmp b.readers y) → ((y : Cell) → values_in cell_cmp d.writers y ≡ values_in cell_cmp b.writers y) → ((u : Txn) → values_in txn_cmp d.sources u ≡ values_in txn_cmp b.sources u)
+      → d.unfinished.items ≡ filter (λ u. not (eqb u.0 t.0)) b.unfinished.items → ((u : Txn) → values_in txn_cmp d.accesses u ≡ cond (eqb t.0 u.0) [] (values_in txn_cmp b.accesses u))
+      → RegistersOf d (Done t ∷ P)
   unfolding Orderly readers writers sources begun_count all_readers all_writers all_sources all_accesses
   noted_done t m r w so u a = record {
     orderly = (m, was.orderly);
@@ -306,11 +310,11 @@ module _ (b d : Lists) (P : List Event) (was : BookOf b P) where
 
   -- a transaction is aborted
   pub noted_gone : (t : Txn) (c : Cause) → MayFollow P (Gone t c)
-      → ((y : Cell) → readers_in d y ≡ without_lasts (count_by (reads y) (accesses_in b t)) (λ r. eqb r.0.0 t.0) (readers_in b y))
-      → ((y : Cell) → writers_in d y ≡ without_lasts (count_by (puts y) (accesses_in b t)) (λ u. eqb u.0 t.0) (writers_in b y))
-      → ((u : Txn) → sources_in d u ≡ cond (eqb t.0 u.0) [] (sources_in b u))
-      → d.unfinished ≡ filter (λ u. not (eqb u.0 t.0)) b.unfinished → ((u : Txn) → accesses_in d u ≡ cond (eqb t.0 u.0) [] (accesses_in b u))
-      → BookOf d (Gone t c ∷ P)
+      → ((y : Cell) → values_in cell_cmp d.readers y ≡ without_lasts (count_by (reads y) (values_in txn_cmp b.accesses t)) (λ r. eqb r.0.0 t.0) (values_in cell_cmp b.readers y))
+      → ((y : Cell) → values_in cell_cmp d.writers y ≡ without_lasts (count_by (puts y) (values_in txn_cmp b.accesses t)) (λ u. eqb u.0 t.0) (values_in cell_cmp b.writers y))
+      → ((u : Txn) → values_in txn_cmp d.sources u ≡ cond (eqb t.0 u.0) [] (values_in txn_cmp b.sources u))
+      → d.unfinished.items ≡ filter (λ u. not (eqb u.0 t.0)) b.unfinished.items → ((u : Txn) → values_in txn_cmp d.accesses u ≡ cond (eqb t.0 u.0) [] (values_in txn_cmp b.accesses u))
+      → RegistersOf d (Gone t c ∷ P)
   unfolding Orderly readers writers sources accesses begun_count all_readers all_writers all_sources all_accesses
   noted_gone t c m r w so u a = record {
     orderly = (m, was.orderly);
@@ -356,5 +360,5 @@ module _ (b d : Lists) (P : List Event) (was : BookOf b P) where
       it_stands : aborted P t.0 ≡ false
       it_stands = (unfinished_parts P t.0 m).2
 
-      own : accesses_in b t ≡ all_accesses P t
+      own : values_in txn_cmp b.accesses t ≡ all_accesses P t
       own = was.accesses t ∙ standing P t m

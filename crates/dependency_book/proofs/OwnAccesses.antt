@@ -8,11 +8,12 @@ use Rattle.teb_names.specs.Cells.{same_cell}
 use Rattle.teb_history.specs.declared.Event.{Event}
 use Rattle.teb_history.specs.declared.Event.TheVariants.{Began, Got, Put, Ready, Done, Gone, Told}
 use Rattle.teb_history.specs.Phases.{begun}
-use Rattle.dependency_book.specs.Dependencies.{has, reads, puts, all_readers, all_writers, all_accesses, Orderly}
+use Rattle.dependency_book.specs.Dependencies.{has, reads, puts, all_readers, all_writers, all_accesses}
+use Rattle.hold_book.specs.Orderly.{Orderly}
 use Rattle.sorted_multimap.proofs.TakenMatches.{count_push}
 use Rattle.sorted_multimap.proofs.CellValues.{same_exact}
 use Rattle.dependency_book.proofs.MultimapEdits.{one_txn}
-use Rattle.dependency_book.proofs.OrderlyHistories.{unfinished_parts}
+use Rattle.hold_book.proofs.OrderlyHistories.{unfinished_parts}
 use Rattle.teb_history.proofs.Newest.{begun-cons}
 
 any_push : {A : Type 0} (q : A → Bool) (c : Bool) (xs : List A) (a : A) → list_any q (cond c (xs ++ a ∷ []) xs) ≡ (list_any q xs || (c && q a))

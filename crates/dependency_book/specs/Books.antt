@@ -7,18 +7,23 @@ use Rattle.teb_history.specs.declared.Event.{Event}
 use Rattle.teb_history.specs.Ascending.{IsAscendingBy}
 use Rattle.teb_history.specs.Live.{number_of}
 use Rattle.sorted_multimap.specs.Keys.{txn_cmp}
-use Rattle.sorted_multimap.specs.Multimap.{values_of}
+use Rattle.sorted_multimap.specs.Multimap.{values_of, values_in}
 use Rattle.dependency_book.specs.declared.access.Access.{Access}
 use Rattle.dependency_book.specs.declared.registers.Registers.{Registers}
-use Rattle.dependency_book.specs.Dependencies.{readers, writers, sources, accesses, unfinished_txns, Orderly}
+use Rattle.dependency_book.specs.Dependencies.{readers, writers, sources, accesses, unfinished_txns}
+use Rattle.hold_book.specs.declared.Hold.{Hold}
+use Rattle.hold_book.specs.Books.{Held}
+use Rattle.hold_book.specs.Holders.{holders_in}
+use Rattle.hold_book.specs.Orderly.{Orderly}
 
--- who read and who put which cell; who read from whom; who is unfinished; and what each of these accessed
+-- who read and who put which cell; who read from whom; who is unfinished; what each of these accessed; and who holds which cell
 pub record Lists : Type 0 where
   pub readers : List (Cell × (Txn × Txn))
   pub writers : List (Cell × Txn)
   pub sources : List (Txn × Txn)
   pub unfinished : List Txn
   pub accesses : List (Txn × Access)
+  pub holders : List (Cell × Hold)
 
 -- the lists, and how many more events may be noted without memory
 pub record Shown : Type 0 where
@@ -37,6 +42,9 @@ sources_in b t = values_of txn_cmp b.sources t
 abbrev pub accesses_in : Lists → Txn → List Access
 accesses_in b t = values_of txn_cmp b.accesses t
 
+abbrev pub holders_of : Lists → Cell → List Hold
+holders_of b x = values_of cell_cmp b.holders x
+
 -- the lists are those of a history
 pub record BookOf (b : Lists) (H : List Event) : Type 0 where
   pub orderly : Orderly H
@@ -45,14 +53,25 @@ pub record BookOf (b : Lists) (H : List Event) : Type 0 where
   pub sources : (t : Txn) → sources_in b t ≡ sources H t
   pub unfinished : b.unfinished ≡ unfinished_txns H
   pub accesses : (t : Txn) → accesses_in b t ≡ accesses H t
+  pub holders : (x : Cell) → holders_of b x ≡ holders_in H x
 
-abbrev pub lists_of : Registers → Lists
-lists_of r = record {
+-- and so are those of the registers
+pub record RegistersOf (r : Registers) (H : List Event) : Type 0 where
+  pub orderly : Orderly H
+  pub readers : (x : Cell) → values_in cell_cmp r.readers x ≡ readers H x
+  pub writers : (x : Cell) → values_in cell_cmp r.writers x ≡ writers H x
+  pub sources : (t : Txn) → values_in txn_cmp r.sources t ≡ sources H t
+  pub unfinished : r.unfinished.items ≡ unfinished_txns H
+  pub accesses : (t : Txn) → values_in txn_cmp r.accesses t ≡ accesses H t
+
+abbrev pub lists_of : Registers → List (Cell × Hold) → Lists
+lists_of r holders = record {
   readers = r.readers.entries;
   writers = r.writers.entries;
   sources = r.sources.entries;
   unfinished = r.unfinished.items;
   accesses = r.accesses.entries;
+  holders = holders;
 }
 
 -- the sources of each transaction ascend
@@ -68,6 +87,7 @@ pub record HasRooms (r : Registers) (n : ℕ) : Type 0 where
   pub accesses : n ≤ r.accesses.spare
 
 -- the sources ascend, and there is room for so many events
-pub record IsBook (r : Registers) (n : ℕ) : Type 0 where
+pub record IsBook (r : Registers) (h : Held) (n : ℕ) : Type 0 where
   pub ascending : SourcesAscend r.sources.entries
   pub rooms : HasRooms r n
+  pub holders : n ≤ h.spare

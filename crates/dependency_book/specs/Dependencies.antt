@@ -1,12 +1,12 @@
 -- Who read and who put what in a history, from whom, and who is unfinished. An abort takes out what its transaction read and put.
-use Rattle.std.specs.Prelude.{◌≡◌, suc, Bool, true, false, cond, not, ◌&&◌, eqb, ltb, List, [], ◌∷◌, ◌++◌, filter, map, IsTrue}
+use Rattle.std.specs.Prelude.{Bool, true, false, cond, not, ◌&&◌, eqb, ltb, List, [], ◌∷◌, ◌++◌, filter, map}
 use Rattle.std.specs.List.{list_any}
 use Rattle.teb_names.specs.declared.Txn.{Txn}
 use Rattle.teb_names.specs.declared.Cell.{Cell}
 use Rattle.teb_names.specs.Cells.{same_cell}
 use Rattle.teb_history.specs.declared.Event.{Event}
-use Rattle.teb_history.specs.declared.Event.TheVariants.{Began, Got, Put, Ready, Done, Gone, Told}
-use Rattle.teb_history.specs.Phases.{begun_count, txns, aborted, unfinished}
+use Rattle.teb_history.specs.declared.Event.TheVariants.{Got, Put}
+use Rattle.teb_history.specs.Phases.{txns, aborted, unfinished}
 use Rattle.teb_history.specs.Ascending.{put_by}
 use Rattle.teb_history.specs.Live.{number_of}
 use Rattle.dependency_book.specs.declared.access.Access.{Access}
@@ -63,18 +63,3 @@ accesses H t = cond (unfinished H t.0) (all_accesses H t) []
 
 unfoldable pub unfinished_txns : List Event → List Txn
 unfinished_txns H = map (λ t. record { 0 = t }) (filter (unfinished H) (txns H))
-
--- the event may come after P
-abbrev pub MayFollow : List Event → Event → Type 0
-MayFollow P (Began t s k i) = t.0 ≡ suc (begun_count P)
-MayFollow P (Got t x w v) = IsTrue (unfinished P t.0)
-MayFollow P (Put t x v) = IsTrue (unfinished P t.0)
-MayFollow P (Ready t) = IsTrue (unfinished P t.0)
-MayFollow P (Done t) = IsTrue (unfinished P t.0)
-MayFollow P (Gone t c) = IsTrue (unfinished P t.0)
-MayFollow P (Told t) = IsTrue (aborted P t.0)
-
--- each event could come where it came
-unfoldable pub Orderly : List Event → Type 0
-Orderly [] = Unit {0}
-Orderly (e ∷ P) = MayFollow P e × Orderly P

@@ -2,22 +2,26 @@
 
 ghost use Rattle.std.specs.Prelude.{◌≡◌, ◌+◌, ◌<◌, ◌≤◌, ◌∷◌, [], List, OnOk, OnErr};
 ghost use Rattle.teb_history.specs.declared.Event.{Event};
-ghost use Rattle.dependency_book.specs.Books.{BookOf, readers_in, writers_in, sources_in};
-ghost use Rattle.dependency_book.specs.Dependencies.{MayFollow};
+ghost use Rattle.dependency_book.specs.Books.{BookOf, readers_in, writers_in, sources_in, holders_of};
+ghost use Rattle.hold_book.specs.Orderly.{MayFollow};
 
 use crate::registers::Registers;
+use hold_book::{Hold, HoldBook};
 use std::alloc::{AllocError, Global};
 use std::marker::Model;
-use teb_history::Event;
+use teb_history::{Event, History};
 use teb_names::{Cell, Txn};
 
 /// For how many events room is made at the least, so that not every `reserve` goes through all registers.
 const AHEAD: usize = 256;
 
-/// Who read and who put each cell, whom each transaction read from, and which transactions are unfinished. What a transaction read and put goes out with its abort.
+/// Who read and who put each cell, whom each transaction read from, which transactions are unfinished, and which of them hold each
+/// cell. What a transaction read and put goes out with its abort, and what it holds also with its commit.
 #[derive(Drop)]
 pub struct Book {
     registers: Registers,
+    // Who holds which cell.
+    holders: HoldBook,
     // For how many events there is room.
     spare: usize,
 }
@@ -27,9 +31,9 @@ impl Model for Book {
 
     ghost Value = { Shown };
 
-    ghost view = { λ b. record { lists = lists_of b.registers; spare = b.spare } };
+    ghost view = { λ b. record { lists = lists_of b.registers b.holders.holds; spare = b.spare } };
 
-    ghost invariant = { λ b. IsBook b.registers b.spare };
+    ghost invariant = { λ b. IsBook b.registers b.holders b.spare };
 }
 
 impl Book {
@@ -39,6 +43,7 @@ impl Book {
     {
         Book {
             registers: Registers::new(alloc),
+            holders: HoldBook::new(alloc),
             spare: 0,
         }
     }
@@ -54,20 +59,22 @@ impl Book {
         }
         let room = n.max(AHEAD);
         self.registers.reserve(room)?;
+        self.holders.reserve(room)?;
         self.spare = room;
         Ok(())
     }
 
-    /// Notes the next event of the history. It takes one place of the room at most.
+    /// Notes the newest event of the history. It takes one place of the room at most.
     ///
-    /// A read costs a look-up of its cell, and a put also goes through what its transaction accessed. A commit costs as much as
-    /// its transaction accessed, an abort also what was read or put in the same cells since; both go through the unfinished.
-    pub fn note(&mut self, e: Event)
+    /// A read costs look-ups of its cell, and a put also goes through what its transaction accessed. A commit costs a look-up for
+    /// each access of its transaction, an abort also what was read or put in the same cells since; both go through the unfinished.
+    pub fn note(&mut self, history: &History, e: Event)
         requires { 0 < self.old.spare }
         ensures spare { self.old.spare ≤ self.new.spare + 1 }
-        ensures book { (P : List Event) → BookOf self.old.lists P → MayFollow P e → BookOf self.new.lists (e ∷ P) }
+        ensures book { (P : List Event) → history.now.events ≡ e ∷ P → BookOf self.old.lists P → MayFollow P e → BookOf self.new.lists (e ∷ P) }
     {
         self.registers.note(e);
+        self.holders.note(history, e);
         self.spare -= 1;
     }
 
@@ -97,5 +104,12 @@ impl Book {
         ensures { result.now ≡ self.now.lists.unfinished }
     {
         &self.registers.unfinished
+    }
+
+    /// Who holds a cell, in ascending number: the unfinished transactions that have accessed it.
+    pub fn holders(&self, cell: Cell) -> &[Hold]
+        ensures { result.now ≡ holders_of self.now.lists cell }
+    {
+        self.holders.holders(cell)
     }
 }

@@ -2,12 +2,14 @@
 
 ghost use Rattle.std.specs.Prelude.{◌≡◌, ◌+◌, ℕ, List, ◌∷◌, [], Option, ℤ, OnOk};
 ghost use Rattle.teb_names.specs.declared.Cause.{Cause};
+ghost use Rattle.teb_names.specs.declared.Cell.{Cell};
 ghost use Rattle.teb_names.specs.declared.Session.{Session};
 ghost use Rattle.teb_names.specs.declared.Kind.{Kind};
 ghost use Rattle.teb_history.specs.declared.Event.{Event};
 ghost use Rattle.teb_history.specs.declared.Event.TheVariants as event;
-ghost use Rattle.dependency_book.specs.Books.{BookOf, lists_of, SourcesAscend, HasRooms};
-ghost use Rattle.dependency_book.specs.Dependencies.{MayFollow};
+ghost use Rattle.dependency_book.specs.Books.{RegistersOf, lists_of, SourcesAscend, HasRooms};
+ghost use Rattle.hold_book.specs.declared.Hold.{Hold};
+ghost use Rattle.hold_book.specs.Orderly.{MayFollow};
 
 use crate::access::Access;
 use crate::edits;
@@ -35,7 +37,7 @@ pub struct Registers {
 impl Registers {
     pub(crate) fn new(alloc: Global) -> Self
         ensures ascending { SourcesAscend result.sources.entries }
-        ensures book { BookOf (lists_of result) [] }
+        ensures book { RegistersOf result [] }
     {
         Registers {
             readers: ArenaMultimap::new(alloc),
@@ -48,7 +50,7 @@ impl Registers {
 
     /// Makes room for n events.
     pub(crate) fn reserve(&mut self, n: usize) -> Result<(), AllocError>
-        ensures lists { lists_of self.new ≡ lists_of self.old }
+        ensures lists { (hs : List (Cell × Hold)) → lists_of self.new hs ≡ lists_of self.old hs }
         ensures room { OnOk result (HasRooms self.new n) }
         ensures kept { (m : ℕ) → HasRooms self.old m → HasRooms self.new m }
     {
@@ -66,7 +68,7 @@ impl Registers {
         requires room { HasRooms self.old 1 }
         ensures ascending { SourcesAscend self.new.sources.entries }
         ensures room { (n : ℕ) → HasRooms self.old (n + 1) → HasRooms self.new n }
-        ensures book { (P : List Event) → BookOf (lists_of self.old) P → MayFollow P e → BookOf (lists_of self.new) (e ∷ P) }
+        ensures book { (P : List Event) → RegistersOf self.old P → MayFollow P e → RegistersOf self.new (e ∷ P) }
     {
         match e {
             Event::Began { txn, .. } => self.begin(txn),
@@ -89,7 +91,7 @@ impl Registers {
         requires room { HasRooms self.old 1 }
         ensures ascending { SourcesAscend self.new.sources.entries }
         ensures room { (n : ℕ) → HasRooms self.old (n + 1) → HasRooms self.new n }
-        ensures book { (P : List Event) (s : Session) (k : Kind) (i : ℕ) → BookOf (lists_of self.old) P → MayFollow P (event.Began t s k i) → BookOf (lists_of self.new) (event.Began t s k i ∷ P) }
+        ensures book { (P : List Event) (s : Session) (k : Kind) (i : ℕ) → RegistersOf self.old P → MayFollow P (event.Began t s k i) → RegistersOf self.new (event.Began t s k i ∷ P) }
     {
         let _ = self.unfinished.push(t);
     }
@@ -100,7 +102,7 @@ impl Registers {
         requires room { HasRooms self.old 1 }
         ensures ascending { SourcesAscend self.new.sources.entries }
         ensures room { (n : ℕ) → HasRooms self.old (n + 1) → HasRooms self.new n }
-        ensures book { (P : List Event) (v : Option ℤ) → BookOf (lists_of self.old) P → MayFollow P (event.Got t cell from v) → BookOf (lists_of self.new) (event.Got t cell from v ∷ P) }
+        ensures book { (P : List Event) (v : Option ℤ) → RegistersOf self.old P → MayFollow P (event.Got t cell from v) → RegistersOf self.new (event.Got t cell from v ∷ P) }
     {
         self.readers.push(cell, (t, from));
         edits::add_source(&mut self.sources, t, from);
@@ -114,7 +116,7 @@ impl Registers {
         requires room { HasRooms self.old 1 }
         ensures ascending { SourcesAscend self.new.sources.entries }
         ensures room { (n : ℕ) → HasRooms self.old (n + 1) → HasRooms self.new n }
-        ensures book { (P : List Event) (v : Option ℤ) → BookOf (lists_of self.old) P → MayFollow P (event.Put t cell v) → BookOf (lists_of self.new) (event.Put t cell v ∷ P) }
+        ensures book { (P : List Event) (v : Option ℤ) → RegistersOf self.old P → MayFollow P (event.Put t cell v) → RegistersOf self.new (event.Put t cell v ∷ P) }
     {
         if edits::has_put(self.accesses.list(t), cell) {
             return;
@@ -129,7 +131,7 @@ impl Registers {
         requires { SourcesAscend self.old.sources.entries }
         ensures ascending { SourcesAscend self.new.sources.entries }
         ensures room { (n : ℕ) → HasRooms self.old n → HasRooms self.new n }
-        ensures book { (P : List Event) → BookOf (lists_of self.old) P → MayFollow P (event.Done t) → BookOf (lists_of self.new) (event.Done t ∷ P) }
+        ensures book { (P : List Event) → RegistersOf self.old P → MayFollow P (event.Done t) → RegistersOf self.new (event.Done t ∷ P) }
     {
         self.unfinished.retain(|u| *u != t);
         sorted_multimap::clear_txn(&mut self.accesses, t);
@@ -140,7 +142,7 @@ impl Registers {
         requires { SourcesAscend self.old.sources.entries }
         ensures ascending { SourcesAscend self.new.sources.entries }
         ensures room { (n : ℕ) → HasRooms self.old n → HasRooms self.new n }
-        ensures book { (P : List Event) (c : Cause) → BookOf (lists_of self.old) P → MayFollow P (event.Gone t c) → BookOf (lists_of self.new) (event.Gone t c ∷ P) }
+        ensures book { (P : List Event) (c : Cause) → RegistersOf self.old P → MayFollow P (event.Gone t c) → RegistersOf self.new (event.Gone t c ∷ P) }
     {
         let accesses = self.accesses.list(t);
         edits::forget_accesses(&mut self.readers, &mut self.writers, accesses, t);

@@ -1,6 +1,7 @@
 -- A question may be asked at each node of a path.
 use Rattle.std.proofs.Common.{◌≡◌, ℕ, zero, suc, ◌<◌, true, false, List, [], ◌∷◌, length, get_or, Option, IsTrue, arith, eqb, eq-eqb, refl, subst, ap, ◌∙◌}
 use Rattle.std.proofs.lemmas.Bool.{or_left, or_right}
+use Rattle.std.specs.Borrow.{Bor}
 use Rattle.teb_names.specs.declared.Cell.{Cell}
 use Rattle.teb_names.specs.declared.Node.{Node}
 use Rattle.teb_names.specs.declared.Spot.{Spot}
@@ -13,6 +14,8 @@ use Rattle.teb_rules.specs.Accepted.{IsSound}
 use Rattle.teb_rules.specs.declared.Stop.{Stop}
 use Rattle.teb_rules.specs.Stops.{stop_of, access_stop, prepare_stop, begin_stop}
 use Rattle.teb_laws.proofs.Sound.{tree_facts}
+use Rattle.hold_book.specs.declared.Hold.{Hold}
+use Rattle.hold_book.specs.Holders.{holders_in}
 use Rattle.version_chain.specs.Lists.{Version, writers_of}
 use Rattle.cc_tree.specs.Grown.{node_numbers}
 use Rattle.phase_api.specs.declared.facts.Facts.{Facts}
@@ -54,23 +57,23 @@ module _ {K C : Type 0} (lists : C → Cell → List Version) (p : EngineView K 
 
   module _ (t : Txn) (ty : IsTyped p.facts t.0) (ns : List Node) (e : node_numbers ns ≡ path (store_in p).setup.tree (spot_of (events_in p) t.0)) where
     -- a read, a write and a Prepare, along the path of the transaction
-    pub read_along : (x : Cell) → IsAsking (store_in p).setup (events_in p) t.0 x → MayAskAlong lists p (Read t x) (node_numbers ns)
-    read_along x a = along lists p (Read t x) ns (λ k d h. record { node = node_at (spot_of (events_in p) t.0) ns e k d h; may = record { here = here_at p.facts t.0 ns k d ty e h; unfinished = a.unfinished; unprepared = a.unprepared; step = a.step } })
+    pub read_along : (x : Cell) (hs : Bor (List Hold)) → hs.now ≡ holders_in (events_in p) x → IsAsking (store_in p).setup (events_in p) t.0 x → MayAskAlong lists p (Read t x hs) (node_numbers ns)
+    read_along x hs q a = along lists p (Read t x hs) ns (λ k d h. record { node = node_at (spot_of (events_in p) t.0) ns e k d h; may = (q, record { here = here_at p.facts t.0 ns k d ty e h; unfinished = a.unfinished; unprepared = a.unprepared; step = a.step }) })
 
-    pub write_along : (x : Cell) (at : Option ℕ) → IsAsking (store_in p).setup (events_in p) t.0 x → AreTold (store_in p).setup (events_in p) x t.0 at (writers_of (lists p.chains.now x)) → MayAskAlong lists p (Write t x at) (node_numbers ns)
-    write_along x at a w = along lists p (Write t x at) ns (λ k d h. record { node = node_at (spot_of (events_in p) t.0) ns e k d h; may = (record { here = here_at p.facts t.0 ns k d ty e h; unfinished = a.unfinished; unprepared = a.unprepared; step = a.step }, w (get_or ns k d).0 (on_at (store_in p).setup (spot_of (events_in p) t.0) ns k d e h)) })
+    pub write_along : (x : Cell) (hs : Bor (List Hold)) (at : Option ℕ) → hs.now ≡ holders_in (events_in p) x → IsAsking (store_in p).setup (events_in p) t.0 x → AreTold (store_in p).setup (events_in p) x t.0 at (writers_of (lists p.chains.now x)) → MayAskAlong lists p (Write t x hs at) (node_numbers ns)
+    write_along x hs at q a w = along lists p (Write t x hs at) ns (λ k d h. record { node = node_at (spot_of (events_in p) t.0) ns e k d h; may = (q, record { here = here_at p.facts t.0 ns k d ty e h; unfinished = a.unfinished; unprepared = a.unprepared; step = a.step }, w (get_or ns k d).0 (on_at (store_in p).setup (spot_of (events_in p) t.0) ns k d e h)) })
 
     pub prepare_along : IsTrue (unfinished (events_in p) t.0) → MayAskAlong lists p (Prepare t) (node_numbers ns)
     prepare_along u = along lists p (Prepare t) ns (λ k d h. record { node = node_at (spot_of (events_in p) t.0) ns e k d h; may = (here_at p.facts t.0 ns k d ty e h, u) })
 
 -- the stops of the rules, along the path
-pub access_stop-along : (S : Setup) (H : List Event) (t : Txn) (x : Cell) (ns : List ℕ) (s : Stop) → ns ≡ path S.tree (spot_of H t.0) → s ≡ stop_of (verdict_on S H (Read t x)) ns → s ≡ access_stop S H t.0 x false
+pub access_stop-along : (S : Setup) (H : List Event) (t : Txn) (x : Cell) (hs : Bor (List Hold)) (ns : List ℕ) (s : Stop) → ns ≡ path S.tree (spot_of H t.0) → s ≡ stop_of (verdict_on S H (Read t x hs)) ns → s ≡ access_stop S H t.0 x false
 unfolding access_stop
-access_stop-along S H t x ns s e k = k ∙ ap (stop_of (verdict_on S H (Read t x))) e
+access_stop-along S H t x hs ns s e k = k ∙ ap (stop_of (verdict_on S H (Read t x hs))) e
 
-pub write_stop-along : (S : Setup) (H : List Event) (t : Txn) (x : Cell) (at : Option ℕ) (ns : List ℕ) (s : Stop) → ns ≡ path S.tree (spot_of H t.0) → s ≡ stop_of (verdict_on S H (Write t x at)) ns → s ≡ access_stop S H t.0 x true
+pub write_stop-along : (S : Setup) (H : List Event) (t : Txn) (x : Cell) (hs : Bor (List Hold)) (at : Option ℕ) (ns : List ℕ) (s : Stop) → ns ≡ path S.tree (spot_of H t.0) → s ≡ stop_of (verdict_on S H (Write t x hs at)) ns → s ≡ access_stop S H t.0 x true
 unfolding access_stop
-write_stop-along S H t x at ns s e k = k ∙ ap (stop_of (verdict_on S H (Write t x at))) e
+write_stop-along S H t x hs at ns s e k = k ∙ ap (stop_of (verdict_on S H (Write t x hs at))) e
 
 pub prepare_stop-along : (S : Setup) (H : List Event) (t : Txn) (ns : List ℕ) (s : Stop) → ns ≡ path S.tree (spot_of H t.0) → s ≡ stop_of (verdict_on S H (Prepare t)) ns → s ≡ prepare_stop S H t.0
 unfolding prepare_stop

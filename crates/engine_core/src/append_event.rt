@@ -1,7 +1,10 @@
 //! An event is appended to the history, and all that is kept of the history keeps up with it.
 
-ghost use Rattle.std.specs.Prelude.{◌≡◌, ◌<◌, ◌≤◌, ◌+◌, ◌∷◌, length, drop};
+ghost use Rattle.std.specs.Prelude.{◌≡◌, ◌<◌, ◌≤◌, ◌+◌, ◌∷◌, List, length, drop};
+ghost use Rattle.teb_history.specs.declared.Event.{Event};
 ghost use Rattle.teb_laws.specs.Lawful.{Granted, Lawful};
+ghost use Rattle.phase_api.specs.Calls.{AreHolders};
+ghost use Rattle.dependency_book.specs.Books.{BookOf};
 ghost use Rattle.cursor_book.specs.Cursors.{CursorsOf};
 ghost use Rattle.engine_core.specs.Decisions.{MayBegin};
 ghost use Rattle.engine_core.specs.Keeping.{HasPlace, PutsAt};
@@ -13,6 +16,8 @@ use crate::keeping::{keep_cursors, keep_versions};
 use crate::notes::note_each;
 use candidate_reads::Place;
 use cursor_book::Cursors;
+use dependency_book::Book;
+use hold_book::Hold;
 use phase_api::Control;
 use teb_history::{Event, History};
 use tree_toml::Setup;
@@ -38,12 +43,30 @@ pub fn append_event<K: Control, C: Chains>(
     ensures left { state.old.room ≡ state.new.room + 1 }
 {
     state.history.push(event);
-    note_each(&mut state.controls, &state.history, &state.setup, event);
-    state.book.note(event);
+    state.book.note(&state.history, event);
+    let holders = holders_of(&state.book, event);
+    note_each(
+        &mut state.controls,
+        &state.history,
+        &state.setup,
+        holders,
+        event,
+    );
     keep_versions(&mut state.chains, event, place);
     move_cursors(&mut state.cursors, &state.history, &state.setup, event);
     state.latest.note(event);
     state.room -= 1;
+}
+
+/// The holders of the cell that an event accesses, the one that accesses it among them; nobody where it accesses none.
+fn holders_of(book: &Book, event: Event) -> &[Hold]
+    ensures { (H : List Event) → BookOf book.now.lists H → AreHolders H event result.now }
+{
+    match event {
+        Event::Got { cell, .. } => book.holders(cell),
+        Event::Put { cell, .. } => book.holders(cell),
+        _ => &[],
+    }
 }
 
 /// The cursors after the newest event.

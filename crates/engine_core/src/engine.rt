@@ -137,7 +137,7 @@ impl<C: Chains> Engine<C> {
         &self.state.controls
     }
 
-    /// Who read and who put each cell.
+    /// Who read, who put and who holds each cell.
     pub fn book(&self) -> &Book
         ensures { BookOf result.now.lists self.now.events }
     {

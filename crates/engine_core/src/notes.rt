@@ -4,20 +4,28 @@ ghost use Rattle.std.specs.Prelude.{◌≡◌, ◌<◌, ◌≤◌, ◌+◌, ℕ,
 ghost use Rattle.teb_history.specs.declared.Event.{Event};
 ghost use Rattle.teb_rules.specs.Setup.{Setup as Rules};
 ghost use Rattle.phase_api.specs.FactsView.{setup_of, events_of};
-ghost use Rattle.phase_api.specs.Calls.{MayNote};
+ghost use Rattle.phase_api.specs.Calls.{MayNote, AreHolders};
 ghost use Rattle.phase_api.specs.Standing.{StandAll};
 ghost use Rattle.engine_core.specs.Noting.{StandFrom, MayNoteFrom};
 ghost use Rattle.engine_core.specs.Stores.{store_of};
 ghost use Rattle.engine_core.specs.Wholes.{RoomFor};
 
 use crate::engine_state::facts_of;
+use hold_book::Hold;
 use phase_api::{Control, Facts};
 use std::alloc::AllocError;
 use teb_history::{Event, History};
 use tree_toml::Setup;
 
-/// The control of each node notes the newest event.
-pub fn note_each<K: Control>(controls: &mut Vec<K>, history: &History, setup: &Setup, event: Event)
+/// The control of each node notes the newest event. With an access come the holders of its cell.
+pub fn note_each<K: Control>(
+    controls: &mut Vec<K>,
+    history: &History,
+    setup: &Setup,
+    holders: &[Hold],
+    event: Event,
+)
+    requires holders { AreHolders history.now.events event holders.now }
     requires stand { StandAll K.node_number K.stands controls.old.items (store_of setup.now).setup (drop 1 history.now.events) }
     requires newest { history.now.events ≡ event ∷ drop 1 history.now.events }
     requires may { (n : ℕ) → MayNote (store_of setup.now).setup (drop 1 history.now.events) n event }
@@ -27,11 +35,18 @@ pub fn note_each<K: Control>(controls: &mut Vec<K>, history: &History, setup: &S
     ensures room { (k : ℕ) → RoomFor K.spare (suc k) controls.old.items → RoomFor K.spare k controls.new.items }
 {
     let facts = facts_of(history, setup);
-    note_all(controls, &facts, &event, 0);
+    note_all(controls, &facts, holders, &event, 0);
 }
 
 /// Each control notes the newest event; the first of them is that of node n.
-pub fn note_all<K: Control>(controls: &mut [K], facts: &Facts, event: &Event, n: usize)
+pub fn note_all<K: Control>(
+    controls: &mut [K],
+    facts: &Facts,
+    holders: &[Hold],
+    event: &Event,
+    n: usize,
+)
+    requires holders { AreHolders (events_of facts.now) event.now holders.now }
     requires stands { StandFrom K.node_number K.stands n controls.old (setup_of facts.now) (drop 1 (events_of facts.now)) }
     requires newest { MayNoteFrom facts.now event.now n controls.old }
     requires room { RoomFor K.spare 1 controls.old }
@@ -40,8 +55,8 @@ pub fn note_all<K: Control>(controls: &mut [K], facts: &Facts, event: &Event, n:
     ensures room { (k : ℕ) → RoomFor K.spare (suc k) controls.old → RoomFor K.spare k controls.new }
 {
     if let Some((first, rest)) = controls.split_first_mut() {
-        first.note(facts, *event);
-        note_all(rest, facts, event, n + 1);
+        first.note(facts, holders, *event);
+        note_all(rest, facts, holders, event, n + 1);
     }
 }
 

@@ -12,18 +12,28 @@ ghost use Rattle.engine_core.specs.Asking.{IsAsking};
 
 use crate::engine_view::EngineView;
 use commit_gate::may_commit;
+use hold_book::Hold;
 use phase_api::Control;
 use teb_names::{Cell, Node, Spot, Txn};
 use teb_rules::{Stop, Verdict};
 use version_chain::Chains;
 
-/// What the nodes of a path are asked. A write comes with the place that its version has, or would have, in the cell's chain, at
-/// least where a timestamp node is asked.
+/// What the nodes of a path are asked. A read and a write come with the holders of the cell. A write also comes with the place
+/// that its version has, or would have, in the cell's chain, at least where a timestamp node is asked.
 #[derive(Clone, Copy)]
-pub enum Question {
+pub enum Question<'a> {
     Begin(Spot),
-    Read(Txn, Cell),
-    Write(Txn, Cell, Option<usize>),
+    Read {
+        txn: Txn,
+        cell: Cell,
+        holders: &'a [Hold],
+    },
+    Write {
+        txn: Txn,
+        cell: Cell,
+        holders: &'a [Hold],
+        at: Option<usize>,
+    },
     Prepare(Txn),
 }
 
@@ -33,7 +43,13 @@ pub fn read_stop<K: Control, C: Chains>(view: &EngineView<K, C>, t: Txn, cell: C
     requires asks { IsAsking (store_in view.now).setup (events_in view.now) t.0 cell }
     ensures { result ≡ access_stop (store_in view.now).setup (events_in view.now) t.0 cell false }
 {
-    stop_along(view.path_of(t), view, &Question::Read(t, cell))
+    let holders = view.book.holders(cell);
+    let question = Question::Read {
+        txn: t,
+        cell,
+        holders,
+    };
+    stop_along(view.path_of(t), view, &question)
 }
 
 /// Where a write stops, whose version has, or would have, the place `at`. The nodes are t's path.
@@ -50,7 +66,14 @@ pub fn write_stop<K: Control, C: Chains>(
     requires told { AreTold (store_in view.now).setup (events_in view.now) cell t.0 at (writers_of (C.lists view.now.chains.now cell)) }
     ensures { result ≡ access_stop (store_in view.now).setup (events_in view.now) t.0 cell true }
 {
-    stop_along(nodes, view, &Question::Write(t, cell, at))
+    let holders = view.book.holders(cell);
+    let question = Question::Write {
+        txn: t,
+        cell,
+        holders,
+        at,
+    };
+    stop_along(nodes, view, &question)
 }
 
 /// Where a Prepare stops.
@@ -117,10 +140,15 @@ fn verdict_at<K: Control, C: Chains>(
     let control = view.control_at(node);
     match *question {
         Question::Begin(spot) => control.start(&view.facts, spot),
-        Question::Read(t, cell) => control.before_read(&view.facts, t, cell),
-        Question::Write(t, cell, at) => {
-            control.before_write(&view.facts, view.chains, at, t, cell)
+        Question::Read { txn, cell, holders } => {
+            control.before_read(&view.facts, holders, txn, cell)
         }
+        Question::Write {
+            txn,
+            cell,
+            holders,
+            at,
+        } => control.before_write(&view.facts, holders, view.chains, at, txn, cell),
         Question::Prepare(t) => control.validate(&view.facts, t),
     }
 }

@@ -4,10 +4,9 @@ use Rattle.teb_history.specs.declared.Event.{Event}
 use Rattle.teb_names.specs.declared.ControlKind.TheVariants.{Locks}
 use Rattle.teb_rules.specs.Setup.{Setup}
 use Rattle.teb_rules.specs.Tree.{row}
-use Rattle.hold_book.specs.Books.{Held}
-use Rattle.hold_register.specs.Registered.{Registered}
+use Rattle.phase_api.specs.FactsView.{IsOrderly}
 
--- node n is a locks node, and the register shows who holds what there
-pub record LocksStand (n : ℕ) (book : Held) (S : Setup) (H : List Event) : Type 0 where
+-- node n is a locks node, and the history is orderly
+pub record LocksStand (n : ℕ) (S : Setup) (H : List Event) : Type 0 where
   pub kind : (row S.tree n).control ≡ Locks
-  pub register : Registered n book S H
+  pub orderly : IsOrderly S H

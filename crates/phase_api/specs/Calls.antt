@@ -10,6 +10,8 @@ use Rattle.teb_rules.specs.Tree.{on, on_path, meets}
 use Rattle.teb_rules.specs.Steps.{least_step, cursor}
 use Rattle.teb_rules.specs.declared.Verdict.TheVariants.{Go}
 use Rattle.teb_rules.specs.Stops.{on_begin}
+use Rattle.hold_book.specs.declared.Hold.{Hold}
+use Rattle.hold_book.specs.Holders.{holders_in}
 use Rattle.phase_api.specs.declared.facts.Facts.{Facts}
 use Rattle.phase_api.specs.FactsView.{setup_of, events_of, IsTyped}
 
@@ -55,3 +57,9 @@ MayNote S P n (Told t) = IsTrue (aborted P t.0)
 pub record IsNewest (f : Facts) (e : Event) (n : ℕ) : Type 0 where
   pub is : events_of f ≡ e ∷ drop 1 (events_of f)
   pub may : MayNote (setup_of f) (drop 1 (events_of f)) n e
+
+-- the holders that a node is told of with the newest event: those of the cell that it accesses
+abbrev pub AreHolders : List Event → Event → List Hold → Type 0
+AreHolders H (Got t x w v) holders = holders ≡ holders_in H x
+AreHolders H (Put t x v) holders = holders ≡ holders_in H x
+AreHolders H _ holders = Unit {0}

@@ -13,10 +13,12 @@ ghost use Rattle.teb_rules.specs.Stops.{on_begin};
 ghost use Rattle.teb_laws.specs.Lawful.{Lawful};
 ghost use Rattle.version_chain.specs.Lists.{writers_of};
 ghost use Rattle.phase_api.specs.FactsView.{setup_of, events_of, IsOrderly};
-ghost use Rattle.phase_api.specs.Calls.{IsHere, IsAccess, IsPair, Writes, IsNewest};
+ghost use Rattle.hold_book.specs.Holders.{holders_in};
+ghost use Rattle.phase_api.specs.Calls.{IsHere, IsAccess, IsPair, Writes, IsNewest, AreHolders};
 ghost use Rattle.phase_api.specs.Versions.{HoldsVersions, IsToldPlace, SourcesStand};
 
 use crate::facts::Facts;
+use hold_book::Hold;
 use std::alloc::AllocError;
 use teb_history::Event;
 use teb_names::{Cell, Node, Spot, Txn};
@@ -43,7 +45,9 @@ pub trait Control: Drop {
         ensures room { OnOk result (n ≤ spare self.new) };
 
     /// Notes the newest event of the history: a control that stood for the history before it then stands for the history with it.
-    fn note(&mut self, facts: &Facts, e: Event)
+    /// With an access come the holders of its cell, in ascending number, the one that accesses among them.
+    fn note(&mut self, facts: &Facts, holders: &[Hold], e: Event)
+        requires holders { AreHolders (events_of facts.now) e holders.now }
         requires newest { IsNewest facts.now e (node_number self.old) }
         requires stands { stands self.old (setup_of facts.now) (drop 1 (events_of facts.now)) }
         requires room { 0 < spare self.old }
@@ -58,22 +62,25 @@ pub trait Control: Drop {
         requires on { IsTrue (on_path (setup_of facts.now).tree (node_number self.now) s) }
         ensures { result ≡ on_begin (setup_of facts.now) (events_of facts.now) s (node_number self.now) };
 
-    /// What a read of a cell meets.
-    fn before_read(&self, facts: &Facts, t: Txn, cell: Cell) -> Verdict
+    /// What a read of a cell meets, which some hold.
+    fn before_read(&self, facts: &Facts, holders: &[Hold], t: Txn, cell: Cell) -> Verdict
+        requires holders { holders.now ≡ holders_in (events_of facts.now) cell }
         requires stands { stands self.now (setup_of facts.now) (events_of facts.now) }
         requires access { IsAccess facts.now (node_number self.now) t.0 cell }
         ensures { result ≡ on_access (row (setup_of facts.now).tree (node_number self.now)).control (setup_of facts.now) (events_of facts.now) (node_number self.now) t.0 cell false };
 
-    /// What a write of a cell meets. `at` is the place that t's version has, or would have, among those of the cell; it is missing at
+    /// What a write of a cell meets, which some hold. `at` is the place that t's version has, or would have, among those of the cell; it is missing at
     /// no timestamp node. Whoever was read from, by somebody who is not aborted, still has its version: so it is between two answers.
     fn before_write<C: Chains>(
         &self,
         facts: &Facts,
+        holders: &[Hold],
         chains: &C,
         at: Option<usize>,
         t: Txn,
         cell: Cell,
     ) -> Verdict
+        requires holders { holders.now ≡ holders_in (events_of facts.now) cell }
         requires stands { stands self.now (setup_of facts.now) (events_of facts.now) }
         requires access { IsAccess facts.now (node_number self.now) t.0 cell }
         requires chains { HoldsVersions (setup_of facts.now) (events_of facts.now) (C.lists chains.now) }

@@ -7,17 +7,16 @@ ghost use Rattle.teb_history.specs.Ascending.{IsAscendingBy};
 ghost use Rattle.teb_history.specs.Live.{number_of};
 ghost use Rattle.teb_rules.specs.Setup.{Setup};
 ghost use Rattle.phase_api.specs.FactsView.{setup_of, events_of, IsOrderly, IsTyped};
-ghost use Rattle.phase_api.specs.Calls.{IsNewest};
+ghost use Rattle.phase_api.specs.Calls.{IsNewest, AreHolders};
 ghost use Rattle.hold_book.specs.declared.Hold.{Hold};
-ghost use Rattle.hold_register.specs.Blockers.{in_the_way};
-ghost use Rattle.hold_register.specs.Registered.{Registered};
+ghost use Rattle.access_conflicts.specs.Blockers.{in_the_way};
 ghost use Rattle.sorted_multimap.specs.Multimap.{values_in};
 ghost use Rattle.sorted_multimap.specs.Keys.{txn_cmp};
 ghost use Rattle.dependency_book.specs.Dependencies.{has};
 ghost use Rattle.runtime_pipeline.specs.Predecessors.{PredecessorsOf, joined, list_of, without};
 
+use access_conflicts::is_in_the_way;
 use hold_book::Hold;
-use hold_register::{Register, is_in_the_way};
 use phase_api::Facts;
 use sorted_multimap::{Multimap, clear_txn};
 use std::alloc::{AllocError, Global};
@@ -86,36 +85,20 @@ impl Predecessors {
         self.lists.list(t)
     }
 
-    /// Notes the newest event of the history, which the register knows already. It takes at most one place of the room.
-    pub fn note(&mut self, facts: &Facts, register: &Register, e: Event)
-        requires newest { IsNewest facts.now e register.now.node.0 }
+    /// Notes the newest event of the history; with an access come the holders of its cell. It takes at most one place of the room.
+    pub fn note(&mut self, facts: &Facts, node: Node, holders: &[Hold], e: Event)
+        requires newest { IsNewest facts.now e node.0 }
+        requires holders { AreHolders (events_of facts.now) e holders.now }
         requires orderly { IsOrderly (setup_of facts.now) (drop 1 (events_of facts.now)) }
-        requires register { Registered register.now.node.0 register.now.book (setup_of facts.now) (events_of facts.now) }
-        requires stands { PredecessorsOf self.old (setup_of facts.now) (drop 1 (events_of facts.now)) register.now.node.0 }
+        requires stands { PredecessorsOf self.old (setup_of facts.now) (drop 1 (events_of facts.now)) node.0 }
         requires room { 0 < self.old.spare }
-        ensures stands { PredecessorsOf self.new (setup_of facts.now) (events_of facts.now) register.now.node.0 }
+        ensures stands { PredecessorsOf self.new (setup_of facts.now) (events_of facts.now) node.0 }
         ensures spare { self.old.spare ≤ self.new.spare + 1 }
     {
         match e {
             Event::Began { txn, .. } => self.begin(txn),
-            Event::Got { txn, cell, .. } => {
-                self.access(
-                    facts,
-                    register.node(),
-                    txn,
-                    register.holds(facts, cell),
-                    false,
-                );
-            }
-            Event::Put { txn, cell, .. } => {
-                self.access(
-                    facts,
-                    register.node(),
-                    txn,
-                    register.holds(facts, cell),
-                    true,
-                );
-            }
+            Event::Got { txn, .. } => self.access(facts, node, txn, holders, false),
+            Event::Put { txn, .. } => self.access(facts, node, txn, holders, true),
             Event::Done(txn) | Event::Gone { txn, .. } => self.finish(txn),
             Event::Ready(_) | Event::Told(_) => {}
         }

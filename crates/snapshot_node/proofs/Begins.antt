@@ -15,7 +15,7 @@ use Rattle.teb_rules.specs.Tree.{row, on}
 use Rattle.teb_names.specs.declared.ControlKind.TheVariants.{Snapshot}
 use Rattle.batch_book.specs.Book.{Book}
 use Rattle.batch_book.specs.Histories.{BatchesOf}
-use Rattle.hold_register.proofs.Orderly.{orderly_none}
+use Rattle.access_conflicts.proofs.Orderly.{orderly_none}
 use Rattle.sorted_multimap.specs.Multimap.{Shown, values_of, values_in}
 use Rattle.snapshot_node.specs.Accessors.{is_among}
 use Rattle.snapshot_node.specs.Standing.{SnapshotStand, counts, has_put_in, has_read_in}

@@ -11,7 +11,7 @@ use Rattle.teb_rules.specs.Tree.{meets}
 use Rattle.teb_rules.specs.Batches.{start, close}
 use Rattle.teb_rules.specs.Controls.{is_first}
 use Rattle.teb_laws.proofs.Nodes.{meets_parts}
-use Rattle.hold_register.specs.Waits.{some_txn}
+use Rattle.access_conflicts.specs.Waits.{some_txn}
 use Rattle.snapshot_node.specs.Standing.{has_put_in, writers_in}
 use Rattle.snapshot_node.proofs.Listed.{puts_parts, finds, as_txn}
 

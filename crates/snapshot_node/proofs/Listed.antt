@@ -18,8 +18,8 @@ use Rattle.teb_laws.proofs.Serial.{In-filter, filter-In}
 use Rattle.phase_api.specs.declared.facts.Facts.{Facts}
 use Rattle.phase_api.specs.FactsView.{IsOrderly, setup_of, events_of}
 use Rattle.phase_api.specs.Calls.{IsHere}
-use Rattle.hold_register.specs.Waits.{some_txn}
-use Rattle.hold_register.proofs.Noting.{typed_now}
+use Rattle.access_conflicts.specs.Waits.{some_txn}
+use Rattle.access_conflicts.proofs.Noting.{typed_now}
 use Rattle.snapshot_node.specs.Accessors.{is_among}
 use Rattle.snapshot_node.specs.Standing.{counts, has_put_in, writers_in, has_read_in, readers_in}
 use Rattle.snapshot_node.specs.Pivots.{AreHere}

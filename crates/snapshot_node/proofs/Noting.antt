@@ -18,7 +18,7 @@ use Rattle.batch_book.specs.Book.{Book, IsNew}
 use Rattle.batch_book.specs.Histories.{BatchesOf, MayCome, Joins, Finishes, Passes}
 use Rattle.batch_book.proofs.Telling.{batches_passed, next_new}
 use Rattle.batch_book.proofs.Numbered.{spot_began, on_kept, begun_step}
-use Rattle.hold_register.proofs.Orderly.{orderly_next}
+use Rattle.access_conflicts.proofs.Orderly.{orderly_next}
 use Rattle.sorted_multimap.specs.Multimap.{Shown}
 use Rattle.snapshot_node.specs.Accessors.{is_accessor, AreFiled}
 use Rattle.snapshot_node.specs.Standing.{SnapshotStand, has_put_in, has_read_in}

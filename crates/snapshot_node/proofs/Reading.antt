@@ -17,7 +17,7 @@ use Rattle.teb_rules.specs.Tree.{on}
 use Rattle.teb_laws.proofs.Answers.{aborted_kept}
 use Rattle.batch_book.proofs.Numbered.{aborted_step, unfinished_parts, on_kept}
 use Rattle.phase_api.specs.FactsView.{IsOrderly}
-use Rattle.hold_register.proofs.Orderly.{new_accesses_none}
+use Rattle.access_conflicts.proofs.Orderly.{new_accesses_none}
 use Rattle.snapshot_node.specs.Standing.{has_read_in}
 
 got_step : (e : Event) (P : List Event) (u : ℕ) (x : Cell) → got (e ∷ P) u x ≡ (is_got u x e || got P u x)

@@ -20,7 +20,7 @@ use Rattle.teb_rules.specs.Controls.{on_access, gate, is_first}
 use Rattle.teb_rules.specs.Stops.{on_begin}
 use Rattle.batch_book.specs.Histories.{full_at}
 use Rattle.batch_book.proofs.Telling.{begin_waits}
-use Rattle.hold_register.specs.Waits.{some_txn, wait_for_txn}
+use Rattle.access_conflicts.specs.Waits.{some_txn, wait_for_txn}
 
 -- a node that is a snapshot node is one of the tree
 pub row_there : (T : List NodeRow) (n : ℕ) → (row T n).control ≡ Snapshot → n < length T

@@ -16,7 +16,7 @@ use Rattle.teb_rules.specs.Setup.{Setup}
 use Rattle.teb_rules.specs.Tree.{on}
 use Rattle.batch_book.proofs.Numbered.{committed_step, unfinished_step, unfinished_parts, unfinished_kept, on_kept}
 use Rattle.phase_api.specs.FactsView.{IsOrderly}
-use Rattle.hold_register.proofs.Orderly.{new_accesses_none}
+use Rattle.access_conflicts.proofs.Orderly.{new_accesses_none}
 use Rattle.snapshot_node.specs.Standing.{counts, has_put_in}
 
 wrote_step : (e : Event) (P : List Event) (u : ℕ) (x : Cell) → wrote (e ∷ P) u x ≡ (is_put u x e || wrote P u x)

@@ -6,7 +6,7 @@ ghost use Rattle.teb_history.specs.Accesses.{wrote};
 ghost use Rattle.teb_rules.specs.Tree.{meets};
 ghost use Rattle.teb_rules.specs.Batches.{start, close};
 ghost use Rattle.teb_rules.specs.Controls.{is_first};
-ghost use Rattle.hold_register.specs.Waits.{some_txn};
+ghost use Rattle.access_conflicts.specs.Waits.{some_txn};
 ghost use Rattle.snapshot_node.specs.Standing.{writers_in, readers_in};
 ghost use Rattle.snapshot_node.specs.Stood.{StandsFor};
 ghost use Rattle.snapshot_node.specs.Props.{kept};

@@ -12,7 +12,8 @@ use crate::marking::{mark_edges, validated};
 use crate::marks::{Mark, NO_MARK};
 use crate::register::Register;
 use crate::validation::Validation;
-use hold_register::wait_for;
+use access_conflicts::wait_for;
+use hold_book::Hold;
 use phase_api::{Control, Facts};
 use std::alloc::{AllocError, Global};
 use teb_history::Event;
@@ -63,7 +64,7 @@ impl Control for Snapshot {
         self.marks.reserve(n)
     }
 
-    fn note(&mut self, facts: &Facts, e: Event) {
+    fn note(&mut self, facts: &Facts, _holders: &[Hold], e: Event) {
         self.register.note(facts, e);
         let _ = self.marks.push(NO_MARK);
         if let Some(t) = validated(e) {
@@ -84,13 +85,14 @@ impl Control for Snapshot {
         }
     }
 
-    fn before_read(&self, _facts: &Facts, _t: Txn, _cell: Cell) -> Verdict {
+    fn before_read(&self, _facts: &Facts, _holders: &[Hold], _t: Txn, _cell: Cell) -> Verdict {
         Verdict::Go
     }
 
     fn before_write<C: Chains>(
         &self,
         facts: &Facts,
+        _holders: &[Hold],
         _chains: &C,
         _at: Option<usize>,
         t: Txn,

@@ -9,7 +9,7 @@ use Rattle.phase_api.specs.declared.facts.Facts.{Facts}
 use Rattle.phase_api.specs.FactsView.{setup_of, events_of, IsTyped, IsOrderly}
 use Rattle.phase_api.specs.Calls.{IsHere}
 use Rattle.phase_api.specs.Versions.{SourcesStand, has_version}
-use Rattle.hold_register.proofs.Orderly.{unfinished_begun}
+use Rattle.access_conflicts.proofs.Orderly.{unfinished_begun}
 use Rattle.batch_book.specs.Book.{Book, has_joined}
 use Rattle.batch_book.specs.Histories.{BatchesOf}
 use Rattle.batch_book.proofs.Telling.{joined_from}

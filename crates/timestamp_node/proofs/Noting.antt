@@ -17,7 +17,7 @@ use Rattle.teb_rules.specs.Setup.{Setup}
 use Rattle.teb_rules.specs.Tree.{on, side, on_path, side_at}
 use Rattle.phase_api.specs.FactsView.{IsOrderly}
 use Rattle.phase_api.specs.Calls.{MayNote}
-use Rattle.hold_register.proofs.Orderly.{orderly_next, unfinished_begun, begun_kept}
+use Rattle.access_conflicts.proofs.Orderly.{orderly_next, unfinished_begun, begun_kept}
 use Rattle.batch_book.specs.Book.{Book}
 use Rattle.batch_book.specs.Histories.{BatchesOf, IsNumbered, MayCome, Joins, Finishes, Passes}
 use Rattle.batch_book.proofs.Numbered.{begins_once, begun_step, aborted_step, on_kept, unfinished_parts, spot_began}

@@ -14,7 +14,7 @@ use Rattle.teb_rules.specs.Batches.{idle, start, close}
 use Rattle.teb_rules.specs.Versions.{precedes}
 use Rattle.teb_laws.proofs.Positions.{first-le, before, now, later, first_cases}
 use Rattle.phase_api.specs.Calls.{MayNote}
-use Rattle.hold_register.proofs.Orderly.{unfinished_begun, begun_kept}
+use Rattle.access_conflicts.proofs.Orderly.{unfinished_begun, begun_kept}
 use Rattle.batch_book.specs.Book.{closed_at}
 use Rattle.batch_book.specs.Histories.{IsNumbered, closing}
 use Rattle.batch_book.proofs.Numbered.{begun_none, begins_once, begins_new, unfinished_before, unfinished_kept, on_kept, side_kept}

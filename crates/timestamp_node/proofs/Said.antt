@@ -25,8 +25,8 @@ use Rattle.teb_rules.specs.Stops.{on_begin}
 use Rattle.phase_api.specs.FactsView.{IsOrderly}
 use Rattle.phase_api.specs.Versions.{IsPlaceOf}
 use Rattle.version_chain.specs.Lists.{first_place, next_place}
-use Rattle.hold_register.specs.Waits.{wait_for_txn}
-use Rattle.hold_register.proofs.Orderly.{unfinished_begun}
+use Rattle.access_conflicts.specs.Waits.{wait_for_txn}
+use Rattle.access_conflicts.proofs.Orderly.{unfinished_begun}
 use Rattle.batch_book.specs.Histories.{full_at}
 use Rattle.batch_book.proofs.Telling.{begin_waits}
 use Rattle.teb_history.proofs.LeastNumbers.{find_alike, nobody}

@@ -18,9 +18,10 @@ ghost use Rattle.timestamp_node.specs.Late.{is_after, lesser_txn};
 ghost use Rattle.timestamp_node.specs.Standing.{StampsStand};
 
 use crate::reads::{forget_reads, push_read};
+use access_conflicts::wait_for;
 use arena_multimap::ArenaMultimap;
 use batch_book::Batches;
-use hold_register::wait_for;
+use hold_book::Hold;
 use phase_api::{Control, Facts};
 use std::alloc::{AllocError, Global};
 use teb_history::Event;
@@ -208,7 +209,7 @@ impl Control for Stamps {
         self.reads.reserve(n)
     }
 
-    fn note(&mut self, facts: &Facts, e: Event) {
+    fn note(&mut self, facts: &Facts, _holders: &[Hold], e: Event) {
         let at = facts.history.len() - 1;
         match e {
             Event::Began { txn, .. } => {
@@ -244,13 +245,14 @@ impl Control for Stamps {
         }
     }
 
-    fn before_read(&self, _facts: &Facts, _t: Txn, _cell: Cell) -> Verdict {
+    fn before_read(&self, _facts: &Facts, _holders: &[Hold], _t: Txn, _cell: Cell) -> Verdict {
         Verdict::Go
     }
 
     fn before_write<C: Chains>(
         &self,
         facts: &Facts,
+        _holders: &[Hold],
         chains: &C,
         at: Option<usize>,
         t: Txn,

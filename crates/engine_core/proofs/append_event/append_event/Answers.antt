@@ -4,6 +4,7 @@ use Rattle.teb_laws.specs.Lawful.{Lawful}
 use Rattle.teb_laws.proofs.Answers.{lawful_cons}
 use Rattle.teb_laws.proofs.Sound.{tree_facts}
 use Rattle.phase_api.specs.Calls.{MayNote}
+use Rattle.dependency_book.specs.Books.{BookOf}
 use Rattle.dependency_book.proofs.LawfulHistories.{granted_follows}
 use Rattle.engine_core.specs.Stores.{store_of}
 use Rattle.engine_core.specs.Wholes.{RoomFor}
@@ -11,6 +12,12 @@ use Rattle.engine_core.proofs.Noting.{granted_noted}
 use Rattle.engine_core.proofs.Appending.{whole_after}
 use Rattle.engine_core.proofs.Rooms.{less_room}
 use Rattle.engine_core.proofs.append_event.append_event.Goals as goal
+
+pub note_each-requires-clause-holders : goal.note_each-requires-clause-holders
+note_each-requires-clause-holders g c =
+    let H = c.args.state.now.history.events in
+    c.holders_of-holders.ensures c.push.new.self.events (subst (BookOf c.note.new.self.lists) (sym c.push.ensures.events)
+    (c.note.ensures.book H c.push.ensures.events c.requires.whole.book (granted_follows (store_of c.args.state.now.setup).setup H c.args.event c.requires.granted)))
 
 pub note_each-requires-clause-may : goal.note_each-requires-clause-may
 note_each-requires-clause-may g c = λ n.
@@ -30,7 +37,7 @@ returns-clause-whole g c =
     (g.C.Chains.lists c.args.state.now.chains) (g.C.Chains.lists c.keep_versions.new.chains) c.args.state.now.book.lists c.note.new.self.lists c.args.state.now.cursors.cursors c.move_cursors.new.cursors.cursors c.args.state.now.latest c.note-2.new.self
     c.requires.whole c.requires.granted c.requires.begins c.push.ensures.events c.note_each.ensures.stand
     (c.keep_versions.ensures.versions S H (tree_facts S c.requires.whole.sound) (lawful_cons S c.args.event H c.requires.granted c.requires.whole.lawful) c.requires.whole.versions c.requires.order)
-    (c.note.ensures.book H c.requires.whole.book (granted_follows S H c.args.event c.requires.granted))
+    (c.note.ensures.book H c.push.ensures.events c.requires.whole.book (granted_follows S H c.args.event c.requires.granted))
     c.move_cursors.ensures.cursors (c.note-2.ensures H c.requires.whole.latest)
 
 pub note_each-requires-clause-room : goal.note_each-requires-clause-room

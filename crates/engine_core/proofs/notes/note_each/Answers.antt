@@ -3,7 +3,7 @@ use Rattle.std.proofs.lemmas.List.{take_at}
 use Rattle.teb_history.specs.Written.{Written}
 use Rattle.engine_core.specs.Stores.{store_of}
 use Rattle.engine_core.specs.Wholes.{RoomFor}
-use Rattle.engine_core.proofs.Noting.{told_newest, told_standing, all_standing}
+use Rattle.engine_core.proofs.Noting.{told_newest, told_holders, told_standing, all_standing}
 use Rattle.engine_core.proofs.notes.note_each.Goals as goal
 
 pub note_all-requires-clause-stands : goal.note_all-requires-clause-stands
@@ -13,6 +13,10 @@ note_all-requires-clause-stands g c = told_standing c.facts_of-facts.result (sto
 pub note_all-requires-clause-newest : goal.note_all-requires-clause-newest
 note_all-requires-clause-newest g c = told_newest c.facts_of-facts.result (store_of c.args.setup.now).setup c.args.history.now.events c.facts_of-facts.ensures.setup (ap (λ (h : Written). h.events) c.facts_of-facts.ensures.history)
     c.args.event c.deref_mut.result.now c.requires.newest c.requires.may
+
+pub note_all-requires-clause-holders : goal.note_all-requires-clause-holders
+note_all-requires-clause-holders g c = told_holders c.facts_of-facts.result (store_of c.args.setup.now).setup c.args.history.now.events c.facts_of-facts.ensures.setup (ap (λ (h : Written). h.events) c.facts_of-facts.ensures.history)
+    c.args.event c.args.holders.now c.requires.holders
 
 pub returns-clause-stand : goal.returns-clause-stand
 returns-clause-stand g c =

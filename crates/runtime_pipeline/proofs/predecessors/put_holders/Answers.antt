@@ -2,7 +2,7 @@ use Rattle.std.proofs.Common.{◌∙◌, ◌+◌, ◌≡◌, ◌≤◌, ℕ, Boo
 use Rattle.phase_api.specs.FactsView.{setup_of, events_of}
 use Rattle.teb_names.specs.declared.Txn.{Txn}
 use Rattle.hold_book.specs.declared.Hold.{Hold}
-use Rattle.hold_register.specs.Blockers.{in_the_way}
+use Rattle.access_conflicts.specs.Blockers.{in_the_way}
 use Rattle.teb_history.specs.Ascending.{put_by}
 use Rattle.teb_history.specs.Live.{number_of}
 use Rattle.sorted_multimap.specs.Multimap.{Shown, values_in}

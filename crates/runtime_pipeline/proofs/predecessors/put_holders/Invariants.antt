@@ -1,6 +1,6 @@
 use Rattle.std.proofs.Common.{drop}
 use Rattle.phase_api.specs.FactsView.{setup_of, events_of}
-use Rattle.hold_register.specs.Blockers.{in_the_way}
+use Rattle.access_conflicts.specs.Blockers.{in_the_way}
 use Rattle.runtime_pipeline.proofs.ListEdits.{IsPutting}
 use Rattle.runtime_pipeline.proofs.predecessors.put_holders.Given as goal
 

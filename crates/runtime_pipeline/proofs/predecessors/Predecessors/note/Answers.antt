@@ -1,17 +1,17 @@
 use Rattle.std.proofs.Common.{◌≤◌, ◌∙◌, ap, sym, subst, List, length, true, false, cond, eqb}
-use Rattle.teb_names.specs.declared.Node.{Node}
 use Rattle.phase_api.specs.FactsView.{setup_of, events_of}
 use Rattle.hold_book.specs.declared.Hold.{Hold}
-use Rattle.hold_register.proofs.Noting.{accessor_begun, writer_begun, typed_now}
-use Rattle.hold_register.specs.Blockers.{in_the_way}
-use Rattle.hold_register.proofs.Blockers.{held_typed}
+use Rattle.access_conflicts.proofs.Noting.{orderly_now, accessor_begun, writer_begun, typed_now}
+use Rattle.access_conflicts.specs.Blockers.{in_the_way}
+use Rattle.access_conflicts.proofs.Blockers.{held_typed}
 use Rattle.runtime_pipeline.specs.Predecessors.{joined, list_of}
+use Rattle.runtime_pipeline.proofs.Noting.{got_holders, put_holders}
 use Rattle.runtime_pipeline.proofs.Following.{lists_ascend, began_next, ready_next, end_next, got_next, put_next, got_few, put_few}
 use Rattle.runtime_pipeline.proofs.predecessors.Predecessors.note.Goals as goal
 
 pub access-requires-clause-few : goal.access-requires-clause-few
 access-requires-clause-few c =
-    subst (λ (hs : List Hold). length hs ≤ length c.args.self.now.unfinished) (sym c.holds.ensures)
+    subst (λ (hs : List Hold). length hs ≤ length c.args.self.now.unfinished) (sym (got_holders (events_of c.args.facts.now) c.args.e _ c.requires.holders c.in-Got.txn c.in-Got.cell c.in-Got.from c.in-Got.value c.in-Got.is))
     (got_few _ _ _ c.args.e c.requires.newest.is c.requires.newest.may c.requires.orderly c.args.self.now c.requires.stands c.in-Got.txn c.in-Got.cell c.in-Got.from c.in-Got.value c.in-Got.is)
 
 pub access-requires-clause-ascending : goal.access-requires-clause-ascending
@@ -19,15 +19,17 @@ access-requires-clause-ascending c = lists_ascend _ _ _ c.args.self.now c.requir
 
 pub access-requires-clause-typed : goal.access-requires-clause-typed
 access-requires-clause-typed c =
-    typed_now c.args.facts.now c.in-Got.txn.0 c.requires.register.orderly
+    typed_now c.args.facts.now c.in-Got.txn.0 (orderly_now _ _ _ c.args.e c.requires.newest.is c.requires.newest.may c.requires.orderly)
     (accessor_begun _ _ _ c.args.e c.requires.newest.is c.requires.newest.may c.in-Got.txn c.in-Got.cell (c.in-Got.from, c.in-Got.value, c.in-Got.is))
 
 pub access-requires-clause-holders : goal.access-requires-clause-holders
-access-requires-clause-holders c i d l = held_typed c.args.facts.now _ c.in-Got.cell c.holds.result.now i d c.requires.register.orderly c.holds.ensures l
+access-requires-clause-holders c i d l =
+    held_typed c.args.facts.now c.in-Got.cell c.args.holders.now i d (orderly_now _ _ _ c.args.e c.requires.newest.is c.requires.newest.may c.requires.orderly)
+    (got_holders (events_of c.args.facts.now) c.args.e _ c.requires.holders c.in-Got.txn c.in-Got.cell c.in-Got.from c.in-Got.value c.in-Got.is) l
 
 pub access-requires-in-Put-clause-few : goal.access-requires-in-Put-clause-few
 access-requires-in-Put-clause-few c =
-    subst (λ (hs : List Hold). length hs ≤ length c.args.self.now.unfinished) (sym c.holds-in-Put.ensures)
+    subst (λ (hs : List Hold). length hs ≤ length c.args.self.now.unfinished) (sym (put_holders (events_of c.args.facts.now) c.args.e _ c.requires.holders c.in-Put.txn c.in-Put.cell c.in-Put.value c.in-Put.is))
     (put_few _ _ _ c.args.e c.requires.newest.is c.requires.newest.may c.requires.orderly c.args.self.now c.requires.stands c.in-Put.txn c.in-Put.cell c.in-Put.value c.in-Put.is)
 
 pub access-requires-in-Put-clause-ascending : goal.access-requires-in-Put-clause-ascending
@@ -35,11 +37,13 @@ access-requires-in-Put-clause-ascending c = lists_ascend _ _ _ c.args.self.now c
 
 pub access-requires-in-Put-clause-typed : goal.access-requires-in-Put-clause-typed
 access-requires-in-Put-clause-typed c =
-    typed_now c.args.facts.now c.in-Put.txn.0 c.requires.register.orderly
+    typed_now c.args.facts.now c.in-Put.txn.0 (orderly_now _ _ _ c.args.e c.requires.newest.is c.requires.newest.may c.requires.orderly)
     (writer_begun _ _ _ c.args.e c.requires.newest.is c.requires.newest.may c.in-Put.txn c.in-Put.cell (c.in-Put.value, c.in-Put.is))
 
 pub access-requires-in-Put-clause-holders : goal.access-requires-in-Put-clause-holders
-access-requires-in-Put-clause-holders c i d l = held_typed c.args.facts.now _ c.in-Put.cell c.holds-in-Put.result.now i d c.requires.register.orderly c.holds-in-Put.ensures l
+access-requires-in-Put-clause-holders c i d l =
+    held_typed c.args.facts.now c.in-Put.cell c.args.holders.now i d (orderly_now _ _ _ c.args.e c.requires.newest.is c.requires.newest.may c.requires.orderly)
+    (put_holders (events_of c.args.facts.now) c.args.e _ c.requires.holders c.in-Put.txn c.in-Put.cell c.in-Put.value c.in-Put.is) l
 
 pub finish-requires-clause-ascending : goal.finish-requires-clause-ascending
 finish-requires-clause-ascending c v = lists_ascend _ _ _ c.args.self.now c.requires.stands v
@@ -54,8 +58,9 @@ returns-in-Got-clause-stands c =
     let H = events_of c.args.facts.now in
     let t = c.in-Got.txn in
     let k = c.args.self.now in
+    let held = got_holders H c.args.e _ c.requires.holders t c.in-Got.cell c.in-Got.from c.in-Got.value c.in-Got.is in
     got_next S H _ c.args.e c.requires.newest.is c.requires.newest.may c.requires.orderly k c.requires.stands t c.in-Got.cell c.access.new.self c.in-Got.from c.in-Got.value c.in-Got.is c.access.ensures.unfinished
-    (λ v. c.access.ensures.lists v ∙ (λ j. cond (eqb t.0 v.0) (joined (in_the_way S H (ap (λ (m : Node). m.0) c.node.ensures j) t.0 false) (c.holds.ensures j) (list_of k v)) (list_of k v)))
+    (λ v. c.access.ensures.lists v ∙ ap (λ (hs : List Hold). cond (eqb t.0 v.0) (joined (in_the_way S H c.args.node.0 t.0 false) hs (list_of k v)) (list_of k v)) held)
 
 pub returns-in-Put-clause-stands : goal.returns-in-Put-clause-stands
 returns-in-Put-clause-stands c =
@@ -63,8 +68,9 @@ returns-in-Put-clause-stands c =
     let H = events_of c.args.facts.now in
     let t = c.in-Put.txn in
     let k = c.args.self.now in
+    let held = put_holders H c.args.e _ c.requires.holders t c.in-Put.cell c.in-Put.value c.in-Put.is in
     put_next S H _ c.args.e c.requires.newest.is c.requires.newest.may c.requires.orderly k c.requires.stands t c.in-Put.cell c.access-in-Put.new.self c.in-Put.value c.in-Put.is c.access-in-Put.ensures.unfinished
-    (λ v. c.access-in-Put.ensures.lists v ∙ (λ j. cond (eqb t.0 v.0) (joined (in_the_way S H (ap (λ (m : Node). m.0) c.node-in-Put.ensures j) t.0 true) (c.holds-in-Put.ensures j) (list_of k v)) (list_of k v)))
+    (λ v. c.access-in-Put.ensures.lists v ∙ ap (λ (hs : List Hold). cond (eqb t.0 v.0) (joined (in_the_way S H c.args.node.0 t.0 true) hs (list_of k v)) (list_of k v)) held)
 
 pub returns-in-Ready-clause-stands : goal.returns-in-Ready-clause-stands
 returns-in-Ready-clause-stands c = ready_next _ _ _ c.args.e c.requires.newest.is c.requires.newest.may c.requires.orderly c.args.self.now c.requires.stands c.in-Ready.is

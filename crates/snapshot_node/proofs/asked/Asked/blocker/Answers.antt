@@ -4,7 +4,7 @@ use Rattle.teb_names.specs.declared.Txn.{Txn}
 use Rattle.teb_history.specs.Phases.{unfinished}
 use Rattle.teb_rules.specs.Tree.{meets}
 use Rattle.phase_api.specs.FactsView.{setup_of, events_of}
-use Rattle.hold_register.proofs.Blockers.{find_here, find_end}
+use Rattle.access_conflicts.proofs.Blockers.{find_here, find_end}
 use Rattle.snapshot_node.proofs.Found.{is_met, met_found}
 use Rattle.snapshot_node.proofs.Later.{later_here, met_later}
 use Rattle.snapshot_node.proofs.asked.Asked.blocker.Goals as goal

@@ -5,7 +5,7 @@ use Rattle.teb_history.specs.Phases.{committed}
 use Rattle.teb_rules.specs.Tree.{meets}
 use Rattle.teb_rules.specs.Batches.{start, close}
 use Rattle.phase_api.specs.FactsView.{setup_of, events_of}
-use Rattle.hold_register.proofs.Blockers.{find_here, find_end}
+use Rattle.access_conflicts.proofs.Blockers.{find_here, find_end}
 use Rattle.snapshot_node.proofs.Found.{comes_first, first_found}
 use Rattle.snapshot_node.proofs.Later.{later_here, first_later}
 use Rattle.snapshot_node.proofs.asked.Asked.first_writer.Goals as goal

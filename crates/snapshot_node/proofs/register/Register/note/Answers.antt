@@ -7,7 +7,7 @@ use Rattle.teb_history.specs.Accesses.{wrote, got}
 use Rattle.teb_rules.specs.Tree.{on, side}
 use Rattle.phase_api.specs.FactsView.{setup_of, events_of}
 use Rattle.phase_api.specs.Calls.{MayNote}
-use Rattle.hold_register.proofs.Noting.{orderly_now, accessor_begun, writer_begun, typed_now}
+use Rattle.access_conflicts.proofs.Noting.{orderly_now, accessor_begun, writer_begun, typed_now}
 use Rattle.snapshot_node.specs.Accessors.{is_accessor}
 use Rattle.snapshot_node.specs.Standing.{SnapshotStand}
 use Rattle.snapshot_node.proofs.Noting.{newest_place, began_begun, began_new, noted_began, noted_began_off, noted_put, noted_put_off, noted_done, noted_gone, noted_got, noted_got_off, noted_ready, noted_told}

@@ -4,7 +4,7 @@ use Rattle.teb_names.specs.declared.Node.{Node}
 use Rattle.teb_names.specs.declared.Txn.{Txn}
 use Rattle.teb_history.specs.declared.Event.{Event}
 use Rattle.teb_history.specs.Phases.{begun}
-use Rattle.hold_register.proofs.Noting.{typed_now}
+use Rattle.access_conflicts.proofs.Noting.{typed_now}
 use Rattle.phase_api.specs.FactsView.{setup_of, events_of}
 use Rattle.teb_laws.specs.Pivots.{IsSettled}
 use Rattle.snapshot_node.specs.declared.marks.Mark.{Mark}

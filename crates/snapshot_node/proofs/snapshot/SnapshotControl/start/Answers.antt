@@ -1,6 +1,6 @@
 use Rattle.std.proofs.Common.{◌∙◌, ap}
 use Rattle.phase_api.specs.FactsView.{setup_of, events_of}
-use Rattle.hold_register.specs.Waits.{wait_for_txn}
+use Rattle.access_conflicts.specs.Waits.{wait_for_txn}
 use Rattle.snapshot_node.proofs.Said.{snapshot_start, snapshot_start_leaf}
 use Rattle.snapshot_node.proofs.snapshot.SnapshotControl.start.Goals as goal
 

@@ -2,7 +2,7 @@ use Rattle.std.proofs.Common.{◌∙◌, sym, ap, subst, List}
 use Rattle.teb_history.specs.declared.Event.{Event}
 use Rattle.teb_rules.specs.Setup.{NodeRow}
 use Rattle.phase_api.specs.FactsView.{setup_of, IsOrderly}
-use Rattle.hold_register.proofs.Orderly.{orderly_none}
+use Rattle.access_conflicts.proofs.Orderly.{orderly_none}
 use Rattle.batch_book.specs.Histories.{BatchesOf}
 use Rattle.timestamp_node.specs.Reads.{IsTimely}
 use Rattle.timestamp_node.specs.Standing.{ReadsOf}

@@ -1,7 +1,7 @@
 use Rattle.std.proofs.Common.{◌∙◌, List, None, find, sym, ap}
 use Rattle.teb_names.specs.declared.Txn.{Txn}
 use Rattle.phase_api.specs.FactsView.{setup_of, events_of}
-use Rattle.hold_register.proofs.Blockers.{find_here, find_end}
+use Rattle.access_conflicts.proofs.Blockers.{find_here, find_end}
 use Rattle.timestamp_node.proofs.Said.{holds_back, gate_open, gate_found}
 use Rattle.timestamp_node.proofs.stamps.StampsControl.gate.Goals as goal
 

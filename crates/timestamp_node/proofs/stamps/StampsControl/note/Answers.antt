@@ -3,7 +3,7 @@ use Rattle.teb_history.specs.declared.Event.{Event}
 use Rattle.teb_history.specs.Phases.{is_began}
 use Rattle.phase_api.specs.FactsView.{setup_of, events_of}
 use Rattle.phase_api.specs.Calls.{MayNote}
-use Rattle.hold_register.proofs.Noting.{typed_now}
+use Rattle.access_conflicts.proofs.Noting.{typed_now}
 use Rattle.batch_book.proofs.Telling.{next_new}
 use Rattle.timestamp_node.proofs.Noting.{at_end, orderly_now, begun_now, unfinished_now, began_on, began_off, got_on, got_off, done, gone_read, gone_on, gone_off, put, readied, told}
 use Rattle.timestamp_node.proofs.stamps.StampsControl.note.Goals as goal

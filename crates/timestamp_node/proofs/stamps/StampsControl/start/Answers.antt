@@ -1,7 +1,7 @@
 use Rattle.std.proofs.Common.{◌≡◌, ◌∙◌, None, Some, sym, ap}
 use Rattle.teb_rules.specs.Tree.{leaf}
 use Rattle.phase_api.specs.FactsView.{setup_of, events_of}
-use Rattle.hold_register.specs.Waits.{wait_for_txn}
+use Rattle.access_conflicts.specs.Waits.{wait_for_txn}
 use Rattle.timestamp_node.proofs.Said.{begin_leaf, begin_inner}
 use Rattle.timestamp_node.proofs.stamps.StampsControl.start.Goals as goal
 

@@ -1,0 +1,4 @@
+pub mod Orderly
+pub mod Noting
+pub mod Blockers
+pub mod Holds

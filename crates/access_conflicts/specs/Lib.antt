@@ -1,0 +1,3 @@
+pub mod Blockers
+pub mod Waits
+pub mod Holds

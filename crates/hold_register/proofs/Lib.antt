@@ -1,4 +1,0 @@
-pub mod Orderly
-pub mod Noting
-pub mod Blockers
-pub mod Releasing

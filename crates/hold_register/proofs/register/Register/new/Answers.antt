@@ -1,5 +1,0 @@
-use Rattle.hold_register.proofs.Orderly.{orderly_none}
-use Rattle.hold_register.proofs.register.Register.new.Goals as goal
-
-pub returns-clause-stands : goal.returns-clause-stands
-returns-clause-stands c S = record { orderly = orderly_none S; holds = c.new.ensures.empty S c.args.node.0 }

@@ -1,3 +1,0 @@
-pub mod Blockers
-pub mod Registered
-pub mod Waits
