@@ -1,5 +1,5 @@
 -- The lists of predecessors after one more event.
-use Rattle.std.proofs.Common.{◌≡◌, ◌⊎◌, ℕ, ℤ, suc, ◌≤◌, Bool, true, false, cond, not, ◌||◌, ◌&&◌, eqb, List, [], ◌∷◌, ◌++◌, map, filter, length, drop, Option, refl, sym, ◌∙◌, ap, subst, arith, inl, inr}
+use Rattle.std.proofs.Common.{◌≡◌, ◌⊎◌, ℕ, ℤ, suc, ◌+◌, ◌<◌, ◌≤◌, Bool, true, false, cond, not, ◌||◌, ◌&&◌, eqb, List, [], ◌∷◌, ◌++◌, map, filter, length, length-append, drop, Option, refl, sym, ◌∙◌, ap, subst, arith, inl, inr}
 use Rattle.std.proofs.lemmas.Bool.{cases_Bool, both_ways, eqb-true, eq-eqb, ne_eqb}
 use Rattle.teb_names.specs.declared.Txn.{Txn}
 use Rattle.teb_names.specs.declared.Session.{Session}
@@ -32,6 +32,7 @@ use Rattle.dependency_book.specs.Dependencies.{has}
 use Rattle.dependency_book.proofs.MultimapEdits.{one_txn}
 use Rattle.runtime_pipeline.specs.Predecessors.{Kept, numbered, is_ahead, before_in, unfinished_in, list_of, joined, without, EndsFollow, PredecessorsOf}
 use Rattle.runtime_pipeline.proofs.Noting.{wrote_before, got_before, no_put, no_got, other}
+use Rattle.runtime_pipeline.proofs.ListEdits.{without_less}
 use Rattle.runtime_pipeline.proofs.Aheads.{before_ascends, few_holders, joined_all, filter_without, filter_none, and_none}
 
 off : (a b : Bool) → (a || b) ≡ false → (a ≡ false) × (b ≡ false)
@@ -60,11 +61,11 @@ abbrev nobody : List Txn
 nobody = []
 
 -- the empty history
-pub noted_none : (S : Setup) (n : ℕ) (k : Kept) → ((t : Txn) → list_of k t ≡ []) → k.unfinished ≡ [] → PredecessorsOf k S [] n
+pub noted_none : (S : Setup) (n : ℕ) (k : Kept) → ((t : Txn) → list_of k t ≡ []) → PredecessorsOf k S [] n
 unfolding txns begun_count numbers committed aborted done_at gone_at
-noted_none S n k l u = record {
+noted_none S n k l = record {
   ends = λ v b. (came_any (is_done v) [], came_any (is_gone v) []);
-  listed = u;
+  counted = omega arith;
   ahead = λ t. l t ∙ none (unfinished [] t.0);
 }
   where
@@ -78,6 +79,9 @@ module _ (S : Setup) (P : List Event) (n : ℕ) (e : Event) (count : begun_count
   unfolding txns
   same_unfinished = λ j. map numbered (filter (λ u. open_ u j) (numbers (count j)))
 
+  same_count : {m : ℕ} → length (unfinished_in P) ≤ m → length (unfinished_in (e ∷ P)) ≤ m
+  same_count {m} l = subst (λ (us : List Txn). length us ≤ m) (sym same_unfinished) l
+
   same_before : (t : ℕ) → ((u : ℕ) → earlier (e ∷ P) u t ≡ earlier P u t) → before_in S (e ∷ P) n t ≡ before_in S P n t
   unfolding txns
   same_before t f = λ j. map numbered (filter (λ u. open_ u j && meet t u j && f u j) (numbers (count j)))
@@ -86,7 +90,7 @@ module _ (S : Setup) (P : List Event) (n : ℕ) (e : Event) (count : begun_count
   kept k k' t l was f = l ∙ was.ahead t ∙ sym (λ j. cond (open_ t.0 j) (same_before t.0 f j) [])
 
   noted_inert : (k : Kept) → EndsFollow (e ∷ P) → ((u t : ℕ) → earlier (e ∷ P) u t ≡ earlier P u t) → PredecessorsOf k S P n → PredecessorsOf k S (e ∷ P) n
-  noted_inert k ends f was = record { ends = ends; listed = was.listed ∙ sym same_unfinished; ahead = λ t. kept k k t refl was (λ u. f u t.0) }
+  noted_inert k ends f was = record { ends = ends; counted = same_count was.counted; ahead = λ t. kept k k t refl was (λ u. f u t.0) }
 
   -- an access of x by t
   module _ (t : Txn) (x : Cell) (write : Bool) (others : (u v : ℕ) → eqb t.0 v ≡ false → earlier (e ∷ P) u v ≡ earlier P u v)
@@ -101,7 +105,7 @@ module _ (S : Setup) (P : List Event) (n : ℕ) (e : Event) (count : begun_count
     noted_access : (k k' : Kept) → EndsFollow (e ∷ P) → unfinished P t.0 ≡ true → k'.unfinished ≡ k.unfinished
         → ((v : Txn) → list_of k' v ≡ cond (eqb t.0 v.0) (joined (in_the_way S (e ∷ P) n t.0 write) (holders_in (e ∷ P) x) (list_of k v)) (list_of k v))
         → PredecessorsOf k S P n → PredecessorsOf k' S (e ∷ P) n
-    noted_access k k' ends u same lists was = record { ends = ends; listed = same ∙ was.listed ∙ sym same_unfinished; ahead = λ v. go v (eqb t.0 v.0) refl }
+    noted_access k k' ends u same lists was = record { ends = ends; counted = subst (λ (m : ℕ). length (unfinished_in (e ∷ P)) ≤ m) (sym same) (same_count was.counted); ahead = λ v. go v (eqb t.0 v.0) refl }
       where
         at_t : list_of k' t ≡ cond (unfinished (e ∷ P) t.0) (before_in S (e ∷ P) n t.0) []
         at_t =
@@ -178,6 +182,26 @@ module _ (S : Setup) (P : List Event) (n : ℕ) (t : Txn) (x : Cell) where
       ∙ sym (λ j. unended u j && meets S P n t.0 u && ((eq-eqb t.0 t.0 refl j && (wrote P u x || got P u x)) || earlier P u t.0)))
       k k' (none_ends e P (λ u. refl) (λ u. refl) was.ends) open_ same lists was
 
+-- whoever is unfinished is among the unfinished ones
+has_made : (v : Txn) (p : ℕ → Bool) (us : List ℕ) → p v.0 ≡ true → In v.0 us → has v (map numbered (filter p us)) ≡ true
+has_made v p [] h i = absurd i
+has_made v p (u ∷ us) h i = elim i [
+  | inl q ↦ ap (λ (b : Bool). has v (map numbered (cond b (u ∷ filter p us) (filter p us)))) (ap p q ∙ h) ∙ ap (λ (b : Bool). b || has v (map numbered (filter p us))) (eq-eqb u v.0 q)
+  | inr j ↦ go (p u) (has_made v p us h j)
+]
+  where
+    or_true : (b : Bool) → (b || true) ≡ true
+    or_true true = refl
+    or_true false = refl
+
+    go : (b : Bool) → has v (map numbered (filter p us)) ≡ true → has v (map numbered (cond b (u ∷ filter p us) (filter p us))) ≡ true
+    go true ih = ap (λ (b : Bool). eqb u v.0 || b) ih ∙ or_true (eqb u v.0)
+    go false ih = ih
+
+unfinished_has : (S : Setup) (P : List Event) (t : Txn) → IsOrderly S P → unfinished P t.0 ≡ true → has t (unfinished_in P) ≡ true
+unfolding txns
+unfinished_has S P t o h = let m = o.numbered t.0 (unfinished_begun P t.0 h) in has_made t (unfinished P) (numbers (begun_count P)) h (In-numbers (begun_count P) t.0 m.0 m.1)
+
 -- the end of t
 module _ (S : Setup) (P : List Event) (n : ℕ) (e : Event) (t : Txn) (count : begun_count (e ∷ P) ≡ begun_count P) (ended : (u : ℕ) → unfinished (e ∷ P) u ≡ (unfinished P u && not (eqb u t.0)))
     (meet : (v u : ℕ) → meets S (e ∷ P) n v u ≡ meets S P n v u) (early : (u v : ℕ) → earlier (e ∷ P) u v ≡ earlier P u v) where
@@ -200,40 +224,27 @@ module _ (S : Setup) (P : List Event) (n : ℕ) (e : Event) (t : Txn) (count : b
       (λ j. map numbered (filter (is_ahead S (e ∷ P) n v) (numbers (count j))))
       ∙ filter_without t.0 (is_ahead S P n v) (is_ahead S (e ∷ P) n v) (λ u. (λ j. ended u j && meet v u j && early u v j) ∙ shuffled (unfinished P u) (not (eqb u t.0)) (meets S P n v u) (earlier P u v)) (numbers (begun_count P))
 
-  has_made : (v : Txn) (p : ℕ → Bool) (us : List ℕ) → p v.0 ≡ true → In v.0 us → has v (map numbered (filter p us)) ≡ true
-  has_made v p [] h i = absurd i
-  has_made v p (u ∷ us) h i = elim i [
-    | inl q ↦ ap (λ (b : Bool). has v (map numbered (cond b (u ∷ filter p us) (filter p us)))) (ap p q ∙ h) ∙ ap (λ (b : Bool). b || has v (map numbered (filter p us))) (eq-eqb u v.0 q)
-    | inr j ↦ go (p u) (has_made v p us h j)
-  ]
-    where
-      or_true : (b : Bool) → (b || true) ≡ true
-      or_true true = refl
-      or_true false = refl
-
-      go : (b : Bool) → has v (map numbered (filter p us)) ≡ true → has v (map numbered (cond b (u ∷ filter p us) (filter p us))) ≡ true
-      go true ih = ap (λ (b : Bool). eqb u v.0 || b) ih ∙ or_true (eqb u v.0)
-      go false ih = ih
-
   and_false : (b : Bool) → (b && false) ≡ false
   and_false true = refl
   and_false false = refl
 
-  noted_end : (k k' : Kept) → IsOrderly S P → EndsFollow (e ∷ P) → k'.unfinished ≡ without t.0 k.unfinished
-      → ((v : Txn) → list_of k' v ≡ cond (eqb t.0 v.0) [] (cond (has v k'.unfinished) (without t.0 (list_of k v)) (list_of k v)))
+  noted_end : (k k' : Kept) → IsOrderly S P → EndsFollow (e ∷ P) → unfinished P t.0 ≡ true → k.unfinished ≡ k'.unfinished + 1
+      → ((v : Txn) → list_of k' v ≡ cond (eqb t.0 v.0) [] (without t.0 (list_of k v)))
       → PredecessorsOf k S P n → PredecessorsOf k' S (e ∷ P) n
-  unfolding txns
-  noted_end k k' o ends rest lists was = record { ends = ends; listed = now; ahead = λ v. go v (eqb t.0 v.0) refl }
+  noted_end k k' o ends open_ fewer lists was = record { ends = ends; counted = now; ahead = λ v. go v (eqb t.0 v.0) refl }
     where
-      now : k'.unfinished ≡ unfinished_in (e ∷ P)
-      now = rest ∙ ap (without t.0) was.listed ∙ sym left_unfinished
+      now : length (unfinished_in (e ∷ P)) ≤ k'.unfinished
+      now =
+          let same = ap (λ (us : List Txn). length us) left_unfinished in
+          let less = without_less t (unfinished_in P) (unfinished_has S P t o open_) in
+          omega (arith, was.counted, fewer)
 
       ended_t : unfinished (e ∷ P) t.0 ≡ false
       ended_t = ended t.0 ∙ ap (λ (b : Bool). unfinished P t.0 && not b) (eq-eqb t.0 t.0 refl) ∙ and_false (unfinished P t.0)
 
       at_t : (v : Txn) → eqb t.0 v.0 ≡ true → list_of k' v ≡ cond (unfinished (e ∷ P) v.0) (before_in S (e ∷ P) n v.0) []
       at_t v h =
-          lists v ∙ ap (λ (b : Bool). cond b [] (cond (has v k'.unfinished) (without t.0 (list_of k v)) (list_of k v))) h
+          lists v ∙ ap (λ (b : Bool). cond b [] (without t.0 (list_of k v))) h
           ∙ sym (ap (λ (b : Bool). cond b (before_in S (e ∷ P) n v.0) []) (ap (unfinished (e ∷ P)) (sym (eqb-true t.0 v.0 h)) ∙ ended_t))
 
       off_t : (v : Txn) → eqb t.0 v.0 ≡ false → unfinished (e ∷ P) v.0 ≡ unfinished P v.0
@@ -243,25 +254,17 @@ module _ (S : Setup) (P : List Event) (n : ℕ) (e : Event) (t : Txn) (count : b
           and_true true = refl
           and_true false = refl
 
-      there : (v : Txn) → unfinished P v.0 ≡ true → unfinished (e ∷ P) v.0 ≡ true → has v (unfinished_in (e ∷ P)) ≡ true
-      there v h g = let m = o.numbered v.0 (unfinished_begun P v.0 h) in has_made v (unfinished (e ∷ P)) (numbers (begun_count (e ∷ P))) g (In-numbers (begun_count (e ∷ P)) v.0 m.0 (subst (λ (c : ℕ). v.0 ≤ c) (sym count) m.1))
-
-      other_than_t : (v : Txn) → eqb t.0 v.0 ≡ false → (b : Bool) → unfinished P v.0 ≡ b → cond (has v k'.unfinished) (without t.0 (list_of k v)) (list_of k v) ≡ cond (unfinished (e ∷ P) v.0) (before_in S (e ∷ P) n v.0) []
+      other_than_t : (v : Txn) → eqb t.0 v.0 ≡ false → (b : Bool) → unfinished P v.0 ≡ b → without t.0 (list_of k v) ≡ cond (unfinished (e ∷ P) v.0) (before_in S (e ∷ P) n v.0) []
       other_than_t v h true g =
-          ap (λ (b : Bool). cond b (without t.0 (list_of k v)) (list_of k v)) (ap (has v) now ∙ there v g (off_t v h ∙ g))
-          ∙ ap (without t.0) (was.ahead v ∙ ap (λ (b : Bool). cond b (before_in S P n v.0) []) g)
+          ap (without t.0) (was.ahead v ∙ ap (λ (b : Bool). cond b (before_in S P n v.0) []) g)
           ∙ sym (left_before v.0) ∙ sym (ap (λ (b : Bool). cond b (before_in S (e ∷ P) n v.0) []) (off_t v h ∙ g))
       other_than_t v h false g =
-          ap (λ (us : List Txn). cond (has v k'.unfinished) (without t.0 us) us) (was.ahead v ∙ ap (λ (b : Bool). cond b (before_in S P n v.0) []) g)
-          ∙ none (has v k'.unfinished) ∙ sym (ap (λ (b : Bool). cond b (before_in S (e ∷ P) n v.0) []) (off_t v h ∙ g))
-        where
-          none : (b : Bool) → cond b (without t.0 []) [] ≡ []
-          none true = refl
-          none false = refl
+          ap (without t.0) (was.ahead v ∙ ap (λ (b : Bool). cond b (before_in S P n v.0) []) g)
+          ∙ sym (ap (λ (b : Bool). cond b (before_in S (e ∷ P) n v.0) []) (off_t v h ∙ g))
 
       go : (v : Txn) (b : Bool) → eqb t.0 v.0 ≡ b → list_of k' v ≡ cond (unfinished (e ∷ P) v.0) (before_in S (e ∷ P) n v.0) []
       go v true h = at_t v h
-      go v false h = lists v ∙ ap (λ (b : Bool). cond b [] (cond (has v k'.unfinished) (without t.0 (list_of k v)) (list_of k v))) h ∙ other_than_t v h (unfinished P v.0) refl
+      go v false h = lists v ∙ ap (λ (b : Bool). cond b [] (without t.0 (list_of k v))) h ∙ other_than_t v h (unfinished P v.0) refl
 
 ended_by : (b : Bool) (c d : Bool) → (b && not (true || c) && d) ≡ false
 ended_by true c d = refl
@@ -272,11 +275,11 @@ aborted_by true true c = refl
 aborted_by true false c = refl
 aborted_by false d c = refl
 
-module _ (S : Setup) (P : List Event) (n : ℕ) (t : Txn) (o : IsOrderly S P) (open_ : unfinished P t.0 ≡ true) (k k' : Kept) (rest : k'.unfinished ≡ without t.0 k.unfinished)
-    (lists : (v : Txn) → list_of k' v ≡ cond (eqb t.0 v.0) [] (cond (has v k'.unfinished) (without t.0 (list_of k v)) (list_of k v))) (was : PredecessorsOf k S P n) where
+module _ (S : Setup) (P : List Event) (n : ℕ) (t : Txn) (o : IsOrderly S P) (open_ : unfinished P t.0 ≡ true) (k k' : Kept) (fewer : k.unfinished ≡ k'.unfinished + 1)
+    (lists : (v : Txn) → list_of k' v ≡ cond (eqb t.0 v.0) [] (without t.0 (list_of k v))) (was : PredecessorsOf k S P n) where
   pub noted_done : PredecessorsOf k' S (Done t ∷ P) n
   unfolding begun_count meets on side spot_of earlier
-  noted_done = noted_end S P n (Done t) t refl (λ u. ended u (eqb t.0 u) refl) (λ v u. refl) (λ u v. refl) k k' o (ends_next (Done t) P was.ends (λ u. its_begun P t.0 u open_) (λ u h. absurd (cc))) rest lists was
+  noted_done = noted_end S P n (Done t) t refl (λ u. ended u (eqb t.0 u) refl) (λ v u. refl) (λ u v. refl) k k' o (ends_next (Done t) P was.ends (λ u. its_begun P t.0 u open_) (λ u h. absurd (cc))) open_ fewer lists was
     where
       ended : (u : ℕ) (b : Bool) → eqb t.0 u ≡ b → unfinished (Done t ∷ P) u ≡ (unfinished P u && not (eqb u t.0))
       ended u true h =
@@ -290,7 +293,7 @@ module _ (S : Setup) (P : List Event) (n : ℕ) (t : Txn) (o : IsOrderly S P) (o
 
   pub noted_gone : (c : Cause) → PredecessorsOf k' S (Gone t c ∷ P) n
   unfolding begun_count meets on side spot_of earlier
-  noted_gone c = noted_end S P n (Gone t c) t refl (λ u. ended u (eqb t.0 u) refl) (λ v u. refl) (λ u v. refl) k k' o (ends_next (Gone t c) P was.ends (λ u h. absurd (cc)) (λ u. its_begun P t.0 u open_)) rest lists was
+  noted_gone c = noted_end S P n (Gone t c) t refl (λ u. ended u (eqb t.0 u) refl) (λ v u. refl) (λ u v. refl) k k' o (ends_next (Gone t c) P was.ends (λ u h. absurd (cc)) (λ u. its_begun P t.0 u open_)) open_ fewer lists was
     where
       ended : (u : ℕ) (b : Bool) → eqb t.0 u ≡ b → unfinished (Gone t c ∷ P) u ≡ (unfinished P u && not (eqb u t.0))
       ended u true h =
@@ -403,15 +406,15 @@ module _ (S : Setup) (P : List Event) (n : ℕ) (t : Txn) (s : Session) (l : Kin
       ∙ (λ j. map numbered (filter (λ u. and_none (unfinished (Began t s l i ∷ P) u && meets S (Began t s l i ∷ P) n t.0 u) j) (txns (Began t s l i ∷ P))))
       ∙ ap (map numbered) (filter_none (txns (Began t s l i ∷ P)))
 
-  pub noted_began : (k k' : Kept) → k'.lists ≡ k.lists → k'.unfinished ≡ k.unfinished ++ t ∷ [] → PredecessorsOf k S P n → PredecessorsOf k' S (Began t s l i ∷ P) n
+  pub noted_began : (k k' : Kept) → k'.lists ≡ k.lists → k'.unfinished ≡ k.unfinished + 1 → PredecessorsOf k S P n → PredecessorsOf k' S (Began t s l i ∷ P) n
   noted_began k k' same more was = record {
     ends = none_ends (Began t s l i) P (λ u. refl) (λ u. refl) ends;
-    listed = more ∙ ap (λ (us : List Txn). us ++ t ∷ []) was.listed ∙ sym more_unfinished;
+    counted = let longer = ap (λ (us : List Txn). length us) more_unfinished ∙ length-append (unfinished_in P) (t ∷ []) in omega (arith, was.counted, more);
     ahead = λ v. list_same v ∙ was.ahead v ∙ go v (eqb t.0 v.0) refl;
   }
     where
       list_same : (v : Txn) → list_of k' v ≡ list_of k v
-      list_same v = ap (λ (es : List (Txn × Txn)). list_of (record { lists = es; unfinished = []; spare = 0 }) v) same
+      list_same v = ap (λ (es : List (Txn × Txn)). list_of (record { lists = es; unfinished = 0; spare = 0 }) v) same
 
       empty : (b : Bool) → nobody ≡ cond b nobody nobody
       empty true = refl
@@ -451,7 +454,7 @@ module _ (S : Setup) (H : List Event) (n : ℕ) (e : Event) (i : H ≡ e ∷ dro
   now : (k' : Kept) (d : Event) → e ≡ d → PredecessorsOf k' S (d ∷ drop 1 H) n → PredecessorsOf k' S H n
   now k' d q h = subst (λ (G : List Event). PredecessorsOf k' S G n) (sym (is_now d q)) h
 
-  pub began_next : (k' : Kept) (t : Txn) (s : Session) (l : Kind) (j : ℕ) → e ≡ Began t s l j → k'.lists ≡ k.lists → k'.unfinished ≡ k.unfinished ++ t ∷ [] → PredecessorsOf k' S H n
+  pub began_next : (k' : Kept) (t : Txn) (s : Session) (l : Kind) (j : ℕ) → e ≡ Began t s l j → k'.lists ≡ k.lists → k'.unfinished ≡ k.unfinished + 1 → PredecessorsOf k' S H n
   began_next k' t s l j q same more = now k' (Began t s l j) q (noted_began S (drop 1 H) n t s l j o was.ends (may (Began t s l j) q).0 k k' same more was)
 
   pub ready_next : ((t : Txn) × (e ≡ Ready t)) ⊎ ((t : Txn) × (e ≡ Told t)) → PredecessorsOf k S H n
@@ -460,11 +463,17 @@ module _ (S : Setup) (H : List Event) (n : ℕ) (e : Event) (i : H ≡ e ∷ dro
     | inr q ↦ now k (Told q.0) q.1 (noted_told S (drop 1 H) n q.0 k was)
   ]
 
-  pub end_next : (k' : Kept) (t : Txn) → (e ≡ Done t) ⊎ ((c : Cause) × (e ≡ Gone t c)) → k'.unfinished ≡ without t.0 k.unfinished
-      → ((v : Txn) → list_of k' v ≡ cond (eqb t.0 v.0) [] (cond (has v k'.unfinished) (without t.0 (list_of k v)) (list_of k v))) → PredecessorsOf k' S H n
-  end_next k' t a rest lists = elim a [
-    | inl q ↦ now k' (Done t) q (noted_done S (drop 1 H) n t o (may (Done t) q) k k' rest lists was)
-    | inr q ↦ now k' (Gone t q.0) q.1 (noted_gone S (drop 1 H) n t o (may (Gone t q.0) q.1) k k' rest lists was q.0)
+  pub end_some : (t : Txn) → (e ≡ Done t) ⊎ ((c : Cause) × (e ≡ Gone t c)) → 0 < k.unfinished
+  end_some t a =
+      let open_ : unfinished (drop 1 H) t.0 ≡ true = elim a [ inl q ↦ may (Done t) q | inr q ↦ may (Gone t q.0) q.1 ] in
+      let less = without_less t (unfinished_in (drop 1 H)) (unfinished_has S (drop 1 H) t o open_) in
+      omega (arith, was.counted)
+
+  pub end_next : (k' : Kept) (t : Txn) → (e ≡ Done t) ⊎ ((c : Cause) × (e ≡ Gone t c)) → k.unfinished ≡ k'.unfinished + 1
+      → ((v : Txn) → list_of k' v ≡ cond (eqb t.0 v.0) [] (without t.0 (list_of k v))) → PredecessorsOf k' S H n
+  end_next k' t a fewer lists = elim a [
+    | inl q ↦ now k' (Done t) q (noted_done S (drop 1 H) n t o (may (Done t) q) k k' fewer lists was)
+    | inr q ↦ now k' (Gone t q.0) q.1 (noted_gone S (drop 1 H) n t o (may (Gone t q.0) q.1) k k' fewer lists was q.0)
   ]
 
   module _ (t : Txn) (x : Cell) where
@@ -480,14 +489,14 @@ module _ (S : Setup) (H : List Event) (n : ℕ) (e : Event) (i : H ≡ e ∷ dro
     put_next k' v q same lists =
         now k' (Put t x v) q (noted_put S (drop 1 H) n t x v k k' (may (Put t x v) q).0 same (subst (λ (G : List Event). Accessed k' true G) (is_now (Put t x v) q) lists) was)
 
-    few : (d : Event) → e ≡ d → unfinished_in (d ∷ drop 1 H) ≡ unfinished_in (drop 1 H) → length (holders_in H x) ≤ length k.unfinished
+    few : (d : Event) → e ≡ d → unfinished_in (d ∷ drop 1 H) ≡ unfinished_in (drop 1 H) → length (holders_in H x) ≤ k.unfinished
     few d q same =
         let l = few_holders H x in
-        let s = ap (λ (us : List Txn). length us) (ap unfinished_in (is_now d q) ∙ same ∙ sym was.listed) in
-        omega arith
+        let s = ap (λ (us : List Txn). length us) (ap unfinished_in (is_now d q) ∙ same) in
+        omega (arith, was.counted)
 
-    pub got_few : (w : Txn) (v : Option ℤ) → e ≡ Got t x w v → length (holders_in H x) ≤ length k.unfinished
+    pub got_few : (w : Txn) (v : Option ℤ) → e ≡ Got t x w v → length (holders_in H x) ≤ k.unfinished
     got_few w v q = few (Got t x w v) q (got_unfinished (drop 1 H) t x w v)
 
-    pub put_few : (v : Option ℤ) → e ≡ Put t x v → length (holders_in H x) ≤ length k.unfinished
+    pub put_few : (v : Option ℤ) → e ≡ Put t x v → length (holders_in H x) ≤ k.unfinished
     put_few v q = few (Put t x v) q (put_unfinished (drop 1 H) t x v)

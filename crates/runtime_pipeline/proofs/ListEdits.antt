@@ -1,5 +1,8 @@
 -- What edits make of the lists that are kept by transaction.
-use Rattle.std.proofs.Common.{◌≡◌, ℕ, zero, suc, ◌+◌, ◌<◌, ◌≤◌, Bool, true, false, cond, not, ◌||◌, eqb, List, [], ◌∷◌, length, drop, get_or, refl, sym, ◌∙◌, ap, subst, arith}
+use Rattle.std.proofs.Common.{◌≡◌, ℕ, zero, suc, ◌+◌, ◌<◌, ◌≤◌, Bool, true, false, cond, not, ◌||◌, eqb, List, [], ◌∷◌, length, drop, get_or, refl, sym, ◌∙◌, ap, subst, arith, IsFalse}
+use Rattle.std.proofs.lemmas.Bool.{both_ways, eqb-true, eq-eqb, ne_eqb}
+use Rattle.std.proofs.lemmas.List.Filters.{length-filter_both}
+use Rattle.std.proofs.lemmas.Map.Views.{any-filter_same}
 use Rattle.std.specs.Ordering.{is_eq}
 use Rattle.std.proofs.Math.Seq.{drop-cons}
 use Rattle.teb_names.specs.declared.Txn.{Txn}
@@ -31,16 +34,42 @@ without_twice t (u ∷ us) = go (eqb u.0 t) refl (without_twice t us)
     go true e ih = ih
     go false e ih = ap (λ (b : Bool). cond (not b) (u ∷ without t (without t us)) (without t (without t us))) e ∙ ap (λ (l : List Txn). u ∷ l) ih
 
+-- a list that has t is longer than without t
+pub without_less : (t : Txn) (us : List Txn) → has t us ≡ true → length (without t.0 us) < length us
+without_less t [] h = absurd (cc)
+without_less t (u ∷ us) h = go (eqb u.0 t.0) refl (without_less t us)
+  where
+    go : (b : Bool) → eqb u.0 t.0 ≡ b → (has t us ≡ true → length (without t.0 us) < length us) → length (cond (not b) (u ∷ without t.0 us) (without t.0 us)) < suc (length us)
+    go true e ih = let l = length-filter_both (λ (u : Txn). not (eqb u.0 t.0)) (λ (u : Txn). not (not (eqb u.0 t.0))) (λ u. refl) us in omega arith
+    go false e ih = let l = ih (sym (ap (λ (b : Bool). b || has t us) e) ∙ h) in omega arith
+
+-- those behind somebody, once t is taken out of the lists and out of them
+module _ (t : Txn) (behind : List Txn) (lists : Txn → List Txn) (all : (v : Txn) → IsFalse (has v behind) → lists v ≡ []) where
+  pub taken_out : (v : Txn) → cond (has v behind) (without t.0 (lists v)) (lists v) ≡ without t.0 (lists v)
+  taken_out v = go (has v behind) refl
+    where
+      go : (b : Bool) → has v behind ≡ b → cond b (without t.0 (lists v)) (lists v) ≡ without t.0 (lists v)
+      go true h = refl
+      go false h = all v h ∙ sym (ap (without t.0) (all v h))
+
+  pub finished : (left : List Txn) → left ≡ without t.0 behind → (v : Txn) → IsFalse (has v left) → cond (eqb t.0 v.0) [] (without t.0 (lists v)) ≡ []
+  finished left is v n = go (eqb t.0 v.0) refl
+    where
+      go : (b : Bool) → eqb t.0 v.0 ≡ b → cond b [] (without t.0 (lists v)) ≡ []
+      go true h = refl
+      go false h = ap (without t.0) (all v (sym (any-filter_same (λ (u : Txn). eqb u.0 v.0) (λ u. not (eqb u.0 t.0)) true (λ u q. ap not (ne_eqb u.0 t.0 (λ e. both_ways _ h (eq-eqb t.0 v.0 (sym e ∙ eqb-true u.0 v.0 q))))) behind) ∙ ap (has v) (sym is) ∙ n))
+
 -- t is still to be taken out of the lists of some, which then leaves the lists a
 pub record IsTaking (t : ℕ) (us rest : List Txn) (a b : Shown Txn Txn) : Type 0 where
   pub values : (v : Txn) → cond (has v rest) (without t (values_in txn_cmp b v)) (values_in txn_cmp b v) ≡ cond (has v us) (without t (values_in txn_cmp a v)) (values_in txn_cmp a v)
   pub ascending : (v : Txn) → IsAscendingBy number_of (values_in txn_cmp b v)
   pub spare : b.spare ≡ a.spare
 
--- some holders are still to be put into the list of t, which leaves the lists a
-pub record IsPutting (p : Hold → Bool) (t : Txn) (hs rest : List Hold) (i : ℕ) (a b : Shown Txn Txn) : Type 0 where
+-- some holders are still to be put into the list of t, which leaves the lists a; whether any has been put so far
+pub record IsPutting (p : Hold → Bool) (t : Txn) (hs rest : List Hold) (i : ℕ) (some : Bool) (a b : Shown Txn Txn) : Type 0 where
   pub values : (v : Txn) → cond (eqb t.0 v.0) (joined p rest (values_in txn_cmp b v)) (values_in txn_cmp b v) ≡ cond (eqb t.0 v.0) (joined p hs (values_in txn_cmp a v)) (values_in txn_cmp a v)
   pub ascending : IsAscendingBy number_of (values_in txn_cmp b t)
+  pub none : IsFalse some → (v : Txn) → values_in txn_cmp b v ≡ values_in txn_cmp a v
   pub spare : a.spare ≤ b.spare + i
 
 drop_end : {A : Type 0} (xs : List A) (i : ℕ) → length xs ≤ i → drop i xs ≡ []
@@ -82,8 +111,8 @@ module _ (t : ℕ) (us : List Txn) where
 
 -- one more holder
 module _ (p : Hold → Bool) (t : Txn) (hs : List Hold) where
-  pub putting_first : (a : Shown Txn Txn) → IsAscendingBy number_of (values_in txn_cmp a t) → IsPutting p t hs hs 0 a a
-  putting_first a asc = record { values = λ v. refl; ascending = asc; spare = omega arith }
+  pub putting_first : (a : Shown Txn Txn) → IsAscendingBy number_of (values_in txn_cmp a t) → IsPutting p t hs hs 0 false a a
+  putting_first a asc = record { values = λ v. refl; ascending = asc; none = λ n v. refl; spare = omega arith }
 
   one_put : (rest : List Hold) (o : Bool) (xs ys : List Txn) → cond o (joined p rest (cond o ys xs)) (cond o ys xs) ≡ cond o (joined p rest ys) xs
   one_put rest true xs ys = refl
@@ -94,10 +123,10 @@ module _ (p : Hold → Bool) (t : Txn) (hs : List Hold) where
   put_kept true false u xs h = h
   put_kept false q u xs h = h
 
-  pub putting_more : (a b c : Shown Txn Txn) (i : ℕ) (d : Hold) → i < length hs → IsPutting p t hs (drop i hs) i a b
-      → ((v : Txn) → values_in txn_cmp c v ≡ cond (eqb t.0 v.0) (cond (p (get_or hs i d)) (put_by number_of (get_or hs i d).txn (values_in txn_cmp b v)) (values_in txn_cmp b v)) (values_in txn_cmp b v)) → b.spare ≤ c.spare + 1
-      → IsPutting p t hs (drop (i + 1) hs) (i + 1) a c
-  putting_more a b c i d l was put spare =
+  putting_more : (a b c : Shown Txn Txn) (i : ℕ) (d : Hold) (s o : Bool) → i < length hs → IsPutting p t hs (drop i hs) i s a b
+      → ((v : Txn) → values_in txn_cmp c v ≡ cond (eqb t.0 v.0) (cond (p (get_or hs i d)) (put_by number_of (get_or hs i d).txn (values_in txn_cmp b v)) (values_in txn_cmp b v)) (values_in txn_cmp b v)) → (IsFalse o → (v : Txn) → values_in txn_cmp c v ≡ values_in txn_cmp a v) → b.spare ≤ c.spare + 1
+      → IsPutting p t hs (drop (i + 1) hs) (i + 1) o a c
+  putting_more a b c i d s o l was put none spare =
       let n : suc i ≡ i + 1 = omega arith in
       let h = get_or hs i d in
       let next : drop i hs ≡ get_or hs i d ∷ drop (i + 1) hs = drop-cons hs i d l ∙ ap (λ (k : ℕ). get_or hs i d ∷ drop k hs) n in
@@ -106,6 +135,7 @@ module _ (p : Hold → Bool) (t : Txn) (hs : List Hold) where
             ∙ one_put (drop (i + 1) hs) (eqb t.0 v.0) (values_in txn_cmp b v) (cond (p h) (put_by number_of h.txn (values_in txn_cmp b v)) (values_in txn_cmp b v))
             ∙ ap (λ (ks : List Hold). cond (eqb t.0 v.0) (joined p ks (values_in txn_cmp b v)) (values_in txn_cmp b v)) (sym next) ∙ was.values v;
         ascending = subst (IsAscendingBy number_of) (sym (put t)) (put_kept (eqb t.0 t.0) (p h) h.txn (values_in txn_cmp b t) was.ascending);
+        none = none;
         spare = omega (arith, was.spare);
       }
 
@@ -113,15 +143,15 @@ module _ (p : Hold → Bool) (t : Txn) (hs : List Hold) where
   same true xs = refl
   same false xs = refl
 
-  pub putting_in : (a b c : Shown Txn Txn) (i : ℕ) (d : Hold) → i < length hs → IsPutting p t hs (drop i hs) i a b → p (get_or hs i d) ≡ true
+  pub putting_in : (a b c : Shown Txn Txn) (i : ℕ) (d : Hold) (s : Bool) → i < length hs → IsPutting p t hs (drop i hs) i s a b → p (get_or hs i d) ≡ true
       → ((v : Txn) → values_in txn_cmp c v ≡ cond (eqb t.0 v.0) (put_by number_of (get_or hs i d).txn (values_in txn_cmp b v)) (values_in txn_cmp b v)) → b.spare ≤ c.spare + 1
-      → IsPutting p t hs (drop (i + 1) hs) (i + 1) a c
-  putting_in a b c i d l was q put spare = putting_more a b c i d l was
-      (λ v. put v ∙ sym (ap (λ (o : Bool). cond (eqb t.0 v.0) (cond o (put_by number_of (get_or hs i d).txn (values_in txn_cmp b v)) (values_in txn_cmp b v)) (values_in txn_cmp b v)) q)) spare
+      → IsPutting p t hs (drop (i + 1) hs) (i + 1) true a c
+  putting_in a b c i d s l was q put spare = putting_more a b c i d s true l was
+      (λ v. put v ∙ sym (ap (λ (o : Bool). cond (eqb t.0 v.0) (cond o (put_by number_of (get_or hs i d).txn (values_in txn_cmp b v)) (values_in txn_cmp b v)) (values_in txn_cmp b v)) q)) (λ n. absurd (cc)) spare
 
-  pub putting_none : (a b : Shown Txn Txn) (i : ℕ) (d : Hold) → i < length hs → IsPutting p t hs (drop i hs) i a b → p (get_or hs i d) ≡ false → IsPutting p t hs (drop (i + 1) hs) (i + 1) a b
-  putting_none a b i d l was q = putting_more a b b i d l was
-      (λ v. same (eqb t.0 v.0) (values_in txn_cmp b v) ∙ sym (ap (λ (o : Bool). cond (eqb t.0 v.0) (cond o (put_by number_of (get_or hs i d).txn (values_in txn_cmp b v)) (values_in txn_cmp b v)) (values_in txn_cmp b v)) q)) (omega arith)
+  pub putting_none : (a b : Shown Txn Txn) (i : ℕ) (d : Hold) (s : Bool) → i < length hs → IsPutting p t hs (drop i hs) i s a b → p (get_or hs i d) ≡ false → IsPutting p t hs (drop (i + 1) hs) (i + 1) s a b
+  putting_none a b i d s l was q = putting_more a b b i d s s l was
+      (λ v. same (eqb t.0 v.0) (values_in txn_cmp b v) ∙ sym (ap (λ (o : Bool). cond (eqb t.0 v.0) (cond o (put_by number_of (get_or hs i d).txn (values_in txn_cmp b v)) (values_in txn_cmp b v)) (values_in txn_cmp b v)) q)) was.none (omega arith)
 
-  pub putting_all : (a b : Shown Txn Txn) (i : ℕ) → length hs ≤ i → IsPutting p t hs (drop i hs) i a b → (v : Txn) → values_in txn_cmp b v ≡ cond (eqb t.0 v.0) (joined p hs (values_in txn_cmp a v)) (values_in txn_cmp a v)
-  putting_all a b i l was v = same (eqb t.0 v.0) (values_in txn_cmp b v) ∙ sym (ap (λ (ks : List Hold). cond (eqb t.0 v.0) (joined p ks (values_in txn_cmp b v)) (values_in txn_cmp b v)) (drop_end hs i l)) ∙ was.values v
+  pub putting_all : (a b : Shown Txn Txn) (i : ℕ) (s : Bool) → length hs ≤ i → IsPutting p t hs (drop i hs) i s a b → (v : Txn) → values_in txn_cmp b v ≡ cond (eqb t.0 v.0) (joined p hs (values_in txn_cmp a v)) (values_in txn_cmp a v)
+  putting_all a b i s l was v = same (eqb t.0 v.0) (values_in txn_cmp b v) ∙ sym (ap (λ (ks : List Hold). cond (eqb t.0 v.0) (joined p ks (values_in txn_cmp b v)) (values_in txn_cmp b v)) (drop_end hs i l)) ∙ was.values v

@@ -1,5 +1,5 @@
 -- Who is ahead of whom at a node, and what is kept of it.
-use Rattle.std.specs.Prelude.{◌≡◌, ℕ, ◌+◌, ◌*◌, ◌≤◌, Bool, cond, not, ◌&&◌, eqb, List, [], ◌∷◌, map, filter, Vec, vec_len, vec_capacity, IsFalse}
+use Rattle.std.specs.Prelude.{◌≡◌, ℕ, ◌+◌, ◌*◌, ◌≤◌, Bool, cond, not, ◌&&◌, eqb, List, [], ◌∷◌, map, filter, length, Vec, vec_len, vec_capacity, IsFalse}
 use Rattle.std.specs.declared.alloc.Global.{Global}
 use Rattle.teb_names.specs.declared.Txn.{Txn}
 use Rattle.teb_history.specs.declared.Event.{Event}
@@ -10,6 +10,7 @@ use Rattle.teb_rules.specs.Setup.{Setup}
 use Rattle.teb_rules.specs.Tree.{meets}
 use Rattle.teb_rules.specs.Controls.{earlier}
 use Rattle.hold_book.specs.declared.Hold.{Hold}
+use Rattle.dependency_book.specs.Dependencies.{has}
 use Rattle.sorted_multimap.specs.Multimap.{values_of}
 use Rattle.sorted_multimap.specs.Keys.{txn_cmp}
 
@@ -29,10 +30,10 @@ before_in S H n t = map numbered (filter (is_ahead S H n t) (txns H))
 abbrev pub unfinished_in : List Event → List Txn
 unfinished_in H = map numbered (filter (unfinished H) (txns H))
 
--- what contracts see: lists of transactions, each value beside the one whose list it is in; the unfinished ones; and for how many events there is room
+-- what contracts see: lists of transactions, each value beside the one whose list it is in; how many are unfinished; and for how many events there is room
 pub record Kept : Type 0 where
   pub lists : List (Txn × Txn)
-  pub unfinished : List Txn
+  pub unfinished : ℕ
   pub spare : ℕ
 
 abbrev pub list_of : Kept → Txn → List Txn
@@ -42,10 +43,10 @@ list_of k t = values_of txn_cmp k.lists t
 abbrev pub EndsFollow : List Event → Type 0
 EndsFollow H = (u : ℕ) → IsFalse (begun H u) → IsFalse (committed H u) × IsFalse (aborted H u)
 
--- the list of each unfinished transaction has those that are ahead of it, and that of anybody else is empty
+-- the list of each unfinished transaction has those that are ahead of it, that of anybody else is empty, and the unfinished ones are no more than counted
 pub record PredecessorsOf (k : Kept) (S : Setup) (H : List Event) (n : ℕ) : Type 0 where
   pub ends : EndsFollow H
-  pub listed : k.unfinished ≡ unfinished_in H
+  pub counted : length (unfinished_in H) ≤ k.unfinished
   pub ahead : (t : Txn) → list_of k t ≡ cond (unfinished H t.0) (before_in S H n t.0) []
 
 -- a list with the transactions of those holds that pass
@@ -57,8 +58,12 @@ joined p (h ∷ hs) us = joined p hs (cond (p h) (put_by number_of h.txn us) us)
 abbrev pub without : ℕ → List Txn → List Txn
 without t us = filter (λ u. not (eqb u.0 t)) us
 
--- there is room for so many events, while at most so many transactions are unfinished: each event may put so many into a list
-pub record HasRoom (room : ℕ) (open_txns : Vec Txn Global) (spare most : ℕ) : Type 0 where
+-- whoever is not among some has an empty list
+abbrev pub AllBehind : List (Txn × Txn) → List Txn → Type 0
+AllBehind lists behind = (v : Txn) → IsFalse (has v behind) → values_of txn_cmp lists v ≡ []
+
+-- there is room for so many events, while at most so many transactions are unfinished: each event may put so many into a list, and make one list not empty
+pub record HasRoom (room : ℕ) (behind : Vec Txn Global) (open_txns spare most : ℕ) : Type 0 where
   pub lists : spare * most ≤ room
-  pub few : vec_len open_txns + spare ≤ most
-  pub unfinished : vec_len open_txns + spare ≤ vec_capacity open_txns
+  pub few : open_txns + spare ≤ most
+  pub places : vec_len behind + spare ≤ vec_capacity behind

@@ -1,6 +1,6 @@
 //! Who is ahead of whom at a node, kept event by event.
 
-ghost use Rattle.std.specs.Prelude.{◌≡◌, ◌<◌, ◌≤◌, ◌+◌, ◌++◌, ◌∷◌, ℕ, [], cond, drop, eqb, get_or, length, OnOk};
+ghost use Rattle.std.specs.Prelude.{◌≡◌, ◌<◌, ◌≤◌, ◌+◌, ◌||◌, ℕ, [], IsFalse, cond, drop, eqb, get_or, length, vec_capacity, vec_len, OnOk};
 ghost use Rattle.teb_names.specs.declared.Txn.{Txn};
 ghost use Rattle.teb_history.specs.declared.Event.{Event};
 ghost use Rattle.teb_history.specs.Ascending.{IsAscendingBy};
@@ -29,8 +29,10 @@ use teb_names::{Node, Txn};
 pub struct Predecessors {
     // By transaction: those that are ahead of it, in ascending number.
     lists: Multimap<Txn, Txn>,
-    // In ascending number.
-    unfinished: Vec<Txn>,
+    // Those whose list may not be empty, each once.
+    behind: Vec<Txn>,
+    // How many transactions are unfinished.
+    unfinished: usize,
     // For how many events there is room.
     spare: usize,
     // How many transactions may be unfinished while the room lasts, and so how many an event may put into a list.
@@ -38,13 +40,13 @@ pub struct Predecessors {
 }
 
 impl Model for Predecessors {
-    ghost use Rattle.runtime_pipeline.specs.Predecessors.{Kept, HasRoom};
+    ghost use Rattle.runtime_pipeline.specs.Predecessors.{Kept, HasRoom, AllBehind};
 
     ghost Value = { Kept };
 
-    ghost view = { λ p. record { lists = p.lists.entries; unfinished = p.unfinished.items; spare = p.spare } };
+    ghost view = { λ p. record { lists = p.lists.entries; unfinished = p.unfinished; spare = p.spare } };
 
-    ghost invariant = { λ p. HasRoom p.lists.spare p.unfinished p.spare p.most };
+    ghost invariant = { λ p. HasRoom p.lists.spare p.behind p.unfinished p.spare p.most × AllBehind p.lists.entries p.behind.items };
 }
 
 impl Predecessors {
@@ -54,7 +56,8 @@ impl Predecessors {
     {
         Predecessors {
             lists: Multimap::narrow(alloc),
-            unfinished: Vec::new(alloc),
+            behind: Vec::new(alloc),
+            unfinished: 0,
             spare: 0,
             most: 0,
         }
@@ -69,8 +72,8 @@ impl Predecessors {
         if n <= self.spare {
             return Ok(());
         }
-        self.unfinished.reserve(n)?;
-        let most = self.unfinished.len().checked_add(n).ok_or(AllocError)?;
+        self.behind.reserve(n)?;
+        let most = self.unfinished.checked_add(n).ok_or(AllocError)?;
         let room = most.checked_mul(n).ok_or(AllocError)?;
         self.lists.reserve(room)?;
         self.spare = n;
@@ -96,7 +99,7 @@ impl Predecessors {
         ensures spare { self.old.spare ≤ self.new.spare + 1 }
     {
         match e {
-            Event::Began { txn, .. } => self.begin(txn),
+            Event::Began { .. } => self.begin(),
             Event::Got { txn, .. } => self.access(facts, node, txn, holders, false),
             Event::Put { txn, .. } => self.access(facts, node, txn, holders, true),
             Event::Done(txn) | Event::Gone { txn, .. } => self.finish(txn),
@@ -104,21 +107,21 @@ impl Predecessors {
         }
     }
 
-    // A transaction begins, of a greater number than all before.
-    fn begin(&mut self, t: Txn)
+    // A transaction begins.
+    fn begin(&mut self)
         requires { 0 < self.old.spare }
         ensures lists { self.new.lists ≡ self.old.lists }
-        ensures unfinished { self.new.unfinished ≡ self.old.unfinished ++ t ∷ [] }
+        ensures unfinished { self.new.unfinished ≡ self.old.unfinished + 1 }
         ensures spare { self.old.spare ≤ self.new.spare + 1 }
     {
-        let _ = self.unfinished.push(t);
+        self.unfinished += 1;
         self.spare -= 1;
     }
 
     // A transaction accesses a cell: those that hold it and are in the way are ahead of the transaction from now on.
     fn access(&mut self, facts: &Facts, node: Node, t: Txn, holds: &[Hold], write: bool)
         requires room { 0 < self.old.spare }
-        requires few { length holds.now ≤ length self.old.unfinished }
+        requires few { length holds.now ≤ self.old.unfinished }
         requires ascending { IsAscendingBy number_of (list_of self.old t) }
         requires typed { IsTyped facts.now t.0 }
         requires holders { (i : ℕ) (d : Hold) → i < length holds.now → IsTyped facts.now (get_or holds.now i d).txn.0 }
@@ -126,26 +129,30 @@ impl Predecessors {
         ensures unfinished { self.new.unfinished ≡ self.old.unfinished }
         ensures spare { self.old.spare ≤ self.new.spare + 1 }
     {
-        put_holders(&mut self.lists, facts, node, t, holds, write);
+        if put_holders(&mut self.lists, facts, node, t, holds, write) {
+            add_once(&mut self.behind, t);
+        }
         self.spare -= 1;
     }
 
     // A transaction finishes: it goes out of the lists of the others, and its own is empty.
     fn finish(&mut self, t: Txn)
         requires room { 0 < self.old.spare }
+        requires unfinished { 0 < self.old.unfinished }
         requires ascending { (v : Txn) → IsAscendingBy number_of (list_of self.old v) }
-        ensures lists { (v : Txn) → list_of self.new v ≡ cond (eqb t.0 v.0) [] (cond (has v self.new.unfinished) (without t.0 (list_of self.old v)) (list_of self.old v)) }
-        ensures unfinished { self.new.unfinished ≡ without t.0 self.old.unfinished }
+        ensures lists { (v : Txn) → list_of self.new v ≡ cond (eqb t.0 v.0) [] (without t.0 (list_of self.old v)) }
+        ensures unfinished { self.old.unfinished ≡ self.new.unfinished + 1 }
         ensures spare { self.old.spare ≤ self.new.spare + 1 }
     {
-        self.unfinished.retain(|u| *u != t);
-        take_out(&mut self.lists, &self.unfinished, t);
+        take_out(&mut self.lists, &self.behind, t);
         clear_txn(&mut self.lists, t);
+        self.behind.retain(|u| *u != t);
+        self.unfinished -= 1;
         self.spare -= 1;
     }
 }
 
-// Puts the holders that are in the way of an access into the list of the transaction that accesses.
+// Puts the holders that are in the way of an access into the list of the transaction that accesses. Whether there are any.
 fn put_holders(
     lists: &mut Multimap<Txn, Txn>,
     facts: &Facts,
@@ -153,18 +160,34 @@ fn put_holders(
     t: Txn,
     holds: &[Hold],
     write: bool,
-)
+) -> bool
     requires room { length holds.now ≤ lists.old.spare }
     requires ascending { IsAscendingBy number_of (values_in txn_cmp lists.old t) }
     requires typed { IsTyped facts.now t.0 }
     requires holders { (i : ℕ) (d : Hold) → i < length holds.now → IsTyped facts.now (get_or holds.now i d).txn.0 }
     ensures values { (v : Txn) → values_in txn_cmp lists.new v ≡ cond (eqb t.0 v.0) (joined (in_the_way (setup_of facts.now) (events_of facts.now) node.0 t.0 write) holds.now (values_in txn_cmp lists.old v)) (values_in txn_cmp lists.old v) }
+    ensures none { IsFalse result → (v : Txn) → values_in txn_cmp lists.new v ≡ values_in txn_cmp lists.old v }
     ensures spare { lists.old.spare ≤ lists.new.spare + length holds.now }
 {
+    let mut some = false;
     for hold in holds {
         if is_in_the_way(facts, node, t, hold, write) {
             lists.put_by_number(t, hold.txn);
+            some = true;
         }
+    }
+    some
+}
+
+// Adds t to some, unless it is there.
+fn add_once(behind: &mut Vec<Txn>, t: Txn)
+    requires { vec_len behind.old < vec_capacity behind.old }
+    ensures members { (v : Txn) → has v behind.new.items ≡ (has v behind.old.items || eqb t.0 v.0) }
+    ensures len { vec_len behind.new ≤ vec_len behind.old + 1 }
+    ensures capacity { vec_capacity behind.old ≤ vec_capacity behind.new }
+{
+    if !behind.contains(&t) {
+        let _ = behind.push(t);
     }
 }
 

@@ -1,9 +1,20 @@
-use Rattle.std.proofs.Common.{◌∙◌, ap, rules, not, eqb}
+use Rattle.std.proofs.Common.{◌∙◌, ap, rules, not, eqb, cond, [], List}
 use Rattle.std.proofs.lemmas.Fn.{filter_same}
 use Rattle.teb_names.specs.declared.Txn.{Txn}
-use Rattle.runtime_pipeline.specs.Predecessors.{Kept, without}
+use Rattle.sorted_multimap.specs.Multimap.{values_of}
+use Rattle.sorted_multimap.specs.Keys.{txn_cmp}
+use Rattle.dependency_book.specs.Dependencies.{has}
+use Rattle.runtime_pipeline.specs.Predecessors.{without}
+use Rattle.runtime_pipeline.proofs.ListEdits.{taken_out, finished}
 use Rattle.runtime_pipeline.proofs.predecessors.Predecessors.finish.Goals as goal
 
-pub returns-clause-unfinished : goal.returns-clause-unfinished
-returns-clause-unfinished c =
-    filter_same _ (λ (u : Txn). not (eqb u.0 c.args.t.0)) _ (λ x b q called. search rules) _ _ c.retain.ensures.filtered ∙ ap (λ (k : Kept). without c.args.t.0 k.unfinished) c.self.view_is
+pub invariant_of-self : goal.invariant_of-self
+invariant_of-self c =
+    let t = c.args.t in
+    let behind = c.self.inside.behind.items in
+    let lists = λ (v : Txn). values_of txn_cmp c.self.inside.lists.entries v in (
+      search rules,
+      λ v n. c.clear_txn.ensures.values v
+          ∙ ap (λ (us : List Txn). cond (eqb t.0 v.0) [] us) (c.take_out.ensures.values v ∙ ap (λ (us : List Txn). cond (has v us) (without t.0 (lists v)) (lists v)) c.deref.ensures.value ∙ taken_out t behind lists c.self.invariant.1 v)
+          ∙ finished t behind lists c.self.invariant.1 c.retain.new.self.items (filter_same _ (λ (u : Txn). not (eqb u.0 t.0)) _ (λ x b q called. search rules) _ _ c.retain.ensures.filtered) v n,
+    )

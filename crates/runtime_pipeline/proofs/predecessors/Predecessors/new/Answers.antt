@@ -6,4 +6,4 @@ use Rattle.runtime_pipeline.proofs.Following.{noted_none}
 use Rattle.runtime_pipeline.proofs.predecessors.Predecessors.new.Goals as goal
 
 pub returns : goal.returns
-returns c S n = noted_none S n _ (λ t. ap (λ (es : List (Txn × Txn)). values_of txn_cmp es t) c.narrow.ensures.entries) c.new.ensures.items
+returns c S n = noted_none S n _ (λ t. ap (λ (es : List (Txn × Txn)). values_of txn_cmp es t) c.narrow.ensures.entries)

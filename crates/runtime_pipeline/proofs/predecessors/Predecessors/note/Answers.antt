@@ -6,12 +6,12 @@ use Rattle.access_conflicts.specs.Blockers.{in_the_way}
 use Rattle.access_conflicts.proofs.Blockers.{held_typed}
 use Rattle.runtime_pipeline.specs.Predecessors.{joined, list_of}
 use Rattle.runtime_pipeline.proofs.Noting.{got_holders, put_holders}
-use Rattle.runtime_pipeline.proofs.Following.{lists_ascend, began_next, ready_next, end_next, got_next, put_next, got_few, put_few}
+use Rattle.runtime_pipeline.proofs.Following.{lists_ascend, began_next, ready_next, end_some, end_next, got_next, put_next, got_few, put_few}
 use Rattle.runtime_pipeline.proofs.predecessors.Predecessors.note.Goals as goal
 
 pub access-requires-clause-few : goal.access-requires-clause-few
 access-requires-clause-few c =
-    subst (λ (hs : List Hold). length hs ≤ length c.args.self.now.unfinished) (sym (got_holders (events_of c.args.facts.now) c.args.e _ c.requires.holders c.in-Got.txn c.in-Got.cell c.in-Got.from c.in-Got.value c.in-Got.is))
+    subst (λ (hs : List Hold). length hs ≤ c.args.self.now.unfinished) (sym (got_holders (events_of c.args.facts.now) c.args.e _ c.requires.holders c.in-Got.txn c.in-Got.cell c.in-Got.from c.in-Got.value c.in-Got.is))
     (got_few _ _ _ c.args.e c.requires.newest.is c.requires.newest.may c.requires.orderly c.args.self.now c.requires.stands c.in-Got.txn c.in-Got.cell c.in-Got.from c.in-Got.value c.in-Got.is)
 
 pub access-requires-clause-ascending : goal.access-requires-clause-ascending
@@ -29,7 +29,7 @@ access-requires-clause-holders c i d l =
 
 pub access-requires-in-Put-clause-few : goal.access-requires-in-Put-clause-few
 access-requires-in-Put-clause-few c =
-    subst (λ (hs : List Hold). length hs ≤ length c.args.self.now.unfinished) (sym (put_holders (events_of c.args.facts.now) c.args.e _ c.requires.holders c.in-Put.txn c.in-Put.cell c.in-Put.value c.in-Put.is))
+    subst (λ (hs : List Hold). length hs ≤ c.args.self.now.unfinished) (sym (put_holders (events_of c.args.facts.now) c.args.e _ c.requires.holders c.in-Put.txn c.in-Put.cell c.in-Put.value c.in-Put.is))
     (put_few _ _ _ c.args.e c.requires.newest.is c.requires.newest.may c.requires.orderly c.args.self.now c.requires.stands c.in-Put.txn c.in-Put.cell c.in-Put.value c.in-Put.is)
 
 pub access-requires-in-Put-clause-ascending : goal.access-requires-in-Put-clause-ascending
@@ -44,6 +44,9 @@ pub access-requires-in-Put-clause-holders : goal.access-requires-in-Put-clause-h
 access-requires-in-Put-clause-holders c i d l =
     held_typed c.args.facts.now c.in-Put.cell c.args.holders.now i d (orderly_now _ _ _ c.args.e c.requires.newest.is c.requires.newest.may c.requires.orderly)
     (put_holders (events_of c.args.facts.now) c.args.e _ c.requires.holders c.in-Put.txn c.in-Put.cell c.in-Put.value c.in-Put.is) l
+
+pub finish-requires-clause-unfinished : goal.finish-requires-clause-unfinished
+finish-requires-clause-unfinished c = end_some _ _ _ c.args.e c.requires.newest.is c.requires.newest.may c.requires.orderly c.args.self.now c.requires.stands c.in-Done.txn c.in-Done.is
 
 pub finish-requires-clause-ascending : goal.finish-requires-clause-ascending
 finish-requires-clause-ascending c v = lists_ascend _ _ _ c.args.self.now c.requires.stands v
