@@ -10,13 +10,13 @@ use Rattle.dependency_book.specs.Books.{Lists, BookOf, RegistersOf, SourcesAscen
 
 module _ (r : Registers) (h : Held) (H : List Event) where
   pub registers_of : BookOf (lists_of r h.holds) H → RegistersOf r H
-  registers_of b = record { orderly = b.orderly; readers = b.readers; writers = b.writers; sources = b.sources; unfinished = b.unfinished; accesses = b.accesses }
+  registers_of b = record { orderly = b.orderly; readers = b.readers; writers = b.writers; sources = b.sources; unfinished = b.unfinished }
 
   pub holds_of : BookOf (lists_of r h.holds) H → HoldsOf h H
   holds_of b = record { shows = b.holders }
 
   pub book_of : RegistersOf r H → HoldsOf h H → BookOf (lists_of r h.holds) H
-  book_of b s = record { orderly = b.orderly; readers = b.readers; writers = b.writers; sources = b.sources; unfinished = b.unfinished; accesses = b.accesses; holders = s.shows }
+  book_of b s = record { orderly = b.orderly; readers = b.readers; writers = b.writers; sources = b.sources; unfinished = b.unfinished; holders = s.shows }
 
 -- registers that keep their lists
 module _ (r r' : Registers) (kept : (hs : List (Cell × Hold)) → lists_of r' hs ≡ lists_of r hs) (h h' : Held) where

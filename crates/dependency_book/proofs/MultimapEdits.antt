@@ -1,5 +1,5 @@
 -- What edits make of multimaps.
-use Rattle.std.proofs.Common.{◌≡◌, ℕ, ◌+◌, Bool, true, false, cond, not, ltb, eqb, ◌&&◌, List, [], ◌∷◌, ◌++◌, refl, sym, ◌∙◌, ap, subst, arith}
+use Rattle.std.proofs.Common.{◌≡◌, ℕ, suc, ◌+◌, Bool, true, false, cond, not, ltb, eqb, ◌&&◌, List, [], ◌∷◌, refl, sym, ◌∙◌, ap, subst, arith}
 use Rattle.std.specs.List.{count_by}
 use Rattle.std.specs.Ordering.{is_eq}
 use Rattle.teb_names.specs.declared.Cell.{Cell}
@@ -10,13 +10,13 @@ use Rattle.teb_history.specs.Live.{number_of}
 use Rattle.sorted_multimap.specs.Multimap.{Shown, values_in}
 use Rattle.teb_names.specs.declared.Txn.{Txn}
 use Rattle.dependency_book.specs.declared.registers.Registers.{Registers}
-use Rattle.dependency_book.specs.declared.access.Access.{Access}
+use Rattle.teb_history.specs.declared.Event.{Event}
 use Rattle.sorted_multimap.specs.LastMatches.{without_last, without_lasts}
 use Rattle.sorted_multimap.specs.Keys.{txn_cmp}
 use Rattle.sorted_multimap.proofs.TxnKeys.{eqb-is_eq}
-pub use Rattle.sorted_multimap.proofs.TxnKeys.{one_txn, pushed_txn}
+pub use Rattle.sorted_multimap.proofs.TxnKeys.{one_txn}
 use Rattle.dependency_book.specs.Books.{HasRooms}
-use Rattle.sorted_multimap.proofs.TakenMatches.{lasts_more, count_push}
+use Rattle.sorted_multimap.proofs.TakenMatches.{lasts_after, count_cons}
 
 -- a source that goes among those of t
 module _ (f : Txn → List Txn) (t from u : Txn) where
@@ -34,24 +34,33 @@ module _ (f : Txn → List Txn) (t from u : Txn) where
           ∙ sym (λ j. cond (not (off j) && pos j) (put_by number_of from (f u)) (f u))
       go false h = ap (λ (o : Bool). cond o (put_by number_of from (f t)) (f u)) (sym (eqb-is_eq t.0 u.0) ∙ h)
 
--- for each access that passes at its cell the last value that passes is taken out of the values a, which leaves the values b
-pub record IsForgotten {V : Type 0} (p : V → Bool) (q : Cell → Access → Bool) (accesses : List Access) (a b : Shown Cell V) : Type 0 where
-  pub values : (x : Cell) → values_in cell_cmp b x ≡ without_lasts (count_by (q x) accesses) p (values_in cell_cmp a x)
+-- for each event that passes at a cell the last value that passes is taken out of the values a; b is what stands, with the events `left` of `all` still to be walked
+pub record IsForgetting {V : Type 0} (p : V → Bool) (q : Cell → Event → Bool) (a b : Shown Cell V) (all left : List Event) : Type 0 where
+  pub values : (x : Cell) → without_lasts (count_by (q x) left) p (values_in cell_cmp b x) ≡ without_lasts (count_by (q x) all) p (values_in cell_cmp a x)
   pub spare : b.spare ≡ a.spare
 
-module _ {V : Type 0} (p : V → Bool) (q : Cell → Access → Bool) where
-  pub forgotten_none : (a : Shown Cell V) → IsForgotten p q [] a a
-  forgotten_none a = record { values = λ x. refl; spare = refl }
-
-  pub forgotten_more : (accesses : List Access) (access : Access) (a b c : Shown Cell V) → IsForgotten p q accesses a b
-      → ((x : Cell) → values_in cell_cmp c x ≡ cond (q x access) (without_last p (values_in cell_cmp b x)) (values_in cell_cmp b x)) → c.spare ≡ b.spare
-      → IsForgotten p q (accesses ++ access ∷ []) a c
-  forgotten_more accesses access a b c was taken spare = record {
+module _ {V : Type 0} (p : V → Bool) (q : Cell → Event → Bool) (a : Shown Cell V) (all : List Event) where
+  pub forgetting_next : (b c : Shown Cell V) (left rest : List Event) (e : Event) → IsForgetting p q a b all left → left ≡ e ∷ rest
+      → ((x : Cell) → values_in cell_cmp c x ≡ cond (q x e) (without_last p (values_in cell_cmp b x)) (values_in cell_cmp b x)) → c.spare ≡ b.spare
+      → IsForgetting p q a c all rest
+  forgetting_next b c left rest e was is taken spare = record {
     values = λ x.
-        taken x ∙ ap (λ (vs : List V). cond (q x access) (without_last p vs) vs) (was.values x) ∙ lasts_more p (q x) (count_by (q x) accesses) access (values_in cell_cmp a x)
-        ∙ ap (λ (n : ℕ). without_lasts n p (values_in cell_cmp a x)) (sym (count_push (q x) true accesses access));
+        ap (without_lasts (count_by (q x) rest) p) (taken x) ∙ one_more (q x e) (count_by (q x) rest) (values_in cell_cmp b x)
+        ∙ ap (λ (n : ℕ). without_lasts n p (values_in cell_cmp b x)) (sym (count_cons (q x) true e rest) ∙ ap (count_by (q x)) (sym is)) ∙ was.values x;
     spare = spare ∙ was.spare;
   }
+    where
+      one_more : (c : Bool) (n : ℕ) (vs : List V) → without_lasts n p (cond c (without_last p vs) vs) ≡ without_lasts (n + cond c 1 0) p vs
+      one_more true n vs = lasts_after p n vs ∙ ap (λ (m : ℕ). without_lasts m p vs) (let e : suc n ≡ n + 1 = omega arith in e)
+      one_more false n vs = ap (λ (m : ℕ). without_lasts m p vs) (let e : n ≡ n + 0 = omega arith in e)
+
+  -- an event that does not pass
+  pub forgetting_other : (b : Shown Cell V) (left rest : List Event) (e : Event) → IsForgetting p q a b all left → left ≡ e ∷ rest → ((x : Cell) → q x e ≡ false) → IsForgetting p q a b all rest
+  forgetting_other b left rest e was is off = forgetting_next b b left rest e was is (λ x. sym (ap (λ (c : Bool). cond c (without_last p (values_in cell_cmp b x)) (values_in cell_cmp b x)) (off x))) refl
+
+  -- when nothing is left
+  pub forgotten : (b : Shown Cell V) (left : List Event) → IsForgetting p q a b all left → left ≡ [] → (x : Cell) → values_in cell_cmp b x ≡ without_lasts (count_by (q x) all) p (values_in cell_cmp a x)
+  forgotten b left was is x = ap (λ (es : List Event). without_lasts (count_by (q x) es) p (values_in cell_cmp b x)) (sym is) ∙ was.values x
 
 -- sources still ascend after one is added
 pub added_ascends : (f g : Txn → List Txn) (t from : Txn) → ((u : Txn) → IsAscendingBy number_of (f u))
@@ -63,4 +72,4 @@ added_ascends f g t from a e u = subst (IsAscendingBy number_of) (sym (e u)) (go
     go false = a u
 
 pub less_rooms : (r : Registers) (n : ℕ) → HasRooms r (n + 1) → HasRooms r n
-less_rooms r n h = record { readers = omega (arith, h.readers); writers = omega (arith, h.writers); sources = omega (arith, h.sources); unfinished = omega (arith, h.unfinished); accesses = omega (arith, h.accesses) }
+less_rooms r n h = record { readers = omega (arith, h.readers); writers = omega (arith, h.writers); sources = omega (arith, h.sources); unfinished = omega (arith, h.unfinished) }

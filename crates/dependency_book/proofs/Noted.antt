@@ -1,8 +1,8 @@
 -- The lists of a history after one more event.
 use Rattle.std.proofs.Common.{◌≡◌, ℕ, zero, suc, ◌≤◌, Bool, true, false, cond, not, ◌&&◌, ◌||◌, eqb, ltb, List, [], ◌∷◌, ◌++◌, filter, map, Option, ℤ, refl, sym, ◌∙◌, ap, arith}
-use Rattle.std.specs.List.{list_any, count_by}
+use Rattle.std.specs.List.{count_by}
 use Rattle.std.proofs.lemmas.Bool.Decides.{nat_tests}
-use Rattle.std.proofs.lemmas.Bool.{eqb-true, ne_eqb, eq-eqb, and_parts}
+use Rattle.std.proofs.lemmas.Bool.{eqb-true, ne_eqb, eq-eqb}
 use Rattle.std.proofs.lemmas.List.{map-append}
 use Rattle.std.proofs.lemmas.List.Elements.{filter-append}
 use Rattle.teb_names.specs.declared.Txn.{Txn}
@@ -16,9 +16,10 @@ use Rattle.teb_history.specs.declared.Event.TheVariants.{Began, Got, Put, Ready,
 use Rattle.teb_history.specs.Phases.{is_began, is_done, is_gone, begun, committed, aborted, unfinished, begun_count, numbers, txns}
 use Rattle.teb_history.specs.Ascending.{put_by}
 use Rattle.teb_history.specs.Live.{number_of}
-use Rattle.dependency_book.specs.declared.access.Access.{Access}
+use Rattle.teb_history.specs.Accesses.{wrote}
+use Rattle.teb_history.specs.OwnEvents.{own_events}
 use Rattle.sorted_multimap.specs.LastMatches.{without_lasts}
-use Rattle.dependency_book.specs.Dependencies.{has, reads, puts, all_readers, all_writers, all_sources, all_accesses, readers, writers, sources, accesses, unfinished_txns}
+use Rattle.dependency_book.specs.Dependencies.{has, reads, puts, all_readers, all_writers, all_sources, readers, writers, sources, unfinished_txns}
 use Rattle.hold_book.specs.Orderly.{MayFollow, Orderly}
 use Rattle.dependency_book.specs.declared.registers.Registers.{Registers}
 use Rattle.dependency_book.specs.Books.{RegistersOf}
@@ -26,8 +27,7 @@ use Rattle.sorted_multimap.specs.Keys.{txn_cmp}
 use Rattle.sorted_multimap.specs.Multimap.{values_in}
 use Rattle.sorted_multimap.proofs.TakenMatches.{without_all, count_kept}
 use Rattle.sorted_multimap.proofs.CellValues.{same_exact}
-use Rattle.dependency_book.proofs.MultimapEdits.{one_txn}
-use Rattle.dependency_book.proofs.OwnAccesses.{put_by_it, reads_counted, puts_counted, nothing_accessed}
+use Rattle.dependency_book.proofs.OwnAccesses.{put_by_it, reads_counted, puts_counted}
 use Rattle.hold_book.proofs.OrderlyHistories.{unfinished_is, unfinished_same, unfinished_parts, aborted_same, fresh}
 use Rattle.teb_history.proofs.Filters.{filter_both, filter_push}
 use Rattle.teb_history.proofs.Newest.{aborted-cons, unfinished-cons}
@@ -60,9 +60,6 @@ module _ (e : Event) (P : List Event) (b : (u : ℕ) → is_began u e ≡ false)
   unfolding unfinished_txns txns
   unfinished_txns_same n = (λ j. map (λ t. record { 0 = t }) (filter (unfinished (e ∷ P)) (numbers (n j)))) ∙ ap (λ (ns : List ℕ). map (λ t. record { 0 = t }) ns) (filter_alike (unfinished P) (unfinished (e ∷ P)) stay_unfinished (numbers (begun_count P)))
 
-  pub accesses_alike : (t : Txn) (as_ : List Access) → cond (unfinished (e ∷ P) t.0) as_ [] ≡ cond (unfinished P t.0) as_ []
-  accesses_alike t as_ = ap (λ (o : Bool). cond o as_ []) (stay_unfinished t.0)
-
 -- an event that aborts nobody
 module _ (e : Event) (P : List Event) (g : (u : ℕ) → is_gone u e ≡ false) where
   pub readers_alike : (rs : List (Txn × Txn)) → filter (λ r. not (aborted (e ∷ P) r.0.0)) rs ≡ filter (λ r. not (aborted P r.0.0)) rs
@@ -74,27 +71,15 @@ module _ (e : Event) (P : List Event) (g : (u : ℕ) → is_gone u e ≡ false) 
   pub sources_alike : (t : Txn) (ts : List Txn) → cond (aborted (e ∷ P) t.0) [] ts ≡ cond (aborted P t.0) [] ts
   sources_alike t ts = ap (λ (o : Bool). cond o [] ts) (aborted_same e P t.0 (g t.0))
 
--- of an unfinished one all accesses are kept
-standing : (P : List Event) (t : Txn) → unfinished P t.0 ≡ true → accesses P t ≡ all_accesses P t
-unfolding accesses
-standing P t m = ap (λ (o : Bool). cond o (all_accesses P t) []) m
-
--- what is added for an unfinished one is kept
-gained : (o c : Bool) (as_ : List Access) (a : Access) → (c ≡ true → o ≡ true) → cond o (cond c (as_ ++ a ∷ []) as_) [] ≡ cond c (cond o as_ [] ++ a ∷ []) (cond o as_ [])
-gained true c as_ a f = refl
-gained false true as_ a f = absurd (let z : false ≡ true = f refl in cc)
-gained false false as_ a f = refl
-
 -- the book of no events
-pub noted_nothing : (b : Registers) → ((x : Cell) → values_in cell_cmp b.readers x ≡ []) → ((x : Cell) → values_in cell_cmp b.writers x ≡ []) → ((t : Txn) → values_in txn_cmp b.sources t ≡ []) → b.unfinished.items ≡ [] → ((t : Txn) → values_in txn_cmp b.accesses t ≡ []) → RegistersOf b []
-unfolding Orderly readers writers sources unfinished_txns accesses all_readers all_writers all_sources all_accesses txns begun_count numbers
-noted_nothing b r w s u a = record {
+pub noted_nothing : (b : Registers) → ((x : Cell) → values_in cell_cmp b.readers x ≡ []) → ((x : Cell) → values_in cell_cmp b.writers x ≡ []) → ((t : Txn) → values_in txn_cmp b.sources t ≡ []) → b.unfinished.items ≡ [] → RegistersOf b []
+unfolding Orderly readers writers sources unfinished_txns all_readers all_writers all_sources txns begun_count numbers
+noted_nothing b r w s u = record {
   orderly = tt;
   readers = r;
   writers = w;
   sources = λ t. s t ∙ none (aborted [] t.0);
   unfinished = u;
-  accesses = λ t. a t ∙ none (unfinished [] t.0);
 }
   where
     none : {A : Type 0} (o : Bool) → (let e : List A = [] in e) ≡ cond o [] []
@@ -104,25 +89,24 @@ noted_nothing b r w s u a = record {
 module _ (b d : Registers) (P : List Event) (was : RegistersOf b P) where
   -- nobody begins, reads, puts or finishes
   quiet : (e : Event) → MayFollow P e → ((u : ℕ) → is_began u e ≡ false) → ((u : ℕ) → is_done u e ≡ false) → ((u : ℕ) → is_gone u e ≡ false) → begun_count (e ∷ P) ≡ begun_count P
-      → ((x : Cell) → all_readers (e ∷ P) x ≡ all_readers P x) → ((x : Cell) → all_writers (e ∷ P) x ≡ all_writers P x) → ((t : Txn) → all_sources (e ∷ P) t ≡ all_sources P t) → ((t : Txn) → all_accesses (e ∷ P) t ≡ all_accesses P t)
+      → ((x : Cell) → all_readers (e ∷ P) x ≡ all_readers P x) → ((x : Cell) → all_writers (e ∷ P) x ≡ all_writers P x) → ((t : Txn) → all_sources (e ∷ P) t ≡ all_sources P t)
       → RegistersOf b (e ∷ P)
-  unfolding Orderly readers writers sources accesses
-  quiet e m nb nd ng n r w s a = record {
+  unfolding Orderly readers writers sources
+  quiet e m nb nd ng n r w s = record {
     orderly = (m, was.orderly);
     readers = λ x. was.readers x ∙ sym (ap (filter (λ p. not (aborted (e ∷ P) p.0.0))) (r x) ∙ readers_alike e P ng (all_readers P x));
     writers = λ x. was.writers x ∙ sym (ap (filter (λ t. not (aborted (e ∷ P) t.0))) (w x) ∙ writers_alike e P ng (all_writers P x));
     sources = λ t. was.sources t ∙ sym (ap (λ (ts : List Txn). cond (aborted (e ∷ P) t.0) [] ts) (s t) ∙ sources_alike e P ng t (all_sources P t));
     unfinished = was.unfinished ∙ sym (unfinished_txns_same e P nb nd ng n);
-    accesses = λ t. was.accesses t ∙ sym (ap (λ (as_ : List Access). cond (unfinished (e ∷ P) t.0) as_ []) (a t) ∙ accesses_alike e P nb nd ng t (all_accesses P t));
   }
 
   pub noted_ready : (t : Txn) → MayFollow P (Ready t) → RegistersOf b (Ready t ∷ P)
-  unfolding begun_count all_readers all_writers all_sources all_accesses
-  noted_ready t m = quiet (Ready t) m (λ u. refl) (λ u. refl) (λ u. refl) refl (λ x. refl) (λ x. refl) (λ u. refl) (λ u. refl)
+  unfolding begun_count all_readers all_writers all_sources
+  noted_ready t m = quiet (Ready t) m (λ u. refl) (λ u. refl) (λ u. refl) refl (λ x. refl) (λ x. refl) (λ u. refl)
 
   pub noted_told : (t : Txn) → MayFollow P (Told t) → RegistersOf b (Told t ∷ P)
-  unfolding begun_count all_readers all_writers all_sources all_accesses
-  noted_told t m = quiet (Told t) m (λ u. refl) (λ u. refl) (λ u. refl) refl (λ x. refl) (λ x. refl) (λ u. refl) (λ u. refl)
+  unfolding begun_count all_readers all_writers all_sources
+  noted_told t m = quiet (Told t) m (λ u. refl) (λ u. refl) (λ u. refl) refl (λ x. refl) (λ x. refl) (λ u. refl)
 
   numbers_alike : (e : Event) (n : ℕ) → ((u : ℕ) → u ≤ n → unfinished (e ∷ P) u ≡ unfinished P u) → filter (unfinished (e ∷ P)) (numbers n) ≡ filter (unfinished P) (numbers n)
   unfolding numbers
@@ -134,16 +118,15 @@ module _ (b d : Registers) (P : List Event) (was : RegistersOf b P) where
 
   -- a transaction begins
   pub noted_began : (t : Txn) (s : Session) (k : Kind) (i : ℕ) → MayFollow P (Began t s k i)
-      → ((x : Cell) → values_in cell_cmp d.readers x ≡ values_in cell_cmp b.readers x) → ((x : Cell) → values_in cell_cmp d.writers x ≡ values_in cell_cmp b.writers x) → ((u : Txn) → values_in txn_cmp d.sources u ≡ values_in txn_cmp b.sources u) → d.unfinished.items ≡ b.unfinished.items ++ t ∷ [] → ((u : Txn) → values_in txn_cmp d.accesses u ≡ values_in txn_cmp b.accesses u)
+      → ((x : Cell) → values_in cell_cmp d.readers x ≡ values_in cell_cmp b.readers x) → ((x : Cell) → values_in cell_cmp d.writers x ≡ values_in cell_cmp b.writers x) → ((u : Txn) → values_in txn_cmp d.sources u ≡ values_in txn_cmp b.sources u) → d.unfinished.items ≡ b.unfinished.items ++ t ∷ []
       → RegistersOf d (Began t s k i ∷ P)
-  unfolding Orderly readers writers sources accesses unfinished_txns txns begun_count all_readers all_writers all_sources all_accesses numbers
-  noted_began t s k i m r w so u a = record {
+  unfolding Orderly readers writers sources unfinished_txns txns begun_count all_readers all_writers all_sources numbers
+  noted_began t s k i m r w so u = record {
     orderly = (m, was.orderly);
     readers = λ x. r x ∙ was.readers x ∙ sym (readers_alike e P (λ v. refl) (all_readers P x));
     writers = λ x. w x ∙ was.writers x ∙ sym (writers_alike e P (λ v. refl) (all_writers P x));
     sources = λ v. so v ∙ was.sources v ∙ sym (sources_alike e P (λ z. refl) v (all_sources P v));
     unfinished = u ∙ ap (λ (ts : List Txn). ts ++ t ∷ []) was.unfinished ∙ sym all_more;
-    accesses = λ v. a v ∙ was.accesses v ∙ sym (same_accesses v);
   }
     where
       e : Event
@@ -153,21 +136,6 @@ module _ (b d : Registers) (P : List Event) (was : RegistersOf b P) where
       older v le =
           let off : eqb t.0 v ≡ false = ne_eqb t.0 v (λ z. omega (arith, m)) in
           unfinished-cons (Began t s k i) P v ∙ ap (λ (o : Bool). (o || begun P v) && not (committed P v) && not (aborted P v)) off ∙ sym (unfinished_is P v)
-
-      same_accesses : (v : Txn) → cond (unfinished (Began t s k i ∷ P) v.0) (all_accesses P v) [] ≡ cond (unfinished P v.0) (all_accesses P v) []
-      same_accesses v = go (eqb t.0 v.0) refl
-        where
-          empty : {A : Type 0} (o c : Bool) → cond o [] (let e : List A = [] in e) ≡ cond c [] []
-          empty true true = refl
-          empty true false = refl
-          empty false true = refl
-          empty false false = refl
-
-          go : (c : Bool) → eqb t.0 v.0 ≡ c → cond (unfinished (Began t s k i ∷ P) v.0) (all_accesses P v) [] ≡ cond (unfinished P v.0) (all_accesses P v) []
-          go true h =
-              let none = nothing_accessed P v was.orderly (ap (begun P) (sym (eqb-true t.0 v.0 h)) ∙ (fresh P t.0 was.orderly (omega (arith, m))).0) in
-              (λ j. cond (unfinished (Began t s k i ∷ P) v.0) (none j) []) ∙ empty (unfinished (Began t s k i ∷ P) v.0) (unfinished P v.0) ∙ sym (λ j. cond (unfinished P v.0) (none j) [])
-          go false h = ap (λ (o : Bool). cond o (all_accesses P v) []) (unfinished-cons (Began t s k i) P v.0 ∙ ap (λ (o : Bool). (o || begun P v.0) && not (committed P v.0) && not (aborted P v.0)) h ∙ sym (unfinished_is P v.0))
 
       newest : unfinished (Began t s k i ∷ P) (suc (begun_count P)) ≡ true
       newest =
@@ -188,18 +156,14 @@ module _ (b d : Registers) (P : List Event) (was : RegistersOf b P) where
       → ((y : Cell) → values_in cell_cmp d.writers y ≡ values_in cell_cmp b.writers y)
       → ((u : Txn) → values_in txn_cmp d.sources u ≡ cond (eqb t.0 u.0 && not (eqb w.0 u.0) && ltb 0 w.0) (put_by number_of w (values_in txn_cmp b.sources u)) (values_in txn_cmp b.sources u))
       → d.unfinished.items ≡ b.unfinished.items
-      → ((u : Txn) → values_in txn_cmp d.accesses u ≡ cond (eqb t.0 u.0) (values_in txn_cmp b.accesses u ++ record { cell = x; wrote = false } ∷ []) (values_in txn_cmp b.accesses u))
       → RegistersOf d (Got t x w v ∷ P)
-  unfolding Orderly readers writers sources accesses begun_count all_readers all_writers all_sources all_accesses
-  noted_got t x w v m r wr so u a = record {
+  unfolding Orderly readers writers sources begun_count all_readers all_writers all_sources
+  noted_got t x w v m r wr so u = record {
     orderly = (m, was.orderly);
     readers = λ y. r y ∙ ap (λ (rs : List (Txn × Txn)). cond (same_cell x y) (rs ++ (t, w) ∷ []) rs) (was.readers y) ∙ sym (readers_alike e P (λ z. refl) (all_readers (Got t x w v ∷ P) y) ∙ here (same_cell x y) (all_readers P y));
     writers = λ y. wr y ∙ was.writers y ∙ sym (writers_alike e P (λ z. refl) (all_writers P y));
     sources = λ y. so y ∙ ap (λ (ts : List Txn). cond (eqb t.0 y.0 && not (eqb w.0 y.0) && ltb 0 w.0) (put_by number_of w ts) ts) (was.sources y) ∙ sym (sources_alike e P (λ z. refl) y (all_sources (Got t x w v ∷ P) y) ∙ from y);
     unfinished = u ∙ was.unfinished ∙ sym (unfinished_txns_same e P (λ z. refl) (λ z. refl) (λ z. refl) refl);
-    accesses = λ y.
-        a y ∙ ap (λ (as_ : List Access). cond (eqb t.0 y.0) (as_ ++ record { cell = x; wrote = false } ∷ []) as_) (was.accesses y)
-        ∙ sym (accesses_alike e P (λ z. refl) (λ z. refl) (λ z. refl) y (all_accesses (Got t x w v ∷ P) y) ∙ gained (unfinished P y.0) (eqb t.0 y.0) (all_accesses P y) (record { cell = x; wrote = false }) (λ h. ap (unfinished P) (sym (eqb-true t.0 y.0 h)) ∙ m));
   }
     where
       e : Event
@@ -225,25 +189,20 @@ module _ (b d : Registers) (P : List Event) (was : RegistersOf b P) where
   -- a transaction puts
   pub noted_put : (t : Txn) (x : Cell) (v : Option ℤ) → MayFollow P (Put t x v)
       → ((y : Cell) → values_in cell_cmp d.readers y ≡ values_in cell_cmp b.readers y)
-      → ((y : Cell) → values_in cell_cmp d.writers y ≡ cond (same_cell x y && not (list_any (puts x) (values_in txn_cmp b.accesses t))) (values_in cell_cmp b.writers y ++ t ∷ []) (values_in cell_cmp b.writers y))
+      → ((y : Cell) → values_in cell_cmp d.writers y ≡ cond (same_cell x y && not (wrote P t.0 x)) (values_in cell_cmp b.writers y ++ t ∷ []) (values_in cell_cmp b.writers y))
       → ((u : Txn) → values_in txn_cmp d.sources u ≡ values_in txn_cmp b.sources u)
       → d.unfinished.items ≡ b.unfinished.items
-      → ((u : Txn) → values_in txn_cmp d.accesses u ≡ cond (eqb t.0 u.0 && not (list_any (puts x) (values_in txn_cmp b.accesses t))) (values_in txn_cmp b.accesses u ++ record { cell = x; wrote = true } ∷ []) (values_in txn_cmp b.accesses u))
       → RegistersOf d (Put t x v ∷ P)
-  unfolding Orderly readers writers sources accesses begun_count all_readers all_writers all_sources all_accesses
-  noted_put t x v m r wr so u a = record {
+  unfolding Orderly readers writers sources begun_count all_readers all_writers all_sources
+  noted_put t x v m r wr so u = record {
     orderly = (m, was.orderly);
     readers = λ y. r y ∙ was.readers y ∙ sym (readers_alike e P (λ z. refl) (all_readers P y));
     writers = λ y.
-        wr y ∙ (λ j. cond (same_cell x y && not (own j)) (was.writers y j ++ t ∷ []) (was.writers y j))
-        ∙ ap (λ (c : Bool). cond c (writers P y ++ t ∷ []) (writers P y)) (where_it_is (same_cell x y) _ _ (λ h. ap (λ (z : Cell). list_any (puts z) (all_accesses P t)) (same_exact x y h) ∙ sym (put_by_it P t y)))
+        wr y ∙ ap (λ (ts : List Txn). cond (same_cell x y && not (wrote P t.0 x)) (ts ++ t ∷ []) ts) (was.writers y)
+        ∙ ap (λ (c : Bool). cond c (writers P y ++ t ∷ []) (writers P y)) (where_it_is (same_cell x y) _ _ (λ h. ap (wrote P t.0) (same_exact x y h) ∙ sym (put_by_it P t y)))
         ∙ sym (writers_alike e P (λ z. refl) (all_writers (Put t x v ∷ P) y) ∙ here (same_cell x y && not (has t (all_writers P y))) (all_writers P y));
     sources = λ y. so y ∙ was.sources y ∙ sym (sources_alike e P (λ z. refl) y (all_sources P y));
     unfinished = u ∙ was.unfinished ∙ sym (unfinished_txns_same e P (λ z. refl) (λ z. refl) (λ z. refl) refl);
-    accesses = λ y.
-        a y ∙ (λ j. cond (eqb t.0 y.0 && not (own j)) (was.accesses y j ++ record { cell = x; wrote = true } ∷ []) (was.accesses y j))
-        ∙ ap (λ (c : Bool). cond c (accesses P y ++ record { cell = x; wrote = true } ∷ []) (accesses P y)) (where_it_is (eqb t.0 y.0) _ _ (λ h. ap (λ (z : Txn). list_any (puts x) (all_accesses P z)) (one_txn t y h)))
-        ∙ sym (accesses_alike e P (λ z. refl) (λ z. refl) (λ z. refl) y (all_accesses (Put t x v ∷ P) y) ∙ gained (unfinished P y.0) (eqb t.0 y.0 && not (list_any (puts x) (all_accesses P y))) (all_accesses P y) (record { cell = x; wrote = true }) (λ h. ap (unfinished P) (sym (eqb-true t.0 y.0 (and_parts _ _ h).0)) ∙ m));
   }
     where
       e : Event
@@ -251,9 +210,6 @@ module _ (b d : Registers) (P : List Event) (was : RegistersOf b P) where
 
       stands : aborted P t.0 ≡ false
       stands = (unfinished_parts P t.0 m).2
-
-      own : list_any (puts x) (values_in txn_cmp b.accesses t) ≡ list_any (puts x) (all_accesses P t)
-      own = ap (list_any (puts x)) (was.accesses t ∙ standing P t m)
 
       where_it_is : (c h k : Bool) → (c ≡ true → h ≡ k) → (c && not h) ≡ (c && not k)
       where_it_is true h k f = ap not (f refl)
@@ -272,30 +228,18 @@ module _ (b d : Registers) (P : List Event) (was : RegistersOf b P) where
         ∙ ap (map (λ t. record { 0 = t })) (sym (filter_both (unfinished P) (λ u. not (eqb u t.0)) (unfinished (e ∷ P)) others (numbers (begun_count P))))
         ∙ ap (λ (k : ℕ). map (λ t. record { 0 = t }) (filter (unfinished (e ∷ P)) (numbers k))) (sym n)
 
-    pub left_accesses : ((u : Txn) → all_accesses (e ∷ P) u ≡ all_accesses P u) → (u : Txn) → cond (eqb t.0 u.0) [] (accesses P u) ≡ accesses (e ∷ P) u
-    unfolding accesses
-    left_accesses same u =
-        cleared (eqb t.0 u.0) (unfinished P u.0) (all_accesses P u)
-        ∙ ap (λ (o : Bool). cond (not o && unfinished P u.0) (all_accesses P u) []) (eqb_back t.0 u.0)
-        ∙ sym (λ j. cond (others u.0 j) (same u j) [])
-      where
-        cleared : (c o : Bool) (as_ : List Access) → cond c [] (cond o as_ []) ≡ cond (not c && o) as_ []
-        cleared true o as_ = refl
-        cleared false o as_ = refl
-
   -- a transaction commits
   pub noted_done : (t : Txn) → MayFollow P (Done t)
       → ((y : Cell) → values_in cell_cmp d.readers y ≡ values_in cell_cmp b.readers y) → ((y : Cell) → values_in cell_cmp d.writers y ≡ values_in cell_cmp b.writers y) → ((u : Txn) → values_in txn_cmp d.sources u ≡ values_in txn_cmp b.sources u)
-      → d.unfinished.items ≡ filter (λ u. not (eqb u.0 t.0)) b.unfinished.items → ((u : Txn) → values_in txn_cmp d.accesses u ≡ cond (eqb t.0 u.0) [] (values_in txn_cmp b.accesses u))
+      → d.unfinished.items ≡ filter (λ u. not (eqb u.0 t.0)) b.unfinished.items
       → RegistersOf d (Done t ∷ P)
-  unfolding Orderly readers writers sources begun_count all_readers all_writers all_sources all_accesses
-  noted_done t m r w so u a = record {
+  unfolding Orderly readers writers sources begun_count all_readers all_writers all_sources
+  noted_done t m r w so u = record {
     orderly = (m, was.orderly);
     readers = λ y. r y ∙ was.readers y ∙ sym (readers_alike (Done t) P (λ z. refl) (all_readers P y));
     writers = λ y. w y ∙ was.writers y ∙ sym (writers_alike (Done t) P (λ z. refl) (all_writers P y));
     sources = λ y. so y ∙ was.sources y ∙ sym (sources_alike (Done t) P (λ z. refl) y (all_sources P y));
     unfinished = u ∙ ap (filter (λ u. not (eqb u.0 t.0))) was.unfinished ∙ left_unfinished (Done t) t m others refl;
-    accesses = λ y. a y ∙ ap (λ (as_ : List Access). cond (eqb t.0 y.0) [] as_) (was.accesses y) ∙ left_accesses (Done t) t m others (λ z. refl) y;
   }
     where
       others : (u : ℕ) → unfinished (Done t ∷ P) u ≡ (not (eqb u t.0) && unfinished P u)
@@ -310,29 +254,31 @@ module _ (b d : Registers) (P : List Event) (was : RegistersOf b P) where
 
   -- a transaction is aborted
   pub noted_gone : (t : Txn) (c : Cause) → MayFollow P (Gone t c)
-      → ((y : Cell) → values_in cell_cmp d.readers y ≡ without_lasts (count_by (reads y) (values_in txn_cmp b.accesses t)) (λ r. eqb r.0.0 t.0) (values_in cell_cmp b.readers y))
-      → ((y : Cell) → values_in cell_cmp d.writers y ≡ without_lasts (count_by (puts y) (values_in txn_cmp b.accesses t)) (λ u. eqb u.0 t.0) (values_in cell_cmp b.writers y))
+      → ((y : Cell) → values_in cell_cmp d.readers y ≡ without_lasts (count_by (reads y) (own_events (Gone t c ∷ P) t.0)) (λ r. eqb r.0.0 t.0) (values_in cell_cmp b.readers y))
+      → ((y : Cell) → values_in cell_cmp d.writers y ≡ without_lasts (count_by (puts y) (own_events (Gone t c ∷ P) t.0)) (λ u. eqb u.0 t.0) (values_in cell_cmp b.writers y))
       → ((u : Txn) → values_in txn_cmp d.sources u ≡ cond (eqb t.0 u.0) [] (values_in txn_cmp b.sources u))
-      → d.unfinished.items ≡ filter (λ u. not (eqb u.0 t.0)) b.unfinished.items → ((u : Txn) → values_in txn_cmp d.accesses u ≡ cond (eqb t.0 u.0) [] (values_in txn_cmp b.accesses u))
+      → d.unfinished.items ≡ filter (λ u. not (eqb u.0 t.0)) b.unfinished.items
       → RegistersOf d (Gone t c ∷ P)
-  unfolding Orderly readers writers sources accesses begun_count all_readers all_writers all_sources all_accesses
-  noted_gone t c m r w so u a = record {
+  unfolding Orderly readers writers sources begun_count all_readers all_writers all_sources
+  noted_gone t c m r w so u = record {
     orderly = (m, was.orderly);
     readers = λ y.
-        r y ∙ (λ j. without_lasts (count_by (reads y) (own j)) (λ r. eqb r.0.0 t.0) (was.readers y j))
-        ∙ without_all (λ r. eqb r.0.0 t.0) (count_by (reads y) (all_accesses P t)) (filter (λ r. not (aborted P r.0.0)) (all_readers P y))
-        (sym (reads_counted P t y) ∙ sym (count_kept (λ r. eqb r.0.0 t.0) (λ r. not (aborted P r.0.0)) (all_readers P y) (λ r h. ap (λ (n : ℕ). not (aborted P n)) (eqb-true r.0.0 t.0 h) ∙ ap not it_stands)))
+        r y ∙ ap (without_lasts (count_by (reads y) own) (λ r. eqb r.0.0 t.0)) (was.readers y)
+        ∙ without_all (λ r. eqb r.0.0 t.0) (count_by (reads y) own) (filter (λ r. not (aborted P r.0.0)) (all_readers P y))
+        (omega (arith, reads_counted (Gone t c ∷ P) t y, count_kept (λ r. eqb r.0.0 t.0) (λ r. not (aborted P r.0.0)) (all_readers P y) (λ r h. ap (λ (n : ℕ). not (aborted P n)) (eqb-true r.0.0 t.0 h) ∙ ap not it_stands)))
         ∙ sym (filter_both (λ r. not (aborted P r.0.0)) (λ r. not (eqb r.0.0 t.0)) (λ r. not (aborted (Gone t c ∷ P) r.0.0)) (λ r. stands r.0.0) (all_readers P y));
     writers = λ y.
-        w y ∙ (λ j. without_lasts (count_by (puts y) (own j)) (λ u. eqb u.0 t.0) (was.writers y j))
-        ∙ without_all (λ u. eqb u.0 t.0) (count_by (puts y) (all_accesses P t)) (filter (λ u. not (aborted P u.0)) (all_writers P y))
-        (sym (puts_counted P t y) ∙ sym (count_kept (λ u. eqb u.0 t.0) (λ u. not (aborted P u.0)) (all_writers P y) (λ u h. ap (λ (n : ℕ). not (aborted P n)) (eqb-true u.0 t.0 h) ∙ ap not it_stands)))
+        w y ∙ ap (without_lasts (count_by (puts y) own) (λ u. eqb u.0 t.0)) (was.writers y)
+        ∙ without_all (λ u. eqb u.0 t.0) (count_by (puts y) own) (filter (λ u. not (aborted P u.0)) (all_writers P y))
+        (omega (arith, puts_counted (Gone t c ∷ P) t y, count_kept (λ u. eqb u.0 t.0) (λ u. not (aborted P u.0)) (all_writers P y) (λ u h. ap (λ (n : ℕ). not (aborted P n)) (eqb-true u.0 t.0 h) ∙ ap not it_stands)))
         ∙ sym (filter_both (λ u. not (aborted P u.0)) (λ u. not (eqb u.0 t.0)) (λ u. not (aborted (Gone t c ∷ P) u.0)) (λ u. stands u.0) (all_writers P y));
     sources = λ y. so y ∙ ap (λ (ts : List Txn). cond (eqb t.0 y.0) [] ts) (was.sources y) ∙ gone_or (eqb t.0 y.0) (aborted P y.0) (all_sources P y) ∙ ap (λ (o : Bool). cond o [] (all_sources P y)) (sym (aborted-cons (Gone t c) P y.0));
     unfinished = u ∙ ap (filter (λ u. not (eqb u.0 t.0))) was.unfinished ∙ left_unfinished (Gone t c) t m others refl;
-    accesses = λ y. a y ∙ ap (λ (as_ : List Access). cond (eqb t.0 y.0) [] as_) (was.accesses y) ∙ left_accesses (Gone t c) t m others (λ z. refl) y;
   }
     where
+      own : List Event
+      own = own_events (Gone t c ∷ P) t.0
+
       others : (u : ℕ) → unfinished (Gone t c ∷ P) u ≡ (not (eqb u t.0) && unfinished P u)
       others u = unfinished-cons (Gone t c) P u ∙ go (eqb t.0 u) (eqb u t.0) (eqb_back t.0 u) (begun P u) (committed P u) (aborted P u) ∙ ap (λ (b : Bool). not (eqb u t.0) && b) (sym (unfinished_is P u))
         where
@@ -359,6 +305,3 @@ module _ (b d : Registers) (P : List Event) (was : RegistersOf b P) where
 
       it_stands : aborted P t.0 ≡ false
       it_stands = (unfinished_parts P t.0 m).2
-
-      own : values_in txn_cmp b.accesses t ≡ all_accesses P t
-      own = was.accesses t ∙ standing P t m

@@ -1,20 +1,29 @@
--- What a transaction accessed, against who read and who put each cell.
-use Rattle.std.proofs.Common.{◌≡◌, ℕ, ◌+◌, Bool, true, false, cond, not, ◌&&◌, ◌||◌, eqb, List, [], ◌∷◌, ◌++◌, refl, sym, ◌∙◌, ap, arith}
+-- What a transaction's own events read and put, against who read and who put each cell.
+use Rattle.std.proofs.Common.{◌≡◌, ◌≤◌, ℕ, ℤ, ◌+◌, Bool, true, false, cond, not, ◌&&◌, ◌||◌, eqb, is_some, List, [], ◌∷◌, ◌++◌, Option, Some, None, refl, sym, ◌∙◌, ap, arith}
 use Rattle.std.specs.List.{list_any, count_by}
-use Rattle.std.proofs.lemmas.Bool.{eqb-true, false_from_ne_true}
 use Rattle.teb_names.specs.declared.Txn.{Txn}
 use Rattle.teb_names.specs.declared.Cell.{Cell}
 use Rattle.teb_names.specs.Cells.{same_cell}
 use Rattle.teb_history.specs.declared.Event.{Event}
 use Rattle.teb_history.specs.declared.Event.TheVariants.{Began, Got, Put, Ready, Done, Gone, Told}
-use Rattle.teb_history.specs.Phases.{begun}
-use Rattle.dependency_book.specs.Dependencies.{has, reads, puts, all_readers, all_writers, all_accesses}
-use Rattle.hold_book.specs.Orderly.{Orderly}
-use Rattle.sorted_multimap.proofs.TakenMatches.{count_push}
-use Rattle.sorted_multimap.proofs.CellValues.{same_exact}
+use Rattle.teb_history.specs.Accesses.{is_put, put_at, wrote}
+use Rattle.teb_history.specs.OwnEvents.{is_of, own_events}
+use Rattle.teb_history.proofs.Any.{came_any}
+use Rattle.teb_history.proofs.Newest.{wrote-cons}
+use Rattle.dependency_book.specs.Dependencies.{has, reads, puts, all_readers, all_writers}
+use Rattle.sorted_multimap.proofs.TakenMatches.{count_push, count_cons}
 use Rattle.dependency_book.proofs.MultimapEdits.{one_txn}
-use Rattle.hold_book.proofs.OrderlyHistories.{unfinished_parts}
-use Rattle.teb_history.proofs.Newest.{begun-cons}
+
+-- an event that accesses y accesses x where they are the same cell
+accessed_if : (b : Bool) (v : Option ℤ) → is_some (cond b (Some v) None) ≡ b
+accessed_if true v = refl
+accessed_if false v = refl
+
+pub reads_if : (t : Txn) (y : Cell) (w : Txn) (v : Option ℤ) (x : Cell) → reads x (Got t y w v) ≡ same_cell y x
+reads_if t y w v x = accessed_if (same_cell y x) v
+
+pub puts_if : (t : Txn) (y : Cell) (v : Option ℤ) (x : Cell) → puts x (Put t y v) ≡ same_cell y x
+puts_if t y v x = accessed_if (same_cell y x) v
 
 any_push : {A : Type 0} (q : A → Bool) (c : Bool) (xs : List A) (a : A) → list_any q (cond c (xs ++ a ∷ []) xs) ≡ (list_any q xs || (c && q a))
 any_push q true [] a = or_back (q a)
@@ -33,101 +42,92 @@ any_push q false xs a = or_false (list_any q xs)
     or_false true = refl
     or_false false = refl
 
-and_false : (b : Bool) → (b && false) ≡ false
-and_false true = refl
-and_false false = refl
+-- a first Put of the cell m by the transaction e, where h says whether it has put before, and k whether t has
+first_put : (m e h k : Bool) → (e ≡ true → h ≡ k) → (k || ((m && not h) && e)) ≡ ((e && m) || k)
+first_put m true h k f = ap (λ (b : Bool). k || ((m && not b) && true)) (f refl) ∙ go m k
+  where
+    go : (m k : Bool) → (k || ((m && not k) && true)) ≡ (m || k)
+    go true true = refl
+    go true false = refl
+    go false true = refl
+    go false false = refl
+first_put m false h true f = refl
+first_put true false true false f = refl
+first_put true false false false f = refl
+first_put false false h false f = refl
 
-and_back : (a b : Bool) → (a && b) ≡ (b && a)
-and_back true true = refl
-and_back true false = refl
-and_back false true = refl
-and_back false false = refl
-
--- a first Put of the transaction is a first Put of the cell by it
-once : (m e h k : Bool) → (e ≡ true → m ≡ true → h ≡ k) → ((m && not h) && e) ≡ ((e && not k) && m)
-once true true h k f = ap (λ (b : Bool). not b && true) (f refl refl)
-once true false h k f = and_false (not h)
-once false true h k f = sym (and_false (not k))
-once false false h k f = refl
-
-same_put : (P : List Event) (s t : Txn) (y x : Cell) → has t (all_writers P x) ≡ list_any (puts x) (all_accesses P t) → eqb s.0 t.0 ≡ true → same_cell y x ≡ true → has s (all_writers P x) ≡ list_any (puts y) (all_accesses P t)
-same_put P s t y x h e f = ap (λ (z : Txn). has z (all_writers P x)) (one_txn s t e) ∙ h ∙ ap (λ (z : Cell). list_any (puts z) (all_accesses P t)) (sym (same_exact y x f))
+nothing_put : (t : ℕ) (x : Cell) → wrote [] t x ≡ false
+unfolding wrote put_at
+nothing_put t x = came_any (is_put t x) []
 
 -- t is among the writers of x where it put x
-pub put_by_it : (P : List Event) (t : Txn) (x : Cell) → has t (all_writers P x) ≡ list_any (puts x) (all_accesses P t)
-unfolding all_writers all_accesses
-put_by_it [] t x = refl
+pub put_by_it : (P : List Event) (t : Txn) (x : Cell) → has t (all_writers P x) ≡ wrote P t.0 x
+unfolding all_writers
+put_by_it [] t x = sym (nothing_put t.0 x)
 put_by_it (Put s y v ∷ P) t x =
-    any_push (λ u. eqb u.0 t.0) (same_cell y x && not (has s (all_writers P x))) (all_writers P x) s
-    ∙ (λ j. put_by_it P t x j || once (same_cell y x) (eqb s.0 t.0) (has s (all_writers P x)) (list_any (puts y) (all_accesses P t)) (same_put P s t y x (put_by_it P t x)) j)
-    ∙ sym (any_push (puts x) (eqb s.0 t.0 && not (list_any (puts y) (all_accesses P t))) (all_accesses P t) (record { cell = y; wrote = true }))
-put_by_it (Got s y w v ∷ P) t x = put_by_it P t x ∙ none (list_any (puts x) (all_accesses P t)) (eqb s.0 t.0) ∙ sym (any_push (puts x) (eqb s.0 t.0) (all_accesses P t) (record { cell = y; wrote = false }))
-  where
-    none : (b c : Bool) → b ≡ (b || (c && false))
-    none true c = refl
-    none false c = sym (and_false c)
-put_by_it (Began s k i j ∷ P) t x = put_by_it P t x
-put_by_it (Ready s ∷ P) t x = put_by_it P t x
-put_by_it (Done s ∷ P) t x = put_by_it P t x
-put_by_it (Gone s c ∷ P) t x = put_by_it P t x
-put_by_it (Told s ∷ P) t x = put_by_it P t x
+    let ts = all_writers P x in
+    any_push (λ u. eqb u.0 t.0) (same_cell y x && not (has s ts)) ts s
+    ∙ first_put (same_cell y x) (eqb s.0 t.0) (has s ts) (has t ts) (λ e. ap (λ (z : Txn). has z ts) (one_txn s t e))
+    ∙ ap (λ (b : Bool). (eqb s.0 t.0 && same_cell y x) || b) (put_by_it P t x) ∙ sym (wrote-cons (Put s y v) P t.0 x)
+put_by_it (Got s y w v ∷ P) t x = put_by_it P t x ∙ sym (wrote-cons (Got s y w v) P t.0 x)
+put_by_it (Began s k i j ∷ P) t x = put_by_it P t x ∙ sym (wrote-cons (Began s k i j) P t.0 x)
+put_by_it (Ready s ∷ P) t x = put_by_it P t x ∙ sym (wrote-cons (Ready s) P t.0 x)
+put_by_it (Done s ∷ P) t x = put_by_it P t x ∙ sym (wrote-cons (Done s) P t.0 x)
+put_by_it (Gone s c ∷ P) t x = put_by_it P t x ∙ sym (wrote-cons (Gone s c) P t.0 x)
+put_by_it (Told s ∷ P) t x = put_by_it P t x ∙ sym (wrote-cons (Told s) P t.0 x)
 
-count_same : (n : ℕ) (b : Bool) → n ≡ n + cond (b && false) 1 0
-count_same n true = omega arith
-count_same n false = omega arith
+-- an event that does not pass is not counted among t's own
+uncounted : (q : Event → Bool) (e : Event) (P : List Event) (t : ℕ) → q e ≡ false → count_by q (own_events (e ∷ P) t) ≡ count_by q (own_events P t)
+unfolding own_events
+uncounted q e P t h = count_cons q (is_of t e) e (own_events P t) ∙ ap (λ (b : Bool). count_by q (own_events P t) + cond (is_of t e && b) 1 0) h ∙ none (count_by q (own_events P t)) (is_of t e)
+  where
+    none : (n : ℕ) (b : Bool) → n + cond (b && false) 1 0 ≡ n
+    none n true = omega arith
+    none n false = omega arith
 
 -- t stands among the readers of x as often as it read x
-pub reads_counted : (P : List Event) (t : Txn) (x : Cell) → count_by (λ r. eqb r.0.0 t.0) (all_readers P x) ≡ count_by (reads x) (all_accesses P t)
-unfolding all_readers all_accesses
+pub reads_counted : (P : List Event) (t : Txn) (x : Cell) → count_by (λ r. eqb r.0.0 t.0) (all_readers P x) ≡ count_by (reads x) (own_events P t.0)
+unfolding all_readers own_events
 reads_counted [] t x = refl
 reads_counted (Got s y w v ∷ P) t x =
     count_push (λ r. eqb r.0.0 t.0) (same_cell y x) (all_readers P x) (s, w)
-    ∙ (λ j. reads_counted P t x j + cond (and_back (same_cell y x) (eqb s.0 t.0) j) 1 0)
-    ∙ sym (count_push (reads x) (eqb s.0 t.0) (all_accesses P t) (record { cell = y; wrote = false }))
-reads_counted (Put s y v ∷ P) t x =
-    let c = eqb s.0 t.0 && not (list_any (puts y) (all_accesses P t)) in
-    reads_counted P t x ∙ count_same (count_by (reads x) (all_accesses P t)) c ∙ sym (count_push (reads x) c (all_accesses P t) (record { cell = y; wrote = true }))
-reads_counted (Began s k i j ∷ P) t x = reads_counted P t x
-reads_counted (Ready s ∷ P) t x = reads_counted P t x
-reads_counted (Done s ∷ P) t x = reads_counted P t x
-reads_counted (Gone s c ∷ P) t x = reads_counted P t x
-reads_counted (Told s ∷ P) t x = reads_counted P t x
-
--- and among its writers as often as it put x for the first time
-pub puts_counted : (P : List Event) (t : Txn) (x : Cell) → count_by (λ u. eqb u.0 t.0) (all_writers P x) ≡ count_by (puts x) (all_accesses P t)
-unfolding all_writers all_accesses
-puts_counted [] t x = refl
-puts_counted (Put s y v ∷ P) t x =
-    count_push (λ u. eqb u.0 t.0) (same_cell y x && not (has s (all_writers P x))) (all_writers P x) s
-    ∙ (λ j. puts_counted P t x j + cond (once (same_cell y x) (eqb s.0 t.0) (has s (all_writers P x)) (list_any (puts y) (all_accesses P t)) (same_put P s t y x (put_by_it P t x)) j) 1 0)
-    ∙ sym (count_push (puts x) (eqb s.0 t.0 && not (list_any (puts y) (all_accesses P t))) (all_accesses P t) (record { cell = y; wrote = true }))
-puts_counted (Got s y w v ∷ P) t x =
-    puts_counted P t x ∙ count_same (count_by (puts x) (all_accesses P t)) (eqb s.0 t.0) ∙ sym (count_push (puts x) (eqb s.0 t.0) (all_accesses P t) (record { cell = y; wrote = false }))
-puts_counted (Began s k i j ∷ P) t x = puts_counted P t x
-puts_counted (Ready s ∷ P) t x = puts_counted P t x
-puts_counted (Done s ∷ P) t x = puts_counted P t x
-puts_counted (Gone s c ∷ P) t x = puts_counted P t x
-puts_counted (Told s ∷ P) t x = puts_counted P t x
-
-other : (P : List Event) (s t : Txn) → begun P s.0 ≡ true → begun P t.0 ≡ false → eqb s.0 t.0 ≡ false
-other P s t in_ out = false_from_ne_true _ (λ h. let z : true ≡ false = sym in_ ∙ ap (begun P) (eqb-true s.0 t.0 h) ∙ out in absurd (cc))
-
--- who has not begun accessed nothing
-pub nothing_accessed : (P : List Event) (t : Txn) → Orderly P → begun P t.0 ≡ false → all_accesses P t ≡ []
-unfolding Orderly all_accesses
-nothing_accessed [] t o h = refl
-nothing_accessed (Got s y w v ∷ P) t o h =
-    let out : begun P t.0 ≡ false = sym (begun-cons (Got s y w v) P t.0) ∙ h in
-    ap (λ (b : Bool). cond b (all_accesses P t ++ record { cell = y; wrote = false } ∷ []) (all_accesses P t)) (other P s t ((unfinished_parts P s.0 o.0).0) out) ∙ nothing_accessed P t o.1 out
-nothing_accessed (Put s y v ∷ P) t o h =
-    let out : begun P t.0 ≡ false = sym (begun-cons (Put s y v) P t.0) ∙ h in
-    ap (λ (b : Bool). cond (b && not (list_any (puts y) (all_accesses P t))) (all_accesses P t ++ record { cell = y; wrote = true } ∷ []) (all_accesses P t)) (other P s t ((unfinished_parts P s.0 o.0).0) out) ∙ nothing_accessed P t o.1 out
-nothing_accessed (Began s k i j ∷ P) t o h = nothing_accessed P t o.1 (later (eqb s.0 t.0) (begun P t.0) (sym (begun-cons (Began s k i j) P t.0) ∙ h))
+    ∙ (λ j. reads_counted P t x j + cond (both (same_cell y x) (eqb s.0 t.0) j) 1 0)
+    ∙ sym (count_cons (reads x) (eqb s.0 t.0) (Got s y w v) (own_events P t.0))
   where
-    later : (a b : Bool) → (a || b) ≡ false → b ≡ false
-    later true b h = absurd (cc)
-    later false b h = h
-nothing_accessed (Ready s ∷ P) t o h = nothing_accessed P t o.1 (sym (begun-cons (Ready s) P t.0) ∙ h)
-nothing_accessed (Done s ∷ P) t o h = nothing_accessed P t o.1 (sym (begun-cons (Done s) P t.0) ∙ h)
-nothing_accessed (Gone s c ∷ P) t o h = nothing_accessed P t o.1 (sym (begun-cons (Gone s c) P t.0) ∙ h)
-nothing_accessed (Told s ∷ P) t o h = nothing_accessed P t o.1 (sym (begun-cons (Told s) P t.0) ∙ h)
+    both : (m e : Bool) → (m && e) ≡ (e && is_some (cond m (Some v) None))
+    both true true = refl
+    both true false = refl
+    both false true = refl
+    both false false = refl
+reads_counted (Put s y v ∷ P) t x = reads_counted P t x ∙ sym (uncounted (reads x) (Put s y v) P t.0 refl)
+reads_counted (Began s k i j ∷ P) t x = reads_counted P t x ∙ sym (uncounted (reads x) (Began s k i j) P t.0 refl)
+reads_counted (Ready s ∷ P) t x = reads_counted P t x ∙ sym (uncounted (reads x) (Ready s) P t.0 refl)
+reads_counted (Done s ∷ P) t x = reads_counted P t x ∙ sym (uncounted (reads x) (Done s) P t.0 refl)
+reads_counted (Gone s c ∷ P) t x = reads_counted P t x ∙ sym (uncounted (reads x) (Gone s c) P t.0 refl)
+reads_counted (Told s ∷ P) t x = reads_counted P t x ∙ sym (uncounted (reads x) (Told s) P t.0 refl)
+
+-- and among its writers at most as often as it put x
+pub puts_counted : (P : List Event) (t : Txn) (x : Cell) → count_by (λ u. eqb u.0 t.0) (all_writers P x) ≤ count_by (puts x) (own_events P t.0)
+unfolding all_writers own_events
+puts_counted [] t x = omega arith
+puts_counted (Put s y v ∷ P) t x =
+    let ts = all_writers P x in
+    omega (
+      arith,
+      puts_counted P t x,
+      less (same_cell y x) (has s ts) (eqb s.0 t.0),
+      count_push (λ u. eqb u.0 t.0) (same_cell y x && not (has s ts)) ts s,
+      count_cons (puts x) (eqb s.0 t.0) (Put s y v) (own_events P t.0),
+    )
+  where
+    less : (m h e : Bool) → cond ((m && not h) && e) 1 0 ≤ cond (e && is_some (cond m (Some v) None)) 1 0
+    less true true e = omega arith
+    less true false true = omega arith
+    less true false false = omega arith
+    less false h e = omega arith
+puts_counted (Got s y w v ∷ P) t x = omega (arith, puts_counted P t x, uncounted (puts x) (Got s y w v) P t.0 refl)
+puts_counted (Began s k i j ∷ P) t x = omega (arith, puts_counted P t x, uncounted (puts x) (Began s k i j) P t.0 refl)
+puts_counted (Ready s ∷ P) t x = omega (arith, puts_counted P t x, uncounted (puts x) (Ready s) P t.0 refl)
+puts_counted (Done s ∷ P) t x = omega (arith, puts_counted P t x, uncounted (puts x) (Done s) P t.0 refl)
+puts_counted (Gone s c ∷ P) t x = omega (arith, puts_counted P t x, uncounted (puts x) (Gone s c) P t.0 refl)
+puts_counted (Told s ∷ P) t x = omega (arith, puts_counted P t x, uncounted (puts x) (Told s) P t.0 refl)

@@ -8,21 +8,19 @@ use Rattle.teb_history.specs.Ascending.{IsAscendingBy}
 use Rattle.teb_history.specs.Live.{number_of}
 use Rattle.sorted_multimap.specs.Keys.{txn_cmp}
 use Rattle.sorted_multimap.specs.Multimap.{values_of, values_in}
-use Rattle.dependency_book.specs.declared.access.Access.{Access}
 use Rattle.dependency_book.specs.declared.registers.Registers.{Registers}
-use Rattle.dependency_book.specs.Dependencies.{readers, writers, sources, accesses, unfinished_txns}
+use Rattle.dependency_book.specs.Dependencies.{readers, writers, sources, unfinished_txns}
 use Rattle.hold_book.specs.declared.Hold.{Hold}
 use Rattle.hold_book.specs.Books.{Held}
 use Rattle.hold_book.specs.Holders.{holders_in}
 use Rattle.hold_book.specs.Orderly.{Orderly}
 
--- who read and who put which cell; who read from whom; who is unfinished; what each of these accessed; and who holds which cell
+-- who read and who put which cell; who read from whom; who is unfinished; and who holds which cell
 pub record Lists : Type 0 where
   pub readers : List (Cell × (Txn × Txn))
   pub writers : List (Cell × Txn)
   pub sources : List (Txn × Txn)
   pub unfinished : List Txn
-  pub accesses : List (Txn × Access)
   pub holders : List (Cell × Hold)
 
 -- the lists, and how many more events may be noted without memory
@@ -39,9 +37,6 @@ writers_in b x = values_of cell_cmp b.writers x
 abbrev pub sources_in : Lists → Txn → List Txn
 sources_in b t = values_of txn_cmp b.sources t
 
-abbrev pub accesses_in : Lists → Txn → List Access
-accesses_in b t = values_of txn_cmp b.accesses t
-
 abbrev pub holders_of : Lists → Cell → List Hold
 holders_of b x = values_of cell_cmp b.holders x
 
@@ -52,7 +47,6 @@ pub record BookOf (b : Lists) (H : List Event) : Type 0 where
   pub writers : (x : Cell) → writers_in b x ≡ writers H x
   pub sources : (t : Txn) → sources_in b t ≡ sources H t
   pub unfinished : b.unfinished ≡ unfinished_txns H
-  pub accesses : (t : Txn) → accesses_in b t ≡ accesses H t
   pub holders : (x : Cell) → holders_of b x ≡ holders_in H x
 
 -- and so are those of the registers
@@ -62,7 +56,6 @@ pub record RegistersOf (r : Registers) (H : List Event) : Type 0 where
   pub writers : (x : Cell) → values_in cell_cmp r.writers x ≡ writers H x
   pub sources : (t : Txn) → values_in txn_cmp r.sources t ≡ sources H t
   pub unfinished : r.unfinished.items ≡ unfinished_txns H
-  pub accesses : (t : Txn) → values_in txn_cmp r.accesses t ≡ accesses H t
 
 abbrev pub lists_of : Registers → List (Cell × Hold) → Lists
 lists_of r holders = record {
@@ -70,7 +63,6 @@ lists_of r holders = record {
   writers = r.writers.entries;
   sources = r.sources.entries;
   unfinished = r.unfinished.items;
-  accesses = r.accesses.entries;
   holders = holders;
 }
 
@@ -84,7 +76,6 @@ pub record HasRooms (r : Registers) (n : ℕ) : Type 0 where
   pub writers : n ≤ r.writers.spare
   pub sources : n ≤ r.sources.spare
   pub unfinished : vec_len r.unfinished + n ≤ vec_capacity r.unfinished
-  pub accesses : n ≤ r.accesses.spare
 
 -- the sources ascend, and there is room for so many events
 pub record IsBook (r : Registers) (h : Held) (n : ℕ) : Type 0 where

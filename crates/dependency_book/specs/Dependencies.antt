@@ -1,5 +1,5 @@
 -- Who read and who put what in a history, from whom, and who is unfinished. An abort takes out what its transaction read and put.
-use Rattle.std.specs.Prelude.{Bool, true, false, cond, not, ◌&&◌, eqb, ltb, List, [], ◌∷◌, ◌++◌, filter, map}
+use Rattle.std.specs.Prelude.{Bool, cond, not, ◌&&◌, eqb, ltb, List, [], ◌∷◌, ◌++◌, filter, map, is_some}
 use Rattle.std.specs.List.{list_any}
 use Rattle.teb_names.specs.declared.Txn.{Txn}
 use Rattle.teb_names.specs.declared.Cell.{Cell}
@@ -9,7 +9,7 @@ use Rattle.teb_history.specs.declared.Event.TheVariants.{Got, Put}
 use Rattle.teb_history.specs.Phases.{txns, aborted, unfinished}
 use Rattle.teb_history.specs.Ascending.{put_by}
 use Rattle.teb_history.specs.Live.{number_of}
-use Rattle.dependency_book.specs.declared.access.Access.{Access}
+use Rattle.teb_history.specs.OwnEvents.{put_in, got_in}
 
 -- t is among the transactions
 abbrev pub has : Txn → List Txn → Bool
@@ -33,19 +33,12 @@ all_sources [] t = []
 all_sources (Got s y w v ∷ P) t = let r = all_sources P t in cond (eqb s.0 t.0 && not (eqb w.0 t.0) && ltb 0 w.0) (put_by number_of w r) r
 all_sources (_ ∷ P) t = all_sources P t
 
--- the access reads x, and the access puts x
-abbrev pub reads : Cell → Access → Bool
-reads x a = not a.wrote && same_cell a.cell x
+-- the event reads x, and the event puts x
+abbrev pub reads : Cell → Event → Bool
+reads x e = is_some (got_in x e)
 
-abbrev pub puts : Cell → Access → Bool
-puts x a = a.wrote && same_cell a.cell x
-
--- what t read and put, an access for each Got and for the first Put of a cell; the oldest first
-unfoldable pub all_accesses : List Event → Txn → List Access
-all_accesses [] t = []
-all_accesses (Got s x w v ∷ P) t = let r = all_accesses P t in cond (eqb s.0 t.0) (r ++ record { cell = x; wrote = false } ∷ []) r
-all_accesses (Put s x v ∷ P) t = let r = all_accesses P t in cond (eqb s.0 t.0 && not (list_any (puts x) r)) (r ++ record { cell = x; wrote = true } ∷ []) r
-all_accesses (_ ∷ P) t = all_accesses P t
+abbrev pub puts : Cell → Event → Bool
+puts x e = is_some (put_in x e)
 
 -- the same of those that are not aborted
 unfoldable pub readers : List Event → Cell → List (Txn × Txn)
@@ -56,10 +49,6 @@ writers H x = filter (λ t. not (aborted H t.0)) (all_writers H x)
 
 unfoldable pub sources : List Event → Txn → List Txn
 sources H t = cond (aborted H t.0) [] (all_sources H t)
-
--- and what an unfinished one accessed
-unfoldable pub accesses : List Event → Txn → List Access
-accesses H t = cond (unfinished H t.0) (all_accesses H t) []
 
 unfoldable pub unfinished_txns : List Event → List Txn
 unfinished_txns H = map (λ t. record { 0 = t }) (filter (unfinished H) (txns H))

@@ -66,14 +66,15 @@ impl Book {
 
     /// Notes the newest event of the history. It takes one place of the room at most.
     ///
-    /// A read costs look-ups of its cell, and a put also goes through what its transaction accessed. A commit costs a look-up for
-    /// each access of its transaction, an abort also what was read or put in the same cells since; both go through the unfinished.
+    /// A read costs look-ups of its cell, and a put also goes through who holds it. A commit costs a look-up for each access of its
+    /// transaction. An abort also goes through what was read or put in the same cells since, and where its transaction put a cell
+    /// again, through all that put it. Both go through the unfinished.
     pub fn note(&mut self, history: &History, e: Event)
         requires { 0 < self.old.spare }
         ensures spare { self.old.spare ≤ self.new.spare + 1 }
         ensures book { (P : List Event) → history.now.events ≡ e ∷ P → BookOf self.old.lists P → MayFollow P e → BookOf self.new.lists (e ∷ P) }
     {
-        self.registers.note(e);
+        self.registers.note(history, &self.holders, e);
         self.holders.note(history, e);
         self.spare -= 1;
     }

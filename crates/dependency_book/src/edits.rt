@@ -1,19 +1,22 @@
 //! Edits of multimaps: what one access adds, and what an abort takes out.
 
 ghost use Rattle.std.specs.Prelude.{◌≡◌, ◌+◌, ◌≤◌, ◌<◌, ◌&&◌, cond, not, eqb, ltb};
-ghost use Rattle.std.specs.List.{list_any, count_by};
+ghost use Rattle.std.specs.List.{count_by};
 ghost use Rattle.teb_names.specs.declared.Cell.{Cell};
 ghost use Rattle.teb_names.specs.declared.Txn.{Txn};
 ghost use Rattle.teb_names.specs.Cells.{cell_cmp, same_cell};
 ghost use Rattle.teb_history.specs.Ascending.{IsAscendingBy, put_by};
 ghost use Rattle.teb_history.specs.Live.{number_of};
+ghost use Rattle.teb_history.specs.OwnEvents.{own_events};
 ghost use Rattle.sorted_multimap.specs.Multimap.{values_in};
 ghost use Rattle.sorted_multimap.specs.LastMatches.{IsLastPlace, without_last, without_lasts};
 ghost use Rattle.dependency_book.specs.Dependencies.{reads, puts};
 ghost use Rattle.sorted_multimap.specs.Keys.{txn_cmp};
+ghost use Rattle.hold_book.specs.Books.{has_put};
 
-use crate::access::Access;
 use arena_multimap::ArenaMultimap;
+use hold_book::Hold;
+use teb_history::{Event, History};
 use teb_names::{Cell, Txn};
 
 /// Puts a transaction that t read from among its sources, unless it is there, or is t itself or 0.
@@ -29,32 +32,30 @@ pub(crate) fn add_source(sources: &mut ArenaMultimap<Txn, Txn>, t: Txn, from: Tx
     sources.put_by_number(t, from);
 }
 
-/// Whether one of the accesses puts a cell.
-pub(crate) fn has_put(accesses: &[Access], cell: Cell) -> bool
-    ensures { result ≡ list_any (λ a. puts cell a) accesses.now }
+/// Whether t is among those that have put.
+pub(crate) fn has_put(holders: &[Hold], t: Txn) -> bool
+    ensures { result ≡ has_put t.0 holders.now }
 {
-    accesses
-        .iter()
-        .any(|access| access.wrote && access.cell == cell)
+    holders.iter().any(|hold| hold.txn == t && hold.wrote)
 }
 
-/// Takes out a pair of t for each of its reads of a cell, and t from the writers of each cell that it put, the last first.
+/// Takes out a pair of t for each of its reads of a cell, and t from the writers of each cell that it put, the newest first.
 pub(crate) fn forget_accesses(
     readers: &mut ArenaMultimap<Cell, (Txn, Txn)>,
     writers: &mut ArenaMultimap<Cell, Txn>,
-    accesses: &[Access],
+    history: &History,
     t: Txn,
 )
-    ensures readers { (x : Cell) → values_in cell_cmp readers.new x ≡ without_lasts (count_by (λ a. reads x a) accesses.now) (λ r. eqb r.0.0 t.0) (values_in cell_cmp readers.old x) }
-    ensures writers { (x : Cell) → values_in cell_cmp writers.new x ≡ without_lasts (count_by (λ a. puts x a) accesses.now) (λ u. eqb u.0 t.0) (values_in cell_cmp writers.old x) }
+    ensures readers { (x : Cell) → values_in cell_cmp readers.new x ≡ without_lasts (count_by (reads x) (own_events history.now.events t.0)) (λ r. eqb r.0.0 t.0) (values_in cell_cmp readers.old x) }
+    ensures writers { (x : Cell) → values_in cell_cmp writers.new x ≡ without_lasts (count_by (puts x) (own_events history.now.events t.0)) (λ u. eqb u.0 t.0) (values_in cell_cmp writers.old x) }
     ensures readers_spare { readers.new.spare ≡ readers.old.spare }
     ensures writers_spare { writers.new.spare ≡ writers.old.spare }
 {
-    for access in accesses {
-        if access.wrote {
-            forget_put(writers, access.cell, t);
-        } else {
-            forget_read(readers, access.cell, t);
+    for event in history.own_events(t) {
+        match event {
+            Event::Got { cell, .. } => forget_read(readers, cell, t),
+            Event::Put { cell, .. } => forget_put(writers, cell, t),
+            _ => {}
         }
     }
 }
@@ -69,7 +70,7 @@ fn forget_read(readers: &mut ArenaMultimap<Cell, (Txn, Txn)>, cell: Cell, t: Txn
     }
 }
 
-/// Takes t out of the writers of a cell. The search goes from the end, past what was put there since.
+/// Takes t out of the writers of a cell, where it is there. The search goes from the end, past what was put there since.
 fn forget_put(writers: &mut ArenaMultimap<Cell, Txn>, cell: Cell, t: Txn)
     ensures values { (x : Cell) → values_in cell_cmp writers.new x ≡ cond (same_cell cell x) (without_last (λ u. eqb u.0 t.0) (values_in cell_cmp writers.old x)) (values_in cell_cmp writers.old x) }
     ensures spare { writers.new.spare ≡ writers.old.spare }

@@ -1,7 +1,6 @@
 //! Who read, put and holds what, and which transactions are unfinished: lists that are kept as the events come.
 #![tactic(auto)]
 
-mod access;
 mod book;
 mod edits;
 mod registers;

@@ -9,17 +9,17 @@ ghost use Rattle.teb_history.specs.declared.Event.{Event};
 ghost use Rattle.teb_history.specs.declared.Event.TheVariants as event;
 ghost use Rattle.dependency_book.specs.Books.{RegistersOf, lists_of, SourcesAscend, HasRooms};
 ghost use Rattle.hold_book.specs.declared.Hold.{Hold};
+ghost use Rattle.hold_book.specs.Holders.{HoldsOf, holders_in};
 ghost use Rattle.hold_book.specs.Orderly.{MayFollow};
 
-use crate::access::Access;
 use crate::edits;
 use arena_multimap::ArenaMultimap;
-use sorted_multimap::Multimap;
+use hold_book::{Hold, HoldBook};
 use std::alloc::{AllocError, Global};
-use teb_history::Event;
+use teb_history::{Event, History};
 use teb_names::{Cell, Txn};
 
-/// Who read, put and accessed what, and who is unfinished.
+/// Who read and put what, from whom, and who is unfinished.
 #[derive(Drop)]
 pub struct Registers {
     // By cell: reader and writer read from, in order of access.
@@ -30,8 +30,6 @@ pub struct Registers {
     pub(crate) sources: ArenaMultimap<Txn, Txn>,
     // In ascending number.
     pub(crate) unfinished: Vec<Txn>,
-    // By unfinished transaction, in order of access: each read, and the first put of each cell.
-    pub(crate) accesses: Multimap<Txn, Access>,
 }
 
 impl Registers {
@@ -44,7 +42,6 @@ impl Registers {
             writers: ArenaMultimap::new(alloc),
             sources: ArenaMultimap::new(alloc),
             unfinished: Vec::new(alloc),
-            accesses: Multimap::small(alloc),
         }
     }
 
@@ -58,17 +55,16 @@ impl Registers {
         self.writers.reserve(n)?;
         self.sources.reserve(n)?;
         self.unfinished.reserve(n)?;
-        self.accesses.reserve(n)?;
         Ok(())
     }
 
-    /// Notes an event.
-    pub(crate) fn note(&mut self, e: Event)
+    /// Notes the newest event of the history, of which the holders are not yet told.
+    pub(crate) fn note(&mut self, history: &History, holders: &HoldBook, e: Event)
         requires ascending { SourcesAscend self.old.sources.entries }
         requires room { HasRooms self.old 1 }
         ensures ascending { SourcesAscend self.new.sources.entries }
         ensures room { (n : ℕ) → HasRooms self.old (n + 1) → HasRooms self.new n }
-        ensures book { (P : List Event) → RegistersOf self.old P → MayFollow P e → RegistersOf self.new (e ∷ P) }
+        ensures book { (P : List Event) → history.now.events ≡ e ∷ P → HoldsOf holders.now P → RegistersOf self.old P → MayFollow P e → RegistersOf self.new (e ∷ P) }
     {
         match e {
             Event::Began { txn, .. } => self.begin(txn),
@@ -78,9 +74,9 @@ impl Registers {
                 from,
                 ..
             } => self.read(txn, cell, from),
-            Event::Put { txn, cell, .. } => self.put(txn, cell),
+            Event::Put { txn, cell, .. } => self.put(holders.holders(cell), txn, cell),
             Event::Done(txn) => self.commit(txn),
-            Event::Gone { txn, .. } => self.abort(txn),
+            Event::Gone { txn, .. } => self.abort(history, txn),
             Event::Ready(_) | Event::Told(_) => {}
         }
     }
@@ -106,24 +102,20 @@ impl Registers {
     {
         self.readers.push(cell, (t, from));
         edits::add_source(&mut self.sources, t, from);
-        let access = Access { cell, wrote: false };
-        self.accesses.push(t, access);
     }
 
-    /// A transaction puts a cell.
-    fn put(&mut self, t: Txn, cell: Cell)
+    /// A transaction puts a cell that these hold.
+    fn put(&mut self, holders: &[Hold], t: Txn, cell: Cell)
         requires ascending { SourcesAscend self.old.sources.entries }
         requires room { HasRooms self.old 1 }
         ensures ascending { SourcesAscend self.new.sources.entries }
         ensures room { (n : ℕ) → HasRooms self.old (n + 1) → HasRooms self.new n }
-        ensures book { (P : List Event) (v : Option ℤ) → RegistersOf self.old P → MayFollow P (event.Put t cell v) → RegistersOf self.new (event.Put t cell v ∷ P) }
+        ensures book { (P : List Event) (v : Option ℤ) → holders.now ≡ holders_in P cell → RegistersOf self.old P → MayFollow P (event.Put t cell v) → RegistersOf self.new (event.Put t cell v ∷ P) }
     {
-        if edits::has_put(self.accesses.list(t), cell) {
+        if edits::has_put(holders, t) {
             return;
         }
         self.writers.push(cell, t);
-        let access = Access { cell, wrote: true };
-        self.accesses.push(t, access);
     }
 
     /// A transaction commits.
@@ -134,19 +126,16 @@ impl Registers {
         ensures book { (P : List Event) → RegistersOf self.old P → MayFollow P (event.Done t) → RegistersOf self.new (event.Done t ∷ P) }
     {
         self.unfinished.retain(|u| *u != t);
-        sorted_multimap::clear_txn(&mut self.accesses, t);
     }
 
-    /// A transaction is aborted.
-    fn abort(&mut self, t: Txn)
+    /// A transaction is aborted by the newest event of the history.
+    fn abort(&mut self, history: &History, t: Txn)
         requires { SourcesAscend self.old.sources.entries }
         ensures ascending { SourcesAscend self.new.sources.entries }
         ensures room { (n : ℕ) → HasRooms self.old n → HasRooms self.new n }
-        ensures book { (P : List Event) (c : Cause) → RegistersOf self.old P → MayFollow P (event.Gone t c) → RegistersOf self.new (event.Gone t c ∷ P) }
+        ensures book { (P : List Event) (c : Cause) → history.now.events ≡ event.Gone t c ∷ P → RegistersOf self.old P → MayFollow P (event.Gone t c) → RegistersOf self.new (event.Gone t c ∷ P) }
     {
-        let accesses = self.accesses.list(t);
-        edits::forget_accesses(&mut self.readers, &mut self.writers, accesses, t);
-        sorted_multimap::clear_txn(&mut self.accesses, t);
+        edits::forget_accesses(&mut self.readers, &mut self.writers, history, t);
         arena_multimap::clear_txn(&mut self.sources, t);
         self.unfinished.retain(|u| *u != t);
     }

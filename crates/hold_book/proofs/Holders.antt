@@ -183,18 +183,23 @@ kept_holds P e x c f w g = ap (λ (m : ℕ). map (hold_of (e ∷ P) x) (filter (
     ∙ same_holds (λ u. wrote P u x) (λ u. wrote (e ∷ P) u x) (holds P x) (holds (e ∷ P) x) (λ u j. f u j && (w u j || g u j)) (λ u _. w u) (numbers (begun_count P))
 
 module _ (P : List Event) (t : Txn) (o : Orderly P) (m : IsTrue (unfinished P t.0)) where
+  among : In t.0 (txns P)
+  unfolding txns
+  among = let begins = (unfinished_parts P t.0 m).0 in In-numbers (begun_count P) t.0 (begun_pos P t.0 o begins) ((known P t.0 o).begins begins)
+
+  -- the holders of x tell whether t has put it
+  pub put_by_holders : (x : Cell) → has_put t.0 (holders_in P x) ≡ wrote P t.0 x
+  unfolding holds
+  put_by_holders x = put_told t.0 (λ u. wrote P u x) (holds P x) (λ q. and_from _ _ m (or_left _ _ q)) (txns P) among
+
   -- t accesses x
   accessed_holds : (wr : Bool) (e : Event) (x : Cell) → begun_count (e ∷ P) ≡ begun_count P → ((u : ℕ) → u ≢ t.0 → holds (e ∷ P) x u ≡ holds P x u)
       → ((u : ℕ) → u ≢ t.0 → wrote (e ∷ P) u x ≡ wrote P u x) → holds (e ∷ P) x t.0 ≡ true → wrote (e ∷ P) t.0 x ≡ (wr || wrote P t.0 x) → holders_in (e ∷ P) x ≡ accessed t wr (holders_in P x)
   unfolding holds txns
   accessed_holds wr e x c h w here put =
-      let us = numbers (begun_count P) in
-      let begins = (unfinished_parts P t.0 m).0 in
-      let i = In-numbers (begun_count P) t.0 (begun_pos P t.0 o begins) ((known P t.0 o).begins begins) in
-      let told : has_put t.0 (holders_in P x) ≡ wrote P t.0 x = put_told t.0 (λ u. wrote P u x) (holds P x) (λ q. and_from _ _ m (or_left _ _ q)) us i in
       ap (λ (m : ℕ). map (hold_of (e ∷ P) x) (filter (holds (e ∷ P) x) (numbers m))) c
-      ∙ passes_too t.0 (λ u. wrote P u x) (λ u. wrote (e ∷ P) u x) w (holds P x) (holds (e ∷ P) x) here h us (numbers_ascending (begun_count P)) i
-      ∙ (λ j. put_by hold_number (let k : Hold = record { txn = t; wrote = (put ∙ ap (λ (b : Bool). wr || b) (sym told)) j } in k) (holders_in P x))
+      ∙ passes_too t.0 (λ u. wrote P u x) (λ u. wrote (e ∷ P) u x) w (holds P x) (holds (e ∷ P) x) here h (numbers (begun_count P)) (numbers_ascending (begun_count P)) among
+      ∙ (λ j. put_by hold_number (let k : Hold = record { txn = t; wrote = (put ∙ ap (λ (b : Bool). wr || b) (sym (put_by_holders x))) j } in k) (holders_in P x))
 
   got_here : (x : Cell) (w : Txn) (v : Option ℤ) → holders_in (Got t x w v ∷ P) x ≡ accessed t false (holders_in P x)
   unfolding begun_count holds

@@ -1,5 +1,5 @@
 -- What is left of a list where its last matches are taken out one by one.
-use Rattle.std.proofs.Common.{◌≡◌, ℕ, zero, suc, ◌+◌, ◌-◌, ◌<◌, Bool, true, false, cond, not, ◌&&◌, ◌||◌, List, [], ◌∷◌, ◌++◌, length, get_or, filter, Some, None, refl, sym, ◌∙◌, ap, arith}
+use Rattle.std.proofs.Common.{◌≡◌, ℕ, zero, suc, ◌+◌, ◌-◌, ◌<◌, ◌≤◌, Bool, true, false, cond, not, ◌&&◌, ◌||◌, List, [], ◌∷◌, ◌++◌, length, get_or, filter, Some, None, refl, sym, ◌∙◌, ap, arith}
 use Rattle.std.specs.List.{list_any, count_by, remove}
 use Rattle.std.proofs.lemmas.List.Sums.{sum_by-cons, sum_by_push, length-filter}
 use Rattle.sorted_multimap.specs.LastMatches.{IsLastPlace, without_last, without_lasts}
@@ -51,6 +51,10 @@ module _ {A : Type 0} (p : A → Bool) where
   count_push true xs x = sum_by_push (λ x. cond (p x) 1 0) xs x
   count_push false xs x = omega arith
 
+  pub count_cons : (c : Bool) (x : A) (xs : List A) → count_by p (cond c (x ∷ xs) xs) ≡ count_by p xs + cond (c && p x) 1 0
+  count_cons true x xs = sum_by-cons (λ x. cond (p x) 1 0) x xs ∙ omega arith
+  count_cons false x xs = omega arith
+
   count_none : (xs : List A) → list_any p xs ≡ false → count_by p xs ≡ 0
   count_none [] h = refl
   count_none (x ∷ xs) h = let two = neither (p x) (list_any p xs) h in count_no x xs two.0 ∙ count_none xs two.1
@@ -99,17 +103,14 @@ module _ {A : Type 0} (p : A → Bool) where
   filter_lasts zero xs = refl
   filter_lasts (suc n) xs = filter_last (without_lasts n p xs) ∙ filter_lasts n xs
 
-  -- the last n are all, where n pass
-  pub without_all : (n : ℕ) (xs : List A) → n ≡ count_by p xs → without_lasts n p xs ≡ filter (λ x. not (p x)) xs
-  without_all n xs e = sym (filter_all (without_lasts n p xs) (omega (arith, count_lasts n xs))) ∙ filter_lasts n xs
+  -- the last n are all, where no more than n pass
+  pub without_all : (n : ℕ) (xs : List A) → count_by p xs ≤ n → without_lasts n p xs ≡ filter (λ x. not (p x)) xs
+  without_all n xs le = sym (filter_all (without_lasts n p xs) (omega (arith, count_lasts n xs))) ∙ filter_lasts n xs
 
-  -- one more is taken where it passes
-  pub lasts_more : {B : Type 0} (q : B → Bool) (n : ℕ) (b : B) (xs : List A) → cond (q b) (without_last p (without_lasts n p xs)) (without_lasts n p xs) ≡ without_lasts (n + cond (q b) 1 0) p xs
-  lasts_more q n b xs = go (q b)
-    where
-      go : (c : Bool) → cond c (without_last p (without_lasts n p xs)) (without_lasts n p xs) ≡ without_lasts (n + cond c 1 0) p xs
-      go true = ap (λ (m : ℕ). without_lasts m p xs) (let e : suc n ≡ n + 1 = omega arith in e)
-      go false = ap (λ (m : ℕ). without_lasts m p xs) (let e : n ≡ n + 0 = omega arith in e)
+  -- the last one, and then n more
+  pub lasts_after : (n : ℕ) (xs : List A) → without_lasts n p (without_last p xs) ≡ without_lasts (suc n) p xs
+  lasts_after zero xs = refl
+  lasts_after (suc n) xs = ap (without_last p) (lasts_after n xs)
 
   -- what passes a second test passes the first, so the first takes away none of them
   pub count_kept : (r : A → Bool) (xs : List A) → ((x : A) → p x ≡ true → r x ≡ true) → count_by p (filter r xs) ≡ count_by p xs

@@ -17,4 +17,4 @@ returns-clause-book c P now was may =
     let r = c.self.inside.registers in
     let h = c.self.inside.holders in
     let old = subst (λ (l : Lists). BookOf l P) (sym (ap (λ (b : Shown). b.lists) c.self.view_is)) was in
-    book_of _ _ _ (c.note.ensures.book P (registers_of r h P old) may) (c.note-2.ensures.holds P now was.orderly may (holds_of r h P old))
+    book_of _ _ _ (c.note.ensures.book P now (holds_of r h P old) (registers_of r h P old) may) (c.note-2.ensures.holds P now was.orderly may (holds_of r h P old))

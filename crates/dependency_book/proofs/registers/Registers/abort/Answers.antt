@@ -4,7 +4,8 @@ use Rattle.std.proofs.lemmas.Fn.{filter_same}
 use Rattle.teb_names.specs.declared.Txn.{Txn}
 use Rattle.teb_names.specs.Cells.{cell_cmp}
 use Rattle.sorted_multimap.specs.Multimap.{values_in}
-use Rattle.dependency_book.specs.declared.access.Access.{Access}
+use Rattle.teb_history.specs.declared.Event.{Event}
+use Rattle.teb_history.specs.OwnEvents.{own_events}
 use Rattle.sorted_multimap.specs.LastMatches.{without_lasts}
 use Rattle.dependency_book.specs.Dependencies.{reads, puts}
 use Rattle.dependency_book.proofs.Noted.{noted_gone}
@@ -14,18 +15,15 @@ pub returns-clause-room : goal.returns-clause-room
 returns-clause-room c n h = record {
   readers = omega (arith, h.readers, c.forget_accesses.ensures.readers_spare);
   writers = omega (arith, h.writers, c.forget_accesses.ensures.writers_spare);
-  sources = omega (arith, h.sources, c.clear_txn-2.ensures.spare);
+  sources = omega (arith, h.sources, c.clear_txn.ensures.spare);
   unfinished = omega (arith, h.unfinished, c.retain.ensures.bound, c.retain.ensures.capacity);
-  accesses = omega (arith, h.accesses, c.clear_txn.ensures.spare);
 }
 
 pub returns-clause-book : goal.returns-clause-book
-returns-clause-book c P cause was may =
+returns-clause-book c P cause now was may =
     let t = c.args.t in
-    let own = c.list-accesses.ensures in
     noted_gone _ _ P was t cause may
-    (λ y. c.forget_accesses.ensures.readers y ∙ ap (λ (l : List Access). without_lasts (count_by (reads y) l) (λ (r : Txn × Txn). eqb r.0.0 t.0) (values_in cell_cmp c.args.self.now.readers y)) own)
-    (λ y. c.forget_accesses.ensures.writers y ∙ ap (λ (l : List Access). without_lasts (count_by (puts y) l) (λ (u : Txn). eqb u.0 t.0) (values_in cell_cmp c.args.self.now.writers y)) own)
-    c.clear_txn-2.ensures.values
-    (filter_same _ (λ (u : Txn). not (eqb u.0 t.0)) _ (λ x b q called. search rules) _ _ c.retain.ensures.filtered)
+    (λ y. c.forget_accesses.ensures.readers y ∙ ap (λ (es : List Event). without_lasts (count_by (reads y) (own_events es t.0)) (λ (r : Txn × Txn). eqb r.0.0 t.0) (values_in cell_cmp c.args.self.now.readers y)) now)
+    (λ y. c.forget_accesses.ensures.writers y ∙ ap (λ (es : List Event). without_lasts (count_by (puts y) (own_events es t.0)) (λ (u : Txn). eqb u.0 t.0) (values_in cell_cmp c.args.self.now.writers y)) now)
     c.clear_txn.ensures.values
+    (filter_same _ (λ (u : Txn). not (eqb u.0 t.0)) _ (λ x b q called. search rules) _ _ c.retain.ensures.filtered)

@@ -8,4 +8,3 @@ pub returns-clause-book : goal.returns-clause-book
 returns-clause-book c P was may =
     noted_done _ _ P was c.args.t may (λ y. refl) (λ y. refl) (λ u. refl)
     (filter_same _ (λ (u : Txn). not (eqb u.0 c.args.t.0)) _ (λ x b q called. search rules) _ _ c.retain.ensures.filtered)
-    c.clear_txn.ensures.values

@@ -1,14 +1,12 @@
-use Rattle.std.proofs.Common.{◌≡◌, Bool, true, false, cond, not, ◌&&◌, eqb, refl, sym, ◌∙◌, ap, List}
-use Rattle.std.specs.List.{list_any}
-use Rattle.teb_names.specs.declared.Txn.{Txn}
+use Rattle.std.proofs.Common.{◌≡◌, Bool, true, false, cond, not, ◌&&◌, refl, sym, ◌∙◌, ap, List}
 use Rattle.teb_names.specs.declared.Cell.{Cell}
 use Rattle.teb_names.specs.Cells.{cell_cmp, same_cell}
 use Rattle.sorted_multimap.specs.Multimap.{values_in}
-use Rattle.dependency_book.specs.declared.access.Access.{Access}
-use Rattle.dependency_book.specs.Dependencies.{puts}
-use Rattle.sorted_multimap.specs.Keys.{txn_cmp}
+use Rattle.teb_history.specs.Accesses.{wrote}
+use Rattle.hold_book.specs.declared.Hold.{Hold}
+use Rattle.hold_book.specs.Books.{has_put}
+use Rattle.hold_book.proofs.Holders.{put_by_holders}
 use Rattle.sorted_multimap.proofs.CellValues.{pushed_cell}
-use Rattle.dependency_book.proofs.MultimapEdits.{pushed_txn}
 use Rattle.dependency_book.proofs.Noted.{noted_put}
 use Rattle.dependency_book.proofs.registers.Registers.put.Goals as goal
 
@@ -25,22 +23,19 @@ added false false xs ys e = refl
 added true c xs ys e = absurd (let z : false ≡ true = e in cc)
 
 pub returns-then-has_put-clause-book : goal.returns-then-has_put-clause-book
-returns-then-has_put-clause-book c P v was may =
+returns-then-has_put-clause-book c P v held was may =
     let t = c.args.t in
     let x = c.args.cell in
-    let is : true ≡ list_any (puts x) (values_in txn_cmp c.args.self.now.accesses t) = sym c.if-has_put.true ∙ c.has_put.ensures ∙ ap (λ (l : List Access). list_any (puts x) l) c.list.ensures in
+    let is : true ≡ wrote P t.0 x = sym c.if-has_put.true ∙ c.has_put.ensures ∙ ap (λ (hs : List Hold). has_put t.0 hs) held ∙ put_by_holders P t was.orderly may x in
     noted_put _ _ P was t x v may (λ y. refl)
     (λ y. kept _ (same_cell x y) _ _ is)
     (λ u. refl) refl
-    (λ u. kept _ (eqb t.0 u.0) _ _ is)
 
 pub returns-clause-book : goal.returns-clause-book
-returns-clause-book c P v was may =
+returns-clause-book c P v held was may =
     let t = c.args.t in
     let x = c.args.cell in
-    let access : Access = record { cell = x; wrote = true } in
-    let is : false ≡ list_any (puts x) (values_in txn_cmp c.args.self.now.accesses t) = sym c.if-has_put.false ∙ c.has_put.ensures ∙ ap (λ (l : List Access). list_any (puts x) l) c.list.ensures in
+    let is : false ≡ wrote P t.0 x = sym c.if-has_put.false ∙ c.has_put.ensures ∙ ap (λ (hs : List Hold). has_put t.0 hs) held ∙ put_by_holders P t was.orderly may x in
     noted_put _ _ P was t x v may (λ y. refl)
     (λ y. c.push.ensures.values y ∙ pushed_cell (λ (z : Cell). values_in cell_cmp c.args.self.now.writers z) x y t ∙ added _ (same_cell x y) _ _ is)
     (λ u. refl) refl
-    (λ u. c.push-2.ensures.values u ∙ pushed_txn (λ (z : Txn). values_in txn_cmp c.args.self.now.accesses z) t u access ∙ added _ (eqb t.0 u.0) _ _ is)

@@ -1,12 +1,10 @@
-use Rattle.std.proofs.Common.{false, refl, ◌∙◌, arith}
-use Rattle.teb_names.specs.declared.Txn.{Txn}
+use Rattle.std.proofs.Common.{refl, ◌∙◌, arith}
 use Rattle.teb_names.specs.declared.Cell.{Cell}
 use Rattle.teb_names.specs.Cells.{cell_cmp}
 use Rattle.sorted_multimap.specs.Multimap.{values_in}
-use Rattle.dependency_book.specs.declared.access.Access.{Access}
 use Rattle.sorted_multimap.specs.Keys.{txn_cmp}
 use Rattle.sorted_multimap.proofs.CellValues.{pushed_cell}
-use Rattle.dependency_book.proofs.MultimapEdits.{added_ascends, pushed_txn}
+use Rattle.dependency_book.proofs.MultimapEdits.{added_ascends}
 use Rattle.dependency_book.proofs.Noted.{noted_got}
 use Rattle.dependency_book.proofs.registers.Registers.read.Goals as goal
 
@@ -20,15 +18,12 @@ returns-clause-room c n h = record {
   writers = omega (arith, h.writers);
   sources = omega (arith, h.sources, c.add_source.ensures.spare);
   unfinished = omega (arith, h.unfinished);
-  accesses = omega (arith, h.accesses, c.push-2.ensures.spare);
 }
 
 pub returns-clause-book : goal.returns-clause-book
 returns-clause-book c P v was may =
     let t = c.args.t in
     let x = c.args.cell in
-    let access : Access = record { cell = x; wrote = false } in
     noted_got _ _ P was t x c.args.from v may
     (λ y. c.push.ensures.values y ∙ pushed_cell (λ (z : Cell). values_in cell_cmp c.args.self.now.readers z) x y (t, c.args.from))
     (λ y. refl) c.add_source.ensures.values refl
-    (λ u. c.push-2.ensures.values u ∙ pushed_txn (λ (z : Txn). values_in txn_cmp c.args.self.now.accesses z) t u access)
