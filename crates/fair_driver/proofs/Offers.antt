@@ -1,5 +1,5 @@
 -- What a session is offered, in whatever order the sessions stand.
-use Rattle.std.proofs.Common.{◌≡◌, ℕ, Bool, true, false, not, leb, ◌&&◌, ◌||◌, List, [], ◌∷◌, ◌++◌, is_some, take, drop, refl, sym, ◌∙◌, ap, ap₂}
+use Rattle.std.proofs.Common.{◌≡◌, ◌<◌, ℕ, zero, suc, Bool, true, false, not, leb, ◌&&◌, ◌||◌, List, [], ◌∷◌, ◌++◌, is_some, length, get_or, set, take, drop, refl, sym, ◌∙◌, ap, ap₂, arith}
 use Rattle.std.specs.List.{list_any, list_all}
 use Rattle.std.proofs.lemmas.List.{take-append-drop}
 use Rattle.teb_history.specs.declared.Event.{Event}
@@ -55,6 +55,12 @@ all_turned p n ws = all_append p (drop n ws) (take n ws) ∙ and_swap (list_all 
 pub offer_turned : (H : List Event) (n : ℕ) (ws : List Seat) (w : Seat) → offer H (round_from n ws) w ≡ offer H ws w
 offer_turned H n ws w = ap (λ (b : Bool). unless_passed (is_some w.state.begun || b) (asks w.state))
     (ap₂ (λ (a b : Bool). not a || ((due w && b) && is_quiet H)) (any_turned due n ws) (all_turned (λ v. not (due v) || leb w.session.0 v.session.0) n ws))
+
+-- one cursor in place of another that passes where it does
+pub any_set : (p : Cursor → Bool) (cs : List Cursor) (i : ℕ) (c d : Cursor) → i < length cs → p c ≡ p (get_or cs i d) → list_any p (set cs i c) ≡ list_any p cs
+any_set p [] i c d l e = absurd (omega arith)
+any_set p (x ∷ cs) zero c d l e = ap (λ (b : Bool). b || list_any p cs) e
+any_set p (x ∷ cs) (suc i) c d l e = ap (λ (b : Bool). p x || b) (any_set p cs i c d (omega (arith, l)) e)
 
 -- who may begin, by who is due and who is chosen
 pub begins_freely : (H : List Event) (ws : List Seat) (w : Seat) → list_any due ws ≡ false → may_begin H ws w ≡ true

@@ -1,3 +1,4 @@
 pub mod Seats
+pub mod Rounds
 pub mod Turns
 pub mod Logged

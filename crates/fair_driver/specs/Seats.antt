@@ -6,7 +6,6 @@ use Rattle.teb_rules.specs.Scripts.{Script}
 use Rattle.teb_rules.specs.Driver.{Seat}
 use Rattle.script_walk.specs.ScriptStates.{requests_on, state_of}
 use Rattle.fair_driver.specs.declared.cursor.Cursor.{Cursor}
-use Rattle.fair_driver.specs.declared.ring.Ring.{Ring}
 
 abbrev pub seat_of : Cursor → Seat
 seat_of c = record { session = c.session; state = state_of c.lines.now c.walker; aborts = c.aborts }
@@ -17,10 +16,6 @@ seats_in cursors = map seat_of cursors
 -- the seats in the order in which they are looked at: those from the n-th on, and then those before it
 abbrev pub round_from : ℕ → List Seat → List Seat
 round_from n ws = drop n ws ++ take n ws
-
--- the round of a ring
-abbrev pub round_of : Ring → List Seat
-round_of r = round_from r.next (seats_in r.cursors.items)
 
 -- what the scripts ask
 abbrev pub scripts_on : List (Session × List Line) → List Script

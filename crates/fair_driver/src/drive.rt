@@ -3,7 +3,8 @@
 ghost use Rattle.std.specs.Prelude.{◌≡◌, ◌≤◌, [], All, IfOk, List, OnErr, OnOk};
 ghost use Rattle.script_text.specs.declared.Answered.{Answered};
 ghost use Rattle.teb_rules.specs.Driver.{Ascending, Follows, Turns, seated};
-ghost use Rattle.fair_driver.specs.Seats.{seats_in, round_of, scripts_on};
+ghost use Rattle.fair_driver.specs.Seats.{seats_in, scripts_on};
+ghost use Rattle.fair_driver.specs.Rounds.{round_of};
 ghost use Rattle.fair_driver.specs.Logged.{AreAnswers, IsMade};
 
 use crate::ring::Ring;

@@ -10,12 +10,22 @@ use crate::quiet::is_quiet;
 use teb_history::History;
 use teb_names::{Request, Session};
 
-/// What one of the sessions may ask now. `None` where it is through, or would begin a transaction while it may not.
-pub fn offer(history: &History, cursors: &[Cursor<'_>], cursor: &Cursor<'_>) -> Option<Request>
+/// What one of the sessions may ask now. `None` where it is through, or would begin a transaction while it may not. `has_due` says whether
+/// some session is to run alone; where none is, the others are not looked at.
+pub fn offer(
+    history: &History,
+    cursors: &[Cursor<'_>],
+    has_due: bool,
+    cursor: &Cursor<'_>,
+) -> Option<Request>
+    requires { has_due ≡ list_any (λ c. due (seat_of c)) cursors.now }
     ensures { result ≡ offer history.now.events (seats_in cursors.now) (seat_of cursor.now) }
 {
     let request = cursor.next()?;
-    if !is_begin(&request) || cursor.walker.begun.is_some() || may_begin(history, cursors, cursor) {
+    if !is_begin(&request)
+        || cursor.walker.begun.is_some()
+        || may_begin(history, cursors, has_due, cursor)
+    {
         Some(request)
     } else {
         None
@@ -29,17 +39,31 @@ fn is_begin(request: &Request) -> bool
 }
 
 /// Whether a session may begin a transaction: nobody is to run alone, or it is the chosen one and nobody is at work.
-fn may_begin(history: &History, cursors: &[Cursor<'_>], cursor: &Cursor<'_>) -> bool
+fn may_begin(history: &History, cursors: &[Cursor<'_>], has_due: bool, cursor: &Cursor<'_>) -> bool
+    requires { has_due ≡ list_any (λ c. due (seat_of c)) cursors.now }
     ensures { result ≡ may_begin history.now.events (seats_in cursors.now) (seat_of cursor.now) }
 {
-    !is_any_due(cursors) || is_chosen(cursors, cursor) && is_quiet(history)
+    !has_due || is_chosen(cursors, cursor) && is_quiet(history)
 }
 
 /// Whether some session is to run alone.
-fn is_any_due(cursors: &[Cursor<'_>]) -> bool
+pub fn is_any_due(cursors: &[Cursor<'_>]) -> bool
     ensures { result ≡ list_any (λ c. due (seat_of c)) cursors.now }
 {
     cursors.iter().any(|c| c.is_due())
+}
+
+/// Whether some session is to run alone, after one session has gone on: it `was` to, or `is` to now. Where these are the same, `has_due`
+/// says it still, and no session is looked at.
+pub fn has_due_after(cursors: &[Cursor<'_>], has_due: bool, was: bool, is: bool) -> bool
+    requires { was ≡ is → has_due ≡ list_any (λ c. due (seat_of c)) cursors.now }
+    ensures { result ≡ list_any (λ c. due (seat_of c)) cursors.now }
+{
+    if was == is {
+        has_due
+    } else {
+        is_any_due(cursors)
+    }
 }
 
 /// Whether a session is the least-numbered of those that are to run alone.

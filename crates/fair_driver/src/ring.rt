@@ -1,10 +1,12 @@
 //! The sessions in a ring, and whose turn it is.
 
 ghost use Rattle.std.specs.Prelude.{◌≡◌, ◌+◌, ◌<◌, ◌≤◌, ◌++◌, ◌∷◌, [], IfOk, IfSome, Some, slice_get, take, drop, vec_len};
-ghost use Rattle.teb_rules.specs.Driver.{Seat, offer, seated, seat_after};
+ghost use Rattle.std.specs.List.{list_any};
+ghost use Rattle.teb_rules.specs.Driver.{Seat, due, offer, seated, seat_after};
+ghost use Rattle.fair_driver.specs.Seats.{seat_of};
 
 use crate::cursor::Cursor;
-use crate::offer::offer;
+use crate::offer::{has_due_after, is_any_due, offer};
 use script_text::Scripts;
 use std::alloc::{AllocError, Global};
 use teb_history::History;
@@ -16,7 +18,10 @@ pub struct Ring<'a> {
     cursors: Vec<Cursor<'a>>,
     // The index of the session that is looked at next.
     next: usize,
+    // Whether some session is to run alone.
+    has_due: bool,
     ghost within: { next ≤ vec_len cursors },
+    ghost told: { has_due ≡ list_any (λ c. due (seat_of c)) cursors.items },
 }
 
 /// A session whose turn it is.
@@ -30,7 +35,8 @@ pub struct Asked {
 }
 
 impl<'a> Ring<'a> {
-    ghost use Rattle.fair_driver.specs.Seats.{seats_in, scripts_on, round_of};
+    ghost use Rattle.fair_driver.specs.Seats.{seats_in, scripts_on};
+    ghost use Rattle.fair_driver.specs.Rounds.{round_of};
     ghost use Rattle.fair_driver.specs.Turns.{IsFirst, IsTurn};
 
     /// Each session at the first line of its script. The least-numbered is looked at first.
@@ -42,7 +48,12 @@ impl<'a> Ring<'a> {
             let cursor = Cursor::new(scripts.session(i), scripts.lines(i));
             cursors.push(cursor)?;
         }
-        Ok(Ring { cursors, next: 0 })
+        let has_due = is_any_due(&cursors);
+        Ok(Ring {
+            cursors,
+            next: 0,
+            has_due,
+        })
     }
 
     /// Whose turn it is: the first session that may ask. `None` where all are through.
@@ -62,7 +73,7 @@ impl<'a> Ring<'a> {
     {
         for index in from..end {
             let cursor = &self.cursors[index];
-            if let Some(request) = offer(history, &self.cursors, cursor) {
+            if let Some(request) = offer(history, &self.cursors, self.has_due, cursor) {
                 let session = cursor.session;
                 return Some(Asked {
                     index,
@@ -82,7 +93,10 @@ impl<'a> Ring<'a> {
             ≡ drop (index + 1) (seats_in self.old.cursors.items) ++ take index (seats_in self.old.cursors.items) ++ seat_after w reply.now ∷ [] }
     {
         let cursor = &mut self.cursors[index];
+        let was_due = cursor.is_due();
         cursor.take(reply);
+        let is_due = cursor.is_due();
+        self.has_due = has_due_after(&self.cursors, self.has_due, was_due, is_due);
         self.next = index + 1;
     }
 }

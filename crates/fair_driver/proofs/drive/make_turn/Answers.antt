@@ -3,7 +3,8 @@ use Rattle.teb_names.specs.declared.Entry.{Entry}
 use Rattle.teb_names.specs.declared.naming.NameBook.{NameBook}
 use Rattle.teb_history.specs.declared.Event.{Event}
 use Rattle.fair_driver.specs.Logged.{answered}
-use Rattle.fair_driver.specs.Seats.{seats_in, round_of}
+use Rattle.fair_driver.specs.Seats.{seats_in}
+use Rattle.fair_driver.specs.Rounds.{round_of}
 use Rattle.fair_driver.specs.Turns.{IsTurnOf}
 use Rattle.fair_driver.proofs.Underway.{turn_taken}
 use Rattle.fair_driver.proofs.drive.make_turn.Goals as goal

@@ -1,6 +1,7 @@
 use Rattle.std.proofs.Common.{refl, ◌∙◌, arith}
 use Rattle.teb_rules.specs.Driver.{seated}
-use Rattle.fair_driver.specs.Seats.{seats_in, round_of, scripts_on}
+use Rattle.fair_driver.specs.Seats.{seats_in, scripts_on}
+use Rattle.fair_driver.specs.Rounds.{round_of}
 use Rattle.fair_driver.proofs.Underway.{on_err, logged_start, logged_made, logged_next, logged_short, logged_ended, underway_few}
 use Rattle.fair_driver.proofs.drive.turns.Goals as goal
 

@@ -1,6 +1,7 @@
 use Rattle.std.proofs.Common.{◌≡◌, ◌+◌, ◌-◌}
 use Rattle.driver_laws.specs.Laws.{most_requests}
-use Rattle.fair_driver.specs.Seats.{round_of, scripts_on}
+use Rattle.fair_driver.specs.Seats.{scripts_on}
+use Rattle.fair_driver.specs.Rounds.{round_of}
 use Rattle.fair_driver.proofs.Underway.{IsLogged}
 use Rattle.fair_driver.proofs.drive.turns.Given as goal
 
