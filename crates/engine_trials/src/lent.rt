@@ -76,7 +76,7 @@ fn write_book(text: &mut String, book: &Book) -> Result<(), AllocError> {
     Ok(())
 }
 
-/// What each control lends, in ascending number of the nodes. A node of locks lends nothing.
+/// What each control lends of what it keeps, in ascending number of the nodes. A node of locks keeps nothing.
 fn write_controls(
     text: &mut String,
     facts: &Facts,
