@@ -1,5 +1,5 @@
 -- What contracts see of a book, and which history it stands for.
-use Rattle.std.specs.Prelude.{◌≡◌, ℕ, ◌+◌, ◌≤◌, List, vec_len, vec_capacity}
+use Rattle.std.specs.Prelude.{◌≡◌, ℕ, ◌+◌, ◌≤◌, Bool, true, false, List, [], vec_len, vec_capacity}
 use Rattle.teb_names.specs.declared.Txn.{Txn}
 use Rattle.teb_names.specs.declared.Cell.{Cell}
 use Rattle.teb_names.specs.Cells.{cell_cmp}
@@ -11,16 +11,17 @@ use Rattle.sorted_multimap.specs.Multimap.{values_of, values_in}
 use Rattle.dependency_book.specs.declared.registers.Registers.{Registers}
 use Rattle.dependency_book.specs.Dependencies.{readers, writers, sources, unfinished_txns}
 use Rattle.hold_book.specs.declared.Hold.{Hold}
-use Rattle.hold_book.specs.Books.{Held}
+use Rattle.hold_book.specs.Books.{Held, shown}
 use Rattle.hold_book.specs.Holders.{holders_in}
 use Rattle.hold_book.specs.Orderly.{Orderly}
 
--- who read and who put which cell; who read from whom; who is unfinished; and who holds which cell
+-- who read and who put which cell; who read from whom; who is unfinished; whether it is kept who holds which cell; and who does, where it is kept
 pub record Lists : Type 0 where
   pub readers : List (Cell × (Txn × Txn))
   pub writers : List (Cell × Txn)
   pub sources : List (Txn × Txn)
   pub unfinished : List Txn
+  pub keeps_holders : Bool
   pub holders : List (Cell × Hold)
 
 -- the lists, and how many more events may be noted without memory
@@ -40,16 +41,16 @@ sources_in b t = values_of txn_cmp b.sources t
 abbrev pub holders_of : Lists → Cell → List Hold
 holders_of b x = values_of cell_cmp b.holders x
 
--- the lists are those of a history
+-- the lists are those of a history, and so are the holders, where they are kept
 pub record BookOf (b : Lists) (H : List Event) : Type 0 where
   pub orderly : Orderly H
   pub readers : (x : Cell) → readers_in b x ≡ readers H x
   pub writers : (x : Cell) → writers_in b x ≡ writers H x
   pub sources : (t : Txn) → sources_in b t ≡ sources H t
   pub unfinished : b.unfinished ≡ unfinished_txns H
-  pub holders : (x : Cell) → holders_of b x ≡ holders_in H x
+  pub holders : b.keeps_holders ≡ true → (x : Cell) → holders_of b x ≡ holders_in H x
 
--- and so are those of the registers
+-- the lists of the registers are those of a history
 pub record RegistersOf (r : Registers) (H : List Event) : Type 0 where
   pub orderly : Orderly H
   pub readers : (x : Cell) → values_in cell_cmp r.readers x ≡ readers H x
@@ -57,12 +58,13 @@ pub record RegistersOf (r : Registers) (H : List Event) : Type 0 where
   pub sources : (t : Txn) → values_in txn_cmp r.sources t ≡ sources H t
   pub unfinished : r.unfinished.items ≡ unfinished_txns H
 
-abbrev pub lists_of : Registers → List (Cell × Hold) → Lists
-lists_of r holders = record {
+abbrev pub lists_of : Registers → Bool → List (Cell × Hold) → Lists
+lists_of r keeps_holders holders = record {
   readers = r.readers.entries;
   writers = r.writers.entries;
   sources = r.sources.entries;
   unfinished = r.unfinished.items;
+  keeps_holders = keeps_holders;
   holders = holders;
 }
 
@@ -77,8 +79,9 @@ pub record HasRooms (r : Registers) (n : ℕ) : Type 0 where
   pub sources : n ≤ r.sources.spare
   pub unfinished : vec_len r.unfinished + n ≤ vec_capacity r.unfinished
 
--- the sources ascend, and there is room for so many events
-pub record IsBook (r : Registers) (h : Held) (n : ℕ) : Type 0 where
+-- the sources ascend, there is room for so many events, also among the holders where they are kept, and no holders where they are not
+pub record IsBook (r : Registers) (h : Held) (keeps_holders : Bool) (n : ℕ) : Type 0 where
   pub ascending : SourcesAscend r.sources.entries
   pub rooms : HasRooms r n
-  pub holders : n ≤ h.spare
+  pub holders : keeps_holders ≡ true → n ≤ h.spare
+  pub nobody : keeps_holders ≡ false → (x : Cell) → shown h x ≡ []

@@ -1,5 +1,5 @@
 -- Who read and who put what in a history, from whom, and who is unfinished. An abort takes out what its transaction read and put.
-use Rattle.std.specs.Prelude.{Bool, cond, not, ◌&&◌, eqb, ltb, List, [], ◌∷◌, ◌++◌, filter, map, is_some}
+use Rattle.std.specs.Prelude.{◌≡◌, Bool, cond, not, ◌&&◌, eqb, ltb, List, [], ◌∷◌, ◌++◌, filter, map, is_some}
 use Rattle.std.specs.List.{list_any}
 use Rattle.teb_names.specs.declared.Txn.{Txn}
 use Rattle.teb_names.specs.declared.Cell.{Cell}
@@ -7,6 +7,7 @@ use Rattle.teb_names.specs.Cells.{same_cell}
 use Rattle.teb_history.specs.declared.Event.{Event}
 use Rattle.teb_history.specs.declared.Event.TheVariants.{Got, Put}
 use Rattle.teb_history.specs.Phases.{txns, aborted, unfinished}
+use Rattle.teb_history.specs.Accesses.{wrote}
 use Rattle.teb_history.specs.Ascending.{put_by}
 use Rattle.teb_history.specs.Live.{number_of}
 use Rattle.teb_history.specs.OwnEvents.{put_in, got_in}
@@ -39,6 +40,11 @@ reads x e = is_some (got_in x e)
 
 abbrev pub puts : Cell → Event → Bool
 puts x e = is_some (put_in x e)
+
+-- of a Put that comes after P, whether its transaction has put the cell before
+abbrev pub IsAgain : List Event → Event → Bool → Type 0
+IsAgain P (Put t x v) again = again ≡ wrote P t.0 x
+IsAgain P _ again = Unit {0}
 
 -- the same of those that are not aborted
 unfoldable pub readers : List Event → Cell → List (Txn × Txn)

@@ -12,10 +12,8 @@ ghost use Rattle.sorted_multimap.specs.Multimap.{values_in};
 ghost use Rattle.sorted_multimap.specs.LastMatches.{IsLastPlace, without_last, without_lasts};
 ghost use Rattle.dependency_book.specs.Dependencies.{reads, puts};
 ghost use Rattle.sorted_multimap.specs.Keys.{txn_cmp};
-ghost use Rattle.hold_book.specs.Books.{has_put};
 
 use arena_multimap::ArenaMultimap;
-use hold_book::Hold;
 use teb_history::{Event, History};
 use teb_names::{Cell, Txn};
 
@@ -30,13 +28,6 @@ pub(crate) fn add_source(sources: &mut ArenaMultimap<Txn, Txn>, t: Txn, from: Tx
         return;
     }
     sources.put_by_number(t, from);
-}
-
-/// Whether t is among those that have put.
-pub(crate) fn has_put(holders: &[Hold], t: Txn) -> bool
-    ensures { result ≡ has_put t.0 holders.now }
-{
-    holders.iter().any(|hold| hold.txn == t && hold.wrote)
 }
 
 /// Takes out a pair of t for each of its reads of a cell, and t from the writers of each cell that it put, the newest first.

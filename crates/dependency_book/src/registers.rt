@@ -1,20 +1,20 @@
 //! The lists of a book, and what an event of each kind adds to them or takes out.
 
-ghost use Rattle.std.specs.Prelude.{◌≡◌, ◌+◌, ℕ, List, ◌∷◌, [], Option, ℤ, OnOk};
+ghost use Rattle.std.specs.Prelude.{◌≡◌, ◌+◌, ℕ, Bool, List, ◌∷◌, [], Option, ℤ, OnOk};
 ghost use Rattle.teb_names.specs.declared.Cause.{Cause};
 ghost use Rattle.teb_names.specs.declared.Cell.{Cell};
 ghost use Rattle.teb_names.specs.declared.Session.{Session};
 ghost use Rattle.teb_names.specs.declared.Kind.{Kind};
 ghost use Rattle.teb_history.specs.declared.Event.{Event};
 ghost use Rattle.teb_history.specs.declared.Event.TheVariants as event;
+ghost use Rattle.teb_history.specs.Accesses.{wrote};
 ghost use Rattle.dependency_book.specs.Books.{RegistersOf, lists_of, SourcesAscend, HasRooms};
+ghost use Rattle.dependency_book.specs.Dependencies.{IsAgain};
 ghost use Rattle.hold_book.specs.declared.Hold.{Hold};
-ghost use Rattle.hold_book.specs.Holders.{HoldsOf, holders_in};
 ghost use Rattle.hold_book.specs.Orderly.{MayFollow};
 
 use crate::edits;
 use arena_multimap::ArenaMultimap;
-use hold_book::{Hold, HoldBook};
 use std::alloc::{AllocError, Global};
 use teb_history::{Event, History};
 use teb_names::{Cell, Txn};
@@ -47,7 +47,7 @@ impl Registers {
 
     /// Makes room for n events.
     pub(crate) fn reserve(&mut self, n: usize) -> Result<(), AllocError>
-        ensures lists { (hs : List (Cell × Hold)) → lists_of self.new hs ≡ lists_of self.old hs }
+        ensures lists { (k : Bool) (hs : List (Cell × Hold)) → lists_of self.new k hs ≡ lists_of self.old k hs }
         ensures room { OnOk result (HasRooms self.new n) }
         ensures kept { (m : ℕ) → HasRooms self.old m → HasRooms self.new m }
     {
@@ -58,13 +58,13 @@ impl Registers {
         Ok(())
     }
 
-    /// Notes the newest event of the history, of which the holders are not yet told.
-    pub(crate) fn note(&mut self, history: &History, holders: &HoldBook, e: Event)
+    /// Notes the newest event of the history. Of a Put is told whether its transaction has put the cell before.
+    pub(crate) fn note(&mut self, history: &History, e: Event, again: bool)
         requires ascending { SourcesAscend self.old.sources.entries }
         requires room { HasRooms self.old 1 }
         ensures ascending { SourcesAscend self.new.sources.entries }
         ensures room { (n : ℕ) → HasRooms self.old (n + 1) → HasRooms self.new n }
-        ensures book { (P : List Event) → history.now.events ≡ e ∷ P → HoldsOf holders.now P → RegistersOf self.old P → MayFollow P e → RegistersOf self.new (e ∷ P) }
+        ensures book { (P : List Event) → history.now.events ≡ e ∷ P → IsAgain P e again → RegistersOf self.old P → MayFollow P e → RegistersOf self.new (e ∷ P) }
     {
         match e {
             Event::Began { txn, .. } => self.begin(txn),
@@ -74,7 +74,7 @@ impl Registers {
                 from,
                 ..
             } => self.read(txn, cell, from),
-            Event::Put { txn, cell, .. } => self.put(holders.holders(cell), txn, cell),
+            Event::Put { txn, cell, .. } => self.put(txn, cell, again),
             Event::Done(txn) => self.commit(txn),
             Event::Gone { txn, .. } => self.abort(history, txn),
             Event::Ready(_) | Event::Told(_) => {}
@@ -104,15 +104,15 @@ impl Registers {
         edits::add_source(&mut self.sources, t, from);
     }
 
-    /// A transaction puts a cell that these hold.
-    fn put(&mut self, holders: &[Hold], t: Txn, cell: Cell)
+    /// A transaction puts a cell, which it has put before where `again` is true.
+    fn put(&mut self, t: Txn, cell: Cell, again: bool)
         requires ascending { SourcesAscend self.old.sources.entries }
         requires room { HasRooms self.old 1 }
         ensures ascending { SourcesAscend self.new.sources.entries }
         ensures room { (n : ℕ) → HasRooms self.old (n + 1) → HasRooms self.new n }
-        ensures book { (P : List Event) (v : Option ℤ) → holders.now ≡ holders_in P cell → RegistersOf self.old P → MayFollow P (event.Put t cell v) → RegistersOf self.new (event.Put t cell v ∷ P) }
+        ensures book { (P : List Event) (v : Option ℤ) → again ≡ wrote P t.0 cell → RegistersOf self.old P → MayFollow P (event.Put t cell v) → RegistersOf self.new (event.Put t cell v ∷ P) }
     {
-        if edits::has_put(holders, t) {
+        if again {
             return;
         }
         self.writers.push(cell, t);
