@@ -16,9 +16,14 @@ use Rattle.teb_rules.specs.Controls.{blocks, on_access, validate, gate}
 use Rattle.teb_rules.specs.Stops.{on_begin}
 use Rattle.hold_book.specs.declared.Hold.{Hold}
 use Rattle.hold_book.specs.Holders.{holders_in}
+use Rattle.phase_api.specs.Calls.{asks_holders, AreHolders}
 use Rattle.access_conflicts.specs.Blockers.{in_the_way}
 use Rattle.access_conflicts.specs.Waits.{some_txn, wait_for_txn}
 use Rattle.access_conflicts.proofs.Blockers.{holder, blocks_holds, blocks_held, found_among_holders}
+
+-- a locks node is told of the holders of the cell
+pub told_holders : (S : Setup) (H : List Event) (n : ℕ) (x : Cell) (hs : List Hold) → (row S.tree n).control ≡ Locks → AreHolders S H n x hs → hs ≡ holders_in H x
+told_holders S H n x hs e told = told (ap asks_holders e)
 
 -- what a locks node says of an access
 pub locks_access : (S : Setup) (H : List Event) (n t : ℕ) (x : Cell) (write : Bool) (hs : List Hold) (v : Verdict) → (row S.tree n).control ≡ Locks → hs ≡ holders_in H x → v ≡ wait_for_txn (holder (find (in_the_way S H n t write) hs)) → v ≡ on_access (row S.tree n).control S H n t x write

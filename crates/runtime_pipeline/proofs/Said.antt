@@ -18,6 +18,7 @@ use Rattle.teb_rules.specs.Controls.{earlier, blocks, entry_blocks, on_access, v
 use Rattle.teb_rules.specs.Stops.{on_begin}
 use Rattle.phase_api.specs.declared.facts.Facts.{Facts}
 use Rattle.phase_api.specs.FactsView.{IsOrderly, IsTyped, setup_of, events_of}
+use Rattle.phase_api.specs.Calls.{asks_holders, AreHolders}
 use Rattle.hold_book.specs.declared.Hold.{Hold}
 use Rattle.hold_book.specs.Holders.{holders_in}
 use Rattle.access_conflicts.specs.Waits.{some_txn, wait_for_txn}
@@ -29,6 +30,10 @@ use Rattle.cursor_book.proofs.Moves.{length-cursors}
 use Rattle.runtime_pipeline.specs.Predecessors.{numbered, is_ahead, before_in}
 use Rattle.runtime_pipeline.specs.Standing.{passed_some, holds_up}
 use Rattle.runtime_pipeline.proofs.Aheads.{ahead_unfinished}
+
+-- a pipeline node is told of the holders of the cell
+pub told_holders : (S : Setup) (H : List Event) (n : ℕ) (x : Cell) (hs : List Hold) → (row S.tree n).control ≡ Pipeline → AreHolders S H n x hs → hs ≡ holders_in H x
+told_holders S H n x hs e told = told (ap asks_holders e)
 
 -- the first that holds t up is found among those that are ahead of it
 module _ (S : Setup) (H : List Event) (n t : ℕ) where

@@ -7,13 +7,13 @@ ghost use Rattle.teb_history.specs.Ascending.{IsAscendingBy};
 ghost use Rattle.teb_history.specs.Live.{number_of};
 ghost use Rattle.teb_rules.specs.Setup.{Setup};
 ghost use Rattle.phase_api.specs.FactsView.{setup_of, events_of, IsOrderly, IsTyped};
-ghost use Rattle.phase_api.specs.Calls.{IsNewest, AreHolders};
+ghost use Rattle.phase_api.specs.Calls.{IsNewest};
 ghost use Rattle.hold_book.specs.declared.Hold.{Hold};
 ghost use Rattle.access_conflicts.specs.Blockers.{in_the_way};
 ghost use Rattle.sorted_multimap.specs.Multimap.{values_in};
 ghost use Rattle.sorted_multimap.specs.Keys.{txn_cmp};
 ghost use Rattle.dependency_book.specs.Dependencies.{has};
-ghost use Rattle.runtime_pipeline.specs.Predecessors.{PredecessorsOf, joined, list_of, without};
+ghost use Rattle.runtime_pipeline.specs.Predecessors.{PredecessorsOf, HoldAccessed, joined, list_of, without};
 
 use access_conflicts::is_in_the_way;
 use hold_book::Hold;
@@ -91,7 +91,7 @@ impl Predecessors {
     /// Notes the newest event of the history; with an access come the holders of its cell. It takes at most one place of the room.
     pub fn note(&mut self, facts: &Facts, node: Node, holders: &[Hold], e: Event)
         requires newest { IsNewest facts.now e node.0 }
-        requires holders { AreHolders (events_of facts.now) e holders.now }
+        requires holders { HoldAccessed (events_of facts.now) e holders.now }
         requires orderly { IsOrderly (setup_of facts.now) (drop 1 (events_of facts.now)) }
         requires stands { PredecessorsOf self.old (setup_of facts.now) (drop 1 (events_of facts.now)) node.0 }
         requires room { 0 < self.old.spare }

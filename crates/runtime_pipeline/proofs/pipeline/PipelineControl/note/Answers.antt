@@ -5,7 +5,7 @@ use Rattle.teb_rules.specs.Setup.{profile}
 use Rattle.phase_api.specs.FactsView.{setup_of, events_of}
 use Rattle.access_conflicts.proofs.Noting.{orderly_now}
 use Rattle.cursor_book.specs.Cursors.{CursorsOf}
-use Rattle.runtime_pipeline.proofs.Noting.{began_cursors, accessor_cursor, accessor_begun, kind_there, accessed_cursors, left_cursors, kind_is, profile_is, stands_next}
+use Rattle.runtime_pipeline.proofs.Noting.{come_accessed, began_cursors, accessor_cursor, accessor_begun, kind_there, accessed_cursors, left_cursors, kind_is, profile_is, stands_next}
 use Rattle.runtime_pipeline.proofs.pipeline.PipelineControl.note.Goals as goal
 
 pub bounds-facts-from : goal.bounds-facts-from
@@ -18,6 +18,9 @@ bounds-facts-from c =
     let known : kind_of H t < c.args.facts.now.tree.now.types = (orderly_now S H _ c.args.e c.requires.newest.is c.requires.newest.may c.requires.stands.orderly).typed t b in
     let profiled : c.args.facts.now.tree.now.types ≤ length c.args.facts.now.profiles.now = c.requires.stands.profiled in
     omega arith
+
+pub note-requires-clause-holders : goal.note-requires-clause-holders
+note-requires-clause-holders c = come_accessed (setup_of c.args.facts.now) (events_of c.args.facts.now) c.args.self.now.node.0 c.args.e c.args.holders.now c.requires.stands.kind c.requires.holders
 
 pub access-requires-clause-above : goal.access-requires-clause-above
 access-requires-clause-above c = (accessor_cursor _ _ _ c.args.e c.requires.newest.is c.requires.newest.may c.requires.stands.orderly _ c.requires.stands.cursors c.in-Got.txn c.in-Got.cell c.in-Got.is).0
