@@ -15,12 +15,11 @@ use Rattle.teb_rules.specs.declared.Stop.{Stop}
 use Rattle.teb_rules.specs.Stops.{stop_of, access_stop, prepare_stop, begin_stop}
 use Rattle.teb_laws.proofs.Sound.{tree_facts}
 use Rattle.hold_book.specs.declared.Hold.{Hold}
-use Rattle.hold_book.specs.Holders.{holders_in}
 use Rattle.version_chain.specs.Lists.{Version, writers_of}
 use Rattle.cc_tree.specs.Grown.{node_numbers}
 use Rattle.phase_api.specs.declared.facts.Facts.{Facts}
 use Rattle.phase_api.specs.FactsView.{setup_of, events_of, IsTyped}
-use Rattle.phase_api.specs.Calls.{IsHere}
+use Rattle.phase_api.specs.Calls.{IsHere, AreHolders}
 use Rattle.candidate_reads.proofs.InOrder.{among_In}
 use Rattle.teb_laws.proofs.Within.{path-below}
 use Rattle.engine_core.specs.declared.engine_view.EngineView.{EngineView}
@@ -57,11 +56,11 @@ module _ {K C : Type 0} (lists : C → Cell → List Version) (p : EngineView K 
 
   module _ (t : Txn) (ty : IsTyped p.facts t.0) (ns : List Node) (e : node_numbers ns ≡ path (store_in p).setup.tree (spot_of (events_in p) t.0)) where
     -- a read, a write and a Prepare, along the path of the transaction
-    pub read_along : (x : Cell) (hs : Bor (List Hold)) → hs.now ≡ holders_in (events_in p) x → IsAsking (store_in p).setup (events_in p) t.0 x → MayAskAlong lists p (Read t x hs) (node_numbers ns)
-    read_along x hs q a = along lists p (Read t x hs) ns (λ k d h. record { node = node_at (spot_of (events_in p) t.0) ns e k d h; may = (q, record { here = here_at p.facts t.0 ns k d ty e h; unfinished = a.unfinished; unprepared = a.unprepared; step = a.step }) })
+    pub read_along : (x : Cell) (hs : Bor (List Hold)) → ((n : ℕ) → n < length (store_in p).setup.tree → AreHolders (store_in p).setup (events_in p) n x hs.now) → IsAsking (store_in p).setup (events_in p) t.0 x → MayAskAlong lists p (Read t x hs) (node_numbers ns)
+    read_along x hs q a = along lists p (Read t x hs) ns (λ k d h. record { node = node_at (spot_of (events_in p) t.0) ns e k d h; may = (q (get_or ns k d).0 (node_at (spot_of (events_in p) t.0) ns e k d h), record { here = here_at p.facts t.0 ns k d ty e h; unfinished = a.unfinished; unprepared = a.unprepared; step = a.step }) })
 
-    pub write_along : (x : Cell) (hs : Bor (List Hold)) (at : Option ℕ) → hs.now ≡ holders_in (events_in p) x → IsAsking (store_in p).setup (events_in p) t.0 x → AreTold (store_in p).setup (events_in p) x t.0 at (writers_of (lists p.chains.now x)) → MayAskAlong lists p (Write t x hs at) (node_numbers ns)
-    write_along x hs at q a w = along lists p (Write t x hs at) ns (λ k d h. record { node = node_at (spot_of (events_in p) t.0) ns e k d h; may = (q, record { here = here_at p.facts t.0 ns k d ty e h; unfinished = a.unfinished; unprepared = a.unprepared; step = a.step }, w (get_or ns k d).0 (on_at (store_in p).setup (spot_of (events_in p) t.0) ns k d e h)) })
+    pub write_along : (x : Cell) (hs : Bor (List Hold)) (at : Option ℕ) → ((n : ℕ) → n < length (store_in p).setup.tree → AreHolders (store_in p).setup (events_in p) n x hs.now) → IsAsking (store_in p).setup (events_in p) t.0 x → AreTold (store_in p).setup (events_in p) x t.0 at (writers_of (lists p.chains.now x)) → MayAskAlong lists p (Write t x hs at) (node_numbers ns)
+    write_along x hs at q a w = along lists p (Write t x hs at) ns (λ k d h. record { node = node_at (spot_of (events_in p) t.0) ns e k d h; may = (q (get_or ns k d).0 (node_at (spot_of (events_in p) t.0) ns e k d h), record { here = here_at p.facts t.0 ns k d ty e h; unfinished = a.unfinished; unprepared = a.unprepared; step = a.step }, w (get_or ns k d).0 (on_at (store_in p).setup (spot_of (events_in p) t.0) ns k d e h)) })
 
     pub prepare_along : IsTrue (unfinished (events_in p) t.0) → MayAskAlong lists p (Prepare t) (node_numbers ns)
     prepare_along u = along lists p (Prepare t) ns (λ k d h. record { node = node_at (spot_of (events_in p) t.0) ns e k d h; may = (here_at p.facts t.0 ns k d ty e h, u) })

@@ -15,7 +15,7 @@ use Rattle.teb_laws.specs.Lawful.{Granted}
 use Rattle.hold_book.specs.declared.Hold.{Hold}
 use Rattle.phase_api.specs.declared.facts.Facts.{Facts}
 use Rattle.phase_api.specs.FactsView.{setup_of, events_of}
-use Rattle.phase_api.specs.Calls.{MayNote, AreHolders}
+use Rattle.phase_api.specs.Calls.{MayNote, ComeHolders}
 use Rattle.phase_api.specs.Standing.{StandAll}
 use Rattle.engine_core.specs.Noting.{StandFrom, MayNoteFrom}
 use Rattle.engine_core.specs.Decisions.{MayBegin}
@@ -85,8 +85,8 @@ module _ (f : Facts) (S : Setup) (H : List Event) (s : setup_of f ≡ S) (h : ev
   told_newest e cs q m = noted_from f e 0 cs (subst (λ (P : List Event). P ≡ e ∷ drop 1 P) (sym h) q)
       (λ n. subst (λ (T : Setup). MayNote T (drop 1 (events_of f)) n e) (sym s) (subst (λ (P : List Event). MayNote S (drop 1 P) n e) (sym h) (m n)))
 
-  pub told_holders : (e : Event) (hs : List Hold) → AreHolders H e hs → AreHolders (events_of f) e hs
-  told_holders e hs a = subst (λ (P : List Event). AreHolders P e hs) (sym h) a
+  pub told_holders : (e : Event) (hs : List Hold) → ((n : ℕ) → ComeHolders S H n e hs) → (n : ℕ) → ComeHolders (setup_of f) (events_of f) n e hs
+  told_holders e hs a n = subst (λ (T : Setup). ComeHolders T (events_of f) n e hs) (sym s) (subst (λ (P : List Event). ComeHolders S P n e hs) (sym h) (a n))
 
   pub told_standing : {K : Type 0} (node_number : K → ℕ) (stands : K → Setup → List Event → Type 0) (cs ds : List K) → ds ≡ cs → StandAll node_number stands cs S (drop 1 H) → StandFrom node_number stands 0 ds (setup_of f) (drop 1 (events_of f))
   told_standing {K} node_number stands cs ds d a =

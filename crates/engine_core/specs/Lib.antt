@@ -1,6 +1,7 @@
 pub mod Stores
 pub mod EngineModel
 pub mod Latest
+pub mod HoldersAsked
 pub mod Wholes
 pub mod Asking
 pub mod Stopping

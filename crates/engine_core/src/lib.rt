@@ -15,6 +15,7 @@ mod falls;
 mod holders;
 mod keeping;
 mod latest_txns;
+mod node_kinds;
 mod notes;
 mod put_places;
 mod read_cells;

@@ -4,7 +4,7 @@ ghost use Rattle.std.specs.Prelude.{◌≡◌, ◌<◌, ◌≤◌, ◌+◌, ℕ,
 ghost use Rattle.teb_history.specs.declared.Event.{Event};
 ghost use Rattle.teb_rules.specs.Setup.{Setup as Rules};
 ghost use Rattle.phase_api.specs.FactsView.{setup_of, events_of};
-ghost use Rattle.phase_api.specs.Calls.{MayNote, AreHolders};
+ghost use Rattle.phase_api.specs.Calls.{MayNote, ComeHolders};
 ghost use Rattle.phase_api.specs.Standing.{StandAll};
 ghost use Rattle.engine_core.specs.Noting.{StandFrom, MayNoteFrom};
 ghost use Rattle.engine_core.specs.Stores.{store_of};
@@ -17,7 +17,7 @@ use std::alloc::AllocError;
 use teb_history::{Event, History};
 use tree_toml::Setup;
 
-/// The control of each node notes the newest event. With an access come the holders of its cell.
+/// The control of each node notes the newest event. With an access come the holders of its cell, where some node is a pipeline.
 pub fn note_each<K: Control>(
     controls: &mut Vec<K>,
     history: &History,
@@ -25,7 +25,7 @@ pub fn note_each<K: Control>(
     holders: &[Hold],
     event: Event,
 )
-    requires holders { AreHolders history.now.events event holders.now }
+    requires holders { (n : ℕ) → ComeHolders (store_of setup.now).setup history.now.events n event holders.now }
     requires stand { StandAll K.node_number K.stands controls.old.items (store_of setup.now).setup (drop 1 history.now.events) }
     requires newest { history.now.events ≡ event ∷ drop 1 history.now.events }
     requires may { (n : ℕ) → MayNote (store_of setup.now).setup (drop 1 history.now.events) n event }
@@ -46,7 +46,7 @@ pub fn note_all<K: Control>(
     event: &Event,
     n: usize,
 )
-    requires holders { AreHolders (events_of facts.now) event.now holders.now }
+    requires holders { (m : ℕ) → ComeHolders (setup_of facts.now) (events_of facts.now) m event.now holders.now }
     requires stands { StandFrom K.node_number K.stands n controls.old (setup_of facts.now) (drop 1 (events_of facts.now)) }
     requires newest { MayNoteFrom facts.now event.now n controls.old }
     requires room { RoomFor K.spare 1 controls.old }

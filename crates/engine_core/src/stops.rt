@@ -18,8 +18,9 @@ use teb_names::{Cell, Node, Spot, Txn};
 use teb_rules::{Stop, Verdict};
 use version_chain::Chains;
 
-/// What the nodes of a path are asked. A read and a write come with the holders of the cell. A write also comes with the place
-/// that its version has, or would have, in the cell's chain, at least where a timestamp node is asked.
+/// What the nodes of a path are asked. A read and a write come with the holders of the cell, where some node of the tree asks for
+/// them. A write also comes with the place that its version has, or would have, in the cell's chain, at least where a timestamp
+/// node is asked.
 #[derive(Clone, Copy)]
 pub enum Question<'a> {
     Begin(Spot),
