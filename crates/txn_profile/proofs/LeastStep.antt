@@ -1,9 +1,7 @@
 -- The least step from a cursor on that has a table.
-use Rattle.std.proofs.Common.{◌≡◌, ℕ, zero, suc, ◌<◌, ◌≤◌, Bool, true, false, ◌&&◌, ◌||◌, eqb, leb, le-leb, List, [], ◌∷◌, Some, None, refl, ◌∙◌, ap, inl, inr, arith, length, get_or, find, map}
+use Rattle.std.proofs.Common.{◌≡◌, ℕ, zero, suc, ◌<◌, ◌≤◌, Bool, true, false, ◌&&◌, leb, le-leb, List, [], ◌∷◌, Some, None, refl, ◌∙◌, inl, inr, arith, length, get_or, find}
 use Rattle.std.proofs.lemmas.Bool.{cases_eq, leb-true}
 use Rattle.std.proofs.lemmas.List.Folds.{find-append}
-use Rattle.std.specs.List.{list_any}
-use Rattle.teb_names.specs.declared.Table.{Table}
 use Rattle.teb_rules.specs.Setup.{among}
 use Rattle.teb_rules.specs.Steps.{least_step}
 use Rattle.teb_rules.specs.Tree.{below}
@@ -36,8 +34,3 @@ least_step_here steps cursor i a from within e f = first_below _ (length steps) 
 pub no_least_step : (steps : List (List ℕ)) (cursor a : ℕ) → ((k : ℕ) → cursor ≤ k → k < length steps → among a (get_or steps k []) ≡ false) → least_step steps cursor a ≡ None
 unfolding least_step
 no_least_step steps cursor a f = none_below _ (length steps) (λ k h. passed_over steps cursor a k (λ g. f k g h))
-
--- what a search for the table among those of a step answers
-pub contains_table : (tables : List Table) (a : ℕ) → list_any (λ t. eqb t.0 a) tables ≡ among a (map (λ t. t.0) tables)
-contains_table [] a = refl
-contains_table (t ∷ tables) a = ap (λ (b : Bool). eqb t.0 a || b) (contains_table tables a)

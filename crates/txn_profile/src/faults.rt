@@ -69,5 +69,8 @@ fn has_twice(tables: &[Table]) -> bool
 pub fn has_table(tables: &[Table], table: Table) -> bool
     ensures { result ≡ among table.0 (numbers_of tables.now) }
 {
-    tables.contains(&table)
+    match tables {
+        [] => false,
+        [first, rest @ ..] => *first == table || has_table(rest, table),
+    }
 }
