@@ -24,3 +24,6 @@ pub mod Nearness
 pub mod Marked
 pub mod Grown
 pub mod Known
+pub mod AnyOf
+pub mod Overwritten
+pub mod LeadsOut

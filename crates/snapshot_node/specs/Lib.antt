@@ -7,3 +7,4 @@ pub mod Pivots
 pub mod Asking
 pub mod Validating
 pub mod Controls
+pub mod Leaving

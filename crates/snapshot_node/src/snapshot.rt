@@ -13,6 +13,7 @@ use crate::marks::{Mark, NO_MARK};
 use crate::register::Register;
 use crate::validation::Validation;
 use access_conflicts::wait_for;
+use batch_book::Batches;
 use hold_book::Hold;
 use phase_api::{Control, Facts};
 use std::alloc::{AllocError, Global};
@@ -41,6 +42,13 @@ impl Snapshot {
             register: Register::new(alloc, node, facts)?,
             marks: Vec::new(alloc),
         })
+    }
+
+    /// The batches of its node.
+    pub fn batches(&self) -> &Batches
+        ensures { result.now ≡ self.now.register.batches }
+    {
+        &self.register.batches
     }
 }
 

@@ -57,6 +57,13 @@ impl Stamps {
         })
     }
 
+    /// The batches of its node.
+    pub fn batches(&self) -> &Batches
+        ensures { result.now ≡ self.now.batches }
+    {
+        &self.batches
+    }
+
     /// Who read a cell, and from whom, 0 for the starting row: a pair for each Got by a transaction on whose path the node
     /// stands and that is not aborted, in the order of the history.
     pub fn reads(&self, facts: &Facts, cell: Cell) -> &[(Txn, Txn)]
