@@ -1,41 +1,7 @@
--- Tests of lists: where one passes, and how two of them combine.
-use Rattle.std.proofs.Common.{◌≡◌, ℕ, suc, ◌+◌, Bool, true, false, ◌&&◌, ◌||◌, List, [], ◌∷◌, ◌++◌, refl, sym, ap, subst, ◌∙◌, inl, inr, arith}
+-- Tests of the numbers up to one.
+use Rattle.std.proofs.Common.{◌≡◌, ℕ, suc, ◌+◌, Bool, true, false, ◌||◌, List, [], ◌∷◌, ◌++◌, refl, ap, subst, ◌∙◌, arith}
 use Rattle.std.specs.List.{list_any}
-use Rattle.std.proofs.lemmas.Bool.{or_cases, or_left, or_right}
 use Rattle.teb_history.specs.Phases.{numbers}
-use Rattle.teb_rules.specs.Serializes.{In}
-
-pub any_from : (p : ℕ → Bool) (us : List ℕ) (u : ℕ) → In u us → p u ≡ true → list_any p us ≡ true
-any_from p [] u i h = absurd i
-any_from p (v ∷ vs) u i h = elim i [ inl e ↦ or_left (p v) (list_any p vs) (subst (λ (z : ℕ). p z ≡ true) (sym e) h) | inr j ↦ or_right (p v) (list_any p vs) (any_from p vs u j h) ]
-
-pub any_is : (p : ℕ → Bool) (us : List ℕ) → list_any p us ≡ true → (u : ℕ) × (p u ≡ true)
-any_is p [] h = absurd (cc)
-any_is p (v ∷ vs) h = elim (or_cases (p v) (list_any p vs) h) [ inl e ↦ (v, e) | inr e ↦ any_is p vs e ]
-
-and_false : (a : Bool) → (a && false) ≡ false
-and_false true = refl
-and_false false = refl
-
-pub any_no : (k : ℕ → Bool) (us : List ℕ) → list_any (λ u. k u && false) us ≡ false
-any_no k [] = refl
-any_no k (u ∷ us) = ap (λ (b : Bool). b || list_any (λ u. k u && false) us) (and_false (k u)) ∙ any_no k us
-
-any_both : (k p q : ℕ → Bool) (us : List ℕ) → (list_any (λ u. k u && p u) us || list_any (λ u. k u && q u) us) ≡ list_any (λ u. k u && (p u || q u)) us
-any_both k p q [] = refl
-any_both k p q (u ∷ us) = regroup (k u) (p u) (q u) (list_any (λ u. k u && p u) us) (list_any (λ u. k u && q u) us) ∙ ap (λ (b : Bool). k u && (p u || q u) || b) (any_both k p q us)
-  where
-    regroup : (a b c d e : Bool) → ((a && b || d) || (a && c || e)) ≡ (a && (b || c) || (d || e))
-    regroup false b c d e = refl
-    regroup true true c d e = refl
-    regroup true false true true e = refl
-    regroup true false true false e = refl
-    regroup true false false d e = refl
-
--- tests of pairs, by either part first
-pub any_swap : {X : Type 0} (k : ℕ → Bool) (g : ℕ → X → Bool) (us : List ℕ) (xs : List X) → list_any (λ x. list_any (λ u. k u && g u x) us) xs ≡ list_any (λ u. k u && list_any (g u) xs) us
-any_swap k g us [] = sym (any_no k us)
-any_swap k g us (x ∷ xs) = ap (λ (b : Bool). list_any (λ u. k u && g u x) us || b) (any_swap k g us xs) ∙ any_both k (λ u. g u x) (λ u. list_any (g u) xs) us
 
 any_append : (p : ℕ → Bool) (us : List ℕ) (u : ℕ) → list_any p (us ++ u ∷ []) ≡ (list_any p us || p u)
 any_append p [] u = one (p u)
@@ -55,13 +21,6 @@ any_next p k = let e : suc k ≡ k + 1 = omega arith in subst (λ (m : ℕ). lis
   where
     above : (k : ℕ) → list_any p (numbers (suc k)) ≡ (list_any p (numbers k) || p (suc k))
     above k = unfold numbers in any_append p (numbers k) (suc k)
-
--- the first of a list decides, or leaves it to the rest
-pub any_first : {X : Type 0} (q : X → Bool) (x : X) (rest xs : List X) (r : Bool) → xs ≡ x ∷ rest → list_any q xs ≡ r → q x ≡ true → true ≡ r
-any_first q x rest xs r e h t = sym (or_left (q x) (list_any q rest) t) ∙ sym (ap (list_any q) e) ∙ h
-
-pub any_later : {X : Type 0} (q : X → Bool) (x : X) (rest xs : List X) (r : Bool) → xs ≡ x ∷ rest → list_any q xs ≡ r → q x ≡ false → list_any q rest ≡ r
-any_later q x rest xs r e h f = ap (λ (b : Bool). b || list_any q rest) (sym f) ∙ sym (ap (list_any q) e) ∙ h
 
 pub any_nobody : (p : ℕ → Bool) → list_any p (numbers 0) ≡ false
 unfolding numbers

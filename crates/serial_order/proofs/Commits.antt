@@ -1,7 +1,8 @@
 -- The committed transactions in the order of their commits, and sorted by their keys.
-use Rattle.std.proofs.Common.{◌≡◌, ◌≢◌, ℕ, zero, suc, ◌+◌, ◌<◌, ◌≤◌, Bool, true, false, cond, ◌&&◌, ◌||◌, eqb, ltb, List, [], ◌∷◌, ◌++◌, length, length-append, get_or, reverse, drop, slice_get, Some, refl, sym, ◌∙◌, ap, ap₂, subst, inl, inr, arith, eqb-true, eq-eqb}
+use Rattle.std.proofs.Common.{◌≡◌, ◌≢◌, ℕ, zero, suc, ◌+◌, ◌<◌, ◌≤◌, Bool, true, false, cond, ◌&&◌, ◌||◌, eqb, ltb, List, [], ◌∷◌, ◌++◌, length, length-append, le_refl, get_or, reverse, take, drop, slice_get, Some, refl, sym, ◌∙◌, ap, ap₂, subst, inl, inr, arith, eqb-true, eq-eqb}
 use Rattle.std.proofs.lemmas.Bool.{both_ways, cases_lt, cases_eq}
-use Rattle.std.proofs.lemmas.List.{reverse-append}
+use Rattle.std.proofs.lemmas.List.{reverse-append, take-append-le, take_all}
+use Rattle.std.proofs.Math.Seq.{drop-append_seam}
 use Rattle.std.proofs.lemmas.List.Sorted.{sum_by-IsPermutation, IsPermutation-map, All-permutation, sorted_far, ranks_by}
 use Rattle.std.specs.List.{sum_by, All}
 use Rattle.std.proofs.lemmas.List.Sums.{sum_by-cons}
@@ -23,7 +24,7 @@ use Rattle.teb_laws.proofs.Commits.{committed_in, committed-In, In-committed}
 use Rattle.teb_laws.proofs.Serial.{Commits, committed_from, serial_strict, order_each, order_all, order_sorted, Pairs-append}
 use Rattle.batch_book.proofs.Numbered.{unfinished_parts}
 use Rattle.serial_order.specs.Commits.{commits_in}
-use Rattle.serial_order.specs.Keys.{entry_numbers, cut_key, HaveKeys}
+use Rattle.serial_order.specs.Keys.{entry_numbers, key_of, cut_key, HasKey, HaveKeys}
 use Rattle.serial_order.proofs.Cut.{serially_cut}
 use Rattle.serial_order.specs.declared.serial.Entry.{Entry}
 
@@ -168,7 +169,7 @@ pairs_numbers R (e ∷ es) f = (
 )
 
 -- entries with their keys, sorted by std
-module _ (S : Setup) (a : TreeFacts S) (H : List Event) (l : Lawful S H) (es : List Entry) (done : All (λ (e : Entry). Commits H e.txn.0) es) (have : HaveKeys S H es) (up : IsSortedBy (λ d e. is_lt (slice_cmp nat_cmp d.key.items e.key.items)) es) where
+module _ (S : Setup) (a : TreeFacts S) (H : List Event) (l : Lawful S H) (ns : List ℕ) (es : List Entry) (done : All (λ (e : Entry). Commits H e.txn.0) es) (have : HaveKeys S H ns es) (up : IsSortedBy (λ d e. is_lt (slice_cmp nat_cmp (key_of ns d) (key_of ns e))) es) where
   later : (i j : ℕ) (d : Entry) → i < j → j < length es → serially S H (get_or es j d).txn.0 (get_or es i d).txn.0 ≡ false
   later i j d h k =
       let e = get_or es j d in
@@ -176,8 +177,8 @@ module _ (S : Setup) (a : TreeFacts S) (H : List Event) (l : Lawful S H) (es : L
       elim (cases_eq e.txn.0 f.txn.0) [
         | inl same ↦ subst (λ (t : ℕ). serially S H e.txn.0 t ≡ false) same ((serial_strict S a H l).irreflexive e.txn.0 (done j d k))
         | inr ne ↦ (
-            let far = sorted_far (λ (x y : Entry). is_lt (slice_cmp nat_cmp x.key.items y.key.items)) (ranks_by nat_list_cmp_total (λ (x : Entry). x.key.items)) es up i j d (omega arith) k in
-            serially_cut S a H e.txn.0 f.txn.0 l (done j d k) (done i d (omega arith)) ne ∙ ap₂ lex (sym (have j d k)) (sym (have i d (omega arith))) ∙ lex_is e.key.items f.key.items ∙ far
+            let far = sorted_far (λ (x y : Entry). is_lt (slice_cmp nat_cmp (key_of ns x) (key_of ns y))) (ranks_by nat_list_cmp_total (key_of ns)) es up i j d (omega arith) k in
+            serially_cut S a H e.txn.0 f.txn.0 l (done j d k) (done i d (omega arith)) ne ∙ ap₂ lex (sym (have j d k).is) (sym (have i d (omega arith)).is) ∙ lex_is (key_of ns e) (key_of ns f) ∙ far
             )
       ]
 
@@ -186,13 +187,13 @@ number_there [] k d low = absurd (omega arith)
 number_there (e ∷ es) zero d low = inl refl
 number_there (e ∷ es) (suc k) d low = inr (number_there es k d (omega arith))
 
-pub entries_ordered : (S : Setup) (a : TreeFacts S) (H : List Event) → Lawful S H → (xs es : List Entry) → entry_numbers xs ≡ commits_in (reverse H) → HaveKeys S H xs → IsPermutation xs es →
-    IsSortedBy (λ d e. is_lt (slice_cmp nat_cmp d.key.items e.key.items)) es → entry_numbers es ≡ serial_order S H
-entries_ordered S a H l xs es numbers have m up =
+pub entries_ordered : (S : Setup) (a : TreeFacts S) (H : List Event) → Lawful S H → (ns : List ℕ) (xs es : List Entry) → entry_numbers xs ≡ commits_in (reverse H) → HaveKeys S H ns xs → IsPermutation xs es →
+    IsSortedBy (λ d e. is_lt (slice_cmp nat_cmp (key_of ns d) (key_of ns e))) es → entry_numbers es ≡ serial_order S H
+entries_ordered S a H l ns xs es numbers have m up =
     let all = numbers ∙ commits_walk H in
     let done : All (λ (e : Entry). Commits H e.txn.0) xs = λ k d low. committed-In H (get_or xs k d).txn.0 (subst (In (get_or xs k d).txn.0) all (number_there xs k d low)) in
     order_is S a H l (entry_numbers es) (subst (λ (us : List ℕ). IsPermutation us (entry_numbers es)) all (IsPermutation-map (λ (e : Entry). e.txn.0) xs es m))
-    (pairs_numbers (λ u t. serially S H t u ≡ false) es (λ i j d. later S a H l es (All-permutation (λ (e : Entry). Commits H e.txn.0) xs es m done) (All-permutation (λ (e : Entry). e.key.items ≡ cut_key S H e.txn.0) xs es m have) up i j d))
+    (pairs_numbers (λ u t. serially S H t u ≡ false) es (λ i j d. later S a H l ns es (All-permutation (λ (e : Entry). Commits H e.txn.0) xs es m done) (All-permutation (HasKey S H ns) xs es m have) up i j d))
 
 -- one event more
 drop_there : (es : List Event) (i : ℕ) (e : Event) → slice_get es i ≡ Some e → drop i es ≡ e ∷ drop (i + 1) es
@@ -235,9 +236,23 @@ get_or-behind : (xs : List Entry) (b d : Entry) → get_or (xs ++ b ∷ []) (len
 get_or-behind [] b d = refl
 get_or-behind (x ∷ xs) b d = get_or-behind xs b d
 
-pub keys_more : (S : Setup) (H : List Event) (xs : List Entry) (e : Entry) → HaveKeys S H xs → e.key.items ≡ cut_key S H e.txn.0 → HaveKeys S H (xs ++ e ∷ [])
-keys_more S H xs e h q k d low = elim (cases_lt k (length xs)) [
-  | inl r ↦ subst (λ (x : Entry). x.key.items ≡ cut_key S H x.txn.0) (sym (get_or-before xs e d k r)) (h k d r)
-  | inr r ↦ (let z : length xs ≡ k = (let y = length-append xs (e ∷ []) in let w : k < length xs + 1 = subst (λ (m : ℕ). k < m) y low in omega arith) in
-      subst (λ (m : ℕ). (get_or (xs ++ e ∷ []) m d).key.items ≡ cut_key S H (get_or (xs ++ e ∷ []) m d).txn.0) z (subst (λ (x : Entry). x.key.items ≡ cut_key S H x.txn.0) (sym (get_or-behind xs e d)) q))
-]
+-- an entry more, whose key stands behind the numbers so far
+module _ (S : Setup) (H : List Event) (ns ms : List ℕ) where
+  key_still : (e : Entry) → HasKey S H ns e → HasKey S H (ns ++ ms) e
+  key_still e h = record {
+    within = (let y = h.within in let z = length-append ns ms in omega arith);
+    is = ap (drop e.start) (take-append-le e.end ns ms h.within) ∙ h.is;
+  }
+
+  key_new : (e : Entry) → e.start ≡ length ns → e.end ≡ length (ns ++ ms) → ms ≡ cut_key S H e.txn.0 → HasKey S H (ns ++ ms) e
+  key_new e s t q = record {
+    within = omega arith;
+    is = ap₂ (λ (i j : ℕ). drop i (take j (ns ++ ms))) s t ∙ ap (drop (length ns)) (take_all (length (ns ++ ms)) (ns ++ ms) (le_refl _)) ∙ drop-append_seam ns ms ∙ q;
+  }
+
+  pub keys_more : (xs : List Entry) (e : Entry) → HaveKeys S H ns xs → e.start ≡ length ns → e.end ≡ length (ns ++ ms) → ms ≡ cut_key S H e.txn.0 → HaveKeys S H (ns ++ ms) (xs ++ e ∷ [])
+  keys_more xs e h s t q k d low = elim (cases_lt k (length xs)) [
+    | inl r ↦ subst (HasKey S H (ns ++ ms)) (sym (get_or-before xs e d k r)) (key_still (get_or xs k d) (h k d r))
+    | inr r ↦ (let z : length xs ≡ k = (let y = length-append xs (e ∷ []) in let w : k < length xs + 1 = subst (λ (m : ℕ). k < m) y low in omega arith) in
+        subst (λ (m : ℕ). HasKey S H (ns ++ ms) (get_or (xs ++ e ∷ []) m d)) z (subst (HasKey S H (ns ++ ms)) (sym (get_or-behind xs e d)) (key_new e s t q)))
+  ]

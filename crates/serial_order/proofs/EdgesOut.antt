@@ -1,64 +1,25 @@
 -- Who has an edge at a snapshot node, and the marks of the batches with an edge out.
-use Rattle.std.proofs.Common.{◌≡◌, ℕ, ◌+◌, ◌<◌, Bool, true, false, eqb, ◌&&◌, ◌||◌, List, get_or, set, replicate, Option, ℤ, refl, sym, ap, subst, ◌∙◌, inl, inr, arith, length, eq-eqb, ne_eqb}
+use Rattle.std.proofs.Common.{◌≡◌, ℕ, ◌+◌, ◌<◌, Bool, true, false, eqb, ◌&&◌, ◌||◌, List, get_or, set, replicate, refl, sym, ap, subst, ◌∙◌, inl, inr, arith, length, eq-eqb, ne_eqb}
 use Rattle.std.specs.List.{list_any}
-use Rattle.std.proofs.lemmas.Bool.{cases_eq, le-ltb, and_parts, or_right}
+use Rattle.std.proofs.lemmas.Bool.{cases_eq, and_parts, or_right}
 use Rattle.std.proofs.lemmas.List.{length-replicate, get_or-replicate, length-set, get_or-set_same, get_or-set_other}
-use Rattle.teb_names.specs.declared.Txn.{Txn}
-use Rattle.teb_names.specs.declared.Cell.{Cell}
 use Rattle.teb_names.specs.declared.ControlKind.TheVariants.{Snapshot}
 use Rattle.teb_history.specs.declared.Event.{Event}
-use Rattle.teb_history.specs.declared.Event.TheVariants.{Began, Got, Put, Ready, Done, Gone, Told}
-use Rattle.teb_history.specs.OwnEvents.{own_events}
-use Rattle.teb_history.specs.Phases.{txns, numbers, begun_count, begun, began_at, aborted, committed}
+use Rattle.teb_history.specs.Phases.{txns, numbers, begun_count, begun, began_at, committed}
 use Rattle.teb_laws.specs.Lawful.{Lawful}
 use Rattle.teb_laws.specs.TreeFacts.{TreeFacts}
-use Rattle.teb_rules.specs.Batches.{start, concurrent, one_batch}
-use Rattle.teb_rules.specs.Controls.{edge}
+use Rattle.teb_rules.specs.Batches.{start, one_batch}
 use Rattle.teb_rules.specs.Ranks.{has_edge_out}
 use Rattle.teb_rules.specs.Setup.{Setup}
-use Rattle.teb_rules.specs.Tree.{row, on, side, meets, is_snapshot}
+use Rattle.teb_rules.specs.Tree.{row, on, side, is_snapshot}
 use Rattle.teb_laws.proofs.Batches.{start_differs}
 use Rattle.teb_laws.proofs.Intervals.{interval}
 use Rattle.teb_laws.proofs.Ranks.{commits}
 use Rattle.teb_laws.proofs.Serial.{commits_from}
 use Rattle.candidate_reads.proofs.Sources.{begun_place}
-use Rattle.snapshot_node.proofs.Edges.{gets_put, edge_found}
-use Rattle.serial_order.specs.Edges.{is_beside, gets_overwritten, has_edge, leads_out, leads_from, AreMarked, IsMarked, MarkEdges}
-use Rattle.serial_order.proofs.AnyOf.{any_no, any_swap, any_next, any_nobody}
-
-stays : (S : Setup) (H : List Event) (b : ℕ) → Lawful S H → committed H b ≡ true → aborted H b ≡ false
-unfolding aborted
-stays S H b l e = le-ltb _ _ (commits S H b l (commits_from H b e)).1
-
--- a read of a cell that somebody beside a has put, by pairs
-by_pairs : (S : Setup) (H : List Event) (n a : ℕ) (e : Event) → gets_overwritten S H n a e ≡ list_any (λ b. is_beside S H n a b && gets_put H b e) (txns H)
-by_pairs S H n a (Got t x w v) = refl
-by_pairs S H n a (Began t s k i) = sym (any_no (is_beside S H n a) (txns H))
-by_pairs S H n a (Put t x v) = sym (any_no (is_beside S H n a) (txns H))
-by_pairs S H n a (Ready t) = sym (any_no (is_beside S H n a) (txns H))
-by_pairs S H n a (Done t) = sym (any_no (is_beside S H n a) (txns H))
-by_pairs S H n a (Gone t c) = sym (any_no (is_beside S H n a) (txns H))
-by_pairs S H n a (Told t) = sym (any_no (is_beside S H n a) (txns H))
-
-pub not_got : (S : Setup) (H : List Event) (n a : ℕ) (e : Event) → ((t : Txn) (x : Cell) (w : Txn) (v : Option ℤ) → e ≡ Got t x w v → ⊥) → gets_overwritten S H n a e ≡ false
-not_got S H n a (Got t x w v) f = absurd (f t x w v refl)
-not_got S H n a (Began t s k i) f = refl
-not_got S H n a (Put t x v) f = refl
-not_got S H n a (Ready t) f = refl
-not_got S H n a (Done t) f = refl
-not_got S H n a (Gone t c) f = refl
-not_got S H n a (Told t) f = refl
-
--- a has an edge where one of its reads is of such a cell
-pub by_reads : (S : Setup) (f : TreeFacts S) (H : List Event) (n a : ℕ) → Lawful S H → (row S.tree n).control ≡ Snapshot → list_any (gets_overwritten S H n a) (own_events H a) ≡ has_edge S H n a
-by_reads S f H n a l c =
-    (λ j. list_any (λ e. by_pairs S H n a e j) (own_events H a))
-    ∙ any_swap (is_beside S H n a) (gets_put H) (txns H) (own_events H a)
-    ∙ (λ j. list_any (λ b. as_edge b (committed H b) refl j) (txns H))
-  where
-    as_edge : (b : ℕ) (z : Bool) → committed H b ≡ z → ((z && (meets S H n a b && concurrent S H n a b)) && list_any (gets_put H b) (own_events H a)) ≡ (z && edge S H n a b)
-    as_edge b true e = edge_found S f H n l c a b (stays S H b l e)
-    as_edge b false e = refl
+use Rattle.snapshot_node.specs.Leaving.{has_edge}
+use Rattle.serial_order.specs.Edges.{leads_out, leads_from, AreMarked, IsMarked, MarkEdges}
+use Rattle.serial_order.proofs.AnyOf.{any_next, any_nobody}
 
 leads_all : (S : Setup) (H : List Event) (n t : ℕ) → list_any (λ a. committed H a && one_batch S H n t a && has_edge S H n a) (txns H) ≡ has_edge_out S H n t
 unfolding has_edge_out

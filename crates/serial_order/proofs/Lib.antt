@@ -1,14 +1,12 @@
 pub mod AnyOf
-pub mod Beside
 pub mod Commits
 pub mod Cut
 pub mod EdgesOut
+pub mod OfControls
 pub mod LastCommitted
 pub mod Left
 pub mod OfEngines
-pub mod Placed
 pub mod Places
-pub mod Put
 pub mod Typed
 pub mod Values
 pub mod Walks

@@ -1,42 +1,21 @@
--- A walk over a lawful history: the event at a position, and what a book of batches makes of it.
+-- A walk over a lawful history: the event at a position.
 use Rattle.std.proofs.Common.{◌≡◌, ℕ, suc, ◌+◌, ◌<◌, ◌≤◌, true, List, ◌∷◌, length, reverse, Some, slice_get, refl, sym, ap, subst, ◌∙◌, arith, eq-eqb, lt-ltb}
 use Rattle.std.proofs.lemmas.Option.{get_or_from_slice_get}
 use Rattle.teb_names.specs.declared.Txn.{Txn}
-use Rattle.teb_names.specs.declared.Session.{Session}
-use Rattle.teb_names.specs.declared.Kind.{Kind}
-use Rattle.teb_names.specs.declared.Cause.{Cause}
 use Rattle.teb_history.specs.declared.Event.{Event}
-use Rattle.teb_history.specs.declared.Event.TheVariants.{Began, Got, Put, Ready, Done, Gone, Told}
+use Rattle.teb_history.specs.declared.Event.TheVariants.{Done}
 use Rattle.teb_history.specs.Positions.{upto}
 use Rattle.teb_history.specs.Phases.{begun, began_at, done_at, is_done, unfinished}
 use Rattle.teb_history.proofs.Chains.{upto-suc}
 use Rattle.teb_rules.specs.Setup.{Setup}
 use Rattle.teb_laws.specs.Lawful.{Lawful, Granted}
-use Rattle.teb_laws.proofs.Positions.{length-upto}
-use Rattle.teb_laws.proofs.Timeline.{Lawful-upto, granted_at, first_event-le, unfinished-upto, kind-lt}
+use Rattle.teb_laws.proofs.Timeline.{granted_at, first_event-le, unfinished-upto, kind-lt}
 use Rattle.phase_api.specs.declared.facts.Facts.{Facts}
 use Rattle.phase_api.specs.FactsView.{setup_of, events_of, IsTyped}
-use Rattle.batch_book.specs.Book.{Book}
-use Rattle.batch_book.specs.Histories.{IsNumbered, MayCome, BatchesOf, Passes}
-use Rattle.batch_book.proofs.Telling.{lawful_numbered, batches_passed}
 
 pub begun_from : (H : List Event) (t : ℕ) → began_at H t < length H → begun H t ≡ true
 unfolding begun
 begun_from H t h = lt-ltb _ _ h
-
-numbered_now : (e : Event) (P : List Event) → IsNumbered (e ∷ P) → MayCome P e
-unfolding IsNumbered
-numbered_now e P h = h.0
-
--- an event that neither begins nor finishes anybody
-pub passes_rest : (S : Setup) (P : List Event) (n : ℕ) (e : Event) → ((t : Txn) (s : Session) (k : Kind) (i : ℕ) → e ≡ Began t s k i → ⊥) → ((t : Txn) → e ≡ Done t → ⊥) → ((t : Txn) (c : Cause) → e ≡ Gone t c → ⊥) → Passes S P n e
-passes_rest S P n (Began t s k i) f g h = absurd (f t s k i refl)
-passes_rest S P n (Done t) f g h = absurd (g t refl)
-passes_rest S P n (Gone t c) f g h = absurd (h t c refl)
-passes_rest S P n (Got t x w v) f g h = tt
-passes_rest S P n (Put t x v) f g h = tt
-passes_rest S P n (Ready t) f g h = tt
-passes_rest S P n (Told t) f g h = tt
 
 module _ (S : Setup) (H : List Event) (i : ℕ) (e : Event) (l : Lawful S H) (low : i < length H) (there : slice_get (reverse H) i ≡ Some e) where
   pub event_there : upto (i + 1) H ≡ e ∷ upto i H
@@ -45,21 +24,8 @@ module _ (S : Setup) (H : List Event) (i : ℕ) (e : Event) (l : Lawful S H) (lo
   event_next : upto (suc i) H ≡ e ∷ upto i H
   event_next = subst (λ (k : ℕ). upto k H ≡ e ∷ upto i H) (let z : i + 1 ≡ suc i = omega arith in z) event_there
 
-  pub may_come : MayCome (upto i H) e
-  may_come = numbered_now e (upto i H) (subst IsNumbered event_there (lawful_numbered S (upto (i + 1) H) (Lawful-upto S H (i + 1) l)))
-
   pub granted_there : Granted S (upto i H) e
   granted_there = granted_at S H i e l event_next
-
-  pub place_there : i ≡ length (upto i H)
-  place_there = sym (length-upto i H (let z : i ≤ length H = omega arith in z))
-
-  -- the batches with the event are those up to the next position
-  pub stands_next : (b : Book) (n : ℕ) → BatchesOf b S (e ∷ upto i H) n → BatchesOf b S (upto (i + 1) H) n
-  stands_next b n h = subst (λ (Q : List Event). BatchesOf b S Q n) (sym event_there) h
-
-  pub stands_passed : (b : Book) (n : ℕ) → BatchesOf b S (upto i H) n → Passes S (upto i H) n e → BatchesOf b S (upto (i + 1) H) n
-  stands_passed b n h p = stands_next b n (batches_passed b S (upto i H) n e h may_come p)
 
   -- the Done of t stands at its position
   pub done_here : (t : Txn) → e ≡ Done t → (i ≡ done_at H t.0) × (unfinished (upto i H) t.0 ≡ true)

@@ -1,10 +1,12 @@
--- What is said of facts with books.
+-- What is said of facts with controls.
 use Rattle.std.specs.Prelude.{◌<◌, ℕ, List, length, IsTrue}
 use Rattle.teb_history.specs.declared.Event.{Event}
 use Rattle.teb_rules.specs.Setup.{Setup}
 use Rattle.teb_rules.specs.Tree.{has_batches}
 use Rattle.phase_api.specs.FactsView.{setup_of, events_of}
 use Rattle.phase_api.specs.Calls.{IsHere}
+use Rattle.phase_api.specs.Standing.{StandAll}
+use Rattle.engine_core.specs.AnyControls.{any_node_number, any_stands}
 use Rattle.serial_order.specs.declared.booked.Booked.{Booked}
 
 abbrev pub setup : Booked → Setup
@@ -12,6 +14,10 @@ setup b = setup_of b.facts.now
 
 abbrev pub history : Booked → List Event
 history b = events_of b.facts.now
+
+-- the controls are those of all nodes, and stand for the history
+abbrev pub ControlsStand : Booked → Type 0
+ControlsStand b = StandAll any_node_number any_stands b.controls.now (setup_of b.facts.now) (events_of b.facts.now)
 
 -- n is a node of the tree
 abbrev pub IsNode : Booked → ℕ → Type 0

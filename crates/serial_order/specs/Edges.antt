@@ -1,49 +1,16 @@
 -- Edges of a snapshot node to committed transactions.
 use Rattle.std.specs.Prelude.{◌≡◌, ℕ, ◌<◌, Bool, false, ◌&&◌, eqb, List, length, slice_index_or, IsTrue}
 use Rattle.std.specs.List.{list_any}
-use Rattle.teb_names.specs.declared.Cell.{Cell}
 use Rattle.teb_names.specs.declared.ControlKind.TheVariants.{Snapshot}
 use Rattle.teb_history.specs.declared.Event.{Event}
-use Rattle.teb_history.specs.declared.Event.TheVariants.{Got}
-use Rattle.teb_history.specs.Phases.{txns, begun, committed}
-use Rattle.teb_history.specs.Accesses.{wrote}
+use Rattle.teb_history.specs.Phases.{begun, committed}
 use Rattle.teb_rules.specs.Setup.{Setup}
-use Rattle.teb_rules.specs.Tree.{row, on, meets}
-use Rattle.teb_rules.specs.Batches.{start, concurrent}
-use Rattle.teb_rules.specs.Controls.{edge}
+use Rattle.teb_rules.specs.Tree.{row, on}
+use Rattle.teb_rules.specs.Batches.{start}
 use Rattle.teb_rules.specs.Ranks.{has_edge_out}
-use Rattle.teb_laws.specs.Lawful.{Lawful}
-use Rattle.serial_order.specs.declared.writes.Span.{Span}
-use Rattle.serial_order.specs.declared.writes.Write.{Write}
-use Rattle.serial_order.specs.Writes.{span, AreWrites}
+use Rattle.snapshot_node.specs.Leaving.{has_edge}
 
--- b is committed and of another side than a, and their batches are concurrent
-abbrev pub is_beside : Setup → List Event → ℕ → ℕ → ℕ → Bool
-is_beside S H n a b = committed H b && (meets S H n a b && concurrent S H n a b)
-
--- such a transaction has put x
-abbrev pub is_overwritten : Setup → List Event → ℕ → ℕ → Cell → Bool
-is_overwritten S H n a x = list_any (λ b. is_beside S H n a b && wrote H b x) (txns H)
-
--- the event is a Got of such a cell
-abbrev pub gets_overwritten : Setup → List Event → ℕ → ℕ → Event → Bool
-gets_overwritten S H n a (Got s x w v) = is_overwritten S H n a x
-gets_overwritten S H n a _ = false
-
--- ws are the writes at the snapshot node n, which is on a's path, and r is a's batch
-pub record IsReader (S : Setup) (H : List Event) (n a : ℕ) (ws : List Write) (r : Span) : Type 0 where
-  pub lawful : Lawful S H
-  pub snapshot : (row S.tree n).control ≡ Snapshot
-  pub begun : IsTrue (begun H a)
-  pub on : IsTrue (on S H n a)
-  pub writes : AreWrites S H n ws
-  pub span : r ≡ span S H n a
-
--- a has an edge to a committed transaction
-abbrev pub has_edge : Setup → List Event → ℕ → ℕ → Bool
-has_edge S H n a = list_any (λ b. committed H b && edge S H n a b) (txns H)
-
--- a is committed, with n on its path, and has one
+-- a is committed, with n on its path, and has an edge to a committed transaction
 abbrev pub leads_out : Setup → List Event → ℕ → ℕ → Bool
 leads_out S H n a = committed H a && on S H n a && has_edge S H n a
 

@@ -1,5 +1,5 @@
 -- Committed transactions with their keys.
-use Rattle.std.specs.Prelude.{◌≡◌, ℕ, Bool, true, false, cond, map, List, [], ◌∷◌}
+use Rattle.std.specs.Prelude.{◌≡◌, ℕ, ◌≤◌, Bool, true, false, cond, map, List, [], ◌∷◌, length, take, drop}
 use Rattle.std.specs.List.{All}
 use Rattle.teb_names.specs.declared.ControlKind.{ControlKind}
 use Rattle.teb_names.specs.declared.ControlKind.TheVariants.{Locks, Pipeline, Timestamp, Snapshot}
@@ -31,6 +31,14 @@ key_along S H t ns = cut_of (λ n. rank S H n t) (λ n. side S H n t) (λ n. ran
 abbrev pub cut_key : Setup → List Event → ℕ → List ℕ
 cut_key S H t = key_along S H t (path S.tree (spot_of H t))
 
--- each has its key
-abbrev pub HaveKeys : Setup → List Event → List Entry → Type 0
-HaveKeys S H es = All (λ e. e.key.items ≡ cut_key S H e.txn.0) es
+-- where its key stands among the numbers of all keys
+abbrev pub key_of : List ℕ → Entry → List ℕ
+key_of ns e = drop e.start (take e.end ns)
+
+pub record HasKey (S : Setup) (H : List Event) (ns : List ℕ) (e : Entry) : Type 0 where
+  pub within : e.end ≤ length ns
+  pub is : key_of ns e ≡ cut_key S H e.txn.0
+
+-- each has its key there
+abbrev pub HaveKeys : Setup → List Event → List ℕ → List Entry → Type 0
+HaveKeys S H ns es = All (HasKey S H ns) es

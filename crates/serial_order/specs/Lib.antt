@@ -1,4 +1,3 @@
-pub mod Books
 pub mod Props
 pub mod Booked
 pub mod Commits
@@ -6,5 +5,4 @@ pub mod Edges
 pub mod Keys
 pub mod Laws
 pub mod Tables
-pub mod Writes
 pub mod EndState

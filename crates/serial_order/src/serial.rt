@@ -6,25 +6,27 @@ ghost use Rattle.teb_rules.specs.Ranks.{serial_order};
 ghost use Rattle.teb_rules.specs.Serializes.{Serializes};
 ghost use Rattle.teb_laws.specs.Lawful.{Lawful};
 ghost use Rattle.phase_api.specs.FactsView.{setup_of, events_of};
-ghost use Rattle.serial_order.specs.Booked.{history, told};
+ghost use Rattle.phase_api.specs.Standing.{StandAll};
+ghost use Rattle.engine_core.specs.AnyControls.{any_node_number, any_stands};
+ghost use Rattle.serial_order.specs.Booked.{ControlsStand, history, told};
 ghost use Rattle.serial_order.specs.Commits.{commits_in, txn_numbers};
 ghost use Rattle.serial_order.specs.Edges.{MarkEdges};
-ghost use Rattle.serial_order.specs.Keys.{entry_numbers, HaveKeys};
+ghost use Rattle.serial_order.specs.Keys.{entry_numbers, key_of, HaveKeys};
 
 use crate::booked::Booked;
-use crate::books::books;
-use engine_core::Engine;
+use engine_core::{AnyControl, Engine};
 use phase_api::Facts;
 use std::alloc::{AllocError, Global};
 use teb_history::{Event, History};
 use teb_names::{ControlKind, Node, Txn};
 use version_chain::Chains;
 
-/// A committed transaction with its key.
-#[derive(Drop)]
+/// A committed transaction, and where its key starts and ends among the numbers of all keys.
+#[derive(Clone, Copy)]
 pub(crate) struct Entry {
     txn: Txn,
-    key: Vec<usize>,
+    start: usize,
+    end: usize,
 }
 
 /// The committed transactions in the serial order, which serializes the history.
@@ -38,18 +40,19 @@ pub fn order<C: Chains>(alloc: Global, engine: &Engine<C>) -> Result<Vec<Txn>, A
         tree: &setup.tree,
         profiles: &setup.profiles,
     };
-    order_of(alloc, &facts)
+    order_of(alloc, &facts, engine.controls())
 }
 
 // The same, of what controls are told. Under a root of locks or a pipeline it is the order of the commits.
-fn order_of(alloc: Global, facts: &Facts) -> Result<Vec<Txn>, AllocError>
+fn order_of(alloc: Global, facts: &Facts, controls: &[AnyControl]) -> Result<Vec<Txn>, AllocError>
     requires sound { IsSound (setup_of facts.now) }
     requires lawful { Lawful (setup_of facts.now) (events_of facts.now) }
+    requires controls { StandAll any_node_number any_stands controls.now (setup_of facts.now) (events_of facts.now) }
     ensures { IfOk result (λ v. txn_numbers v.items ≡ serial_order (setup_of facts.now) (events_of facts.now)) }
 {
     match facts.tree.row(Node(0)).control {
         ControlKind::Locks | ControlKind::Pipeline => order_of_commits(alloc, facts.history),
-        ControlKind::Timestamp | ControlKind::Snapshot => order_by_keys(alloc, facts),
+        ControlKind::Timestamp | ControlKind::Snapshot => order_by_keys(alloc, facts, controls),
     }
 }
 
@@ -67,39 +70,57 @@ fn order_of_commits(alloc: Global, history: &History) -> Result<Vec<Txn>, AllocE
 }
 
 // The committed transactions sorted by keys.
-fn order_by_keys(alloc: Global, facts: &Facts) -> Result<Vec<Txn>, AllocError>
+fn order_by_keys(
+    alloc: Global,
+    facts: &Facts,
+    controls: &[AnyControl],
+) -> Result<Vec<Txn>, AllocError>
     requires sound { IsSound (setup_of facts.now) }
     requires lawful { Lawful (setup_of facts.now) (events_of facts.now) }
+    requires controls { StandAll any_node_number any_stands controls.now (setup_of facts.now) (events_of facts.now) }
     ensures { IfOk result (λ v. txn_numbers v.items ≡ serial_order (setup_of facts.now) (events_of facts.now)) }
 {
-    let books = books(alloc, facts)?;
-    let booked = Booked {
-        facts,
-        books: &books,
-    };
+    let booked = Booked { facts, controls };
     let marks = booked.edges_out(alloc)?;
-    let mut entries = booked.entries(alloc, &marks)?;
-    entries.sort_by(|a, b| a.key.cmp(&b.key))?;
+    let mut numbers = Vec::new(alloc);
+    let mut entries = booked.entries(alloc, &marks, &mut numbers)?;
+    entries.sort_by(|a, b| key_of(&numbers, a).cmp(key_of(&numbers, b)))?;
     txns_of(alloc, &entries)
 }
 
 impl<'a> Booked<'a> {
-    // The committed transactions in the order of their commits, each with its key.
-    fn entries(&self, alloc: Global, marks: &[bool]) -> Result<Vec<Entry>, AllocError>
-        requires { told self.now MarkEdges marks.now }
+    // The committed transactions in the order of their commits, each with its key, which it appends to the numbers.
+    fn entries(
+        &self,
+        alloc: Global,
+        marks: &[bool],
+        numbers: &mut Vec<usize>,
+    ) -> Result<Vec<Entry>, AllocError>
+        requires controls { ControlsStand self.now }
+        requires marks { told self.now MarkEdges marks.now }
         ensures numbers { IfOk result (λ v. entry_numbers v.items ≡ commits_in (reverse (history self.now))) }
-        ensures keys { IfOk result (λ v. told self.now HaveKeys v.items) }
+        ensures keys { IfOk result (λ v. told self.now HaveKeys numbers.new.items v.items) }
     {
         let mut entries = Vec::new(alloc);
         for i in 0..self.facts.history.len() {
             let Event::Done(txn) = self.facts.history.at(i) else {
                 continue;
             };
-            let key = self.key(alloc, marks, txn, i)?;
-            entries.push(Entry { txn, key })?;
+            let start = numbers.len();
+            self.push_key(numbers, marks, txn, i)?;
+            let end = numbers.len();
+            entries.push(Entry { txn, start, end })?;
         }
         Ok(entries)
     }
+}
+
+// The key of an entry, among the numbers of all keys.
+fn key_of<'k>(numbers: &'k [usize], entry: &Entry) -> &'k [usize]
+    ensures { result.now ≡ key_of numbers.now entry.now }
+{
+    let ended = &numbers[..entry.end.min(numbers.len())];
+    &ended[entry.start.min(ended.len())..]
 }
 
 // The transactions alone.

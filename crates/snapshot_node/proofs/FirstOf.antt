@@ -72,9 +72,5 @@ module _ (P : ℕ → Type 0) (d : Txn) where
       pub first_is : (i : ℕ) → i < length ys → NoneBefore ys i → P (get_or ys i d).0 → IsLeast P (Some (get_or ys i d))
       first_is i l none p = (p, λ u q. first_least ys i u ascend l none (there u q) q)
 
-      -- whoever has P is numbered no lower than who stands at the place up to which nobody has it
-      pub at_least : (i : ℕ) → i < length ys → NoneBefore ys i → (u : ℕ) → P u → (get_or ys i d).0 ≤ u
-      at_least i l none u q = first_least ys i u ascend l none (there u q) q
-
       pub first_not : (i : ℕ) → length ys ≤ i → NoneBefore ys i → (u : ℕ) → P u → ⊥
       first_not i l none u p = none_at_all ys i u l none (there u p) p

@@ -25,7 +25,7 @@ pub told_still : (S : Setup) (H : List Event) (n : ℕ) (a b : List Mark) (u w :
 told_still S H n a b u w g t = record { left = g.left _ t.left; entered = g.entered _ t.entered; ahead = g.ahead _ t.ahead; behind = g.behind _ t.behind }
 
 -- where one of some transactions stands
-place_among : (d : Txn) (xs : List Txn) (u : ℕ) → is_among u xs ≡ true → (j : ℕ) × (j < length xs) × ((get_or xs j d).0 ≡ u)
+pub place_among : (d : Txn) (xs : List Txn) (u : ℕ) → is_among u xs ≡ true → (j : ℕ) × (j < length xs) × ((get_or xs j d).0 ≡ u)
 place_among d [] u h = absurd (cc)
 place_among d (x ∷ xs) u h = elim (or_cases (eqb x.0 u) (is_among u xs) h) [
   | inl e ↦ (zero, (let z : zero < suc (length xs) = omega arith in z), eqb-true x.0 u e)

@@ -27,3 +27,4 @@ pub mod Known
 pub mod AnyOf
 pub mod Overwritten
 pub mod LeadsOut
+pub mod Closing

@@ -1,30 +1,32 @@
 //! Whether an edge leads from a committed transaction to a committed one.
 //!
 //! A read and a committed write of its cell make an edge where their batches are of different sides and concurrent: the version
-//! read is then before the one written. The batches with committed writes of one cell lie one behind the other, in the order in
-//! which the writers are numbered, so that none behind the first that starts after the reader's has closed is concurrent with it.
+//! read is then before the one written. The batches of the writers of one cell lie one behind the other, in the order in which the
+//! writers are numbered. So it is enough to look at the last committed one whose batch starts before the reader's closes.
 
 ghost use Rattle.std.specs.Prelude.{◌≡◌, IsTrue};
+ghost use Rattle.sorted_multimap.specs.LastMatches.{IsLastPlace};
+ghost use Rattle.teb_rules.specs.Batches.{close};
 ghost use Rattle.teb_history.specs.Phases.{committed};
 ghost use Rattle.teb_rules.specs.Accepted.{IsSound};
 ghost use Rattle.teb_laws.specs.Lawful.{Lawful};
 ghost use Rattle.phase_api.specs.FactsView.{setup_of, events_of};
 ghost use Rattle.phase_api.specs.Calls.{IsHere};
 ghost use Rattle.snapshot_node.specs.Asking.{IsAt, history, there};
-ghost use Rattle.snapshot_node.specs.Leaving.{has_edge, is_overwritten};
+ghost use Rattle.snapshot_node.specs.Leaving.{has_edge, is_overwritten, AreStarted};
 ghost use Rattle.snapshot_node.specs.Marks.{MarkedStand};
 
 use crate::asked::Asked;
 use crate::marks::{mark_at, place_of};
 use crate::snapshot::Snapshot;
 use phase_api::Facts;
-use teb_history::Event;
+use teb_history::{Event, History};
 use teb_names::{Cell, Txn};
 
 impl Snapshot {
     /// Whether an edge leads from `a`, which is committed and on whose path the node stands, to a committed transaction. It costs
-    /// one look where no edge is known to lead from `a`, and else, for each read of `a`, a look at each writer of the cell from `a`'s
-    /// horizon up to the first one whose batch starts after that of `a` has closed.
+    /// one look where no edge is known to lead from `a`, and else, for each read of `a`, a binary search in the writers of the cell,
+    /// and a look at each unfinished one that comes before the one that is found.
     pub fn has_edge(&self, facts: &Facts, a: Txn) -> bool
         requires stands { MarkedStand self.now.register.node.0 self.now.register.batches self.now.register.readers self.now.register.writers self.now.marks.items (setup_of facts.now) (events_of facts.now) }
         requires sound { IsSound (setup_of facts.now) }
@@ -62,22 +64,54 @@ impl<'a> Asked<'a> {
         false
     }
 
-    // Whether a committed transaction across from `a` has put a cell.
+    // Whether a committed transaction across from `a` has put a cell. The last committed writer whose batch starts before that of
+    // `a` closes is one, if there is any.
     fn is_overwritten(&self, a: Txn, cell: Cell) -> bool
         requires lawful { Lawful (setup_of self.now.facts.now) (history self.now) }
         requires here { IsAt self.now a.0 }
         ensures { result ≡ there self.now is_overwritten a.0 cell }
     {
-        for u in self.late_writers(a, cell) {
-            if self.facts.history.is_committed(*u) {
-                if self.is_closed_before(a, *u) {
-                    return false;
-                }
-                if self.register.batches.overlap(a, *u) {
-                    return true;
-                }
+        let started = self.started_before(cell, self.close_of(a));
+        match last_committed(self.facts.history, started) {
+            Some(i) => self.register.batches.overlap(a, started[i]),
+            None => false,
+        }
+    }
+
+    // Where the batch of `a` closes: the length of the history while it is open.
+    fn close_of(&self, a: Txn) -> usize
+        requires { IsAt self.now a.0 }
+        ensures { result ≡ there self.now close a.0 }
+    {
+        self.register
+            .batches
+            .close(a)
+            .unwrap_or(self.facts.history.len())
+    }
+
+    // The writers of a cell whose batches start before a position. They come first, and are found by a binary search.
+    fn started_before(&self, cell: Cell, at: usize) -> &[Txn]
+        requires { Lawful (setup_of self.now.facts.now) (history self.now) }
+        ensures { there self.now AreStarted cell at result.now }
+    {
+        let writers = self.writers(cell);
+        let mut first = 0;
+        let mut end = writers.len();
+        while first < end {
+            let middle = first + (end - first) / 2;
+            if self.register.batches.start(writers[middle]) < at {
+                first = middle + 1;
+            } else {
+                end = middle;
             }
         }
-        false
+        &writers[..first]
     }
+}
+
+// The place of the last of some transactions that is committed.
+fn last_committed(history: &History, txns: &[Txn]) -> Option<usize>
+    ensures { IsLastPlace (λ u. committed history.now.events u.0) txns.now result }
+{
+    txns.iter().rposition(|u| history.is_committed(*u))
 }
