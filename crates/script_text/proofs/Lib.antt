@@ -3,6 +3,7 @@ pub mod Places
 pub mod LineSteps
 pub mod VerbWords
 pub mod WordSteps
+pub mod FrontSteps
 pub mod Digits
 pub mod NameBytes
 pub mod ScriptSteps

@@ -6,7 +6,7 @@ use Rattle.script_text.specs.Words.{words_of}
 use Rattle.script_text.specs.declared.script.grammar.Verb.{Verb}
 use Rattle.script_text.specs.declared.script.grammar.Verb.TheVariants as verb
 use Rattle.script_text.specs.declared.error.LineWhy.TheVariants as why
-use Rattle.script_text.specs.Grammar.{arguments, verb_of, line_in, line_of, spot_in, cell_in, cell_and_value_in, cell_and_count_in, nothing_in, ◌>>=◌}
+use Rattle.script_text.specs.Grammar.{arguments, verb_of, line_in, spot_in, cell_in, cell_and_value_in, cell_and_count_in, nothing_in, ◌>>=◌}
 
 module _ (names : NameBook) (format : ℕ) where
   arguments_many : (v : Verb) (c d e f : List ℕ) (more : List (List ℕ)) → arguments names format v (c ∷ d ∷ e ∷ f ∷ []) ≡ arguments names format v (c ∷ d ∷ e ∷ f ∷ more)
@@ -36,6 +36,5 @@ module _ (names : NameBook) (format : ℕ) where
   first_six n (a ∷ b ∷ c ∷ d ∷ e ∷ []) = refl
   first_six n (a ∷ b ∷ c ∷ d ∷ e ∷ f ∷ more) = rw (after_verb (verb_of format b) c d e f more)
 
-  pub line_of_first : (n : ℕ) (line : List ℕ) (ws : List (List ℕ)) → ws ≡ take 6 (words_of line) → line_in names format n ws ≡ line_of names format n line
-  unfolding line_of
+  pub line_of_first : (n : ℕ) (line : List ℕ) (ws : List (List ℕ)) → ws ≡ take 6 (words_of line) → line_in names format n ws ≡ line_in names format n (words_of line)
   line_of_first n line ws is = rw (is) (first_six n (words_of line))

@@ -65,19 +65,30 @@ module _ (p : ℕ → Bool) where
       split d i n ∙ ap (λ b. cond b (length c + position_or_len p (drop (i + n) d)) (position_or_len p c)) (ne_eqb _ _ (λ (e : position_or_len p c ≡ length c). omega (arith, empty_mask c e)))
       ∙ sym (trailing_mask_l p 64 c (omega (arith, length-chunk i n d room)) some)
 
-  stop_within : (d : List ℕ) (i n : ℕ) → i + n ≤ length d → n ≤ 64 → 0 < mask_l (map p (chunk i n d)) → count_trailing_zeros 64 (mask_l (map p (chunk i n d))) < n
+  pub stop_within : (d : List ℕ) (i n : ℕ) → i + n ≤ length d → n ≤ 64 → 0 < mask_l (map p (chunk i n d)) → count_trailing_zeros 64 (mask_l (map p (chunk i n d))) < n
   stop_within d i n room short some =
       let c = chunk i n d in
       let long = length-chunk i n d room in
       let stops : position_or_len p c ≡ length c → ⊥ = λ e. omega (arith, empty_mask c e, some) in
       omega (arith, trailing_mask_l p 64 c (omega (arith, long)) some, prefix_len-le-length (λ x. not (p x)) c, long, stops)
 
-  -- the lowest bit that is set in the mask of the first n, behind the first i
-  module _ (d : List ℕ) (mask i n : ℕ) (room : n ≤ length d) (short : n ≤ 64) (is : mask ≡ mask_l (map p (chunk 0 n d))) (within : i ≤ n) (some : mask / 2 ^ i ≡ 0 → ⊥) where
-    behind : mask / 2 ^ i ≡ mask_l (map p (chunk i (n - i) d))
-    behind =
+  -- the mask of the first n, behind the first i
+  module _ (d : List ℕ) (mask i n : ℕ) (room : n ≤ length d) (is : mask ≡ mask_l (map p (chunk 0 n d))) (within : i ≤ n) where
+    rest_mask : mask / 2 ^ i ≡ mask_l (map p (chunk i (n - i) d))
+    rest_mask =
         ap (λ m. m / 2 ^ i) is ∙ mask_behind (map p (chunk 0 n d)) i
         ∙ ap mask_l (drop-map p i (take n d) ∙ ap (map p) (ap (λ m. drop i (take m d)) (omega arith) ∙ drop-take i (n - i) d))
+
+    -- no bit is set there
+    pub none_ahead : mask / 2 ^ i ≡ 0 → position_or_len p (drop i d) ≡ n - i + position_or_len p (drop n d)
+    none_ahead none =
+        let end : i + (n - i) ≡ n = omega (arith, within) in
+        run_through d i (n - i) (omega (arith, room, within)) (sym rest_mask ∙ none) ∙ ap (λ k. n - i + position_or_len p (drop k d)) end
+
+  -- the lowest bit that is set there
+  module _ (d : List ℕ) (mask i n : ℕ) (room : n ≤ length d) (short : n ≤ 64) (is : mask ≡ mask_l (map p (chunk 0 n d))) (within : i ≤ n) (some : mask / 2 ^ i ≡ 0 → ⊥) where
+    behind : mask / 2 ^ i ≡ mask_l (map p (chunk i (n - i) d))
+    behind = rest_mask d mask i n room is within
 
     pub next_at : i + count_trailing_zeros 64 (mask / 2 ^ i) ≡ i + position_or_len p (drop i d)
     next_at = ap (λ k. i + k) (ap (count_trailing_zeros 64) behind ∙ sym (run_stops d i (n - i) (omega arith) (omega arith) (omega (arith, behind, some))))

@@ -32,6 +32,19 @@ words_inside (x ∷ xs) = step (is_blank x) refl (words_inside xs)
     step true h more = ap words_of (inside_cons x xs true h) ∙ more ∙ sym (words_blank x xs h)
     step false h more = ap words_of (inside_cons x xs false h)
 
+-- where only blanks stand between two places, the same words follow both
+pub words_past : (line : List ℕ) (i j : ℕ) → i ≤ j → position_or_len is_inside (drop i line) ≡ j - i + position_or_len is_inside (drop j line) → words_of (drop i line) ≡ words_of (drop j line)
+words_past line i j h is =
+    let n = position_or_len is_inside (drop i line) in
+    let m = position_or_len is_inside (drop j line) in
+    let same : i + n ≡ j + m = omega (arith, is, h) in
+    sym (words_inside (drop i line)) ∙ ap words_of (drop-drop n i line ∙ ap (λ k. drop k line) same ∙ sym (drop-drop m j line)) ∙ words_inside (drop j line)
+
+-- no word stands behind the end
+pub words_end : (line : List ℕ) (n : ℕ) → n ≡ length line → words_of (drop n line) ≡ []
+unfolding words_of
+words_end line n is = ap words_of (drop_of_length-le line {i = n} (omega (arith, is)))
+
 blank_next : (x : ℕ) (xs : List ℕ) → is_blank x ≡ false → position_or_len is_blank (x ∷ xs) ≡ 0 → ⊥
 blank_next x xs h = rw h (λ e. omega (arith, e))
 

@@ -9,6 +9,9 @@ is_blank b = b == 32 || b == 9
 abbrev pub is_inside : ℕ → Bool
 is_inside b = not (is_blank b)
 
+abbrev pub is_other : ℕ → Bool
+is_other b = not (b == 32)
+
 -- what is left behind the spaces and tabs at the front
 abbrev pub without_blanks : List ℕ → List ℕ
 without_blanks line = drop (position_or_len is_inside line) line

@@ -5,6 +5,7 @@ ghost use Rattle.script_text.specs.Lines.{lines_of};
 ghost use Rattle.script_text.specs.Sessions.{AreOfSessions};
 ghost use Rattle.script_text.specs.Grammar.{script_of, Answers};
 
+mod fronts;
 mod grammar;
 pub mod lines;
 mod names;
@@ -13,8 +14,8 @@ mod verbs;
 mod words;
 
 use super::{Line, ScriptError};
+use fronts::Fronts;
 use grammar::parse_line;
-use lines::Lines;
 pub use numbers::number;
 use std::alloc::{AllocError, Global};
 use teb_names::NameBook;
@@ -34,10 +35,11 @@ pub fn parse_script(
     ensures sessions { IfOk result (λ v. AreOfSessions v.items) }
 {
     let mut lines = Vec::new(alloc);
+    let mut words: [&[u8]; 6] = [b""; 6];
     let mut number = 0;
-    for text in Lines(script) {
+    for text in Fronts(script) {
         number += 1;
-        match parse_line(names, format, number, text) {
+        match parse_line(names, format, number, text, &mut words) {
             Ok(line) => add_line(&mut lines, line)?,
             Err(why) => return Err(ScriptError::BadLine { number, why }),
         }

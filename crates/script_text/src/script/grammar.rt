@@ -1,13 +1,13 @@
 //! What a line of a script asks.
 
-ghost use Rattle.std.specs.Prelude.{◌≡◌, ◌==◌, slice_index, true};
+ghost use Rattle.std.specs.Prelude.{◌≡◌, ◌==◌, IsTrue, slice_index, true};
 ghost use Rattle.teb_names.specs.Names.{is_name, number_of};
-ghost use Rattle.script_text.specs.Words.{nows};
+ghost use Rattle.script_text.specs.Words.{nows, words_of};
 ghost use Rattle.script_text.specs.Numbers.{number_from_one};
-ghost use Rattle.script_text.specs.Grammar.{verb_of, name_at, number_at, session_at, value_at, cell_at, cell_in, cell_and_value_in, cell_and_count_in, spot_in, nothing_in, arguments, after_session, line_in, line_of};
+ghost use Rattle.script_text.specs.Grammar.{verb_of, name_at, number_at, session_at, value_at, cell_at, cell_in, cell_and_value_in, cell_and_count_in, spot_in, nothing_in, arguments, after_session, line_in};
 
 use super::names::name_text;
-use super::numbers::{integer, number};
+use super::numbers::{integer, number, small_number};
 use super::verbs::{
     is_abort, is_add, is_begin, is_commit, is_delete, is_prepare, is_read, is_scan, is_write,
 };
@@ -29,18 +29,18 @@ pub enum Verb {
     Scan,
 }
 
-/// What a line asks: nothing where it is blank or a comment.
+/// What a line asks: nothing where it is blank or a comment. Its first words are left in `words`.
 #[tactic(auto, using(crate::proofs::LineWords::line_of_first))]
-pub fn parse_line(
+pub fn parse_line<'a>(
     names: &NameBook,
     format: u8,
     number: u32,
-    text: &[u8],
+    text: &'a [u8],
+    words: &mut [&'a [u8]; 6],
 ) -> Result<Option<Line>, LineWhy>
-    ensures { result ≡ line_of names.now format number text.now }
+    ensures { result ≡ line_in names.now format number (words_of text.now) }
 {
-    let mut words: [&[u8]; 6] = [b""; 6];
-    let len = first_words(text, &mut words);
+    let len = first_words(text, words);
     line_in(names, format, number, &words[..len])
 }
 
@@ -89,10 +89,10 @@ fn session(word: &[u8]) -> Result<Session, LineWhy>
 fn number_from_one(word: &[u8], most: u8) -> Option<u8>
     ensures { result ≡ number_from_one most word.now }
 {
-    match number(word, u64::from(most)) {
+    match small_number(word, most) {
         None => None,
         Some(0) => None,
-        Some(n) => Some(n as u8),
+        Some(n) => Some(n),
     }
 }
 
@@ -267,14 +267,37 @@ fn number_of(names: &Names, word: &[u8]) -> Option<u8>
 {
     let few = names.len().min(4);
     for i in 0..few {
-        if names.name(i).as_bytes() == word {
+        if is_same(names.name(i).as_bytes(), word) {
             return Some(i);
         }
     }
+    later_number(names, word)
+}
+
+#[inline(never)]
+fn later_number(names: &Names, word: &[u8]) -> Option<u8>
+    requires { is_name word.now ≡ true }
+    ensures { result ≡ number_of names.now word.now }
+{
     match name_text(word) {
         None => None,
         Some(text) => names.number(text),
     }
+}
+
+/// Whether two words, which are short, are the same.
+fn is_same(a: &[u8], b: &[u8]) -> bool
+    ensures { IsTrue result → a.now ≡ b.now }
+{
+    if a.len() != b.len() {
+        return false;
+    }
+    for i in 0..a.len() {
+        if a[i] != b[i] {
+            return false;
+        }
+    }
+    true
 }
 
 #[tactic(auto, unfolding(crate::specs::Grammar::number_at))]

@@ -18,7 +18,34 @@ pub fn number(word: &[u8], most: u64) -> Option<u64>
     if value <= most { Some(value) } else { None }
 }
 
-/// The same with one `-` before the digits or none, in 64 bits.
+/// The same in a byte, quick where there are one or two digits.
+#[tactic(auto, unfolding(crate::specs::Numbers::number_upto))]
+pub fn small_number(word: &[u8], most: u8) -> Option<u8>
+    ensures { result ≡ number_upto most word.now }
+{
+    match few_digits(word) {
+        Some(n) => { if n <= most { Some(n) } else { None } }
+        None => match number(word, u64::from(most)) {
+            None => None,
+            Some(n) => Some(n as u8),
+        },
+    }
+}
+
+/// The value of one or two digits. `None` where there is anything else.
+fn few_digits(word: &[u8]) -> Option<u8>
+    ensures { IfSome result (λ n. IsTrue (all_ascii_digits word.now) × (n ≡ digits_value 10 word.now) × (0 < length word.now) × (length word.now ≤ 2)) }
+{
+    match word {
+        [d] if d.is_ascii_digit() => Some(*d - b'0'),
+        [t, d] if t.is_ascii_digit() && d.is_ascii_digit() => {
+            Some((*t - b'0') * 10 + (*d - b'0'))
+        }
+        _ => None,
+    }
+}
+
+/// The value of one to twenty digits with one `-` before them or none, in 64 bits.
 #[tactic(auto, unfolding(crate::specs::Numbers::integer_of))]
 pub fn integer(word: &[u8]) -> Option<i64>
     ensures { result ≡ integer_of word.now }

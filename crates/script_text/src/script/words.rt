@@ -34,9 +34,12 @@ impl<'a> Iterator for Words<'a> {
 /// than five.
 pub fn first_words<'a>(line: &'a [u8], words: &mut [&'a [u8]; 6]) -> usize
     ensures words { nows (take result words.new) ≡ take 6 (words_of line.now) }
-    ensures within { result ≤ length words.new }
+    ensures count { result ≤ 6 }
 {
     let (mut len, at) = near_words(line, words);
+    if at == line.len() {
+        return len;
+    }
     for word in Words(&line[at..]) {
         if len == 6 {
             return len;
@@ -47,7 +50,8 @@ pub fn first_words<'a>(line: &'a [u8], words: &mut [&'a [u8]; 6]) -> usize
     len
 }
 
-/// Writes the words that end in the first 32 bytes of a line, at most six, and tells how many there are and where the last ends.
+/// Writes the words that end in the first 32 bytes of a line, at most six, and tells how many there are and up to where
+/// there are no others.
 fn near_words<'a>(line: &'a [u8], words: &mut [&'a [u8]; 6]) -> (usize, usize)
     ensures words { nows (take result.0 words.new) ++ words_of (drop result.1 line.now) ≡ words_of line.now }
     ensures long { length words.new ≡ 6 }
@@ -64,7 +68,7 @@ fn near_words<'a>(line: &'a [u8], words: &mut [&'a [u8]; 6]) -> (usize, usize)
     while len < 6 {
         let ahead = inside >> at;
         if ahead == 0 {
-            break;
+            return (len, 32);
         }
         let start = at + ahead.trailing_zeros() as usize;
         let behind = blanks >> start;

@@ -1,6 +1,6 @@
 //! Short texts, put together from their ends.
 
-ghost use Rattle.std.specs.Prelude.{◌≡◌, ◌+◌, ◌≤◌, ◌++◌, [], length, decimal};
+ghost use Rattle.std.specs.Prelude.{◌≡◌, ◌+◌, ◌<◌, ◌≤◌, ◌++◌, ◌∷◌, [], length, decimal};
 ghost use Rattle.std.specs.Fmt.{signed_decimal};
 
 use itoa::write_digits;
@@ -59,7 +59,14 @@ impl Tail {
         ensures text { self.new ≡ decimal n ++ self.old }
         ensures short { length self.new ≤ length self.old + 10 }
     {
-        self.put_digits(u64::from(n));
+        if n < 10 {
+            self.put_digit(n);
+        } else if n < 100 {
+            self.put_digit(n % 10);
+            self.put_digit(n / 10);
+        } else {
+            self.put_digits(u64::from(n));
+        }
     }
 
     /// Puts a number with its sign in front.
@@ -73,6 +80,16 @@ impl Tail {
         if n < 0 {
             self.put(b"-");
         }
+    }
+
+    fn put_digit(&mut self, n: u32)
+        requires room { length self.old < 72 }
+        requires digit { n < 10 }
+        ensures { self.new ≡ (48 + n) ∷ self.old }
+    {
+        let start = self.start - 1;
+        self.bytes[start] = b'0' + n as u8;
+        self.start = start;
     }
 
     fn put_digits(&mut self, n: u64)

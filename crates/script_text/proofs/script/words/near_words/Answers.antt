@@ -1,7 +1,7 @@
-use Rattle.std.proofs.Common.{length-set, ◌∙◌, arith}
-use Rattle.script_text.specs.Words.{is_blank, is_inside}
-use Rattle.script_text.proofs.Loads.{next_at, next_within}
-use Rattle.script_text.proofs.WordSteps.{words_more, word_from}
+use Rattle.std.proofs.Common.{◌++◌, take, length-set, sym, ap, ◌∙◌, arith}
+use Rattle.script_text.specs.Words.{is_blank, is_inside, nows}
+use Rattle.script_text.proofs.Loads.{none_ahead, next_at, next_within}
+use Rattle.script_text.proofs.WordSteps.{words_more, words_past, word_from}
 use Rattle.script_text.proofs.script.words.near_words.Goals as goal
 
 pub overflow_shr-behind : goal.overflow_shr-behind
@@ -29,3 +29,10 @@ loop-len-preserved c =
       near = omega (arith, stop);
       words = words_more _ _ _ _ _ _ (omega arith) c.loop-len.invariant.words (word_from line _ _ _ starts stops (omega (arith, start, room)));
     }
+
+pub returns-then-ahead-eq0-clause-words : goal.returns-then-ahead-eq0-clause-words
+returns-then-ahead-eq0-clause-words c =
+    let line = c.args.line.now in
+    let at = c.loop-len.at in
+    let past = words_past line at 32 c.loop-len.invariant.near (none_ahead is_inside line _ at 32 c.if-line-lt32.false c.inside_of-inside.ensures c.loop-len.invariant.near c.if-ahead-eq0.true) in
+    ap (λ l. nows (take c.loop-len.len c.loop-len.words) ++ l) (sym past) ∙ c.loop-len.invariant.words
