@@ -1,17 +1,18 @@
 -- A line that has only spaces behind its first bytes.
-use Rattle.std.proofs.Common.{◌≡◌, ℕ, suc, ◌+◌, ◌-◌, ◌<◌, ◌≤◌, ◌==◌, Bool, true, false, cond, not, ◌||◌, List, [], ◌∷◌, ◌++◌, map, take, drop, length, get_or, slice_index, refl, sym, ap, ◌∙◌, arith, append_assoc}
+use Rattle.std.proofs.Common.{◌≡◌, ℕ, suc, ◌+◌, ◌-◌, ◌<◌, ◌≤◌, ◌==◌, Bool, true, false, cond, not, ◌||◌, List, [], ◌∷◌, ◌++◌, map, take, drop, length, get_or, slice_index, refl, sym, ap, ◌∙◌, arith, append_assoc, take_all}
 use Rattle.std.specs.List.{filter, onto_first, position_or_len, slice_split}
 use Rattle.std.specs.Str.Lines.{strip_carriage_return}
 use Rattle.std.proofs.Math.Seq.{take-add}
 use Rattle.std.proofs.lemmas.Bool.Decides.{nat_tests}
-use Rattle.std.proofs.lemmas.List.{append-nil, get_or-drop, get_or-take, length-take-le, length-drop}
+use Rattle.std.proofs.lemmas.List.{append-nil, get_or-drop, get_or-take, length-take-le}
 use Rattle.std.proofs.lemmas.List.Elements.{filter-append}
 use Rattle.std.proofs.lemmas.List.Splits.{length-slice_split}
 use Rattle.std.proofs.lemmas.List.Sums.{fails_before_first, position_or_len_is}
+use lib.Count.{count_trailing_zeros}
 use lib.Lanes.{mask_l, chunk}
 use Rattle.script_text.specs.Lines.{is_feed}
 use Rattle.script_text.specs.Words.{is_blank, is_other, words_of}
-use Rattle.script_text.proofs.Loads.{run_through}
+use Rattle.script_text.proofs.Loads.{take_less, run_through, run_stops, stop_within}
 use Rattle.script_text.proofs.Places.{position_within}
 
 -- a part more behind the others changes nothing in front of it
@@ -88,3 +89,25 @@ module _ (d : List ℕ) (n : ℕ) (long : 32 ≤ length d) (is : n ≡ 32 + posi
       ap (λ m. get_or (take n d) (m - 1) 0) size ∙ get_or-take n d (n - 1) 0 (omega (arith, more)) ∙ ap (λ i. get_or d i 0) (omega (arith, is, more)) ∙ sym (get_or-drop 32 d (k - 1) 0) in
       let kept = strip_kept (take n d) (ap (λ b. b == 13) last ∙ no_return (get_or ys (k - 1) 0) (fails_before_first is_other ys (k - 1) 0 (omega (arith, is, more)))) in
       sym (spaces_last (take 32 d) ys) ∙ ap words_of (sym whole ∙ sym kept)
+
+stripped : (l : List ℕ) → (strip_carriage_return l ≡ take (length (strip_carriage_return l)) l) × (length (strip_carriage_return l) ≤ length l)
+stripped l = go (slice_index l (length l - 1) == 13)
+  where
+    go : (b : Bool) → ((cond b (take (length l - 1) l) l) ≡ take (length (cond b (take (length l - 1) l) l)) l) × (length (cond b (take (length l - 1) l) l) ≤ length l)
+    go true = let size = length-take-le (length l - 1) l (omega arith) in (ap (λ i. take i l) (sym size), omega (arith, size))
+    go false = (sym (take_all (length l) l (omega arith)), omega arith)
+
+-- a short line, without the carriage return at its end, stands at the front
+pub stripped_front : (d line : List ℕ) (n : ℕ) → n ≤ length d → line ≡ strip_carriage_return (take n d) → (line ≡ take (length line) d) × (length line ≤ n)
+stripped_front d line n room is =
+    let size = length-take-le n d room in
+    let less : length line ≤ n = omega (arith, ap length is, (stripped (take n d)).1, size) in
+    (is ∙ (stripped (take n d)).0 ∙ ap (λ l. take (length l) (take n d)) (sym is) ∙ take_less d (length line) n less room, less)
+
+-- the line feed that is the first of 32 bytes
+module _ (d : List ℕ) (mask : ℕ) (long : 32 ≤ length d) (is : mask ≡ mask_l (map is_feed (chunk 0 32 d))) (some : mask ≡ 0 → ⊥) where
+  pub near_feed : count_trailing_zeros 64 mask ≡ position_or_len is_feed d
+  near_feed = ap (count_trailing_zeros 64) is ∙ sym (run_stops is_feed d 0 32 long (omega arith) (omega (arith, is, some)))
+
+  pub near_within : count_trailing_zeros 64 mask < 32
+  near_within = omega (arith, stop_within is_feed d 0 32 long (omega arith) (omega (arith, is, some)), ap (count_trailing_zeros 64) is)

@@ -1,9 +1,10 @@
 -- Bytes that are looked at together: a mask has a bit for each, and the lowest bit that is set is the first place that passes a test.
-use Rattle.std.proofs.Common.{◌≡◌, ℕ, zero, suc, ◌+◌, ◌-◌, ◌*◌, ◌/◌, ◌%◌, ◌^◌, ◌<◌, ◌≤◌, Bool, true, false, not, cond, eqb, add-one, List, [], ◌∷◌, map, length, take, drop, Fits, w8, refl, sym, ap, ap₂, ◌∙◌, arith}
+use Rattle.std.proofs.Common.{◌≡◌, ℕ, zero, suc, ◌+◌, ◌-◌, ◌*◌, ◌/◌, ◌%◌, ◌^◌, ◌<◌, ◌≤◌, Bool, true, false, not, cond, eqb, add-one, List, [], ◌∷◌, map, length, take, drop, Fits, w8, refl, sym, ap, ap₂, ◌∙◌, arith, take_all}
 use Rattle.std.proofs.lemmas.Bool.{agree_below, agree_below_at, eq-eqb, ne_eqb}
-use Rattle.std.proofs.Math.Nat.{zero-div, div-one, pow-suc, mul_comm, div-div-eq-div-mul}
+use Rattle.std.proofs.Math.Nat.{add-mul-mod_self_left, mul_assoc, pow-le-pow_right, zero-div, div-one, pow-suc, mul_comm, div-div-eq-div-mul}
 use Rattle.std.proofs.lemmas.Simd.{mask_l-mod, chunk-drop, length-chunk, leading_from_mask_l, trailing_mask_l}
-use Rattle.std.proofs.lemmas.List.{length-map, drop-map, drop-take}
+use Rattle.std.proofs.lemmas.List.{length-map, length-take-le, take_at, take-map, drop-map, drop-take}
+use Rattle.std.proofs.Math.Seq.{take-add}
 use Rattle.std.proofs.lemmas.List.Folds.{prefix_len-append}
 use Rattle.std.proofs.lemmas.List.Sums.{prefix_len-le-length, prefix_len_passes, prefix_len-drop_yes}
 use Rattle.std.specs.List.{position_or_len}
@@ -26,6 +27,37 @@ module _ (f : ℕ → ℕ) (p : ℕ → Bool) (all : agree_below (λ x. top 7 (f
   -- a mask that is computed lane by lane tells which bytes pass p
   pub masked : (v z : List ℕ) → length v ≤ 64 → Each1 (Fits w8) v → z ≡ map f v → mask_l (map (top 7) z) % 2 ^ 64 ≡ mask_l (map p v)
   masked v z short fits e = ap (λ l. mask_l l % 2 ^ 64) (ap (map (top 7)) e ∙ each_byte v fits) ∙ mask_l-mod (map p v) 64 (omega (arith, length-map v p))
+
+-- a mask, from the bits of the first places and those of the others
+mask_parts : (bs : List Bool) (n : ℕ) → n ≤ length bs → mask_l bs ≡ mask_l (take n bs) + 2 ^ n * mask_l (drop n bs)
+mask_parts bs zero h = omega arith
+mask_parts [] (suc n) h = absurd (omega (arith, h))
+mask_parts (b ∷ bs) (suc n) h =
+    let next : 2 ^ suc n * mask_l (drop n bs) ≡ 2 * (2 ^ n * mask_l (drop n bs)) = ap (λ m. m * mask_l (drop n bs)) (pow-suc 2 n ∙ mul_comm (2 ^ n) 2) ∙ mul_assoc 2 (2 ^ n) (mask_l (drop n bs)) in
+    omega (arith, mask_parts bs n (omega (arith, h)), next)
+
+-- the mask of the first places
+mask_front : (bs : List Bool) (n : ℕ) → n ≤ length bs → mask_l bs % 2 ^ n ≡ mask_l (take n bs)
+mask_front bs n h =
+    ap (λ m. m % 2 ^ n) (mask_parts bs n h) ∙ add-mul-mod_self_left (mask_l (take n bs)) (2 ^ n) (mask_l (drop n bs))
+    ∙ mask_l-mod (take n bs) n (omega (arith, length-take-le n bs h))
+
+-- the first of the first
+pub take_less : (d : List ℕ) (n m : ℕ) → n ≤ m → m ≤ length d → take n (take m d) ≡ take n d
+take_less d n m h room =
+    let e : n + (m - n) ≡ m = omega (arith, h) in
+    ap (λ k. take n (take k d)) (sym e) ∙ ap (take n) (take-add n (m - n) d) ∙ take_at (take n d) (take (m - n) (drop n d)) n (length-take-le n d (omega (arith, h, room)))
+
+-- the mask of a line, from that of what stands where it begins
+pub line_mask : (p : ℕ → Bool) (d line : List ℕ) (m : ℕ) → m ≤ length d → length line ≤ m → line ≡ take (length line) d → mask_l (map p (take m d)) % 2 ^ length line ≡ mask_l (map p (take (length line) line))
+line_mask p d line m room short is =
+    let n = length line in
+    mask_front (map p (take m d)) n (omega (arith, length-map (take m d) p, length-take-le m d room, short))
+    ∙ ap mask_l (take-map p n (take m d) ∙ ap (map p) (take_less d n m short room ∙ sym is ∙ sym (take_all n line (omega arith))))
+
+-- a shift that keeps the bit
+pub one_bit : (n : ℕ) → n ≤ 32 → 1 * 2 ^ n % 2 ^ 64 ≡ 2 ^ n
+one_bit n small = omega (arith, pow-le-pow_right {n = 2} (omega arith) small)
 
 half : (b : Bool) (n : ℕ) → (cond b 1 0 + 2 * n) / 2 ≡ n
 half true n = omega arith

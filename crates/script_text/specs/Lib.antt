@@ -1,5 +1,6 @@
 pub mod Lines
 pub mod Words
+pub mod Fronts
 pub mod Numbers
 pub mod Grammar
 pub mod Input

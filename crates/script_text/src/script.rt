@@ -37,9 +37,9 @@ pub fn parse_script(
     let mut lines = Vec::new(alloc);
     let mut words: [&[u8]; 6] = [b""; 6];
     let mut number = 0;
-    for text in Fronts(script) {
+    for front in Fronts(script) {
         number += 1;
-        match parse_line(names, format, number, text, &mut words) {
+        match parse_line(names, format, number, &front, &mut words) {
             Ok(line) => add_line(&mut lines, line)?,
             Err(why) => return Err(ScriptError::BadLine { number, why }),
         }

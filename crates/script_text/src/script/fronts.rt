@@ -1,35 +1,55 @@
 //! The lines of a text, each as far as its words go.
 
 ghost use Rattle.std.specs.Prelude.{◌≡◌, ◌+◌, ◌<◌, ◌≤◌, IfSome, drop, length, map, take};
-ghost use Rattle.std.specs.Iterator.{YieldsFirstBy, item_count};
+ghost use Rattle.std.specs.Iterator.{item_count};
 ghost use Rattle.std.specs.List.{position_or_len};
 ghost use Rattle.std.specs.Simd.Lanes.{mask_l};
 ghost use Rattle.std.specs.Str.Lines.{strip_carriage_return};
 ghost use Rattle.script_text.specs.Lines.{is_feed, lines_of};
 ghost use Rattle.script_text.specs.Words.{is_other, words_of};
+ghost use Rattle.script_text.specs.Fronts.{HasMasks};
 
-use super::lines::{Lines, after_line};
+use super::lines::{Lines, after_line, without_return};
+use super::words::{blanks_of, inside_of};
 use std::simd::prelude::*;
 
 /// How many bytes are looked at together.
 const LANES: usize = 32;
+
+/// A line, as far as its words go, and masks of its first bytes. A mask has a bit for each, the lowest for the first.
+#[derive(Clone, Copy)]
+pub struct Front<'a> {
+    pub line: &'a [u8],
+    /// Of how many bytes the masks tell, at most 32.
+    pub near: usize,
+    /// Which of these are neither spaces nor tabs.
+    pub inside: u64,
+    /// Which of these are spaces or tabs.
+    pub blanks: u64,
+}
 
 /// The lines of a text, each with all its words. A line that has only spaces behind its first 32 bytes is cut there.
 #[derive(Clone, Copy)]
 pub struct Fronts<'a>(pub &'a [u8]);
 
 impl<'a> Iterator for Fronts<'a> {
-    type Item = &'a [u8];
+    type Item = Front<'a>;
 
-    ghost next_gives = { YieldsFirstBy (λ x. words_of x.now) (λ s. map words_of (lines_of s.0.now)) };
+    ghost use Rattle.std.specs.Prelude.{◌≡◌, ◌∷◌, [], MatchOption, map};
+    ghost use Rattle.script_text.specs.Lines.{lines_of};
+    ghost use Rattle.script_text.specs.Words.{words_of};
+    ghost use Rattle.script_text.specs.Fronts.{HasMasks};
+
+    ghost next_gives = { λ s r t. MatchOption r
+        ((lines_of s.0.now ≡ []) × (lines_of t.0.now ≡ []))
+        (λ x. (map words_of (lines_of s.0.now) ≡ words_of x.line.now ∷ map words_of (lines_of t.0.now)) × HasMasks x) };
 
     ghost remaining = { item_count (λ s. lines_of s.0.now) };
 
-    fn next(&mut self) -> Option<&'a [u8]> {
+    fn next(&mut self) -> Option<Front<'a>> {
         let text = self.0;
-        match padded_len(text) {
-            Some(len) => {
-                let front = &text[..LANES];
+        match near_front(text) {
+            Some((front, len)) => {
                 self.0 = after_line(text, len);
                 Some(front)
             }
@@ -37,22 +57,69 @@ impl<'a> Iterator for Fronts<'a> {
                 let mut lines = Lines(text);
                 let line = lines.next();
                 self.0 = lines.0;
-                line
+                match line {
+                    Some(line) => Some(Front {
+                        line,
+                        near: 0,
+                        inside: 0,
+                        blanks: 0,
+                    }),
+                    None => None,
+                }
             }
         }
     }
 }
 
+/// The front of the first line, and the length of the line, where it is short, or padded with spaces.
+fn near_front(text: &[u8]) -> Option<(Front, usize)>
+    ensures end { IfSome result (λ p. p.1 ≡ position_or_len is_feed text.now) }
+    ensures within { IfSome result (λ p. p.1 < length text.now) }
+    ensures words { IfSome result (λ p. words_of p.0.line.now ≡ words_of (strip_carriage_return (take p.1 text.now))) }
+    ensures masks { IfSome result (λ p. HasMasks p.0) }
+{
+    if text.len() < LANES {
+        return None;
+    }
+    let feeds = feeds_of(u8x32::from_slice(text));
+    if feeds == 0 {
+        match padded_len(text) {
+            None => None,
+            Some(len) => Some((with_masks(text, &text[..LANES]), len)),
+        }
+    } else {
+        let len = feeds.trailing_zeros() as usize;
+        Some((with_masks(text, without_return(&text[..len])), len))
+    }
+}
+
+/// A line of at most 32 bytes that stands at the front of a text, with its masks.
+fn with_masks<'a>(text: &'a [u8], line: &'a [u8]) -> Front<'a>
+    requires long { 32 ≤ length text.now }
+    requires short { length line.now ≤ 32 }
+    requires front { line.now ≡ take (length line.now) text.now }
+    ensures line { result.line.now ≡ line.now }
+    ensures masks { HasMasks result }
+{
+    let bytes = u8x32::from_slice(text);
+    let near = line.len();
+    Front {
+        line,
+        near,
+        inside: inside_of(bytes) % (1 << near),
+        blanks: blanks_of(bytes) % (1 << near),
+    }
+}
+
 /// The length of the first line, where it has a line feed, and spaces alone behind its first 32 bytes, one at least.
 fn padded_len(text: &[u8]) -> Option<usize>
+    requires long { 32 ≤ length text.now }
+    requires feeds { mask_l (map is_feed (take 32 text.now)) ≡ 0 }
     ensures end { IfSome result (λ n. n ≡ position_or_len is_feed text.now) }
     ensures within { IfSome result (λ n. n < length text.now) }
     ensures long { IfSome result (λ n. 32 < n) }
     ensures words { IfSome result (λ n. words_of (take 32 text.now) ≡ words_of (strip_carriage_return (take n text.now))) }
 {
-    if text.len() < LANES || feeds_of(u8x32::from_slice(text)) != 0 {
-        return None;
-    }
     let end = spaces_end(text)?;
     if text[end] == b'\n' && end > LANES {
         Some(end)

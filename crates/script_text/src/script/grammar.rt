@@ -2,10 +2,12 @@
 
 ghost use Rattle.std.specs.Prelude.{◌≡◌, ◌==◌, IsTrue, slice_index, true};
 ghost use Rattle.teb_names.specs.Names.{is_name, number_of};
+ghost use Rattle.script_text.specs.Fronts.{HasMasks};
 ghost use Rattle.script_text.specs.Words.{nows, words_of};
 ghost use Rattle.script_text.specs.Numbers.{number_from_one};
 ghost use Rattle.script_text.specs.Grammar.{verb_of, name_at, number_at, session_at, value_at, cell_at, cell_in, cell_and_value_in, cell_and_count_in, spot_in, nothing_in, arguments, after_session, line_in};
 
+use super::fronts::Front;
 use super::names::name_text;
 use super::numbers::{integer, number, small_number};
 use super::verbs::{
@@ -35,12 +37,13 @@ pub fn parse_line<'a>(
     names: &NameBook,
     format: u8,
     number: u32,
-    text: &'a [u8],
+    front: &Front<'a>,
     words: &mut [&'a [u8]; 6],
 ) -> Result<Option<Line>, LineWhy>
-    ensures { result ≡ line_in names.now format number (words_of text.now) }
+    requires { HasMasks front.now }
+    ensures { result ≡ line_in names.now format number (words_of front.now.line.now) }
 {
-    let len = first_words(text, words);
+    let len = first_words(front, words);
     line_in(names, format, number, &words[..len])
 }
 

@@ -4,8 +4,10 @@ ghost use Rattle.std.specs.Prelude.{◌≡◌, ◌≤◌, ◌++◌, drop, length
 ghost use Rattle.std.specs.Iterator.{YieldsFirstRef, item_count};
 ghost use Rattle.std.specs.List.{position_or_len};
 ghost use Rattle.std.specs.Simd.Lanes.{mask_l};
+ghost use Rattle.script_text.specs.Fronts.{HasMasks};
 ghost use Rattle.script_text.specs.Words.{is_blank, is_inside, nows, without_blanks, words_of};
 
+use super::fronts::Front;
 use std::simd::prelude::*;
 
 /// How many bytes are looked at together.
@@ -32,15 +34,16 @@ impl<'a> Iterator for Words<'a> {
 
 /// Writes the first six words of a line, and tells how many of the six there are. No line that asks something has more
 /// than five.
-pub fn first_words<'a>(line: &'a [u8], words: &mut [&'a [u8]; 6]) -> usize
-    ensures words { nows (take result words.new) ≡ take 6 (words_of line.now) }
+pub fn first_words<'a>(front: &Front<'a>, words: &mut [&'a [u8]; 6]) -> usize
+    requires { HasMasks front.now }
+    ensures words { nows (take result words.new) ≡ take 6 (words_of front.now.line.now) }
     ensures count { result ≤ 6 }
 {
-    let (mut len, at) = near_words(line, words);
-    if at == line.len() {
+    let (mut len, at) = near_words(front, words);
+    if at == front.line.len() {
         return len;
     }
-    for word in Words(&line[at..]) {
+    for word in Words(&front.line[at..]) {
         if len == 6 {
             return len;
         }
@@ -50,29 +53,29 @@ pub fn first_words<'a>(line: &'a [u8], words: &mut [&'a [u8]; 6]) -> usize
     len
 }
 
-/// Writes the words that end in the first 32 bytes of a line, at most six, and tells how many there are and up to where
-/// there are no others.
-fn near_words<'a>(line: &'a [u8], words: &mut [&'a [u8]; 6]) -> (usize, usize)
-    ensures words { nows (take result.0 words.new) ++ words_of (drop result.1 line.now) ≡ words_of line.now }
+/// Writes the words that the masks tell of, at most six, and tells how many there are and up to where there are no others.
+fn near_words<'a>(front: &Front<'a>, words: &mut [&'a [u8]; 6]) -> (usize, usize)
+    requires { HasMasks front.now }
+    ensures words { nows (take result.0 words.new) ++ words_of (drop result.1 front.now.line.now) ≡ words_of front.now.line.now }
     ensures long { length words.new ≡ 6 }
     ensures count { result.0 ≤ 6 }
-    ensures within { result.1 ≤ length line.now }
+    ensures within { result.1 ≤ length front.now.line.now }
 {
-    if line.len() < 32 {
-        return (0, 0);
-    }
-    let front = u8x32::from_slice(line);
-    let (inside, blanks) = (inside_of(front), blanks_of(front));
+    let line = front.line;
     let mut len = 0;
     let mut at = 0;
     while len < 6 {
-        let ahead = inside >> at;
+        let ahead = front.inside >> at;
         if ahead == 0 {
-            return (len, 32);
+            return (len, front.near);
         }
         let start = at + ahead.trailing_zeros() as usize;
-        let behind = blanks >> start;
+        let behind = front.blanks >> start;
         if behind == 0 {
+            if front.near == line.len() {
+                words[len] = &line[start..];
+                return (len + 1, front.near);
+            }
             break;
         }
         let end = start + behind.trailing_zeros() as usize;
@@ -124,7 +127,7 @@ fn blank_len(text: &[u8]) -> usize
 
 /// Which of these bytes are spaces or tabs: a bit for each, the lowest for the first.
 #[inline(always)]
-fn blanks_of(bytes: u8x32) -> u64
+pub fn blanks_of(bytes: u8x32) -> u64
     ensures { result ≡ mask_l (map is_blank bytes) }
 {
     (bytes.simd_eq(u8x32::splat(b' ')) | bytes.simd_eq(u8x32::splat(b'\t'))).to_bitmask()
@@ -132,7 +135,7 @@ fn blanks_of(bytes: u8x32) -> u64
 
 /// Which of these bytes are neither.
 #[inline(always)]
-fn inside_of(bytes: u8x32) -> u64
+pub fn inside_of(bytes: u8x32) -> u64
     ensures { result ≡ mask_l (map is_inside bytes) }
 {
     (bytes.simd_ne(u8x32::splat(b' ')) & bytes.simd_ne(u8x32::splat(b'\t'))).to_bitmask()

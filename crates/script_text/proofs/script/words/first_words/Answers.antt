@@ -15,6 +15,6 @@ returns-then-len-eq6-clause-words c = words_full _ _ _ _ c.if-len-eq6.true c.loo
 pub returns-clause-words : goal.returns-clause-words
 returns-clause-words c = words_all _ _ _ _ c.loop-word.invariant.within c.loop-word.invariant.words c.in-None.ensures.steps.0
 
-pub returns-then-at-line-clause-words : goal.returns-then-at-line-clause-words
-returns-then-at-line-clause-words c =
-    words_all _ _ _ _ c.near_words-len.ensures.count c.near_words-len.ensures.words (words_end _ _ c.if-at-line.true)
+pub returns-then-at-front-clause-words : goal.returns-then-at-front-clause-words
+returns-then-at-front-clause-words c =
+    words_all _ _ _ _ c.near_words-len.ensures.count c.near_words-len.ensures.words (words_end _ _ c.if-at-front.true)

@@ -6,5 +6,5 @@ abbrev pub invariant-loop-word : goal.invariant-loop-word
 invariant-loop-word l = record {
   long : length l.words ≡ 6;
   within : l.len ≤ 6;
-  words : nows (take l.len l.words) ++ words_of l.word-iterator.0.now ≡ words_of l.line;
+  words : nows (take l.len l.words) ++ words_of l.word-iterator.0.now ≡ words_of l.front.line.now;
 }

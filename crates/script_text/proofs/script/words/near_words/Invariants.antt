@@ -6,8 +6,8 @@ abbrev pub invariant-loop-len : goal.invariant-loop-len
 invariant-loop-len l = record {
   long : length l.words ≡ 6;
   count : l.len ≤ 6;
-  near : l.at ≤ 32;
-  words : nows (take l.len l.words) ++ words_of (drop l.at l.line) ≡ words_of l.line;
+  near : l.at ≤ l.front.near;
+  words : nows (take l.len l.words) ++ words_of (drop l.at l.front.line.now) ≡ words_of l.front.line.now;
 }
 
 abbrev pub decreases-loop-len : goal.decreases-loop-len
