@@ -1,7 +1,7 @@
 -- What a refusal, a stop and a grant come to in the answer rule.
-use Rattle.std.proofs.Common.{◌≡◌, inl, inr, ◌&&◌, ℕ, suc, ◌<◌, ◌≤◌, true, false, cond, ltb, leb, List, ◌∷◌, Option, Some, None, refl, sym, ◌∙◌, ap, subst}
+use Rattle.std.proofs.Common.{◌≡◌, ◌&&◌, ℕ, suc, ◌<◌, ◌≤◌, true, false, cond, ltb, leb, List, ◌∷◌, Option, Some, None, refl, sym, ◌∙◌, ap, subst}
 use Rattle.teb_names.specs.declared.Cell.{Cell}
-use Rattle.std.proofs.lemmas.Bool.{le-leb, lt-leb, both_ways, and_parts, or_cases}
+use Rattle.std.proofs.lemmas.Bool.{le-leb, lt-leb}
 use Rattle.teb_names.specs.declared.Node.{Node}
 use Rattle.teb_names.specs.declared.Txn.{Txn}
 use Rattle.teb_names.specs.declared.Session.{Session}
@@ -12,10 +12,8 @@ use Rattle.teb_names.specs.declared.Request.{Request}
 use Rattle.teb_names.specs.declared.Request.TheVariants.{Begin}
 use Rattle.teb_names.specs.declared.Reply.TheVariants.{Again, Begun}
 use Rattle.teb_history.specs.declared.Event.TheVariants.{Began}
-use Rattle.teb_history.specs.Phases.{begun_count, held, aborted, unfinished}
+use Rattle.teb_history.specs.Phases.{begun_count, held, aborted}
 use Rattle.teb_history.specs.Written.{held_txn, txn_of}
-use Rattle.teb_laws.proofs.Holding.{held_holds}
-use Rattle.teb_laws.proofs.Reachable.{untold_gone}
 use Rattle.teb_rules.specs.Cascade.{txn}
 use Rattle.teb_rules.specs.Setup.{Setup}
 use Rattle.teb_rules.specs.Stops.{begin_stop}
@@ -24,21 +22,19 @@ use Rattle.teb_rules.specs.Setup.{Store}
 use Rattle.teb_rules.specs.declared.Stop.{Stop}
 use Rattle.teb_rules.specs.declared.Stop.TheVariants as stop
 use Rattle.teb_rules.specs.Answer.{Answered, or_stop, or_refused, refuse, is_scan, answer, answer_to, answer_of, answer_new, begin_or_wait}
-use Rattle.version_chain.specs.Lists.{Version}
+use Rattle.engine_core.specs.declared.engine_view.EngineView.{EngineView}
+use Rattle.engine_core.specs.Wholes.{store_in, events_in}
 use Rattle.engine_core.specs.declared.decision.Decision.{Decision}
 use Rattle.engine_core.specs.declared.decision.Decision.TheVariants.{Answer}
 use Rattle.engine_core.specs.declared.decision.ShortReply.TheVariants as short
-use Rattle.engine_core.specs.Decisions.{carried, told, IsBounded, IsRefusal, IsStopped}
+use Rattle.engine_core.specs.Decisions.{carried, told, IsRefusal, IsStopped}
 
 -- a request of t that is stopped, and one that is not
-pub stops : (X : Store) (H : List Event) (t : ℕ) (s r : Stop) (o : Option Decision) (d : Decision) (granted : Answered) → s ≡ r → IsStopped X H t s o → o ≡ Some d → carried X H d ≡ or_stop H t r granted
-stops X H t s r o d granted e k q = let f = subst (IsStopped X H t s) q k in f.0 granted ∙ ap (λ (z : Stop). or_stop H t z granted) e
+pub stops : (X : Store) (H : List Event) (t : ℕ) (s r : Stop) (d : Decision) (granted : Answered) → s ≡ r → IsStopped X H t s d → carried X H d ≡ or_stop H t r granted
+stops X H t s r d granted e k = k.0 granted ∙ ap (λ (z : Stop). or_stop H t z granted) e
 
-pub stops_bounded : (X : Store) (L : Cell → List Version) (H : List Event) (t : ℕ) (s : Stop) (o : Option Decision) (d : Decision) → IsStopped X H t s o → o ≡ Some d → IsBounded L X.setup H d
-stops_bounded X L H t s o d k q = (subst (IsStopped X H t s) q k).1 L
-
-pub goes : (X : Store) (H : List Event) (t : ℕ) (s r : Stop) (o : Option Decision) (granted : Answered) → s ≡ r → IsStopped X H t s o → o ≡ None → granted ≡ or_stop H t r granted
-goes X H t s r o granted e k q = let f : s ≡ stop.Go = subst (IsStopped X H t s) q k in ap (λ (z : Stop). or_stop H t z granted) (sym f ∙ e)
+pub goes : (X : Store) (H : List Event) (t : ℕ) (s r : Stop) (granted : Answered) → s ≡ r → s ≡ stop.Go → granted ≡ or_stop H t r granted
+goes X H t s r granted e q = ap (λ (z : Stop). or_stop H t z granted) (sym q ∙ e)
 
 -- an access that is refused, and one that is not
 pub is_refused : (X : Store) (H : List Event) (t : ℕ) (x : Cell) (o : Option Refusal) (why : Refusal) (d : Decision) (granted : Answered) → IsRefusal X H t x o → o ≡ Some why → d ≡ Answer (short.Refused why) → carried X H d ≡ or_refused X H t x granted
@@ -114,6 +110,8 @@ aborted_held X H s r t b e a = good_session X H s r b ∙ ap (answer_to X H s r)
 pub running_held : (X : Store) (H : List Event) (s : Session) (r : Request) (t : Txn) → (leb 1 s.0 && leb s.0 32) ≡ true → held_txn H s ≡ Some t → aborted H t.0 ≡ false → answer X H s r ≡ answer_of X H t.0 r
 running_held X H s r t b e a = good_session X H s r b ∙ ap (answer_to X H s r) (somebody_held H s t e) ∙ rw a refl
 
--- who is held and not aborted is unfinished
-pub held_unfinished : (H : List Event) (s : Session) (t : Txn) → held_txn H s ≡ Some t → aborted H t.0 ≡ false → unfinished H t.0 ≡ true
-held_unfinished H s t e a = elim (or_cases _ _ (and_parts _ _ (held_holds H s.0 t.0 (somebody_held H s t e))).1) [ inl u ↦ u | inr u ↦ absurd (both_ways _ a (untold_gone H t.0 u)) ]
+-- the answer to who asks, by what it looks at
+pub asked_of : {K C : Type 0} (p q : EngineView K C) (t u : Txn) (d : Decision) (r : Request) → p ≡ q → t ≡ u → carried (store_in p) (events_in p) d ≡ answer_of (store_in p) (events_in p) t.0 r → carried (store_in q) (events_in q) d ≡ answer_of (store_in q) (events_in q) u.0 r
+asked_of {K} {C} p q t u d r e k h =
+    subst (λ (w : EngineView K C). carried (store_in w) (events_in w) d ≡ answer_of (store_in w) (events_in w) u.0 r) e
+    (subst (λ (v : Txn). carried (store_in p) (events_in p) d ≡ answer_of (store_in p) (events_in p) v.0 r) k h)

@@ -1,6 +1,7 @@
 pub mod Running
 pub mod Along
 pub mod HeldTxns
+pub mod HeldPhases
 pub mod Deciding
 pub mod Adding
 pub mod Gathering

@@ -4,6 +4,7 @@ pub mod Latest
 pub mod HoldersAsked
 pub mod Wholes
 pub mod Asking
+pub mod HeldBy
 pub mod Stopping
 pub mod Cells
 pub mod Decisions

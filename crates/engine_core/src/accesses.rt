@@ -1,40 +1,49 @@
 //! What a read, a write and a deletion are answered, and the refusals of every access.
 
-ghost use Rattle.std.specs.Prelude.{◌≡◌, IsTrue, None};
+ghost use Rattle.std.specs.Prelude.{◌≡◌, None};
 ghost use Rattle.teb_names.specs.declared.Request.TheVariants as request;
-ghost use Rattle.teb_history.specs.Phases.{unfinished};
-ghost use Rattle.teb_rules.specs.Answer.{answer_of, or_refused, put_value};
+ghost use Rattle.teb_rules.specs.Answer.{answer_of, got_value, or_refused, put_value};
+ghost use Rattle.teb_rules.specs.Versions.{read};
 ghost use Rattle.engine_core.specs.Wholes.{store_in, events_in, ViewIsWhole};
 ghost use Rattle.engine_core.specs.Asking.{IsAsking};
 ghost use Rattle.engine_core.specs.Decisions.{carried, IsBounded, IsRefusal};
 
+use crate::asking::Asking;
 use crate::decision::{Decision, ShortReply, refused, stopped};
-use crate::engine_view::EngineView;
 use crate::put_places::{asked_place, at_of, granted_place};
 use crate::stops::{read_stop, write_stop};
 use phase_api::Control;
 use teb_history::Event;
-use teb_names::{Cell, Refusal, Txn};
+use teb_names::{Cell, Refusal};
+use teb_rules::Stop;
 use version_chain::Chains;
 
 /// Reads a cell.
-pub fn decide_read<K: Control, C: Chains>(view: &EngineView<K, C>, t: Txn, cell: Cell) -> Decision
-    requires whole { ViewIsWhole K.node_number K.stands C.lists view.now }
-    requires unfinished { IsTrue (unfinished (events_in view.now) t.0) }
-    ensures answer { carried (store_in view.now) (events_in view.now) result ≡ answer_of (store_in view.now) (events_in view.now) t.0 (request.Read cell) }
-    ensures bounded { IsBounded (C.lists view.now.chains.now) (store_in view.now).setup (events_in view.now) result }
+pub fn decide_read<K: Control, C: Chains>(asking: &Asking<'_, K, C>, cell: Cell) -> Decision
+    requires whole { ViewIsWhole K.node_number K.stands C.lists asking.now.view.now }
+    ensures answer { carried (store_in asking.now.view.now) (events_in asking.now.view.now) result ≡ answer_of (store_in asking.now.view.now) (events_in asking.now.view.now) asking.now.txn.0 (request.Read cell) }
+    ensures bounded { IsBounded (C.lists asking.now.view.now.chains.now) (store_in asking.now.view.now).setup (events_in asking.now.view.now) result }
 {
-    if let Some(why) = refusal(view, t, cell) {
+    if let Some(why) = refusal(asking, cell) {
         return refused(why);
     }
-    if let Some(decision) = stopped(t, read_stop(view, t, cell)) {
-        return decision;
+    match read_stop(asking, cell) {
+        Stop::Go => got(asking, cell),
+        stop => stopped(asking.txn, stop),
     }
-    let (from, value) = view.read(t, cell);
+}
+
+/// A read that does not stop.
+fn got<K: Control, C: Chains>(asking: &Asking<'_, K, C>, cell: Cell) -> Decision
+    requires { ViewIsWhole K.node_number K.stands C.lists asking.now.view.now }
+    ensures answer { carried (store_in asking.now.view.now) (events_in asking.now.view.now) result ≡ got_value (events_in asking.now.view.now) asking.now.txn.0 cell (read (store_in asking.now.view.now).setup (store_in asking.now.view.now).rows (events_in asking.now.view.now) asking.now.txn.0 cell) }
+    ensures bounded { IsBounded (C.lists asking.now.view.now.chains.now) (store_in asking.now.view.now).setup (events_in asking.now.view.now) result }
+{
+    let (from, value) = asking.view.read(asking.txn, cell);
     Decision::Grant(
         ShortReply::Value(value),
         Event::Got {
-            txn: t,
+            txn: asking.txn,
             cell,
             from,
             value,
@@ -44,63 +53,54 @@ pub fn decide_read<K: Control, C: Chains>(view: &EngineView<K, C>, t: Txn, cell:
 
 /// Puts a value, or deletes the row where there is none.
 pub fn decide_write<K: Control, C: Chains>(
-    view: &EngineView<K, C>,
-    t: Txn,
+    asking: &Asking<'_, K, C>,
     cell: Cell,
     value: Option<i64>,
 ) -> Decision
-    requires whole { ViewIsWhole K.node_number K.stands C.lists view.now }
-    requires unfinished { IsTrue (unfinished (events_in view.now) t.0) }
-    ensures answer { carried (store_in view.now) (events_in view.now) result ≡ or_refused (store_in view.now) (events_in view.now) t.0 cell (put_value (store_in view.now).setup (events_in view.now) t.0 cell value) }
-    ensures bounded { IsBounded (C.lists view.now.chains.now) (store_in view.now).setup (events_in view.now) result }
+    requires whole { ViewIsWhole K.node_number K.stands C.lists asking.now.view.now }
+    ensures answer { carried (store_in asking.now.view.now) (events_in asking.now.view.now) result ≡ or_refused (store_in asking.now.view.now) (events_in asking.now.view.now) asking.now.txn.0 cell (put_value (store_in asking.now.view.now).setup (events_in asking.now.view.now) asking.now.txn.0 cell value) }
+    ensures bounded { IsBounded (C.lists asking.now.view.now.chains.now) (store_in asking.now.view.now).setup (events_in asking.now.view.now) result }
 {
-    match refusal(view, t, cell) {
+    match refusal(asking, cell) {
         Some(why) => refused(why),
-        None => put(view, t, cell, value),
+        None => put(asking, cell, value),
     }
 }
 
 /// A Put that is not refused.
 pub fn put<K: Control, C: Chains>(
-    view: &EngineView<K, C>,
-    t: Txn,
+    asking: &Asking<'_, K, C>,
     cell: Cell,
     value: Option<i64>,
 ) -> Decision
-    requires whole { ViewIsWhole K.node_number K.stands C.lists view.now }
-    requires asks { IsAsking (store_in view.now).setup (events_in view.now) t.0 cell }
-    ensures answer { carried (store_in view.now) (events_in view.now) result ≡ put_value (store_in view.now).setup (events_in view.now) t.0 cell value }
-    ensures bounded { IsBounded (C.lists view.now.chains.now) (store_in view.now).setup (events_in view.now) result }
+    requires whole { ViewIsWhole K.node_number K.stands C.lists asking.now.view.now }
+    requires asks { IsAsking (store_in asking.now.view.now).setup (events_in asking.now.view.now) asking.now.txn.0 cell }
+    ensures answer { carried (store_in asking.now.view.now) (events_in asking.now.view.now) result ≡ put_value (store_in asking.now.view.now).setup (events_in asking.now.view.now) asking.now.txn.0 cell value }
+    ensures bounded { IsBounded (C.lists asking.now.view.now.chains.now) (store_in asking.now.view.now).setup (events_in asking.now.view.now) result }
 {
-    let nodes = view.path_of(t);
-    let asked = asked_place(view, nodes, t, cell);
-    match stopped(t, write_stop(view, nodes, t, cell, at_of(asked))) {
-        Some(decision) => decision,
-        None => Decision::Put {
-            txn: t,
+    let asked = asked_place(asking, cell);
+    match write_stop(asking, cell, at_of(asked)) {
+        Stop::Go => Decision::Put {
+            txn: asking.txn,
             cell,
             value,
-            place: granted_place(view, asked, t, cell),
+            place: granted_place(asking, asked, cell),
         },
+        stop => stopped(asking.txn, stop),
     }
 }
 
 /// Why an access is refused.
-pub fn refusal<K: Control, C: Chains>(
-    view: &EngineView<K, C>,
-    t: Txn,
-    cell: Cell,
-) -> Option<Refusal>
-    requires whole { ViewIsWhole K.node_number K.stands C.lists view.now }
-    requires unfinished { IsTrue (unfinished (events_in view.now) t.0) }
-    ensures refusal { IsRefusal (store_in view.now) (events_in view.now) t.0 cell result }
-    ensures asks { result ≡ None → IsAsking (store_in view.now).setup (events_in view.now) t.0 cell }
+pub fn refusal<K: Control, C: Chains>(asking: &Asking<'_, K, C>, cell: Cell) -> Option<Refusal>
+    requires whole { ViewIsWhole K.node_number K.stands C.lists asking.now.view.now }
+    ensures refusal { IsRefusal (store_in asking.now.view.now) (events_in asking.now.view.now) asking.now.txn.0 cell result }
+    ensures asks { result ≡ None → IsAsking (store_in asking.now.view.now).setup (events_in asking.now.view.now) asking.now.txn.0 cell }
 {
-    if !view.has_table(cell.table) {
+    if !asking.view.has_table(cell.table) {
         Some(Refusal::UnknownTable)
-    } else if view.facts.history.is_prepared(t) {
+    } else if asking.is_prepared {
         Some(Refusal::Prepared)
-    } else if !view.has_step(t, cell.table) {
+    } else if !asking.has_step(cell.table) {
         Some(Refusal::NotInProfile)
     } else {
         None

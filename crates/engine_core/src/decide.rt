@@ -8,9 +8,10 @@ ghost use Rattle.engine_core.specs.Decisions.{carried, told, IsBounded};
 
 use crate::accesses::{decide_read, decide_write};
 use crate::additions::decide_add;
+use crate::asking::Asking;
 use crate::decision::{Decision, ShortReply, refused, stopped};
 use crate::engine_view::EngineView;
-use crate::holders::held;
+use crate::holders::{Holding, held};
 use crate::scans::decide_scan;
 use crate::stops::{begin_stop, commit_stop, prepare_stop};
 use phase_api::Control;
@@ -37,13 +38,10 @@ pub fn decide<K: Control, C: Chains>(
         return refused(Refusal::BadSession);
     }
     match held(view, session) {
-        None => decide_new(view, session, request),
-        Some(t) => {
-            if view.facts.history.is_aborted(t) {
-                tell(view, t)
-            } else {
-                decide_of(view, t, request)
-            }
+        Holding::Nothing => decide_new(view, session, request),
+        Holding::Fallen(t) => tell(view, t),
+        Holding::Running { txn, is_prepared } => {
+            decide_of(&Asking::of(view, txn, is_prepared), request)
         }
     }
 }
@@ -113,49 +111,46 @@ fn tell<K: Control, C: Chains>(view: &EngineView<K, C>, t: Txn) -> Decision
 }
 
 /// What the request of an unfinished transaction is answered.
-fn decide_of<K: Control, C: Chains>(view: &EngineView<K, C>, t: Txn, request: Request) -> Decision
-    requires whole { ViewIsWhole K.node_number K.stands C.lists view.now }
-    requires unfinished { IsTrue (unfinished (events_in view.now) t.0) }
-    ensures answer { carried (store_in view.now) (events_in view.now) result ≡ answer_of (store_in view.now) (events_in view.now) t.0 request }
-    ensures bounded { IsBounded (C.lists view.now.chains.now) (store_in view.now).setup (events_in view.now) result }
+fn decide_of<K: Control, C: Chains>(asking: &Asking<'_, K, C>, request: Request) -> Decision
+    requires whole { ViewIsWhole K.node_number K.stands C.lists asking.now.view.now }
+    ensures answer { carried (store_in asking.now.view.now) (events_in asking.now.view.now) result ≡ answer_of (store_in asking.now.view.now) (events_in asking.now.view.now) asking.now.txn.0 request }
+    ensures bounded { IsBounded (C.lists asking.now.view.now.chains.now) (store_in asking.now.view.now).setup (events_in asking.now.view.now) result }
 {
     match request {
         Request::Begin(_) => refused(Refusal::InTxn),
-        Request::Read(cell) => decide_read(view, t, cell),
-        Request::Write(cell, value) => decide_write(view, t, cell, Some(value)),
-        Request::Add(cell, number) => decide_add(view, t, cell, number),
-        Request::Delete(cell) => decide_write(view, t, cell, None),
-        Request::Scan { cell, count } => decide_scan(view, t, cell, count),
-        Request::Prepare => decide_prepare(view, t),
-        Request::Commit => decide_commit(view, t),
-        Request::Abort => Decision::Fall(t, Cause::Asked),
-        Request::End => Decision::Fall(t, Cause::Ended),
+        Request::Read(cell) => decide_read(asking, cell),
+        Request::Write(cell, value) => decide_write(asking, cell, Some(value)),
+        Request::Add(cell, number) => decide_add(asking, cell, number),
+        Request::Delete(cell) => decide_write(asking, cell, None),
+        Request::Scan { cell, count } => decide_scan(asking, cell, count),
+        Request::Prepare => decide_prepare(asking),
+        Request::Commit => decide_commit(asking),
+        Request::Abort => Decision::Fall(asking.txn, Cause::Asked),
+        Request::End => Decision::Fall(asking.txn, Cause::Ended),
     }
 }
 
-fn decide_prepare<K: Control, C: Chains>(view: &EngineView<K, C>, t: Txn) -> Decision
-    requires whole { ViewIsWhole K.node_number K.stands C.lists view.now }
-    requires unfinished { IsTrue (unfinished (events_in view.now) t.0) }
-    ensures answer { carried (store_in view.now) (events_in view.now) result ≡ answer_of (store_in view.now) (events_in view.now) t.0 Request.Prepare }
-    ensures bounded { IsBounded (C.lists view.now.chains.now) (store_in view.now).setup (events_in view.now) result }
+fn decide_prepare<K: Control, C: Chains>(asking: &Asking<'_, K, C>) -> Decision
+    requires whole { ViewIsWhole K.node_number K.stands C.lists asking.now.view.now }
+    ensures answer { carried (store_in asking.now.view.now) (events_in asking.now.view.now) result ≡ answer_of (store_in asking.now.view.now) (events_in asking.now.view.now) asking.now.txn.0 Request.Prepare }
+    ensures bounded { IsBounded (C.lists asking.now.view.now.chains.now) (store_in asking.now.view.now).setup (events_in asking.now.view.now) result }
 {
-    if view.facts.history.is_prepared(t) {
+    if asking.is_prepared {
         return refused(Refusal::Prepared);
     }
-    match stopped(t, prepare_stop(view, t)) {
-        Some(decision) => decision,
-        None => Decision::Grant(ShortReply::Prepared, Event::Ready(t)),
+    match prepare_stop(asking) {
+        Stop::Go => Decision::Grant(ShortReply::Prepared, Event::Ready(asking.txn)),
+        stop => stopped(asking.txn, stop),
     }
 }
 
-fn decide_commit<K: Control, C: Chains>(view: &EngineView<K, C>, t: Txn) -> Decision
-    requires whole { ViewIsWhole K.node_number K.stands C.lists view.now }
-    requires unfinished { IsTrue (unfinished (events_in view.now) t.0) }
-    ensures answer { carried (store_in view.now) (events_in view.now) result ≡ answer_of (store_in view.now) (events_in view.now) t.0 Request.Commit }
-    ensures bounded { IsBounded (C.lists view.now.chains.now) (store_in view.now).setup (events_in view.now) result }
+fn decide_commit<K: Control, C: Chains>(asking: &Asking<'_, K, C>) -> Decision
+    requires whole { ViewIsWhole K.node_number K.stands C.lists asking.now.view.now }
+    ensures answer { carried (store_in asking.now.view.now) (events_in asking.now.view.now) result ≡ answer_of (store_in asking.now.view.now) (events_in asking.now.view.now) asking.now.txn.0 Request.Commit }
+    ensures bounded { IsBounded (C.lists asking.now.view.now.chains.now) (store_in asking.now.view.now).setup (events_in asking.now.view.now) result }
 {
-    match stopped(t, commit_stop(view, t)) {
-        Some(decision) => decision,
-        None => Decision::Grant(ShortReply::Committed, Event::Done(t)),
+    match commit_stop(asking) {
+        Stop::Go => Decision::Grant(ShortReply::Committed, Event::Done(asking.txn)),
+        stop => stopped(asking.txn, stop),
     }
 }

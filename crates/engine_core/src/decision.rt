@@ -69,17 +69,18 @@ pub fn refused(why: Refusal) -> Decision
     Decision::Answer(ShortReply::Refused(why))
 }
 
-/// What a stop makes of a request of t, if it stops it. Nobody waits for a transaction of greater number.
-pub fn stopped(t: Txn, stop: Stop) -> Option<Decision>
+/// What a stop makes of a request of t. Nobody waits for a transaction of greater number.
+pub fn stopped(t: Txn, stop: Stop) -> Decision
+    requires { stop ≡ Stop.Go → ⊥ }
     ensures { (X : Store) (H : List Event) → IsStopped X H t.0 stop result }
 {
     match stop {
-        Stop::Go => None,
+        Stop::Go => unreachable!(),
         Stop::Wait { who, node } if t.0 < who.0 => {
-            Some(Decision::Fall(t, Cause::Newer { node, other: who }))
+            Decision::Fall(t, Cause::Newer { node, other: who })
         }
-        Stop::Wait { who, node } => Some(Decision::Answer(ShortReply::Again { who, node })),
-        Stop::Break { node, broken } => Some(Decision::Fall(t, cause_at(node, broken))),
+        Stop::Wait { who, node } => Decision::Answer(ShortReply::Again { who, node }),
+        Stop::Break { node, broken } => Decision::Fall(t, cause_at(node, broken)),
     }
 }
 

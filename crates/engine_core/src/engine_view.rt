@@ -1,14 +1,10 @@
 //! What a decision looks at: what an engine keeps, lent. Of it controls are told the `Facts`.
 
-ghost use Rattle.std.specs.Prelude.{◌≡◌, ◌<◌, ltb, length, All, IsTrue, is_some, slice_get, Some};
+ghost use Rattle.std.specs.Prelude.{◌≡◌, ◌<◌, ltb, length, IsTrue, slice_get, Some};
 ghost use Rattle.teb_rules.specs.Versions.{read};
 ghost use Rattle.version_chain.specs.Lists.{writers_of, is_writer};
 ghost use Rattle.phase_api.specs.Versions.{IsPlaceOf};
-ghost use Rattle.teb_history.specs.Phases.{unfinished, kind_of, spot_of};
-ghost use Rattle.teb_rules.specs.Tree.{path};
-ghost use Rattle.cc_tree.specs.Grown.{node_numbers};
-ghost use Rattle.teb_rules.specs.Setup.{profile};
-ghost use Rattle.teb_rules.specs.Steps.{least_step, cursor};
+ghost use Rattle.teb_history.specs.Phases.{unfinished, spot_of};
 
 use crate::latest_txns::LatestTxns;
 use candidate_reads::{Place, place_of, read};
@@ -48,19 +44,6 @@ impl<'a, K: Control, C: Chains> EngineView<'a, K, C> {
         kind.0 < self.facts.tree.types()
     }
 
-    /// Whether the profile of a transaction has a step on a table, from where the transaction stands.
-    pub fn has_step(&self, t: Txn, table: Table) -> bool
-        requires whole { ViewIsWhole K.node_number K.stands C.lists self.now }
-        requires unfinished { IsTrue (unfinished (events_in self.now) t.0) }
-        ensures { result ≡ is_some (least_step (profile (store_in self.now).setup (kind_of (events_in self.now) t.0)) (cursor (store_in self.now).setup (events_in self.now) t.0) table.0) }
-    {
-        let spot = self.spot_of(t);
-        let profile = &self.facts.profiles[usize::from(spot.kind.0)];
-        profile
-            .cursor_after(self.cursors.cursor(t), table)
-            .is_some()
-    }
-
     /// The type and the instance of an unfinished transaction.
     pub fn spot_of(&self, t: Txn) -> Spot
         requires whole { ViewIsWhole K.node_number K.stands C.lists self.now }
@@ -72,16 +55,6 @@ impl<'a, K: Control, C: Chains> EngineView<'a, K, C> {
             unreachable!()
         };
         spot
-    }
-
-    /// The nodes on the path of an unfinished transaction, from the root to its leaf.
-    pub fn path_of(&self, t: Txn) -> &'a [Node]
-        requires whole { ViewIsWhole K.node_number K.stands C.lists self.now }
-        requires unfinished { IsTrue (unfinished (events_in self.now) t.0) }
-        ensures nodes { node_numbers result.now ≡ path (store_in self.now).setup.tree (spot_of (events_in self.now) t.0) }
-        ensures within { All (λ n. n.0 < length (store_in self.now).setup.tree) result.now }
-    {
-        self.facts.tree.path(self.spot_of(t))
     }
 
     /// The control of a node.

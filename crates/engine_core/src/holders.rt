@@ -1,23 +1,46 @@
-//! Which transaction a session holds.
+//! What a session holds.
 
-ghost use Rattle.std.specs.Prelude.{◌≡◌};
-ghost use Rattle.teb_history.specs.Written.{held_txn};
 ghost use Rattle.engine_core.specs.Wholes.{events_in, ViewIsWhole};
+ghost use Rattle.engine_core.specs.HeldBy.{IsHeld};
 
 use crate::engine_view::EngineView;
 use phase_api::Control;
+use teb_history::Phase;
 use teb_names::{Session, Txn};
 use version_chain::Chains;
 
-/// The transaction that a session holds: the one that it began last, if that is live. It costs one look.
-pub fn held<K: Control, C: Chains>(view: &EngineView<K, C>, session: Session) -> Option<Txn>
+/// What a session holds.
+#[derive(Clone, Copy)]
+pub enum Holding {
+    /// No transaction.
+    Nothing,
+    /// One that a cascade aborted, of which the session was not told.
+    Fallen(Txn),
+    /// One that is neither committed nor aborted.
+    Running { txn: Txn, is_prepared: bool },
+}
+
+/// What a session holds: the transaction that it began last, if that is live. It costs one look.
+pub fn held<K: Control, C: Chains>(view: &EngineView<K, C>, session: Session) -> Holding
     requires { ViewIsWhole K.node_number K.stands C.lists view.now }
-    ensures { result ≡ held_txn (events_in view.now) session }
+    ensures { IsHeld (events_in view.now) session result }
 {
-    let last = view.latest.of(session);
-    if view.facts.history.is_live(last) {
-        Some(last)
-    } else {
-        None
+    let txn = view.latest.of(session);
+    match view.facts.history.phase(txn) {
+        Phase::Running => Holding::Running {
+            txn,
+            is_prepared: false,
+        },
+        Phase::Ready => Holding::Running {
+            txn,
+            is_prepared: true,
+        },
+        _ => {
+            if view.facts.history.is_live(txn) {
+                Holding::Fallen(txn)
+            } else {
+                Holding::Nothing
+            }
+        }
     }
 }

@@ -5,6 +5,7 @@ mod accesses;
 mod additions;
 mod any_control;
 mod append_event;
+mod asking;
 mod carry_out;
 mod decide;
 mod decision;

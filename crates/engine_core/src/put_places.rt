@@ -12,29 +12,22 @@ ghost use Rattle.engine_core.specs.Keeping.{IsPlaced};
 ghost use Rattle.engine_core.specs.Wholes.{store_in, events_in, ViewIsWhole};
 ghost use Rattle.engine_core.specs.Stopping.{at_of, AreTold};
 
-use crate::engine_view::EngineView;
+use crate::asking::Asking;
 use candidate_reads::Place;
 use cc_tree::Tree;
 use phase_api::Control;
-use teb_names::{Cell, ControlKind, Node, Txn};
+use teb_names::{Cell, ControlKind, Node};
 use version_chain::Chains;
 
 /// The place of t's version of a cell, where a timestamp node is on t's path.
-pub fn asked_place<K: Control, C: Chains>(
-    view: &EngineView<K, C>,
-    nodes: &[Node],
-    t: Txn,
-    cell: Cell,
-) -> Option<Place>
-    requires whole { ViewIsWhole K.node_number K.stands C.lists view.now }
-    requires unfinished { IsTrue (unfinished (events_in view.now) t.0) }
-    requires within { All (λ n. n.0 < length (store_in view.now).setup.tree) nodes.now }
-    requires nodes { node_numbers nodes.now ≡ path (store_in view.now).setup.tree (spot_of (events_in view.now) t.0) }
-    ensures placed { IfSome result (λ p. IsPlaced (store_in view.now).setup (events_in view.now) (C.lists view.now.chains.now) t.0 cell p) }
-    ensures told { AreTold (store_in view.now).setup (events_in view.now) cell t.0 (at_of result) (writers_of (C.lists view.now.chains.now cell)) }
+pub fn asked_place<K: Control, C: Chains>(asking: &Asking<'_, K, C>, cell: Cell) -> Option<Place>
+    requires whole { ViewIsWhole K.node_number K.stands C.lists asking.now.view.now }
+    ensures placed { IfSome result (λ p. IsPlaced (store_in asking.now.view.now).setup (events_in asking.now.view.now) (C.lists asking.now.view.now.chains.now) asking.now.txn.0 cell p) }
+    ensures told { AreTold (store_in asking.now.view.now).setup (events_in asking.now.view.now) cell asking.now.txn.0 (at_of result) (writers_of (C.lists asking.now.view.now.chains.now cell)) }
 {
-    if has_timestamp(view.facts.tree, nodes) {
-        Some(view.place_of(t, cell))
+    let view = asking.view;
+    if has_timestamp(view.facts.tree, asking.nodes) {
+        Some(view.place_of(asking.txn, cell))
     } else {
         None
     }
@@ -52,19 +45,17 @@ pub fn at_of(asked: Option<Place>) -> Option<usize>
 
 /// The place of t's version of a cell, which may have been asked for already.
 pub fn granted_place<K: Control, C: Chains>(
-    view: &EngineView<K, C>,
+    asking: &Asking<'_, K, C>,
     asked: Option<Place>,
-    t: Txn,
     cell: Cell,
 ) -> Place
-    requires whole { ViewIsWhole K.node_number K.stands C.lists view.now }
-    requires unfinished { IsTrue (unfinished (events_in view.now) t.0) }
-    requires asked { IfSome asked (λ p. IsPlaced (store_in view.now).setup (events_in view.now) (C.lists view.now.chains.now) t.0 cell p) }
-    ensures { IsPlaced (store_in view.now).setup (events_in view.now) (C.lists view.now.chains.now) t.0 cell result }
+    requires whole { ViewIsWhole K.node_number K.stands C.lists asking.now.view.now }
+    requires asked { IfSome asked (λ p. IsPlaced (store_in asking.now.view.now).setup (events_in asking.now.view.now) (C.lists asking.now.view.now.chains.now) asking.now.txn.0 cell p) }
+    ensures { IsPlaced (store_in asking.now.view.now).setup (events_in asking.now.view.now) (C.lists asking.now.view.now.chains.now) asking.now.txn.0 cell result }
 {
     match asked {
         Some(place) => place,
-        None => view.place_of(t, cell),
+        None => asking.view.place_of(asking.txn, cell),
     }
 }
 

@@ -1,8 +1,7 @@
 //! What a scan is answered: so many cells of a table are read, in ascending order of keys.
 
-ghost use Rattle.std.specs.Prelude.{◌≡◌, ◌≤◌, ◌<◌, ◌+◌, ◌^◌, IsTrue};
+ghost use Rattle.std.specs.Prelude.{◌≡◌, ◌≤◌, ◌<◌, ◌+◌, ◌^◌};
 ghost use Rattle.teb_names.specs.declared.Request.TheVariants as request;
-ghost use Rattle.teb_history.specs.Phases.{unfinished};
 ghost use Rattle.teb_rules.specs.Stops.{scan_stop};
 ghost use Rattle.teb_rules.specs.Answer.{answer_of, cells_from, is_scan};
 ghost use Rattle.engine_core.specs.Wholes.{store_in, events_in, ViewIsWhole};
@@ -11,36 +10,34 @@ ghost use Rattle.engine_core.specs.Cells.{cell_at};
 ghost use Rattle.engine_core.specs.Decisions.{carried, IsBounded};
 
 use crate::accesses::refusal;
+use crate::asking::Asking;
 use crate::decision::{Decision, refused, stopped};
-use crate::engine_view::EngineView;
 use crate::stops::read_stop;
 use phase_api::Control;
-use teb_names::{Cell, Refusal, Txn};
+use teb_names::{Cell, Refusal};
 use teb_rules::Stop;
 use version_chain::Chains;
 
 /// Reads so many cells.
 pub fn decide_scan<K: Control, C: Chains>(
-    view: &EngineView<K, C>,
-    t: Txn,
+    asking: &Asking<'_, K, C>,
     first: Cell,
     count: u8,
 ) -> Decision
-    requires whole { ViewIsWhole K.node_number K.stands C.lists view.now }
-    requires unfinished { IsTrue (unfinished (events_in view.now) t.0) }
-    ensures answer { carried (store_in view.now) (events_in view.now) result ≡ answer_of (store_in view.now) (events_in view.now) t.0 (request.Scan first count) }
-    ensures bounded { IsBounded (C.lists view.now.chains.now) (store_in view.now).setup (events_in view.now) result }
+    requires whole { ViewIsWhole K.node_number K.stands C.lists asking.now.view.now }
+    ensures answer { carried (store_in asking.now.view.now) (events_in asking.now.view.now) result ≡ answer_of (store_in asking.now.view.now) (events_in asking.now.view.now) asking.now.txn.0 (request.Scan first count) }
+    ensures bounded { IsBounded (C.lists asking.now.view.now.chains.now) (store_in asking.now.view.now).setup (events_in asking.now.view.now) result }
 {
-    if let Some(why) = refusal(view, t, first) {
+    if let Some(why) = refusal(asking, first) {
         return refused(why);
     }
     if !is_scan(first, count) {
         return refused(Refusal::Range);
     }
-    if let Some(decision) = stopped(t, scan_stop(view, t, first, count)) {
-        return decision;
+    match scan_stop(asking, first, count) {
+        Stop::Go => Decision::Scan(asking.txn, first, count),
+        stop => stopped(asking.txn, stop),
     }
-    Decision::Scan(t, first, count)
 }
 
 /// Whether there are 1 to 16 cells, the last of which has a key.
@@ -63,14 +60,14 @@ pub fn cell_at(first: Cell, i: u8) -> Cell
 }
 
 /// Where a scan stops: at the first cell whose read stops.
-fn scan_stop<K: Control, C: Chains>(view: &EngineView<K, C>, t: Txn, first: Cell, count: u8) -> Stop
-    requires whole { ViewIsWhole K.node_number K.stands C.lists view.now }
-    requires asks { IsAsking (store_in view.now).setup (events_in view.now) t.0 first }
+fn scan_stop<K: Control, C: Chains>(asking: &Asking<'_, K, C>, first: Cell, count: u8) -> Stop
+    requires whole { ViewIsWhole K.node_number K.stands C.lists asking.now.view.now }
+    requires asks { IsAsking (store_in asking.now.view.now).setup (events_in asking.now.view.now) asking.now.txn.0 first }
     requires keys { first.key + count ≤ 2 ^ 32 }
-    ensures { result ≡ scan_stop (store_in view.now).setup (events_in view.now) t.0 (cells_from first count) }
+    ensures { result ≡ scan_stop (store_in asking.now.view.now).setup (events_in asking.now.view.now) asking.now.txn.0 (cells_from first count) }
 {
     for i in 0..count {
-        match read_stop(view, t, cell_at(first, i)) {
+        match read_stop(asking, cell_at(first, i)) {
             Stop::Go => {}
             stop => return stop,
         }

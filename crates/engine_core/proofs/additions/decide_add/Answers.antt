@@ -10,14 +10,14 @@ use Rattle.engine_core.proofs.additions.decide_add.Goals as goal
 
 pub returns-in-Some-clause-answer : goal.returns-in-Some-clause-answer
 unfolding answer_of
-returns-in-Some-clause-answer g c = is_refused (store_in c.args.view.now) (events_in c.args.view.now) c.args.t.0 c.args.cell _ c.in-Some.why _ _ c.refusal.ensures.refusal c.in-Some.is c.refused.ensures
+returns-in-Some-clause-answer g c = is_refused (store_in c.args.asking.now.view.now) (events_in c.args.asking.now.view.now) c.args.asking.now.txn.0 c.args.cell _ c.in-Some.why _ _ c.refusal.ensures.refusal c.in-Some.is c.refused.ensures
 
 pub returns-in_default-add_base-clause-answer : goal.returns-in_default-add_base-clause-answer
 unfolding answer_of
 returns-in_default-add_base-clause-answer g c =
-    ap (carried (store_in c.args.view.now) (events_in c.args.view.now)) c.refused-in_default-add_base.ensures
-    ∙ sym (adds_to_nothing (store_in c.args.view.now).setup (events_in c.args.view.now) c.args.t.0 c.args.cell c.args.number _ (sym c.add_base.ensures ∙ c.in_default-add_base.is))
-    ∙ sym (is_not_refused (store_in c.args.view.now) (events_in c.args.view.now) c.args.t.0 c.args.cell _ _ c.refusal.ensures.refusal c.in_default.is)
+    ap (carried (store_in c.args.asking.now.view.now) (events_in c.args.asking.now.view.now)) c.refused-in_default-add_base.ensures
+    ∙ sym (adds_to_nothing (store_in c.args.asking.now.view.now).setup (events_in c.args.asking.now.view.now) c.args.asking.now.txn.0 c.args.cell c.args.number _ (sym c.add_base.ensures ∙ c.in_default-add_base.is))
+    ∙ sym (is_not_refused (store_in c.args.asking.now.view.now) (events_in c.args.asking.now.view.now) c.args.asking.now.txn.0 c.args.cell _ _ c.refusal.ensures.refusal c.in_default.is)
 
 pub returns-in-Some-sum_of-clause-answer : goal.returns-in-Some-sum_of-clause-answer
 unfolding answer_of
@@ -25,14 +25,14 @@ returns-in-Some-sum_of-clause-answer g c =
     let base_fits : FitsSigned w64 c.in-Some-add_base.base = search rules in
     let sum_fits : FitsSigned w64 c.in-Some-sum_of.sum = search rules in
     c.put.ensures.answer
-    ∙ ap (λ (z : ℤ). put_value (store_in c.args.view.now).setup (events_in c.args.view.now) c.args.t.0 c.args.cell (Some z)) (to_z-of_z w64 c.in-Some-sum_of.sum sum_fits)
-    ∙ sym (adds (store_in c.args.view.now).setup (events_in c.args.view.now) c.args.t.0 c.args.cell c.args.number _ c.in-Some-add_base.base c.in-Some-sum_of.sum (sym c.add_base.ensures ∙ c.in-Some-add_base.is) (summed c.in-Some-add_base.base c.args.number _ _ base_fits c.ranges.number c.sum_of.ensures c.in-Some-sum_of.is))
-    ∙ sym (is_not_refused (store_in c.args.view.now) (events_in c.args.view.now) c.args.t.0 c.args.cell _ _ c.refusal.ensures.refusal c.in_default.is)
+    ∙ ap (λ (z : ℤ). put_value (store_in c.args.asking.now.view.now).setup (events_in c.args.asking.now.view.now) c.args.asking.now.txn.0 c.args.cell (Some z)) (to_z-of_z w64 c.in-Some-sum_of.sum sum_fits)
+    ∙ sym (adds (store_in c.args.asking.now.view.now).setup (events_in c.args.asking.now.view.now) c.args.asking.now.txn.0 c.args.cell c.args.number _ c.in-Some-add_base.base c.in-Some-sum_of.sum (sym c.add_base.ensures ∙ c.in-Some-add_base.is) (summed c.in-Some-add_base.base c.args.number _ _ base_fits c.ranges.number c.sum_of.ensures c.in-Some-sum_of.is))
+    ∙ sym (is_not_refused (store_in c.args.asking.now.view.now) (events_in c.args.asking.now.view.now) c.args.asking.now.txn.0 c.args.cell _ _ c.refusal.ensures.refusal c.in_default.is)
 
 pub returns-in-None-clause-answer : goal.returns-in-None-clause-answer
 unfolding answer_of
 returns-in-None-clause-answer g c =
     let base_fits : FitsSigned w64 c.in-Some-add_base.base = search rules in
-    ap (carried (store_in c.args.view.now) (events_in c.args.view.now)) c.refused-in-None.ensures
-    ∙ sym (overflows (store_in c.args.view.now).setup (events_in c.args.view.now) c.args.t.0 c.args.cell c.args.number _ c.in-Some-add_base.base (sym c.add_base.ensures ∙ c.in-Some-add_base.is) (summed c.in-Some-add_base.base c.args.number _ _ base_fits c.ranges.number c.sum_of.ensures c.in-None.is))
-    ∙ sym (is_not_refused (store_in c.args.view.now) (events_in c.args.view.now) c.args.t.0 c.args.cell _ _ c.refusal.ensures.refusal c.in_default.is)
+    ap (carried (store_in c.args.asking.now.view.now) (events_in c.args.asking.now.view.now)) c.refused-in-None.ensures
+    ∙ sym (overflows (store_in c.args.asking.now.view.now).setup (events_in c.args.asking.now.view.now) c.args.asking.now.txn.0 c.args.cell c.args.number _ c.in-Some-add_base.base (sym c.add_base.ensures ∙ c.in-Some-add_base.is) (summed c.in-Some-add_base.base c.args.number _ _ base_fits c.ranges.number c.sum_of.ensures c.in-None.is))
+    ∙ sym (is_not_refused (store_in c.args.asking.now.view.now) (events_in c.args.asking.now.view.now) c.args.asking.now.txn.0 c.args.cell _ _ c.refusal.ensures.refusal c.in_default.is)

@@ -1,15 +1,15 @@
 use Rattle.teb_rules.specs.Answer.{answer_of}
 use Rattle.engine_core.specs.Wholes.{store_in, events_in}
-use Rattle.engine_core.proofs.Deciding.{stops, stops_bounded, goes}
+use Rattle.engine_core.proofs.Deciding.{stops, goes}
 use Rattle.engine_core.proofs.decide.decide_commit.Goals as goal
 
-pub returns-in-Some-clause-answer : goal.returns-in-Some-clause-answer
+pub returns-in_default-clause-answer : goal.returns-in_default-clause-answer
 unfolding answer_of
-returns-in-Some-clause-answer g c = stops (store_in c.args.view.now) (events_in c.args.view.now) c.args.t.0 _ _ _ c.in-Some.decision _ c.commit_stop.ensures (c.stopped.ensures (store_in c.args.view.now) (events_in c.args.view.now)) c.in-Some.is
+returns-in_default-clause-answer g c = stops (store_in c.args.asking.now.view.now) (events_in c.args.asking.now.view.now) c.args.asking.now.txn.0 _ _ _ _ c.commit_stop.ensures (c.stopped.ensures (store_in c.args.asking.now.view.now) (events_in c.args.asking.now.view.now))
 
-pub returns-in-Some-clause-bounded : goal.returns-in-Some-clause-bounded
-returns-in-Some-clause-bounded g c = stops_bounded (store_in c.args.view.now) (g.C.Chains.lists c.args.view.now.chains.now) (events_in c.args.view.now) c.args.t.0 _ _ c.in-Some.decision (c.stopped.ensures (store_in c.args.view.now) (events_in c.args.view.now)) c.in-Some.is
+pub returns-in_default-clause-bounded : goal.returns-in_default-clause-bounded
+returns-in_default-clause-bounded g c = (c.stopped.ensures (store_in c.args.asking.now.view.now) (events_in c.args.asking.now.view.now)).1 (g.C.Chains.lists c.args.asking.now.view.now.chains.now)
 
-pub returns-in-None-clause-answer : goal.returns-in-None-clause-answer
+pub returns-in-Go-clause-answer : goal.returns-in-Go-clause-answer
 unfolding answer_of
-returns-in-None-clause-answer g c = goes (store_in c.args.view.now) (events_in c.args.view.now) c.args.t.0 _ _ _ _ c.commit_stop.ensures (c.stopped.ensures (store_in c.args.view.now) (events_in c.args.view.now)) c.in-None.is
+returns-in-Go-clause-answer g c = goes (store_in c.args.asking.now.view.now) (events_in c.args.asking.now.view.now) c.args.asking.now.txn.0 _ _ _ c.commit_stop.ensures c.in-Go.is

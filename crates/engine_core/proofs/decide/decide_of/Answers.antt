@@ -9,24 +9,24 @@ use Rattle.engine_core.proofs.decide.decide_of.Goals as goal
 
 pub returns-in-Begin-clause-answer : goal.returns-in-Begin-clause-answer
 unfolding answer_of
-returns-in-Begin-clause-answer g c = ap (carried (store_in c.args.view.now) (events_in c.args.view.now)) c.refused.ensures ∙ ap (λ (r : Request). answer_of (store_in c.args.view.now) (events_in c.args.view.now) c.args.t.0 r) (sym c.in-Begin.is)
+returns-in-Begin-clause-answer g c = ap (carried (store_in c.args.asking.now.view.now) (events_in c.args.asking.now.view.now)) c.refused.ensures ∙ ap (λ (r : Request). answer_of (store_in c.args.asking.now.view.now) (events_in c.args.asking.now.view.now) c.args.asking.now.txn.0 r) (sym c.in-Begin.is)
 
 pub returns-in-Write-clause-answer : goal.returns-in-Write-clause-answer
 unfolding answer_of
 returns-in-Write-clause-answer g c =
     let value_fits : FitsSigned w64 c.in-Write.value = search rules in
     c.decide_write.ensures.answer
-    ∙ ap (λ (z : ℤ). or_refused (store_in c.args.view.now) (events_in c.args.view.now) c.args.t.0 c.in-Write.cell (put_value (store_in c.args.view.now).setup (events_in c.args.view.now) c.args.t.0 c.in-Write.cell (Some z))) (to_z-of_z w64 c.in-Write.value value_fits)
-    ∙ ap (λ (r : Request). answer_of (store_in c.args.view.now) (events_in c.args.view.now) c.args.t.0 r) (sym c.in-Write.is)
+    ∙ ap (λ (z : ℤ). or_refused (store_in c.args.asking.now.view.now) (events_in c.args.asking.now.view.now) c.args.asking.now.txn.0 c.in-Write.cell (put_value (store_in c.args.asking.now.view.now).setup (events_in c.args.asking.now.view.now) c.args.asking.now.txn.0 c.in-Write.cell (Some z))) (to_z-of_z w64 c.in-Write.value value_fits)
+    ∙ ap (λ (r : Request). answer_of (store_in c.args.asking.now.view.now) (events_in c.args.asking.now.view.now) c.args.asking.now.txn.0 r) (sym c.in-Write.is)
 
 pub returns-in-Delete-clause-answer : goal.returns-in-Delete-clause-answer
 unfolding answer_of
-returns-in-Delete-clause-answer g c = c.decide_write-in-Delete.ensures.answer ∙ ap (λ (r : Request). answer_of (store_in c.args.view.now) (events_in c.args.view.now) c.args.t.0 r) (sym c.in-Delete.is)
+returns-in-Delete-clause-answer g c = c.decide_write-in-Delete.ensures.answer ∙ ap (λ (r : Request). answer_of (store_in c.args.asking.now.view.now) (events_in c.args.asking.now.view.now) c.args.asking.now.txn.0 r) (sym c.in-Delete.is)
 
 pub returns-in-Abort-clause-answer : goal.returns-in-Abort-clause-answer
 unfolding answer_of
-returns-in-Abort-clause-answer g c = ap (λ (r : Request). answer_of (store_in c.args.view.now) (events_in c.args.view.now) c.args.t.0 r) (sym c.in-Abort.is)
+returns-in-Abort-clause-answer g c = ap (λ (r : Request). answer_of (store_in c.args.asking.now.view.now) (events_in c.args.asking.now.view.now) c.args.asking.now.txn.0 r) (sym c.in-Abort.is)
 
 pub returns-in-End-clause-answer : goal.returns-in-End-clause-answer
 unfolding answer_of
-returns-in-End-clause-answer g c = ap (λ (r : Request). answer_of (store_in c.args.view.now) (events_in c.args.view.now) c.args.t.0 r) (sym c.in-End.is)
+returns-in-End-clause-answer g c = ap (λ (r : Request). answer_of (store_in c.args.asking.now.view.now) (events_in c.args.asking.now.view.now) c.args.asking.now.txn.0 r) (sym c.in-End.is)

@@ -1,21 +1,45 @@
-use Rattle.std.proofs.Common.{◌≡◌, ◌∙◌, Bool, cond, Some, None, sym, ap}
+use Rattle.std.proofs.Common.{◌≡◌, ◌∙◌, Bool, true, false, cond, List, Some, None, sym, ap}
+use Rattle.std.proofs.lemmas.Bool.{or_left}
 use Rattle.teb_names.specs.declared.Txn.{Txn}
+use Rattle.teb_names.specs.declared.Session.{Session}
+use Rattle.teb_history.specs.declared.Event.{Event}
+use Rattle.teb_history.specs.Phases.{unfinished, untold}
 use Rattle.teb_history.specs.Live.{is_live}
+use Rattle.teb_history.specs.Written.{held_txn}
+use Rattle.teb_rules.specs.Setup.{Setup}
+use Rattle.teb_laws.specs.Lawful.{Lawful}
 use Rattle.engine_core.specs.Latest.{latest_txn}
 use Rattle.engine_core.specs.Wholes.{store_in, events_in}
 use Rattle.engine_core.proofs.HeldTxns.{held_txn-latest}
+use Rattle.engine_core.proofs.HeldPhases.{running_phase, ready_phase, live_aborted}
 use Rattle.engine_core.proofs.holders.held.Goals as goal
+
+-- what a session holds, by whether that which it began last is live
+held_by : (S : Setup) (H : List Event) (s : Session) (t : Txn) (b : Bool) → Lawful S H → t ≡ latest_txn H s.0 → is_live H t.0 ≡ b → held_txn H s ≡ cond b (Some t) None
+held_by S H s t b l e q =
+    held_txn-latest S H s l
+    ∙ ap (λ (u : Txn). cond (is_live H u.0) (Some u) None) (sym e)
+    ∙ ap (λ (z : Bool). cond z (Some t) None) q
+
+pub returns-in-Running : goal.returns-in-Running
+returns-in-Running g c =
+    let H = events_in c.args.view.now in
+    let f = running_phase H c.of-txn.result.0 (sym c.phase.ensures ∙ c.in-Running.is) in
+    (held_by (store_in c.args.view.now).setup H c.args.session c.of-txn.result true c.requires.whole.lawful (c.of-txn.ensures ∙ c.requires.whole.latest c.args.session.0) (or_left (unfinished H c.of-txn.result.0) (untold H c.of-txn.result.0) f.0), f.0, f.1)
+
+pub returns-in-Ready : goal.returns-in-Ready
+returns-in-Ready g c =
+    let H = events_in c.args.view.now in
+    let f = ready_phase H c.of-txn.result.0 (sym c.phase.ensures ∙ c.in-Ready.is) in
+    (held_by (store_in c.args.view.now).setup H c.args.session c.of-txn.result true c.requires.whole.lawful (c.of-txn.ensures ∙ c.requires.whole.latest c.args.session.0) (or_left (unfinished H c.of-txn.result.0) (untold H c.of-txn.result.0) f.0), f.0, f.1)
 
 pub returns-then-is_live : goal.returns-then-is_live
 returns-then-is_live g c =
     let H = events_in c.args.view.now in
-    let latest : c.of-last.result ≡ latest_txn H c.args.session.0 = c.of-last.ensures ∙ c.requires.whole.latest c.args.session.0 in
-    let live = ap (λ (t : Txn). is_live H t.0) (sym latest) ∙ sym c.is_live.ensures ∙ c.if-is_live.true in
-    ap (λ (t : Txn). Some t) latest ∙ sym (held_txn-latest (store_in c.args.view.now).setup H c.args.session c.requires.whole.lawful ∙ ap (λ (b : Bool). cond b (Some (latest_txn H c.args.session.0)) None) live)
+    let live = sym c.is_live.ensures ∙ c.if-is_live.true in (
+      held_by (store_in c.args.view.now).setup H c.args.session c.of-txn.result true c.requires.whole.lawful (c.of-txn.ensures ∙ c.requires.whole.latest c.args.session.0) live,
+      live_aborted H c.of-txn.result.0 (λ e. c.in_default.not-Running (c.phase.ensures ∙ e)) (λ e. c.in_default.not-Ready (c.phase.ensures ∙ e)) live,
+    )
 
 pub returns-else-is_live : goal.returns-else-is_live
-returns-else-is_live g c =
-    let H = events_in c.args.view.now in
-    let latest : c.of-last.result ≡ latest_txn H c.args.session.0 = c.of-last.ensures ∙ c.requires.whole.latest c.args.session.0 in
-    let live = ap (λ (t : Txn). is_live H t.0) (sym latest) ∙ sym c.is_live.ensures ∙ c.if-is_live.false in
-    sym (held_txn-latest (store_in c.args.view.now).setup H c.args.session c.requires.whole.lawful ∙ ap (λ (b : Bool). cond b (Some (latest_txn H c.args.session.0)) None) live)
+returns-else-is_live g c = held_by (store_in c.args.view.now).setup (events_in c.args.view.now) c.args.session c.of-txn.result false c.requires.whole.lawful (c.of-txn.ensures ∙ c.requires.whole.latest c.args.session.0) (sym c.is_live.ensures ∙ c.if-is_live.false)

@@ -6,4 +6,4 @@ use Rattle.engine_core.proofs.Gathering.{rest_of}
 use Rattle.engine_core.proofs.scans.scan_stop.Given as goal
 
 abbrev pub invariant-loop-i : goal.invariant-loop-i
-invariant-loop-i g l = scan_stop (store_in l.view).setup (events_in l.view) l.t.0 (cells_from l.first l.count) ≡ scan_stop (store_in l.view).setup (events_in l.view) l.t.0 (rest_of l.first l.count l.i)
+invariant-loop-i g l = scan_stop (store_in l.asking.view.now).setup (events_in l.asking.view.now) l.asking.txn.0 (cells_from l.first l.count) ≡ scan_stop (store_in l.asking.view.now).setup (events_in l.asking.view.now) l.asking.txn.0 (rest_of l.first l.count l.i)

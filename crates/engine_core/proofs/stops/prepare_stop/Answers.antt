@@ -1,9 +1,25 @@
+use Rattle.std.proofs.Common.{◌∙◌, ℕ, sym, ap, subst}
+use Rattle.teb_history.specs.Phases.{spot_of}
+use Rattle.teb_rules.specs.Tree.{row}
+use Rattle.teb_rules.specs.Controls.{validate}
+use Rattle.phase_api.specs.Calls.{IsHere}
+use Rattle.engine_core.specs.Wholes.{store_in, events_in}
 use Rattle.engine_core.proofs.Running.{running_typed}
-use Rattle.engine_core.proofs.Along.{prepare_along, prepare_stop-along}
+use Rattle.engine_core.proofs.Along.{here_at, node_at, stop_next, stop_here, stop_end, prepare_along}
 use Rattle.engine_core.proofs.stops.prepare_stop.Goals as goal
 
-pub stop_along-requires-clause-may : goal.stop_along-requires-clause-may
-stop_along-requires-clause-may g c = prepare_along g.C.Chains.lists c.args.view.now c.requires.whole.whole.sound c.args.t (running_typed c.args.view.now.facts c.args.t.0 c.requires.whole.whole.lawful c.requires.unfinished) _ c.path_of.ensures.nodes c.requires.unfinished
+pub control_at-requires-clause-node : goal.control_at-requires-clause-node
+control_at-requires-clause-node g c = node_at (store_in c.args.asking.now.view.now).setup c.requires.whole.whole.sound (spot_of (events_in c.args.asking.now.view.now) c.args.asking.now.txn.0) c.args.asking.now.nodes.now c.args.asking.now.way c.loop-node.node-index _ c.loop-node-test.true
+
+pub validate-requires-clause-here : goal.validate-requires-clause-here
+validate-requires-clause-here g c = subst (λ (n : ℕ). IsHere c.args.asking.now.view.now.facts n c.args.asking.now.txn.0) (sym c.control_at.ensures.node_number)
+    (here_at c.args.asking.now.view.now.facts c.args.asking.now.txn.0 c.args.asking.now.nodes.now c.loop-node.node-index _ (running_typed c.args.asking.now.view.now.facts c.args.asking.now.txn.0 c.requires.whole.whole.lawful c.args.asking.now.runs) c.args.asking.now.way c.loop-node-test.true)
+
+pub loop-node-preserved : goal.loop-node-preserved
+loop-node-preserved g c = stop_next (λ (n : ℕ). validate (row (store_in c.args.asking.now.view.now).setup.tree n).control (store_in c.args.asking.now.view.now).setup (events_in c.args.asking.now.view.now) n c.args.asking.now.txn.0) c.args.asking.now.nodes.now c.loop-node.node-index _ _ c.loop-node-test.true (c.validate.ensures ∙ ap (λ (n : ℕ). validate (row (store_in c.args.asking.now.view.now).setup.tree n).control (store_in c.args.asking.now.view.now).setup (events_in c.args.asking.now.view.now) n c.args.asking.now.txn.0) c.control_at.ensures.node_number) c.in-Go.is c.loop-node.invariant
+
+pub returns-in_default : goal.returns-in_default
+returns-in_default g c = prepare_along (store_in c.args.asking.now.view.now).setup (events_in c.args.asking.now.view.now) c.args.asking.now.txn.0 _ _ c.args.asking.now.way (c.stop_at.ensures ∙ stop_here (λ (n : ℕ). validate (row (store_in c.args.asking.now.view.now).setup.tree n).control (store_in c.args.asking.now.view.now).setup (events_in c.args.asking.now.view.now) n c.args.asking.now.txn.0) c.args.asking.now.nodes.now c.loop-node.node-index _ _ c.loop-node-test.true (c.validate.ensures ∙ ap (λ (n : ℕ). validate (row (store_in c.args.asking.now.view.now).setup.tree n).control (store_in c.args.asking.now.view.now).setup (events_in c.args.asking.now.view.now) n c.args.asking.now.txn.0) c.control_at.ensures.node_number) c.in_default.not-Go c.loop-node.invariant)
 
 pub returns : goal.returns
-returns g c = prepare_stop-along _ _ c.args.t _ _ c.path_of.ensures.nodes c.stop_along.ensures
+returns g c = prepare_along (store_in c.args.asking.now.view.now).setup (events_in c.args.asking.now.view.now) c.args.asking.now.txn.0 _ _ c.args.asking.now.way (stop_end (λ (n : ℕ). validate (row (store_in c.args.asking.now.view.now).setup.tree n).control (store_in c.args.asking.now.view.now).setup (events_in c.args.asking.now.view.now) n c.args.asking.now.txn.0) c.args.asking.now.nodes.now c.loop-node.node-index c.loop-node-test.false c.loop-node.invariant)

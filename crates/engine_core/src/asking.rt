@@ -1,0 +1,61 @@
+//! Who asks: a transaction that is neither committed nor aborted.
+
+ghost use Rattle.std.specs.Prelude.{◌≡◌, ◌<◌, IsTrue, is_some};
+ghost use Rattle.teb_history.specs.Phases.{unfinished, prepared, spot_of, kind_of};
+ghost use Rattle.teb_rules.specs.Setup.{profile};
+ghost use Rattle.teb_rules.specs.Steps.{least_step, cursor};
+ghost use Rattle.teb_rules.specs.Tree.{path};
+ghost use Rattle.cc_tree.specs.Grown.{node_numbers};
+ghost use Rattle.engine_core.specs.Wholes.{store_in, events_in, ViewIsWhole};
+
+use crate::engine_view::EngineView;
+use phase_api::Control;
+use teb_names::{Node, Spot, Table, Txn};
+use version_chain::Chains;
+
+/// An unfinished transaction that asks, and what the decision looks at. It is looked up once a request.
+#[derive(Drop)]
+pub struct Asking<'a, K: Control, C: Chains> {
+    pub view: &'a EngineView<'a, K, C>,
+    pub txn: Txn,
+    pub is_prepared: bool,
+    pub spot: Spot,
+    /// Its path, from the root to its leaf.
+    pub nodes: &'a [Node],
+    ghost runs: { IsTrue (unfinished (events_in view.now) txn.0) },
+    ghost flag: { is_prepared ≡ prepared (events_in view.now) txn.0 },
+    ghost start: { spot ≡ spot_of (events_in view.now) txn.0 },
+    ghost way: { node_numbers nodes.now ≡ path (store_in view.now).setup.tree (spot_of (events_in view.now) txn.0) },
+}
+
+impl<'a, K: Control, C: Chains> Asking<'a, K, C> {
+    /// That of an unfinished transaction, which may be prepared.
+    pub fn of(view: &'a EngineView<'a, K, C>, txn: Txn, is_prepared: bool) -> Self
+        requires whole { ViewIsWhole K.node_number K.stands C.lists view.now }
+        requires unfinished { IsTrue (unfinished (events_in view.now) txn.0) }
+        requires prepared { is_prepared ≡ prepared (events_in view.now) txn.0 }
+        ensures view { result.view.now ≡ view.now }
+        ensures txn { result.txn ≡ txn }
+    {
+        let spot = view.spot_of(txn);
+        Asking {
+            view,
+            txn,
+            is_prepared,
+            spot,
+            nodes: view.facts.tree.path(spot),
+        }
+    }
+
+    /// Whether the profile has a step on a table, from where the transaction stands.
+    pub fn has_step(&self, table: Table) -> bool
+        requires { ViewIsWhole K.node_number K.stands C.lists self.now.view.now }
+        ensures { result ≡ is_some (least_step (profile (store_in self.now.view.now).setup (kind_of (events_in self.now.view.now) self.now.txn.0)) (cursor (store_in self.now.view.now).setup (events_in self.now.view.now) self.now.txn.0) table.0) }
+    {
+        let view = self.view;
+        let profile = &view.facts.profiles[usize::from(self.spot.kind.0)];
+        profile
+            .cursor_after(view.cursors.cursor(self.txn), table)
+            .is_some()
+    }
+}
