@@ -277,6 +277,7 @@ fn number_of(names: &Names, word: &[u8]) -> Option<u8>
     later_number(names, word)
 }
 
+/// The number of a name at any place. A call of its own, so that one of the first names costs no more than it has to.
 #[inline(never)]
 fn later_number(names: &Names, word: &[u8]) -> Option<u8>
     requires { is_name word.now ≡ true }
@@ -288,7 +289,7 @@ fn later_number(names: &Names, word: &[u8]) -> Option<u8>
     }
 }
 
-/// Whether two words, which are short, are the same.
+/// True only where two words are the same. They are short, so a loop costs less than a call.
 fn is_same(a: &[u8], b: &[u8]) -> bool
     ensures { IsTrue result → a.now ≡ b.now }
 {
