@@ -22,7 +22,7 @@ use crate::decision::Decision;
 use crate::engine_state::{EngineState, facts_of};
 use crate::latest_txns::LatestTxns;
 use crate::node_kinds::{has_kind, some_asks_holders};
-use crate::room::make_room;
+use crate::room::{make_room, make_room_ahead};
 use cursor_book::Cursors;
 use dependency_book::Book;
 use std::alloc::{AllocError, Global};
@@ -92,6 +92,18 @@ impl<C: Chains> Engine<C> {
         make_room(&mut self.state)?;
         self.ready = true;
         Ok(())
+    }
+
+    /// Makes room for so many events in what grows with the history, so that this need not move as they come: of use to who knows how many
+    /// requests follow. `ready` still has to make the room for each answer. An `Err` leaves all as it was, but for that room.
+    pub fn reserve_ahead(&mut self, events: usize) -> Result<(), AllocError>
+        ensures store { self.new.store ≡ self.old.store }
+        ensures names { self.new.names ≡ self.old.names }
+        ensures events { self.new.events ≡ self.old.events }
+        ensures ready { self.new.ready ≡ false }
+    {
+        self.ready = false;
+        make_room_ahead(&mut self.state, events)
     }
 
     /// Answers a request. It uses up the room, and takes no memory.
