@@ -25,8 +25,8 @@ use teb_names::{Cell, Txn};
 
 impl Snapshot {
     /// Whether an edge leads from `a`, which is committed and on whose path the node stands, to a committed transaction. It costs
-    /// one look where no edge is known to lead from `a`, and else, for each read of `a`, a binary search in the writers of the cell,
-    /// and a look at each unfinished one that comes before the one that is found.
+    /// one look where no edge is known to lead from `a`, and else, for each read of `a`, a binary search in the writers of the cell
+    /// and a look at the unfinished ones among them, of which there is at most one for each session.
     pub fn has_edge(&self, facts: &Facts, a: Txn) -> bool
         requires stands { MarkedStand self.now.register.node.0 self.now.register.batches self.now.register.readers self.now.register.writers self.now.marks.items (setup_of facts.now) (events_of facts.now) }
         requires sound { IsSound (setup_of facts.now) }
