@@ -25,6 +25,7 @@ pub fn ask_lines<C: Chains, L: Log>(
         → L.tells log.new engine.old.names (told ++ log_of engine.old.store engine.old.events (requests_of lines.now))) }
     ensures events { OnOk result (engine.new.events ≡ history_after engine.old.store engine.old.events (requests_of lines.now)) }
 {
+    engine.reserve_ahead(lines.len())?;
     for line in lines {
         ask(engine, line.session, line.request, log)?;
     }
