@@ -1,6 +1,7 @@
 -- Whom a Commit waits for at a node: the least of whom the gate names and of the sources.
-use Rattle.std.proofs.Common.{◌≡◌, ℕ, suc, Bool, true, false, cond, ◌&&◌, ◌||◌, eqb, ltb, min, List, length, [], ◌∷◌, find, Option, Some, None, refl, sym, ◌∙◌, ap, inl, inr, arith, lt-ltb}
+use Rattle.std.proofs.Common.{◌≡◌, ◌<◌, ℕ, zero, suc, Bool, true, false, cond, ◌&&◌, ◌||◌, eqb, ltb, min, List, length, [], ◌∷◌, get_or, find, Option, Some, None, refl, sym, ◌∙◌, ap, inl, inr, arith, lt-ltb}
 use Rattle.std.proofs.lemmas.Bool.{and_parts, cases_lt, ltb-true, le-ltb, eq-eqb, or_left, or_right}
+use Rattle.teb_names.specs.declared.Node.{Node}
 use Rattle.teb_names.specs.declared.Txn.{Txn}
 use Rattle.teb_history.specs.declared.Event.{Event}
 use Rattle.teb_history.specs.Phases.{txns, begun_count, unfinished, spot_of, begun, began_at}
@@ -15,7 +16,9 @@ use Rattle.teb_laws.specs.TreeFacts.{TreeFacts}
 use Rattle.teb_laws.specs.Lawful.{Lawful}
 use Rattle.teb_laws.proofs.Timeline.{kind-lt}
 use Rattle.teb_laws.proofs.Within.{path-below}
+use Rattle.cc_tree.specs.Grown.{node_numbers}
 use Rattle.phase_api.specs.declared.facts.Facts.{Facts}
+use Rattle.phase_api.specs.Calls.{IsHere}
 use Rattle.phase_api.specs.FactsView.{setup_of, events_of, IsTyped}
 use Rattle.dependency_book.specs.Dependencies.{all_sources}
 use Rattle.hold_book.specs.Orderly.{Orderly}
@@ -124,3 +127,9 @@ typed_now f t l u =
 
 pub path_way : (f : Facts) → TreeFacts (setup_of f) → (t : ℕ) → IsTyped f t → IsWay f t (path (setup_of f).tree (spot_of (events_of f) t))
 path_way f a t y = way_within f a t y (path (setup_of f).tree (spot_of (events_of f) t)) (λ n i. i)
+
+-- each node of a way is one of the tree's, and on t's path
+pub way_at : (f : Facts) (t : ℕ) (ns : List Node) (k : ℕ) (d : Node) → IsWay f t (node_numbers ns) → k < length ns → ((get_or ns k d).0 < length f.tree.now.rows) × IsHere f (get_or ns k d).0 t
+way_at f t [] k d w h = absurd (omega arith)
+way_at f t (n ∷ ns) zero d w h = (w.0, w.1)
+way_at f t (n ∷ ns) (suc k) d w h = way_at f t ns k d w.2 (omega arith)

@@ -36,7 +36,6 @@ pub fn may_commit<K: Control>(controls: &[K], book: &Book, facts: &Facts, t: Txn
 }
 
 // The stop along the nodes of a way down, of a transaction that read from the sources.
-#[tactic(auto, unfolding(teb_rules::specs::Stops::stop_of))]
 fn stop_along<K: Control>(
     way: &[Node],
     controls: &[K],
@@ -48,14 +47,14 @@ fn stop_along<K: Control>(
     requires way { IsWay facts.now t.0 (node_numbers way.now) }
     ensures { result ≡ stop_of (on_commit (setup_of facts.now) (events_of facts.now) t.0) (node_numbers way.now) }
 {
-    match way {
-        [n, rest @ ..] => match verdict_at(controls, sources, facts, *n, t) {
-            Verdict::Go => stop_along(rest, controls, sources, facts, t),
-            Verdict::Wait(who) => Stop::Wait { who, node: *n },
-            Verdict::Break(broken) => Stop::Break { node: *n, broken },
-        },
-        [] => Stop::Go,
+    for n in way {
+        match verdict_at(controls, sources, facts, *n, t) {
+            Verdict::Go => {}
+            Verdict::Wait(who) => return Stop::Wait { who, node: *n },
+            Verdict::Break(broken) => return Stop::Break { node: *n, broken },
+        }
     }
+    Stop::Go
 }
 
 // What one node of t's path says.

@@ -1,5 +1,5 @@
 -- The nodes of a path, and the stop along them.
-use Rattle.std.proofs.Common.{◌≡◌, ℕ, zero, suc, ◌<◌, ◌≤◌, ◌+◌, Bool, true, List, [], ◌∷◌, length, get_or, drop, arith, eqb, eq-eqb, refl, sym, subst, ap, ◌∙◌}
+use Rattle.std.proofs.Common.{◌≡◌, ℕ, zero, suc, ◌<◌, Bool, true, List, [], ◌∷◌, length, get_or, arith, eqb, eq-eqb, refl, subst, ap, ◌∙◌}
 use Rattle.std.specs.List.{All}
 use Rattle.std.proofs.lemmas.Bool.{or_left, or_right}
 use Rattle.teb_names.specs.declared.Cell.{Cell}
@@ -10,12 +10,9 @@ use Rattle.teb_history.specs.Phases.{spot_of}
 use Rattle.teb_rules.specs.Setup.{Setup, among}
 use Rattle.teb_rules.specs.Tree.{row, path, on_path, on}
 use Rattle.teb_rules.specs.Accepted.{IsSound}
-use Rattle.teb_rules.specs.declared.Verdict.{Verdict}
-use Rattle.teb_rules.specs.declared.Verdict.TheVariants.{Go, Wait, Break}
 use Rattle.teb_rules.specs.declared.Stop.{Stop}
-use Rattle.teb_rules.specs.declared.Stop.TheVariants as stop
 use Rattle.teb_rules.specs.Controls.{on_access, validate}
-use Rattle.teb_rules.specs.Stops.{on_begin, stop_with, stop_of, access_stop, prepare_stop, begin_stop}
+use Rattle.teb_rules.specs.Stops.{on_begin, stop_of, access_stop, prepare_stop, begin_stop}
 use Rattle.teb_laws.proofs.Sound.{tree_facts}
 use Rattle.teb_laws.proofs.Within.{path-below}
 use Rattle.cc_tree.specs.Grown.{node_numbers}
@@ -23,7 +20,6 @@ use Rattle.phase_api.specs.declared.facts.Facts.{Facts}
 use Rattle.phase_api.specs.FactsView.{setup_of, events_of, IsTyped}
 use Rattle.phase_api.specs.Calls.{IsHere}
 use Rattle.candidate_reads.proofs.InOrder.{among_In}
-use Rattle.std.proofs.Math.Seq.{drop-cons}
 use Rattle.std.proofs.lemmas.List.Elements.{All-from_get_or}
 
 among_at : (ns : List Node) (k : ℕ) (d : Node) → k < length ns → among (get_or ns k d).0 (node_numbers ns) ≡ true
@@ -45,35 +41,6 @@ node_at S sound s ns e k d h = path-below S (tree_facts S sound) s (get_or ns k 
 -- all nodes of a path are nodes of the tree
 pub within : (S : Setup) → IsSound S → (s : Spot) (ns : List Node) → node_numbers ns ≡ path S.tree s → All (λ n. n.0 < length S.tree) ns
 within S sound s ns e = All-from_get_or (λ n. n.0 < length S.tree) ns (record { 0 = 0 }) (λ k h. node_at S sound s ns e k (record { 0 = 0 }) h)
-
--- the stop along some nodes, by what each says
-pub stop_next : (f : ℕ → Verdict) (ns : List Node) (i : ℕ) (d : Node) (v : Verdict) → i < length ns → v ≡ f (get_or ns i d).0 → v ≡ Go → stop_of f (node_numbers (drop i ns)) ≡ stop_of f (node_numbers ns) → stop_of f (node_numbers (drop (i + 1) ns)) ≡ stop_of f (node_numbers ns)
-unfolding stop_of
-stop_next f ns i d v l q e k =
-    let n : suc i ≡ i + 1 = omega arith in
-    ap (λ (j : ℕ). stop_of f (node_numbers (drop j ns))) (sym n)
-    ∙ sym (ap (λ (ms : List Node). stop_of f (node_numbers ms)) (drop-cons ns i d l) ∙ ap (λ (w : Verdict). stop_with (get_or ns i d).0 w (stop_of f (node_numbers (drop (suc i) ns)))) (sym q ∙ e)) ∙ k
-
-pub stop_here : (f : ℕ → Verdict) (ns : List Node) (i : ℕ) (d : Node) (v : Verdict) → i < length ns → v ≡ f (get_or ns i d).0 → (v ≡ Go → ⊥) → stop_of f (node_numbers (drop i ns)) ≡ stop_of f (node_numbers ns) → stop_with (get_or ns i d).0 v stop.Go ≡ stop_of f (node_numbers ns)
-unfolding stop_of
-stop_here f ns i d v l q w k =
-    let rest = stop_of f (node_numbers (drop (suc i) ns)) in
-    ends (get_or ns i d).0 v rest w ∙ ap (λ (z : Verdict). stop_with (get_or ns i d).0 z rest) q ∙ sym (ap (λ (ms : List Node). stop_of f (node_numbers ms)) (drop-cons ns i d l)) ∙ k
-  where
-    ends : (n : ℕ) (z : Verdict) (rest : Stop) → (z ≡ Go → ⊥) → stop_with n z stop.Go ≡ stop_with n z rest
-    ends n Go rest w = absurd (w refl)
-    ends n (Wait u) rest w = refl
-    ends n (Break b) rest w = refl
-
-pub stop_end : (f : ℕ → Verdict) (ns : List Node) (i : ℕ) → length ns ≤ i → stop_of f (node_numbers (drop i ns)) ≡ stop_of f (node_numbers ns) → stop.Go ≡ stop_of f (node_numbers ns)
-unfolding stop_of
-stop_end f ns i l k = sym (ap (λ (ms : List Node). stop_of f (node_numbers ms)) (drop_end ns i l)) ∙ k
-  where
-    drop_end : (ms : List Node) (j : ℕ) → length ms ≤ j → drop j ms ≡ []
-    drop_end [] zero l = refl
-    drop_end [] (suc j) l = refl
-    drop_end (m ∷ ms) zero l = absurd (omega arith)
-    drop_end (m ∷ ms) (suc j) l = drop_end ms j (omega arith)
 
 -- the stops of the rules, along the path
 pub access_along : (S : Setup) (H : List Event) (t : ℕ) (x : Cell) (write : Bool) (ns : List ℕ) (s : Stop) → ns ≡ path S.tree (spot_of H t) → s ≡ stop_of (λ n. on_access (row S.tree n).control S H n t x write) ns → s ≡ access_stop S H t x write

@@ -1,8 +1,9 @@
 use Rattle.std.proofs.Common.{◌≡◌, ◌∙◌, ℕ, sym, ap, subst, true}
 use Rattle.teb_rules.specs.Tree.{on_path}
 use Rattle.teb_rules.specs.Stops.{on_begin}
+use Rattle.phase_api.proofs.StopAlong.{stop_next, stop_here, stop_end}
 use Rattle.engine_core.specs.Wholes.{store_in, events_in}
-use Rattle.engine_core.proofs.Along.{on_at, node_at, stop_next, stop_here, stop_end, begin_along}
+use Rattle.engine_core.proofs.Along.{on_at, node_at, begin_along}
 use Rattle.engine_core.proofs.stops.begin_stop.Goals as goal
 
 pub control_at-requires-clause-node : goal.control_at-requires-clause-node

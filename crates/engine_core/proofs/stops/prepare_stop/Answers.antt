@@ -3,9 +3,10 @@ use Rattle.teb_history.specs.Phases.{spot_of}
 use Rattle.teb_rules.specs.Tree.{row}
 use Rattle.teb_rules.specs.Controls.{validate}
 use Rattle.phase_api.specs.Calls.{IsHere}
+use Rattle.phase_api.proofs.StopAlong.{stop_next, stop_here, stop_end}
 use Rattle.engine_core.specs.Wholes.{store_in, events_in}
 use Rattle.engine_core.proofs.Running.{running_typed}
-use Rattle.engine_core.proofs.Along.{here_at, node_at, stop_next, stop_here, stop_end, prepare_along}
+use Rattle.engine_core.proofs.Along.{here_at, node_at, prepare_along}
 use Rattle.engine_core.proofs.stops.prepare_stop.Goals as goal
 
 pub control_at-requires-clause-node : goal.control_at-requires-clause-node

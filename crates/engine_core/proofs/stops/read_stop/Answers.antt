@@ -4,9 +4,10 @@ use Rattle.std.proofs.Common.{false}
 use Rattle.teb_rules.specs.Tree.{row}
 use Rattle.teb_rules.specs.Controls.{on_access}
 use Rattle.phase_api.specs.Calls.{IsAccess, AreHolders}
+use Rattle.phase_api.proofs.StopAlong.{stop_next, stop_here, stop_end}
 use Rattle.engine_core.specs.Wholes.{store_in, events_in}
 use Rattle.engine_core.proofs.Running.{running_typed}
-use Rattle.engine_core.proofs.Along.{here_at, node_at, stop_next, stop_here, stop_end, access_along}
+use Rattle.engine_core.proofs.Along.{here_at, node_at, access_along}
 use Rattle.engine_core.proofs.stops.read_stop.Goals as goal
 
 pub control_at-requires-clause-node : goal.control_at-requires-clause-node

@@ -6,10 +6,11 @@ use Rattle.teb_rules.specs.Controls.{on_access}
 use Rattle.version_chain.specs.Lists.{writers_of}
 use Rattle.phase_api.specs.Calls.{IsAccess, AreHolders}
 use Rattle.phase_api.specs.Versions.{IsToldPlace}
+use Rattle.phase_api.proofs.StopAlong.{stop_next, stop_here, stop_end}
 use Rattle.engine_core.specs.Wholes.{store_in, events_in}
 use Rattle.engine_core.proofs.ReadSources.{sources_stand}
 use Rattle.engine_core.proofs.Running.{running_typed}
-use Rattle.engine_core.proofs.Along.{on_at, here_at, node_at, stop_next, stop_here, stop_end, access_along}
+use Rattle.engine_core.proofs.Along.{on_at, here_at, node_at, access_along}
 use Rattle.engine_core.proofs.stops.write_stop.Goals as goal
 
 pub control_at-requires-clause-node : goal.control_at-requires-clause-node

@@ -1,5 +1,0 @@
-use Rattle.std.proofs.Common.{length}
-use Rattle.commit_gate.proofs.gate.+stop_along.Given as goal
-
-abbrev pub decreases-stop_along : goal.decreases-stop_along
-decreases-stop_along g l = length l.way.now
