@@ -3,5 +3,6 @@ pub mod Noting
 pub mod Ways
 pub mod Ranks
 pub mod ListEdits
+pub mod Alone
 pub mod Aheads
 pub mod Following

@@ -1,6 +1,6 @@
 //! Who is ahead of whom at a node, kept event by event.
 
-ghost use Rattle.std.specs.Prelude.{◌≡◌, ◌<◌, ◌≤◌, ◌+◌, ◌||◌, ℕ, [], IsFalse, cond, drop, eqb, get_or, length, vec_capacity, vec_len, OnOk};
+ghost use Rattle.std.specs.Prelude.{◌≡◌, ◌<◌, ◌≤◌, ◌+◌, ◌||◌, ℕ, [], IsFalse, cond, drop, eqb, get_or, length, vec_capacity, vec_len, All, IsTrue, OnOk};
 ghost use Rattle.teb_names.specs.declared.Txn.{Txn};
 ghost use Rattle.teb_history.specs.declared.Event.{Event};
 ghost use Rattle.teb_history.specs.Ascending.{IsAscendingBy};
@@ -100,8 +100,16 @@ impl Predecessors {
     {
         match e {
             Event::Began { .. } => self.begin(),
-            Event::Got { txn, .. } => self.access(facts, node, txn, holders, false),
-            Event::Put { txn, .. } => self.access(facts, node, txn, holders, true),
+            Event::Got { txn, .. } => {
+                if !is_alone(holders, txn) {
+                    self.access(facts, node, txn, holders, false);
+                }
+            }
+            Event::Put { txn, .. } => {
+                if !is_alone(holders, txn) {
+                    self.access(facts, node, txn, holders, true);
+                }
+            }
             Event::Done(txn) | Event::Gone { txn, .. } => self.finish(txn),
             Event::Ready(_) | Event::Told(_) => {}
         }
@@ -150,6 +158,14 @@ impl Predecessors {
         self.unfinished -= 1;
         self.spare -= 1;
     }
+}
+
+// Whether t is the only holder. Nobody is in its way then: its own hold never is. It costs two comparisons.
+#[inline(always)]
+fn is_alone(holds: &[Hold], t: Txn) -> bool
+    ensures { IsTrue result → All (λ h. h.txn.0 ≡ t.0) holds.now }
+{
+    matches!(holds, [only] if only.txn == t)
 }
 
 // Puts the holders that are in the way of an access into the list of the transaction that accesses. Whether there are any.

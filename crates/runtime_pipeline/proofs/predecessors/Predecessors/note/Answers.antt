@@ -1,4 +1,4 @@
-use Rattle.std.proofs.Common.{◌≤◌, ◌∙◌, ap, sym, subst, List, length, true, false, cond, eqb}
+use Rattle.std.proofs.Common.{◌≤◌, ◌∙◌, ap, refl, sym, subst, List, length, true, false, cond, eqb}
 use Rattle.phase_api.specs.FactsView.{setup_of, events_of}
 use Rattle.hold_book.specs.declared.Hold.{Hold}
 use Rattle.access_conflicts.proofs.Noting.{orderly_now, accessor_begun, writer_begun, typed_now}
@@ -6,6 +6,7 @@ use Rattle.access_conflicts.specs.Blockers.{in_the_way}
 use Rattle.access_conflicts.proofs.Blockers.{held_typed}
 use Rattle.runtime_pipeline.specs.Predecessors.{joined, list_of}
 use Rattle.runtime_pipeline.proofs.Noting.{got_holders, put_holders}
+use Rattle.runtime_pipeline.proofs.Alone.{lists_stay}
 use Rattle.runtime_pipeline.proofs.Following.{lists_ascend, began_next, ready_next, end_some, end_next, got_next, put_next, got_few, put_few}
 use Rattle.runtime_pipeline.proofs.predecessors.Predecessors.note.Goals as goal
 
@@ -27,21 +28,21 @@ access-requires-clause-holders c i d l =
     held_typed c.args.facts.now c.in-Got.cell c.args.holders.now i d (orderly_now _ _ _ c.args.e c.requires.newest.is c.requires.newest.may c.requires.orderly)
     (got_holders (events_of c.args.facts.now) c.args.e _ c.requires.holders c.in-Got.txn c.in-Got.cell c.in-Got.from c.in-Got.value c.in-Got.is) l
 
-pub access-requires-in-Put-clause-few : goal.access-requires-in-Put-clause-few
-access-requires-in-Put-clause-few c =
+pub access-requires-then-not-is_alone-2-clause-few : goal.access-requires-then-not-is_alone-2-clause-few
+access-requires-then-not-is_alone-2-clause-few c =
     subst (λ (hs : List Hold). length hs ≤ c.args.self.now.unfinished) (sym (put_holders (events_of c.args.facts.now) c.args.e _ c.requires.holders c.in-Put.txn c.in-Put.cell c.in-Put.value c.in-Put.is))
     (put_few _ _ _ c.args.e c.requires.newest.is c.requires.newest.may c.requires.orderly c.args.self.now c.requires.stands c.in-Put.txn c.in-Put.cell c.in-Put.value c.in-Put.is)
 
-pub access-requires-in-Put-clause-ascending : goal.access-requires-in-Put-clause-ascending
-access-requires-in-Put-clause-ascending c = lists_ascend _ _ _ c.args.self.now c.requires.stands c.in-Put.txn
+pub access-requires-then-not-is_alone-2-clause-ascending : goal.access-requires-then-not-is_alone-2-clause-ascending
+access-requires-then-not-is_alone-2-clause-ascending c = lists_ascend _ _ _ c.args.self.now c.requires.stands c.in-Put.txn
 
-pub access-requires-in-Put-clause-typed : goal.access-requires-in-Put-clause-typed
-access-requires-in-Put-clause-typed c =
+pub access-requires-then-not-is_alone-2-clause-typed : goal.access-requires-then-not-is_alone-2-clause-typed
+access-requires-then-not-is_alone-2-clause-typed c =
     typed_now c.args.facts.now c.in-Put.txn.0 (orderly_now _ _ _ c.args.e c.requires.newest.is c.requires.newest.may c.requires.orderly)
     (writer_begun _ _ _ c.args.e c.requires.newest.is c.requires.newest.may c.in-Put.txn c.in-Put.cell (c.in-Put.value, c.in-Put.is))
 
-pub access-requires-in-Put-clause-holders : goal.access-requires-in-Put-clause-holders
-access-requires-in-Put-clause-holders c i d l =
+pub access-requires-then-not-is_alone-2-clause-holders : goal.access-requires-then-not-is_alone-2-clause-holders
+access-requires-then-not-is_alone-2-clause-holders c i d l =
     held_typed c.args.facts.now c.in-Put.cell c.args.holders.now i d (orderly_now _ _ _ c.args.e c.requires.newest.is c.requires.newest.may c.requires.orderly)
     (put_holders (events_of c.args.facts.now) c.args.e _ c.requires.holders c.in-Put.txn c.in-Put.cell c.in-Put.value c.in-Put.is) l
 
@@ -55,8 +56,8 @@ pub returns-in-Began-clause-stands : goal.returns-in-Began-clause-stands
 returns-in-Began-clause-stands c =
     began_next _ _ _ c.args.e c.requires.newest.is c.requires.newest.may c.requires.orderly c.args.self.now c.requires.stands c.begin.new.self c.in-Began.txn c.in-Began.session c.in-Began.kind c.in-Began.instance c.in-Began.is c.begin.ensures.lists c.begin.ensures.unfinished
 
-pub returns-in-Got-clause-stands : goal.returns-in-Got-clause-stands
-returns-in-Got-clause-stands c =
+pub returns-then-not-is_alone-clause-stands : goal.returns-then-not-is_alone-clause-stands
+returns-then-not-is_alone-clause-stands c =
     let S = setup_of c.args.facts.now in
     let H = events_of c.args.facts.now in
     let t = c.in-Got.txn in
@@ -65,15 +66,37 @@ returns-in-Got-clause-stands c =
     got_next S H _ c.args.e c.requires.newest.is c.requires.newest.may c.requires.orderly k c.requires.stands t c.in-Got.cell c.access.new.self c.in-Got.from c.in-Got.value c.in-Got.is c.access.ensures.unfinished
     (λ v. c.access.ensures.lists v ∙ ap (λ (hs : List Hold). cond (eqb t.0 v.0) (joined (in_the_way S H c.args.node.0 t.0 false) hs (list_of k v)) (list_of k v)) held)
 
-pub returns-in-Put-clause-stands : goal.returns-in-Put-clause-stands
-returns-in-Put-clause-stands c =
+pub returns-then-not-is_alone-2-clause-stands : goal.returns-then-not-is_alone-2-clause-stands
+returns-then-not-is_alone-2-clause-stands c =
     let S = setup_of c.args.facts.now in
     let H = events_of c.args.facts.now in
     let t = c.in-Put.txn in
     let k = c.args.self.now in
     let held = put_holders H c.args.e _ c.requires.holders t c.in-Put.cell c.in-Put.value c.in-Put.is in
-    put_next S H _ c.args.e c.requires.newest.is c.requires.newest.may c.requires.orderly k c.requires.stands t c.in-Put.cell c.access-in-Put.new.self c.in-Put.value c.in-Put.is c.access-in-Put.ensures.unfinished
-    (λ v. c.access-in-Put.ensures.lists v ∙ ap (λ (hs : List Hold). cond (eqb t.0 v.0) (joined (in_the_way S H c.args.node.0 t.0 true) hs (list_of k v)) (list_of k v)) held)
+    put_next S H _ c.args.e c.requires.newest.is c.requires.newest.may c.requires.orderly k c.requires.stands t c.in-Put.cell c.access-then-not-is_alone-2.new.self c.in-Put.value c.in-Put.is c.access-then-not-is_alone-2.ensures.unfinished
+    (λ v. c.access-then-not-is_alone-2.ensures.lists v ∙ ap (λ (hs : List Hold). cond (eqb t.0 v.0) (joined (in_the_way S H c.args.node.0 t.0 true) hs (list_of k v)) (list_of k v)) held)
+
+pub returns-else-not-is_alone-clause-stands : goal.returns-else-not-is_alone-clause-stands
+returns-else-not-is_alone-clause-stands c =
+    let S = setup_of c.args.facts.now in
+    let H = events_of c.args.facts.now in
+    let t = c.in-Got.txn in
+    let k = c.args.self.now in
+    let held = got_holders H c.args.e _ c.requires.holders t c.in-Got.cell c.in-Got.from c.in-Got.value c.in-Got.is in
+    got_next S H _ c.args.e c.requires.newest.is c.requires.newest.may c.requires.orderly k c.requires.stands t c.in-Got.cell k c.in-Got.from c.in-Got.value c.in-Got.is refl
+    (λ v. lists_stay S H c.args.node.0 t v false c.args.holders.now (c.is_alone.ensures c.if-not-is_alone.false) (list_of k v)
+    ∙ ap (λ (hs : List Hold). cond (eqb t.0 v.0) (joined (in_the_way S H c.args.node.0 t.0 false) hs (list_of k v)) (list_of k v)) held)
+
+pub returns-else-not-is_alone-2-clause-stands : goal.returns-else-not-is_alone-2-clause-stands
+returns-else-not-is_alone-2-clause-stands c =
+    let S = setup_of c.args.facts.now in
+    let H = events_of c.args.facts.now in
+    let t = c.in-Put.txn in
+    let k = c.args.self.now in
+    let held = put_holders H c.args.e _ c.requires.holders t c.in-Put.cell c.in-Put.value c.in-Put.is in
+    put_next S H _ c.args.e c.requires.newest.is c.requires.newest.may c.requires.orderly k c.requires.stands t c.in-Put.cell k c.in-Put.value c.in-Put.is refl
+    (λ v. lists_stay S H c.args.node.0 t v true c.args.holders.now (c.is_alone-in-Put.ensures c.if-not-is_alone-2.false) (list_of k v)
+    ∙ ap (λ (hs : List Hold). cond (eqb t.0 v.0) (joined (in_the_way S H c.args.node.0 t.0 true) hs (list_of k v)) (list_of k v)) held)
 
 pub returns-in-Ready-clause-stands : goal.returns-in-Ready-clause-stands
 returns-in-Ready-clause-stands c = ready_next _ _ _ c.args.e c.requires.newest.is c.requires.newest.may c.requires.orderly c.args.self.now c.requires.stands c.in-Ready.is
