@@ -26,7 +26,7 @@ impl Width {
     {
         match self {
             Width::One => 1,
-            Width::Few => 128,
+            Width::Few => 256,
         }
     }
 }
@@ -61,7 +61,7 @@ impl<K: Key, V: Copy> Model for Multimap<K, V> {
 }
 
 impl<K: Key, V: Copy> Multimap<K, V> {
-    /// No values, and no room, for some hundred values: in 128 buckets, so that each has a few keys. Takes no memory.
+    /// No values, and no room, for some hundred values: in 256 buckets, so that each has a few keys. Takes no memory.
     pub fn small(alloc: Global) -> Self
         ensures entries { result.entries ≡ [] }
         ensures spare { result.spare ≡ 0 }
