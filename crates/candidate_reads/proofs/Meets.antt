@@ -5,21 +5,23 @@ use Rattle.teb_names.specs.declared.Cell.{Cell}
 use Rattle.teb_names.specs.declared.ControlKind.{ControlKind}
 use Rattle.teb_names.specs.declared.ControlKind.TheVariants.{Timestamp}
 use Rattle.teb_history.specs.declared.Event.{Event}
-use Rattle.teb_history.specs.Phases.{aborted, begun, began_at}
+use Rattle.teb_history.specs.Phases.{aborted, begun, began_at, spot_of}
 use Rattle.teb_history.specs.Accesses.{wrote, put_at}
 use Rattle.teb_rules.specs.Setup.{Setup}
-use Rattle.teb_rules.specs.Tree.{row, meet, meets, is_timestamp}
+use Rattle.teb_rules.specs.Tree.{row, path, meet, meets, is_timestamp}
 use Rattle.teb_rules.specs.Versions.{precedes, orders, sees, sees_by}
 use Rattle.teb_laws.specs.TreeFacts.{TreeFacts}
 use Rattle.teb_laws.specs.Lawful.{Lawful}
 use Rattle.teb_laws.proofs.Meeting.{meets_exists}
-use Rattle.teb_laws.proofs.Nodes.{meet_is}
+use Rattle.teb_laws.proofs.Nodes.{meet_is, meets_parts, on-among}
+use Rattle.teb_laws.proofs.Within.{path-below}
 use Rattle.teb_laws.proofs.Timeline.{kind-lt}
 use Rattle.teb_laws.proofs.VersionOrder.{precedes_at, orders_put, timestamp_is}
 use Rattle.phase_api.specs.declared.facts.Facts.{Facts}
 use Rattle.phase_api.specs.FactsView.{setup_of, events_of, IsTyped}
 use Rattle.phase_api.specs.Calls.{IsPair}
 use Rattle.phase_api.specs.Versions.{has_version}
+use Rattle.candidate_reads.proofs.InOrder.{among_In}
 use Rattle.candidate_reads.proofs.Shows.{version_parts}
 use Rattle.candidate_reads.proofs.Sources.{writer_began, begun_place}
 
@@ -28,6 +30,14 @@ pub meets_there : (S : Setup) (a : TreeFacts S) (H : List Event) (n t u : ℕ) �
 meets_there S a H n t u l bt bu ne e =
     let m = meets_exists S a H t u l (begun_place H t bt) (begun_place H u bu) ne in
     subst (λ (k : ℕ). meets S H k t u ≡ true) (sym (meet_is S a H m.node t u l (begun_place H t bt) (begun_place H u bu) m.meet) ∙ e) m.meet
+
+-- in a tree of one node all that have begun meet at node 0
+pub meets_alone : (S : Setup) (a : TreeFacts S) (H : List Event) (t u : ℕ) → Lawful S H → length S.tree ≡ 1 → begun H t ≡ true → begun H u ≡ true → t ≢ u → meets S H 0 t u ≡ true
+meets_alone S a H t u l one bt bu ne =
+    let m = meets_exists S a H t u l (begun_place H t bt) (begun_place H u bu) ne in
+    let on = on-among S H m.node t (meets_parts S H m.node t u m.meet).0 in
+    let below = path-below S a (spot_of H t) m.node (among_In m.node (path S.tree (spot_of H t)) on) in
+    subst (λ (n : ℕ). meets S H n t u ≡ true) (let e : m.node ≡ 0 = omega (arith, below, one) in e) m.meet
 
 begun_from : (H : List Event) (t : ℕ) → began_at H t < length H → begun H t ≡ true
 unfolding begun
