@@ -64,6 +64,15 @@ next_value old mid new vs i v so_far read put =
     ap (λ l. l ++ spaced (map value_text (drop (i + 1) vs))) put ∙ append_assoc old (codes " " ++ value_text v) (spaced (map value_text (drop (i + 1) vs)))
     ∙ ap (λ (xs : List (Option ℤ)). old ++ spaced (map value_text xs)) (sym left) ∙ so_far
 
+-- a value in front of those that are written
+pub value_in_front : (rest mid line : List ℕ) (vs : List (Option ℤ)) (i n : ℕ) (v : Option ℤ) → slice_get vs i ≡ Some v → n ≡ i + 1 → mid ≡ spaced (map value_text (drop n vs)) ++ rest
+    → line ≡ codes " " ++ (value_text v ++ mid) → line ≡ spaced (map value_text (drop i vs)) ++ rest
+value_in_front rest mid line vs i n v read next so_far put =
+    let left : drop i vs ≡ v ∷ drop (i + 1) vs = drop_more vs i v (slice_get_within vs i v read) ∙ ap (λ w. w ∷ drop (i + 1) vs) (get_or_from_slice_get vs i v v read) in
+    put ∙ ap (λ l. 32 ∷ (value_text v ++ l)) (so_far ∙ ap (λ k. spaced (map value_text (drop k vs)) ++ rest) next)
+    ∙ ap (λ l. 32 ∷ l) (sym (append_assoc (value_text v) (spaced (map value_text (drop (i + 1) vs))) rest))
+    ∙ ap (λ (xs : List (Option ℤ)). spaced (map value_text xs) ++ rest) (sym left)
+
 -- a loop that stops for want of memory
 pub stopped : {E : Type 0} {old new : List ℕ} (text : List ℕ) (r : Result (Unit {0}) E) → IsFront old new → IsErr r → Puts old text new r
 stopped text (Ok u) front err = absurd (cc)

@@ -1,6 +1,6 @@
 //! The texts of replies.
 
-ghost use Rattle.std.specs.Prelude.{◌≡◌, ◌≤◌, ◌++◌, ◌∷◌, [], IsTrue, OnOk, OnErr, codes, decimal, false, length, map};
+ghost use Rattle.std.specs.Prelude.{◌≡◌, ◌≤◌, ◌+◌, ◌*◌, ◌++◌, ◌∷◌, [], IsTrue, OnOk, OnErr, codes, decimal, false, length, map};
 ghost use Rattle.script_text.specs.Texts.{cause_words, line_text, name_of, refusal_text, reply_text, reply_words, txn_text, value_text};
 ghost use Rattle.script_text.specs.Named.{CauseNamed, NodeNamed, ReplyNamed};
 ghost use Rattle.script_text.specs.Puts.{IsLong, Puts, spaced, word_text};
@@ -45,7 +45,7 @@ fn put_answered(
 }
 
 // Puts the words of a reply, each behind a space, and a line feed. False where they may not fit.
-fn put_short(line: &mut Tail, names: &NameBook, reply: &Reply) -> bool
+fn put_short(line: &mut Tail<72>, names: &NameBook, reply: &Reply) -> bool
     requires empty { line.old ≡ [] }
     requires named { ReplyNamed names.now reply.now }
     ensures text { IsTrue result → line.new ≡ spaced (reply_words names.now reply.now) ++ codes "\n" }
@@ -79,7 +79,7 @@ fn put_short(line: &mut Tail, names: &NameBook, reply: &Reply) -> bool
 }
 
 // The same for a reply to ask again, where the name of the node has at most 32 bytes.
-fn put_again(line: &mut Tail, node: &str, who: Txn) -> bool
+fn put_again(line: &mut Tail<72>, node: &str, who: Txn) -> bool
     requires { line.old ≡ [] }
     ensures text { IsTrue result → line.new ≡ spaced (codes "again" ∷ txn_text who ∷ codes "at" ∷ node.now ∷ []) ++ codes "\n" }
     ensures short { IsTrue result → length line.new ≤ 62 }
@@ -105,6 +105,62 @@ fn put_long(
     requires long { IsLong reply.now }
     ensures { Puts out.old.items (line_text (decimal session.0 ∷ reply_words names.now reply.now)) out.new.items result }
 {
+    match reply {
+        Reply::Values(values) if values.len() <= 16 => put_scan(out, session, values),
+        _ => put_parts(out, names, session, reply),
+    }
+}
+
+// Appends the line of a reply to a scan at once. A value has at most 21 bytes with its space, and the rest of the line at most 18.
+fn put_scan(out: &mut Vec<u8>, session: Session, values: &ScanList) -> Result<(), AllocError>
+    requires { length values.now ≤ 16 }
+    ensures { Puts out.old.items (line_text (decimal session.0 ∷ codes "values" ∷ map value_text values.now)) out.new.items result }
+{
+    let mut line = Tail::new();
+    line.put(b"\n");
+    put_values(&mut line, values);
+    line.put(b" values");
+    line.put_natural(u32::from(session.0));
+    out.extend_from_slice(line.as_bytes())
+}
+
+// Puts values in front, each behind a space.
+fn put_values(line: &mut Tail<360>, values: &ScanList)
+    requires { length line.old + 21 * length values.now ≤ 360 }
+    ensures text { line.new ≡ spaced (map value_text values.now) ++ line.old }
+    ensures short { length line.new ≤ length line.old + 21 * length values.now }
+{
+    let mut i = values.len();
+    while i > 0 {
+        i -= 1;
+        put_value(line, values.at(i));
+    }
+}
+
+// Puts a value in front, behind a space.
+fn put_value(line: &mut Tail<360>, value: Option<i64>)
+    requires { length line.old + 21 ≤ 360 }
+    ensures text { line.new ≡ codes " " ++ value_text value ++ line.old }
+    ensures short { length line.new ≤ length line.old + 21 }
+{
+    match value {
+        None => line.put(b"none"),
+        Some(value) => line.put_integer(value),
+    }
+    line.put(b" ");
+}
+
+// Appends the line of any such reply, part by part.
+fn put_parts(
+    out: &mut Vec<u8>,
+    names: &NameBook,
+    session: Session,
+    reply: &Reply,
+) -> Result<(), AllocError>
+    requires named { ReplyNamed names.now reply.now }
+    requires long { IsLong reply.now }
+    ensures { Puts out.old.items (line_text (decimal session.0 ∷ reply_words names.now reply.now)) out.new.items result }
+{
     put_session(out, session)?;
     put_long_words(out, names, reply)?;
     put_feed(out)
@@ -113,7 +169,7 @@ fn put_long(
 fn put_session(out: &mut Vec<u8>, session: Session) -> Result<(), AllocError>
     ensures { Puts out.old.items (decimal session.0) out.new.items result }
 {
-    let mut number = Tail::new();
+    let mut number = Tail::<10>::new();
     number.put_natural(u32::from(session.0));
     out.extend_from_slice(number.as_bytes())
 }
@@ -126,7 +182,7 @@ fn put_long_words(out: &mut Vec<u8>, names: &NameBook, reply: &Reply) -> Result<
     match reply {
         Reply::Values(values) => {
             put_text(out, " values")?;
-            put_values(out, values)
+            append_values(out, values)
         }
         Reply::Again { who, node: at } => {
             let at = node(names, *at);
@@ -143,7 +199,8 @@ fn put_long_words(out: &mut Vec<u8>, names: &NameBook, reply: &Reply) -> Result<
     }
 }
 
-fn put_values(out: &mut Vec<u8>, values: &ScanList) -> Result<(), AllocError>
+// Appends values, each behind a space.
+fn append_values(out: &mut Vec<u8>, values: &ScanList) -> Result<(), AllocError>
     ensures { Puts out.old.items (spaced (map value_text values.now)) out.new.items result }
 {
     for i in 0..values.len() {

@@ -143,7 +143,7 @@ fn put_row<'a>(
 }
 
 // Puts the line of a row, where both words are short. False where they may not fit.
-fn put_short_row(line: &mut Tail, word: &str, table: &str, key: u32, value: i64) -> bool
+fn put_short_row(line: &mut Tail<72>, word: &str, table: &str, key: u32, value: i64) -> bool
     requires { line.old ≡ [] }
     ensures { IsTrue result → line.new ≡ line_text (word.now ∷ table.now ∷ decimal key ∷ signed_decimal value ∷ []) }
 {

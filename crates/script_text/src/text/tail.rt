@@ -6,32 +6,32 @@ ghost use Rattle.std.specs.Fmt.{signed_decimal};
 use itoa::write_digits;
 use std::marker::Model;
 
-/// The end of a text, at most 72 bytes. What stands before it is put in front of it. Contracts see its bytes.
+/// The end of a text, at most `N` bytes. What stands before it is put in front of it. Contracts see its bytes.
 #[derive(Drop)]
-pub struct Tail {
-    bytes: [u8; 72],
+pub struct Tail<const N: usize> {
+    bytes: [u8; N],
     // Where the text begins.
     start: usize,
 }
 
-impl Model for Tail {
+impl<const N: usize> Model for Tail<N> {
     ghost use Rattle.std.specs.Prelude.{List, ℕ, ◌≤◌, drop};
 
     ghost Value = { List ℕ };
 
     ghost view = { λ s. drop s.start s.bytes };
 
-    ghost invariant = { λ s. s.start ≤ 72 };
+    ghost invariant = { λ s. s.start ≤ N };
 }
 
-impl Tail {
+impl<const N: usize> Tail<N> {
     /// No text.
-    pub fn new() -> Tail
+    pub fn new() -> Self
         ensures { result ≡ [] }
     {
         Tail {
-            bytes: [0; 72],
-            start: 72,
+            bytes: [0; N],
+            start: N,
         }
     }
 
@@ -39,23 +39,26 @@ impl Tail {
     pub fn as_bytes(&self) -> &[u8]
         ensures { result.now ≡ self.now }
     {
-        &self.bytes[self.start..]
+        let bytes = &self.bytes[..];
+        &bytes[self.start..]
     }
 
     /// Puts bytes in front.
     pub fn put(&mut self, text: &[u8])
-        requires { length self.old + length text.now ≤ 72 }
+        requires { length self.old + length text.now ≤ N }
         ensures { self.new ≡ text.now ++ self.old }
     {
-        let start = self.start - text.len();
-        self.bytes[start..self.start].copy_from_slice(text);
+        let end = self.start;
+        let start = end - text.len();
+        let bytes = &mut self.bytes[..];
+        bytes[start..end].copy_from_slice(text);
         self.start = start;
     }
 
     /// Puts a number in front.
     #[tactic(auto, using(crate::proofs::Tails::length_natural))]
     pub fn put_natural(&mut self, n: u32)
-        requires { length self.old + 10 ≤ 72 }
+        requires { length self.old + 10 ≤ N }
         ensures text { self.new ≡ decimal n ++ self.old }
         ensures short { length self.new ≤ length self.old + 10 }
     {
@@ -72,7 +75,7 @@ impl Tail {
     /// Puts a number with its sign in front.
     #[tactic(auto, using(crate::proofs::Tails::length_magnitude, crate::proofs::Tails::minus_first))]
     pub fn put_integer(&mut self, n: i64)
-        requires { length self.old + 20 ≤ 72 }
+        requires { length self.old + 20 ≤ N }
         ensures text { self.new ≡ signed_decimal n ++ self.old }
         ensures short { length self.new ≤ length self.old + 20 }
     {
@@ -83,7 +86,7 @@ impl Tail {
     }
 
     fn put_digit(&mut self, n: u32)
-        requires room { length self.old < 72 }
+        requires room { length self.old < N }
         requires digit { n < 10 }
         ensures { self.new ≡ (48 + n) ∷ self.old }
     {
@@ -93,7 +96,7 @@ impl Tail {
     }
 
     fn put_digits(&mut self, n: u64)
-        requires { length self.old + length (decimal n) ≤ 72 }
+        requires { length self.old + length (decimal n) ≤ N }
         ensures { self.new ≡ decimal n ++ self.old }
     {
         self.start = write_digits(n, &mut self.bytes, self.start);

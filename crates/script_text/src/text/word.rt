@@ -78,7 +78,7 @@ pub fn put_line<'a>(
 pub fn put_spaced(out: &mut Vec<u8>, word: &Word) -> Result<(), AllocError>
     ensures { Puts out.old.items (codes " " ++ word_text word.now) out.new.items result }
 {
-    let mut tail = Tail::new();
+    let mut tail = Tail::<72>::new();
     match word {
         Word::Text(text) => {
             out.push(b' ')?;

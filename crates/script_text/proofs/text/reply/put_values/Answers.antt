@@ -1,13 +1,10 @@
-use Rattle.std.proofs.Common.{codes, ◌++◌}
-use Rattle.script_text.specs.Texts.{value_text}
-use Rattle.script_text.proofs.Wholes.{front_front, next_value, stopped}
+use Rattle.std.proofs.Common.{◌-◌, arith}
+use Rattle.script_text.proofs.Wholes.{value_in_front}
 use Rattle.script_text.proofs.text.reply.put_values.Goals as goal
 
 pub loop-i-preserved : goal.loop-i-preserved
 loop-i-preserved c = record {
-  front = front_front c.loop-i.invariant.front (record { more = codes " " ++ value_text c.at.result; grown = c.in_ok-put_spaced.ensures });
-  rest = next_value c.loop-i.out.items _ c.put_spaced.new.out.items c.args.values.now c.loop-i.i c.at.result c.loop-i.invariant.rest c.at.ensures c.in_ok-put_spaced.ensures;
+  within = omega (arith, c.loop-i.invariant.within);
+  text = value_in_front c.args.line.now c.loop-i.line c.put_value.new.line c.args.values.now (c.loop-i.i - 1) c.loop-i.i c.at.result c.at.ensures (omega arith) c.loop-i.invariant.text c.put_value.ensures.text;
+  short = omega (arith, c.loop-i.invariant.short, c.put_value.ensures.short);
 }
-
-pub returns-in_err-put_spaced : goal.returns-in_err-put_spaced
-returns-in_err-put_spaced c = stopped _ _ (front_front c.loop-i.invariant.front c.in_err-put_spaced.ensures) c.from_residual.ensures.0

@@ -1,10 +1,14 @@
-use Rattle.std.proofs.Common.{◌≡◌, ◌++◌, drop, map}
+use Rattle.std.proofs.Common.{◌≡◌, ◌≤◌, ◌+◌, ◌*◌, ◌++◌, length, map, drop}
 use Rattle.script_text.specs.Texts.{value_text}
-use Rattle.script_text.specs.Puts.{IsFront, spaced}
+use Rattle.script_text.specs.Puts.{spaced}
 use Rattle.script_text.proofs.text.reply.put_values.Given as goal
 
 abbrev pub invariant-loop-i : goal.invariant-loop-i
 invariant-loop-i l = record {
-  front : IsFront l.initial.out.items l.out.items;
-  rest : l.out.items ++ spaced (map value_text (drop l.i l.values)) ≡ l.initial.out.items ++ spaced (map value_text l.values);
+  within : l.i ≤ length l.values;
+  text : l.line ≡ spaced (map value_text (drop l.i l.values)) ++ l.initial.line;
+  short : length l.line + 21 * l.i ≤ length l.initial.line + 21 * length l.values;
 }
+
+abbrev pub decreases-loop-i : goal.decreases-loop-i
+decreases-loop-i l = l.i
