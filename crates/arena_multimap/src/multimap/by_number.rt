@@ -21,15 +21,21 @@ impl<K: Ord + Copy + Hash + Drop, V: Numbered> ArenaMultimap<K, V> {
         ensures spare { self.old.spare ≡ self.new.spare + cond result 1 0 }
     {
         let list = place_of(&self.keys, key);
-        match find_number(self.lists.list(list), value.number()) {
+        let values = self.lists.list(list);
+        let len = values.len();
+        match find_number(values, value.number()) {
             Ok(i) => {
                 self.lists.replace(list, i, value);
                 false
             }
             Err(i) => {
                 add_key(&mut self.keys, list, key);
-                self.lists.insert(list, i, value);
                 self.spare -= 1;
+                if i == len {
+                    self.lists.push(list, value);
+                    return true;
+                }
+                self.lists.insert(list, i, value);
                 true
             }
         }
