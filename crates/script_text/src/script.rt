@@ -20,6 +20,9 @@ pub use numbers::number;
 use std::alloc::{AllocError, Global};
 use teb_names::NameBook;
 
+/// A usual length of a line in bytes. Room is made at once for as many lines as fit a script at this length.
+const USUAL_LEN: usize = 32;
+
 /// The lines of a script that ask something, in order. `format` is that of the tree: from 2 on `begin` may
 /// have an instance, from 3 on there are `delete` and `scan`. A name that the tree does not have becomes the
 /// number 255. The lines are of sessions 1 to 32. `BadLine` names the first bad line by its number, from 1, and the first of its faults in the
@@ -35,6 +38,7 @@ pub fn parse_script(
     ensures sessions { IfOk result (λ v. AreOfSessions v.items) }
 {
     let mut lines = Vec::new(alloc);
+    lines.reserve(script.len() / USUAL_LEN)?;
     let mut words: [&[u8]; 6] = [b""; 6];
     let mut number = 0;
     for front in Fronts(script) {
