@@ -38,20 +38,10 @@ pub fn turns<C: Chains, G: Log, L: Ledger>(
 {
     prove!(engine.history().is_empty());
     let mut ring = Ring::new(alloc, scripts)?;
-    engine.reserve_ahead(lines_in(scripts))?;
     while make_turn(engine, &mut ring, log)? {
         steps.tick();
     }
     Ok(())
-}
-
-/// How many lines the scripts have: for the room that is made ahead, of which no clause speaks.
-fn lines_in(scripts: &Scripts) -> usize {
-    let mut lines: usize = 0;
-    for i in 0..scripts.len() {
-        lines = lines.saturating_add(scripts.lines(i).len());
-    }
-    lines
 }
 
 /// Asks the session whose turn it is, and logs the reply. False where all are through. An `Err` leaves the history

@@ -25,25 +25,10 @@ pub fn ask_lines<C: Chains, L: Log>(
         → L.tells log.new engine.old.names (told ++ log_of engine.old.store engine.old.events (requests_of lines.now))) }
     ensures events { OnOk result (engine.new.events ≡ history_after engine.old.store engine.old.events (requests_of lines.now)) }
 {
-    engine.reserve_ahead(events_in(lines))?;
     for line in lines {
         ask(engine, line.session, line.request, log)?;
     }
     Ok(())
-}
-
-/// How many events the lines come to where all are granted: of a scan one for each cell, and of others one. For the room that is made
-/// ahead, of which no clause speaks.
-fn events_in(lines: &[Line]) -> usize {
-    let mut events: usize = 0;
-    for line in lines {
-        let own = match line.request {
-            Request::Scan { count, .. } => usize::from(count),
-            _ => 1,
-        };
-        events = events.saturating_add(own);
-    }
-    events
 }
 
 /// Asks one request, and logs the reply.
