@@ -11,6 +11,9 @@ use std::alloc::{AllocError, Global};
 use std::cmp::Ordering;
 use vec_room::put_in;
 
+/// For how many more items than are asked for a bucket makes room, so that the first of them do not make it move.
+const SPARE: usize = 16;
+
 /// How many runs a search looks at one after the other.
 const FEW: usize = 8;
 
@@ -139,7 +142,7 @@ impl<K: Ord + Copy, V: Copy> Bucket<K, V> {
     }
 }
 
-/// Makes room for n more items. It costs a comparison where there is room.
+/// Makes room for n more items, and some more where there is less. It costs a comparison where there is room.
 #[inline(always)]
 fn make_room<T>(items: &mut Vec<T>, n: usize) -> Result<(), AllocError>
     ensures items { items.new.items ≡ items.old.items }
@@ -150,7 +153,7 @@ fn make_room<T>(items: &mut Vec<T>, n: usize) -> Result<(), AllocError>
     if n <= items.capacity() - items.len() {
         return Ok(());
     }
-    items.reserve(n)
+    items.reserve(n.saturating_add(SPARE))
 }
 
 /// Takes a range out of a vector. What stands behind it moves down.

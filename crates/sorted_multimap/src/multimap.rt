@@ -13,6 +13,9 @@ use crate::bucket::Bucket;
 use std::alloc::{AllocError, Global};
 use std::marker::Model;
 
+// How many buckets there are for some hundred values.
+const FEW: usize = 256;
+
 // Among how many buckets the keys are spread.
 #[derive(Clone, Copy)]
 enum Width {
@@ -26,7 +29,7 @@ impl Width {
     {
         match self {
             Width::One => 1,
-            Width::Few => 256,
+            Width::Few => FEW,
         }
     }
 }
@@ -143,6 +146,10 @@ fn place_of<K: Key, V: Copy>(buckets: &[Bucket<K, V>], key: K) -> usize
     ensures at { result ≡ K.spread_of key % length buckets.now }
     ensures within { result < length buckets.now }
 {
+    // A remainder by a constant takes no division.
+    if buckets.len() == FEW {
+        return key.spread() % FEW;
+    }
     key.spread() % buckets.len()
 }
 
