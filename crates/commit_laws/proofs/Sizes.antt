@@ -9,7 +9,7 @@ use Rattle.teb_history.specs.OwnEvents.{own_events, is_of}
 use Rattle.teb_history.proofs.Newest.{committed-cons}
 use Rattle.teb_rules.specs.Setup.{Setup}
 use Rattle.teb_laws.specs.Lawful.{Lawful}
-use Rattle.record_journal.specs.Format.{Record, records}
+use Rattle.record_journal.specs.Format.{records}
 use Rattle.record_journal.proofs.Spelled.{length-records-push}
 use Rattle.commit_laws.specs.Commits.{commit_count, put_count}
 use Rattle.commit_laws.specs.Records.{last_puts, puts_of, is_newest, record_of, records_of}
