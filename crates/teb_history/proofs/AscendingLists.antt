@@ -1,10 +1,10 @@
 -- Lists that ascend by a key: what a search finds in them, and what an edit at that place makes.
-use Rattle.std.proofs.Common.{◌≡◌, ◌≢◌, ℕ, zero, suc, ◌<◌, ◌≤◌, Bool, true, false, cond, not, ltb, eqb, List, [], ◌∷◌, length, filter, get_or, set, Result, Ok, Err, refl, sym, ◌∙◌, ap, subst, arith, lt-ltb, le-ltb, ◌⊎◌, inl, inr, eq-eqb}
-use Rattle.std.specs.List.{insert}
+use Rattle.std.proofs.Common.{◌≡◌, ◌≢◌, ℕ, zero, suc, ◌<◌, ◌≤◌, ◌-◌, Bool, true, false, cond, not, ltb, eqb, List, [], ◌∷◌, length, filter, get_or, set, Result, Ok, Err, refl, sym, ◌∙◌, ap, subst, arith, lt-ltb, le-ltb, ◌⊎◌, inl, inr, eq-eqb}
+use Rattle.std.specs.List.{insert, remove}
 use Rattle.std.specs.List.Sorted.{IsSearchInRange, IsBinarySearchResult, IsNonDecreasingBy}
 use Rattle.std.specs.Ordering.{nat_cmp, ordering_index}
 use Rattle.std.proofs.lemmas.Cmp.{ranked}
-use Rattle.std.proofs.lemmas.Bool.{ne_eqb, eqb-true}
+use Rattle.std.proofs.lemmas.Bool.{ne_eqb, eqb-true, ltb-true, ltb-false}
 use Rattle.std.proofs.lemmas.Bool.Decides.{nat_tests, eqb_tells}
 use Rattle.teb_history.proofs.Comparisons.{ltb_tells}
 use Rattle.teb_history.specs.Ascending.{AllAbove, IsAscendingBy, next_place, place_of, put_by}
@@ -54,6 +54,13 @@ module _ {A : Type 0} (key : A → ℕ) where
   gap_at (x ∷ xs) n (suc i) l below above =
       ap next_place (gap_at xs n i (omega arith) (λ k d lt. below (suc k) d (omega arith)) (λ k d le lt. above (suc k) d (omega arith) (omega arith)))
       ∙ sym (place_below x xs n (below zero x (omega arith)))
+
+  -- the place of a key above all others is the end
+  pub gap_end : (xs : List A) → IsAscendingBy key xs → (n : ℕ) → ((d : A) → 0 < length xs → key (get_or xs (length xs - 1) d) < n) → Err (length xs) ≡ place_of key xs n
+  gap_end xs h n last =
+      gap_at xs n (length xs) (omega arith)
+      (λ k d lt. let rise = keys_rise xs h k (length xs - 1) d (omega arith) (omega arith) in let below = last d (omega arith) in omega arith)
+      (λ k d le lt. absurd (omega arith))
 
   -- a binary search by key ends at the place
   pub searched : (xs : List A) → IsAscendingBy key xs → (n : ℕ) (r : Result ℕ ℕ) → IsSearchInRange r (length xs) → IsBinarySearchResult (λ x. nat_cmp (key x) n) xs r → r ≡ place_of key xs n
@@ -168,6 +175,38 @@ module _ {A : Type 0} (key : A → ℕ) where
       go : (b : Bool) → IsAscendingBy key (filter p xs) → IsAscendingBy key (cond b (x ∷ filter p xs) (filter p xs))
       go true ih = (above-filter (key x) p xs h.0, ih)
       go false ih = ih
+
+  -- those above n have other keys
+  filter-others : (n : ℕ) (xs : List A) → AllAbove key n xs → xs ≡ filter (λ x. not (eqb (key x) n)) xs
+  filter-others n [] h = refl
+  filter-others n (x ∷ xs) h = let l = h.0 in rw (ne_eqb (key x) n (λ e. omega arith)) (ap (λ (ys : List A). x ∷ ys) (filter-others n xs h.1))
+
+  -- where the key was found, one place is taken out, and the others have other keys; where it was not, all have other keys
+  pub remove-filter : (xs : List A) → IsAscendingBy key xs → (n i : ℕ) → place_of key xs n ≡ Ok i → remove xs i ≡ filter (λ x. not (eqb (key x) n)) xs
+  remove-filter [] a n i h = absurd (cc)
+  remove-filter (x ∷ xs) a n i h = go (ltb (key x) n) refl (eqb (key x) n) refl (place_of key xs n) (λ j e. remove-filter xs a.1 n j e) h
+    where
+      go : (b : Bool) → ltb (key x) n ≡ b → (c : Bool) → eqb (key x) n ≡ c → (r : Result ℕ ℕ) → ((j : ℕ) → r ≡ Ok j → remove xs j ≡ filter (λ x. not (eqb (key x) n)) xs) → cond b (next_place r) (cond c (Ok 0) (Err 0)) ≡ Ok i
+          → remove (x ∷ xs) i ≡ cond (not c) (x ∷ filter (λ x. not (eqb (key x) n)) xs) (filter (λ x. not (eqb (key x) n)) xs)
+      go true p true q r ih h = absurd (omega (arith, ltb-true _ _ p, eqb-true _ _ q))
+      go true p false q (Ok j) ih h = let e : suc j ≡ i = cc in subst (λ (k : ℕ). remove (x ∷ xs) k ≡ x ∷ filter (λ x. not (eqb (key x) n)) xs) e (ap (λ (ys : List A). x ∷ ys) (ih j refl))
+      go true p false q (Err j) ih h = absurd (cc)
+      go false p true q r ih h =
+          let e : 0 ≡ i = cc in
+          subst (λ (k : ℕ). remove (x ∷ xs) k ≡ filter (λ x. not (eqb (key x) n)) xs) e (filter-others n xs (subst (λ (m : ℕ). AllAbove key m xs) (eqb-true _ _ q) a.0))
+      go false p false q r ih h = absurd (cc)
+
+  pub gap-filter : (xs : List A) → IsAscendingBy key xs → (n i : ℕ) → place_of key xs n ≡ Err i → xs ≡ filter (λ x. not (eqb (key x) n)) xs
+  gap-filter [] a n i h = refl
+  gap-filter (x ∷ xs) a n i h = go (ltb (key x) n) refl (eqb (key x) n) refl (place_of key xs n) (λ j e. gap-filter xs a.1 n j e) h
+    where
+      go : (b : Bool) → ltb (key x) n ≡ b → (c : Bool) → eqb (key x) n ≡ c → (r : Result ℕ ℕ) → ((j : ℕ) → r ≡ Err j → xs ≡ filter (λ x. not (eqb (key x) n)) xs) → cond b (next_place r) (cond c (Ok 0) (Err 0)) ≡ Err i
+          → x ∷ xs ≡ cond (not c) (x ∷ filter (λ x. not (eqb (key x) n)) xs) (filter (λ x. not (eqb (key x) n)) xs)
+      go true p true q r ih h = absurd (omega (arith, ltb-true _ _ p, eqb-true _ _ q))
+      go true p false q (Ok j) ih h = absurd (cc)
+      go true p false q (Err j) ih h = ap (λ (ys : List A). x ∷ ys) (ih j refl)
+      go false p true q r ih h = absurd (cc)
+      go false p false q r ih h = ap (λ (ys : List A). x ∷ ys) (filter-others n xs (above-mono n (key x) xs (ltb-false _ _ p) a.0))
 
   -- tests that agree on the elements above n
   filter-above : (n : ℕ) (p q : A → Bool) → ((x : A) → n < key x → q x ≡ p x) → (xs : List A) → AllAbove key n xs → filter q xs ≡ filter p xs

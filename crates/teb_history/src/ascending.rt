@@ -1,6 +1,7 @@
 //! Vectors that ascend by transaction, with at most one element for each.
 
-ghost use Rattle.std.specs.Prelude.{◌≡◌, ◌<◌, ◌≤◌, ◌+◌, cond, eqb, not, filter, vec_len, vec_capacity};
+ghost use Rattle.std.specs.Prelude.{◌≡◌, ◌<◌, ◌≤◌, ◌+◌, cond, eqb, not, filter, length, vec_len, vec_capacity};
+ghost use Rattle.std.specs.List.Sorted.{IsSearchInRange};
 ghost use Rattle.teb_history.specs.Ascending.{IsAscendingBy, place_of, put_by};
 ghost use Rattle.teb_history.specs.Live.{number_of};
 ghost use Rattle.teb_history.specs.OwnEvents.{event_txn};
@@ -10,7 +11,8 @@ use super::Event;
 use crate::standing::Standing;
 use teb_names::Txn;
 
-/// Where the standing of t is, or where it would go. It costs one look where the transactions are numbered from 1 without a gap, and else a binary search.
+/// Where the standing of t is, or where it would go. It costs one look where the transactions are numbered from 1 without a gap and t is
+/// one of them, or where t is above all of them, and else a binary search.
 #[inline(always)]
 pub fn find_standing(standings: &[Standing], t: Txn) -> Result<usize, usize>
     requires { IsAscendingBy standing_number standings.now }
@@ -23,12 +25,17 @@ pub fn find_standing(standings: &[Standing], t: Txn) -> Result<usize, usize>
     search_standing(standings, t)
 }
 
-/// Where the standing of t is, or where it would go, by a binary search.
+/// Where the standing of t is, or where it would go: at the end where t is above all, and else by a binary search.
 fn search_standing(standings: &[Standing], t: Txn) -> Result<usize, usize>
     requires { IsAscendingBy standing_number standings.now }
     ensures { result ≡ place_of standing_number standings.now t.0 }
 {
-    standings.binary_search_by_key(&t.0, |standing| standing.txn.0)
+    match standings.last() {
+        Some(last) if t.0 <= last.txn.0 => {
+            standings.binary_search_by_key(&t.0, |standing| standing.txn.0)
+        }
+        _ => Err(standings.len()),
+    }
 }
 
 /// What an event of a transaction found of it, and what it changed.
@@ -40,7 +47,8 @@ pub struct Noted {
     pub is_live: bool,
 }
 
-/// The standing of an event's transaction after the event, with `end` events in the history. It costs one look.
+/// The standing of an event's transaction after the event, with `end` events in the history. It costs what `find_standing` does, and
+/// where the transaction has no standing yet, a move of those behind its place.
 pub fn note_event(standings: &mut Vec<Standing>, event: Event, end: usize) -> Noted
     requires ascending { IsAscendingBy standing_number standings.old.items }
     requires room { vec_len standings.old < vec_capacity standings.old }
@@ -93,16 +101,27 @@ pub fn keep_txn(txns: &mut Vec<Txn>, t: Txn, was_in: bool, is_in: bool)
         return;
     }
     if !is_in {
-        txns.retain(|u| *u != t);
+        remove_txn(txns, t);
     } else if let Err(i) = find_txn(txns, t) {
         let _ = txns.insert(i, t);
     }
 }
 
+/// Takes a transaction out of ascending ones, where it is one of them. It costs a binary search, and a move of those behind it.
+pub fn remove_txn(txns: &mut Vec<Txn>, t: Txn)
+    ensures items { IsAscendingBy number_of txns.old.items → txns.new.items ≡ filter (λ u. not (eqb u.0 t.0)) txns.old.items }
+    ensures len { vec_len txns.new ≤ vec_len txns.old }
+    ensures capacity { vec_capacity txns.new ≡ vec_capacity txns.old }
+{
+    if let Ok(i) = find_txn(txns, t) {
+        txns.remove(i);
+    }
+}
+
 /// Where a transaction stands among ascending ones, or would stand: `Ok` of its index, or `Err` of the index at which it goes in.
 pub fn find_txn(txns: &[Txn], t: Txn) -> Result<usize, usize>
-    requires { IsAscendingBy number_of txns.now }
-    ensures { result ≡ place_of number_of txns.now t.0 }
+    ensures within { IsSearchInRange result (length txns.now) }
+    ensures place { IsAscendingBy number_of txns.now → result ≡ place_of number_of txns.now t.0 }
 {
     txns.binary_search_by_key(&t.0, |u| u.0)
 }
