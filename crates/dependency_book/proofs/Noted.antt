@@ -1,5 +1,5 @@
 -- The lists of a history after one more event.
-use Rattle.std.proofs.Common.{◌≡◌, ℕ, zero, suc, ◌≤◌, Bool, true, false, cond, not, ◌&&◌, ◌||◌, eqb, ltb, List, [], ◌∷◌, ◌++◌, filter, map, Option, ℤ, refl, sym, ◌∙◌, ap, arith}
+use Rattle.std.proofs.Common.{◌≡◌, ℕ, zero, suc, ◌≤◌, Bool, true, false, cond, not, ◌&&◌, ◌||◌, eqb, ltb, List, [], ◌∷◌, ◌++◌, filter, map, Option, ℤ, refl, sym, ◌∙◌, ap, subst, arith}
 use Rattle.std.specs.List.{count_by}
 use Rattle.std.proofs.lemmas.Bool.Decides.{nat_tests}
 use Rattle.std.proofs.lemmas.Bool.{eqb-true, ne_eqb, eq-eqb}
@@ -14,7 +14,7 @@ use Rattle.teb_names.specs.Cells.{cell_cmp, same_cell}
 use Rattle.teb_history.specs.declared.Event.{Event}
 use Rattle.teb_history.specs.declared.Event.TheVariants.{Began, Got, Put, Ready, Done, Gone, Told}
 use Rattle.teb_history.specs.Phases.{is_began, is_done, is_gone, begun, committed, aborted, unfinished, begun_count, numbers, txns}
-use Rattle.teb_history.specs.Ascending.{put_by}
+use Rattle.teb_history.specs.Ascending.{AllAbove, IsAscendingBy, put_by}
 use Rattle.teb_history.specs.Live.{number_of}
 use Rattle.teb_history.specs.Accesses.{wrote}
 use Rattle.teb_history.specs.OwnEvents.{own_events}
@@ -29,6 +29,8 @@ use Rattle.sorted_multimap.proofs.TakenMatches.{without_all, count_kept}
 use Rattle.sorted_multimap.proofs.CellValues.{same_exact}
 use Rattle.dependency_book.proofs.OwnAccesses.{put_by_it, reads_counted, puts_counted}
 use Rattle.hold_book.proofs.OrderlyHistories.{unfinished_is, unfinished_same, unfinished_parts, aborted_same, fresh}
+use Rattle.teb_laws.proofs.AscendingNumbers.{number, txns_ascending}
+use Rattle.teb_history.proofs.AscendingLists.{ascending-filter}
 use Rattle.teb_history.proofs.Filters.{filter_both, filter_push}
 use Rattle.teb_history.proofs.Newest.{aborted-cons, unfinished-cons}
 
@@ -47,6 +49,19 @@ filter_made p q same (n ∷ ns) = go (p n) (same n) (filter_made p q same ns)
         → cond (q (record { 0 = n })) (record { 0 = n } ∷ filter q (map (λ t. record { 0 = t }) ns)) (filter q (map (λ t. record { 0 = t }) ns)) ≡ map (λ t. record { 0 = t }) (cond b (n ∷ filter p ns) (filter p ns))
     go true h ih = ap (λ (o : Bool). cond o (record { 0 = n } ∷ filter q (map (λ t. record { 0 = t }) ns)) (filter q (map (λ t. record { 0 = t }) ns))) h ∙ ap (λ (ys : List Txn). record { 0 = n } ∷ ys) ih
     go false h ih = ap (λ (o : Bool). cond o (record { 0 = n } ∷ filter q (map (λ t. record { 0 = t }) ns)) (filter q (map (λ t. record { 0 = t }) ns))) h ∙ ih
+
+-- the unfinished ones ascend
+ascending_made : (ns : List ℕ) → IsAscendingBy number ns → IsAscendingBy number_of (map (λ t. record { 0 = t }) ns)
+ascending_made [] h = tt
+ascending_made (n ∷ ns) h = (above_made n ns h.0, ascending_made ns h.1)
+  where
+    above_made : (m : ℕ) (ns : List ℕ) → AllAbove number m ns → AllAbove number_of m (map (λ t. record { 0 = t }) ns)
+    above_made m [] h = tt
+    above_made m (n ∷ ns) h = (h.0, above_made m ns h.1)
+
+pub unfinished_ascend : (r : Registers) (P : List Event) → RegistersOf r P → IsAscendingBy number_of r.unfinished.items
+unfolding unfinished_txns
+unfinished_ascend r P was = subst (IsAscendingBy number_of) (sym was.unfinished) (ascending_made (filter (unfinished P) (txns P)) (ascending-filter number (unfinished P) (txns P) (txns_ascending P)))
 
 eqb_back : (m n : ℕ) → eqb m n ≡ eqb n m
 eqb_back m n = grind (arith, nat_tests)

@@ -74,8 +74,8 @@ impl Book {
     ///
     /// A read or a put costs a look-up of its cell, and a read one of its transaction. An abort costs look-ups for each access of its
     /// transaction, and goes through what was read or put in the same cells since; where its transaction put a cell again, through all
-    /// that put it. A commit and an abort go through the unfinished. Where holders are kept, a read or a put also costs a search by its
-    /// cell, and a commit or an abort one for each access.
+    /// that put it. A commit and an abort cost a binary search among the unfinished, and a move of those behind. Where holders are kept, a
+    /// read or a put also costs a search by its cell, and a commit or an abort one for each access.
     pub fn note(&mut self, history: &History, e: Event, again: bool)
         requires { 0 < self.old.spare }
         ensures spare { self.old.spare ≤ self.new.spare + 1 }

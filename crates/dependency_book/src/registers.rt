@@ -125,7 +125,7 @@ impl Registers {
         ensures room { (n : ℕ) → HasRooms self.old n → HasRooms self.new n }
         ensures book { (P : List Event) → RegistersOf self.old P → MayFollow P (event.Done t) → RegistersOf self.new (event.Done t ∷ P) }
     {
-        self.unfinished.retain(|u| *u != t);
+        teb_history::remove_txn(&mut self.unfinished, t);
     }
 
     /// A transaction is aborted by the newest event of the history.
@@ -137,6 +137,6 @@ impl Registers {
     {
         edits::forget_accesses(&mut self.readers, &mut self.writers, history, t);
         arena_multimap::clear_txn(&mut self.sources, t);
-        self.unfinished.retain(|u| *u != t);
+        teb_history::remove_txn(&mut self.unfinished, t);
     }
 }

@@ -1,6 +1,5 @@
-use Rattle.std.proofs.Common.{arith, rules, not, eqb, ap, ◌∙◌, List}
+use Rattle.std.proofs.Common.{arith, eqb, ap, ◌∙◌, List}
 use Rattle.std.specs.List.{count_by}
-use Rattle.std.proofs.lemmas.Fn.{filter_same}
 use Rattle.teb_names.specs.declared.Txn.{Txn}
 use Rattle.teb_names.specs.Cells.{cell_cmp}
 use Rattle.sorted_multimap.specs.Multimap.{values_in}
@@ -8,7 +7,7 @@ use Rattle.teb_history.specs.declared.Event.{Event}
 use Rattle.teb_history.specs.OwnEvents.{own_events}
 use Rattle.sorted_multimap.specs.LastMatches.{without_lasts}
 use Rattle.dependency_book.specs.Dependencies.{reads, puts}
-use Rattle.dependency_book.proofs.Noted.{noted_gone}
+use Rattle.dependency_book.proofs.Noted.{noted_gone, unfinished_ascend}
 use Rattle.dependency_book.proofs.registers.Registers.abort.Goals as goal
 
 pub returns-clause-room : goal.returns-clause-room
@@ -16,7 +15,7 @@ returns-clause-room c n h = record {
   readers = omega (arith, h.readers, c.forget_accesses.ensures.readers_spare);
   writers = omega (arith, h.writers, c.forget_accesses.ensures.writers_spare);
   sources = omega (arith, h.sources, c.clear_txn.ensures.spare);
-  unfinished = omega (arith, h.unfinished, c.retain.ensures.bound, c.retain.ensures.capacity);
+  unfinished = omega (arith, h.unfinished, c.remove_txn.ensures.len, c.remove_txn.ensures.capacity);
 }
 
 pub returns-clause-book : goal.returns-clause-book
@@ -26,4 +25,4 @@ returns-clause-book c P cause now was may =
     (λ y. c.forget_accesses.ensures.readers y ∙ ap (λ (es : List Event). without_lasts (count_by (reads y) (own_events es t.0)) (λ (r : Txn × Txn). eqb r.0.0 t.0) (values_in cell_cmp c.args.self.now.readers y)) now)
     (λ y. c.forget_accesses.ensures.writers y ∙ ap (λ (es : List Event). without_lasts (count_by (puts y) (own_events es t.0)) (λ (u : Txn). eqb u.0 t.0) (values_in cell_cmp c.args.self.now.writers y)) now)
     c.clear_txn.ensures.values
-    (filter_same _ (λ (u : Txn). not (eqb u.0 t.0)) _ (λ x b q called. search rules) _ _ c.retain.ensures.filtered)
+    (c.remove_txn.ensures.items (unfinished_ascend c.args.self.now P was))
