@@ -89,15 +89,6 @@ impl Book {
         }
     }
 
-    /// Makes room for n events in the lists that grow with the history, so that these need not move as the events come. It stands for what
-    /// it stood for, also after an `Err`.
-    pub fn reserve_ahead(&mut self, n: usize) -> Result<(), AllocError>
-        ensures lists { self.new.lists ≡ self.old.lists }
-        ensures spare { self.new.spare ≡ self.old.spare }
-    {
-        self.registers.reserve(n)
-    }
-
     /// Who read a cell, and from whom, in order of access: a pair for each Got of a transaction that is not aborted.
     pub fn readers(&self, cell: Cell) -> &[(Txn, Txn)]
         ensures { result.now ≡ readers_in self.now.lists cell }
