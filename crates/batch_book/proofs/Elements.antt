@@ -1,8 +1,8 @@
 -- Elements of lists.
-use Rattle.std.proofs.Common.{◌≡◌, ◌⊎◌, ℕ, suc, ◌<◌, Bool, true, false, cond, not, ◌||◌, eqb, ltb, List, [], ◌∷◌, ◌++◌, filter, find, map, get_or, Option, Some, None, Result, Ok, Err, refl, sym, ◌∙◌, ap, subst, inl, inr, arith, ltb-true, ltb-false}
-use Rattle.std.specs.List.{All, list_any, remove}
+use Rattle.std.proofs.Common.{◌≡◌, ◌⊎◌, ℕ, suc, ◌<◌, Bool, true, false, cond, ◌||◌, eqb, ltb, List, [], ◌∷◌, ◌++◌, filter, find, map, get_or, Option, Some, None, Result, Ok, Err, refl, sym, ◌∙◌, ap, subst, inl, inr, arith, ltb-true, ltb-false}
+use Rattle.std.specs.List.{All, list_any}
 use Rattle.std.specs.Option.{option_map, IsSome}
-use Rattle.std.proofs.lemmas.Bool.{cases_Bool, ne_eqb, eqb-true, or_cases, or_left, or_right, or_parts}
+use Rattle.std.proofs.lemmas.Bool.{cases_Bool, ne_eqb, or_cases, or_left, or_right, or_parts}
 use Rattle.std.proofs.lemmas.List.Elements.{All-nil, All-cons, All-head, All-tail}
 use Rattle.teb_history.specs.Ascending.{AllAbove, IsAscendingBy, next_place, place_of}
 use Rattle.batch_book.specs.Book.{AllBelow}
@@ -185,32 +185,6 @@ module _ {A : Type 0} where
       none : (ys : List A) → ((m : ℕ) → key x < m → n < m) → AllAbove key (key x) ys → find (λ x. eqb (key x) n) ys ≡ None
       none [] f a = refl
       none (y ∷ ys) f a = let l = f (key y) a.0 in rw (ne_eqb (key y) n (λ q. absurd (omega arith))) (none ys f a.1)
-
-  -- those above n have other keys
-  filter_above : (key : A → ℕ) (n : ℕ) (xs : List A) → AllAbove key n xs → filter (λ x. not (eqb (key x) n)) xs ≡ xs
-  filter_above key n [] a = refl
-  filter_above key n (x ∷ xs) a = let l = a.0 in rw (ne_eqb (key x) n (λ q. absurd (omega arith))) (ap (λ (ys : List A). x ∷ ys) (filter_above key n xs a.1))
-
-  -- what a search finds is taken out
-  pub removed : (key : A → ℕ) (n i : ℕ) (xs : List A) → IsAscendingBy key xs → place_of key xs n ≡ Ok i → remove xs i ≡ filter (λ x. not (eqb (key x) n)) xs
-  removed key n i [] a h = absurd (cc)
-  removed key n i (x ∷ xs) a h = elim (cases_Bool (ltb (key x) n)) [
-    | inl t ↦ (let l = ltb-true _ _ t in rw (ne_eqb (key x) n (λ q. absurd (omega arith))) (later (place_of key xs n) (λ j e. removed key n j xs a.1 e) (rw t at h)))
-    | inr f ↦ (elim (cases_Bool (eqb (key x) n)) [
-      | inl e ↦ rw e (first (eqb-true _ _ e) (rw (f, e) at h))
-      | inr e ↦ absurd (never (rw (f, e) at h))
-    ])
-  ]
-    where
-      later : (r : Result ℕ ℕ) → ((j : ℕ) → r ≡ Ok j → remove xs j ≡ filter (λ x. not (eqb (key x) n)) xs) → next_place r ≡ Ok i → remove (x ∷ xs) i ≡ x ∷ filter (λ x. not (eqb (key x) n)) xs
-      later (Ok j) ih h = let e : suc j ≡ i = cc in subst (λ (k : ℕ). remove (x ∷ xs) k ≡ x ∷ filter (λ x. not (eqb (key x) n)) xs) e (ap (λ (ys : List A). x ∷ ys) (ih j refl))
-      later (Err j) ih h = absurd (cc)
-
-      first : key x ≡ n → zero_ok ≡ Ok i → remove (x ∷ xs) i ≡ filter (λ x. not (eqb (key x) n)) xs
-      first q h = let e : 0 ≡ i = cc in subst (λ (k : ℕ). remove (x ∷ xs) k ≡ filter (λ x. not (eqb (key x) n)) xs) e (sym (filter_above key n xs (subst (λ (k : ℕ). AllAbove key k xs) q a.0)))
-
-      never : zero_err ≡ Ok i → ⊥
-      never h = cc
 
 pub below_shown : {A B : Type 0} (f : A → B) (key : B → ℕ) (n : ℕ) (xs : List A) → AllBelow key n (map f xs) → AllBelow (λ x. key (f x)) n xs
 below_shown f key n [] h = tt

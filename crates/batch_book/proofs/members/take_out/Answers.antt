@@ -1,9 +1,9 @@
 use Rattle.std.proofs.Common.{◌∙◌, List, Some, sym, ap, subst, rules}
 use Rattle.teb_history.specs.Ascending.{IsAscendingBy, place_of}
-use Rattle.teb_history.proofs.AscendingLists.{place_in}
+use Rattle.teb_history.proofs.AscendingLists.{place_in, remove-filter}
 use Rattle.batch_book.specs.declared.members.Member.{Member}
 use Rattle.batch_book.specs.Fields.{member_number}
-use Rattle.batch_book.proofs.Elements.{placed, unplaced, removed}
+use Rattle.batch_book.proofs.Elements.{placed, unplaced}
 use Rattle.batch_book.proofs.Leaving.{absent_left}
 use Rattle.batch_book.proofs.members.take_out.Goals as goal
 
@@ -26,7 +26,7 @@ pub returns-in-Ok-clause-items : goal.returns-in-Ok-clause-items
 returns-in-Ok-clause-items c =
     let place = λ (ms : List Member). place_of member_number ms c.args.t.0 in
     let found = ap place (sym c.deref.ensures.value) ∙ sym c.search_member.ensures ∙ c.in-Ok.is in
-    c.remove.ensures.items ∙ removed member_number c.args.t.0 c.in-Ok.i c.args.members.now.items c.requires found
+    c.remove.ensures.items ∙ remove-filter member_number c.args.members.now.items c.requires c.args.t.0 c.in-Ok.i found
 
 pub returns-in-Err-clause-member : goal.returns-in-Err-clause-member
 returns-in-Err-clause-member c =
