@@ -1,5 +1,5 @@
 -- Histories that requests lead to, and what holds of them.
-use Rattle.std.proofs.Common.{◌≡◌, ℕ, true, false, List, [], ◌∷◌, ◌++◌, refl, sym, ◌∙◌, ap, subst}
+use Rattle.std.proofs.Common.{◌≡◌, ℕ, Bool, false, List, [], ◌∷◌, ◌++◌, refl, sym, ◌∙◌, ap, subst}
 use Rattle.teb_names.specs.declared.Cell.{Cell}
 use Rattle.teb_names.specs.declared.Session.{Session}
 use Rattle.teb_names.specs.declared.Request.{Request}
@@ -42,11 +42,16 @@ law_of P law X H sound (asked, e) = subst (P X) (sym e) (law X sound asked)
 pub settled_of : (X : Store) (H : List Event) → IsSound X.setup → IsReached X H → Settled H
 settled_of X H = law_of (λ Y G. Settled G) (λ Y sound asked. (run_good Y (tree_facts Y.setup sound) sound.profiles asked [] (empty_good Y.setup)).settled) X H
 
+-- what an engine keeps, as its box lends it
+pub lent_engine : {K C : Type 0} {node_number : K → ℕ} {stands : K → Setup → List Event → Type 0} {spare : K → ℕ} {lists : C → Cell → List Version} {chain_spare : C → ℕ} {ready : Bool} {boxed lent : EngineState K C} →
+    IsEngine node_number stands spare lists chain_spare boxed ready → lent ≡ boxed → IsEngine node_number stands spare lists chain_spare lent ready
+lent_engine {K} {C} {node_number} {stands} {spare} {lists} {chain_spare} {ready} was same = subst (λ (k : EngineState K C). IsEngine node_number stands spare lists chain_spare k ready) (sym same) was
+
 -- what an engine keeps, after an answer
-pub answered_engine : {K C : Type 0} (node_number : K → ℕ) (stands : K → Setup → List Event → Type 0) (spare : K → ℕ) (lists : C → Cell → List Version) (chain_spare : C → ℕ) (old new : EngineState K C) (s : Session) (r : Request) →
-    IsEngine node_number stands spare lists chain_spare old true → new.setup ≡ old.setup → StateIsWhole node_number stands lists new → HasRoom spare chain_spare new → new.history.events ≡ (answer (store_of old.setup) old.history.events s r).1 →
+pub answered_engine : {K C : Type 0} (node_number : K → ℕ) (stands : K → Setup → List Event → Type 0) (spare : K → ℕ) (lists : C → Cell → List Version) (chain_spare : C → ℕ) (old new : EngineState K C) (ready : Bool) (s : Session) (r : Request) →
+    IsEngine node_number stands spare lists chain_spare old ready → new.setup ≡ old.setup → StateIsWhole node_number stands lists new → HasRoom spare chain_spare new → new.history.events ≡ (answer (store_of old.setup) old.history.events s r).1 →
     IsEngine node_number stands spare lists chain_spare new false
-answered_engine node_number stands spare lists chain_spare old new s r was same whole room next = record {
+answered_engine node_number stands spare lists chain_spare old new ready s r was same whole room next = record {
   setup = subst (λ (u : kept.Setup). IsWhole (setup_view u)) (sym same) was.setup;
   whole = whole;
   reached = subst (λ (u : kept.Setup). IsReached (store_of u) new.history.events) (sym same) (reached_more (store_of old.setup) old.history.events s r was.reached new.history.events next);

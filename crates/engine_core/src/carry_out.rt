@@ -1,7 +1,6 @@
 //! How a decision is carried out.
 
 ghost use Rattle.std.specs.Prelude.{◌≡◌, ◌≤◌, ◌+◌, ◌^◌};
-ghost use Rattle.teb_names.specs.declared.Reply.TheVariants as reply;
 ghost use Rattle.teb_laws.specs.Lawful.{Lawful, Settled};
 ghost use Rattle.engine_core.specs.Decisions.{carried, full_reply, IsBounded, IsShort};
 ghost use Rattle.engine_core.specs.Stores.{store_of};
@@ -15,29 +14,29 @@ use crate::read_cells::read_cells;
 use candidate_reads::Place;
 use phase_api::Control;
 use teb_history::Event;
-use teb_names::{Cell, ScanList, Txn};
+use teb_names::{Cell, Reply, Txn};
 use version_chain::Chains;
 
-/// Reads the cells of a scan, and gives their values.
+/// Reads the cells of a scan, and replies with their values.
 pub fn scan<K: Control, C: Chains>(
     state: &mut EngineState<K, C>,
     t: Txn,
     first: Cell,
     count: u8,
-) -> ScanList
+) -> Reply
     requires whole { StateIsWhole K.node_number K.stands C.lists state.old }
     requires leads { Lawful (store_of state.old.setup).setup (carried (store_of state.old.setup) state.old.history.events (Decision.Scan t first count)).1 }
     requires few { count ≤ 16 }
     requires keys { first.key + count ≤ 2 ^ 32 }
     requires room { HasRoom K.spare C.spare state.old }
     requires enough { 32 ≤ state.old.room }
-    ensures reply { reply.Values result ≡ (carried (store_of state.old.setup) state.old.history.events (Decision.Scan t first count)).0 }
+    ensures reply { result ≡ (carried (store_of state.old.setup) state.old.history.events (Decision.Scan t first count)).0 }
     ensures events { state.new.history.events ≡ (carried (store_of state.old.setup) state.old.history.events (Decision.Scan t first count)).1 }
     ensures whole { StateIsWhole K.node_number K.stands C.lists state.new }
     ensures setup { state.new.setup ≡ state.old.setup }
     ensures room { HasRoom K.spare C.spare state.new }
 {
-    read_cells(state, t, first, count)
+    Reply::Values(read_cells(state, t, first, count))
 }
 
 /// Writes the events of a decision that is no scan, and gives the reply: a short one, which is moved at little cost.

@@ -22,7 +22,7 @@ use crate::decision::Decision;
 use crate::engine_state::{EngineState, facts_of};
 use crate::latest_txns::LatestTxns;
 use crate::node_kinds::{has_kind, some_asks_holders};
-use crate::room::{make_room, make_room_ahead};
+use crate::room::make_room;
 use cursor_book::Cursors;
 use dependency_book::Book;
 use std::alloc::{AllocError, Global};
@@ -94,16 +94,16 @@ impl<C: Chains> Engine<C> {
         Ok(())
     }
 
-    /// Makes room for so many events in what grows with the history, so that this need not move as they come: of use to who knows how many
-    /// requests follow. `ready` still has to make the room for each answer. An `Err` leaves all as it was, but for that room.
+    /// Makes room for so many events in the list of events itself, so that it need not move as they come: of use to who knows how many requests
+    /// follow. Registers that are searched by hash are left to grow, since they cost time when they are larger than what they hold. `ready` still
+    /// has to make the room for each answer. An `Err` leaves all as it was, but for that room.
     pub fn reserve_ahead(&mut self, events: usize) -> Result<(), AllocError>
         ensures store { self.new.store ≡ self.old.store }
         ensures names { self.new.names ≡ self.old.names }
         ensures events { self.new.events ≡ self.old.events }
-        ensures ready { self.new.ready ≡ false }
+        ensures ready { self.new.ready ≡ self.old.ready }
     {
-        self.ready = false;
-        make_room_ahead(&mut self.state, events)
+        self.state.history.reserve_ahead(events)
     }
 
     /// Answers a request. It uses up the room, and takes no memory.
@@ -116,7 +116,12 @@ impl<C: Chains> Engine<C> {
         ensures ready { self.new.ready ≡ false }
     {
         self.ready = false;
-        answer_in(&mut self.state, session, request)
+        let state = &mut *self.state;
+        let decision = state.decide(session, request);
+        if let Decision::Scan(t, first, count) = decision {
+            return scan(state, t, first, count);
+        }
+        write(decision, state).full()
     }
 
     /// What has happened so far: a history of the store to which requests lead, each event of which the rules granted.
@@ -170,25 +175,6 @@ impl<C: Chains> Engine<C> {
         } = self;
         Box::into_inner(state).history
     }
-}
-
-/// Answers a request by what an engine keeps. It uses up the room, and takes no memory.
-fn answer_in<C: Chains>(
-    state: &mut EngineState<AnyControl, C>,
-    session: Session,
-    request: Request,
-) -> Reply
-    requires { IsEngine any_node_number any_stands any_spare C.lists C.spare state.old true }
-    ensures kept { IsEngine any_node_number any_stands any_spare C.lists C.spare state.new false }
-    ensures setup { state.new.setup ≡ state.old.setup }
-    ensures reply { result ≡ (answer (store_of state.old.setup) state.old.history.events session request).0 }
-    ensures events { state.new.history.events ≡ (answer (store_of state.old.setup) state.old.history.events session request).1 }
-{
-    let decision = state.decide(session, request);
-    if let Decision::Scan(t, first, count) = decision {
-        return Reply::Values(scan(state, t, first, count));
-    }
-    write(decision, state).full()
 }
 
 /// What an engine keeps of an empty history.

@@ -34,25 +34,6 @@ pub fn make_room<K: Control, C: Chains>(state: &mut EngineState<K, C>) -> Result
     Ok(())
 }
 
-/// Makes room for n events in what grows with the history; what is left of other room is no longer counted. All stands for what it stood
-/// for, also after an `Err`.
-pub fn make_room_ahead<K: Control, C: Chains>(
-    state: &mut EngineState<K, C>,
-    n: usize,
-) -> Result<(), AllocError>
-    requires { StateIsWhole K.node_number K.stands C.lists state.old }
-    ensures whole { StateIsWhole K.node_number K.stands C.lists state.new }
-    ensures events { state.new.history.events ≡ state.old.history.events }
-    ensures setup { state.new.setup ≡ state.old.setup }
-    ensures room { HasRoom K.spare C.spare state.new }
-{
-    state.room = 0;
-    state.history.reserve(n)?;
-    state.book.reserve_ahead(n)?;
-    state.chains.reserve(n)?;
-    state.cursors.reserve(n)
-}
-
 /// Makes room for n events in all that is kept. It stands for what it stood for, also after an `Err`.
 fn reserve<K: Control, C: Chains>(state: &mut EngineState<K, C>, n: usize) -> Result<(), AllocError>
     requires { StateIsWhole K.node_number K.stands C.lists state.old }

@@ -19,6 +19,7 @@ use version_chain::Chains;
 /// Asks the sessions in turn, each along its script, until every script is worked through. The replies are added to
 /// the log, each with its session, and `steps` counts the requests: at most 12 for each session and each line and
 /// one more. After an `Err` the sessions have made some of their turns, and the log has the replies to those.
+/// Room is made first for an event a line, so that the list of events seldom moves as they come.
 pub fn turns<C: Chains, G: Log, L: Ledger>(
     alloc: Global,
     engine: &mut Engine<C>,
@@ -38,10 +39,21 @@ pub fn turns<C: Chains, G: Log, L: Ledger>(
 {
     prove!(engine.history().is_empty());
     let mut ring = Ring::new(alloc, scripts)?;
+    engine.reserve_ahead(lines_in(scripts))?;
     while make_turn(engine, &mut ring, log)? {
         steps.tick();
     }
     Ok(())
+}
+
+/// How many lines the scripts have: so many events have room ahead in the list of events. No clause speaks of it,
+/// since `Engine::ready` makes what room is missing.
+fn lines_in(scripts: &Scripts) -> usize {
+    let mut lines: usize = 0;
+    for i in 0..scripts.len() {
+        lines = lines.saturating_add(scripts.lines(i).len());
+    }
+    lines
 }
 
 /// Asks the session whose turn it is, and logs the reply. False where all are through. An `Err` leaves the history

@@ -15,12 +15,24 @@ returns-in_err-ring-clause-err g c =
     on_err c.from_residual.result (logged_made X c.history.ensures.sound scripts c.requires.ascending Tells Tells names names H H (seated scripts) c.args.steps.now c.args.steps.now refl refl (λ _ t. t)
     (logged_start X scripts (Tells names) H (seated scripts) c.args.steps.now c.requires.blank c.requires.new refl))
 
+pub returns-in_err-reserve_ahead-clause-err : goal.returns-in_err-reserve_ahead-clause-err
+returns-in_err-reserve_ahead-clause-err g c =
+    let X = c.args.engine.now.store in
+    let H = c.args.engine.now.events in
+    let names = c.args.engine.now.names in
+    let scripts = scripts_on c.args.scripts.now in
+    let Tells = g.G.Log.tells c.args.log.now in
+    on_err c.from_residual-in_err-reserve_ahead.result (logged_made X c.history.ensures.sound scripts c.requires.ascending Tells Tells names names H c.reserve_ahead.new.self.events (seated scripts) c.args.steps.now c.args.steps.now refl c.reserve_ahead.ensures.events (λ _ t. t)
+    (logged_start X scripts (Tells names) H (seated scripts) c.args.steps.now c.requires.blank c.requires.new refl))
+
 pub loop-ring-init : goal.loop-ring-init
-loop-ring-init g c = record {
-  store = refl;
-  names = refl;
-  logged = logged_start c.args.engine.now.store (scripts_on c.args.scripts.now) (g.G.Log.tells c.args.log.now c.args.engine.now.names) c.args.engine.now.events (round_of c.in_ok-ring.ring) c.args.steps.now c.requires.blank c.requires.new c.in_ok-ring.ensures;
-}
+loop-ring-init g c =
+    let e = c.reserve_ahead.ensures in
+    record {
+      store = e.store;
+      names = e.names;
+      logged = logged_start c.args.engine.now.store (scripts_on c.args.scripts.now) (g.G.Log.tells c.args.log.now c.args.engine.now.names) c.reserve_ahead.new.self.events (round_of c.in_ok-ring.ring) c.args.steps.now c.requires.blank (e.events ∙ c.requires.new) c.in_ok-ring.ensures;
+    }
 
 pub make_turn-requires : goal.make_turn-requires
 make_turn-requires g c =

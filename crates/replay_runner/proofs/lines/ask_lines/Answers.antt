@@ -1,11 +1,18 @@
-use Rattle.std.proofs.Common.{◌≤◌, drop, ◌∙◌, refl, sym, ap, length, arith}
+use Rattle.std.proofs.Common.{◌≤◌, ◌++◌, drop, ◌∙◌, refl, sym, ap, length, arith}
 use Rattle.std.proofs.lemmas.List.{drop_all}
-use Rattle.replay_runner.specs.Logs.{request_of, requests_of}
+use Rattle.replay_runner.specs.Logs.{request_of, requests_of, log_of}
 use Rattle.replay_runner.proofs.Logged.{after, all_told, history_is, one_after, one_told}
 use Rattle.replay_runner.proofs.lines.ask_lines.Goals as goal
 
 pub loop-line-init : goal.loop-line-init
-loop-line-init g c = record { store = refl; names = refl; log = λ told t. record { answers = told; told = t; joined = refl }; events = refl }
+loop-line-init g c =
+    let e = c.reserve_ahead.ensures in
+    record {
+      store = e.store;
+      names = e.names;
+      log = λ told t. record { answers = told; told = t; joined = λ j. told ++ log_of (e.store j) (e.events j) (requests_of c.args.lines.now) };
+      events = λ j. after (e.store j) (e.events j) (requests_of c.args.lines.now);
+    }
 
 pub loop-line-preserved : goal.loop-line-preserved
 loop-line-preserved g c =
