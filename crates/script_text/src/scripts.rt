@@ -70,25 +70,35 @@ pub fn scripts_of(alloc: Global, lines: &[Line]) -> Result<Scripts, AllocError>
     Ok(Scripts { sessions, lists })
 }
 
-/// The lines of each session number.
+/// The lines of each session number. Each list is made with room for all its lines, so that none of them is moved.
 fn lists_of(alloc: Global, lines: &[Line]) -> Result<Vec<Vec<Line>>, AllocError>
     ensures lists { IfOk result (λ v. lists_in v.items ≡ map (lines_for lines.now) session_numbers) }
     ensures len { IfOk result (λ v. vec_len v ≡ 256) }
 {
-    let mut lists = empty_lists(alloc)?;
+    let mut lists = empty_lists(alloc, &counts_of(lines))?;
     for line in lines {
         add_line(&mut lists, *line)?;
     }
     Ok(lists)
 }
 
-fn empty_lists(alloc: Global) -> Result<Vec<Vec<Line>>, AllocError>
+/// How many lines each session number has.
+fn counts_of(lines: &[Line]) -> [usize; 256] {
+    let mut counts = [0; 256];
+    for line in lines {
+        counts[place(line.session)] += 1;
+    }
+    counts
+}
+
+/// An empty list for each session number, with room for as many lines as are counted.
+fn empty_lists(alloc: Global, counts: &[usize; 256]) -> Result<Vec<Vec<Line>>, AllocError>
     ensures lists { IfOk result (λ v. lists_in v.items ≡ replicate 256 []) }
     ensures len { IfOk result (λ v. vec_len v ≡ 256) }
 {
     let mut lists = Vec::with_capacity(alloc, 256)?;
-    for _ in 0..256usize {
-        lists.push(Vec::new(alloc))?;
+    for count in counts {
+        lists.push(Vec::with_capacity(alloc, *count)?)?;
     }
     Ok(lists)
 }
