@@ -1,5 +1,5 @@
 -- Whole lines, and whole texts or none.
-use Rattle.std.proofs.Common.{◌≡◌, ℕ, ◌+◌, ℤ, Option, Some, slice_get, drop, map, if◌then◌else◌, List, [], ◌∷◌, ◌++◌, codes, Result, Ok, Err, is_ok, IsErr, take, length, refl, sym, ap, ◌∙◌, append_assoc}
+use Rattle.std.proofs.Common.{◌≡◌, ℕ, ◌+◌, ◌-◌, ◌<◌, ℤ, Option, Some, slice_get, drop, map, if◌then◌else◌, List, [], ◌∷◌, ◌++◌, codes, Result, Ok, Err, is_ok, take, length, refl, sym, ap, ◌∙◌, append_assoc, arith}
 use Rattle.std.specs.Result.{OnOk, OnErr}
 use Rattle.std.specs.List.{join_with_byte}
 use Rattle.std.proofs.lemmas.List.{take_at, append-nil, drop_more}
@@ -38,15 +38,6 @@ line_ends old one two new w ws (Ok u) first others end =
 line_ends old one two new w ws (Err e) first others end =
     front_front (record { more = w; grown = first }) (front_front (record { more = spaced ws; grown = others }) end)
 
-spaced-append : (xs ys : List (List ℕ)) → spaced (xs ++ ys) ≡ spaced xs ++ spaced ys
-spaced-append [] ys = refl
-spaced-append (x ∷ xs) ys = ap (λ l. 32 ∷ (x ++ l)) (spaced-append xs ys) ∙ ap (λ l. 32 ∷ l) (sym (append_assoc x (spaced xs) (spaced ys)))
-
--- the words of a line in two parts
-pub two_parts : (one two three : List ℕ) (xs ys : List (List ℕ)) → two ≡ one ++ spaced xs → three ≡ two ++ spaced ys → three ≡ one ++ spaced (xs ++ ys)
-two_parts one two three xs ys first second =
-    second ∙ ap (λ l. l ++ spaced ys) first ∙ append_assoc one (spaced xs) (spaced ys) ∙ ap (λ l. one ++ l) (sym (spaced-append xs ys))
-
 -- the words of a line and its feed, behind the first word
 pub whole_line : (w : List ℕ) (ws : List (List ℕ)) → w ++ (spaced ws ++ codes "\n") ≡ line_text (w ∷ ws)
 whole_line w ws = sym (append_assoc w (spaced ws) (codes "\n")) ∙ ap (λ l. l ++ codes "\n") (sym (joined w ws))
@@ -56,24 +47,11 @@ pub put_at_once : {E : Type 0} (old text bytes new : List ℕ) (r : Result (Unit
 put_at_once old text bytes new (Ok u) is same = is ∙ ap (λ l. old ++ l) same
 put_at_once old text bytes new (Err e) is same = record { more = []; grown = is ∙ sym (append-nil old) }
 
--- one of the values that are left to write
-pub next_value : (old mid new : List ℕ) (vs : List (Option ℤ)) (i : ℕ) (v : Option ℤ) → old ++ spaced (map value_text (drop i vs)) ≡ mid → slice_get vs i ≡ Some v → new ≡ old ++ (codes " " ++ value_text v)
-    → new ++ spaced (map value_text (drop (i + 1) vs)) ≡ mid
-next_value old mid new vs i v so_far read put =
-    let left : drop i vs ≡ v ∷ drop (i + 1) vs = drop_more vs i v (slice_get_within vs i v read) ∙ ap (λ w. w ∷ drop (i + 1) vs) (get_or_from_slice_get vs i v v read) in
-    ap (λ l. l ++ spaced (map value_text (drop (i + 1) vs))) put ∙ append_assoc old (codes " " ++ value_text v) (spaced (map value_text (drop (i + 1) vs)))
-    ∙ ap (λ (xs : List (Option ℤ)). old ++ spaced (map value_text xs)) (sym left) ∙ so_far
-
--- a value in front of those that are written
-pub value_in_front : (rest mid line : List ℕ) (vs : List (Option ℤ)) (i n : ℕ) (v : Option ℤ) → slice_get vs i ≡ Some v → n ≡ i + 1 → mid ≡ spaced (map value_text (drop n vs)) ++ rest
-    → line ≡ codes " " ++ (value_text v ++ mid) → line ≡ spaced (map value_text (drop i vs)) ++ rest
-value_in_front rest mid line vs i n v read next so_far put =
-    let left : drop i vs ≡ v ∷ drop (i + 1) vs = drop_more vs i v (slice_get_within vs i v read) ∙ ap (λ w. w ∷ drop (i + 1) vs) (get_or_from_slice_get vs i v v read) in
-    put ∙ ap (λ l. 32 ∷ (value_text v ++ l)) (so_far ∙ ap (λ k. spaced (map value_text (drop k vs)) ++ rest) next)
-    ∙ ap (λ l. 32 ∷ l) (sym (append_assoc (value_text v) (spaced (map value_text (drop (i + 1) vs))) rest))
-    ∙ ap (λ (xs : List (Option ℤ)). spaced (map value_text xs) ++ rest) (sym left)
-
--- a loop that stops for want of memory
-pub stopped : {E : Type 0} {old new : List ℕ} (text : List ℕ) (r : Result (Unit {0}) E) → IsFront old new → IsErr r → Puts old text new r
-stopped text (Ok u) front err = absurd (cc)
-stopped text (Err e) front err = front
+-- one more value in front of those that are written
+pub one_value : (vs : List (Option ℤ)) (n : ℕ) (v : Option ℤ) (rest : List ℕ) → 0 < n → slice_get vs (n - 1) ≡ Some v
+    → spaced (map value_text (drop (n - 1) vs)) ++ rest ≡ codes " " ++ (value_text v ++ (spaced (map value_text (drop n vs)) ++ rest))
+one_value vs n v rest some read =
+    let i : ℕ = n - 1 in
+    let next : i + 1 ≡ n = omega (arith, some) in
+    let left : drop i vs ≡ v ∷ drop n vs = drop_more vs i v (slice_get_within vs i v read) ∙ ap (λ w. w ∷ drop (i + 1) vs) (get_or_from_slice_get vs i v v read) ∙ ap (λ k. v ∷ drop k vs) next in
+    ap (λ (xs : List (Option ℤ)). spaced (map value_text xs) ++ rest) left ∙ ap (λ l. 32 ∷ l) (append_assoc (value_text v) (spaced (map value_text (drop n vs))) rest)

@@ -6,7 +6,7 @@ ghost use Rattle.script_text.specs.Named.{CauseNamed, NodeNamed, ReplyNamed};
 ghost use Rattle.script_text.specs.Puts.{IsLong, Puts, spaced, word_text};
 
 use super::tail::Tail;
-use super::word::{Word, node, put_cell, put_feed, put_spaced, put_text, put_words, whole};
+use super::word::{Word, node, put_cell, put_feed, put_text, put_words, whole};
 use std::alloc::AllocError;
 use teb_names::{Cause, NameBook, Node, Refusal, Reply, ScanList, Session, Txn};
 
@@ -106,14 +106,15 @@ fn put_long(
     ensures { Puts out.old.items (line_text (decimal session.0 ∷ reply_words names.now reply.now)) out.new.items result }
 {
     match reply {
-        Reply::Values(values) if values.len() <= 16 => put_scan(out, session, values),
-        _ => put_parts(out, names, session, reply),
+        Reply::Values(values) => put_scan(out, session, values),
+        Reply::Again { who, node } => put_long_again(out, names, session, *who, *node),
+        Reply::Aborted(cause) => put_aborted(out, names, session, cause),
+        _ => unreachable!(),
     }
 }
 
-// Appends the line of a reply to a scan at once. A value has at most 21 bytes with its space, and the rest of the line at most 18.
+// Appends the line of a reply to a scan at once: its values, and at most 18 other bytes.
 fn put_scan(out: &mut Vec<u8>, session: Session, values: &ScanList) -> Result<(), AllocError>
-    requires { length values.now ≤ 16 }
     ensures { Puts out.old.items (line_text (decimal session.0 ∷ codes "values" ∷ map value_text values.now)) out.new.items result }
 {
     let mut line = Tail::new();
@@ -124,11 +125,12 @@ fn put_scan(out: &mut Vec<u8>, session: Session, values: &ScanList) -> Result<()
     out.extend_from_slice(line.as_bytes())
 }
 
-// Puts values in front, each behind a space.
+// Puts values in front, each behind a space. There are at most 16, and each has at most 21 bytes with its space.
+#[tactic(auto, using(crate::proofs::Wholes::one_value))]
 fn put_values(line: &mut Tail<360>, values: &ScanList)
-    requires { length line.old + 21 * length values.now ≤ 360 }
+    requires { length line.old + 16 * 21 ≤ 360 }
     ensures text { line.new ≡ spaced (map value_text values.now) ++ line.old }
-    ensures short { length line.new ≤ length line.old + 21 * length values.now }
+    ensures short { length line.new ≤ length line.old + 16 * 21 }
 {
     let mut i = values.len();
     while i > 0 {
@@ -150,19 +152,39 @@ fn put_value(line: &mut Tail<360>, value: Option<i64>)
     line.put(b" ");
 }
 
-// Appends the line of any such reply, part by part.
-fn put_parts(
+// Appends the line of a reply to ask again, part by part, since the name of the node may be long.
+fn put_long_again(
     out: &mut Vec<u8>,
     names: &NameBook,
     session: Session,
-    reply: &Reply,
+    who: Txn,
+    at: Node,
 ) -> Result<(), AllocError>
-    requires named { ReplyNamed names.now reply.now }
-    requires long { IsLong reply.now }
-    ensures { Puts out.old.items (line_text (decimal session.0 ∷ reply_words names.now reply.now)) out.new.items result }
+    requires { NodeNamed names.now at }
+    ensures { Puts out.old.items (line_text (decimal session.0 ∷ codes "again" ∷ txn_text who ∷ codes "at" ∷ name_of names.now.nodes at.0 ∷ [])) out.new.items result }
+{
+    let at = node(names, at);
+    put_session(out, session)?;
+    put_words(
+        out,
+        &[Word::Text("again"), Word::Txn(who), Word::Text("at"), at],
+    )?;
+    put_feed(out)
+}
+
+// Appends the line of an abort, part by part.
+fn put_aborted(
+    out: &mut Vec<u8>,
+    names: &NameBook,
+    session: Session,
+    cause: &Cause,
+) -> Result<(), AllocError>
+    requires { CauseNamed names.now cause.now }
+    ensures { Puts out.old.items (line_text (decimal session.0 ∷ codes "aborted" ∷ cause_words names.now cause.now)) out.new.items result }
 {
     put_session(out, session)?;
-    put_long_words(out, names, reply)?;
+    put_text(out, " aborted")?;
+    put_cause(out, names, cause)?;
     put_feed(out)
 }
 
@@ -172,41 +194,6 @@ fn put_session(out: &mut Vec<u8>, session: Session) -> Result<(), AllocError>
     let mut number = Tail::<10>::new();
     number.put_natural(u32::from(session.0));
     out.extend_from_slice(number.as_bytes())
-}
-
-fn put_long_words(out: &mut Vec<u8>, names: &NameBook, reply: &Reply) -> Result<(), AllocError>
-    requires named { ReplyNamed names.now reply.now }
-    requires long { IsLong reply.now }
-    ensures { Puts out.old.items (spaced (reply_words names.now reply.now)) out.new.items result }
-{
-    match reply {
-        Reply::Values(values) => {
-            put_text(out, " values")?;
-            append_values(out, values)
-        }
-        Reply::Again { who, node: at } => {
-            let at = node(names, *at);
-            put_words(
-                out,
-                &[Word::Text("again"), Word::Txn(*who), Word::Text("at"), at],
-            )
-        }
-        Reply::Aborted(cause) => {
-            put_text(out, " aborted")?;
-            put_cause(out, names, cause)
-        }
-        _ => Ok(()),
-    }
-}
-
-// Appends values, each behind a space.
-fn append_values(out: &mut Vec<u8>, values: &ScanList) -> Result<(), AllocError>
-    ensures { Puts out.old.items (spaced (map value_text values.now)) out.new.items result }
-{
-    for i in 0..values.len() {
-        put_spaced(out, &Word::Value(values.at(i)))?;
-    }
-    Ok(())
 }
 
 /// Appends the words of a cause, each behind a space.
