@@ -34,6 +34,18 @@ impl ReplyText {
         }
     }
 
+    /// No answers. Their text takes the memory of these bytes, which are dropped: so no large block is given back, and
+    /// none is taken before the text is longer than they were.
+    pub fn reusing(mut bytes: Vec<u8>) -> ReplyText
+        ensures { (names : NameBook) → HasLines result names [] }
+    {
+        bytes.clear();
+        ReplyText {
+            text: bytes,
+            waiting: None,
+        }
+    }
+
     /// The text, whole.
     pub fn into_text(mut self, names: &NameBook) -> Result<Vec<u8>, AllocError>
         ensures { (answers : List Answered) → HasLines self names.now answers → All (λ a. ReplyNamed names.now a.reply) answers
