@@ -1,5 +1,5 @@
 -- What an input is, from what its parts were read as.
-use Rattle.std.proofs.Common.{◌≡◌, ℕ, zero, suc, ◌+◌, ◌<◌, ◌≤◌, List, [], ◌∷◌, length, Option, Some, None, Ok, Err, refl, sym, ◌∙◌, arith}
+use Rattle.std.proofs.Common.{◌≡◌, ℕ, zero, suc, ◌<◌, ◌≤◌, List, [], ◌∷◌, length, Option, Some, None, Ok, Err, refl, sym, ◌∙◌, arith}
 use Rattle.std.proofs.lemmas.Bool.{le-ltb, lt-ltb}
 use Rattle.std.specs.Io.KnownBytes.{IsAtEnd}
 use Rattle.std.specs.Prelude.{IsErrOf, IfOk, IfSome, Result, Vec}
@@ -14,7 +14,7 @@ use Rattle.script_text.specs.Input.{parts_of}
 use Rattle.script_text.specs.Lines.{lines_of}
 use Rattle.script_text.specs.Grammar.{script_of, Answers}
 use Rattle.tree_toml.specs.SetupView.{SetupView, setup_of_text}
-use Rattle.input_reader.specs.declared.error.InputError.TheVariants.{ReadFault, TooLong, BadLine, OutOfMemory}
+use Rattle.input_reader.specs.declared.error.InputError.TheVariants.{TooLong}
 use Rattle.input_reader.specs.Inputs.{input_of, task_of, task_under, script_error}
 use Rattle.input_reader.specs.Reads.{read_error}
 use Rattle.input_reader.specs.Readings.{AreOf, AreReadFrom, IsRead, IsReadFrom}

@@ -15,6 +15,8 @@ use tree_toml::Setup;
 pub struct Input {
     setup: Setup,
     lines: Vec<Line>,
+    // The bytes that it was read from, kept for their memory alone: no contract tells them.
+    text: Option<Vec<u8>>,
 }
 
 impl Model for Input {
@@ -39,7 +41,27 @@ impl Input {
         requires sessions { AreOfSessions lines.items }
         ensures { result ≡ record { setup = setup_view setup; lines = lines.items } }
     {
-        Input { setup, lines }
+        Input {
+            setup,
+            lines,
+            text: None,
+        }
+    }
+
+    /// The same input, with the bytes that it was read from.
+    pub(crate) fn with_text(mut self, text: Vec<u8>) -> Input
+        ensures { result ≡ self }
+    {
+        self.text = Some(text);
+        self
+    }
+
+    /// The bytes that it was read from, which it gives away: none where it was made of parts, or has given them away
+    /// before. A run writes its text into their memory, and so gives no large block back. The setup and the lines stay.
+    pub fn take_text(&mut self) -> Option<Vec<u8>>
+        ensures { self.new ≡ self.old }
+    {
+        self.text.take()
     }
 
     pub fn setup(&self) -> &Setup

@@ -25,7 +25,7 @@ pub fn read_bytes<S: Source>(alloc: Global, source: &mut S) -> Result<Vec<u8>, R
     read_all(alloc, source, MOST_BYTES)
 }
 
-/// Reads a source to its end, and what it reads as an input.
+/// Reads a source to its end, and what it reads as an input, which keeps the bytes (`Input::take_text`).
 ///
 /// # Errors
 /// `ReadFault` where a read fails, else the first of `TooLong` by bytes, `NoSeparator`, `TooLong` by lines, `BadTree` and
@@ -35,7 +35,8 @@ pub fn read_input<S: Source>(alloc: Global, source: &mut S) -> Result<Input, Inp
     ensures fault { IsErrOf result InputError.ReadFault → Rose (S.faults source.old) (S.faults source.new) }
 {
     let bytes = read_bytes(alloc, source)?;
-    parse_input(alloc, &bytes)
+    let input = parse_input(alloc, &bytes)?;
+    Ok(input.with_text(bytes))
 }
 
 /// The input that these bytes are: the tree part, a line `%%`, and the script part.
