@@ -21,6 +21,9 @@ const ORDERS: Table = Table(1);
 
 const ACCOUNTS: Table = Table(2);
 
+/// The most lines of one transaction: room is made at once for as many of each.
+const MOST_LINES: usize = 5;
+
 /// The lines of `size` transactions of eight sessions, drawn from a number: reports, new orders, payments and
 /// deliveries on the tables stock 0, orders 1 and accounts 2, keys 1 to 16. The lines are numbered from 1.
 pub fn loaded_lines(alloc: Global, number: u32, size: u32) -> Result<Vec<Line>, AllocError>
@@ -28,7 +31,7 @@ pub fn loaded_lines(alloc: Global, number: u32, size: u32) -> Result<Vec<Line>, 
     requires size { size ≤ 2000 }
     ensures { IfOk result (λ v. v.items ≡ loaded_lines number size) }
 {
-    let mut lines = Vec::new(alloc);
+    let mut lines = Vec::with_capacity(alloc, MOST_LINES * size as usize)?;
     let mut draws = Draws { state: number };
     for i in 0..size {
         add_transaction(&mut lines, &mut draws, i)?;

@@ -7,9 +7,9 @@ use Rattle.shop_load.proofs.lines.loaded_lines.Goals as goal
 
 pub loop-i-init : goal.loop-i-init
 loop-i-init c = record {
-  lines = c.new-lines.ensures.items ∙ sym (loaded_none c.args.number);
+  lines = c.in_ok-lines.ensures.items ∙ sym (loaded_none c.args.number);
   draws = sym (state_none c.args.number);
-  few = omega (arith, c.new-lines.ensures.len);
+  few = omega (arith, c.in_ok-lines.ensures.len);
 }
 
 pub loop-i-preserved : goal.loop-i-preserved
