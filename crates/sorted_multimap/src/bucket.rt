@@ -82,6 +82,20 @@ impl<K: Ord + Copy, V: Copy> Bucket<K, V> {
         raise(&mut self.runs, run);
     }
 
+    // Puts the first value into a bucket of no runs.
+    #[inline(always)]
+    fn put_first(&mut self, key: K, value: V)
+        requires none { vec_len self.old.runs ≡ 0 }
+        requires sorted { IsSorted K.cmp self.old }
+        requires room { HasRoom self.old 1 }
+        ensures sorted { IsSorted K.cmp self.new }
+        ensures values { (q : K) → bucket_values K.cmp self.new q ≡ cond (is_eq (K.cmp key q)) (value ∷ []) [] }
+        ensures room { (n : ℕ) → HasRoom self.old (n + 1) → HasRoom self.new n }
+    {
+        let _ = self.runs.push(Run { key, end: 1 });
+        let _ = self.values.push(value);
+    }
+
     /// Puts a value behind those of a key.
     pub(crate) fn push(&mut self, key: K, value: V)
         requires sorted { IsSorted K.cmp self.old }

@@ -14,7 +14,7 @@ use std::alloc::{AllocError, Global};
 use std::marker::Model;
 
 // How many buckets there are for some hundred values.
-const FEW: usize = 256;
+const BUCKETS: usize = 128;
 
 // Among how many buckets the keys are spread.
 #[derive(Clone, Copy)]
@@ -29,7 +29,7 @@ impl Width {
     {
         match self {
             Width::One => 1,
-            Width::Few => FEW,
+            Width::Few => BUCKETS,
         }
     }
 }
@@ -64,7 +64,7 @@ impl<K: Key, V: Copy> Model for Multimap<K, V> {
 }
 
 impl<K: Key, V: Copy> Multimap<K, V> {
-    /// No values, and no room, for some hundred values: in 256 buckets, so that each has a few keys. Takes no memory.
+    /// No values, and no room, for some hundred values: in 128 buckets, so that each has a few keys. Takes no memory.
     pub fn small(alloc: Global) -> Self
         ensures entries { result.entries ≡ [] }
         ensures spare { result.spare ≡ 0 }
@@ -147,8 +147,8 @@ fn place_of<K: Key, V: Copy>(buckets: &[Bucket<K, V>], key: K) -> usize
     ensures within { result < length buckets.now }
 {
     // A remainder by a constant takes no division.
-    if buckets.len() == FEW {
-        return key.spread() % FEW;
+    if buckets.len() == BUCKETS {
+        return key.spread() % BUCKETS;
     }
     key.spread() % buckets.len()
 }

@@ -1,12 +1,12 @@
 //! Edits of the values of a key that ascend by number, each by one search.
 
-ghost use Rattle.std.specs.Prelude.{ℕ, ◌≡◌, ◌+◌, cond, eqb, filter, not};
+ghost use Rattle.std.specs.Prelude.{ℕ, ◌≡◌, ◌+◌, cond, eqb, filter, not, vec_len};
 ghost use Rattle.std.specs.Ordering.{is_eq};
 ghost use Rattle.std.specs.Result.{is_err};
 ghost use Rattle.teb_history.specs.Ascending.{IsAscendingBy, place_of, put_by};
 ghost use Rattle.sorted_multimap.specs.Buckets.{bucket_values, keys_of, IsSorted, HasRoom, lows, lowest, further};
 
-use super::{Bucket, end_of, first, start_of};
+use super::{Bucket, end_of, first, holds, start_of};
 use crate::Numbered;
 
 impl<K: Ord + Copy, V: Numbered> Bucket<K, V> {
@@ -20,6 +20,10 @@ impl<K: Ord + Copy, V: Numbered> Bucket<K, V> {
         ensures values { (q : K) → bucket_values K.cmp self.new q ≡ cond (is_eq (K.cmp key q)) (put_by V.numbered_by value (bucket_values K.cmp self.old key)) (bucket_values K.cmp self.old q) }
         ensures room { (n : ℕ) → HasRoom self.old (n + cond result 1 0) → HasRoom self.new n }
     {
+        if self.runs.is_empty() {
+            self.put_first(key, value);
+            return true;
+        }
         let run = first(&self.runs, key);
         match self.find(run, key, value.number()) {
             Ok(at) => {
@@ -43,6 +47,10 @@ impl<K: Ord + Copy, V: Numbered> Bucket<K, V> {
         ensures values { (q : K) → bucket_values K.cmp self.new q ≡ cond (is_eq (K.cmp key q)) (cond result (put_by V.numbered_by value (bucket_values K.cmp self.old key)) (bucket_values K.cmp self.old key)) (bucket_values K.cmp self.old q) }
         ensures room { (n : ℕ) → HasRoom self.old (n + cond result 1 0) → HasRoom self.new n }
     {
+        if self.runs.is_empty() {
+            self.put_first(key, value);
+            return true;
+        }
         let run = first(&self.runs, key);
         match self.find(run, key, value.number()) {
             Ok(_) => false,
@@ -61,9 +69,28 @@ impl<K: Ord + Copy, V: Numbered> Bucket<K, V> {
         ensures values { (q : K) → bucket_values K.cmp self.new q ≡ cond (is_eq (K.cmp key q)) (filter (λ v. not (eqb (V.numbered_by v) number)) (bucket_values K.cmp self.old key)) (bucket_values K.cmp self.old q) }
         ensures room { (n : ℕ) → HasRoom self.old n → HasRoom self.new n }
     {
+        if self.runs.len() == 1 && self.values.len() == 1 {
+            self.take_only(key, number);
+            return;
+        }
         let run = first(&self.runs, key);
         if let Ok(at) = self.find(run, key, number) {
             self.take_at(run, at);
+        }
+    }
+
+    // Takes the only value out, where it has the number and its run is that of the key.
+    fn take_only(&mut self, key: K, number: u32)
+        requires sorted { IsSorted K.cmp self.old }
+        requires run { vec_len self.old.runs ≡ 1 }
+        requires value { vec_len self.old.values ≡ 1 }
+        ensures sorted { IsSorted K.cmp self.new }
+        ensures values { (q : K) → bucket_values K.cmp self.new q ≡ cond (is_eq (K.cmp key q)) (filter (λ v. not (eqb (V.numbered_by v) number)) (bucket_values K.cmp self.old key)) (bucket_values K.cmp self.old q) }
+        ensures room { (n : ℕ) → HasRoom self.old n → HasRoom self.new n }
+    {
+        if self.values[0].number() == number && holds(&self.runs, 0, key) {
+            self.values.clear();
+            self.runs.clear();
         }
     }
 
