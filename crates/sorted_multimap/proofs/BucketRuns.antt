@@ -1,16 +1,17 @@
 -- Buckets: where the values of a key stand in the runs, and what edits of the runs make of the values.
-use Rattle.std.proofs.Common.{◌≡◌, ℕ, suc, ◌+◌, ◌-◌, ◌<◌, ◌≤◌, Bool, true, false, cond, not, List, [], ◌∷◌, ◌++◌, length, get_or, replicate, vec_len, refl, sym, ◌∙◌, ap, subst, arith}
+use Rattle.std.proofs.Common.{◌≡◌, ℕ, suc, ◌+◌, ◌-◌, ◌≤◌, Bool, true, false, cond, not, List, [], ◌∷◌, ◌++◌, length, take, drop, get_or, replicate, vec_len, refl, sym, ◌∙◌, ap, subst, arith}
 use Rattle.std.specs.declared.cmp.Ordering.{Ordering}
 use Rattle.std.specs.declared.cmp.Ordering.TheVariants.{Equal}
 use Rattle.std.specs.Ordering.{is_lt, is_eq, is_gt}
 use Rattle.std.specs.Cmp.{IsTotalOrder}
 use Rattle.std.specs.List.{insert}
 use Rattle.std.proofs.lemmas.Cmp.{alike_right}
+use Rattle.std.proofs.lemmas.List.{length-drop, length-take-le}
 use Rattle.sorted_multimap.specs.declared.bucket.Run.{Run}
 use Rattle.sorted_multimap.specs.declared.bucket.Bucket.{Bucket}
-use Rattle.sorted_multimap.specs.Buckets.{values_beside, spread_keys, keys_of, IsSorted, AreRuns, Ascends, lows, tops, by_key, lowest, start_at, holds_at, end_at}
-use Rattle.sorted_multimap.proofs.SortedEntries.{values_insert, values_tied, values_length}
-use Rattle.sorted_multimap.proofs.RunKeys.{runs_ascend, keys_ascend, keys_length, lows_at, tops_at, held_inside, held_lowest}
+use Rattle.sorted_multimap.specs.Buckets.{values_beside, run_values, spread_keys, keys_of, IsSorted, AreRuns, Ascends, lows, tops, by_key, lowest, start_at, holds_at, end_at}
+use Rattle.sorted_multimap.proofs.SortedEntries.{values_insert, values_tied, values_length, values_range}
+use Rattle.sorted_multimap.proofs.RunKeys.{runs_ascend, keys_ascend, keys_length, lows_at, tops_at, held_lowest, start_ascends, start_most}
 
 module _ {K V : Type 0} (R : K → K → Ordering) (total : IsTotalOrder R) (p : Bucket K V) (s : IsSorted R p) where
   pub bucket_ascends : Ascends R (keys_of p)
@@ -34,24 +35,6 @@ module _ {K V : Type 0} (R : K → K → Ordering) (total : IsTotalOrder R) (p :
   end_here k as_ bs i at d e f h =
       let g : at ≡ end_at R 0 p.runs.items (lowest R p.runs.items k) k = h ∙ (λ j. end_at R 0 (e j) ((f ∙ ap (λ (l : List (Run K)). lowest R l k) d) j) k) in
       omega (arith, g, tops_at R total 0 p.runs.items (vec_len p.values) k s.runs)
-
-  -- a place among the values of k lies in its run
-  pub place_inside : (k : K) (i at : ℕ) → i ≡ lowest R p.runs.items k → lows R (keys_of p) k ≤ at → at < tops R (keys_of p) k
-      → (i < length p.runs.items) × (start_at 0 p.runs.items i ≤ at) × (at < start_at 0 p.runs.items (suc i))
-  place_inside k i at e low top =
-      subst (λ (m : ℕ). (m < length p.runs.items) × (start_at 0 p.runs.items m ≤ at) × (at < start_at 0 p.runs.items (suc m))) (sym e)
-      (go (holds_at R p.runs.items first k) refl (tops_at R total 0 p.runs.items (vec_len p.values) k s.runs))
-    where
-      first : ℕ
-      first = lowest R p.runs.items k
-
-      begin : lows R (keys_of p) k ≡ start_at 0 p.runs.items first
-      begin = omega (arith, lows_at R total 0 p.runs.items (vec_len p.values) k s.runs)
-
-      go : (b : Bool) → holds_at R p.runs.items first k ≡ b → 0 + tops R (keys_of p) k ≡ cond b (start_at 0 p.runs.items (suc first)) (start_at 0 p.runs.items first)
-          → (first < length p.runs.items) × (start_at 0 p.runs.items first ≤ at) × (at < start_at 0 p.runs.items (suc first))
-      go true h t = (held_inside R total p.runs.items first k h, omega (arith, begin, low), omega (arith, t, top))
-      go false h t = absurd (omega (arith, t, begin, low, top))
 
 module _ {K : Type 0} (R : K → K → Ordering) (total : IsTotalOrder R) where
   -- where the values of a key with a run begin and end
@@ -82,6 +65,21 @@ module _ {K : Type 0} (R : K → K → Ordering) (total : IsTotalOrder R) where
       ∙ (λ m. cond (is_eq (total.congr j k q e m)) (insert (sym (values_tied R total ks vs j k e) m) i v) (values_beside R ks vs q))
 
 module _ {K V : Type 0} (R : K → K → Ordering) (total : IsTotalOrder R) (p : Bucket K V) (s : IsSorted R p) where
+  -- the values of a run are those of its key, and as many as it has places
+  pub held_values : (i : ℕ) (k : K) → holds_at R p.runs.items i k ≡ true → run_values p i ≡ values_beside R (keys_of p) p.values.items k
+  held_values i k h =
+      let start = held_start R total p.runs.items (vec_len p.values) i k s.runs h in
+      let end = held_end R total p.runs.items (vec_len p.values) i k s.runs h in
+      sym (λ j. take (end j - start j) (drop (start j) p.values.items)) ∙ values_range R total (keys_of p) p.values.items k (bucket_ascends R total p s) (bucket_paired R total p s)
+
+  pub run_length : (i : ℕ) → start_at 0 p.runs.items i + length (run_values p i) ≡ start_at 0 p.runs.items (suc i)
+  run_length i =
+      let start = start_at 0 p.runs.items i in
+      let end = start_at 0 p.runs.items (suc i) in
+      let most = start_most R total 0 p.runs.items (vec_len p.values) (suc i) s.runs in
+      let long = length-take-le (end - start) (drop start p.values.items) (omega (arith, length-drop start p.values.items, most, p.values.ok.0)) in
+      omega (arith, long, start_ascends R total 0 p.runs.items (vec_len p.values) i s.runs)
+
   -- a key with no run has no values
   pub values_none : (k : K) → holds_at R p.runs.items (lowest R p.runs.items k) k ≡ false → values_beside R (keys_of p) p.values.items k ≡ []
   values_none k h =

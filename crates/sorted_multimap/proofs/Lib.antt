@@ -8,3 +8,4 @@ pub mod SpreadLists
 pub mod RunKeys
 pub mod RunEdits
 pub mod BucketRuns
+pub mod RunSearches

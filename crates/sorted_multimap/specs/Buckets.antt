@@ -1,5 +1,5 @@
 -- Buckets: in each, runs of values, one to a key, in ascending order of the keys. Spread out, each key stands beside each of its values.
-use Rattle.std.specs.Prelude.{◌≡◌, ◌≢◌, ℕ, zero, suc, ◌+◌, ◌-◌, ◌%◌, ◌≤◌, ◌<◌, Bool, cond, not, List, [], ◌∷◌, ◌++◌, ⊤, length, get_or, vec_len, vec_capacity, replicate, IsFalse, IsTrue, false, Result, Ok, Err}
+use Rattle.std.specs.Prelude.{◌≡◌, ◌≢◌, ℕ, zero, suc, ◌+◌, ◌-◌, ◌%◌, ◌≤◌, ◌<◌, Bool, cond, not, List, [], ◌∷◌, ◌++◌, ⊤, length, take, drop, get_or, vec_len, vec_capacity, replicate, IsFalse, IsTrue, false, Result, Ok, Err}
 use Rattle.std.specs.Ordering.{is_lt, is_eq, is_gt}
 use Rattle.std.specs.declared.cmp.Ordering.{Ordering}
 use Rattle.sorted_multimap.specs.declared.bucket.Bucket.{Bucket}
@@ -66,6 +66,10 @@ abbrev pub start_at : {K : Type 0} → ℕ → List (Run K) → ℕ → ℕ
 start_at from [] i = from
 start_at from (r ∷ rs) zero = from
 start_at from (r ∷ rs) (suc i) = start_at r.end rs i
+
+-- the values of run i
+abbrev pub run_values : {K V : Type 0} → Bucket K V → ℕ → List V
+run_values p i = take (start_at 0 p.runs.items (suc i) - start_at 0 p.runs.items i) (drop (start_at 0 p.runs.items i) p.values.items)
 
 -- whether run i is that of k
 abbrev pub holds_at : {K : Type 0} → (K → K → Ordering) → List (Run K) → ℕ → K → Bool

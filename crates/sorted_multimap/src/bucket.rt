@@ -2,7 +2,7 @@
 
 mod by_number;
 
-ghost use Rattle.std.specs.Prelude.{ℕ, suc, ◌≡◌, ◌<◌, ◌≤◌, ◌+◌, ◌-◌, ◌^◌, ◌++◌, ◌∷◌, length, get_or, cond, true, [], insert, remove, set, vec_len, vec_capacity, OnOk};
+ghost use Rattle.std.specs.Prelude.{ℕ, suc, ◌≡◌, ◌<◌, ◌≤◌, ◌+◌, ◌-◌, ◌^◌, ◌++◌, ◌∷◌, length, get_or, cond, true, false, [], insert, remove, set, vec_len, vec_capacity, OnOk};
 ghost use Rattle.std.specs.List.{remove_range};
 ghost use Rattle.std.specs.Ordering.{is_eq};
 ghost use Rattle.sorted_multimap.specs.Buckets.{bucket_values, keys_of, spread_keys, IsSorted, HasRoom, IsKept, AreRuns, lows, tops, lowest, start_at, end_at, holds_at, raised, lowered, by_key, Ascends};
@@ -66,20 +66,34 @@ impl<K: Ord + Copy, V: Copy> Bucket<K, V> {
         &self.values[start..end]
     }
 
-    // Puts a value at a place where one of a key may stand, which has that run or gets it.
-    fn put_at(&mut self, run: usize, at: usize, key: K, value: V)
+    // Puts a value at a place of a run.
+    fn put_at(&mut self, run: usize, at: usize, value: V)
+        requires sorted { IsSorted K.cmp self.old }
+        requires room { vec_len self.old.values < vec_capacity self.old.values }
+        requires within { run < length self.old.runs.items }
+        requires low { start_at 0 self.old.runs.items run ≤ at }
+        requires top { at ≤ start_at 0 self.old.runs.items (suc run) }
+        ensures sorted { IsSorted K.cmp self.new }
+        ensures values { (key : K) (i : ℕ) → holds_at K.cmp self.old.runs.items run key ≡ true → at ≡ start_at 0 self.old.runs.items run + i → (q : K) → bucket_values K.cmp self.new q ≡ cond (is_eq (K.cmp key q)) (insert (bucket_values K.cmp self.old key) i value) (bucket_values K.cmp self.old q) }
+        ensures room { (n : ℕ) → vec_len self.old.runs + n ≤ vec_capacity self.old.runs → vec_len self.old.values + (n + 1) ≤ vec_capacity self.old.values → HasRoom self.new n }
+    {
+        put_in(&mut self.values, at, value);
+        raise(&mut self.runs, run);
+    }
+
+    // Puts the first value of a key, which has no run.
+    fn put_run(&mut self, run: usize, key: K, value: V)
         requires sorted { IsSorted K.cmp self.old }
         requires room { HasRoom self.old 1 }
         requires run { run ≡ lowest K.cmp self.old.runs.items key }
-        requires low { lows K.cmp (keys_of self.old) key ≤ at }
-        requires top { at ≤ tops K.cmp (keys_of self.old) key }
+        requires none { holds_at K.cmp self.old.runs.items run key ≡ false }
         ensures sorted { IsSorted K.cmp self.new }
-        ensures values { (i : ℕ) → at ≡ lows K.cmp (keys_of self.old) key + i → (q : K) → bucket_values K.cmp self.new q ≡ cond (is_eq (K.cmp key q)) (insert (bucket_values K.cmp self.old key) i value) (bucket_values K.cmp self.old q) }
+        ensures values { (q : K) → bucket_values K.cmp self.new q ≡ cond (is_eq (K.cmp key q)) (value ∷ []) (bucket_values K.cmp self.old q) }
         ensures room { (n : ℕ) → HasRoom self.old (n + 1) → HasRoom self.new n }
     {
         open(&mut self.runs, run, key);
-        put_in(&mut self.values, at, value);
-        raise(&mut self.runs, run);
+        let start = start_of(&self.runs, run);
+        self.put_at(run, start, value);
     }
 
     // Puts the first value into a bucket of no runs.
@@ -105,8 +119,12 @@ impl<K: Ord + Copy, V: Copy> Bucket<K, V> {
         ensures room { (n : ℕ) → HasRoom self.old (n + 1) → HasRoom self.new n }
     {
         let run = first(&self.runs, key);
-        let end = end_of(&self.runs, run, key);
-        self.put_at(run, end, key, value);
+        if !holds(&self.runs, run, key) {
+            self.put_run(run, key, value);
+            return;
+        }
+        let end = self.runs[run].end;
+        self.put_at(run, end, value);
     }
 
     /// Takes out all values of a key.
@@ -186,17 +204,16 @@ fn cut<T: Copy>(v: &mut Vec<T>, start: usize, end: usize)
 #[inline(always)]
 fn open<K: Ord + Copy>(runs: &mut Vec<Run<K>>, run: usize, key: K)
     requires run { run ≡ lowest K.cmp runs.old.items key }
+    requires none { holds_at K.cmp runs.old.items run key ≡ false }
     requires room { vec_len runs.old < vec_capacity runs.old }
     ensures runs { (n : ℕ) → AreRuns K.cmp 0 runs.old.items n → AreRuns K.cmp 0 runs.new.items n }
     ensures keys { spread_keys 0 runs.new.items ≡ spread_keys 0 runs.old.items }
     ensures holds { holds_at K.cmp runs.new.items run key ≡ true }
-    ensures len { vec_len runs.new ≤ vec_len runs.old + 1 }
+    ensures len { vec_len runs.new ≡ vec_len runs.old + 1 }
     ensures capacity { vec_capacity runs.old ≤ vec_capacity runs.new }
 {
-    if !holds(runs, run, key) {
-        let end = start_of(runs, run);
-        put_in(runs, run, Run { key, end });
-    }
+    let end = start_of(runs, run);
+    put_in(runs, run, Run { key, end });
 }
 
 /// Where a run begins.

@@ -1,12 +1,12 @@
 //! Edits of the values of a key that ascend by number, each by one search.
 
-ghost use Rattle.std.specs.Prelude.{ℕ, ◌≡◌, ◌+◌, cond, eqb, filter, not, vec_len};
+ghost use Rattle.std.specs.Prelude.{ℕ, ◌≡◌, ◌+◌, ◌<◌, length, cond, eqb, filter, not, vec_len};
 ghost use Rattle.std.specs.Ordering.{is_eq};
 ghost use Rattle.std.specs.Result.{is_err};
 ghost use Rattle.teb_history.specs.Ascending.{IsAscendingBy, place_of, put_by};
-ghost use Rattle.sorted_multimap.specs.Buckets.{bucket_values, keys_of, IsSorted, HasRoom, lows, lowest, further};
+ghost use Rattle.sorted_multimap.specs.Buckets.{bucket_values, run_values, start_at, IsSorted, HasRoom, further};
 
-use super::{Bucket, end_of, first, holds, start_of};
+use super::{Bucket, first, holds, start_of};
 use crate::Numbered;
 
 impl<K: Ord + Copy, V: Numbered> Bucket<K, V> {
@@ -25,13 +25,17 @@ impl<K: Ord + Copy, V: Numbered> Bucket<K, V> {
             return true;
         }
         let run = first(&self.runs, key);
-        match self.find(run, key, value.number()) {
+        if !holds(&self.runs, run, key) {
+            self.put_run(run, key, value);
+            return true;
+        }
+        match self.find(run, value.number()) {
             Ok(at) => {
                 self.replace_at(at, value);
                 false
             }
             Err(at) => {
-                self.put_at(run, at, key, value);
+                self.put_at(run, at, value);
                 true
             }
         }
@@ -52,10 +56,14 @@ impl<K: Ord + Copy, V: Numbered> Bucket<K, V> {
             return true;
         }
         let run = first(&self.runs, key);
-        match self.find(run, key, value.number()) {
+        if !holds(&self.runs, run, key) {
+            self.put_run(run, key, value);
+            return true;
+        }
+        match self.find(run, value.number()) {
             Ok(_) => false,
             Err(at) => {
-                self.put_at(run, at, key, value);
+                self.put_at(run, at, value);
                 true
             }
         }
@@ -74,7 +82,10 @@ impl<K: Ord + Copy, V: Numbered> Bucket<K, V> {
             return;
         }
         let run = first(&self.runs, key);
-        if let Ok(at) = self.find(run, key, number) {
+        if !holds(&self.runs, run, key) {
+            return;
+        }
+        if let Ok(at) = self.find(run, number) {
             self.take_at(run, at);
         }
     }
@@ -94,15 +105,15 @@ impl<K: Ord + Copy, V: Numbered> Bucket<K, V> {
         }
     }
 
-    // The place of the value with a number among those of a key, whose run it is, or where it would go.
-    fn find(&self, run: usize, key: K, number: u32) -> Result<usize, usize>
+    // The place of the value with a number among those of a run, or where it would go.
+    fn find(&self, run: usize, number: u32) -> Result<usize, usize>
         requires sorted { IsSorted K.cmp self.now }
-        requires ascending { IsAscendingBy V.numbered_by (bucket_values K.cmp self.now key) }
-        requires run { run ≡ lowest K.cmp self.now.runs.items key }
-        ensures { result ≡ further (lows K.cmp (keys_of self.now) key) (place_of V.numbered_by (bucket_values K.cmp self.now key) number) }
+        requires within { run < length self.now.runs.items }
+        requires ascending { IsAscendingBy V.numbered_by (run_values self.now run) }
+        ensures { result ≡ further (start_at 0 self.now.runs.items run) (place_of V.numbered_by (run_values self.now run) number) }
     {
         let start = start_of(&self.runs, run);
-        let end = end_of(&self.runs, run, key);
+        let end = self.runs[run].end;
         match find_number(&self.values[start..end], number) {
             Ok(i) => Ok(start + i),
             Err(i) => Err(start + i),
