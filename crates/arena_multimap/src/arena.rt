@@ -166,6 +166,9 @@ impl<V: Copy> Arena<V> {
     {
         self.push(i, value);
         let Segment { start, len, .. } = self.segments[i];
+        if at + 1 == len {
+            return;
+        }
         let place = start + at;
         self.values.copy_within(place..start + len - 1, place + 1);
         self.values[place] = value;

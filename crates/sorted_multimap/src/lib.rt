@@ -10,4 +10,4 @@ mod number;
 pub use by_txn::clear_txn;
 pub use key::Key;
 pub use multimap::Multimap;
-pub use number::Numbered;
+pub use number::{Numbered, find_number};

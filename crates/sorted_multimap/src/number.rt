@@ -1,6 +1,7 @@
 //! Numbers of values.
 
 ghost use Rattle.std.specs.Prelude.{◌≡◌, ℕ};
+ghost use Rattle.teb_history.specs.Ascending.{IsAscendingBy, place_of};
 ghost use Rattle.teb_history.specs.Live.{number_of};
 
 use teb_names::Txn;
@@ -19,4 +20,23 @@ impl Numbered for Txn {
     fn number(self) -> u32 {
         self.0
     }
+}
+
+/// Where the value with a number stands among values that ascend by number, or where it would go. It costs a look at the last value where
+/// that has the number or a lesser one, and else a binary search.
+pub fn find_number<V: Numbered>(values: &[V], number: u32) -> Result<usize, usize>
+    requires { IsAscendingBy V.numbered_by values.now }
+    ensures { result ≡ place_of V.numbered_by values.now number }
+{
+    let Some(last) = values.last() else {
+        return Err(0);
+    };
+    let greatest = last.number();
+    if greatest < number {
+        return Err(values.len());
+    }
+    if greatest == number {
+        return Ok(values.len() - 1);
+    }
+    values.binary_search_by_key(&number, |value| value.number())
 }

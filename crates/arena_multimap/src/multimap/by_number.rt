@@ -7,7 +7,7 @@ ghost use Rattle.teb_history.specs.Ascending.{IsAscendingBy, place_of as spec_pl
 ghost use Rattle.sorted_multimap.specs.Multimap.{values_in};
 
 use super::{ArenaMultimap, add_key, place_of};
-use sorted_multimap::Numbered;
+use sorted_multimap::{Numbered, find_number};
 use std::hash::Hash;
 
 impl<K: Ord + Copy + Hash + Drop, V: Numbered> ArenaMultimap<K, V> {
@@ -21,9 +21,7 @@ impl<K: Ord + Copy + Hash + Drop, V: Numbered> ArenaMultimap<K, V> {
         ensures spare { self.old.spare ≡ self.new.spare + cond result 1 0 }
     {
         let list = place_of(&self.keys, key);
-        let values = self.lists.list(list);
-        let len = values.len();
-        match find_number(values, value.number()) {
+        match find_number(self.lists.list(list), value.number()) {
             Ok(i) => {
                 self.lists.replace(list, i, value);
                 false
@@ -31,10 +29,6 @@ impl<K: Ord + Copy + Hash + Drop, V: Numbered> ArenaMultimap<K, V> {
             Err(i) => {
                 add_key(&mut self.keys, list, key);
                 self.spare -= 1;
-                if i == len {
-                    self.lists.push(list, value);
-                    return true;
-                }
                 self.lists.insert(list, i, value);
                 true
             }
@@ -52,12 +46,4 @@ impl<K: Ord + Copy + Hash + Drop, V: Numbered> ArenaMultimap<K, V> {
             self.lists.take(list, i);
         }
     }
-}
-
-// Where the value with a number stands among ascending ones, or where it would go.
-fn find_number<V: Numbered>(values: &[V], number: u32) -> Result<usize, usize>
-    requires { IsAscendingBy V.numbered_by values.now }
-    ensures { result ≡ spec_place_of V.numbered_by values.now number }
-{
-    values.binary_search_by_key(&number, |value| value.number())
 }

@@ -7,7 +7,7 @@ ghost use Rattle.teb_history.specs.Ascending.{IsAscendingBy, place_of, put_by};
 ghost use Rattle.sorted_multimap.specs.Buckets.{bucket_values, run_values, start_at, IsSorted, HasRoom, further};
 
 use super::{Bucket, first, holds, start_of};
-use crate::Numbered;
+use crate::{Numbered, find_number};
 
 impl<K: Ord + Copy, V: Numbered> Bucket<K, V> {
     /// Puts a value among those of a key, instead of the one that has its number. Whether there was none.
@@ -119,12 +119,4 @@ impl<K: Ord + Copy, V: Numbered> Bucket<K, V> {
             Err(i) => Err(start + i),
         }
     }
-}
-
-// Where the value with a number stands among ascending ones, or where it would go.
-fn find_number<V: Numbered>(values: &[V], number: u32) -> Result<usize, usize>
-    requires { IsAscendingBy V.numbered_by values.now }
-    ensures { result ≡ place_of V.numbered_by values.now number }
-{
-    values.binary_search_by_key(&number, |value| value.number())
 }

@@ -1,5 +1,4 @@
-use Rattle.std.proofs.Common.{◌≡◌, ◌+◌, ◌-◌, ◌∙◌, ℕ, cond, eqb, max, sym, ap, subst, ◌++◌, ◌∷◌, [], List, length, arith, set, insert}
-use Rattle.std.proofs.lemmas.List.Edits.{insert_end}
+use Rattle.std.proofs.Common.{◌≡◌, ◌+◌, ◌-◌, ◌∙◌, ℕ, cond, eqb, max, sym, ap, subst, List, length, arith, set, insert}
 use Rattle.std.specs.Ordering.{is_eq}
 use Rattle.std.specs.Result.{is_err}
 use Rattle.teb_history.specs.Ascending.{IsAscendingBy, place_of as number_place, put_by}
@@ -19,7 +18,7 @@ find_number-requires g c =
     let by = g.V.Numbered.numbered_by in
     let L = list_at a (place_of g.K.PartialEq.eq ks.keys key) in
     let here : L ≡ values_in g.K.Ord.cmp c.args.self.now key = sym (shown g.K.PartialEq.eq g.K.Ord.cmp g.met.K.Eq.laws g.met.K.Ord.matches_eq ks a n c.self.invariant key) ∙ ap (λ s. values_in g.K.Ord.cmp s key) c.self.view_is in
-    let lent : c.list-values.result.now ≡ L = c.list-values.ensures ∙ ap (list_at a) c.place_of-list.ensures in
+    let lent : c.list.result.now ≡ L = c.list.ensures ∙ ap (list_at a) c.place_of-list.ensures in
     subst (IsAscendingBy by) (sym (lent ∙ here)) c.requires.ascending
 
 pub replace-requires-clause-at : goal.replace-requires-clause-at
@@ -30,7 +29,7 @@ replace-requires-clause-at g c =
     let key = c.args.key in
     let by = g.V.Numbered.numbered_by in
     let L = list_at a (place_of g.K.PartialEq.eq ks.keys key) in
-    let lent : c.list-values.result.now ≡ L = c.list-values.ensures ∙ ap (list_at a) c.place_of-list.ensures in
+    let lent : c.list.result.now ≡ L = c.list.ensures ∙ ap (list_at a) c.place_of-list.ensures in
     let found = sym (c.find_number.ensures ∙ ap (λ (l : List _). number_place by l c.number.result) lent ∙ ap (λ (m : ℕ). number_place by L m) c.number.ensures) ∙ c.in-Ok.is in
     omega (arith, place_in by L (by c.args.value) c.in-Ok.i found, ap length (ap (list_at a) c.place_of-list.ensures))
 
@@ -64,7 +63,7 @@ insert-requires-clause-at g c =
     let key = c.args.key in
     let by = g.V.Numbered.numbered_by in
     let L = list_at a (place_of g.K.PartialEq.eq ks.keys key) in
-    let lent : c.list-values.result.now ≡ L = c.list-values.ensures ∙ ap (list_at a) c.place_of-list.ensures in
+    let lent : c.list.result.now ≡ L = c.list.ensures ∙ ap (list_at a) c.place_of-list.ensures in
     let found = sym (c.find_number.ensures ∙ ap (λ (l : List _). number_place by l c.number.result) lent ∙ ap (λ (m : ℕ). number_place by L m) c.number.ensures) ∙ c.in-Err.is in
     omega (arith, gap_in by L (by c.args.value) c.in-Err.i found, ap length (ap (list_at a) c.place_of-list.ensures))
 
@@ -92,7 +91,7 @@ returns-in-Ok-clause-added g c =
     let by = g.V.Numbered.numbered_by in
     let L = list_at a (place_of g.K.PartialEq.eq ks.keys key) in
     let here : L ≡ values_in g.K.Ord.cmp c.args.self.now key = sym (shown g.K.PartialEq.eq g.K.Ord.cmp g.met.K.Eq.laws g.met.K.Ord.matches_eq ks a n c.self.invariant key) ∙ ap (λ s. values_in g.K.Ord.cmp s key) c.self.view_is in
-    let lent : c.list-values.result.now ≡ L = c.list-values.ensures ∙ ap (list_at a) c.place_of-list.ensures in
+    let lent : c.list.result.now ≡ L = c.list.ensures ∙ ap (list_at a) c.place_of-list.ensures in
     let found = sym (c.find_number.ensures ∙ ap (λ (l : List _). number_place by l c.number.result) lent ∙ ap (λ (m : ℕ). number_place by L m) c.number.ensures) ∙ c.in-Ok.is in
     ap is_err (sym found) ∙ ap (λ (l : List _). is_err (number_place by l (by c.args.value))) here
 
@@ -105,7 +104,7 @@ returns-in-Ok-clause-values g c q =
     let by = g.V.Numbered.numbered_by in
     let L = list_at a (place_of g.K.PartialEq.eq ks.keys key) in
     let here : L ≡ values_in g.K.Ord.cmp c.args.self.now key = sym (shown g.K.PartialEq.eq g.K.Ord.cmp g.met.K.Eq.laws g.met.K.Ord.matches_eq ks a n c.self.invariant key) ∙ ap (λ s. values_in g.K.Ord.cmp s key) c.self.view_is in
-    let lent : c.list-values.result.now ≡ L = c.list-values.ensures ∙ ap (list_at a) c.place_of-list.ensures in
+    let lent : c.list.result.now ≡ L = c.list.ensures ∙ ap (list_at a) c.place_of-list.ensures in
     let found = sym (c.find_number.ensures ∙ ap (λ (l : List _). number_place by l c.number.result) lent ∙ ap (λ (m : ℕ). number_place by L m) c.number.ensures) ∙ c.in-Ok.is in
     let a' = c.replace.new.self in
     let edit = subst (λ (i : ℕ). (j : ℕ) → list_at a' j ≡ cond (eqb j i) (set (list_at a i) c.in-Ok.i c.args.value) (list_at a j)) c.place_of-list.ensures c.replace.ensures.values in
@@ -113,8 +112,8 @@ returns-in-Ok-clause-values g c q =
     ∙ ap (λ s. cond (is_eq (g.K.Ord.cmp key q)) (set L c.in-Ok.i c.args.value) (values_in g.K.Ord.cmp s q)) c.self.view_is
     ∙ ap (λ (l : List _). cond (is_eq (g.K.Ord.cmp key q)) l (values_in g.K.Ord.cmp c.args.self.now q)) (sym (put-set by c.args.value L c.in-Ok.i found) ∙ ap (put_by by c.args.value) here)
 
-pub returns-else-i-len-clause-added : goal.returns-else-i-len-clause-added
-returns-else-i-len-clause-added g c =
+pub returns-in-Err-clause-added : goal.returns-in-Err-clause-added
+returns-in-Err-clause-added g c =
     let ks = c.self.inside.keys in
     let a = c.self.inside.lists in
     let n = c.self.inside.spare in
@@ -122,12 +121,12 @@ returns-else-i-len-clause-added g c =
     let by = g.V.Numbered.numbered_by in
     let L = list_at a (place_of g.K.PartialEq.eq ks.keys key) in
     let here : L ≡ values_in g.K.Ord.cmp c.args.self.now key = sym (shown g.K.PartialEq.eq g.K.Ord.cmp g.met.K.Eq.laws g.met.K.Ord.matches_eq ks a n c.self.invariant key) ∙ ap (λ s. values_in g.K.Ord.cmp s key) c.self.view_is in
-    let lent : c.list-values.result.now ≡ L = c.list-values.ensures ∙ ap (list_at a) c.place_of-list.ensures in
+    let lent : c.list.result.now ≡ L = c.list.ensures ∙ ap (list_at a) c.place_of-list.ensures in
     let found = sym (c.find_number.ensures ∙ ap (λ (l : List _). number_place by l c.number.result) lent ∙ ap (λ (m : ℕ). number_place by L m) c.number.ensures) ∙ c.in-Err.is in
     ap is_err (sym found) ∙ ap (λ (l : List _). is_err (number_place by l (by c.args.value))) here
 
-pub returns-else-i-len-clause-values : goal.returns-else-i-len-clause-values
-returns-else-i-len-clause-values g c q =
+pub returns-in-Err-clause-values : goal.returns-in-Err-clause-values
+returns-in-Err-clause-values g c q =
     let ks = c.self.inside.keys in
     let a = c.self.inside.lists in
     let n = c.self.inside.spare in
@@ -135,7 +134,7 @@ returns-else-i-len-clause-values g c q =
     let by = g.V.Numbered.numbered_by in
     let L = list_at a (place_of g.K.PartialEq.eq ks.keys key) in
     let here : L ≡ values_in g.K.Ord.cmp c.args.self.now key = sym (shown g.K.PartialEq.eq g.K.Ord.cmp g.met.K.Eq.laws g.met.K.Ord.matches_eq ks a n c.self.invariant key) ∙ ap (λ s. values_in g.K.Ord.cmp s key) c.self.view_is in
-    let lent : c.list-values.result.now ≡ L = c.list-values.ensures ∙ ap (list_at a) c.place_of-list.ensures in
+    let lent : c.list.result.now ≡ L = c.list.ensures ∙ ap (list_at a) c.place_of-list.ensures in
     let found = sym (c.find_number.ensures ∙ ap (λ (l : List _). number_place by l c.number.result) lent ∙ ap (λ (m : ℕ). number_place by L m) c.number.ensures) ∙ c.in-Err.is in
     let a' = c.insert.new.self in
     let edit = subst (λ (i : ℕ). (j : ℕ) → list_at a' j ≡ cond (eqb j i) (insert (list_at a i) c.in-Err.i c.args.value) (list_at a j)) c.place_of-list.ensures c.insert.ensures.values in
@@ -143,61 +142,3 @@ returns-else-i-len-clause-values g c q =
     put_values g.K.PartialEq.eq g.K.Ord.cmp g.met.K.Eq.laws g.met.K.Ord.matches_eq ks a n c.self.invariant a' key (insert L c.in-Err.i c.args.value) edit c.add_key.new.keys c.add_key.ensures.keys c.add_key.ensures.unique count q
     ∙ ap (λ s. cond (is_eq (g.K.Ord.cmp key q)) (insert L c.in-Err.i c.args.value) (values_in g.K.Ord.cmp s q)) c.self.view_is
     ∙ ap (λ (l : List _). cond (is_eq (g.K.Ord.cmp key q)) l (values_in g.K.Ord.cmp c.args.self.now q)) (sym (put-insert by c.args.value L c.in-Err.i found) ∙ ap (put_by by c.args.value) here)
-
-pub push-requires-clause-within : goal.push-requires-clause-within
-push-requires-clause-within g c =
-    let ks = c.self.inside.keys in
-    let a = c.self.inside.lists in
-    let n = c.self.inside.spare in
-    let key = c.args.key in
-    let by = g.V.Numbered.numbered_by in
-    let L = list_at a (place_of g.K.PartialEq.eq ks.keys key) in
-    omega (arith, place_within g.K.PartialEq.eq g.K.Ord.cmp g.met.K.Eq.laws g.met.K.Ord.matches_eq ks a n c.self.invariant key, c.place_of-list.ensures)
-
-pub invariant_of-self-then-i-len : goal.invariant_of-self-then-i-len
-invariant_of-self-then-i-len g c =
-    let ks = c.self.inside.keys in
-    let a = c.self.inside.lists in
-    let n = c.self.inside.spare in
-    let key = c.args.key in
-    let by = g.V.Numbered.numbered_by in
-    let L = list_at a (place_of g.K.PartialEq.eq ks.keys key) in
-    let a' = c.push.new.self in
-    let edit = subst (λ (i : ℕ). (j : ℕ) → list_at a' j ≡ cond (eqb j i) (list_at a i ++ c.args.value ∷ []) (list_at a j)) c.place_of-list.ensures c.push.ensures.values in
-    let count = subst (λ (i : ℕ). lists a' ≡ max (lists a) (i + 1)) c.place_of-list.ensures c.push.ensures.lists in
-    let one : n ≡ n - 1 + 1 = omega (arith, c.requires.room, ap (λ s. s.spare) c.self.view_is) in
-    put_keyed g.K.PartialEq.eq g.K.Ord.cmp g.met.K.Eq.laws g.met.K.Ord.matches_eq ks a n c.self.invariant a' key (L ++ c.args.value ∷ []) edit c.add_key.new.keys c.add_key.ensures.keys c.add_key.ensures.unique count
-    (n - 1) one c.add_key.ensures.spare c.push.ensures.sound c.push.ensures.room
-
-pub returns-then-i-len-clause-added : goal.returns-then-i-len-clause-added
-returns-then-i-len-clause-added g c =
-    let ks = c.self.inside.keys in
-    let a = c.self.inside.lists in
-    let n = c.self.inside.spare in
-    let key = c.args.key in
-    let by = g.V.Numbered.numbered_by in
-    let L = list_at a (place_of g.K.PartialEq.eq ks.keys key) in
-    let here : L ≡ values_in g.K.Ord.cmp c.args.self.now key = sym (shown g.K.PartialEq.eq g.K.Ord.cmp g.met.K.Eq.laws g.met.K.Ord.matches_eq ks a n c.self.invariant key) ∙ ap (λ s. values_in g.K.Ord.cmp s key) c.self.view_is in
-    let lent : c.list-values.result.now ≡ L = c.list-values.ensures ∙ ap (list_at a) c.place_of-list.ensures in
-    let found = sym (c.find_number.ensures ∙ ap (λ (l : List _). number_place by l c.number.result) lent ∙ ap (λ (m : ℕ). number_place by L m) c.number.ensures) ∙ c.in-Err.is in
-    ap is_err (sym found) ∙ ap (λ (l : List _). is_err (number_place by l (by c.args.value))) here
-
-pub returns-then-i-len-clause-values : goal.returns-then-i-len-clause-values
-returns-then-i-len-clause-values g c q =
-    let ks = c.self.inside.keys in
-    let a = c.self.inside.lists in
-    let n = c.self.inside.spare in
-    let key = c.args.key in
-    let by = g.V.Numbered.numbered_by in
-    let L = list_at a (place_of g.K.PartialEq.eq ks.keys key) in
-    let here : L ≡ values_in g.K.Ord.cmp c.args.self.now key = sym (shown g.K.PartialEq.eq g.K.Ord.cmp g.met.K.Eq.laws g.met.K.Ord.matches_eq ks a n c.self.invariant key) ∙ ap (λ s. values_in g.K.Ord.cmp s key) c.self.view_is in
-    let lent : c.list-values.result.now ≡ L = c.list-values.ensures ∙ ap (list_at a) c.place_of-list.ensures in
-    let found = sym (c.find_number.ensures ∙ ap (λ (l : List _). number_place by l c.number.result) lent ∙ ap (λ (m : ℕ). number_place by L m) c.number.ensures) ∙ c.in-Err.is in
-    let last : c.in-Err.i ≡ length L = omega (arith, c.if-i-len, ap length lent) in
-    let end : insert L c.in-Err.i c.args.value ≡ L ++ c.args.value ∷ [] = ap (λ (m : ℕ). insert L m c.args.value) last ∙ insert_end L c.args.value in
-    let a' = c.push.new.self in
-    let edit = subst (λ (i : ℕ). (j : ℕ) → list_at a' j ≡ cond (eqb j i) (list_at a i ++ c.args.value ∷ []) (list_at a j)) c.place_of-list.ensures c.push.ensures.values in
-    let count = subst (λ (i : ℕ). lists a' ≡ max (lists a) (i + 1)) c.place_of-list.ensures c.push.ensures.lists in
-    put_values g.K.PartialEq.eq g.K.Ord.cmp g.met.K.Eq.laws g.met.K.Ord.matches_eq ks a n c.self.invariant a' key (L ++ c.args.value ∷ []) edit c.add_key.new.keys c.add_key.ensures.keys c.add_key.ensures.unique count q
-    ∙ ap (λ s. cond (is_eq (g.K.Ord.cmp key q)) (L ++ c.args.value ∷ []) (values_in g.K.Ord.cmp s q)) c.self.view_is
-    ∙ ap (λ (l : List _). cond (is_eq (g.K.Ord.cmp key q)) l (values_in g.K.Ord.cmp c.args.self.now q)) (sym end ∙ sym (put-insert by c.args.value L c.in-Err.i found) ∙ ap (put_by by c.args.value) here)
