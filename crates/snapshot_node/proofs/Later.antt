@@ -1,8 +1,9 @@
 -- The transactions of an ascending list from a number on.
-use Rattle.std.proofs.Common.{◌≡◌, ℕ, zero, suc, ◌<◌, ◌≤◌, Bool, true, false, cond, not, ◌&&◌, ltb, leb, eqb, eq-eqb, lt-ltb, le-ltb, List, [], ◌∷◌, length, drop, filter, find, get_or, Some, refl, sym, ◌∙◌, ap, subst, inl, inr, arith}
+use Rattle.std.proofs.Common.{◌≡◌, ℕ, zero, suc, ◌-◌, ◌<◌, ◌≤◌, Bool, true, false, cond, not, ◌&&◌, ltb, leb, eqb, eq-eqb, lt-ltb, le-ltb, List, [], ◌∷◌, length, drop, filter, find, get_or, Some, refl, sym, ◌∙◌, ap, subst, inl, inr, arith}
 use Rattle.std.specs.List.Sorted.{IsNonDecreasingBy, IsPartitionPoint}
 use Rattle.std.proofs.lemmas.Bool.{and_parts, both_ways, or_left, or_right, cases_lt}
 use Rattle.std.proofs.lemmas.Bool.Decides.{nat_tests}
+use Rattle.std.proofs.lemmas.List.{get_or_default}
 use Rattle.teb_names.specs.declared.Cell.{Cell}
 use Rattle.teb_names.specs.declared.Txn.{Txn}
 use Rattle.teb_history.specs.declared.Event.{Event}
@@ -51,6 +52,23 @@ module _ (t : ℕ) where
   part_from (x ∷ xs) (suc k) l h =
       rw (leb_ltb t x.0 true (h.0 zero x (omega arith) (omega arith)))
       (part_from xs k (omega arith) (λ i d a b. h.0 (suc i) d (omega arith) (omega arith), λ i d a b. h.1 (suc i) d (omega arith) (omega arith)))
+
+-- where the one before place k is numbered below t, and the one there is not, those from t on start there
+pub parts_at : (t : ℕ) (xs : List Txn) (k : ℕ) (e : Txn) → IsAscendingBy number_of xs → 0 < k → k ≤ length xs → (get_or xs (k - 1) e).0 < t → (k < length xs → t ≤ (get_or xs k e).0) → drop k xs ≡ filter (λ u. leb t u.0) xs
+parts_at t xs k e a p l below from = part_from t xs k l (λ i d s m. lt-ltb _ _ (before i d m), λ i d s m. le-ltb _ _ (behind i d s m))
+  where
+    before : (i : ℕ) (d : Txn) → i < k → (get_or xs i d).0 < t
+    before i d m =
+        let r = numbers_rise xs a i (k - 1) d (omega arith) (omega arith) in
+        let q = ap number_of (get_or_default xs (k - 1) d e (omega arith)) in
+        omega (arith, below, q, r)
+
+    behind : (i : ℕ) (d : Txn) → k ≤ i → i < length xs → t ≤ (get_or xs i d).0
+    behind i d s m =
+        let r = numbers_rise xs a k i d s m in
+        let q = ap number_of (get_or_default xs k d e (omega arith)) in
+        let b = from (omega arith) in
+        omega (arith, b, q, r)
 
 -- a search finds the same among those that pass a test, where whom it finds passes
 pub find_kept : (p r : Txn → Bool) (xs : List Txn) → ((x : Txn) → is_among x.0 xs ≡ true → p x ≡ true → r x ≡ true) → find p (filter r xs) ≡ find p xs

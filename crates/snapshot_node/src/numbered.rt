@@ -1,16 +1,38 @@
 //! Ascending transactions from a number on.
 
-ghost use Rattle.std.specs.Prelude.{◌≡◌, filter, leb};
+ghost use Rattle.std.specs.Prelude.{◌≡◌, ◌<◌, filter, get_or, leb, length};
+ghost use Rattle.teb_names.specs.declared.Txn.{Txn};
 ghost use Rattle.teb_history.specs.Ascending.{IsAscendingBy};
 ghost use Rattle.teb_history.specs.Live.{number_of};
 
 use teb_names::Txn;
 
-/// Those of ascending transactions that are numbered from `first` on.
+/// At how many of the last ones `from_number` looks before it searches all.
+const FEW: usize = 4;
+
+/// Those of ascending transactions that are numbered from `first` on. Nearly always they are among the last few.
 pub(crate) fn from_number(txns: &[Txn], first: Txn) -> &[Txn]
     requires { IsAscendingBy number_of txns.now }
     ensures { result.now ≡ filter (λ u. leb first.0 u.0) txns.now }
 {
+    let len = txns.len();
+    if len > FEW && txns[len - FEW].0 < first.0 {
+        return from_number_behind(txns, len - FEW, first);
+    }
     let start = txns.partition_point(|u| u.0 < first.0);
+    &txns[start..]
+}
+
+// The same where the one at a place is numbered below `first`: it looks at those behind it, one after another.
+fn from_number_behind(txns: &[Txn], below: usize, first: Txn) -> &[Txn]
+    requires ascending { IsAscendingBy number_of txns.now }
+    requires within { below < length txns.now }
+    requires below { (d : Txn) → (get_or txns.now below d).0 < first.0 }
+    ensures { result.now ≡ filter (λ u. leb first.0 u.0) txns.now }
+{
+    let mut start = below + 1;
+    while start < txns.len() && txns[start].0 < first.0 {
+        start += 1;
+    }
     &txns[start..]
 }
