@@ -1,7 +1,7 @@
 -- Who stands in an ascending list of transactions, and what an edit at his place makes of it.
 use Rattle.std.proofs.Common.{◌≡◌, ℕ, ◌≤◌, Bool, true, false, cond, not, ltb, eqb, ◌&&◌, ◌||◌, List, [], ◌∷◌, filter, inl, inr, refl, sym, ◌∙◌, ap, subst, arith}
 use Rattle.std.specs.Ordering.{is_eq}
-use Rattle.std.proofs.lemmas.Bool.{both_ways, cases_order, eqb-true, eq-eqb, ne_eqb, or_left}
+use Rattle.std.proofs.lemmas.Bool.{both_ways, cases_order, eqb-true, eq-eqb, ne_eqb, or_cases, or_left, or_right}
 use Rattle.teb_names.specs.declared.Txn.{Txn}
 use Rattle.teb_history.specs.Ascending.{AllAbove, IsAscendingBy, put_by}
 use Rattle.teb_history.specs.Live.{number_of}
@@ -62,6 +62,15 @@ among_others n (x ∷ xs) u = go (eqb x.0 n) refl (eqb x.0 u) refl (among_others
         let e : eqb n u ≡ false = ne_eqb n u (λ q. both_ways (eqb x.0 u) (ap (λ (m : ℕ). eqb x.0 m) (sym q) ∙ h) k) in
         ap (λ (b : Bool). b || is_among u (others n xs)) k ∙ sym (ap not e)
     go false h false k ih = ap (λ (b : Bool). b || is_among u (others n xs)) k ∙ ih
+
+-- who stands in a part of a list stands in the list
+pub among_part : (p : Txn → Bool) (u : ℕ) (xs : List Txn) → is_among u (filter p xs) ≡ true → is_among u xs ≡ true
+among_part p u [] h = h
+among_part p u (x ∷ xs) h = go (p x) h (among_part p u xs)
+  where
+    go : (b : Bool) → is_among u (cond b (x ∷ filter p xs) (filter p xs)) ≡ true → (is_among u (filter p xs) ≡ true → is_among u xs ≡ true) → is_among u (x ∷ xs) ≡ true
+    go true h ih = elim (or_cases (eqb x.0 u) (is_among u (filter p xs)) h) [ inl e ↦ or_left _ (is_among u xs) e | inr j ↦ or_right (eqb x.0 u) _ (ih j) ]
+    go false h ih = or_right (eqb x.0 u) _ (ih h)
 
 -- two ascending lists in which the same transactions stand are one
 pub among_same : (xs ys : List Txn) → IsAscendingBy number_of xs → IsAscendingBy number_of ys → ((u : ℕ) → is_among u xs ≡ is_among u ys) → xs ≡ ys

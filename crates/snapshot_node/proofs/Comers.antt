@@ -1,7 +1,7 @@
 -- Who comes first in a pivot, by where the transaction that validates stands in it.
 use Rattle.std.specs.Prelude.{IsTrue}
-use Rattle.std.proofs.Common.{◌≡◌, ◌<◌, length, get_or, ℕ, Bool, true, false, cond, eqb, leb, List, [], ◌∷◌, ◌⊎◌, inl, inr, filter, Option, Some, None, ◌≤◌, le_refl, refl, sym, ◌∙◌, ap, subst, eqb-true, eq-eqb}
-use Rattle.std.proofs.lemmas.Bool.{and_parts, and_from, or_cases, or_left, or_right, not_from_false}
+use Rattle.std.proofs.Common.{◌≡◌, ◌<◌, length, get_or, ℕ, true, false, eqb, leb, List, ◌∷◌, ◌⊎◌, inl, inr, filter, Option, Some, None, ◌≤◌, le_refl, refl, sym, ◌∙◌, ap, subst, eqb-true, eq-eqb}
+use Rattle.std.proofs.lemmas.Bool.{and_parts, and_from, or_left, not_from_false}
 use Rattle.teb_names.specs.declared.Cell.{Cell}
 use Rattle.teb_names.specs.declared.Txn.{Txn}
 use Rattle.teb_names.specs.declared.ControlKind.TheVariants.{Snapshot}
@@ -24,6 +24,7 @@ use Rattle.batch_book.proofs.Elements.{any_Has, Has-any}
 use Rattle.snapshot_node.specs.Accessors.{is_among}
 use Rattle.snapshot_node.specs.Standing.{readers_in}
 use Rattle.snapshot_node.specs.Pivots.{is_at_stake, is_across, lesser_of, IsLeast, IsAcross, Leads, Leaves, Reaches, IsMiddle, IsFirst, ComesBefore, ComesAfter, ComesIn, ComesInBy}
+use Rattle.snapshot_node.proofs.Among.{among_part}
 use Rattle.snapshot_node.proofs.Listed.{reads_parts, among_readers, readers_here}
 use Rattle.snapshot_node.proofs.Least.{Remains, least_as, least_either, lesser_twice, remains_next, Along, along_of, along_item}
 use Rattle.snapshot_node.proofs.FirstOf.{among_from, each_among}
@@ -35,15 +36,6 @@ use Rattle.snapshot_node.proofs.Reach.{with_t}
 -- t is at stake where it validates
 pub stake_itself : (H : List Event) (t : ℕ) → is_at_stake H t t ≡ true
 stake_itself H t = or_left _ (committed H t) (or_left _ (prepared H t) (eq-eqb t t refl))
-
--- who stands in a part of a list stands in the list
-among_part : (p : Txn → Bool) (u : ℕ) (xs : List Txn) → is_among u (filter p xs) ≡ true → is_among u xs ≡ true
-among_part p u [] h = h
-among_part p u (x ∷ xs) h = go (p x) h (among_part p u xs)
-  where
-    go : (b : Bool) → is_among u (cond b (x ∷ filter p xs) (filter p xs)) ≡ true → (is_among u (filter p xs) ≡ true → is_among u xs ≡ true) → is_among u (x ∷ xs) ≡ true
-    go true h ih = elim (or_cases (eqb x.0 u) (is_among u (filter p xs)) h) [ inl e ↦ or_left _ (is_among u xs) e | inr j ↦ or_right (eqb x.0 u) _ (ih j) ]
-    go false h ih = or_right (eqb x.0 u) _ (ih h)
 
 module _ (S : Setup) (H : List Event) (n t : ℕ) where
   -- a comes in by a reader of the cell that the event has put

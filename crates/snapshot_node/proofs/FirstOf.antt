@@ -5,7 +5,6 @@ use Rattle.std.proofs.lemmas.Bool.{cases_lt, both_ways, or_cases, or_left, or_ri
 use Rattle.teb_names.specs.declared.Txn.{Txn}
 use Rattle.teb_history.specs.Ascending.{AllAbove, IsAscendingBy}
 use Rattle.teb_history.specs.Live.{number_of}
-use Rattle.teb_history.proofs.AscendingLists.{ascending-filter}
 use Rattle.snapshot_node.specs.Accessors.{is_among}
 use Rattle.snapshot_node.specs.Pivots.{IsLeast}
 use Rattle.snapshot_node.proofs.Among.{among_above}
@@ -60,17 +59,10 @@ module _ (P : ℕ → Type 0) (d : Txn) where
     | inr j ↦ none_at_all xs i u (omega arith) (λ k m q. none (suc k) (omega arith) q) j p
   ]
 
-  -- a search among them, where whoever has P stands in the list and is numbered m or above
-  module _ (xs ys : List Txn) (m : ℕ) (e : ys ≡ filter (λ u. leb m u.0) xs) where
-    module _ (a : IsAscendingBy number_of xs) (listed : (u : ℕ) → P u → IsTrue (is_among u xs)) (later : (u : ℕ) → P u → m ≤ u) where
-      there : (u : ℕ) → P u → is_among u ys ≡ true
-      there u p = ap (is_among u) e ∙ among_from m u xs (later u p) (listed u p)
+  -- a search among them, where whoever has P stands in the list
+  module _ (xs : List Txn) (listed : (u : ℕ) → P u → IsTrue (is_among u xs)) where
+    pub first_is : IsAscendingBy number_of xs → (i : ℕ) → i < length xs → NoneBefore xs i → P (get_or xs i d).0 → IsLeast P (Some (get_or xs i d))
+    first_is a i l none p = (p, λ u q. first_least xs i u a l none (listed u q) q)
 
-      ascend : IsAscendingBy number_of ys
-      ascend = subst (IsAscendingBy number_of) (sym e) (ascending-filter number_of (λ u. leb m u.0) xs a)
-
-      pub first_is : (i : ℕ) → i < length ys → NoneBefore ys i → P (get_or ys i d).0 → IsLeast P (Some (get_or ys i d))
-      first_is i l none p = (p, λ u q. first_least ys i u ascend l none (there u q) q)
-
-      pub first_not : (i : ℕ) → length ys ≤ i → NoneBefore ys i → (u : ℕ) → P u → ⊥
-      first_not i l none u p = none_at_all ys i u l none (there u p) p
+    pub first_not : (i : ℕ) → length xs ≤ i → NoneBefore xs i → (u : ℕ) → P u → ⊥
+    first_not i l none u p = none_at_all xs i u l none (listed u p) p

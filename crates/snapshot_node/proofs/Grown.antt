@@ -1,5 +1,5 @@
 -- Marks that grow, and walks that make them.
-use Rattle.std.proofs.Common.{◌≡◌, ℕ, zero, suc, ◌+◌, ◌<◌, ◌≤◌, true, eqb, List, [], ◌∷◌, length, get_or, filter, leb, refl, sym, ◌∙◌, ap, subst, inl, inr, arith, eqb-true}
+use Rattle.std.proofs.Common.{◌≡◌, ℕ, zero, suc, ◌+◌, ◌<◌, ◌≤◌, true, eqb, List, [], ◌∷◌, length, get_or, refl, sym, ◌∙◌, subst, inl, inr, arith, eqb-true}
 use Rattle.std.proofs.lemmas.Bool.{cases_lt, or_cases}
 use Rattle.teb_names.specs.declared.Txn.{Txn}
 use Rattle.teb_history.specs.declared.Event.{Event}
@@ -7,7 +7,6 @@ use Rattle.teb_rules.specs.Setup.{Setup}
 use Rattle.snapshot_node.specs.declared.marks.Mark.{Mark}
 use Rattle.snapshot_node.specs.Accessors.{is_among}
 use Rattle.snapshot_node.specs.Marks.{HaveGrown, IsTold}
-use Rattle.snapshot_node.proofs.FirstOf.{among_from}
 
 pub grown_none : (ms : List Mark) → HaveGrown ms ms
 grown_none ms = record { long = refl; entered = λ i h. h; left = λ i h. h; behind = λ i h. h; ahead = λ i h. h }
@@ -55,7 +54,3 @@ module _ (P R : ℕ → Type 0) (d : Txn) (xs : List Txn) where
 -- what R holds of, as more becomes known
 pub each_grown : (P R Q : ℕ → Type 0) (d : Txn) (xs : List Txn) (i : ℕ) → ((u : ℕ) → R u → Q u) → EachBefore P R d xs i → EachBefore P Q d xs i
 each_grown P R Q d xs i f h = λ j l p. f (get_or xs j d).0 (h j l p)
-
--- those listed are listed from the number m on
-pub each_from : (P R : ℕ → Type 0) (d : Txn) (xs ys : List Txn) (m i u : ℕ) → ys ≡ filter (λ w. leb m w.0) xs → length ys ≤ i → EachBefore P R d ys i → m ≤ u → is_among u xs ≡ true → P u → R u
-each_from P R d xs ys m i u e l h k a p = each_all P R d ys i u l h (ap (is_among u) e ∙ among_from m u xs k a) p

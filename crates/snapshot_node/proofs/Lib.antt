@@ -20,6 +20,7 @@ pub mod Reach
 pub mod Middles
 pub mod Comers
 pub mod Covers
+pub mod RecentAcross
 pub mod Nearness
 pub mod Marked
 pub mod Grown

@@ -1,6 +1,5 @@
 -- What is said of a control that is asked.
 use Rattle.std.specs.Prelude.{◌≡◌, ℕ, List, IsTrue, IsFalse, filter, leb}
-use Rattle.teb_names.specs.declared.Cell.{Cell}
 use Rattle.teb_names.specs.declared.Txn.{Txn}
 use Rattle.teb_history.specs.declared.Event.{Event}
 use Rattle.teb_history.specs.Phases.{begun, aborted}
@@ -9,7 +8,6 @@ use Rattle.teb_laws.specs.Lawful.{Lawful}
 use Rattle.phase_api.specs.FactsView.{setup_of, events_of}
 use Rattle.phase_api.specs.Calls.{IsHere}
 use Rattle.batch_book.specs.Histories.{ClosedBelow}
-use Rattle.snapshot_node.specs.Standing.{writers_in}
 use Rattle.snapshot_node.specs.Pivots.{AreHere}
 use Rattle.snapshot_node.specs.declared.asked.Asked.{Asked}
 
@@ -31,11 +29,11 @@ there a p = p (setup_of a.facts.now) (events_of a.facts.now) a.register.now.node
 abbrev pub AreThere : Asked → List Txn → Type 0
 AreThere a ts = AreHere a.facts.now a.register.now.node.0 ts
 
--- the writers of x from a number on, where those below it are of batches that closed before t's started
-pub record AreLate (a : Asked) (t : ℕ) (x : Cell) (us : List Txn) : Type 0 where
+-- those of some transactions from a number on, where whoever is below it was of a batch that closed before t's started
+pub record AreLate (a : Asked) (t : ℕ) (all us : List Txn) : Type 0 where
   pub from : ℕ
   pub below : there a ClosedBelow t from
-  pub are : us ≡ filter (λ u. leb from u.0) (there a writers_in x)
+  pub are : us ≡ filter (λ u. leb from u.0) all
 
 -- the rules granted each event, and t is not aborted
 pub record IsGranted (a : Asked) (t : ℕ) : Type 0 where

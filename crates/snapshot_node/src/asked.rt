@@ -11,7 +11,6 @@ ghost use Rattle.snapshot_node.specs.Standing.{writers_in, readers_in};
 ghost use Rattle.snapshot_node.specs.Stood.{StandsFor};
 ghost use Rattle.snapshot_node.specs.Props.{kept};
 
-use crate::numbered::from_number;
 use crate::register::Register;
 use phase_api::Facts;
 use teb_names::{Cell, Txn};
@@ -50,18 +49,10 @@ impl<'a> Asked<'a> {
         self.register.batches.is_closed_before(u, t)
     }
 
-    // Those that have put a cell, from t's horizon on: whoever comes before that was of a batch closed before t's start.
-    pub(crate) fn late_writers(&self, t: Txn, cell: Cell) -> &[Txn]
-        requires { IsAt self.now t.0 }
-        ensures { AreLate self.now t.0 cell result.now }
-    {
-        from_number(self.writers(cell), self.register.batches.horizon(t))
-    }
-
-    // The least committed transaction that wrote a cell before t: it is a late writer.
+    // The least committed transaction that wrote a cell before t: it is a recent writer.
     pub(crate) fn first_writer(&self, t: Txn, cell: Cell, among: &[Txn]) -> Option<Txn>
         requires here { IsAt self.now t.0 }
-        requires late { AreLate self.now t.0 cell among.now }
+        requires late { AreLate self.now t.0 (there self.now writers_in cell) among.now }
         ensures { result ≡ some_txn (find (there self.now is_first t.0 cell) (txns (history self.now))) }
     {
         let _ = cell;
@@ -76,10 +67,10 @@ impl<'a> Asked<'a> {
         None
     }
 
-    // The least unfinished transaction that t's write of a cell waits for: its batch is open, so that it is a late writer.
+    // The least unfinished transaction that t's write of a cell waits for: its batch is open, so that it is a recent writer.
     pub(crate) fn blocker(&self, t: Txn, cell: Cell, among: &[Txn]) -> Option<Txn>
         requires here { IsAt self.now t.0 }
-        requires late { AreLate self.now t.0 cell among.now }
+        requires late { AreLate self.now t.0 (there self.now writers_in cell) among.now }
         ensures { let H = history self.now in result ≡ some_txn (find (λ u. unfinished H u && there self.now meets t.0 u && wrote H u cell) (txns H)) }
     {
         let _ = cell;

@@ -12,6 +12,7 @@ mod neighbours;
 mod numbered;
 mod own_edges;
 mod pivots;
+mod recent;
 mod register;
 mod snapshot;
 mod validation;

@@ -1,8 +1,6 @@
 //! The marks at the edges of a transaction that was validated.
 
 ghost use Rattle.std.specs.Prelude.{◌≡◌, ◌≤◌, ℕ, IsTrue, length};
-ghost use Rattle.teb_history.specs.Ascending.{IsAscendingBy};
-ghost use Rattle.teb_history.specs.Live.{number_of};
 ghost use Rattle.teb_laws.specs.Lawful.{Lawful};
 ghost use Rattle.phase_api.specs.FactsView.{setup_of};
 ghost use Rattle.snapshot_node.specs.Asking.{IsAt, AreThere, IsGranted, history, there};
@@ -12,7 +10,6 @@ ghost use Rattle.snapshot_node.specs.Pivots.{is_at_stake, is_across, IsAcross};
 use crate::asked::Asked;
 use crate::marks::{Mark, mark_edge, mark_ends, place_of};
 use crate::neighbours::is_at_stake;
-use crate::numbered::from_number;
 use teb_history::Event;
 use teb_names::Txn;
 
@@ -34,10 +31,11 @@ pub(crate) fn mark_edges(marks: &mut [Mark], asked: &Asked, t: Txn)
     ensures ahead { IsGranted asked.now t.0 → (u : ℕ) → IsTrue (is_at_stake (history asked.now) t.0 u) → there asked.now Touches t.0 u → there asked.now IsTold marks.new t.0 u }
     ensures behind { IsGranted asked.now t.0 → (u : ℕ) → IsTrue (is_at_stake (history asked.now) t.0 u) → there asked.now Touches u t.0 → there asked.now IsTold marks.new u t.0 }
 {
+    let recent = asked.recent(t);
     for event in asked.facts.history.own_events(t) {
         match event {
-            Event::Got { cell, .. } => mark_ahead(marks, asked, t, asked.writers(cell)),
-            Event::Put { cell, .. } => mark_behind(marks, asked, t, asked.readers(cell)),
+            Event::Got { cell, .. } => mark_ahead(marks, asked, t, recent.writers(cell)),
+            Event::Put { cell, .. } => mark_behind(marks, asked, t, recent.readers(cell)),
             _ => {}
         }
     }
@@ -47,12 +45,11 @@ pub(crate) fn mark_edges(marks: &mut [Mark], asked: &Asked, t: Txn)
 fn mark_ahead(marks: &mut [Mark], asked: &Asked, t: Txn, among: &[Txn])
     requires here { IsAt asked.now t.0 }
     requires long { length (history asked.now) ≤ length marks.old }
-    requires ascending { IsAscendingBy number_of among.now }
     requires among_here { AreThere asked.now among.now }
     ensures grown { HaveGrown marks.old marks.new }
     ensures told { Lawful (setup_of asked.now.facts.now) (history asked.now) → (u : ℕ) → there asked.now IsAcross t.0 t.0 among.now u → there asked.now IsTold marks.new t.0 u }
 {
-    for u in from_number(among, asked.register.batches.horizon(t)) {
+    for u in among {
         if may_be_across(asked, t, *u) {
             mark_pair(marks, asked, t, *u);
         }
@@ -63,12 +60,11 @@ fn mark_ahead(marks: &mut [Mark], asked: &Asked, t: Txn, among: &[Txn])
 fn mark_behind(marks: &mut [Mark], asked: &Asked, t: Txn, among: &[Txn])
     requires here { IsAt asked.now t.0 }
     requires long { length (history asked.now) ≤ length marks.old }
-    requires ascending { IsAscendingBy number_of among.now }
     requires among_here { AreThere asked.now among.now }
     ensures grown { HaveGrown marks.old marks.new }
     ensures told { Lawful (setup_of asked.now.facts.now) (history asked.now) → (u : ℕ) → there asked.now IsAcross t.0 t.0 among.now u → there asked.now IsTold marks.new u t.0 }
 {
-    for u in from_number(among, asked.register.batches.horizon(t)) {
+    for u in among {
         if may_be_across(asked, t, *u) {
             mark_pair(marks, asked, *u, t);
         }

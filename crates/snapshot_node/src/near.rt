@@ -1,8 +1,6 @@
 //! Whether a transaction may be in a pivot, by its own edges and by the marks of batches.
 
 ghost use Rattle.std.specs.Prelude.{◌≡◌, ℕ, IsTrue, IsFalse, get_or};
-ghost use Rattle.teb_history.specs.Ascending.{IsAscendingBy};
-ghost use Rattle.teb_history.specs.Live.{number_of};
 ghost use Rattle.teb_rules.specs.Batches.{start};
 ghost use Rattle.snapshot_node.specs.Asking.{IsAt, there};
 ghost use Rattle.snapshot_node.specs.Marks.{no_mark};
@@ -11,7 +9,6 @@ ghost use Rattle.snapshot_node.specs.Validating.{AreAt, at, is_marked_entered, i
 
 use crate::marks::{Mark, mark_at};
 use crate::neighbours::is_at_stake;
-use crate::numbered::from_number;
 use crate::validation::Validation;
 use teb_history::Event;
 use teb_names::Txn;
@@ -49,9 +46,10 @@ impl<'a> Validation<'a> {
     fn is_left_ahead(&self) -> bool
         ensures { IsFalse result → (b : ℕ) → at self.now Leads self.now.t.0 b → IsTrue (is_marked_left self.now b) → ⊥ }
     {
+        let recent = self.asked.recent(self.t);
         for event in self.asked.facts.history.own_events(self.t) {
             if let Event::Got { cell, .. } = event {
-                let writers = self.asked.writers(cell);
+                let writers = recent.writers(cell);
                 if self.is_left_among(writers) {
                     return true;
                 }
@@ -62,11 +60,10 @@ impl<'a> Validation<'a> {
 
     // Whether one of some at stake that are across from t is of a batch that is known to be left.
     fn is_left_among(&self, among: &[Txn]) -> bool
-        requires ascending { IsAscendingBy number_of among.now }
-        requires among_here { AreAt self.now among.now }
+        requires { AreAt self.now among.now }
         ensures { IsFalse result → (b : ℕ) → at self.now IsAcross self.now.t.0 among.now b → IsTrue (is_marked_left self.now b) → ⊥ }
     {
-        for b in from_number(among, self.asked.register.batches.horizon(self.t)) {
+        for b in among {
             if self.mark_of(*b).left
                 && is_at_stake(self.asked.facts.history, self.t, *b)
                 && self.are_across(self.t, *b)
@@ -81,11 +78,13 @@ impl<'a> Validation<'a> {
     fn is_entered_behind(&self) -> bool
         ensures { IsFalse result → (a : ℕ) → at self.now Leads a self.now.t.0 → IsTrue (is_marked_entered self.now a) → ⊥ }
     {
+        let recent = self.asked.recent(self.t);
         for event in self.asked.facts.history.own_events(self.t) {
-            if let Event::Put { cell, .. } = event
-                && self.is_entered_among(self.asked.readers(cell))
-            {
-                return true;
+            if let Event::Put { cell, .. } = event {
+                let readers = recent.readers(cell);
+                if self.is_entered_among(readers) {
+                    return true;
+                }
             }
         }
         false
@@ -93,11 +92,10 @@ impl<'a> Validation<'a> {
 
     // Whether one of some at stake that are across from t is of a batch that is known to be entered.
     fn is_entered_among(&self, among: &[Txn]) -> bool
-        requires ascending { IsAscendingBy number_of among.now }
-        requires among_here { AreAt self.now among.now }
+        requires { AreAt self.now among.now }
         ensures { IsFalse result → (a : ℕ) → at self.now IsAcross self.now.t.0 among.now a → IsTrue (is_marked_entered self.now a) → ⊥ }
     {
-        for a in from_number(among, self.asked.register.batches.horizon(self.t)) {
+        for a in among {
             if self.mark_of(*a).entered
                 && is_at_stake(self.asked.facts.history, self.t, *a)
                 && self.are_across(self.t, *a)

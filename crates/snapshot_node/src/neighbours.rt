@@ -7,12 +7,11 @@ ghost use Rattle.teb_history.specs.Live.{number_of};
 ghost use Rattle.teb_rules.specs.Batches.{one_batch};
 ghost use Rattle.snapshot_node.specs.Asking.{HasBegun, IsAt, there};
 ghost use Rattle.snapshot_node.specs.Validating.{AreAt, IsAtStake, at};
-ghost use Rattle.snapshot_node.specs.Pivots.{is_at_stake, is_across, lesser_of, IsLeast, IsAcross, PutsAcross, Leads};
+ghost use Rattle.snapshot_node.specs.Pivots.{is_at_stake, is_across, lesser_of, IsLeast, IsAcross, Leads};
 
-use crate::numbered::from_number;
 use crate::validation::Validation;
 use teb_history::{Event, History};
-use teb_names::{Cell, Txn};
+use teb_names::Txn;
 
 /// Whether u is at stake where t validates: it is t itself, or prepared or committed.
 pub(crate) fn is_at_stake(history: &History, t: Txn, u: Txn) -> bool
@@ -65,7 +64,7 @@ impl<'a> Validation<'a> {
         requires among_here { AreAt self.now among.now }
         ensures { IsLeast (at self.now IsAcross u.0 among.now) result }
     {
-        for v in from_number(among, self.asked.register.batches.horizon(u)) {
+        for v in among {
             if is_at_stake(self.asked.facts.history, self.t, *v) && self.are_across(u, *v) {
                 return Some(*v);
             }
@@ -79,21 +78,14 @@ impl<'a> Validation<'a> {
         requires stake { IsAtStake self.now c.0 }
         ensures { IsLeast (at self.now Leads c.0) result }
     {
+        let recent = self.asked.recent(c);
         let mut least = None;
         for event in self.asked.facts.history.own_events(c) {
             if let Event::Got { cell, .. } = event {
-                least = lesser(least, self.writer_across(c, cell));
+                least = lesser(least, self.first_across(c, recent.writers(cell)));
             }
         }
         least
-    }
-
-    // The least at stake that has put a cell and is across from c.
-    fn writer_across(&self, c: Txn, cell: Cell) -> Option<Txn>
-        requires { IsAt self.now.asked c.0 }
-        ensures { IsLeast (at self.now PutsAcross c.0 cell) result }
-    {
-        self.first_across(c, self.asked.writers(cell))
     }
 
     /// The least one that has an edge to b, which is at stake.
@@ -102,11 +94,11 @@ impl<'a> Validation<'a> {
         requires stake { IsAtStake self.now b.0 }
         ensures { IsLeast (λ a. at self.now Leads a b.0) result }
     {
+        let recent = self.asked.recent(b);
         let mut least = None;
         for event in self.asked.facts.history.own_events(b) {
             if let Event::Put { cell, .. } = event {
-                let readers = self.asked.readers(cell);
-                least = lesser(least, self.first_across(b, readers));
+                least = lesser(least, self.first_across(b, recent.readers(cell)));
             }
         }
         least

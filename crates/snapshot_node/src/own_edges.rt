@@ -2,14 +2,13 @@
 ghost use Rattle.teb_history.specs.Ascending.{IsAscendingBy};
 ghost use Rattle.teb_history.specs.Live.{number_of};
 ghost use Rattle.snapshot_node.specs.Asking.{IsAt};
-ghost use Rattle.snapshot_node.specs.Pivots.{IsLeast, IsMateAmong, IsMateByPut, EntersAt, Leaves};
+ghost use Rattle.snapshot_node.specs.Pivots.{IsLeast, IsMateAmong, EntersAt, Leaves};
 ghost use Rattle.snapshot_node.specs.Validating.{AreAt, at};
 
 use crate::neighbours::{is_at_stake, lesser};
-use crate::numbered::from_number;
 use crate::validation::Validation;
 use teb_history::Event;
-use teb_names::{Cell, Txn};
+use teb_names::Txn;
 
 impl<'a> Validation<'a> {
     /// The least member of b's batch that has an edge to t.
@@ -17,11 +16,11 @@ impl<'a> Validation<'a> {
         requires { IsAt self.now.asked b.0 }
         ensures { IsLeast (λ c. at self.now Leaves b.0 c self.now.t.0) result }
     {
+        let recent = self.asked.recent(self.t);
         let mut least = None;
         for event in self.asked.facts.history.own_events(self.t) {
             if let Event::Put { cell, .. } = event {
-                let readers = self.asked.readers(cell);
-                least = lesser(least, self.first_mate_across(b, readers));
+                least = lesser(least, self.first_mate_across(b, recent.readers(cell)));
             }
         }
         least
@@ -32,21 +31,14 @@ impl<'a> Validation<'a> {
         requires { IsAt self.now.asked b.0 }
         ensures { IsLeast (at self.now EntersAt b.0) result }
     {
+        let recent = self.asked.recent(self.t);
         let mut least = None;
         for event in self.asked.facts.history.own_events(self.t) {
             if let Event::Got { cell, .. } = event {
-                least = lesser(least, self.mate_writer(b, cell));
+                least = lesser(least, self.first_mate_across(b, recent.writers(cell)));
             }
         }
         least
-    }
-
-    // The least at stake that has put a cell, is across from t, and of b's batch.
-    fn mate_writer(&self, b: Txn, cell: Cell) -> Option<Txn>
-        requires { IsAt self.now.asked b.0 }
-        ensures { IsLeast (at self.now IsMateByPut b.0 cell) result }
-    {
-        self.first_mate_across(b, self.asked.writers(cell))
     }
 
     // The least of some at stake that are across from t, and of b's batch.
@@ -56,7 +48,7 @@ impl<'a> Validation<'a> {
         requires among_here { AreAt self.now among.now }
         ensures { IsLeast (at self.now IsMateAmong b.0 among.now) result }
     {
-        for u in from_number(among, self.asked.register.batches.horizon(self.t)) {
+        for u in among {
             if self.are_one_batch(b, *u)
                 && is_at_stake(self.asked.facts.history, self.t, *u)
                 && self.are_across(self.t, *u)

@@ -6,12 +6,12 @@
 ghost use Rattle.std.specs.Prelude.{◌≡◌};
 ghost use Rattle.teb_history.specs.Ascending.{IsAscendingBy};
 ghost use Rattle.teb_history.specs.Live.{number_of};
-ghost use Rattle.snapshot_node.specs.Asking.{IsAt};
+ghost use Rattle.snapshot_node.specs.Asking.{AreLate, IsAt, there};
+ghost use Rattle.snapshot_node.specs.Standing.{readers_in};
 ghost use Rattle.snapshot_node.specs.Validating.{AreAt, AreOwn, IsAtStake, ruled, at};
 ghost use Rattle.snapshot_node.specs.Pivots.{IsLeast, IsMiddle, IsMiddleAmong, IsFirst, ComesBefore, ComesAfter, ComesIn, ComesInBy, break_by};
 
 use crate::neighbours::{is_at_stake, lesser};
-use crate::numbered::from_number;
 use crate::validation::{Own, Validation};
 use teb_history::Event;
 use teb_names::{Cell, Txn};
@@ -82,10 +82,11 @@ impl<'a> Validation<'a> {
         requires { AreOwn self.now own }
         ensures { IsLeast (at self.now ComesIn) result }
     {
+        let recent = self.asked.recent(self.t);
         let mut least = None;
         for event in self.asked.facts.history.own_events(self.t) {
             if let Event::Put { cell, .. } = event {
-                least = lesser(least, self.least_before_by(cell, own));
+                least = lesser(least, self.least_before_by(cell, recent.readers(cell), own));
             }
         }
         least
@@ -93,17 +94,16 @@ impl<'a> Validation<'a> {
 
     // The same by an edge to t of a reader of one cell that t has put. Of readers that follow one another in one batch it asks the
     // first: the others are reached by the same. `last` is the last one that was asked; at first t, who has no mate across from it.
-    fn least_before_by(&self, cell: Cell, own: Own) -> Option<Txn>
-        requires { AreOwn self.now own }
+    fn least_before_by(&self, cell: Cell, among: &[Txn], own: Own) -> Option<Txn>
+        requires late { AreLate self.now.asked self.now.t.0 (there self.now.asked readers_in cell) among.now }
+        requires own { AreOwn self.now own }
         ensures { IsLeast (at self.now ComesInBy cell) result }
     {
+        let _ = cell;
         let t = self.t;
         let mut least = None;
         let mut last = t;
-        for c in from_number(
-            self.asked.readers(cell),
-            self.asked.register.batches.horizon(t),
-        ) {
+        for c in among {
             if is_at_stake(self.asked.facts.history, t, *c)
                 && self.are_across(t, *c)
                 && !self.are_one_batch(last, *c)
@@ -122,10 +122,11 @@ impl<'a> Validation<'a> {
         requires own { AreOwn self.now own }
         ensures { IsLeast (at self.now IsMiddle a.0) result }
     {
+        let recent = self.asked.recent(a);
         let mut least = None;
         for event in self.asked.facts.history.own_events(a) {
             if let Event::Got { cell, .. } = event {
-                least = lesser(least, self.middle_by(a, self.asked.writers(cell), own));
+                least = lesser(least, self.middle_by(a, recent.writers(cell), own));
             }
         }
         least
@@ -139,7 +140,7 @@ impl<'a> Validation<'a> {
         requires among_here { AreAt self.now among.now }
         ensures { IsLeast (at self.now IsMiddleAmong a.0 among.now) result }
     {
-        for b in from_number(among, self.asked.register.batches.horizon(a)) {
+        for b in among {
             if is_at_stake(self.asked.facts.history, self.t, *b)
                 && self.are_across(a, *b)
                 && self.edge_out(*b, own).is_some()

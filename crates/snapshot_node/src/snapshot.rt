@@ -110,7 +110,8 @@ impl Control for Snapshot {
             register: &self.register,
             facts,
         };
-        let among = asked.late_writers(t, cell);
+        let recent = asked.recent(t);
+        let among = recent.writers(cell);
         match asked.first_writer(t, cell, among) {
             Some(writer) => Verdict::Break(Broken::First { writer, cell }),
             None => wait_for(asked.blocker(t, cell, among)),

@@ -3,24 +3,19 @@ use Rattle.std.proofs.lemmas.Bool.{both_ways}
 use Rattle.teb_names.specs.declared.Txn.{Txn}
 use Rattle.teb_laws.specs.Lawful.{Lawful}
 use Rattle.phase_api.specs.FactsView.{setup_of, events_of}
-use Rattle.batch_book.proofs.Telling.{joined_from}
 use Rattle.snapshot_node.specs.declared.marks.Mark.{Mark}
 use Rattle.snapshot_node.specs.Marks.{HaveGrown, IsTold}
 use Rattle.snapshot_node.specs.Pivots.{IsAcross}
-use Rattle.snapshot_node.proofs.Edges.{across_later}
-use Rattle.snapshot_node.proofs.FirstOf.{each_among}
-use Rattle.snapshot_node.proofs.Grown.{EachBefore, each_more, each_grown, each_from, grown_then, told_still}
+use Rattle.snapshot_node.proofs.Listed.{at_among}
+use Rattle.snapshot_node.proofs.Grown.{EachBefore, each_more, each_all, each_grown, grown_then, told_still}
 use Rattle.snapshot_node.proofs.marking.mark_ahead.Goals as goal
 use Rattle.snapshot_node.proofs.marking.mark_ahead.Goals.{then-may_be_across, else-may_be_across}
 
-pub horizon-requires : goal.horizon-requires
-horizon-requires c = joined_from _ (setup_of c.args.asked.now.facts.now) (events_of c.args.asked.now.facts.now) c.args.asked.now.register.now.node.0 c.args.t.0 c.args.asked.now.stands.batches c.requires.here.typed.begun c.requires.here.on
-
 pub may_be_across-requires-clause-right : goal.may_be_across-requires-clause-right
-may_be_across-requires-clause-right c = c.requires.among_here _ (each_among (record { 0 = 0 }) c.args.among.now c.from_number-u-items.result.now c.horizon.result.0 c.from_number-u-items.ensures c.loop-u.u-index c.loop-u-test.true)
+may_be_across-requires-clause-right c = c.requires.among_here _ (at_among c.args.among.now c.loop-u.u-index _ c.loop-u-test.true)
 
 pub mark_pair-requires-clause-head : goal.mark_pair-requires-clause-head
-mark_pair-requires-clause-head c = c.requires.among_here _ (each_among (record { 0 = 0 }) c.args.among.now c.from_number-u-items.result.now c.horizon.result.0 c.from_number-u-items.ensures c.loop-u.u-index c.loop-u-test.true)
+mark_pair-requires-clause-head c = c.requires.among_here _ (at_among c.args.among.now c.loop-u.u-index _ c.loop-u-test.true)
 
 pub loop-u-preserved : goal.loop-u-preserved
 loop-u-preserved c =
@@ -31,7 +26,7 @@ loop-u-preserved c =
     let P = λ (u : ℕ). Lawful S H × IsAcross S H n t t c.args.among.now u in
     let R = λ (ms : List Mark) (u : ℕ). IsTold S H n ms t u in
     let d : Txn = record { 0 = 0 } in
-    let xs = c.from_number-u-items.result.now in
+    let xs = c.args.among.now in
     let i = c.loop-u.u-index in
     let m = c.loop-u.marks in
     elim c.if-may_be_across.branch [
@@ -53,7 +48,5 @@ returns-clause-told c l u p =
     let H = events_of c.args.asked.now.facts.now in
     let n = c.args.asked.now.register.now.node.0 in
     let t = c.args.t.0 in
-    let m = c.horizon.result.0 in
     let ms = c.loop-u.marks in
-    each_from (λ (u : ℕ). Lawful S H × IsAcross S H n t t c.args.among.now u) (λ (u : ℕ). IsTold S H n ms t u) (record { 0 = 0 }) c.args.among.now c.from_number-u-items.result.now m c.loop-u.u-index u c.from_number-u-items.ensures c.loop-u-test.false c.loop-u.invariant.told
-    (across_later S H n t m u (c.horizon.ensures.closed S H n c.args.asked.now.stands.batches) (c.requires.among_here u p.listed).typed.begun p.across) p.listed (l, p)
+    each_all (λ (u : ℕ). Lawful S H × IsAcross S H n t t c.args.among.now u) (λ (u : ℕ). IsTold S H n ms t u) (record { 0 = 0 }) c.args.among.now c.loop-u.u-index u c.loop-u-test.false c.loop-u.invariant.told p.listed (l, p)

@@ -14,5 +14,5 @@ invariant-loop-u l =
     let t = l.fn.t.0 in
     record {
       grown : HaveGrown l.fn.marks l.marks;
-      told : EachBefore (λ (u : ℕ). Lawful S H × IsAcross S H n t t l.fn.among u) (λ (u : ℕ). IsTold S H n l.marks t u) (record { 0 = 0 }) l.u-items l.u-index;
+      told : EachBefore (λ (u : ℕ). Lawful S H × IsAcross S H n t t l.fn.among u) (λ (u : ℕ). IsTold S H n l.marks t u) (record { 0 = 0 }) l.fn.among l.u-index;
     }

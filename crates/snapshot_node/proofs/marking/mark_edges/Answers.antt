@@ -1,48 +1,26 @@
-use Rattle.std.proofs.Common.{◌∙◌, ◌∷◌, ℕ, List, ap, sym, subst}
-use Rattle.teb_names.specs.declared.Txn.{Txn}
+use Rattle.std.proofs.Common.{◌∙◌, ◌∷◌, ℕ, List, ap, subst}
 use Rattle.teb_history.specs.declared.Event.{Event}
 use Rattle.teb_history.specs.declared.Event.TheVariants.{Got, Put}
-use Rattle.teb_history.specs.Ascending.{IsAscendingBy}
-use Rattle.teb_history.specs.Live.{number_of}
 use Rattle.teb_history.specs.OwnEvents.{own_events}
 use Rattle.phase_api.specs.FactsView.{setup_of, events_of}
 use Rattle.snapshot_node.specs.declared.marks.Mark.{Mark}
 use Rattle.snapshot_node.specs.Marks.{IsTold}
-use Rattle.snapshot_node.specs.Pivots.{AreHere, IsAcross}
-use Rattle.snapshot_node.proofs.Listed.{writers_ascend, writers_here, readers_ascend, readers_here}
+use Rattle.snapshot_node.specs.declared.asked.Asked.{Asked}
+use Rattle.snapshot_node.specs.Asking.{AreThere, there}
+use Rattle.snapshot_node.specs.Standing.{readers_in, writers_in}
+use Rattle.snapshot_node.proofs.Listed.{writers_here, readers_here}
 use Rattle.snapshot_node.proofs.Edges.{stake_stands}
 use Rattle.snapshot_node.proofs.CellEdges.{Ahead, Behind, listed_across, shared_ahead, shared_behind}
 use Rattle.snapshot_node.proofs.Covers.{covers_next, covers_end, covers_more}
+use Rattle.snapshot_node.proofs.RecentAcross.{late_as, across_recent}
 use Rattle.snapshot_node.proofs.Grown.{grown_then, told_still}
 use Rattle.snapshot_node.proofs.marking.mark_edges.Goals as goal
 
-pub mark_ahead-requires-clause-ascending : goal.mark_ahead-requires-clause-ascending
-mark_ahead-requires-clause-ascending c =
-    let S = setup_of c.args.asked.now.facts.now in
-    let H = events_of c.args.asked.now.facts.now in
-    let n = c.args.asked.now.register.now.node.0 in
-    subst (IsAscendingBy number_of) (sym c.writers.ensures) (writers_ascend S H n c.in-Got.cell)
-
 pub mark_ahead-requires-clause-among_here : goal.mark_ahead-requires-clause-among_here
-mark_ahead-requires-clause-among_here c =
-    let n = c.args.asked.now.register.now.node.0 in
-    subst (AreHere c.args.asked.now.facts.now n) (sym c.writers.ensures) (writers_here c.args.asked.now.facts.now n c.in-Got.cell c.args.asked.now.stands.orderly)
-
-pub mark_behind-requires-clause-ascending : goal.mark_behind-requires-clause-ascending
-mark_behind-requires-clause-ascending c =
-    let S = setup_of c.args.asked.now.facts.now in
-    let H = events_of c.args.asked.now.facts.now in
-    let n = c.args.asked.now.register.now.node.0 in
-    let t = c.args.t.0 in
-    subst (IsAscendingBy number_of) (sym c.readers.ensures) (readers_ascend S H n c.in-Put.cell)
+mark_ahead-requires-clause-among_here c = subst (λ (a : Asked). AreThere a c.writers.result.now) c.recent-recent.ensures.asked c.writers.ensures.here
 
 pub mark_behind-requires-clause-among_here : goal.mark_behind-requires-clause-among_here
-mark_behind-requires-clause-among_here c =
-    let S = setup_of c.args.asked.now.facts.now in
-    let H = events_of c.args.asked.now.facts.now in
-    let n = c.args.asked.now.register.now.node.0 in
-    let t = c.args.t.0 in
-    subst (AreHere c.args.asked.now.facts.now n) (sym c.readers.ensures) (readers_here c.args.asked.now.facts.now n c.in-Put.cell c.args.asked.now.stands.orderly)
+mark_behind-requires-clause-among_here c = subst (λ (a : Asked). AreThere a c.readers.result.now) c.recent-recent.ensures.asked c.readers.ensures.here
 
 pub loop-event-preserved-in-Got : goal.loop-event-preserved-in-Got
 loop-event-preserved-in-Got c =
@@ -55,7 +33,10 @@ loop-event-preserved-in-Got c =
     let rest = c.next.new.self in
     let A = λ (ms : List Mark) (u : ℕ). IsTold S H n ms t u in
     let B = λ (ms : List Mark) (u : ℕ). IsTold S H n ms u t in
-    let e : Event = Got c.in-Got.txn c.in-Got.cell c.in-Got.from c.in-Got.value in
+    let x = c.in-Got.cell in
+    let a = c.args.asked.now in
+    let e : Event = Got c.in-Got.txn x c.in-Got.from c.in-Got.value in
+    let late = late_as (λ (a : Asked). there a writers_in x) c.recent-recent.ensures.asked c.recent-recent.ensures.t c.writers.ensures.late in
     let steps = c.in-Some.ensures.steps ∙ ap (λ (z : Event). z ∷ rest) c.in-Got.is in
     let m = c.loop-event.marks in
     let k = c.mark_ahead.new.marks in
@@ -63,7 +44,7 @@ loop-event-preserved-in-Got c =
     record {
       grown = grown_then c.args.marks.now m k c.loop-event.invariant.grown grown;
       ahead = λ q. covers_next (Ahead S H n t t) (A k) all e left rest steps (covers_more (Ahead S H n t t) (A m) all (A k) left (λ u y. told_still S H n m k t u grown y) (c.loop-event.invariant.ahead q))
-          (λ u y. c.mark_ahead.ensures.told q.lawful u (subst (λ (ts : List Txn). IsAcross S H n t t ts u) (sym c.writers.ensures) (listed_across S H n t q.lawful c.args.asked.now.stands.orderly q.runs t c.in-Got.cell u y)));
+          (λ u y. c.mark_ahead.ensures.told q.lawful u (across_recent a t (writers_in S H n x) c.writers.result.now late (writers_here a.facts.now n x a.stands.orderly) t u (listed_across S H n t q.lawful a.stands.orderly q.runs t x u y)));
       behind = λ q. covers_next (Behind S H n t t) (B k) all e left rest steps (covers_more (Behind S H n t t) (B m) all (B k) left (λ u y. told_still S H n m k u t grown y) (c.loop-event.invariant.behind q)) (λ u y. absurd y);
     }
 
@@ -78,7 +59,10 @@ loop-event-preserved-in-Put c =
     let rest = c.next.new.self in
     let A = λ (ms : List Mark) (u : ℕ). IsTold S H n ms t u in
     let B = λ (ms : List Mark) (u : ℕ). IsTold S H n ms u t in
-    let e : Event = Put c.in-Put.txn c.in-Put.cell c.in-Put.value in
+    let x = c.in-Put.cell in
+    let a = c.args.asked.now in
+    let e : Event = Put c.in-Put.txn x c.in-Put.value in
+    let late = late_as (λ (a : Asked). there a readers_in x) c.recent-recent.ensures.asked c.recent-recent.ensures.t c.readers.ensures.late in
     let steps = c.in-Some.ensures.steps ∙ ap (λ (z : Event). z ∷ rest) c.in-Put.is in
     let m = c.loop-event.marks in
     let k = c.mark_behind.new.marks in
@@ -87,7 +71,7 @@ loop-event-preserved-in-Put c =
       grown = grown_then c.args.marks.now m k c.loop-event.invariant.grown grown;
       ahead = λ q. covers_next (Ahead S H n t t) (A k) all e left rest steps (covers_more (Ahead S H n t t) (A m) all (A k) left (λ u y. told_still S H n m k t u grown y) (c.loop-event.invariant.ahead q)) (λ u y. absurd y);
       behind = λ q. covers_next (Behind S H n t t) (B k) all e left rest steps (covers_more (Behind S H n t t) (B m) all (B k) left (λ u y. told_still S H n m k u t grown y) (c.loop-event.invariant.behind q))
-          (λ u y. c.mark_behind.ensures.told q.lawful u (subst (λ (ts : List Txn). IsAcross S H n t t ts u) (sym c.readers.ensures) y));
+          (λ u y. c.mark_behind.ensures.told q.lawful u (across_recent a t (readers_in S H n x) c.readers.result.now late (readers_here a.facts.now n x a.stands.orderly) t u y));
     }
 
 pub returns-clause-ahead : goal.returns-clause-ahead

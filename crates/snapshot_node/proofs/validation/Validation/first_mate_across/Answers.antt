@@ -2,27 +2,23 @@ use Rattle.std.proofs.Common.{◌∙◌, sym}
 use Rattle.std.proofs.lemmas.Bool.{both_ways}
 use Rattle.teb_names.specs.declared.Txn.{Txn}
 use Rattle.phase_api.specs.FactsView.{setup_of, events_of}
-use Rattle.batch_book.proofs.Telling.{joined_from}
 use Rattle.snapshot_node.specs.Pivots.{IsMateAmong}
-use Rattle.snapshot_node.proofs.Edges.{across_later}
-use Rattle.snapshot_node.proofs.FirstOf.{none_yet, none_more, each_among, first_is, first_not}
+use Rattle.snapshot_node.proofs.Listed.{at_among}
+use Rattle.snapshot_node.proofs.FirstOf.{none_yet, none_more, first_is, first_not}
 use Rattle.snapshot_node.proofs.validation.Validation.first_mate_across.Goals as goal
 use Rattle.snapshot_node.proofs.validation.Validation.first_mate_across.Goals.{else-are_one_batch-via-then-are_one_batch+then-is_at_stake+else-are_across, else-are_one_batch-via-then-are_one_batch+else-is_at_stake, else-are_one_batch-via-else-are_one_batch}
 
-pub horizon-requires : goal.horizon-requires
-horizon-requires c = joined_from _ (setup_of c.args.self.now.asked.facts.now) (events_of c.args.self.now.asked.facts.now) c.args.self.now.asked.register.now.node.0 c.args.self.now.t.0 c.args.self.now.asked.stands.batches c.args.self.now.here.typed.begun c.args.self.now.here.on
-
 pub loop-u-init : goal.loop-u-init
-loop-u-init c = none_yet (IsMateAmong (setup_of c.args.self.now.asked.facts.now) (events_of c.args.self.now.asked.facts.now) c.args.self.now.asked.register.now.node.0 c.args.self.now.t.0 c.args.b.0 c.args.among.now) (record { 0 = 0 }) c.from_number-u-items.result.now
+loop-u-init c = none_yet (IsMateAmong (setup_of c.args.self.now.asked.facts.now) (events_of c.args.self.now.asked.facts.now) c.args.self.now.asked.register.now.node.0 c.args.self.now.t.0 c.args.b.0 c.args.among.now) (record { 0 = 0 }) c.args.among.now
 
 pub are_one_batch-requires-clause-begun_b : goal.are_one_batch-requires-clause-begun_b
 are_one_batch-requires-clause-begun_b c = c.requires.here.typed.begun
 
 pub are_one_batch-requires-clause-begun_c : goal.are_one_batch-requires-clause-begun_c
-are_one_batch-requires-clause-begun_c c = (c.requires.among_here _ (each_among (record { 0 = 0 }) c.args.among.now c.from_number-u-items.result.now c.horizon.result.0 c.from_number-u-items.ensures c.loop-u.u-index c.loop-u-test.true)).typed.begun
+are_one_batch-requires-clause-begun_c c = (c.requires.among_here _ (at_among c.args.among.now c.loop-u.u-index _ c.loop-u-test.true)).typed.begun
 
 pub are_across-requires-clause-right : goal.are_across-requires-clause-right
-are_across-requires-clause-right c = c.requires.among_here _ (each_among (record { 0 = 0 }) c.args.among.now c.from_number-u-items.result.now c.horizon.result.0 c.from_number-u-items.ensures c.loop-u.u-index c.loop-u-test.true)
+are_across-requires-clause-right c = c.requires.among_here _ (at_among c.args.among.now c.loop-u.u-index _ c.loop-u-test.true)
 
 pub returns-then-are_across : goal.returns-then-are_across
 returns-then-are_across c =
@@ -31,15 +27,11 @@ returns-then-are_across c =
     let H = events_of v.asked.facts.now in
     let n = v.asked.register.now.node.0 in
     let t = v.t.0 in
-    let m = c.horizon.result.0 in
     let P = IsMateAmong S H n t c.args.b.0 c.args.among.now in
-    let ys = c.from_number-u-items.result.now in
     let d : Txn = record { 0 = 0 } in
-    first_is P d c.args.among.now ys m c.from_number-u-items.ensures c.requires.ascending (λ w p. p.0.listed)
-    (λ w p. across_later S H n t m w (c.horizon.ensures.closed S H n v.asked.stands.batches) (c.requires.among_here w p.0.listed).typed.begun p.0.across)
-    c.loop-u.u-index c.loop-u-test.true c.loop-u.invariant (
+    first_is P d c.args.among.now (λ w p. p.0.listed) c.requires.ascending c.loop-u.u-index c.loop-u-test.true c.loop-u.invariant (
       record {
-        listed = each_among d c.args.among.now ys m c.from_number-u-items.ensures c.loop-u.u-index c.loop-u-test.true;
+        listed = at_among c.args.among.now c.loop-u.u-index d c.loop-u-test.true;
         stake = sym c.is_at_stake.ensures ∙ c.if-is_at_stake.true;
         across = sym c.are_across.ensures ∙ c.if-are_across.true;
       },
@@ -53,7 +45,7 @@ loop-u-preserved c =
     let H = events_of v.asked.facts.now in
     let n = v.asked.register.now.node.0 in
     let t = v.t.0 in
-    none_more (IsMateAmong S H n t c.args.b.0 c.args.among.now) (record { 0 = 0 }) c.from_number-u-items.result.now c.loop-u.u-index c.loop-u.invariant
+    none_more (IsMateAmong S H n t c.args.b.0 c.args.among.now) (record { 0 = 0 }) c.args.among.now c.loop-u.u-index c.loop-u.invariant
     (λ p. elim c.else-are_one_batch.branch [
       | else-are_one_batch-via-then-are_one_batch+then-is_at_stake+else-are_across w ↦ both_ways _ (sym w.are_across.ensures ∙ w.if-are_across.false) p.0.across
       | else-are_one_batch-via-then-are_one_batch+else-is_at_stake w ↦ both_ways _ (sym w.is_at_stake.ensures ∙ w.if-is_at_stake.false) p.0.stake
@@ -67,7 +59,4 @@ returns c =
     let H = events_of v.asked.facts.now in
     let n = v.asked.register.now.node.0 in
     let t = v.t.0 in
-    let m = c.horizon.result.0 in
-    first_not (IsMateAmong S H n t c.args.b.0 c.args.among.now) (record { 0 = 0 }) c.args.among.now c.from_number-u-items.result.now m c.from_number-u-items.ensures c.requires.ascending (λ w p. p.0.listed)
-    (λ w p. across_later S H n t m w (c.horizon.ensures.closed S H n v.asked.stands.batches) (c.requires.among_here w p.0.listed).typed.begun p.0.across)
-    c.loop-u.u-index c.loop-u-test.false c.loop-u.invariant
+    first_not (IsMateAmong S H n t c.args.b.0 c.args.among.now) (record { 0 = 0 }) c.args.among.now (λ w p. p.0.listed) c.loop-u.u-index c.loop-u-test.false c.loop-u.invariant

@@ -1,29 +1,25 @@
 use Rattle.std.proofs.Common.{◌∙◌, sym, ap}
 use Rattle.std.proofs.lemmas.Bool.{both_ways}
 use Rattle.phase_api.specs.FactsView.{setup_of, events_of}
-use Rattle.batch_book.proofs.Telling.{joined_from}
 use Rattle.snapshot_node.specs.declared.marks.Mark.{Mark}
-use Rattle.snapshot_node.proofs.Edges.{across_later}
-use Rattle.snapshot_node.proofs.FirstOf.{none_yet, none_more, each_among, first_not}
+use Rattle.snapshot_node.proofs.Listed.{at_among}
+use Rattle.snapshot_node.proofs.FirstOf.{none_yet, none_more, first_not}
 use Rattle.snapshot_node.proofs.Nearness.{EnteredAcross}
 use Rattle.snapshot_node.proofs.validation.Validation.is_entered_among.Goals as goal
 use Rattle.snapshot_node.proofs.validation.Validation.is_entered_among.Goals.{else-mark_of-via-then-mark_of+then-is_at_stake+else-are_across, else-mark_of-via-then-mark_of+else-is_at_stake, else-mark_of-via-else-mark_of}
 
-pub horizon-requires : goal.horizon-requires
-horizon-requires c = joined_from _ (setup_of c.args.self.now.asked.facts.now) (events_of c.args.self.now.asked.facts.now) c.args.self.now.asked.register.now.node.0 c.args.self.now.t.0 c.args.self.now.asked.stands.batches c.args.self.now.here.typed.begun c.args.self.now.here.on
-
 pub loop-a-init : goal.loop-a-init
-loop-a-init c = none_yet (EnteredAcross c.args.self.now c.args.among.now) (record { 0 = 0 }) c.from_number-a-items.result.now
+loop-a-init c = none_yet (EnteredAcross c.args.self.now c.args.among.now) (record { 0 = 0 }) c.args.among.now
 
 pub mark_of-requires : goal.mark_of-requires
-mark_of-requires c = c.requires.among_here _ (each_among (record { 0 = 0 }) c.args.among.now c.from_number-a-items.result.now c.horizon.result.0 c.from_number-a-items.ensures c.loop-a.a-index c.loop-a-test.true)
+mark_of-requires c = c.requires _ (at_among c.args.among.now c.loop-a.a-index _ c.loop-a-test.true)
 
 pub are_across-requires-clause-right : goal.are_across-requires-clause-right
-are_across-requires-clause-right c = c.requires.among_here _ (each_among (record { 0 = 0 }) c.args.among.now c.from_number-a-items.result.now c.horizon.result.0 c.from_number-a-items.ensures c.loop-a.a-index c.loop-a-test.true)
+are_across-requires-clause-right c = c.requires _ (at_among c.args.among.now c.loop-a.a-index _ c.loop-a-test.true)
 
 pub loop-a-preserved : goal.loop-a-preserved
 loop-a-preserved c =
-    none_more (EnteredAcross c.args.self.now c.args.among.now) (record { 0 = 0 }) c.from_number-a-items.result.now c.loop-a.a-index c.loop-a.invariant
+    none_more (EnteredAcross c.args.self.now c.args.among.now) (record { 0 = 0 }) c.args.among.now c.loop-a.a-index c.loop-a.invariant
     (λ p. elim c.else-mark_of.branch [
       | else-mark_of-via-then-mark_of+then-is_at_stake+else-are_across w ↦ both_ways _ (sym w.are_across.ensures ∙ w.if-are_across.false) p.0.across
       | else-mark_of-via-then-mark_of+else-is_at_stake w ↦ both_ways _ (sym w.is_at_stake.ensures ∙ w.if-is_at_stake.false) p.0.stake
@@ -36,7 +32,4 @@ returns c h u a m =
     let H = events_of c.args.self.now.asked.facts.now in
     let n = c.args.self.now.asked.register.now.node.0 in
     let t = c.args.self.now.t.0 in
-    let first = c.horizon.result.0 in
-    first_not (EnteredAcross c.args.self.now c.args.among.now) (record { 0 = 0 }) c.args.among.now c.from_number-a-items.result.now first c.from_number-a-items.ensures c.requires.ascending (λ w p. p.0.listed)
-    (λ w p. across_later S H n t first w (c.horizon.ensures.closed S H n c.args.self.now.asked.stands.batches) (c.requires.among_here w p.0.listed).typed.begun p.0.across)
-    c.loop-a.a-index c.loop-a-test.false c.loop-a.invariant u (a, m)
+    first_not (EnteredAcross c.args.self.now c.args.among.now) (record { 0 = 0 }) c.args.among.now (λ w p. p.0.listed) c.loop-a.a-index c.loop-a-test.false c.loop-a.invariant u (a, m)

@@ -5,9 +5,13 @@ use Rattle.teb_history.specs.OwnEvents.{own_events}
 use Rattle.teb_laws.proofs.Sound.{tree_facts}
 use Rattle.phase_api.specs.FactsView.{setup_of, events_of}
 use Rattle.batch_book.proofs.Numbered.{unfinished_parts}
+use Rattle.snapshot_node.specs.declared.asked.Asked.{Asked}
+use Rattle.snapshot_node.specs.Asking.{there}
+use Rattle.snapshot_node.specs.Standing.{readers_in}
 use Rattle.snapshot_node.specs.Pivots.{ComesIn}
 use Rattle.snapshot_node.proofs.Least.{Remains, remains_start, remains_next, remains_skip, remains_end}
 use Rattle.snapshot_node.proofs.Comers.{ComesBy, comes_by_puts, along_comes, comes_along}
+use Rattle.snapshot_node.proofs.RecentAcross.{late_as}
 use Rattle.snapshot_node.proofs.validation.Validation.least_before.Goals as goal
 
 pub loop-event-init : goal.loop-event-init
@@ -21,6 +25,9 @@ loop-event-init c =
     remains_start (ComesBy S H n t) (ComesIn S H n t) (own_events H t) c.into_iter-event-iterator.result (c.into_iter-event-iterator.ensures.into_iter_gives ∙ c.own_events-event-items.ensures)
     (along_comes S H n t c.args.self.now.lawful c.args.self.now.asked.stands.orderly runs f c.args.self.now.asked.stands.kind)
     (comes_along S H n t c.args.self.now.lawful c.args.self.now.asked.stands.orderly runs f c.args.self.now.asked.stands.kind)
+
+pub least_before_by-requires-clause-late : goal.least_before_by-requires-clause-late
+least_before_by-requires-clause-late c = late_as (λ (a : Asked). there a readers_in c.in-Put.cell) c.recent-recent.ensures.asked c.recent-recent.ensures.t c.readers.ensures.late
 
 pub loop-event-preserved-in-Put : goal.loop-event-preserved-in-Put
 loop-event-preserved-in-Put c =

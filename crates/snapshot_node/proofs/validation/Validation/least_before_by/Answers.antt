@@ -2,24 +2,13 @@ use Rattle.std.proofs.Common.{◌≡◌, ◌∙◌, ◌+◌, ◌∷◌, Option, 
 use Rattle.std.proofs.lemmas.Bool.{both_ways}
 use Rattle.std.proofs.lemmas.List.{drop_all}
 use Rattle.teb_names.specs.declared.Txn.{Txn}
-use Rattle.teb_history.specs.Ascending.{IsAscendingBy}
-use Rattle.teb_history.specs.Live.{number_of}
 use Rattle.phase_api.specs.FactsView.{setup_of, events_of}
 use Rattle.batch_book.proofs.Numbered.{unfinished_parts}
-use Rattle.batch_book.proofs.Telling.{joined_from}
 use Rattle.snapshot_node.specs.Pivots.{Reaches, ComesInBy}
-use Rattle.snapshot_node.proofs.Later.{kept}
-use Rattle.snapshot_node.proofs.Listed.{readers_ascend}
 use Rattle.snapshot_node.proofs.Least.{Remains, least_as, remains_start, remains_next, remains_skip, remains_end}
 use Rattle.snapshot_node.proofs.Comers.{ComesThrough, IsLast, last_first, last_next, remains_mate, through_comes, comes_through, reader_here}
 use Rattle.snapshot_node.proofs.validation.Validation.least_before_by.Goals as goal
 use Rattle.snapshot_node.proofs.validation.Validation.least_before_by.Goals.{then-is_at_stake+then-are_across+then-not-are_one_batch, else-is_at_stake, else-is_at_stake-via-then-is_at_stake+then-are_across+else-not-are_one_batch, else-is_at_stake-via-then-is_at_stake+else-are_across, else-is_at_stake-via-else-is_at_stake}
-
-pub horizon-requires : goal.horizon-requires
-horizon-requires c = joined_from _ (setup_of c.args.self.now.asked.facts.now) (events_of c.args.self.now.asked.facts.now) c.args.self.now.asked.register.now.node.0 c.args.self.now.t.0 c.args.self.now.asked.stands.batches c.args.self.now.here.typed.begun c.args.self.now.here.on
-
-pub from_number-c-items-requires : goal.from_number-c-items-requires
-from_number-c-items-requires c = subst (IsAscendingBy number_of) (sym c.readers.ensures) (readers_ascend (setup_of c.args.self.now.asked.facts.now) (events_of c.args.self.now.asked.facts.now) c.args.self.now.asked.register.now.node.0 c.args.cell)
 
 pub loop-c-init : goal.loop-c-init
 loop-c-init c =
@@ -28,11 +17,11 @@ loop-c-init c =
     let n = c.args.self.now.asked.register.now.node.0 in
     let t = c.args.self.now.t.0 in
     let x = c.args.cell in
-    let m = c.horizon.result.0 in
-    let cs = c.from_number-c-items.result.now in
+    let m = c.requires.late.from in
+    let cs = c.args.among.now in
     let runs = (unfinished_parts H t c.args.self.now.unfinished).2 in
-    let e = kept m c.readers.ensures c.from_number-c-items.ensures in
-    let below = c.horizon.ensures.closed S H n c.args.self.now.asked.stands.batches in
+    let e = c.requires.late.are in
+    let below = c.requires.late.below in
     record {
       remains = remains_start (ComesThrough S H n t) (ComesInBy S H n t x) cs cs refl
           (through_comes S H n t c.args.self.now.lawful c.args.self.now.asked.stands.orderly runs x m below cs e)
@@ -41,16 +30,16 @@ loop-c-init c =
     }
 
 pub are_across-requires-clause-right : goal.are_across-requires-clause-right
-are_across-requires-clause-right c = reader_here c.args.self.now.asked.facts.now c.args.self.now.asked.register.now.node.0 c.args.cell c.horizon.result.0 c.args.self.now.asked.stands.orderly c.from_number-c-items.result.now (kept c.horizon.result.0 c.readers.ensures c.from_number-c-items.ensures) c.loop-c.c-index c.loop-c-test.true
+are_across-requires-clause-right c = reader_here c.args.self.now.asked.facts.now c.args.self.now.asked.register.now.node.0 c.args.cell c.requires.late.from c.args.self.now.asked.stands.orderly c.args.among.now c.requires.late.are c.loop-c.c-index c.loop-c-test.true
 
 pub are_one_batch-requires-clause-begun_b : goal.are_one_batch-requires-clause-begun_b
 are_one_batch-requires-clause-begun_b c = c.loop-c.invariant.last.there
 
 pub are_one_batch-requires-clause-begun_c : goal.are_one_batch-requires-clause-begun_c
-are_one_batch-requires-clause-begun_c c = (reader_here c.args.self.now.asked.facts.now c.args.self.now.asked.register.now.node.0 c.args.cell c.horizon.result.0 c.args.self.now.asked.stands.orderly c.from_number-c-items.result.now (kept c.horizon.result.0 c.readers.ensures c.from_number-c-items.ensures) c.loop-c.c-index c.loop-c-test.true).typed.begun
+are_one_batch-requires-clause-begun_c c = (reader_here c.args.self.now.asked.facts.now c.args.self.now.asked.register.now.node.0 c.args.cell c.requires.late.from c.args.self.now.asked.stands.orderly c.args.among.now c.requires.late.are c.loop-c.c-index c.loop-c-test.true).typed.begun
 
 pub least_into-requires-clause-here : goal.least_into-requires-clause-here
-least_into-requires-clause-here c = reader_here c.args.self.now.asked.facts.now c.args.self.now.asked.register.now.node.0 c.args.cell c.horizon.result.0 c.args.self.now.asked.stands.orderly c.from_number-c-items.result.now (kept c.horizon.result.0 c.readers.ensures c.from_number-c-items.ensures) c.loop-c.c-index c.loop-c-test.true
+least_into-requires-clause-here c = reader_here c.args.self.now.asked.facts.now c.args.self.now.asked.register.now.node.0 c.args.cell c.requires.late.from c.args.self.now.asked.stands.orderly c.args.among.now c.requires.late.are c.loop-c.c-index c.loop-c-test.true
 
 pub loop-c-preserved : goal.loop-c-preserved
 loop-c-preserved c =
@@ -59,12 +48,12 @@ loop-c-preserved c =
     let n = c.args.self.now.asked.register.now.node.0 in
     let t = c.args.self.now.t.0 in
     let i = c.loop-c.c-index in
-    let cs = c.from_number-c-items.result.now in
+    let cs = c.args.among.now in
     let u : Txn = get_or cs i (record { 0 = 0 }) in
     let Q = ComesThrough S H n t in
     let P = ComesInBy S H n t c.args.cell in
     let l = c.loop-c-test.true in
-    let here = reader_here c.args.self.now.asked.facts.now c.args.self.now.asked.register.now.node.0 c.args.cell c.horizon.result.0 c.args.self.now.asked.stands.orderly c.from_number-c-items.result.now (kept c.horizon.result.0 c.readers.ensures c.from_number-c-items.ensures) c.loop-c.c-index c.loop-c-test.true in
+    let here = reader_here c.args.self.now.asked.facts.now c.args.self.now.asked.register.now.node.0 c.args.cell c.requires.late.from c.args.self.now.asked.stands.orderly c.args.among.now c.requires.late.are c.loop-c.c-index c.loop-c-test.true in
     let next : drop i cs ≡ u ∷ drop (i + 1) cs = rw (add-one, drop-cons cs i (record { 0 = 0 })) refl in
     let R = λ (last : Txn) (best : Option Txn). record { remains : Remains Q P (drop (i + 1) cs) best; last : IsLast S H n t last best } in
     elim c.if-is_at_stake.branch [
@@ -90,5 +79,5 @@ returns c =
     let H = events_of c.args.self.now.asked.facts.now in
     let n = c.args.self.now.asked.register.now.node.0 in
     let t = c.args.self.now.t.0 in
-    let cs = c.from_number-c-items.result.now in
+    let cs = c.args.among.now in
     remains_end (ComesThrough S H n t) (ComesInBy S H n t c.args.cell) (drop c.loop-c.c-index cs) c.loop-c.least (drop_all c.loop-c.c-index cs c.loop-c-test.false) c.loop-c.invariant.remains

@@ -11,6 +11,6 @@ invariant-loop-c l =
     let H = events_of l.fn.self.asked.facts.now in
     let n = l.fn.self.asked.register.now.node.0 in
     record {
-      remains : Remains (ComesThrough S H n l.fn.self.t.0) (ComesInBy S H n l.fn.self.t.0 l.fn.cell) (drop l.c-index l.c-items) l.least;
+      remains : Remains (ComesThrough S H n l.fn.self.t.0) (ComesInBy S H n l.fn.self.t.0 l.fn.cell) (drop l.c-index l.fn.among) l.least;
       last : IsLast S H n l.fn.self.t.0 l.last l.least;
     }

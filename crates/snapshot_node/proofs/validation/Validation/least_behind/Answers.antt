@@ -1,17 +1,18 @@
-use Rattle.std.proofs.Common.{◌∙◌, ◌∷◌, ℕ, List, ap, sym, subst}
-use Rattle.teb_names.specs.declared.Txn.{Txn}
+use Rattle.std.proofs.Common.{◌∙◌, ◌∷◌, ℕ, ap, sym, subst}
 use Rattle.teb_history.specs.declared.Event.{Event}
 use Rattle.teb_history.specs.declared.Event.TheVariants.{Put}
-use Rattle.teb_history.specs.Ascending.{IsAscendingBy}
-use Rattle.teb_history.specs.Live.{number_of}
 use Rattle.teb_history.specs.OwnEvents.{own_events}
 use Rattle.teb_laws.proofs.Sound.{tree_facts}
 use Rattle.batch_book.proofs.Numbered.{unfinished_parts}
 use Rattle.phase_api.specs.FactsView.{setup_of, events_of}
-use Rattle.snapshot_node.specs.Pivots.{AreHere, IsLeast, IsAcross, Leads}
+use Rattle.snapshot_node.specs.declared.asked.Asked.{Asked}
+use Rattle.snapshot_node.specs.Asking.{AreThere, there}
+use Rattle.snapshot_node.specs.Standing.{readers_in}
+use Rattle.snapshot_node.specs.Pivots.{Leads}
 use Rattle.snapshot_node.proofs.Least.{Remains, remains_start, remains_next, remains_skip, remains_end}
-use Rattle.snapshot_node.proofs.Listed.{readers_ascend, readers_here}
+use Rattle.snapshot_node.proofs.Listed.{readers_here}
 use Rattle.snapshot_node.proofs.CellEdges.{Behind, behind_leads, leads_behind, only_puts}
+use Rattle.snapshot_node.proofs.RecentAcross.{late_as, least_recent}
 use Rattle.snapshot_node.proofs.validation.Validation.least_behind.Goals as goal
 
 pub loop-event-init : goal.loop-event-init
@@ -26,11 +27,8 @@ loop-event-init c =
     (λ u h. behind_leads S H n t c.args.self.now.lawful c.args.self.now.asked.stands.orderly (unfinished_parts (events_of c.args.self.now.asked.facts.now) c.args.self.now.t.0 c.args.self.now.unfinished).2 a c.args.self.now.asked.stands.kind b u c.requires.stake h)
     (λ u h. leads_behind S H n t c.args.self.now.lawful c.args.self.now.asked.stands.orderly (unfinished_parts (events_of c.args.self.now.asked.facts.now) c.args.self.now.t.0 c.args.self.now.unfinished).2 a c.args.self.now.asked.stands.kind b u h)
 
-pub first_across-requires-clause-ascending : goal.first_across-requires-clause-ascending
-first_across-requires-clause-ascending c = subst (IsAscendingBy number_of) (sym c.readers-readers.ensures) (readers_ascend (setup_of c.args.self.now.asked.facts.now) (events_of c.args.self.now.asked.facts.now) c.args.self.now.asked.register.now.node.0 c.in-Put.cell)
-
 pub first_across-requires-clause-among_here : goal.first_across-requires-clause-among_here
-first_across-requires-clause-among_here c = subst (AreHere c.args.self.now.asked.facts.now c.args.self.now.asked.register.now.node.0) (sym c.readers-readers.ensures) (readers_here c.args.self.now.asked.facts.now c.args.self.now.asked.register.now.node.0 c.in-Put.cell c.args.self.now.asked.stands.orderly)
+first_across-requires-clause-among_here c = subst (λ (a : Asked). AreThere a c.readers.result.now) c.recent-recent.ensures.asked c.readers.ensures.here
 
 pub loop-event-preserved-in-Put : goal.loop-event-preserved-in-Put
 loop-event-preserved-in-Put c =
@@ -40,10 +38,13 @@ loop-event-preserved-in-Put c =
     let t = c.args.self.now.t.0 in
     let b = c.args.b.0 in
     let P = λ (u : ℕ). Leads S H n t u b in
-    let e : Event = Put c.in-Put.txn c.in-Put.cell c.in-Put.value in
+    let x = c.in-Put.cell in
+    let a = c.args.self.now.asked in
+    let e : Event = Put c.in-Put.txn x c.in-Put.value in
+    let late = late_as (λ (a : Asked). there a readers_in x) c.recent-recent.ensures.asked c.recent-recent.ensures.t c.readers.ensures.late in
     subst (Remains (Behind S H n t b) P c.next.new.self) (sym c.lesser-least.ensures)
     (remains_next (Behind S H n t b) P e c.loop-event.event-iterator c.next.new.self c.loop-event.least _ (c.in-Some.ensures.steps ∙ ap (λ (z : Event). z ∷ c.next.new.self) c.in-Put.is) c.loop-event.invariant
-    (subst (λ (ts : List Txn). IsLeast (IsAcross S H n t b ts) c.first_across.result) c.readers-readers.ensures c.first_across.ensures))
+    (least_recent a b (readers_in S H n x) c.readers.result.now late (readers_here a.facts.now n x a.stands.orderly) t c.first_across.result c.first_across.ensures))
 
 pub loop-event-preserved : goal.loop-event-preserved
 loop-event-preserved c =

@@ -5,11 +5,16 @@ use Rattle.teb_history.specs.OwnEvents.{own_events}
 use Rattle.teb_laws.proofs.Sound.{tree_facts}
 use Rattle.batch_book.proofs.Numbered.{unfinished_parts}
 use Rattle.phase_api.specs.FactsView.{setup_of, events_of}
+use Rattle.snapshot_node.specs.declared.asked.Asked.{Asked}
+use Rattle.snapshot_node.specs.Asking.{AreThere, there}
+use Rattle.snapshot_node.specs.Standing.{writers_in}
 use Rattle.snapshot_node.specs.Pivots.{EntersAt}
+use Rattle.snapshot_node.proofs.Listed.{writers_here}
 use Rattle.snapshot_node.proofs.Least.{Remains, remains_start, remains_next, remains_skip, remains_end}
 use Rattle.snapshot_node.proofs.CellEdges.{Ahead, only_gots}
-use Rattle.snapshot_node.proofs.Known.{IsMateOf, along_ahead, ahead_along}
+use Rattle.snapshot_node.proofs.Known.{IsMateOf, mate_writers, along_ahead, ahead_along}
 use Rattle.snapshot_node.proofs.Middles.{Both}
+use Rattle.snapshot_node.proofs.RecentAcross.{late_as, mate_recent}
 use Rattle.snapshot_node.proofs.validation.Validation.least_mate_ahead.Goals as goal
 
 pub loop-event-init : goal.loop-event-init
@@ -24,6 +29,9 @@ loop-event-init c =
     (along_ahead S H n t b v.lawful v.asked.stands.orderly (unfinished_parts H t v.unfinished).2 (tree_facts S v.tree) v.asked.stands.kind)
     (ahead_along S H n t b v.lawful v.asked.stands.orderly (unfinished_parts H t v.unfinished).2 (tree_facts S v.tree) v.asked.stands.kind)
 
+pub first_mate_across-requires-clause-among_here : goal.first_mate_across-requires-clause-among_here
+first_mate_across-requires-clause-among_here c = subst (λ (a : Asked). AreThere a c.writers.result.now) c.recent-recent.ensures.asked c.writers.ensures.here
+
 pub loop-event-preserved-in-Got : goal.loop-event-preserved-in-Got
 loop-event-preserved-in-Got c =
     let v = c.args.self.now in
@@ -33,9 +41,13 @@ loop-event-preserved-in-Got c =
     let t = v.t.0 in
     let b = c.args.b.0 in
     let Q = Both (Ahead S H n t t) (IsMateOf S H n t b) in
-    let e : Event = Got c.in-Got.txn c.in-Got.cell c.in-Got.from c.in-Got.value in
+    let x = c.in-Got.cell in
+    let e : Event = Got c.in-Got.txn x c.in-Got.from c.in-Got.value in
+    let late = late_as (λ (a : Asked). there a writers_in x) c.recent-recent.ensures.asked c.recent-recent.ensures.t c.writers.ensures.late in
     subst (Remains Q (EntersAt S H n t b) c.next.new.self) (sym c.lesser-least.ensures)
-    (remains_next Q (EntersAt S H n t b) e c.loop-event.event-iterator c.next.new.self c.loop-event.least _ (c.in-Some.ensures.steps ∙ ap (λ (z : Event). z ∷ c.next.new.self) c.in-Got.is) c.loop-event.invariant c.mate_writer.ensures)
+    (remains_next Q (EntersAt S H n t b) e c.loop-event.event-iterator c.next.new.self c.loop-event.least _ (c.in-Some.ensures.steps ∙ ap (λ (z : Event). z ∷ c.next.new.self) c.in-Got.is) c.loop-event.invariant
+    (mate_writers S H n t b v.lawful v.asked.stands.orderly (unfinished_parts H t v.unfinished).2 x c.first_mate_across.result
+    (mate_recent v.asked t (writers_in S H n x) c.writers.result.now late (writers_here v.asked.facts.now n x v.asked.stands.orderly) b c.first_mate_across.result c.first_mate_across.ensures)))
 
 pub loop-event-preserved : goal.loop-event-preserved
 loop-event-preserved c =

@@ -1,19 +1,20 @@
-use Rattle.std.proofs.Common.{◌∙◌, ◌∷◌, ℕ, List, ap, sym, subst}
-use Rattle.teb_names.specs.declared.Txn.{Txn}
+use Rattle.std.proofs.Common.{◌∙◌, ◌∷◌, ℕ, ap, sym, subst}
 use Rattle.teb_history.specs.declared.Event.{Event}
 use Rattle.teb_history.specs.declared.Event.TheVariants.{Put}
 use Rattle.teb_history.specs.OwnEvents.{own_events}
 use Rattle.teb_laws.proofs.Sound.{tree_facts}
 use Rattle.batch_book.proofs.Numbered.{unfinished_parts}
 use Rattle.phase_api.specs.FactsView.{setup_of, events_of}
-use Rattle.teb_history.specs.Ascending.{IsAscendingBy}
-use Rattle.teb_history.specs.Live.{number_of}
-use Rattle.snapshot_node.specs.Pivots.{AreHere, IsLeast, IsMateAmong, Leaves}
-use Rattle.snapshot_node.proofs.Listed.{readers_ascend, readers_here}
+use Rattle.snapshot_node.specs.declared.asked.Asked.{Asked}
+use Rattle.snapshot_node.specs.Asking.{AreThere, there}
+use Rattle.snapshot_node.specs.Standing.{readers_in}
+use Rattle.snapshot_node.specs.Pivots.{Leaves}
+use Rattle.snapshot_node.proofs.Listed.{readers_here}
 use Rattle.snapshot_node.proofs.Least.{Remains, remains_start, remains_next, remains_skip, remains_end}
 use Rattle.snapshot_node.proofs.CellEdges.{Behind, only_puts}
 use Rattle.snapshot_node.proofs.Known.{IsMateOf, along_behind, behind_along}
 use Rattle.snapshot_node.proofs.Middles.{Both}
+use Rattle.snapshot_node.proofs.RecentAcross.{late_as, mate_recent}
 use Rattle.snapshot_node.proofs.validation.Validation.least_mate_behind.Goals as goal
 
 pub loop-event-init : goal.loop-event-init
@@ -28,11 +29,8 @@ loop-event-init c =
     (along_behind S H n t b v.lawful v.asked.stands.orderly (unfinished_parts H t v.unfinished).2 (tree_facts S v.tree) v.asked.stands.kind)
     (behind_along S H n t b v.lawful v.asked.stands.orderly (unfinished_parts H t v.unfinished).2 (tree_facts S v.tree) v.asked.stands.kind)
 
-pub first_mate_across-requires-clause-ascending : goal.first_mate_across-requires-clause-ascending
-first_mate_across-requires-clause-ascending c = subst (IsAscendingBy number_of) (sym c.readers-readers.ensures) (readers_ascend (setup_of c.args.self.now.asked.facts.now) (events_of c.args.self.now.asked.facts.now) c.args.self.now.asked.register.now.node.0 c.in-Put.cell)
-
 pub first_mate_across-requires-clause-among_here : goal.first_mate_across-requires-clause-among_here
-first_mate_across-requires-clause-among_here c = subst (AreHere c.args.self.now.asked.facts.now c.args.self.now.asked.register.now.node.0) (sym c.readers-readers.ensures) (readers_here c.args.self.now.asked.facts.now c.args.self.now.asked.register.now.node.0 c.in-Put.cell c.args.self.now.asked.stands.orderly)
+first_mate_across-requires-clause-among_here c = subst (λ (a : Asked). AreThere a c.readers.result.now) c.recent-recent.ensures.asked c.readers.ensures.here
 
 pub loop-event-preserved-in-Put : goal.loop-event-preserved-in-Put
 loop-event-preserved-in-Put c =
@@ -43,9 +41,12 @@ loop-event-preserved-in-Put c =
     let t = v.t.0 in
     let b = c.args.b.0 in
     let Q = Both (Behind S H n t t) (IsMateOf S H n t b) in
-    let e : Event = Put c.in-Put.txn c.in-Put.cell c.in-Put.value in
+    let x = c.in-Put.cell in
+    let e : Event = Put c.in-Put.txn x c.in-Put.value in
+    let late = late_as (λ (a : Asked). there a readers_in x) c.recent-recent.ensures.asked c.recent-recent.ensures.t c.readers.ensures.late in
     subst (Remains Q (λ (u : ℕ). Leaves S H n t b u t) c.next.new.self) (sym c.lesser-least.ensures)
-    (remains_next Q (λ (u : ℕ). Leaves S H n t b u t) e c.loop-event.event-iterator c.next.new.self c.loop-event.least _ (c.in-Some.ensures.steps ∙ ap (λ (z : Event). z ∷ c.next.new.self) c.in-Put.is) c.loop-event.invariant (subst (λ (ts : List Txn). IsLeast (IsMateAmong S H n t b ts) c.first_mate_across.result) c.readers-readers.ensures c.first_mate_across.ensures))
+    (remains_next Q (λ (u : ℕ). Leaves S H n t b u t) e c.loop-event.event-iterator c.next.new.self c.loop-event.least _ (c.in-Some.ensures.steps ∙ ap (λ (z : Event). z ∷ c.next.new.self) c.in-Put.is) c.loop-event.invariant
+    (mate_recent v.asked t (readers_in S H n x) c.readers.result.now late (readers_here v.asked.facts.now n x v.asked.stands.orderly) b c.first_mate_across.result c.first_mate_across.ensures))
 
 pub loop-event-preserved : goal.loop-event-preserved
 loop-event-preserved c =

@@ -2,25 +2,21 @@ use Rattle.std.proofs.Common.{◌∙◌, sym}
 use Rattle.std.proofs.lemmas.Bool.{both_ways}
 use Rattle.teb_names.specs.declared.Txn.{Txn}
 use Rattle.phase_api.specs.FactsView.{setup_of, events_of}
-use Rattle.batch_book.proofs.Telling.{joined_from}
 use Rattle.snapshot_node.specs.Pivots.{IsMiddleAmong}
-use Rattle.snapshot_node.proofs.Edges.{across_later}
-use Rattle.snapshot_node.proofs.FirstOf.{none_yet, none_more, each_among, first_is, first_not}
+use Rattle.snapshot_node.proofs.Listed.{at_among}
+use Rattle.snapshot_node.proofs.FirstOf.{none_yet, none_more, first_is, first_not}
 use Rattle.snapshot_node.proofs.Middles.{is_left, not_left}
 use Rattle.snapshot_node.proofs.validation.Validation.middle_by.Goals as goal
 use Rattle.snapshot_node.proofs.validation.Validation.middle_by.Goals.{else-is_at_stake-via-then-is_at_stake+then-are_across+else-is_some, else-is_at_stake-via-then-is_at_stake+else-are_across, else-is_at_stake-via-else-is_at_stake}
 
-pub horizon-requires : goal.horizon-requires
-horizon-requires c = joined_from _ (setup_of c.args.self.now.asked.facts.now) (events_of c.args.self.now.asked.facts.now) c.args.self.now.asked.register.now.node.0 c.args.a.0 c.args.self.now.asked.stands.batches c.requires.here.typed.begun c.requires.here.on
-
 pub loop-b-init : goal.loop-b-init
-loop-b-init c = none_yet (IsMiddleAmong (setup_of c.args.self.now.asked.facts.now) (events_of c.args.self.now.asked.facts.now) c.args.self.now.asked.register.now.node.0 c.args.self.now.t.0 c.args.a.0 c.args.among.now) (record { 0 = 0 }) c.from_number-b-items.result.now
+loop-b-init c = none_yet (IsMiddleAmong (setup_of c.args.self.now.asked.facts.now) (events_of c.args.self.now.asked.facts.now) c.args.self.now.asked.register.now.node.0 c.args.self.now.t.0 c.args.a.0 c.args.among.now) (record { 0 = 0 }) c.args.among.now
 
 pub are_across-requires-clause-right : goal.are_across-requires-clause-right
-are_across-requires-clause-right c = c.requires.among_here _ (each_among (record { 0 = 0 }) c.args.among.now c.from_number-b-items.result.now c.horizon.result.0 c.from_number-b-items.ensures c.loop-b.b-index c.loop-b-test.true)
+are_across-requires-clause-right c = c.requires.among_here _ (at_among c.args.among.now c.loop-b.b-index _ c.loop-b-test.true)
 
 pub edge_out-requires-clause-here : goal.edge_out-requires-clause-here
-edge_out-requires-clause-here c = c.requires.among_here _ (each_among (record { 0 = 0 }) c.args.among.now c.from_number-b-items.result.now c.horizon.result.0 c.from_number-b-items.ensures c.loop-b.b-index c.loop-b-test.true)
+edge_out-requires-clause-here c = c.requires.among_here _ (at_among c.args.among.now c.loop-b.b-index _ c.loop-b-test.true)
 
 pub returns-then-is_some : goal.returns-then-is_some
 returns-then-is_some c =
@@ -28,16 +24,12 @@ returns-then-is_some c =
     let H = events_of c.args.self.now.asked.facts.now in
     let n = c.args.self.now.asked.register.now.node.0 in
     let a = c.args.a.0 in
-    let m = c.horizon.result.0 in
     let P = IsMiddleAmong S H n c.args.self.now.t.0 a c.args.among.now in
-    let ys = c.from_number-b-items.result.now in
     let d : Txn = record { 0 = 0 } in
-    first_is P d c.args.among.now ys m c.from_number-b-items.ensures c.requires.ascending (λ w p. p.across.listed)
-    (λ w p. across_later S H n a m w (c.horizon.ensures.closed S H n c.args.self.now.asked.stands.batches) (c.requires.among_here w p.across.listed).typed.begun p.across.across)
-    c.loop-b.b-index c.loop-b-test.true c.loop-b.invariant
+    first_is P d c.args.among.now (λ w p. p.across.listed) c.requires.ascending c.loop-b.b-index c.loop-b-test.true c.loop-b.invariant
     record {
       across = record {
-        listed = each_among d c.args.among.now ys m c.from_number-b-items.ensures c.loop-b.b-index c.loop-b-test.true;
+        listed = at_among c.args.among.now c.loop-b.b-index d c.loop-b-test.true;
         stake = sym c.is_at_stake.ensures ∙ c.if-is_at_stake.true;
         across = sym c.are_across.ensures ∙ c.if-are_across.true;
       };
@@ -50,7 +42,7 @@ loop-b-preserved c =
     let H = events_of c.args.self.now.asked.facts.now in
     let n = c.args.self.now.asked.register.now.node.0 in
     let P = IsMiddleAmong S H n c.args.self.now.t.0 c.args.a.0 c.args.among.now in
-    none_more P (record { 0 = 0 }) c.from_number-b-items.result.now c.loop-b.b-index c.loop-b.invariant
+    none_more P (record { 0 = 0 }) c.args.among.now c.loop-b.b-index c.loop-b.invariant
     (λ p. elim c.else-is_at_stake.branch [
       | else-is_at_stake-via-then-is_at_stake+then-are_across+else-is_some w ↦ not_left S H n c.args.self.now.t.0 _ w.edge_out.result w.is_some.result w.is_some.ensures w.if-is_some.false w.edge_out.ensures p.left
       | else-is_at_stake-via-then-is_at_stake+else-are_across w ↦ both_ways _ (sym w.are_across.ensures ∙ w.if-are_across.false) p.across.across
@@ -63,8 +55,5 @@ returns c =
     let H = events_of c.args.self.now.asked.facts.now in
     let n = c.args.self.now.asked.register.now.node.0 in
     let a = c.args.a.0 in
-    let m = c.horizon.result.0 in
     let P = IsMiddleAmong S H n c.args.self.now.t.0 a c.args.among.now in
-    first_not P (record { 0 = 0 }) c.args.among.now c.from_number-b-items.result.now m c.from_number-b-items.ensures c.requires.ascending (λ w p. p.across.listed)
-    (λ w p. across_later S H n a m w (c.horizon.ensures.closed S H n c.args.self.now.asked.stands.batches) (c.requires.among_here w p.across.listed).typed.begun p.across.across)
-    c.loop-b.b-index c.loop-b-test.false c.loop-b.invariant
+    first_not P (record { 0 = 0 }) c.args.among.now (λ w p. p.across.listed) c.loop-b.b-index c.loop-b-test.false c.loop-b.invariant

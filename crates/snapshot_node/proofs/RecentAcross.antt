@@ -1,0 +1,56 @@
+-- Whoever is across from a transaction is among those of a list from its horizon on.
+use Rattle.std.proofs.Common.{◌≡◌, ℕ, true, List, Option, leb, sym, ◌∙◌, ap, subst}
+use Rattle.teb_names.specs.declared.Txn.{Txn}
+use Rattle.teb_history.specs.Ascending.{IsAscendingBy}
+use Rattle.teb_history.specs.Live.{number_of}
+use Rattle.teb_history.proofs.AscendingLists.{ascending-filter}
+use Rattle.phase_api.specs.FactsView.{setup_of, events_of}
+use Rattle.snapshot_node.specs.declared.asked.Asked.{Asked}
+use Rattle.snapshot_node.specs.Accessors.{is_among}
+use Rattle.snapshot_node.specs.Asking.{AreLate, AreThere, there}
+use Rattle.snapshot_node.specs.Pivots.{IsAcross, IsLeast, IsMateAmong, IsMiddleAmong}
+use Rattle.snapshot_node.proofs.Among.{among_part}
+use Rattle.snapshot_node.proofs.Edges.{across_later}
+use Rattle.snapshot_node.proofs.FirstOf.{among_from}
+use Rattle.snapshot_node.proofs.Least.{least_as}
+
+-- what is known by one control and one transaction is known by the same
+pub late_as : (f : Asked → List Txn) {a b : Asked} {t u : Txn} {us : List Txn} → b ≡ a → u ≡ t → AreLate b u.0 (f b) us → AreLate a t.0 (f a) us
+late_as f {a} {b} {t} {u} {us} e k h = subst (λ (z : Asked). AreLate z t.0 (f z) us) e (subst (λ (z : Txn). AreLate b z.0 (f b) us) k h)
+
+module _ (a : Asked) (t : ℕ) (all us : List Txn) (late : AreLate a t all us) where
+  pub late_ascend : IsAscendingBy number_of all → IsAscendingBy number_of us
+  late_ascend h = subst (IsAscendingBy number_of) (sym late.are) (ascending-filter number_of (λ u. leb late.from u.0) all h)
+
+  among_all : (u : ℕ) → is_among u us ≡ true → is_among u all ≡ true
+  among_all u h = among_part (λ u. leb late.from u.0) u all (sym (ap (is_among u) late.are) ∙ h)
+
+  pub late_here : AreThere a all → AreThere a us
+  late_here h u i = h u (among_all u i)
+
+  -- w validates
+  module _ (here : AreThere a all) (w : ℕ) where
+    pub across_recent : (u : ℕ) → there a IsAcross w t all u → there a IsAcross w t us u
+    across_recent u h = record {
+      listed = ap (is_among u) late.are
+          ∙ among_from late.from u all (across_later (setup_of a.facts.now) (events_of a.facts.now) a.register.now.node.0 t late.from u late.below (here u h.listed).typed.begun h.across) h.listed;
+      stake = h.stake;
+      across = h.across;
+    }
+
+    across_all : (u : ℕ) → there a IsAcross w t us u → there a IsAcross w t all u
+    across_all u h = record { listed = among_all u h.listed; stake = h.stake; across = h.across }
+
+    -- so the least of them is the least of all
+    pub least_recent : (o : Option Txn) → IsLeast (there a IsAcross w t us) o → IsLeast (there a IsAcross w t all) o
+    least_recent o h = least_as (there a IsAcross w t us) (there a IsAcross w t all) o across_all across_recent h
+
+    pub middle_recent : (o : Option Txn) → IsLeast (there a IsMiddleAmong w t us) o → IsLeast (there a IsMiddleAmong w t all) o
+    middle_recent o h =
+        least_as (there a IsMiddleAmong w t us) (there a IsMiddleAmong w t all) o
+        (λ u y. record { across = across_all u y.across; left = y.left })
+        (λ u y. record { across = across_recent u y.across; left = y.left }) h
+
+  pub mate_recent : AreThere a all → (b : ℕ) (o : Option Txn) → IsLeast (there a IsMateAmong t b us) o → IsLeast (there a IsMateAmong t b all) o
+  mate_recent here b o h =
+      least_as (there a IsMateAmong t b us) (there a IsMateAmong t b all) o (λ u y. (across_all here t u y.0, y.1)) (λ u y. (across_recent here t u y.0, y.1)) h
