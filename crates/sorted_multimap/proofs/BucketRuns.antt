@@ -1,5 +1,5 @@
 -- Buckets: where the values of a key stand in the runs, and what edits of the runs make of the values.
-use Rattle.std.proofs.Common.{◌≡◌, ℕ, suc, ◌+◌, ◌-◌, ◌≤◌, Bool, true, false, cond, not, List, [], ◌∷◌, ◌++◌, length, take, drop, get_or, replicate, vec_len, refl, sym, ◌∙◌, ap, subst, arith}
+use Rattle.std.proofs.Common.{◌≡◌, ℕ, suc, ◌+◌, ◌-◌, ◌≤◌, Bool, true, false, cond, not, List, [], ◌∷◌, length, take, drop, vec_len, refl, sym, ◌∙◌, ap, subst, arith}
 use Rattle.std.specs.declared.cmp.Ordering.{Ordering}
 use Rattle.std.specs.declared.cmp.Ordering.TheVariants.{Equal}
 use Rattle.std.specs.Ordering.{is_lt, is_eq, is_gt}
@@ -90,17 +90,3 @@ module _ {K V : Type 0} (R : K → K → Ordering) (total : IsTotalOrder R) (p :
       none : (vs : List V) → length vs ≡ 0 → vs ≡ []
       none [] e = refl
       none (v ∷ vs) e = absurd (omega arith)
-
-  -- the key of one run that has one value
-  pub sole_key : (d : Run K) → vec_len p.runs ≡ 1 → vec_len p.values ≡ 1 → keys_of p ≡ (get_or p.runs.items 0 d).key ∷ []
-  sole_key d run value = go p.runs.items (omega (arith, run, p.runs.ok.0)) s.runs
-    where
-      go : (rs : List (Run K)) → length rs ≡ 1 → AreRuns R 0 rs (vec_len p.values) → spread_keys 0 rs ≡ (get_or rs 0 d).key ∷ []
-      go [] l a = absurd (omega arith)
-      go (r ∷ []) l a = let one : r.end - 0 ≡ 1 = omega (arith, a.2, value) in ap (λ (m : ℕ). replicate m r.key ++ []) one
-      go (r ∷ t ∷ ts) l a = absurd (omega arith)
-
-pub sole_item : {X : Type 0} (xs : List X) (d : X) → length xs ≡ 1 → xs ≡ get_or xs 0 d ∷ []
-sole_item [] d l = absurd (omega arith)
-sole_item (x ∷ []) d l = refl
-sole_item (x ∷ y ∷ ys) d l = absurd (omega arith)

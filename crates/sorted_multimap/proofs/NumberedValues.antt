@@ -1,16 +1,12 @@
 -- Values that ascend by number: the place of one, and a list without the value of a number.
-use Rattle.std.proofs.Common.{◌≡◌, ◌≢◌, ◌⊎◌, ℕ, suc, ◌+◌, ◌<◌, ◌≤◌, Bool, true, false, cond, not, ltb, eqb, List, [], ◌∷◌, filter, Result, Ok, Err, refl, sym, ◌∙◌, ap, subst, arith, inl, inr, eq-eqb}
-use Rattle.std.specs.declared.cmp.Ordering.{Ordering}
-use Rattle.std.specs.Ordering.{is_eq}
-use Rattle.std.specs.Cmp.{IsTotalOrder}
+use Rattle.std.proofs.Common.{◌≡◌, ◌≢◌, ◌⊎◌, ℕ, suc, ◌+◌, ◌<◌, ◌≤◌, Bool, true, false, cond, not, ltb, eqb, List, [], ◌∷◌, filter, Result, Ok, Err, refl, sym, ◌∙◌, ap, subst, arith, inl, inr}
 use Rattle.std.specs.List.{remove}
 use Rattle.std.proofs.lemmas.Bool.{ne_eqb}
 use Rattle.std.proofs.lemmas.Bool.Decides.{eqb_tells}
 use Rattle.teb_history.specs.Ascending.{AllAbove, IsAscendingBy, next_place, place_of}
 use Rattle.teb_history.proofs.Comparisons.{ltb_tells}
 use Rattle.teb_history.proofs.AscendingLists.{above-mono}
-use Rattle.sorted_multimap.specs.Buckets.{values_beside, further}
-use Rattle.sorted_multimap.proofs.SortedEntries.{is_equal, values_kept}
+use Rattle.sorted_multimap.specs.Buckets.{further}
 
 pub further_ok : (n : ℕ) (r : Result ℕ ℕ) (at : ℕ) → further n r ≡ Ok at → (i : ℕ) × (r ≡ Ok i) × (at ≡ n + i)
 further_ok n (Ok i) at h = let e : n + i ≡ at = cc in (i, refl, sym e)
@@ -63,23 +59,3 @@ module _ {V : Type 0} (key : V → ℕ) (n : ℕ) where
           subst (λ (k : ℕ). remove (v ∷ vs) k ≡ without (v ∷ vs)) s
           (without_above vs (subst (λ (m : ℕ). AllAbove key m vs) q.1 a.0) ∙ sym (ap (λ (b : Bool). cond (not b) (v ∷ without vs) (without vs)) q.0))
       go ih (inr p) (inr q) = absurd (let z : Err 0 ≡ Ok i = sym (ap (λ (b : Bool). cond b (next_place (place_of key vs n)) (cond (eqb (key v) n) (Ok 0) (Err 0))) p.0 ∙ ap (λ (b : Bool). cond b (Ok 0) (Err 0)) q.0) ∙ h in cc)
-
-module _ {K V : Type 0} (R : K → K → Ordering) (total : IsTotalOrder R) (key : V → ℕ) (n : ℕ) (j k : K) (v : V) where
-  -- what the values of all keys are where the only value, of the key j, is taken out as one of k, and where it stays
-  pub sole_taken : is_eq (R j k) ≡ true → key v ≡ n → (q : K) → [] ≡ cond (is_eq (R k q)) (without key n (values_beside R (j ∷ []) (v ∷ []) k)) (values_beside R (j ∷ []) (v ∷ []) q)
-  sole_taken tied e q = go (is_eq (R k q)) refl
-    where
-      go : (b : Bool) → is_eq (R k q) ≡ b → [] ≡ cond b (without key n (values_beside R (j ∷ []) (v ∷ []) k)) (values_beside R (j ∷ []) (v ∷ []) q)
-      go true h = rw (tied, eq-eqb (key v) n e) refl
-      go false h = ap (λ (b : Bool). cond b (v ∷ []) []) (sym (ap is_eq (total.congr j k q (is_equal _ tied)) ∙ h))
-
-  pub sole_kept : (is_eq (R j k) ≡ false) ⊎ (key v ≢ n) → (q : K) → values_beside R (j ∷ []) (v ∷ []) q ≡ cond (is_eq (R k q)) (without key n (values_beside R (j ∷ []) (v ∷ []) k)) (values_beside R (j ∷ []) (v ∷ []) q)
-  sole_kept off q = values_kept R total (j ∷ []) (v ∷ []) k q ∙ ap (λ (l : List V). cond (is_eq (R k q)) l (values_beside R (j ∷ []) (v ∷ []) q)) (same off)
-    where
-      other : key v ≢ n → (b : Bool) → cond b (v ∷ []) [] ≡ without key n (cond b (v ∷ []) [])
-      other ne true = rw (ne_eqb (key v) n ne) refl
-      other ne false = refl
-
-      same : (is_eq (R j k) ≡ false) ⊎ (key v ≢ n) → values_beside R (j ∷ []) (v ∷ []) k ≡ without key n (values_beside R (j ∷ []) (v ∷ []) k)
-      same (inl e) = rw e refl
-      same (inr ne) = other ne (is_eq (R j k))

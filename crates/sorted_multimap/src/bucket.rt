@@ -2,10 +2,11 @@
 
 mod by_number;
 
-ghost use Rattle.std.specs.Prelude.{ℕ, suc, ◌≡◌, ◌<◌, ◌≤◌, ◌+◌, ◌-◌, ◌^◌, ◌++◌, ◌∷◌, length, get_or, cond, true, false, [], insert, remove, set, vec_len, vec_capacity, OnOk};
+ghost use Rattle.std.specs.Prelude.{ℕ, suc, ◌≡◌, ◌<◌, ◌≤◌, ◌+◌, ◌-◌, ◌^◌, ◌++◌, ◌∷◌, length, get_or, cond, true, false, [], insert, remove, set, vec_len, vec_capacity, OnOk, MatchResult};
 ghost use Rattle.std.specs.List.{remove_range};
 ghost use Rattle.std.specs.Ordering.{is_eq};
 ghost use Rattle.sorted_multimap.specs.Buckets.{bucket_values, keys_of, spread_keys, IsSorted, HasRoom, IsKept, AreRuns, lows, tops, lowest, start_at, end_at, holds_at, raised, lowered, by_key, Ascends};
+ghost use Rattle.sorted_multimap.specs.Places.{IsRun, HasNoRun};
 
 use std::alloc::{AllocError, Global};
 use std::cmp::Ordering;
@@ -66,6 +67,20 @@ impl<K: Ord + Copy, V: Copy> Bucket<K, V> {
         &self.values[start..end]
     }
 
+    // Which run is that of a key, or where one would go.
+    #[inline(always)]
+    fn run_of(&self, key: K) -> Result<usize, usize>
+        requires { IsSorted K.cmp self.now }
+        ensures { MatchResult result (IsRun K.cmp self.now key) (HasNoRun K.cmp self.now key) }
+    {
+        let run = first(&self.runs, key);
+        if holds(&self.runs, run, key) {
+            Ok(run)
+        } else {
+            Err(run)
+        }
+    }
+
     // Puts a value at a place of a run.
     fn put_at(&mut self, run: usize, at: usize, value: V)
         requires sorted { IsSorted K.cmp self.old }
@@ -81,12 +96,11 @@ impl<K: Ord + Copy, V: Copy> Bucket<K, V> {
         raise(&mut self.runs, run);
     }
 
-    // Puts the first value of a key, which has no run.
-    fn put_run(&mut self, run: usize, key: K, value: V)
+    // Puts the first value of a key, and its run between the others.
+    fn insert_run(&mut self, run: usize, key: K, value: V)
         requires sorted { IsSorted K.cmp self.old }
         requires room { HasRoom self.old 1 }
-        requires run { run ≡ lowest K.cmp self.old.runs.items key }
-        requires none { holds_at K.cmp self.old.runs.items run key ≡ false }
+        requires run { HasNoRun K.cmp self.old key run }
         ensures sorted { IsSorted K.cmp self.new }
         ensures values { (q : K) → bucket_values K.cmp self.new q ≡ cond (is_eq (K.cmp key q)) (value ∷ []) (bucket_values K.cmp self.old q) }
         ensures room { (n : ℕ) → HasRoom self.old (n + 1) → HasRoom self.new n }
@@ -110,6 +124,23 @@ impl<K: Ord + Copy, V: Copy> Bucket<K, V> {
         let _ = self.values.push(value);
     }
 
+    // Puts the first value of a key, which has no run. Into a bucket of no runs it costs two pushes.
+    #[inline(always)]
+    fn put_run(&mut self, run: usize, key: K, value: V)
+        requires sorted { IsSorted K.cmp self.old }
+        requires room { HasRoom self.old 1 }
+        requires run { HasNoRun K.cmp self.old key run }
+        ensures sorted { IsSorted K.cmp self.new }
+        ensures values { (q : K) → bucket_values K.cmp self.new q ≡ cond (is_eq (K.cmp key q)) (value ∷ []) (bucket_values K.cmp self.old q) }
+        ensures room { (n : ℕ) → HasRoom self.old (n + 1) → HasRoom self.new n }
+    {
+        if self.runs.is_empty() {
+            self.put_first(key, value);
+        } else {
+            self.insert_run(run, key, value);
+        }
+    }
+
     /// Puts a value behind those of a key.
     pub(crate) fn push(&mut self, key: K, value: V)
         requires sorted { IsSorted K.cmp self.old }
@@ -118,13 +149,13 @@ impl<K: Ord + Copy, V: Copy> Bucket<K, V> {
         ensures values { (q : K) → bucket_values K.cmp self.new q ≡ cond (is_eq (K.cmp key q)) (bucket_values K.cmp self.old key ++ value ∷ []) (bucket_values K.cmp self.old q) }
         ensures room { (n : ℕ) → HasRoom self.old (n + 1) → HasRoom self.new n }
     {
-        let run = first(&self.runs, key);
-        if !holds(&self.runs, run, key) {
-            self.put_run(run, key, value);
-            return;
+        match self.run_of(key) {
+            Ok(run) => {
+                let end = self.runs[run].end;
+                self.put_at(run, end, value);
+            }
+            Err(run) => self.put_run(run, key, value),
         }
-        let end = self.runs[run].end;
-        self.put_at(run, end, value);
     }
 
     /// Takes out all values of a key.
@@ -156,7 +187,7 @@ impl<K: Ord + Copy, V: Copy> Bucket<K, V> {
         self.values[at] = value;
     }
 
-    // Takes out the value at a place of a run, and with its last value the run.
+    // Takes out the value at a place of a run, and with its last value the run. The only value takes all runs along.
     fn take_at(&mut self, run: usize, at: usize)
         requires sorted { IsSorted K.cmp self.old }
         requires within { run < length self.old.runs.items }
@@ -166,6 +197,11 @@ impl<K: Ord + Copy, V: Copy> Bucket<K, V> {
         ensures values { (key : K) (i : ℕ) → at ≡ lows K.cmp (keys_of self.old) key + i → at < tops K.cmp (keys_of self.old) key → (q : K) → bucket_values K.cmp self.new q ≡ cond (is_eq (K.cmp key q)) (remove (bucket_values K.cmp self.old key) i) (bucket_values K.cmp self.old q) }
         ensures room { (n : ℕ) → HasRoom self.old n → HasRoom self.new n }
     {
+        if self.values.len() == 1 {
+            self.values.clear();
+            self.runs.clear();
+            return;
+        }
         self.values.remove(at);
         lower(&mut self.runs, run, 1);
         if self.runs[run].end == start_of(&self.runs, run) {

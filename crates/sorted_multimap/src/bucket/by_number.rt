@@ -1,13 +1,28 @@
 //! Edits of the values of a key that ascend by number, each by one search.
 
-ghost use Rattle.std.specs.Prelude.{ℕ, ◌≡◌, ◌+◌, ◌<◌, length, cond, eqb, filter, not, vec_len};
+ghost use Rattle.std.specs.Prelude.{ℕ, ◌≡◌, ◌+◌, ◌<◌, length, cond, eqb, filter, not, MatchResult};
 ghost use Rattle.std.specs.Ordering.{is_eq};
 ghost use Rattle.std.specs.Result.{is_err};
 ghost use Rattle.teb_history.specs.Ascending.{IsAscendingBy, place_of, put_by};
 ghost use Rattle.sorted_multimap.specs.Buckets.{bucket_values, run_values, start_at, IsSorted, HasRoom, further};
+ghost use Rattle.sorted_multimap.specs.Places.{IsFound, IsGap};
 
-use super::{Bucket, first, holds, start_of};
+use super::{Bucket, start_of};
 use crate::{Numbered, find_number};
+
+/// A place among the values of a run.
+#[derive(Clone, Copy)]
+struct Place {
+    run: usize,
+    at: usize,
+}
+
+/// Where a value would go whose number none has: into the run of its key, or, as that has none, into one of its own before a run.
+#[derive(Clone, Copy)]
+enum Gap {
+    InRun(Place),
+    NoRun(usize),
+}
 
 impl<K: Ord + Copy, V: Numbered> Bucket<K, V> {
     /// Puts a value among those of a key, instead of the one that has its number. Whether there was none.
@@ -20,22 +35,13 @@ impl<K: Ord + Copy, V: Numbered> Bucket<K, V> {
         ensures values { (q : K) → bucket_values K.cmp self.new q ≡ cond (is_eq (K.cmp key q)) (put_by V.numbered_by value (bucket_values K.cmp self.old key)) (bucket_values K.cmp self.old q) }
         ensures room { (n : ℕ) → HasRoom self.old (n + cond result 1 0) → HasRoom self.new n }
     {
-        if self.runs.is_empty() {
-            self.put_first(key, value);
-            return true;
-        }
-        let run = first(&self.runs, key);
-        if !holds(&self.runs, run, key) {
-            self.put_run(run, key, value);
-            return true;
-        }
-        match self.find(run, value.number()) {
-            Ok(at) => {
-                self.replace_at(at, value);
+        match self.look_up(key, value.number()) {
+            Ok(place) => {
+                self.replace_at(place.at, value);
                 false
             }
-            Err(at) => {
-                self.put_at(run, at, value);
+            Err(gap) => {
+                self.fill(gap, key, value);
                 true
             }
         }
@@ -51,19 +57,10 @@ impl<K: Ord + Copy, V: Numbered> Bucket<K, V> {
         ensures values { (q : K) → bucket_values K.cmp self.new q ≡ cond (is_eq (K.cmp key q)) (cond result (put_by V.numbered_by value (bucket_values K.cmp self.old key)) (bucket_values K.cmp self.old key)) (bucket_values K.cmp self.old q) }
         ensures room { (n : ℕ) → HasRoom self.old (n + cond result 1 0) → HasRoom self.new n }
     {
-        if self.runs.is_empty() {
-            self.put_first(key, value);
-            return true;
-        }
-        let run = first(&self.runs, key);
-        if !holds(&self.runs, run, key) {
-            self.put_run(run, key, value);
-            return true;
-        }
-        match self.find(run, value.number()) {
+        match self.look_up(key, value.number()) {
             Ok(_) => false,
-            Err(at) => {
-                self.put_at(run, at, value);
+            Err(gap) => {
+                self.fill(gap, key, value);
                 true
             }
         }
@@ -77,31 +74,40 @@ impl<K: Ord + Copy, V: Numbered> Bucket<K, V> {
         ensures values { (q : K) → bucket_values K.cmp self.new q ≡ cond (is_eq (K.cmp key q)) (filter (λ v. not (eqb (V.numbered_by v) number)) (bucket_values K.cmp self.old key)) (bucket_values K.cmp self.old q) }
         ensures room { (n : ℕ) → HasRoom self.old n → HasRoom self.new n }
     {
-        if self.runs.len() == 1 && self.values.len() == 1 {
-            self.take_only(key, number);
-            return;
-        }
-        let run = first(&self.runs, key);
-        if !holds(&self.runs, run, key) {
-            return;
-        }
-        if let Ok(at) = self.find(run, number) {
-            self.take_at(run, at);
+        if let Ok(place) = self.look_up(key, number) {
+            self.take_at(place.run, place.at);
         }
     }
 
-    // Takes the only value out, where it has the number and its run is that of the key.
-    fn take_only(&mut self, key: K, number: u32)
-        requires sorted { IsSorted K.cmp self.old }
-        requires run { vec_len self.old.runs ≡ 1 }
-        requires value { vec_len self.old.values ≡ 1 }
-        ensures sorted { IsSorted K.cmp self.new }
-        ensures values { (q : K) → bucket_values K.cmp self.new q ≡ cond (is_eq (K.cmp key q)) (filter (λ v. not (eqb (V.numbered_by v) number)) (bucket_values K.cmp self.old key)) (bucket_values K.cmp self.old q) }
-        ensures room { (n : ℕ) → HasRoom self.old n → HasRoom self.new n }
+    // Where the value with a number stands among those of a key, or where it would go.
+    #[inline(always)]
+    fn look_up(&self, key: K, number: u32) -> Result<Place, Gap>
+        requires sorted { IsSorted K.cmp self.now }
+        requires ascending { IsAscendingBy V.numbered_by (bucket_values K.cmp self.now key) }
+        ensures { MatchResult result (IsFound K.cmp V.numbered_by self.now key number) (IsGap K.cmp V.numbered_by self.now key number) }
     {
-        if self.values[0].number() == number && holds(&self.runs, 0, key) {
-            self.values.clear();
-            self.runs.clear();
+        match self.run_of(key) {
+            Ok(run) => match self.find(run, number) {
+                Ok(at) => Ok(Place { run, at }),
+                Err(at) => Err(Gap::InRun(Place { run, at })),
+            },
+            Err(run) => Err(Gap::NoRun(run)),
+        }
+    }
+
+    // Puts a value where none of those of a key has its number.
+    #[inline(always)]
+    fn fill(&mut self, gap: Gap, key: K, value: V)
+        requires sorted { IsSorted K.cmp self.old }
+        requires room { HasRoom self.old 1 }
+        requires gap { IsGap K.cmp V.numbered_by self.old key (V.numbered_by value) gap }
+        ensures sorted { IsSorted K.cmp self.new }
+        ensures values { (q : K) → bucket_values K.cmp self.new q ≡ cond (is_eq (K.cmp key q)) (put_by V.numbered_by value (bucket_values K.cmp self.old key)) (bucket_values K.cmp self.old q) }
+        ensures room { (n : ℕ) → HasRoom self.old (n + 1) → HasRoom self.new n }
+    {
+        match gap {
+            Gap::InRun(place) => self.put_at(place.run, place.at, value),
+            Gap::NoRun(run) => self.put_run(run, key, value),
         }
     }
 

@@ -1,9 +1,9 @@
-use Rattle.std.proofs.Common.{◌≡◌, ◌<◌, ◌-◌, ◌∙◌, ℕ, suc, sym, ap, subst, arith, length, remove, get_or, vec_len, List}
+use Rattle.std.proofs.Common.{◌≡◌, ◌<◌, ◌-◌, ◌∙◌, ℕ, zero, suc, [], ◌∷◌, refl, sym, ap, subst, arith, length, remove, get_or, vec_len, List}
 use Rattle.std.specs.Vec.{with_items}
 use Rattle.std.proofs.lemmas.List.{with_items_is}
 use Rattle.sorted_multimap.specs.declared.bucket.Run.{Run}
 use Rattle.sorted_multimap.specs.Buckets.{values_beside, keys_of, spread_keys, start_at, lowered, AreRuns}
-use Rattle.sorted_multimap.proofs.BucketRuns.{bucket_ascends, bucket_paired}
+use Rattle.sorted_multimap.proofs.BucketRuns.{bucket_ascends, bucket_paired, bucket_length}
 use Rattle.sorted_multimap.proofs.RunKeys.{end_is, end_least, start_most}
 use Rattle.sorted_multimap.proofs.RunEdits.{lowered_runs, taken_keys, emptied_runs, emptied_keys, length_lowered}
 use Rattle.sorted_multimap.proofs.SortedEntries.{values_remove}
@@ -13,6 +13,24 @@ pub remove-requires : goal.remove-requires
 remove-requires g c =
     let p = c.args.self.now in
     omega (arith, c.requires.top, start_most g.K.Ord.cmp g.met.K.Ord.total 0 p.runs.items (vec_len p.values) (suc c.args.run) c.requires.sorted.runs)
+
+sole_removed : {A : Type 0} (xs : List A) (i : ℕ) → length xs ≡ 1 → i < 1 → [] ≡ remove xs i
+sole_removed [] i l b = absurd (omega arith)
+sole_removed (x ∷ []) zero l b = refl
+sole_removed (x ∷ []) (suc i) l b = absurd (omega arith)
+sole_removed (x ∷ y ∷ ys) i l b = absurd (omega arith)
+
+pub returns-then-len-eq1-clause-values : goal.returns-then-len-eq1-clause-values
+returns-then-len-eq1-clause-values g c key h at lt q =
+    let R = g.K.Ord.cmp in
+    let total = g.met.K.Ord.total in
+    let p = c.args.self.now in
+    let one : vec_len p.values ≡ 1 = omega (arith, c.len.ensures, c.if-len-eq1.true) in
+    let only : c.args.at < 1 = omega (arith, one, c.requires.top, start_most R total 0 p.runs.items (vec_len p.values) (suc c.args.run) c.requires.sorted.runs) in
+    let keys : spread_keys 0 c.clear-then-len-eq1.new.self.items ≡ remove (keys_of p) c.args.at = ap (spread_keys 0) c.clear-then-len-eq1.ensures.items ∙ sole_removed (keys_of p) c.args.at (omega (arith, one, bucket_length R total p c.requires.sorted)) only in
+    let values : c.clear.new.self.items ≡ remove p.values.items c.args.at = c.clear.ensures.items ∙ sole_removed p.values.items c.args.at (omega (arith, one, p.values.ok.0)) only in
+    (λ m. values_beside R (keys m) (values m) q)
+    ∙ values_remove R total (keys_of p) p.values.items c.args.at h key (bucket_ascends R total p c.requires.sorted) (bucket_paired R total p c.requires.sorted) at lt q
 
 pub lower-requires : goal.lower-requires
 lower-requires g c i d le lt =

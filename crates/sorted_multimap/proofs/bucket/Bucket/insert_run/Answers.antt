@@ -1,10 +1,9 @@
-use Rattle.std.proofs.Common.{◌≡◌, ◌∙◌, ℕ, false, cond, [], ◌∷◌, ap, subst, arith, vec_len, length, List}
+use Rattle.std.proofs.Common.{◌≡◌, ◌∙◌, cond, [], ◌∷◌, ap, arith, vec_len, length, List}
 use Rattle.std.specs.Ordering.{is_eq}
 use Rattle.sorted_multimap.specs.declared.bucket.Run.{Run}
-use Rattle.sorted_multimap.specs.Buckets.{values_beside, keys_of, spread_keys, start_at, holds_at}
-use Rattle.sorted_multimap.proofs.BucketRuns.{values_none}
+use Rattle.sorted_multimap.specs.Buckets.{values_beside, keys_of, spread_keys, start_at}
 use Rattle.sorted_multimap.proofs.RunKeys.{held_inside, start_ascends}
-use Rattle.sorted_multimap.proofs.bucket.Bucket.put_run.Goals as goal
+use Rattle.sorted_multimap.proofs.bucket.Bucket.insert_run.Goals as goal
 
 pub start_of-start-requires : goal.start_of-start-requires
 start_of-start-requires g c =
@@ -44,7 +43,7 @@ returns-clause-values g c q =
     let start : c.start_of-start.result ≡ start_at 0 rs i = c.start_of-start.ensures ∙ ap (λ (l : List (Run _)). start_at 0 l i) c.deref.ensures.value in
     let vs = p.values.items in
     let keys : spread_keys 0 rs ≡ keys_of p = c.open.ensures.keys in
-    let none : values_beside R (spread_keys 0 rs) vs k ≡ [] = ap (λ (ks : List _). values_beside R ks vs k) keys ∙ values_none R total p c.requires.sorted k (subst (λ (m : ℕ). holds_at R p.runs.items m k ≡ false) c.requires.run c.requires.none) in
+    let none : values_beside R (spread_keys 0 rs) vs k ≡ [] = ap (λ (ks : List _). values_beside R ks vs k) keys ∙ c.requires.run.values in
     c.put_at.ensures.values k 0 c.open.ensures.holds (omega (arith, start)) q
     ∙ (λ m. cond (is_eq (R k q)) (c.args.value ∷ none m) (values_beside R (keys m) vs q))
 
