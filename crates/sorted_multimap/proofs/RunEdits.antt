@@ -204,3 +204,18 @@ module _ {K : Type 0} (R : K → K → Ordering) (total : IsTotalOrder R) where
       let d = start_at r.end rs (suc i) - r.end in
       ap (λ (ks : List K). replicate (r.end - f) r.key ++ ks) (cleared_keys r.end rs n i m c d s.2 (omega arith) (omega (arith, least)) (omega (arith, least, low, top, e)) (omega (arith, least, low, top, e)))
       ∙ sym (cut_behind r.key (spread_keys r.end rs) (r.end - f) a b c d (omega (arith, least, low, s.0)) (omega (arith, least, low, top, e, s.0)))
+
+  -- a run without its values is empty
+  cleared_empty : (f : ℕ) (rs : List (Run K)) (i m : ℕ) → i < length rs → start_at f rs i + m ≡ start_at f rs (suc i) → start_at f (lowered m i rs) (suc i) ≡ start_at f (lowered m i rs) i
+  cleared_empty f rs i m l e = omega (arith, start_lowered m f rs i, end_lowered m f rs i l, e)
+
+  -- all values of a run less, and then the run
+  pub cleared_runs : (rs : List (Run K)) (n i m : ℕ) → AreRuns R 0 rs n → i < length rs → start_at 0 rs i + m ≡ start_at 0 rs (suc i) → AreRuns R 0 (remove (lowered m i rs) i) (n - m)
+  cleared_runs rs n i m s l e =
+      emptied_runs 0 (lowered m i rs) (n - m) i (lowered_runs 0 rs n i m s l (omega (arith, e))) (omega (arith, l, length_lowered m i rs)) (cleared_empty 0 rs i m l e)
+
+  pub cleared_spread : (rs : List (Run K)) (n i m a b : ℕ) → AreRuns R 0 rs n → i < length rs → a ≡ start_at 0 rs i → b ≡ start_at 0 rs (suc i) → a + m ≡ b
+      → spread_keys 0 (remove (lowered m i rs) i) ≡ remove_range (spread_keys 0 rs) a b
+  cleared_spread rs n i m a b s l low top e =
+      emptied_keys 0 (lowered m i rs) i (omega (arith, l, length_lowered m i rs)) (cleared_empty 0 rs i m l (omega (arith, low, top, e)))
+      ∙ cleared_keys 0 rs n i m a b s l (omega (arith, low)) (omega (arith, top)) e

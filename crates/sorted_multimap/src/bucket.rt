@@ -81,6 +81,19 @@ impl<K: Ord + Copy, V: Copy> Bucket<K, V> {
         }
     }
 
+    // Where a run begins, and where it ends.
+    #[inline(always)]
+    fn range_of(&self, run: usize) -> (usize, usize)
+        requires sorted { IsSorted K.cmp self.now }
+        requires within { run < length self.now.runs.items }
+        ensures start { result.0 ≡ start_at 0 self.now.runs.items run }
+        ensures end { result.1 ≡ start_at 0 self.now.runs.items (suc run) }
+        ensures order { result.0 ≤ result.1 }
+        ensures within { result.1 ≤ vec_len self.now.values }
+    {
+        (start_of(&self.runs, run), self.runs[run].end)
+    }
+
     // Puts a value at a place of a run.
     fn put_at(&mut self, run: usize, at: usize, value: V)
         requires sorted { IsSorted K.cmp self.old }
@@ -151,7 +164,7 @@ impl<K: Ord + Copy, V: Copy> Bucket<K, V> {
     {
         match self.run_of(key) {
             Ok(run) => {
-                let end = self.runs[run].end;
+                let (_, end) = self.range_of(run);
                 self.put_at(run, end, value);
             }
             Err(run) => self.put_run(run, key, value),
@@ -165,12 +178,10 @@ impl<K: Ord + Copy, V: Copy> Bucket<K, V> {
         ensures values { (q : K) → bucket_values K.cmp self.new q ≡ cond (is_eq (K.cmp key q)) [] (bucket_values K.cmp self.old q) }
         ensures room { (n : ℕ) → HasRoom self.old n → HasRoom self.new n }
     {
-        let run = first(&self.runs, key);
-        if !holds(&self.runs, run, key) {
+        let Ok(run) = self.run_of(key) else {
             return;
-        }
-        let start = start_of(&self.runs, run);
-        let end = self.runs[run].end;
+        };
+        let (start, end) = self.range_of(run);
         cut(&mut self.values, start, end);
         lower(&mut self.runs, run, end - start);
         self.runs.remove(run);

@@ -7,7 +7,7 @@ ghost use Rattle.teb_history.specs.Ascending.{IsAscendingBy, place_of, put_by};
 ghost use Rattle.sorted_multimap.specs.Buckets.{bucket_values, run_values, start_at, IsSorted, HasRoom, further};
 ghost use Rattle.sorted_multimap.specs.Places.{IsFound, IsGap};
 
-use super::{Bucket, start_of};
+use super::Bucket;
 use crate::{Numbered, find_number};
 
 /// A place among the values of a run.
@@ -118,8 +118,7 @@ impl<K: Ord + Copy, V: Numbered> Bucket<K, V> {
         requires ascending { IsAscendingBy V.numbered_by (run_values self.now run) }
         ensures { result ≡ further (start_at 0 self.now.runs.items run) (place_of V.numbered_by (run_values self.now run) number) }
     {
-        let start = start_of(&self.runs, run);
-        let end = self.runs[run].end;
+        let (start, end) = self.range_of(run);
         match find_number(&self.values[start..end], number) {
             Ok(i) => Ok(start + i),
             Err(i) => Err(start + i),
