@@ -3,8 +3,9 @@ use Rattle.std.proofs.Common.{◌≡◌, ◌⊎◌, ℕ, suc, ◌+◌, ◌<◌, 
 use Rattle.std.specs.List.{position_or_len, list_any, IsDistinct, AllByRecursion}
 use Rattle.std.specs.Cmp.{IsEquivalence}
 use Rattle.std.specs.Ordering.{is_eq}
+use Rattle.std.specs.Result.{is_err}
+use Rattle.teb_history.specs.Ascending.{place_of as number_place}
 use Rattle.std.specs.declared.cmp.Ordering.{Ordering}
-use Rattle.std.proofs.lemmas.List.{get_or_past}
 use Rattle.std.proofs.lemmas.List.Folds.{position_or_len_push}
 use Rattle.std.proofs.lemmas.List.Sums.{prefix_len-le-length}
 use Rattle.std.proofs.lemmas.Map.Keys.{IsDistinct-head, IsDistinct-tail}
@@ -13,8 +14,8 @@ use Rattle.std.proofs.lemmas.Bool.Decides.{eqb_tells, nat_tests}
 use Rattle.indexmap.specs.IndexSet.{IndexSet, IsUnique, insert_key, spare as set_spare}
 use Rattle.sorted_multimap.specs.Multimap.{values_of}
 use Rattle.arena_multimap.specs.declared.arena.Arena.{Arena}
-use Rattle.arena_multimap.specs.Arenas.{list_at, lists, values_at, none, IsArena, HasRoom}
-use Rattle.arena_multimap.proofs.Segments.{known}
+use Rattle.arena_multimap.specs.Arenas.{list_at, lists, IsArena, HasRoom}
+use Rattle.arena_multimap.proofs.Segments.{known, no_list}
 use Rattle.arena_multimap.specs.Multimap.{entries_from, place_of, IsKeyed}
 
 decided : (b : Bool) → (b ≡ true) ⊎ (b ≡ false)
@@ -128,9 +129,6 @@ module _ {K V : Type 0} (eq : K → K → Bool) (R : K → K → Ordering) (laws
           one_key k (f n) (entries_from f (suc n) ks) q false (sym (ties k q) ∙ laws.symm k q ∙ e)
           ∙ ih ∙ ap f (omega (arith, z))
 
-  no_list : (a : Arena V) (j : ℕ) → lists a ≤ j → list_at a j ≡ []
-  no_list a j le = ap (values_at a.values.items) (get_or_past a.segments.items j none le)
-
   -- in an arena with a list for each key
   lent : (ks : List K) (a : Arena V) → IsDistinct eq ks → length ks ≡ lists a → (q : K) → values_of R (entries_from (list_at a) 0 ks) q ≡ list_at a (place_of eq ks q)
   lent ks a unique paired q = found (list_at a) 0 ks q unique (no_list a (0 + length ks) (omega (arith, paired))) ∙ ap (list_at a) (omega arith)
@@ -228,3 +226,7 @@ widened eq ks ks' a a' n h keys unique spare sound count room = record {
 -- a list that has values is one
 pub has_list : {V : Type 0} (a : Arena V) (i at : ℕ) → lists a ≤ i → at < length (list_at a i) → ⊥
 has_list a i at far lt = let l = known a.segments.items a.values.items i at lt in omega (arith, l, far)
+
+-- what is put in a list that there is not is new there
+pub is_new : {V : Type 0} (a : Arena V) (i : ℕ) (by : V → ℕ) (n : ℕ) → lists a ≤ i → is_err (number_place by (list_at a i) n) ≡ false → ⊥
+is_new a i by n far h = let z : true ≡ false = sym (ap (λ (l : List _). is_err (number_place by l n)) (no_list a i far)) ∙ h in cc

@@ -1,2 +1,3 @@
 pub mod Segments
 pub mod KeyedLists
+pub mod AllLists

@@ -8,8 +8,9 @@ use Rattle.std.proofs.lemmas.List.Sums.{sum_by-set}
 use Rattle.std.proofs.lemmas.Grind.{get_or-set_at}
 use Rattle.std.proofs.lemmas.Bool.{cases_eq, cases_lt}
 use Rattle.std.proofs.lemmas.Bool.Decides.{eqb_tells}
+use Rattle.arena_multimap.specs.declared.arena.Arena.{Arena}
 use Rattle.arena_multimap.specs.declared.arena.Segment.{Segment}
-use Rattle.arena_multimap.specs.Arenas.{none, segment_at, values_at, IsWithin, AreApart, Lies, owed}
+use Rattle.arena_multimap.specs.Arenas.{none, segment_at, values_at, list_at, lists, IsWithin, AreApart, Lies, owed}
 
 module _ {V : Type 0} where
   -- a part of a list, by its values
@@ -72,7 +73,6 @@ module _ (ss : List Segment) (n debt i : ℕ) (t : Segment) (h : Lies ss n debt)
   pub shrunk : Lies (set ss i t) n debt
   shrunk = record {
     within = λ j. let p = same_place j in let w = h.within j in record { len = omega (arith, p.1, p.2, w.len); end = omega (arith, p.0, p.1, w.end) };
-    some = λ j l. let p = same_place j in let w = h.some j (omega (arith, l, length-set ss i t)) in omega (arith, p.1, w);
     apart = λ j k ne. let p = same_place j in let q = same_place k in elim (h.apart j k ne) [ inl a ↦ inl (omega (arith, a, p.0, p.1, q.0)) | inr b ↦ inr (omega (arith, b, q.0, q.1, p.0)) ];
     owes = omega (arith, h.owes, sum_by-set owed ss i t none lt, len, room);
   }
@@ -85,6 +85,10 @@ known ss vs i at lt = elim (cases_lt i (length ss)) [
       let z = ap (λ (s : Segment). s.len) (get_or_past ss i none ge) in
       absurd (omega (arith, z, lt, length-take (segment_at ss i).len (drop (segment_at ss i).start vs)))
 ]
+
+-- a list that there is not has no values
+pub no_list : {V : Type 0} (a : Arena V) (i : ℕ) → lists a ≤ i → list_at a i ≡ []
+no_list a i le = ap (values_at a.values.items) (get_or_past a.segments.items i none le)
 
 -- its segment, as it is read
 pub read_is : (ss : List Segment) (i : ℕ) (r : Segment) → i < length ss → r ≡ get_or ss i r → r ≡ segment_at ss i

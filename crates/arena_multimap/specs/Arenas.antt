@@ -1,5 +1,5 @@
 -- Lists of values in one vector, each in a segment of its own.
-use Rattle.std.specs.Prelude.{◌≢◌, ◌⊎◌, ℕ, ◌+◌, ◌-◌, ◌*◌, ◌≤◌, ◌<◌, List, length, take, drop, get_or, vec_len, vec_capacity}
+use Rattle.std.specs.Prelude.{◌≢◌, ◌⊎◌, ℕ, ◌+◌, ◌-◌, ◌*◌, ◌≤◌, List, length, take, drop, get_or, vec_len, vec_capacity}
 use Rattle.std.specs.List.{sum_by}
 use Rattle.arena_multimap.specs.declared.arena.Arena.{Arena}
 use Rattle.arena_multimap.specs.declared.arena.Segment.{Segment}
@@ -40,14 +40,17 @@ owed s = 4 * s.len - 2 * s.room
 -- the segments lie in n places, apart, and the debt is at least what they owe
 pub record Lies (ss : List Segment) (n debt : ℕ) : Type 0 where
   pub within : (i : ℕ) → IsWithin (segment_at ss i) n
-  pub some : (i : ℕ) → i < length ss → 0 < (segment_at ss i).room
   pub apart : (i j : ℕ) → i ≢ j → AreApart (segment_at ss i) (segment_at ss j)
   pub owes : sum_by owed ss ≤ debt
 
 abbrev pub IsArena : {V : Type 0} → Arena V → Type 0
 IsArena a = Lies a.segments.items (length a.values.items) a.debt
 
--- there is room for n more values
-pub record HasRoom {V : Type 0} (a : Arena V) (n : ℕ) : Type 0 where
-  pub segments : vec_len a.segments + n ≤ vec_capacity a.segments
+-- there is room for m more lists, and n more values
+pub record HasRoomFor {V : Type 0} (a : Arena V) (m n : ℕ) : Type 0 where
+  pub segments : vec_len a.segments + m ≤ vec_capacity a.segments
   pub values : vec_len a.values + a.debt + 4 * n ≤ vec_capacity a.values
+
+-- there is room for n more values, each in any list or a new one
+abbrev pub HasRoom : {V : Type 0} → Arena V → ℕ → Type 0
+HasRoom a n = HasRoomFor a n n

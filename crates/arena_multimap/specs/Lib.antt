@@ -1,2 +1,3 @@
 pub mod Arenas
 pub mod Multimap
+pub mod NumberedLists

@@ -1,11 +1,16 @@
 //! Lists of values in one vector, each by its number.
 
+mod by_number;
+
 ghost use Rattle.std.specs.Prelude.{ℕ, ◌≡◌, ◌<◌, ◌≤◌, ◌+◌, ◌++◌, ◌∷◌, max, length, cond, eqb, [], insert, remove, set, OnOk};
-ghost use Rattle.arena_multimap.specs.Arenas.{list_at, lists, segment_at, IsArena, HasRoom};
+ghost use Rattle.arena_multimap.specs.Arenas.{list_at, lists, segment_at, IsArena, HasRoom, HasRoomFor};
 
 use std::alloc::{AllocError, Global};
 
-/// How many places each value pays for: those of a new list, or a part of the next move of its segment.
+/// For how many values room is made at the least, so that not every `reserve` takes memory.
+pub(crate) const AHEAD: usize = 64;
+
+/// How many places each value pays for: the first ones of a list, or a part of the next move of its segment.
 const SHARE: usize = 4;
 
 /// Where a list lies: from `start`, `len` of `room` places.
@@ -16,7 +21,15 @@ pub(crate) struct Segment {
     room: usize,
 }
 
-/// Lists of values, each in a segment of its own. A full one moves to the end of the vector, to twice the room.
+/// Where a list lies that has had no value: it has no place.
+const UNPLACED: Segment = Segment {
+    start: 0,
+    len: 0,
+    room: 0,
+};
+
+/// Lists of values, each in a segment of its own, which takes its first places with its first value. A full one moves to the end of the
+/// vector, to twice the room.
 #[derive(Drop)]
 pub(crate) struct Arena<V> {
     segments: Vec<Segment>,
@@ -39,7 +52,7 @@ impl<V: Copy> Arena<V> {
         }
     }
 
-    /// Makes room for n more values, each in any list or a new one. The lists stay, also after an `Err`.
+    /// Makes room for n more values, each in any list or a new one, or lists that begin empty. The lists stay, also after an `Err`.
     pub(crate) fn reserve(&mut self, n: usize) -> Result<(), AllocError>
         requires { IsArena self.old }
         ensures sound { IsArena self.new }
@@ -54,6 +67,13 @@ impl<V: Copy> Arena<V> {
         self.segments.reserve(n)
     }
 
+    /// How many lists there are.
+    pub(crate) fn len(&self) -> usize
+        ensures { result ≡ lists self.now }
+    {
+        self.segments.len()
+    }
+
     /// The values of a list; none of one that there is not.
     pub(crate) fn list(&self, i: usize) -> &[V]
         requires { IsArena self.now }
@@ -64,6 +84,19 @@ impl<V: Copy> Arena<V> {
         }
         let segment = self.segments[i];
         &self.values[segment.start..segment.start + segment.len]
+    }
+
+    /// Begins an empty list, which takes no place before its first value.
+    pub(crate) fn begin(&mut self)
+        requires sound { IsArena self.old }
+        requires room { HasRoomFor self.old 1 0 }
+        ensures sound { IsArena self.new }
+        ensures lists { lists self.new ≡ lists self.old + 1 }
+        ensures unplaced { (segment_at self.new.segments.items (lists self.old)).room ≡ 0 }
+        ensures values { (j : ℕ) → list_at self.new j ≡ list_at self.old j }
+        ensures room { (m n : ℕ) → HasRoomFor self.old (m + 1) n → HasRoomFor self.new m n }
+    {
+        let _ = self.segments.push(UNPLACED);
     }
 
     /// Puts a value behind those of a list, or into the next new one.
@@ -77,31 +110,38 @@ impl<V: Copy> Arena<V> {
         ensures room { (n : ℕ) → HasRoom self.old (n + 1) → HasRoom self.new n }
     {
         if i == self.segments.len() {
-            self.add(value);
+            self.begin();
+            self.open(i, value);
             return;
         }
         let segment = self.segments[i];
+        if segment.room == 0 {
+            self.open(i, value);
+            return;
+        }
         if segment.len == segment.room {
             self.widen(i);
         }
         self.append(i, value);
     }
 
-    // Adds a list of one value.
-    fn add(&mut self, value: V)
+    // Gives a list with no place its first ones, and its first value.
+    fn open(&mut self, i: usize, value: V)
         requires sound { IsArena self.old }
-        requires room { HasRoom self.old 1 }
+        requires within { i < lists self.old }
+        requires unplaced { (segment_at self.old.segments.items i).room ≡ 0 }
+        requires room { HasRoomFor self.old 0 1 }
         ensures sound { IsArena self.new }
-        ensures lists { lists self.new ≡ lists self.old + 1 }
-        ensures values { (j : ℕ) → list_at self.new j ≡ cond (eqb j (lists self.old)) (value ∷ []) (list_at self.old j) }
-        ensures room { (n : ℕ) → HasRoom self.old (n + 1) → HasRoom self.new n }
+        ensures lists { lists self.new ≡ lists self.old }
+        ensures values { (j : ℕ) → list_at self.new j ≡ cond (eqb j i) (list_at self.old i ++ value ∷ []) (list_at self.old j) }
+        ensures room { (m n : ℕ) → HasRoomFor self.old m (n + 1) → HasRoomFor self.new m n }
     {
-        let segment = Segment {
-            start: self.values.len(),
+        let start = self.values.len();
+        self.segments[i] = Segment {
+            start,
             len: 1,
             room: SHARE,
         };
-        let _ = self.segments.push(segment);
         let _ = self.values.push(value);
         let _ = self.values.push(value);
         let _ = self.values.push(value);
@@ -113,6 +153,7 @@ impl<V: Copy> Arena<V> {
         requires sound { IsArena self.old }
         requires within { i < lists self.old }
         requires full { (segment_at self.old.segments.items i).len ≡ (segment_at self.old.segments.items i).room }
+        requires placed { 0 < (segment_at self.old.segments.items i).room }
         requires room { HasRoom self.old 1 }
         ensures sound { IsArena self.new }
         ensures lists { lists self.new ≡ lists self.old }

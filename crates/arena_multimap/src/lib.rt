@@ -1,9 +1,11 @@
-//! An arena multimap: values by key, many to a key, all in one vector, those of a key one behind the other.
+//! Lists of values in one vector, those of a list one behind the other: by key, many values to a key, or by number.
 #![tactic(auto)]
 
 mod arena;
 mod by_txn;
 mod multimap;
+mod numbered_lists;
 
 pub use by_txn::clear_txn;
 pub use multimap::ArenaMultimap;
+pub use numbered_lists::NumberedLists;

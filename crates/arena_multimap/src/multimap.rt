@@ -8,14 +8,11 @@ ghost use Rattle.indexmap.specs.IndexSet.{IsUnique, insert_key, spare as set_spa
 ghost use Rattle.sorted_multimap.specs.Multimap.{values_in};
 ghost use Rattle.arena_multimap.specs.Multimap.{place_of as spec_place_of};
 
-use crate::arena::Arena;
+use crate::arena::{AHEAD, Arena};
 use indexmap::IndexSet;
 use std::alloc::{AllocError, Global};
 use std::hash::Hash;
 use std::marker::Model;
-
-/// For how many values room is made at the least, so that not every `reserve` takes memory.
-const AHEAD: usize = 64;
 
 /// A multimap: values, each beside its key. Those of a key stand in an order of their own, and are lent as one slice.
 ///

@@ -21,18 +21,12 @@ impl<K: Ord + Copy + Hash + Drop, V: Numbered> ArenaMultimap<K, V> {
         ensures spare { self.old.spare ≡ self.new.spare + cond result 1 0 }
     {
         let list = place_of(&self.keys, key);
-        match find_number(self.lists.list(list), value.number()) {
-            Ok(i) => {
-                self.lists.replace(list, i, value);
-                false
-            }
-            Err(i) => {
-                add_key(&mut self.keys, list, key);
-                self.spare -= 1;
-                self.lists.insert(list, i, value);
-                true
-            }
+        if !self.lists.put_by_number(list, value) {
+            return false;
         }
+        add_key(&mut self.keys, list, key);
+        self.spare -= 1;
+        true
     }
 
     /// Takes the value with a number out from among those of a key, which ascend by number. Where there is none, it holds the same.

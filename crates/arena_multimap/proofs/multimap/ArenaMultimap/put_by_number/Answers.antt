@@ -1,37 +1,28 @@
-use Rattle.std.proofs.Common.{◌≡◌, ◌+◌, ◌-◌, ◌∙◌, ℕ, cond, eqb, max, sym, ap, subst, List, length, arith, set, insert}
+use Rattle.std.proofs.Common.{◌≡◌, ◌+◌, ◌-◌, ◌∙◌, ℕ, Bool, false, cond, eqb, max, sym, ap, subst, List, arith}
 use Rattle.std.specs.Ordering.{is_eq}
 use Rattle.std.specs.Result.{is_err}
 use Rattle.teb_history.specs.Ascending.{IsAscendingBy, place_of as number_place, put_by}
-use Rattle.teb_history.proofs.AscendingLists.{place_in, gap_in, put-set, put-insert}
 use Rattle.sorted_multimap.specs.Multimap.{values_in}
-use Rattle.arena_multimap.specs.Arenas.{list_at, lists}
+use Rattle.arena_multimap.specs.Arenas.{list_at, lists, HasRoom}
 use Rattle.arena_multimap.specs.Multimap.{place_of}
-use Rattle.arena_multimap.proofs.KeyedLists.{shown, place_within, has_list, kept_keyed, kept_values, put_keyed, put_values}
+use Rattle.arena_multimap.proofs.KeyedLists.{shown, place_within, is_new, kept_keyed, kept_values, put_keyed, put_values}
 use Rattle.arena_multimap.proofs.multimap.ArenaMultimap.put_by_number.Goals as goal
 
-pub find_number-requires : goal.find_number-requires
-find_number-requires g c =
+pub put_by_number-requires-clause-within : goal.put_by_number-requires-clause-within
+put_by_number-requires-clause-within g c =
     let ks = c.self.inside.keys in
     let a = c.self.inside.lists in
     let n = c.self.inside.spare in
-    let key = c.args.key in
-    let by = g.V.Numbered.numbered_by in
-    let L = list_at a (place_of g.K.PartialEq.eq ks.keys key) in
-    let here : L ≡ values_in g.K.Ord.cmp c.args.self.now key = sym (shown g.K.PartialEq.eq g.K.Ord.cmp g.met.K.Eq.laws g.met.K.Ord.matches_eq ks a n c.self.invariant key) ∙ ap (λ s. values_in g.K.Ord.cmp s key) c.self.view_is in
-    let lent : c.list.result.now ≡ L = c.list.ensures ∙ ap (list_at a) c.place_of-list.ensures in
-    subst (IsAscendingBy by) (sym (lent ∙ here)) c.requires.ascending
+    omega (arith, place_within g.K.PartialEq.eq g.K.Ord.cmp g.met.K.Eq.laws g.met.K.Ord.matches_eq ks a n c.self.invariant c.args.key, c.place_of-list.ensures)
 
-pub replace-requires-clause-at : goal.replace-requires-clause-at
-replace-requires-clause-at g c =
+pub put_by_number-requires-clause-ascending : goal.put_by_number-requires-clause-ascending
+put_by_number-requires-clause-ascending g c =
     let ks = c.self.inside.keys in
     let a = c.self.inside.lists in
     let n = c.self.inside.spare in
     let key = c.args.key in
-    let by = g.V.Numbered.numbered_by in
-    let L = list_at a (place_of g.K.PartialEq.eq ks.keys key) in
-    let lent : c.list.result.now ≡ L = c.list.ensures ∙ ap (list_at a) c.place_of-list.ensures in
-    let found = sym (c.find_number.ensures ∙ ap (λ (l : List _). number_place by l c.number.result) lent ∙ ap (λ (m : ℕ). number_place by L m) c.number.ensures) ∙ c.in-Ok.is in
-    omega (arith, place_in by L (by c.args.value) c.in-Ok.i found, ap length (ap (list_at a) c.place_of-list.ensures))
+    let here : list_at a (place_of g.K.PartialEq.eq ks.keys key) ≡ values_in g.K.Ord.cmp c.args.self.now key = sym (shown g.K.PartialEq.eq g.K.Ord.cmp g.met.K.Eq.laws g.met.K.Ord.matches_eq ks a n c.self.invariant key) ∙ ap (λ s. values_in g.K.Ord.cmp s key) c.self.view_is in
+    subst (IsAscendingBy g.V.Numbered.numbered_by) (sym (ap (list_at a) c.place_of-list.ensures ∙ here)) c.requires.ascending
 
 pub invariant_of-self : goal.invariant_of-self
 invariant_of-self g c =
@@ -39,106 +30,86 @@ invariant_of-self g c =
     let a = c.self.inside.lists in
     let n = c.self.inside.spare in
     let key = c.args.key in
-    let by = g.V.Numbered.numbered_by in
     let L = list_at a (place_of g.K.PartialEq.eq ks.keys key) in
-    let a' = c.replace.new.self in
-    let edit = subst (λ (i : ℕ). (j : ℕ) → list_at a' j ≡ cond (eqb j i) (set (list_at a i) c.in-Ok.i c.args.value) (list_at a j)) c.place_of-list.ensures c.replace.ensures.values in
-    kept_keyed g.K.PartialEq.eq g.K.Ord.cmp g.met.K.Eq.laws g.met.K.Ord.matches_eq ks a n c.self.invariant a' key (set L c.in-Ok.i c.args.value) edit c.replace.ensures.lists c.replace.ensures.sound c.replace.ensures.room
+    let a' = c.put_by_number.new.self in
+    let by = g.V.Numbered.numbered_by in
+    let edit = subst (λ (i : ℕ). (j : ℕ) → list_at a' j ≡ cond (eqb j i) (put_by by c.args.value (list_at a i)) (list_at a j)) c.place_of-list.ensures c.put_by_number.ensures.values in
+    let none = ap {B = ℕ} (λ (b : Bool). cond b 1 0) c.if-not-put_by_number.true in
+    let within = place_within g.K.PartialEq.eq g.K.Ord.cmp g.met.K.Eq.laws g.met.K.Ord.matches_eq ks a n c.self.invariant key in
+    kept_keyed g.K.PartialEq.eq g.K.Ord.cmp g.met.K.Eq.laws g.met.K.Ord.matches_eq ks a n c.self.invariant a' key (put_by by c.args.value L) edit
+    (omega (arith, none, within, c.place_of-list.ensures, c.put_by_number.ensures.lists)) c.put_by_number.ensures.sound
+    (λ m room. c.put_by_number.ensures.room m (record { segments = omega (arith, none, room.segments); values = omega (arith, none, room.values) }))
 
-pub insert-requires-clause-within : goal.insert-requires-clause-within
-insert-requires-clause-within g c =
+pub returns-then-not-put_by_number-clause-added : goal.returns-then-not-put_by_number-clause-added
+returns-then-not-put_by_number-clause-added g c =
     let ks = c.self.inside.keys in
     let a = c.self.inside.lists in
     let n = c.self.inside.spare in
     let key = c.args.key in
     let by = g.V.Numbered.numbered_by in
-    let L = list_at a (place_of g.K.PartialEq.eq ks.keys key) in
-    omega (arith, place_within g.K.PartialEq.eq g.K.Ord.cmp g.met.K.Eq.laws g.met.K.Ord.matches_eq ks a n c.self.invariant key, c.place_of-list.ensures)
+    let here : list_at a (place_of g.K.PartialEq.eq ks.keys key) ≡ values_in g.K.Ord.cmp c.args.self.now key = sym (shown g.K.PartialEq.eq g.K.Ord.cmp g.met.K.Eq.laws g.met.K.Ord.matches_eq ks a n c.self.invariant key) ∙ ap (λ s. values_in g.K.Ord.cmp s key) c.self.view_is in
+    sym c.if-not-put_by_number.true ∙ c.put_by_number.ensures.added ∙ ap (λ (l : List _). is_err (number_place by l (by c.args.value))) (ap (list_at a) c.place_of-list.ensures ∙ here)
 
-pub insert-requires-clause-at : goal.insert-requires-clause-at
-insert-requires-clause-at g c =
+pub returns-then-not-put_by_number-clause-values : goal.returns-then-not-put_by_number-clause-values
+returns-then-not-put_by_number-clause-values g c q =
     let ks = c.self.inside.keys in
     let a = c.self.inside.lists in
     let n = c.self.inside.spare in
     let key = c.args.key in
+    let p = place_of g.K.PartialEq.eq ks.keys key in
+    let L = list_at a p in
+    let a' = c.put_by_number.new.self in
     let by = g.V.Numbered.numbered_by in
-    let L = list_at a (place_of g.K.PartialEq.eq ks.keys key) in
-    let lent : c.list.result.now ≡ L = c.list.ensures ∙ ap (list_at a) c.place_of-list.ensures in
-    let found = sym (c.find_number.ensures ∙ ap (λ (l : List _). number_place by l c.number.result) lent ∙ ap (λ (m : ℕ). number_place by L m) c.number.ensures) ∙ c.in-Err.is in
-    omega (arith, gap_in by L (by c.args.value) c.in-Err.i found, ap length (ap (list_at a) c.place_of-list.ensures))
-
-pub invariant_of-self-in-Err : goal.invariant_of-self-in-Err
-invariant_of-self-in-Err g c =
-    let ks = c.self.inside.keys in
-    let a = c.self.inside.lists in
-    let n = c.self.inside.spare in
-    let key = c.args.key in
-    let by = g.V.Numbered.numbered_by in
-    let L = list_at a (place_of g.K.PartialEq.eq ks.keys key) in
-    let a' = c.insert.new.self in
-    let edit = subst (λ (i : ℕ). (j : ℕ) → list_at a' j ≡ cond (eqb j i) (insert (list_at a i) c.in-Err.i c.args.value) (list_at a j)) c.place_of-list.ensures c.insert.ensures.values in
-    let count = subst (λ (i : ℕ). lists a' ≡ max (lists a) (i + 1)) c.place_of-list.ensures c.insert.ensures.lists in
-    let one : n ≡ n - 1 + 1 = omega (arith, c.requires.room, ap (λ s. s.spare) c.self.view_is) in
-    put_keyed g.K.PartialEq.eq g.K.Ord.cmp g.met.K.Eq.laws g.met.K.Ord.matches_eq ks a n c.self.invariant a' key (insert L c.in-Err.i c.args.value) edit c.add_key.new.keys c.add_key.ensures.keys c.add_key.ensures.unique count
-    (n - 1) one c.add_key.ensures.spare c.insert.ensures.sound c.insert.ensures.room
-
-pub returns-in-Ok-clause-added : goal.returns-in-Ok-clause-added
-returns-in-Ok-clause-added g c =
-    let ks = c.self.inside.keys in
-    let a = c.self.inside.lists in
-    let n = c.self.inside.spare in
-    let key = c.args.key in
-    let by = g.V.Numbered.numbered_by in
-    let L = list_at a (place_of g.K.PartialEq.eq ks.keys key) in
     let here : L ≡ values_in g.K.Ord.cmp c.args.self.now key = sym (shown g.K.PartialEq.eq g.K.Ord.cmp g.met.K.Eq.laws g.met.K.Ord.matches_eq ks a n c.self.invariant key) ∙ ap (λ s. values_in g.K.Ord.cmp s key) c.self.view_is in
-    let lent : c.list.result.now ≡ L = c.list.ensures ∙ ap (list_at a) c.place_of-list.ensures in
-    let found = sym (c.find_number.ensures ∙ ap (λ (l : List _). number_place by l c.number.result) lent ∙ ap (λ (m : ℕ). number_place by L m) c.number.ensures) ∙ c.in-Ok.is in
-    ap is_err (sym found) ∙ ap (λ (l : List _). is_err (number_place by l (by c.args.value))) here
+    let edit = subst (λ (i : ℕ). (j : ℕ) → list_at a' j ≡ cond (eqb j i) (put_by by c.args.value (list_at a i)) (list_at a j)) c.place_of-list.ensures c.put_by_number.ensures.values in
+    let none = ap {B = ℕ} (λ (b : Bool). cond b 1 0) c.if-not-put_by_number.true in
+    let within = place_within g.K.PartialEq.eq g.K.Ord.cmp g.met.K.Eq.laws g.met.K.Ord.matches_eq ks a n c.self.invariant key in
+    let old : is_err (number_place by L (by c.args.value)) ≡ false = sym (c.put_by_number.ensures.added ∙ ap (λ (i : ℕ). is_err (number_place by (list_at a i) (by c.args.value))) c.place_of-list.ensures) ∙ c.if-not-put_by_number.true in
+    kept_values g.K.PartialEq.eq g.K.Ord.cmp g.met.K.Eq.laws g.met.K.Ord.matches_eq ks a n c.self.invariant a' key (put_by by c.args.value L) edit
+    (omega (arith, none, within, c.place_of-list.ensures, c.put_by_number.ensures.lists)) (λ far. absurd (is_new a p by (by c.args.value) far old)) q
+    ∙ ap (λ s. cond (is_eq (g.K.Ord.cmp key q)) (put_by by c.args.value L) (values_in g.K.Ord.cmp s q)) c.self.view_is
+    ∙ ap (λ (l : List _). cond (is_eq (g.K.Ord.cmp key q)) (put_by by c.args.value l) (values_in g.K.Ord.cmp c.args.self.now q)) here
 
-pub returns-in-Ok-clause-values : goal.returns-in-Ok-clause-values
-returns-in-Ok-clause-values g c q =
+pub invariant_of-self-2 : goal.invariant_of-self-2
+invariant_of-self-2 g c =
+    let ks = c.self.inside.keys in
+    let a = c.self.inside.lists in
+    let n = c.self.inside.spare in
+    let key = c.args.key in
+    let p = place_of g.K.PartialEq.eq ks.keys key in
+    let L = list_at a p in
+    let a' = c.put_by_number.new.self in
+    let by = g.V.Numbered.numbered_by in
+    let edit = subst (λ (i : ℕ). (j : ℕ) → list_at a' j ≡ cond (eqb j i) (put_by by c.args.value (list_at a i)) (list_at a j)) c.place_of-list.ensures c.put_by_number.ensures.values in
+    let count : lists a' ≡ max (lists a) (p + 1) = c.put_by_number.ensures.lists ∙ (λ j. max (lists a) (c.place_of-list.ensures j + cond (c.if-not-put_by_number.false j) 1 0)) in
+    let some : n ≡ n - 1 + 1 = omega (arith, c.requires.room, ap (λ s. s.spare) c.self.view_is) in
+    put_keyed g.K.PartialEq.eq g.K.Ord.cmp g.met.K.Eq.laws g.met.K.Ord.matches_eq ks a n c.self.invariant a' key (put_by by c.args.value L) edit c.add_key.new.keys c.add_key.ensures.keys c.add_key.ensures.unique count
+    (n - 1) some c.add_key.ensures.spare c.put_by_number.ensures.sound
+    (λ m. subst (λ (b : Bool). HasRoom a (m + cond b 1 0) → HasRoom a' m) c.if-not-put_by_number.false (c.put_by_number.ensures.room m))
+
+pub returns-clause-added : goal.returns-clause-added
+returns-clause-added g c =
     let ks = c.self.inside.keys in
     let a = c.self.inside.lists in
     let n = c.self.inside.spare in
     let key = c.args.key in
     let by = g.V.Numbered.numbered_by in
-    let L = list_at a (place_of g.K.PartialEq.eq ks.keys key) in
-    let here : L ≡ values_in g.K.Ord.cmp c.args.self.now key = sym (shown g.K.PartialEq.eq g.K.Ord.cmp g.met.K.Eq.laws g.met.K.Ord.matches_eq ks a n c.self.invariant key) ∙ ap (λ s. values_in g.K.Ord.cmp s key) c.self.view_is in
-    let lent : c.list.result.now ≡ L = c.list.ensures ∙ ap (list_at a) c.place_of-list.ensures in
-    let found = sym (c.find_number.ensures ∙ ap (λ (l : List _). number_place by l c.number.result) lent ∙ ap (λ (m : ℕ). number_place by L m) c.number.ensures) ∙ c.in-Ok.is in
-    let a' = c.replace.new.self in
-    let edit = subst (λ (i : ℕ). (j : ℕ) → list_at a' j ≡ cond (eqb j i) (set (list_at a i) c.in-Ok.i c.args.value) (list_at a j)) c.place_of-list.ensures c.replace.ensures.values in
-    kept_values g.K.PartialEq.eq g.K.Ord.cmp g.met.K.Eq.laws g.met.K.Ord.matches_eq ks a n c.self.invariant a' key (set L c.in-Ok.i c.args.value) edit c.replace.ensures.lists (λ far. absurd (has_list a (place_of g.K.PartialEq.eq ks.keys key) c.in-Ok.i far (place_in by L (by c.args.value) c.in-Ok.i found))) q
-    ∙ ap (λ s. cond (is_eq (g.K.Ord.cmp key q)) (set L c.in-Ok.i c.args.value) (values_in g.K.Ord.cmp s q)) c.self.view_is
-    ∙ ap (λ (l : List _). cond (is_eq (g.K.Ord.cmp key q)) l (values_in g.K.Ord.cmp c.args.self.now q)) (sym (put-set by c.args.value L c.in-Ok.i found) ∙ ap (put_by by c.args.value) here)
+    let here : list_at a (place_of g.K.PartialEq.eq ks.keys key) ≡ values_in g.K.Ord.cmp c.args.self.now key = sym (shown g.K.PartialEq.eq g.K.Ord.cmp g.met.K.Eq.laws g.met.K.Ord.matches_eq ks a n c.self.invariant key) ∙ ap (λ s. values_in g.K.Ord.cmp s key) c.self.view_is in
+    sym c.if-not-put_by_number.false ∙ c.put_by_number.ensures.added ∙ ap (λ (l : List _). is_err (number_place by l (by c.args.value))) (ap (list_at a) c.place_of-list.ensures ∙ here)
 
-pub returns-in-Err-clause-added : goal.returns-in-Err-clause-added
-returns-in-Err-clause-added g c =
+pub returns-clause-values : goal.returns-clause-values
+returns-clause-values g c q =
     let ks = c.self.inside.keys in
     let a = c.self.inside.lists in
     let n = c.self.inside.spare in
     let key = c.args.key in
+    let p = place_of g.K.PartialEq.eq ks.keys key in
+    let L = list_at a p in
+    let a' = c.put_by_number.new.self in
     let by = g.V.Numbered.numbered_by in
-    let L = list_at a (place_of g.K.PartialEq.eq ks.keys key) in
     let here : L ≡ values_in g.K.Ord.cmp c.args.self.now key = sym (shown g.K.PartialEq.eq g.K.Ord.cmp g.met.K.Eq.laws g.met.K.Ord.matches_eq ks a n c.self.invariant key) ∙ ap (λ s. values_in g.K.Ord.cmp s key) c.self.view_is in
-    let lent : c.list.result.now ≡ L = c.list.ensures ∙ ap (list_at a) c.place_of-list.ensures in
-    let found = sym (c.find_number.ensures ∙ ap (λ (l : List _). number_place by l c.number.result) lent ∙ ap (λ (m : ℕ). number_place by L m) c.number.ensures) ∙ c.in-Err.is in
-    ap is_err (sym found) ∙ ap (λ (l : List _). is_err (number_place by l (by c.args.value))) here
-
-pub returns-in-Err-clause-values : goal.returns-in-Err-clause-values
-returns-in-Err-clause-values g c q =
-    let ks = c.self.inside.keys in
-    let a = c.self.inside.lists in
-    let n = c.self.inside.spare in
-    let key = c.args.key in
-    let by = g.V.Numbered.numbered_by in
-    let L = list_at a (place_of g.K.PartialEq.eq ks.keys key) in
-    let here : L ≡ values_in g.K.Ord.cmp c.args.self.now key = sym (shown g.K.PartialEq.eq g.K.Ord.cmp g.met.K.Eq.laws g.met.K.Ord.matches_eq ks a n c.self.invariant key) ∙ ap (λ s. values_in g.K.Ord.cmp s key) c.self.view_is in
-    let lent : c.list.result.now ≡ L = c.list.ensures ∙ ap (list_at a) c.place_of-list.ensures in
-    let found = sym (c.find_number.ensures ∙ ap (λ (l : List _). number_place by l c.number.result) lent ∙ ap (λ (m : ℕ). number_place by L m) c.number.ensures) ∙ c.in-Err.is in
-    let a' = c.insert.new.self in
-    let edit = subst (λ (i : ℕ). (j : ℕ) → list_at a' j ≡ cond (eqb j i) (insert (list_at a i) c.in-Err.i c.args.value) (list_at a j)) c.place_of-list.ensures c.insert.ensures.values in
-    let count = subst (λ (i : ℕ). lists a' ≡ max (lists a) (i + 1)) c.place_of-list.ensures c.insert.ensures.lists in
-    put_values g.K.PartialEq.eq g.K.Ord.cmp g.met.K.Eq.laws g.met.K.Ord.matches_eq ks a n c.self.invariant a' key (insert L c.in-Err.i c.args.value) edit c.add_key.new.keys c.add_key.ensures.keys c.add_key.ensures.unique count q
-    ∙ ap (λ s. cond (is_eq (g.K.Ord.cmp key q)) (insert L c.in-Err.i c.args.value) (values_in g.K.Ord.cmp s q)) c.self.view_is
-    ∙ ap (λ (l : List _). cond (is_eq (g.K.Ord.cmp key q)) l (values_in g.K.Ord.cmp c.args.self.now q)) (sym (put-insert by c.args.value L c.in-Err.i found) ∙ ap (put_by by c.args.value) here)
+    let edit = subst (λ (i : ℕ). (j : ℕ) → list_at a' j ≡ cond (eqb j i) (put_by by c.args.value (list_at a i)) (list_at a j)) c.place_of-list.ensures c.put_by_number.ensures.values in
+    let count : lists a' ≡ max (lists a) (p + 1) = c.put_by_number.ensures.lists ∙ (λ j. max (lists a) (c.place_of-list.ensures j + cond (c.if-not-put_by_number.false j) 1 0)) in
+    put_values g.K.PartialEq.eq g.K.Ord.cmp g.met.K.Eq.laws g.met.K.Ord.matches_eq ks a n c.self.invariant a' key (put_by by c.args.value L) edit c.add_key.new.keys c.add_key.ensures.keys c.add_key.ensures.unique count q
+    ∙ ap (λ s. cond (is_eq (g.K.Ord.cmp key q)) (put_by by c.args.value L) (values_in g.K.Ord.cmp s q)) c.self.view_is
+    ∙ ap (λ (l : List _). cond (is_eq (g.K.Ord.cmp key q)) (put_by by c.args.value l) (values_in g.K.Ord.cmp c.args.self.now q)) here

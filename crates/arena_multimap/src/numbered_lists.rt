@@ -1,0 +1,120 @@
+//! Lists by number, in one vector.
+
+ghost use Rattle.std.specs.Prelude.{◌≡◌, ◌<◌, ◌≤◌, ◌+◌, ◌++◌, ◌∷◌, [], length, cond, set, OnOk};
+ghost use Rattle.std.specs.Result.{is_err};
+ghost use Rattle.teb_history.specs.Ascending.{IsAscendingBy, place_of, put_by};
+ghost use Rattle.arena_multimap.specs.NumberedLists.{list_in};
+
+use crate::arena::{AHEAD, Arena};
+use sorted_multimap::Numbered;
+use std::alloc::{AllocError, Global};
+use std::marker::Model;
+
+/// Lists of values, numbered from 0 in the order in which they were begun.
+///
+/// All values stand in one vector, where each list that has values has a segment. A list is found by its number alone. A value that is put
+/// in moves those of its list that stand behind, and all of them where its segment is full, which is two moves for each value at the most.
+pub struct NumberedLists<V: Copy> {
+    lists: Arena<V>,
+    // For how many more beginnings and values there is room.
+    spare: usize,
+}
+
+/// A call of its own, so that no owner has to prove anew how it is dropped.
+impl<V: Copy> Drop for NumberedLists<V> {
+    fn drop(self) {
+        let NumberedLists {
+            lists: _lists,
+            spare: _spare,
+        } = self;
+    }
+}
+
+impl<V: Copy> Model for NumberedLists<V> {
+    ghost use Rattle.arena_multimap.specs.NumberedLists.{Shown, all_lists, IsNumbered};
+
+    ghost Value = { Shown V };
+
+    ghost view = { λ p. record { lists = all_lists p.lists; spare = p.spare } };
+
+    ghost invariant = { λ p. IsNumbered p.lists p.spare };
+}
+
+impl<V: Copy> NumberedLists<V> {
+    /// No lists, and no room. Takes no memory.
+    pub fn new(alloc: Global) -> Self
+        ensures lists { result.lists ≡ [] }
+        ensures spare { result.spare ≡ 0 }
+    {
+        NumberedLists {
+            lists: Arena::new(alloc),
+            spare: 0,
+        }
+    }
+
+    /// Makes room for n more beginnings and values together, in whatever lists. The lists stay, also after an `Err`.
+    pub fn reserve(&mut self, n: usize) -> Result<(), AllocError>
+        ensures lists { self.new.lists ≡ self.old.lists }
+        ensures room { OnOk result (n ≤ self.new.spare) }
+        ensures kept { self.old.spare ≤ self.new.spare }
+    {
+        if n <= self.spare {
+            return Ok(());
+        }
+        let room = n.max(AHEAD);
+        self.lists.reserve(room)?;
+        self.spare = room;
+        Ok(())
+    }
+
+    /// How many lists there are.
+    pub fn len(&self) -> usize
+        ensures { result ≡ length self.now.lists }
+    {
+        self.lists.len()
+    }
+
+    /// Begins an empty list, which becomes the last. It takes one place of the room.
+    pub fn begin(&mut self)
+        requires { 0 < self.old.spare }
+        ensures lists { self.new.lists ≡ self.old.lists ++ [] ∷ [] }
+        ensures spare { self.old.spare ≡ self.new.spare + 1 }
+    {
+        self.lists.begin();
+        self.spare -= 1;
+    }
+
+    /// The values of a list, in their order; none of one that there is not.
+    pub fn list(&self, i: usize) -> &[V]
+        ensures { result.now ≡ list_in self.now.lists i }
+    {
+        self.lists.list(i)
+    }
+
+    /// Takes out all values of a list, if there is one.
+    pub fn clear(&mut self, i: usize)
+        ensures lists { self.new.lists ≡ set self.old.lists i [] }
+        ensures spare { self.new.spare ≡ self.old.spare }
+    {
+        self.lists.clear(i);
+    }
+}
+
+impl<V: Numbered> NumberedLists<V> {
+    /// Puts a value among those of a list, which ascend by number, instead of the one that has its number. Whether there was none; then it
+    /// takes one place of the room.
+    pub fn put_by_number(&mut self, i: usize, value: V) -> bool
+        requires room { 0 < self.old.spare }
+        requires within { i < length self.old.lists }
+        requires ascending { IsAscendingBy V.numbered_by (list_in self.old.lists i) }
+        ensures added { result ≡ is_err (place_of V.numbered_by (list_in self.old.lists i) (V.numbered_by value)) }
+        ensures lists { self.new.lists ≡ set self.old.lists i (put_by V.numbered_by value (list_in self.old.lists i)) }
+        ensures spare { self.old.spare ≡ self.new.spare + cond result 1 0 }
+    {
+        if !self.lists.put_by_number(i, value) {
+            return false;
+        }
+        self.spare -= 1;
+        true
+    }
+}
