@@ -2,10 +2,8 @@
 #![tactic(auto)]
 
 mod arena;
-mod by_txn;
 mod multimap;
 mod numbered_lists;
 
-pub use by_txn::clear_txn;
 pub use multimap::ArenaMultimap;
 pub use numbered_lists::NumberedLists;

@@ -12,13 +12,13 @@ use Rattle.dependency_book.specs.Books.{Lists, BookOf, RegistersOf, SourcesAscen
 
 module _ (r : Registers) (h : Held) (keeps : Bool) (H : List Event) where
   pub registers_of : BookOf (lists_of r keeps h.holds) H → RegistersOf r H
-  registers_of b = record { orderly = b.orderly; readers = b.readers; writers = b.writers; sources = b.sources; unfinished = b.unfinished }
+  registers_of b = record { orderly = b.orderly; readers = b.readers; writers = b.writers; sources = b.sources; begun = b.begun; unfinished = b.unfinished }
 
   pub holds_of : BookOf (lists_of r keeps h.holds) H → keeps ≡ true → HoldsOf h H
   holds_of b k = record { shows = b.holders k }
 
   pub book_of : RegistersOf r H → (keeps ≡ true → HoldsOf h H) → BookOf (lists_of r keeps h.holds) H
-  book_of b s = record { orderly = b.orderly; readers = b.readers; writers = b.writers; sources = b.sources; unfinished = b.unfinished; holders = λ k. (s k).shows }
+  book_of b s = record { orderly = b.orderly; readers = b.readers; writers = b.writers; sources = b.sources; begun = b.begun; unfinished = b.unfinished; holders = λ k. (s k).shows }
 
 -- registers that keep their lists
 module _ (r r' : Registers) (kept : (k : Bool) (hs : List (Cell × Hold)) → lists_of r' k hs ≡ lists_of r k hs) (h h' : Held) (same : h'.holds ≡ h.holds) (keeps : Bool) where

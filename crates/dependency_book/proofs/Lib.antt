@@ -1,3 +1,4 @@
+pub mod SourceLists
 pub mod MultimapEdits
 pub mod OwnAccesses
 pub mod LawfulHistories

@@ -1,5 +1,5 @@
 -- The lists of a history after one more event.
-use Rattle.std.proofs.Common.{◌≡◌, ℕ, zero, suc, ◌≤◌, Bool, true, false, cond, not, ◌&&◌, ◌||◌, eqb, ltb, List, [], ◌∷◌, ◌++◌, filter, map, Option, ℤ, refl, sym, ◌∙◌, ap, subst, arith}
+use Rattle.std.proofs.Common.{◌≡◌, ℕ, zero, suc, ◌<◌, ◌≤◌, Bool, true, false, cond, not, ◌&&◌, ◌||◌, eqb, ltb, List, [], ◌∷◌, ◌++◌, filter, map, length, length-append, Option, ℤ, refl, sym, ◌∙◌, ap, subst, arith}
 use Rattle.std.specs.List.{count_by}
 use Rattle.std.proofs.lemmas.Bool.Decides.{nat_tests}
 use Rattle.std.proofs.lemmas.Bool.{eqb-true, ne_eqb, eq-eqb}
@@ -22,13 +22,13 @@ use Rattle.sorted_multimap.specs.LastMatches.{without_lasts}
 use Rattle.dependency_book.specs.Dependencies.{has, reads, puts, all_readers, all_writers, all_sources, readers, writers, sources, unfinished_txns}
 use Rattle.hold_book.specs.Orderly.{MayFollow, Orderly}
 use Rattle.dependency_book.specs.declared.registers.Registers.{Registers}
-use Rattle.dependency_book.specs.Books.{RegistersOf}
-use Rattle.sorted_multimap.specs.Keys.{txn_cmp}
+use Rattle.dependency_book.specs.Books.{RegistersOf, list_of}
 use Rattle.sorted_multimap.specs.Multimap.{values_in}
 use Rattle.sorted_multimap.proofs.TakenMatches.{without_all, count_kept}
 use Rattle.sorted_multimap.proofs.CellValues.{same_exact}
+use Rattle.dependency_book.proofs.SourceLists.{no_lists, one_more, positive}
 use Rattle.dependency_book.proofs.OwnAccesses.{put_by_it, reads_counted, puts_counted}
-use Rattle.hold_book.proofs.OrderlyHistories.{unfinished_is, unfinished_same, unfinished_parts, aborted_same, fresh}
+use Rattle.hold_book.proofs.OrderlyHistories.{unfinished_is, unfinished_same, unfinished_parts, aborted_same, known, fresh}
 use Rattle.teb_laws.proofs.AscendingNumbers.{number, txns_ascending}
 use Rattle.teb_history.proofs.AscendingLists.{ascending-filter}
 use Rattle.teb_history.proofs.Filters.{filter_both, filter_push}
@@ -87,13 +87,14 @@ module _ (e : Event) (P : List Event) (g : (u : ℕ) → is_gone u e ≡ false) 
   sources_alike t ts = ap (λ (o : Bool). cond o [] ts) (aborted_same e P t.0 (g t.0))
 
 -- the book of no events
-pub noted_nothing : (b : Registers) → ((x : Cell) → values_in cell_cmp b.readers x ≡ []) → ((x : Cell) → values_in cell_cmp b.writers x ≡ []) → ((t : Txn) → values_in txn_cmp b.sources t ≡ []) → b.unfinished.items ≡ [] → RegistersOf b []
+pub noted_nothing : (b : Registers) → ((x : Cell) → values_in cell_cmp b.readers x ≡ []) → ((x : Cell) → values_in cell_cmp b.writers x ≡ []) → b.sources.lists ≡ [] → b.unfinished.items ≡ [] → RegistersOf b []
 unfolding Orderly readers writers sources unfinished_txns all_readers all_writers all_sources txns begun_count numbers
 noted_nothing b r w s u = record {
   orderly = tt;
   readers = r;
   writers = w;
-  sources = λ t. s t ∙ none (aborted [] t.0);
+  sources = λ t. ap (λ (ls : List (List Txn)). list_of ls t.0) s ∙ no_lists t.0 ∙ none (aborted [] t.0);
+  begun = ap length s;
   unfinished = u;
 }
   where
@@ -112,6 +113,7 @@ module _ (b d : Registers) (P : List Event) (was : RegistersOf b P) where
     readers = λ x. was.readers x ∙ sym (ap (filter (λ p. not (aborted (e ∷ P) p.0.0))) (r x) ∙ readers_alike e P ng (all_readers P x));
     writers = λ x. was.writers x ∙ sym (ap (filter (λ t. not (aborted (e ∷ P) t.0))) (w x) ∙ writers_alike e P ng (all_writers P x));
     sources = λ t. was.sources t ∙ sym (ap (λ (ts : List Txn). cond (aborted (e ∷ P) t.0) [] ts) (s t) ∙ sources_alike e P ng t (all_sources P t));
+    begun = was.begun ∙ sym n;
     unfinished = was.unfinished ∙ sym (unfinished_txns_same e P nb nd ng n);
   }
 
@@ -133,14 +135,15 @@ module _ (b d : Registers) (P : List Event) (was : RegistersOf b P) where
 
   -- a transaction begins
   pub noted_began : (t : Txn) (s : Session) (k : Kind) (i : ℕ) → MayFollow P (Began t s k i)
-      → ((x : Cell) → values_in cell_cmp d.readers x ≡ values_in cell_cmp b.readers x) → ((x : Cell) → values_in cell_cmp d.writers x ≡ values_in cell_cmp b.writers x) → ((u : Txn) → values_in txn_cmp d.sources u ≡ values_in txn_cmp b.sources u) → d.unfinished.items ≡ b.unfinished.items ++ t ∷ []
+      → ((x : Cell) → values_in cell_cmp d.readers x ≡ values_in cell_cmp b.readers x) → ((x : Cell) → values_in cell_cmp d.writers x ≡ values_in cell_cmp b.writers x) → d.sources.lists ≡ b.sources.lists ++ [] ∷ [] → d.unfinished.items ≡ b.unfinished.items ++ t ∷ []
       → RegistersOf d (Began t s k i ∷ P)
   unfolding Orderly readers writers sources unfinished_txns txns begun_count all_readers all_writers all_sources numbers
   noted_began t s k i m r w so u = record {
     orderly = (m, was.orderly);
     readers = λ x. r x ∙ was.readers x ∙ sym (readers_alike e P (λ v. refl) (all_readers P x));
     writers = λ x. w x ∙ was.writers x ∙ sym (writers_alike e P (λ v. refl) (all_writers P x));
-    sources = λ v. so v ∙ was.sources v ∙ sym (sources_alike e P (λ z. refl) v (all_sources P v));
+    sources = λ v. ap (λ (ls : List (List Txn)). list_of ls v.0) so ∙ one_more b.sources.lists v.0 ∙ was.sources v ∙ sym (sources_alike e P (λ z. refl) v (all_sources P v));
+    begun = omega (arith, ap length so, length-append b.sources.lists ([] ∷ []), was.begun);
     unfinished = u ∙ ap (λ (ts : List Txn). ts ++ t ∷ []) was.unfinished ∙ sym all_more;
   }
     where
@@ -169,20 +172,27 @@ module _ (b d : Registers) (P : List Event) (was : RegistersOf b P) where
   pub noted_got : (t : Txn) (x : Cell) (w : Txn) (v : Option ℤ) → MayFollow P (Got t x w v)
       → ((y : Cell) → values_in cell_cmp d.readers y ≡ cond (same_cell x y) (values_in cell_cmp b.readers y ++ (t, w) ∷ []) (values_in cell_cmp b.readers y))
       → ((y : Cell) → values_in cell_cmp d.writers y ≡ values_in cell_cmp b.writers y)
-      → ((u : Txn) → values_in txn_cmp d.sources u ≡ cond (eqb t.0 u.0 && not (eqb w.0 u.0) && ltb 0 w.0) (put_by number_of w (values_in txn_cmp b.sources u)) (values_in txn_cmp b.sources u))
+      → length d.sources.lists ≡ length b.sources.lists
+      → (0 < t.0 → t.0 ≤ length b.sources.lists → (u : Txn) → list_of d.sources.lists u.0 ≡ cond (eqb t.0 u.0 && not (eqb w.0 u.0) && ltb 0 w.0) (put_by number_of w (list_of b.sources.lists u.0)) (list_of b.sources.lists u.0))
       → d.unfinished.items ≡ b.unfinished.items
       → RegistersOf d (Got t x w v ∷ P)
   unfolding Orderly readers writers sources begun_count all_readers all_writers all_sources
-  noted_got t x w v m r wr so u = record {
+  noted_got t x w v m r wr n so u = record {
     orderly = (m, was.orderly);
     readers = λ y. r y ∙ ap (λ (rs : List (Txn × Txn)). cond (same_cell x y) (rs ++ (t, w) ∷ []) rs) (was.readers y) ∙ sym (readers_alike e P (λ z. refl) (all_readers (Got t x w v ∷ P) y) ∙ here (same_cell x y) (all_readers P y));
     writers = λ y. wr y ∙ was.writers y ∙ sym (writers_alike e P (λ z. refl) (all_writers P y));
-    sources = λ y. so y ∙ ap (λ (ts : List Txn). cond (eqb t.0 y.0 && not (eqb w.0 y.0) && ltb 0 w.0) (put_by number_of w ts) ts) (was.sources y) ∙ sym (sources_alike e P (λ z. refl) y (all_sources (Got t x w v ∷ P) y) ∙ from y);
+    sources = λ y. so listed.0 listed.1 y ∙ ap (λ (ts : List Txn). cond (eqb t.0 y.0 && not (eqb w.0 y.0) && ltb 0 w.0) (put_by number_of w ts) ts) (was.sources y) ∙ sym (sources_alike e P (λ z. refl) y (all_sources (Got t x w v ∷ P) y) ∙ from y);
+    begun = n ∙ was.begun;
     unfinished = u ∙ was.unfinished ∙ sym (unfinished_txns_same e P (λ z. refl) (λ z. refl) (λ z. refl) refl);
   }
     where
       e : Event
       e = Got t x w v
+
+      listed : (0 < t.0) × (t.0 ≤ length b.sources.lists)
+      listed =
+          let begins = (unfinished_parts P t.0 m).0 in
+          (positive P t.0 was.orderly begins, omega (arith, (known P t.0 was.orderly).begins begins, was.begun))
 
       stands : aborted P t.0 ≡ false
       stands = (unfinished_parts P t.0 m).2
@@ -205,7 +215,7 @@ module _ (b d : Registers) (P : List Event) (was : RegistersOf b P) where
   pub noted_put : (t : Txn) (x : Cell) (v : Option ℤ) → MayFollow P (Put t x v)
       → ((y : Cell) → values_in cell_cmp d.readers y ≡ values_in cell_cmp b.readers y)
       → ((y : Cell) → values_in cell_cmp d.writers y ≡ cond (same_cell x y && not (wrote P t.0 x)) (values_in cell_cmp b.writers y ++ t ∷ []) (values_in cell_cmp b.writers y))
-      → ((u : Txn) → values_in txn_cmp d.sources u ≡ values_in txn_cmp b.sources u)
+      → d.sources.lists ≡ b.sources.lists
       → d.unfinished.items ≡ b.unfinished.items
       → RegistersOf d (Put t x v ∷ P)
   unfolding Orderly readers writers sources begun_count all_readers all_writers all_sources
@@ -216,7 +226,8 @@ module _ (b d : Registers) (P : List Event) (was : RegistersOf b P) where
         wr y ∙ ap (λ (ts : List Txn). cond (same_cell x y && not (wrote P t.0 x)) (ts ++ t ∷ []) ts) (was.writers y)
         ∙ ap (λ (c : Bool). cond c (writers P y ++ t ∷ []) (writers P y)) (where_it_is (same_cell x y) _ _ (λ h. ap (wrote P t.0) (same_exact x y h) ∙ sym (put_by_it P t y)))
         ∙ sym (writers_alike e P (λ z. refl) (all_writers (Put t x v ∷ P) y) ∙ here (same_cell x y && not (has t (all_writers P y))) (all_writers P y));
-    sources = λ y. so y ∙ was.sources y ∙ sym (sources_alike e P (λ z. refl) y (all_sources P y));
+    sources = λ y. ap (λ (ls : List (List Txn)). list_of ls y.0) so ∙ was.sources y ∙ sym (sources_alike e P (λ z. refl) y (all_sources P y));
+    begun = ap length so ∙ was.begun;
     unfinished = u ∙ was.unfinished ∙ sym (unfinished_txns_same e P (λ z. refl) (λ z. refl) (λ z. refl) refl);
   }
     where
@@ -245,7 +256,7 @@ module _ (b d : Registers) (P : List Event) (was : RegistersOf b P) where
 
   -- a transaction commits
   pub noted_done : (t : Txn) → MayFollow P (Done t)
-      → ((y : Cell) → values_in cell_cmp d.readers y ≡ values_in cell_cmp b.readers y) → ((y : Cell) → values_in cell_cmp d.writers y ≡ values_in cell_cmp b.writers y) → ((u : Txn) → values_in txn_cmp d.sources u ≡ values_in txn_cmp b.sources u)
+      → ((y : Cell) → values_in cell_cmp d.readers y ≡ values_in cell_cmp b.readers y) → ((y : Cell) → values_in cell_cmp d.writers y ≡ values_in cell_cmp b.writers y) → d.sources.lists ≡ b.sources.lists
       → d.unfinished.items ≡ filter (λ u. not (eqb u.0 t.0)) b.unfinished.items
       → RegistersOf d (Done t ∷ P)
   unfolding Orderly readers writers sources begun_count all_readers all_writers all_sources
@@ -253,7 +264,8 @@ module _ (b d : Registers) (P : List Event) (was : RegistersOf b P) where
     orderly = (m, was.orderly);
     readers = λ y. r y ∙ was.readers y ∙ sym (readers_alike (Done t) P (λ z. refl) (all_readers P y));
     writers = λ y. w y ∙ was.writers y ∙ sym (writers_alike (Done t) P (λ z. refl) (all_writers P y));
-    sources = λ y. so y ∙ was.sources y ∙ sym (sources_alike (Done t) P (λ z. refl) y (all_sources P y));
+    sources = λ y. ap (λ (ls : List (List Txn)). list_of ls y.0) so ∙ was.sources y ∙ sym (sources_alike (Done t) P (λ z. refl) y (all_sources P y));
+    begun = ap length so ∙ was.begun;
     unfinished = u ∙ ap (filter (λ u. not (eqb u.0 t.0))) was.unfinished ∙ left_unfinished (Done t) t m others refl;
   }
     where
@@ -271,11 +283,12 @@ module _ (b d : Registers) (P : List Event) (was : RegistersOf b P) where
   pub noted_gone : (t : Txn) (c : Cause) → MayFollow P (Gone t c)
       → ((y : Cell) → values_in cell_cmp d.readers y ≡ without_lasts (count_by (reads y) (own_events (Gone t c ∷ P) t.0)) (λ r. eqb r.0.0 t.0) (values_in cell_cmp b.readers y))
       → ((y : Cell) → values_in cell_cmp d.writers y ≡ without_lasts (count_by (puts y) (own_events (Gone t c ∷ P) t.0)) (λ u. eqb u.0 t.0) (values_in cell_cmp b.writers y))
-      → ((u : Txn) → values_in txn_cmp d.sources u ≡ cond (eqb t.0 u.0) [] (values_in txn_cmp b.sources u))
+      → length d.sources.lists ≡ length b.sources.lists
+      → ((u : Txn) → list_of d.sources.lists u.0 ≡ cond (eqb t.0 u.0) [] (list_of b.sources.lists u.0))
       → d.unfinished.items ≡ filter (λ u. not (eqb u.0 t.0)) b.unfinished.items
       → RegistersOf d (Gone t c ∷ P)
   unfolding Orderly readers writers sources begun_count all_readers all_writers all_sources
-  noted_gone t c m r w so u = record {
+  noted_gone t c m r w n so u = record {
     orderly = (m, was.orderly);
     readers = λ y.
         r y ∙ ap (without_lasts (count_by (reads y) own) (λ r. eqb r.0.0 t.0)) (was.readers y)
@@ -288,6 +301,7 @@ module _ (b d : Registers) (P : List Event) (was : RegistersOf b P) where
         (omega (arith, puts_counted (Gone t c ∷ P) t y, count_kept (λ u. eqb u.0 t.0) (λ u. not (aborted P u.0)) (all_writers P y) (λ u h. ap (λ (n : ℕ). not (aborted P n)) (eqb-true u.0 t.0 h) ∙ ap not it_stands)))
         ∙ sym (filter_both (λ u. not (aborted P u.0)) (λ u. not (eqb u.0 t.0)) (λ u. not (aborted (Gone t c ∷ P) u.0)) (λ u. stands u.0) (all_writers P y));
     sources = λ y. so y ∙ ap (λ (ts : List Txn). cond (eqb t.0 y.0) [] ts) (was.sources y) ∙ gone_or (eqb t.0 y.0) (aborted P y.0) (all_sources P y) ∙ ap (λ (o : Bool). cond o [] (all_sources P y)) (sym (aborted-cons (Gone t c) P y.0));
+    begun = n ∙ was.begun;
     unfinished = u ∙ ap (filter (λ u. not (eqb u.0 t.0))) was.unfinished ∙ left_unfinished (Gone t c) t m others refl;
   }
     where

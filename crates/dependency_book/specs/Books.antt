@@ -1,12 +1,13 @@
 -- What contracts see of a book, and which history it stands for.
-use Rattle.std.specs.Prelude.{◌≡◌, ℕ, ◌+◌, ◌≤◌, Bool, true, false, List, [], vec_len, vec_capacity}
+use Rattle.std.specs.Prelude.{◌≡◌, ℕ, zero, suc, ◌+◌, ◌≤◌, Bool, true, false, List, [], length, vec_len, vec_capacity}
 use Rattle.teb_names.specs.declared.Txn.{Txn}
 use Rattle.teb_names.specs.declared.Cell.{Cell}
 use Rattle.teb_names.specs.Cells.{cell_cmp}
 use Rattle.teb_history.specs.declared.Event.{Event}
 use Rattle.teb_history.specs.Ascending.{IsAscendingBy}
 use Rattle.teb_history.specs.Live.{number_of}
-use Rattle.sorted_multimap.specs.Keys.{txn_cmp}
+use Rattle.teb_history.specs.Phases.{begun_count}
+use Rattle.arena_multimap.specs.NumberedLists.{list_in}
 use Rattle.sorted_multimap.specs.Multimap.{values_of, values_in}
 use Rattle.dependency_book.specs.declared.registers.Registers.{Registers}
 use Rattle.dependency_book.specs.Dependencies.{readers, writers, sources, unfinished_txns}
@@ -15,11 +16,11 @@ use Rattle.hold_book.specs.Books.{Held, shown}
 use Rattle.hold_book.specs.Holders.{holders_in}
 use Rattle.hold_book.specs.Orderly.{Orderly}
 
--- who read and who put which cell; who read from whom; who is unfinished; whether it is kept who holds which cell; and who does, where it is kept
+-- who read and who put which cell; whom each transaction read from, in the order in which they began; who is unfinished; whether it is kept who holds which cell; and who does, where it is kept
 pub record Lists : Type 0 where
   pub readers : List (Cell × (Txn × Txn))
   pub writers : List (Cell × Txn)
-  pub sources : List (Txn × Txn)
+  pub sources : List (List Txn)
   pub unfinished : List Txn
   pub keeps_holders : Bool
   pub holders : List (Cell × Hold)
@@ -35,18 +36,24 @@ readers_in b x = values_of cell_cmp b.readers x
 abbrev pub writers_in : Lists → Cell → List Txn
 writers_in b x = values_of cell_cmp b.writers x
 
+-- the list of the transaction with a number: lists are numbered from 0, and transactions from 1
+abbrev pub list_of : List (List Txn) → ℕ → List Txn
+list_of ls zero = []
+list_of ls (suc i) = list_in ls i
+
 abbrev pub sources_in : Lists → Txn → List Txn
-sources_in b t = values_of txn_cmp b.sources t
+sources_in b t = list_of b.sources t.0
 
 abbrev pub holders_of : Lists → Cell → List Hold
 holders_of b x = values_of cell_cmp b.holders x
 
--- the lists are those of a history, and so are the holders, where they are kept
+-- the lists are those of a history, with sources for each that has begun, and so are the holders, where they are kept
 pub record BookOf (b : Lists) (H : List Event) : Type 0 where
   pub orderly : Orderly H
   pub readers : (x : Cell) → readers_in b x ≡ readers H x
   pub writers : (x : Cell) → writers_in b x ≡ writers H x
   pub sources : (t : Txn) → sources_in b t ≡ sources H t
+  pub begun : length b.sources ≡ begun_count H
   pub unfinished : b.unfinished ≡ unfinished_txns H
   pub holders : b.keeps_holders ≡ true → (x : Cell) → holders_of b x ≡ holders_in H x
 
@@ -55,22 +62,23 @@ pub record RegistersOf (r : Registers) (H : List Event) : Type 0 where
   pub orderly : Orderly H
   pub readers : (x : Cell) → values_in cell_cmp r.readers x ≡ readers H x
   pub writers : (x : Cell) → values_in cell_cmp r.writers x ≡ writers H x
-  pub sources : (t : Txn) → values_in txn_cmp r.sources t ≡ sources H t
+  pub sources : (t : Txn) → list_of r.sources.lists t.0 ≡ sources H t
+  pub begun : length r.sources.lists ≡ begun_count H
   pub unfinished : r.unfinished.items ≡ unfinished_txns H
 
 abbrev pub lists_of : Registers → Bool → List (Cell × Hold) → Lists
 lists_of r keeps_holders holders = record {
   readers = r.readers.entries;
   writers = r.writers.entries;
-  sources = r.sources.entries;
+  sources = r.sources.lists;
   unfinished = r.unfinished.items;
   keeps_holders = keeps_holders;
   holders = holders;
 }
 
 -- the sources of each transaction ascend
-abbrev pub SourcesAscend : List (Txn × Txn) → Type 0
-SourcesAscend es = (t : Txn) → IsAscendingBy number_of (values_of txn_cmp es t)
+abbrev pub SourcesAscend : List (List Txn) → Type 0
+SourcesAscend ls = (t : Txn) → IsAscendingBy number_of (list_of ls t.0)
 
 -- each list has room for n more
 pub record HasRooms (r : Registers) (n : ℕ) : Type 0 where
@@ -81,7 +89,7 @@ pub record HasRooms (r : Registers) (n : ℕ) : Type 0 where
 
 -- the sources ascend, there is room for so many events, also among the holders where they are kept, and no holders where they are not
 pub record IsBook (r : Registers) (h : Held) (keeps_holders : Bool) (n : ℕ) : Type 0 where
-  pub ascending : SourcesAscend r.sources.entries
+  pub ascending : SourcesAscend r.sources.lists
   pub rooms : HasRooms r n
   pub holders : keeps_holders ≡ true → n ≤ h.spare
   pub nobody : keeps_holders ≡ false → (x : Cell) → shown h x ≡ []

@@ -7,6 +7,7 @@ ghost use Rattle.dependency_book.specs.Dependencies.{IsAgain};
 ghost use Rattle.hold_book.specs.Orderly.{MayFollow};
 
 use crate::registers::Registers;
+use crate::source_lists;
 use hold_book::{Hold, HoldBook};
 use std::alloc::{AllocError, Global};
 use std::marker::Model;
@@ -72,7 +73,7 @@ impl Book {
     /// Notes the newest event of the history. Of a Put is told whether its transaction has put the cell before. It takes one place of
     /// the room at most, and keeps of holders what it kept.
     ///
-    /// A read or a put costs a look-up of its cell, and a read one of its transaction. An abort costs look-ups for each access of its
+    /// A read or a put costs a look-up of its cell. An abort costs look-ups for each access of its
     /// transaction, and goes through what was read or put in the same cells since; where its transaction put a cell again, through all
     /// that put it. A commit and an abort cost a binary search among the unfinished, and a move of those behind. Where holders are kept, a
     /// read or a put also costs a search by its cell, and a commit or an abort one for each access.
@@ -107,7 +108,7 @@ impl Book {
     pub fn read_from(&self, t: Txn) -> &[Txn]
         ensures { result.now ≡ sources_in self.now.lists t }
     {
-        self.registers.sources.list(t)
+        source_lists::sources_of(&self.registers.sources, t)
     }
 
     /// The unfinished transactions, in ascending number.

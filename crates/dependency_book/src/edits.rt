@@ -1,34 +1,18 @@
-//! Edits of multimaps: what one access adds, and what an abort takes out.
+//! Edits of multimaps: what an abort takes out.
 
-ghost use Rattle.std.specs.Prelude.{◌≡◌, ◌+◌, ◌≤◌, ◌<◌, ◌&&◌, cond, not, eqb, ltb};
+ghost use Rattle.std.specs.Prelude.{◌≡◌, cond, eqb};
 ghost use Rattle.std.specs.List.{count_by};
 ghost use Rattle.teb_names.specs.declared.Cell.{Cell};
 ghost use Rattle.teb_names.specs.declared.Txn.{Txn};
 ghost use Rattle.teb_names.specs.Cells.{cell_cmp, same_cell};
-ghost use Rattle.teb_history.specs.Ascending.{IsAscendingBy, put_by};
-ghost use Rattle.teb_history.specs.Live.{number_of};
 ghost use Rattle.teb_history.specs.OwnEvents.{own_events};
 ghost use Rattle.sorted_multimap.specs.Multimap.{values_in};
 ghost use Rattle.sorted_multimap.specs.LastMatches.{IsLastPlace, without_last, without_lasts};
 ghost use Rattle.dependency_book.specs.Dependencies.{reads, puts};
-ghost use Rattle.sorted_multimap.specs.Keys.{txn_cmp};
 
 use arena_multimap::ArenaMultimap;
 use teb_history::{Event, History};
 use teb_names::{Cell, Txn};
-
-/// Puts a transaction that t read from among its sources, unless it is there, or is t itself or 0.
-pub(crate) fn add_source(sources: &mut ArenaMultimap<Txn, Txn>, t: Txn, from: Txn)
-    requires ascending { IsAscendingBy number_of (values_in txn_cmp sources.old t) }
-    requires room { 0 < sources.old.spare }
-    ensures values { (u : Txn) → values_in txn_cmp sources.new u ≡ cond (eqb t.0 u.0 && not (eqb from.0 u.0) && ltb 0 from.0) (put_by number_of from (values_in txn_cmp sources.old u)) (values_in txn_cmp sources.old u) }
-    ensures spare { sources.old.spare ≤ sources.new.spare + 1 }
-{
-    if from == t || from.0 == 0 {
-        return;
-    }
-    sources.put_by_number(t, from);
-}
 
 /// Takes out a pair of t for each of its reads of a cell, and t from the writers of each cell that it put, the newest first.
 pub(crate) fn forget_accesses(

@@ -4,5 +4,6 @@
 mod book;
 mod edits;
 mod registers;
+mod source_lists;
 
 pub use book::Book;

@@ -13,8 +13,8 @@ ghost use Rattle.dependency_book.specs.Dependencies.{IsAgain};
 ghost use Rattle.hold_book.specs.declared.Hold.{Hold};
 ghost use Rattle.hold_book.specs.Orderly.{MayFollow};
 
-use crate::edits;
-use arena_multimap::ArenaMultimap;
+use crate::{edits, source_lists};
+use arena_multimap::{ArenaMultimap, NumberedLists};
 use std::alloc::{AllocError, Global};
 use teb_history::{Event, History};
 use teb_names::{Cell, Txn};
@@ -26,21 +26,21 @@ pub struct Registers {
     pub(crate) readers: ArenaMultimap<Cell, (Txn, Txn)>,
     // By cell, in order of the first Put.
     pub(crate) writers: ArenaMultimap<Cell, Txn>,
-    // By transaction: whom it read from, in ascending number.
-    pub(crate) sources: ArenaMultimap<Txn, Txn>,
+    // Whom each transaction read from, in ascending number: a list for each that has begun, the oldest first.
+    pub(crate) sources: NumberedLists<Txn>,
     // In ascending number.
     pub(crate) unfinished: Vec<Txn>,
 }
 
 impl Registers {
     pub(crate) fn new(alloc: Global) -> Self
-        ensures ascending { SourcesAscend result.sources.entries }
+        ensures ascending { SourcesAscend result.sources.lists }
         ensures book { RegistersOf result [] }
     {
         Registers {
             readers: ArenaMultimap::new(alloc),
             writers: ArenaMultimap::new(alloc),
-            sources: ArenaMultimap::new(alloc),
+            sources: NumberedLists::new(alloc),
             unfinished: Vec::new(alloc),
         }
     }
@@ -60,9 +60,9 @@ impl Registers {
 
     /// Notes the newest event of the history. Of a Put is told whether its transaction has put the cell before.
     pub(crate) fn note(&mut self, history: &History, e: Event, again: bool)
-        requires ascending { SourcesAscend self.old.sources.entries }
+        requires ascending { SourcesAscend self.old.sources.lists }
         requires room { HasRooms self.old 1 }
-        ensures ascending { SourcesAscend self.new.sources.entries }
+        ensures ascending { SourcesAscend self.new.sources.lists }
         ensures room { (n : ℕ) → HasRooms self.old (n + 1) → HasRooms self.new n }
         ensures book { (P : List Event) → history.now.events ≡ e ∷ P → IsAgain P e again → RegistersOf self.old P → MayFollow P e → RegistersOf self.new (e ∷ P) }
     {
@@ -83,32 +83,33 @@ impl Registers {
 
     /// A transaction begins.
     fn begin(&mut self, t: Txn)
-        requires ascending { SourcesAscend self.old.sources.entries }
+        requires ascending { SourcesAscend self.old.sources.lists }
         requires room { HasRooms self.old 1 }
-        ensures ascending { SourcesAscend self.new.sources.entries }
+        ensures ascending { SourcesAscend self.new.sources.lists }
         ensures room { (n : ℕ) → HasRooms self.old (n + 1) → HasRooms self.new n }
         ensures book { (P : List Event) (s : Session) (k : Kind) (i : ℕ) → RegistersOf self.old P → MayFollow P (event.Began t s k i) → RegistersOf self.new (event.Began t s k i ∷ P) }
     {
+        self.sources.begin();
         let _ = self.unfinished.push(t);
     }
 
     /// A transaction reads a cell.
     fn read(&mut self, t: Txn, cell: Cell, from: Txn)
-        requires ascending { SourcesAscend self.old.sources.entries }
+        requires ascending { SourcesAscend self.old.sources.lists }
         requires room { HasRooms self.old 1 }
-        ensures ascending { SourcesAscend self.new.sources.entries }
+        ensures ascending { SourcesAscend self.new.sources.lists }
         ensures room { (n : ℕ) → HasRooms self.old (n + 1) → HasRooms self.new n }
         ensures book { (P : List Event) (v : Option ℤ) → RegistersOf self.old P → MayFollow P (event.Got t cell from v) → RegistersOf self.new (event.Got t cell from v ∷ P) }
     {
         self.readers.push(cell, (t, from));
-        edits::add_source(&mut self.sources, t, from);
+        source_lists::add_source(&mut self.sources, t, from);
     }
 
     /// A transaction puts a cell, which it has put before where `again` is true.
     fn put(&mut self, t: Txn, cell: Cell, again: bool)
-        requires ascending { SourcesAscend self.old.sources.entries }
+        requires ascending { SourcesAscend self.old.sources.lists }
         requires room { HasRooms self.old 1 }
-        ensures ascending { SourcesAscend self.new.sources.entries }
+        ensures ascending { SourcesAscend self.new.sources.lists }
         ensures room { (n : ℕ) → HasRooms self.old (n + 1) → HasRooms self.new n }
         ensures book { (P : List Event) (v : Option ℤ) → again ≡ wrote P t.0 cell → RegistersOf self.old P → MayFollow P (event.Put t cell v) → RegistersOf self.new (event.Put t cell v ∷ P) }
     {
@@ -120,8 +121,8 @@ impl Registers {
 
     /// A transaction commits.
     fn commit(&mut self, t: Txn)
-        requires { SourcesAscend self.old.sources.entries }
-        ensures ascending { SourcesAscend self.new.sources.entries }
+        requires { SourcesAscend self.old.sources.lists }
+        ensures ascending { SourcesAscend self.new.sources.lists }
         ensures room { (n : ℕ) → HasRooms self.old n → HasRooms self.new n }
         ensures book { (P : List Event) → RegistersOf self.old P → MayFollow P (event.Done t) → RegistersOf self.new (event.Done t ∷ P) }
     {
@@ -130,13 +131,13 @@ impl Registers {
 
     /// A transaction is aborted by the newest event of the history.
     fn abort(&mut self, history: &History, t: Txn)
-        requires { SourcesAscend self.old.sources.entries }
-        ensures ascending { SourcesAscend self.new.sources.entries }
+        requires { SourcesAscend self.old.sources.lists }
+        ensures ascending { SourcesAscend self.new.sources.lists }
         ensures room { (n : ℕ) → HasRooms self.old n → HasRooms self.new n }
         ensures book { (P : List Event) (c : Cause) → history.now.events ≡ event.Gone t c ∷ P → RegistersOf self.old P → MayFollow P (event.Gone t c) → RegistersOf self.new (event.Gone t c ∷ P) }
     {
         edits::forget_accesses(&mut self.readers, &mut self.writers, history, t);
-        arena_multimap::clear_txn(&mut self.sources, t);
+        source_lists::clear_sources(&mut self.sources, t);
         teb_history::remove_txn(&mut self.unfinished, t);
     }
 }

@@ -14,7 +14,7 @@ pub returns-clause-room : goal.returns-clause-room
 returns-clause-room c n h = record {
   readers = omega (arith, h.readers, c.forget_accesses.ensures.readers_spare);
   writers = omega (arith, h.writers, c.forget_accesses.ensures.writers_spare);
-  sources = omega (arith, h.sources, c.clear_txn.ensures.spare);
+  sources = omega (arith, h.sources, c.clear_sources.ensures.spare);
   unfinished = omega (arith, h.unfinished, c.remove_txn.ensures.len, c.remove_txn.ensures.capacity);
 }
 
@@ -24,5 +24,5 @@ returns-clause-book c P cause now was may =
     noted_gone _ _ P was t cause may
     (λ y. c.forget_accesses.ensures.readers y ∙ ap (λ (es : List Event). without_lasts (count_by (reads y) (own_events es t.0)) (λ (r : Txn × Txn). eqb r.0.0 t.0) (values_in cell_cmp c.args.self.now.readers y)) now)
     (λ y. c.forget_accesses.ensures.writers y ∙ ap (λ (es : List Event). without_lasts (count_by (puts y) (own_events es t.0)) (λ (u : Txn). eqb u.0 t.0) (values_in cell_cmp c.args.self.now.writers y)) now)
-    c.clear_txn.ensures.values
+    c.clear_sources.ensures.lists c.clear_sources.ensures.values
     (c.remove_txn.ensures.items (unfinished_ascend c.args.self.now P was))

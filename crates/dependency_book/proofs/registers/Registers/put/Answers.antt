@@ -26,7 +26,7 @@ returns-then-again-clause-book c P v told was may =
     let is : true ≡ wrote P t.0 x = sym c.if-again.true ∙ told in
     noted_put _ _ P was t x v may (λ y. refl)
     (λ y. kept _ (same_cell x y) _ _ is)
-    (λ u. refl) refl
+    refl refl
 
 pub returns-clause-book : goal.returns-clause-book
 returns-clause-book c P v told was may =
@@ -35,4 +35,4 @@ returns-clause-book c P v told was may =
     let is : false ≡ wrote P t.0 x = sym c.if-again.false ∙ told in
     noted_put _ _ P was t x v may (λ y. refl)
     (λ y. c.push.ensures.values y ∙ pushed_cell (λ (z : Cell). values_in cell_cmp c.args.self.now.writers z) x y t ∙ added _ (same_cell x y) _ _ is)
-    (λ u. refl) refl
+    refl refl

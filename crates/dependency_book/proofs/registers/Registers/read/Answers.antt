@@ -2,15 +2,9 @@ use Rattle.std.proofs.Common.{refl, ◌∙◌, arith}
 use Rattle.teb_names.specs.declared.Cell.{Cell}
 use Rattle.teb_names.specs.Cells.{cell_cmp}
 use Rattle.sorted_multimap.specs.Multimap.{values_in}
-use Rattle.sorted_multimap.specs.Keys.{txn_cmp}
 use Rattle.sorted_multimap.proofs.CellValues.{pushed_cell}
-use Rattle.dependency_book.proofs.MultimapEdits.{added_ascends}
 use Rattle.dependency_book.proofs.Noted.{noted_got}
 use Rattle.dependency_book.proofs.registers.Registers.read.Goals as goal
-
-pub returns-clause-ascending : goal.returns-clause-ascending
-returns-clause-ascending c =
-    added_ascends (λ u. values_in txn_cmp c.args.self.now.sources u) (λ u. values_in txn_cmp c.add_source.new.sources u) c.args.t c.args.from c.requires.ascending c.add_source.ensures.values
 
 pub returns-clause-room : goal.returns-clause-room
 returns-clause-room c n h = record {
@@ -26,4 +20,4 @@ returns-clause-book c P v was may =
     let x = c.args.cell in
     noted_got _ _ P was t x c.args.from v may
     (λ y. c.push.ensures.values y ∙ pushed_cell (λ (z : Cell). values_in cell_cmp c.args.self.now.readers z) x y (t, c.args.from))
-    (λ y. refl) c.add_source.ensures.values refl
+    (λ y. refl) c.add_source.ensures.lists c.add_source.ensures.values refl
