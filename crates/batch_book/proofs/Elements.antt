@@ -1,5 +1,5 @@
 -- Elements of lists.
-use Rattle.std.proofs.Common.{◌≡◌, ◌⊎◌, ℕ, suc, ◌<◌, Bool, true, false, cond, ◌||◌, eqb, ltb, List, [], ◌∷◌, ◌++◌, filter, find, map, get_or, Option, Some, None, Result, Ok, Err, refl, sym, ◌∙◌, ap, subst, inl, inr, arith, ltb-true, ltb-false}
+use Rattle.std.proofs.Common.{◌≡◌, ◌⊎◌, ℕ, suc, ◌<◌, Bool, true, false, cond, ◌||◌, eqb, ltb, List, [], ◌∷◌, ◌++◌, filter, find, map, get_or, Option, Some, None, is_some, Result, Ok, Err, refl, sym, ◌∙◌, ap, subst, inl, inr, arith, ltb-true, ltb-false}
 use Rattle.std.specs.List.{All, list_any}
 use Rattle.std.specs.Option.{option_map, IsSome}
 use Rattle.std.proofs.lemmas.Bool.{cases_Bool, ne_eqb, or_cases, or_left, or_right, or_parts}
@@ -206,6 +206,10 @@ unfound_shown f p (y ∷ xs) h = elim (cases_Bool (p (f y))) [
   where
     never : Some y ≡ None → ⊥
     never h = cc
+
+pub is_found_shown : {A B : Type 0} (f : A → B) (p : B → Bool) (xs : List A) → is_some (find (λ y. p (f y)) xs) ≡ list_any p (map f xs)
+is_found_shown f p [] = refl
+is_found_shown f p (y ∷ xs) = elim (cases_Bool (p (f y))) [ inl t ↦ rw t refl | inr t ↦ rw t (is_found_shown f p xs) ]
 
 pub some_unless : {A : Type 0} (o : Option A) → (o ≡ None → ⊥) → IsSome o
 some_unless None f = absurd (f refl)

@@ -1,7 +1,7 @@
 -- What a book that holds the batches of a history tells of it, and what the next event makes of it.
-use Rattle.std.proofs.Common.{◌≡◌, ℕ, suc, ◌<◌, true, cond, not, ◌&&◌, eqb, List, [], ◌∷◌, length, map, find, filter, Some, refl, sym, ◌∙◌, ap, subst, inl, inr, arith, eq-eqb}
+use Rattle.std.proofs.Common.{◌≡◌, ℕ, suc, ◌<◌, Bool, true, false, cond, not, ◌&&◌, eqb, List, [], ◌∷◌, length, map, find, filter, Some, refl, sym, ◌∙◌, ap, subst, inl, inr, arith, eq-eqb}
 use Rattle.std.specs.List.{list_any}
-use Rattle.std.proofs.lemmas.Bool.{cases_Bool, eqb-true, or_cases, or_left, or_right}
+use Rattle.std.proofs.lemmas.Bool.{cases_Bool, both_ways, and_from, false_from_ne_true, eqb-true, or_cases, or_left, or_right}
 use Rattle.teb_history.specs.declared.Event.{Event}
 use Rattle.teb_history.specs.declared.Event.TheVariants.{Began, Got, Put, Ready, Done, Gone, Told}
 use Rattle.teb_history.specs.Phases.{begun, begun_count, unfinished, txns, numbers}
@@ -104,6 +104,22 @@ joined_began b S H n t h j =
     there : (us : List ℕ) → list_any (λ (r : Row). eqb r.txn t) (map (row_of S H n) us) ≡ true → In t us
     there [] h = absurd (cc)
     there (u ∷ us) h = elim (or_cases (eqb u t) _ h) [ inl q ↦ inl (eqb-true u t q) | inr q ↦ inr (there us q) ]
+
+-- so whether somebody has joined tells of the history
+pub joined_tells : (b : Book) (S : Setup) (H : List Event) (n t : ℕ) → BatchesOf b S H n → has_joined b t ≡ (begun H t && on S H n t)
+joined_tells b S H n t h = go (begun H t) (on S H n t) refl refl
+  where
+    nobody : (begun H t && on S H n t) ≡ false → has_joined b t ≡ false
+    nobody f = false_from_ne_true _ (λ j. let p = joined_began b S H n t h j in both_ways _ f (and_from _ _ p.0 p.1))
+
+    go : (g o : Bool) → begun H t ≡ g → on S H n t ≡ o → has_joined b t ≡ (g && o)
+    go true true p q = joined_from b S H n t h p q
+    go true false p q = nobody ((λ j. p j && q j))
+    go false o p q = nobody ((λ j. p j && q j))
+
+-- and of whoever has begun it tells whether the node is on his path
+pub on_joined : (b : Book) (S : Setup) (H : List Event) (n t : ℕ) → BatchesOf b S H n → begun H t ≡ true → on S H n t ≡ has_joined b t
+on_joined b S H n t h g = sym (joined_tells b S H n t h ∙ ap (λ (z : Bool). z && on S H n t) g)
 
 -- the row of t tells of its batch
 pub row_tells : (b : Book) (S : Setup) (H : List Event) (n t : ℕ) (r : Row) → BatchesOf b S H n → find (λ (r : Row). eqb r.txn t) b.rows ≡ Some r → r ≡ row_of S H n t

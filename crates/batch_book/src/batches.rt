@@ -46,8 +46,8 @@ impl Model for Batches {
     ghost invariant = { λ b. IsKept b.joined.items b.running.items b.batches.items };
 }
 
-/// `join`, `finish` and `full` cost what the unfinished members are, `start`, `close`, `is_closed_before`, `overlap` and `horizon` a binary search. `join` also
-/// looks once, over all calls, at each member whose batch has closed.
+/// `join`, `finish` and `full` cost what the unfinished members are. What is asked of a transaction costs a binary search, and one
+/// look where all that have begun have joined. `join` also looks once, over all calls, at each member whose batch has closed.
 impl Batches {
     /// The batches of an empty history. A batch is full where it has admitted `size`.
     pub fn new(alloc: Global, size: u16) -> Self
@@ -115,6 +115,14 @@ impl Batches {
                 self.batches[member.batch].close = Some(at);
             }
         }
+    }
+
+    /// Whether t has joined: t has begun, with the node on its path.
+    pub fn has(&self, t: Txn) -> bool
+        ensures joined { result ≡ has_joined self.now t.0 }
+        ensures here { (S : Setup) (H : List Event) (n : ℕ) → BatchesOf self.now S H n → result ≡ (begun H t.0 && on S H n t.0) }
+    {
+        find_member(&self.joined, t).is_some()
     }
 
     /// Where the batch of t starts.

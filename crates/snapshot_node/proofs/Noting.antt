@@ -9,15 +9,15 @@ use Rattle.teb_names.specs.declared.Kind.{Kind}
 use Rattle.teb_names.specs.Cells.{same_cell}
 use Rattle.teb_history.specs.declared.Event.{Event}
 use Rattle.teb_history.specs.declared.Event.TheVariants.{Began, Got, Put, Ready, Done, Gone, Told}
-use Rattle.teb_history.specs.Phases.{begun}
+use Rattle.teb_history.specs.Phases.{begun, unfinished}
 use Rattle.teb_history.specs.Accesses.{wrote, got}
 use Rattle.teb_rules.specs.Setup.{Setup}
 use Rattle.teb_rules.specs.Tree.{on, side, on_path, side_at}
 use Rattle.phase_api.specs.Calls.{MayNote}
-use Rattle.batch_book.specs.Book.{Book, IsNew}
+use Rattle.batch_book.specs.Book.{Book, IsNew, has_joined}
 use Rattle.batch_book.specs.Histories.{BatchesOf, MayCome, Joins, Finishes, Passes}
-use Rattle.batch_book.proofs.Telling.{batches_passed, next_new}
-use Rattle.batch_book.proofs.Numbered.{spot_began, on_kept, begun_step}
+use Rattle.batch_book.proofs.Telling.{batches_passed, next_new, on_joined}
+use Rattle.batch_book.proofs.Numbered.{spot_began, begun_step, unfinished_parts}
 use Rattle.access_conflicts.proofs.Orderly.{orderly_next}
 use Rattle.sorted_multimap.specs.Multimap.{Shown}
 use Rattle.snapshot_node.specs.Accessors.{is_accessor, AreFiled}
@@ -45,6 +45,10 @@ module _ (S : Setup) (P : List Event) (n : ℕ) (b : Book) (r p : Shown Cell Txn
       → AreFiled p' → ((x : Cell) (u : ℕ) → is_accessor p' x u ≡ has_put_in S (e ∷ P) n x u) → SnapshotStand n b' r' p' S (e ∷ P)
   made e b' r' p' m z h a g f w = record { kind = old.kind; size = z ∙ old.size; orderly = orderly_next S P n e m old.orderly; batches = h; readers_filed = a; read = g; writers_filed = f; put = w }
 
+  -- whoever is unfinished has joined exactly where the node is on his path
+  here : (t : ℕ) → unfinished P t ≡ true → on S P n t ≡ has_joined b t
+  here t u = on_joined b S P n t old.batches (unfinished_parts P t u).0
+
   passed : (e : Event) → MayNote S P n e → Passes S P n e → BatchesOf b S (e ∷ P) n
   passed e m q = batches_passed b S P n e old.batches (may_come S P n e m) q
 
@@ -61,11 +65,11 @@ module _ (S : Setup) (P : List Event) (n : ℕ) (b : Book) (r p : Shown Cell Txn
     read r' a g = made (Got t y w v) b r' p m refl (passed (Got t y w v) m tt) a g old.writers_filed
         (λ x u. old.put x u ∙ sym (still_put S P n (Got t y w v) x u refl refl refl refl))
 
-    pub noted_got : (r' : Shown Cell Txn) → on S (Got t y w v ∷ P) n t.0 ≡ true → AreFiled r' → ((x : Cell) (u : ℕ) → is_accessor r' x u ≡ (is_accessor r x u || (same_cell y x && eqb t.0 u))) → SnapshotStand n b r' p S (Got t y w v ∷ P)
-    noted_got r' o a g = read r' a (λ x u. g x u ∙ ap (λ (z : Bool). z || (same_cell y x && eqb t.0 u)) (old.read x u) ∙ sym (got_read S P n t y w v x u m.0 (sym (on_kept S (Got t y w v) P n t.0 refl) ∙ o)))
+    pub noted_got : (r' : Shown Cell Txn) → has_joined b t.0 ≡ true → AreFiled r' → ((x : Cell) (u : ℕ) → is_accessor r' x u ≡ (is_accessor r x u || (same_cell y x && eqb t.0 u))) → SnapshotStand n b r' p S (Got t y w v ∷ P)
+    noted_got r' o a g = read r' a (λ x u. g x u ∙ ap (λ (z : Bool). z || (same_cell y x && eqb t.0 u)) (old.read x u) ∙ sym (got_read S P n t y w v x u m.0 (here t.0 m.0 ∙ o)))
 
-    pub noted_got_off : on S (Got t y w v ∷ P) n t.0 ≡ false → SnapshotStand n b r p S (Got t y w v ∷ P)
-    noted_got_off o = read r old.readers_filed (λ x u. old.read x u ∙ sym (got_elsewhere S P n t y w v x u (sym (on_kept S (Got t y w v) P n t.0 refl) ∙ o)))
+    pub noted_got_off : has_joined b t.0 ≡ false → SnapshotStand n b r p S (Got t y w v ∷ P)
+    noted_got_off o = read r old.readers_filed (λ x u. old.read x u ∙ sym (got_elsewhere S P n t y w v x u (here t.0 m.0 ∙ o)))
 
   module _ (t : Txn) (s : Session) (k : Kind) (i : ℕ) (m : MayNote S P n (Began t s k i)) where
     spot : Spot
@@ -92,14 +96,14 @@ module _ (S : Setup) (P : List Event) (n : ℕ) (b : Book) (r p : Shown Cell Txn
     noted_began_off o = began b refl (passed (Began t s k i) m (sym on_now ∙ o))
 
   module _ (t : Txn) (y : Cell) (v : Option ℤ) (m : MayNote S P n (Put t y v)) where
-    pub noted_put : (p' : Shown Cell Txn) → on S (Put t y v ∷ P) n t.0 ≡ true → AreFiled p'
+    pub noted_put : (p' : Shown Cell Txn) → has_joined b t.0 ≡ true → AreFiled p'
         → ((x : Cell) (u : ℕ) → is_accessor p' x u ≡ (is_accessor p x u || (same_cell y x && eqb t.0 u))) → SnapshotStand n b r p' S (Put t y v ∷ P)
     noted_put p' o f w = made (Put t y v) b r p' m refl (passed (Put t y v) m tt) old.readers_filed (λ x u. old.read x u ∙ sym (still_read S P n (Put t y v) x u refl refl refl)) f
-        (λ x u. w x u ∙ ap (λ (z : Bool). z || (same_cell y x && eqb t.0 u)) (old.put x u) ∙ sym (put_put S P n t y v x u m.0 (sym (on_kept S (Put t y v) P n t.0 refl) ∙ o)))
+        (λ x u. w x u ∙ ap (λ (z : Bool). z || (same_cell y x && eqb t.0 u)) (old.put x u) ∙ sym (put_put S P n t y v x u m.0 (here t.0 m.0 ∙ o)))
 
-    pub noted_put_off : on S (Put t y v ∷ P) n t.0 ≡ false → SnapshotStand n b r p S (Put t y v ∷ P)
+    pub noted_put_off : has_joined b t.0 ≡ false → SnapshotStand n b r p S (Put t y v ∷ P)
     noted_put_off o = made (Put t y v) b r p m refl (passed (Put t y v) m tt) old.readers_filed (λ x u. old.read x u ∙ sym (still_read S P n (Put t y v) x u refl refl refl)) old.writers_filed
-        (λ x u. old.put x u ∙ sym (put_elsewhere S P n t y v x u (sym (on_kept S (Put t y v) P n t.0 refl) ∙ o)))
+        (λ x u. old.put x u ∙ sym (put_elsewhere S P n t y v x u (here t.0 m.0 ∙ o)))
 
   module _ (t : Txn) (b' : Book) (at : ℕ) (l : at ≡ length P) (z : b'.size ≡ b.size)
       (h : (S : Setup) (P : List Event) (n : ℕ) (e : Event) → BatchesOf b S P n → MayCome P e → Finishes t.0 e → at ≡ length P → BatchesOf b' S (e ∷ P) n) where

@@ -70,12 +70,12 @@ impl Register {
                 }
             }
             Event::Got { txn, cell, .. } => {
-                if facts.is_on(self.node, txn) {
+                if self.batches.has(txn) {
                     put_in(&mut self.readers, cell, txn);
                 }
             }
             Event::Put { txn, cell, .. } => {
-                if facts.is_on(self.node, txn) {
+                if self.batches.has(txn) {
                     put_in(&mut self.writers, cell, txn);
                 }
             }

@@ -76,7 +76,7 @@ impl Control for Snapshot {
         self.register.note(facts, e);
         let _ = self.marks.push(NO_MARK);
         if let Some(t) = validated(e) {
-            if facts.is_on(self.register.node, t) {
+            if self.register.batches.has(t) {
                 let asked = Asked {
                     register: &self.register,
                     facts,

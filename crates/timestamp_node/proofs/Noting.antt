@@ -17,11 +17,11 @@ use Rattle.teb_rules.specs.Setup.{Setup}
 use Rattle.teb_rules.specs.Tree.{on, side, on_path, side_at}
 use Rattle.phase_api.specs.FactsView.{IsOrderly}
 use Rattle.phase_api.specs.Calls.{MayNote}
-use Rattle.access_conflicts.proofs.Orderly.{orderly_next, unfinished_begun, begun_kept}
-use Rattle.batch_book.specs.Book.{Book}
+use Rattle.access_conflicts.proofs.Orderly.{orderly_next}
+use Rattle.batch_book.specs.Book.{Book, has_joined}
 use Rattle.batch_book.specs.Histories.{BatchesOf, IsNumbered, MayCome, Joins, Finishes, Passes}
 use Rattle.batch_book.proofs.Numbered.{begins_once, begun_step, aborted_step, on_kept, unfinished_parts, spot_began}
-use Rattle.batch_book.proofs.Telling.{batches_passed}
+use Rattle.batch_book.proofs.Telling.{batches_passed, on_joined}
 use Rattle.sorted_multimap.specs.Multimap.{values_of, values_in}
 use Rattle.timestamp_node.specs.Reads.{all_reads, reads, is_by, IsTimely}
 use Rattle.timestamp_node.specs.Standing.{ShownReads, ReadsOf, StampsStand}
@@ -138,9 +138,6 @@ module _ (S : Setup) (H : List Event) (n : ℕ) (e : Event) (is : H ≡ e ∷ dr
   pub begun_now : (t : ℕ) → is_began t e ≡ true → IsTrue (begun H t)
   begun_now t b = ap (λ (G : List Event). begun G t) is ∙ begun_step e (drop 1 H) t ∙ or_left (is_began t e) (begun (drop 1 H) t) b
 
-  pub unfinished_now : (t : ℕ) → IsTrue (unfinished (drop 1 H) t) → IsTrue (begun H t)
-  unfinished_now t u = ap (λ (G : List Event). begun G t) is ∙ begun_kept e (drop 1 H) t (unfinished_begun (drop 1 H) t u)
-
   come : MayCome (drop 1 H) e
   come = may_come S (drop 1 H) n e may
 
@@ -162,11 +159,9 @@ module _ (S : Setup) (H : List Event) (n : ℕ) (e : Event) (is : H ≡ e ∷ dr
     same_reads : ((x : Cell) → all_reads (e ∷ drop 1 H) x ≡ all_reads (drop 1 H) x) → ((u : ℕ) → is_gone u e ≡ false) → ReadsOf p S (e ∷ drop 1 H) n
     same_reads a g = λ x. was.reads x ∙ reads_kept S (drop 1 H) n e was.orderly was.batches.numbered come a g x
 
-    on_now : (t : ℕ) (v : Bool) → on S H n t ≡ v → on S (e ∷ drop 1 H) n t ≡ v
-    on_now t v h = ap (λ (G : List Event). on S G n t) (sym is) ∙ h
-
-    on_before : (t : ℕ) (v : Bool) → is_began t e ≡ false → on S H n t ≡ v → on S (drop 1 H) n t ≡ v
-    on_before t v f h = sym (on_kept S e (drop 1 H) n t f) ∙ on_now t v h
+    -- whoever is unfinished has joined exactly where the node is on his path
+    on_before : (t : ℕ) → unfinished (drop 1 H) t ≡ true → on S (drop 1 H) n t ≡ has_joined b t
+    on_before t u = on_joined b S (drop 1 H) n t was.batches (unfinished_parts (drop 1 H) t u).0
 
     pub began_on : (t : Txn) (s : Session) (k : Kind) (i : ℕ) → e ≡ Began t s k i → on S H n t.0 ≡ true → (b' : Book) (m at : ℕ) → m ≡ side S H n t.0 → at ≡ length (drop 1 H) → b'.size ≡ b.size
         → ((S : Setup) (Q : List Event) (n : ℕ) (d : Event) → BatchesOf b S Q n → MayCome Q d → Joins S n m t.0 d → at ≡ length Q → BatchesOf b' S (d ∷ Q) n) → StampsStand n o b' p S H
@@ -192,17 +187,18 @@ module _ (S : Setup) (H : List Event) (n : ℕ) (e : Event) (is : H ≡ e ∷ dr
         spot : spot_of H t.0 ≡ record { kind = k; instance = i }
         spot = ap (λ (G : List Event). spot_of G t.0) is ∙ ap (λ (d : Event). spot_of (d ∷ drop 1 H) t.0) q ∙ spot_began t s k i (drop 1 H)
 
-    pub got_on : (t : Txn) (y : Cell) (w : Txn) (v : Option ℤ) → e ≡ Got t y w v → on S H n t.0 ≡ true → (p' : ShownReads)
+    pub got_on : (t : Txn) (y : Cell) (w : Txn) (v : Option ℤ) → e ≡ Got t y w v → has_joined b t.0 ≡ true → (p' : ShownReads)
         → ((x : Cell) → values_in cell_cmp p' x ≡ cond (same_cell y x) (values_in cell_cmp p x ++ (t, w) ∷ []) (values_in cell_cmp p x)) → StampsStand n o b p' S H
     got_on t y w v q h p' pushed =
         let u : unfinished (drop 1 H) t.0 ≡ true = (subst (λ (d : Event). MayNote S (drop 1 H) n d) q may).0 in
-        let before = on_before t.0 true (ap (is_began t.0) q) h in
+        let before = on_before t.0 u ∙ h in
         next b p' refl (same_batches (subst (Passes S (drop 1 H) n) (sym q) tt)) (subst (λ (d : Event). ReadsOf p' S (d ∷ drop 1 H) n) (sym q)
         (λ x. pushed x ∙ ap (λ (rs : List (Txn × Txn)). cond (same_cell y x) (rs ++ (t, w) ∷ []) rs) (was.reads x) ∙ reads_got S (drop 1 H) n t y w v x before (unfinished_parts (drop 1 H) t.0 u).2))
 
-    pub got_off : (t : Txn) (y : Cell) (w : Txn) (v : Option ℤ) → e ≡ Got t y w v → on S H n t.0 ≡ false → StampsStand n o b p S H
+    pub got_off : (t : Txn) (y : Cell) (w : Txn) (v : Option ℤ) → e ≡ Got t y w v → has_joined b t.0 ≡ false → StampsStand n o b p S H
     got_off t y w v q h =
-        let before = on_before t.0 false (ap (is_began t.0) q) h in
+        let u : unfinished (drop 1 H) t.0 ≡ true = (subst (λ (d : Event). MayNote S (drop 1 H) n d) q may).0 in
+        let before = on_before t.0 u ∙ h in
         next b p refl (same_batches (subst (Passes S (drop 1 H) n) (sym q) tt)) (subst (λ (d : Event). ReadsOf p S (d ∷ drop 1 H) n) (sym q) (λ x. was.reads x ∙ reads_got_off S (drop 1 H) n t y w v x before))
 
     pub done : (t : Txn) → e ≡ Done t → (b' : Book) (at : ℕ) → at ≡ length (drop 1 H) → b'.size ≡ b.size
@@ -220,10 +216,10 @@ module _ (S : Setup) (H : List Event) (n : ℕ) (e : Event) (is : H ≡ e ∷ dr
         next b' p' z (finished S (drop 1 H) n e was.batches come (subst (Finishes t.0) (sym q) refl) end) (subst (λ (d : Event). ReadsOf p' S (d ∷ drop 1 H) n) (sym q) shown)
 
     -- the multimap has what an aborted one has read
-    pub gone_read : (t : Txn) (c : Cause) → e ≡ Gone t c → on S H n t.0 ≡ true → (x : Cell) → filter (is_by t) (values_in cell_cmp p x) ≡ filter (is_by t) (all_reads H x)
+    pub gone_read : (t : Txn) (c : Cause) → e ≡ Gone t c → has_joined b t.0 ≡ true → (x : Cell) → filter (is_by t) (values_in cell_cmp p x) ≡ filter (is_by t) (all_reads H x)
     gone_read t c q h x =
         let u : unfinished (drop 1 H) t.0 ≡ true = subst (λ (d : Event). MayNote S (drop 1 H) n d) q may in
-        let before = on_before t.0 true (ap (is_began t.0) q) h in
+        let before = on_before t.0 u ∙ h in
         ap (filter (is_by t)) (was.reads x) ∙ gone_reads S (drop 1 H) n t c x before (unfinished_parts (drop 1 H) t.0 u).2
         ∙ ap (λ (G : List Event). filter (is_by t) (all_reads G x)) (sym (is ∙ ap (λ (d : Event). d ∷ drop 1 H) q))
 
@@ -232,10 +228,11 @@ module _ (S : Setup) (H : List Event) (n : ℕ) (e : Event) (is : H ≡ e ∷ dr
         → (p' : ShownReads) → ((x : Cell) → values_in cell_cmp p' x ≡ filter (λ r. not (is_by t r)) (values_in cell_cmp p x)) → StampsStand n o b' p' S H
     gone_on t c q b' at end z finished p' left = gone t c q b' at end z finished p' (λ x. left x ∙ ap (filter (others t)) (was.reads x) ∙ without S (drop 1 H) n t c x)
 
-    pub gone_off : (t : Txn) (c : Cause) → e ≡ Gone t c → on S H n t.0 ≡ false → (b' : Book) (at : ℕ) → at ≡ length (drop 1 H) → b'.size ≡ b.size
+    pub gone_off : (t : Txn) (c : Cause) → e ≡ Gone t c → has_joined b t.0 ≡ false → (b' : Book) (at : ℕ) → at ≡ length (drop 1 H) → b'.size ≡ b.size
         → ((S : Setup) (Q : List Event) (n : ℕ) (d : Event) → BatchesOf b S Q n → MayCome Q d → Finishes t.0 d → at ≡ length Q → BatchesOf b' S (d ∷ Q) n) → StampsStand n o b' p S H
-    gone_off t c q h b' at end z finished = gone t c q b' at end z finished p
-        (λ x. was.reads x ∙ reads_gone_off S (drop 1 H) n t c x (on_before t.0 false (ap (is_began t.0) q) h))
+    gone_off t c q h b' at end z finished =
+        let u : unfinished (drop 1 H) t.0 ≡ true = subst (λ (d : Event). MayNote S (drop 1 H) n d) q may in
+        gone t c q b' at end z finished p (λ x. was.reads x ∙ reads_gone_off S (drop 1 H) n t c x (on_before t.0 u ∙ h))
 
     -- an event that is of no concern
     pub idle : (d : Event) → e ≡ d → Passes S (drop 1 H) n d → ((x : Cell) → all_reads (d ∷ drop 1 H) x ≡ all_reads (drop 1 H) x) → ((u : ℕ) → is_gone u d ≡ false) → StampsStand n o b p S H

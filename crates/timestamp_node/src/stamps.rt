@@ -230,16 +230,16 @@ impl Control for Stamps {
                 from,
                 ..
             } => {
-                if facts.is_on(self.node, txn) {
+                if self.batches.has(txn) {
                     push_read(&mut self.reads, cell, txn, from);
                 }
             }
             Event::Done(txn) => self.batches.finish(txn, at),
             Event::Gone { txn, .. } => {
-                self.batches.finish(txn, at);
-                if facts.is_on(self.node, txn) {
+                if self.batches.has(txn) {
                     forget_reads(&mut self.reads, facts.history, txn);
                 }
+                self.batches.finish(txn, at);
             }
             Event::Put { .. } | Event::Ready(_) | Event::Told(_) => {}
         }

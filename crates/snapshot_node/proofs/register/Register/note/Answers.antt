@@ -7,7 +7,7 @@ use Rattle.teb_history.specs.Accesses.{wrote, got}
 use Rattle.teb_rules.specs.Tree.{on, side}
 use Rattle.phase_api.specs.FactsView.{setup_of, events_of}
 use Rattle.phase_api.specs.Calls.{MayNote}
-use Rattle.access_conflicts.proofs.Noting.{orderly_now, accessor_begun, writer_begun, typed_now}
+use Rattle.access_conflicts.proofs.Noting.{orderly_now, typed_now}
 use Rattle.snapshot_node.specs.Accessors.{is_accessor}
 use Rattle.snapshot_node.specs.Standing.{SnapshotStand}
 use Rattle.snapshot_node.proofs.Noting.{newest_place, began_begun, began_new, noted_began, noted_began_off, noted_put, noted_put_off, noted_done, noted_gone, noted_got, noted_got_off, noted_ready, noted_told}
@@ -37,22 +37,6 @@ join-requires-clause-new c =
     let P = drop 1 (events_of c.args.facts.now) in
     let n = c.args.self.now.node.0 in
     began_new S P n c.args.self.now.batches c.args.self.now.readers c.args.self.now.writers c.requires.stands c.in-Began.txn c.in-Began.session c.in-Began.kind c.in-Began.instance (subst (λ (d : Event). MayNote S P n d) c.in-Began.is c.requires.newest.may)
-
-pub is_on-requires-in-Got : goal.is_on-requires-in-Got
-is_on-requires-in-Got c =
-    let f = c.args.facts.now in
-    let S = setup_of f in
-    let H = events_of f in
-    typed_now f c.in-Got.txn.0 (orderly_now S H _ c.args.e c.requires.newest.is c.requires.newest.may c.requires.stands.orderly)
-    (accessor_begun S H _ c.args.e c.requires.newest.is c.requires.newest.may c.in-Got.txn c.in-Got.cell (c.in-Got.from, c.in-Got.value, c.in-Got.is))
-
-pub is_on-requires-in-Put : goal.is_on-requires-in-Put
-is_on-requires-in-Put c =
-    let f = c.args.facts.now in
-    let S = setup_of f in
-    let H = events_of f in
-    typed_now f c.in-Put.txn.0 (orderly_now S H _ c.args.e c.requires.newest.is c.requires.newest.may c.requires.stands.orderly)
-    (writer_begun S H _ c.args.e c.requires.newest.is c.requires.newest.may c.in-Put.txn c.in-Put.cell (c.in-Put.value, c.in-Put.is))
 
 pub returns-then-is_on-clause-stands : goal.returns-then-is_on-clause-stands
 returns-then-is_on-clause-stands c =
@@ -90,8 +74,8 @@ returns-else-is_on-clause-stands c =
     (λ o. noted_began_off S P n b r p c.requires.stands t c.in-Began.session c.in-Began.kind c.in-Began.instance m o)
     (sym c.is_on.ensures ∙ c.if-is_on.false)
 
-pub returns-then-is_on-2-clause-stands : goal.returns-then-is_on-2-clause-stands
-returns-then-is_on-2-clause-stands c =
+pub returns-then-has-clause-stands : goal.returns-then-has-clause-stands
+returns-then-has-clause-stands c =
     let S = setup_of c.args.facts.now in
     let H = events_of c.args.facts.now in
     let P = drop 1 H in
@@ -103,12 +87,10 @@ returns-then-is_on-2-clause-stands c =
     let k = c.put_in.new.accessors in
     let h : H ≡ Got t c.in-Got.cell c.in-Got.from c.in-Got.value ∷ P = c.requires.newest.is ∙ ap (λ (d : Event). d ∷ P) c.in-Got.is in
     let m = subst (λ (d : Event). MayNote S P n d) c.in-Got.is c.requires.newest.may in
-    subst (λ (G : List Event). on S G n t.0 ≡ true → SnapshotStand n b k p S G) (sym h)
-    (λ o. noted_got S P n b r p c.requires.stands t c.in-Got.cell c.in-Got.from c.in-Got.value m k o c.put_in.ensures.filed c.put_in.ensures.accessors)
-    (sym c.is_on-in-Got.ensures ∙ c.if-is_on-2.true)
+    subst (λ (G : List Event). SnapshotStand n b k p S G) (sym h) (noted_got S P n b r p c.requires.stands t c.in-Got.cell c.in-Got.from c.in-Got.value m k (sym c.has.ensures.joined ∙ c.if-has.true) c.put_in.ensures.filed c.put_in.ensures.accessors)
 
-pub returns-else-is_on-2-clause-stands : goal.returns-else-is_on-2-clause-stands
-returns-else-is_on-2-clause-stands c =
+pub returns-else-has-clause-stands : goal.returns-else-has-clause-stands
+returns-else-has-clause-stands c =
     let S = setup_of c.args.facts.now in
     let H = events_of c.args.facts.now in
     let P = drop 1 H in
@@ -119,12 +101,10 @@ returns-else-is_on-2-clause-stands c =
     let p = c.args.self.now.writers in
     let h : H ≡ Got t c.in-Got.cell c.in-Got.from c.in-Got.value ∷ P = c.requires.newest.is ∙ ap (λ (d : Event). d ∷ P) c.in-Got.is in
     let m = subst (λ (d : Event). MayNote S P n d) c.in-Got.is c.requires.newest.may in
-    subst (λ (G : List Event). on S G n t.0 ≡ false → SnapshotStand n b r p S G) (sym h)
-    (λ o. noted_got_off S P n b r p c.requires.stands t c.in-Got.cell c.in-Got.from c.in-Got.value m o)
-    (sym c.is_on-in-Got.ensures ∙ c.if-is_on-2.false)
+    subst (λ (G : List Event). SnapshotStand n b r p S G) (sym h) (noted_got_off S P n b r p c.requires.stands t c.in-Got.cell c.in-Got.from c.in-Got.value m (sym c.has.ensures.joined ∙ c.if-has.false))
 
-pub returns-then-is_on-3-clause-stands : goal.returns-then-is_on-3-clause-stands
-returns-then-is_on-3-clause-stands c =
+pub returns-then-has-2-clause-stands : goal.returns-then-has-2-clause-stands
+returns-then-has-2-clause-stands c =
     let S = setup_of c.args.facts.now in
     let H = events_of c.args.facts.now in
     let P = drop 1 H in
@@ -134,15 +114,13 @@ returns-then-is_on-3-clause-stands c =
     let b = c.args.self.now.batches in
     let r = c.args.self.now.readers in
     let p = c.args.self.now.writers in
-    let q = c.put_in-then-is_on-3.new.accessors in
+    let q = c.put_in-then-has-2.new.accessors in
     let h : H ≡ Put t y c.in-Put.value ∷ P = c.requires.newest.is ∙ ap (λ (d : Event). d ∷ P) c.in-Put.is in
     let m = subst (λ (d : Event). MayNote S P n d) c.in-Put.is c.requires.newest.may in
-    subst (λ (G : List Event). on S G n t.0 ≡ true → SnapshotStand n b r q S G) (sym h)
-    (λ o. noted_put S P n b r p c.requires.stands t y c.in-Put.value m q o c.put_in-then-is_on-3.ensures.filed c.put_in-then-is_on-3.ensures.accessors)
-    (sym c.is_on-in-Put.ensures ∙ c.if-is_on-3.true)
+    subst (λ (G : List Event). SnapshotStand n b r q S G) (sym h) (noted_put S P n b r p c.requires.stands t y c.in-Put.value m q (sym c.has-in-Put.ensures.joined ∙ c.if-has-2.true) c.put_in-then-has-2.ensures.filed c.put_in-then-has-2.ensures.accessors)
 
-pub returns-else-is_on-3-clause-stands : goal.returns-else-is_on-3-clause-stands
-returns-else-is_on-3-clause-stands c =
+pub returns-else-has-2-clause-stands : goal.returns-else-has-2-clause-stands
+returns-else-has-2-clause-stands c =
     let S = setup_of c.args.facts.now in
     let H = events_of c.args.facts.now in
     let P = drop 1 H in
@@ -153,9 +131,7 @@ returns-else-is_on-3-clause-stands c =
     let p = c.args.self.now.writers in
     let h : H ≡ Put t c.in-Put.cell c.in-Put.value ∷ P = c.requires.newest.is ∙ ap (λ (d : Event). d ∷ P) c.in-Put.is in
     let m = subst (λ (d : Event). MayNote S P n d) c.in-Put.is c.requires.newest.may in
-    subst (λ (G : List Event). on S G n t.0 ≡ false → SnapshotStand n b r p S G) (sym h)
-    (λ o. noted_put_off S P n b r p c.requires.stands t c.in-Put.cell c.in-Put.value m o)
-    (sym c.is_on-in-Put.ensures ∙ c.if-is_on-3.false)
+    subst (λ (G : List Event). SnapshotStand n b r p S G) (sym h) (noted_put_off S P n b r p c.requires.stands t c.in-Put.cell c.in-Put.value m (sym c.has-in-Put.ensures.joined ∙ c.if-has-2.false))
 
 pub returns-in-Done-clause-stands : goal.returns-in-Done-clause-stands
 returns-in-Done-clause-stands c =

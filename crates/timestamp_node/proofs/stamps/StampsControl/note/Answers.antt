@@ -1,12 +1,17 @@
-use Rattle.std.proofs.Common.{◌∙◌, ◌-◌, drop, sym, ap, subst, refl, inl, inr, eq-eqb}
+use Rattle.std.proofs.Common.{◌≡◌, ◌∙◌, ◌-◌, ◌∷◌, ℕ, List, drop, length, sym, ap, subst, refl, inl, inr, eq-eqb}
 use Rattle.teb_history.specs.declared.Event.{Event}
 use Rattle.teb_history.specs.Phases.{is_began}
+use Rattle.teb_rules.specs.Setup.{Setup}
 use Rattle.phase_api.specs.FactsView.{setup_of, events_of}
 use Rattle.phase_api.specs.Calls.{MayNote}
 use Rattle.access_conflicts.proofs.Noting.{typed_now}
+use Rattle.batch_book.specs.Histories.{BatchesOf, MayCome, Finishes}
 use Rattle.batch_book.proofs.Telling.{next_new}
-use Rattle.timestamp_node.proofs.Noting.{at_end, orderly_now, begun_now, unfinished_now, began_on, began_off, got_on, got_off, done, gone_read, gone_on, gone_off, put, readied, told}
+use Rattle.timestamp_node.specs.declared.stamps.Stamps.{Stamps}
+use Rattle.timestamp_node.specs.Standing.{StampsStand}
+use Rattle.timestamp_node.proofs.Noting.{at_end, orderly_now, begun_now, began_on, began_off, got_on, got_off, done, gone_read, gone_on, gone_off, put, readied, told}
 use Rattle.timestamp_node.proofs.stamps.StampsControl.note.Goals as goal
+use Rattle.timestamp_node.proofs.stamps.StampsControl.note.Goals.{then-has-2, else-has-2}
 
 pub is_on-requires : goal.is_on-requires
 is_on-requires c =
@@ -35,24 +40,6 @@ join-requires-clause-new c =
     let may = c.requires.newest.may in
     next_new c.args.self.now.batches S (drop 1 H) n c.in-Began.txn.0 c.requires.stands.batches (subst (λ (d : Event). MayNote S (drop 1 H) n d) c.in-Began.is may).0
 
-pub is_on-requires-in-Got : goal.is_on-requires-in-Got
-is_on-requires-in-Got c =
-    let S = setup_of c.args.facts.now in
-    let H = events_of c.args.facts.now in
-    let n = c.args.self.now.node.0 in
-    let is = c.requires.newest.is in
-    let may = c.requires.newest.may in
-    typed_now c.args.facts.now c.in-Got.txn.0 (orderly_now S H n c.args.e is may c.requires.stands.orderly) (unfinished_now S H n c.args.e is may c.in-Got.txn.0 (subst (λ (d : Event). MayNote S (drop 1 H) n d) c.in-Got.is may).0)
-
-pub is_on-requires-in-Gone : goal.is_on-requires-in-Gone
-is_on-requires-in-Gone c =
-    let S = setup_of c.args.facts.now in
-    let H = events_of c.args.facts.now in
-    let n = c.args.self.now.node.0 in
-    let is = c.requires.newest.is in
-    let may = c.requires.newest.may in
-    typed_now c.args.facts.now c.in-Gone.txn.0 (orderly_now S H n c.args.e is may c.requires.stands.orderly) (unfinished_now S H n c.args.e is may c.in-Gone.txn.0 (subst (λ (d : Event). MayNote S (drop 1 H) n d) c.in-Gone.is may))
-
 pub returns-then-is_on-clause-stands : goal.returns-then-is_on-clause-stands
 returns-then-is_on-clause-stands c =
     let S = setup_of c.args.facts.now in
@@ -72,23 +59,23 @@ returns-else-is_on-clause-stands c =
     let may = c.requires.newest.may in
     began_off S H n c.args.e is may c.args.self.now.ordered c.args.self.now.batches c.args.self.now.reads c.requires.stands c.in-Began.txn c.in-Began.session c.in-Began.kind c.in-Began.instance c.in-Began.is (sym c.is_on.ensures ∙ c.if-is_on.false)
 
-pub returns-then-is_on-2-clause-stands : goal.returns-then-is_on-2-clause-stands
-returns-then-is_on-2-clause-stands c =
+pub returns-then-has-clause-stands : goal.returns-then-has-clause-stands
+returns-then-has-clause-stands c =
     let S = setup_of c.args.facts.now in
     let H = events_of c.args.facts.now in
     let n = c.args.self.now.node.0 in
     let is = c.requires.newest.is in
     let may = c.requires.newest.may in
-    got_on S H n c.args.e is may c.args.self.now.ordered c.args.self.now.batches c.args.self.now.reads c.requires.stands c.in-Got.txn c.in-Got.cell c.in-Got.from c.in-Got.value c.in-Got.is (sym c.is_on-in-Got.ensures ∙ c.if-is_on-2.true) c.push_read.new.reads c.push_read.ensures.values
+    got_on S H n c.args.e is may c.args.self.now.ordered c.args.self.now.batches c.args.self.now.reads c.requires.stands c.in-Got.txn c.in-Got.cell c.in-Got.from c.in-Got.value c.in-Got.is (sym c.has.ensures.joined ∙ c.if-has.true) c.push_read.new.reads c.push_read.ensures.values
 
-pub returns-else-is_on-2-clause-stands : goal.returns-else-is_on-2-clause-stands
-returns-else-is_on-2-clause-stands c =
+pub returns-else-has-clause-stands : goal.returns-else-has-clause-stands
+returns-else-has-clause-stands c =
     let S = setup_of c.args.facts.now in
     let H = events_of c.args.facts.now in
     let n = c.args.self.now.node.0 in
     let is = c.requires.newest.is in
     let may = c.requires.newest.may in
-    got_off S H n c.args.e is may c.args.self.now.ordered c.args.self.now.batches c.args.self.now.reads c.requires.stands c.in-Got.txn c.in-Got.cell c.in-Got.from c.in-Got.value c.in-Got.is (sym c.is_on-in-Got.ensures ∙ c.if-is_on-2.false)
+    got_off S H n c.args.e is may c.args.self.now.ordered c.args.self.now.batches c.args.self.now.reads c.requires.stands c.in-Got.txn c.in-Got.cell c.in-Got.from c.in-Got.value c.in-Got.is (sym c.has.ensures.joined ∙ c.if-has.false)
 
 pub returns-in-Done-clause-stands : goal.returns-in-Done-clause-stands
 returns-in-Done-clause-stands c =
@@ -107,27 +94,28 @@ forget_reads-requires c =
     let n = c.args.self.now.node.0 in
     let is = c.requires.newest.is in
     let may = c.requires.newest.may in
-    gone_read S H n c.args.e is may c.args.self.now.ordered c.args.self.now.batches c.args.self.now.reads c.requires.stands c.in-Gone.txn c.in-Gone.cause c.in-Gone.is (sym c.is_on-in-Gone.ensures ∙ c.if-is_on-3.true)
+    gone_read S H n c.args.e is may c.args.self.now.ordered c.args.self.now.batches c.args.self.now.reads c.requires.stands c.in-Gone.txn c.in-Gone.cause c.in-Gone.is (sym c.has-in-Gone.ensures.joined ∙ c.if-has-2.true)
 
-pub returns-then-is_on-3-clause-stands : goal.returns-then-is_on-3-clause-stands
-returns-then-is_on-3-clause-stands c =
+pub returns-after-has-2-clause-stands : goal.returns-after-has-2-clause-stands
+returns-after-has-2-clause-stands c =
     let S = setup_of c.args.facts.now in
     let H = events_of c.args.facts.now in
     let n = c.args.self.now.node.0 in
     let is = c.requires.newest.is in
     let may = c.requires.newest.may in
-    gone_on S H n c.args.e is may c.args.self.now.ordered c.args.self.now.batches c.args.self.now.reads c.requires.stands c.in-Gone.txn c.in-Gone.cause c.in-Gone.is c.finish-in-Gone.new.self (c.len-at.result - 1)
-    (at_end S H n c.args.e is may (c.len-at.result - 1) c.len-at.result c.len-at.ensures refl) c.finish-in-Gone.ensures.size c.finish-in-Gone.ensures.batches c.forget_reads.new.reads c.forget_reads.ensures.values
-
-pub returns-else-is_on-3-clause-stands : goal.returns-else-is_on-3-clause-stands
-returns-else-is_on-3-clause-stands c =
-    let S = setup_of c.args.facts.now in
-    let H = events_of c.args.facts.now in
-    let n = c.args.self.now.node.0 in
-    let is = c.requires.newest.is in
-    let may = c.requires.newest.may in
-    gone_off S H n c.args.e is may c.args.self.now.ordered c.args.self.now.batches c.args.self.now.reads c.requires.stands c.in-Gone.txn c.in-Gone.cause c.in-Gone.is (sym c.is_on-in-Gone.ensures ∙ c.if-is_on-3.false) c.finish-in-Gone.new.self (c.len-at.result - 1)
-    (at_end S H n c.args.e is may (c.len-at.result - 1) c.len-at.result c.len-at.ensures refl) c.finish-in-Gone.ensures.size c.finish-in-Gone.ensures.batches
+    let was = c.args.self.now in
+    let t = c.in-Gone.txn in
+    let b' = c.finish-in-Gone.new.self in
+    let at = c.len-at.result - 1 in
+    let end = at_end S H n c.args.e is may at c.len-at.result c.len-at.ensures refl in
+    let K = λ (s : Stamps). b'.size ≡ s.batches.size
+    → ((S : Setup) (Q : List Event) (n : ℕ) (d : Event) → BatchesOf s.batches S Q n → MayCome Q d → Finishes t.0 d → at ≡ length Q → BatchesOf b' S (d ∷ Q) n) → StampsStand s.node.0 s.ordered b' s.reads S H in
+    elim c.if-has-2.branch [
+      | then-has-2 w ↦ subst K (sym w.self-is) (λ z f. gone_on S H n c.args.e is may was.ordered was.batches was.reads c.requires.stands t c.in-Gone.cause c.in-Gone.is b' at end z f w.forget_reads.new.reads w.forget_reads.ensures.values)
+          c.finish-in-Gone.ensures.size c.finish-in-Gone.ensures.batches
+      | else-has-2 w ↦ subst K (sym w.self-is) (λ z f. gone_off S H n c.args.e is may was.ordered was.batches was.reads c.requires.stands t c.in-Gone.cause c.in-Gone.is (sym c.has-in-Gone.ensures.joined ∙ w.if-has-2.false) b' at end z f)
+          c.finish-in-Gone.ensures.size c.finish-in-Gone.ensures.batches
+    ]
 
 pub returns-in-Put-clause-stands : goal.returns-in-Put-clause-stands
 returns-in-Put-clause-stands c =
