@@ -29,13 +29,12 @@ pub struct Locks {
 
 impl Locks {
     /// The control of a locks node for an empty history.
-    pub fn new(node: Node, facts: &Facts) -> Self
-        requires kind { (row (setup_of facts.now).tree node.0).control ≡ IsLocks }
-        requires empty { events_of facts.now ≡ [] }
+    pub fn new(node: Node, _facts: &Facts) -> Self
+        requires kind { (row (setup_of _facts.now).tree node.0).control ≡ IsLocks }
+        requires empty { events_of _facts.now ≡ [] }
         ensures node { result.node ≡ node }
-        ensures stands { LocksStand result.node.0 (setup_of facts.now) (events_of facts.now) }
+        ensures stands { LocksStand result.node.0 (setup_of _facts.now) (events_of _facts.now) }
     {
-        let _ = facts;
         Locks { node }
     }
 

@@ -1,7 +1,7 @@
 -- Who comes first in a pivot, by where the transaction that validates stands in it.
 use Rattle.std.specs.Prelude.{IsTrue}
-use Rattle.std.proofs.Common.{◌≡◌, ◌<◌, length, get_or, ℕ, true, false, eqb, leb, List, ◌∷◌, ◌⊎◌, inl, inr, filter, Option, Some, None, ◌≤◌, le_refl, refl, sym, ◌∙◌, ap, subst, eqb-true, eq-eqb}
-use Rattle.std.proofs.lemmas.Bool.{and_parts, and_from, or_left, not_from_false}
+use Rattle.std.proofs.Common.{◌≡◌, ℕ, true, false, eqb, List, ◌∷◌, ◌⊎◌, inl, inr, Option, Some, None, ◌≤◌, le_refl, refl, sym, subst, eqb-true, eq-eqb}
+use Rattle.std.proofs.lemmas.Bool.{and_parts, or_left}
 use Rattle.teb_names.specs.declared.Cell.{Cell}
 use Rattle.teb_names.specs.declared.Txn.{Txn}
 use Rattle.teb_names.specs.declared.ControlKind.TheVariants.{Snapshot}
@@ -15,20 +15,12 @@ use Rattle.teb_rules.specs.Batches.{concurrent, one_batch}
 use Rattle.teb_laws.specs.Lawful.{Lawful}
 use Rattle.teb_laws.specs.TreeFacts.{TreeFacts}
 use Rattle.teb_laws.proofs.Nodes.{meets_parts}
-use Rattle.phase_api.specs.declared.facts.Facts.{Facts}
-use Rattle.phase_api.specs.FactsView.{IsOrderly, setup_of, events_of}
-use Rattle.phase_api.specs.Calls.{IsHere}
+use Rattle.phase_api.specs.FactsView.{IsOrderly}
 use Rattle.batch_book.specs.Fields.{Has}
-use Rattle.batch_book.specs.Histories.{ClosedBelow}
 use Rattle.batch_book.proofs.Elements.{any_Has, Has-any}
-use Rattle.snapshot_node.specs.Accessors.{is_among}
 use Rattle.snapshot_node.specs.Standing.{readers_in}
-use Rattle.snapshot_node.specs.Pivots.{is_at_stake, is_across, lesser_of, IsLeast, IsAcross, Leads, Leaves, Reaches, IsMiddle, IsFirst, ComesBefore, ComesAfter, ComesIn, ComesInBy}
-use Rattle.snapshot_node.proofs.Among.{among_part}
-use Rattle.snapshot_node.proofs.Listed.{reads_parts, among_readers, readers_here}
+use Rattle.snapshot_node.specs.Pivots.{is_at_stake, is_across, lesser_of, IsLeast, Leads, Leaves, Reaches, IsMiddle, IsFirst, ComesBefore, ComesAfter, ComesIn, ComesInAmong}
 use Rattle.snapshot_node.proofs.Least.{Remains, least_as, least_either, lesser_twice, remains_next, Along, along_of, along_item}
-use Rattle.snapshot_node.proofs.FirstOf.{among_from, each_among}
-use Rattle.snapshot_node.proofs.Edges.{stake_stands, across_later}
 use Rattle.snapshot_node.proofs.CellEdges.{Behind, behind_leads, leads_behind}
 use Rattle.snapshot_node.proofs.Batchmates.{batch_parts, batch_sym, batch_trans}
 use Rattle.snapshot_node.proofs.Reach.{with_t}
@@ -40,7 +32,7 @@ stake_itself H t = or_left _ (committed H t) (or_left _ (prepared H t) (eq-eqb t
 module _ (S : Setup) (H : List Event) (n t : ℕ) where
   -- a comes in by a reader of the cell that the event has put
   abbrev pub ComesBy : Event → ℕ → Type 0
-  ComesBy (Put s x v) a = ComesInBy S H n t x a
+  ComesBy (Put s x v) a = ComesInAmong S H n t (readers_in S H n x) a
   ComesBy _ a = ⊥
 
   pub comes_by_puts : (e : Event) → ((s : Txn) (x : Cell) (v : Option _) → e ≡ Put s x v → ⊥) → (a : ℕ) → ComesBy e a → ⊥
@@ -51,41 +43,21 @@ module _ (S : Setup) (H : List Event) (n t : ℕ) where
   abbrev pub ComesThrough : Txn → ℕ → Type 0
   ComesThrough c a = IsTrue (is_at_stake H t c.0) × IsTrue (is_across S H n t c.0) × Reaches S H n t c.0 a
 
+  module _ (cs : List Txn) where
+    pub through_comes : (a : ℕ) → Along ComesThrough cs a → ComesInAmong S H n t cs a
+    through_comes a h =
+        let r = along_item ComesThrough a cs h in
+        let i = Has-any (λ (u : Txn). eqb u.0 r.0.0) r.0 cs r.1 (eq-eqb r.0.0 r.0.0 refl) in
+        record { third = r.0.0; into = r.2.2; across = record { listed = i; stake = r.2.0; across = r.2.1 } }
+
+    pub comes_through : (a : ℕ) → ComesInAmong S H n t cs a → Along ComesThrough cs a
+    comes_through a q =
+        let c = q.third in
+        let r = any_Has (λ (u : Txn). eqb u.0 c) cs q.across.listed in
+        let y : ComesThrough (record { 0 = c }) a = (q.across.stake, q.across.across, q.into) in
+        along_of ComesThrough a r.0 cs r.1 (subst (λ (z : ℕ). ComesThrough (record { 0 = z }) a) (sym (eqb-true r.0.0 c r.2)) y)
+
   module _ (l : Lawful S H) (o : IsOrderly S H) (runs : aborted H t ≡ false) where
-    reads_across : (x : Cell) (a : ℕ) (q : ComesInBy S H n t x a) → IsAcross S H n t t (readers_in S H n x) q.third
-    reads_across x a q =
-        let m = meets_parts S H n t q.third (and_parts (meets S H n t q.third) (concurrent S H n t q.third) q.across).0 in
-        record {
-          listed = among_readers S H n x q.third o ∙ and_from _ _ (and_from _ _ m.1 (not_from_false _ (stake_stands S H t q.third l runs q.stake))) q.read;
-          stake = q.stake;
-          across = q.across;
-        }
-
-    comes_by : (x : Cell) (c a : ℕ) → IsAcross S H n t t (readers_in S H n x) c → Reaches S H n t c a → ComesInBy S H n t x a
-    comes_by x c a h r = record {
-      third = c;
-      into = r;
-      read = (reads_parts S H n x c (sym (among_readers S H n x c o) ∙ h.listed)).2;
-      stake = h.stake;
-      across = h.across;
-    }
-
-    -- the readers of x from t's horizon on
-    module _ (x : Cell) (m : ℕ) (below : ClosedBelow S H n t m) (cs : List Txn) (e : cs ≡ filter (λ u. leb m u.0) (readers_in S H n x)) where
-      pub through_comes : (a : ℕ) → Along ComesThrough cs a → ComesInBy S H n t x a
-      through_comes a h =
-          let r = along_item ComesThrough a cs h in
-          let i = Has-any (λ (u : Txn). eqb u.0 r.0.0) r.0 cs r.1 (eq-eqb r.0.0 r.0.0 refl) in
-          comes_by x r.0.0 a (record { listed = among_part (λ u. leb m u.0) r.0.0 (readers_in S H n x) (sym (ap (is_among r.0.0) e) ∙ i); stake = r.2.0; across = r.2.1 }) r.2.2
-
-      pub comes_through : (a : ℕ) → ComesInBy S H n t x a → Along ComesThrough cs a
-      comes_through a q =
-          let c = q.third in
-          let i = among_from m c (readers_in S H n x) (across_later S H n t m c below (o.got c x q.read) q.across) (reads_across x a q).listed in
-          let r = any_Has (λ (u : Txn). eqb u.0 c) cs (ap (is_among c) e ∙ i) in
-          let y : ComesThrough (record { 0 = c }) a = (q.stake, q.across, q.into) in
-          along_of ComesThrough a r.0 cs r.1 (subst (λ (z : ℕ). ComesThrough (record { 0 = z }) a) (sym (eqb-true r.0.0 c r.2)) y)
-
     -- at a snapshot node
     module _ (f : TreeFacts S) (k : (row S.tree n).control ≡ Snapshot) where
       pub along_comes : (a : ℕ) → Along ComesBy (own_events H t) a → ComesIn S H n t a
@@ -95,7 +67,7 @@ module _ (S : Setup) (H : List Event) (n t : ℕ) where
           each (Put s x v) i q = record {
             third = q.third;
             into = q.into;
-            out = behind_leads S H n t l o runs f k t q.third (stake_itself H t) (along_of (Behind S H n t t) q.third (Put s x v) (own_events H t) i (reads_across x a q));
+            out = behind_leads S H n t l o runs f k t q.third (stake_itself H t) (along_of (Behind S H n t t) q.third (Put s x v) (own_events H t) i q.across);
           }
           each _ i q = absurd q
 
@@ -105,12 +77,8 @@ module _ (S : Setup) (H : List Event) (n t : ℕ) where
           along_of ComesBy a r.0 (own_events H t) r.1 (each r.0 r.2)
         where
           each : (e : Event) → Behind S H n t t e h.third → ComesBy e a
-          each (Put s x v) q = comes_by x h.third a q h.into
+          each (Put s x v) q = record { third = h.third; into = h.into; across = q }
           each _ q = absurd q
-
--- the readers of a cell from the number m on are here
-pub reader_here : (f : Facts) (n : ℕ) (x : Cell) (m : ℕ) → IsOrderly (setup_of f) (events_of f) → (cs : List Txn) → cs ≡ filter (λ u. leb m u.0) (readers_in (setup_of f) (events_of f) n x) → (i : ℕ) → i < length cs → IsHere f n (get_or cs i (record { 0 = 0 })).0
-reader_here f n x m o cs e i l = readers_here f n x o _ (each_among (record { 0 = 0 }) (readers_in (setup_of f) (events_of f) n x) cs m e i l)
 
 -- the least with P or, where C holds, with Q
 pub least_with : (P Q : ℕ → Type 0) (C : Type 0) (best next : Option Txn) → C → IsLeast P best → IsLeast Q next → IsLeast (λ u. P u ⊎ (Q u × C)) (lesser_of best next)

@@ -1,6 +1,6 @@
 -- The first of an ascending list that has a property, found from a number on.
 use Rattle.std.specs.Prelude.{IsTrue}
-use Rattle.std.proofs.Common.{◌≡◌, ℕ, zero, suc, ◌+◌, ◌<◌, ◌≤◌, Bool, true, false, cond, leb, le-leb, eqb, List, [], ◌∷◌, ◌⊎◌, inl, inr, length, filter, get_or, Some, refl, sym, ◌∙◌, ap, subst, arith}
+use Rattle.std.proofs.Common.{◌≡◌, ℕ, zero, suc, ◌+◌, ◌<◌, ◌≤◌, Bool, true, false, cond, leb, le-leb, eqb, List, [], ◌∷◌, ◌⊎◌, inl, inr, length, filter, get_or, Some, refl, sym, subst, arith}
 use Rattle.std.proofs.lemmas.Bool.{cases_lt, both_ways, or_cases, or_left, or_right, eqb-true}
 use Rattle.teb_names.specs.declared.Txn.{Txn}
 use Rattle.teb_history.specs.Ascending.{AllAbove, IsAscendingBy}
@@ -8,7 +8,6 @@ use Rattle.teb_history.specs.Live.{number_of}
 use Rattle.snapshot_node.specs.Accessors.{is_among}
 use Rattle.snapshot_node.specs.Pivots.{IsLeast}
 use Rattle.snapshot_node.proofs.Among.{among_above}
-use Rattle.snapshot_node.proofs.Later.{kept_among}
 
 -- who stands in a list that is above n is numbered above n
 among_over : (n u : ℕ) (xs : List Txn) → AllAbove number_of n xs → is_among u xs ≡ true → n < u
@@ -24,10 +23,6 @@ among_from m u (x ∷ xs) l h = go (leb m x.0) refl (among_from m u xs l) (or_ca
     go true e ih (inr j) = or_right (eqb x.0 u) _ (ih j)
     go false e ih (inl q) = absurd (both_ways (leb m x.0) e (le-leb m x.0 (let y = eqb-true x.0 u q in omega arith)))
     go false e ih (inr j) = ih j
-
--- whoever stands at a place among those of a list from the number m on stands in the list
-pub each_among : (d : Txn) (xs ys : List Txn) (m : ℕ) → ys ≡ filter (λ u. leb m u.0) xs → (i : ℕ) → i < length ys → IsTrue (is_among (get_or ys i d).0 xs)
-each_among d xs ys m e i l = ap (λ (us : List Txn). is_among (get_or us i d).0 xs) e ∙ kept_among (λ u. leb m u.0) xs i d (omega (arith, ap (λ (us : List Txn). length us) e))
 
 module _ (P : ℕ → Type 0) (d : Txn) where
   -- nobody of a list before place i has P

@@ -2,7 +2,6 @@
 use Rattle.std.proofs.Common.{◌≡◌, ℕ, Bool, true, false, not, ◌&&◌, ltb, List, find, refl, ◌∙◌}
 use Rattle.std.proofs.lemmas.Bool.{and_parts, and_from, or_left, or_right}
 use Rattle.teb_names.specs.declared.Cell.{Cell}
-use Rattle.teb_names.specs.declared.Txn.{Txn}
 use Rattle.teb_history.specs.declared.Event.{Event}
 use Rattle.teb_history.specs.Phases.{txns, committed, unfinished}
 use Rattle.teb_history.specs.Accesses.{wrote}
@@ -12,16 +11,9 @@ use Rattle.teb_rules.specs.Batches.{start, close}
 use Rattle.teb_rules.specs.Controls.{is_first}
 use Rattle.teb_laws.proofs.Nodes.{meets_parts}
 use Rattle.access_conflicts.specs.Waits.{some_txn}
+use Rattle.snapshot_node.specs.Asking.{comes_first, is_met}
 use Rattle.snapshot_node.specs.Standing.{has_put_in, writers_in}
 use Rattle.snapshot_node.proofs.Listed.{puts_parts, finds, as_txn}
-
--- a committed writer was first where it meets t and is not closed before t's start
-abbrev pub comes_first : Setup → List Event → ℕ → ℕ → Txn → Bool
-comes_first S H n t u = committed H u.0 && not (ltb (close S H n u.0) (start S H n t)) && meets S H n t u.0
-
--- an unfinished one is in the way where it meets t
-abbrev pub is_met : Setup → List Event → ℕ → ℕ → Txn → Bool
-is_met S H n t u = unfinished H u.0 && meets S H n t u.0
 
 pub first_found : (S : Setup) (H : List Event) (n t : ℕ) (x : Cell) → find (comes_first S H n t) (writers_in S H n x) ≡ some_txn (find (is_first S H n t x) (txns H))
 unfolding is_first

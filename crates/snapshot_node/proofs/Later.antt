@@ -1,5 +1,5 @@
 -- The transactions of an ascending list from a number on.
-use Rattle.std.proofs.Common.{◌≡◌, ℕ, zero, suc, ◌-◌, ◌<◌, ◌≤◌, Bool, true, false, cond, not, ◌&&◌, ltb, leb, eqb, eq-eqb, lt-ltb, le-ltb, List, [], ◌∷◌, length, drop, filter, find, get_or, Some, refl, sym, ◌∙◌, ap, subst, inl, inr, arith}
+use Rattle.std.proofs.Common.{◌≡◌, ℕ, zero, suc, ◌-◌, ◌<◌, ◌≤◌, Bool, true, false, cond, not, ◌&&◌, ltb, leb, eqb, eq-eqb, lt-ltb, le-ltb, List, [], ◌∷◌, length, drop, filter, find, get_or, Some, refl, sym, ◌∙◌, ap, inl, inr, arith}
 use Rattle.std.specs.List.Sorted.{IsNonDecreasingBy, IsPartitionPoint}
 use Rattle.std.proofs.lemmas.Bool.{and_parts, both_ways, or_left, or_right, cases_lt}
 use Rattle.std.proofs.lemmas.Bool.Decides.{nat_tests}
@@ -15,13 +15,12 @@ use Rattle.teb_rules.specs.Tree.{meets}
 use Rattle.teb_rules.specs.Batches.{start, close}
 use Rattle.phase_api.specs.declared.facts.Facts.{Facts}
 use Rattle.phase_api.specs.FactsView.{IsOrderly, setup_of, events_of}
-use Rattle.phase_api.specs.Calls.{IsHere}
 use Rattle.batch_book.specs.Histories.{IsNumbered, ClosedBelow}
 use Rattle.batch_book.proofs.Closings.{still_open, unfinished_open}
 use Rattle.snapshot_node.specs.Accessors.{is_among}
+use Rattle.snapshot_node.specs.Asking.{comes_first, is_met}
 use Rattle.snapshot_node.specs.Standing.{writers_in}
-use Rattle.snapshot_node.proofs.Listed.{puts_parts, among_writers, writers_here}
-use Rattle.snapshot_node.proofs.Found.{comes_first, is_met}
+use Rattle.snapshot_node.proofs.Listed.{puts_parts, among_writers}
 
 above_at : (n : ℕ) (xs : List Txn) → AllAbove number_of n xs → (i : ℕ) (d : Txn) → i < length xs → n < number_of (get_or xs i d)
 above_at n [] h i d l = absurd (omega arith)
@@ -81,17 +80,6 @@ find_kept p r (x ∷ xs) h = go (r x) refl (p x) refl (find_kept p r xs (λ y i.
     go false e true f ih = absurd (both_ways _ e (h x (or_left (eqb x.0 x.0) _ (eq-eqb x.0 x.0 refl)) f))
     go false e false f ih = ih
 
--- who passes a test in a list stands in the list
-pub kept_among : (r : Txn → Bool) (xs : List Txn) (i : ℕ) (d : Txn) → i < length (filter r xs) → is_among (get_or (filter r xs) i d).0 xs ≡ true
-kept_among r [] i d l = absurd (omega arith)
-kept_among r (x ∷ xs) i d l = go (r x) i (λ j. kept_among r xs j d) l
-  where
-    go : (b : Bool) (i : ℕ) → ((j : ℕ) → j < length (filter r xs) → is_among (get_or (filter r xs) j d).0 xs ≡ true)
-        → i < length (cond b (x ∷ filter r xs) (filter r xs)) → is_among (get_or (cond b (x ∷ filter r xs) (filter r xs)) i d).0 (x ∷ xs) ≡ true
-    go true zero ih l = or_left (eqb x.0 x.0) _ (eq-eqb x.0 x.0 refl)
-    go true (suc j) ih l = or_right (eqb x.0 (get_or (filter r xs) j d).0) _ (ih j (omega arith))
-    go false i ih l = or_right (eqb x.0 (get_or (filter r xs) i d).0) _ (ih i l)
-
 -- whoever is of a batch that is not closed before t's starts is numbered from the horizon m of t on
 module _ (S : Setup) (H : List Event) (n m : ℕ) (x : Cell) (o : IsOrderly S H) (t : ℕ) (below : ClosedBelow S H n t m) (u : Txn) (a : is_among u.0 (writers_in S H n x) ≡ true) where
   late : not (ltb (close S H n u.0) (start S H n t)) ≡ true → leb m u.0 ≡ true
@@ -117,21 +105,15 @@ pub kept : (m : ℕ) {xs ys ts : List Txn} → xs ≡ ys → ts ≡ filter (λ u
 kept m e h = h ∙ ap (filter (λ (u : Txn). leb m u.0)) e
 
 -- the writers of a cell from the horizon m of t on
-module _ (f : Facts) (n m : ℕ) (x : Cell) (o : IsOrderly (setup_of f) (events_of f)) (ts : List Txn) (e : ts ≡ filter (λ u. leb m u.0) (writers_in (setup_of f) (events_of f) n x)) where
-  -- each of them is here
-  pub later_here : (i : ℕ) (d : Txn) → i < length ts → IsHere f n (get_or ts i d).0
-  later_here i d l =
-      let xs = writers_in (setup_of f) (events_of f) n x in
-      subst (λ (us : List Txn). IsHere f n (get_or us i d).0) (sym e) (writers_here f n x o _ (kept_among (λ u. leb m u.0) xs i d (omega (arith, ap (λ (us : List Txn). length us) e))))
+module _ (f : Facts) (n m : ℕ) (x : Cell) (o : IsOrderly (setup_of f) (events_of f)) (ts : List Txn) (e : ts ≡ filter (λ u. leb m u.0) (writers_in (setup_of f) (events_of f) n x))
+    (t : ℕ) (below : ClosedBelow (setup_of f) (events_of f) n t m) where
+  found_later : (p : Txn → Bool) → ((u : Txn) → is_among u.0 (writers_in (setup_of f) (events_of f) n x) ≡ true → p u ≡ true → leb m u.0 ≡ true) → find p ts ≡ find p (writers_in (setup_of f) (events_of f) n x)
+  found_later p only = ap (λ (us : List Txn). find p us) e ∙ find_kept p (λ u. leb m u.0) (writers_in (setup_of f) (events_of f) n x) only
 
-  module _ (t : ℕ) (below : ClosedBelow (setup_of f) (events_of f) n t m) where
-    found_later : (p : Txn → Bool) → ((u : Txn) → is_among u.0 (writers_in (setup_of f) (events_of f) n x) ≡ true → p u ≡ true → leb m u.0 ≡ true) → find p ts ≡ find p (writers_in (setup_of f) (events_of f) n x)
-    found_later p only = ap (λ (us : List Txn). find p us) e ∙ find_kept p (λ u. leb m u.0) (writers_in (setup_of f) (events_of f) n x) only
+  -- the first one among them is the first one of all
+  pub first_later : find (comes_first (setup_of f) (events_of f) n t) ts ≡ find (comes_first (setup_of f) (events_of f) n t) (writers_in (setup_of f) (events_of f) n x)
+  first_later = found_later (comes_first (setup_of f) (events_of f) n t) (first_late (setup_of f) (events_of f) n m x o t below)
 
-    -- the first one among them is the first one of all
-    pub first_later : find (comes_first (setup_of f) (events_of f) n t) ts ≡ find (comes_first (setup_of f) (events_of f) n t) (writers_in (setup_of f) (events_of f) n x)
-    first_later = found_later (comes_first (setup_of f) (events_of f) n t) (first_late (setup_of f) (events_of f) n m x o t below)
-
-    -- and so is the first unfinished one
-    pub met_later : IsNumbered (events_of f) → begun (events_of f) t ≡ true → find (is_met (setup_of f) (events_of f) n t) ts ≡ find (is_met (setup_of f) (events_of f) n t) (writers_in (setup_of f) (events_of f) n x)
-    met_later k b = found_later (is_met (setup_of f) (events_of f) n t) (λ u a. met_late (setup_of f) (events_of f) n m x o t below u a k b)
+  -- and so is the first unfinished one
+  pub met_later : IsNumbered (events_of f) → begun (events_of f) t ≡ true → find (is_met (setup_of f) (events_of f) n t) ts ≡ find (is_met (setup_of f) (events_of f) n t) (writers_in (setup_of f) (events_of f) n x)
+  met_later k b = found_later (is_met (setup_of f) (events_of f) n t) (λ u a. met_late (setup_of f) (events_of f) n m x o t below u a k b)

@@ -8,7 +8,7 @@ use Rattle.phase_api.specs.FactsView.{setup_of, events_of}
 use Rattle.snapshot_node.specs.declared.asked.Asked.{Asked}
 use Rattle.snapshot_node.specs.Accessors.{is_among}
 use Rattle.snapshot_node.specs.Asking.{AreLate, AreThere, there}
-use Rattle.snapshot_node.specs.Pivots.{IsAcross, IsLeast, IsMateAmong, IsMiddleAmong}
+use Rattle.snapshot_node.specs.Pivots.{IsAcross, IsLeast, IsMateAmong, IsMiddleAmong, ComesInAmong}
 use Rattle.snapshot_node.proofs.Among.{among_part}
 use Rattle.snapshot_node.proofs.Edges.{across_later}
 use Rattle.snapshot_node.proofs.FirstOf.{among_from}
@@ -54,3 +54,9 @@ module _ (a : Asked) (t : ℕ) (all us : List Txn) (late : AreLate a t all us) w
   pub mate_recent : AreThere a all → (b : ℕ) (o : Option Txn) → IsLeast (there a IsMateAmong t b us) o → IsLeast (there a IsMateAmong t b all) o
   mate_recent here b o h =
       least_as (there a IsMateAmong t b us) (there a IsMateAmong t b all) o (λ u y. (across_all here t u y.0, y.1)) (λ u y. (across_recent here t u y.0, y.1)) h
+
+  pub comer_recent : AreThere a all → (o : Option Txn) → IsLeast (there a ComesInAmong t us) o → IsLeast (there a ComesInAmong t all) o
+  comer_recent here o h =
+      least_as (there a ComesInAmong t us) (there a ComesInAmong t all) o
+      (λ u y. record { third = y.third; into = y.into; across = across_all here t y.third y.across })
+      (λ u y. record { third = y.third; into = y.into; across = across_recent here t y.third y.across }) h

@@ -1,9 +1,11 @@
 -- What is said of a control that is asked.
-use Rattle.std.specs.Prelude.{◌≡◌, ℕ, List, IsTrue, IsFalse, filter, leb}
+use Rattle.std.specs.Prelude.{◌≡◌, ◌&&◌, ℕ, Bool, not, List, IsTrue, IsFalse, filter, leb, ltb}
 use Rattle.teb_names.specs.declared.Txn.{Txn}
 use Rattle.teb_history.specs.declared.Event.{Event}
-use Rattle.teb_history.specs.Phases.{begun, aborted}
+use Rattle.teb_history.specs.Phases.{begun, committed, aborted, unfinished}
 use Rattle.teb_rules.specs.Setup.{Setup}
+use Rattle.teb_rules.specs.Tree.{meets}
+use Rattle.teb_rules.specs.Batches.{start, close}
 use Rattle.teb_laws.specs.Lawful.{Lawful}
 use Rattle.phase_api.specs.FactsView.{setup_of, events_of}
 use Rattle.phase_api.specs.Calls.{IsHere}
@@ -28,6 +30,14 @@ there a p = p (setup_of a.facts.now) (events_of a.facts.now) a.register.now.node
 -- the node stands on the path of each of them
 abbrev pub AreThere : Asked → List Txn → Type 0
 AreThere a ts = AreHere a.facts.now a.register.now.node.0 ts
+
+-- u is committed and meets t, and its batch is not closed before t's starts
+abbrev pub comes_first : Setup → List Event → ℕ → ℕ → Txn → Bool
+comes_first S H n t u = committed H u.0 && not (ltb (close S H n u.0) (start S H n t)) && meets S H n t u.0
+
+-- u is unfinished and meets t
+abbrev pub is_met : Setup → List Event → ℕ → ℕ → Txn → Bool
+is_met S H n t u = unfinished H u.0 && meets S H n t u.0
 
 -- those of some transactions from a number on, where whoever is below it was of a batch that closed before t's started
 pub record AreLate (a : Asked) (t : ℕ) (all us : List Txn) : Type 0 where

@@ -4,7 +4,7 @@ use Rattle.teb_names.specs.declared.Cell.{Cell}
 use Rattle.teb_names.specs.declared.Txn.{Txn}
 use Rattle.teb_history.specs.declared.Event.{Event}
 use Rattle.teb_history.specs.Phases.{prepared, committed}
-use Rattle.teb_history.specs.Accesses.{wrote, got}
+use Rattle.teb_history.specs.Accesses.{wrote}
 use Rattle.teb_rules.specs.Setup.{Setup}
 use Rattle.teb_rules.specs.Tree.{meets}
 use Rattle.teb_rules.specs.Batches.{concurrent, one_batch}
@@ -157,13 +157,11 @@ module _ (S : Setup) (H : List Event) (n t : ℕ) where
   abbrev pub ComesAfter : ℕ → Type 0
   ComesAfter a = (Reaches t a × ((d : ℕ) × Leads t d)) ⊎ ((a ≡ t) × ((b : ℕ) × IsMiddle t b))
 
-  -- a comes in by one that has read x and is across from t
-  pub record ComesInBy (x : Cell) (a : ℕ) : Type 0 where
+  -- a has an edge to somebody of the batch of one of some that are across from t
+  pub record ComesInAmong (among : List Txn) (a : ℕ) : Type 0 where
     pub third : ℕ
     pub into : Reaches third a
-    pub read : IsTrue (got H third x)
-    pub stake : IsTrue (is_at_stake H t third)
-    pub across : IsTrue (is_across S H n t third)
+    pub across : IsAcross t among third
 
 abbrev pub break_by : Option Broken → Verdict
 break_by None = Go

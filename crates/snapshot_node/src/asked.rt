@@ -1,12 +1,7 @@
 //! A snapshot control that is asked: whose batches are closed before whose, and who has put or read a cell.
 
-ghost use Rattle.std.specs.Prelude.{◌≡◌, ◌&&◌, find, ltb};
-ghost use Rattle.teb_history.specs.Phases.{txns, unfinished};
-ghost use Rattle.teb_history.specs.Accesses.{wrote};
-ghost use Rattle.teb_rules.specs.Tree.{meets};
+ghost use Rattle.std.specs.Prelude.{◌≡◌, find, ltb};
 ghost use Rattle.teb_rules.specs.Batches.{start, close};
-ghost use Rattle.teb_rules.specs.Controls.{is_first};
-ghost use Rattle.access_conflicts.specs.Waits.{some_txn};
 ghost use Rattle.snapshot_node.specs.Standing.{writers_in, readers_in};
 ghost use Rattle.snapshot_node.specs.Stood.{StandsFor};
 ghost use Rattle.snapshot_node.specs.Props.{kept};
@@ -24,7 +19,7 @@ pub(crate) struct Asked<'a> {
 }
 
 impl<'a> Asked<'a> {
-    ghost use Rattle.snapshot_node.specs.Asking.{AreLate, IsAt, history, there};
+    ghost use Rattle.snapshot_node.specs.Asking.{AreThere, IsAt, comes_first, is_met, there};
 
     // Those on whose path the node stands that have put a cell and are not aborted, in ascending number, each once.
     pub(crate) fn writers(&self, cell: Cell) -> &[Txn]
@@ -49,13 +44,12 @@ impl<'a> Asked<'a> {
         self.register.batches.is_closed_before(u, t)
     }
 
-    // The least committed transaction that wrote a cell before t: it is a recent writer.
-    pub(crate) fn first_writer(&self, t: Txn, cell: Cell, among: &[Txn]) -> Option<Txn>
+    // The first of some writers of a cell that is committed, meets t, and is not of a batch closed before t's starts.
+    pub(crate) fn first_writer(&self, t: Txn, among: &[Txn]) -> Option<Txn>
         requires here { IsAt self.now t.0 }
-        requires late { AreLate self.now t.0 (there self.now writers_in cell) among.now }
-        ensures { result ≡ some_txn (find (there self.now is_first t.0 cell) (txns (history self.now))) }
+        requires among_here { AreThere self.now among.now }
+        ensures { result ≡ find (there self.now comes_first t.0) among.now }
     {
-        let _ = cell;
         for u in among {
             if self.facts.history.is_committed(*u)
                 && !self.is_closed_before(*u, t)
@@ -67,13 +61,12 @@ impl<'a> Asked<'a> {
         None
     }
 
-    // The least unfinished transaction that t's write of a cell waits for: its batch is open, so that it is a recent writer.
-    pub(crate) fn blocker(&self, t: Txn, cell: Cell, among: &[Txn]) -> Option<Txn>
+    // The first of some writers of a cell that is unfinished and meets t, so that t's write of the cell waits for it.
+    pub(crate) fn blocker(&self, t: Txn, among: &[Txn]) -> Option<Txn>
         requires here { IsAt self.now t.0 }
-        requires late { AreLate self.now t.0 (there self.now writers_in cell) among.now }
-        ensures { let H = history self.now in result ≡ some_txn (find (λ u. unfinished H u && there self.now meets t.0 u && wrote H u cell) (txns H)) }
+        requires among_here { AreThere self.now among.now }
+        ensures { result ≡ find (there self.now is_met t.0) among.now }
     {
-        let _ = cell;
         for u in among {
             if self.facts.history.is_unfinished(*u)
                 && self.facts.meet_at(self.register.node, t, *u)

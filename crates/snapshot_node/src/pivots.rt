@@ -6,15 +6,14 @@
 ghost use Rattle.std.specs.Prelude.{◌≡◌};
 ghost use Rattle.teb_history.specs.Ascending.{IsAscendingBy};
 ghost use Rattle.teb_history.specs.Live.{number_of};
-ghost use Rattle.snapshot_node.specs.Asking.{AreLate, IsAt, there};
-ghost use Rattle.snapshot_node.specs.Standing.{readers_in};
+ghost use Rattle.snapshot_node.specs.Asking.{IsAt};
 ghost use Rattle.snapshot_node.specs.Validating.{AreAt, AreOwn, IsAtStake, ruled, at};
-ghost use Rattle.snapshot_node.specs.Pivots.{IsLeast, IsMiddle, IsMiddleAmong, IsFirst, ComesBefore, ComesAfter, ComesIn, ComesInBy, break_by};
+ghost use Rattle.snapshot_node.specs.Pivots.{IsLeast, IsMiddle, IsMiddleAmong, IsFirst, ComesBefore, ComesAfter, ComesIn, ComesInAmong, break_by};
 
 use crate::neighbours::{is_at_stake, lesser};
 use crate::validation::{Own, Validation};
 use teb_history::Event;
-use teb_names::{Cell, Txn};
+use teb_names::Txn;
 use teb_rules::Broken;
 
 impl<'a> Validation<'a> {
@@ -86,20 +85,19 @@ impl<'a> Validation<'a> {
         let mut least = None;
         for event in self.asked.facts.history.own_events(self.t) {
             if let Event::Put { cell, .. } = event {
-                least = lesser(least, self.least_before_by(cell, recent.readers(cell), own));
+                least = lesser(least, self.least_before_by(recent.readers(cell), own));
             }
         }
         least
     }
 
-    // The same by an edge to t of a reader of one cell that t has put. Of readers that follow one another in one batch it asks the
-    // first: the others are reached by the same. `last` is the last one that was asked; at first t, who has no mate across from it.
-    fn least_before_by(&self, cell: Cell, among: &[Txn], own: Own) -> Option<Txn>
-        requires late { AreLate self.now.asked self.now.t.0 (there self.now.asked readers_in cell) among.now }
+    // The same of those at stake among some that are across from t. Of those that follow one another in one batch it asks the first:
+    // the others are reached by the same. `last` is the last one that was asked; at first t, who has no mate across from it.
+    fn least_before_by(&self, among: &[Txn], own: Own) -> Option<Txn>
         requires own { AreOwn self.now own }
-        ensures { IsLeast (at self.now ComesInBy cell) result }
+        requires among_here { AreAt self.now among.now }
+        ensures { IsLeast (at self.now ComesInAmong among.now) result }
     {
-        let _ = cell;
         let t = self.t;
         let mut least = None;
         let mut last = t;

@@ -112,9 +112,9 @@ impl Control for Snapshot {
         };
         let recent = asked.recent(t);
         let among = recent.writers(cell);
-        match asked.first_writer(t, cell, among) {
+        match asked.first_writer(t, among) {
             Some(writer) => Verdict::Break(Broken::First { writer, cell }),
-            None => wait_for(asked.blocker(t, cell, among)),
+            None => wait_for(asked.blocker(t, among)),
         }
     }
 

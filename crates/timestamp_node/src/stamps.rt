@@ -1,12 +1,14 @@
 //! The control of a timestamp node: versions stand in the order in which batches start, and a write that comes too late for a
 //! read breaks.
 
-ghost use Rattle.std.specs.Prelude.{◌≡◌, ◌⊎◌, ◌||◌, ◌&&◌, ◌<◌, [], IfOk, IsTrue, eqb, ltb, find};
+ghost use Rattle.std.specs.Prelude.{◌≡◌, ◌⊎◌, ◌||◌, ◌&&◌, ◌<◌, [], IfOk, IsTrue, List, eqb, ltb, find};
 ghost use Rattle.teb_names.specs.declared.ControlKind.TheVariants.{Timestamp as IsTimestamp};
+ghost use Rattle.teb_history.specs.declared.Event.{Event};
 ghost use Rattle.teb_history.specs.Phases.{txns, unfinished};
 ghost use Rattle.teb_history.specs.Written.{txn_of};
+ghost use Rattle.teb_rules.specs.Setup.{Setup};
 ghost use Rattle.teb_rules.specs.Tree.{row, meets};
-ghost use Rattle.teb_rules.specs.Batches.{start, close};
+ghost use Rattle.teb_rules.specs.Batches.{start};
 ghost use Rattle.teb_rules.specs.Versions.{precedes};
 ghost use Rattle.teb_rules.specs.Controls.{is_late};
 ghost use Rattle.version_chain.specs.Lists.{writers_of};
@@ -66,33 +68,11 @@ impl Stamps {
 
     /// Who read a cell, and from whom, 0 for the starting row: a pair for each Got by a transaction on whose path the node
     /// stands and that is not aborted, in the order of the history.
-    pub fn reads(&self, facts: &Facts, cell: Cell) -> &[(Txn, Txn)]
-        requires { StampsStand self.now.node.0 self.now.ordered self.now.batches self.now.reads (setup_of facts.now) (events_of facts.now) }
-        ensures { result.now ≡ reads (setup_of facts.now) (events_of facts.now) self.now.node.0 cell }
+    pub fn reads(&self, _facts: &Facts, cell: Cell) -> &[(Txn, Txn)]
+        requires { StampsStand self.now.node.0 self.now.ordered self.now.batches self.now.reads (setup_of _facts.now) (events_of _facts.now) }
+        ensures { result.now ≡ reads (setup_of _facts.now) (events_of _facts.now) self.now.node.0 cell }
     {
-        let _ = facts;
         self.reads.list(cell)
-    }
-
-    // Where the batch of a transaction that is here starts.
-    fn start_of(&self, facts: &Facts, t: Txn) -> usize
-        requires stands { StampsStand self.now.node.0 self.now.ordered self.now.batches self.now.reads (setup_of facts.now) (events_of facts.now) }
-        requires here { IsHere facts.now self.now.node.0 t.0 }
-        ensures { result ≡ start (setup_of facts.now) (events_of facts.now) self.now.node.0 t.0 }
-    {
-        let _ = facts;
-        self.batches.start(t)
-    }
-
-    // Whether u's batch is closed before t's starts.
-    fn is_closed_before(&self, facts: &Facts, u: Txn, t: Txn) -> bool
-        requires stands { StampsStand self.now.node.0 self.now.ordered self.now.batches self.now.reads (setup_of facts.now) (events_of facts.now) }
-        requires first { IsHere facts.now self.now.node.0 u.0 }
-        requires second { IsHere facts.now self.now.node.0 t.0 }
-        ensures { result ≡ ltb (close (setup_of facts.now) (events_of facts.now) self.now.node.0 u.0) (start (setup_of facts.now) (events_of facts.now) self.now.node.0 t.0) }
-    {
-        let _ = facts;
-        self.batches.is_closed_before(u, t)
     }
 
     // The least-numbered transaction for which t's write of a cell comes too late. It goes back from the newest read, and stops at
@@ -114,7 +94,7 @@ impl Stamps {
     {
         let mut least = None;
         for read in self.reads(facts, cell).iter().rev() {
-            if self.is_closed_before(facts, read.0, t) {
+            if self.batches.is_closed_before(read.0, t) {
                 break;
             }
             if self.is_after(facts, chains, at, t, cell, *read) {
@@ -144,8 +124,8 @@ impl Stamps {
     {
         let (reader, writer) = read;
         facts.meet_at(self.node, t, reader)
-            && self.start_of(facts, t) < self.start_of(facts, reader)
-            && is_at_most(facts, chains, at, t, cell, writer)
+            && self.batches.start(t) < self.batches.start(reader)
+            && is_at_most(chains, at, t, cell, writer)
     }
 
     // Whether an unfinished transaction that meets t here started before it.
@@ -157,7 +137,7 @@ impl Stamps {
     {
         facts.history.is_unfinished(u)
             && facts.meet_at(self.node, t, u)
-            && self.start_of(facts, u) < self.start_of(facts, t)
+            && self.batches.start(u) < self.batches.start(t)
     }
 }
 
@@ -171,22 +151,11 @@ fn lesser(least: Option<Txn>, t: Txn) -> Txn
     }
 }
 
-// Whether the version that was read is t's own or one before it. 0 wrote the starting row.
-fn is_at_most<C: Chains>(
-    facts: &Facts,
-    chains: &C,
-    at: usize,
-    t: Txn,
-    cell: Cell,
-    writer: Txn,
-) -> bool
-    requires positive { 0 < t.0 }
-    requires chains { HoldsVersions (setup_of facts.now) (events_of facts.now) (C.lists chains.now) }
-    requires at { IsPlaceOf (setup_of facts.now) (events_of facts.now) cell t.0 at (writers_of (C.lists chains.now cell)) }
-    requires source { (writer.0 ≡ 0) ⊎ IsTrue (has_version (events_of facts.now) cell writer.0) }
-    ensures { result ≡ (eqb writer.0 t.0 || precedes (setup_of facts.now) (events_of facts.now) cell writer.0 t.0) }
+// Whether the version that was read is t's own or one before it, where t's stands at a place or would. 0 wrote the starting row.
+fn is_at_most<C: Chains>(chains: &C, at: usize, t: Txn, cell: Cell, writer: Txn) -> bool
+    requires { 0 < t.0 }
+    ensures { (S : Setup) (H : List Event) → HoldsVersions S H (C.lists chains.now) → IsPlaceOf S H cell t.0 at (writers_of (C.lists chains.now cell)) → (writer.0 ≡ 0) ⊎ IsTrue (has_version H cell writer.0) → result ≡ (eqb writer.0 t.0 || precedes S H cell writer.0 t.0) }
 {
-    let _ = facts;
     if writer == t || writer.0 == 0 {
         return true;
     }
@@ -272,12 +241,12 @@ impl Control for Stamps {
         }
     }
 
-    fn sees(&self, facts: &Facts, reader: Txn, writer: Txn, _cell: Cell) -> bool {
-        self.start_of(facts, writer) < self.start_of(facts, reader)
+    fn sees(&self, _facts: &Facts, reader: Txn, writer: Txn, _cell: Cell) -> bool {
+        self.batches.start(writer) < self.batches.start(reader)
     }
 
-    fn orders(&self, facts: &Facts, u: Txn, w: Txn, _cell: Cell) -> bool {
-        self.start_of(facts, u) < self.start_of(facts, w)
+    fn orders(&self, _facts: &Facts, u: Txn, w: Txn, _cell: Cell) -> bool {
+        self.batches.start(u) < self.batches.start(w)
     }
 
     fn validate(&self, _facts: &Facts, _t: Txn) -> Verdict {

@@ -7,5 +7,5 @@ use Rattle.nexus_locks.proofs.locks.Locks.new.Goals as goal
 pub returns-clause-stands : goal.returns-clause-stands
 returns-clause-stands c = record {
   kind = c.requires.kind;
-  orderly = subst (λ (H : List Event). IsOrderly (setup_of c.args.facts.now) H) (sym c.requires.empty) (orderly_none (setup_of c.args.facts.now));
+  orderly = subst (λ (H : List Event). IsOrderly (setup_of c.args._facts.now) H) (sym c.requires.empty) (orderly_none (setup_of c.args._facts.now));
 }

@@ -5,12 +5,12 @@ use Rattle.teb_history.specs.Phases.{unfinished}
 use Rattle.teb_rules.specs.Tree.{meets}
 use Rattle.phase_api.specs.FactsView.{setup_of, events_of}
 use Rattle.access_conflicts.proofs.Blockers.{find_here, find_end}
-use Rattle.snapshot_node.proofs.Found.{is_met, met_found}
-use Rattle.snapshot_node.proofs.Later.{later_here, met_later}
+use Rattle.snapshot_node.specs.Asking.{is_met}
+use Rattle.snapshot_node.proofs.Listed.{at_among}
 use Rattle.snapshot_node.proofs.asked.Asked.blocker.Goals as goal
 
 pub meet_at-requires-clause-right : goal.meet_at-requires-clause-right
-meet_at-requires-clause-right c = (later_here c.args.self.now.facts.now c.args.self.now.register.now.node.0 c.requires.late.from c.args.cell c.args.self.now.stands.orderly c.args.among.now c.requires.late.are c.loop-u.u-index _ c.loop-u-test.true).typed
+meet_at-requires-clause-right c = (c.requires.among_here _ (at_among c.args.among.now c.loop-u.u-index _ c.loop-u-test.true)).typed
 
 pub returns-then-meet_at : goal.returns-then-meet_at
 returns-then-meet_at c =
@@ -19,14 +19,11 @@ returns-then-meet_at c =
     let H = events_of f in
     let n = c.args.self.now.register.now.node.0 in
     let t = c.args.t.0 in
-    let m = c.requires.late.from in
     let us = c.args.among.now in
     let i = c.loop-u.u-index in
     let d : Txn = record { 0 = 0 } in
     let met : is_met S H n t (get_or us i d) ≡ true = and_from (unfinished H (get_or us i d).0) (meets S H n t (get_or us i d).0) (sym c.is_unfinished.ensures ∙ c.if-is_unfinished.true) (sym c.meet_at.ensures ∙ c.if-meet_at.true) in
     find_here (is_met S H n t) us i d c.loop-u-test.true met c.loop-u.invariant
-    ∙ met_later f n m c.args.cell c.args.self.now.stands.orderly us c.requires.late.are t c.requires.late.below c.args.self.now.stands.batches.numbered c.requires.here.typed.begun
-    ∙ met_found S H n t c.args.cell
 
 pub returns : goal.returns
 returns c =
@@ -35,8 +32,5 @@ returns c =
     let H = events_of f in
     let n = c.args.self.now.register.now.node.0 in
     let t = c.args.t.0 in
-    let m = c.requires.late.from in
     let us = c.args.among.now in
     find_end (is_met S H n t) us c.loop-u.u-index c.loop-u-test.false c.loop-u.invariant
-    ∙ met_later f n m c.args.cell c.args.self.now.stands.orderly us c.requires.late.are t c.requires.late.below c.args.self.now.stands.batches.numbered c.requires.here.typed.begun
-    ∙ met_found S H n t c.args.cell

@@ -1,6 +1,6 @@
 use Rattle.std.proofs.Common.{◌≡◌, drop, find}
 use Rattle.phase_api.specs.FactsView.{setup_of, events_of}
-use Rattle.snapshot_node.proofs.Found.{is_met}
+use Rattle.snapshot_node.specs.Asking.{is_met}
 use Rattle.snapshot_node.proofs.asked.Asked.blocker.Given as goal
 
 abbrev pub invariant-loop-u : goal.invariant-loop-u

@@ -6,15 +6,15 @@ use Rattle.teb_rules.specs.Tree.{meets}
 use Rattle.teb_rules.specs.Batches.{start, close}
 use Rattle.phase_api.specs.FactsView.{setup_of, events_of}
 use Rattle.access_conflicts.proofs.Blockers.{find_here, find_end}
-use Rattle.snapshot_node.proofs.Found.{comes_first, first_found}
-use Rattle.snapshot_node.proofs.Later.{later_here, first_later}
+use Rattle.snapshot_node.specs.Asking.{comes_first}
+use Rattle.snapshot_node.proofs.Listed.{at_among}
 use Rattle.snapshot_node.proofs.asked.Asked.first_writer.Goals as goal
 
 pub is_closed_before-requires-clause-left : goal.is_closed_before-requires-clause-left
-is_closed_before-requires-clause-left c = later_here c.args.self.now.facts.now c.args.self.now.register.now.node.0 c.requires.late.from c.args.cell c.args.self.now.stands.orderly c.args.among.now c.requires.late.are c.loop-u.u-index _ c.loop-u-test.true
+is_closed_before-requires-clause-left c = c.requires.among_here _ (at_among c.args.among.now c.loop-u.u-index _ c.loop-u-test.true)
 
 pub meet_at-requires-clause-right : goal.meet_at-requires-clause-right
-meet_at-requires-clause-right c = (later_here c.args.self.now.facts.now c.args.self.now.register.now.node.0 c.requires.late.from c.args.cell c.args.self.now.stands.orderly c.args.among.now c.requires.late.are c.loop-u.u-index _ c.loop-u-test.true).typed
+meet_at-requires-clause-right c = (c.requires.among_here _ (at_among c.args.among.now c.loop-u.u-index _ c.loop-u-test.true)).typed
 
 pub returns-then-meet_at : goal.returns-then-meet_at
 returns-then-meet_at c =
@@ -23,15 +23,12 @@ returns-then-meet_at c =
     let H = events_of f in
     let n = c.args.self.now.register.now.node.0 in
     let t = c.args.t.0 in
-    let m = c.requires.late.from in
     let us = c.args.among.now in
     let i = c.loop-u.u-index in
     let d : Txn = record { 0 = 0 } in
     let late = and_from (committed H (get_or us i d).0) (not (ltb (close S H n (get_or us i d).0) (start S H n t))) (sym c.is_committed.ensures ∙ c.if-is_committed.true) (ap not (sym c.is_closed_before.ensures) ∙ not_from_false _ c.if-not-is_closed_before.true) in
     let first : comes_first S H n t (get_or us i d) ≡ true = and_from (committed H (get_or us i d).0 && not (ltb (close S H n (get_or us i d).0) (start S H n t))) (meets S H n t (get_or us i d).0) late (sym c.meet_at.ensures ∙ c.if-meet_at.true) in
     find_here (comes_first S H n t) us i d c.loop-u-test.true first c.loop-u.invariant
-    ∙ first_later f n m c.args.cell c.args.self.now.stands.orderly us c.requires.late.are t c.requires.late.below
-    ∙ first_found S H n t c.args.cell
 
 pub returns : goal.returns
 returns c =
@@ -40,8 +37,5 @@ returns c =
     let H = events_of f in
     let n = c.args.self.now.register.now.node.0 in
     let t = c.args.t.0 in
-    let m = c.requires.late.from in
     let us = c.args.among.now in
     find_end (comes_first S H n t) us c.loop-u.u-index c.loop-u-test.false c.loop-u.invariant
-    ∙ first_later f n m c.args.cell c.args.self.now.stands.orderly us c.requires.late.are t c.requires.late.below
-    ∙ first_found S H n t c.args.cell

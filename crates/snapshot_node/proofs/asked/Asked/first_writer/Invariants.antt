@@ -1,6 +1,6 @@
 use Rattle.std.proofs.Common.{◌≡◌, drop, find}
 use Rattle.phase_api.specs.FactsView.{setup_of, events_of}
-use Rattle.snapshot_node.proofs.Found.{comes_first}
+use Rattle.snapshot_node.specs.Asking.{comes_first}
 use Rattle.snapshot_node.proofs.asked.Asked.first_writer.Given as goal
 
 abbrev pub invariant-loop-u : goal.invariant-loop-u

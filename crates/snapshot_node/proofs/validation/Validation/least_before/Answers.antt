@@ -6,12 +6,13 @@ use Rattle.teb_laws.proofs.Sound.{tree_facts}
 use Rattle.phase_api.specs.FactsView.{setup_of, events_of}
 use Rattle.batch_book.proofs.Numbered.{unfinished_parts}
 use Rattle.snapshot_node.specs.declared.asked.Asked.{Asked}
-use Rattle.snapshot_node.specs.Asking.{there}
+use Rattle.snapshot_node.specs.Asking.{AreThere, there}
 use Rattle.snapshot_node.specs.Standing.{readers_in}
 use Rattle.snapshot_node.specs.Pivots.{ComesIn}
+use Rattle.snapshot_node.proofs.Listed.{readers_here}
 use Rattle.snapshot_node.proofs.Least.{Remains, remains_start, remains_next, remains_skip, remains_end}
 use Rattle.snapshot_node.proofs.Comers.{ComesBy, comes_by_puts, along_comes, comes_along}
-use Rattle.snapshot_node.proofs.RecentAcross.{late_as}
+use Rattle.snapshot_node.proofs.RecentAcross.{late_as, comer_recent}
 use Rattle.snapshot_node.proofs.validation.Validation.least_before.Goals as goal
 
 pub loop-event-init : goal.loop-event-init
@@ -26,8 +27,8 @@ loop-event-init c =
     (along_comes S H n t c.args.self.now.lawful c.args.self.now.asked.stands.orderly runs f c.args.self.now.asked.stands.kind)
     (comes_along S H n t c.args.self.now.lawful c.args.self.now.asked.stands.orderly runs f c.args.self.now.asked.stands.kind)
 
-pub least_before_by-requires-clause-late : goal.least_before_by-requires-clause-late
-least_before_by-requires-clause-late c = late_as (λ (a : Asked). there a readers_in c.in-Put.cell) c.recent-recent.ensures.asked c.recent-recent.ensures.t c.readers.ensures.late
+pub least_before_by-requires-clause-among_here : goal.least_before_by-requires-clause-among_here
+least_before_by-requires-clause-among_here c = subst (λ (a : Asked). AreThere a c.readers.result.now) c.recent-recent.ensures.asked c.readers.ensures.here
 
 pub loop-event-preserved-in-Put : goal.loop-event-preserved-in-Put
 loop-event-preserved-in-Put c =
@@ -35,9 +36,13 @@ loop-event-preserved-in-Put c =
     let H = events_of c.args.self.now.asked.facts.now in
     let n = c.args.self.now.asked.register.now.node.0 in
     let t = c.args.self.now.t.0 in
-    let e : Event = Put c.in-Put.txn c.in-Put.cell c.in-Put.value in
+    let x = c.in-Put.cell in
+    let a = c.args.self.now.asked in
+    let e : Event = Put c.in-Put.txn x c.in-Put.value in
+    let late = late_as (λ (a : Asked). there a readers_in x) c.recent-recent.ensures.asked c.recent-recent.ensures.t c.readers.ensures.late in
     subst (Remains (ComesBy S H n t) (ComesIn S H n t) c.next.new.self) (sym c.lesser-least.ensures)
-    (remains_next (ComesBy S H n t) (ComesIn S H n t) e c.loop-event.event-iterator c.next.new.self c.loop-event.least _ (c.in-Some.ensures.steps ∙ ap (λ (z : Event). z ∷ c.next.new.self) c.in-Put.is) c.loop-event.invariant c.least_before_by.ensures)
+    (remains_next (ComesBy S H n t) (ComesIn S H n t) e c.loop-event.event-iterator c.next.new.self c.loop-event.least _ (c.in-Some.ensures.steps ∙ ap (λ (z : Event). z ∷ c.next.new.self) c.in-Put.is) c.loop-event.invariant
+    (comer_recent a t (readers_in S H n x) c.readers.result.now late (readers_here a.facts.now n x a.stands.orderly) c.least_before_by.result c.least_before_by.ensures))
 
 pub loop-event-preserved : goal.loop-event-preserved
 loop-event-preserved c =

@@ -3,10 +3,10 @@ use Rattle.std.proofs.lemmas.Bool.{both_ways}
 use Rattle.std.proofs.lemmas.List.{drop_all}
 use Rattle.teb_names.specs.declared.Txn.{Txn}
 use Rattle.phase_api.specs.FactsView.{setup_of, events_of}
-use Rattle.batch_book.proofs.Numbered.{unfinished_parts}
-use Rattle.snapshot_node.specs.Pivots.{Reaches, ComesInBy}
+use Rattle.snapshot_node.specs.Pivots.{Reaches, ComesInAmong}
+use Rattle.snapshot_node.proofs.Listed.{at_among}
 use Rattle.snapshot_node.proofs.Least.{Remains, least_as, remains_start, remains_next, remains_skip, remains_end}
-use Rattle.snapshot_node.proofs.Comers.{ComesThrough, IsLast, last_first, last_next, remains_mate, through_comes, comes_through, reader_here}
+use Rattle.snapshot_node.proofs.Comers.{ComesThrough, IsLast, last_first, last_next, remains_mate, through_comes, comes_through}
 use Rattle.snapshot_node.proofs.validation.Validation.least_before_by.Goals as goal
 use Rattle.snapshot_node.proofs.validation.Validation.least_before_by.Goals.{then-is_at_stake+then-are_across+then-not-are_one_batch, else-is_at_stake, else-is_at_stake-via-then-is_at_stake+then-are_across+else-not-are_one_batch, else-is_at_stake-via-then-is_at_stake+else-are_across, else-is_at_stake-via-else-is_at_stake}
 
@@ -16,30 +16,23 @@ loop-c-init c =
     let H = events_of c.args.self.now.asked.facts.now in
     let n = c.args.self.now.asked.register.now.node.0 in
     let t = c.args.self.now.t.0 in
-    let x = c.args.cell in
-    let m = c.requires.late.from in
     let cs = c.args.among.now in
-    let runs = (unfinished_parts H t c.args.self.now.unfinished).2 in
-    let e = c.requires.late.are in
-    let below = c.requires.late.below in
     record {
-      remains = remains_start (ComesThrough S H n t) (ComesInBy S H n t x) cs cs refl
-          (through_comes S H n t c.args.self.now.lawful c.args.self.now.asked.stands.orderly runs x m below cs e)
-          (comes_through S H n t c.args.self.now.lawful c.args.self.now.asked.stands.orderly runs x m below cs e);
+      remains = remains_start (ComesThrough S H n t) (ComesInAmong S H n t cs) cs cs refl (through_comes S H n t cs) (comes_through S H n t cs);
       last = last_first S H n t c.args.self.now.t None c.args.self.now.here.typed.begun refl;
     }
 
 pub are_across-requires-clause-right : goal.are_across-requires-clause-right
-are_across-requires-clause-right c = reader_here c.args.self.now.asked.facts.now c.args.self.now.asked.register.now.node.0 c.args.cell c.requires.late.from c.args.self.now.asked.stands.orderly c.args.among.now c.requires.late.are c.loop-c.c-index c.loop-c-test.true
+are_across-requires-clause-right c = c.requires.among_here _ (at_among c.args.among.now c.loop-c.c-index _ c.loop-c-test.true)
 
 pub are_one_batch-requires-clause-begun_b : goal.are_one_batch-requires-clause-begun_b
 are_one_batch-requires-clause-begun_b c = c.loop-c.invariant.last.there
 
 pub are_one_batch-requires-clause-begun_c : goal.are_one_batch-requires-clause-begun_c
-are_one_batch-requires-clause-begun_c c = (reader_here c.args.self.now.asked.facts.now c.args.self.now.asked.register.now.node.0 c.args.cell c.requires.late.from c.args.self.now.asked.stands.orderly c.args.among.now c.requires.late.are c.loop-c.c-index c.loop-c-test.true).typed.begun
+are_one_batch-requires-clause-begun_c c = (c.requires.among_here _ (at_among c.args.among.now c.loop-c.c-index _ c.loop-c-test.true)).typed.begun
 
 pub least_into-requires-clause-here : goal.least_into-requires-clause-here
-least_into-requires-clause-here c = reader_here c.args.self.now.asked.facts.now c.args.self.now.asked.register.now.node.0 c.args.cell c.requires.late.from c.args.self.now.asked.stands.orderly c.args.among.now c.requires.late.are c.loop-c.c-index c.loop-c-test.true
+least_into-requires-clause-here c = c.requires.among_here _ (at_among c.args.among.now c.loop-c.c-index _ c.loop-c-test.true)
 
 pub loop-c-preserved : goal.loop-c-preserved
 loop-c-preserved c =
@@ -51,9 +44,9 @@ loop-c-preserved c =
     let cs = c.args.among.now in
     let u : Txn = get_or cs i (record { 0 = 0 }) in
     let Q = ComesThrough S H n t in
-    let P = ComesInBy S H n t c.args.cell in
+    let P = ComesInAmong S H n t cs in
     let l = c.loop-c-test.true in
-    let here = reader_here c.args.self.now.asked.facts.now c.args.self.now.asked.register.now.node.0 c.args.cell c.requires.late.from c.args.self.now.asked.stands.orderly c.args.among.now c.requires.late.are c.loop-c.c-index c.loop-c-test.true in
+    let here = c.requires.among_here u.0 (at_among cs i (record { 0 = 0 }) l) in
     let next : drop i cs ≡ u ∷ drop (i + 1) cs = rw (add-one, drop-cons cs i (record { 0 = 0 })) refl in
     let R = λ (last : Txn) (best : Option Txn). record { remains : Remains Q P (drop (i + 1) cs) best; last : IsLast S H n t last best } in
     elim c.if-is_at_stake.branch [
@@ -80,4 +73,4 @@ returns c =
     let n = c.args.self.now.asked.register.now.node.0 in
     let t = c.args.self.now.t.0 in
     let cs = c.args.among.now in
-    remains_end (ComesThrough S H n t) (ComesInBy S H n t c.args.cell) (drop c.loop-c.c-index cs) c.loop-c.least (drop_all c.loop-c.c-index cs c.loop-c-test.false) c.loop-c.invariant.remains
+    remains_end (ComesThrough S H n t) (ComesInAmong S H n t cs) (drop c.loop-c.c-index cs) c.loop-c.least (drop_all c.loop-c.c-index cs c.loop-c-test.false) c.loop-c.invariant.remains

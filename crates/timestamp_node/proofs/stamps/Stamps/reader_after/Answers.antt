@@ -4,7 +4,7 @@ use Rattle.teb_history.specs.Phases.{begun_count}
 use Rattle.phase_api.specs.FactsView.{setup_of, events_of}
 use Rattle.timestamp_node.specs.Reads.{reads}
 use Rattle.timestamp_node.specs.Late.{is_after}
-use Rattle.timestamp_node.proofs.Here.{reader_begun, reader_typed, source_stands}
+use Rattle.timestamp_node.proofs.Here.{here_joined, reader_begun, reader_typed, source_stands}
 use Rattle.timestamp_node.proofs.Late.{IsWalked, walk_none, walk_split, walk_skip, walk_more, walk_stop, least_late}
 use Rattle.timestamp_node.proofs.OrderedLists.{all_none}
 use Rattle.timestamp_node.proofs.OlderReads.{read_at, older_in_time}
@@ -25,8 +25,8 @@ loop-read-init g c =
     let is : first ≡ all = (λ j. (gives j).iter.rest.now) ∙ (λ j. (source j).rest.now) ∙ c.iter.ensures.rest ∙ c.reads.ensures in
     subst (λ (rs : List (Txn × Txn)). IsWalked p (begun_count H) all rs None) (sym is) (walk_none p (begun_count H) all)
 
-pub is_closed_before-requires-clause-first : goal.is_closed_before-requires-clause-first
-is_closed_before-requires-clause-first g c =
+pub is_closed_before-requires-clause-closed : goal.is_closed_before-requires-clause-closed
+is_closed_before-requires-clause-closed g c =
     let f = c.args.facts.now in
     let S = setup_of f in
     let H = events_of f in
@@ -39,7 +39,10 @@ is_closed_before-requires-clause-first g c =
     let walked = subst (λ (rs : List (Txn × Txn)). IsWalked p (begun_count H) all rs c.loop-read.least) c.in-Some.ensures.steps c.loop-read.invariant in
     let split = walk_split p (begun_count H) all rest r c.loop-read.least walked in
     let is = read_at S H n x rest r walked.seen split in
-    record { typed = reader_typed f n x r c.requires.stands.orderly is; on = is.here }
+    here_joined f n c.args.self.now.batches r.0.0 c.requires.stands.batches (record { typed = reader_typed f n x r c.requires.stands.orderly is; on = is.here })
+
+pub is_closed_before-requires-clause-started : goal.is_closed_before-requires-clause-started
+is_closed_before-requires-clause-started g c = here_joined c.args.facts.now c.args.self.now.node.0 c.args.self.now.batches c.args.t.0 c.requires.stands.batches c.requires.here
 
 pub is_after-requires-clause-reader : goal.is_after-requires-clause-reader
 is_after-requires-clause-reader g c =
@@ -130,6 +133,6 @@ returns-then-is_closed_before g c =
     let r = c.in-Some.read.now in
     let walked = subst (λ (rs : List (Txn × Txn)). IsWalked p (begun_count H) all rs c.loop-read.least) c.in-Some.ensures.steps c.loop-read.invariant in
     let split = walk_split p (begun_count H) all rest r c.loop-read.least walked in
-    let closed = ltb-true _ _ (sym c.is_closed_before.ensures ∙ c.if-is_closed_before.true) in
+    let closed = ltb-true _ _ (sym (c.is_closed_before.ensures S H n c.requires.stands.batches) ∙ c.if-is_closed_before.true) in
     walk_stop p (begun_count H) all _ c.loop-read.least walked (older_in_time S H n x c.args.t.0 c.requires.stands.batches.numbered c.requires.stands.timely rest r walked.seen split closed)
     ∙ least_late S H n c.args.t.0 x

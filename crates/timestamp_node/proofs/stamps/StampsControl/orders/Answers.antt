@@ -1,14 +1,14 @@
 use Rattle.std.proofs.Common.{◌∙◌, ltb}
 use Rattle.phase_api.specs.FactsView.{setup_of, events_of}
-use Rattle.timestamp_node.proofs.Here.{left_here, right_here}
+use Rattle.timestamp_node.proofs.Here.{here_joined, left_here, right_here}
 use Rattle.timestamp_node.proofs.Said.{stamps_orders}
 use Rattle.timestamp_node.proofs.stamps.StampsControl.orders.Goals as goal
 
-pub start_of-requires-clause-here : goal.start_of-requires-clause-here
-start_of-requires-clause-here c = left_here c.args.facts.now c.args.self.now.node.0 c.args.u.0 c.args.w.0 c.requires.pair.left c.requires.pair.meet
+pub start-requires : goal.start-requires
+start-requires c = here_joined c.args._facts.now c.args.self.now.node.0 c.args.self.now.batches _ c.requires.stands.batches (left_here c.args._facts.now c.args.self.now.node.0 c.args.u.0 c.args.w.0 c.requires.pair.left c.requires.pair.meet)
 
-pub start_of-requires-2-clause-here : goal.start_of-requires-2-clause-here
-start_of-requires-2-clause-here c = right_here c.args.facts.now c.args.self.now.node.0 c.args.u.0 c.args.w.0 c.requires.pair.right c.requires.pair.meet
+pub start-requires-2 : goal.start-requires-2
+start-requires-2 c = here_joined c.args._facts.now c.args.self.now.node.0 c.args.self.now.batches _ c.requires.stands.batches (right_here c.args._facts.now c.args.self.now.node.0 c.args.u.0 c.args.w.0 c.requires.pair.right c.requires.pair.meet)
 
 pub returns : goal.returns
-returns c = (λ j. ltb (c.start_of.ensures j) (c.start_of-2.ensures j)) ∙ stamps_orders (setup_of c.args.facts.now) (events_of c.args.facts.now) c.args.self.now.node.0 c.requires.stands.kind c.args.u.0 c.args.w.0 c.args._cell
+returns c = (λ j. ltb (c.start.ensures _ _ _ c.requires.stands.batches j) (c.start-2.ensures _ _ _ c.requires.stands.batches j)) ∙ stamps_orders (setup_of c.args._facts.now) (events_of c.args._facts.now) c.args.self.now.node.0 c.requires.stands.kind c.args.u.0 c.args.w.0 c.args._cell
