@@ -26,6 +26,7 @@ pub mod Marked
 pub mod Grown
 pub mod Known
 pub mod AnyOf
+pub mod OwnEdges
 pub mod Overwritten
 pub mod LeadsOut
 pub mod Closing

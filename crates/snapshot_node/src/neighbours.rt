@@ -6,10 +6,10 @@ ghost use Rattle.teb_history.specs.Ascending.{IsAscendingBy};
 ghost use Rattle.teb_history.specs.Live.{number_of};
 ghost use Rattle.teb_rules.specs.Batches.{one_batch};
 ghost use Rattle.snapshot_node.specs.Asking.{HasBegun, IsAt, there};
-ghost use Rattle.snapshot_node.specs.Validating.{AreAt, IsAtStake, at};
+ghost use Rattle.snapshot_node.specs.Validating.{AreAt, AreOwn, IsAtStake, at};
 ghost use Rattle.snapshot_node.specs.Pivots.{is_at_stake, is_across, lesser_of, IsLeast, IsAcross, Leads};
 
-use crate::validation::Validation;
+use crate::validation::{Own, Validation};
 use teb_history::{Event, History};
 use teb_names::Txn;
 
@@ -70,6 +70,27 @@ impl<'a> Validation<'a> {
             }
         }
         None
+    }
+
+    /// The least one to whom t has an edge, and the least one that has an edge to t.
+    pub(crate) fn own_edges(&self) -> Own
+        ensures { AreOwn self.now result }
+    {
+        let recent = self.asked.recent(self.t);
+        let mut ahead = None;
+        let mut behind = None;
+        for event in self.asked.facts.history.own_events(self.t) {
+            match event {
+                Event::Got { cell, .. } => {
+                    ahead = lesser(ahead, self.first_across(self.t, recent.writers(cell)));
+                }
+                Event::Put { cell, .. } => {
+                    behind = lesser(behind, self.first_across(self.t, recent.readers(cell)));
+                }
+                _ => {}
+            }
+        }
+        Own { ahead, behind }
     }
 
     /// The least one to whom c, which is at stake, has an edge.

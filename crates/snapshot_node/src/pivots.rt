@@ -24,12 +24,10 @@ impl<'a> Validation<'a> {
         if self.asked.facts.history.is_prepared(self.t) {
             return None;
         }
-        let ahead = self.least_ahead(self.t);
-        let behind = self.least_behind(self.t);
-        if !self.is_near(ahead.is_some(), behind.is_some()) {
+        let own = self.own_edges();
+        if !self.is_near(own.ahead.is_some(), own.behind.is_some()) {
             return None;
         }
-        let own = Own { ahead, behind };
         let a = self.least_first(own)?;
         let b = self.least_middle(a, own)?;
         let (c, d) = self.edge_out(b, own)?;

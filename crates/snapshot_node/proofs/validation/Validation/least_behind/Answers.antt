@@ -1,50 +1,32 @@
 use Rattle.std.proofs.Common.{◌∙◌, ◌∷◌, ℕ, ap, sym, subst}
 use Rattle.teb_history.specs.declared.Event.{Event}
-use Rattle.teb_history.specs.declared.Event.TheVariants.{Put}
-use Rattle.teb_history.specs.OwnEvents.{own_events}
-use Rattle.teb_laws.proofs.Sound.{tree_facts}
-use Rattle.batch_book.proofs.Numbered.{unfinished_parts}
 use Rattle.phase_api.specs.FactsView.{setup_of, events_of}
 use Rattle.snapshot_node.specs.declared.asked.Asked.{Asked}
 use Rattle.snapshot_node.specs.Asking.{AreThere, there}
 use Rattle.snapshot_node.specs.Standing.{readers_in}
 use Rattle.snapshot_node.specs.Pivots.{Leads}
-use Rattle.snapshot_node.proofs.Least.{Remains, remains_start, remains_next, remains_skip, remains_end}
-use Rattle.snapshot_node.proofs.Listed.{readers_here}
-use Rattle.snapshot_node.proofs.CellEdges.{Behind, behind_leads, leads_behind, only_puts}
-use Rattle.snapshot_node.proofs.RecentAcross.{late_as, least_recent}
+use Rattle.snapshot_node.proofs.Least.{remains_skip, remains_end}
+use Rattle.snapshot_node.proofs.CellEdges.{Behind, only_puts}
+use Rattle.snapshot_node.proofs.RecentAcross.{late_as}
+use Rattle.snapshot_node.proofs.OwnEdges.{BehindIn, behind_start, behind_next}
 use Rattle.snapshot_node.proofs.validation.Validation.least_behind.Goals as goal
 
 pub loop-event-init : goal.loop-event-init
-loop-event-init c =
-    let S = setup_of c.args.self.now.asked.facts.now in
-    let H = events_of c.args.self.now.asked.facts.now in
-    let n = c.args.self.now.asked.register.now.node.0 in
-    let t = c.args.self.now.t.0 in
-    let b = c.args.b.0 in
-    let a = tree_facts S c.args.self.now.tree in
-    remains_start (Behind S H n t b) (λ (u : ℕ). Leads S H n t u b) (own_events H b) c.into_iter-event-iterator.result (c.into_iter-event-iterator.ensures.into_iter_gives ∙ c.own_events-event-items.ensures)
-    (λ u h. behind_leads S H n t c.args.self.now.lawful c.args.self.now.asked.stands.orderly (unfinished_parts (events_of c.args.self.now.asked.facts.now) c.args.self.now.t.0 c.args.self.now.unfinished).2 a c.args.self.now.asked.stands.kind b u c.requires.stake h)
-    (λ u h. leads_behind S H n t c.args.self.now.lawful c.args.self.now.asked.stands.orderly (unfinished_parts (events_of c.args.self.now.asked.facts.now) c.args.self.now.t.0 c.args.self.now.unfinished).2 a c.args.self.now.asked.stands.kind b u h)
+loop-event-init c = behind_start c.args.self.now c.args.b.0 c.requires.stake c.into_iter-event-iterator.result (c.into_iter-event-iterator.ensures.into_iter_gives ∙ c.own_events-event-items.ensures)
 
 pub first_across-requires-clause-among_here : goal.first_across-requires-clause-among_here
 first_across-requires-clause-among_here c = subst (λ (a : Asked). AreThere a c.readers.result.now) c.recent-recent.ensures.asked c.readers.ensures.here
 
 pub loop-event-preserved-in-Put : goal.loop-event-preserved-in-Put
 loop-event-preserved-in-Put c =
-    let S = setup_of c.args.self.now.asked.facts.now in
-    let H = events_of c.args.self.now.asked.facts.now in
-    let n = c.args.self.now.asked.register.now.node.0 in
-    let t = c.args.self.now.t.0 in
-    let b = c.args.b.0 in
-    let P = λ (u : ℕ). Leads S H n t u b in
+    let v = c.args.self.now in
+    let u = c.args.b.0 in
     let x = c.in-Put.cell in
-    let a = c.args.self.now.asked in
-    let e : Event = Put c.in-Put.txn x c.in-Put.value in
+    let rest = c.next.new.self in
     let late = late_as (λ (a : Asked). there a readers_in x) c.recent-recent.ensures.asked c.recent-recent.ensures.t c.readers.ensures.late in
-    subst (Remains (Behind S H n t b) P c.next.new.self) (sym c.lesser-least.ensures)
-    (remains_next (Behind S H n t b) P e c.loop-event.event-iterator c.next.new.self c.loop-event.least _ (c.in-Some.ensures.steps ∙ ap (λ (z : Event). z ∷ c.next.new.self) c.in-Put.is) c.loop-event.invariant
-    (least_recent a b (readers_in S H n x) c.readers.result.now late (readers_here a.facts.now n x a.stands.orderly) t c.first_across.result c.first_across.ensures))
+    subst (BehindIn v u rest) (sym c.lesser-least.ensures)
+    (behind_next v u x c.loop-event.event-iterator rest c.readers.result.now c.loop-event.least c.first_across.result c.first_across.ensures c.in-Put.txn c.in-Put.value
+    (c.in-Some.ensures.steps ∙ ap (λ (z : Event). z ∷ rest) c.in-Put.is) late c.loop-event.invariant)
 
 pub loop-event-preserved : goal.loop-event-preserved
 loop-event-preserved c =
@@ -52,9 +34,9 @@ loop-event-preserved c =
     let H = events_of c.args.self.now.asked.facts.now in
     let n = c.args.self.now.asked.register.now.node.0 in
     let t = c.args.self.now.t.0 in
-    let b = c.args.b.0 in
-    remains_skip (Behind S H n t b) (λ (u : ℕ). Leads S H n t u b) c.in-Some.event c.loop-event.event-iterator c.next.new.self c.loop-event.least c.in-Some.ensures.steps c.loop-event.invariant
-    (only_puts S H n t b c.in-Some.event c.in_default.not-Put)
+    let u = c.args.b.0 in
+    remains_skip (Behind S H n t u) (λ (a : ℕ). Leads S H n t a u) c.in-Some.event c.loop-event.event-iterator c.next.new.self c.loop-event.least c.in-Some.ensures.steps c.loop-event.invariant
+    (only_puts S H n t u c.in-Some.event c.in_default.not-Put)
 
 pub returns : goal.returns
 returns c =
@@ -62,5 +44,5 @@ returns c =
     let H = events_of c.args.self.now.asked.facts.now in
     let n = c.args.self.now.asked.register.now.node.0 in
     let t = c.args.self.now.t.0 in
-    let b = c.args.b.0 in
-    remains_end (Behind S H n t b) (λ (u : ℕ). Leads S H n t u b) c.loop-event.event-iterator c.loop-event.least c.in-None.ensures.steps.0 c.loop-event.invariant
+    let u = c.args.b.0 in
+    remains_end (Behind S H n t u) (λ (a : ℕ). Leads S H n t a u) c.loop-event.event-iterator c.loop-event.least c.in-None.ensures.steps.0 c.loop-event.invariant

@@ -1,12 +1,5 @@
-use Rattle.phase_api.specs.FactsView.{setup_of, events_of}
-use Rattle.snapshot_node.specs.Pivots.{Leads}
-use Rattle.snapshot_node.proofs.Least.{Remains}
-use Rattle.snapshot_node.proofs.CellEdges.{Behind}
+use Rattle.snapshot_node.proofs.OwnEdges.{BehindIn}
 use Rattle.snapshot_node.proofs.validation.Validation.least_behind.Given as goal
 
 abbrev pub invariant-loop-event : goal.invariant-loop-event
-invariant-loop-event l =
-    let S = setup_of l.fn.self.asked.facts.now in
-    let H = events_of l.fn.self.asked.facts.now in
-    let n = l.fn.self.asked.register.now.node.0 in
-    Remains (Behind S H n l.fn.self.t.0 l.fn.b.0) (λ a. Leads S H n l.fn.self.t.0 a l.fn.b.0) l.event-iterator l.least
+invariant-loop-event l = BehindIn l.fn.self l.fn.b.0 l.event-iterator l.least

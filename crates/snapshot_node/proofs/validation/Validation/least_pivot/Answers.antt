@@ -18,23 +18,14 @@ returns-then-is_prepared c =
     none_said S H n t c.args.self.now.asked.stands.kind (λ x y z w p. unprepared S H n t c.args.self.now.lawful (tree_facts S c.args.self.now.tree) c.args.self.now.asked.stands.kind x y z w p (sym c.is_prepared.ensures ∙ c.if-is_prepared.true))
 
 pub is_near-requires-clause-ahead : goal.is_near-requires-clause-ahead
-is_near-requires-clause-ahead c f = least_none (at c.args.self.now Leads c.args.self.now.t.0) _ _ c.is_some.ensures f c.least_ahead-ahead.ensures
+is_near-requires-clause-ahead c f = least_none (at c.args.self.now Leads c.args.self.now.t.0) _ _ c.is_some.ensures f c.own_edges-own.ensures.ahead
 
 pub is_near-requires-clause-behind : goal.is_near-requires-clause-behind
-is_near-requires-clause-behind c f = least_none (λ (a : ℕ). at c.args.self.now Leads a c.args.self.now.t.0) _ _ c.is_some-2.ensures f c.least_behind-behind.ensures
+is_near-requires-clause-behind c f = least_none (λ (a : ℕ). at c.args.self.now Leads a c.args.self.now.t.0) _ _ c.is_some-2.ensures f c.own_edges-own.ensures.behind
 
 pub returns-then-not-is_near : goal.returns-then-not-is_near
 returns-then-not-is_near c =
     none_said (setup_of c.args.self.now.asked.facts.now) (events_of c.args.self.now.asked.facts.now) c.args.self.now.asked.register.now.node.0 c.args.self.now.t.0 c.args.self.now.asked.stands.kind (λ x y z w p. c.is_near.ensures c.if-not-is_near.true x (record { second = y; third = z; fourth = w; pivot = p }))
-
-pub least_first-requires : goal.least_first-requires
-least_first-requires c = record { ahead = c.least_ahead-ahead.ensures; behind = c.least_behind-behind.ensures }
-
-pub least_middle-requires-clause-own : goal.least_middle-requires-clause-own
-least_middle-requires-clause-own c = record { ahead = c.least_ahead-ahead.ensures; behind = c.least_behind-behind.ensures }
-
-pub edge_out-requires-clause-own : goal.edge_out-requires-clause-own
-edge_out-requires-clause-own c = record { ahead = c.least_ahead-ahead.ensures; behind = c.least_behind-behind.ensures }
 
 pub returns-in_err-a : goal.returns-in_err-a
 returns-in_err-a c = ap break_by c.from_residual.ensures ∙
