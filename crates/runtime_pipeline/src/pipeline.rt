@@ -95,12 +95,11 @@ impl Pipeline {
 
     /// Those that are ahead of an unfinished transaction: the unfinished ones that meet it at the node and of which some access
     /// stands before a conflicting access of its own. In ascending number, each once.
-    pub fn before(&self, facts: &Facts, t: Txn) -> &[Txn]
-        requires stands { PipelineStands self.now (setup_of facts.now) (events_of facts.now) }
-        requires unfinished { IsTrue (unfinished (events_of facts.now) t.0) }
-        ensures { result.now ≡ before_in (setup_of facts.now) (events_of facts.now) (pipeline_node_number self.now) t.0 }
+    pub fn before(&self, _facts: &Facts, t: Txn) -> &[Txn]
+        requires stands { PipelineStands self.now (setup_of _facts.now) (events_of _facts.now) }
+        requires unfinished { IsTrue (unfinished (events_of _facts.now) t.0) }
+        ensures { result.now ≡ before_in (setup_of _facts.now) (events_of _facts.now) (pipeline_node_number self.now) t.0 }
     {
-        let _ = facts;
         self.predecessors.list(t)
     }
 
