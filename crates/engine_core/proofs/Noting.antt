@@ -1,6 +1,8 @@
 -- Each control notes an event that the rules grant.
-use Rattle.std.proofs.Common.{◌≡◌, inl, inr, ℕ, zero, suc, ◌+◌, true, List, [], ◌∷◌, length, slice_get, Some, refl, sym, ap, ◌∙◌, subst, arith, eqb, eqb-true, drop}
-use Rattle.std.proofs.lemmas.Bool.{or_cases}
+use Rattle.std.proofs.Common.{◌≡◌, ◌≢◌, ◌⊎◌, inl, inr, ℕ, zero, suc, ◌+◌, ◌<◌, ◌≤◌, true, List, [], ◌∷◌, length, slice_get, get_or, set, Some, refl, sym, ap, ◌∙◌, subst, arith, eqb, eqb-true, drop}
+use Rattle.std.proofs.lemmas.List.{length-set}
+use Rattle.std.proofs.lemmas.Option.{slice_get-get_or, slice_get_within}
+use Rattle.std.proofs.lemmas.Bool.{or_cases, cases_lt}
 use Rattle.teb_names.specs.declared.Spot.{Spot}
 use Rattle.teb_history.specs.declared.Event.{Event}
 use Rattle.teb_history.specs.declared.Event.TheVariants.{Began, Got, Put, Ready, Done, Gone, Told}
@@ -12,41 +14,74 @@ use Rattle.teb_rules.specs.declared.Verdict.{Verdict}
 use Rattle.teb_rules.specs.declared.Verdict.TheVariants.{Go, Wait, Break}
 use Rattle.teb_rules.specs.Stops.{on_begin, begin_stop, stop_of, stop_with}
 use Rattle.teb_laws.specs.Lawful.{Granted}
-use Rattle.hold_book.specs.declared.Hold.{Hold}
 use Rattle.phase_api.specs.declared.facts.Facts.{Facts}
 use Rattle.phase_api.specs.FactsView.{setup_of, events_of}
-use Rattle.phase_api.specs.Calls.{MayNote, ComeHolders}
+use Rattle.phase_api.specs.Calls.{MayNote, IsNewest}
 use Rattle.phase_api.specs.Standing.{StandAll}
-use Rattle.engine_core.specs.Noting.{StandFrom, MayNoteFrom}
 use Rattle.engine_core.specs.Decisions.{MayBegin}
+use Rattle.engine_core.specs.Wholes.{RoomFor}
 
--- the controls of all nodes, and the controls one after the other
-module _ {K : Type 0} (node_number : K → ℕ) (stands : K → Setup → List Event → Type 0) (S : Setup) (H : List Event) where
-  from_each : (n : ℕ) (cs : List K) → ((i : ℕ) (c : K) → slice_get cs i ≡ Some c → (node_number c ≡ n + i) × stands c S H) → StandFrom node_number stands n cs S H
-  from_each n [] f = tt
-  from_each n (c ∷ cs) f = (
-    (let q : node_number c ≡ n + 0 = (f 0 c refl).0 in omega arith),
-    (f 0 c refl).1,
-    from_each (n + 1) cs (λ i d e. ((let q : node_number d ≡ n + suc i = (f (suc i) d e).0 in omega arith), (f (suc i) d e).1)),
-  )
+-- what stands at n, after b was put at i
+put_or_left : {K : Type 0} (cs : List K) (i : ℕ) (b : K) (n : ℕ) (c : K) → slice_get (set cs i b) n ≡ Some c → ((n ≡ i) × (c ≡ b)) ⊎ ((n ≢ i) × (slice_get cs n ≡ Some c))
+put_or_left [] i b n c e = absurd (cc)
+put_or_left (a ∷ cs) zero b zero c e = inl (refl, (cc))
+put_or_left (a ∷ cs) zero b (suc n) c e = inr ((λ q. omega arith), e)
+put_or_left (a ∷ cs) (suc i) b zero c e = inr ((λ q. omega arith), e)
+put_or_left (a ∷ cs) (suc i) b (suc n) c e = elim (put_or_left cs i b n c e) [ inl p ↦ inl (ap suc p.0, p.1) | inr q ↦ inr ((λ r. q.0 (omega arith)), q.1) ]
 
-  each_from : (n : ℕ) (cs : List K) → StandFrom node_number stands n cs S H → (i : ℕ) (c : K) → slice_get cs i ≡ Some c → (node_number c ≡ n + i) × stands c S H
-  each_from n [] s i c e = absurd (cc)
-  each_from n (d ∷ cs) s zero c e =
-      let q : d ≡ c = cc in
-      let p : node_number d ≡ n = s.0 in
-      let r : n ≡ n + 0 = omega arith in
-      (ap node_number (sym q) ∙ p ∙ r, subst (λ (k : K). stands k S H) q s.1)
-  each_from n (d ∷ cs) s (suc i) c e = let r = each_from (n + 1) cs s.2 i c e in ((let q : node_number c ≡ (n + 1) + i = r.0 in omega arith), r.1)
+-- of the controls, those below i came out as P says, each at its place, and those from i on are as they were
+pub record AreDone {K : Type 0} (P : ℕ → K → Type 0) (old new : List K) (i : ℕ) : Type 0 where
+  pub len : length new ≡ length old
+  pub done : (n : ℕ) (c : K) → n < i → slice_get new n ≡ Some c → P n c
+  pub left : (n : ℕ) (c : K) → i ≤ n → slice_get new n ≡ Some c → slice_get old n ≡ Some c
 
-  pub stand_from : (cs : List K) → StandAll node_number stands cs S H → StandFrom node_number stands 0 cs S H
-  stand_from cs s = from_each 0 cs (λ i c e. ((let q : node_number c ≡ i = s.each_numbered i c e in omega arith), s.each_stands i c e))
+module _ {K : Type 0} (P : ℕ → K → Type 0) where
+  pub none_done : (cs : List K) → AreDone P cs cs 0
+  none_done cs = record { len = refl; done = λ n c lt e. absurd (omega arith); left = λ n c le e. e }
 
-  pub stand_all : (cs : List K) → length cs ≡ length S.tree → StandFrom node_number stands 0 cs S H → StandAll node_number stands cs S H
-  stand_all cs l s = record {
-    one_each = l;
-    each_numbered = λ i c e. (let q : node_number c ≡ 0 + i = (each_from 0 cs s i c e).0 in omega arith);
-    each_stands = λ i c e. (each_from 0 cs s i c e).1;
+  pub one_more_done : (old new : List K) (i : ℕ) (b : K) → AreDone P old new i → P i b → AreDone P old (set new i b) (i + 1)
+  one_more_done old new i b a p = record {
+    len = length-set new i b ∙ a.len;
+    done = λ n c lt e. elim (put_or_left new i b n c e) [
+      | inl h ↦ subst (λ (m : ℕ). P m c) (sym h.0) (subst (P i) (sym h.1) p)
+      | inr h ↦ a.done n c (let d : n ≢ i = h.0 in omega arith) h.1
+    ];
+    left = λ n c le e. elim (put_or_left new i b n c e) [ inl h ↦ absurd (omega (arith, h.0)) | inr h ↦ a.left n c (omega arith) h.1 ];
+  }
+
+pub done_less : {K : Type 0} (P Q : ℕ → K → Type 0) (old new : List K) (i : ℕ) → ((n : ℕ) (c : K) → P n c → Q n c) → AreDone P old new i → AreDone Q old new i
+done_less P Q old new i f a = record { len = a.len; done = λ n c lt e. f n c (a.done n c lt e); left = a.left }
+
+-- the next one is as it was
+pub next_there : {K : Type 0} (P : ℕ → K → Type 0) (old new : List K) (i : ℕ) (d : K) → AreDone P old new i → i < length new → slice_get old i ≡ Some (get_or new i d)
+next_there P old new i d a lt = a.left i (get_or new i d) (omega arith) (slice_get-get_or new i d lt)
+
+-- the control of node n, which has noted the newest event of H: of the room that all had, it took one place at the most
+pub record HasNoted {K : Type 0} (node_number : K → ℕ) (stands : K → Setup → List Event → Type 0) (spare : K → ℕ) (S : Setup) (H : List Event) (old : List K) (n : ℕ) (c : K) : Type 0 where
+  pub numbered : node_number c ≡ n
+  pub stood : stands c S H
+  pub room : (k : ℕ) → RoomFor spare (suc k) old → k ≤ spare c
+
+-- the control of node n, which was made room in: it stands for what the one before it stood for
+pub record IsRoomy {K : Type 0} (node_number : K → ℕ) (stands : K → Setup → List Event → Type 0) (old : List K) (n : ℕ) (c : K) : Type 0 where
+  pub before : K
+  pub there : slice_get old n ≡ Some before
+  pub numbered : node_number c ≡ node_number before
+  pub stood : (S : Setup) (H : List Event) → stands before S H → stands c S H
+
+module _ {K : Type 0} (node_number : K → ℕ) (stands : K → Setup → List Event → Type 0) (old new : List K) where
+  -- each came out so, or is as it was
+  pub all_roomy : (i : ℕ) → AreDone (IsRoomy node_number stands old) old new i → (n : ℕ) (c : K) → slice_get new n ≡ Some c → IsRoomy node_number stands old n c
+  all_roomy i a n c e = elim (cases_lt n i) [
+    | inl lt ↦ a.done n c lt e
+    | inr le ↦ record { before = c; there = a.left n c (omega arith) e; numbered = refl; stood = λ S H x. x }
+  ]
+
+  pub roomy_standing : length new ≡ length old → ((n : ℕ) (c : K) → slice_get new n ≡ Some c → IsRoomy node_number stands old n c) → (S : Setup) (H : List Event) → StandAll node_number stands old S H → StandAll node_number stands new S H
+  roomy_standing l f S H a = record {
+    one_each = l ∙ a.one_each;
+    each_numbered = λ n c e. let r = f n c e in r.numbered ∙ a.each_numbered n r.before r.there;
+    each_stands = λ n c e. let r = f n c e in r.stood S H (a.each_stands n r.before r.there);
   }
 
 -- where a Begin stops at no node, each node of the path lets it go
@@ -75,26 +110,22 @@ granted_noted S P (Done t) g b n = g.unfinished
 granted_noted S P (Gone t c) g b n = g
 granted_noted S P (Told t) g b n = g
 
-pub noted_from : {K : Type 0} (f : Facts) (e : Event) (n : ℕ) (cs : List K) → events_of f ≡ e ∷ drop 1 (events_of f) → ((m : ℕ) → MayNote (setup_of f) (drop 1 (events_of f)) m e) → MayNoteFrom f e n cs
-noted_from f e n [] q m = tt
-noted_from f e n (c ∷ cs) q m = (record { is = q; may = m n }, noted_from f e (n + 1) cs q m)
-
 -- what all controls are told by facts of this setup and history
 module _ (f : Facts) (S : Setup) (H : List Event) (s : setup_of f ≡ S) (h : events_of f ≡ H) where
-  pub told_newest : {K : Type 0} (e : Event) (cs : List K) → H ≡ e ∷ drop 1 H → ((n : ℕ) → MayNote S (drop 1 H) n e) → MayNoteFrom f e 0 cs
-  told_newest e cs q m = noted_from f e 0 cs (subst (λ (P : List Event). P ≡ e ∷ drop 1 P) (sym h) q)
-      (λ n. subst (λ (T : Setup). MayNote T (drop 1 (events_of f)) n e) (sym s) (subst (λ (P : List Event). MayNote S (drop 1 P) n e) (sym h) (m n)))
+  pub told_newest : (e : Event) → H ≡ e ∷ drop 1 H → ((n : ℕ) → MayNote S (drop 1 H) n e) → (n : ℕ) → IsNewest f e n
+  told_newest e q m n = record {
+    is = subst (λ (P : List Event). P ≡ e ∷ drop 1 P) (sym h) q;
+    may = subst (λ (T : Setup). MayNote T (drop 1 (events_of f)) n e) (sym s) (subst (λ (P : List Event). MayNote S (drop 1 P) n e) (sym h) (m n));
+  }
 
-  pub told_holders : (e : Event) (hs : List Hold) → ((n : ℕ) → ComeHolders S H n e hs) → (n : ℕ) → ComeHolders (setup_of f) (events_of f) n e hs
-  told_holders e hs a n = subst (λ (T : Setup). ComeHolders T (events_of f) n e hs) (sym s) (subst (λ (P : List Event). ComeHolders S P n e hs) (sym h) (a n))
+  pub told_standing : {K : Type 0} (stands : K → Setup → List Event → Type 0) (c : K) → stands c S (drop 1 H) → stands c (setup_of f) (drop 1 (events_of f))
+  told_standing stands c x = subst (λ (T : Setup). stands c T (drop 1 (events_of f))) (sym s) (subst (λ (P : List Event). stands c S (drop 1 P)) (sym h) x)
 
-  pub told_standing : {K : Type 0} (node_number : K → ℕ) (stands : K → Setup → List Event → Type 0) (cs ds : List K) → ds ≡ cs → StandAll node_number stands cs S (drop 1 H) → StandFrom node_number stands 0 ds (setup_of f) (drop 1 (events_of f))
-  told_standing {K} node_number stands cs ds d a =
-      subst (λ (xs : List K). StandFrom node_number stands 0 xs (setup_of f) (drop 1 (events_of f))) (sym d)
-      (subst (λ (T : Setup). StandFrom node_number stands 0 cs T (drop 1 (events_of f))) (sym s)
-      (subst (λ (P : List Event). StandFrom node_number stands 0 cs S (drop 1 P)) (sym h) (stand_from node_number stands S (drop 1 H) cs a)))
-
-  pub all_standing : {K : Type 0} (node_number : K → ℕ) (stands : K → Setup → List Event → Type 0) (cs ds : List K) → ds ≡ cs → length cs ≡ length S.tree → StandFrom node_number stands 0 cs (setup_of f) (events_of f) → StandAll node_number stands ds S H
-  all_standing {K} node_number stands cs ds d l a =
-      subst (λ (xs : List K). StandAll node_number stands xs S H) (sym d) (stand_all node_number stands S H cs l
-      (subst (λ (T : Setup). StandFrom node_number stands 0 cs T H) s (subst (λ (P : List Event). StandFrom node_number stands 0 cs (setup_of f) P) h a)))
+  pub all_standing : {K : Type 0} (node_number : K → ℕ) (stands : K → Setup → List Event → Type 0) (spare : K → ℕ) (old new : List K) (i : ℕ) → AreDone (HasNoted node_number stands spare (setup_of f) (events_of f) old) old new i → length new ≤ i → length old ≡ length S.tree → StandAll node_number stands new S H
+  all_standing {K} node_number stands spare old new i a all l =
+      let noted : (n : ℕ) (c : K) → slice_get new n ≡ Some c → HasNoted node_number stands spare (setup_of f) (events_of f) old n c = λ n c e. a.done n c (let w = slice_get_within new n c e in omega arith) e in
+      record {
+        one_each = a.len ∙ l;
+        each_numbered = λ n c e. (noted n c e).numbered;
+        each_stands = λ n c e. subst (λ (T : Setup). stands c T H) s (subst (λ (P : List Event). stands c (setup_of f) P) h (noted n c e).stood);
+      }

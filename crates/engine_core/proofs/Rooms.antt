@@ -1,5 +1,5 @@
 -- What room is left, and that all is whole after room was made.
-use Rattle.std.proofs.Common.{◌≡◌, ℕ, ◌≤◌, Bool, true, false, List, [], ◌∷◌, sym, ◌∙◌, ap, subst, arith}
+use Rattle.std.proofs.Common.{◌≡◌, ℕ, ◌≤◌, Bool, true, false, List, sym, ◌∙◌, ap, subst, arith}
 use Rattle.teb_names.specs.declared.Cell.{Cell}
 use Rattle.teb_names.specs.declared.Txn.{Txn}
 use Rattle.teb_history.specs.declared.Event.{Event}
@@ -15,18 +15,12 @@ use Rattle.engine_core.specs.Wholes.{IsWhole, RoomFor, HasRoomFor}
 
 -- less room
 pub less_room : {K : Type 0} (spare : K → ℕ) (j k : ℕ) (cs : List K) → j ≤ k → RoomFor spare k cs → RoomFor spare j cs
-less_room spare j k [] h r = tt
-less_room spare j k (c ∷ cs) h r = ((let a : k ≤ spare c = r.0 in omega arith), less_room spare j k cs h r.1)
-
--- no room
-none_for : {K : Type 0} (spare : K → ℕ) (cs : List K) → RoomFor spare 0 cs
-none_for spare [] = tt
-none_for spare (c ∷ cs) = (omega arith, none_for spare cs)
+less_room spare j k cs h r = record { each = λ n c e. let a : k ≤ spare c = r.each n c e in omega arith }
 
 pub no_room : {K C : Type 0} (control_spare : K → ℕ) (chain_spare : C → ℕ) (c : EngineState K C) → HasRoomFor control_spare chain_spare 0 c
 no_room control_spare chain_spare c = record {
   history = omega arith;
-  controls = none_for control_spare c.controls.items;
+  controls = record { each = λ n k e. omega arith };
   book = omega arith;
   versions = omega arith;
   cursors = omega arith;

@@ -4,8 +4,8 @@ use Rattle.teb_names.specs.declared.Session.{Session}
 use Rattle.teb_history.specs.declared.Event.{Event}
 use Rattle.teb_history.specs.Phases.{aborted, prepared, unfinished}
 use Rattle.teb_history.specs.Written.{held_txn}
-use Rattle.engine_core.specs.declared.holders.Holding.{Holding}
-use Rattle.engine_core.specs.declared.holders.Holding.TheVariants.{Nothing, Fallen, Running}
+use Rattle.engine_core.specs.declared.holding.Holding.{Holding}
+use Rattle.engine_core.specs.declared.holding.Holding.TheVariants.{Nothing, Fallen, Running}
 
 -- no transaction, or the one that the session holds, which is aborted or unfinished
 abbrev pub IsHeld : List Event → Session → Holding → Type 0

@@ -8,6 +8,5 @@ pub mod HeldBy
 pub mod Stopping
 pub mod Cells
 pub mod Decisions
-pub mod Noting
 pub mod Keeping
 pub mod AnyControls

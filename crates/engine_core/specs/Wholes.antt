@@ -1,5 +1,5 @@
 -- What holds of all that an engine keeps at once.
-use Rattle.std.specs.Prelude.{◌≡◌, ◌≤◌, ℕ, Bool, true, List, [], ◌∷◌, length}
+use Rattle.std.specs.Prelude.{◌≡◌, ◌≤◌, ℕ, Bool, true, List, length, slice_get, Some}
 use Rattle.teb_names.specs.declared.Cell.{Cell}
 use Rattle.teb_names.specs.declared.Txn.{Txn}
 use Rattle.teb_history.specs.declared.Event.{Event}
@@ -51,9 +51,8 @@ abbrev pub StateIsWhole : {K C : Type 0} → (K → ℕ) → (K → Setup → Li
 StateIsWhole node_number stands lists c = IsWhole node_number stands (store_of c.setup) c.history.events c.controls.items (lists c.chains) c.book.lists c.cursors.cursors c.latest c.has_pipelines
 
 -- each control has room for k events
-abbrev pub RoomFor : {K : Type 0} → (K → ℕ) → ℕ → List K → Type 0
-RoomFor spare k [] = Unit {0}
-RoomFor spare k (c ∷ cs) = (k ≤ spare c) × RoomFor spare k cs
+pub record RoomFor {K : Type 0} (spare : K → ℕ) (k : ℕ) (cs : List K) : Type 0 where
+  pub each : (n : ℕ) (c : K) → slice_get cs n ≡ Some c → k ≤ spare c
 
 -- there is room for k more events in all that is kept, whatever they are
 pub record HasRoomFor {K C : Type 0} (control_spare : K → ℕ) (chain_spare : C → ℕ) (k : ℕ) (c : EngineState K C) : Type 0 where

@@ -11,7 +11,7 @@ use crate::additions::decide_add;
 use crate::asking::Asking;
 use crate::decision::{Decision, ShortReply, refused, stopped};
 use crate::engine_view::EngineView;
-use crate::holders::{Holding, held};
+use crate::holding::{Holding, held};
 use crate::scans::decide_scan;
 use crate::stops::{begin_stop, commit_stop, prepare_stop};
 use phase_api::Control;

@@ -13,7 +13,7 @@ mod engine;
 mod engine_state;
 mod engine_view;
 mod falls;
-mod holders;
+mod holding;
 mod keeping;
 mod latest_txns;
 mod node_kinds;

@@ -3,16 +3,14 @@
 ghost use Rattle.std.specs.Prelude.{◌≡◌, ◌<◌, ◌≤◌, ◌+◌, ℕ, suc, List, drop, length, OnOk, ◌∷◌};
 ghost use Rattle.teb_history.specs.declared.Event.{Event};
 ghost use Rattle.teb_rules.specs.Setup.{Setup as Rules};
-ghost use Rattle.phase_api.specs.FactsView.{setup_of, events_of};
 ghost use Rattle.phase_api.specs.Calls.{MayNote, ComeHolders};
 ghost use Rattle.phase_api.specs.Standing.{StandAll};
-ghost use Rattle.engine_core.specs.Noting.{StandFrom, MayNoteFrom};
 ghost use Rattle.engine_core.specs.Stores.{store_of};
 ghost use Rattle.engine_core.specs.Wholes.{RoomFor};
 
 use crate::engine_state::facts_of;
 use hold_book::Hold;
-use phase_api::{Control, Facts};
+use phase_api::Control;
 use std::alloc::AllocError;
 use teb_history::{Event, History};
 use tree_toml::Setup;
@@ -35,28 +33,8 @@ pub fn note_each<K: Control>(
     ensures room { (k : ℕ) → RoomFor K.spare (suc k) controls.old.items → RoomFor K.spare k controls.new.items }
 {
     let facts = facts_of(history, setup);
-    note_all(controls, &facts, holders, &event, 0);
-}
-
-/// Each control notes the newest event; the first of them is that of node n.
-pub fn note_all<K: Control>(
-    controls: &mut [K],
-    facts: &Facts,
-    holders: &[Hold],
-    event: &Event,
-    n: usize,
-)
-    requires holders { (m : ℕ) → ComeHolders (setup_of facts.now) (events_of facts.now) m event.now holders.now }
-    requires stands { StandFrom K.node_number K.stands n controls.old (setup_of facts.now) (drop 1 (events_of facts.now)) }
-    requires newest { MayNoteFrom facts.now event.now n controls.old }
-    requires room { RoomFor K.spare 1 controls.old }
-    requires few { n + length controls.old ≤ 64 }
-    ensures stands { StandFrom K.node_number K.stands n controls.new (setup_of facts.now) (events_of facts.now) }
-    ensures room { (k : ℕ) → RoomFor K.spare (suc k) controls.old → RoomFor K.spare k controls.new }
-{
-    if let Some((first, rest)) = controls.split_first_mut() {
-        first.note(facts, holders, *event);
-        note_all(rest, facts, holders, event, n + 1);
+    for control in controls.iter_mut() {
+        control.note(&facts, holders, event);
     }
 }
 
@@ -65,17 +43,8 @@ pub fn reserve_each<K: Control>(controls: &mut Vec<K>, n: usize) -> Result<(), A
     ensures stand { (S : Rules) (H : List Event) → StandAll K.node_number K.stands controls.old.items S H → StandAll K.node_number K.stands controls.new.items S H }
     ensures room { OnOk result (RoomFor K.spare n controls.new.items) }
 {
-    reserve_all(controls, n)
-}
-
-/// Makes room for n events in each control. They stand for what they stood for, also after an `Err`.
-pub fn reserve_all<K: Control>(controls: &mut [K], n: usize) -> Result<(), AllocError>
-    ensures stands { (m : ℕ) (S : Rules) (H : List Event) → StandFrom K.node_number K.stands m controls.old S H → StandFrom K.node_number K.stands m controls.new S H }
-    ensures room { OnOk result (RoomFor K.spare n controls.new) }
-{
-    if let Some((first, rest)) = controls.split_first_mut() {
-        first.reserve(n)?;
-        reserve_all(rest, n)?;
+    for control in controls.iter_mut() {
+        control.reserve(n)?;
     }
     Ok(())
 }

@@ -12,7 +12,7 @@ use Rattle.engine_core.specs.Latest.{latest_txn}
 use Rattle.engine_core.specs.Wholes.{store_in, events_in}
 use Rattle.engine_core.proofs.HeldTxns.{held_txn-latest}
 use Rattle.engine_core.proofs.HeldPhases.{running_phase, ready_phase, live_aborted}
-use Rattle.engine_core.proofs.holders.held.Goals as goal
+use Rattle.engine_core.proofs.holding.held.Goals as goal
 
 -- what a session holds, by whether that which it began last is live
 held_by : (S : Setup) (H : List Event) (s : Session) (t : Txn) (b : Bool) → Lawful S H → t ≡ latest_txn H s.0 → is_live H t.0 ≡ b → held_txn H s ≡ cond b (Some t) None

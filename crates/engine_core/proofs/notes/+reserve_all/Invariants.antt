@@ -1,5 +1,0 @@
-use Rattle.std.proofs.Common.{length}
-use Rattle.engine_core.proofs.notes.+reserve_all.Given as goal
-
-abbrev pub decreases-reserve_all : goal.decreases-reserve_all
-decreases-reserve_all g l = length l.controls.now
