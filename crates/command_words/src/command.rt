@@ -16,9 +16,9 @@ pub enum Command {
     Threads(u8),
     /// Runs a generated input, from a number, of a size.
     Load { number: u32, size: u32 },
-    /// Checks what `threads` has written.
+    /// Checks the text of a run, as `threads` and `pool` write it.
     Audit,
-    /// Runs the script on a disk that fails at a device call; 0 is none.
+    /// Runs the script on a disk that fails at this call and at all later ones, counted from 1; 0 names no call.
     Crash(u32),
     /// Runs several scripts, each under a tree of its own.
     Phases,
