@@ -1,5 +1,6 @@
 //! The statuses with which the program ends.
 
+/// The command is done, and all its text is written.
 pub const OK: u8 = 0;
 
 /// The words are none of a command.
@@ -14,10 +15,13 @@ pub const WRITE_FAULT: u8 = 4;
 /// The input has too many bytes, or too many lines.
 pub const TOO_LONG: u8 = 5;
 
+/// The input has no line between the tree and the script, or the tree text is refused.
 pub const BAD_TREE: u8 = 6;
 
+/// A line of the script is outside the grammar.
 pub const BAD_SCRIPT: u8 = 7;
 
+/// Memory was wanting.
 pub const OUT_OF_MEMORY: u8 = 8;
 
 /// A session has asked as often as it may.

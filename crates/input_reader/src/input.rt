@@ -64,6 +64,7 @@ impl Input {
         self.text.take()
     }
 
+    /// The setup that the tree text gives.
     pub fn setup(&self) -> &Setup
         ensures { setup_view result.now ≡ self.now.setup }
     {
