@@ -1,20 +1,27 @@
-// Which calls fail, and how many did.
+//! Which calls fail, and how many did.
+
 ghost use Rattle.std.specs.Prelude.{◌≡◌, ◌≤◌, IsOk, IsErr};
 ghost use Rattle.teb_io.specs.Faults.{HasCause, Rose, next};
 ghost use Rattle.crash_disk.specs.Calls.{IsBefore, IsFrom};
 
 use teb_io::Failed;
 
-/// How many calls were made, from which of them on they fail (0 names no call), and how many faults there were.
+/// How many calls were made, from which of them on they fail, and how many faults there were. Neither count goes past 2^64 - 1.
 #[derive(Clone, Copy, Debug, PartialEq, Eq)]
 pub struct Counter {
+    /// How many calls were made.
     pub made: u64,
+    /// The first call that fails, counted from 1; 0 names no call.
     pub stop: u32,
+    /// How many faults there were.
     pub faults: u64,
 }
 
 impl Counter {
-    /// One call more, which fails from the call `stop` on.
+    /// Counts one call more.
+    ///
+    /// # Errors
+    /// `Failed` where the call is the one that `stop` names or a later one. It is counted as a fault then.
     pub fn call(&mut self) -> Result<(), Failed>
         ensures made { self.new.made ≡ next self.old.made }
         ensures kept { self.old.made ≤ self.new.made }
@@ -31,7 +38,7 @@ impl Counter {
         Ok(())
     }
 
-    /// One fault more.
+    /// Counts one fault more. The calls stay as they were.
     pub fn fault(&mut self)
         ensures rose { Rose self.old.faults self.new.faults }
         ensures later { self.old.faults ≤ self.new.faults }

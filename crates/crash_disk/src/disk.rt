@@ -1,4 +1,5 @@
-// A disk as the journal sees it: what a read gives, and what a crash may leave.
+//! A disk as a journal sees it: what a read gives, and what a crash may leave.
+
 ghost use Rattle.std.specs.Prelude.{◌≡◌, ◌+◌, ◌≤◌, List, ℕ, length, IfOk, OnOk, OnErr};
 ghost use Rattle.crash_disk.specs.Disk.{Only, Follows, NoMore, IsTorn, Holds, IsRead, Elapses};
 ghost use Rattle.crash_disk.specs.Calls.{Tally, AreCalls};
@@ -6,7 +7,10 @@ ghost use Rattle.teb_io.specs.Faults.{HasCause};
 
 use teb_io::Failed;
 
-/// A device of bytes.
+/// How many bytes of a device are used: each write ends there or before.
+pub const MOST_BYTES: u64 = 1_048_576;
+
+/// A device of bytes, which may crash at any moment. Each call may fail, and a call that fails raises the count of faults.
 pub trait Disk {
     /// The bytes that a read gives.
     ghost seen: { Self → List ℕ };
@@ -29,7 +33,10 @@ pub trait Disk {
     /// How many calls were made, and which are sure to succeed or to fail.
     ghost tally: { Self → Tally };
 
-    /// How many bytes there are.
+    /// How many bytes there are. It changes no byte, and nothing that a crash may leave.
+    ///
+    /// # Errors
+    /// `Failed` where the device fails.
     fn len(&mut self) -> Result<u64, Failed>
         ensures value { IfOk result (λ n. n ≡ length (seen self.old)) }
         ensures seen { seen self.new ≡ seen self.old }
@@ -39,7 +46,11 @@ pub trait Disk {
         ensures calls { AreCalls (tally self.old).promise.reads 1 0 (tally self.old) (tally self.new) result }
         ensures cause { HasCause (faults self.old) (faults self.new) result };
 
-    /// Reads the next bytes from a place on, as many as it likes.
+    /// Reads the next bytes from a place on into the front of the buffer, as many as it likes, and answers how many. For a buffer
+    /// that is not empty, 0 comes only at or past the end. It changes no byte of the device, and nothing that a crash may leave.
+    ///
+    /// # Errors
+    /// `Failed` where the device fails. The buffer may hold any bytes then.
     fn read_at(&mut self, at: u64, buf: &mut [u8]) -> Result<usize, Failed>
         ensures read { IfOk result (λ n. IsRead (seen self.old) at n buf.new) }
         ensures seen { seen self.new ≡ seen self.old }
@@ -50,7 +61,10 @@ pub trait Disk {
         ensures cause { HasCause (faults self.old) (faults self.new) result };
 
     /// Writes over what is there, and past the end. Until a sync that succeeds, the range and what lies past the old end may hold
-    /// any bytes after a crash. A write that fails counts as made.
+    /// any bytes after a crash. All other bytes stay.
+    ///
+    /// # Errors
+    /// `Failed` where the device fails. A read too may then give any bytes in the range and past the old end.
     fn write_at(&mut self, at: u64, bytes: &[u8]) -> Result<(), Failed>
         requires { at + length bytes.now ≤ 1048576 }
         ensures written { OnOk result (Holds at bytes.now (seen self.new)) }
@@ -61,7 +75,10 @@ pub trait Disk {
         ensures calls { AreCalls (tally self.old).promise.writes 1 (length bytes.now) (tally self.old) (tally self.new) result }
         ensures cause { HasCause (faults self.old) (faults self.new) result };
 
-    /// After it a crash leaves what a read gives. One that fails makes nothing safe.
+    /// Makes all bytes safe: a crash right after it leaves what a read gives. It changes no byte.
+    ///
+    /// # Errors
+    /// `Failed` where the device fails. Nothing is made safe then: a crash may leave what it could leave before.
     fn sync(&mut self) -> Result<(), Failed>
         ensures durable { OnOk result (Only (seen self.old) (may_leave self.new)) }
         ensures seen { seen self.new ≡ seen self.old }

@@ -11,6 +11,6 @@ mod memory;
 
 pub use call::Call;
 pub use counter::Counter;
-pub use disk::Disk;
+pub use disk::{Disk, MOST_BYTES};
 pub use log::Log;
 pub use memory::MemDisk;

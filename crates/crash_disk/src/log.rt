@@ -1,4 +1,5 @@
-// What a disk in memory remembers of its writes and syncs.
+//! What a disk in memory remembers of its writes and syncs.
+
 ghost use Rattle.std.specs.Prelude.{◌≡◌, ◌+◌, ◌<◌, ◌≤◌, ◌++◌, ◌∷◌, [], List, ℕ, length, OnOk, OnErr, IfOk, IsOk, IsTrue, IsFalse};
 ghost use Rattle.crash_disk.specs.Log.{Step, Wrote, Synced, after_steps, image_of, contents, safe_contents, MayLeave, byte_count, IsOneWriteLess, EndsSynced};
 
@@ -7,10 +8,11 @@ use crate::image::overwrite;
 use std::alloc::{AllocError, Global};
 use std::marker::Model;
 
-/// How many calls and how many bytes a log has room for: two calls at the start, four for each of 65,536 lines, and one for
-/// the sync that a recovery begins with.
+/// How many calls a log has room for: two at the start, four for each of 65,536 lines, and one for the sync that a recovery
+/// begins with.
 const CALLS: usize = 262_147;
 
+/// How many bytes a log has room for, those of all writes together.
 const BYTES: usize = 2_097_152;
 
 /// The writes of a disk, with their bytes, and its syncs. Contracts see them as a list of steps, the first one first.
@@ -38,7 +40,7 @@ impl Model for Log {
 }
 
 impl Log {
-    /// An empty log, with room for 262,147 calls and 2,097,152 bytes.
+    /// An empty log, with room for 262,147 calls and 2,097,152 bytes. An `Err` comes where memory is wanting.
     pub fn new(alloc: Global) -> Result<Log, AllocError>
         ensures { IfOk result (λ log. log ≡ []) }
     {
@@ -101,7 +103,7 @@ impl Log {
         while self.drop_write() {}
     }
 
-    // Drops the last step where it is a write, and answers whether it is one.
+    /// Drops the last step where it is a write, and answers whether it is one.
     fn drop_write(&mut self) -> bool
         ensures dropped { IsTrue result → IsOneWriteLess self.old self.new }
         ensures kept { IsFalse result → (self.new ≡ self.old) × EndsSynced self.old }
@@ -118,7 +120,8 @@ impl Log {
         }
     }
 
-    /// Carries out all writes again, and answers how many bytes the disk then has.
+    /// Carries out all writes again, on the bytes of an empty disk, and answers how many bytes the disk then has. It costs the
+    /// bytes of all writes.
     pub fn replay(&self, image: &mut [u8]) -> u64
         requires { length image.old ≡ 1048576 }
         ensures image { image_of result image.new ≡ after_steps (image_of 0 image.old) self.now }

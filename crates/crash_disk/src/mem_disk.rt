@@ -1,4 +1,5 @@
-// A disk in memory meets what is asked of a disk.
+//! How a disk in memory is made, and that it meets what is asked of a disk.
+
 ghost use Rattle.std.specs.Prelude.{◌≡◌, ◌≤◌, [], ℕ, IfOk};
 ghost use Rattle.crash_disk.specs.Log.{contents, safe_contents, byte_count};
 ghost use Rattle.crash_disk.specs.Left.{IsLeft};
@@ -9,7 +10,8 @@ use std::alloc::{AllocError, Global};
 use teb_io::Failed;
 
 impl MemDisk {
-    /// An empty disk with room for 1,048,576 bytes. It fails at the call `stop` and at all later ones; 0 names no call.
+    /// An empty disk with room for 1,048,576 bytes, 262,147 writes and syncs, and 2,097,152 bytes in all writes. It fails at the
+    /// call `stop` and at all later ones; 0 names no call. An `Err` comes where memory is wanting.
     pub fn new(alloc: Global, stop: u32) -> Result<MemDisk, AllocError>
         ensures empty { IfOk result (λ disk. disk.log ≡ []) }
         ensures made { IfOk result (λ disk. disk.counter.made ≡ 0) }
@@ -30,7 +32,8 @@ impl MemDisk {
         })
     }
 
-    /// The disk with all writes since the last good sync dropped. It has no stop.
+    /// The disk with all writes since the last good sync dropped. It has no stop, and as many calls and faults as before. It costs
+    /// the disk's room, and the bytes of all writes that are left.
     pub fn left(self) -> MemDisk
         ensures { IsLeft self result }
     {
