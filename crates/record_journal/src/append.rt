@@ -1,4 +1,5 @@
-// How a journal begins, and how it grows.
+//! How a journal begins, and how it grows.
+
 ghost use Rattle.std.specs.Prelude.{◌≡◌, ◌+◌, ◌<◌, ◌≤◌, ◌++◌, ◌∷◌, [], List, ℕ, length, true, false, OnOk, OnErr, IfOk, IfErr, IsOk, IsErr, ◌^◌};
 ghost use Rattle.crash_disk.specs.Calls.{AreCalls, AreSure, Fails, IsUpTo};
 ghost use Rattle.crash_disk.specs.Disk.{LeavesOnly, Only};
@@ -8,14 +9,14 @@ ghost use Rattle.record_journal.specs.Journal.{IsAtRest, IsBody, StandsFor};
 ghost use Rattle.record_journal.specs.Kept.{Keeps};
 
 use crate::{Journal, Progress, write_record};
-use crash_disk::Disk;
+use crash_disk::{Disk, MOST_BYTES};
 use teb_io::Failed;
 
-/// How many bytes of a disk a journal uses.
-const ROOM: u64 = 1048576;
-
 impl<D: Disk> Journal<D> {
-    /// A journal without records, on a disk that may hold anything. An `Err` hands the disk back.
+    /// A journal without records, on a disk that may hold anything. It makes two calls of the disk.
+    ///
+    /// # Errors
+    /// The disk itself, where one of its calls fails. No more of it is safe than before.
     pub fn create(disk: D) -> Result<Journal<D>, D>
         ensures empty { IfOk result (λ journal. Keeps D.seen D.may_leave [] journal × (journal.stopped ≡ false) × (journal.progress.acknowledged ≡ 0)) }
         ensures cause { IfErr result (λ back. Rose (D.faults disk) (D.faults back)) }
@@ -39,8 +40,12 @@ impl<D: Disk> Journal<D> {
         }
     }
 
-    /// Adds the record that the body spells. At `Ok` it is acknowledged: from then on each crash leaves it.
-    /// After an `Err` the journal is stopped, and the record may stand on the disk or not.
+    /// Adds the record that the body spells. At `Ok` it is acknowledged: from then on each crash leaves it. It makes four calls of
+    /// the disk.
+    ///
+    /// # Errors
+    /// `Failed` where a call of the disk fails. The journal is then stopped, no record more is acknowledged, and this one may stand
+    /// on the disk or not.
     pub fn append(&mut self, body: &[u8]) -> Result<(), Failed>
         requires running { self.old.stopped ≡ false }
         requires some { 0 < length body.now }
@@ -77,25 +82,28 @@ impl<D: Disk> Journal<D> {
         added
     }
 
+    /// How many records are acknowledged: each crash leaves at least so many.
     pub fn acknowledged(&self) -> u32
         ensures { result ≡ self.now.progress.acknowledged }
     {
         self.progress.acknowledged
     }
 
+    /// Whether the disk has failed while a record was added. No record may be added then.
     pub fn is_stopped(&self) -> bool
         ensures { result ≡ self.now.stopped }
     {
         self.stopped
     }
 
-    /// How many bytes are left from the closed gate on.
+    /// How many bytes are left for records, from the closed gate on.
     pub fn left(&self) -> u64
         ensures { result + self.now.progress.end ≡ 1048576 }
     {
-        ROOM - self.progress.end
+        MOST_BYTES - self.progress.end
     }
 
+    /// The disk, as it is.
     pub fn into_disk(self) -> D
         ensures { result ≡ self.disk }
     {

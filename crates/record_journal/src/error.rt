@@ -6,11 +6,14 @@ ghost use Rattle.record_journal.specs.declared.error.RecoverError.TheVariants.{D
 use std::alloc::{AllocError, AllocFailed};
 use teb_io::Failed;
 
+/// Why a disk could not be recovered. Its bytes are as they were.
 #[derive(Clone, Copy, Debug, PartialEq, Eq)]
 pub enum RecoverError {
+    /// A call of the disk failed.
     DiskFault,
-    /// The record at this place is not one.
+    /// The gate at this place is open, and no record stands behind it.
     Damaged { at: u64 },
+    /// Memory was wanting.
     OutOfMemory,
 }
 

@@ -1,8 +1,11 @@
-// A journal: records on a disk, each acknowledged once it is safe.
+//! A journal: records on a disk, each acknowledged once it is safe.
+
 ghost use Rattle.std.specs.Prelude.{◌<◌, ◌≤◌};
 
 use crash_disk::Disk;
 
+/// Records on a disk, one behind the other, and a closed gate behind the last. Each is acknowledged once it is safe, and from the
+/// first call of the disk that fails at a record the journal is stopped.
 #[derive(Drop)]
 pub struct Journal<D: Disk> {
     pub(crate) disk: D,
@@ -10,10 +13,12 @@ pub struct Journal<D: Disk> {
     pub(crate) stopped: bool,
 }
 
-/// How far a journal has come: where its closed gate stands, and how many records are acknowledged.
+/// How far a journal has come.
 #[derive(Clone, Copy, Debug, PartialEq, Eq)]
 pub struct Progress {
+    /// The place of the closed gate.
     pub end: u64,
+    /// How many records are acknowledged.
     pub acknowledged: u32,
     ghost within: { end < 1048576 },
     ghost small: { acknowledged ≤ end },

@@ -4,6 +4,7 @@
 mod append;
 mod change;
 mod error;
+mod format;
 mod journal;
 mod read;
 mod record;
@@ -13,6 +14,7 @@ mod whole;
 
 pub use change::Change;
 pub use error::RecoverError;
+pub use format::{CHANGE_BYTES, COUNT_BYTES, FRAME_BYTES};
 pub use journal::{Journal, Progress};
 pub use read::read_records;
 pub use record::{encode, write_record};

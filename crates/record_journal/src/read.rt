@@ -1,10 +1,11 @@
-// The records that bytes stand for.
+//! The records that bytes stand for.
+
 ghost use Rattle.std.specs.Prelude.{◌≡◌, ◌+◌, ◌*◌, ◌<◌, ◌≤◌, ◌^◌, ◌∷◌, [], ℕ, length, None, Some, IfOk, IsErrOf, IfSome, MatchOption};
 ghost use Rattle.std.specs.Int.{w64, from_be_bytes};
 ghost use Rattle.record_journal.specs.Format.{value_of_tag, change_of, changes_of, record_of, reading, Damaged, Whole};
 ghost use Rattle.record_journal.specs.Views.{record_lists};
 
-use crate::{Change, RecoverError};
+use crate::{CHANGE_BYTES, COUNT_BYTES, Change, RecoverError};
 use std::alloc::{AllocError, Global};
 use teb_names::{Cell, Table};
 
@@ -54,10 +55,10 @@ fn read_changes(alloc: Global, count: u32, bytes: &[u8]) -> Result<Option<Vec<Ch
     let mut changes = Vec::new(alloc);
     let mut rest = bytes;
     for _ in 0..count {
-        if rest.len() < 14 {
+        if rest.len() < CHANGE_BYTES {
             return Ok(None);
         }
-        let (front, after) = rest.split_at(14);
+        let (front, after) = rest.split_at(CHANGE_BYTES);
         match read_change(front) {
             None => return Ok(None),
             Some(change) => changes.push(change)?,
@@ -73,10 +74,10 @@ fn read_record(alloc: Global, bytes: &[u8]) -> Result<Option<Vec<Change>>, Alloc
     ensures record { IfOk result (λ found. MatchOption found (record_of bytes.now ≡ None) (λ v. record_of bytes.now ≡ Some v.items)) }
     ensures length { IfOk result (λ found. IfSome found (λ v. 4 + 14 * length v.items ≤ length bytes.now)) }
 {
-    if bytes.len() < 4 {
+    if bytes.len() < COUNT_BYTES {
         return Ok(None);
     }
-    let (front, rest) = bytes.split_at(4);
+    let (front, rest) = bytes.split_at(COUNT_BYTES);
     let count = u32::from_be_bytes([front[0], front[1], front[2], front[3]]);
     read_changes(alloc, count, rest)
 }
@@ -96,7 +97,11 @@ fn opened(bytes: &[u8]) -> Option<&[u8]>
     Some(behind)
 }
 
-/// All records up to the first gate that is closed.
+/// All records up to the first gate that is closed. It costs the bytes of these records.
+///
+/// # Errors
+/// `Damaged` where no record stands behind an open gate: it runs past the end, or one of its changes has another tag, or no row and
+/// a value that is not 0. `OutOfMemory`.
 pub fn read_records(alloc: Global, bytes: &[u8]) -> Result<Vec<Vec<Change>>, RecoverError>
     ensures whole { IfOk result (λ records. reading 0 0 bytes.now ≡ Whole (record_lists records.items)) }
     ensures damaged { (at : ℕ) → IsErrOf result (RecoverError.Damaged at) → reading 0 0 bytes.now ≡ Damaged at }
@@ -110,7 +115,7 @@ pub fn read_records(alloc: Global, bytes: &[u8]) -> Result<Vec<Vec<Change>>, Rec
         match read_record(alloc, behind)? {
             None => return Err(RecoverError::Damaged { at }),
             Some(record) => {
-                let size = 4 + 14 * record.len();
+                let size = COUNT_BYTES + CHANGE_BYTES * record.len();
                 let (_, after) = behind.split_at(size);
                 rest = after;
                 at += 1 + size as u64;

@@ -1,4 +1,5 @@
-// One record: its bytes, and how they come onto the disk in four calls.
+//! One record: its bytes, and how they come onto the disk in four calls.
+
 ghost use Rattle.std.specs.Prelude.{◌≡◌, ◌+◌, ◌*◌, ◌^◌, ◌<◌, ◌≤◌, ◌++◌, ◌∷◌, [], List, ℕ, length, OnOk, OnErr, IfOk};
 ghost use Rattle.crash_disk.specs.Calls.{AreCalls};
 ghost use Rattle.crash_disk.specs.Disk.{Only, LeavesOnly};
@@ -11,7 +12,8 @@ use crash_disk::Disk;
 use std::alloc::{AllocError, Global};
 use teb_io::Failed;
 
-/// The bytes that add a record behind a closed gate: how many changes, each of them, and the next gate, closed.
+/// The bytes that add a record behind a closed gate: how many changes, each of them, and the next gate, closed. An `Err` comes
+/// where memory is wanting.
 pub fn encode(alloc: Global, changes: &[Change]) -> Result<Vec<u8>, AllocError>
     requires { length changes.now < 2 ^ 32 }
     ensures is_body { IfOk result (λ bytes. IsBody changes.now bytes.items) }
@@ -46,7 +48,10 @@ fn put_change(out: &mut Vec<u8>, change: Change) -> Result<(), AllocError>
     Ok(())
 }
 
-/// Writes a record behind the closed gate at `end`: its body with the next gate, and then its own gate.
+/// Writes a record behind the closed gate at `end`: its body with the next gate, and then its own gate, each made safe by a sync.
+///
+/// # Errors
+/// `Failed` where one of these four calls fails. The record may then stand on the disk or not.
 pub fn write_record<D: Disk>(disk: &mut D, end: u64, body: &[u8]) -> Result<(), Failed>
     requires { end + 1 + length body.now ≤ 1048576 }
 

@@ -1,4 +1,5 @@
-// What a disk stands for, after a crash too.
+//! What a disk stands for, after a crash too.
+
 ghost use Rattle.std.specs.Prelude.{◌≡◌, ◌≤◌, List, ℕ, length, take, IfOk, OnOk, IsErrOf};
 ghost use Rattle.teb_names.specs.declared.Cell.{Cell as TheCell};
 ghost use Rattle.teb_names.specs.Rows.{row_of, IsAscending};
@@ -16,14 +17,21 @@ use crash_disk::Disk;
 use std::alloc::Global;
 use teb_names::Cell;
 
-/// The rows after the records of a journal, in ascending order of their cells, and how many records there are.
+/// What the records of a journal leave.
 #[derive(Debug, Drop)]
 pub struct Recovered {
+    /// The rows after all records, in ascending order of their cells.
     pub rows: Vec<(Cell, i64)>,
+    /// How many records there are.
     pub commits: u32,
 }
 
-/// The rows that a disk stands for, over some starting rows, of which the first of a cell counts. It writes nothing.
+/// The rows that a disk stands for, over some starting rows, of which the first of a cell counts, and how many records it has. It
+/// begins with a sync, and writes nothing.
+///
+/// # Errors
+/// `DiskFault` where a call of the disk fails; `Damaged` where no record stands behind an open gate; `OutOfMemory`. The bytes of the
+/// disk stay as they were.
 pub fn read_rows<D: Disk>(
     alloc: Global,
     disk: &mut D,

@@ -1,4 +1,5 @@
-// The rows that records leave.
+//! The rows that records leave.
+
 ghost use Rattle.std.specs.Prelude.{◌≡◌, length, OnOk, IfOk};
 ghost use Rattle.std.specs.BTreeMap.{get};
 ghost use Rattle.teb_names.specs.declared.Cell.{Cell as TheCell};
@@ -12,7 +13,7 @@ use std::alloc::{AllocError, Global};
 use std::collections::BTreeMap;
 use teb_names::Cell;
 
-/// The rows after some records, in ascending order of their cells.
+/// The rows after some records, in ascending order of their cells. An `Err` comes where memory is wanting.
 pub fn rows_after(
     alloc: Global,
     start: &[(Cell, i64)],

@@ -1,15 +1,19 @@
-// All that a journal may use of a disk.
+//! All that a journal may use of a disk.
+
 ghost use Rattle.std.specs.Prelude.{◌≡◌, ◌≤◌, ℕ, length, take, IfOk, OnOk, IsOk, IsErrOf};
 ghost use Rattle.crash_disk.specs.Calls.{AreSure};
 ghost use Rattle.crash_disk.specs.Disk.{IsQuiet};
 ghost use Rattle.teb_io.specs.Faults.{HasCause, Rose};
 
 use crate::RecoverError;
-use crash_disk::Disk;
+use crash_disk::{Disk, MOST_BYTES};
 use std::alloc::Global;
 use teb_io::Failed;
 
-/// The first bytes of a disk, as many as a journal may use.
+/// The first bytes of a disk, as many as a journal may use. It writes nothing.
+///
+/// # Errors
+/// `DiskFault` where a call of the disk fails; `OutOfMemory`. `Damaged` does not come.
 pub fn read_whole<D: Disk>(alloc: Global, disk: &mut D) -> Result<Vec<u8>, RecoverError>
     ensures bytes { IfOk result (λ bytes. bytes.items ≡ take 1048576 (D.seen disk.old)) }
     ensures quiet { IsQuiet D.seen D.may_leave D.moment D.left_since D.faults disk.old disk.new }
@@ -18,7 +22,7 @@ pub fn read_whole<D: Disk>(alloc: Global, disk: &mut D) -> Result<Vec<u8>, Recov
     ensures sure { AreSure (D.tally disk.old).promise.reads 1048577 0 (D.tally disk.old) → IsErrOf result RecoverError.DiskFault → ⊥ }
     ensures not_damaged { (at : ℕ) → IsErrOf result (RecoverError.Damaged at) → ⊥ }
 {
-    let len = disk.len()?.min(1048576) as usize;
+    let len = disk.len()?.min(MOST_BYTES) as usize;
     let mut bytes = vec![in alloc; 0u8; len]?;
     fill(disk, &mut bytes)?;
     Ok(bytes)
