@@ -16,6 +16,7 @@ pub enum OpenError {
     /// The file can't be opened, locked, read or synced.
     #[error("the file can't be used: {0}")]
     Io(io::Error),
+    /// Memory was wanting.
     #[error("out of memory")]
     OutOfMemory,
 }

@@ -45,7 +45,7 @@ impl FileDisk {
     }
 }
 
-/// Locks a file that is not locked yet.
+/// Locks a file that is not locked yet. An `Err` is `Busy` where it is locked, and else `Io`.
 fn lock(file: &File) -> Result<(), OpenError> {
     match file.try_lock() {
         Ok(()) => Ok(()),

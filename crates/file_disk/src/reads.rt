@@ -3,17 +3,18 @@
 ghost use Rattle.std.specs.Prelude.{◌≤◌, length, IfOk};
 
 use crate::OpenError;
+use crash_disk::MOST_BYTES;
 use std::alloc::Global;
 use std::fs::File;
 use std::os::unix::fs::FileExt;
-
-/// The most bytes that a disk has.
-const MOST_BYTES: u64 = 1_048_576;
 
 /// How many bytes are compared at once.
 const PIECE: usize = 4096;
 
 /// All bytes of a file.
+///
+/// # Errors
+/// `TooLong` where it has more than 1,048,576 bytes, `Io` where it can't be read, `OutOfMemory`. The file stays as it was.
 pub fn read_whole(alloc: Global, file: &File) -> Result<Vec<u8>, OpenError>
     ensures { IfOk result (λ bytes. length bytes.items ≤ 1048576) }
 {
