@@ -1,3 +1,5 @@
+//! What a file holds after commits, whole or cut.
+
 use commit_journal::{Durable, recover};
 use engine_core::Engine;
 use file_disk::FileDisk;
@@ -14,12 +16,13 @@ const CELL: Cell = Cell {
     key: 1,
 };
 
-// How many bytes a record of one change has, with its gate.
+/// How many bytes a record of one change has, with its gate.
 const RECORD: usize = 19;
 
+/// How many bytes two of them have.
 const TWO_RECORDS: usize = 38;
 
-// Writes each value in a transaction of its own.
+/// Writes each value in a transaction of its own.
 fn write_values(alloc: Global, disk: FileDisk, values: &[i64]) -> Result<(), Fail> {
     let setup = read_tree(alloc, &[])?;
     let engine = Engine::new(alloc, setup, PlainChains::new(alloc))?;
@@ -38,7 +41,7 @@ fn write_values(alloc: Global, disk: FileDisk, values: &[i64]) -> Result<(), Fai
     Ok(())
 }
 
-// How many commits a file has and which value they leave, or what is wrong with its bytes.
+/// How many commits a file has and which value they leave, or what is wrong with its bytes.
 fn read_value(
     rt: &HostRuntime,
     alloc: Global,

@@ -1,3 +1,5 @@
+//! A file as a disk: what it keeps, and what is a fault.
+
 use crash_disk::Disk;
 use file_disk::{FileDisk, OpenError};
 use std::fs;

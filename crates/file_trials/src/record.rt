@@ -1,3 +1,5 @@
+//! The bytes of a record.
+
 use record_journal::{Change, encode};
 use std::test::Fail;
 use teb_names::{Cell, Table};
