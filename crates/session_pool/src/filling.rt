@@ -5,7 +5,7 @@ ghost use Rattle.crossbeam_queue.specs.Passes.{view, IsPassOf, ruled_capacity};
 ghost use Rattle.session_pool.specs.Tallies.{tally};
 ghost use Rattle.session_pool.specs.Waits.{IsUnused, number_at};
 
-use crate::queue::{Line, Roster, Token};
+use crate::queue::{Roster, SessionQueue, Token};
 use crate::steps::Put;
 use crate::waiting::Waiting;
 use std::collections::VecDeque;
@@ -15,7 +15,7 @@ use version_chain::Chains;
 /// Pushes the sessions, in order.
 pub(crate) fn fill<C: Chains, J: Roster, R: Wait>(
     rt: &R,
-    line: &Line<C, J>,
+    line: &SessionQueue<C, J>,
     token: &mut Token<C>,
     mut waiting: VecDeque<Waiting<C>>,
 )

@@ -41,7 +41,7 @@ impl<C: Chains, J: Roster> Protocol<Waiting<C>, Tally> for OnceEach<J> {
 }
 
 /// A queue that hands out a roster.
-pub type Line<C, J> = RuledArrayQueue<Waiting<C>, Tally, OnceEach<J>>;
+pub type SessionQueue<C, J> = RuledArrayQueue<Waiting<C>, Tally, OnceEach<J>>;
 
-/// The right to use such a queue. It has no bytes.
+/// The right to use such a queue. It has no bytes, and is no session's pass.
 pub type Token<C> = Pass<Waiting<C>, Tally>;

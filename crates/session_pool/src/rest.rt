@@ -10,7 +10,7 @@ ghost use Rattle.session_pool.specs.Suits.{Suits};
 ghost use Rattle.session_pool.specs.Tallies.{IsWhole, tally};
 ghost use Rattle.session_pool.specs.Workers.{HasToken};
 
-use crate::queue::{Line, Roster, Token};
+use crate::queue::{Roster, SessionQueue, Token};
 use crate::steps::{TakeRest, Whole};
 use crate::worker::Worker;
 use session_server::Gate;
@@ -23,7 +23,7 @@ use version_chain::Chains;
 /// The hands of the workers. Their tokens go into this one, which then is the only one, and knows what is in all hands.
 pub(crate) fn dismiss<C: Chains, J: Roster>(
     alloc: Global,
-    line: &Line<C, J>,
+    line: &SessionQueue<C, J>,
     token: &mut Token<C>,
     workers: Vec<Worker<C>>,
 ) -> Result<Vec<Vec<Task<C>>>, AllocError>
@@ -48,7 +48,7 @@ pub(crate) fn dismiss<C: Chains, J: Roster>(
 pub(crate) fn take_rest<C: Chains, G: Gate, J: Roster, R: Wait>(
     rt: &R,
     run: &Run<'_, C, G>,
-    line: &Line<C, J>,
+    line: &SessionQueue<C, J>,
     token: &mut Token<C>,
     hand: &mut Vec<Task<C>>,
 )

@@ -16,7 +16,7 @@ ghost use Rattle.session_pool.specs.Waits.{IsUnused, IsWaiting, number_at, scrip
 use crate::divide::divide;
 use crate::filling::fill;
 use crate::order::{all_tasks, in_order, sessions_in};
-use crate::queue::{Line, Roster};
+use crate::queue::{Roster, SessionQueue};
 use crate::rest::{dismiss, take_rest};
 use crate::serving::{hire, work};
 use crate::waiting::Waiting;
@@ -154,7 +154,7 @@ where
     requires unused { All (IsUnused J.hall) waiting.items }
     ensures { IfOk result (λ v. AreHands run.now.hall.now run.now.scripts.now workers J.numbers v.items) }
 {
-    let (line, mut token) = Line::<C, J>::ruled(alloc, waiting.len())?;
+    let (line, mut token) = SessionQueue::<C, J>::ruled(alloc, waiting.len())?;
     fill(rt, &line, &mut token, waiting);
     let mut workers = hire(alloc, &line, &mut token, workers)?;
     work(rt, run, &line, &mut workers);

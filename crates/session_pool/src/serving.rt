@@ -8,7 +8,7 @@ ghost use Rattle.session_pool.specs.Suits.{Suits};
 ghost use Rattle.session_pool.specs.Tallies.{tally, after_pop};
 ghost use Rattle.session_pool.specs.Workers.{IsHired, IsAtWork};
 
-use crate::queue::{Line, Roster, Token};
+use crate::queue::{Roster, SessionQueue, Token};
 use crate::steps::{Part, Take};
 use crate::worker::Worker;
 use session_server::{Gate, Stops};
@@ -24,7 +24,7 @@ use version_chain::Chains;
 /// So many workers with nothing in their hands. The token gives a part to each.
 pub(crate) fn hire<C: Chains, J: Roster>(
     alloc: Global,
-    line: &Line<C, J>,
+    line: &SessionQueue<C, J>,
     token: &mut Token<C>,
     workers: u8,
 ) -> Result<Vec<Worker<C>>, AllocError>
@@ -47,7 +47,7 @@ pub(crate) fn hire<C: Chains, J: Roster>(
 pub(crate) fn work<C, G, J, R>(
     rt: &R,
     run: &Run<'_, C, G>,
-    line: &Line<C, J>,
+    line: &SessionQueue<C, J>,
     workers: &mut [Worker<C>],
 )
 where
@@ -74,7 +74,7 @@ where
 fn serve<C: Chains, G: Gate, J: Roster, R: Wait>(
     rt: &R,
     run: &Run<'_, C, G>,
-    line: &Line<C, J>,
+    line: &SessionQueue<C, J>,
     worker: &mut Worker<C>,
     stop: &AtomicIn<Stops>,
 )
@@ -101,7 +101,7 @@ fn serve<C: Chains, G: Gate, J: Roster, R: Wait>(
 fn take<C: Chains, G: Gate, J: Roster, R: Wait>(
     rt: &R,
     run: &Run<'_, C, G>,
-    line: &Line<C, J>,
+    line: &SessionQueue<C, J>,
     token: &mut Token<C>,
 ) -> Option<Task<C>>
     requires suits { Suits run.now.hall.now J.numbers J.hall }
