@@ -6,7 +6,7 @@ ghost use Rattle.teb_io.specs.Faults.{Rose};
 ghost use Rattle.command_output.specs.Shown.{events_of, IsShowable};
 ghost use Rattle.output_writer.specs.Endings.{IsWritten};
 
-use crate::Ending;
+use crate::WrittenOutput;
 use command_output::Output;
 use command_output::status::{OUT_OF_MEMORY, WRITE_FAULT};
 use std::alloc::AllocError;
@@ -14,17 +14,22 @@ use teb_history::History;
 use teb_io::{Sink, write_whole};
 
 /// Ends with a status where there is nothing to write and nothing to keep.
-pub fn silent(status: u8) -> Ending
+pub fn silent(status: u8) -> WrittenOutput
     ensures { result ≡ record { status = status; history = None } }
 {
-    Ending {
+    WrittenOutput {
         status,
         history: None,
     }
 }
 
 /// Writes the text, and ends with the status, or, where the text can't be written whole, with that of a write fault.
-pub fn write<K: Sink>(out: &mut K, status: u8, text: &[u8], history: Option<History>) -> Ending
+pub fn write<K: Sink>(
+    out: &mut K,
+    status: u8,
+    text: &[u8],
+    history: Option<History>,
+) -> WrittenOutput
     requires { IsShowable status }
     ensures written { IsWritten (record { status = status; text = text.now; history = events_of history }) result.status result.history (K.written out.old) (K.written out.new) }
     ensures fault { result.status ≡ 4 → Rose (K.faults out.old) (K.faults out.new) }
@@ -34,11 +39,11 @@ pub fn write<K: Sink>(out: &mut K, status: u8, text: &[u8], history: Option<Hist
         Ok(()) => status,
         Err(_) => WRITE_FAULT,
     };
-    Ending { status, history }
+    WrittenOutput { status, history }
 }
 
 /// Writes what a command puts out; nothing where memory is wanting.
-pub fn put_out<K: Sink>(out: &mut K, output: Result<Output, AllocError>) -> Ending
+pub fn put_out<K: Sink>(out: &mut K, output: Result<Output, AllocError>) -> WrittenOutput
     ensures written { MatchResult output (λ o. IsWritten o result.status result.history (K.written out.old) (K.written out.new)) (λ _. result.status ≡ 8) }
     ensures fault { result.status ≡ 4 → Rose (K.faults out.old) (K.faults out.new) }
     ensures silent { result.status ≡ 8 → Keeps (K.written out.old) (K.written out.new) × (result.history ≡ None) }

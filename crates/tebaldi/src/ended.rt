@@ -1,10 +1,10 @@
-//! How a command ends.
+//! How the program ends.
 
 use chain_pool::PooledChains;
 use session_server::{Entries, Pass};
 use teb_history::History;
 
-/// How the program ended.
+/// How the program ended, with all that its run leaves.
 #[derive(Drop)]
 pub struct Ended {
     /// 0, or the number of a fault.

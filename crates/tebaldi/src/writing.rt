@@ -11,16 +11,16 @@ use crate::ended::Ended;
 use command_output::Output;
 use command_output::status::{OUT_OF_MEMORY, PASS_SPENT};
 use hall_runner::Served;
-use output_writer::Ending;
+use output_writer::WrittenOutput;
 use std::alloc::AllocError;
 use teb_history::History;
 use teb_io::Sink;
 
 /// The end of a command that one thread ran.
-fn alone(ending: Ending) -> Ended
-    ensures { result ≡ record { status = ending.status; history = ending.history; entries = None; spent = None } }
+fn alone(output: WrittenOutput) -> Ended
+    ensures { result ≡ record { status = output.status; history = output.history; entries = None; spent = None } }
 {
-    let Ending { status, history } = ending;
+    let WrittenOutput { status, history } = output;
     Ended {
         status,
         history,
@@ -68,7 +68,9 @@ pub fn put_served<K: Sink>(out: &mut K, served: Result<Served, AllocError>) -> E
     match served {
         Ok(Served::Through { output, entries }) => {
             let (status, text, history) = output.into_parts();
-            let Ending { status, history } = output_writer::write(out, status, &text, history);
+            let WrittenOutput { status, history } = output_writer::write(
+                out, status, &text, history,
+            );
             Ended {
                 status,
                 history,
