@@ -50,7 +50,7 @@ pub fn turn_source<S: Source, K: Sink>(alloc: Global, input: &mut S, out: &mut K
 }
 
 /// Reads an input, and serves the script of each session by so many workers.
-pub fn serve_source<R: Threads + Wait + Sync, S: Source, K: Sink, G: Gate + Sync>(
+pub fn threads_source<R: Threads + Wait + Sync, S: Source, K: Sink, G: Gate + Sync>(
     rt: &R,
     alloc: Global,
     workers: u8,

@@ -7,7 +7,8 @@ ghost use Rattle.tebaldi.specs.Endings.{IsRight, IsSilent};
 
 use crate::ended::Ended;
 use crate::source::{
-    audit_source, crash_source, phase_source, pool_source, replay_source, serve_source, turn_source,
+    audit_source, crash_source, phase_source, pool_source, replay_source, threads_source,
+    turn_source,
 };
 use crate::writing::{put_out, write};
 use command_output::status::BAD_WORDS;
@@ -40,7 +41,7 @@ pub fn run_tebaldi<R: Threads + Wait + Sync, S: Source, K: Sink, G: Gate + Sync>
     match command_of(words) {
         Some(Command::Replay) => replay_source(alloc, input, out),
         Some(Command::Turns) => turn_source(alloc, input, out),
-        Some(Command::Threads(workers)) => serve_source(rt, alloc, workers, input, out, gate),
+        Some(Command::Threads(workers)) => threads_source(rt, alloc, workers, input, out, gate),
         Some(Command::Audit) => audit_source(alloc, input, out),
         Some(Command::Load { number, size }) => put_out(out, run_load(alloc, number, size)),
         Some(Command::Crash(stop)) => crash_source(alloc, stop, input, out),

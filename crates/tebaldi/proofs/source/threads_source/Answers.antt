@@ -1,7 +1,7 @@
 use Rattle.std.proofs.Common.{Some}
 use Rattle.command_words.specs.declared.command.Command.TheVariants.{Threads}
 use Rattle.tebaldi.proofs.Rightness.{served_of, threads_refused, refused_of}
-use Rattle.tebaldi.proofs.source.serve_source.Goals as goal
+use Rattle.tebaldi.proofs.source.threads_source.Goals as goal
 
 pub returns-in-Ok-clause-right : goal.returns-in-Ok-clause-right
 returns-in-Ok-clause-right g c = λ nf nm.
