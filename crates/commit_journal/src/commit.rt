@@ -21,6 +21,9 @@ use version_chain::Chains;
 
 /// The bytes of the record that a request would commit; none where it would commit nothing. `left` is how many bytes
 /// of the disk are left.
+///
+/// # Errors
+/// `Full` where fewer bytes are left than a record of all cells that were put takes; `OutOfMemory`.
 pub fn body_of<C: Chains>(
     alloc: Global,
     engine: &Engine<C>,

@@ -7,7 +7,7 @@ use std::alloc::AllocError;
 pub enum CreateError<D> {
     /// The disk failed; it is handed back.
     DiskFault(D),
-    /// Memory was wanting.
+    /// Memory was wanting. It does not come: to make a store of an engine takes no memory.
     OutOfMemory,
 }
 
