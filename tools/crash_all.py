@@ -73,23 +73,24 @@ def differs(program, file, stop):
 
 def main():
     options = argparse.ArgumentParser(description=__doc__, formatter_class=argparse.RawDescriptionHelpFormatter)
-    options.add_argument("--program", default=str(BUILT))
+    options.add_argument("--program", type=pathlib.Path, default=BUILT)
     options.add_argument("files", nargs="*", type=pathlib.Path)
     given = options.parse_args()
+    program = given.program.resolve()
     files = [it.resolve() for it in given.files] or [file for kind in OF_EACH_KIND for file in sorted((TOP / "runs").glob(kind))]
     cases = []
     for file in files:
         data = file.read_bytes()
-        report = reported(given.program, data) if data.count(b"\n") <= MOST_LINES else None
+        report = reported(program, data) if data.count(b"\n") <= MOST_LINES else None
         if report:
             commits = sum(line.endswith(b" committed\n") for line in report[0])
             cases += [(file, stop) for stop in [*range(4 * commits + 5), 2**31 - 1]]
     with concurrent.futures.ThreadPoolExecutor() as pool:
-        wrong = [why for why in pool.map(lambda case: differs(given.program, *case), cases) if why]
+        wrong = [why for why in pool.map(lambda case: differs(program, *case), cases) if why]
     for why in wrong:
-        print(why)
+        print(f"FAILED {why}")
     print(f"crashes: {len(cases) - len(wrong)} passed, {len(wrong)} failed")
-    return 1 if wrong else 0
+    return 1 if wrong or not cases else 0
 
 
 if __name__ == "__main__":

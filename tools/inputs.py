@@ -236,8 +236,31 @@ SET = {
     "scans-uniform": Plan("scans", cells=4_000),
     "shop-uniform": Plan("shop", cells=5_000),
     "shop-hot": Plan("shop", keys="hot", cells=100),
-    **{f"{tree}-old": Plan(tree, "mixed", keys="hot", cells=40, accesses=4, old=2, reads=70) for tree in ("locks", "timestamps", "snapshot", "batches", "snapshot-batches", "ordered", "pipeline", "shop")},
+    "locks-uniform-mixed": Plan("locks", "mixed", cells=20_000),
+    "locks-hot-mixed": Plan("locks", "mixed", keys="hot"),
+    "timestamps-uniform-mixed": Plan("timestamps", "mixed", cells=20_000),
+    "scans-uniform-mixed": Plan("scans", "mixed", cells=4_000),
+    "snapshot-uniform-mixed": Plan("snapshot", "mixed", cells=20_000),
+    "snapshot-batches-skewed-mixed": Plan("snapshot-batches", "mixed", keys="skewed", reads=70),
+    "shop-uniform-mixed": Plan("shop", "mixed", cells=5_000),
+    **{f"{tree}-old": Plan(tree, "mixed", keys="hot", cells=40, accesses=4, old=8, reads=70) for tree in ("locks", "timestamps", "snapshot", "batches", "snapshot-batches", "ordered", "pipeline", "shop")},
     **{f"{tree}-convoy": Plan(tree, "convoy") for tree in ("locks", "ordered", "snapshot", "batches")},
+}
+
+# The inputs of the table in docs/ARCHITECTURE.md, and what it says of them.
+TABLE = {
+    "locks-uniform-mixed": "locks, cells drawn evenly",
+    "locks-hot-mixed": "locks, half of all accesses on four cells",
+    "pipeline-old": "a pipeline, with eight transactions that stay open to the end",
+    "timestamps-uniform-mixed": "a leaf of timestamps",
+    "scans-uniform-mixed": "locks with scans",
+    "snapshot-uniform-mixed": "a leaf of snapshots",
+    "snapshot-batches-skewed-mixed": "a snapshot root with batches over leaves of locks, skewed keys",
+    "snapshot-batches-old": "the same tree, with eight transactions that stay open to the end",
+    "deep-uniform": "eight levels, under a snapshot root",
+    "locks-convoy": "two million replies: 31 sessions wait for one that reads 65,000 times",
+    "shop-old": "a shop (a snapshot root over locks and pipelines), with eight transactions that stay open to the end",
+    "shop-uniform-mixed": "the same tree, where none stays open, with 15,000 starting rows",
 }
 
 

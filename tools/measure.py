@@ -2,12 +2,15 @@
 """What the program takes for large inputs: instructions, by callgrind of valgrind, processor time and peak memory.
 
     tools/measure.py [--program FILE] [--transactions N] [--quick] [NAME..]
+    tools/measure.py --table [--program FILE] [NAME..]     the lines of the table in docs/ARCHITECTURE.md
 
-The inputs are those of tools/inputs.py, all or those whose names have one of the words: in `scripts` by turns, those that are mixed by replay. Of each
+The inputs are those of tools/inputs.py, all or those whose names have one of the words: those that are mixed by replay, all others by turns. Of each
 it measures one of N transactions and one of half as many, so that the last column, how often the instructions of the half go into those of the whole, tells
 how the cost grows: 2 where it is in proportion. --quick leaves out callgrind, and then that column is of the processor time.
+Each run has to end with status 0: where one does not, so does this.
 """
 import argparse
+import contextlib
 import dataclasses
 import pathlib
 import re
@@ -15,8 +18,10 @@ import subprocess
 import sys
 import tempfile
 
-from inputs import SET, made
+from inputs import MOST_TRANSACTIONS, SET, TABLE, made
 from worked_runs import BUILT
+
+LOAD = ["load", "7", "2000"]
 
 
 # Runs a program on a file, and prints its status, its seconds of processor time and its kilobytes at the peak. The peak that the system tells of a
@@ -38,10 +43,61 @@ def used(program, words, file):
 
 
 def instructions(program, words, file):
+    """The status, and how many instructions were executed."""
     with open(file, "rb") as source:
         whole = ["valgrind", "--tool=callgrind", "--callgrind-out-file=/dev/null", program, *words]
         ran = subprocess.run(whole, stdin=source, stdout=subprocess.DEVNULL, stderr=subprocess.PIPE, text=True)
-    return int(re.search(r"Collected : (\d+)", ran.stderr)[1])
+    return ran.returncode, int(re.search(r"Collected : (\d+)", ran.stderr)[1])
+
+
+def words_of(plan):
+    return ["replay" if plan.shape == "mixed" else "turns"]
+
+
+@contextlib.contextmanager
+def stored(plan, transactions):
+    """The input of a plan, of so many transactions at most, in a file."""
+    with tempfile.NamedTemporaryFile("w") as file:
+        file.write(made(dataclasses.replace(plan, transactions=transactions)))
+        file.flush()
+        yield file.name
+
+
+def table(program, is_asked):
+    """Prints the lines of the table, of the largest inputs there are, and answers whether each run ended with status 0."""
+    are_well = True
+    for name, told in TABLE.items():
+        if not is_asked(name):
+            continue
+        words = words_of(SET[name])
+        with stored(SET[name], MOST_TRANSACTIONS) as file:
+            status, count = instructions(program, words, file)
+        are_well &= status == 0
+        print(f"| `{name}`: {told}, `{words[0]}` | {count / 1e6:.0f} |", flush=True)
+    if is_asked("load"):
+        status, count = instructions(program, LOAD, "/dev/null")
+        are_well &= status == 0
+        print(f"| `{' '.join(LOAD)}` | {count / 1e6:.0f} |")
+    return are_well
+
+
+def growth(program, is_asked, transactions, quick):
+    """Prints what each input takes, beside one of half the size, and answers whether each run ended with status 0."""
+    are_well = True
+    print(f"{'input':30}{'words':8}{'lines':>7}{'status':>7}{'seconds':>9}{'MB':>7}{'millions':>10}{'growth':>8}")
+    for name, plan in SET.items():
+        if not is_asked(name):
+            continue
+        words, costs = words_of(plan), []
+        for count in (transactions // 2, transactions):
+            with stored(plan, count) as file:
+                status, seconds, peak = used(program, words, file)
+                lines = pathlib.Path(file).read_bytes().count(b"\n")
+                costs.append(seconds if quick else instructions(program, words, file)[1])
+            are_well &= status == 0
+        millions = "" if quick else f"{costs[1] / 1e6:.0f}"
+        print(f"{name:30}{words[0]:8}{lines:7}{status:7}{seconds:9.2f}{peak:7.0f}{millions:>10}{costs[1] / max(costs[0], 1e-9):8.1f}", flush=True)
+    return are_well
 
 
 def main():
@@ -49,22 +105,16 @@ def main():
     options.add_argument("--program", type=pathlib.Path, default=BUILT)
     options.add_argument("--transactions", type=int, default=4_000)
     options.add_argument("--quick", action="store_true")
+    options.add_argument("--table", action="store_true")
     options.add_argument("names", nargs="*")
     given = options.parse_args()
-    print(f"{'input':26}{'words':8}{'lines':>7}{'status':>7}{'seconds':>9}{'MB':>7}{'millions':>10}{'growth':>8}")
-    for name, plan in SET.items():
-        if given.names and not any(word in name for word in given.names):
-            continue
-        words, costs = ["replay" if plan.shape == "mixed" else "turns"], []
-        for count in (given.transactions // 2, given.transactions):
-            with tempfile.NamedTemporaryFile("w") as file:
-                text = made(dataclasses.replace(plan, transactions=count))
-                file.write(text)
-                file.flush()
-                status, seconds, peak = used(given.program, words, file.name)
-                costs.append(seconds if given.quick else instructions(given.program, words, file.name))
-        millions = "" if given.quick else f"{costs[1] / 1e6:.0f}"
-        print(f"{name:26}{words[0]:8}{text.count(chr(10)):7}{status:7}{seconds:9.2f}{peak:7.0f}{millions:>10}{costs[1] / max(costs[0], 1e-9):8.1f}", flush=True)
+
+    def is_asked(name):
+        return not given.names or any(word in name for word in given.names)
+
+    program = given.program.resolve()
+    are_well = table(program, is_asked) if given.table else growth(program, is_asked, given.transactions, given.quick)
+    return 0 if are_well else 1
 
 
 if __name__ == "__main__":

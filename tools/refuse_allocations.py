@@ -1,11 +1,13 @@
 #!/usr/bin/env python3
 """Refuses each allocation of a program in turn.
 
-    tools/refuse_allocations.py [--first N] PROGRAM WORD.. < INPUT
+    tools/refuse_allocations.py [--program FILE] [--first N] WORD.. < INPUT
 
-With --first N only the first N are refused. A run with a refused allocation has to end with status 8 and nothing written, or as the run without one. A small library, compiled by gcc for each call,
-stands before the allocator of the C library and answers one call by "no memory". The last line is `refused allocations: N passed, M failed`.
+The words are those of the command. With --first N only the first N allocations are refused. A run with a refused allocation has to end with status 8
+and nothing written, or as the run without one. A small library, compiled by gcc for each call, stands before the allocator of the C library and answers
+one call by "no memory". The last line is `refused allocations: N passed, M failed`.
 """
+import argparse
 import concurrent.futures
 import itertools
 import os
@@ -13,6 +15,8 @@ import pathlib
 import subprocess
 import sys
 import tempfile
+
+from worked_runs import BUILT, has_form, shown
 
 OUT_OF_MEMORY = 8
 LIBRARY = r"""
@@ -66,18 +70,21 @@ def ended(command, data, library, number):
 
 
 def main():
-    words, last = sys.argv[1:], None
-    if words[:1] == ["--first"] and len(words) > 2 and words[1].isdigit():
-        last, words = int(words[1]), words[2:]
-    if not words:
-        sys.exit(__doc__)
-    command, data = [os.path.abspath(words[0]), *words[1:]], sys.stdin.buffer.read()
+    options = argparse.ArgumentParser(description=__doc__, formatter_class=argparse.RawDescriptionHelpFormatter)
+    options.add_argument("--program", type=pathlib.Path, default=BUILT)
+    options.add_argument("--first", type=int)
+    options.add_argument("words", nargs="+")
+    given = options.parse_args()
+    command, data = [given.program.resolve(), *given.words], sys.stdin.buffer.read()
     passed, statuses, failed = 0, {}, 0
     with tempfile.TemporaryDirectory() as room, concurrent.futures.ThreadPoolExecutor(len(os.sched_getaffinity(0))) as pool:
         library = compiled(room)
         whole = ended(command, data, library, 0)[:2]
+        if not has_form(*whole):
+            failed += 1
+            print(f"FAILED without a refusal: no text of status {whole[0]}: {shown(whole[1])}")
         for first in itertools.count(1, 64):
-            numbers = [number for number in range(first, first + 64) if last is None or number <= last]
+            numbers = [number for number in range(first, first + 64) if given.first is None or number <= given.first]
             runs = list(pool.map(lambda number: ended(command, data, library, number), numbers))
             for number, (status, text, met) in zip(numbers, runs):
                 if not met:
@@ -91,7 +98,7 @@ def main():
                 break
     print("statuses: " + ", ".join(f"{status} of {count}" for status, count in sorted(statuses.items())))
     print(f"refused allocations: {passed} passed, {failed} failed")
-    return 1 if failed else 0
+    return 1 if failed or not passed else 0
 
 
 if __name__ == "__main__":

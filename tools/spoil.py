@@ -214,31 +214,29 @@ def ran(program, words, text):
 
 
 def main():
-    parser = argparse.ArgumentParser()
-    parser.add_argument("--program", default=str(BUILT))
-    parser.add_argument("--input", default=str(INPUT))
-    parser.add_argument("--run")
-    parser.add_argument("--from", dest="first", type=int, default=0)
-    parser.add_argument("--count", type=int, default=COUNT)
-    parser.add_argument("--show", type=int)
-    args = parser.parse_args()
-    if args.run is not None:
-        text = pathlib.Path(args.run).read_text()
-    else:
-        text, _ = ran(args.program, ["threads", "1"], pathlib.Path(args.input).read_text())
-    if args.show is not None:
-        sys.stdout.write(spoiled(text, args.show))
+    options = argparse.ArgumentParser(description=__doc__, formatter_class=argparse.RawDescriptionHelpFormatter)
+    options.add_argument("--program", type=pathlib.Path, default=BUILT)
+    options.add_argument("--input", type=pathlib.Path, default=INPUT)
+    options.add_argument("--run", type=pathlib.Path)
+    options.add_argument("--from", type=int, default=0, dest="first")
+    options.add_argument("--count", type=int, default=COUNT)
+    options.add_argument("--show", type=int)
+    given = options.parse_args()
+    program = given.program.resolve()
+    text = given.run.read_text() if given.run else ran(program, ["threads", "1"], given.input.read_text())[0]
+    if given.show is not None:
+        sys.stdout.write(spoiled(text, given.show))
         return 0
     texts = {"as it is": text}
-    texts.update({str(n): spoiled(text, n) for n in range(args.first, args.first + args.count)})
+    texts.update({str(number): spoiled(text, number) for number in range(given.first, given.first + given.count)})
     failed = 0
     for name, one in texts.items():
-        wanted, got = answer(one), ran(args.program, ["audit"], one)
+        wanted, got = answer(one), ran(program, ["audit"], one)
         if wanted != got:
             failed += 1
-            print(f"{name}: wanted {wanted}, got {got}")
+            print(f"FAILED {name}: wanted {wanted}, got {got}")
     print(f"spoil: {len(texts) - failed} passed, {failed} failed")
-    return int(failed > 0)
+    return 1 if failed else 0
 
 
 if __name__ == "__main__":

@@ -49,7 +49,6 @@ FORMS = {
     6: rb"bad tree: %s" % LINE,
     7: rb"bad script: line \d+ (?:session|verb|count|name|number)\n",
     8: rb"",
-    9: rb"not built\n",
     10: rb"",
     11: rb"audit no line \d+ %s" % LINE,
     12: rb"bad phase: \d+ %s" % LINE,
