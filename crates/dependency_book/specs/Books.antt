@@ -16,7 +16,8 @@ use Rattle.hold_book.specs.Books.{Held, shown}
 use Rattle.hold_book.specs.Holders.{holders_in}
 use Rattle.hold_book.specs.Orderly.{Orderly}
 
--- who read and who put which cell; whom each transaction read from, in the order in which they began; who is unfinished; whether it is kept who holds which cell; and who does, where it is kept
+-- who read and who put which cell; whom each transaction read from, in the order in which they began; who is unfinished; whether it is kept
+-- who holds which cell; and who does, where it is kept
 pub record Lists : Type 0 where
   pub readers : List (Cell × (Txn × Txn))
   pub writers : List (Cell × Txn)

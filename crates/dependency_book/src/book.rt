@@ -73,10 +73,10 @@ impl Book {
     /// Notes the newest event of the history. Of a Put is told whether its transaction has put the cell before. It takes one place of
     /// the room at most, and keeps of holders what it kept.
     ///
-    /// A read or a put costs a look-up of its cell. An abort costs look-ups for each access of its
-    /// transaction, and goes through what was read or put in the same cells since; where its transaction put a cell again, through all
-    /// that put it. A commit and an abort cost a binary search among the unfinished, and a move of those behind. Where holders are kept, a
-    /// read or a put also costs a search by its cell, and a commit or an abort one for each access.
+    /// A read or a put costs a look-up of its cell; whom a transaction read from is found by its number alone. An abort costs look-ups for
+    /// each access of its transaction, and goes through what was read or put in the same cells since; where its transaction put a cell
+    /// again, through all that put it. A commit and an abort cost a binary search among the unfinished, and a move of those behind. Where
+    /// holders are kept, a read or a put also costs a search by its cell, and a commit or an abort one for each access.
     pub fn note(&mut self, history: &History, e: Event, again: bool)
         requires { 0 < self.old.spare }
         ensures spare { self.old.spare ≤ self.new.spare + 1 }
