@@ -34,7 +34,7 @@ class Plan:
     tree: str = "locks"
     shape: str = "scripts"
     keys: str = "uniform"  # uniform, hot (half of all accesses go to four keys), skewed, or own (each session has its own)
-    transactions: int = 8_000
+    transactions: int = MOST_TRANSACTIONS
     sessions: int = 32
     cells: int = 1_000
     accesses: int = 6

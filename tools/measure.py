@@ -18,7 +18,7 @@ import subprocess
 import sys
 import tempfile
 
-from inputs import MOST_TRANSACTIONS, SET, TABLE, made
+from inputs import SET, TABLE, made
 from worked_runs import BUILT
 
 LOAD = ["load", "7", "2000"]
@@ -55,22 +55,22 @@ def words_of(plan):
 
 
 @contextlib.contextmanager
-def stored(plan, transactions):
-    """The input of a plan, of so many transactions at most, in a file."""
+def stored(plan):
+    """The input of a plan, in a file."""
     with tempfile.NamedTemporaryFile("w") as file:
-        file.write(made(dataclasses.replace(plan, transactions=transactions)))
+        file.write(made(plan))
         file.flush()
         yield file.name
 
 
 def table(program, is_asked):
-    """Prints the lines of the table, of the largest inputs there are, and answers whether each run ended with status 0."""
+    """Prints the lines of the table, and answers whether each run ended with status 0."""
     are_well = True
     for name, told in TABLE.items():
         if not is_asked(name):
             continue
         words = words_of(SET[name])
-        with stored(SET[name], MOST_TRANSACTIONS) as file:
+        with stored(SET[name]) as file:
             status, count = instructions(program, words, file)
         are_well &= status == 0
         print(f"| `{name}`: {told}, `{words[0]}` | {count / 1e6:.0f} |", flush=True)
@@ -90,7 +90,7 @@ def growth(program, is_asked, transactions, quick):
             continue
         words, costs = words_of(plan), []
         for count in (transactions // 2, transactions):
-            with stored(plan, count) as file:
+            with stored(dataclasses.replace(plan, transactions=count)) as file:
                 status, seconds, peak = used(program, words, file)
                 lines = pathlib.Path(file).read_bytes().count(b"\n")
                 costs.append(seconds if quick else instructions(program, words, file)[1])
