@@ -6,6 +6,7 @@ ghost use Rattle.std.specs.Prelude.{ℕ, ◌≡◌, ◌<◌, ◌≤◌, ◌+◌,
 ghost use Rattle.arena_multimap.specs.Arenas.{list_at, lists, segment_at, IsArena, HasRoom, HasRoomFor};
 
 use std::alloc::{AllocError, Global};
+use vec_room::make_wide_room;
 
 /// For how many values room is made at the least, so that not every `reserve` takes memory.
 pub(crate) const AHEAD: usize = 64;
@@ -63,8 +64,8 @@ impl<V: Copy> Arena<V> {
     {
         let places = n.checked_mul(SHARE).ok_or(AllocError)?;
         let places = places.checked_add(self.debt).ok_or(AllocError)?;
-        self.values.reserve(places)?;
-        self.segments.reserve(n)
+        make_wide_room(&mut self.values, places)?;
+        make_wide_room(&mut self.segments, n)
     }
 
     /// How many lists there are.
@@ -100,6 +101,7 @@ impl<V: Copy> Arena<V> {
     }
 
     /// Puts a value behind those of a list, or into the next new one.
+    #[inline(always)]
     pub(crate) fn push(&mut self, i: usize, value: V)
         requires sound { IsArena self.old }
         requires within { i ≤ lists self.old }
@@ -126,6 +128,7 @@ impl<V: Copy> Arena<V> {
     }
 
     // Gives a list with no place its first ones, and its first value.
+    #[inline(always)]
     fn open(&mut self, i: usize, value: V)
         requires sound { IsArena self.old }
         requires within { i < lists self.old }
@@ -195,6 +198,7 @@ impl<V: Copy> Arena<V> {
     }
 
     /// Puts a value among those of a list, or into the next new one.
+    #[inline(always)]
     pub(crate) fn insert(&mut self, i: usize, at: usize, value: V)
         requires sound { IsArena self.old }
         requires within { i ≤ lists self.old }

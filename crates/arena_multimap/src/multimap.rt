@@ -80,6 +80,7 @@ impl<K: Ord + Copy + Hash + Drop, V: Copy> ArenaMultimap<K, V> {
     }
 
     /// The values of a key, in their order.
+    #[inline(always)]
     pub fn list(&self, key: K) -> &[V]
         ensures { result.now ≡ values_in K.cmp self.now key }
     {
@@ -128,6 +129,7 @@ fn place_of<K: Ord + Copy + Hash + Drop>(keys: &IndexSet<K>, key: K) -> usize
 }
 
 /// The place of a key, which becomes the last where it is none.
+#[inline(always)]
 fn place_for<K: Ord + Copy + Hash + Drop>(keys: &mut IndexSet<K>, key: K) -> usize
     requires { 0 < set_spare keys.old }
     ensures place { result ≡ spec_place_of K.eq keys.old.keys key }
@@ -142,6 +144,7 @@ fn place_for<K: Ord + Copy + Hash + Drop>(keys: &mut IndexSet<K>, key: K) -> usi
 }
 
 /// A key whose place is known becomes the last, where it is none.
+#[inline(always)]
 fn add_key<K: Ord + Copy + Hash + Drop>(keys: &mut IndexSet<K>, place: usize, key: K)
     requires room { 0 < set_spare keys.old }
     requires unique { IsUnique K.eq keys.old }

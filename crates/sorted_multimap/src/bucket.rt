@@ -10,7 +10,7 @@ ghost use Rattle.sorted_multimap.specs.Places.{IsRun, HasNoRun};
 
 use std::alloc::{AllocError, Global};
 use std::cmp::Ordering;
-use vec_room::put_in;
+use vec_room::{make_room, put_in, take_out};
 
 /// For how many more items than are asked for a bucket makes room, so that the first of them do not make it move.
 const SPARE: usize = 16;
@@ -51,12 +51,13 @@ impl<K: Ord + Copy, V: Copy> Bucket<K, V> {
         ensures kept { IsKept K.cmp self.old self.new }
         ensures room { OnOk result (HasRoom self.new n) }
     {
-        make_room(&mut self.runs, n)?;
-        make_room(&mut self.values, n)?;
+        make_room(&mut self.runs, n, SPARE)?;
+        make_room(&mut self.values, n, SPARE)?;
         Ok(())
     }
 
     /// The values of a key, in their order.
+    #[inline(always)]
     pub(crate) fn list(&self, key: K) -> &[V]
         requires { IsSorted K.cmp self.now }
         ensures { result.now ≡ bucket_values K.cmp self.now key }
@@ -184,7 +185,7 @@ impl<K: Ord + Copy, V: Copy> Bucket<K, V> {
         let (start, end) = self.range_of(run);
         cut(&mut self.values, start, end);
         lower(&mut self.runs, run, end - start);
-        self.runs.remove(run);
+        take_out(&mut self.runs, run);
     }
 
     // Replaces the value at a place.
@@ -213,26 +214,12 @@ impl<K: Ord + Copy, V: Copy> Bucket<K, V> {
             self.runs.clear();
             return;
         }
-        self.values.remove(at);
+        take_out(&mut self.values, at);
         lower(&mut self.runs, run, 1);
         if self.runs[run].end == start_of(&self.runs, run) {
-            self.runs.remove(run);
+            take_out(&mut self.runs, run);
         }
     }
-}
-
-/// Makes room for n more items, and some more where there is less. It costs a comparison where there is room.
-#[inline(always)]
-fn make_room<T>(items: &mut Vec<T>, n: usize) -> Result<(), AllocError>
-    ensures items { items.new.items ≡ items.old.items }
-    ensures len { vec_len items.new ≡ vec_len items.old }
-    ensures room { OnOk result (vec_len items.new + n ≤ vec_capacity items.new) }
-    ensures kept { vec_capacity items.old ≤ vec_capacity items.new }
-{
-    if n <= items.capacity() - items.len() {
-        return Ok(());
-    }
-    items.reserve(n.saturating_add(SPARE))
 }
 
 /// Takes a range out of a vector. What stands behind it moves down.

@@ -107,6 +107,7 @@ impl<K: Key, V: Copy> Multimap<K, V> {
     }
 
     /// The values of a key, in their order.
+    #[inline(always)]
     pub fn list(&self, key: K) -> &[V]
         ensures { result.now ≡ values_in K.cmp self.now key }
     {

@@ -1,9 +1,38 @@
-//! Edits of vectors that have room.
+//! Room in vectors, and edits at a place, for places that are mostly the end or near it.
 #![tactic(auto)]
 
-ghost use Rattle.std.specs.Prelude.{◌≡◌, ◌<◌, ◌≤◌, ◌+◌, insert, vec_len, vec_capacity};
+ghost use Rattle.std.specs.Prelude.{◌≡◌, ◌<◌, ◌≤◌, ◌+◌, insert, remove, vec_len, vec_capacity, OnOk};
+
+use std::alloc::AllocError;
+
+/// Makes room for n more values, and for `more` beyond them where there is less. It costs a comparison where there is room.
+#[inline(always)]
+pub fn make_room<T>(v: &mut Vec<T>, n: usize, more: usize) -> Result<(), AllocError>
+    ensures items { v.new.items ≡ v.old.items }
+    ensures len { vec_len v.new ≡ vec_len v.old }
+    ensures room { OnOk result (vec_len v.new + n ≤ vec_capacity v.new) }
+    ensures kept { vec_capacity v.old ≤ vec_capacity v.new }
+{
+    if n <= v.capacity() - v.len() {
+        return Ok(());
+    }
+    v.reserve(n.saturating_add(more))
+}
+
+/// Makes room for n more values, and for three times as many as there are where there is less, so that a vector that grows for long seldom
+/// moves. Room that is never written costs no memory.
+pub fn make_wide_room<T>(v: &mut Vec<T>, n: usize) -> Result<(), AllocError>
+    ensures items { v.new.items ≡ v.old.items }
+    ensures len { vec_len v.new ≡ vec_len v.old }
+    ensures room { OnOk result (vec_len v.new + n ≤ vec_capacity v.new) }
+    ensures kept { vec_capacity v.old ≤ vec_capacity v.new }
+{
+    let more = v.len().saturating_mul(3);
+    make_room(v, n, more)
+}
 
 /// Puts a value in at a place of a vector that has room. What stands behind the place moves up by one, in one move of memory.
+#[inline(always)]
 pub fn put_in<T: Copy>(v: &mut Vec<T>, i: usize, x: T)
     requires within { i ≤ vec_len v.old }
     requires room { vec_len v.old < vec_capacity v.old }
@@ -12,8 +41,19 @@ pub fn put_in<T: Copy>(v: &mut Vec<T>, i: usize, x: T)
     ensures capacity { vec_capacity v.old ≤ vec_capacity v.new }
 {
     if i == v.len() {
-        let _ = v.push(x);
+        v.push_reserved(x);
     } else {
         let _ = v.insert(i, x);
     }
+}
+
+/// Takes out the value at a place. Those behind it are copied in a plain loop, which costs less than `Vec::remove` where they are few.
+pub fn take_out<T: Copy>(v: &mut Vec<T>, i: usize)
+    requires within { i < vec_len v.old }
+    ensures items { v.new.items ≡ remove v.old.items i }
+    ensures len { vec_len v.new + 1 ≡ vec_len v.old }
+    ensures capacity { vec_capacity v.new ≡ vec_capacity v.old }
+{
+    v.copy_within(i + 1.., i);
+    v.pop();
 }

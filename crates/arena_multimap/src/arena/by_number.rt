@@ -10,6 +10,7 @@ use sorted_multimap::{Numbered, find_number};
 
 impl<V: Numbered> Arena<V> {
     /// Puts a value among those of a list, or into the next new one, instead of the one that has its number. Whether there was none.
+    #[inline(always)]
     pub(crate) fn put_by_number(&mut self, i: usize, value: V) -> bool
         requires sound { IsArena self.old }
         requires within { i ≤ lists self.old }

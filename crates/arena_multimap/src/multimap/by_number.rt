@@ -13,6 +13,7 @@ use std::hash::Hash;
 impl<K: Ord + Copy + Hash + Drop, V: Numbered> ArenaMultimap<K, V> {
     /// Puts a value among those of a key, which ascend by number, instead of the one that has its number. Whether there was none; then it
     /// takes one place of the room.
+    #[inline(always)]
     pub fn put_by_number(&mut self, key: K, value: V) -> bool
         requires room { 0 < self.old.spare }
         requires ascending { IsAscendingBy V.numbered_by (values_in K.cmp self.old key) }

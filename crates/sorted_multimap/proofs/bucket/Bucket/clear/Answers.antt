@@ -34,10 +34,10 @@ returns-clause-sorted g c =
     let m = c.range_of-start.result.1 - c.range_of-start.result.0 in
     let low : c.lower.new.runs ≡ lowered m i p.runs.items = c.lower.ensures ∙ ap (lowered m i) c.deref_mut.ensures.value in
     let long : length c.lower.new.runs ≡ vec_len p.runs = omega (arith, ap length low, length_lowered m i p.runs.items, p.runs.ok.0) in
-    let runs : c.remove.new.self.items ≡ remove (lowered m i p.runs.items) i = c.remove.ensures.items ∙ ap (λ (l : List (Run _)). remove l i) (with_items_is p.runs c.lower.new.runs long ∙ low) in
+    let runs : c.take_out.new.v.items ≡ remove (lowered m i p.runs.items) i = c.take_out.ensures.items ∙ ap (λ (l : List (Run _)). remove l i) (with_items_is p.runs c.lower.new.runs long ∙ low) in
     let count : start_at 0 p.runs.items i + m ≡ start_at 0 p.runs.items (suc i) = omega (arith, c.range_of-start.ensures.start, c.range_of-start.ensures.end, c.range_of-start.ensures.order) in
     let left : n - m ≡ vec_len c.cut.new.v = omega (arith, c.cut.ensures.len, c.range_of-start.ensures.order) in
-    record { runs = subst (λ (l : ℕ). AreRuns R 0 c.remove.new.self.items l) left (subst (λ (l : List (Run _)). AreRuns R 0 l (n - m)) (sym runs) (cleared_runs R g.met.K.Ord.total p.runs.items n i m c.requires.runs c.in-Ok.ensures.within count)) }
+    record { runs = subst (λ (l : ℕ). AreRuns R 0 c.take_out.new.v.items l) left (subst (λ (l : List (Run _)). AreRuns R 0 l (n - m)) (sym runs) (cleared_runs R g.met.K.Ord.total p.runs.items n i m c.requires.runs c.in-Ok.ensures.within count)) }
 
 pub returns-clause-values : goal.returns-clause-values
 returns-clause-values g c q =
@@ -52,10 +52,10 @@ returns-clause-values g c q =
     let m = end - start in
     let low : c.lower.new.runs ≡ lowered m i p.runs.items = c.lower.ensures ∙ ap (lowered m i) c.deref_mut.ensures.value in
     let long : length c.lower.new.runs ≡ vec_len p.runs = omega (arith, ap length low, length_lowered m i p.runs.items, p.runs.ok.0) in
-    let runs : c.remove.new.self.items ≡ remove (lowered m i p.runs.items) i = c.remove.ensures.items ∙ ap (λ (l : List (Run _)). remove l i) (with_items_is p.runs c.lower.new.runs long ∙ low) in
+    let runs : c.take_out.new.v.items ≡ remove (lowered m i p.runs.items) i = c.take_out.ensures.items ∙ ap (λ (l : List (Run _)). remove l i) (with_items_is p.runs c.lower.new.runs long ∙ low) in
     let first : start ≡ lows R (keys_of p) k = c.range_of-start.ensures.start ∙ sym (held_start R total p.runs.items n i k c.requires.runs c.in-Ok.ensures.held) in
     let last : end ≡ tops R (keys_of p) k = c.range_of-start.ensures.end ∙ sym (held_end R total p.runs.items n i k c.requires.runs c.in-Ok.ensures.held) in
-    let keys : spread_keys 0 c.remove.new.self.items ≡ remove_range (keys_of p) start end = ap (spread_keys 0) runs ∙ cleared_spread R total p.runs.items n i m start end c.requires.runs c.in-Ok.ensures.within c.range_of-start.ensures.start c.range_of-start.ensures.end (omega (arith, c.range_of-start.ensures.order)) in
+    let keys : spread_keys 0 c.take_out.new.v.items ≡ remove_range (keys_of p) start end = ap (spread_keys 0) runs ∙ cleared_spread R total p.runs.items n i m start end c.requires.runs c.in-Ok.ensures.within c.range_of-start.ensures.start c.range_of-start.ensures.end (omega (arith, c.range_of-start.ensures.order)) in
     (λ j. values_beside R (keys j) (c.cut.ensures.items j) q)
     ∙ (λ j. values_beside R (remove_range (keys_of p) (first j) (last j)) (remove_range p.values.items (first j) (last j)) q)
     ∙ values_cut R total (keys_of p) p.values.items k q (bucket_ascends R total p c.requires) (bucket_paired R total p c.requires)

@@ -9,8 +9,8 @@ use Rattle.sorted_multimap.proofs.RunEdits.{lowered_runs, taken_keys, emptied_ru
 use Rattle.sorted_multimap.proofs.SortedEntries.{values_remove}
 use Rattle.sorted_multimap.proofs.bucket.Bucket.take_at.Goals as goal
 
-pub remove-requires : goal.remove-requires
-remove-requires g c =
+pub take_out-requires : goal.take_out-requires
+take_out-requires g c =
     let p = c.args.self.now in
     omega (arith, c.requires.top, start_most g.K.Ord.cmp g.met.K.Ord.total 0 p.runs.items (vec_len p.values) (suc c.args.run) c.requires.sorted.runs)
 
@@ -54,7 +54,7 @@ returns-then-index-start_of-clause-sorted g c =
     let inside : i < length rs = omega (arith, ap length same, length_lowered 1 i p.runs.items, c.requires.within) in
     let d = c.index.result.now in
     let empty : start_at 0 rs (suc i) ≡ start_at 0 rs i = sym (end_is 0 rs i d inside) ∙ sym (ap (λ (r : Run _). r.end) c.index.ensures) ∙ c.if-index-start_of.true ∙ c.start_of.ensures ∙ ap (λ (l : List (Run _)). start_at 0 l i) c.deref.ensures.value in
-    record { runs = subst (λ (m : ℕ). AreRuns R 0 c.remove-then-index-start_of.new.self.items m) (omega (arith, c.remove.ensures.len)) (subst (λ (l : List (Run _)). AreRuns R 0 l (n - 1)) (sym c.remove-then-index-start_of.ensures.items) (emptied_runs R total 0 rs (n - 1) i runs inside empty)) }
+    record { runs = subst (λ (m : ℕ). AreRuns R 0 c.take_out-then-index-start_of.new.v.items m) (omega (arith, c.take_out.ensures.len)) (subst (λ (l : List (Run _)). AreRuns R 0 l (n - 1)) (sym c.take_out-then-index-start_of.ensures.items) (emptied_runs R total 0 rs (n - 1) i runs inside empty)) }
 
 pub returns-then-index-start_of-clause-values : goal.returns-then-index-start_of-clause-values
 returns-then-index-start_of-clause-values g c key h at lt q =
@@ -70,8 +70,8 @@ returns-then-index-start_of-clause-values g c key h at lt q =
     let inside : i < length rs = omega (arith, ap length same, length_lowered 1 i p.runs.items, c.requires.within) in
     let d = c.index.result.now in
     let empty : start_at 0 rs (suc i) ≡ start_at 0 rs i = sym (end_is 0 rs i d inside) ∙ sym (ap (λ (r : Run _). r.end) c.index.ensures) ∙ c.if-index-start_of.true ∙ c.start_of.ensures ∙ ap (λ (l : List (Run _)). start_at 0 l i) c.deref.ensures.value in
-    let keys : spread_keys 0 c.remove-then-index-start_of.new.self.items ≡ remove (keys_of p) c.args.at = ap (spread_keys 0) c.remove-then-index-start_of.ensures.items ∙ emptied_keys 0 rs i inside empty ∙ ap (spread_keys 0) same ∙ taken_keys R total 0 p.runs.items n i c.args.at c.args.at c.requires.sorted.runs c.requires.within c.requires.low c.requires.top (omega arith) in
-    (λ j. values_beside R (keys j) (c.remove.ensures.items j) q)
+    let keys : spread_keys 0 c.take_out-then-index-start_of.new.v.items ≡ remove (keys_of p) c.args.at = ap (spread_keys 0) c.take_out-then-index-start_of.ensures.items ∙ emptied_keys 0 rs i inside empty ∙ ap (spread_keys 0) same ∙ taken_keys R total 0 p.runs.items n i c.args.at c.args.at c.requires.sorted.runs c.requires.within c.requires.low c.requires.top (omega arith) in
+    (λ j. values_beside R (keys j) (c.take_out.ensures.items j) q)
     ∙ values_remove R total (keys_of p) p.values.items c.args.at h key (bucket_ascends R total p c.requires.sorted) (bucket_paired R total p c.requires.sorted) at lt q
 
 pub returns-else-index-start_of-clause-sorted : goal.returns-else-index-start_of-clause-sorted
@@ -86,7 +86,7 @@ returns-else-index-start_of-clause-sorted g c =
     let long : length c.lower.new.runs ≡ vec_len p.runs = omega (arith, ap length low, length_lowered 1 i p.runs.items, p.runs.ok.0) in
     let same : rs ≡ lowered 1 i p.runs.items = with_items_is p.runs c.lower.new.runs long ∙ low in
     let runs : AreRuns R 0 rs (n - 1) = subst (λ (l : List (Run _)). AreRuns R 0 l (n - 1)) (sym same) (lowered_runs R total 0 p.runs.items n i 1 c.requires.sorted.runs c.requires.within (omega (arith, c.requires.low, c.requires.top))) in
-    record { runs = subst (λ (m : ℕ). AreRuns R 0 rs m) (omega (arith, c.remove.ensures.len)) runs }
+    record { runs = subst (λ (m : ℕ). AreRuns R 0 rs m) (omega (arith, c.take_out.ensures.len)) runs }
 
 pub returns-else-index-start_of-clause-values : goal.returns-else-index-start_of-clause-values
 returns-else-index-start_of-clause-values g c key h at lt q =
@@ -100,5 +100,5 @@ returns-else-index-start_of-clause-values g c key h at lt q =
     let long : length c.lower.new.runs ≡ vec_len p.runs = omega (arith, ap length low, length_lowered 1 i p.runs.items, p.runs.ok.0) in
     let same : rs ≡ lowered 1 i p.runs.items = with_items_is p.runs c.lower.new.runs long ∙ low in
     let keys : spread_keys 0 rs ≡ remove (keys_of p) c.args.at = ap (spread_keys 0) same ∙ taken_keys R total 0 p.runs.items n i c.args.at c.args.at c.requires.sorted.runs c.requires.within c.requires.low c.requires.top (omega arith) in
-    (λ j. values_beside R (keys j) (c.remove.ensures.items j) q)
+    (λ j. values_beside R (keys j) (c.take_out.ensures.items j) q)
     ∙ values_remove R total (keys_of p) p.values.items c.args.at h key (bucket_ascends R total p c.requires.sorted) (bucket_paired R total p c.requires.sorted) at lt q
