@@ -77,6 +77,7 @@ impl Book {
     /// each access of its transaction, and goes through what was read or put in the same cells since; where its transaction put a cell
     /// again, through all that put it. A commit and an abort cost a binary search among the unfinished, and a move of those behind. Where
     /// holders are kept, a read or a put also costs a search by its cell, and a commit or an abort one for each access.
+    #[inline(always)]
     pub fn note(&mut self, history: &History, e: Event, again: bool)
         requires { 0 < self.old.spare }
         ensures spare { self.old.spare ≤ self.new.spare + 1 }
@@ -119,6 +120,7 @@ impl Book {
     }
 
     /// Who holds a cell, in ascending number: the unfinished transactions that have accessed it. Nobody where holders are not kept.
+    #[inline(always)]
     pub fn holders(&self, cell: Cell) -> &[Hold]
         ensures { result.now ≡ holders_of self.now.lists cell }
     {

@@ -59,6 +59,7 @@ impl Registers {
     }
 
     /// Notes the newest event of the history. Of a Put is told whether its transaction has put the cell before.
+    #[inline(always)]
     pub(crate) fn note(&mut self, history: &History, e: Event, again: bool)
         requires ascending { SourcesAscend self.old.sources.lists }
         requires room { HasRooms self.old 1 }

@@ -86,6 +86,7 @@ impl Control for AnyControl {
         }
     }
 
+    #[inline(always)]
     fn note(&mut self, facts: &Facts, holders: &[Hold], e: Event) {
         match self {
             AnyControl::Locks(c) => c.note(facts, holders, e),
@@ -104,6 +105,7 @@ impl Control for AnyControl {
         }
     }
 
+    #[inline(always)]
     fn before_read(&self, facts: &Facts, holders: &[Hold], t: Txn, cell: Cell) -> Verdict {
         match self {
             AnyControl::Locks(c) => c.before_read(facts, holders, t, cell),

@@ -44,6 +44,34 @@ pub fn append_event<K: Control, C: Chains>(
     ensures room { HasRoom K.spare C.spare state.new }
     ensures left { state.old.room ≡ state.new.room + 1 }
 {
+    // Each arm has a copy of `append` in which the kind of the event is known.
+    match event {
+        Event::Began { .. } => append(state, event, place),
+        Event::Got { .. } => append(state, event, place),
+        Event::Put { .. } => append(state, event, place),
+        Event::Ready(_) => append(state, event, place),
+        Event::Done(_) => append(state, event, place),
+        Event::Gone { .. } => append(state, event, place),
+        Event::Told(_) => append(state, event, place),
+    }
+}
+
+/// The work of `append_event`, copied for each kind of event.
+#[inline(always)]
+fn append<K: Control, C: Chains>(state: &mut EngineState<K, C>, event: Event, place: Place)
+    requires whole { StateIsWhole K.node_number K.stands C.lists state.old }
+    requires granted { Granted (store_of state.old.setup).setup state.old.history.events event }
+    requires begins { MayBegin (store_of state.old.setup).setup state.old.history.events event }
+    requires place { HasPlace (C.lists state.old.chains) event place }
+    requires order { PutsAt (store_of state.old.setup).setup state.old.history.events (C.lists state.old.chains) event place }
+    requires room { HasRoom K.spare C.spare state.old }
+    requires some { 0 < state.old.room }
+    ensures whole { StateIsWhole K.node_number K.stands C.lists state.new }
+    ensures events { state.new.history.events ≡ event ∷ state.old.history.events }
+    ensures setup { state.new.setup ≡ state.old.setup }
+    ensures room { HasRoom K.spare C.spare state.new }
+    ensures left { state.old.room ≡ state.new.room + 1 }
+{
     state.history.push(event);
     state.book.note(&state.history, event, place.is_there);
     let holders = holders_of(&state.book, state.has_pipelines, event);
@@ -62,6 +90,7 @@ pub fn append_event<K: Control, C: Chains>(
 
 /// The holders of the cell that an event accesses, the one that accesses it among them; nobody where it accesses none, and where no
 /// node is a pipeline.
+#[inline(always)]
 fn holders_of(book: &Book, has_pipelines: bool, event: Event) -> &[Hold]
     ensures { (S : Rules) (H : List Event) → BookOf book.now.lists H → AreKept S.tree book.now.lists.keeps_holders → ArePipelinesKnown S.tree has_pipelines → (n : ℕ) → ComeHolders S H n event result.now }
 {
@@ -76,6 +105,7 @@ fn holders_of(book: &Book, has_pipelines: bool, event: Event) -> &[Hold]
 }
 
 /// The cursors after the newest event.
+#[inline(always)]
 fn move_cursors(cursors: &mut Cursors, history: &History, setup: &Setup, event: Event)
     requires newest { history.now.events ≡ event ∷ drop 1 history.now.events }
     requires lawful { Lawful (store_of setup.now).setup history.now.events }

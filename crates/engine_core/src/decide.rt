@@ -22,7 +22,8 @@ use version_chain::Chains;
 
 const SESSIONS: u8 = 32;
 
-const MOST_TXNS: u32 = 8192;
+/// How many transactions begin at most.
+pub(crate) const MOST_TXNS: u32 = 8192;
 
 /// What a request of a session is answered.
 pub fn decide<K: Control, C: Chains>(

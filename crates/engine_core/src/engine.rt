@@ -18,6 +18,7 @@ ghost use Rattle.engine_core.specs.EngineModel.{IsEngine, IsOfEngine};
 
 use crate::any_control::{AnyControl, controls_of};
 use crate::carry_out::{scan, write};
+use crate::decide::MOST_TXNS;
 use crate::decision::Decision;
 use crate::engine_state::{EngineState, facts_of};
 use crate::latest_txns::LatestTxns;
@@ -79,6 +80,7 @@ impl<C: Chains> Engine<C> {
     }
 
     /// Makes room for the events of one answer. An `Err` leaves all as it was.
+    #[inline(always)]
     pub fn ready(&mut self) -> Result<(), AllocError>
         ensures store { self.new.store ≡ self.old.store }
         ensures names { self.new.names ≡ self.old.names }
@@ -94,16 +96,18 @@ impl<C: Chains> Engine<C> {
         Ok(())
     }
 
-    /// Makes room for so many events in the list of events itself, so that it need not move as they come: of use to who knows how many requests
-    /// follow. Registers that are searched by hash are left to grow, since they cost time when they are larger than what they hold. `ready` still
-    /// has to make the room for each answer. An `Err` leaves all as it was, but for that room.
+    /// Makes room for so many events in the list of events itself, and for the transactions that they may be of in what is kept of each, so
+    /// that neither need move as they come: of use to who knows how many requests follow. Registers that are searched by hash are left to
+    /// grow, since they cost time when they are larger than what they hold. `ready` still has to make the room for each answer. An `Err`
+    /// leaves all as it was, but for that room.
     pub fn reserve_ahead(&mut self, events: usize) -> Result<(), AllocError>
         ensures store { self.new.store ≡ self.old.store }
         ensures names { self.new.names ≡ self.old.names }
         ensures events { self.new.events ≡ self.old.events }
         ensures ready { self.new.ready ≡ self.old.ready }
     {
-        self.state.history.reserve_ahead(events)
+        let txns = events.min(MOST_TXNS as usize);
+        self.state.history.reserve_ahead(events, txns)
     }
 
     /// Answers a request. It uses up the room, and takes no memory.

@@ -21,6 +21,7 @@ use version_chain::Chains;
 
 /// The versions after an event: a Put gives its transaction's version the value, at the place, and an abort takes
 /// away all versions of its transaction.
+#[inline(always)]
 pub fn keep_versions<C: Chains>(chains: &mut C, event: Event, place: Place)
     requires room { 0 < C.spare chains.old }
     requires place { HasPlace (C.lists chains.old) event place }
@@ -41,6 +42,7 @@ pub fn keep_versions<C: Chains>(chains: &mut C, event: Event, place: Place)
 }
 
 /// The cursors after the newest event: a transaction that begins stands at step 0, and an access moves its transaction.
+#[inline(always)]
 pub fn keep_cursors(cursors: &mut Cursors, facts: &Facts, event: Event)
     requires newest { events_of facts.now ≡ event ∷ drop 1 (events_of facts.now) }
     requires lawful { Lawful (setup_of facts.now) (events_of facts.now) }
@@ -59,6 +61,7 @@ pub fn keep_cursors(cursors: &mut Cursors, facts: &Facts, event: Event)
 }
 
 /// An access of a cell moves a transaction that was unfinished before it.
+#[inline(always)]
 fn move_cursor(cursors: &mut Cursors, facts: &Facts, t: Txn, cell: Cell)
     requires typed { IsTyped facts.now t.0 }
     requires profiled { length (setup_of facts.now).profiles ≡ (setup_of facts.now).types }

@@ -42,6 +42,7 @@ impl LatestTxns {
     }
 
     /// An event is noted.
+    #[inline(always)]
     pub fn note(&mut self, event: Event)
         ensures { (H : List Event) → AreLatest self.old H → AreLatest self.new (event ∷ H) }
     {

@@ -16,6 +16,7 @@ use teb_history::{Event, History};
 use tree_toml::Setup;
 
 /// The control of each node notes the newest event. With an access come the holders of its cell, where some node is a pipeline.
+#[inline(always)]
 pub fn note_each<K: Control>(
     controls: &mut Vec<K>,
     history: &History,

@@ -16,6 +16,7 @@ const MOST_EVENTS: usize = 32;
 const AHEAD: usize = 256;
 
 /// Makes room for one answer, where there is less. All stands for what it stood for, also after an `Err`.
+#[inline(always)]
 pub fn make_room<K: Control, C: Chains>(state: &mut EngineState<K, C>) -> Result<(), AllocError>
     requires whole { StateIsWhole K.node_number K.stands C.lists state.old }
     requires room { HasRoom K.spare C.spare state.old }
@@ -28,6 +29,20 @@ pub fn make_room<K: Control, C: Chains>(state: &mut EngineState<K, C>) -> Result
     if state.room >= MOST_EVENTS {
         return Ok(());
     }
+    make_room_ahead(state)
+}
+
+/// Makes room ahead. It stands apart, so that the test for room is inlined.
+#[cold]
+#[inline(never)]
+fn make_room_ahead<K: Control, C: Chains>(state: &mut EngineState<K, C>) -> Result<(), AllocError>
+    requires whole { StateIsWhole K.node_number K.stands C.lists state.old }
+    ensures whole { StateIsWhole K.node_number K.stands C.lists state.new }
+    ensures events { state.new.history.events ≡ state.old.history.events }
+    ensures setup { state.new.setup ≡ state.old.setup }
+    ensures room { HasRoom K.spare C.spare state.new }
+    ensures enough { OnOk result (32 ≤ state.new.room) }
+{
     state.room = 0;
     reserve(state, AHEAD)?;
     state.room = AHEAD;

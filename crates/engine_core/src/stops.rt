@@ -16,6 +16,7 @@ use teb_rules::{Stop, Verdict};
 use version_chain::Chains;
 
 /// Where a read stops.
+#[inline(always)]
 pub fn read_stop<K: Control, C: Chains>(asking: &Asking<'_, K, C>, cell: Cell) -> Stop
     requires whole { ViewIsWhole K.node_number K.stands C.lists asking.now.view.now }
     requires asks { IsAsking (store_in asking.now.view.now).setup (events_in asking.now.view.now) asking.now.txn.0 cell }

@@ -59,6 +59,7 @@ impl HoldBook {
     /// Notes the newest event of the history. It takes one place of the room at most.
     ///
     /// A read or a put costs a search by its cell; a commit or an abort costs one for each access of its transaction.
+    #[inline(always)]
     pub fn note(&mut self, history: &History, e: Event)
         requires room { 0 < self.old.spare }
         ensures spare { self.old.spare ≤ self.new.spare + 1 }
@@ -73,6 +74,7 @@ impl HoldBook {
     }
 
     /// The holds on a cell, in ascending number of their transactions.
+    #[inline(always)]
     pub fn holders(&self, cell: Cell) -> &[Hold]
         ensures { result.now ≡ shown self.now cell }
     {
@@ -80,6 +82,7 @@ impl HoldBook {
     }
 
     // A transaction accesses a cell: it reads it, or puts it where `wrote` is true.
+    #[inline(always)]
     fn access(&mut self, t: Txn, cell: Cell, wrote: bool)
         requires { 0 < self.old.spare }
         ensures here { shown self.new cell ≡ accessed t wrote (shown self.old cell) }

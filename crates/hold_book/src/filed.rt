@@ -11,6 +11,7 @@ use sorted_multimap::Multimap;
 use teb_names::{Cell, Txn};
 
 /// Puts in that a transaction has accessed a cell, and whether it put it. It takes one place of the room at the most.
+#[inline(always)]
 pub(crate) fn put_in(holds: &mut Multimap<Cell, Hold>, cell: Cell, t: Txn, wrote: bool)
     requires filed { IsFiled holds.old }
     requires room { 0 < holds.old.spare }

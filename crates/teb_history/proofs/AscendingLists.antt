@@ -124,6 +124,13 @@ module _ {A : Type 0} (key : A → ℕ) where
       go false true r ih h = absurd (cc)
       go false false r ih h = let e : 0 ≡ i = cc in subst (λ (k : ℕ). a ∷ x ∷ xs ≡ insert (x ∷ xs) k a) e refl
 
+  -- an edit over what an edit put in
+  pub set-insert : (xs : List A) (i : ℕ) (a b : A) → i ≤ length xs → set (insert xs i a) i b ≡ insert xs i b
+  set-insert [] zero a b l = refl
+  set-insert [] (suc i) a b l = absurd (omega arith)
+  set-insert (x ∷ xs) zero a b l = refl
+  set-insert (x ∷ xs) (suc i) a b l = ap (λ (ys : List A). x ∷ ys) (set-insert xs i a b (omega arith))
+
   -- what is there already, where elements of one key are one
   pub put-same : (a : A) → ((x : A) → key x ≡ key a → x ≡ a) → (xs : List A) (i : ℕ) → place_of key xs (key a) ≡ Ok i → xs ≡ put_by key a xs
   put-same a one [] i h = absurd (cc)

@@ -1,10 +1,13 @@
 -- A transaction that is live as before changes nothing in the list of those that are live.
-use Rattle.std.proofs.Common.{◌≡◌, ℕ, ◌<◌, ◌≤◌, Bool, true, false, cond, not, ◌||◌, ltb, eqb, List, [], ◌∷◌, filter, ◌⊎◌, inl, inr, ◌≢◌, refl, sym, ◌∙◌, ap, arith}
+use Rattle.std.proofs.Common.{◌≡◌, ℕ, ◌<◌, ◌≤◌, Bool, true, false, cond, not, ◌||◌, ltb, eqb, Some, List, [], ◌∷◌, filter, ◌⊎◌, inl, inr, ◌≢◌, refl, sym, ◌∙◌, ap, arith}
 use Rattle.std.proofs.lemmas.Bool.Decides.{eqb_tells}
 use Rattle.teb_names.specs.declared.Txn.{Txn}
 use Rattle.teb_history.specs.declared.Event.{Event}
+use Rattle.teb_history.specs.declared.Event.TheVariants.{Began, Got, Put, Ready, Done, Gone, Told}
+use Rattle.teb_history.specs.declared.standing.Standing.{Standing}
 use Rattle.teb_history.specs.Ascending.{IsAscendingBy, put_by}
-use Rattle.teb_history.specs.Live.{number_of, is_live, live_txns}
+use Rattle.teb_history.specs.Live.{number_of, is_live, live_txns, kept_by}
+use Rattle.teb_history.specs.Standings.{standing_after, turned, stands_live}
 use Rattle.teb_history.proofs.Comparisons.{ltb_tells}
 use Rattle.teb_history.proofs.Mentioned.{has, live-ascending}
 use Rattle.teb_history.proofs.FirstLive.{same_txn, has-above, live_listed, listed_live}
@@ -45,3 +48,13 @@ live-kept H t = go (is_live H t.0) refl
     go : (b : Bool) → is_live H t.0 ≡ b → live_txns H ≡ cond b (put_by number_of t (live_txns H)) (filter (λ u. not (eqb u.0 t.0)) (live_txns H))
     go true q = put-there t (live_txns H) (live-ascending H) (live_listed H t q)
     go false q = filter-absent t.0 (live_txns H) (absent (has t.0 (live_txns H)) refl q)
+
+-- an event that cannot change it leaves the list as it was
+pub turned-kept : (e : Event) (n : ℕ) (r : Standing) (t : Txn) (ts : List Txn) → ts ≡ kept_by (Some (stands_live r)) t ts → kept_by (turned e n r) t ts ≡ kept_by (Some (stands_live (standing_after e n r))) t ts
+turned-kept (Began u s k i) n r t ts h = refl
+turned-kept (Got u x w v) n r t ts h = h
+turned-kept (Put u x v) n r t ts h = h
+turned-kept (Ready u) n r t ts h = h
+turned-kept (Done u) n r t ts h = refl
+turned-kept (Gone u c) n r t ts h = refl
+turned-kept (Told u) n r t ts h = refl

@@ -1,5 +1,5 @@
 -- The transactions that are live: unfinished, or aborted by a cascade with a session that was not told of it.
-use Rattle.std.specs.Prelude.{ℕ, Bool, ◌&&◌, ◌||◌, ltb, leb, eqb, List, [], ◌∷◌, filter}
+use Rattle.std.specs.Prelude.{ℕ, Bool, cond, not, ◌&&◌, ◌||◌, ltb, leb, eqb, Option, Some, None, List, [], ◌∷◌, filter}
 use Rattle.teb_names.specs.declared.Txn.{Txn}
 use Rattle.teb_history.specs.declared.Event.{Event}
 use Rattle.teb_history.specs.Phases.{begun_count, session_of, unfinished, untold}
@@ -22,6 +22,11 @@ is_live H t = unfinished H t || untold H t
 -- those that are live
 abbrev pub live_txns : List Event → List Txn
 live_txns H = filter (λ t. is_live H t.0) (mentioned H)
+
+-- ascending transactions with t put in, or taken out, and as they were where neither is said
+abbrev pub kept_by : Option Bool → Txn → List Txn → List Txn
+kept_by None t ts = ts
+kept_by (Some b) t ts = cond b (put_by number_of t ts) (filter (λ u. not (eqb u.0 t.0)) ts)
 
 -- t is one of the numbers from 1 on of those that have begun
 abbrev pub is_numbered : List Event → Txn → Bool

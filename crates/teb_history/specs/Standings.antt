@@ -59,6 +59,16 @@ stands_prepared r = stands_unfinished r && r.ready
 abbrev pub stands_live : Standing → Bool
 stands_live r = stands_unfinished r || (is_after r.gone && not r.told)
 
+-- whether a transaction is live after one more event of its own, where such an event may change that
+abbrev pub turned : Event → ℕ → Standing → Option Bool
+turned (event.Began t s k i) n r = Some (stands_live (standing_after (event.Began t s k i) n r))
+turned (event.Got t x w v) n r = None
+turned (event.Put t x v) n r = None
+turned (event.Ready t) n r = None
+turned (event.Done t) n r = Some (stands_live (standing_after (event.Done t) n r))
+turned (event.Gone t c) n r = Some (stands_live (standing_after (event.Gone t c) n r))
+turned (event.Told t) n r = Some (stands_live (standing_after (event.Told t) n r))
+
 -- the number of the session that began it, and 0 where none has
 abbrev pub stands_session : Standing → ℕ
 stands_session r = option_map_or (λ s. s.session.0) r.start 0

@@ -1,15 +1,16 @@
 //! Vectors that ascend by transaction, with at most one element for each.
 
-ghost use Rattle.std.specs.Prelude.{◌≡◌, ◌<◌, ◌≤◌, ◌+◌, cond, eqb, not, filter, length, vec_len, vec_capacity};
+ghost use Rattle.std.specs.Prelude.{◌≡◌, ◌<◌, ◌≤◌, ◌+◌, eqb, not, filter, length, get_or, set, vec_len, vec_capacity};
 ghost use Rattle.std.specs.List.Sorted.{IsSearchInRange};
 ghost use Rattle.teb_history.specs.Ascending.{IsAscendingBy, place_of, put_by};
-ghost use Rattle.teb_history.specs.Live.{number_of};
+ghost use Rattle.teb_history.specs.Live.{number_of, kept_by};
 ghost use Rattle.teb_history.specs.OwnEvents.{event_txn};
-ghost use Rattle.teb_history.specs.Standings.{standing_number, standing_in, standing_after, stands_live};
+ghost use Rattle.teb_history.specs.Standings.{standing_number, standing_in, standing_after, turned};
 
 use super::Event;
 use crate::standing::Standing;
 use teb_names::Txn;
+use vec_room::{put_in, take_out};
 
 /// Where the standing of t is, or where it would go. It costs one look where the transactions are numbered from 1 without a gap and t is
 /// one of them, or where t is above all of them, and else a binary search.
@@ -18,7 +19,7 @@ pub fn find_standing(standings: &[Standing], t: Txn) -> Result<usize, usize>
     requires { IsAscendingBy standing_number standings.now }
     ensures { result ≡ place_of standing_number standings.now t.0 }
 {
-    let first = (t.0 as usize).saturating_sub(1);
+    let first = t.0.wrapping_sub(1) as usize;
     if first < standings.len() && standings[first].txn == t {
         return Ok(first);
     }
@@ -43,67 +44,64 @@ fn search_standing(standings: &[Standing], t: Txn) -> Result<usize, usize>
 pub struct Noted {
     /// The end of the transaction's events before it.
     pub previous: usize,
-    pub was_live: bool,
-    pub is_live: bool,
+    /// Whether the transaction is live after it, where it may have changed that.
+    pub live: Option<bool>,
 }
 
 /// The standing of an event's transaction after the event, with `end` events in the history. It costs what `find_standing` does, and
 /// where the transaction has no standing yet, a move of those behind its place.
+#[inline(always)]
 pub fn note_event(standings: &mut Vec<Standing>, event: Event, end: usize) -> Noted
     requires ascending { IsAscendingBy standing_number standings.old.items }
     requires room { vec_len standings.old < vec_capacity standings.old }
     ensures items { standings.new.items ≡ put_by standing_number (standing_after event end (standing_in standings.old.items (event_txn event))) standings.old.items }
     ensures previous { result.previous ≡ (standing_in standings.old.items (event_txn event)).end }
-    ensures was_live { result.was_live ≡ stands_live (standing_in standings.old.items (event_txn event)) }
-    ensures is_live { result.is_live ≡ stands_live (standing_after event end (standing_in standings.old.items (event_txn event))) }
+    ensures live { result.live ≡ turned event end (standing_in standings.old.items (event_txn event)) }
     ensures len { vec_len standings.new ≤ vec_len standings.old + 1 }
     ensures capacity { vec_capacity standings.old ≤ vec_capacity standings.new }
 {
-    let txn = event.txn();
-    match find_standing(standings, txn) {
-        Ok(i) => change(&mut standings[i], event, end),
+    let i = place_standing(standings, event.txn());
+    let standing = &mut standings[i];
+    let previous = standing.end;
+    let live = standing.note(event, end);
+    Noted { previous, live }
+}
+
+/// Where the standing of t is, after a blank one was put in if there was none.
+#[inline(always)]
+fn place_standing(standings: &mut Vec<Standing>, t: Txn) -> usize
+    requires ascending { IsAscendingBy standing_number standings.old.items }
+    requires room { vec_len standings.old < vec_capacity standings.old }
+    ensures within { result < vec_len standings.new }
+    ensures found { (d : Standing) → get_or standings.new.items result d ≡ standing_in standings.old.items t }
+    ensures over { (r : Standing) → standing_number r ≡ t.0 → set standings.new.items result r ≡ put_by standing_number r standings.old.items }
+    ensures len { vec_len standings.new ≤ vec_len standings.old + 1 }
+    ensures capacity { vec_capacity standings.old ≤ vec_capacity standings.new }
+{
+    match find_standing(standings, t) {
+        Ok(i) => i,
         Err(i) => {
-            let mut standing = Standing::blank(txn);
-            let noted = change(&mut standing, event, end);
-            let _ = standings.insert(i, standing);
-            noted
+            put_in(standings, i, Standing::blank(t));
+            i
         }
     }
 }
 
-/// A standing after one more event of its transaction.
-fn change(standing: &mut Standing, event: Event, end: usize) -> Noted
-    ensures standing { standing.new ≡ standing_after event end standing.old }
-    ensures previous { result.previous ≡ standing.old.end }
-    ensures was_live { result.was_live ≡ stands_live standing.old }
-    ensures is_live { result.is_live ≡ stands_live (standing_after event end standing.old) }
-{
-    let previous = standing.end;
-    let was_live = standing.is_live();
-    standing.note(event, end);
-    Noted {
-        previous,
-        was_live,
-        is_live: standing.is_live(),
-    }
-}
-
-/// Puts a transaction in, or takes it out; where it is to be as it was, nothing is looked at.
-pub fn keep_txn(txns: &mut Vec<Txn>, t: Txn, was_in: bool, is_in: bool)
+/// Puts a transaction in, or takes it out. Where it is to be as it was, nothing is looked at.
+pub fn keep_txn(txns: &mut Vec<Txn>, t: Txn, is_in: Option<bool>)
     requires ascending { IsAscendingBy number_of txns.old.items }
-    requires kept { txns.old.items ≡ cond was_in (put_by number_of t txns.old.items) (filter (λ u. not (eqb u.0 t.0)) txns.old.items) }
     requires room { vec_len txns.old < vec_capacity txns.old }
-    ensures items { txns.new.items ≡ cond is_in (put_by number_of t txns.old.items) (filter (λ u. not (eqb u.0 t.0)) txns.old.items) }
+    ensures items { txns.new.items ≡ kept_by is_in t txns.old.items }
     ensures len { vec_len txns.new ≤ vec_len txns.old + 1 }
     ensures capacity { vec_capacity txns.old ≤ vec_capacity txns.new }
 {
-    if was_in == is_in {
+    let Some(is_in) = is_in else {
         return;
-    }
+    };
     if !is_in {
         remove_txn(txns, t);
     } else if let Err(i) = find_txn(txns, t) {
-        let _ = txns.insert(i, t);
+        put_in(txns, i, t);
     }
 }
 
@@ -114,7 +112,7 @@ pub fn remove_txn(txns: &mut Vec<Txn>, t: Txn)
     ensures capacity { vec_capacity txns.new ≡ vec_capacity txns.old }
 {
     if let Ok(i) = find_txn(txns, t) {
-        txns.remove(i);
+        take_out(txns, i);
     }
 }
 
@@ -123,5 +121,8 @@ pub fn find_txn(txns: &[Txn], t: Txn) -> Result<usize, usize>
     ensures within { IsSearchInRange result (length txns.now) }
     ensures place { IsAscendingBy number_of txns.now → result ≡ place_of number_of txns.now t.0 }
 {
-    txns.binary_search_by_key(&t.0, |u| u.0)
+    match txns.last() {
+        Some(last) if t.0 <= last.0 => txns.binary_search_by_key(&t.0, |u| u.0),
+        _ => Err(txns.len()),
+    }
 }

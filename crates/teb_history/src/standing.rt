@@ -28,7 +28,7 @@ pub struct Standing {
 }
 
 impl Standing {
-    ghost use Rattle.teb_history.specs.Standings.{blank, standing_after, stands_unfinished, stands_live, stands_prepared, stands_session, standing_phase};
+    ghost use Rattle.teb_history.specs.Standings.{blank, standing_after, turned, stands_unfinished, stands_live, stands_prepared, stands_session, standing_phase};
 
     /// That of a transaction with no event.
     pub fn blank(txn: Txn) -> Standing
@@ -45,9 +45,11 @@ impl Standing {
         }
     }
 
-    /// One more event of the transaction, with `end` events in the history.
-    pub fn note(&mut self, event: Event, end: usize)
-        ensures { self.new ≡ standing_after event end self.old }
+    /// One more event of the transaction, with `end` events in the history: whether it is live then, where such an event may change that.
+    #[inline(always)]
+    pub fn note(&mut self, event: Event, end: usize) -> Option<bool>
+        ensures standing { self.new ≡ standing_after event end self.old }
+        ensures live { result ≡ turned event end self.old }
     {
         self.end = end;
         match event {
@@ -62,12 +64,16 @@ impl Standing {
                     spot: Spot { kind, instance },
                 })
             }
-            Event::Got { .. } | Event::Put { .. } => {}
-            Event::Ready(_) => self.ready = true,
+            Event::Got { .. } | Event::Put { .. } => return None,
+            Event::Ready(_) => {
+                self.ready = true;
+                return None;
+            }
             Event::Done(_) => self.done = true,
             Event::Gone { cause, .. } => self.gone = Some(cause),
             Event::Told(_) => self.told = true,
         }
+        Some(self.is_live())
     }
 
     pub fn phase(&self) -> Phase

@@ -9,7 +9,7 @@ pub returns-in-Ok-clause-items : goal.returns-in-Ok-clause-items
 returns-in-Ok-clause-items c ascending =
     let place = λ (ts : List Txn). place_of number_of ts c.args.t.0 in
     let there = c.find_txn.ensures.place (subst (IsAscendingBy number_of) (sym c.deref.ensures.value) ascending) in
-    c.remove.ensures.items ∙ remove-filter number_of c.args.txns.now.items ascending c.args.t.0 _ (ap place (sym c.deref.ensures.value) ∙ sym there ∙ c.in-Ok.is)
+    c.take_out.ensures.items ∙ remove-filter number_of c.args.txns.now.items ascending c.args.t.0 _ (ap place (sym c.deref.ensures.value) ∙ sym there ∙ c.in-Ok.is)
 
 pub returns-in_default-clause-items : goal.returns-in_default-clause-items
 returns-in_default-clause-items c ascending =

@@ -12,7 +12,7 @@ use Rattle.engine_core.proofs.Noting.{granted_noted}
 use Rattle.engine_core.proofs.Appending.{whole_after}
 use Rattle.engine_core.proofs.HoldersAsked.{kept_on, put_again}
 use Rattle.engine_core.proofs.Rooms.{less_room}
-use Rattle.engine_core.proofs.append_event.append_event.Goals as goal
+use Rattle.engine_core.proofs.append_event.append.Goals as goal
 
 pub note_each-requires-clause-holders : goal.note_each-requires-clause-holders
 note_each-requires-clause-holders g c =
