@@ -1,10 +1,11 @@
 -- What the versions of a chain say of its places, and the other way round.
-use Rattle.std.proofs.Common.{true, false, Bool, eqb, not, ◌≡◌, ◌≢◌, ℕ, zero, suc, ◌<◌, ◌≤◌, List, [], ◌∷◌, length, get_or, map, filter, refl, sym, ◌∙◌, ap, subst, arith, Option, Some, None, MatchOption, eqb-true, ne_eqb, slice_get, IsTrue}
+use Rattle.std.proofs.Common.{true, false, Bool, eqb, not, ◌≡◌, ◌≢◌, ℕ, zero, suc, ◌<◌, ◌≤◌, List, [], ◌∷◌, length, get_or, map, filter, refl, sym, ◌∙◌, ap, subst, arith, Option, Some, None, IfSome, MatchOption, eqb-true, ne_eqb, slice_get, IsTrue}
 use Rattle.std.proofs.lemmas.Bool.{false_from_ne_true, le-leb}
 use Rattle.std.proofs.lemmas.List.{get_or-map, length-map}
 use Rattle.teb_names.specs.declared.Cell.{Cell}
 use Rattle.teb_names.specs.declared.Txn.{Txn}
 use Rattle.version_chain.specs.Lists.{Version, without, writers_of, is_writer, first_place, last_place, unless_below}
+use Rattle.version_chain.specs.declared.chains.Found.{Found}
 use Rattle.version_chain.proofs.Places.{IsLast, first_place_is, last_place-found, writer_at, length-writers, is_writer-at, last_where_is, first_of_writer}
 use Rattle.chain_pool.specs.declared.places.Place.{Place}
 use Rattle.chain_pool.specs.declared.places.Head.{Head}
@@ -50,6 +51,15 @@ module _ (ps : List Place) (chain : Cell → Head) (own : Txn → Head) (unused 
 
   pub slice_get-versions : (x : Cell) (i : ℕ) → i < length (versions ps (chain x)) → slice_get (versions ps (chain x)) i ≡ Some (pair_at ps (nth_place ps (chain x) i))
   slice_get-versions x i lt = get_some _ i (pair_at ps 0) lt ∙ ap Some (versions_nth x i (pair_at ps 0) (omega (arith, versions_len x, lt)))
+
+  -- what a walk found at a place is the version there
+  pub found_version : (x : Cell) (h : Head) → h ≡ chain x → (r : Option Found) → IfSome r (λ v. v.at < h.len) → IfSome r (λ v. pair_at ps (nth_place ps h v.at) ≡ (v.writer, v.value))
+      → IfSome r (λ v. slice_get (versions ps h) v.at ≡ Some (v.writer, v.value))
+  found_version x h is None low pair = pair
+  found_version x h is (Some v) low pair =
+      let in_len : v.at < (chain x).len = subst (λ (g : Head). v.at < g.len) is low in
+      ap (λ (g : Head). slice_get (versions ps g) v.at) is
+      ∙ (slice_get-versions x v.at (omega (arith, versions_len x, in_len)) ∙ (ap (λ (g : Head). Some (pair_at ps (nth_place ps g v.at))) (sym is) ∙ ap Some pair))
 
   -- a writer with an empty list has no version
   pub none_left : (t : Txn) → (own t).len ≡ 0 → (x : Cell) → without t.0 (versions ps (chain x)) ≡ versions ps (chain x)

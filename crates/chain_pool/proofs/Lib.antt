@@ -12,3 +12,4 @@ pub mod Growing
 pub mod Rewriting
 pub mod Emptied
 pub mod Seen
+pub mod Writers

@@ -1,12 +1,13 @@
--- What contracts see of a pool: its chains, and room.
-use Rattle.std.specs.Prelude.{ℕ, List, [], map, unwrap_or}
+-- What contracts see of a pool: its chains, and room; and what is kept of it.
+use Rattle.std.specs.Prelude.{◌≡◌, ℕ, false, List, [], map, unwrap_or}
 use Rattle.std.specs.Map.{lookup}
 use Rattle.teb_names.specs.declared.Cell.{Cell}
 use Rattle.teb_names.specs.Cells.{same_cell}
-use Rattle.version_chain.specs.Lists.{Version}
+use Rattle.version_chain.specs.Lists.{Version, is_writer}
 use Rattle.chain_pool.specs.declared.pool.Pool.{Pool}
 use Rattle.chain_pool.specs.Linked.{versions}
-use Rattle.chain_pool.specs.Pools.{IsSound, HasRoom}
+use Rattle.chain_pool.specs.Pools.{IsSound, HasRoom, chain_of}
+use Rattle.chain_pool.specs.Latest.{IsAbove}
 
 -- the chains of the cells that have an entry, and for how many more versions there is room
 pub record View : Type 0 where
@@ -20,6 +21,11 @@ list_in v x = unwrap_or (lookup (same_cell x) v.entries) []
 abbrev pub view_of : Pool → ℕ → View
 view_of p n = record { entries = map (λ e. (e.0, versions p.places.items e.1)) p.cells.entries; spare = n }
 
-pub record Holds (p : Pool) (n : ℕ) : Type 0 where
+-- a writer above the one of its remainder has no version
+abbrev pub IsMarked : Pool → List ℕ → Type 0
+IsMarked p latest = (t : ℕ) → IsAbove latest t → (x : Cell) → is_writer (chain_of p x) t ≡ false
+
+pub record Holds (p : Pool) (n : ℕ) (latest : List ℕ) : Type 0 where
   pub sound : IsSound p
   pub room : HasRoom p n
+  pub marked : IsMarked p latest

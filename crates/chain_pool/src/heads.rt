@@ -17,6 +17,7 @@ fn chosen(first: bool, one: usize, other: usize) -> usize
 }
 
 /// The head of a key's list.
+#[inline(always)]
 pub(crate) fn head_of<K: Eq + Hash>(heads: &IndexMap<K, Head>, key: &K) -> Head
     ensures { result ≡ spec_head_of K.eq heads.now.entries key.now }
 {

@@ -2,6 +2,7 @@
 #![tactic(auto)]
 
 mod heads;
+mod latest;
 mod places;
 mod pool;
 mod pooled;

@@ -1,6 +1,6 @@
 //! Places in chains and writers' lists, and the steps that put a version in and take versions out.
 
-ghost use Rattle.std.specs.Prelude.{◌≡◌, ◌<◌, ◌≤◌, ◌+◌, ℕ, Bool, [], length, slice_get, insert, vec_len, vec_capacity, IsTrue, IsFalse, OnOk, IfSome, None, Some, eqb};
+ghost use Rattle.std.specs.Prelude.{◌≡◌, ◌<◌, ◌≤◌, ◌+◌, ℕ, Bool, [], length, slice_get, insert, vec_len, vec_capacity, IsTrue, IsFalse, false, OnOk, IfSome, None, Some, eqb};
 ghost use Rattle.std.specs.Option.{option_map};
 ghost use Rattle.std.specs.Bool.{OnTrue};
 ghost use Rattle.indexmap.specs.IndexMap.{spare};
@@ -17,7 +17,11 @@ use crate::{heads, walks};
 use indexmap::IndexMap;
 use std::alloc::{AllocError, Global};
 use teb_names::{Cell, Txn};
+use vec_room::make_wide_room;
 use version_chain::Found;
+
+/// A chain up to this length costs less to walk than its writer's list to look up.
+const SHORT: usize = 8;
 
 /// Puts a version into the first free place, and that into its cell's chain and its writer's list. Gives the free places that
 /// are left.
@@ -58,6 +62,16 @@ fn put(
     }
 }
 
+/// The place of a version that was found.
+fn place_of(found: Option<Found>) -> Option<usize>
+    ensures { result ≡ option_map (λ v. v.at) found }
+{
+    match found {
+        Some(version) => Some(version.at),
+        None => None,
+    }
+}
+
 /// Places, each in its cell's chain and its writer's list, or free.
 #[derive(Drop)]
 pub(crate) struct Pool {
@@ -88,7 +102,7 @@ impl Pool {
         ensures room { OnOk result (HasRoom self.new n) }
         ensures kept { (m : ℕ) → HasRoom self.old m → HasRoom self.new m }
     {
-        self.places.reserve(n)?;
+        make_wide_room(&mut self.places, n)?;
         self.cells.reserve(n)?;
         self.writers.reserve(n)?;
         Ok(())
@@ -122,14 +136,16 @@ impl Pool {
     }
 
     /// The last version of a chain whose writer f accepts, where it is `from` or above.
-    fn last_in<F: Fn(Txn) -> bool>(&self, chain: Head, from: usize, f: &F) -> Option<usize>
+    #[inline(always)]
+    fn last_in<F: Fn(Txn) -> bool>(&self, chain: Head, from: usize, f: &F) -> Option<Found>
         requires sound { IsSound self.now }
         requires chain { (x : Cell) × (chain ≡ chain_head self.now.cells.entries x) }
         requires callable { (u : Txn) → IsTrue (is_writer (versions self.now.places.items chain) u.0) → F.pre f.now u }
         ensures place { (p : ℕ → Bool)
             → ((u : Txn) (b : Bool) → IsTrue (is_writer (versions self.now.places.items chain) u.0) → F.post f.now u b → b ≡ p u.0)
-            → result ≡ unless_below from (last_place p (writers_of (versions self.now.places.items chain))) }
-        ensures within { IfSome result (λ i. i < length (versions self.now.places.items chain)) }
+            → option_map (λ v. v.at) result ≡ unless_below from (last_place p (writers_of (versions self.now.places.items chain))) }
+        ensures within { IfSome result (λ v. v.at < length (versions self.now.places.items chain)) }
+        ensures version { IfSome result (λ v. slice_get (versions self.now.places.items chain) v.at ≡ Some (v.writer, v.value)) }
     {
         walks::last_accepted(&self.places, chain, from, f)
     }
@@ -149,7 +165,7 @@ impl Pool {
         ensures within { IfSome result (λ i. i < length (chain_of self.now cell)) }
     {
         let chain = heads::head_of(&self.cells, &cell);
-        self.last_in(chain, from, f)
+        place_of(self.last_in(chain, from, f))
     }
 
     /// Whether a writer's list that is shorter than the chain of a cell shows that the writer has no version of the cell.
@@ -167,25 +183,49 @@ impl Pool {
         ensures { result ≡ first_place (λ w. eqb w t.0) (writers_of (chain_of self.now cell)) }
     {
         let chain = heads::head_of(&self.cells, &cell);
-        self.find_in(cell, chain, t)
+        place_of(self.find_in(cell, chain, t))
     }
 
-    /// The place of a writer's version in a chain, which is that of the cell. Where the writer's list is the shorter one, it says
-    /// first whether there is one.
-    fn find_in(&self, cell: Cell, chain: Head, t: Txn) -> Option<usize>
+    /// The version of a writer in a chain, which is that of the cell. Where the chain is not short and the writer's list is
+    /// shorter, that list says first whether there is one.
+    fn find_in(&self, cell: Cell, chain: Head, t: Txn) -> Option<Found>
         requires sound { IsSound self.now }
         requires chain { chain ≡ chain_head self.now.cells.entries cell }
-        ensures { result ≡ first_place (λ w. eqb w t.0) (writers_of (chain_of self.now cell)) }
+        ensures place { option_map (λ v. v.at) result ≡ first_place (λ w. eqb w t.0) (writers_of (chain_of self.now cell)) }
+        ensures version { IfSome result (λ v. slice_get (chain_of self.now cell) v.at ≡ Some (v.writer, v.value)) }
     {
-        if chain.len > 1 && self.lacks(cell, chain, t) {
+        if chain.len > SHORT && self.lacks(cell, chain, t) {
             return None;
         }
         self.last_in(chain, 0, &|w: Txn| w.0 == t.0)
     }
 
-    /// The version of a writer, or else the last one whose writer f accepts.
-    pub(crate) fn own_or_last<F: Fn(Txn) -> bool>(&self, cell: Cell, t: Txn, f: &F) -> Option<Found>
+    /// The version of a writer in a chain, which is that of the cell. One that is new has none.
+    #[inline(always)]
+    fn own_in(&self, cell: Cell, chain: Head, t: Txn, is_new: bool) -> Option<Found>
         requires sound { IsSound self.now }
+        requires chain { chain ≡ chain_head self.now.cells.entries cell }
+        requires absent { OnTrue is_new (is_writer (chain_of self.now cell) t.0 ≡ false) }
+        ensures place { option_map (λ v. v.at) result ≡ first_place (λ w. eqb w t.0) (writers_of (chain_of self.now cell)) }
+        ensures version { IfSome result (λ v. slice_get (chain_of self.now cell) v.at ≡ Some (v.writer, v.value)) }
+    {
+        if is_new {
+            return None;
+        }
+        self.find_in(cell, chain, t)
+    }
+
+    /// The version of a writer, or else the last one whose writer f accepts. A writer that is new has none of the cell.
+    #[inline(always)]
+    pub(crate) fn own_or_last<F: Fn(Txn) -> bool>(
+        &self,
+        cell: Cell,
+        t: Txn,
+        is_new: bool,
+        f: &F,
+    ) -> Option<Found>
+        requires sound { IsSound self.now }
+        requires absent { OnTrue is_new (is_writer (chain_of self.now cell) t.0 ≡ false) }
         requires callable { IsFalse (is_writer (chain_of self.now cell) t.0) → (u : Txn) → IsTrue (is_writer (chain_of self.now cell) u.0) → F.pre f.now u }
         ensures place { (p : ℕ → Bool)
             → (IsFalse (is_writer (chain_of self.now cell) t.0) → (u : Txn) (b : Bool) → IsTrue (is_writer (chain_of self.now cell) u.0) → F.post f.now u b → b ≡ p u.0)
@@ -193,16 +233,9 @@ impl Pool {
         ensures version { IfSome result (λ v. slice_get (chain_of self.now cell) v.at ≡ Some (v.writer, v.value)) }
     {
         let chain = heads::head_of(&self.cells, &cell);
-        let place = match self.find_in(cell, chain, t) {
+        match self.own_in(cell, chain, t, is_new) {
             Some(own) => Some(own),
             None => self.last_in(chain, 0, f),
-        };
-        match place {
-            Some(at) => {
-                let (writer, value) = self.version_in(chain, at);
-                Some(Found { at, writer, value })
-            }
-            None => None,
         }
     }
 

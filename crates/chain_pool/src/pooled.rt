@@ -4,6 +4,7 @@ ghost use Rattle.std.specs.Prelude.{◌≡◌, []};
 ghost use Rattle.teb_names.specs.declared.Cell.{Cell};
 ghost use Rattle.chain_pool.specs.View.{list_in};
 
+use crate::latest::{self, REMAINDERS};
 use crate::places::Version;
 use crate::pool::Pool;
 use std::alloc::{AllocError, Global};
@@ -16,6 +17,8 @@ use version_chain::{Chains, Found};
 pub struct PooledChains {
     pool: Pool,
     spare: usize,
+    /// Tells most writers that have no version yet without a look-up.
+    latest: [u32; REMAINDERS],
 }
 
 /// A call of its own, so that no owner has to prove anew how a pool is dropped.
@@ -24,6 +27,7 @@ impl Drop for PooledChains {
         let PooledChains {
             pool: _pool,
             spare: _spare,
+            latest: _latest,
         } = self;
     }
 }
@@ -35,7 +39,7 @@ impl Model for PooledChains {
 
     ghost view = { λ c. view_of c.pool c.spare };
 
-    ghost invariant = { λ c. Holds c.pool c.spare };
+    ghost invariant = { λ c. Holds c.pool c.spare c.latest };
 }
 
 impl PooledChains {
@@ -46,6 +50,7 @@ impl PooledChains {
         PooledChains {
             pool: Pool::new(alloc),
             spare: 0,
+            latest: [0; REMAINDERS],
         }
     }
 }
@@ -83,6 +88,7 @@ impl Chains for PooledChains {
             value,
         };
         self.pool.place(i, version);
+        latest::mark(&mut self.latest, t);
         self.spare -= 1;
     }
 
@@ -99,6 +105,7 @@ impl Chains for PooledChains {
     }
 
     fn own_or_last<F: Fn(Txn) -> bool>(&self, cell: Cell, t: Txn, f: &F) -> Option<Found> {
-        self.pool.own_or_last(cell, t, f)
+        let is_new = latest::is_above(&self.latest, t);
+        self.pool.own_or_last(cell, t, is_new, f)
     }
 }

@@ -2,12 +2,14 @@
 
 ghost use Rattle.std.specs.Prelude.{◌≡◌, ◌<◌, ◌≤◌, ◌+◌, ◌-◌, ℕ, length, MatchOption, IfSome, IsSome, Some, true, false};
 ghost use Rattle.std.specs.Bool.{OnFalse};
+ghost use Rattle.std.specs.Option.{option_map};
 ghost use Rattle.chain_pool.specs.Threads.{steps};
 ghost use Rattle.chain_pool.specs.Places.{slot_at, previous_at, sibling_at, cell_in, pair_at as spec_pair_at};
 ghost use Rattle.chain_pool.specs.Linked.{nth_place};
 
 use crate::places::{Head, Place, Slot};
 use teb_names::{Cell, Txn};
+use version_chain::Found;
 
 /// The place that many steps back.
 fn step_back(places: &[Place], first: usize, count: usize) -> usize
@@ -75,12 +77,13 @@ pub(crate) fn last_accepted<F: Fn(Txn) -> bool>(
     chain: Head,
     from: usize,
     f: &F,
-) -> Option<usize>
+) -> Option<Found>
     requires safe { (n : ℕ) → 0 < chain.len → steps (previous_at places.now) n chain.first < length places.now }
     requires used { (n : ℕ) → 0 < chain.len → IsSome (slot_at places.now (steps (previous_at places.now) n chain.first)).version }
     requires callable { (j : ℕ) → j < chain.len → F.pre f.now (spec_pair_at places.now (nth_place places.now chain j)).0 }
-    ensures within { IfSome result (λ i. i < chain.len) }
-    ensures found { MatchOption result
+    ensures within { IfSome result (λ v. v.at < chain.len) }
+    ensures version { IfSome result (λ v. spec_pair_at places.now (nth_place places.now chain v.at) ≡ (v.writer, v.value)) }
+    ensures found { MatchOption (option_map (λ v. v.at) result)
         ((j : ℕ) → from ≤ j → j < chain.len → F.post f.now (spec_pair_at places.now (nth_place places.now chain j)).0 false)
         (λ i. (from ≤ i) × (i < chain.len) × F.post f.now (spec_pair_at places.now (nth_place places.now chain i)).0 true
         × ((j : ℕ) → i < j → j < chain.len → F.post f.now (spec_pair_at places.now (nth_place places.now chain j)).0 false)) }
@@ -88,9 +91,10 @@ pub(crate) fn last_accepted<F: Fn(Txn) -> bool>(
     let mut place = chain.first;
     for above in 0..chain.len.saturating_sub(from) {
         place = places[place].previous;
-        let (writer, _) = pair_at(places, place);
+        let (writer, value) = pair_at(places, place);
         if accepts(f, writer) {
-            return Some(chain.len - 1 - above);
+            let at = chain.len - 1 - above;
+            return Some(Found { at, writer, value });
         }
     }
     None

@@ -1,10 +1,11 @@
 use Rattle.std.proofs.Common.{◌∙◌, ◌≡◌, ◌<◌, ℕ, ap, sym, subst, length, List, IfSome}
+use Rattle.std.specs.Option.{option_map}
 use Rattle.version_chain.specs.Lists.{is_writer, last_place, unless_below, writers_of}
 use Rattle.chain_pool.specs.declared.places.Place.{Place}
 use Rattle.chain_pool.specs.declared.places.Head.{Head}
 use Rattle.chain_pool.specs.Places.{pair_at}
 use Rattle.chain_pool.specs.Linked.{nth_place, versions}
-use Rattle.chain_pool.proofs.Chains.{last_found, is_writer-nth, versions_len}
+use Rattle.chain_pool.proofs.Chains.{last_found, found_version, is_writer-nth, versions_len}
 use Rattle.chain_pool.proofs.Sizes.{read_within, read_used}
 use Rattle.chain_pool.proofs.pool.Pool.last_in.Goals as goal
 
@@ -27,7 +28,7 @@ returns-clause-place g c p agrees =
     let is = c.requires.chain.1 in
     let ps = c.args.self.now.places.items in
     last_found ps _ _ c.args.self.now.unused c.requires.sound.linked c.requires.chain.0 c.args.chain is p (λ u b. g.F.Fn.post c.args.f.now (u, tt) b)
-    (λ u b there answers. agrees u b (ap (λ (h : Head). is_writer (versions ps h) u.0) is ∙ there) answers) c.args.from c.last_accepted.result (rw c.deref.ensures.value at c.last_accepted.ensures.found)
+    (λ u b there answers. agrees u b (ap (λ (h : Head). is_writer (versions ps h) u.0) is ∙ there) answers) c.args.from (option_map (λ v. v.at) c.last_accepted.result) (rw c.deref.ensures.value at c.last_accepted.ensures.found)
     ∙ ap (λ (h : Head). unless_below c.args.from (last_place p (writers_of (versions ps h)))) (sym is)
 
 pub returns-clause-within : goal.returns-clause-within
@@ -36,4 +37,9 @@ returns-clause-within g c =
     let is = c.requires.chain.1 in
     let n = versions_len ps _ _ c.args.self.now.unused c.requires.sound.linked c.requires.chain.0 in
     let len : c.args.chain.len ≡ length (versions ps c.args.chain) = ap (λ (h : Head). h.len) is ∙ (sym n ∙ ap (λ (h : Head). length (versions ps h)) (sym is)) in
-    subst (λ (k : ℕ). IfSome c.last_accepted.result (λ i. i < k)) len c.last_accepted.ensures.within
+    subst (λ (k : ℕ). IfSome c.last_accepted.result (λ v. v.at < k)) len c.last_accepted.ensures.within
+
+pub returns-clause-version : goal.returns-clause-version
+returns-clause-version g c =
+    let ps = c.args.self.now.places.items in
+    found_version ps _ _ c.args.self.now.unused c.requires.sound.linked c.requires.chain.0 c.args.chain c.requires.chain.1 c.last_accepted.result c.last_accepted.ensures.within (rw c.deref.ensures.value at c.last_accepted.ensures.version)

@@ -1,6 +1,9 @@
 use Rattle.std.proofs.Common.{◌≡◌, subst, false, List, IsTrue}
 use Rattle.std.specs.Option.{option_map}
 use Rattle.version_chain.specs.Lists.{Version, writers_of, is_writer, own_or_last}
+use Rattle.chain_pool.specs.Pools.{chain_of}
+use Rattle.chain_pool.specs.Latest.{IsAbove}
+use Rattle.chain_pool.proofs.Writers.{on_true}
 use Rattle.chain_pool.proofs.Seen.{seen}
 use Rattle.chain_pool.proofs.pooled.PooledChainsChains.own_or_last.Goals as goal
 
@@ -8,6 +11,10 @@ pub own_or_last-requires-clause-callable : goal.own_or_last-requires-clause-call
 own_or_last-requires-clause-callable g c =
     let was = seen c.args.self.now c.self.inside.pool c.self.inside.spare c.self.view_is in
     rw (was c.args.cell) c.requires
+
+pub own_or_last-requires-clause-absent : goal.own_or_last-requires-clause-absent
+own_or_last-requires-clause-absent g c =
+    on_true c.is_above-is_new.result (IsAbove c.self.inside.latest c.args.t.0) (is_writer (chain_of c.self.inside.pool c.args.cell) c.args.t.0 ≡ false) c.is_above-is_new.ensures (λ above. c.self.invariant.marked c.args.t.0 above c.args.cell)
 
 pub returns-clause-place : goal.returns-clause-place
 returns-clause-place g c p agrees =

@@ -1,7 +1,10 @@
-use Rattle.std.proofs.Common.{◌∙◌, ap, arith, length, List, insert}
+use Rattle.std.proofs.Common.{◌∙◌, ap, sym, subst, arith, length, List, insert}
 use Rattle.chain_pool.specs.View.{View}
+use Rattle.chain_pool.specs.Pools.{chain_of}
+use Rattle.chain_pool.specs.Latest.{IsAbove}
 use Rattle.version_chain.specs.Lists.{Version, is_writer}
 use Rattle.chain_pool.proofs.Seen.{seen, view_list, apart_from, less_room}
+use Rattle.chain_pool.proofs.Writers.{absent-put}
 use Rattle.chain_pool.proofs.Chains.{absent_from, versions_len}
 use Rattle.chain_pool.proofs.pooled.PooledChainsChains.place.Goals as goal
 
@@ -17,7 +20,11 @@ place-requires-clause-absent c =
     absent_from _ _ _ _ c.self.invariant.sound.linked c.args.cell c.args.t (ap (λ (l : List Version). is_writer l c.args.t.0) (was c.args.cell) ∙ c.requires.absent)
 
 pub invariant_of-self : goal.invariant_of-self
-invariant_of-self c = record { sound = c.place.ensures.sound; room = c.place.ensures.room _ (less_room _ c.self.inside.spare _ (omega (arith, ap (λ (v : View). v.spare) c.self.view_is, c.requires.room)) c.self.invariant.room) }
+invariant_of-self c = record {
+  sound = c.place.ensures.sound;
+  room = c.place.ensures.room _ (less_room _ c.self.inside.spare _ (omega (arith, ap (λ (v : View). v.spare) c.self.view_is, c.requires.room)) c.self.invariant.room);
+  marked = λ u above. absent-put (chain_of c.self.inside.pool) (chain_of c.place.new.self) c.args.cell c.place.ensures.elsewhere u (c.self.invariant.marked u (c.mark.ensures.kept u above)) c.args.i (c.args.t, c.args.value) c.place.ensures.here (λ e. c.mark.ensures.marked (subst (IsAbove c.mark.new.latest) (sym e) above));
+}
 
 pub returns-clause-here : goal.returns-clause-here
 returns-clause-here c =
