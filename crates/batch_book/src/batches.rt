@@ -15,6 +15,7 @@ use crate::settled::overlap;
 use std::alloc::{AllocError, Global};
 use std::marker::Model;
 use teb_names::Txn;
+use vec_room::make_wide_room;
 
 /// The batches of one node, as far as a history goes.
 #[derive(Drop)]
@@ -68,9 +69,9 @@ impl Batches {
         ensures size { self.new.size ≡ self.old.size }
         ensures room { OnOk result (n ≤ self.new.spare) }
     {
-        self.joined.reserve(n)?;
+        make_wide_room(&mut self.joined, n)?;
         self.running.reserve(n)?;
-        self.batches.reserve(n)?;
+        make_wide_room(&mut self.batches, n)?;
         Ok(())
     }
 
@@ -87,6 +88,7 @@ impl Batches {
     }
 
     /// Notes the Began of t on a side, at position `at`. It takes one place of the room at most.
+    #[inline(always)]
     pub fn join(&mut self, side: u32, t: Txn, at: usize)
         requires new { IsNew self.old t.0 }
         requires room { 0 < self.old.spare }
@@ -164,6 +166,7 @@ impl Batches {
     }
 
     /// Whether the batches of t and u are two that overlap: they start apart, and neither closed before the other started.
+    #[inline(always)]
     pub fn overlap(&self, t: Txn, u: Txn) -> bool
         requires first { IsTrue (has_joined self.now t.0) }
         requires second { IsTrue (has_joined self.now u.0) }

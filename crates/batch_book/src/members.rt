@@ -67,6 +67,7 @@ fn search_member(members: &[Member], t: Txn) -> Result<usize, usize>
 }
 
 /// Enters one more into the open batch of a side, or opens one at a position. It answers the number of the batch.
+#[inline(always)]
 pub(crate) fn enter(
     joined: &[Member],
     running: &[Member],

@@ -47,24 +47,35 @@ put_itself s x v = some_if (same_cell x x) v ∙ same_cell-itself x
 of_same : (P : Cell → Bool) (y x : Cell) (v : Option ℤ) → is_some (cond (same_cell y x) (Some v) None) ≡ true → P x ≡ true → P y ≡ true
 of_same P y x v h p = ap P (same_cell-exact y x (sym (some_if (same_cell y x) v) ∙ h)) ∙ p
 
+-- whom an event tells of, where only Gots count, each by its cell
+abbrev pub ByGot : (Cell → ℕ → Type 0) → Event → ℕ → Type 0
+ByGot F (Got s x w v) d = F x d
+ByGot F _ d = ⊥
+
+-- the same where only Puts count
+abbrev pub ByPut : (Cell → ℕ → Type 0) → Event → ℕ → Type 0
+ByPut F (Put s x v) a = F x a
+ByPut F _ a = ⊥
+
+pub only_gots : (F : Cell → ℕ → Type 0) (e : Event) → ((s : Txn) (x : Cell) (w : Txn) (v : Option ℤ) → e ≡ Got s x w v → ⊥) → (d : ℕ) → ByGot F e d → ⊥
+only_gots F (Got s x w v) none d h = none s x w v refl
+only_gots F _ none d h = h
+
+pub only_puts : (F : Cell → ℕ → Type 0) (e : Event) → ((s : Txn) (x : Cell) (v : Option ℤ) → e ≡ Put s x v → ⊥) → (a : ℕ) → ByPut F e a → ⊥
+only_puts F (Put s x v) none a h = none s x v refl
+only_puts F _ none a h = h
+
 module _ (S : Setup) (H : List Event) (n t : ℕ) where
   -- the writer of a cell that the event, a Got by c, has read
   abbrev pub Ahead : ℕ → Event → ℕ → Type 0
-  Ahead c (Got s x w v) d = PutsAcross S H n t c x d
-  Ahead c _ d = ⊥
+  Ahead c = ByGot (PutsAcross S H n t c)
 
   -- a reader of a cell that the event, a Put by b, has put
+  abbrev pub ReadAcross : ℕ → Cell → ℕ → Type 0
+  ReadAcross b x = IsAcross S H n t b (readers_in S H n x)
+
   abbrev pub Behind : ℕ → Event → ℕ → Type 0
-  Behind b (Put s x v) a = IsAcross S H n t b (readers_in S H n x) a
-  Behind b _ a = ⊥
-
-  pub only_gots : (c : ℕ) (e : Event) → ((s : Txn) (x : Cell) (w : Txn) (v : Option ℤ) → e ≡ Got s x w v → ⊥) → (d : ℕ) → Ahead c e d → ⊥
-  only_gots c (Got s x w v) none d h = none s x w v refl
-  only_gots c _ none d h = h
-
-  pub only_puts : (b : ℕ) (e : Event) → ((s : Txn) (x : Cell) (v : Option ℤ) → e ≡ Put s x v → ⊥) → (a : ℕ) → Behind b e a → ⊥
-  only_puts b (Put s x v) none a h = none s x v refl
-  only_puts b _ none a h = h
+  Behind b = ByPut (ReadAcross b)
 
 -- where two are across and share a cell, the events of each of them tell of the other
 module _ (S : Setup) (H : List Event) (n t : ℕ) where

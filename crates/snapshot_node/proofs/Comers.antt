@@ -2,7 +2,6 @@
 use Rattle.std.specs.Prelude.{IsTrue}
 use Rattle.std.proofs.Common.{◌≡◌, ℕ, true, false, eqb, List, ◌∷◌, ◌⊎◌, inl, inr, Option, Some, None, ◌≤◌, le_refl, refl, sym, subst, eqb-true, eq-eqb}
 use Rattle.std.proofs.lemmas.Bool.{and_parts, or_left}
-use Rattle.teb_names.specs.declared.Cell.{Cell}
 use Rattle.teb_names.specs.declared.Txn.{Txn}
 use Rattle.teb_names.specs.declared.ControlKind.TheVariants.{Snapshot}
 use Rattle.teb_history.specs.declared.Event.{Event}
@@ -21,7 +20,7 @@ use Rattle.batch_book.proofs.Elements.{any_Has, Has-any}
 use Rattle.snapshot_node.specs.Standing.{readers_in}
 use Rattle.snapshot_node.specs.Pivots.{is_at_stake, is_across, lesser_of, IsLeast, Leads, Leaves, Reaches, IsMiddle, IsFirst, ComesBefore, ComesAfter, ComesIn, ComesInAmong}
 use Rattle.snapshot_node.proofs.Least.{Remains, least_as, least_either, lesser_twice, remains_next, Along, along_of, along_item}
-use Rattle.snapshot_node.proofs.CellEdges.{Behind, behind_leads, leads_behind}
+use Rattle.snapshot_node.proofs.CellEdges.{ByPut, Behind, behind_leads, leads_behind}
 use Rattle.snapshot_node.proofs.Batchmates.{batch_parts, batch_sym, batch_trans}
 use Rattle.snapshot_node.proofs.Reach.{with_t}
 
@@ -32,12 +31,7 @@ stake_itself H t = or_left _ (committed H t) (or_left _ (prepared H t) (eq-eqb t
 module _ (S : Setup) (H : List Event) (n t : ℕ) where
   -- a comes in by a reader of the cell that the event has put
   abbrev pub ComesBy : Event → ℕ → Type 0
-  ComesBy (Put s x v) a = ComesInAmong S H n t (readers_in S H n x) a
-  ComesBy _ a = ⊥
-
-  pub comes_by_puts : (e : Event) → ((s : Txn) (x : Cell) (v : Option _) → e ≡ Put s x v → ⊥) → (a : ℕ) → ComesBy e a → ⊥
-  comes_by_puts (Put s x v) none a h = none s x v refl
-  comes_by_puts _ none a h = h
+  ComesBy = ByPut (λ x. ComesInAmong S H n t (readers_in S H n x))
 
   -- the same by the batch of c, which is at stake and across from t
   abbrev pub ComesThrough : Txn → ℕ → Type 0

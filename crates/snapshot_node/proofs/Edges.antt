@@ -134,6 +134,14 @@ module _ (S : Setup) (H : List Event) (n : ℕ) where
       let y = ltb-true _ _ (and_parts (ltb (start S H n u) (close S H n w)) (ltb (start S H n w) (close S H n u)) p.1).0 in
       elim (cases_lt w m) [ inl l ↦ absurd (let z = below w l b (meets_parts S H n u w p.0).1 in omega arith) | inr l ↦ l ]
 
+  -- nobody is across from himself
+  pub across_same : (u w : ℕ) → not (eqb u w) ≡ false → false ≡ is_across S H n u w
+  across_same u w h = sym (false_from_ne_true _ (λ k. (meets_parts S H n u w (and_parts (meets S H n u w) (concurrent S H n u w) k).0).2 (ap (side S H n) (eqb-true u w (even (eqb u w) h)))))
+    where
+      even : (b : Bool) → not b ≡ false → b ≡ true
+      even true h = refl
+      even false h = absurd (cc)
+
   pub across_turned : (u w : ℕ) → is_across S H n u w ≡ true → is_across S H n w u ≡ true
   unfolding concurrent
   across_turned u w h =

@@ -1,5 +1,5 @@
 -- What is said of a validation.
-use Rattle.std.specs.Prelude.{ℕ, Bool, ◌||◌, eqb, List, IsTrue}
+use Rattle.std.specs.Prelude.{ℕ, Bool, ◌||◌, eqb, List, IsTrue, IsFalse}
 use Rattle.teb_names.specs.declared.Txn.{Txn}
 use Rattle.teb_history.specs.declared.Event.{Event}
 use Rattle.teb_rules.specs.Setup.{Setup}
@@ -29,17 +29,20 @@ ruled v = there v.asked (validate (row (setup_of v.asked.facts.now).tree v.asked
 abbrev pub at {ℓ} : {A : Type ℓ} → Validation → (Setup → List Event → ℕ → ℕ → A) → A
 at v p = there v.asked p v.t.0
 
--- the least to whom the one that validates has an edge, and the least that has an edge to it
-pub record AreOwn (v : Validation) (own : Own) : Type 0 where
-  pub ahead : IsLeast (at v Leads v.t.0) own.ahead
-  pub behind : IsLeast (λ a. at v Leads a v.t.0) own.behind
-
 -- an edge is known to lead into the batch of u, or to leave it
 abbrev pub is_marked_entered : Validation → ℕ → Bool
 is_marked_entered v u = is_entered v.marks.now (there v.asked start u)
 
 abbrev pub is_marked_left : Validation → ℕ → Bool
 is_marked_left v u = is_left v.marks.now (there v.asked start u)
+
+-- the least to whom the one that validates has an edge, and the least that has an edge to it; and whether it may have one to somebody whose batch is known to be left, or one from
+-- somebody whose batch is known to be entered
+pub record AreOwn (v : Validation) (own : Own) : Type 0 where
+  pub ahead : IsLeast (at v Leads v.t.0) own.ahead
+  pub behind : IsLeast (λ a. at v Leads a v.t.0) own.behind
+  pub left : IsFalse own.left → (b : ℕ) → at v Leads v.t.0 b → IsTrue (is_marked_left v b) → ⊥
+  pub entered : IsFalse own.entered → (a : ℕ) → at v Leads a v.t.0 → IsTrue (is_marked_entered v a) → ⊥
 
 -- c is the one that validates, or known to have an edge; and somebody is known to have an edge to it
 abbrev pub may_lead : Validation → ℕ → Bool

@@ -22,6 +22,7 @@ impl<'a> Asked<'a> {
     ghost use Rattle.snapshot_node.specs.Asking.{AreThere, IsAt, comes_first, is_met, there};
 
     // Those on whose path the node stands that have put a cell and are not aborted, in ascending number, each once.
+    #[inline(always)]
     pub(crate) fn writers(&self, cell: Cell) -> &[Txn]
         ensures { result.now ≡ there self.now writers_in cell }
     {
@@ -29,6 +30,7 @@ impl<'a> Asked<'a> {
     }
 
     // The same of those that have read it.
+    #[inline(always)]
     pub(crate) fn readers(&self, cell: Cell) -> &[Txn]
         ensures { result.now ≡ there self.now readers_in cell }
     {

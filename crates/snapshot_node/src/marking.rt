@@ -86,10 +86,11 @@ fn mark_pair(marks: &mut [Mark], asked: &Asked, u: Txn, w: Txn)
 
 // Whether u is at stake where t was validated, and their batches are two that overlap: where the rules granted each event, whether
 // it is across from t.
+#[inline(always)]
 fn may_be_across(asked: &Asked, t: Txn, u: Txn) -> bool
     requires left { IsAt asked.now t.0 }
     requires right { IsAt asked.now u.0 }
     ensures { Lawful (setup_of asked.now.facts.now) (history asked.now) → IsTrue (is_at_stake (history asked.now) t.0 u.0) → IsTrue (there asked.now is_across t.0 u.0) → IsTrue result }
 {
-    asked.register.batches.overlap(t, u) && is_at_stake(asked.facts.history, t, u)
+    t != u && asked.register.batches.overlap(t, u) && is_at_stake(asked.facts.history, t, u)
 }

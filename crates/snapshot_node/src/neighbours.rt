@@ -14,6 +14,7 @@ use teb_history::{Event, History};
 use teb_names::Txn;
 
 /// Whether u is at stake where t validates: it is t itself, or prepared or committed.
+#[inline(always)]
 pub(crate) fn is_at_stake(history: &History, t: Txn, u: Txn) -> bool
     ensures { result ≡ is_at_stake history.now.events t.0 u.0 }
 {
@@ -33,12 +34,13 @@ pub(crate) fn lesser(a: Option<Txn>, b: Option<Txn>) -> Option<Txn>
 
 impl<'a> Validation<'a> {
     /// Whether u and v meet here, and their batches are concurrent: they are two that overlap.
+    #[inline(always)]
     pub(crate) fn are_across(&self, u: Txn, v: Txn) -> bool
         requires left { IsAt self.now.asked u.0 }
         requires right { IsAt self.now.asked v.0 }
         ensures { result ≡ there self.now.asked is_across u.0 v.0 }
     {
-        self.asked.register.batches.overlap(u, v)
+        u != v && self.asked.register.batches.overlap(u, v)
     }
 
     /// Whether two are of one batch: where both are here, theirs start at one place.
@@ -58,6 +60,7 @@ impl<'a> Validation<'a> {
     }
 
     /// The least of some at stake that are across from u.
+    #[inline(always)]
     pub(crate) fn first_across(&self, u: Txn, among: &[Txn]) -> Option<Txn>
         requires here { IsAt self.now.asked u.0 }
         requires ascending { IsAscendingBy number_of among.now }
@@ -72,25 +75,36 @@ impl<'a> Validation<'a> {
         None
     }
 
-    /// The least one to whom t has an edge, and the least one that has an edge to t.
+    /// The least one to whom t has an edge, the least one that has an edge to t, and whether edges of others may go on from t's.
     pub(crate) fn own_edges(&self) -> Own
         ensures { AreOwn self.now result }
     {
         let recent = self.asked.recent(self.t);
         let mut ahead = None;
         let mut behind = None;
+        let mut left = false;
+        let mut entered = false;
         for event in self.asked.facts.history.own_events(self.t) {
             match event {
                 Event::Got { cell, .. } => {
-                    ahead = lesser(ahead, self.first_across(self.t, recent.writers(cell)));
+                    let (first, is_left) = self.heads_among(recent.writers(cell));
+                    ahead = lesser(ahead, first);
+                    left |= is_left;
                 }
                 Event::Put { cell, .. } => {
-                    behind = lesser(behind, self.first_across(self.t, recent.readers(cell)));
+                    let (first, is_entered) = self.tails_among(recent.readers(cell));
+                    behind = lesser(behind, first);
+                    entered |= is_entered;
                 }
                 _ => {}
             }
         }
-        Own { ahead, behind }
+        Own {
+            ahead,
+            behind,
+            left,
+            entered,
+        }
     }
 
     /// The least one to whom c, which is at stake, has an edge.

@@ -25,7 +25,7 @@ impl<'a> Validation<'a> {
             return None;
         }
         let own = self.own_edges();
-        if !self.is_near(own.ahead.is_some(), own.behind.is_some()) {
+        if !self.is_near(own) {
             return None;
         }
         let a = self.least_first(own)?;

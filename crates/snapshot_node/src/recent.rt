@@ -38,6 +38,7 @@ impl<'a> Asked<'a> {
 
 impl<'a> Recent<'a> {
     /// Those of them that have put a cell and are not aborted, in ascending number, each once.
+    #[inline(always)]
     pub(crate) fn writers(&self, cell: Cell) -> &[Txn]
         ensures ascending { IsAscendingBy number_of result.now }
         ensures here { AreThere self.now.asked result.now }
@@ -47,6 +48,7 @@ impl<'a> Recent<'a> {
     }
 
     /// The same of those that have read it.
+    #[inline(always)]
     pub(crate) fn readers(&self, cell: Cell) -> &[Txn]
         ensures ascending { IsAscendingBy number_of result.now }
         ensures here { AreThere self.now.asked result.now }

@@ -54,6 +54,7 @@ impl Register {
     }
 
     /// Notes the newest event of the history, which takes one place of the room at the most.
+    #[inline(always)]
     pub(crate) fn note(&mut self, facts: &Facts, e: Event)
         requires newest { IsNewest facts.now e self.old.node.0 }
         requires stands { RegisterStands self.old (setup_of facts.now) (drop 1 (events_of facts.now)) }

@@ -20,6 +20,7 @@ use std::alloc::{AllocError, Global};
 use teb_history::Event;
 use teb_names::{Cell, Node, Spot, Txn};
 use teb_rules::{Broken, Verdict};
+use vec_room::make_wide_room;
 use version_chain::Chains;
 
 /// The snapshot control of a node.
@@ -69,9 +70,10 @@ impl Control for Snapshot {
 
     fn reserve(&mut self, n: usize) -> Result<(), AllocError> {
         self.register.reserve(n)?;
-        self.marks.reserve(n)
+        make_wide_room(&mut self.marks, n)
     }
 
+    #[inline(always)]
     fn note(&mut self, facts: &Facts, _holders: &[Hold], e: Event) {
         self.register.note(facts, e);
         let _ = self.marks.push(NO_MARK);

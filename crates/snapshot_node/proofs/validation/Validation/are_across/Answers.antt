@@ -1,7 +1,7 @@
-use Rattle.std.proofs.Common.{◌∙◌}
+use Rattle.std.proofs.Common.{◌∙◌, sym}
 use Rattle.phase_api.specs.FactsView.{setup_of, events_of}
 use Rattle.batch_book.proofs.Telling.{joined_from}
-use Rattle.snapshot_node.proofs.Edges.{across_overlap, begun_place}
+use Rattle.snapshot_node.proofs.Edges.{across_overlap, across_same, begun_place}
 use Rattle.snapshot_node.proofs.validation.Validation.are_across.Goals as goal
 
 pub overlap-requires-clause-first : goal.overlap-requires-clause-first
@@ -10,8 +10,11 @@ overlap-requires-clause-first c = joined_from _ (setup_of c.args.self.now.asked.
 pub overlap-requires-clause-second : goal.overlap-requires-clause-second
 overlap-requires-clause-second c = joined_from _ (setup_of c.args.self.now.asked.facts.now) (events_of c.args.self.now.asked.facts.now) c.args.self.now.asked.register.now.node.0 c.args.v.0 c.args.self.now.asked.stands.batches c.requires.right.typed.begun c.requires.right.on
 
-pub returns : goal.returns
-returns c =
+pub returns-else-ne : goal.returns-else-ne
+returns-else-ne c = c.if-ne.false ∙ across_same (setup_of c.args.self.now.asked.facts.now) (events_of c.args.self.now.asked.facts.now) c.args.self.now.asked.register.now.node.0 c.args.u.0 c.args.v.0 (sym c.ne.ensures ∙ c.if-ne.false)
+
+pub returns-then-ne : goal.returns-then-ne
+returns-then-ne c =
     let S = setup_of c.args.self.now.asked.facts.now in
     let H = events_of c.args.self.now.asked.facts.now in
     let n = c.args.self.now.asked.register.now.node.0 in

@@ -1,14 +1,10 @@
 use Rattle.std.proofs.Common.{◌∙◌, ◌∷◌, ap, sym, subst}
 use Rattle.teb_history.specs.declared.Event.{Event}
-use Rattle.phase_api.specs.FactsView.{setup_of, events_of}
 use Rattle.snapshot_node.specs.declared.asked.Asked.{Asked}
 use Rattle.snapshot_node.specs.Asking.{AreThere, there}
 use Rattle.snapshot_node.specs.Standing.{writers_in}
-use Rattle.snapshot_node.specs.Pivots.{Leads}
-use Rattle.snapshot_node.proofs.Least.{remains_skip, remains_end}
-use Rattle.snapshot_node.proofs.CellEdges.{Ahead, only_gots}
 use Rattle.snapshot_node.proofs.RecentAcross.{late_as}
-use Rattle.snapshot_node.proofs.OwnEdges.{AheadIn, ahead_start, ahead_next}
+use Rattle.snapshot_node.proofs.OwnEdges.{AheadIn, ahead_start, ahead_next, ahead_skip, ahead_end}
 use Rattle.snapshot_node.proofs.validation.Validation.least_ahead.Goals as goal
 
 pub loop-event-init : goal.loop-event-init
@@ -29,20 +25,7 @@ loop-event-preserved-in-Got c =
     (c.in-Some.ensures.steps ∙ ap (λ (z : Event). z ∷ rest) c.in-Got.is) late c.loop-event.invariant)
 
 pub loop-event-preserved : goal.loop-event-preserved
-loop-event-preserved c =
-    let S = setup_of c.args.self.now.asked.facts.now in
-    let H = events_of c.args.self.now.asked.facts.now in
-    let n = c.args.self.now.asked.register.now.node.0 in
-    let t = c.args.self.now.t.0 in
-    let u = c.args.c.0 in
-    remains_skip (Ahead S H n t u) (Leads S H n t u) c.in-Some.event c.loop-event.event-iterator c.next.new.self c.loop-event.least c.in-Some.ensures.steps c.loop-event.invariant
-    (only_gots S H n t u c.in-Some.event c.in_default.not-Got)
+loop-event-preserved c = ahead_skip c.args.self.now c.args.c.0 c.loop-event.event-iterator c.loop-event.least c.in-Some.event c.next.new.self c.in-Some.ensures.steps c.in_default.not-Got c.loop-event.invariant
 
 pub returns : goal.returns
-returns c =
-    let S = setup_of c.args.self.now.asked.facts.now in
-    let H = events_of c.args.self.now.asked.facts.now in
-    let n = c.args.self.now.asked.register.now.node.0 in
-    let t = c.args.self.now.t.0 in
-    let u = c.args.c.0 in
-    remains_end (Ahead S H n t u) (Leads S H n t u) c.loop-event.event-iterator c.loop-event.least c.in-None.ensures.steps.0 c.loop-event.invariant
+returns c = ahead_end c.args.self.now c.args.c.0 c.loop-event.event-iterator c.loop-event.least c.in-None.ensures.steps.0 c.loop-event.invariant

@@ -8,10 +8,11 @@ use Rattle.batch_book.proofs.Numbered.{unfinished_parts}
 use Rattle.snapshot_node.specs.declared.asked.Asked.{Asked}
 use Rattle.snapshot_node.specs.Asking.{AreThere, there}
 use Rattle.snapshot_node.specs.Standing.{readers_in}
-use Rattle.snapshot_node.specs.Pivots.{ComesIn}
+use Rattle.snapshot_node.specs.Pivots.{ComesIn, ComesInAmong}
 use Rattle.snapshot_node.proofs.Listed.{readers_here}
 use Rattle.snapshot_node.proofs.Least.{Remains, remains_start, remains_next, remains_skip, remains_end}
-use Rattle.snapshot_node.proofs.Comers.{ComesBy, comes_by_puts, along_comes, comes_along}
+use Rattle.snapshot_node.proofs.CellEdges.{only_puts}
+use Rattle.snapshot_node.proofs.Comers.{ComesBy, along_comes, comes_along}
 use Rattle.snapshot_node.proofs.RecentAcross.{late_as, comer_recent}
 use Rattle.snapshot_node.proofs.validation.Validation.least_before.Goals as goal
 
@@ -51,7 +52,7 @@ loop-event-preserved c =
     let n = c.args.self.now.asked.register.now.node.0 in
     let t = c.args.self.now.t.0 in
     remains_skip (ComesBy S H n t) (ComesIn S H n t) c.in-Some.event c.loop-event.event-iterator c.next.new.self c.loop-event.least c.in-Some.ensures.steps c.loop-event.invariant
-    (comes_by_puts S H n t c.in-Some.event c.in_default.not-Put)
+    (only_puts (λ x. ComesInAmong S H n t (readers_in S H n x)) c.in-Some.event c.in_default.not-Put)
 
 pub returns : goal.returns
 returns c =

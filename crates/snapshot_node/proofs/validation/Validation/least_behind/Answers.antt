@@ -1,14 +1,10 @@
-use Rattle.std.proofs.Common.{◌∙◌, ◌∷◌, ℕ, ap, sym, subst}
+use Rattle.std.proofs.Common.{◌∙◌, ◌∷◌, ap, sym, subst}
 use Rattle.teb_history.specs.declared.Event.{Event}
-use Rattle.phase_api.specs.FactsView.{setup_of, events_of}
 use Rattle.snapshot_node.specs.declared.asked.Asked.{Asked}
 use Rattle.snapshot_node.specs.Asking.{AreThere, there}
 use Rattle.snapshot_node.specs.Standing.{readers_in}
-use Rattle.snapshot_node.specs.Pivots.{Leads}
-use Rattle.snapshot_node.proofs.Least.{remains_skip, remains_end}
-use Rattle.snapshot_node.proofs.CellEdges.{Behind, only_puts}
 use Rattle.snapshot_node.proofs.RecentAcross.{late_as}
-use Rattle.snapshot_node.proofs.OwnEdges.{BehindIn, behind_start, behind_next}
+use Rattle.snapshot_node.proofs.OwnEdges.{BehindIn, behind_start, behind_next, behind_skip, behind_end}
 use Rattle.snapshot_node.proofs.validation.Validation.least_behind.Goals as goal
 
 pub loop-event-init : goal.loop-event-init
@@ -29,20 +25,7 @@ loop-event-preserved-in-Put c =
     (c.in-Some.ensures.steps ∙ ap (λ (z : Event). z ∷ rest) c.in-Put.is) late c.loop-event.invariant)
 
 pub loop-event-preserved : goal.loop-event-preserved
-loop-event-preserved c =
-    let S = setup_of c.args.self.now.asked.facts.now in
-    let H = events_of c.args.self.now.asked.facts.now in
-    let n = c.args.self.now.asked.register.now.node.0 in
-    let t = c.args.self.now.t.0 in
-    let u = c.args.b.0 in
-    remains_skip (Behind S H n t u) (λ (a : ℕ). Leads S H n t a u) c.in-Some.event c.loop-event.event-iterator c.next.new.self c.loop-event.least c.in-Some.ensures.steps c.loop-event.invariant
-    (only_puts S H n t u c.in-Some.event c.in_default.not-Put)
+loop-event-preserved c = behind_skip c.args.self.now c.args.b.0 c.loop-event.event-iterator c.loop-event.least c.in-Some.event c.next.new.self c.in-Some.ensures.steps c.in_default.not-Put c.loop-event.invariant
 
 pub returns : goal.returns
-returns c =
-    let S = setup_of c.args.self.now.asked.facts.now in
-    let H = events_of c.args.self.now.asked.facts.now in
-    let n = c.args.self.now.asked.register.now.node.0 in
-    let t = c.args.self.now.t.0 in
-    let u = c.args.b.0 in
-    remains_end (Behind S H n t u) (λ (a : ℕ). Leads S H n t a u) c.loop-event.event-iterator c.loop-event.least c.in-None.ensures.steps.0 c.loop-event.invariant
+returns c = behind_end c.args.self.now c.args.b.0 c.loop-event.event-iterator c.loop-event.least c.in-None.ensures.steps.0 c.loop-event.invariant

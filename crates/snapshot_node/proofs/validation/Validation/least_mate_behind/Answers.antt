@@ -11,7 +11,7 @@ use Rattle.snapshot_node.specs.Standing.{readers_in}
 use Rattle.snapshot_node.specs.Pivots.{Leaves}
 use Rattle.snapshot_node.proofs.Listed.{readers_here}
 use Rattle.snapshot_node.proofs.Least.{Remains, remains_start, remains_next, remains_skip, remains_end}
-use Rattle.snapshot_node.proofs.CellEdges.{Behind, only_puts}
+use Rattle.snapshot_node.proofs.CellEdges.{Behind, ReadAcross, only_puts}
 use Rattle.snapshot_node.proofs.Known.{IsMateOf, along_behind, behind_along}
 use Rattle.snapshot_node.proofs.Middles.{Both}
 use Rattle.snapshot_node.proofs.RecentAcross.{late_as, mate_recent}
@@ -57,7 +57,7 @@ loop-event-preserved c =
     let t = v.t.0 in
     let b = c.args.b.0 in
     remains_skip (Both (Behind S H n t t) (IsMateOf S H n t b)) (λ (u : ℕ). Leaves S H n t b u t) c.in-Some.event c.loop-event.event-iterator c.next.new.self c.loop-event.least c.in-Some.ensures.steps c.loop-event.invariant
-    (λ u q. only_puts S H n t t c.in-Some.event c.in_default.not-Put u q.0)
+    (λ u q. only_puts (ReadAcross S H n t t) c.in-Some.event c.in_default.not-Put u q.0)
 
 pub returns : goal.returns
 returns c =

@@ -8,7 +8,7 @@ use Rattle.phase_api.specs.FactsView.{setup_of, events_of}
 use Rattle.snapshot_node.specs.declared.asked.Asked.{Asked}
 use Rattle.snapshot_node.specs.Asking.{AreThere, there}
 use Rattle.snapshot_node.specs.Standing.{writers_in}
-use Rattle.snapshot_node.specs.Pivots.{IsLeft, IsMiddle}
+use Rattle.snapshot_node.specs.Pivots.{IsLeft, IsMiddle, PutsAcross}
 use Rattle.snapshot_node.proofs.Listed.{writers_here}
 use Rattle.snapshot_node.proofs.Least.{Remains, remains_start, remains_next, remains_skip, remains_end}
 use Rattle.snapshot_node.proofs.CellEdges.{Ahead, only_gots}
@@ -57,7 +57,7 @@ loop-event-preserved c =
     let t = c.args.self.now.t.0 in
     let a = c.args.a.0 in
     remains_skip (Both (Ahead S H n t a) (IsLeft S H n t)) (IsMiddle S H n t a) c.in-Some.event c.loop-event.event-iterator c.next.new.self c.loop-event.least c.in-Some.ensures.steps c.loop-event.invariant
-    (λ u q. only_gots S H n t a c.in-Some.event c.in_default.not-Got u q.0)
+    (λ u q. only_gots (PutsAcross S H n t a) c.in-Some.event c.in_default.not-Got u q.0)
 
 pub returns : goal.returns
 returns c =

@@ -1,10 +1,8 @@
-use Rattle.std.proofs.Common.{◌∙◌, ℕ, sym, ap}
+use Rattle.std.proofs.Common.{◌∙◌, sym, ap}
 use Rattle.phase_api.specs.FactsView.{setup_of, events_of}
 use Rattle.teb_laws.proofs.Sound.{tree_facts}
-use Rattle.snapshot_node.specs.Pivots.{break_by, Leads}
-use Rattle.snapshot_node.specs.Validating.{at}
+use Rattle.snapshot_node.specs.Pivots.{break_by}
 use Rattle.snapshot_node.proofs.Batchmates.{leads_here}
-use Rattle.snapshot_node.proofs.Middles.{least_none}
 use Rattle.snapshot_node.proofs.Searching.{none_said, pivot_said}
 use Rattle.snapshot_node.proofs.Reach.{unprepared}
 use Rattle.snapshot_node.proofs.validation.Validation.least_pivot.Goals as goal
@@ -16,12 +14,6 @@ returns-then-is_prepared c =
     let n = c.args.self.now.asked.register.now.node.0 in
     let t = c.args.self.now.t.0 in
     none_said S H n t c.args.self.now.asked.stands.kind (λ x y z w p. unprepared S H n t c.args.self.now.lawful (tree_facts S c.args.self.now.tree) c.args.self.now.asked.stands.kind x y z w p (sym c.is_prepared.ensures ∙ c.if-is_prepared.true))
-
-pub is_near-requires-clause-ahead : goal.is_near-requires-clause-ahead
-is_near-requires-clause-ahead c f = least_none (at c.args.self.now Leads c.args.self.now.t.0) _ _ c.is_some.ensures f c.own_edges-own.ensures.ahead
-
-pub is_near-requires-clause-behind : goal.is_near-requires-clause-behind
-is_near-requires-clause-behind c f = least_none (λ (a : ℕ). at c.args.self.now Leads a c.args.self.now.t.0) _ _ c.is_some-2.ensures f c.own_edges-own.ensures.behind
 
 pub returns-then-not-is_near : goal.returns-then-not-is_near
 returns-then-not-is_near c =
