@@ -1,5 +1,6 @@
 -- What a session is offered, in whatever order the sessions stand.
 use Rattle.std.proofs.Common.{◌≡◌, ◌<◌, ℕ, zero, suc, Bool, true, false, not, leb, ◌&&◌, ◌||◌, List, [], ◌∷◌, ◌++◌, is_some, length, get_or, set, take, drop, refl, sym, ◌∙◌, ap, ap₂, arith}
+use Rattle.std.proofs.Math.Bool.{beq}
 use Rattle.std.specs.List.{list_any, list_all}
 use Rattle.std.proofs.lemmas.List.{take-append-drop}
 use Rattle.teb_history.specs.declared.Event.{Event}
@@ -61,6 +62,13 @@ pub any_set : (p : Cursor → Bool) (cs : List Cursor) (i : ℕ) (c d : Cursor) 
 any_set p [] i c d l e = absurd (omega arith)
 any_set p (x ∷ cs) zero c d l e = ap (λ (b : Bool). b || list_any p cs) e
 any_set p (x ∷ cs) (suc i) c d l e = ap (λ (b : Bool). p x || b) (any_set p cs i c d (omega (arith, l)) e)
+
+-- what is not other than another is the same
+pub not_other : (a b : Bool) → not (beq a b) ≡ false → a ≡ b
+not_other true true e = refl
+not_other true false e = absurd (cc)
+not_other false true e = absurd (cc)
+not_other false false e = refl
 
 -- who may begin, by who is due and who is chosen
 pub begins_freely : (H : List Event) (ws : List Seat) (w : Seat) → list_any due ws ≡ false → may_begin H ws w ≡ true

@@ -2,8 +2,9 @@
 
 ghost use Rattle.std.specs.Prelude.{◌≡◌, ◌≤◌, List, ◌∷◌};
 ghost use Rattle.teb_names.specs.declared.Request.{Request};
-ghost use Rattle.teb_rules.specs.Scripts.{at_first, asks};
+ghost use Rattle.teb_rules.specs.Scripts.{at_first, asks, move_of};
 ghost use Rattle.teb_rules.specs.Driver.{due, counted, seat_after};
+ghost use Rattle.script_walk.specs.Advances.{move_at};
 ghost use Rattle.script_walk.specs.ScriptStates.{requests_on};
 ghost use Rattle.fair_driver.specs.Seats.{seat_of};
 
@@ -39,6 +40,7 @@ impl<'a> Cursor<'a> {
     }
 
     /// What the session asks next: its line, or behind its last line End where it holds a transaction.
+    #[inline(always)]
     pub fn next(&self) -> Option<Request>
         ensures { result ≡ asks (seat_of self.now).state }
     {
@@ -46,6 +48,7 @@ impl<'a> Cursor<'a> {
     }
 
     /// Whether the session is to run alone: it was sent back three times, and is not through.
+    #[inline(always)]
     pub fn is_due(&self) -> bool
         ensures { result ≡ due (seat_of self.now) }
     {
@@ -53,35 +56,31 @@ impl<'a> Cursor<'a> {
     }
 
     /// Takes an answer to what the session asked.
+    #[inline(always)]
     pub fn take(&mut self, reply: &Reply)
         requires { self.old.aborts ≤ 3 }
         ensures { seat_of self.new ≡ seat_after (seat_of self.old) reply.now }
     {
-        self.aborts = self.aborts_after(reply);
-        self.walker.take(self.lines, reply);
-    }
-
-    /// How often the session was sent back, after an answer. Behind its last line that stays.
-    fn aborts_after(&self, reply: &Reply) -> u8
-        requires { self.now.aborts ≤ 3 }
-        ensures { result ≡ counted (seat_of self.now).state.rest reply.now self.now.aborts }
-    {
         if self.walker.at < self.lines.len() {
-            self.aborts_at_line(reply)
+            let advance = advance_after(reply);
+            self.aborts = self.aborts_after(reply, advance);
+            self.walker.go(advance);
         } else {
-            self.aborts
+            self.walker.begun = None;
         }
     }
 
-    /// How often the session was sent back, after an answer to a line. The count starts anew where it got through, and where no further transaction may begin.
-    fn aborts_at_line(&self, reply: &Reply) -> u8
-        requires { self.now.aborts ≤ 3 }
+    /// How often the session was sent back, after an answer to a line by which it advances so. The count starts anew where it got through, and where no further transaction may begin.
+    #[inline(always)]
+    fn aborts_after(&self, reply: &Reply, advance: Advance) -> u8
+        requires few { self.now.aborts ≤ 3 }
+        requires way { move_at advance ≡ move_of reply.now }
         ensures { (r : Request) (rs : List Request) → result ≡ counted (r ∷ rs) reply.now self.now.aborts }
     {
         if matches!(reply, Reply::Refused(Refusal::Full)) {
             return 0;
         }
-        match advance_after(reply) {
+        match advance {
             Advance::Return => self.aborts + 1,
             Advance::Leave => 0,
             Advance::Stay | Advance::Enter | Advance::Go => self.aborts,

@@ -20,6 +20,7 @@ use version_chain::Chains;
 /// the log, each with its session, and `steps` counts the requests: at most 12 for each session and each line and
 /// one more. After an `Err` the sessions have made some of their turns, and the log has the replies to those.
 /// Room is made first for an event a line, so that the list of events seldom moves as they come.
+#[inline(never)]
 pub fn turns<C: Chains, G: Log, L: Ledger>(
     alloc: Global,
     engine: &mut Engine<C>,
@@ -58,6 +59,7 @@ fn lines_in(scripts: &Scripts) -> usize {
 
 /// Asks the session whose turn it is, and logs the reply. False where all are through. An `Err` leaves the history
 /// and what the log tells as they were.
+#[inline(always)]
 fn make_turn<C: Chains, G: Log>(
     engine: &mut Engine<C>,
     ring: &mut Ring<'_>,
@@ -78,8 +80,8 @@ fn make_turn<C: Chains, G: Log>(
     };
     log.ready(&engine.setup().names)?;
     engine.ready()?;
-    let reply = engine.ask(asked.session, asked.request);
-    ring.take(asked.index, &reply);
-    log.add(&engine.setup().names, asked.session, &reply);
+    let reply = &engine.ask(asked.session, asked.request);
+    ring.take(asked.index, reply);
+    log.add(&engine.setup().names, asked.session, reply);
     Ok(true)
 }

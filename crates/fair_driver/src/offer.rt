@@ -12,6 +12,7 @@ use teb_names::{Request, Session};
 
 /// What one of the sessions may ask now. `None` where it is through, or would begin a transaction while it may not. `has_due` says whether
 /// some session is to run alone; where none is, the others are not looked at.
+#[inline(always)]
 pub fn offer(
     history: &History,
     cursors: &[Cursor<'_>],
@@ -32,6 +33,7 @@ pub fn offer(
     }
 }
 
+#[inline(always)]
 fn is_begin(request: &Request) -> bool
     ensures { result ≡ is_begin request.now }
 {
@@ -39,6 +41,7 @@ fn is_begin(request: &Request) -> bool
 }
 
 /// Whether a session may begin a transaction: nobody is to run alone, or it is the chosen one and nobody is at work.
+#[inline(always)]
 fn may_begin(history: &History, cursors: &[Cursor<'_>], has_due: bool, cursor: &Cursor<'_>) -> bool
     requires { has_due ≡ list_any (λ c. due (seat_of c)) cursors.now }
     ensures { result ≡ may_begin history.now.events (seats_in cursors.now) (seat_of cursor.now) }
@@ -47,26 +50,15 @@ fn may_begin(history: &History, cursors: &[Cursor<'_>], has_due: bool, cursor: &
 }
 
 /// Whether some session is to run alone.
+#[inline(never)]
 pub fn is_any_due(cursors: &[Cursor<'_>]) -> bool
     ensures { result ≡ list_any (λ c. due (seat_of c)) cursors.now }
 {
     cursors.iter().any(|c| c.is_due())
 }
 
-/// Whether some session is to run alone, after one session has gone on: it `was` to, or `is` to now. Where these are the same, `has_due`
-/// says it still, and no session is looked at.
-pub fn has_due_after(cursors: &[Cursor<'_>], has_due: bool, was: bool, is: bool) -> bool
-    requires { was ≡ is → has_due ≡ list_any (λ c. due (seat_of c)) cursors.now }
-    ensures { result ≡ list_any (λ c. due (seat_of c)) cursors.now }
-{
-    if was == is {
-        has_due
-    } else {
-        is_any_due(cursors)
-    }
-}
-
 /// Whether a session is the least-numbered of those that are to run alone.
+#[inline(never)]
 fn is_chosen(cursors: &[Cursor<'_>], cursor: &Cursor<'_>) -> bool
     ensures { result ≡ chosen (seats_in cursors.now) (seat_of cursor.now) }
 {

@@ -10,6 +10,7 @@ use teb_history::History;
 use teb_names::Txn;
 
 /// Whether no transaction is unfinished. It costs what the live transactions are.
+#[inline(never)]
 pub fn is_quiet(history: &History) -> bool
     ensures { result ≡ is_quiet history.now.events }
 {

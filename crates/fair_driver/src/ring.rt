@@ -6,7 +6,7 @@ ghost use Rattle.teb_rules.specs.Driver.{Seat, due, offer, seated, seat_after};
 ghost use Rattle.fair_driver.specs.Seats.{seat_of};
 
 use crate::cursor::Cursor;
-use crate::offer::{has_due_after, is_any_due, offer};
+use crate::offer::{is_any_due, offer};
 use script_text::Scripts;
 use std::alloc::{AllocError, Global};
 use teb_history::History;
@@ -57,6 +57,7 @@ impl<'a> Ring<'a> {
     }
 
     /// Whose turn it is: the first session that may ask. `None` where all are through.
+    #[inline(always)]
     pub fn turn(&self, history: &History) -> Option<Asked>
         ensures { IsTurn history.now.events self.now.next (seats_in self.now.cursors.items) result }
     {
@@ -67,6 +68,7 @@ impl<'a> Ring<'a> {
     }
 
     /// The first from one place up to another that may ask.
+    #[inline(always)]
     fn first(&self, history: &History, from: usize, end: usize) -> Option<Asked>
         requires { end ≤ vec_len self.now.cursors }
         ensures { IsFirst (offer history.now.events (seats_in self.now.cursors.items)) (seats_in self.now.cursors.items) from end result }
@@ -85,18 +87,21 @@ impl<'a> Ring<'a> {
         None
     }
 
-    /// Takes the answer to what a session asked. The turn goes to the session behind it.
+    /// Takes the answer to what a session asked. The turn goes to the session behind it. The others are looked at only where that session is to
+    /// run alone from now on, or no longer.
+    #[inline(always)]
     pub fn take(&mut self, index: usize, reply: &Reply)
         requires within { index < vec_len self.old.cursors }
         requires few { IfSome (slice_get (seats_in self.old.cursors.items) index) (λ w. w.aborts ≤ 3) }
         ensures { (w : Seat) → slice_get (seats_in self.old.cursors.items) index ≡ Some w → round_of self.new
             ≡ drop (index + 1) (seats_in self.old.cursors.items) ++ take index (seats_in self.old.cursors.items) ++ seat_after w reply.now ∷ [] }
     {
+        self.next = index + 1;
         let cursor = &mut self.cursors[index];
         let was_due = cursor.is_due();
         cursor.take(reply);
-        let is_due = cursor.is_due();
-        self.has_due = has_due_after(&self.cursors, self.has_due, was_due, is_due);
-        self.next = index + 1;
+        if cursor.is_due() != was_due {
+            self.has_due = is_any_due(&self.cursors);
+        }
     }
 }

@@ -62,7 +62,7 @@ pub fn ask<C: Chains, L: Log>(
 {
     log.ready(&engine.setup().names)?;
     engine.ready()?;
-    let reply = engine.ask(session, request);
-    log.add(&engine.setup().names, session, &reply);
+    let reply = &engine.ask(session, request);
+    log.add(&engine.setup().names, session, reply);
     Ok(())
 }

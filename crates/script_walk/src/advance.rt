@@ -22,6 +22,7 @@ pub enum Advance {
 }
 
 /// How a session goes on after an answer to a line.
+#[inline(always)]
 pub fn advance_after(reply: &Reply) -> Advance
     ensures { move_at result ≡ move_of reply.now }
 {
@@ -36,6 +37,7 @@ pub fn advance_after(reply: &Reply) -> Advance
 }
 
 /// How a session goes on after an abort: one that the session asked for itself sends it nowhere.
+#[inline(always)]
 fn advance_by(cause: &Cause) -> Advance
     ensures { move_at result ≡ move_by cause.now }
 {

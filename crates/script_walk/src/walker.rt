@@ -1,7 +1,8 @@
 //! Where a session stands in its script.
 
-ghost use Rattle.std.specs.Prelude.{◌≡◌, List};
-ghost use Rattle.teb_rules.specs.Scripts.{asks, after_answer, at_first};
+ghost use Rattle.std.specs.Prelude.{◌≡◌, ◌+◌, ◌<◌, ◌^◌, List, length};
+ghost use Rattle.teb_rules.specs.Scripts.{asks, after_answer, at_first, moved};
+ghost use Rattle.script_walk.specs.Advances.{move_at};
 ghost use Rattle.script_walk.specs.ScriptStates.{state_of, requests_on};
 ghost use Rattle.script_text.specs.declared.Line.{Line};
 
@@ -27,6 +28,7 @@ impl Walker {
     }
 
     /// What the session asks next: its line, or behind its last line End where it holds a transaction.
+    #[inline(always)]
     pub fn next(&self, lines: &[Line]) -> Option<Request>
         ensures { result ≡ asks (state_of lines.now self.now) }
     {
@@ -40,6 +42,7 @@ impl Walker {
     }
 
     /// Takes an answer to what the session asked.
+    #[inline(always)]
     pub fn take(&mut self, lines: &[Line], reply: &Reply)
         ensures { state_of lines.now self.new ≡ after_answer (state_of lines.now self.old) reply.now }
     {
@@ -47,7 +50,17 @@ impl Walker {
             self.begun = None;
             return;
         }
-        match advance_after(reply) {
+        self.go(advance_after(reply));
+    }
+
+    /// Goes on from a line as an answer to it says.
+    #[inline(always)]
+    pub fn go(&mut self, advance: Advance)
+        requires { self.old.at + 1 < 2 ^ 64 }
+        ensures { (lines : List Line) → self.old.at < length lines
+            → state_of lines self.new ≡ moved (state_of lines self.old).rest (state_of lines self.old).begun (move_at advance) }
+    {
+        match advance {
             Advance::Stay => {}
             Advance::Enter => {
                 self.begun = Some(self.at);

@@ -16,17 +16,17 @@ returns-clause-ok g c = λ told t.
     let r = c.args.ring.now in
     let a = c.in-Some.asked in
     let turn : IsTurnOf H r.next (seats_in r.cursors.items) a = subst (λ (J : List Event). IsTurnOf J r.next (seats_in r.cursors.items) a) c.history.ensures.events c.in-Some.ensures in
-    let entry : Entry = record { session = a.session; request = a.request; reply = c.ask-reply.result } in
+    let entry : Entry = record { session = a.session; request = a.request; reply = c.ask.result } in
     let before : c.setup.result.now.names ≡ c.args.engine.now.names = c.setup.ensures.names in
-    let behind : c.setup-2.result.now.names ≡ c.args.engine.now.names = c.setup-2.ensures.names ∙ c.ask-reply.ensures.names ∙ c.in_ok-ready-2.ensures.names in
+    let behind : c.setup-2.result.now.names ≡ c.args.engine.now.names = c.setup-2.ensures.names ∙ c.ask.ensures.names ∙ c.in_ok-ready-2.ensures.names in
     let kept = c.in_ok-ready.ensures.told told (subst (λ (n : NameBook). g.G.Log.tells c.args.log.now n told) (sym before) t) in
     let added = c.add.ensures told (subst (λ (n : NameBook). g.G.Log.tells c.ready.new.self n told) (before ∙ sym behind) kept) in (
       told ++ answered entry ∷ [],
       subst (λ (n : NameBook). g.G.Log.tells c.add.new.self n (told ++ answered entry ∷ [])) behind added,
       record {
         entry = entry;
-        stepped = turn_taken X c.ready-2.new.self.store H c.ready-2.new.self.events c.ask-reply.new.self.events r.next (seats_in r.cursors.items) (round_of c.take.new.self) a c.ask-reply.result turn
-            c.in_ok-ready-2.ensures.store c.in_ok-ready-2.ensures.events c.ask-reply.ensures.reply c.ask-reply.ensures.events (c.take.ensures turn.of.seat turn.seat);
+        stepped = turn_taken X c.ready-2.new.self.store H c.ready-2.new.self.events c.ask.new.self.events r.next (seats_in r.cursors.items) (round_of c.take.new.self) a c.ask.result turn
+            c.in_ok-ready-2.ensures.store c.in_ok-ready-2.ensures.events c.ask.ensures.reply c.ask.ensures.events (c.take.ensures turn.of.seat turn.seat);
         replies = refl;
       },
     )

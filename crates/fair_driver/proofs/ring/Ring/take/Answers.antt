@@ -1,26 +1,34 @@
-use Rattle.std.proofs.Common.{◌≡◌, ◌<◌, Bool, List, get_or, length, sym, ◌∙◌, ap, arith}
-use Rattle.std.specs.List.{list_any}
+use Rattle.std.proofs.Common.{◌≡◌, ◌<◌, Bool, get_or, length, sym, ◌∙◌, ap, arith}
 use Rattle.teb_rules.specs.Driver.{Seat, due, seat_after}
 use Rattle.fair_driver.specs.declared.cursor.Cursor.{Cursor}
 use Rattle.fair_driver.specs.Seats.{seat_of}
 use Rattle.fair_driver.proofs.Circles.{round_on, seat_there}
-use Rattle.fair_driver.proofs.Offers.{any_set}
+use Rattle.fair_driver.proofs.Offers.{any_set, not_other}
 use Rattle.fair_driver.proofs.ring.Ring.take.Goals as goal
 
-pub returns : goal.returns
-returns c = λ w h.
+pub returns-then-is_due-was_due : goal.returns-then-is_due-was_due
+returns-then-is_due-was_due c = λ w h.
     let v = c.args.self.now.cursors in
     let z = v.ok.0 in
     let l : c.args.index < length v.items = omega (arith, c.requires.within) in
     round_on v.items c.args.index c.take.new.self (seat_after w c.args.reply.now) l
     (c.take.ensures ∙ ap (λ (s : Seat). seat_after s c.args.reply.now) (seat_there v.items c.args.index c.index_mut-cursor.result.now w l c.index_mut-cursor.ensures.value h))
 
-pub has_due_after-self-requires : goal.has_due_after-self-requires
-has_due_after-self-requires c = λ same.
+pub returns-else-is_due-was_due : goal.returns-else-is_due-was_due
+returns-else-is_due-was_due c = λ w h.
+    let v = c.args.self.now.cursors in
+    let z = v.ok.0 in
+    let l : c.args.index < length v.items = omega (arith, c.requires.within) in
+    round_on v.items c.args.index c.take.new.self (seat_after w c.args.reply.now) l
+    (c.take.ensures ∙ ap (λ (s : Seat). seat_after s c.args.reply.now) (seat_there v.items c.args.index c.index_mut-cursor.result.now w l c.index_mut-cursor.ensures.value h))
+
+pub invariant_of-self-else-is_due-was_due-clause-told : goal.invariant_of-self-else-is_due-was_due-clause-told
+invariant_of-self-else-is_due-was_due-clause-told c =
     let v = c.args.self.now.cursors in
     let z = v.ok.0 in
     let l : c.args.index < length v.items = omega (arith, c.requires.within) in
     let p : Cursor → Bool = λ k. due (seat_of k) in
     let before = c.index_mut-cursor.result.now in
-    let kept : p c.take.new.self ≡ p (get_or v.items c.args.index before) = sym c.is_due-is_due.ensures ∙ sym same ∙ c.is_due-was_due.ensures ∙ ap p c.index_mut-cursor.ensures.value in
-    c.args.self.now.told ∙ sym (any_set p v.items c.args.index c.take.new.self before l kept) ∙ ap (λ (cs : List Cursor). list_any p cs) (sym c.deref.ensures.value)
+    let same : c.is_due.result ≡ c.is_due-was_due.result = not_other c.is_due.result c.is_due-was_due.result c.if-is_due-was_due.false in
+    let kept : p c.take.new.self ≡ p (get_or v.items c.args.index before) = sym c.is_due.ensures ∙ same ∙ c.is_due-was_due.ensures ∙ ap p c.index_mut-cursor.ensures.value in
+    c.args.self.now.told ∙ sym (any_set p v.items c.args.index c.take.new.self before l kept)
