@@ -21,6 +21,7 @@ pub fn control_at<'a, K: Control>(controls: &'a [K], facts: &Facts, n: Node) -> 
 }
 
 /// The control of the node at which two transactions meet.
+#[inline(always)]
 pub fn control_between<'a, K: Control>(controls: &'a [K], facts: &Facts, t: Txn, u: Txn) -> &'a K
     requires tree { TreeFacts (setup_of facts.now) }
     requires lawful { Lawful (setup_of facts.now) (events_of facts.now) }

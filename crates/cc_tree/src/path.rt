@@ -10,6 +10,7 @@ use teb_names::Node;
 
 /// Whether a node is on the path.
 #[tactic(auto, using(crate::proofs::Paths::among_numbers))]
+#[inline(always)]
 pub fn has(path: &[Node], n: Node) -> bool
     ensures { result ≡ among n.0 (node_numbers path.now) }
 {

@@ -91,6 +91,7 @@ impl Tree {
 
     /// Whether a node is on the path of a type and an instance.
     #[tactic(auto, unfolding(teb_rules::specs::Tree::on_path))]
+    #[inline(always)]
     pub fn is_on(&self, n: Node, s: Spot) -> bool
         requires { s.kind.0 < self.now.types }
         ensures { result ≡ on_path self.now.rows n.0 s }

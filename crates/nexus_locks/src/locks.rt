@@ -49,6 +49,7 @@ impl Locks {
     }
 
     // The least-numbered of the holders of a cell that an access of it waits for.
+    #[inline(always)]
     fn blocker(&self, facts: &Facts, holders: &[Hold], t: Txn, write: bool) -> Option<Txn>
         requires stands { LocksStand self.now.node.0 (setup_of facts.now) (events_of facts.now) }
         requires holders { (x : Cell) × (holders.now ≡ holders_in (events_of facts.now) x) }
@@ -83,12 +84,14 @@ impl Control for Locks {
         Ok(())
     }
 
+    #[inline(always)]
     fn note(&mut self, _facts: &Facts, _holders: &[Hold], _e: Event) {}
 
     fn start(&self, _facts: &Facts, _s: Spot) -> Verdict {
         Verdict::Go
     }
 
+    #[inline(always)]
     fn before_read(&self, facts: &Facts, holders: &[Hold], t: Txn, _cell: Cell) -> Verdict {
         wait_for(self.blocker(facts, holders, t, false))
     }

@@ -30,6 +30,7 @@ impl<'a> Facts<'a> {
     }
 
     /// Whether a node is on the path of a transaction.
+    #[inline(always)]
     pub fn is_on(&self, n: Node, t: Txn) -> bool
         requires { IsTyped self.now t.0 }
         ensures { result ≡ on (setup_of self.now) (events_of self.now) n.0 t.0 }
@@ -67,6 +68,7 @@ impl<'a> Facts<'a> {
     }
 
     /// Whether two transactions meet at a node: it is on the paths of both, and they are on different sides of it.
+    #[inline(always)]
     pub fn meet_at(&self, n: Node, t: Txn, u: Txn) -> bool
         requires left { IsTyped self.now t.0 }
         requires right { IsTyped self.now u.0 }

@@ -95,6 +95,7 @@ impl Pipeline {
 
     /// Those that are ahead of an unfinished transaction: the unfinished ones that meet it at the node and of which some access
     /// stands before a conflicting access of its own. In ascending number, each once.
+    #[inline(always)]
     pub fn before(&self, _facts: &Facts, t: Txn) -> &[Txn]
         requires stands { PipelineStands self.now (setup_of _facts.now) (events_of _facts.now) }
         requires unfinished { IsTrue (unfinished (events_of _facts.now) t.0) }
@@ -126,6 +127,7 @@ impl Pipeline {
     }
 
     // The least-numbered transaction that holds up t: it is ahead of t, and has not passed the rank that is given.
+    #[inline(always)]
     fn first_ahead(&self, facts: &Facts, t: Txn, rank: Option<u8>) -> Option<Txn>
         requires stands { PipelineStands self.now (setup_of facts.now) (events_of facts.now) }
         requires unfinished { IsTrue (unfinished (events_of facts.now) t.0) }
@@ -140,6 +142,7 @@ impl Pipeline {
     }
 
     // The least-numbered transaction that is in the way of an access and has not passed the cell's rank.
+    #[inline(always)]
     fn first_holder(
         &self,
         facts: &Facts,
@@ -166,6 +169,7 @@ impl Pipeline {
     }
 
     // What an access meets: first those that are earlier, where it would enter a step of a greater rank, and then the holders.
+    #[inline(always)]
     fn before_access(
         &self,
         facts: &Facts,
@@ -210,6 +214,7 @@ impl Control for Pipeline {
         self.cursors.reserve(n)
     }
 
+    #[inline(always)]
     fn note(&mut self, facts: &Facts, holders: &[Hold], e: Event) {
         self.predecessors.note(facts, self.node, holders, e);
         match e {
@@ -228,6 +233,7 @@ impl Control for Pipeline {
         Verdict::Go
     }
 
+    #[inline(always)]
     fn before_read(&self, facts: &Facts, holders: &[Hold], t: Txn, cell: Cell) -> Verdict {
         self.before_access(facts, holders, t, cell, false)
     }

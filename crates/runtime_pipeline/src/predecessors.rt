@@ -13,7 +13,7 @@ ghost use Rattle.access_conflicts.specs.Blockers.{in_the_way};
 ghost use Rattle.sorted_multimap.specs.Multimap.{values_in};
 ghost use Rattle.sorted_multimap.specs.Keys.{txn_cmp};
 ghost use Rattle.dependency_book.specs.Dependencies.{has};
-ghost use Rattle.runtime_pipeline.specs.Predecessors.{PredecessorsOf, HoldAccessed, joined, list_of, without};
+ghost use Rattle.runtime_pipeline.specs.Predecessors.{PredecessorsOf, AllBehind, HoldAccessed, joined, list_of, without};
 
 use access_conflicts::is_in_the_way;
 use hold_book::Hold;
@@ -82,6 +82,7 @@ impl Predecessors {
     }
 
     /// The list of a transaction, in ascending number.
+    #[inline(always)]
     pub fn list(&self, t: Txn) -> &[Txn]
         ensures { result.now ≡ list_of self.now t }
     {
@@ -89,6 +90,7 @@ impl Predecessors {
     }
 
     /// Notes the newest event of the history; with an access come the holders of its cell. It takes at most one place of the room.
+    #[inline(always)]
     pub fn note(&mut self, facts: &Facts, node: Node, holders: &[Hold], e: Event)
         requires newest { IsNewest facts.now e node.0 }
         requires holders { HoldAccessed (events_of facts.now) e holders.now }
@@ -152,9 +154,7 @@ impl Predecessors {
         ensures unfinished { self.old.unfinished ≡ self.new.unfinished + 1 }
         ensures spare { self.old.spare ≤ self.new.spare + 1 }
     {
-        take_out(&mut self.lists, &self.behind, t);
-        clear_txn(&mut self.lists, t);
-        self.behind.retain(|u| *u != t);
+        take_away(&mut self.lists, &mut self.behind, t);
         self.unfinished -= 1;
         self.spare -= 1;
     }
@@ -205,6 +205,24 @@ fn add_once(behind: &mut Vec<Txn>, t: Txn)
     if !behind.contains(&t) {
         let _ = behind.push(t);
     }
+}
+
+// Takes t out of all lists, and its own away. Where nobody is behind anybody, all lists are empty: that costs one look.
+fn take_away(lists: &mut Multimap<Txn, Txn>, behind: &mut Vec<Txn>, t: Txn)
+    requires ascending { (v : Txn) → IsAscendingBy number_of (values_in txn_cmp lists.old v) }
+    requires behind { AllBehind lists.old.entries behind.old.items }
+    ensures values { (v : Txn) → values_in txn_cmp lists.new v ≡ cond (eqb t.0 v.0) [] (without t.0 (values_in txn_cmp lists.old v)) }
+    ensures behind { AllBehind lists.new.entries behind.new.items }
+    ensures spare { lists.new.spare ≡ lists.old.spare }
+    ensures len { vec_len behind.new ≤ vec_len behind.old }
+    ensures capacity { vec_capacity behind.old ≤ vec_capacity behind.new }
+{
+    if behind.is_empty() {
+        return;
+    }
+    take_out(lists, behind, t);
+    clear_txn(lists, t);
+    behind.retain(|u| *u != t);
 }
 
 // Takes t out of the lists of some.

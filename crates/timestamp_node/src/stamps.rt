@@ -185,6 +185,7 @@ impl Control for Stamps {
         self.reads.reserve(n)
     }
 
+    #[inline(always)]
     fn note(&mut self, facts: &Facts, _holders: &[Hold], e: Event) {
         let at = facts.history.len() - 1;
         match e {
