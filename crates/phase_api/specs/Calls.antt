@@ -1,8 +1,6 @@
 -- The conditions of the calls of a control.
 use Rattle.std.specs.Prelude.{◌≡◌, ◌<◌, ◌∷◌, ◌||◌, ℕ, suc, Bool, true, false, List, IsTrue, IsFalse, is_some, drop}
 use Rattle.teb_names.specs.declared.Cell.{Cell}
-use Rattle.teb_names.specs.declared.ControlKind.{ControlKind}
-use Rattle.teb_names.specs.declared.ControlKind.TheVariants.{Locks, Pipeline, Timestamp, Snapshot}
 use Rattle.teb_history.specs.declared.Event.{Event}
 use Rattle.teb_history.specs.declared.Event.TheVariants.{Began, Got, Put, Ready, Done, Gone, Told}
 use Rattle.teb_history.specs.Phases.{begun_count, unfinished, prepared, aborted, kind_of}
@@ -12,8 +10,6 @@ use Rattle.teb_rules.specs.Tree.{row, on, on_path, meets}
 use Rattle.teb_rules.specs.Steps.{least_step, cursor}
 use Rattle.teb_rules.specs.declared.Verdict.TheVariants.{Go}
 use Rattle.teb_rules.specs.Stops.{on_begin}
-use Rattle.hold_book.specs.declared.Hold.{Hold}
-use Rattle.hold_book.specs.Holders.{holders_in}
 use Rattle.phase_api.specs.declared.facts.Facts.{Facts}
 use Rattle.phase_api.specs.FactsView.{setup_of, events_of, IsTyped}
 
@@ -59,20 +55,3 @@ MayNote S P n (Told t) = IsTrue (aborted P t.0)
 pub record IsNewest (f : Facts) (e : Event) (n : ℕ) : Type 0 where
   pub is : events_of f ≡ e ∷ drop 1 (events_of f)
   pub may : MayNote (setup_of f) (drop 1 (events_of f)) n e
-
--- a node of this kind asks who holds the cell that is accessed
-abbrev pub asks_holders : ControlKind → Bool
-asks_holders Locks = true
-asks_holders Pipeline = true
-asks_holders Timestamp = false
-asks_holders Snapshot = false
-
--- the holders that node n is told of with an access of x: those of the cell, where the node asks for them
-abbrev pub AreHolders : Setup → List Event → ℕ → Cell → List Hold → Type 0
-AreHolders S H n x holders = IsTrue (asks_holders (row S.tree n).control) → holders ≡ holders_in H x
-
--- the holders that node n is told of with the newest event: those of the cell that it accesses, where the node is a pipeline
-abbrev pub ComeHolders : Setup → List Event → ℕ → Event → List Hold → Type 0
-ComeHolders S H n (Got t x w v) holders = (row S.tree n).control ≡ Pipeline → holders ≡ holders_in H x
-ComeHolders S H n (Put t x v) holders = (row S.tree n).control ≡ Pipeline → holders ≡ holders_in H x
-ComeHolders S H n _ holders = Unit {0}

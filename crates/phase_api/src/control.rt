@@ -13,11 +13,10 @@ ghost use Rattle.teb_rules.specs.Stops.{on_begin};
 ghost use Rattle.teb_laws.specs.Lawful.{Lawful};
 ghost use Rattle.version_chain.specs.Lists.{writers_of};
 ghost use Rattle.phase_api.specs.FactsView.{setup_of, events_of, IsOrderly};
-ghost use Rattle.phase_api.specs.Calls.{IsHere, IsAccess, IsPair, Writes, IsNewest, AreHolders, ComeHolders};
+ghost use Rattle.phase_api.specs.Calls.{IsHere, IsAccess, IsPair, Writes, IsNewest};
 ghost use Rattle.phase_api.specs.Versions.{HoldsVersions, IsToldPlace, SourcesStand};
 
 use crate::facts::Facts;
-use hold_book::Hold;
 use std::alloc::AllocError;
 use teb_history::Event;
 use teb_names::{Cell, Node, Spot, Txn};
@@ -44,10 +43,7 @@ pub trait Control: Drop {
         ensures room { OnOk result (n ≤ spare self.new) };
 
     /// Notes the newest event of the history: a control that stood for the history before it then stands for the history with it.
-    /// To a pipeline come with an access the holders of its cell, in ascending number, the one that accesses among them; to other nodes
-    /// any holders may come.
-    fn note(&mut self, facts: &Facts, holders: &[Hold], e: Event)
-        requires holders { ComeHolders (setup_of facts.now) (events_of facts.now) (node_number self.old) e holders.now }
+    fn note(&mut self, facts: &Facts, e: Event)
         requires newest { IsNewest facts.now e (node_number self.old) }
         requires stands { stands self.old (setup_of facts.now) (drop 1 (events_of facts.now)) }
         requires room { 0 < spare self.old }
@@ -62,26 +58,22 @@ pub trait Control: Drop {
         requires on { IsTrue (on_path (setup_of facts.now).tree (node_number self.now) s) }
         ensures { result ≡ on_begin (setup_of facts.now) (events_of facts.now) s (node_number self.now) };
 
-    /// What a read of a cell meets. Nodes of locks and pipelines are told who holds the cell, in ascending number; to nodes of
-    /// timestamps and snapshots any holders may be told.
-    fn before_read(&self, facts: &Facts, holders: &[Hold], t: Txn, cell: Cell) -> Verdict
-        requires holders { AreHolders (setup_of facts.now) (events_of facts.now) (node_number self.now) cell holders.now }
+    /// What a read of a cell meets.
+    fn before_read(&self, facts: &Facts, t: Txn, cell: Cell) -> Verdict
         requires stands { stands self.now (setup_of facts.now) (events_of facts.now) }
         requires access { IsAccess facts.now (node_number self.now) t.0 cell }
         ensures { result ≡ on_access (row (setup_of facts.now).tree (node_number self.now)).control (setup_of facts.now) (events_of facts.now) (node_number self.now) t.0 cell false };
 
-    /// What a write of a cell meets. Who holds the cell is told as for a read. `at` is the place that t's version has, or would have, among those
-    /// of the cell; it is missing at no timestamp node. Whoever was read from, by somebody who is not aborted, still has its version: so it is between two answers.
+    /// What a write of a cell meets. `at` is the place that t's version has, or would have, among those of the cell; it is missing at no
+    /// timestamp node. Whoever was read from, by somebody who is not aborted, still has its version: so it is between two answers.
     fn before_write<C: Chains>(
         &self,
         facts: &Facts,
-        holders: &[Hold],
         chains: &C,
         at: Option<usize>,
         t: Txn,
         cell: Cell,
     ) -> Verdict
-        requires holders { AreHolders (setup_of facts.now) (events_of facts.now) (node_number self.now) cell holders.now }
         requires stands { stands self.now (setup_of facts.now) (events_of facts.now) }
         requires access { IsAccess facts.now (node_number self.now) t.0 cell }
         requires chains { HoldsVersions (setup_of facts.now) (events_of facts.now) (C.lists chains.now) }
