@@ -1,5 +1,5 @@
 -- Who holds a cell after one more event.
-use Rattle.std.proofs.Common.{◌≡◌, ◌≢◌, ℕ, ℤ, suc, Bool, true, false, cond, not, eqb, ◌&&◌, ◌||◌, List, [], ◌∷◌, ◌++◌, ◌⊎◌, filter, map, Option, refl, sym, ◌∙◌, ap, subst, arith, inl, inr, lt-ltb, le-ltb, IsTrue}
+use Rattle.std.proofs.Common.{◌≡◌, ◌≢◌, ℕ, ℤ, suc, Bool, true, false, cond, not, eqb, ◌&&◌, ◌||◌, List, [], ◌∷◌, ◌++◌, ◌⊎◌, filter, map, Option, refl, sym, ◌∙◌, ap, subst, arith, inl, inr, lt-ltb, le-ltb}
 use Rattle.std.proofs.lemmas.Bool.{cases_Bool, cases_eq, cases_order, both_ways, and_from, or_left, or_right, eq-eqb, ne_eqb}
 use Rattle.teb_names.specs.declared.Txn.{Txn}
 use Rattle.teb_names.specs.declared.Session.{Session}
@@ -9,22 +9,22 @@ use Rattle.teb_names.specs.declared.Cell.{Cell}
 use Rattle.teb_names.specs.Cells.{same_cell}
 use Rattle.teb_history.specs.declared.Event.{Event}
 use Rattle.teb_history.specs.declared.Event.TheVariants.{Began, Got, Put, Ready, Done, Gone, Told}
-use Rattle.teb_history.specs.Phases.{begun, committed, aborted, unfinished, begun_count, numbers, txns}
+use Rattle.teb_history.specs.Phases.{begun, committed, aborted, unfinished, begun_count, numbers, txns, spot_of}
 use Rattle.teb_history.specs.Accesses.{wrote, got}
 use Rattle.teb_history.specs.Ascending.{AllAbove, IsAscendingBy, put_by}
 use Rattle.teb_history.proofs.AscendingLists.{ascending-filter, filter-put_in, above-mono}
-use Rattle.teb_history.proofs.Newest.{wrote-cons, got-cons, unfinished-cons}
+use Rattle.teb_rules.specs.Setup.{Setup}
+use Rattle.teb_rules.specs.Tree.{on, on_path}
 use Rattle.teb_rules.specs.Serializes.{In}
 use Rattle.teb_laws.proofs.AscendingNumbers.{number, numbers_ascending, above_in}
 use Rattle.teb_laws.proofs.Locks.{In-numbers}
-use Rattle.sorted_multimap.proofs.CellValues.{same_exact}
+use Rattle.teb_laws.proofs.Holding.{unfinished_same}
 use Rattle.hold_book.specs.declared.Hold.{Hold}
-use Rattle.hold_book.specs.Books.{Held, shown, hold_number, has_put, accessed, released}
-use Rattle.hold_book.specs.Holders.{holds, hold_of, holders_in, HoldsOf}
-use Rattle.hold_book.specs.Orderly.{Orderly}
+use Rattle.sorted_multimap.proofs.CellValues.{same_exact}
 use Rattle.hold_book.proofs.Cells.{same_itself}
-use Rattle.hold_book.proofs.OrderlyHistories.{unfinished_same, unfinished_parts, known, fresh_accesses}
-use Rattle.hold_book.proofs.Positive.{begun_pos}
+use Rattle.hold_book.specs.Books.{Held, shown, hold_number, has_put, accessed, released}
+use Rattle.hold_book.specs.Holders.{holds, hold_of, holds_in, HoldsOf, MayHold, LeavesHolds}
+use Rattle.teb_history.proofs.Newest.{wrote-cons, got-cons, unfinished-cons}
 
 put_itself : (t : ℕ) (us : List ℕ) → IsAscendingBy number us → In t us → put_by number t us ≡ us
 put_itself t [] h i = absurd i
@@ -142,163 +142,217 @@ unfinished_done P t u = unfinished-cons (Done t) P u ∙ ends_done (begun P u) (
 unfinished_gone : (P : List Event) (t : Txn) (c : Cause) (u : ℕ) → unfinished (Gone t c ∷ P) u ≡ (unfinished P u && not (eqb u t.0))
 unfinished_gone P t c u = unfinished-cons (Gone t c) P u ∙ ends_gone (begun P u) (committed P u) (eqb t.0 u) (aborted P u) ∙ (unfold unfinished in ap (λ (b : Bool). unfinished P u && not b) (same_number t.0 u))
 
--- the order of two tests does not matter
-moved_not : (b c d : Bool) → ((b && d) && c) ≡ ((b && c) && d)
-moved_not true true true = refl
-moved_not true true false = refl
-moved_not true false true = refl
-moved_not true false false = refl
-moved_not false c d = refl
+-- the order of three tests does not matter
+moved_not : (a b c d : Bool) → (a && (b && d) && c) ≡ ((a && b && c) && d)
+moved_not true true true true = refl
+moved_not true true true false = refl
+moved_not true true false true = refl
+moved_not true true false false = refl
+moved_not true false c true = refl
+moved_not true false c false = refl
+moved_not false b c d = refl
 
 -- t finishes
-finished_holds : (P : List Event) (t : ℕ) (e : Event) (x : Cell) → begun_count (e ∷ P) ≡ begun_count P → ((u : ℕ) → unfinished (e ∷ P) u ≡ (unfinished P u && not (eqb u t)))
-    → ((u : ℕ) → wrote (e ∷ P) u x ≡ wrote P u x) → ((u : ℕ) → got (e ∷ P) u x ≡ got P u x) → holders_in (e ∷ P) x ≡ released t (holders_in P x)
+finished_holds : (S : Setup) (P : List Event) (n t : ℕ) (e : Event) (x : Cell) → begun_count (e ∷ P) ≡ begun_count P → ((u : ℕ) → on S (e ∷ P) n u ≡ on S P n u) → ((u : ℕ) → unfinished (e ∷ P) u ≡ (unfinished P u && not (eqb u t)))
+    → ((u : ℕ) → wrote (e ∷ P) u x ≡ wrote P u x) → ((u : ℕ) → got (e ∷ P) u x ≡ got P u x) → holds_in S (e ∷ P) n x ≡ released t (holds_in S P n x)
 unfolding holds txns
-finished_holds P t e x c f w g =
-    (λ j. map (hold_by (λ u. w u j)) (filter (holds (e ∷ P) x) (numbers (c j))))
-    ∙ passes_no_more t (λ u. wrote P u x) (holds P x) (holds (e ∷ P) x) (λ u. (λ j. f u j && (w u j || g u j)) ∙ moved_not (unfinished P u) (wrote P u x || got P u x) (not (eqb u t))) (numbers (begun_count P))
+finished_holds S P n t e x c o f w g =
+    (λ j. map (hold_by (λ u. w u j)) (filter (holds S (e ∷ P) n x) (numbers (c j))))
+    ∙ passes_no_more t (λ u. wrote P u x) (holds S P n x) (holds S (e ∷ P) n x) (λ u. (λ j. o u j && f u j && (w u j || g u j)) ∙ moved_not (on S P n u) (unfinished P u) (wrote P u x || got P u x) (not (eqb u t))) (numbers (begun_count P))
 
 -- one that does not hold x has no hold to release
-pub released_off : (P : List Event) (x : Cell) (t : ℕ) → holds P x t ≡ false → released t (holders_in P x) ≡ holders_in P x
-released_off P x t off = sym (passes_no_more t (λ u. wrote P u x) (holds P x) (holds P x) (λ u. go u (holds P x u) refl (cases_eq u t)) (txns P))
+pub released_off : (S : Setup) (P : List Event) (n : ℕ) (x : Cell) (t : ℕ) → holds S P n x t ≡ false → released t (holds_in S P n x) ≡ holds_in S P n x
+released_off S P n x t off = sym (passes_no_more t (λ u. wrote P u x) (holds S P n x) (holds S P n x) (λ u. go u (holds S P n x u) refl (cases_eq u t)) (txns P))
   where
-    go : (u : ℕ) (b : Bool) → holds P x u ≡ b → (u ≡ t) ⊎ (u ≢ t) → b ≡ (b && not (eqb u t))
-    go u true h o = elim o [ inl e ↦ absurd (both_ways _ (ap (holds P x) e ∙ off) h) | inr ne ↦ sym (ap not (ne_eqb u t ne)) ]
+    go : (u : ℕ) (b : Bool) → holds S P n x u ≡ b → (u ≡ t) ⊎ (u ≢ t) → b ≡ (b && not (eqb u t))
+    go u true h o = elim o [ inl e ↦ absurd (both_ways _ (ap (holds S P n x) e ∙ off) h) | inr ne ↦ sym (ap not (ne_eqb u t ne)) ]
     go u false h o = refl
 
 -- whoever holds x has accessed it
-pub holder_accessed : (P : List Event) (x : Cell) (t : ℕ) → (wrote P t x || got P t x) ≡ false → holds P x t ≡ false
+pub holder_accessed : (S : Setup) (P : List Event) (n : ℕ) (x : Cell) (t : ℕ) → (wrote P t x || got P t x) ≡ false → holds S P n x t ≡ false
 unfolding holds
-holder_accessed P x t h = ap (λ (b : Bool). unfinished P t && b) h ∙ none (unfinished P t)
+holder_accessed S P n x t h = ap (λ (b : Bool). on S P n t && unfinished P t && b) h ∙ none (on S P n t) (unfinished P t)
   where
-    none : (a : Bool) → (a && false) ≡ false
-    none true = refl
-    none false = refl
+    none : (a b : Bool) → (a && b && false) ≡ false
+    none true true = refl
+    none true false = refl
+    none false b = refl
+
+done_holds : (S : Setup) (P : List Event) (n : ℕ) (t : Txn) (x : Cell) → holds_in S (Done t ∷ P) n x ≡ released t.0 (holds_in S P n x)
+done_holds S P n t x = finished_holds S P n t.0 (Done t) x (unfold begun_count in refl) (λ u. unfold on in unfold spot_of in refl) (unfinished_done P t) (λ u. wrote-cons (Done t) P u x) (λ u. got-cons (Done t) P u x)
+
+gone_holds : (S : Setup) (P : List Event) (n : ℕ) (t : Txn) (c : Cause) (x : Cell) → holds_in S (Gone t c ∷ P) n x ≡ released t.0 (holds_in S P n x)
+gone_holds S P n t c x = finished_holds S P n t.0 (Gone t c) x (unfold begun_count in refl) (λ u. unfold on in unfold spot_of in refl) (unfinished_gone P t c) (λ u. wrote-cons (Gone t c) P u x) (λ u. got-cons (Gone t c) P u x)
 
 -- nothing changes that matters on x
-kept_holds : (P : List Event) (e : Event) (x : Cell) → begun_count (e ∷ P) ≡ begun_count P → ((u : ℕ) → unfinished (e ∷ P) u ≡ unfinished P u)
-    → ((u : ℕ) → wrote (e ∷ P) u x ≡ wrote P u x) → ((u : ℕ) → got (e ∷ P) u x ≡ got P u x) → holders_in (e ∷ P) x ≡ holders_in P x
+kept_holds : (S : Setup) (P : List Event) (n : ℕ) (e : Event) (x : Cell) → begun_count (e ∷ P) ≡ begun_count P → ((u : ℕ) → holds S (e ∷ P) n x u ≡ holds S P n x u)
+    → ((u : ℕ) → holds S P n x u ≡ true → wrote (e ∷ P) u x ≡ wrote P u x) → holds_in S (e ∷ P) n x ≡ holds_in S P n x
+unfolding txns
+kept_holds S P n e x c h w = ap (λ (m : ℕ). map (hold_of (e ∷ P) x) (filter (holds S (e ∷ P) n x) (numbers m))) c
+    ∙ same_holds (λ u. wrote P u x) (λ u. wrote (e ∷ P) u x) (holds S P n x) (holds S (e ∷ P) n x) h w (numbers (begun_count P))
+
+-- t accesses x
+accessed_holds : (S : Setup) (P : List Event) (n : ℕ) (t : Txn) (wr : Bool) (e : Event) (x : Cell) → MayHold S P n t.0 → begun_count (e ∷ P) ≡ begun_count P → ((u : ℕ) → u ≢ t.0 → holds S (e ∷ P) n x u ≡ holds S P n x u)
+    → ((u : ℕ) → u ≢ t.0 → wrote (e ∷ P) u x ≡ wrote P u x) → holds S (e ∷ P) n x t.0 ≡ true → wrote (e ∷ P) t.0 x ≡ (wr || wrote P t.0 x) → holds_in S (e ∷ P) n x ≡ accessed t wr (holds_in S P n x)
 unfolding holds txns
-kept_holds P e x c f w g = ap (λ (m : ℕ). map (hold_of (e ∷ P) x) (filter (holds (e ∷ P) x) (numbers m))) c
-    ∙ same_holds (λ u. wrote P u x) (λ u. wrote (e ∷ P) u x) (holds P x) (holds (e ∷ P) x) (λ u j. f u j && (w u j || g u j)) (λ u _. w u) (numbers (begun_count P))
+accessed_holds S P n t wr e x m c h w here put =
+    let us = numbers (begun_count P) in
+    let i = In-numbers (begun_count P) t.0 m.some m.begun in
+    let told : has_put t.0 (holds_in S P n x) ≡ wrote P t.0 x = put_told t.0 (λ u. wrote P u x) (holds S P n x) (λ q. and_from _ _ (and_from _ _ m.on m.unfinished) (or_left _ _ q)) us i in
+    ap (λ (m : ℕ). map (hold_of (e ∷ P) x) (filter (holds S (e ∷ P) n x) (numbers m))) c
+    ∙ passes_too t.0 (λ u. wrote P u x) (λ u. wrote (e ∷ P) u x) w (holds S P n x) (holds S (e ∷ P) n x) here h us (numbers_ascending (begun_count P)) i
+    ∙ (λ j. put_by hold_number (let k : Hold = record { txn = t; wrote = (put ∙ ap (λ (b : Bool). wr || b) (sym told)) j } in k) (holds_in S P n x))
 
-module _ (P : List Event) (t : Txn) (o : Orderly P) (m : IsTrue (unfinished P t.0)) where
-  among : In t.0 (txns P)
-  unfolding txns
-  among = let begins = (unfinished_parts P t.0 m).0 in In-numbers (begun_count P) t.0 (begun_pos P t.0 o begins) ((known P t.0 o).begins begins)
-
-  -- the holders of x tell whether t has put it
-  pub put_by_holders : (x : Cell) → has_put t.0 (holders_in P x) ≡ wrote P t.0 x
-  unfolding holds
-  put_by_holders x = put_told t.0 (λ u. wrote P u x) (holds P x) (λ q. and_from _ _ m (or_left _ _ q)) (txns P) among
-
-  -- t accesses x
-  accessed_holds : (wr : Bool) (e : Event) (x : Cell) → begun_count (e ∷ P) ≡ begun_count P → ((u : ℕ) → u ≢ t.0 → holds (e ∷ P) x u ≡ holds P x u)
-      → ((u : ℕ) → u ≢ t.0 → wrote (e ∷ P) u x ≡ wrote P u x) → holds (e ∷ P) x t.0 ≡ true → wrote (e ∷ P) t.0 x ≡ (wr || wrote P t.0 x) → holders_in (e ∷ P) x ≡ accessed t wr (holders_in P x)
-  unfolding holds txns
-  accessed_holds wr e x c h w here put =
-      ap (λ (m : ℕ). map (hold_of (e ∷ P) x) (filter (holds (e ∷ P) x) (numbers m))) c
-      ∙ passes_too t.0 (λ u. wrote P u x) (λ u. wrote (e ∷ P) u x) w (holds P x) (holds (e ∷ P) x) here h (numbers (begun_count P)) (numbers_ascending (begun_count P)) among
-      ∙ (λ j. put_by hold_number (let k : Hold = record { txn = t; wrote = (put ∙ ap (λ (b : Bool). wr || b) (sym (put_by_holders x))) j } in k) (holders_in P x))
-
-  got_here : (x : Cell) (w : Txn) (v : Option ℤ) → holders_in (Got t x w v ∷ P) x ≡ accessed t false (holders_in P x)
-  unfolding begun_count holds
+module _ (S : Setup) (P : List Event) (n : ℕ) (t : Txn) (m : MayHold S P n t.0) where
+  pub got_here : (x : Cell) (w : Txn) (v : Option ℤ) → holds_in S (Got t x w v ∷ P) n x ≡ accessed t false (holds_in S P n x)
+  unfolding begun_count on spot_of holds
   got_here x w v =
       let e : Event = Got t x w v in
       let unended = λ (u : ℕ). unfinished_same e P u refl refl refl in
       let puts = λ (u : ℕ). wrote-cons e P u x in
       let gets : (u : ℕ) → u ≢ t.0 → got (e ∷ P) u x ≡ got P u x = λ u ne. got-cons e P u x ∙ ap (λ (b : Bool). (b && same_cell x x) || got P u x) (ne_eqb t.0 u (λ q. ne (sym q))) in
       let mine : got (e ∷ P) t.0 x ≡ true = got-cons e P t.0 x ∙ or_left _ _ (and_from _ _ (eq-eqb t.0 t.0 refl) (same_itself x)) in
-      accessed_holds false e x refl (λ u ne j. unended u j && (puts u j || gets u ne j)) (λ u ne. puts u)
-      (and_from _ _ (unended t.0 ∙ m) (or_right _ _ mine)) (puts t.0)
+      accessed_holds S P n t false e x m refl (λ u ne j. on S P n u && unended u j && (puts u j || gets u ne j)) (λ u ne. puts u)
+      (and_from _ _ (and_from _ _ m.on (unended t.0 ∙ m.unfinished)) (or_right _ _ mine)) (puts t.0)
 
-  put_here : (x : Cell) (v : Option ℤ) → holders_in (Put t x v ∷ P) x ≡ accessed t true (holders_in P x)
-  unfolding begun_count holds
+  pub put_here : (x : Cell) (v : Option ℤ) → holds_in S (Put t x v ∷ P) n x ≡ accessed t true (holds_in S P n x)
+  unfolding begun_count on spot_of holds
   put_here x v =
       let e : Event = Put t x v in
       let unended = λ (u : ℕ). unfinished_same e P u refl refl refl in
       let gets = λ (u : ℕ). got-cons e P u x in
       let puts : (u : ℕ) → u ≢ t.0 → wrote (e ∷ P) u x ≡ wrote P u x = λ u ne. wrote-cons e P u x ∙ ap (λ (b : Bool). (b && same_cell x x) || wrote P u x) (ne_eqb t.0 u (λ q. ne (sym q))) in
       let mine : wrote (e ∷ P) t.0 x ≡ true = wrote-cons e P t.0 x ∙ or_left _ _ (and_from _ _ (eq-eqb t.0 t.0 refl) (same_itself x)) in
-      accessed_holds true e x refl (λ u ne j. unended u j && (puts u ne j || gets u j)) puts
-      (and_from _ _ (unended t.0 ∙ m) (or_left _ _ mine)) mine
+      accessed_holds S P n t true e x m refl (λ u ne j. on S P n u && unended u j && (puts u ne j || gets u j)) puts
+      (and_from _ _ (and_from _ _ m.on (unended t.0 ∙ m.unfinished)) (or_left _ _ mine)) mine
 
 -- an access of another cell
 and_false : (b c d : Bool) → c ≡ false → ((b && c) || d) ≡ d
 and_false true c d e = ap (λ (c : Bool). c || d) e
 and_false false c d e = refl
 
-got_elsewhere : (P : List Event) (t : Txn) (x y : Cell) (w : Txn) (v : Option ℤ) → same_cell x y ≡ false → holders_in (Got t x w v ∷ P) y ≡ holders_in P y
-got_elsewhere P t x y w v o =
+pub got_elsewhere : (S : Setup) (P : List Event) (n : ℕ) (t : Txn) (x y : Cell) (w : Txn) (v : Option ℤ) → same_cell x y ≡ false → holds_in S (Got t x w v ∷ P) n y ≡ holds_in S P n y
+unfolding begun_count on spot_of holds
+got_elsewhere S P n t x y w v o =
     let e : Event = Got t x w v in
-    kept_holds P e y (unfold begun_count in refl) (λ u. unfinished_same e P u refl refl refl) (λ u. wrote-cons e P u y) (λ u. got-cons e P u y ∙ and_false (eqb t.0 u) (same_cell x y) (got P u y) o)
+    let unended = λ (u : ℕ). unfinished_same e P u refl refl refl in
+    let puts = λ (u : ℕ). wrote-cons e P u y in
+    let gets : (u : ℕ) → got (e ∷ P) u y ≡ got P u y = λ u. got-cons e P u y ∙ and_false (eqb t.0 u) (same_cell x y) (got P u y) o in
+    kept_holds S P n e y refl (λ u j. on S P n u && unended u j && (puts u j || gets u j)) (λ u _. puts u)
 
-put_elsewhere : (P : List Event) (t : Txn) (x y : Cell) (v : Option ℤ) → same_cell x y ≡ false → holders_in (Put t x v ∷ P) y ≡ holders_in P y
-put_elsewhere P t x y v o =
+pub put_elsewhere : (S : Setup) (P : List Event) (n : ℕ) (t : Txn) (x y : Cell) (v : Option ℤ) → same_cell x y ≡ false → holds_in S (Put t x v ∷ P) n y ≡ holds_in S P n y
+unfolding begun_count on spot_of holds
+put_elsewhere S P n t x y v o =
     let e : Event = Put t x v in
-    kept_holds P e y (unfold begun_count in refl) (λ u. unfinished_same e P u refl refl refl) (λ u. wrote-cons e P u y ∙ and_false (eqb t.0 u) (same_cell x y) (wrote P u y) o) (λ u. got-cons e P u y)
-
--- a new transaction, that has accessed nothing
-began_holds : (P : List Event) (t : Txn) (s : Session) (k : Kind) (i : ℕ) (x : Cell) → Orderly P → t.0 ≡ suc (begun_count P) → holders_in (Began t s k i ∷ P) x ≡ holders_in P x
-unfolding begun_count numbers txns holds
-began_holds P t s k i x o new =
-    let e : Event = Began t s k i in
-    let none = fresh_accesses P t.0 x o (omega (arith, new)) in
-    let before = holder_accessed P x t.0 none in
-    let after = holder_accessed (e ∷ P) x t.0 ((λ j. wrote-cons e P t.0 x j || got-cons e P t.0 x j) ∙ none) in
-    let else : (u : ℕ) → u ≢ t.0 → holds (e ∷ P) x u ≡ holds P x u =
-    λ u ne j. unfinished_same e P u (ne_eqb t.0 u (λ q. ne (sym q))) refl refl j && (wrote-cons e P u x j || got-cons e P u x j) in
-    same_holds (λ u. wrote P u x) (λ u. wrote (e ∷ P) u x) (holds P x) (holds (e ∷ P) x)
-    (λ u. elim (cases_eq u t.0) [ inl q ↦ ap (holds (e ∷ P) x) q ∙ after ∙ sym (ap (holds P x) q ∙ before) | inr ne ↦ else u ne ])
-    (λ u _. wrote-cons e P u x) (numbers (suc (begun_count P)))
-    ∙ last_off (λ u. wrote P u x) (holds P x) (suc (begun_count P)) (ap (holds P x) (sym new) ∙ before) (numbers (begun_count P))
-
--- nobody holds a cell before the first event
-pub stands_none : (b : Held) → ((x : Cell) → shown b x ≡ []) → HoldsOf b []
-unfolding txns begun_count numbers
-stands_none b f = record { shows = f }
+    let unended = λ (u : ℕ). unfinished_same e P u refl refl refl in
+    let gets = λ (u : ℕ). got-cons e P u y in
+    let puts : (u : ℕ) → wrote (e ∷ P) u y ≡ wrote P u y = λ u. wrote-cons e P u y ∙ and_false (eqb t.0 u) (same_cell x y) (wrote P u y) o in
+    kept_holds S P n e y refl (λ u j. on S P n u && unended u j && (puts u j || gets u j)) (λ u _. puts u)
 
 -- a book after one event more
-module _ (b b' : Held) (P : List Event) (stood : HoldsOf b P) where
-  pub stands_got : (t : Txn) (x : Cell) (w : Txn) (v : Option ℤ) → Orderly P → IsTrue (unfinished P t.0) → shown b' x ≡ accessed t false (shown b x) → ((y : Cell) → same_cell x y ≡ false → shown b' y ≡ shown b y) → HoldsOf b' (Got t x w v ∷ P)
-  stands_got t x w v o m here else = record {
+module _ (b b' : Held) (S : Setup) (P : List Event) (n : ℕ) (t : Txn) (stood : HoldsOf b S P n) where
+  pub stands_got : (x : Cell) (w : Txn) (v : Option ℤ) → MayHold S P n t.0 → shown b' x ≡ accessed t false (shown b x) → ((y : Cell) → same_cell x y ≡ false → shown b' y ≡ shown b y) → HoldsOf b' S (Got t x w v ∷ P) n
+  stands_got x w v m here else = record {
     shows = λ y. elim (cases_Bool (same_cell x y)) [
-      | inl e ↦ subst (λ (z : Cell). shown b' z ≡ holders_in (Got t x w v ∷ P) z) (same_exact x y e) (here ∙ ap (accessed t false) (stood.shows x) ∙ sym (got_here P t o m x w v))
-      | inr e ↦ else y e ∙ stood.shows y ∙ sym (got_elsewhere P t x y w v e)
+      | inl e ↦ subst (λ (z : Cell). shown b' z ≡ holds_in S (Got t x w v ∷ P) n z) (same_exact x y e) (here ∙ ap (accessed t false) (stood.shows x) ∙ sym (got_here S P n t m x w v))
+      | inr e ↦ else y e ∙ stood.shows y ∙ sym (got_elsewhere S P n t x y w v e)
     ];
   }
 
-  pub stands_put : (t : Txn) (x : Cell) (v : Option ℤ) → Orderly P → IsTrue (unfinished P t.0) → shown b' x ≡ accessed t true (shown b x) → ((y : Cell) → same_cell x y ≡ false → shown b' y ≡ shown b y) → HoldsOf b' (Put t x v ∷ P)
-  stands_put t x v o m here else = record {
+  pub stands_put : (x : Cell) (v : Option ℤ) → MayHold S P n t.0 → shown b' x ≡ accessed t true (shown b x) → ((y : Cell) → same_cell x y ≡ false → shown b' y ≡ shown b y) → HoldsOf b' S (Put t x v ∷ P) n
+  stands_put x v m here else = record {
     shows = λ y. elim (cases_Bool (same_cell x y)) [
-      | inl e ↦ subst (λ (z : Cell). shown b' z ≡ holders_in (Put t x v ∷ P) z) (same_exact x y e) (here ∙ ap (accessed t true) (stood.shows x) ∙ sym (put_here P t o m x v))
-      | inr e ↦ else y e ∙ stood.shows y ∙ sym (put_elsewhere P t x y v e)
+      | inl e ↦ subst (λ (z : Cell). shown b' z ≡ holds_in S (Put t x v ∷ P) n z) (same_exact x y e) (here ∙ ap (accessed t true) (stood.shows x) ∙ sym (put_here S P n t m x v))
+      | inr e ↦ else y e ∙ stood.shows y ∙ sym (put_elsewhere S P n t x y v e)
     ];
   }
 
-  pub stands_done : (t : Txn) → ((y : Cell) → shown b' y ≡ released t.0 (shown b y)) → HoldsOf b' (Done t ∷ P)
-  stands_done t f = record {
-    shows = λ y. f y ∙ ap (released t.0) (stood.shows y)
-        ∙ sym (finished_holds P t.0 (Done t) y (unfold begun_count in refl) (unfinished_done P t) (λ u. wrote-cons (Done t) P u y) (λ u. got-cons (Done t) P u y));
-  }
+  pub stands_done : ((y : Cell) → shown b' y ≡ released t.0 (shown b y)) → HoldsOf b' S (Done t ∷ P) n
+  stands_done f = record { shows = λ y. f y ∙ ap (released t.0) (stood.shows y) ∙ sym (done_holds S P n t y) }
 
-  pub stands_gone : (t : Txn) (c : Cause) → ((y : Cell) → shown b' y ≡ released t.0 (shown b y)) → HoldsOf b' (Gone t c ∷ P)
-  stands_gone t c f = record {
-    shows = λ y. f y ∙ ap (released t.0) (stood.shows y)
-        ∙ sym (finished_holds P t.0 (Gone t c) y (unfold begun_count in refl) (unfinished_gone P t c) (λ u. wrote-cons (Gone t c) P u y) (λ u. got-cons (Gone t c) P u y));
-  }
+  pub stands_gone : (c : Cause) → ((y : Cell) → shown b' y ≡ released t.0 (shown b y)) → HoldsOf b' S (Gone t c ∷ P) n
+  stands_gone c f = record { shows = λ y. f y ∙ ap (released t.0) (stood.shows y) ∙ sym (gone_holds S P n t c y) }
 
--- a book as it was stands for the history with an event that changes no holds
-module _ (b : Held) (P : List Event) (stood : HoldsOf b P) where
-  pub stands_began : (t : Txn) (s : Session) (k : Kind) (i : ℕ) → Orderly P → t.0 ≡ suc (begun_count P) → HoldsOf b (Began t s k i ∷ P)
-  stands_began t s k i o new = record { shows = λ x. stood.shows x ∙ sym (began_holds P t s k i x o new) }
+-- an event that leaves all holds as they are
+kept_inert : (S : Setup) (P : List Event) (n : ℕ) (e : Event) (x : Cell) → begun_count (e ∷ P) ≡ begun_count P → ((u : ℕ) → on S (e ∷ P) n u ≡ on S P n u) → ((u : ℕ) → unfinished (e ∷ P) u ≡ unfinished P u)
+    → ((u : ℕ) → wrote (e ∷ P) u x ≡ wrote P u x) → ((u : ℕ) → got (e ∷ P) u x ≡ got P u x) → holds_in S (e ∷ P) n x ≡ holds_in S P n x
+unfolding holds
+kept_inert S P n e x c o f w g = kept_holds S P n e x c (λ u j. o u j && f u j && (w u j || g u j)) (λ u _. w u)
 
-  pub stands_ready : (t : Txn) → HoldsOf b (Ready t ∷ P)
-  stands_ready t = record {
-    shows = λ x. stood.shows x ∙ sym (kept_holds P (Ready t) x (unfold begun_count in refl) (λ u. unfinished_same (Ready t) P u refl refl refl) (λ u. wrote-cons (Ready t) P u x) (λ u. got-cons (Ready t) P u x));
-  }
+-- one of a transaction that does not hold x before, nor after
+kept_off : (S : Setup) (P : List Event) (n t : ℕ) (e : Event) (x : Cell) → begun_count (e ∷ P) ≡ begun_count P → holds S P n x t ≡ false → holds S (e ∷ P) n x t ≡ false
+    → ((u : ℕ) → u ≢ t → holds S (e ∷ P) n x u ≡ holds S P n x u) → ((u : ℕ) → u ≢ t → wrote (e ∷ P) u x ≡ wrote P u x) → holds_in S (e ∷ P) n x ≡ holds_in S P n x
+kept_off S P n t e x c before after h w = kept_holds S P n e x c
+    (λ u. elim (cases_eq u t) [ inl q ↦ ap (holds S (e ∷ P) n x) q ∙ after ∙ sym (ap (holds S P n x) q ∙ before) | inr ne ↦ h u ne ])
+    (λ u p. elim (cases_eq u t) [ inl q ↦ absurd (both_ways _ (ap (holds S P n x) q ∙ before) p) | inr ne ↦ w u ne ])
 
-  pub stands_told : (t : Txn) → HoldsOf b (Told t ∷ P)
-  stands_told t = record {
-    shows = λ x. stood.shows x ∙ sym (kept_holds P (Told t) x (unfold begun_count in refl) (λ u. unfinished_same (Told t) P u refl refl refl) (λ u. wrote-cons (Told t) P u x) (λ u. got-cons (Told t) P u x));
-  }
+off_holds : (S : Setup) (H : List Event) (n : ℕ) (x : Cell) (u : ℕ) → on S H n u ≡ false → holds S H n x u ≡ false
+unfolding holds
+off_holds S H n x u e = ap (λ (b : Bool). b && unfinished H u && (wrote H u x || got H u x)) e
+
+-- an event that changes nobody else
+others_same : (S : Setup) (P : List Event) (n t : ℕ) (e : Event) (x : Cell) → ((u : ℕ) → u ≢ t → on S (e ∷ P) n u ≡ on S P n u) → ((u : ℕ) → u ≢ t → unfinished (e ∷ P) u ≡ unfinished P u)
+    → ((u : ℕ) → u ≢ t → wrote (e ∷ P) u x ≡ wrote P u x) → ((u : ℕ) → u ≢ t → got (e ∷ P) u x ≡ got P u x) → (u : ℕ) → u ≢ t → holds S (e ∷ P) n x u ≡ holds S P n x u
+unfolding holds
+others_same S P n t e x o f w g u ne = λ j. o u ne j && f u ne j && (w u ne j || g u ne j)
+
+not_other : (t u : ℕ) → u ≢ t → eqb t u ≡ false
+not_other t u ne = ne_eqb t u (λ q. ne (sym q))
+
+-- a new transaction, that has not accessed x
+began_holds : (S : Setup) (P : List Event) (n : ℕ) (t : Txn) (s : Session) (k : Kind) (i : ℕ) (x : Cell) → t.0 ≡ suc (begun_count P) → wrote P t.0 x ≡ false → got P t.0 x ≡ false
+    → holds_in S (Began t s k i ∷ P) n x ≡ holds_in S P n x
+unfolding begun_count numbers txns on spot_of
+began_holds S P n t s k i x new put get =
+    let e : Event = Began t s k i in
+    let before : holds S P n x t.0 ≡ false = none P put get in
+    let after : holds S (e ∷ P) n x t.0 ≡ false = none (e ∷ P) (wrote-cons e P t.0 x ∙ put) (got-cons e P t.0 x ∙ get) in
+    let puts : (u : ℕ) → wrote (e ∷ P) u x ≡ wrote P u x = λ u. wrote-cons e P u x in
+    let else : (u : ℕ) → u ≢ t.0 → holds S (e ∷ P) n x u ≡ holds S P n x u =
+    others_same S P n t.0 e x (λ u ne. ap (λ (b : Bool). on_path S.tree n (cond b (record { kind = k; instance = i }) (spot_of P u))) (not_other t.0 u ne)) (λ u ne. unfinished_same e P u (not_other t.0 u ne) refl refl) (λ u _. puts u) (λ u _. got-cons e P u x) in
+    same_holds (λ u. wrote P u x) (λ u. wrote (e ∷ P) u x) (holds S P n x) (holds S (e ∷ P) n x)
+    (λ u. elim (cases_eq u t.0) [ inl q ↦ ap (holds S (e ∷ P) n x) q ∙ after ∙ sym (ap (holds S P n x) q ∙ before) | inr ne ↦ else u ne ])
+    (λ u _. puts u) (numbers (suc (begun_count P)))
+    ∙ last_off (λ u. wrote P u x) (holds S P n x) (suc (begun_count P)) (ap (holds S P n x) (sym new) ∙ before) (numbers (begun_count P))
+  where
+    nobody : (a b : Bool) → (a && b && (false || false)) ≡ false
+    nobody true true = refl
+    nobody true false = refl
+    nobody false b = refl
+
+    none : (H : List Event) → wrote H t.0 x ≡ false → got H t.0 x ≡ false → holds S H n x t.0 ≡ false
+    none H w g = unfold holds in (λ j. on S H n t.0 && unfinished H t.0 && (w j || g j)) ∙ nobody (on S H n t.0) (unfinished H t.0)
+
+pub holds_left : (S : Setup) (P : List Event) (n : ℕ) (e : Event) → LeavesHolds S P n e → (x : Cell) → holds_in S (e ∷ P) n x ≡ holds_in S P n x
+unfolding begun_count on spot_of
+holds_left S P n (Ready t) h x = kept_inert S P n (Ready t) x refl (λ u. refl) (λ u. unfinished_same (Ready t) P u refl refl refl) (λ u. wrote-cons (Ready t) P u x) (λ u. got-cons (Ready t) P u x)
+holds_left S P n (Told t) h x = kept_inert S P n (Told t) x refl (λ u. refl) (λ u. unfinished_same (Told t) P u refl refl refl) (λ u. wrote-cons (Told t) P u x) (λ u. got-cons (Told t) P u x)
+holds_left S P n (Got t y w v) h x =
+    let e : Event = Got t y w v in
+    let puts : (u : ℕ) → wrote (e ∷ P) u x ≡ wrote P u x = λ u. wrote-cons e P u x in
+    kept_off S P n t.0 e x refl (off_holds S P n x t.0 h) (off_holds S (e ∷ P) n x t.0 h)
+    (others_same S P n t.0 e x (λ u _. refl) (λ u _. unfinished_same e P u refl refl refl) (λ u _. puts u) (λ u ne. got-cons e P u x ∙ ap (λ (b : Bool). (b && same_cell y x) || got P u x) (not_other t.0 u ne)))
+    (λ u _. puts u)
+holds_left S P n (Put t y v) h x =
+    let e : Event = Put t y v in
+    let puts : (u : ℕ) → u ≢ t.0 → wrote (e ∷ P) u x ≡ wrote P u x = λ u ne. wrote-cons e P u x ∙ ap (λ (b : Bool). (b && same_cell y x) || wrote P u x) (not_other t.0 u ne) in
+    kept_off S P n t.0 e x refl (off_holds S P n x t.0 h) (off_holds S (e ∷ P) n x t.0 h)
+    (others_same S P n t.0 e x (λ u _. refl) (λ u _. unfinished_same e P u refl refl refl) puts (λ u _. got-cons e P u x))
+    puts
+holds_left S P n (Done t) h x =
+    let e : Event = Done t in
+    let puts : (u : ℕ) → wrote (e ∷ P) u x ≡ wrote P u x = λ u. wrote-cons e P u x in
+    kept_off S P n t.0 e x refl (off_holds S P n x t.0 h) (off_holds S (e ∷ P) n x t.0 h)
+    (others_same S P n t.0 e x (λ u _. refl) (λ u ne. unfinished_same e P u refl (not_other t.0 u ne) refl) (λ u _. puts u) (λ u _. got-cons e P u x))
+    (λ u _. puts u)
+holds_left S P n (Gone t c) h x =
+    let e : Event = Gone t c in
+    let puts : (u : ℕ) → wrote (e ∷ P) u x ≡ wrote P u x = λ u. wrote-cons e P u x in
+    kept_off S P n t.0 e x refl (off_holds S P n x t.0 h) (off_holds S (e ∷ P) n x t.0 h)
+    (others_same S P n t.0 e x (λ u _. refl) (λ u ne. unfinished_same e P u refl refl (not_other t.0 u ne)) (λ u _. puts u) (λ u _. got-cons e P u x))
+    (λ u _. puts u)
+holds_left S P n (Began t s k i) h x = began_holds S P n t s k i x h.0 (h.1 x).0 (h.1 x).1
+
+-- so a book that stood for the history before it stands for the history with it
+pub stands_left : (b : Held) (S : Setup) (P : List Event) (n : ℕ) (e : Event) → LeavesHolds S P n e → HoldsOf b S P n → HoldsOf b S (e ∷ P) n
+stands_left b S P n e l stood = record { shows = λ x. stood.shows x ∙ sym (holds_left S P n e l x) }

@@ -11,6 +11,7 @@ use Rattle.teb_history.specs.OwnEvents.{own_events, put_in, got_in}
 use Rattle.teb_history.specs.Accesses.{wrote, got}
 use Rattle.teb_history.proofs.OwnWalks.{wrote_own, got_own}
 use Rattle.teb_history.proofs.Newest.{wrote-cons, got-cons}
+use Rattle.teb_rules.specs.Setup.{Setup}
 use Rattle.hold_book.specs.declared.Hold.{Hold}
 use Rattle.hold_book.specs.Books.{Held, shown, released}
 use Rattle.hold_book.specs.Holders.{HoldsOf}
@@ -94,16 +95,17 @@ released_own H t a b left h q x =
     ap (λ (es : List Event). released_if (accesses es x) t (shown b x)) (sym q) ∙ h.shown x ∙ ap (λ (p : Bool). released_if p t (shown a x)) (accessed_own H t x)
 
 -- whoever holds a cell has accessed it: a release of what t has accessed is one of all that it holds
-module _ (b b' : Held) (H P : List Event) (t : Txn) (stood : HoldsOf b P) (out : (x : Cell) → shown b' x ≡ released_if (wrote H t.0 x || got H t.0 x) t.0 (shown b x)) where
-  all_released : (e : Event) → H ≡ e ∷ P → ((x : Cell) → (wrote (e ∷ P) t.0 x || got (e ∷ P) t.0 x) ≡ (wrote P t.0 x || got P t.0 x)) → (x : Cell) → shown b' x ≡ released t.0 (shown b x)
-  all_released e i same x = out x ∙ ap (λ (G : List Event). released_if (wrote G t.0 x || got G t.0 x) t.0 (shown b x)) i ∙ ap (λ (p : Bool). released_if p t.0 (shown b x)) (same x) ∙ go (wrote P t.0 x || got P t.0 x) refl
+module _ (b b' : Held) (S : Setup) (P : List Event) (n : ℕ) (t : Txn) (stood : HoldsOf b S P n) where
+  all_released : (e : Event) → ((x : Cell) → (wrote (e ∷ P) t.0 x || got (e ∷ P) t.0 x) ≡ (wrote P t.0 x || got P t.0 x))
+      → ((x : Cell) → shown b' x ≡ released_if (wrote (e ∷ P) t.0 x || got (e ∷ P) t.0 x) t.0 (shown b x)) → (x : Cell) → shown b' x ≡ released t.0 (shown b x)
+  all_released e same out x = out x ∙ ap (λ (p : Bool). released_if p t.0 (shown b x)) (same x) ∙ go (wrote P t.0 x || got P t.0 x) refl
     where
       go : (p : Bool) → (wrote P t.0 x || got P t.0 x) ≡ p → released_if p t.0 (shown b x) ≡ released t.0 (shown b x)
       go true q = refl
-      go false q = stood.shows x ∙ sym (ap (released t.0) (stood.shows x) ∙ released_off P x t.0 (holder_accessed P x t.0 q))
+      go false q = stood.shows x ∙ sym (ap (released t.0) (stood.shows x) ∙ released_off S P n x t.0 (holder_accessed S P n x t.0 q))
 
-  pub released_done : H ≡ Done t ∷ P → HoldsOf b' (Done t ∷ P)
-  released_done i = stands_done b b' P stood t (all_released (Done t) i (λ x j. wrote-cons (Done t) P t.0 x j || got-cons (Done t) P t.0 x j))
+  pub released_done : ((x : Cell) → shown b' x ≡ released_if (wrote (Done t ∷ P) t.0 x || got (Done t ∷ P) t.0 x) t.0 (shown b x)) → HoldsOf b' S (Done t ∷ P) n
+  released_done out = stands_done b b' S P n t stood (all_released (Done t) (λ x j. wrote-cons (Done t) P t.0 x j || got-cons (Done t) P t.0 x j) out)
 
-  pub released_gone : (c : Cause) → H ≡ Gone t c ∷ P → HoldsOf b' (Gone t c ∷ P)
-  released_gone c i = stands_gone b b' P stood t c (all_released (Gone t c) i (λ x j. wrote-cons (Gone t c) P t.0 x j || got-cons (Gone t c) P t.0 x j))
+  pub released_gone : (c : Cause) → ((x : Cell) → shown b' x ≡ released_if (wrote (Gone t c ∷ P) t.0 x || got (Gone t c ∷ P) t.0 x) t.0 (shown b x)) → HoldsOf b' S (Gone t c ∷ P) n
+  released_gone c out = stands_gone b b' S P n t stood c (all_released (Gone t c) (λ x j. wrote-cons (Gone t c) P t.0 x j || got-cons (Gone t c) P t.0 x j) out)

@@ -1,4 +1,4 @@
-//! Who holds which cell: the unfinished transactions that have accessed it.
+//! Who holds which cell at a node: the unfinished transactions on whose path it stands that have accessed it.
 #![tactic(auto)]
 
 ghost use Rattle.std.specs.Prelude.{◌≡◌};
