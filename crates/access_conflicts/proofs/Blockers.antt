@@ -11,10 +11,11 @@ use Rattle.teb_history.specs.Accesses.{wrote, got}
 use Rattle.teb_rules.specs.Setup.{Setup}
 use Rattle.teb_rules.specs.Tree.{meets}
 use Rattle.teb_rules.specs.Controls.{blocks}
+use Rattle.teb_laws.proofs.Nodes.{meets_parts}
 use Rattle.phase_api.specs.declared.facts.Facts.{Facts}
 use Rattle.phase_api.specs.FactsView.{IsOrderly, IsTyped, setup_of, events_of}
 use Rattle.hold_book.specs.declared.Hold.{Hold}
-use Rattle.hold_book.specs.Holders.{holds, hold_of, holders_in}
+use Rattle.hold_book.specs.Holders.{holds, hold_of, holds_in}
 use Rattle.access_conflicts.specs.Blockers.{in_the_way}
 use Rattle.access_conflicts.specs.Waits.{some_txn}
 use Rattle.access_conflicts.proofs.Orderly.{unfinished_begun}
@@ -24,9 +25,9 @@ use Rattle.access_conflicts.proofs.Noting.{typed_now}
 abbrev pub holder : Option Hold → Option Txn
 holder o = option_map (λ h. h.txn) o
 
-held_parts : (H : List Event) (x : Cell) (u : ℕ) → holds H x u ≡ true → (unfinished H u ≡ true) × ((wrote H u x || got H u x) ≡ true)
+held_parts : (S : Setup) (H : List Event) (n : ℕ) (x : Cell) (u : ℕ) → holds S H n x u ≡ true → (unfinished H u ≡ true) × ((wrote H u x || got H u x) ≡ true)
 unfolding holds
-held_parts H x u h = and_parts _ _ h
+held_parts S H n x u h = let p = and_parts _ _ h in ((and_parts _ _ p.0).1, p.1)
 
 same_test : (w g m write : Bool) → (w || g) ≡ true → (m && (w || (write && g))) ≡ ((write || w) && m)
 same_test true g true true h = refl
@@ -40,56 +41,57 @@ same_test false true false false h = refl
 same_test false false m write h = absurd (cc)
 
 -- a holder blocks exactly where its hold is in the way
-pub blocks_held : (S : Setup) (H : List Event) (n t : ℕ) (x : Cell) (write : Bool) (u : ℕ) → holds H x u ≡ true → blocks S H n t x write u ≡ in_the_way S H n t write (hold_of H x u)
+pub blocks_held : (S : Setup) (H : List Event) (n t : ℕ) (x : Cell) (write : Bool) (u : ℕ) → holds S H n x u ≡ true → blocks S H n t x write u ≡ in_the_way S H n t write (hold_of H x u)
 unfolding blocks
 blocks_held S H n t x write u h =
-    let p = held_parts H x u h in
+    let p = held_parts S H n x u h in
     ap (λ (b : Bool). b && meets S H n t u && (wrote H u x || (write && got H u x))) p.0 ∙ same_test (wrote H u x) (got H u x) (meets S H n t u) write p.1
 
 -- who blocks is a holder
-pub blocks_holds : (S : Setup) (H : List Event) (n t : ℕ) (x : Cell) (write : Bool) (u : ℕ) → blocks S H n t x write u ≡ true → holds H x u ≡ true
+pub blocks_holds : (S : Setup) (H : List Event) (n t : ℕ) (x : Cell) (write : Bool) (u : ℕ) → blocks S H n t x write u ≡ true → holds S H n x u ≡ true
 unfolding blocks holds
 blocks_holds S H n t x write u h =
     let p = and_parts _ _ h in
     let q = and_parts _ _ p.0 in
-    and_from _ _ q.0 (elim (or_cases (wrote H u x) (write && got H u x) p.1) [ inl w ↦ or_left (wrote H u x) (got H u x) w | inr g ↦ or_right (wrote H u x) (got H u x) (and_parts _ _ g).1 ])
+    and_from _ _ (and_from _ _ (meets_parts S H n t u q.1).1 q.0)
+    (elim (or_cases (wrote H u x) (write && got H u x) p.1) [ inl w ↦ or_left (wrote H u x) (got H u x) w | inr g ↦ or_right (wrote H u x) (got H u x) (and_parts _ _ g).1 ])
 
-module _ (H : List Event) (x : Cell) where
+module _ (S : Setup) (H : List Event) (n : ℕ) (x : Cell) where
   -- a test that only holders pass, and that their holds tell, finds the same among the holds
-  module _ (q : ℕ → Bool) (p : Hold → Bool) (only : (u : ℕ) → q u ≡ true → holds H x u ≡ true) (same : (u : ℕ) → holds H x u ≡ true → q u ≡ p (hold_of H x u)) where
-    found_in : (us : List ℕ) → holder (find p (map (hold_of H x) (filter (holds H x) us))) ≡ some_txn (find q us)
+  module _ (q : ℕ → Bool) (p : Hold → Bool) (only : (u : ℕ) → q u ≡ true → holds S H n x u ≡ true) (same : (u : ℕ) → holds S H n x u ≡ true → q u ≡ p (hold_of H x u)) where
+    found_in : (us : List ℕ) → holder (find p (map (hold_of H x) (filter (holds S H n x) us))) ≡ some_txn (find q us)
     found_in [] = refl
-    found_in (u ∷ us) = go (holds H x u) refl (q u) refl (found_in us)
+    found_in (u ∷ us) = go (holds S H n x u) refl (q u) refl (found_in us)
       where
-        go : (a : Bool) → holds H x u ≡ a → (b : Bool) → q u ≡ b → holder (find p (map (hold_of H x) (filter (holds H x) us))) ≡ some_txn (find q us)
-            → holder (find p (map (hold_of H x) (cond a (u ∷ filter (holds H x) us) (filter (holds H x) us)))) ≡ some_txn (cond b (Some u) (find q us))
+        go : (a : Bool) → holds S H n x u ≡ a → (b : Bool) → q u ≡ b → holder (find p (map (hold_of H x) (filter (holds S H n x) us))) ≡ some_txn (find q us)
+            → holder (find p (map (hold_of H x) (cond a (u ∷ filter (holds S H n x) us) (filter (holds S H n x) us)))) ≡ some_txn (cond b (Some u) (find q us))
         go true e true f ih = rw (sym (same u e) ∙ f) refl
         go true e false f ih = rw (sym (same u e) ∙ f) ih
         go false e true f ih = absurd (both_ways _ e (only u f))
         go false e false f ih = ih
 
-    pub found_among_holders : holder (find p (holders_in H x)) ≡ some_txn (find q (txns H))
+    pub found_among_holders : holder (find p (holds_in S H n x)) ≡ some_txn (find q (txns H))
     found_among_holders = found_in (txns H)
 
   -- each hold is of an unfinished transaction
-  held_at : (us : List ℕ) (i : ℕ) (d : Hold) → i < length (map (hold_of H x) (filter (holds H x) us)) → unfinished H (get_or (map (hold_of H x) (filter (holds H x) us)) i d).txn.0 ≡ true
+  held_at : (us : List ℕ) (i : ℕ) (d : Hold) → i < length (map (hold_of H x) (filter (holds S H n x) us)) → unfinished H (get_or (map (hold_of H x) (filter (holds S H n x) us)) i d).txn.0 ≡ true
   held_at [] i d l = absurd (omega arith)
-  held_at (u ∷ us) i d l = go (holds H x u) refl i (held_at us) l
+  held_at (u ∷ us) i d l = go (holds S H n x u) refl i (held_at us) l
     where
-      go : (a : Bool) → holds H x u ≡ a → (i : ℕ) → ((j : ℕ) (d : Hold) → j < length (map (hold_of H x) (filter (holds H x) us)) → unfinished H (get_or (map (hold_of H x) (filter (holds H x) us)) j d).txn.0 ≡ true)
-          → i < length (map (hold_of H x) (cond a (u ∷ filter (holds H x) us) (filter (holds H x) us))) → unfinished H (get_or (map (hold_of H x) (cond a (u ∷ filter (holds H x) us) (filter (holds H x) us))) i d).txn.0 ≡ true
-      go true e zero ih l = (held_parts H x u e).0
+      go : (a : Bool) → holds S H n x u ≡ a → (i : ℕ) → ((j : ℕ) (d : Hold) → j < length (map (hold_of H x) (filter (holds S H n x) us)) → unfinished H (get_or (map (hold_of H x) (filter (holds S H n x) us)) j d).txn.0 ≡ true)
+          → i < length (map (hold_of H x) (cond a (u ∷ filter (holds S H n x) us) (filter (holds S H n x) us))) → unfinished H (get_or (map (hold_of H x) (cond a (u ∷ filter (holds S H n x) us) (filter (holds S H n x) us))) i d).txn.0 ≡ true
+      go true e zero ih l = (held_parts S H n x u e).0
       go true e (suc j) ih l = ih j d (omega arith)
       go false e i ih l = ih i d l
 
-  pub held_unfinished : (i : ℕ) (d : Hold) → i < length (holders_in H x) → unfinished H (get_or (holders_in H x) i d).txn.0 ≡ true
+  pub held_unfinished : (i : ℕ) (d : Hold) → i < length (holds_in S H n x) → unfinished H (get_or (holds_in S H n x) i d).txn.0 ≡ true
   held_unfinished i d l = held_at (txns H) i d l
 
 -- so it has begun, with a type of the tree
-pub held_typed : (f : Facts) (x : Cell) (hs : List Hold) (i : ℕ) (d : Hold) → IsOrderly (setup_of f) (events_of f) → hs ≡ holders_in (events_of f) x → i < length hs → IsTyped f (get_or hs i d).txn.0
-held_typed f x hs i d o e l =
-    let there : i < length (holders_in (events_of f) x) = omega (arith, ap (λ (l : List Hold). length l) e) in
-    let open_ : unfinished (events_of f) (get_or hs i d).txn.0 ≡ true = ap (λ (l : List Hold). unfinished (events_of f) (get_or l i d).txn.0) e ∙ held_unfinished (events_of f) x i d there in
+pub held_typed : (f : Facts) (n : ℕ) (x : Cell) (hs : List Hold) (i : ℕ) (d : Hold) → IsOrderly (setup_of f) (events_of f) → hs ≡ holds_in (setup_of f) (events_of f) n x → i < length hs → IsTyped f (get_or hs i d).txn.0
+held_typed f n x hs i d o e l =
+    let there : i < length (holds_in (setup_of f) (events_of f) n x) = omega (arith, ap (λ (l : List Hold). length l) e) in
+    let open_ : unfinished (events_of f) (get_or hs i d).txn.0 ≡ true = ap (λ (l : List Hold). unfinished (events_of f) (get_or l i d).txn.0) e ∙ held_unfinished (setup_of f) (events_of f) n x i d there in
     typed_now f (get_or hs i d).txn.0 o (unfinished_begun (events_of f) (get_or hs i d).txn.0 open_)
 
 -- a walk along a list that looks for the first that passes

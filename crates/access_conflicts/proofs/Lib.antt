@@ -1,4 +1,3 @@
 pub mod Orderly
 pub mod Noting
 pub mod Blockers
-pub mod Holds

@@ -1,3 +1,3 @@
 pub mod Blockers
+pub mod Registered
 pub mod Waits
-pub mod Holds

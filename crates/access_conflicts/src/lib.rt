@@ -1,4 +1,4 @@
-//! The holders of a cell at a node, and which of them are in the way of an access of it there.
+//! The register of a node: who holds which cell there. And which of the holders are in the way of an access of it.
 #![tactic(auto)]
 
 ghost use Rattle.std.specs.Prelude.{◌≡◌};
@@ -6,10 +6,10 @@ ghost use Rattle.phase_api.specs.FactsView.{setup_of, events_of, IsTyped};
 ghost use Rattle.access_conflicts.specs.Blockers.{in_the_way};
 ghost use Rattle.access_conflicts.specs.Waits.{wait_for_txn};
 
-mod holders_at;
+mod hold_register;
 
 use hold_book::Hold;
-pub use holders_at::HoldersAt;
+pub use hold_register::HoldRegister;
 use phase_api::Facts;
 use teb_names::{Node, Txn};
 use teb_rules::Verdict;
