@@ -1,5 +1,5 @@
--- What a locks node says, found among the holders of a cell.
-use Rattle.std.proofs.Common.{◌≡◌, ℕ, Bool, false, ltb, List, [], ◌∷◌, find, Option, Some, None, refl, ◌∙◌, ap}
+-- What a locks node says.
+use Rattle.std.proofs.Common.{◌≡◌, ℕ, Bool, false, ltb, List, [], ◌∷◌, find, Option, Some, None, refl, ◌∙◌}
 use Rattle.teb_names.specs.declared.Cell.{Cell}
 use Rattle.teb_names.specs.declared.Spot.{Spot}
 use Rattle.teb_names.specs.declared.ControlKind.TheVariants.{Locks}
@@ -14,24 +14,12 @@ use Rattle.teb_rules.specs.declared.Verdict.{Verdict}
 use Rattle.teb_rules.specs.declared.Verdict.TheVariants.{Go}
 use Rattle.teb_rules.specs.Controls.{blocks, on_access, validate, gate}
 use Rattle.teb_rules.specs.Stops.{on_begin}
-use Rattle.hold_book.specs.declared.Hold.{Hold}
-use Rattle.hold_book.specs.Holders.{holders_in}
-use Rattle.phase_api.specs.Calls.{asks_holders, AreHolders}
-use Rattle.access_conflicts.specs.Blockers.{in_the_way}
 use Rattle.access_conflicts.specs.Waits.{some_txn, wait_for_txn}
-use Rattle.access_conflicts.proofs.Blockers.{holder, blocks_holds, blocks_held, found_among_holders}
-
--- a locks node is told of the holders of the cell
-pub told_holders : (S : Setup) (H : List Event) (n : ℕ) (x : Cell) (hs : List Hold) → (row S.tree n).control ≡ Locks → AreHolders S H n x hs → hs ≡ holders_in H x
-told_holders S H n x hs e told = told (ap asks_holders e)
 
 -- what a locks node says of an access
-pub locks_access : (S : Setup) (H : List Event) (n t : ℕ) (x : Cell) (write : Bool) (hs : List Hold) (v : Verdict) → (row S.tree n).control ≡ Locks → hs ≡ holders_in H x → v ≡ wait_for_txn (holder (find (in_the_way S H n t write) hs)) → v ≡ on_access (row S.tree n).control S H n t x write
+pub locks_access : (S : Setup) (H : List Event) (n t : ℕ) (x : Cell) (write : Bool) (v : Verdict) → (row S.tree n).control ≡ Locks → v ≡ wait_for_txn (some_txn (find (blocks S H n t x write) (txns H))) → v ≡ on_access (row S.tree n).control S H n t x write
 unfolding on_access
-locks_access S H n t x write hs v e held h =
-    let p = in_the_way S H n t write in
-    let found = found_among_holders H x (blocks S H n t x write) p (blocks_holds S H n t x write) (blocks_held S H n t x write) in
-    rw e (h ∙ ap (λ (l : List Hold). wait_for_txn (holder (find p l))) held ∙ ap wait_for_txn found ∙ waits (find (blocks S H n t x write) (txns H)))
+locks_access S H n t x write v e h = rw e (h ∙ waits (find (blocks S H n t x write) (txns H)))
   where
     waits : (o : Option ℕ) → wait_for_txn (some_txn o) ≡ wait_for o
     waits None = refl

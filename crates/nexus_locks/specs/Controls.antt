@@ -1,17 +1,16 @@
 -- What a locks control shows of itself.
-use Rattle.std.specs.Prelude.{ℕ, ◌^◌, List}
+use Rattle.std.specs.Prelude.{ℕ, List}
 use Rattle.teb_history.specs.declared.Event.{Event}
 use Rattle.teb_rules.specs.Setup.{Setup}
 use Rattle.nexus_locks.specs.Standing.{LocksStand}
 use Rattle.nexus_locks.specs.declared.locks.Locks.{Locks}
 
--- for which setup and history it stands, and the number of its node
+-- for which setup and history it stands, the number of its node, and for how many events it has room
 abbrev pub LocksStandFor : Locks → Setup → List Event → Type 0
-LocksStandFor c S H = LocksStand c.node.0 S H
+LocksStandFor c S H = LocksStand c.register.node.0 c.register.book S H
 
 abbrev pub locks_node_number : Locks → ℕ
-locks_node_number c = c.node.0
+locks_node_number c = c.register.node.0
 
--- an event takes no room: there is always room for as many as a usize counts
 abbrev pub locks_spare : Locks → ℕ
-locks_spare c = 2 ^ 64
+locks_spare c = c.register.book.spare

@@ -1,63 +1,62 @@
 //! The control of a locks node: a read waits for whoever has put the cell, and a write for whoever has accessed it.
 
 ghost use Rattle.std.specs.Prelude.{◌≡◌, [], find};
-ghost use Rattle.std.specs.Option.{option_map};
-ghost use Rattle.teb_names.specs.declared.Cell.{Cell};
 ghost use Rattle.teb_names.specs.declared.ControlKind.TheVariants.{Locks as IsLocks};
+ghost use Rattle.teb_history.specs.Phases.{txns};
 ghost use Rattle.teb_rules.specs.Tree.{row};
+ghost use Rattle.teb_rules.specs.Controls.{blocks};
 ghost use Rattle.phase_api.specs.FactsView.{setup_of, events_of};
 ghost use Rattle.phase_api.specs.Calls.{IsHere};
-ghost use Rattle.hold_book.specs.Holders.{holders_in};
-ghost use Rattle.access_conflicts.specs.Blockers.{in_the_way};
-ghost use Rattle.access_conflicts.specs.Holds.{holds_in};
+ghost use Rattle.hold_book.specs.Holders.{holds_in};
+ghost use Rattle.access_conflicts.specs.Waits.{some_txn};
 ghost use Rattle.nexus_locks.specs.Standing.{LocksStand};
 
-use access_conflicts::{HoldersAt, is_in_the_way, wait_for};
+use access_conflicts::{HoldRegister, is_in_the_way, wait_for};
 use hold_book::Hold;
 use phase_api::{Control, Facts};
-use std::alloc::AllocError;
+use std::alloc::{AllocError, Global};
 use teb_history::Event;
 use teb_names::{Cell, Node, Spot, Txn};
 use teb_rules::Verdict;
 use version_chain::Chains;
 
-/// The locks control of a node. It keeps nothing of the history: who holds which cell it is told with each question.
+/// The locks control of a node.
 #[derive(Drop)]
 pub struct Locks {
-    node: Node,
+    register: HoldRegister,
 }
 
 impl Locks {
-    /// The control of a locks node for an empty history.
-    pub fn new(node: Node, _facts: &Facts) -> Self
+    /// The control of a locks node for an empty history. Takes no memory.
+    pub fn new(alloc: Global, node: Node, _facts: &Facts) -> Self
         requires kind { (row (setup_of _facts.now).tree node.0).control ≡ IsLocks }
         requires empty { events_of _facts.now ≡ [] }
-        ensures node { result.node ≡ node }
-        ensures stands { LocksStand result.node.0 (setup_of _facts.now) (events_of _facts.now) }
+        ensures node { result.register.node ≡ node }
+        ensures stands { LocksStand result.register.node.0 result.register.book (setup_of _facts.now) (events_of _facts.now) }
     {
-        Locks { node }
+        Locks {
+            register: HoldRegister::new(alloc, node),
+        }
     }
 
-    /// Of the holders of a cell, those at the node: the unfinished transactions on whose path it stands that have accessed the cell, in
-    /// ascending number.
-    pub fn holds<'a>(&self, facts: &'a Facts<'a>, holders: &'a [Hold], cell: Cell) -> HoldersAt<'a>
-        requires stands { LocksStand self.now.node.0 (setup_of facts.now) (events_of facts.now) }
-        requires holders { holders.now ≡ holders_in (events_of facts.now) cell }
-        ensures { result ≡ holds_in (setup_of facts.now) (events_of facts.now) self.now.node.0 cell }
+    /// Who holds a cell: the unfinished transactions on whose path the node stands that have accessed it, in ascending number.
+    pub fn holds(&self, facts: &Facts, cell: Cell) -> &[Hold]
+        requires { LocksStand self.now.register.node.0 self.now.register.book (setup_of facts.now) (events_of facts.now) }
+        ensures { result.now ≡ holds_in (setup_of facts.now) (events_of facts.now) self.now.register.node.0 cell }
     {
-        HoldersAt::new(facts, self.node, holders, cell)
+        self.register.holds(facts, cell)
     }
 
-    // The least-numbered of the holders of a cell that an access of it waits for.
+    // The least-numbered transaction that an access waits for.
     #[inline(always)]
-    fn blocker(&self, facts: &Facts, holders: &[Hold], t: Txn, write: bool) -> Option<Txn>
-        requires stands { LocksStand self.now.node.0 (setup_of facts.now) (events_of facts.now) }
-        requires holders { (x : Cell) × (holders.now ≡ holders_in (events_of facts.now) x) }
-        requires here { IsHere facts.now self.now.node.0 t.0 }
-        ensures { result ≡ option_map (λ h. h.txn) (find (in_the_way (setup_of facts.now) (events_of facts.now) self.now.node.0 t.0 write) holders.now) }
+    fn blocker(&self, facts: &Facts, t: Txn, cell: Cell, write: bool) -> Option<Txn>
+        requires stands { LocksStand self.now.register.node.0 self.now.register.book (setup_of facts.now) (events_of facts.now) }
+        requires here { IsHere facts.now self.now.register.node.0 t.0 }
+        ensures { result ≡ some_txn (find (blocks (setup_of facts.now) (events_of facts.now) self.now.register.node.0 t.0 cell write) (txns (events_of facts.now))) }
     {
-        for hold in holders {
-            if is_in_the_way(facts, self.node, t, hold, write) {
+        let node = self.register.node();
+        for hold in self.register.holds(facts, cell) {
+            if is_in_the_way(facts, node, t, hold, write) {
                 return Some(hold.txn);
             }
         }
@@ -74,38 +73,39 @@ impl Control for Locks {
 
     ghost spare = { locks_spare };
 
-    ghost sound = { λ c S H s. s.orderly };
+    ghost sound = { λ c S H s. s.register.orderly };
 
     fn node(&self) -> Node {
-        self.node
+        self.register.node()
     }
 
-    fn reserve(&mut self, _n: usize) -> Result<(), AllocError> {
-        Ok(())
+    fn reserve(&mut self, n: usize) -> Result<(), AllocError> {
+        self.register.reserve(n)
     }
 
     #[inline(always)]
-    fn note(&mut self, _facts: &Facts, _holders: &[Hold], _e: Event) {}
+    fn note(&mut self, facts: &Facts, e: Event) {
+        self.register.note(facts, e);
+    }
 
     fn start(&self, _facts: &Facts, _s: Spot) -> Verdict {
         Verdict::Go
     }
 
     #[inline(always)]
-    fn before_read(&self, facts: &Facts, holders: &[Hold], t: Txn, _cell: Cell) -> Verdict {
-        wait_for(self.blocker(facts, holders, t, false))
+    fn before_read(&self, facts: &Facts, t: Txn, cell: Cell) -> Verdict {
+        wait_for(self.blocker(facts, t, cell, false))
     }
 
     fn before_write<C: Chains>(
         &self,
         facts: &Facts,
-        holders: &[Hold],
         _chains: &C,
         _at: Option<usize>,
         t: Txn,
-        _cell: Cell,
+        cell: Cell,
     ) -> Verdict {
-        wait_for(self.blocker(facts, holders, t, true))
+        wait_for(self.blocker(facts, t, cell, true))
     }
 
     fn sees(&self, facts: &Facts, _reader: Txn, writer: Txn, _cell: Cell) -> bool {

@@ -5,5 +5,5 @@ use Rattle.nexus_locks.proofs.locks.Locks.blocker.Given as goal
 
 abbrev pub invariant-loop-hold : goal.invariant-loop-hold
 invariant-loop-hold l =
-    let p = in_the_way (setup_of l.fn.facts) (events_of l.fn.facts) l.fn.self.node.0 l.fn.t.0 l.fn.write in
-    find p (drop l.hold-index l.fn.holders) ≡ find p l.fn.holders
+    let p = in_the_way (setup_of l.fn.facts) (events_of l.fn.facts) l.fn.self.register.node.0 l.fn.t.0 l.fn.write in
+    find p (drop l.hold-index l.hold-items) ≡ find p l.hold-items

@@ -3,4 +3,4 @@ use Rattle.nexus_locks.proofs.Said.{locks_validate}
 use Rattle.nexus_locks.proofs.locks.LocksControl.validate.Goals as goal
 
 pub returns : goal.returns
-returns c = locks_validate (setup_of c.args._facts.now) (events_of c.args._facts.now) c.args.self.now.node.0 c.args._t.0 c.requires.stands.kind
+returns c = locks_validate (setup_of c.args._facts.now) (events_of c.args._facts.now) c.args.self.now.register.node.0 c.args._t.0 c.requires.stands.kind
