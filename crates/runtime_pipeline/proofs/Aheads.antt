@@ -13,7 +13,7 @@ use Rattle.teb_rules.specs.Controls.{blocks}
 use Rattle.teb_rules.specs.Serializes.{In}
 use Rattle.teb_laws.proofs.AscendingNumbers.{number, txns_ascending, above_in}
 use Rattle.hold_book.specs.declared.Hold.{Hold}
-use Rattle.hold_book.specs.Holders.{holds, hold_of, holders_in}
+use Rattle.hold_book.specs.Holders.{holds, hold_of, holds_in}
 use Rattle.access_conflicts.specs.Blockers.{in_the_way}
 use Rattle.access_conflicts.proofs.Blockers.{blocks_holds, blocks_held}
 use Rattle.runtime_pipeline.specs.Predecessors.{numbered, is_ahead, before_in, unfinished_in, joined, without}
@@ -98,7 +98,7 @@ module _ (S : Setup) (H : List Event) (n t : ℕ) (x : Cell) (write : Bool) wher
   without_it false true false d h = sym (h refl)
   without_it false false c d h = refl
 
-  off_way : (v : ℕ) → holds H x v ≡ false → blocks S H n t x write v ≡ false
+  off_way : (v : ℕ) → holds S H n x v ≡ false → blocks S H n t x write v ≡ false
   off_way v e = elim (cases_Bool (blocks S H n t x write v)) [ inl b ↦ absurd (both_ways _ e (blocks_holds S H n t x write v b)) | inr b ↦ b ]
 
   at_it : (v : ℕ) (b : Bool) → blocks S H n t x write v ≡ b → (u : ℕ) → eqb v u ≡ true → blocks S H n t x write u ≡ b
@@ -108,28 +108,28 @@ module _ (S : Setup) (H : List Event) (n t : ℕ) (x : Cell) (write : Bool) wher
   Joined all hs ts q = joined (in_the_way S H n t write) hs ts ≡ map numbered (filter q all)
 
   joined_among : (all us : List ℕ) → IsAscendingBy number all → ((u : ℕ) → In u us → In u all) → (q : ℕ → Bool)
-      → joined (in_the_way S H n t write) (map (hold_of H x) (filter (holds H x) us)) (map numbered (filter q all)) ≡ map numbered (filter (λ u. q u || (among u us && blocks S H n t x write u)) all)
+      → joined (in_the_way S H n t write) (map (hold_of H x) (filter (holds S H n x) us)) (map numbered (filter q all)) ≡ map numbered (filter (λ u. q u || (among u us && blocks S H n t x write u)) all)
   joined_among all [] a i q = λ j. map numbered (filter (λ u. or_false (q u) j) all)
-  joined_among all (v ∷ us) a i q = go (joined_among all us a (λ u j. i u (inr j))) (holds H x v) refl (blocks S H n t x write v) refl
+  joined_among all (v ∷ us) a i q = go (joined_among all us a (λ u j. i u (inr j))) (holds S H n x v) refl (blocks S H n t x write v) refl
     where
-      skipped : ((q : ℕ → Bool) → Joined all (map (hold_of H x) (filter (holds H x) us)) (map numbered (filter q all)) (λ u. q u || (among u us && blocks S H n t x write u))) → blocks S H n t x write v ≡ false
-          → Joined all (map (hold_of H x) (filter (holds H x) us)) (map numbered (filter q all)) (λ u. q u || ((eqb v u || among u us) && blocks S H n t x write u))
+      skipped : ((q : ℕ → Bool) → Joined all (map (hold_of H x) (filter (holds S H n x) us)) (map numbered (filter q all)) (λ u. q u || (among u us && blocks S H n t x write u))) → blocks S H n t x write v ≡ false
+          → Joined all (map (hold_of H x) (filter (holds S H n x) us)) (map numbered (filter q all)) (λ u. q u || ((eqb v u || among u us) && blocks S H n t x write u))
       skipped ih f = ih q ∙ (λ j. map numbered (filter (λ u. without_it (q u) (eqb v u) (among u us) (blocks S H n t x write u) (at_it v false f u) j) all))
 
-      go : ((q : ℕ → Bool) → Joined all (map (hold_of H x) (filter (holds H x) us)) (map numbered (filter q all)) (λ u. q u || (among u us && blocks S H n t x write u)))
-          → (o : Bool) → holds H x v ≡ o → (b : Bool) → blocks S H n t x write v ≡ b
-          → Joined all (map (hold_of H x) (cond o (v ∷ filter (holds H x) us) (filter (holds H x) us))) (map numbered (filter q all)) (λ u. q u || ((eqb v u || among u us) && blocks S H n t x write u))
+      go : ((q : ℕ → Bool) → Joined all (map (hold_of H x) (filter (holds S H n x) us)) (map numbered (filter q all)) (λ u. q u || (among u us && blocks S H n t x write u)))
+          → (o : Bool) → holds S H n x v ≡ o → (b : Bool) → blocks S H n t x write v ≡ b
+          → Joined all (map (hold_of H x) (cond o (v ∷ filter (holds S H n x) us) (filter (holds S H n x) us))) (map numbered (filter q all)) (λ u. q u || ((eqb v u || among u us) && blocks S H n t x write u))
       go ih false e b f = skipped ih (off_way v e)
       go ih true e false f =
-          ap (λ (w : Bool). joined (in_the_way S H n t write) (map (hold_of H x) (filter (holds H x) us)) (cond w (put_by number_of (numbered v) (map numbered (filter q all))) (map numbered (filter q all)))) (sym (blocks_held S H n t x write v e) ∙ f)
+          ap (λ (w : Bool). joined (in_the_way S H n t write) (map (hold_of H x) (filter (holds S H n x) us)) (cond w (put_by number_of (numbered v) (map numbered (filter q all))) (map numbered (filter q all)))) (sym (blocks_held S H n t x write v e) ∙ f)
           ∙ skipped ih f
       go ih true e true f =
-          ap (λ (w : Bool). joined (in_the_way S H n t write) (map (hold_of H x) (filter (holds H x) us)) (cond w (put_by number_of (numbered v) (map numbered (filter q all))) (map numbered (filter q all)))) (sym (blocks_held S H n t x write v e) ∙ f)
-          ∙ ap (joined (in_the_way S H n t write) (map (hold_of H x) (filter (holds H x) us))) (put_among v q all a (i v (inl refl)))
+          ap (λ (w : Bool). joined (in_the_way S H n t write) (map (hold_of H x) (filter (holds S H n x) us)) (cond w (put_by number_of (numbered v) (map numbered (filter q all))) (map numbered (filter q all)))) (sym (blocks_held S H n t x write v e) ∙ f)
+          ∙ ap (joined (in_the_way S H n t write) (map (hold_of H x) (filter (holds S H n x) us))) (put_among v q all a (i v (inl refl)))
           ∙ ih (λ u. q u || eqb v u)
           ∙ (λ j. map numbered (filter (λ u. with_it (q u) (eqb v u) (among u us) (blocks S H n t x write u) (at_it v true f u) j) all))
 
-  pub joined_all : (q : ℕ → Bool) → joined (in_the_way S H n t write) (holders_in H x) (map numbered (filter q (txns H))) ≡ map numbered (filter (λ u. q u || blocks S H n t x write u) (txns H))
+  pub joined_all : (q : ℕ → Bool) → joined (in_the_way S H n t write) (holds_in S H n x) (map numbered (filter q (txns H))) ≡ map numbered (filter (λ u. q u || blocks S H n t x write u) (txns H))
   joined_all q =
       joined_among (txns H) (txns H) (txns_ascending H) (λ u i. i) q
       ∙ ap (map numbered) (filter_agree (λ u. q u || blocks S H n t x write u) (λ u. q u || (among u (txns H) && blocks S H n t x write u)) (txns H) (λ u i. ap (λ (b : Bool). q u || (b && blocks S H n t x write u)) (among_in u (txns H) i)))
@@ -153,14 +153,14 @@ length_made : {A : Type 0} (f : ℕ → A) (us : List ℕ) → length (map f us)
 length_made f [] = refl
 length_made f (u ∷ us) = ap suc (length_made f us)
 
-holds_unfinished : (H : List Event) (x : Cell) (u : ℕ) → holds H x u ≡ true → unfinished H u ≡ true
+holds_unfinished : (S : Setup) (H : List Event) (n : ℕ) (x : Cell) (u : ℕ) → holds S H n x u ≡ true → unfinished H u ≡ true
 unfolding holds
-holds_unfinished H x u h = (and_parts _ _ h).0
+holds_unfinished S H n x u h = (and_parts _ _ (and_parts _ _ h).0).1
 
-pub few_holders : (H : List Event) (x : Cell) → length (holders_in H x) ≤ length (unfinished_in H)
-few_holders H x =
-    let l = fewer (holds H x) (unfinished H) (holds_unfinished H x) (txns H) in
-    let a = length_made (hold_of H x) (filter (holds H x) (txns H)) in
+pub few_holders : (S : Setup) (H : List Event) (n : ℕ) (x : Cell) → length (holds_in S H n x) ≤ length (unfinished_in H)
+few_holders S H n x =
+    let l = fewer (holds S H n x) (unfinished H) (holds_unfinished S H n x) (txns H) in
+    let a = length_made (hold_of H x) (filter (holds S H n x) (txns H)) in
     let b = length_made numbered (filter (unfinished H) (txns H)) in
     omega arith
 

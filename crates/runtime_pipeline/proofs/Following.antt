@@ -25,7 +25,7 @@ use Rattle.teb_laws.proofs.Holding.{unfinished_same}
 use Rattle.teb_laws.proofs.Nodes.{meets_parts}
 use Rattle.phase_api.specs.FactsView.{IsOrderly}
 use Rattle.phase_api.specs.Calls.{MayNote}
-use Rattle.hold_book.specs.Holders.{holders_in}
+use Rattle.hold_book.specs.Holders.{holds_in}
 use Rattle.access_conflicts.proofs.Orderly.{unfinished_begun, new_accesses_none}
 use Rattle.access_conflicts.specs.Blockers.{in_the_way}
 use Rattle.dependency_book.specs.Dependencies.{has}
@@ -95,27 +95,27 @@ module _ (S : Setup) (P : List Event) (n : ℕ) (e : Event) (count : begun_count
   -- an access of x by t
   module _ (t : Txn) (x : Cell) (write : Bool) (others : (u v : ℕ) → eqb t.0 v ≡ false → earlier (e ∷ P) u v ≡ earlier P u v)
       (mine : (u : ℕ) → (is_ahead S P n t.0 u || blocks S (e ∷ P) n t.0 x write u) ≡ is_ahead S (e ∷ P) n t.0 u) where
-    joined_before : joined (in_the_way S (e ∷ P) n t.0 write) (holders_in (e ∷ P) x) (before_in S P n t.0) ≡ before_in S (e ∷ P) n t.0
+    joined_before : joined (in_the_way S (e ∷ P) n t.0 write) (holds_in S (e ∷ P) n x) (before_in S P n t.0) ≡ before_in S (e ∷ P) n t.0
     unfolding txns
     joined_before =
-        (λ j. joined (in_the_way S (e ∷ P) n t.0 write) (holders_in (e ∷ P) x) (map numbered (filter (is_ahead S P n t.0) (numbers (sym count j)))))
+        (λ j. joined (in_the_way S (e ∷ P) n t.0 write) (holds_in S (e ∷ P) n x) (map numbered (filter (is_ahead S P n t.0) (numbers (sym count j)))))
         ∙ joined_all S (e ∷ P) n t.0 x write (is_ahead S P n t.0)
         ∙ (λ j. map numbered (filter (λ u. mine u j) (numbers (begun_count (e ∷ P)))))
 
     noted_access : (k k' : Kept) → EndsFollow (e ∷ P) → unfinished P t.0 ≡ true → k'.unfinished ≡ k.unfinished
-        → ((v : Txn) → list_of k' v ≡ cond (eqb t.0 v.0) (joined (in_the_way S (e ∷ P) n t.0 write) (holders_in (e ∷ P) x) (list_of k v)) (list_of k v))
+        → ((v : Txn) → list_of k' v ≡ cond (eqb t.0 v.0) (joined (in_the_way S (e ∷ P) n t.0 write) (holds_in S (e ∷ P) n x) (list_of k v)) (list_of k v))
         → PredecessorsOf k S P n → PredecessorsOf k' S (e ∷ P) n
     noted_access k k' ends u same lists was = record { ends = ends; counted = subst (λ (m : ℕ). length (unfinished_in (e ∷ P)) ≤ m) (sym same) (same_count was.counted); ahead = λ v. go v (eqb t.0 v.0) refl }
       where
         at_t : list_of k' t ≡ cond (unfinished (e ∷ P) t.0) (before_in S (e ∷ P) n t.0) []
         at_t =
-            lists t ∙ ap (λ (b : Bool). cond b (joined (in_the_way S (e ∷ P) n t.0 write) (holders_in (e ∷ P) x) (list_of k t)) (list_of k t)) (eq-eqb t.0 t.0 refl)
-            ∙ ap (joined (in_the_way S (e ∷ P) n t.0 write) (holders_in (e ∷ P) x)) (was.ahead t ∙ ap (λ (b : Bool). cond b (before_in S P n t.0) []) u)
+            lists t ∙ ap (λ (b : Bool). cond b (joined (in_the_way S (e ∷ P) n t.0 write) (holds_in S (e ∷ P) n x) (list_of k t)) (list_of k t)) (eq-eqb t.0 t.0 refl)
+            ∙ ap (joined (in_the_way S (e ∷ P) n t.0 write) (holds_in S (e ∷ P) n x)) (was.ahead t ∙ ap (λ (b : Bool). cond b (before_in S P n t.0) []) u)
             ∙ joined_before ∙ sym (ap (λ (b : Bool). cond b (before_in S (e ∷ P) n t.0) []) (open_ t.0 ∙ u))
 
         go : (v : Txn) (b : Bool) → eqb t.0 v.0 ≡ b → list_of k' v ≡ cond (unfinished (e ∷ P) v.0) (before_in S (e ∷ P) n v.0) []
         go v true h = subst (λ (z : Txn). list_of k' z ≡ cond (unfinished (e ∷ P) z.0) (before_in S (e ∷ P) n z.0) []) (one_txn t v h) at_t
-        go v false h = kept k k' v (lists v ∙ ap (λ (b : Bool). cond b (joined (in_the_way S (e ∷ P) n t.0 write) (holders_in (e ∷ P) x) (list_of k v)) (list_of k v)) h) was (λ u. others u v.0 h)
+        go v false h = kept k k' v (lists v ∙ ap (λ (b : Bool). cond b (joined (in_the_way S (e ∷ P) n t.0 write) (holds_in S (e ∷ P) n x) (list_of k v)) (list_of k v)) h) was (λ u. others u v.0 h)
 
 -- Ready and Told
 pub noted_ready : (S : Setup) (P : List Event) (n : ℕ) (t : Txn) (k : Kept) → PredecessorsOf k S P n → PredecessorsOf k S (Ready t ∷ P) n
@@ -152,7 +152,7 @@ module _ (S : Setup) (P : List Event) (n : ℕ) (t : Txn) (x : Cell) where
   apart H u m = ap (λ (b : Bool). b && same_cell x x) (ne_eqb t.0 u (λ e. (meets_parts S H n t.0 u m).2 (ap (side S H n) e)))
 
   pub noted_got : (w : Txn) (v : Option ℤ) (k k' : Kept) → unfinished P t.0 ≡ true → k'.unfinished ≡ k.unfinished
-      → ((u : Txn) → list_of k' u ≡ cond (eqb t.0 u.0) (joined (in_the_way S (Got t x w v ∷ P) n t.0 false) (holders_in (Got t x w v ∷ P) x) (list_of k u)) (list_of k u))
+      → ((u : Txn) → list_of k' u ≡ cond (eqb t.0 u.0) (joined (in_the_way S (Got t x w v ∷ P) n t.0 false) (holds_in S (Got t x w v ∷ P) n x) (list_of k u)) (list_of k u))
       → PredecessorsOf k S P n → PredecessorsOf k' S (Got t x w v ∷ P) n
   unfolding begun_count meets on side spot_of earlier blocks
   noted_got w v k k' open_ same lists was =
@@ -167,7 +167,7 @@ module _ (S : Setup) (P : List Event) (n : ℕ) (t : Txn) (x : Cell) where
       k k' (none_ends e P (λ u. refl) (λ u. refl) was.ends) open_ same lists was
 
   pub noted_put : (v : Option ℤ) (k k' : Kept) → unfinished P t.0 ≡ true → k'.unfinished ≡ k.unfinished
-      → ((u : Txn) → list_of k' u ≡ cond (eqb t.0 u.0) (joined (in_the_way S (Put t x v ∷ P) n t.0 true) (holders_in (Put t x v ∷ P) x) (list_of k u)) (list_of k u))
+      → ((u : Txn) → list_of k' u ≡ cond (eqb t.0 u.0) (joined (in_the_way S (Put t x v ∷ P) n t.0 true) (holds_in S (Put t x v ∷ P) n x) (list_of k u)) (list_of k u))
       → PredecessorsOf k S P n → PredecessorsOf k' S (Put t x v ∷ P) n
   unfolding begun_count meets on side spot_of earlier blocks
   noted_put v k k' open_ same lists was =
@@ -479,7 +479,7 @@ module _ (S : Setup) (H : List Event) (n : ℕ) (e : Event) (i : H ≡ e ∷ dro
   module _ (t : Txn) (x : Cell) where
     -- the lists after an access
     abbrev pub Accessed : Kept → Bool → List Event → Type 0
-    Accessed k' write G = (v : Txn) → list_of k' v ≡ cond (eqb t.0 v.0) (joined (in_the_way S G n t.0 write) (holders_in G x) (list_of k v)) (list_of k v)
+    Accessed k' write G = (v : Txn) → list_of k' v ≡ cond (eqb t.0 v.0) (joined (in_the_way S G n t.0 write) (holds_in S G n x) (list_of k v)) (list_of k v)
 
     pub got_next : (k' : Kept) (w : Txn) (v : Option ℤ) → e ≡ Got t x w v → k'.unfinished ≡ k.unfinished → Accessed k' false H → PredecessorsOf k' S H n
     got_next k' w v q same lists =
@@ -489,14 +489,14 @@ module _ (S : Setup) (H : List Event) (n : ℕ) (e : Event) (i : H ≡ e ∷ dro
     put_next k' v q same lists =
         now k' (Put t x v) q (noted_put S (drop 1 H) n t x v k k' (may (Put t x v) q).0 same (subst (λ (G : List Event). Accessed k' true G) (is_now (Put t x v) q) lists) was)
 
-    few : (d : Event) → e ≡ d → unfinished_in (d ∷ drop 1 H) ≡ unfinished_in (drop 1 H) → length (holders_in H x) ≤ k.unfinished
+    few : (d : Event) → e ≡ d → unfinished_in (d ∷ drop 1 H) ≡ unfinished_in (drop 1 H) → length (holds_in S H n x) ≤ k.unfinished
     few d q same =
-        let l = few_holders H x in
+        let l = few_holders S H n x in
         let s = ap (λ (us : List Txn). length us) (ap unfinished_in (is_now d q) ∙ same) in
         omega (arith, was.counted)
 
-    pub got_few : (w : Txn) (v : Option ℤ) → e ≡ Got t x w v → length (holders_in H x) ≤ k.unfinished
+    pub got_few : (w : Txn) (v : Option ℤ) → e ≡ Got t x w v → length (holds_in S H n x) ≤ k.unfinished
     got_few w v q = few (Got t x w v) q (got_unfinished (drop 1 H) t x w v)
 
-    pub put_few : (v : Option ℤ) → e ≡ Put t x v → length (holders_in H x) ≤ k.unfinished
+    pub put_few : (v : Option ℤ) → e ≡ Put t x v → length (holds_in S H n x) ≤ k.unfinished
     put_few v q = few (Put t x v) q (put_unfinished (drop 1 H) t x v)

@@ -19,15 +19,14 @@ use Rattle.teb_names.specs.declared.ControlKind.TheVariants.{Pipeline as IsPipel
 use Rattle.teb_names.specs.declared.Spot.{Spot}
 use Rattle.teb_rules.specs.Steps.{cursor, least_step}
 use Rattle.phase_api.specs.FactsView.{IsOrderly}
-use Rattle.phase_api.specs.Calls.{MayNote, ComeHolders}
-use Rattle.hold_book.specs.declared.Hold.{Hold}
-use Rattle.hold_book.specs.Holders.{holders_in}
+use Rattle.phase_api.specs.Calls.{MayNote}
 use Rattle.hold_book.proofs.Cells.{same_itself}
+use Rattle.access_conflicts.specs.Registered.{Registered}
 use Rattle.access_conflicts.proofs.Orderly.{unfinished_begun, begun_kept, new_accesses_none}
 use Rattle.cursor_book.specs.Cursors.{CursorsOf, moved}
 use Rattle.cursor_book.proofs.Moves.{cursors_began, cursors_got, cursors_put, cursors_ready, cursors_done, cursors_gone, cursors_told}
 use Rattle.runtime_pipeline.specs.declared.pipeline.Pipeline.{Pipeline}
-use Rattle.runtime_pipeline.specs.Predecessors.{PredecessorsOf, HoldAccessed}
+use Rattle.runtime_pipeline.specs.Predecessors.{PredecessorsOf}
 use Rattle.runtime_pipeline.specs.Standing.{PipelineStands, RanksOf}
 use Rattle.runtime_pipeline.proofs.Said.{has_cursor}
 
@@ -137,30 +136,13 @@ module _ (S : Setup) (H : List Event) (n : ℕ) (e : Event) (i : H ≡ e ∷ dro
     ]
   ]
 
--- the holders that come to a pipeline with an access are those of its cell
-pub come_accessed : (S : Setup) (H : List Event) (n : ℕ) (e : Event) (hs : List Hold) → (row S.tree n).control ≡ IsPipeline → ComeHolders S H n e hs → HoldAccessed H e hs
-come_accessed S H n (Began t s k i) hs p told = tt
-come_accessed S H n (Got t x w v) hs p told = told p
-come_accessed S H n (Put t x v) hs p told = told p
-come_accessed S H n (Ready t) hs p told = tt
-come_accessed S H n (Done t) hs p told = tt
-come_accessed S H n (Gone t c) hs p told = tt
-come_accessed S H n (Told t) hs p told = tt
-
-module _ (H : List Event) (e : Event) (hs : List Hold) (told : HoldAccessed H e hs) (t : Txn) (x : Cell) where
-  pub got_holders : (w : Txn) (v : Option ℤ) → e ≡ Got t x w v → hs ≡ holders_in H x
-  got_holders w v q = subst (λ (d : Event). HoldAccessed H d hs) q told
-
-  pub put_holders : (v : Option ℤ) → e ≡ Put t x v → hs ≡ holders_in H x
-  put_holders v q = subst (λ (d : Event). HoldAccessed H d hs) q told
-
-pub stands_next : (S : Setup) (P H : List Event) (c c' : Pipeline) → c'.node.0 ≡ c.node.0 → c'.ranks ≡ c.ranks → PipelineStands c S P → IsOrderly S H → CursorsOf c'.cursors.cursors S H
-    → PredecessorsOf c'.predecessors S H c'.node.0 → PipelineStands c' S H
-stands_next S P H c c' e r s o k p = record {
+pub stands_next : (S : Setup) (P H : List Event) (c c' : Pipeline) → c'.register.node.0 ≡ c.register.node.0 → c'.ranks ≡ c.ranks → PipelineStands c S P → Registered c'.register.node.0 c'.register.book S H → CursorsOf c'.cursors.cursors S H
+    → PredecessorsOf c'.predecessors S H c'.register.node.0 → PipelineStands c' S H
+stands_next S P H c c' e r s h k p = record {
   kind = subst (λ (m : ℕ). (row S.tree m).control ≡ IsPipeline) (sym e) s.kind;
   profiled = s.profiled;
-  orderly = o;
-  ranks = subst (λ (m : ℕ). RanksOf c'.ranks S m) (sym e) (subst (λ (rs : List ℕ). RanksOf rs S c.node.0) (sym r) s.ranks);
+  register = h;
+  ranks = subst (λ (m : ℕ). RanksOf c'.ranks S m) (sym e) (subst (λ (rs : List ℕ). RanksOf rs S c.register.node.0) (sym r) s.ranks);
   cursors = k;
   predecessors = p;
 }

@@ -18,9 +18,8 @@ use Rattle.teb_rules.specs.Controls.{earlier, blocks, entry_blocks, on_access, v
 use Rattle.teb_rules.specs.Stops.{on_begin}
 use Rattle.phase_api.specs.declared.facts.Facts.{Facts}
 use Rattle.phase_api.specs.FactsView.{IsOrderly, IsTyped, setup_of, events_of}
-use Rattle.phase_api.specs.Calls.{asks_holders, AreHolders}
 use Rattle.hold_book.specs.declared.Hold.{Hold}
-use Rattle.hold_book.specs.Holders.{holders_in}
+use Rattle.hold_book.specs.Holders.{holds_in}
 use Rattle.access_conflicts.specs.Waits.{some_txn, wait_for_txn}
 use Rattle.access_conflicts.proofs.Orderly.{unfinished_begun}
 use Rattle.access_conflicts.specs.Blockers.{in_the_way}
@@ -30,10 +29,6 @@ use Rattle.cursor_book.proofs.Moves.{length-cursors}
 use Rattle.runtime_pipeline.specs.Predecessors.{numbered, is_ahead, before_in}
 use Rattle.runtime_pipeline.specs.Standing.{passed_some, holds_up}
 use Rattle.runtime_pipeline.proofs.Aheads.{ahead_unfinished}
-
--- a pipeline node is told of the holders of the cell
-pub told_holders : (S : Setup) (H : List Event) (n : ℕ) (x : Cell) (hs : List Hold) → (row S.tree n).control ≡ Pipeline → AreHolders S H n x hs → hs ≡ holders_in H x
-told_holders S H n x hs e told = told (ap asks_holders e)
 
 -- the first that holds t up is found among those that are ahead of it
 module _ (S : Setup) (H : List Event) (n t : ℕ) where
@@ -73,8 +68,8 @@ ahead_typed f n t us i d o e l =
 abbrev pub stops : Setup → List Event → ℕ → ℕ → Bool → ℕ → Hold → Bool
 stops S H n t write k h = in_the_way S H n t write h && not (passed S H n h.txn.0 k)
 
-pub first_stop : (S : Setup) (H : List Event) (n t : ℕ) (x : Cell) (write : Bool) (k : ℕ) → holder (find (stops S H n t write k) (holders_in H x)) ≡ some_txn (find (λ u. blocks S H n t x write u && not (passed S H n u k)) (txns H))
-first_stop S H n t x write k = found_among_holders H x (λ u. blocks S H n t x write u && not (passed S H n u k)) (stops S H n t write k) (λ u h. blocks_holds S H n t x write u (and_parts _ _ h).0) (λ u h. ap (λ (b : Bool). b && not (passed S H n u k)) (blocks_held S H n t x write u h))
+pub first_stop : (S : Setup) (H : List Event) (n t : ℕ) (x : Cell) (write : Bool) (k : ℕ) → holder (find (stops S H n t write k) (holds_in S H n x)) ≡ some_txn (find (λ u. blocks S H n t x write u && not (passed S H n u k)) (txns H))
+first_stop S H n t x write k = found_among_holders S H n x (λ u. blocks S H n t x write u && not (passed S H n u k)) (stops S H n t write k) (λ u h. blocks_holds S H n t x write u (and_parts _ _ h).0) (λ u h. ap (λ (b : Bool). b && not (passed S H n u k)) (blocks_held S H n t x write u h))
 
 waits : (o : Option ℕ) → wait_for_txn (some_txn o) ≡ wait_for o
 waits None = refl

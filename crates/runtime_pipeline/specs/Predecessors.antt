@@ -3,7 +3,6 @@ use Rattle.std.specs.Prelude.{◌≡◌, ℕ, ◌+◌, ◌*◌, ◌≤◌, Bool,
 use Rattle.std.specs.declared.alloc.Global.{Global}
 use Rattle.teb_names.specs.declared.Txn.{Txn}
 use Rattle.teb_history.specs.declared.Event.{Event}
-use Rattle.teb_history.specs.declared.Event.TheVariants.{Got, Put}
 use Rattle.teb_history.specs.Phases.{txns, begun, committed, aborted, unfinished}
 use Rattle.teb_history.specs.Ascending.{put_by}
 use Rattle.teb_history.specs.Live.{number_of}
@@ -11,7 +10,6 @@ use Rattle.teb_rules.specs.Setup.{Setup}
 use Rattle.teb_rules.specs.Tree.{meets}
 use Rattle.teb_rules.specs.Controls.{earlier}
 use Rattle.hold_book.specs.declared.Hold.{Hold}
-use Rattle.hold_book.specs.Holders.{holders_in}
 use Rattle.dependency_book.specs.Dependencies.{has}
 use Rattle.sorted_multimap.specs.Multimap.{values_of}
 use Rattle.sorted_multimap.specs.Keys.{txn_cmp}
@@ -50,12 +48,6 @@ pub record PredecessorsOf (k : Kept) (S : Setup) (H : List Event) (n : ℕ) : Ty
   pub ends : EndsFollow H
   pub counted : length (unfinished_in H) ≤ k.unfinished
   pub ahead : (t : Txn) → list_of k t ≡ cond (unfinished H t.0) (before_in S H n t.0) []
-
--- where the event accesses a cell, those are the holders of the cell
-abbrev pub HoldAccessed : List Event → Event → List Hold → Type 0
-HoldAccessed H (Got t x w v) holders = holders ≡ holders_in H x
-HoldAccessed H (Put t x v) holders = holders ≡ holders_in H x
-HoldAccessed H _ holders = Unit {0}
 
 -- a list with the transactions of those holds that pass
 abbrev pub joined : (Hold → Bool) → List Hold → List Txn → List Txn

@@ -5,7 +5,7 @@ use Rattle.teb_names.specs.declared.ControlKind.TheVariants.{Pipeline as IsPipel
 use Rattle.teb_rules.specs.Setup.{Setup}
 use Rattle.teb_rules.specs.Tree.{row}
 use Rattle.teb_rules.specs.Steps.{rank_of_table, passed}
-use Rattle.phase_api.specs.FactsView.{IsOrderly}
+use Rattle.access_conflicts.specs.Registered.{Registered}
 use Rattle.cursor_book.specs.Cursors.{CursorsOf}
 use Rattle.runtime_pipeline.specs.declared.pipeline.Pipeline.{Pipeline}
 use Rattle.runtime_pipeline.specs.Predecessors.{PredecessorsOf, is_ahead}
@@ -16,20 +16,20 @@ RanksOf ranks S n = (a : ℕ) → slice_index ranks a ≡ rank_of_table S n a
 
 -- the number of the node
 abbrev pub pipeline_node_number : Pipeline → ℕ
-pipeline_node_number c = c.node.0
+pipeline_node_number c = c.register.node.0
 
 -- for how many events there is room
 abbrev pub pipeline_spare : Pipeline → ℕ
-pipeline_spare c = min c.cursors.spare c.predecessors.spare
+pipeline_spare c = min c.register.book.spare (min c.cursors.spare c.predecessors.spare)
 
 -- it is the control of a pipeline node, and what it keeps is what the setup and the history say
 pub record PipelineStands (c : Pipeline) (S : Setup) (H : List Event) : Type 0 where
-  pub kind : (row S.tree c.node.0).control ≡ IsPipeline
+  pub kind : (row S.tree c.register.node.0).control ≡ IsPipeline
   pub profiled : S.types ≤ length S.profiles
-  pub orderly : IsOrderly S H
-  pub ranks : RanksOf c.ranks S c.node.0
+  pub register : Registered c.register.node.0 c.register.book S H
+  pub ranks : RanksOf c.ranks S c.register.node.0
   pub cursors : CursorsOf c.cursors.cursors S H
-  pub predecessors : PredecessorsOf c.predecessors S H c.node.0
+  pub predecessors : PredecessorsOf c.predecessors S H c.register.node.0
 
 -- u has passed a rank, where one is given
 abbrev pub passed_some : Setup → List Event → ℕ → ℕ → Option ℕ → Bool

@@ -9,15 +9,14 @@ ghost use Rattle.teb_rules.specs.Tree.{row};
 ghost use Rattle.teb_rules.specs.Steps.{passed, rank_of_table, rank_of_step, cursor};
 ghost use Rattle.teb_rules.specs.Controls.{blocks, on_access};
 ghost use Rattle.phase_api.specs.FactsView.{setup_of, events_of, IsTyped};
-ghost use Rattle.hold_book.specs.Holders.{holders_in};
-ghost use Rattle.access_conflicts.specs.Holds.{holds_in};
+ghost use Rattle.hold_book.specs.Holders.{holds_in};
 ghost use Rattle.access_conflicts.specs.Waits.{some_txn};
 ghost use Rattle.runtime_pipeline.specs.Standing.{PipelineStands, pipeline_node_number, passed_some, holds_up};
 ghost use Rattle.runtime_pipeline.specs.Predecessors.{before_in};
 
 use crate::node_ranks::NodeRanks;
 use crate::predecessors::Predecessors;
-use access_conflicts::{HoldersAt, is_in_the_way, wait_for};
+use access_conflicts::{HoldRegister, is_in_the_way, wait_for};
 use cursor_book::Cursors;
 use hold_book::Hold;
 use phase_api::{Control, Facts};
@@ -31,7 +30,7 @@ use version_chain::Chains;
 /// The pipeline control of a node.
 #[derive(Drop)]
 pub struct Pipeline {
-    node: Node,
+    register: HoldRegister,
     ranks: NodeRanks,
     cursors: Cursors,
     predecessors: Predecessors,
@@ -44,23 +43,31 @@ impl Pipeline {
         requires empty { events_of facts.now ≡ [] }
         requires profiled { facts.now.tree.now.types ≤ length facts.now.profiles.now }
         requires few { above_profiles facts.now.profiles.now ≤ 64 }
-        ensures node { IfOk result (λ c. c.node ≡ node) }
+        ensures node { IfOk result (λ c. c.register.node ≡ node) }
         ensures stands { IfOk result (λ c. PipelineStands c (setup_of facts.now) (events_of facts.now)) }
     {
         let ranks = NodeRanks::of(alloc, node, facts.tree, facts.profiles)?;
         Ok(Pipeline {
-            node,
+            register: HoldRegister::new(alloc, node),
             ranks,
             cursors: Cursors::new(alloc),
             predecessors: Predecessors::new(alloc),
         })
     }
 
+    /// Who holds a cell: the unfinished transactions on whose path the node stands that have accessed it, in ascending number.
+    pub fn holds(&self, facts: &Facts, cell: Cell) -> &[Hold]
+        requires { PipelineStands self.now (setup_of facts.now) (events_of facts.now) }
+        ensures { result.now ≡ holds_in (setup_of facts.now) (events_of facts.now) (pipeline_node_number self.now) cell }
+    {
+        self.register.holds(facts, cell)
+    }
+
     // The rank of the step at which a transaction stands.
     fn current_rank(&self, facts: &Facts, u: Txn) -> u8
         requires stands { PipelineStands self.now (setup_of facts.now) (events_of facts.now) }
         requires typed { IsTyped facts.now u.0 }
-        ensures { result ≡ rank_of_step (setup_of facts.now) self.now.node.0 (kind_of (events_of facts.now) u.0) (cursor (setup_of facts.now) (events_of facts.now) u.0) }
+        ensures { result ≡ rank_of_step (setup_of facts.now) self.now.register.node.0 (kind_of (events_of facts.now) u.0) (cursor (setup_of facts.now) (events_of facts.now) u.0) }
     {
         match facts.history.kind(u) {
             Some(kind) => {
@@ -76,7 +83,7 @@ impl Pipeline {
     fn enters(&self, facts: &Facts, t: Txn, rank: u8) -> bool
         requires stands { PipelineStands self.now (setup_of facts.now) (events_of facts.now) }
         requires typed { IsTyped facts.now t.0 }
-        ensures { result ≡ ltb (rank_of_step (setup_of facts.now) self.now.node.0 (kind_of (events_of facts.now) t.0) (cursor (setup_of facts.now) (events_of facts.now) t.0)) rank }
+        ensures { result ≡ ltb (rank_of_step (setup_of facts.now) self.now.register.node.0 (kind_of (events_of facts.now) t.0) (cursor (setup_of facts.now) (events_of facts.now) t.0)) rank }
     {
         0 < rank && self.current_rank(facts, t) < rank
     }
@@ -85,7 +92,7 @@ impl Pipeline {
     fn has_passed(&self, facts: &Facts, u: Txn, rank: u8) -> bool
         requires stands { PipelineStands self.now (setup_of facts.now) (events_of facts.now) }
         requires typed { IsTyped facts.now u.0 }
-        ensures { result ≡ passed (setup_of facts.now) (events_of facts.now) self.now.node.0 u.0 rank }
+        ensures { result ≡ passed (setup_of facts.now) (events_of facts.now) self.now.register.node.0 u.0 rank }
     {
         facts.history.is_prepared(u)
             || facts.history.is_committed(u)
@@ -104,21 +111,11 @@ impl Pipeline {
         self.predecessors.list(t)
     }
 
-    /// Of the holders of a cell, those at the node: the unfinished transactions on whose path it stands that have accessed the cell, in
-    /// ascending number.
-    pub fn holds<'a>(&self, facts: &'a Facts<'a>, holders: &'a [Hold], cell: Cell) -> HoldersAt<'a>
-        requires stands { PipelineStands self.now (setup_of facts.now) (events_of facts.now) }
-        requires holders { holders.now ≡ holders_in (events_of facts.now) cell }
-        ensures { result ≡ holds_in (setup_of facts.now) (events_of facts.now) (pipeline_node_number self.now) cell }
-    {
-        HoldersAt::new(facts, self.node, holders, cell)
-    }
-
     // Whether a transaction has passed a rank, where one is given.
     fn has_passed_some(&self, facts: &Facts, u: Txn, rank: Option<u8>) -> bool
         requires stands { PipelineStands self.now (setup_of facts.now) (events_of facts.now) }
         requires typed { IsTyped facts.now u.0 }
-        ensures { result ≡ passed_some (setup_of facts.now) (events_of facts.now) self.now.node.0 u.0 rank }
+        ensures { result ≡ passed_some (setup_of facts.now) (events_of facts.now) self.now.register.node.0 u.0 rank }
     {
         match rank {
             Some(k) => self.has_passed(facts, u, k),
@@ -131,7 +128,7 @@ impl Pipeline {
     fn first_ahead(&self, facts: &Facts, t: Txn, rank: Option<u8>) -> Option<Txn>
         requires stands { PipelineStands self.now (setup_of facts.now) (events_of facts.now) }
         requires unfinished { IsTrue (unfinished (events_of facts.now) t.0) }
-        ensures { result ≡ some_txn (find (holds_up (setup_of facts.now) (events_of facts.now) self.now.node.0 t.0 rank) (txns (events_of facts.now))) }
+        ensures { result ≡ some_txn (find (holds_up (setup_of facts.now) (events_of facts.now) self.now.register.node.0 t.0 rank) (txns (events_of facts.now))) }
     {
         for u in self.before(facts, t) {
             if !self.has_passed_some(facts, *u, rank) {
@@ -143,23 +140,16 @@ impl Pipeline {
 
     // The least-numbered transaction that is in the way of an access and has not passed the cell's rank.
     #[inline(always)]
-    fn first_holder(
-        &self,
-        facts: &Facts,
-        holders: &[Hold],
-        t: Txn,
-        cell: Cell,
-        write: bool,
-    ) -> Option<Txn>
-        requires holders { holders.now ≡ holders_in (events_of facts.now) cell }
+    fn first_holder(&self, facts: &Facts, t: Txn, cell: Cell, write: bool) -> Option<Txn>
         requires stands { PipelineStands self.now (setup_of facts.now) (events_of facts.now) }
         requires typed { IsTyped facts.now t.0 }
-        ensures { let S = setup_of facts.now in let H = events_of facts.now in let n = self.now.node.0 in
+        ensures { let S = setup_of facts.now in let H = events_of facts.now in let n = self.now.register.node.0 in
             result ≡ some_txn (find (λ u. blocks S H n t.0 cell write u && not (passed S H n u (rank_of_table S n cell.table.0))) (txns H)) }
     {
         let rank = self.ranks.rank(cell.table);
-        for hold in holders {
-            if is_in_the_way(facts, self.node, t, hold, write)
+        let node = self.register.node();
+        for hold in self.register.holds(facts, cell) {
+            if is_in_the_way(facts, node, t, hold, write)
                 && !self.has_passed(facts, hold.txn, rank)
             {
                 return Some(hold.txn);
@@ -170,19 +160,11 @@ impl Pipeline {
 
     // What an access meets: first those that are earlier, where it would enter a step of a greater rank, and then the holders.
     #[inline(always)]
-    fn before_access(
-        &self,
-        facts: &Facts,
-        holders: &[Hold],
-        t: Txn,
-        cell: Cell,
-        write: bool,
-    ) -> Verdict
-        requires holders { holders.now ≡ holders_in (events_of facts.now) cell }
+    fn before_access(&self, facts: &Facts, t: Txn, cell: Cell, write: bool) -> Verdict
         requires stands { PipelineStands self.now (setup_of facts.now) (events_of facts.now) }
         requires typed { IsTyped facts.now t.0 }
         requires unfinished { IsTrue (unfinished (events_of facts.now) t.0) }
-        ensures { result ≡ on_access (row (setup_of facts.now).tree self.now.node.0).control (setup_of facts.now) (events_of facts.now) self.now.node.0 t.0 cell write }
+        ensures { result ≡ on_access (row (setup_of facts.now).tree self.now.register.node.0).control (setup_of facts.now) (events_of facts.now) self.now.register.node.0 t.0 cell write }
     {
         let rank = self.ranks.rank(cell.table);
         if self.enters(facts, t, rank) {
@@ -190,7 +172,7 @@ impl Pipeline {
                 return Verdict::Wait(u);
             }
         }
-        wait_for(self.first_holder(facts, holders, t, cell, write))
+        wait_for(self.first_holder(facts, t, cell, write))
     }
 }
 
@@ -203,20 +185,22 @@ impl Control for Pipeline {
 
     ghost spare = { pipeline_spare };
 
-    ghost sound = { λ c S H s. s.orderly };
+    ghost sound = { λ c S H s. s.register.orderly };
 
     fn node(&self) -> Node {
-        self.node
+        self.register.node()
     }
 
     fn reserve(&mut self, n: usize) -> Result<(), AllocError> {
+        self.register.reserve(n)?;
         self.predecessors.reserve(n)?;
         self.cursors.reserve(n)
     }
 
     #[inline(always)]
-    fn note(&mut self, facts: &Facts, holders: &[Hold], e: Event) {
-        self.predecessors.note(facts, self.node, holders, e);
+    fn note(&mut self, facts: &Facts, e: Event) {
+        self.register.note(facts, e);
+        self.predecessors.note(facts, &self.register, e);
         match e {
             Event::Began { .. } => self.cursors.begin(),
             Event::Got { txn, cell, .. } | Event::Put { txn, cell, .. } => {
@@ -234,20 +218,19 @@ impl Control for Pipeline {
     }
 
     #[inline(always)]
-    fn before_read(&self, facts: &Facts, holders: &[Hold], t: Txn, cell: Cell) -> Verdict {
-        self.before_access(facts, holders, t, cell, false)
+    fn before_read(&self, facts: &Facts, t: Txn, cell: Cell) -> Verdict {
+        self.before_access(facts, t, cell, false)
     }
 
     fn before_write<C: Chains>(
         &self,
         facts: &Facts,
-        holders: &[Hold],
         _chains: &C,
         _at: Option<usize>,
         t: Txn,
         cell: Cell,
     ) -> Verdict {
-        self.before_access(facts, holders, t, cell, true)
+        self.before_access(facts, t, cell, true)
     }
 
     fn sees(&self, facts: &Facts, _reader: Txn, writer: Txn, cell: Cell) -> bool {

@@ -10,12 +10,13 @@ ghost use Rattle.phase_api.specs.FactsView.{setup_of, events_of, IsOrderly, IsTy
 ghost use Rattle.phase_api.specs.Calls.{IsNewest};
 ghost use Rattle.hold_book.specs.declared.Hold.{Hold};
 ghost use Rattle.access_conflicts.specs.Blockers.{in_the_way};
+ghost use Rattle.access_conflicts.specs.Registered.{Registered};
 ghost use Rattle.sorted_multimap.specs.Multimap.{values_in};
 ghost use Rattle.sorted_multimap.specs.Keys.{txn_cmp};
 ghost use Rattle.dependency_book.specs.Dependencies.{has};
-ghost use Rattle.runtime_pipeline.specs.Predecessors.{PredecessorsOf, AllBehind, HoldAccessed, joined, list_of, without};
+ghost use Rattle.runtime_pipeline.specs.Predecessors.{PredecessorsOf, AllBehind, joined, list_of, without};
 
-use access_conflicts::is_in_the_way;
+use access_conflicts::{HoldRegister, is_in_the_way};
 use hold_book::Hold;
 use phase_api::Facts;
 use sorted_multimap::{Multimap, clear_txn};
@@ -89,27 +90,29 @@ impl Predecessors {
         self.lists.list(t)
     }
 
-    /// Notes the newest event of the history; with an access come the holders of its cell. It takes at most one place of the room.
+    /// Notes the newest event of the history, which the register of the node knows already. It takes at most one place of the room.
     #[inline(always)]
-    pub fn note(&mut self, facts: &Facts, node: Node, holders: &[Hold], e: Event)
-        requires newest { IsNewest facts.now e node.0 }
-        requires holders { HoldAccessed (events_of facts.now) e holders.now }
+    pub fn note(&mut self, facts: &Facts, register: &HoldRegister, e: Event)
+        requires newest { IsNewest facts.now e register.now.node.0 }
         requires orderly { IsOrderly (setup_of facts.now) (drop 1 (events_of facts.now)) }
-        requires stands { PredecessorsOf self.old (setup_of facts.now) (drop 1 (events_of facts.now)) node.0 }
+        requires register { Registered register.now.node.0 register.now.book (setup_of facts.now) (events_of facts.now) }
+        requires stands { PredecessorsOf self.old (setup_of facts.now) (drop 1 (events_of facts.now)) register.now.node.0 }
         requires room { 0 < self.old.spare }
-        ensures stands { PredecessorsOf self.new (setup_of facts.now) (events_of facts.now) node.0 }
+        ensures stands { PredecessorsOf self.new (setup_of facts.now) (events_of facts.now) register.now.node.0 }
         ensures spare { self.old.spare ≤ self.new.spare + 1 }
     {
         match e {
             Event::Began { .. } => self.begin(),
-            Event::Got { txn, .. } => {
-                if !is_alone(holders, txn) {
-                    self.access(facts, node, txn, holders, false);
+            Event::Got { txn, cell, .. } => {
+                let holds = register.holds(facts, cell);
+                if !is_alone(holds, txn) {
+                    self.access(facts, register.node(), txn, holds, false);
                 }
             }
-            Event::Put { txn, .. } => {
-                if !is_alone(holders, txn) {
-                    self.access(facts, node, txn, holders, true);
+            Event::Put { txn, cell, .. } => {
+                let holds = register.holds(facts, cell);
+                if !is_alone(holds, txn) {
+                    self.access(facts, register.node(), txn, holds, true);
                 }
             }
             Event::Done(txn) | Event::Gone { txn, .. } => self.finish(txn),

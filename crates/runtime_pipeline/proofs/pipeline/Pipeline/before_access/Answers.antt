@@ -12,7 +12,7 @@ pub returns-in-Some : goal.returns-in-Some
 returns-in-Some c =
     let S = setup_of c.args.facts.now in
     let H = events_of c.args.facts.now in
-    let n = c.args.self.now.node.0 in
+    let n = c.args.self.now.register.node.0 in
     let rank : c.rank-rank.result ≡ rank_of_table S n c.args.cell.table.0 = c.rank-rank.ensures ∙ c.requires.stands.ranks c.args.cell.table.0 in
     let less = ap (ltb (rank_of_step S n (kind_of H c.args.t.0) (cursor S H c.args.t.0))) (sym rank) ∙ sym c.enters.ensures ∙ c.if-enters.true in
     access_held S H n c.requires.stands.kind c.args.t.0 c.args.cell c.args.write c.in-Some.u less
@@ -22,7 +22,7 @@ pub returns : goal.returns
 returns c =
     let S = setup_of c.args.facts.now in
     let H = events_of c.args.facts.now in
-    let n = c.args.self.now.node.0 in
+    let n = c.args.self.now.register.node.0 in
     let rank : c.rank-rank.result ≡ rank_of_table S n c.args.cell.table.0 = c.rank-rank.ensures ∙ c.requires.stands.ranks c.args.cell.table.0 in
     c.wait_for.ensures ∙ ap wait_for_txn c.first_holder.ensures ∙ elim c.if-enters.branch [
       | then-enters+in_default w ↦ access_enters S H n c.requires.stands.kind c.args.t.0 c.args.cell c.args.write (ap (ltb (rank_of_step S n (kind_of H c.args.t.0) (cursor S H c.args.t.0))) (sym rank) ∙ sym c.enters.ensures ∙ w.if-enters.true)

@@ -10,7 +10,7 @@ unfolding passed
 returns-then-is_aborted c =
     let H = events_of c.args.facts.now in
     let u = c.args.u.0 in
-    let r = ltb c.args.rank (rank_of_step (setup_of c.args.facts.now) c.args.self.now.node.0 (kind_of H u) (cursor (setup_of c.args.facts.now) H u)) in
+    let r = ltb c.args.rank (rank_of_step (setup_of c.args.facts.now) c.args.self.now.register.node.0 (kind_of H u) (cursor (setup_of c.args.facts.now) H u)) in
     let first : c.if-is_prepared.value ≡ (prepared H u || committed H u) = elim c.if-is_prepared.branch [
       | then-is_prepared w ↦ w.value-is ∙ w.if-is_prepared.true ∙ sym (ap (λ (b : Bool). b || committed H u) (sym c.is_prepared.ensures ∙ w.if-is_prepared.true))
       | else-is_prepared w ↦ w.value-is ∙ w.is_committed.ensures ∙ sym (ap (λ (b : Bool). b || committed H u) (sym c.is_prepared.ensures ∙ w.if-is_prepared.false))
@@ -26,7 +26,7 @@ unfolding passed
 returns-else-is_aborted c =
     let H = events_of c.args.facts.now in
     let u = c.args.u.0 in
-    let r = ltb c.args.rank (rank_of_step (setup_of c.args.facts.now) c.args.self.now.node.0 (kind_of H u) (cursor (setup_of c.args.facts.now) H u)) in
+    let r = ltb c.args.rank (rank_of_step (setup_of c.args.facts.now) c.args.self.now.register.node.0 (kind_of H u) (cursor (setup_of c.args.facts.now) H u)) in
     let first : c.if-is_prepared.value ≡ (prepared H u || committed H u) = elim c.if-is_prepared.branch [
       | then-is_prepared w ↦ w.value-is ∙ w.if-is_prepared.true ∙ sym (ap (λ (b : Bool). b || committed H u) (sym c.is_prepared.ensures ∙ w.if-is_prepared.true))
       | else-is_prepared w ↦ w.value-is ∙ w.is_committed.ensures ∙ sym (ap (λ (b : Bool). b || committed H u) (sym c.is_prepared.ensures ∙ w.if-is_prepared.false))

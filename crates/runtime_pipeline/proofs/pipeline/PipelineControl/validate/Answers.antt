@@ -3,4 +3,4 @@ use Rattle.runtime_pipeline.proofs.Said.{pipeline_validate}
 use Rattle.runtime_pipeline.proofs.pipeline.PipelineControl.validate.Goals as goal
 
 pub returns : goal.returns
-returns c = pipeline_validate (setup_of c.args._facts.now) (events_of c.args._facts.now) c.args.self.now.node.0 c.requires.stands.kind c.args._t.0
+returns c = pipeline_validate (setup_of c.args._facts.now) (events_of c.args._facts.now) c.args.self.now.register.node.0 c.requires.stands.kind c.args._t.0
