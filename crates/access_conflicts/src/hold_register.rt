@@ -34,6 +34,7 @@ impl HoldRegister {
     }
 
     /// The node.
+    #[inline(always)]
     pub fn node(&self) -> Node
         ensures { result ≡ self.now.node }
     {
