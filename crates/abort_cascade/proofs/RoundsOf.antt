@@ -14,11 +14,11 @@ use Rattle.teb_laws.proofs.Serial.{filter-In, numbers-In}
 use Rattle.teb_laws.proofs.Cascades.{falls, numbers_pos, cascade-In}
 use Rattle.dependency_book.specs.Dependencies.{all_sources, unfinished_txns}
 use Rattle.dependency_book.specs.Books.{Lists, BookOf, sources_in}
-use Rattle.hold_book.proofs.OrderlyHistories.{unfinished_is, unfinished_parts, known}
+use Rattle.dependency_book.proofs.OrderlyHistories.{unfinished_is, unfinished_parts, known}
 use Rattle.abort_cascade.specs.Recoverable.{IsRecoverable}
 use Rattle.abort_cascade.specs.Rounds.{is_member, culprit, with_culprit, round_of, blames}
 use Rattle.dependency_book.proofs.Sources.{has_source, sources_ascend, sources_standing, find_least, IsLeast}
-use Rattle.hold_book.proofs.Positive.{orderly_begun, begun_pos}
+use Rattle.dependency_book.proofs.Positive.{orderly_begun, begun_pos}
 use Rattle.teb_history.proofs.LeastNumbers.{numbers_find}
 use Rattle.abort_cascade.proofs.Stages.{stage, stage_none, stage_next, stage_length, stage_last, stage_step}
 use Rattle.teb_laws.proofs.Lists.{list_any_In}

@@ -21,8 +21,8 @@ use Rattle.phase_api.specs.declared.facts.Facts.{Facts}
 use Rattle.phase_api.specs.Calls.{IsHere}
 use Rattle.phase_api.specs.FactsView.{setup_of, events_of, IsTyped}
 use Rattle.dependency_book.specs.Dependencies.{all_sources}
-use Rattle.hold_book.specs.Orderly.{Orderly}
-use Rattle.hold_book.proofs.OrderlyHistories.{unfinished_parts, known}
+use Rattle.dependency_book.specs.Orderly.{Orderly}
+use Rattle.dependency_book.proofs.OrderlyHistories.{unfinished_parts, known}
 use Rattle.dependency_book.proofs.Sources.{has_source, sources_ascend, find_least, find_absent}
 use Rattle.teb_history.proofs.LeastNumbers.{numbers_find, none_below, lesser, find_either}
 use Rattle.commit_gate.specs.Ways.{IsWay, first_wait}

@@ -10,7 +10,7 @@ use Rattle.phase_api.specs.declared.facts.Facts.{Facts}
 use Rattle.phase_api.specs.Standing.{StandAll}
 use Rattle.phase_api.specs.FactsView.{setup_of, events_of}
 use Rattle.dependency_book.specs.Dependencies.{all_sources}
-use Rattle.hold_book.specs.Orderly.{Orderly}
+use Rattle.dependency_book.specs.Orderly.{Orderly}
 
 -- the setup is sound and the history lawful, each control stands for them, and t is unfinished and read from the sources
 pub record IsAsked {K : Type 0} (node_number : K → ℕ) (stands : K → Setup → List Event → Type 0) (all : List K) (sources : List Txn) (f : Facts) (t : ℕ) : Type 0 where

@@ -4,7 +4,7 @@ use Rattle.teb_rules.specs.Tree.{path}
 use Rattle.teb_rules.specs.Stops.{commit_stop, on_commit, stop_of}
 use Rattle.teb_laws.proofs.Sound.{tree_facts}
 use Rattle.phase_api.specs.FactsView.{setup_of, events_of}
-use Rattle.hold_book.proofs.OrderlyHistories.{unfinished_parts}
+use Rattle.dependency_book.proofs.OrderlyHistories.{unfinished_parts}
 use Rattle.dependency_book.proofs.Sources.{sources_standing}
 use Rattle.commit_gate.specs.Ways.{IsWay}
 use Rattle.commit_gate.proofs.CommitWaits.{path_way, typed_now}

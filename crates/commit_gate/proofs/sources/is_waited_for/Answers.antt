@@ -1,6 +1,6 @@
 use Rattle.std.proofs.Common.{◌∙◌, sym}
 use Rattle.phase_api.specs.FactsView.{events_of}
-use Rattle.hold_book.proofs.OrderlyHistories.{unfinished_parts}
+use Rattle.dependency_book.proofs.OrderlyHistories.{unfinished_parts}
 use Rattle.commit_gate.proofs.sources.is_waited_for.Goals as goal
 
 pub meet_at-requires-clause-right : goal.meet_at-requires-clause-right
