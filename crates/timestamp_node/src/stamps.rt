@@ -23,7 +23,6 @@ use crate::reads::{forget_reads, push_read};
 use access_conflicts::wait_for;
 use arena_multimap::ArenaMultimap;
 use batch_book::Batches;
-use hold_book::Hold;
 use phase_api::{Control, Facts};
 use std::alloc::{AllocError, Global};
 use teb_history::Event;
@@ -186,7 +185,7 @@ impl Control for Stamps {
     }
 
     #[inline(always)]
-    fn note(&mut self, facts: &Facts, _holders: &[Hold], e: Event) {
+    fn note(&mut self, facts: &Facts, e: Event) {
         let at = facts.history.len() - 1;
         match e {
             Event::Began { txn, .. } => {
@@ -222,14 +221,13 @@ impl Control for Stamps {
         }
     }
 
-    fn before_read(&self, _facts: &Facts, _holders: &[Hold], _t: Txn, _cell: Cell) -> Verdict {
+    fn before_read(&self, _facts: &Facts, _t: Txn, _cell: Cell) -> Verdict {
         Verdict::Go
     }
 
     fn before_write<C: Chains>(
         &self,
         facts: &Facts,
-        _holders: &[Hold],
         chains: &C,
         at: Option<usize>,
         t: Txn,
