@@ -1,5 +1,5 @@
 -- What is kept of the history, before and after one more event.
-use Rattle.std.proofs.Common.{◌≡◌, ℕ, zero, suc, ◌≤◌, Bool, true, refl, List, [], ◌∷◌, length, Option, ℤ, sym, subst, arith}
+use Rattle.std.proofs.Common.{◌≡◌, ℕ, zero, suc, ◌≤◌, List, [], ◌∷◌, length, Option, ℤ, sym, subst, arith}
 use Rattle.teb_names.specs.declared.Cell.{Cell}
 use Rattle.teb_names.specs.declared.Txn.{Txn}
 use Rattle.teb_history.specs.declared.Event.{Event}
@@ -22,25 +22,6 @@ use Rattle.engine_core.specs.Stores.{store_of}
 use Rattle.engine_core.specs.Wholes.{IsWhole, StateIsWhole, ViewIsWhole, store_in, events_in}
 use Rattle.engine_core.specs.Keeping.{HasPlace, PutsAt, IsPlaced}
 use Rattle.engine_core.specs.Decisions.{MayBegin}
-use Rattle.engine_core.proofs.HoldersAsked.{kept_on}
-
--- a state that is lent: whatever is known of pipelines
-lent_whole : {K : Type 0} {node_number : K → ℕ} {stands : K → Setup → List Event → Type 0} {X : Store} {H : List Event} {cs : List K} {L : Cell → List Version} {b : Lists} {steps : List ℕ} {last : List Txn} {has_pipelines : Bool} →
-    IsWhole node_number stands X H cs L b steps last has_pipelines → IsWhole node_number stands X H cs L b steps last true
-lent_whole w = record {
-  sound = w.sound;
-  profiled = w.profiled;
-  nodes = w.nodes;
-  lawful = w.lawful;
-  few = w.few;
-  controls = w.controls;
-  versions = w.versions;
-  book = w.book;
-  cursors = w.cursors;
-  latest = w.latest;
-  holders = w.holders;
-  pipelines = λ n l is. refl;
-}
 
 -- the view of a whole state is whole
 module _ {K C : Type 0} (node_number : K → ℕ) (stands : K → Setup → List Event → Type 0) (lists : C → Cell → List Version) (k : EngineState K C) (p : EngineView K C)
@@ -48,13 +29,13 @@ module _ {K C : Type 0} (node_number : K → ℕ) (stands : K → Setup → List
   pub view_whole : p.controls.now ≡ k.controls.items → p.book.now ≡ k.book → p.cursors.now ≡ k.cursors → p.latest.now ≡ k.latest → StateIsWhole node_number stands lists k → Settled k.history.events → ViewIsWhole node_number stands lists p
   view_whole c b s m w t = record {
     whole =
-        subst (λ (Y : Store). IsWhole node_number stands Y (events_in p) p.controls.now (lists p.chains.now) p.book.now.lists p.cursors.now.cursors p.latest.now true) (sym x)
-        (subst (λ (H : Written). IsWhole node_number stands (store_of k.setup) H.events p.controls.now (lists p.chains.now) p.book.now.lists p.cursors.now.cursors p.latest.now true) (sym h)
-        (subst (λ (cs : List K). IsWhole node_number stands (store_of k.setup) k.history.events cs (lists p.chains.now) p.book.now.lists p.cursors.now.cursors p.latest.now true) (sym c)
-        (subst (λ (ch : C). IsWhole node_number stands (store_of k.setup) k.history.events k.controls.items (lists ch) p.book.now.lists p.cursors.now.cursors p.latest.now true) (sym l)
-        (subst (λ (d : Shown). IsWhole node_number stands (store_of k.setup) k.history.events k.controls.items (lists k.chains) d.lists p.cursors.now.cursors p.latest.now true) (sym b)
-        (subst (λ (d : Kept). IsWhole node_number stands (store_of k.setup) k.history.events k.controls.items (lists k.chains) k.book.lists d.cursors p.latest.now true) (sym s)
-        (subst (λ (ts : List Txn). IsWhole node_number stands (store_of k.setup) k.history.events k.controls.items (lists k.chains) k.book.lists k.cursors.cursors ts true) (sym m) (lent_whole w)))))));
+        subst (λ (Y : Store). IsWhole node_number stands Y (events_in p) p.controls.now (lists p.chains.now) p.book.now.lists p.cursors.now.cursors p.latest.now) (sym x)
+        (subst (λ (H : Written). IsWhole node_number stands (store_of k.setup) H.events p.controls.now (lists p.chains.now) p.book.now.lists p.cursors.now.cursors p.latest.now) (sym h)
+        (subst (λ (cs : List K). IsWhole node_number stands (store_of k.setup) k.history.events cs (lists p.chains.now) p.book.now.lists p.cursors.now.cursors p.latest.now) (sym c)
+        (subst (λ (ch : C). IsWhole node_number stands (store_of k.setup) k.history.events k.controls.items (lists ch) p.book.now.lists p.cursors.now.cursors p.latest.now) (sym l)
+        (subst (λ (d : Shown). IsWhole node_number stands (store_of k.setup) k.history.events k.controls.items (lists k.chains) d.lists p.cursors.now.cursors p.latest.now) (sym b)
+        (subst (λ (d : Kept). IsWhole node_number stands (store_of k.setup) k.history.events k.controls.items (lists k.chains) k.book.lists d.cursors p.latest.now) (sym s)
+        (subst (λ (ts : List Txn). IsWhole node_number stands (store_of k.setup) k.history.events k.controls.items (lists k.chains) k.book.lists k.cursors.cursors ts) (sym m) w))))));
     settled = subst (λ (H : Written). Settled H.events) (sym h) t;
   }
 
@@ -79,9 +60,9 @@ begun_after S P (Gone t c) h b = h
 begun_after S P (Told t) h b = h
 
 -- all is whole after an event that the rules grant, once all that is kept of the history keeps up
-pub whole_after : {K : Type 0} (node_number : K → ℕ) (stands : K → Setup → List Event → Type 0) (X : Store) (H G : List Event) (e : Event) (cs ds : List K) (L M : Cell → List Version) (b d : Lists) (steps more : List ℕ) (latest next : List Txn) (has_pipelines : Bool) →
-    IsWhole node_number stands X H cs L b steps latest has_pipelines → Granted X.setup H e → MayBegin X.setup H e → G ≡ e ∷ H → StandAll node_number stands ds X.setup G → HoldsVersions X.setup (e ∷ H) M → BookOf d (e ∷ H) → d.keeps_holders ≡ b.keeps_holders → CursorsOf more X.setup G → AreLatest next (e ∷ H) → IsWhole node_number stands X G ds M d more next has_pipelines
-whole_after node_number stands X H G e cs ds L M b d steps more latest next has_pipelines w g m q sa hv bo keeps cu la = record {
+pub whole_after : {K : Type 0} (node_number : K → ℕ) (stands : K → Setup → List Event → Type 0) (X : Store) (H G : List Event) (e : Event) (cs ds : List K) (L M : Cell → List Version) (b d : Lists) (steps more : List ℕ) (latest next : List Txn) →
+    IsWhole node_number stands X H cs L b steps latest → Granted X.setup H e → MayBegin X.setup H e → G ≡ e ∷ H → StandAll node_number stands ds X.setup G → HoldsVersions X.setup (e ∷ H) M → BookOf d (e ∷ H) → CursorsOf more X.setup G → AreLatest next (e ∷ H) → IsWhole node_number stands X G ds M d more next
+whole_after node_number stands X H G e cs ds L M b d steps more latest next w g m q sa hv bo cu la = record {
   sound = w.sound;
   profiled = w.profiled;
   nodes = w.nodes;
@@ -92,6 +73,4 @@ whole_after node_number stands X H G e cs ds L M b d steps more latest next has_
   book = subst (BookOf d) (sym q) bo;
   cursors = cu;
   latest = subst (AreLatest next) (sym q) la;
-  holders = kept_on X.setup.tree b.keeps_holders d.keeps_holders keeps w.holders;
-  pipelines = w.pipelines;
 }

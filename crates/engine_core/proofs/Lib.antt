@@ -9,7 +9,7 @@ pub mod Beginning
 pub mod VersionSteps
 pub mod CursorSteps
 pub mod Noting
-pub mod HoldersAsked
+pub mod Again
 pub mod ReadSources
 pub mod Appending
 pub mod Falling

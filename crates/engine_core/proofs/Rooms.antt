@@ -33,12 +33,12 @@ same_versions S H L M m h = record {
   order = λ x. subst (λ (vs : List Version). Pairs (λ u w. (precedes S H x u w ≡ true) × (precedes S H x w u ≡ false)) (writers_of vs)) (sym (m x)) (h.order x);
 }
 
-pub still_whole : {K : Type 0} (node_number : K → ℕ) (stands : K → Setup → List Event → Type 0) (X : Store) (H G : List Event) (cs ds : List K) (L M : Cell → List Version) (b d : Lists) (steps more : List ℕ) (latest : List Txn) (has_pipelines : Bool) →
-    IsWhole node_number stands X H cs L b steps latest has_pipelines → G ≡ H → StandAll node_number stands ds X.setup H → ((x : Cell) → M x ≡ L x) → d ≡ b → more ≡ steps → IsWhole node_number stands X G ds M d more latest has_pipelines
-still_whole node_number stands X H G cs ds L M b d steps more latest has_pipelines w q sa m k c =
-    subst (λ (P : List Event). IsWhole node_number stands X P ds M d more latest has_pipelines) (sym q)
-    (subst (λ (l : Lists). IsWhole node_number stands X H ds M l more latest has_pipelines) (sym k)
-    (subst (λ (ns : List ℕ). IsWhole node_number stands X H ds M b ns latest has_pipelines) (sym c) (record {
+pub still_whole : {K : Type 0} (node_number : K → ℕ) (stands : K → Setup → List Event → Type 0) (X : Store) (H G : List Event) (cs ds : List K) (L M : Cell → List Version) (b d : Lists) (steps more : List ℕ) (latest : List Txn) →
+    IsWhole node_number stands X H cs L b steps latest → G ≡ H → StandAll node_number stands ds X.setup H → ((x : Cell) → M x ≡ L x) → d ≡ b → more ≡ steps → IsWhole node_number stands X G ds M d more latest
+still_whole node_number stands X H G cs ds L M b d steps more latest w q sa m k c =
+    subst (λ (P : List Event). IsWhole node_number stands X P ds M d more latest) (sym q)
+    (subst (λ (l : Lists). IsWhole node_number stands X H ds M l more latest) (sym k)
+    (subst (λ (ns : List ℕ). IsWhole node_number stands X H ds M b ns latest) (sym c) (record {
       sound = w.sound;
       profiled = w.profiled;
       nodes = w.nodes;
@@ -49,6 +49,4 @@ still_whole node_number stands X H G cs ds L M b d steps more latest has_pipelin
       book = w.book;
       cursors = w.cursors;
       latest = w.latest;
-      holders = w.holders;
-      pipelines = w.pipelines;
     })))

@@ -1,5 +1,5 @@
 -- A setup that a store can be set up with, and what is kept of an empty history.
-use Rattle.std.proofs.Common.{◌≡◌, ℕ, ◌≤◌, Bool, List, [], length, sym, ◌∙◌, subst, arith}
+use Rattle.std.proofs.Common.{◌≡◌, ℕ, ◌≤◌, List, [], length, sym, ◌∙◌, subst, arith}
 use Rattle.teb_names.specs.declared.Cell.{Cell}
 use Rattle.teb_names.specs.declared.Txn.{Txn}
 use Rattle.teb_history.specs.declared.Event.{Event}
@@ -17,7 +17,6 @@ use Rattle.tree_toml.specs.declared.setup.Setup.{Setup}
 use Rattle.tree_toml.specs.Seen.{setup_view}
 use Rattle.tree_toml.specs.Sound as toml
 use Rattle.engine_core.specs.Latest.{AreLatest}
-use Rattle.engine_core.specs.HoldersAsked.{AreKept, ArePipelinesKnown}
 use Rattle.engine_core.specs.Stores.{store_of}
 use Rattle.engine_core.specs.Wholes.{IsWhole}
 
@@ -37,11 +36,11 @@ none_begun = omega arith
 lawful_none : (S : Rules) → Lawful S []
 lawful_none S = (empty_good S).legal
 
-pub whole_from_nothing : {K : Type 0} (node_number : K → ℕ) (stands : K → Rules → List Event → Type 0) (s : Setup) (H : List Event) (cs : List K) (L : Cell → List Version) (b : Lists) (steps : List ℕ) (latest : List Txn) (has_pipelines : Bool) → toml.IsWhole (setup_view s) → H ≡ [] →
-    StandAll node_number stands cs (store_of s).setup H → ((x : Cell) → L x ≡ []) → BookOf b [] → steps ≡ [] → AreLatest latest [] → AreKept (store_of s).setup.tree b.keeps_holders → ArePipelinesKnown (store_of s).setup.tree has_pipelines → IsWhole node_number stands (store_of s) H cs L b steps latest has_pipelines
-whole_from_nothing {K} node_number stands s H cs L b steps latest has_pipelines w q sa l bo cu la kept known =
-    subst (λ (P : List Event). IsWhole node_number stands (store_of s) P cs L b steps latest has_pipelines) (sym q)
-    (subst (λ (ns : List ℕ). IsWhole node_number stands (store_of s) [] cs L b ns latest has_pipelines) (sym cu) (record {
+pub whole_from_nothing : {K : Type 0} (node_number : K → ℕ) (stands : K → Rules → List Event → Type 0) (s : Setup) (H : List Event) (cs : List K) (L : Cell → List Version) (b : Lists) (steps : List ℕ) (latest : List Txn) → toml.IsWhole (setup_view s) → H ≡ [] →
+    StandAll node_number stands cs (store_of s).setup H → ((x : Cell) → L x ≡ []) → BookOf b [] → steps ≡ [] → AreLatest latest [] → IsWhole node_number stands (store_of s) H cs L b steps latest
+whole_from_nothing {K} node_number stands s H cs L b steps latest w q sa l bo cu la =
+    subst (λ (P : List Event). IsWhole node_number stands (store_of s) P cs L b steps latest) (sym q)
+    (subst (λ (ns : List ℕ). IsWhole node_number stands (store_of s) [] cs L b ns latest) (sym cu) (record {
       sound = sound_rules s w;
       profiled = w.profiles ∙ sym w.types;
       nodes = w.few_nodes;
@@ -52,6 +51,4 @@ whole_from_nothing {K} node_number stands s H cs L b steps latest has_pipelines 
       book = bo;
       cursors = cursors_none (store_of s).setup;
       latest = la;
-      holders = kept;
-      pipelines = known;
     }))

@@ -1,7 +1,6 @@
 pub mod Stores
 pub mod EngineModel
 pub mod Latest
-pub mod HoldersAsked
 pub mod Wholes
 pub mod Asking
 pub mod HeldBy

@@ -1,5 +1,5 @@
 -- What holds of all that an engine keeps at once.
-use Rattle.std.specs.Prelude.{◌≡◌, ◌≤◌, ℕ, Bool, true, List, length, slice_get, Some}
+use Rattle.std.specs.Prelude.{◌≡◌, ◌≤◌, ℕ, List, length, slice_get, Some}
 use Rattle.teb_names.specs.declared.Cell.{Cell}
 use Rattle.teb_names.specs.declared.Txn.{Txn}
 use Rattle.teb_history.specs.declared.Event.{Event}
@@ -14,13 +14,12 @@ use Rattle.phase_api.specs.Versions.{HoldsVersions}
 use Rattle.dependency_book.specs.Books.{Lists, BookOf}
 use Rattle.cursor_book.specs.Cursors.{CursorsOf}
 use Rattle.engine_core.specs.Latest.{AreLatest}
-use Rattle.engine_core.specs.HoldersAsked.{AreKept, ArePipelinesKnown}
 use Rattle.engine_core.specs.declared.engine_state.EngineState.{EngineState}
 use Rattle.engine_core.specs.declared.engine_view.EngineView.{EngineView}
 use Rattle.engine_core.specs.Stores.{store_of}
 
--- a sound store, with a profile for each type, and a lawful history, for which controls, chains, book, cursors and what each session began last stand; holders are kept where some node asks for them, and it is known where some node is a pipeline
-pub record IsWhole {K : Type 0} (node_number : K → ℕ) (stands : K → Setup → List Event → Type 0) (X : Store) (H : List Event) (cs : List K) (L : Cell → List Version) (b : Lists) (steps : List ℕ) (last : List Txn) (has_pipelines : Bool) : Type 0 where
+-- a sound store, with a profile for each type, and a lawful history, for which controls, chains, book, cursors and what each session began last stand
+pub record IsWhole {K : Type 0} (node_number : K → ℕ) (stands : K → Setup → List Event → Type 0) (X : Store) (H : List Event) (cs : List K) (L : Cell → List Version) (b : Lists) (steps : List ℕ) (last : List Txn) : Type 0 where
   pub sound : IsSound X.setup
   pub profiled : length X.setup.profiles ≡ X.setup.types
   pub nodes : length X.setup.tree ≤ 64
@@ -31,8 +30,6 @@ pub record IsWhole {K : Type 0} (node_number : K → ℕ) (stands : K → Setup 
   pub book : BookOf b H
   pub cursors : CursorsOf steps X.setup H
   pub latest : AreLatest last H
-  pub holders : AreKept X.setup.tree b.keeps_holders
-  pub pipelines : ArePipelinesKnown X.setup.tree has_pipelines
 
 -- the store and the history that a view tells of
 abbrev pub store_in : {K C : Type 0} → EngineView K C → Store
@@ -41,14 +38,14 @@ store_in p = record { setup = setup_of p.facts; tables = p.tables; rows = p.rows
 abbrev pub events_in : {K C : Type 0} → EngineView K C → List Event
 events_in p = events_of p.facts
 
--- a view is whole, whatever is known of pipelines, and nobody who is not aborted has read from somebody who is
+-- a view is whole, and nobody who is not aborted has read from somebody who is
 pub record ViewIsWhole {K C : Type 0} (node_number : K → ℕ) (stands : K → Setup → List Event → Type 0) (lists : C → Cell → List Version) (p : EngineView K C) : Type 0 where
-  pub whole : IsWhole node_number stands (store_in p) (events_in p) p.controls.now (lists p.chains.now) p.book.now.lists p.cursors.now.cursors p.latest.now true
+  pub whole : IsWhole node_number stands (store_in p) (events_in p) p.controls.now (lists p.chains.now) p.book.now.lists p.cursors.now.cursors p.latest.now
   pub settled : Settled (events_in p)
 
 -- the same of what the engine owns, between two answers or amid one
 abbrev pub StateIsWhole : {K C : Type 0} → (K → ℕ) → (K → Setup → List Event → Type 0) → (C → Cell → List Version) → EngineState K C → Type 0
-StateIsWhole node_number stands lists c = IsWhole node_number stands (store_of c.setup) c.history.events c.controls.items (lists c.chains) c.book.lists c.cursors.cursors c.latest c.has_pipelines
+StateIsWhole node_number stands lists c = IsWhole node_number stands (store_of c.setup) c.history.events c.controls.items (lists c.chains) c.book.lists c.cursors.cursors c.latest
 
 -- each control has room for k events
 pub record RoomFor {K : Type 0} (spare : K → ℕ) (k : ℕ) (cs : List K) : Type 0 where

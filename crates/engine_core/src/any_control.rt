@@ -6,7 +6,6 @@ ghost use Rattle.phase_api.specs.FactsView.{setup_of, events_of};
 ghost use Rattle.phase_api.specs.Standing.{StandAll};
 ghost use Rattle.engine_core.specs.AnyControls.{any_node_number, any_stands};
 
-use hold_book::Hold;
 use nexus_locks::Locks;
 use phase_api::{Control, Facts};
 use runtime_pipeline::Pipeline;
@@ -50,7 +49,7 @@ fn control_of(alloc: Global, node: Node, facts: &Facts) -> Result<AnyControl, Al
     ensures stands { IfOk result (λ c. any_stands c (setup_of facts.now) (events_of facts.now)) }
 {
     match facts.tree.row(node).control {
-        ControlKind::Locks => Ok(AnyControl::Locks(Locks::new(node, facts))),
+        ControlKind::Locks => Ok(AnyControl::Locks(Locks::new(alloc, node, facts))),
         ControlKind::Pipeline => Ok(AnyControl::Pipeline(Pipeline::new(alloc, node, facts)?)),
         ControlKind::Timestamp => Ok(AnyControl::Timestamp(Stamps::new(alloc, node, facts)?)),
         ControlKind::Snapshot => Ok(AnyControl::Snapshot(Snapshot::new(alloc, node, facts)?)),
@@ -87,12 +86,12 @@ impl Control for AnyControl {
     }
 
     #[inline(always)]
-    fn note(&mut self, facts: &Facts, holders: &[Hold], e: Event) {
+    fn note(&mut self, facts: &Facts, e: Event) {
         match self {
-            AnyControl::Locks(c) => c.note(facts, holders, e),
-            AnyControl::Pipeline(c) => c.note(facts, holders, e),
-            AnyControl::Timestamp(c) => c.note(facts, holders, e),
-            AnyControl::Snapshot(c) => c.note(facts, holders, e),
+            AnyControl::Locks(c) => c.note(facts, e),
+            AnyControl::Pipeline(c) => c.note(facts, e),
+            AnyControl::Timestamp(c) => c.note(facts, e),
+            AnyControl::Snapshot(c) => c.note(facts, e),
         }
     }
 
@@ -106,29 +105,28 @@ impl Control for AnyControl {
     }
 
     #[inline(always)]
-    fn before_read(&self, facts: &Facts, holders: &[Hold], t: Txn, cell: Cell) -> Verdict {
+    fn before_read(&self, facts: &Facts, t: Txn, cell: Cell) -> Verdict {
         match self {
-            AnyControl::Locks(c) => c.before_read(facts, holders, t, cell),
-            AnyControl::Pipeline(c) => c.before_read(facts, holders, t, cell),
-            AnyControl::Timestamp(c) => c.before_read(facts, holders, t, cell),
-            AnyControl::Snapshot(c) => c.before_read(facts, holders, t, cell),
+            AnyControl::Locks(c) => c.before_read(facts, t, cell),
+            AnyControl::Pipeline(c) => c.before_read(facts, t, cell),
+            AnyControl::Timestamp(c) => c.before_read(facts, t, cell),
+            AnyControl::Snapshot(c) => c.before_read(facts, t, cell),
         }
     }
 
     fn before_write<C: Chains>(
         &self,
         facts: &Facts,
-        holders: &[Hold],
         chains: &C,
         at: Option<usize>,
         t: Txn,
         cell: Cell,
     ) -> Verdict {
         match self {
-            AnyControl::Locks(c) => c.before_write(facts, holders, chains, at, t, cell),
-            AnyControl::Pipeline(c) => c.before_write(facts, holders, chains, at, t, cell),
-            AnyControl::Timestamp(c) => c.before_write(facts, holders, chains, at, t, cell),
-            AnyControl::Snapshot(c) => c.before_write(facts, holders, chains, at, t, cell),
+            AnyControl::Locks(c) => c.before_write(facts, chains, at, t, cell),
+            AnyControl::Pipeline(c) => c.before_write(facts, chains, at, t, cell),
+            AnyControl::Timestamp(c) => c.before_write(facts, chains, at, t, cell),
+            AnyControl::Snapshot(c) => c.before_write(facts, chains, at, t, cell),
         }
     }
 

@@ -1,14 +1,10 @@
 //! An event is appended to the history, and all that is kept of the history keeps up with it.
 
-ghost use Rattle.std.specs.Prelude.{◌≡◌, ◌<◌, ◌≤◌, ◌+◌, ◌∷◌, ℕ, List, length, drop};
+ghost use Rattle.std.specs.Prelude.{◌≡◌, ◌<◌, ◌≤◌, ◌+◌, ◌∷◌, length, drop};
 ghost use Rattle.teb_history.specs.declared.Event.{Event};
-ghost use Rattle.teb_rules.specs.Setup.{Setup as Rules};
 ghost use Rattle.teb_laws.specs.Lawful.{Granted, Lawful};
-ghost use Rattle.phase_api.specs.Calls.{ComeHolders};
-ghost use Rattle.dependency_book.specs.Books.{BookOf};
 ghost use Rattle.cursor_book.specs.Cursors.{CursorsOf};
 ghost use Rattle.engine_core.specs.Decisions.{MayBegin};
-ghost use Rattle.engine_core.specs.HoldersAsked.{AreKept, ArePipelinesKnown};
 ghost use Rattle.engine_core.specs.Keeping.{HasPlace, PutsAt};
 ghost use Rattle.engine_core.specs.Stores.{store_of};
 ghost use Rattle.engine_core.specs.Wholes.{StateIsWhole, HasRoom};
@@ -18,8 +14,6 @@ use crate::keeping::{keep_cursors, keep_versions};
 use crate::notes::note_each;
 use candidate_reads::Place;
 use cursor_book::Cursors;
-use dependency_book::Book;
-use hold_book::Hold;
 use phase_api::Control;
 use teb_history::{Event, History};
 use tree_toml::Setup;
@@ -74,34 +68,11 @@ fn append<K: Control, C: Chains>(state: &mut EngineState<K, C>, event: Event, pl
 {
     state.history.push(event);
     state.book.note(&state.history, event, place.is_there);
-    let holders = holders_of(&state.book, state.has_pipelines, event);
-    note_each(
-        &mut state.controls,
-        &state.history,
-        &state.setup,
-        holders,
-        event,
-    );
+    note_each(&mut state.controls, &state.history, &state.setup, event);
     keep_versions(&mut state.chains, event, place);
     move_cursors(&mut state.cursors, &state.history, &state.setup, event);
     state.latest.note(event);
     state.room -= 1;
-}
-
-/// The holders of the cell that an event accesses, the one that accesses it among them; nobody where it accesses none, and where no
-/// node is a pipeline.
-#[inline(always)]
-fn holders_of(book: &Book, has_pipelines: bool, event: Event) -> &[Hold]
-    ensures { (S : Rules) (H : List Event) → BookOf book.now.lists H → AreKept S.tree book.now.lists.keeps_holders → ArePipelinesKnown S.tree has_pipelines → (n : ℕ) → ComeHolders S H n event result.now }
-{
-    if !has_pipelines {
-        return &[];
-    }
-    match event {
-        Event::Got { cell, .. } => book.holders(cell),
-        Event::Put { cell, .. } => book.holders(cell),
-        _ => &[],
-    }
 }
 
 /// The cursors after the newest event.

@@ -1,12 +1,10 @@
 //! The engine of a store.
 
-ghost use Rattle.std.specs.Prelude.{◌≡◌, ◌<◌, ℕ, [], length, IsTrue, true, false, IfOk, OnOk, OnErr};
+ghost use Rattle.std.specs.Prelude.{◌≡◌, [], IsTrue, true, false, IfOk, OnOk, OnErr};
 ghost use Rattle.teb_names.specs.declared.Cell.{Cell};
 ghost use Rattle.teb_rules.specs.Accepted.{IsSound};
 ghost use Rattle.teb_rules.specs.Answer.{answer};
-ghost use Rattle.teb_rules.specs.Tree.{row};
 ghost use Rattle.teb_laws.specs.Lawful.{Lawful};
-ghost use Rattle.phase_api.specs.Calls.{asks_holders};
 ghost use Rattle.phase_api.specs.Standing.{StandAll};
 ghost use Rattle.phase_api.specs.Versions.{HoldsVersions};
 ghost use Rattle.dependency_book.specs.Books.{BookOf};
@@ -22,14 +20,13 @@ use crate::decide::MOST_TXNS;
 use crate::decision::Decision;
 use crate::engine_state::{EngineState, facts_of};
 use crate::latest_txns::LatestTxns;
-use crate::node_kinds::{has_kind, some_asks_holders};
 use crate::room::make_room;
 use cursor_book::Cursors;
 use dependency_book::Book;
 use std::alloc::{AllocError, Global};
 use std::marker::Model;
 use teb_history::History;
-use teb_names::{ControlKind, Reply, Request, Session};
+use teb_names::{Reply, Request, Session};
 use tree_toml::Setup;
 use version_chain::Chains;
 
@@ -161,10 +158,9 @@ impl<C: Chains> Engine<C> {
         &self.state.controls
     }
 
-    /// Who read and who put each cell; and who holds each cell, where some node of the tree asks for it: a node of locks, or a pipeline.
+    /// Who read and who put each cell, whom each transaction read from, and which transactions are unfinished.
     pub fn book(&self) -> &Book
-        ensures book { BookOf result.now.lists self.now.events }
-        ensures holders { (n : ℕ) → n < length self.now.store.setup.tree → IsTrue (asks_holders (row self.now.store.setup.tree n).control) → result.now.lists.keeps_holders ≡ true }
+        ensures { BookOf result.now.lists self.now.events }
     {
         &self.state.book
     }
@@ -195,17 +191,14 @@ fn new_state<C: Chains>(
 {
     let history = History::new(alloc);
     let controls = controls_of(alloc, &facts_of(&history, &setup))?;
-    let book = Book::new(alloc, some_asks_holders(&setup.tree));
-    let has_pipelines = has_kind(&setup.tree, ControlKind::Pipeline);
     Ok(EngineState {
         setup,
         history,
         controls,
         chains,
-        book,
+        book: Book::new(alloc),
         cursors: Cursors::new(alloc),
         latest: LatestTxns::new(),
-        has_pipelines,
         room: 0,
     })
 }

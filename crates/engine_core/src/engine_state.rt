@@ -33,8 +33,6 @@ pub struct EngineState<K: Control, C: Chains> {
     pub book: Book,
     pub cursors: Cursors,
     pub latest: LatestTxns,
-    // Whether some node is a pipeline: only a pipeline is told, with an access, who holds its cell.
-    pub has_pipelines: bool,
     pub room: usize,
 }
 

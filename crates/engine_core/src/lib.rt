@@ -16,7 +16,6 @@ mod falls;
 mod holding;
 mod keeping;
 mod latest_txns;
-mod node_kinds;
 mod notes;
 mod put_places;
 mod read_cells;

@@ -3,28 +3,20 @@
 ghost use Rattle.std.specs.Prelude.{◌≡◌, ◌<◌, ◌≤◌, ◌+◌, ℕ, suc, List, drop, length, OnOk, ◌∷◌};
 ghost use Rattle.teb_history.specs.declared.Event.{Event};
 ghost use Rattle.teb_rules.specs.Setup.{Setup as Rules};
-ghost use Rattle.phase_api.specs.Calls.{MayNote, ComeHolders};
+ghost use Rattle.phase_api.specs.Calls.{MayNote};
 ghost use Rattle.phase_api.specs.Standing.{StandAll};
 ghost use Rattle.engine_core.specs.Stores.{store_of};
 ghost use Rattle.engine_core.specs.Wholes.{RoomFor};
 
 use crate::engine_state::facts_of;
-use hold_book::Hold;
 use phase_api::Control;
 use std::alloc::AllocError;
 use teb_history::{Event, History};
 use tree_toml::Setup;
 
-/// The control of each node notes the newest event. With an access come the holders of its cell, where some node is a pipeline.
+/// The control of each node notes the newest event.
 #[inline(always)]
-pub fn note_each<K: Control>(
-    controls: &mut Vec<K>,
-    history: &History,
-    setup: &Setup,
-    holders: &[Hold],
-    event: Event,
-)
-    requires holders { (n : ℕ) → ComeHolders (store_of setup.now).setup history.now.events n event holders.now }
+pub fn note_each<K: Control>(controls: &mut Vec<K>, history: &History, setup: &Setup, event: Event)
     requires stand { StandAll K.node_number K.stands controls.old.items (store_of setup.now).setup (drop 1 history.now.events) }
     requires newest { history.now.events ≡ event ∷ drop 1 history.now.events }
     requires may { (n : ℕ) → MayNote (store_of setup.now).setup (drop 1 history.now.events) n event }
@@ -35,7 +27,7 @@ pub fn note_each<K: Control>(
 {
     let facts = facts_of(history, setup);
     for control in controls.iter_mut() {
-        control.note(&facts, holders, event);
+        control.note(&facts, event);
     }
 }
 

@@ -23,11 +23,10 @@ pub fn read_stop<K: Control, C: Chains>(asking: &Asking<'_, K, C>, cell: Cell) -
     ensures { result ≡ access_stop (store_in asking.now.view.now).setup (events_in asking.now.view.now) asking.now.txn.0 cell false }
 {
     let view = asking.view;
-    let holders = view.book.holders(cell);
     for node in asking.nodes {
         match view
             .control_at(*node)
-            .before_read(&view.facts, holders, asking.txn, cell)
+            .before_read(&view.facts, asking.txn, cell)
         {
             Verdict::Go => {}
             verdict => return stop_at(*node, verdict),
@@ -48,11 +47,10 @@ pub fn write_stop<K: Control, C: Chains>(
     ensures { result ≡ access_stop (store_in asking.now.view.now).setup (events_in asking.now.view.now) asking.now.txn.0 cell true }
 {
     let view = asking.view;
-    let holders = view.book.holders(cell);
     for node in asking.nodes {
         match view
             .control_at(*node)
-            .before_write(&view.facts, holders, view.chains, at, asking.txn, cell)
+            .before_write(&view.facts, view.chains, at, asking.txn, cell)
         {
             Verdict::Go => {}
             verdict => return stop_at(*node, verdict),

@@ -7,20 +7,17 @@ use Rattle.engine_core.specs.AnyControls.{any_node_number, any_stands, any_spare
 use Rattle.engine_core.specs.Stores.{store_of}
 use Rattle.engine_core.proofs.Reached.{reached_none}
 use Rattle.engine_core.proofs.Rooms.{no_room}
-use Rattle.engine_core.proofs.HoldersAsked.{kept_where_asked, known_pipelines}
 use Rattle.engine_core.proofs.Setups.{whole_from_nothing, enough_profiles, few_ranked}
 use Rattle.engine_core.proofs.engine.new_state.Goals as goal
 
 pub returns-clause-kept : goal.returns-clause-kept
 returns-clause-kept g c = record {
   setup = c.requires.setup;
-  whole = whole_from_nothing any_node_number any_stands c.args.setup c.new-history.result.events c.in_ok-controls.controls.items (g.C.Chains.lists c.args.chains) c.new-book.result.lists c.new.result.cursors c.new-2.result c.has_kind-has_pipelines.result
+  whole = whole_from_nothing any_node_number any_stands c.args.setup c.new-history.result.events c.in_ok-controls.controls.items (g.C.Chains.lists c.args.chains) c.new.result.lists c.new-2.result.cursors c.new-3.result
       c.requires.setup c.new-history.ensures
       (subst (λ (S : Setup). StandAll any_node_number any_stands c.in_ok-controls.controls.items S c.new-history.result.events) c.facts_of.ensures.setup
       (subst (λ (h : Written). StandAll any_node_number any_stands c.in_ok-controls.controls.items (setup_of c.facts_of.result) h.events) c.facts_of.ensures.history c.in_ok-controls.ensures))
-      c.requires.chains c.new-book.ensures.book c.new.ensures c.new-2.ensures
-      (kept_where_asked (store_of c.args.setup).setup.tree c.new-book.result.lists.keeps_holders (c.new-book.ensures.keeps ∙ c.some_asks_holders.ensures))
-      (known_pipelines (store_of c.args.setup).setup.tree c.has_kind-has_pipelines.result c.has_kind-has_pipelines.ensures);
+      c.requires.chains c.new.ensures c.new-2.ensures c.new-3.ensures;
   reached = reached_none (store_of c.args.setup) c.new-history.result.events c.new-history.ensures;
   room = no_room any_spare g.C.Chains.spare _;
   enough = λ f. absurd (cc);

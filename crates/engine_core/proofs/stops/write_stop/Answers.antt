@@ -4,7 +4,7 @@ use Rattle.std.proofs.Common.{true}
 use Rattle.teb_rules.specs.Tree.{row}
 use Rattle.teb_rules.specs.Controls.{on_access}
 use Rattle.version_chain.specs.Lists.{writers_of}
-use Rattle.phase_api.specs.Calls.{IsAccess, AreHolders}
+use Rattle.phase_api.specs.Calls.{IsAccess}
 use Rattle.phase_api.specs.Versions.{IsToldPlace}
 use Rattle.phase_api.proofs.StopAlong.{stop_next, stop_here, stop_end}
 use Rattle.engine_core.specs.Wholes.{store_in, events_in}
@@ -15,10 +15,6 @@ use Rattle.engine_core.proofs.stops.write_stop.Goals as goal
 
 pub control_at-requires-clause-node : goal.control_at-requires-clause-node
 control_at-requires-clause-node g c = node_at (store_in c.args.asking.now.view.now).setup c.requires.whole.whole.sound (spot_of (events_in c.args.asking.now.view.now) c.args.asking.now.txn.0) c.args.asking.now.nodes.now c.args.asking.now.way c.loop-node.node-index _ c.loop-node-test.true
-
-pub before_write-requires-clause-holders : goal.before_write-requires-clause-holders
-before_write-requires-clause-holders g c = subst (λ (n : ℕ). AreHolders (store_in c.args.asking.now.view.now).setup (events_in c.args.asking.now.view.now) n c.args.cell c.holders-holders.result.now) (sym c.control_at.ensures.node_number)
-    (λ asks. c.holders-holders.ensures ∙ c.requires.whole.whole.book.holders (c.requires.whole.whole.holders _ (node_at (store_in c.args.asking.now.view.now).setup c.requires.whole.whole.sound (spot_of (events_in c.args.asking.now.view.now) c.args.asking.now.txn.0) c.args.asking.now.nodes.now c.args.asking.now.way c.loop-node.node-index _ c.loop-node-test.true) asks) c.args.cell)
 
 pub before_write-requires-clause-access : goal.before_write-requires-clause-access
 before_write-requires-clause-access g c = subst (λ (n : ℕ). IsAccess c.args.asking.now.view.now.facts n c.args.asking.now.txn.0 c.args.cell) (sym c.control_at.ensures.node_number)
