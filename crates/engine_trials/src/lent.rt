@@ -4,6 +4,7 @@ ghost use Rattle.std.specs.Prelude.{IsTrue};
 ghost use Rattle.phase_api.specs.FactsView.{setup_of, events_of};
 ghost use Rattle.phase_api.specs.Calls.{IsPair, Writes};
 ghost use Rattle.phase_api.specs.Standing.{StandAll};
+ghost use Rattle.nexus_locks.specs.Controls.{LocksStandFor};
 ghost use Rattle.runtime_pipeline.specs.Standing.{PipelineStands};
 ghost use Rattle.timestamp_node.specs.Controls.{StampsStandFor};
 ghost use Rattle.snapshot_node.specs.Controls.{SnapshotStandsFor, snapshot_node_number};
@@ -12,6 +13,7 @@ ghost use Rattle.engine_core.specs.AnyControls.{any_node_number, any_stands};
 use crate::plan::{ORDERED, PLACED, REPORTED, SOLD};
 use dependency_book::Book;
 use engine_core::{AnyControl, Engine};
+use nexus_locks::Locks;
 use phase_api::{Control, Facts};
 use runtime_pipeline::Pipeline;
 use snapshot_node::Snapshot;
@@ -57,7 +59,7 @@ fn write_versions<C: Chains>(text: &mut String, chains: &C) -> Result<(), AllocE
     Ok(())
 }
 
-/// By cell, who read it from whom, who put it, and who holds it; who is unfinished, and whom each of these read from.
+/// By cell, who read it from whom, and who put it; who is unfinished, and whom each of these read from.
 fn write_book(text: &mut String, book: &Book) -> Result<(), AllocError> {
     for cell in CELLS {
         let readers = book.readers(cell);
@@ -67,8 +69,6 @@ fn write_book(text: &mut String, book: &Book) -> Result<(), AllocError> {
             "book {}.{}: {readers:?} {writers:?}",
             cell.table.0, cell.key
         )?;
-        let holders = book.holders(cell);
-        writeln!(text, "holders {}.{}: {holders:?}", cell.table.0, cell.key)?;
     }
     for txn in book.unfinished() {
         writeln!(text, "unfinished {} from {:?}", txn.0, book.read_from(*txn))?;
@@ -76,7 +76,7 @@ fn write_book(text: &mut String, book: &Book) -> Result<(), AllocError> {
     Ok(())
 }
 
-/// What each control lends of what it keeps, in ascending number of the nodes. A node of locks keeps nothing.
+/// What each control lends, in ascending number of the nodes.
 fn write_controls(
     text: &mut String,
     facts: &Facts,
@@ -94,17 +94,42 @@ fn write_control(text: &mut String, facts: &Facts, control: &AnyControl) -> Resu
     requires { any_stands control.now (setup_of facts.now) (events_of facts.now) }
 {
     match control {
-        AnyControl::Locks(_) => Ok(()),
+        AnyControl::Locks(locks) => write_locks(text, facts, locks),
         AnyControl::Pipeline(pipeline) => write_pipeline(text, facts, pipeline),
         AnyControl::Timestamp(stamps) => write_stamps(text, facts, stamps),
         AnyControl::Snapshot(snapshot) => write_snapshot(text, facts, snapshot),
     }
 }
 
-/// Who is ahead of each unfinished transaction at a pipeline.
+/// Who holds each cell at a locks node.
+fn write_locks(text: &mut String, facts: &Facts, locks: &Locks) -> Result<(), AllocError>
+    requires { LocksStandFor locks.now (setup_of facts.now) (events_of facts.now) }
+{
+    for cell in CELLS {
+        writeln!(
+            text,
+            "locks {}.{}: {:?}",
+            cell.table.0,
+            cell.key,
+            locks.holds(facts, cell)
+        )?;
+    }
+    Ok(())
+}
+
+/// Who holds each cell at a pipeline, and who is ahead of each unfinished transaction.
 fn write_pipeline(text: &mut String, facts: &Facts, pipeline: &Pipeline) -> Result<(), AllocError>
     requires { PipelineStands pipeline.now (setup_of facts.now) (events_of facts.now) }
 {
+    for cell in CELLS {
+        writeln!(
+            text,
+            "pipeline {}.{}: {:?}",
+            cell.table.0,
+            cell.key,
+            pipeline.holds(facts, cell)
+        )?;
+    }
     for txn in facts.history.live() {
         if facts.history.is_unfinished(*txn) {
             writeln!(text, "before {}: {:?}", txn.0, pipeline.before(facts, *txn))?;
