@@ -4,7 +4,7 @@ use Rattle.teb_history.specs.declared.Event.{Event}
 use Rattle.teb_history.specs.declared.Event.TheVariants.{Began, Got, Put, Ready, Done, Gone, Told}
 use Rattle.teb_rules.specs.Setup.{Setup}
 use Rattle.teb_laws.specs.Lawful.{Granted}
-use Rattle.hold_book.specs.Orderly.{MayFollow}
+use Rattle.dependency_book.specs.Orderly.{MayFollow}
 
 pub granted_follows : (S : Setup) (P : List Event) (e : Event) → Granted S P e → MayFollow P e
 granted_follows S P (Began t s k i) g = g.0

@@ -1,7 +1,8 @@
+pub mod OrderlyHistories
+pub mod Positive
 pub mod SourceLists
 pub mod MultimapEdits
 pub mod OwnAccesses
 pub mod LawfulHistories
 pub mod Noted
 pub mod Sources
-pub mod Books

@@ -10,7 +10,7 @@ use Rattle.teb_names.specs.declared.Cell.{Cell}
 use Rattle.teb_names.specs.declared.Session.{Session}
 use Rattle.teb_names.specs.declared.Kind.{Kind}
 use Rattle.teb_names.specs.declared.Cause.{Cause}
-use Rattle.teb_names.specs.Cells.{cell_cmp, same_cell}
+use Rattle.teb_names.specs.Cells.{same_cell}
 use Rattle.teb_history.specs.declared.Event.{Event}
 use Rattle.teb_history.specs.declared.Event.TheVariants.{Began, Got, Put, Ready, Done, Gone, Told}
 use Rattle.teb_history.specs.Phases.{is_began, is_done, is_gone, begun, committed, aborted, unfinished, begun_count, numbers, txns}
@@ -20,15 +20,14 @@ use Rattle.teb_history.specs.Accesses.{wrote}
 use Rattle.teb_history.specs.OwnEvents.{own_events}
 use Rattle.sorted_multimap.specs.LastMatches.{without_lasts}
 use Rattle.dependency_book.specs.Dependencies.{has, reads, puts, all_readers, all_writers, all_sources, readers, writers, sources, unfinished_txns}
-use Rattle.hold_book.specs.Orderly.{MayFollow, Orderly}
-use Rattle.dependency_book.specs.declared.registers.Registers.{Registers}
-use Rattle.dependency_book.specs.Books.{RegistersOf, list_of}
-use Rattle.sorted_multimap.specs.Multimap.{values_in}
+use Rattle.dependency_book.specs.Orderly.{MayFollow, Orderly}
+use Rattle.dependency_book.specs.Books.{Lists, BookOf, readers_in, writers_in, sources_in, list_of}
 use Rattle.sorted_multimap.proofs.TakenMatches.{without_all, count_kept}
 use Rattle.sorted_multimap.proofs.CellValues.{same_exact}
-use Rattle.dependency_book.proofs.SourceLists.{no_lists, one_more, positive}
+use Rattle.dependency_book.proofs.SourceLists.{no_lists, one_more}
 use Rattle.dependency_book.proofs.OwnAccesses.{put_by_it, reads_counted, puts_counted}
-use Rattle.hold_book.proofs.OrderlyHistories.{unfinished_is, unfinished_same, unfinished_parts, aborted_same, known, fresh}
+use Rattle.dependency_book.proofs.OrderlyHistories.{unfinished_is, unfinished_same, unfinished_parts, aborted_same, known, fresh}
+use Rattle.dependency_book.proofs.Positive.{begun_pos}
 use Rattle.teb_laws.proofs.AscendingNumbers.{number, txns_ascending}
 use Rattle.teb_history.proofs.AscendingLists.{ascending-filter}
 use Rattle.teb_history.proofs.Filters.{filter_both, filter_push}
@@ -59,9 +58,9 @@ ascending_made (n ∷ ns) h = (above_made n ns h.0, ascending_made ns h.1)
     above_made m [] h = tt
     above_made m (n ∷ ns) h = (h.0, above_made m ns h.1)
 
-pub unfinished_ascend : (r : Registers) (P : List Event) → RegistersOf r P → IsAscendingBy number_of r.unfinished.items
+pub unfinished_ascend : (b : Lists) (P : List Event) → BookOf b P → IsAscendingBy number_of b.unfinished
 unfolding unfinished_txns
-unfinished_ascend r P was = subst (IsAscendingBy number_of) (sym was.unfinished) (ascending_made (filter (unfinished P) (txns P)) (ascending-filter number (unfinished P) (txns P) (txns_ascending P)))
+unfinished_ascend b P was = subst (IsAscendingBy number_of) (sym was.unfinished) (ascending_made (filter (unfinished P) (txns P)) (ascending-filter number (unfinished P) (txns P) (txns_ascending P)))
 
 eqb_back : (m n : ℕ) → eqb m n ≡ eqb n m
 eqb_back m n = grind (arith, nat_tests)
@@ -87,7 +86,7 @@ module _ (e : Event) (P : List Event) (g : (u : ℕ) → is_gone u e ≡ false) 
   sources_alike t ts = ap (λ (o : Bool). cond o [] ts) (aborted_same e P t.0 (g t.0))
 
 -- the book of no events
-pub noted_nothing : (b : Registers) → ((x : Cell) → values_in cell_cmp b.readers x ≡ []) → ((x : Cell) → values_in cell_cmp b.writers x ≡ []) → b.sources.lists ≡ [] → b.unfinished.items ≡ [] → RegistersOf b []
+pub noted_nothing : (b : Lists) → ((x : Cell) → readers_in b x ≡ []) → ((x : Cell) → writers_in b x ≡ []) → b.sources ≡ [] → b.unfinished ≡ [] → BookOf b []
 unfolding Orderly readers writers sources unfinished_txns all_readers all_writers all_sources txns begun_count numbers
 noted_nothing b r w s u = record {
   orderly = tt;
@@ -102,11 +101,11 @@ noted_nothing b r w s u = record {
     none true = refl
     none false = refl
 
-module _ (b d : Registers) (P : List Event) (was : RegistersOf b P) where
+module _ (b d : Lists) (P : List Event) (was : BookOf b P) where
   -- nobody begins, reads, puts or finishes
   quiet : (e : Event) → MayFollow P e → ((u : ℕ) → is_began u e ≡ false) → ((u : ℕ) → is_done u e ≡ false) → ((u : ℕ) → is_gone u e ≡ false) → begun_count (e ∷ P) ≡ begun_count P
       → ((x : Cell) → all_readers (e ∷ P) x ≡ all_readers P x) → ((x : Cell) → all_writers (e ∷ P) x ≡ all_writers P x) → ((t : Txn) → all_sources (e ∷ P) t ≡ all_sources P t)
-      → RegistersOf b (e ∷ P)
+      → BookOf b (e ∷ P)
   unfolding Orderly readers writers sources
   quiet e m nb nd ng n r w s = record {
     orderly = (m, was.orderly);
@@ -117,11 +116,11 @@ module _ (b d : Registers) (P : List Event) (was : RegistersOf b P) where
     unfinished = was.unfinished ∙ sym (unfinished_txns_same e P nb nd ng n);
   }
 
-  pub noted_ready : (t : Txn) → MayFollow P (Ready t) → RegistersOf b (Ready t ∷ P)
+  pub noted_ready : (t : Txn) → MayFollow P (Ready t) → BookOf b (Ready t ∷ P)
   unfolding begun_count all_readers all_writers all_sources
   noted_ready t m = quiet (Ready t) m (λ u. refl) (λ u. refl) (λ u. refl) refl (λ x. refl) (λ x. refl) (λ u. refl)
 
-  pub noted_told : (t : Txn) → MayFollow P (Told t) → RegistersOf b (Told t ∷ P)
+  pub noted_told : (t : Txn) → MayFollow P (Told t) → BookOf b (Told t ∷ P)
   unfolding begun_count all_readers all_writers all_sources
   noted_told t m = quiet (Told t) m (λ u. refl) (λ u. refl) (λ u. refl) refl (λ x. refl) (λ x. refl) (λ u. refl)
 
@@ -135,15 +134,15 @@ module _ (b d : Registers) (P : List Event) (was : RegistersOf b P) where
 
   -- a transaction begins
   pub noted_began : (t : Txn) (s : Session) (k : Kind) (i : ℕ) → MayFollow P (Began t s k i)
-      → ((x : Cell) → values_in cell_cmp d.readers x ≡ values_in cell_cmp b.readers x) → ((x : Cell) → values_in cell_cmp d.writers x ≡ values_in cell_cmp b.writers x) → d.sources.lists ≡ b.sources.lists ++ [] ∷ [] → d.unfinished.items ≡ b.unfinished.items ++ t ∷ []
-      → RegistersOf d (Began t s k i ∷ P)
+      → ((x : Cell) → readers_in d x ≡ readers_in b x) → ((x : Cell) → writers_in d x ≡ writers_in b x) → d.sources ≡ b.sources ++ [] ∷ [] → d.unfinished ≡ b.unfinished ++ t ∷ []
+      → BookOf d (Began t s k i ∷ P)
   unfolding Orderly readers writers sources unfinished_txns txns begun_count all_readers all_writers all_sources numbers
   noted_began t s k i m r w so u = record {
     orderly = (m, was.orderly);
     readers = λ x. r x ∙ was.readers x ∙ sym (readers_alike e P (λ v. refl) (all_readers P x));
     writers = λ x. w x ∙ was.writers x ∙ sym (writers_alike e P (λ v. refl) (all_writers P x));
-    sources = λ v. ap (λ (ls : List (List Txn)). list_of ls v.0) so ∙ one_more b.sources.lists v.0 ∙ was.sources v ∙ sym (sources_alike e P (λ z. refl) v (all_sources P v));
-    begun = omega (arith, ap length so, length-append b.sources.lists ([] ∷ []), was.begun);
+    sources = λ v. ap (λ (ls : List (List Txn)). list_of ls v.0) so ∙ one_more b.sources v.0 ∙ was.sources v ∙ sym (sources_alike e P (λ z. refl) v (all_sources P v));
+    begun = omega (arith, ap length so, length-append b.sources ([] ∷ []), was.begun);
     unfinished = u ∙ ap (λ (ts : List Txn). ts ++ t ∷ []) was.unfinished ∙ sym all_more;
   }
     where
@@ -170,12 +169,12 @@ module _ (b d : Registers) (P : List Event) (was : RegistersOf b P) where
 
   -- a transaction reads
   pub noted_got : (t : Txn) (x : Cell) (w : Txn) (v : Option ℤ) → MayFollow P (Got t x w v)
-      → ((y : Cell) → values_in cell_cmp d.readers y ≡ cond (same_cell x y) (values_in cell_cmp b.readers y ++ (t, w) ∷ []) (values_in cell_cmp b.readers y))
-      → ((y : Cell) → values_in cell_cmp d.writers y ≡ values_in cell_cmp b.writers y)
-      → length d.sources.lists ≡ length b.sources.lists
-      → (0 < t.0 → t.0 ≤ length b.sources.lists → (u : Txn) → list_of d.sources.lists u.0 ≡ cond (eqb t.0 u.0 && not (eqb w.0 u.0) && ltb 0 w.0) (put_by number_of w (list_of b.sources.lists u.0)) (list_of b.sources.lists u.0))
-      → d.unfinished.items ≡ b.unfinished.items
-      → RegistersOf d (Got t x w v ∷ P)
+      → ((y : Cell) → readers_in d y ≡ cond (same_cell x y) (readers_in b y ++ (t, w) ∷ []) (readers_in b y))
+      → ((y : Cell) → writers_in d y ≡ writers_in b y)
+      → length d.sources ≡ length b.sources
+      → (0 < t.0 → t.0 ≤ length b.sources → (u : Txn) → sources_in d u ≡ cond (eqb t.0 u.0 && not (eqb w.0 u.0) && ltb 0 w.0) (put_by number_of w (sources_in b u)) (sources_in b u))
+      → d.unfinished ≡ b.unfinished
+      → BookOf d (Got t x w v ∷ P)
   unfolding Orderly readers writers sources begun_count all_readers all_writers all_sources
   noted_got t x w v m r wr n so u = record {
     orderly = (m, was.orderly);
@@ -189,10 +188,10 @@ module _ (b d : Registers) (P : List Event) (was : RegistersOf b P) where
       e : Event
       e = Got t x w v
 
-      listed : (0 < t.0) × (t.0 ≤ length b.sources.lists)
+      listed : (0 < t.0) × (t.0 ≤ length b.sources)
       listed =
           let begins = (unfinished_parts P t.0 m).0 in
-          (positive P t.0 was.orderly begins, omega (arith, (known P t.0 was.orderly).begins begins, was.begun))
+          (begun_pos P t.0 was.orderly begins, omega (arith, (known P t.0 was.orderly).begins begins, was.begun))
 
       stands : aborted P t.0 ≡ false
       stands = (unfinished_parts P t.0 m).2
@@ -213,11 +212,11 @@ module _ (b d : Registers) (P : List Event) (was : RegistersOf b P) where
 
   -- a transaction puts
   pub noted_put : (t : Txn) (x : Cell) (v : Option ℤ) → MayFollow P (Put t x v)
-      → ((y : Cell) → values_in cell_cmp d.readers y ≡ values_in cell_cmp b.readers y)
-      → ((y : Cell) → values_in cell_cmp d.writers y ≡ cond (same_cell x y && not (wrote P t.0 x)) (values_in cell_cmp b.writers y ++ t ∷ []) (values_in cell_cmp b.writers y))
-      → d.sources.lists ≡ b.sources.lists
-      → d.unfinished.items ≡ b.unfinished.items
-      → RegistersOf d (Put t x v ∷ P)
+      → ((y : Cell) → readers_in d y ≡ readers_in b y)
+      → ((y : Cell) → writers_in d y ≡ cond (same_cell x y && not (wrote P t.0 x)) (writers_in b y ++ t ∷ []) (writers_in b y))
+      → d.sources ≡ b.sources
+      → d.unfinished ≡ b.unfinished
+      → BookOf d (Put t x v ∷ P)
   unfolding Orderly readers writers sources begun_count all_readers all_writers all_sources
   noted_put t x v m r wr so u = record {
     orderly = (m, was.orderly);
@@ -256,9 +255,9 @@ module _ (b d : Registers) (P : List Event) (was : RegistersOf b P) where
 
   -- a transaction commits
   pub noted_done : (t : Txn) → MayFollow P (Done t)
-      → ((y : Cell) → values_in cell_cmp d.readers y ≡ values_in cell_cmp b.readers y) → ((y : Cell) → values_in cell_cmp d.writers y ≡ values_in cell_cmp b.writers y) → d.sources.lists ≡ b.sources.lists
-      → d.unfinished.items ≡ filter (λ u. not (eqb u.0 t.0)) b.unfinished.items
-      → RegistersOf d (Done t ∷ P)
+      → ((y : Cell) → readers_in d y ≡ readers_in b y) → ((y : Cell) → writers_in d y ≡ writers_in b y) → d.sources ≡ b.sources
+      → d.unfinished ≡ filter (λ u. not (eqb u.0 t.0)) b.unfinished
+      → BookOf d (Done t ∷ P)
   unfolding Orderly readers writers sources begun_count all_readers all_writers all_sources
   noted_done t m r w so u = record {
     orderly = (m, was.orderly);
@@ -281,12 +280,12 @@ module _ (b d : Registers) (P : List Event) (was : RegistersOf b P) where
 
   -- a transaction is aborted
   pub noted_gone : (t : Txn) (c : Cause) → MayFollow P (Gone t c)
-      → ((y : Cell) → values_in cell_cmp d.readers y ≡ without_lasts (count_by (reads y) (own_events (Gone t c ∷ P) t.0)) (λ r. eqb r.0.0 t.0) (values_in cell_cmp b.readers y))
-      → ((y : Cell) → values_in cell_cmp d.writers y ≡ without_lasts (count_by (puts y) (own_events (Gone t c ∷ P) t.0)) (λ u. eqb u.0 t.0) (values_in cell_cmp b.writers y))
-      → length d.sources.lists ≡ length b.sources.lists
-      → ((u : Txn) → list_of d.sources.lists u.0 ≡ cond (eqb t.0 u.0) [] (list_of b.sources.lists u.0))
-      → d.unfinished.items ≡ filter (λ u. not (eqb u.0 t.0)) b.unfinished.items
-      → RegistersOf d (Gone t c ∷ P)
+      → ((y : Cell) → readers_in d y ≡ without_lasts (count_by (reads y) (own_events (Gone t c ∷ P) t.0)) (λ r. eqb r.0.0 t.0) (readers_in b y))
+      → ((y : Cell) → writers_in d y ≡ without_lasts (count_by (puts y) (own_events (Gone t c ∷ P) t.0)) (λ u. eqb u.0 t.0) (writers_in b y))
+      → length d.sources ≡ length b.sources
+      → ((u : Txn) → sources_in d u ≡ cond (eqb t.0 u.0) [] (sources_in b u))
+      → d.unfinished ≡ filter (λ u. not (eqb u.0 t.0)) b.unfinished
+      → BookOf d (Gone t c ∷ P)
   unfolding Orderly readers writers sources begun_count all_readers all_writers all_sources
   noted_gone t c m r w n so u = record {
     orderly = (m, was.orderly);

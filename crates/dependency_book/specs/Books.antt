@@ -1,5 +1,5 @@
 -- What contracts see of a book, and which history it stands for.
-use Rattle.std.specs.Prelude.{◌≡◌, ℕ, zero, suc, ◌+◌, ◌≤◌, Bool, true, false, List, [], length, vec_len, vec_capacity}
+use Rattle.std.specs.Prelude.{◌≡◌, ℕ, zero, suc, ◌+◌, ◌≤◌, List, [], length, vec_len, vec_capacity}
 use Rattle.teb_names.specs.declared.Txn.{Txn}
 use Rattle.teb_names.specs.declared.Cell.{Cell}
 use Rattle.teb_names.specs.Cells.{cell_cmp}
@@ -8,23 +8,17 @@ use Rattle.teb_history.specs.Ascending.{IsAscendingBy}
 use Rattle.teb_history.specs.Live.{number_of}
 use Rattle.teb_history.specs.Phases.{begun_count}
 use Rattle.arena_multimap.specs.NumberedLists.{list_in}
-use Rattle.sorted_multimap.specs.Multimap.{values_of, values_in}
+use Rattle.sorted_multimap.specs.Multimap.{values_of}
 use Rattle.dependency_book.specs.declared.registers.Registers.{Registers}
 use Rattle.dependency_book.specs.Dependencies.{readers, writers, sources, unfinished_txns}
-use Rattle.hold_book.specs.declared.Hold.{Hold}
-use Rattle.hold_book.specs.Books.{Held, shown}
-use Rattle.hold_book.specs.Holders.{holders_in}
-use Rattle.hold_book.specs.Orderly.{Orderly}
+use Rattle.dependency_book.specs.Orderly.{Orderly}
 
--- who read and who put which cell; whom each transaction read from, in the order in which they began; who is unfinished; whether it is kept
--- who holds which cell; and who does, where it is kept
+-- who read and who put which cell; whom each transaction read from, in the order in which they began; and who is unfinished
 pub record Lists : Type 0 where
   pub readers : List (Cell × (Txn × Txn))
   pub writers : List (Cell × Txn)
   pub sources : List (List Txn)
   pub unfinished : List Txn
-  pub keeps_holders : Bool
-  pub holders : List (Cell × Hold)
 
 -- the lists, and how many more events may be noted without memory
 pub record Shown : Type 0 where
@@ -45,10 +39,7 @@ list_of ls (suc i) = list_in ls i
 abbrev pub sources_in : Lists → Txn → List Txn
 sources_in b t = list_of b.sources t.0
 
-abbrev pub holders_of : Lists → Cell → List Hold
-holders_of b x = values_of cell_cmp b.holders x
-
--- the lists are those of a history, with sources for each that has begun, and so are the holders, where they are kept
+-- the lists are those of a history, with sources for each that has begun
 pub record BookOf (b : Lists) (H : List Event) : Type 0 where
   pub orderly : Orderly H
   pub readers : (x : Cell) → readers_in b x ≡ readers H x
@@ -56,26 +47,9 @@ pub record BookOf (b : Lists) (H : List Event) : Type 0 where
   pub sources : (t : Txn) → sources_in b t ≡ sources H t
   pub begun : length b.sources ≡ begun_count H
   pub unfinished : b.unfinished ≡ unfinished_txns H
-  pub holders : b.keeps_holders ≡ true → (x : Cell) → holders_of b x ≡ holders_in H x
 
--- the lists of the registers are those of a history
-pub record RegistersOf (r : Registers) (H : List Event) : Type 0 where
-  pub orderly : Orderly H
-  pub readers : (x : Cell) → values_in cell_cmp r.readers x ≡ readers H x
-  pub writers : (x : Cell) → values_in cell_cmp r.writers x ≡ writers H x
-  pub sources : (t : Txn) → list_of r.sources.lists t.0 ≡ sources H t
-  pub begun : length r.sources.lists ≡ begun_count H
-  pub unfinished : r.unfinished.items ≡ unfinished_txns H
-
-abbrev pub lists_of : Registers → Bool → List (Cell × Hold) → Lists
-lists_of r keeps_holders holders = record {
-  readers = r.readers.entries;
-  writers = r.writers.entries;
-  sources = r.sources.lists;
-  unfinished = r.unfinished.items;
-  keeps_holders = keeps_holders;
-  holders = holders;
-}
+abbrev pub lists_of : Registers → Lists
+lists_of r = record { readers = r.readers.entries; writers = r.writers.entries; sources = r.sources.lists; unfinished = r.unfinished.items }
 
 -- the sources of each transaction ascend
 abbrev pub SourcesAscend : List (List Txn) → Type 0
@@ -88,9 +62,7 @@ pub record HasRooms (r : Registers) (n : ℕ) : Type 0 where
   pub sources : n ≤ r.sources.spare
   pub unfinished : vec_len r.unfinished + n ≤ vec_capacity r.unfinished
 
--- the sources ascend, there is room for so many events, also among the holders where they are kept, and no holders where they are not
-pub record IsBook (r : Registers) (h : Held) (keeps_holders : Bool) (n : ℕ) : Type 0 where
+-- the sources ascend, and there is room for so many events
+pub record IsBook (r : Registers) (n : ℕ) : Type 0 where
   pub ascending : SourcesAscend r.sources.lists
   pub rooms : HasRooms r n
-  pub holders : keeps_holders ≡ true → n ≤ h.spare
-  pub nobody : keeps_holders ≡ false → (x : Cell) → shown h x ≡ []

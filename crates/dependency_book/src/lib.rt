@@ -1,4 +1,4 @@
-//! Who read, put and holds what, and which transactions are unfinished: lists that are kept as the events come.
+//! Who read and who put what, and which transactions are unfinished: lists that are kept as the events come.
 #![tactic(auto)]
 
 mod book;

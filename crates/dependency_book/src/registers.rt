@@ -1,17 +1,15 @@
 //! The lists of a book, and what an event of each kind adds to them or takes out.
 
-ghost use Rattle.std.specs.Prelude.{◌≡◌, ◌+◌, ℕ, Bool, List, ◌∷◌, [], Option, ℤ, OnOk};
+ghost use Rattle.std.specs.Prelude.{◌≡◌, ◌+◌, ℕ, List, ◌∷◌, [], Option, ℤ, OnOk};
 ghost use Rattle.teb_names.specs.declared.Cause.{Cause};
-ghost use Rattle.teb_names.specs.declared.Cell.{Cell};
 ghost use Rattle.teb_names.specs.declared.Session.{Session};
 ghost use Rattle.teb_names.specs.declared.Kind.{Kind};
 ghost use Rattle.teb_history.specs.declared.Event.{Event};
 ghost use Rattle.teb_history.specs.declared.Event.TheVariants as event;
 ghost use Rattle.teb_history.specs.Accesses.{wrote};
-ghost use Rattle.dependency_book.specs.Books.{RegistersOf, lists_of, SourcesAscend, HasRooms};
+ghost use Rattle.dependency_book.specs.Books.{BookOf, lists_of, SourcesAscend, HasRooms};
 ghost use Rattle.dependency_book.specs.Dependencies.{IsAgain};
-ghost use Rattle.hold_book.specs.declared.Hold.{Hold};
-ghost use Rattle.hold_book.specs.Orderly.{MayFollow};
+ghost use Rattle.dependency_book.specs.Orderly.{MayFollow};
 
 use crate::{edits, source_lists};
 use arena_multimap::{ArenaMultimap, NumberedLists};
@@ -35,7 +33,7 @@ pub struct Registers {
 impl Registers {
     pub(crate) fn new(alloc: Global) -> Self
         ensures ascending { SourcesAscend result.sources.lists }
-        ensures book { RegistersOf result [] }
+        ensures book { BookOf (lists_of result) [] }
     {
         Registers {
             readers: ArenaMultimap::new(alloc),
@@ -47,7 +45,7 @@ impl Registers {
 
     /// Makes room for n events.
     pub(crate) fn reserve(&mut self, n: usize) -> Result<(), AllocError>
-        ensures lists { (k : Bool) (hs : List (Cell × Hold)) → lists_of self.new k hs ≡ lists_of self.old k hs }
+        ensures lists { lists_of self.new ≡ lists_of self.old }
         ensures room { OnOk result (HasRooms self.new n) }
         ensures kept { (m : ℕ) → HasRooms self.old m → HasRooms self.new m }
     {
@@ -65,7 +63,7 @@ impl Registers {
         requires room { HasRooms self.old 1 }
         ensures ascending { SourcesAscend self.new.sources.lists }
         ensures room { (n : ℕ) → HasRooms self.old (n + 1) → HasRooms self.new n }
-        ensures book { (P : List Event) → history.now.events ≡ e ∷ P → IsAgain P e again → RegistersOf self.old P → MayFollow P e → RegistersOf self.new (e ∷ P) }
+        ensures book { (P : List Event) → history.now.events ≡ e ∷ P → IsAgain P e again → BookOf (lists_of self.old) P → MayFollow P e → BookOf (lists_of self.new) (e ∷ P) }
     {
         match e {
             Event::Began { txn, .. } => self.begin(txn),
@@ -88,7 +86,7 @@ impl Registers {
         requires room { HasRooms self.old 1 }
         ensures ascending { SourcesAscend self.new.sources.lists }
         ensures room { (n : ℕ) → HasRooms self.old (n + 1) → HasRooms self.new n }
-        ensures book { (P : List Event) (s : Session) (k : Kind) (i : ℕ) → RegistersOf self.old P → MayFollow P (event.Began t s k i) → RegistersOf self.new (event.Began t s k i ∷ P) }
+        ensures book { (P : List Event) (s : Session) (k : Kind) (i : ℕ) → BookOf (lists_of self.old) P → MayFollow P (event.Began t s k i) → BookOf (lists_of self.new) (event.Began t s k i ∷ P) }
     {
         self.sources.begin();
         let _ = self.unfinished.push(t);
@@ -100,7 +98,7 @@ impl Registers {
         requires room { HasRooms self.old 1 }
         ensures ascending { SourcesAscend self.new.sources.lists }
         ensures room { (n : ℕ) → HasRooms self.old (n + 1) → HasRooms self.new n }
-        ensures book { (P : List Event) (v : Option ℤ) → RegistersOf self.old P → MayFollow P (event.Got t cell from v) → RegistersOf self.new (event.Got t cell from v ∷ P) }
+        ensures book { (P : List Event) (v : Option ℤ) → BookOf (lists_of self.old) P → MayFollow P (event.Got t cell from v) → BookOf (lists_of self.new) (event.Got t cell from v ∷ P) }
     {
         self.readers.push(cell, (t, from));
         source_lists::add_source(&mut self.sources, t, from);
@@ -112,7 +110,7 @@ impl Registers {
         requires room { HasRooms self.old 1 }
         ensures ascending { SourcesAscend self.new.sources.lists }
         ensures room { (n : ℕ) → HasRooms self.old (n + 1) → HasRooms self.new n }
-        ensures book { (P : List Event) (v : Option ℤ) → again ≡ wrote P t.0 cell → RegistersOf self.old P → MayFollow P (event.Put t cell v) → RegistersOf self.new (event.Put t cell v ∷ P) }
+        ensures book { (P : List Event) (v : Option ℤ) → again ≡ wrote P t.0 cell → BookOf (lists_of self.old) P → MayFollow P (event.Put t cell v) → BookOf (lists_of self.new) (event.Put t cell v ∷ P) }
     {
         if again {
             return;
@@ -125,7 +123,7 @@ impl Registers {
         requires { SourcesAscend self.old.sources.lists }
         ensures ascending { SourcesAscend self.new.sources.lists }
         ensures room { (n : ℕ) → HasRooms self.old n → HasRooms self.new n }
-        ensures book { (P : List Event) → RegistersOf self.old P → MayFollow P (event.Done t) → RegistersOf self.new (event.Done t ∷ P) }
+        ensures book { (P : List Event) → BookOf (lists_of self.old) P → MayFollow P (event.Done t) → BookOf (lists_of self.new) (event.Done t ∷ P) }
     {
         teb_history::remove_txn(&mut self.unfinished, t);
     }
@@ -135,7 +133,7 @@ impl Registers {
         requires { SourcesAscend self.old.sources.lists }
         ensures ascending { SourcesAscend self.new.sources.lists }
         ensures room { (n : ℕ) → HasRooms self.old n → HasRooms self.new n }
-        ensures book { (P : List Event) (c : Cause) → history.now.events ≡ event.Gone t c ∷ P → RegistersOf self.old P → MayFollow P (event.Gone t c) → RegistersOf self.new (event.Gone t c ∷ P) }
+        ensures book { (P : List Event) (c : Cause) → history.now.events ≡ event.Gone t c ∷ P → BookOf (lists_of self.old) P → MayFollow P (event.Gone t c) → BookOf (lists_of self.new) (event.Gone t c ∷ P) }
     {
         edits::forget_accesses(&mut self.readers, &mut self.writers, history, t);
         source_lists::clear_sources(&mut self.sources, t);

@@ -25,4 +25,4 @@ returns-clause-book c P cause now was may =
     (λ y. c.forget_accesses.ensures.readers y ∙ ap (λ (es : List Event). without_lasts (count_by (reads y) (own_events es t.0)) (λ (r : Txn × Txn). eqb r.0.0 t.0) (values_in cell_cmp c.args.self.now.readers y)) now)
     (λ y. c.forget_accesses.ensures.writers y ∙ ap (λ (es : List Event). without_lasts (count_by (puts y) (own_events es t.0)) (λ (u : Txn). eqb u.0 t.0) (values_in cell_cmp c.args.self.now.writers y)) now)
     c.clear_sources.ensures.lists c.clear_sources.ensures.values
-    (c.remove_txn.ensures.items (unfinished_ascend c.args.self.now P was))
+    (c.remove_txn.ensures.items (unfinished_ascend _ P was))
