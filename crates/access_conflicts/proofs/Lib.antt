@@ -1,3 +1,4 @@
 pub mod Orderly
 pub mod Noting
+pub mod Here
 pub mod Blockers

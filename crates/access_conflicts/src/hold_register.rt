@@ -6,30 +6,33 @@ ghost use Rattle.teb_rules.specs.Setup.{Setup};
 ghost use Rattle.phase_api.specs.FactsView.{setup_of, events_of};
 ghost use Rattle.phase_api.specs.Calls.{IsNewest};
 ghost use Rattle.hold_book.specs.Holders.{holds_in};
-ghost use Rattle.access_conflicts.specs.Registered.{Registered};
+ghost use Rattle.access_conflicts.specs.Registered.{Registered, is_here, register_spare};
 
 use hold_book::{Hold, HoldBook};
 use phase_api::Facts;
 use std::alloc::{AllocError, Global};
 use teb_history::Event;
-use teb_names::{Cell, Node};
+use teb_names::{Cell, Node, Txn};
 
 /// Who holds which cell at a node. It stands for a history, and is told of each event behind it.
 #[derive(Drop)]
 pub struct HoldRegister {
     node: Node,
     book: HoldBook,
+    // By number, for each transaction that has begun: whether the node is on its path.
+    here: Vec<bool>,
 }
 
 impl HoldRegister {
     /// The register of a node for an empty history. Takes no memory.
     pub fn new(alloc: Global, node: Node) -> Self
         ensures node { result.node ≡ node }
-        ensures stands { (S : Setup) → Registered node.0 result.book S [] }
+        ensures stands { (S : Setup) → Registered result S [] }
     {
         HoldRegister {
             node,
             book: HoldBook::new(alloc),
+            here: Vec::new(alloc),
         }
     }
 
@@ -44,10 +47,11 @@ impl HoldRegister {
     /// Makes room for n events. It stands for what it stood for, also after an `Err`.
     pub fn reserve(&mut self, n: usize) -> Result<(), AllocError>
         ensures node { self.new.node ≡ self.old.node }
-        ensures stands { (S : Setup) (H : List Event) → Registered self.old.node.0 self.old.book S H → Registered self.new.node.0 self.new.book S H }
-        ensures room { OnOk result (n ≤ self.new.book.spare) }
-        ensures kept { self.old.book.spare ≤ self.new.book.spare }
+        ensures stands { (S : Setup) (H : List Event) → Registered self.old S H → Registered self.new S H }
+        ensures room { OnOk result (n ≤ register_spare self.new) }
+        ensures kept { register_spare self.old ≤ register_spare self.new }
     {
+        self.here.reserve(n)?;
         self.book.reserve(n)
     }
 
@@ -55,39 +59,55 @@ impl HoldRegister {
     #[inline(always)]
     pub fn note(&mut self, facts: &Facts, e: Event)
         requires newest { IsNewest facts.now e self.old.node.0 }
-        requires stands { Registered self.old.node.0 self.old.book (setup_of facts.now) (drop 1 (events_of facts.now)) }
-        requires room { 0 < self.old.book.spare }
-        ensures stands { Registered self.new.node.0 self.new.book (setup_of facts.now) (events_of facts.now) }
+        requires stands { Registered self.old (setup_of facts.now) (drop 1 (events_of facts.now)) }
+        requires room { 0 < register_spare self.old }
+        ensures stands { Registered self.new (setup_of facts.now) (events_of facts.now) }
         ensures node { self.new.node ≡ self.old.node }
-        ensures spare { self.old.book.spare ≤ self.new.book.spare + 1 }
+        ensures spare { register_spare self.old ≤ register_spare self.new + 1 }
     {
         match e {
+            Event::Began { txn, .. } => {
+                let here = facts.is_on(self.node, txn);
+                self.here.push_reserved(here);
+            }
             Event::Got { txn, cell, .. } => {
-                if facts.is_on(self.node, txn) {
+                if is_here(&self.here, txn) {
                     self.book.access(txn, cell, false);
                 }
             }
             Event::Put { txn, cell, .. } => {
-                if facts.is_on(self.node, txn) {
+                if is_here(&self.here, txn) {
                     self.book.access(txn, cell, true);
                 }
             }
             Event::Done(txn) | Event::Gone { txn, .. } => {
-                if facts.is_on(self.node, txn) {
+                if is_here(&self.here, txn) {
                     self.book.release_all(facts.history, txn);
                 }
             }
-            Event::Began { .. } | Event::Ready(_) | Event::Told(_) => {}
+            Event::Ready(_) | Event::Told(_) => {}
         }
     }
 
     /// Who holds a cell: the unfinished transactions on whose path the node stands that have accessed it, in ascending number.
     #[inline(always)]
     pub fn holds(&self, facts: &Facts, cell: Cell) -> &[Hold]
-        requires { Registered self.now.node.0 self.now.book (setup_of facts.now) (events_of facts.now) }
+        requires { Registered self.now (setup_of facts.now) (events_of facts.now) }
         ensures { result.now ≡ holds_in (setup_of facts.now) (events_of facts.now) self.now.node.0 cell }
     {
         let _ = facts;
         self.book.holds(cell)
     }
+}
+
+// Whether the node is on the path of a transaction that has begun.
+#[inline(always)]
+fn is_here(here: &[bool], t: Txn) -> bool
+    ensures { result ≡ is_here here.now t.0 }
+{
+    if t.0 == 0 {
+        return false;
+    }
+    let i = t.0 as usize - 1;
+    if i < here.len() { here[i] } else { false }
 }

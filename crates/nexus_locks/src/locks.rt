@@ -32,7 +32,7 @@ impl Locks {
         requires kind { (row (setup_of _facts.now).tree node.0).control ≡ IsLocks }
         requires empty { events_of _facts.now ≡ [] }
         ensures node { result.register.node ≡ node }
-        ensures stands { LocksStand result.register.node.0 result.register.book (setup_of _facts.now) (events_of _facts.now) }
+        ensures stands { LocksStand result.register (setup_of _facts.now) (events_of _facts.now) }
     {
         Locks {
             register: HoldRegister::new(alloc, node),
@@ -41,7 +41,7 @@ impl Locks {
 
     /// Who holds a cell: the unfinished transactions on whose path the node stands that have accessed it, in ascending number.
     pub fn holds(&self, facts: &Facts, cell: Cell) -> &[Hold]
-        requires { LocksStand self.now.register.node.0 self.now.register.book (setup_of facts.now) (events_of facts.now) }
+        requires { LocksStand self.now.register (setup_of facts.now) (events_of facts.now) }
         ensures { result.now ≡ holds_in (setup_of facts.now) (events_of facts.now) self.now.register.node.0 cell }
     {
         self.register.holds(facts, cell)
@@ -50,7 +50,7 @@ impl Locks {
     // The least-numbered transaction that an access waits for.
     #[inline(always)]
     fn blocker(&self, facts: &Facts, t: Txn, cell: Cell, write: bool) -> Option<Txn>
-        requires stands { LocksStand self.now.register.node.0 self.now.register.book (setup_of facts.now) (events_of facts.now) }
+        requires stands { LocksStand self.now.register (setup_of facts.now) (events_of facts.now) }
         requires here { IsHere facts.now self.now.register.node.0 t.0 }
         ensures { result ≡ some_txn (find (blocks (setup_of facts.now) (events_of facts.now) self.now.register.node.0 t.0 cell write) (txns (events_of facts.now))) }
     {
@@ -73,7 +73,7 @@ impl Control for Locks {
 
     ghost spare = { locks_spare };
 
-    ghost sound = { λ c S H s. s.register.orderly };
+    ghost sound = { λ c S H s. s.register.book.orderly };
 
     fn node(&self) -> Node {
         self.register.node()

@@ -5,7 +5,7 @@ use Rattle.teb_names.specs.declared.ControlKind.TheVariants.{Pipeline as IsPipel
 use Rattle.teb_rules.specs.Setup.{Setup}
 use Rattle.teb_rules.specs.Tree.{row}
 use Rattle.teb_rules.specs.Steps.{rank_of_table, passed}
-use Rattle.access_conflicts.specs.Registered.{Registered}
+use Rattle.access_conflicts.specs.Registered.{Registered, register_spare}
 use Rattle.cursor_book.specs.Cursors.{CursorsOf}
 use Rattle.runtime_pipeline.specs.declared.pipeline.Pipeline.{Pipeline}
 use Rattle.runtime_pipeline.specs.Predecessors.{PredecessorsOf, is_ahead}
@@ -20,13 +20,13 @@ pipeline_node_number c = c.register.node.0
 
 -- for how many events there is room
 abbrev pub pipeline_spare : Pipeline → ℕ
-pipeline_spare c = min c.register.book.spare (min c.cursors.spare c.predecessors.spare)
+pipeline_spare c = min (register_spare c.register) (min c.cursors.spare c.predecessors.spare)
 
 -- it is the control of a pipeline node, and what it keeps is what the setup and the history say
 pub record PipelineStands (c : Pipeline) (S : Setup) (H : List Event) : Type 0 where
   pub kind : (row S.tree c.register.node.0).control ≡ IsPipeline
   pub profiled : S.types ≤ length S.profiles
-  pub register : Registered c.register.node.0 c.register.book S H
+  pub register : Registered c.register S H
   pub ranks : RanksOf c.ranks S c.register.node.0
   pub cursors : CursorsOf c.cursors.cursors S H
   pub predecessors : PredecessorsOf c.predecessors S H c.register.node.0

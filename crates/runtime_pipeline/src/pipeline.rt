@@ -185,7 +185,7 @@ impl Control for Pipeline {
 
     ghost spare = { pipeline_spare };
 
-    ghost sound = { λ c S H s. s.register.orderly };
+    ghost sound = { λ c S H s. s.register.book.orderly };
 
     fn node(&self) -> Node {
         self.register.node()

@@ -95,7 +95,7 @@ impl Predecessors {
     pub fn note(&mut self, facts: &Facts, register: &HoldRegister, e: Event)
         requires newest { IsNewest facts.now e register.now.node.0 }
         requires orderly { IsOrderly (setup_of facts.now) (drop 1 (events_of facts.now)) }
-        requires register { Registered register.now.node.0 register.now.book (setup_of facts.now) (events_of facts.now) }
+        requires register { Registered register.now (setup_of facts.now) (events_of facts.now) }
         requires stands { PredecessorsOf self.old (setup_of facts.now) (drop 1 (events_of facts.now)) register.now.node.0 }
         requires room { 0 < self.old.spare }
         ensures stands { PredecessorsOf self.new (setup_of facts.now) (events_of facts.now) register.now.node.0 }

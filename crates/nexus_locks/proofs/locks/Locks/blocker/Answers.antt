@@ -7,7 +7,7 @@ use Rattle.access_conflicts.proofs.Blockers.{holder, blocks_holds, blocks_held, 
 use Rattle.nexus_locks.proofs.locks.Locks.blocker.Goals as goal
 
 pub is_in_the_way-requires-clause-holder : goal.is_in_the_way-requires-clause-holder
-is_in_the_way-requires-clause-holder c = held_typed c.args.facts.now _ c.args.cell c.holds-hold-items.result.now c.loop-hold.hold-index _ c.requires.stands.register.orderly c.holds-hold-items.ensures c.loop-hold-test.true
+is_in_the_way-requires-clause-holder c = held_typed c.args.facts.now _ c.args.cell c.holds-hold-items.result.now c.loop-hold.hold-index _ c.requires.stands.register.book.orderly c.holds-hold-items.ensures c.loop-hold-test.true
 
 pub returns-then-is_in_the_way : goal.returns-then-is_in_the_way
 returns-then-is_in_the_way c =

@@ -12,10 +12,10 @@ use Rattle.runtime_pipeline.proofs.Said.{stops, first_stop}
 use Rattle.runtime_pipeline.proofs.pipeline.Pipeline.first_holder.Goals as goal
 
 pub is_in_the_way-requires-clause-holder : goal.is_in_the_way-requires-clause-holder
-is_in_the_way-requires-clause-holder c = held_typed c.args.facts.now _ c.args.cell c.holds-hold-items.result.now c.loop-hold.hold-index _ c.requires.stands.register.orderly c.holds-hold-items.ensures c.loop-hold-test.true
+is_in_the_way-requires-clause-holder c = held_typed c.args.facts.now _ c.args.cell c.holds-hold-items.result.now c.loop-hold.hold-index _ c.requires.stands.register.book.orderly c.holds-hold-items.ensures c.loop-hold-test.true
 
 pub has_passed-requires-clause-typed : goal.has_passed-requires-clause-typed
-has_passed-requires-clause-typed c = held_typed c.args.facts.now _ c.args.cell c.holds-hold-items.result.now c.loop-hold.hold-index _ c.requires.stands.register.orderly c.holds-hold-items.ensures c.loop-hold-test.true
+has_passed-requires-clause-typed c = held_typed c.args.facts.now _ c.args.cell c.holds-hold-items.result.now c.loop-hold.hold-index _ c.requires.stands.register.book.orderly c.holds-hold-items.ensures c.loop-hold-test.true
 
 pub returns-then-not-has_passed : goal.returns-then-not-has_passed
 returns-then-not-has_passed c =

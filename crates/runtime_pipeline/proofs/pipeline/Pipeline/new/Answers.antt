@@ -18,7 +18,7 @@ returns-clause-stands c =
     record {
       kind = subst (λ (m : ℕ). (row S.tree m).control ≡ Pipeline) (sym n) c.requires.kind;
       profiled = c.requires.profiled;
-      register = subst (λ (m : ℕ). Registered m c.new.result.book S (events_of c.args.facts.now)) (sym n) (subst (λ (H : List Event). Registered c.args.node.0 c.new.result.book S H) (sym c.requires.empty) (c.new.ensures.stands S));
+      register = subst (λ (H : List Event). Registered c.new.result S H) (sym c.requires.empty) (c.new.ensures.stands S);
       ranks = subst (λ (m : ℕ). RanksOf c.in_ok-ranks.ranks S m) (sym n) c.in_ok-ranks.ensures;
       cursors = subst (λ (H : List Event). CursorsOf c.new-2.result.cursors S H) (sym c.requires.empty) (subst (λ (cs : List ℕ). CursorsOf cs S []) (sym c.new-2.ensures) (cursors_none S));
       predecessors = subst (λ (H : List Event). PredecessorsOf c.new-3.result S H c.new.result.node.0) (sym c.requires.empty) (c.new-3.ensures S c.new.result.node.0);

@@ -20,12 +20,12 @@ access-requires-clause-ascending c = lists_ascend _ _ _ c.args.self.now c.requir
 
 pub access-requires-clause-typed : goal.access-requires-clause-typed
 access-requires-clause-typed c =
-    typed_now c.args.facts.now c.in-Got.txn.0 c.requires.register.orderly
+    typed_now c.args.facts.now c.in-Got.txn.0 c.requires.register.book.orderly
     (accessor_begun _ _ _ c.args.e c.requires.newest.is c.requires.newest.may c.in-Got.txn c.in-Got.cell (c.in-Got.from, c.in-Got.value, c.in-Got.is))
 
 pub access-requires-clause-holders : goal.access-requires-clause-holders
 access-requires-clause-holders c i d l =
-    held_typed c.args.facts.now _ c.in-Got.cell c.holds-holds.result.now i d c.requires.register.orderly c.holds-holds.ensures l
+    held_typed c.args.facts.now _ c.in-Got.cell c.holds-holds.result.now i d c.requires.register.book.orderly c.holds-holds.ensures l
 
 pub access-requires-then-not-is_alone-2-clause-few : goal.access-requires-then-not-is_alone-2-clause-few
 access-requires-then-not-is_alone-2-clause-few c =
@@ -37,12 +37,12 @@ access-requires-then-not-is_alone-2-clause-ascending c = lists_ascend _ _ _ c.ar
 
 pub access-requires-then-not-is_alone-2-clause-typed : goal.access-requires-then-not-is_alone-2-clause-typed
 access-requires-then-not-is_alone-2-clause-typed c =
-    typed_now c.args.facts.now c.in-Put.txn.0 c.requires.register.orderly
+    typed_now c.args.facts.now c.in-Put.txn.0 c.requires.register.book.orderly
     (writer_begun _ _ _ c.args.e c.requires.newest.is c.requires.newest.may c.in-Put.txn c.in-Put.cell (c.in-Put.value, c.in-Put.is))
 
 pub access-requires-then-not-is_alone-2-clause-holders : goal.access-requires-then-not-is_alone-2-clause-holders
 access-requires-then-not-is_alone-2-clause-holders c i d l =
-    held_typed c.args.facts.now _ c.in-Put.cell c.holds-holds-in-Put.result.now i d c.requires.register.orderly c.holds-holds-in-Put.ensures l
+    held_typed c.args.facts.now _ c.in-Put.cell c.holds-holds-in-Put.result.now i d c.requires.register.book.orderly c.holds-holds-in-Put.ensures l
 
 pub finish-requires-clause-unfinished : goal.finish-requires-clause-unfinished
 finish-requires-clause-unfinished c = end_some _ _ _ c.args.e c.requires.newest.is c.requires.newest.may c.requires.orderly c.args.self.now c.requires.stands c.in-Done.txn c.in-Done.is
