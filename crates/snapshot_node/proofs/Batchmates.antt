@@ -9,7 +9,7 @@ use Rattle.teb_history.specs.Accesses.{is_got, got, wrote, got_at}
 use Rattle.teb_history.specs.Phases.{begun, begun_count}
 use Rattle.teb_history.proofs.Any.{came_any}
 use Rattle.teb_history.specs.OwnEvents.{is_of}
-use Rattle.hold_book.proofs.Cells.{same_itself}
+use Rattle.snapshot_node.proofs.KeyOrders.{same_itself}
 use Rattle.batch_book.specs.Fields.{Has}
 use Rattle.batch_book.proofs.Elements.{any_Has, Has-any}
 use Rattle.teb_rules.specs.Setup.{Setup}

@@ -9,6 +9,9 @@ pub mod Found
 pub mod Later
 pub mod Begins
 pub mod Noting
+pub mod Pending
+pub mod Committing
+pub mod Moving
 pub mod Least
 pub mod FirstOf
 pub mod ReadsPast

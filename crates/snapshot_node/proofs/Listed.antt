@@ -4,7 +4,7 @@ use Rattle.std.proofs.lemmas.Bool.{and_parts, or_cases, both_ways, eqb-true, eq-
 use Rattle.teb_names.specs.declared.Cell.{Cell}
 use Rattle.teb_names.specs.declared.Txn.{Txn}
 use Rattle.teb_history.specs.declared.Event.{Event}
-use Rattle.teb_history.specs.Phases.{begun, begun_count, numbers, txns, aborted}
+use Rattle.teb_history.specs.Phases.{begun, begun_count, numbers, txns, committed, aborted}
 use Rattle.teb_history.specs.Accesses.{wrote, got}
 use Rattle.teb_history.specs.Ascending.{AllAbove, IsAscendingBy}
 use Rattle.teb_history.specs.Live.{number_of}
@@ -21,7 +21,7 @@ use Rattle.phase_api.specs.Calls.{IsHere}
 use Rattle.access_conflicts.specs.Waits.{some_txn}
 use Rattle.access_conflicts.proofs.Noting.{typed_now}
 use Rattle.snapshot_node.specs.Accessors.{is_among}
-use Rattle.snapshot_node.specs.Standing.{counts, has_put_in, writers_in, has_read_in, readers_in}
+use Rattle.snapshot_node.specs.Standing.{counts, has_put_in, writers_in, has_committed_in, has_read_in, readers_in}
 use Rattle.snapshot_node.specs.Pivots.{AreHere}
 use Rattle.snapshot_node.proofs.Among.{among_same}
 
@@ -97,6 +97,9 @@ module _ (S : Setup) (H : List Event) (n : ℕ) (x : Cell) where
 
   pub putter_begun : IsOrderly S H → (u : ℕ) → has_put_in S H n x u ≡ true → begun H u ≡ true
   putter_begun o u h = o.wrote u x (puts_parts u h).2
+
+  pub committer_begun : IsOrderly S H → (u : ℕ) → has_committed_in S H n x u ≡ true → begun H u ≡ true
+  committer_begun o u h = o.wrote u x (and_parts (on S H n u && committed H u) (wrote H u x) h).1
 
   pub among_writers : (u : ℕ) → IsOrderly S H → is_among u (writers_in S H n x) ≡ has_put_in S H n x u
   among_writers u o = among_those (has_put_in S H n x) H o (putter_begun o) u

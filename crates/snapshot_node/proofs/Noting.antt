@@ -46,7 +46,7 @@ module _ (S : Setup) (P : List Event) (n : ℕ) (b : Book) (r p : Shown Cell Txn
   made e b' r' p' m z h a g f w = record { kind = old.kind; size = z ∙ old.size; orderly = orderly_next S P n e m old.orderly; batches = h; readers_filed = a; read = g; writers_filed = f; put = w }
 
   -- whoever is unfinished has joined exactly where the node is on his path
-  here : (t : ℕ) → unfinished P t ≡ true → on S P n t ≡ has_joined b t
+  pub here : (t : ℕ) → unfinished P t ≡ true → on S P n t ≡ has_joined b t
   here t u = on_joined b S P n t old.batches (unfinished_parts P t u).0
 
   passed : (e : Event) → MayNote S P n e → Passes S P n e → BatchesOf b S (e ∷ P) n

@@ -19,14 +19,14 @@ use Rattle.phase_api.specs.FactsView.{IsOrderly}
 use Rattle.access_conflicts.proofs.Orderly.{new_accesses_none}
 use Rattle.snapshot_node.specs.Standing.{counts, has_put_in}
 
-wrote_step : (e : Event) (P : List Event) (u : ℕ) (x : Cell) → wrote (e ∷ P) u x ≡ (is_put u x e || wrote P u x)
+pub wrote_step : (e : Event) (P : List Event) (u : ℕ) (x : Cell) → wrote (e ∷ P) u x ≡ (is_put u x e || wrote P u x)
 unfolding wrote put_at
 wrote_step e P u x = came_any (is_put u x) (e ∷ P) ∙ ap (λ (b : Bool). is_put u x e || b) (sym (came_any (is_put u x) P))
 
 pub wrote_kept : (e : Event) (P : List Event) (u : ℕ) (x : Cell) → is_put u x e ≡ false → wrote (e ∷ P) u x ≡ wrote P u x
 wrote_kept e P u x h = wrote_step e P u x ∙ ap (λ (b : Bool). b || wrote P u x) h
 
-committed_kept : (e : Event) (P : List Event) (u : ℕ) → is_done u e ≡ false → committed (e ∷ P) u ≡ committed P u
+pub committed_kept : (e : Event) (P : List Event) (u : ℕ) → is_done u e ≡ false → committed (e ∷ P) u ≡ committed P u
 committed_kept e P u h = committed_step e P u ∙ ap (λ (b : Bool). b || committed P u) h
 
 -- who counts after an event that is none of u's Began, Done and Gone

@@ -1,5 +1,6 @@
 pub mod Accessors
 pub mod Standing
+pub mod Committed
 pub mod Stood
 pub mod Marks
 pub mod Props

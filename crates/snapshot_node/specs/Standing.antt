@@ -26,6 +26,14 @@ has_put_in S H n x u = on S H n u && counts H u && wrote H u x
 abbrev pub writers_in : Setup → List Event → ℕ → Cell → List Txn
 writers_in S H n x = map (λ (u : ℕ). record { 0 = u }) (filter (has_put_in S H n x) (txns H))
 
+-- u has put x, n is on its path, and it is committed
+abbrev pub has_committed_in : Setup → List Event → ℕ → Cell → ℕ → Bool
+has_committed_in S H n x u = on S H n u && committed H u && wrote H u x
+
+-- those, in ascending number
+abbrev pub committed_in : Setup → List Event → ℕ → Cell → List Txn
+committed_in S H n x = map (λ (u : ℕ). record { 0 = u }) (filter (has_committed_in S H n x) (txns H))
+
 -- u has read x, n is on its path, and it is not aborted
 abbrev pub has_read_in : Setup → List Event → ℕ → Cell → ℕ → Bool
 has_read_in S H n x u = on S H n u && not (aborted H u) && got H u x

@@ -14,7 +14,7 @@ ghost use Rattle.phase_api.specs.FactsView.{setup_of, events_of};
 ghost use Rattle.phase_api.specs.Calls.{IsHere};
 ghost use Rattle.snapshot_node.specs.Asking.{IsAt, history, there};
 ghost use Rattle.snapshot_node.specs.Leaving.{has_edge, is_overwritten, AreStarted};
-ghost use Rattle.snapshot_node.specs.Marks.{MarkedStand};
+ghost use Rattle.snapshot_node.specs.Controls.{SnapshotStandsFor};
 
 use crate::asked::Asked;
 use crate::marks::{mark_at, place_of};
@@ -28,7 +28,7 @@ impl Snapshot {
     /// one look where no edge is known to lead from `a`, and else, for each read of `a`, a binary search in the writers of the cell
     /// and a look at the unfinished ones among them, of which there is at most one for each session.
     pub fn has_edge(&self, facts: &Facts, a: Txn) -> bool
-        requires stands { MarkedStand self.now.register.node.0 self.now.register.batches self.now.register.readers self.now.register.writers self.now.marks.items (setup_of facts.now) (events_of facts.now) }
+        requires stands { SnapshotStandsFor self.now (setup_of facts.now) (events_of facts.now) }
         requires sound { IsSound (setup_of facts.now) }
         requires lawful { Lawful (setup_of facts.now) (events_of facts.now) }
         requires here { IsHere facts.now self.now.register.node.0 a.0 }

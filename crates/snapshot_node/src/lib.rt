@@ -4,6 +4,7 @@
 mod accessors;
 mod asked;
 mod batch_edges;
+mod committed;
 mod leaving;
 mod marking;
 mod marks;

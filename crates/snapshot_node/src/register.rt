@@ -1,4 +1,5 @@
-//! What a snapshot control keeps of a history: the batches of its node, and the readers and the writers of each cell.
+//! What a snapshot control keeps of a history: the batches of its node, and the readers, the writers and the committed writers of
+//! each cell.
 
 ghost use Rattle.std.specs.Prelude.{◌≡◌, ◌<◌, ◌≤◌, ◌+◌, [], List, drop, IfOk, OnOk};
 ghost use Rattle.teb_names.specs.declared.ControlKind.TheVariants.{Snapshot as IsSnapshot};
@@ -7,9 +8,10 @@ ghost use Rattle.teb_rules.specs.Setup.{Setup};
 ghost use Rattle.teb_rules.specs.Tree.{row};
 ghost use Rattle.phase_api.specs.FactsView.{setup_of, events_of};
 ghost use Rattle.phase_api.specs.Calls.{IsNewest};
-ghost use Rattle.snapshot_node.specs.Stood.{RegisterStands, StandsFor, room_of};
+ghost use Rattle.snapshot_node.specs.Stood.{CommittedStands, RegisterStands, StandsFor, room_of};
 
 use crate::accessors::{forget_puts, forget_reads, put_in};
+use crate::committed::Committed;
 use arena_multimap::ArenaMultimap;
 use batch_book::Batches;
 use phase_api::Facts;
@@ -23,7 +25,9 @@ pub struct Register {
     pub(crate) node: Node,
     pub(crate) batches: Batches,
     pub(crate) readers: ArenaMultimap<Cell, Txn>,
+    // Of the unfinished and the committed ones.
     pub(crate) writers: ArenaMultimap<Cell, Txn>,
+    pub(crate) committed: Committed,
 }
 
 impl Register {
@@ -33,12 +37,14 @@ impl Register {
         requires empty { events_of facts.now ≡ [] }
         ensures node { IfOk result (λ c. c.node ≡ node) }
         ensures stands { IfOk result (λ c. StandsFor c facts.now) }
+        ensures committed { IfOk result (λ c. CommittedStands c (setup_of facts.now) (events_of facts.now)) }
     {
         Ok(Register {
             node,
             batches: Batches::new(alloc, facts.tree.row(node).batch),
             readers: ArenaMultimap::new(alloc),
             writers: ArenaMultimap::new(alloc),
+            committed: Committed::new(alloc),
         })
     }
 
@@ -46,11 +52,13 @@ impl Register {
     pub(crate) fn reserve(&mut self, n: usize) -> Result<(), AllocError>
         ensures node { self.new.node ≡ self.old.node }
         ensures stands { (S : Setup) (H : List Event) → RegisterStands self.old S H → RegisterStands self.new S H }
+        ensures committed { (S : Setup) (H : List Event) → CommittedStands self.old S H → CommittedStands self.new S H }
         ensures room { OnOk result (n ≤ room_of self.new) }
     {
         self.batches.reserve(n)?;
         self.readers.reserve(n)?;
-        self.writers.reserve(n)
+        self.writers.reserve(n)?;
+        self.committed.reserve(n)
     }
 
     /// Notes the newest event of the history, which takes one place of the room at the most.
@@ -58,8 +66,10 @@ impl Register {
     pub(crate) fn note(&mut self, facts: &Facts, e: Event)
         requires newest { IsNewest facts.now e self.old.node.0 }
         requires stands { RegisterStands self.old (setup_of facts.now) (drop 1 (events_of facts.now)) }
+        requires committed { CommittedStands self.old (setup_of facts.now) (drop 1 (events_of facts.now)) }
         requires room { 0 < room_of self.old }
         ensures stands { StandsFor self.new facts.now }
+        ensures committed { CommittedStands self.new (setup_of facts.now) (events_of facts.now) }
         ensures node { self.new.node ≡ self.old.node }
         ensures spare { room_of self.old ≤ room_of self.new + 1 }
     {
@@ -78,12 +88,17 @@ impl Register {
             Event::Put { txn, cell, .. } => {
                 if self.batches.has(txn) {
                     put_in(&mut self.writers, cell, txn);
+                    self.committed.await_put();
                 }
             }
-            Event::Done(txn) => self.batches.finish(txn, at),
+            Event::Done(txn) => {
+                self.committed.commit(&self.batches, facts.history, txn);
+                self.batches.finish(txn, at);
+            }
             Event::Gone { txn, .. } => {
                 forget_reads(&mut self.readers, facts.history, txn);
                 forget_puts(&mut self.writers, facts.history, txn);
+                self.committed.abort(&self.batches, facts.history, txn);
                 self.batches.finish(txn, at);
             }
             Event::Ready(_) | Event::Told(_) => {}

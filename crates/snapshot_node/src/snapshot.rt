@@ -5,7 +5,8 @@ ghost use Rattle.teb_names.specs.declared.ControlKind.TheVariants.{Snapshot as I
 ghost use Rattle.teb_history.specs.declared.Event.{Event};
 ghost use Rattle.teb_rules.specs.Tree.{row};
 ghost use Rattle.phase_api.specs.FactsView.{setup_of, events_of};
-ghost use Rattle.snapshot_node.specs.Marks.{MarkedStand};
+ghost use Rattle.snapshot_node.specs.Standing.{committed_in};
+ghost use Rattle.snapshot_node.specs.Controls.{SnapshotStandsFor, snapshot_node_number};
 
 use crate::asked::Asked;
 use crate::marking::{mark_edges, validated};
@@ -14,7 +15,6 @@ use crate::register::Register;
 use crate::validation::Validation;
 use access_conflicts::wait_for;
 use batch_book::Batches;
-use hold_book::Hold;
 use phase_api::{Control, Facts};
 use std::alloc::{AllocError, Global};
 use teb_history::Event;
@@ -37,12 +37,20 @@ impl Snapshot {
         requires kind { (row (setup_of facts.now).tree node.0).control ≡ IsSnapshot }
         requires empty { events_of facts.now ≡ [] }
         ensures node { IfOk result (λ c. c.register.node ≡ node) }
-        ensures stands { IfOk result (λ c. MarkedStand c.register.node.0 c.register.batches c.register.readers c.register.writers c.marks.items (setup_of facts.now) (events_of facts.now)) }
+        ensures stands { IfOk result (λ c. SnapshotStandsFor c (setup_of facts.now) (events_of facts.now)) }
     {
         Ok(Snapshot {
             register: Register::new(alloc, node, facts)?,
             marks: Vec::new(alloc),
         })
+    }
+
+    /// The committed transactions on whose path the node stands that have put a cell, in ascending number, each once.
+    pub fn committed(&self, _facts: &Facts, cell: Cell) -> &[Txn]
+        requires { SnapshotStandsFor self.now (setup_of _facts.now) (events_of _facts.now) }
+        ensures { result.now ≡ committed_in (setup_of _facts.now) (events_of _facts.now) (snapshot_node_number self.now) cell }
+    {
+        self.register.committed.list(cell)
     }
 
     /// The batches of its node.
@@ -54,7 +62,7 @@ impl Snapshot {
 }
 
 impl Control for Snapshot {
-    ghost use Rattle.snapshot_node.specs.Controls.{SnapshotStandsFor, snapshot_node_number, snapshot_spare};
+    ghost use Rattle.snapshot_node.specs.Controls.{snapshot_spare};
 
     ghost stands = { SnapshotStandsFor };
 
@@ -74,7 +82,7 @@ impl Control for Snapshot {
     }
 
     #[inline(always)]
-    fn note(&mut self, facts: &Facts, _holders: &[Hold], e: Event) {
+    fn note(&mut self, facts: &Facts, e: Event) {
         self.register.note(facts, e);
         let _ = self.marks.push(NO_MARK);
         if let Some(t) = validated(e) {
@@ -95,14 +103,13 @@ impl Control for Snapshot {
         }
     }
 
-    fn before_read(&self, _facts: &Facts, _holders: &[Hold], _t: Txn, _cell: Cell) -> Verdict {
+    fn before_read(&self, _facts: &Facts, _t: Txn, _cell: Cell) -> Verdict {
         Verdict::Go
     }
 
     fn before_write<C: Chains>(
         &self,
         facts: &Facts,
-        _holders: &[Hold],
         _chains: &C,
         _at: Option<usize>,
         t: Txn,

@@ -1,4 +1,4 @@
-use Rattle.std.proofs.Common.{◌≡◌, ◌∙◌, ◌∷◌, ◌-◌, ◌&&◌, ℕ, List, true, false, not, eqb, sym, ap, subst, arith, drop, length, inl, inr}
+use Rattle.std.proofs.Common.{◌≡◌, ◌≤◌, ◌∙◌, ◌∷◌, ◌+◌, ◌-◌, ◌&&◌, ◌||◌, cond, ℕ, List, true, false, not, eqb, sym, ap, subst, arith, drop, length, inl, inr}
 use Rattle.teb_names.specs.declared.Cell.{Cell}
 use Rattle.teb_history.specs.declared.Event.{Event}
 use Rattle.teb_history.specs.declared.Event.TheVariants.{Began, Got, Put, Done, Gone}
@@ -6,11 +6,14 @@ use Rattle.teb_history.specs.Phases.{begun}
 use Rattle.teb_history.specs.Accesses.{wrote, got}
 use Rattle.teb_rules.specs.Tree.{on, side}
 use Rattle.phase_api.specs.FactsView.{setup_of, events_of}
+use Rattle.batch_book.specs.Book.{has_joined}
 use Rattle.phase_api.specs.Calls.{MayNote}
 use Rattle.access_conflicts.proofs.Noting.{orderly_now, typed_now}
 use Rattle.snapshot_node.specs.Accessors.{is_accessor}
 use Rattle.snapshot_node.specs.Standing.{SnapshotStand}
-use Rattle.snapshot_node.proofs.Noting.{newest_place, began_begun, began_new, noted_began, noted_began_off, noted_put, noted_put_off, noted_done, noted_gone, noted_got, noted_got_off, noted_ready, noted_told}
+use Rattle.snapshot_node.proofs.Noting.{here, newest_place, began_begun, began_new, noted_began, noted_began_off, noted_put, noted_put_off, noted_done, noted_gone, noted_got, noted_got_off, noted_ready, noted_told}
+use Rattle.snapshot_node.specs.Committed.{CommittedStand, puts_of}
+use Rattle.snapshot_node.proofs.Committing.{committed_began, committed_got, committed_put, committed_put_off, committed_ready, committed_told, committed_done, committed_gone, done_puts, gone_puts}
 use Rattle.snapshot_node.proofs.register.Register.note.Goals as goal
 
 pub is_on-requires : goal.is_on-requires
@@ -185,4 +188,122 @@ returns-in-Ready-clause-stands c =
     elim c.in-Ready.is [
       | inl q ↦ now _ q.1 (noted_ready S P n b r p c.requires.stands q.0 (may _ q.1))
       | inr q ↦ now _ q.1 (noted_told S P n b r p c.requires.stands q.0 (may _ q.1))
+    ]
+
+pub commit-requires-clause-puts : goal.commit-requires-clause-puts
+commit-requires-clause-puts c j =
+    let S = setup_of c.args.facts.now in
+    let P = drop 1 (events_of c.args.facts.now) in
+    let n = c.args.self.now.node.0 in
+    let t = c.in-Done.txn in
+    let m = subst (λ (d : Event). MayNote S P n d) c.in-Done.is c.requires.newest.may in
+    subst (λ (G : List Event). puts_of G t.0 ≤ c.args.self.now.committed.pending) (sym (c.requires.newest.is ∙ ap (λ (d : Event). d ∷ P) c.in-Done.is))
+    (done_puts S P n c.args.self.now.committed c.requires.committed t m (here S P n c.args.self.now.batches c.args.self.now.readers c.args.self.now.writers c.requires.stands t.0 m ∙ j))
+
+pub abort-requires : goal.abort-requires
+abort-requires c j =
+    let S = setup_of c.args.facts.now in
+    let P = drop 1 (events_of c.args.facts.now) in
+    let n = c.args.self.now.node.0 in
+    let t = c.in-Gone.txn in
+    let m = subst (λ (d : Event). MayNote S P n d) c.in-Gone.is c.requires.newest.may in
+    subst (λ (G : List Event). puts_of G t.0 ≤ c.args.self.now.committed.pending) (sym (c.requires.newest.is ∙ ap (λ (d : Event). d ∷ P) c.in-Gone.is))
+    (gone_puts S P n c.args.self.now.committed c.requires.committed t m c.in-Gone.cause (here S P n c.args.self.now.batches c.args.self.now.readers c.args.self.now.writers c.requires.stands t.0 m ∙ j))
+
+pub returns-then-is_on-clause-committed : goal.returns-then-is_on-clause-committed
+returns-then-is_on-clause-committed c =
+    let S = setup_of c.args.facts.now in
+    let P = drop 1 (events_of c.args.facts.now) in
+    let n = c.args.self.now.node.0 in
+    let m = subst (λ (d : Event). MayNote S P n d) c.in-Began.is c.requires.newest.may in
+    subst (λ (G : List Event). CommittedStand n c.args.self.now.committed S G) (sym (c.requires.newest.is ∙ ap (λ (d : Event). d ∷ P) c.in-Began.is))
+    (committed_began S P n c.args.self.now.committed c.requires.committed c.in-Began.txn c.in-Began.session c.in-Began.kind c.in-Began.instance c.requires.stands.orderly m)
+
+pub returns-else-is_on-clause-committed : goal.returns-else-is_on-clause-committed
+returns-else-is_on-clause-committed c =
+    let S = setup_of c.args.facts.now in
+    let P = drop 1 (events_of c.args.facts.now) in
+    let n = c.args.self.now.node.0 in
+    let m = subst (λ (d : Event). MayNote S P n d) c.in-Began.is c.requires.newest.may in
+    subst (λ (G : List Event). CommittedStand n c.args.self.now.committed S G) (sym (c.requires.newest.is ∙ ap (λ (d : Event). d ∷ P) c.in-Began.is))
+    (committed_began S P n c.args.self.now.committed c.requires.committed c.in-Began.txn c.in-Began.session c.in-Began.kind c.in-Began.instance c.requires.stands.orderly m)
+
+pub returns-then-has-clause-committed : goal.returns-then-has-clause-committed
+returns-then-has-clause-committed c =
+    let S = setup_of c.args.facts.now in
+    let P = drop 1 (events_of c.args.facts.now) in
+    let n = c.args.self.now.node.0 in
+    subst (λ (G : List Event). CommittedStand n c.args.self.now.committed S G) (sym (c.requires.newest.is ∙ ap (λ (d : Event). d ∷ P) c.in-Got.is))
+    (committed_got S P n c.args.self.now.committed c.requires.committed c.in-Got.txn c.in-Got.cell c.in-Got.from c.in-Got.value)
+
+pub returns-else-has-clause-committed : goal.returns-else-has-clause-committed
+returns-else-has-clause-committed c =
+    let S = setup_of c.args.facts.now in
+    let P = drop 1 (events_of c.args.facts.now) in
+    let n = c.args.self.now.node.0 in
+    subst (λ (G : List Event). CommittedStand n c.args.self.now.committed S G) (sym (c.requires.newest.is ∙ ap (λ (d : Event). d ∷ P) c.in-Got.is))
+    (committed_got S P n c.args.self.now.committed c.requires.committed c.in-Got.txn c.in-Got.cell c.in-Got.from c.in-Got.value)
+
+pub returns-then-has-2-clause-committed : goal.returns-then-has-2-clause-committed
+returns-then-has-2-clause-committed c =
+    let S = setup_of c.args.facts.now in
+    let P = drop 1 (events_of c.args.facts.now) in
+    let n = c.args.self.now.node.0 in
+    let t = c.in-Put.txn in
+    let m = subst (λ (d : Event). MayNote S P n d) c.in-Put.is c.requires.newest.may in
+    subst (λ (G : List Event). CommittedStand n c.await_put.new.self S G) (sym (c.requires.newest.is ∙ ap (λ (d : Event). d ∷ P) c.in-Put.is))
+    (committed_put S P n c.args.self.now.committed c.requires.committed t c.in-Put.cell c.in-Put.value m.0 c.await_put.new.self
+    (here S P n c.args.self.now.batches c.args.self.now.readers c.args.self.now.writers c.requires.stands t.0 m.0 ∙ sym c.has-in-Put.ensures.joined ∙ c.if-has-2.true) c.await_put.ensures.writers c.await_put.ensures.pending)
+
+pub returns-else-has-2-clause-committed : goal.returns-else-has-2-clause-committed
+returns-else-has-2-clause-committed c =
+    let S = setup_of c.args.facts.now in
+    let P = drop 1 (events_of c.args.facts.now) in
+    let n = c.args.self.now.node.0 in
+    let t = c.in-Put.txn in
+    let m = subst (λ (d : Event). MayNote S P n d) c.in-Put.is c.requires.newest.may in
+    subst (λ (G : List Event). CommittedStand n c.args.self.now.committed S G) (sym (c.requires.newest.is ∙ ap (λ (d : Event). d ∷ P) c.in-Put.is))
+    (committed_put_off S P n c.args.self.now.committed c.requires.committed t c.in-Put.cell c.in-Put.value m.0
+    (here S P n c.args.self.now.batches c.args.self.now.readers c.args.self.now.writers c.requires.stands t.0 m.0 ∙ sym c.has-in-Put.ensures.joined ∙ c.if-has-2.false))
+
+pub returns-in-Done-clause-committed : goal.returns-in-Done-clause-committed
+returns-in-Done-clause-committed c =
+    let S = setup_of c.args.facts.now in
+    let P = drop 1 (events_of c.args.facts.now) in
+    let n = c.args.self.now.node.0 in
+    let t = c.in-Done.txn in
+    let a = c.args.self.now.committed in
+    let b = c.commit.new.self in
+    let joined = has_joined c.args.self.now.batches t.0 in
+    let m = subst (λ (d : Event). MayNote S P n d) c.in-Done.is c.requires.newest.may in
+    subst (λ (G : List Event). ((x : Cell) (u : ℕ) → is_accessor b.writers x u ≡ (is_accessor a.writers x u || (joined && wrote G t.0 x && eqb t.0 u))) → b.pending + cond joined (puts_of G t.0) 0 ≡ a.pending → CommittedStand n b S G)
+    (sym (c.requires.newest.is ∙ ap (λ (d : Event). d ∷ P) c.in-Done.is))
+    (λ w p. committed_done S P n a c.requires.committed t m b joined (here S P n c.args.self.now.batches c.args.self.now.readers c.args.self.now.writers c.requires.stands t.0 m) c.commit.ensures.filed w p)
+    c.commit.ensures.writers c.commit.ensures.pending
+
+pub returns-in-Gone-clause-committed : goal.returns-in-Gone-clause-committed
+returns-in-Gone-clause-committed c =
+    let S = setup_of c.args.facts.now in
+    let P = drop 1 (events_of c.args.facts.now) in
+    let n = c.args.self.now.node.0 in
+    let t = c.in-Gone.txn in
+    let a = c.args.self.now.committed in
+    let b = c.abort.new.self in
+    let joined = has_joined c.args.self.now.batches t.0 in
+    let m = subst (λ (d : Event). MayNote S P n d) c.in-Gone.is c.requires.newest.may in
+    subst (λ (G : List Event). b.pending + cond joined (puts_of G t.0) 0 ≡ a.pending → CommittedStand n b S G)
+    (sym (c.requires.newest.is ∙ ap (λ (d : Event). d ∷ P) c.in-Gone.is))
+    (λ p. committed_gone S P n a c.requires.committed t m c.in-Gone.cause b joined (here S P n c.args.self.now.batches c.args.self.now.readers c.args.self.now.writers c.requires.stands t.0 m) c.abort.ensures.writers p)
+    c.abort.ensures.pending
+
+pub returns-in-Ready-clause-committed : goal.returns-in-Ready-clause-committed
+returns-in-Ready-clause-committed c =
+    let S = setup_of c.args.facts.now in
+    let P = drop 1 (events_of c.args.facts.now) in
+    let n = c.args.self.now.node.0 in
+    let a = c.args.self.now.committed in
+    let now = λ (d : Event) (q : c.args.e ≡ d) (k : CommittedStand n a S (d ∷ P)). subst (λ (G : List Event). CommittedStand n a S G) (sym (c.requires.newest.is ∙ ap (λ (d : Event). d ∷ P) q)) k in
+    elim c.in-Ready.is [
+      | inl q ↦ now _ q.1 (committed_ready S P n a c.requires.committed q.0)
+      | inr q ↦ now _ q.1 (committed_told S P n a c.requires.committed q.0)
     ]

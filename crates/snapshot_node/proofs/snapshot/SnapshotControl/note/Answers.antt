@@ -36,8 +36,9 @@ returns-then-has-clause-stands c =
     let grown = subst (λ (xs : List Mark). HaveGrown xs ms) c.deref_mut.ensures.value c.mark_edges.ensures.grown in
     let long : c.push.new.self.len ≡ length ms = sym (c.mark_edges.ensures.grown.long ∙ c.deref_mut.ensures.len) in
     let whole = ap (λ (l : ℕ). take l (ms ++ drop (length ms) pushed)) long ∙ take-append_seam ms (drop (length ms) pushed) in
-    subst (λ (xs : List Mark). MarkedStand m c.note.new.self.batches c.note.new.self.readers c.note.new.self.writers xs S H) (sym whole) (record {
+    subst (λ (xs : List Mark). MarkedStand m c.note.new.self.batches c.note.new.self.readers c.note.new.self.writers c.note.new.self.committed xs S H) (sym whole) (record {
       register = c.note.ensures.stands;
+      committed = c.note.ensures.committed;
       marked = marked_noted S H c.args.e (drop 1 H) c.requires.newest.is m c.args.self.now.register.node.0 same old pushed ms no_mark push grown c.requires.stands.marked
           (λ t q l u a b. let z : Some c.in-Some.t ≡ Some t = sym (sym c.validated.ensures ∙ c.in-Some.is) ∙ q in
           let is : c.in-Some.t ≡ t = cc in
@@ -59,6 +60,7 @@ returns-else-has-clause-stands c =
     let off : on S H m c.in-Some.t.0 ≡ false = on_joined c.note.new.self.batches S H m c.in-Some.t.0 c.note.ensures.stands.batches begun ∙ sym c.has.ensures.joined ∙ c.if-has.false in
     record {
       register = c.note.ensures.stands;
+      committed = c.note.ensures.committed;
       marked = marked_noted S H c.args.e (drop 1 H) c.requires.newest.is m c.args.self.now.register.node.0 same old pushed pushed no_mark push (grown_none pushed) c.requires.stands.marked
           (λ t q l u a b. let z : Some c.in-Some.t ≡ Some t = sym (sym c.validated.ensures ∙ c.in-Some.is) ∙ q in
           let is : c.in-Some.t ≡ t = cc in
@@ -77,6 +79,7 @@ returns-in_default-clause-stands c =
     let push : pushed ≡ old ++ no_mark ∷ [] = rw (c.push.ensures.succeeds (omega arith)) at c.push.ensures.items in
     record {
       register = c.note.ensures.stands;
+      committed = c.note.ensures.committed;
       marked = marked_noted S H c.args.e (drop 1 H) c.requires.newest.is m c.args.self.now.register.node.0 same old pushed pushed no_mark push (grown_none pushed) c.requires.stands.marked
           (λ t q l u a b. absurd (c.in_default.not-Some t (c.validated.ensures ∙ q)));
     }

@@ -1,0 +1,140 @@
+-- Who is a committed writer of a cell, and for what the committed writers stand, after one more event.
+use Rattle.std.proofs.Common.{◌≡◌, ℕ, ℤ, ◌+◌, ◌≤◌, Bool, true, false, cond, eqb, ◌&&◌, ◌||◌, List, ◌∷◌, Option, refl, sym, ◌∙◌, ap, arith, inl, inr, eqb-true}
+use Rattle.std.proofs.lemmas.Bool.{cases_Bool, and_right}
+use Rattle.teb_names.specs.declared.Cell.{Cell}
+use Rattle.teb_names.specs.declared.Txn.{Txn}
+use Rattle.teb_names.specs.declared.Session.{Session}
+use Rattle.teb_names.specs.declared.Kind.{Kind}
+use Rattle.teb_names.specs.declared.Cause.{Cause}
+use Rattle.teb_names.specs.Cells.{same_cell}
+use Rattle.teb_history.specs.declared.Event.{Event}
+use Rattle.teb_history.specs.declared.Event.TheVariants.{Began, Got, Put, Ready, Done, Gone, Told}
+use Rattle.teb_history.specs.Phases.{is_began, is_done, committed, unfinished}
+use Rattle.teb_history.specs.Accesses.{is_put, wrote}
+use Rattle.teb_rules.specs.Setup.{Setup}
+use Rattle.teb_rules.specs.Tree.{on}
+use Rattle.batch_book.proofs.Numbered.{committed_step, unfinished_parts, on_kept, unfinished_kept}
+use Rattle.phase_api.specs.FactsView.{IsOrderly}
+use Rattle.phase_api.specs.Calls.{MayNote}
+use Rattle.access_conflicts.proofs.Orderly.{new_accesses_none}
+use Rattle.sorted_multimap.specs.Multimap.{Shown}
+use Rattle.snapshot_node.specs.declared.committed.Committed.{Committed}
+use Rattle.snapshot_node.specs.Accessors.{is_accessor, AreFiled}
+use Rattle.snapshot_node.specs.Standing.{has_committed_in}
+use Rattle.snapshot_node.specs.Committed.{CommittedStand, pending_in, puts_of, is_pending}
+use Rattle.snapshot_node.proofs.Writing.{committed_kept, wrote_kept}
+use Rattle.snapshot_node.proofs.Pending.{pending_stays, pending_more, pending_began, pending_ended, ends_done, ends_gone, puts_kept}
+
+-- an event that is none of u's Began, Put and Done
+still_committed : (S : Setup) (P : List Event) (n : ℕ) (e : Event) (x : Cell) (u : ℕ) → is_began u e ≡ false → is_put u x e ≡ false → is_done u e ≡ false → has_committed_in S (e ∷ P) n x u ≡ has_committed_in S P n x u
+still_committed S P n e x u b p d = λ j. on_kept S e P n u b j && committed_kept e P u d j && wrote_kept e P u x p j
+
+-- t begins, and has put nothing yet
+began_committed : (S : Setup) (P : List Event) (n : ℕ) (t : Txn) (s : Session) (k : Kind) (i : ℕ) → ((x : Cell) → wrote P t.0 x ≡ false) → (x : Cell) (u : ℕ) → has_committed_in S (Began t s k i ∷ P) n x u ≡ has_committed_in S P n x u
+began_committed S P n t s k i new x u = elim (cases_Bool (eqb t.0 u)) [
+  | inl q ↦ and_right _ _ (wrote_kept (Began t s k i) P u x refl ∙ none q) ∙ sym (and_right _ _ (none q))
+  | inr q ↦ still_committed S P n (Began t s k i) x u q refl refl
+]
+  where
+    none : eqb t.0 u ≡ true → wrote P u x ≡ false
+    none q = ap (λ (v : ℕ). wrote P v x) (sym (eqb-true t.0 u q)) ∙ new x
+
+uncommitted : (S : Setup) (H : List Event) (n : ℕ) (x : Cell) (u : ℕ) → committed H u ≡ false → has_committed_in S H n x u ≡ false
+uncommitted S H n x u h = ap (λ (b : Bool). b && wrote H u x) (and_right (on S H n u) (committed H u) h)
+
+-- t, which is unfinished, puts y
+put_committed : (S : Setup) (P : List Event) (n : ℕ) (t : Txn) (y : Cell) (v : Option ℤ) (x : Cell) (u : ℕ) → unfinished P t.0 ≡ true → has_committed_in S (Put t y v ∷ P) n x u ≡ has_committed_in S P n x u
+put_committed S P n t y v x u run = elim (cases_Bool (eqb t.0 u)) [
+  | inl q ↦ uncommitted S (Put t y v ∷ P) n x u (committed_kept (Put t y v) P u refl ∙ still q) ∙ sym (uncommitted S P n x u (still q))
+  | inr q ↦ still_committed S P n (Put t y v) x u refl (ap (λ (b : Bool). b && same_cell y x) q) refl
+]
+  where
+    still : eqb t.0 u ≡ true → committed P u ≡ false
+    still q = ap (committed P) (sym (eqb-true t.0 u q)) ∙ (unfinished_parts P t.0 run).1
+
+-- t commits
+done_committed : (S : Setup) (P : List Event) (n : ℕ) (t : Txn) (x : Cell) (u : ℕ) → (has_committed_in S P n x u || (on S P n t.0 && wrote P t.0 x && eqb t.0 u)) ≡ has_committed_in S (Done t ∷ P) n x u
+done_committed S P n t x u = go (eqb t.0 u) refl ∙ sym (λ j. on_kept S (Done t) P n u refl j && committed_step (Done t) P u j && wrote_kept (Done t) P u x refl j)
+  where
+    joins : (o c w : Bool) → (((o && c) && w) || ((o && w) && true)) ≡ ((o && (true || c)) && w)
+    joins true true true = refl
+    joins true true false = refl
+    joins true false true = refl
+    joins true false false = refl
+    joins false c w = refl
+
+    apart : (h a : Bool) → (h || (a && false)) ≡ h
+    apart true a = refl
+    apart false true = refl
+    apart false false = refl
+
+    go : (q : Bool) → eqb t.0 u ≡ q → (has_committed_in S P n x u || (on S P n t.0 && wrote P t.0 x && q)) ≡ (on S P n u && (q || committed P u) && wrote P u x)
+    go true q = let e = eqb-true t.0 u q in (λ j. has_committed_in S P n x u || (on S P n (e j) && wrote P (e j) x && true)) ∙ joins (on S P n u) (committed P u) (wrote P u x)
+    go false q = apart (has_committed_in S P n x u) (on S P n t.0 && wrote P t.0 x)
+
+module _ (S : Setup) (P : List Event) (n : ℕ) (c : Committed) (old : CommittedStand n c S P) where
+  -- an event that changes neither
+  stays : (e : Event) → ((x : Cell) (u : ℕ) → has_committed_in S (e ∷ P) n x u ≡ has_committed_in S P n x u) → pending_in S (e ∷ P) n ≡ pending_in S P n → CommittedStand n c S (e ∷ P)
+  stays e h p = record { filed = old.filed; put = λ x u. old.put x u ∙ sym (h x u); pending = old.pending ∙ sym p }
+
+  pub committed_began : (t : Txn) (s : Session) (k : Kind) (i : ℕ) → IsOrderly S P → MayNote S P n (Began t s k i) → CommittedStand n c S (Began t s k i ∷ P)
+  committed_began t s k i o m =
+      let new : (x : Cell) → wrote P t.0 x ≡ false = λ x. (new_accesses_none S P t.0 x o m.0).0 in
+      stays (Began t s k i) (began_committed S P n t s k i new) (pending_began S P n t s k i new)
+
+  pub committed_got : (t : Txn) (y : Cell) (w : Txn) (v : Option ℤ) → CommittedStand n c S (Got t y w v ∷ P)
+  committed_got t y w v = stays _ (λ x u. still_committed S P n (Got t y w v) x u refl refl refl) (pending_stays S P n (Got t y w v) (λ u. refl) (λ u. refl) (λ u. refl) refl)
+
+  pub committed_ready : (t : Txn) → CommittedStand n c S (Ready t ∷ P)
+  committed_ready t = stays _ (λ x u. still_committed S P n (Ready t) x u refl refl refl) (pending_stays S P n (Ready t) (λ u. refl) (λ u. refl) (λ u. refl) refl)
+
+  pub committed_told : (t : Txn) → CommittedStand n c S (Told t ∷ P)
+  committed_told t = stays _ (λ x u. still_committed S P n (Told t) x u refl refl refl) (pending_stays S P n (Told t) (λ u. refl) (λ u. refl) (λ u. refl) refl)
+
+  module _ (t : Txn) (y : Cell) (v : Option ℤ) (run : unfinished P t.0 ≡ true) where
+    waits : (o : Bool) → on S P n t.0 ≡ o → is_pending S (Put t y v ∷ P) n (Put t y v) ≡ o
+    waits o q = (λ j. (on_kept S (Put t y v) P n t.0 refl ∙ q) j && (unfinished_kept (Put t y v) P t.0 refl refl refl ∙ run) j) ∙ bare o
+      where
+        bare : (b : Bool) → (b && true) ≡ b
+        bare true = refl
+        bare false = refl
+
+    pub committed_put : (c' : Committed) → on S P n t.0 ≡ true → c'.writers ≡ c.writers → c'.pending ≡ c.pending + 1 → CommittedStand n c' S (Put t y v ∷ P)
+    committed_put c' o w p = record {
+      filed = rw w old.filed;
+      put = λ x u. ap (λ (s : Shown Cell Txn). is_accessor s x u) w ∙ old.put x u ∙ sym (put_committed S P n t y v x u run);
+      pending = p ∙ ap {B = ℕ} (λ (k : ℕ). k + 1) old.pending ∙ sym (pending_more S P n (Put t y v) (λ u. refl) (λ u. refl) (λ u. refl) (waits true o));
+    }
+
+    pub committed_put_off : on S P n t.0 ≡ false → CommittedStand n c S (Put t y v ∷ P)
+    committed_put_off o = stays _ (λ x u. put_committed S P n t y v x u run) (pending_stays S P n (Put t y v) (λ u. refl) (λ u. refl) (λ u. refl) (waits false o))
+
+  module _ (t : Txn) (run : unfinished P t.0 ≡ true) where
+    done_fewer : pending_in S P n ≡ pending_in S (Done t ∷ P) n + cond (on S P n t.0) (puts_of (Done t ∷ P) t.0) 0
+    done_fewer = pending_ended S P n (Done t) t.0 (λ u. refl) refl run (ends_done P t) ∙ sym (λ j. pending_in S (Done t ∷ P) n + cond (on S P n t.0) (puts_kept (Done t) P t.0 refl j) 0)
+
+    pub done_puts : on S P n t.0 ≡ true → puts_of (Done t ∷ P) t.0 ≤ c.pending
+    done_puts o = omega (arith, old.pending, done_fewer, ap {B = ℕ} (λ (z : Bool). cond z (puts_of (Done t ∷ P) t.0) 0) o)
+
+    pub committed_done : (c' : Committed) (here : Bool) → on S P n t.0 ≡ here → AreFiled c'.writers
+        → ((x : Cell) (u : ℕ) → is_accessor c'.writers x u ≡ (is_accessor c.writers x u || (here && wrote (Done t ∷ P) t.0 x && eqb t.0 u)))
+        → c'.pending + cond here (puts_of (Done t ∷ P) t.0) 0 ≡ c.pending → CommittedStand n c' S (Done t ∷ P)
+    committed_done c' here o f w p = record {
+      filed = f;
+      put = λ x u. w x u ∙ (λ j. old.put x u j || (sym o j && wrote_kept (Done t) P t.0 x refl j && eqb t.0 u)) ∙ done_committed S P n t x u;
+      pending = omega (arith, p, old.pending, done_fewer, ap {B = ℕ} (λ (z : Bool). cond z (puts_of (Done t ∷ P) t.0) 0) o);
+    }
+
+    module _ (a : Cause) where
+      gone_fewer : pending_in S P n ≡ pending_in S (Gone t a ∷ P) n + cond (on S P n t.0) (puts_of (Gone t a ∷ P) t.0) 0
+      gone_fewer = pending_ended S P n (Gone t a) t.0 (λ u. refl) refl run (ends_gone P t a) ∙ sym (λ j. pending_in S (Gone t a ∷ P) n + cond (on S P n t.0) (puts_kept (Gone t a) P t.0 refl j) 0)
+
+      pub gone_puts : on S P n t.0 ≡ true → puts_of (Gone t a ∷ P) t.0 ≤ c.pending
+      gone_puts o = omega (arith, old.pending, gone_fewer, ap {B = ℕ} (λ (z : Bool). cond z (puts_of (Gone t a ∷ P) t.0) 0) o)
+
+      pub committed_gone : (c' : Committed) (here : Bool) → on S P n t.0 ≡ here → c'.writers ≡ c.writers → c'.pending + cond here (puts_of (Gone t a ∷ P) t.0) 0 ≡ c.pending → CommittedStand n c' S (Gone t a ∷ P)
+      committed_gone c' here o w p = record {
+        filed = rw w old.filed;
+        put = λ x u. ap (λ (s : Shown Cell Txn). is_accessor s x u) w ∙ old.put x u ∙ sym (still_committed S P n (Gone t a) x u refl refl refl);
+        pending = omega (arith, p, old.pending, gone_fewer, ap {B = ℕ} (λ (z : Bool). cond z (puts_of (Gone t a ∷ P) t.0) 0) o);
+      }

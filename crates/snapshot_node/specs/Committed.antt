@@ -1,0 +1,39 @@
+-- For what the committed writers of each cell stand, and for how many events there is room.
+use Rattle.std.specs.Prelude.{◌≡◌, ◌-◌, ℕ, Bool, true, false, ◌&&◌, List}
+use Rattle.std.specs.List.{count_by}
+use Rattle.teb_names.specs.declared.Cell.{Cell}
+use Rattle.teb_history.specs.declared.Event.{Event}
+use Rattle.teb_history.specs.declared.Event.TheVariants.{Put}
+use Rattle.teb_history.specs.Phases.{unfinished}
+use Rattle.teb_history.specs.OwnEvents.{own_events}
+use Rattle.teb_rules.specs.Setup.{Setup}
+use Rattle.teb_rules.specs.Tree.{on}
+use Rattle.snapshot_node.specs.declared.committed.Committed.{Committed}
+use Rattle.snapshot_node.specs.Accessors.{is_accessor, AreFiled}
+use Rattle.snapshot_node.specs.Standing.{has_committed_in}
+
+abbrev pub is_any_put : Event → Bool
+is_any_put (Put t x v) = true
+is_any_put _ = false
+
+-- how many Puts t has made
+abbrev pub puts_of : List Event → ℕ → ℕ
+puts_of H t = count_by is_any_put (own_events H t)
+
+-- the event is a Put of an unfinished transaction with n on its path
+abbrev pub is_pending : Setup → List Event → ℕ → Event → Bool
+is_pending S H n (Put t x v) = on S H n t.0 && unfinished H t.0
+is_pending S H n _ = false
+
+-- how many of them there are
+abbrev pub pending_in : Setup → List Event → ℕ → ℕ
+pending_in S H n = count_by (is_pending S H n) H
+
+pub record CommittedStand (n : ℕ) (c : Committed) (S : Setup) (H : List Event) : Type 0 where
+  pub filed : AreFiled c.writers
+  pub put : (x : Cell) (u : ℕ) → is_accessor c.writers x u ≡ has_committed_in S H n x u
+  pub pending : c.pending ≡ pending_in S H n
+
+-- room is kept for the pending Puts
+abbrev pub spare_of : Committed → ℕ
+spare_of c = c.writers.spare - c.pending
