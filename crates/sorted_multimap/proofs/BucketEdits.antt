@@ -34,7 +34,7 @@ module _ {K V : Type 0} (R : K → K → Ordering) (total : IsTotalOrder R) (p :
   abbrev vs : List V
   vs = p.values.items
 
-  pub paired : length p.keys.items ≡ length p.values.items
+  paired : length p.keys.items ≡ length p.values.items
   paired = omega (arith, p.keys.ok.0, p.values.ok.0, s.paired)
 
   pub range_order : (k : K) → lows R p.keys.items k ≤ tops R p.keys.items k
@@ -47,7 +47,7 @@ module _ {K V : Type 0} (R : K → K → Ordering) (total : IsTotalOrder R) (p :
   range_values k = values_range R total ks vs k s.ascends paired
 
   -- how many values k has
-  pub range_length : (k : K) → lows R p.keys.items k + length (bucket_values R p k) ≡ tops R p.keys.items k
+  range_length : (k : K) → lows R p.keys.items k + length (bucket_values R p k) ≡ tops R p.keys.items k
   range_length k = values_length R total ks vs k s.ascends paired
 
   pub range_none : (k : K) → lows R p.keys.items k ≡ tops R p.keys.items k → bucket_values R p k ≡ []

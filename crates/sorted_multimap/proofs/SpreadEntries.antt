@@ -97,7 +97,7 @@ module _ {K V : Type 0} (R : K → K → Ordering) where
   kept_entries as_ bs k = kept_entries_of as_ bs k.len k.each
 
 module _ {K V : Type 0} (R : K → K → Ordering) (spread : K → ℕ) where
-  -- what is kept is spread as before, and where each bucket has more room there is more
+  -- what is kept is spread as before
   pub kept_spread : (as_ bs : List (Bucket K V)) (n : ℕ) → IsSpread R spread as_ n → AreKept R as_ bs → IsSpread R spread bs n
   kept_spread as_ bs n is k = record {
     some = λ h. rw k.len (is.some h);
@@ -111,14 +111,6 @@ module _ {K V : Type 0} (R : K → K → Ordering) (spread : K → ℕ) where
           own = λ q off. (λ j. values_beside R (now.keys j) (now.values j) q) ∙ was.own q (subst (λ (m : ℕ). spread q % m ≢ i) k.len off);
         };
   }
-
-  pub made_spread : (as_ bs : List (Bucket K V)) (m n : ℕ) → IsSpread R spread as_ m → 0 < length as_ → AreKept R as_ bs → ((i : ℕ) (d : Bucket K V) → i < length bs → HasRoom (get_or bs i d) n) → IsSpread R spread bs n
-  made_spread as_ bs m n is some k room =
-      let kept = kept_spread as_ bs m is k in
-      record {
-        some = λ h. rw k.len some;
-        each = λ i d lt. let was = kept.each i d lt in record { sorted = was.sorted; room = room i d lt; own = was.own };
-      }
 
   -- less room
   pub less_spread : (bs : List (Bucket K V)) (m n : ℕ) → n ≤ m → IsSpread R spread bs m → IsSpread R spread bs n

@@ -39,9 +39,9 @@ const AHEAD: usize = 64;
 
 /// A multimap: values, each beside its key. Those of a key stand in an order of their own, and are lent as one slice.
 ///
-/// A look-up costs nothing where the bucket of the key is empty. Else it is a search among the keys of the bucket, one after the other where
-/// they are few and else a binary search, and a look at the key of each value. An edit is one too, and moves what stands behind its place in
-/// that bucket; into an empty bucket it costs two pushes.
+/// Where the bucket of a key is empty, a look-up is one look, and to put a value costs two pushes. Else a look-up is a search among the keys
+/// of the bucket, one after the other where they are few and else a binary search, and goes on along those that tie with the key. An edit
+/// is one too, and moves what stands behind its place in that bucket.
 #[derive(Drop)]
 pub struct Multimap<K: Key, V: Copy> {
     alloc: Global,
