@@ -4,8 +4,4 @@ pub mod TakenMatches
 pub mod CellValues
 pub mod TxnKeys
 pub mod NumberedValues
-pub mod SpreadLists
-pub mod RunKeys
-pub mod RunEdits
-pub mod BucketRuns
-pub mod RunSearches
+pub mod BucketEdits

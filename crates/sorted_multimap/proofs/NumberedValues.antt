@@ -1,20 +1,11 @@
 -- Values that ascend by number: the place of one, and a list without the value of a number.
-use Rattle.std.proofs.Common.{◌≡◌, ◌≢◌, ◌⊎◌, ℕ, suc, ◌+◌, ◌<◌, ◌≤◌, Bool, true, false, cond, not, ltb, eqb, List, [], ◌∷◌, filter, Result, Ok, Err, refl, sym, ◌∙◌, ap, subst, arith, inl, inr}
+use Rattle.std.proofs.Common.{◌≡◌, ◌≢◌, ◌⊎◌, ℕ, suc, ◌<◌, ◌≤◌, Bool, true, false, cond, not, ltb, eqb, List, [], ◌∷◌, filter, Result, Ok, Err, refl, sym, ◌∙◌, ap, subst, arith, inl, inr}
 use Rattle.std.specs.List.{remove}
 use Rattle.std.proofs.lemmas.Bool.{ne_eqb}
 use Rattle.std.proofs.lemmas.Bool.Decides.{eqb_tells}
 use Rattle.teb_history.specs.Ascending.{AllAbove, IsAscendingBy, next_place, place_of}
 use Rattle.teb_history.proofs.Comparisons.{ltb_tells}
 use Rattle.teb_history.proofs.AscendingLists.{above-mono}
-use Rattle.sorted_multimap.specs.Buckets.{further}
-
-pub further_ok : (n : ℕ) (r : Result ℕ ℕ) (at : ℕ) → further n r ≡ Ok at → (i : ℕ) × (r ≡ Ok i) × (at ≡ n + i)
-further_ok n (Ok i) at h = let e : n + i ≡ at = cc in (i, refl, sym e)
-further_ok n (Err i) at h = absurd (cc)
-
-pub further_err : (n : ℕ) (r : Result ℕ ℕ) (at : ℕ) → further n r ≡ Err at → (i : ℕ) × (r ≡ Err i) × (at ≡ n + i)
-further_err n (Ok i) at h = absurd (cc)
-further_err n (Err i) at h = let e : n + i ≡ at = cc in (i, refl, sym e)
 
 module _ {V : Type 0} (key : V → ℕ) (n : ℕ) where
   abbrev pub without : List V → List V

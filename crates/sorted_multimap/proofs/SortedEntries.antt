@@ -22,7 +22,7 @@ not_greater Less h = absurd (cc)
 not_greater Equal h = refl
 not_greater Greater h = refl
 
-pub is_equal : (o : Ordering) → is_eq o ≡ true → o ≡ Equal
+is_equal : (o : Ordering) → is_eq o ≡ true → o ≡ Equal
 is_equal Less h = absurd (cc)
 is_equal Equal h = refl
 is_equal Greater h = absurd (cc)
@@ -42,14 +42,14 @@ true_from : (b : Bool) → (b ≡ false → ⊥) → b ≡ true
 true_from true h = refl
 true_from false h = absurd (h refl)
 
-pub flipped : (b : Bool) → not b ≡ true → b ≡ false
+flipped : (b : Bool) → not b ≡ true → b ≡ false
 flipped true h = cc
 flipped false h = refl
 
 clash : (b : Bool) → b ≡ true → b ≡ false → ⊥
 clash b h k = let z : true ≡ false = sym h ∙ k in cc
 
-pub passing_length : {K : Type 0} (p : K → Bool) (ks : List K) → passing p ks ≤ length ks
+passing_length : {K : Type 0} (p : K → Bool) (ks : List K) → passing p ks ≤ length ks
 passing_length p [] = omega arith
 passing_length p (j ∷ js) = go (p j) (passing_length p js)
   where
@@ -138,10 +138,10 @@ module _ {K : Type 0} (R : K → K → Ordering) (total : IsTotalOrder R) where
       go false e ih = ih
 
   -- the keys behind one that is not below k, and behind one that is above it
-  pub lows_rest : (j k : K) (js : List K) → NoneBelow R j js → is_lt (R j k) ≡ false → lows R js k ≡ 0
+  lows_rest : (j k : K) (js : List K) → NoneBelow R j js → is_lt (R j k) ≡ false → lows R js k ≡ 0
   lows_rest j k js n h = rest_none (λ i. is_lt (R i k)) (lows_fall k) j js n h
 
-  pub tops_rest : (j k : K) (js : List K) → NoneBelow R j js → R j k ≡ Greater → tops R js k ≡ 0
+  tops_rest : (j k : K) (js : List K) → NoneBelow R j js → R j k ≡ Greater → tops R js k ≡ 0
   tops_rest j k js n h = rest_none (λ i. not (is_gt (R i k))) (tops_fall k) j js n (ap (λ o. not (is_gt o)) h)
 
   pub tops_length : (ks : List K) (k : K) → tops R ks k ≤ length ks
@@ -286,7 +286,7 @@ module _ {K : Type 0} (R : K → K → Ordering) (total : IsTotalOrder R) where
       go Greater r e lt ih = let t : tops R js k ≡ 0 = tops_rest j k js a.0 r in absurd (omega arith)
 
   -- the key at an index among its values
-  pub key_here : (ks : List K) (p : ℕ) (k d : K) → Ascends R ks → lows R ks k ≤ p → p < tops R ks k → R (get_or ks p d) k ≡ Equal
+  key_here : (ks : List K) (p : ℕ) (k d : K) → Ascends R ks → lows R ks k ≤ p → p < tops R ks k → R (get_or ks p d) k ≡ Equal
   key_here [] p k d a le lt = absurd (omega arith)
   key_here (j ∷ js) zero k d a le lt = elim (compared (R j k)) [
     | tied e ↦ e
@@ -300,6 +300,86 @@ module _ {K : Type 0} (R : K → K → Ordering) (total : IsTotalOrder R) where
       go Less e le lt ih = ih (omega arith) (omega arith)
       go Equal e le lt ih = let z = lows_rest j k js a.0 (ap is_lt e) in ih (omega arith) (omega arith)
       go Greater e le lt ih = let t = tops_rest j k js a.0 e in absurd (omega arith)
+
+  -- a key that ties with k stands among those that are not above it
+  tied_under : (ks : List K) (p : ℕ) (k d : K) → Ascends R ks → p < length ks → R (get_or ks p d) k ≡ Equal → p < tops R ks k
+  tied_under [] p k d a lt e = absurd (omega arith)
+  tied_under (j ∷ js) zero k d a lt e = rw e (omega arith)
+  tied_under (j ∷ js) (suc p) k d a lt e = go (R j k) refl (tied_under js p k d a.1 (omega arith) e)
+    where
+      go : (o : Ordering) → R j k ≡ o → p < tops R js k → suc p < cond (not (is_gt o)) (suc (tops R js k)) (tops R js k)
+      go Less h ih = omega arith
+      go Equal h ih = omega arith
+      go Greater h ih = let t = tops_rest j k js a.0 h in absurd (omega arith)
+
+  -- the next key ties with k, or ends those that do
+  pub tied_more : (ks : List K) (k i : K) (n : ℕ) → Ascends R ks → n < length ks → i ≡ get_or ks n i → is_eq (R i k) ≡ true → n + 1 ≤ tops R ks k
+  tied_more ks k i n a l at on = let t = tied_under ks n k i a l (ap (λ (x : K). R x k) (sym at) ∙ is_equal _ on) in omega arith
+
+  pub tied_ends : (ks : List K) (k i : K) (n : ℕ) → Ascends R ks → i ≡ get_or ks n i → is_eq (R i k) ≡ false → lows R ks k ≤ n → n ≤ tops R ks k → n ≡ tops R ks k
+  tied_ends ks k i n a at off le lt = elim (eqb_tells n (tops R ks k)) [
+    | inl (hit, same) ↦ same
+    | inr (miss, other) ↦ absurd (clash _ (ap is_eq (key_here ks n k i a le (omega arith))) (ap (λ (x : K). is_eq (R x k)) (sym at) ∙ off))
+  ]
+
+  -- edits keep the order
+  none_insert : (j k : K) (ks : List K) (p : ℕ) → is_gt (R j k) ≡ false → NoneBelow R j ks → NoneBelow R j (insert ks p k)
+  none_insert j k ks zero h n = (h, n)
+  none_insert j k [] (suc p) h n = (h, n)
+  none_insert j k (i ∷ is) (suc p) h n = (n.0, none_insert j k is p h n.1)
+
+  none_remove : (j : K) (ks : List K) (p : ℕ) → NoneBelow R j ks → NoneBelow R j (remove ks p)
+  none_remove j [] zero n = n
+  none_remove j [] (suc p) n = n
+  none_remove j (i ∷ is) zero n = n.1
+  none_remove j (i ∷ is) (suc p) n = (n.0, none_remove j is p n.1)
+
+  none_behind : (ks : List K) (k : K) → Ascends R ks → lows R ks k ≡ 0 → NoneBelow R k ks
+  none_behind [] k a z = tt
+  none_behind (j ∷ js) k a z = go (is_lt (R j k)) refl z (none_behind js k a.1)
+    where
+      go : (b : Bool) → is_lt (R j k) ≡ b → cond b (suc (lows R js k)) (lows R js k) ≡ 0 → (lows R js k ≡ 0 → NoneBelow R k js) → NoneBelow R k (j ∷ js)
+      go true e z ih = absurd (omega arith)
+      go false e z ih = (not_under j k e, ih z)
+
+  pub ascends_insert : (ks : List K) (p : ℕ) (k : K) → Ascends R ks → lows R ks k ≤ p → p ≤ tops R ks k → Ascends R (insert ks p k)
+  ascends_insert ks zero k a le lt = (none_behind ks k a (omega arith), a)
+  ascends_insert [] (suc p) k a le lt = absurd (omega arith)
+  ascends_insert (j ∷ js) (suc p) k a le lt = go (R j k) refl le lt (ascends_insert js p k a.1)
+    where
+      go : (o : Ordering) → R j k ≡ o → cond (is_lt o) (suc (lows R js k)) (lows R js k) ≤ suc p → suc p ≤ cond (not (is_gt o)) (suc (tops R js k)) (tops R js k)
+          → (lows R js k ≤ p → p ≤ tops R js k → Ascends R (insert js p k)) → Ascends R (j ∷ insert js p k)
+      go Less e le lt ih = (none_insert j k js p (ap is_gt e) a.0, ih (omega arith) (omega arith))
+      go Equal e le lt ih = let z = lows_rest j k js a.0 (ap is_lt e) in (none_insert j k js p (ap is_gt e) a.0, ih (omega arith) (omega arith))
+      go Greater e le lt ih = let t = tops_rest j k js a.0 e in absurd (omega arith)
+
+  pub ascends_remove : (ks : List K) (p : ℕ) → Ascends R ks → Ascends R (remove ks p)
+  ascends_remove [] zero a = a
+  ascends_remove [] (suc p) a = a
+  ascends_remove (j ∷ js) zero a = a.1
+  ascends_remove (j ∷ js) (suc p) a = (none_remove j js p a.0, ascends_remove js p a.1)
+
+  none_drop : (j : K) (ks : List K) (b : ℕ) → NoneBelow R j ks → NoneBelow R j (drop b ks)
+  none_drop j ks zero n = n
+  none_drop j [] (suc b) n = n
+  none_drop j (i ∷ is) (suc b) n = none_drop j is b n.1
+
+  none_cut : (j : K) (ks : List K) (a b : ℕ) → a ≤ b → NoneBelow R j ks → NoneBelow R j (remove_range ks a b)
+  none_cut j ks zero b le n = none_drop j ks b n
+  none_cut j ks (suc a) zero le n = absurd (omega arith)
+  none_cut j [] (suc a) (suc b) le n = n
+  none_cut j (i ∷ is) (suc a) (suc b) le n = (n.0, none_cut j is a b (omega arith) n.1)
+
+  ascends_drop : (ks : List K) (b : ℕ) → Ascends R ks → Ascends R (drop b ks)
+  ascends_drop ks zero a = a
+  ascends_drop [] (suc b) a = a
+  ascends_drop (j ∷ js) (suc b) a = ascends_drop js b a.1
+
+  pub ascends_cut : (ks : List K) (a b : ℕ) → a ≤ b → Ascends R ks → Ascends R (remove_range ks a b)
+  ascends_cut ks zero b le s = ascends_drop ks b s
+  ascends_cut ks (suc a) zero le s = absurd (omega arith)
+  ascends_cut [] (suc a) (suc b) le s = s
+  ascends_cut (j ∷ js) (suc a) (suc b) le s = (none_cut j js a b (omega arith) s.0, ascends_cut js a b (omega arith) s.1)
 
   -- the values after an edit
   pub values_insert : {V : Type 0} (ks : List K) (vs : List V) (p i : ℕ) (k : K) (v : V) → Ascends R ks → length ks ≡ length vs → p ≡ lows R ks k + i → p ≤ tops R ks k

@@ -9,7 +9,7 @@ use Rattle.std.specs.declared.cmp.Ordering.{Ordering}
 use Rattle.std.specs.Ordering.{is_eq}
 use Rattle.sorted_multimap.specs.declared.bucket.Bucket.{Bucket}
 use Rattle.sorted_multimap.specs.Multimap.{values_of}
-use Rattle.sorted_multimap.specs.Buckets.{values_beside, bucket_values, keys_of, beside, entries_of, HasRoom, IsSorted, IsBucket, IsSpread, IsKept, AreKept}
+use Rattle.sorted_multimap.specs.Buckets.{values_beside, bucket_values, beside, entries_of, HasRoom, IsSorted, IsBucket, IsSpread, IsKept, AreKept}
 
 module _ {K V : Type 0} (R : K → K → Ordering) where
   values_of-append : (es fs : List (K × V)) (q : K) → values_of R (es ++ fs) q ≡ values_of R es q ++ values_of R fs q
@@ -26,7 +26,7 @@ module _ {K V : Type 0} (R : K → K → Ordering) where
   values_of-beside (k ∷ ks) (v ∷ vs) q = ap (λ (r : List V). cond (is_eq (R k q)) (v ∷ r) r) (values_of-beside ks vs q)
 
   values_of-entries : (b : Bucket K V) (bs : List (Bucket K V)) (q : K) → values_of R (entries_of (b ∷ bs)) q ≡ bucket_values R b q ++ values_of R (entries_of bs) q
-  values_of-entries b bs q = values_of-append (beside (keys_of b) b.values.items) (entries_of bs) q ∙ ap (λ (vs : List V). vs ++ values_of R (entries_of bs) q) (values_of-beside (keys_of b) b.values.items q)
+  values_of-entries b bs q = values_of-append (beside b.keys.items b.values.items) (entries_of bs) q ∙ ap (λ (vs : List V). vs ++ values_of R (entries_of bs) q) (values_of-beside b.keys.items b.values.items q)
 
   none_there : (bs : List (Bucket K V)) (q : K) → ((j : ℕ) (d : Bucket K V) → j < length bs → bucket_values R (get_or bs j d) q ≡ []) → values_of R (entries_of bs) q ≡ []
   none_there [] q h = refl
@@ -97,7 +97,7 @@ module _ {K V : Type 0} (R : K → K → Ordering) where
   kept_entries as_ bs k = kept_entries_of as_ bs k.len k.each
 
 module _ {K V : Type 0} (R : K → K → Ordering) (spread : K → ℕ) where
-  -- what is kept is spread as before, and where each bucket has more room there is more
+  -- what is kept is spread as before
   pub kept_spread : (as_ bs : List (Bucket K V)) (n : ℕ) → IsSpread R spread as_ n → AreKept R as_ bs → IsSpread R spread bs n
   kept_spread as_ bs n is k = record {
     some = λ h. rw k.len (is.some h);
@@ -112,19 +112,11 @@ module _ {K V : Type 0} (R : K → K → Ordering) (spread : K → ℕ) where
         };
   }
 
-  pub made_spread : (as_ bs : List (Bucket K V)) (m n : ℕ) → IsSpread R spread as_ m → 0 < length as_ → AreKept R as_ bs → ((i : ℕ) (d : Bucket K V) → i < length bs → HasRoom (get_or bs i d) n) → IsSpread R spread bs n
-  made_spread as_ bs m n is some k room =
-      let kept = kept_spread as_ bs m is k in
-      record {
-        some = λ h. rw k.len some;
-        each = λ i d lt. let was = kept.each i d lt in record { sorted = was.sorted; room = room i d lt; own = was.own };
-      }
-
   -- less room
   pub less_spread : (bs : List (Bucket K V)) (m n : ℕ) → n ≤ m → IsSpread R spread bs m → IsSpread R spread bs n
   less_spread bs m n le is = record {
     some = λ h. is.some (omega arith);
-    each = λ i d lt. let was = is.each i d lt in record { sorted = was.sorted; room = record { runs = omega (arith, was.room.runs); values = omega (arith, was.room.values) }; own = was.own };
+    each = λ i d lt. let was = is.each i d lt in record { sorted = was.sorted; room = record { keys = omega (arith, was.room.keys); values = omega (arith, was.room.values) }; own = was.own };
   }
 
   -- one bucket is replaced: what its edit become, the edit of all become
@@ -188,10 +180,10 @@ module _ {K V : Type 0} (R : K → K → Ordering) (spread : K → ℕ) where
 -- each of the buckets is empty
 abbrev pub AreEmpty : {K V : Type 0} → (K → K → Ordering) → List (Bucket K V) → Type 0
 AreEmpty R [] = Unit {0}
-AreEmpty R (b ∷ bs) = IsSorted R b × (keys_of b ≡ []) × (b.values.items ≡ []) × AreEmpty R bs
+AreEmpty R (b ∷ bs) = IsSorted R b × (b.keys.items ≡ []) × (b.values.items ≡ []) × AreEmpty R bs
 
 module _ {K V : Type 0} (R : K → K → Ordering) (spread : K → ℕ) where
-  empty_at : (bs : List (Bucket K V)) → AreEmpty R bs → (i : ℕ) (d : Bucket K V) → i < length bs → IsSorted R (get_or bs i d) × (keys_of (get_or bs i d) ≡ []) × ((get_or bs i d).values.items ≡ [])
+  empty_at : (bs : List (Bucket K V)) → AreEmpty R bs → (i : ℕ) (d : Bucket K V) → i < length bs → IsSorted R (get_or bs i d) × ((get_or bs i d).keys.items ≡ []) × ((get_or bs i d).values.items ≡ [])
   empty_at [] e i d lt = absurd (omega arith)
   empty_at (b ∷ bs) e zero d lt = (e.0, e.1, e.2)
   empty_at (b ∷ bs) e (suc i) d lt = empty_at bs e.3 i d (omega arith)
@@ -203,7 +195,7 @@ module _ {K V : Type 0} (R : K → K → Ordering) (spread : K → ℕ) where
         let b = empty_at bs e i d lt in
         record {
           sorted = b.0;
-          room = record { runs = omega (arith, (get_or bs i d).runs.ok.1); values = omega (arith, (get_or bs i d).values.ok.1) };
+          room = record { keys = omega (arith, (get_or bs i d).keys.ok.1); values = omega (arith, (get_or bs i d).values.ok.1) };
           own = λ q off. (λ j. values_beside R (b.1 j) (b.2 j) q);
         };
   }
@@ -212,15 +204,12 @@ module _ {K V : Type 0} (R : K → K → Ordering) (spread : K → ℕ) where
   empty_entries [] e = refl
   empty_entries (b ∷ bs) e = (λ j. beside (e.1 j) (e.2 j) ++ entries_of bs) ∙ empty_entries bs e.3
 
-  pub empty_more : (bs : List (Bucket K V)) (b : Bucket K V) → AreEmpty R bs → IsSorted R b → keys_of b ≡ [] → b.values.items ≡ [] → AreEmpty R (bs ++ b ∷ [])
+  pub empty_more : (bs : List (Bucket K V)) (b : Bucket K V) → AreEmpty R bs → IsSorted R b → b.keys.items ≡ [] → b.values.items ≡ [] → AreEmpty R (bs ++ b ∷ [])
   empty_more [] b e s k v = (s, k, v, tt)
   empty_more (a ∷ as_) b e s k v = (e.0, e.1, e.2, empty_more as_ b e.3 s k v)
 
-pub less_room : {K V : Type 0} (b : Bucket K V) (n : ℕ) → HasRoom b (n + 1) → HasRoom b n
-less_room b n r = record { runs = omega (arith, r.runs); values = omega (arith, r.values) }
-
 -- what is left of the room where it is taken, or is not
-pub left_room : (taken : Bool) (m n : ℕ) → 0 < m → n ≡ bool_byte taken → m ≡ m - n + cond taken 1 0
+pub left_room : (taken : Bool) (m n : ℕ) → 0 < m → n ≡ bool_byte taken → m - n + cond taken 1 0 ≤ m
 left_room true m n some e = omega arith
 left_room false m n some e = omega arith
 

@@ -14,7 +14,7 @@ use std::alloc::{AllocError, Global};
 use std::marker::Model;
 
 // How many buckets there are for some hundred values.
-const BUCKETS: usize = 128;
+const BUCKETS: usize = 64;
 
 // Among how many buckets the keys are spread.
 #[derive(Clone, Copy)]
@@ -39,8 +39,9 @@ const AHEAD: usize = 64;
 
 /// A multimap: values, each beside its key. Those of a key stand in an order of their own, and are lent as one slice.
 ///
-/// A look-up is a search among the keys of a bucket, each once, one after the other where they are few and else a binary search. An edit is
-/// one too, and moves the values behind its place in that bucket, and counts the ends of those keys behind it up or down.
+/// Where the bucket of a key is empty, a look-up is one look, and to put a value costs two pushes. Else a look-up is a search among the keys
+/// of the bucket, one after the other where they are few and else a binary search, and goes on along those that tie with the key. An edit
+/// is one too, and moves what stands behind its place in that bucket.
 #[derive(Drop)]
 pub struct Multimap<K: Key, V: Copy> {
     alloc: Global,
@@ -64,7 +65,7 @@ impl<K: Key, V: Copy> Model for Multimap<K, V> {
 }
 
 impl<K: Key, V: Copy> Multimap<K, V> {
-    /// No values, and no room, for some hundred values: in 128 buckets, so that each has a few keys. Takes no memory.
+    /// No values, and no room, for some hundred values: in 64 buckets, so that each has a few values. Takes no memory.
     pub fn small(alloc: Global) -> Self
         ensures entries { result.entries ≡ [] }
         ensures spare { result.spare ≡ 0 }

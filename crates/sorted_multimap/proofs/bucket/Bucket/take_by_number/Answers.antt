@@ -1,30 +1,28 @@
-use Rattle.std.proofs.Common.{◌-◌, ◌∙◌, cond, ap, arith, vec_len, List}
-use Rattle.std.specs.Ordering.{is_eq}
-use Rattle.sorted_multimap.specs.Buckets.{bucket_values, keys_of, start_at}
-use Rattle.sorted_multimap.proofs.NumberedValues.{without_found}
-use Rattle.sorted_multimap.proofs.BucketRuns.{held_start, held_end}
-use Rattle.sorted_multimap.proofs.RunSearches.{missing_without}
-use Rattle.sorted_multimap.proofs.SortedEntries.{values_kept}
+use Rattle.std.proofs.Common.{arith}
+use Rattle.sorted_multimap.proofs.BucketEdits.{range_within, take_edited, only_edited, take_found, take_missing}
 use Rattle.sorted_multimap.proofs.bucket.Bucket.take_by_number.Goals as goal
 
-pub returns-in-Ok-clause-values : goal.returns-in-Ok-clause-values
-returns-in-Ok-clause-values g c q =
+pub returns-in_default : goal.returns-in_default
+returns-in_default g c =
+    take_missing g.K.Ord.cmp g.met.K.Ord.total c.args.self.now c.requires.sorted g.V.Numbered.numbered_by c.args.key c.args.number c.in_default.field-0 c.requires.ascending c.in_default.ensures
+
+pub returns-then-len-eq1 : goal.returns-then-len-eq1
+returns-then-len-eq1 g c =
     let R = g.K.Ord.cmp in
     let total = g.met.K.Ord.total in
-    let by = g.V.Numbered.numbered_by in
-    let p = c.args.self.now in
-    let k = c.args.key in
-    let found = c.in-Ok.ensures in
-    let i = c.in-Ok.place.at - start_at 0 p.runs.items c.in-Ok.place.run in
-    let start = held_start R total p.runs.items (vec_len p.values) c.in-Ok.place.run k c.requires.sorted.runs found.run.held in
-    let end = held_end R total p.runs.items (vec_len p.values) c.in-Ok.place.run k c.requires.sorted.runs found.run.held in
-    c.take_at.ensures.values k i (omega (arith, found.start, start)) (omega (arith, found.end, end)) q
-    ∙ ap (λ (l : List _). cond (is_eq (R k q)) l (bucket_values R p q)) (without_found by c.args.number (bucket_values R p k) i c.requires.ascending found.is)
+    let f = c.in-Ok.ensures in
+    take_found R total c.args.self.now c.requires.sorted g.V.Numbered.numbered_by c.args.key c.args.number c.in-Ok.at c.requires.ascending (record { keys = c.clear.new.self; values = c.clear-then-len-eq1.new.self }) f
+    (only_edited R total c.args.self.now c.requires.sorted (record { keys = c.clear.new.self; values = c.clear-then-len-eq1.new.self }) c.args.key c.in-Ok.at f.low f.top (omega (arith, c.len.ensures, c.if-len-eq1.true)) c.clear.ensures.items c.clear-then-len-eq1.ensures.items
+    c.clear.ensures.len c.clear-then-len-eq1.ensures.len (omega (arith, c.clear.ensures.capacity)) (omega (arith, c.clear-then-len-eq1.ensures.capacity)))
 
-pub returns-in_default-clause-values : goal.returns-in_default-clause-values
-returns-in_default-clause-values g c q =
+pub take_out-requires : goal.take_out-requires
+take_out-requires g c = omega (arith, c.in-Ok.ensures.top, range_within g.K.Ord.cmp g.met.K.Ord.total c.args.self.now c.requires.sorted c.args.key)
+
+pub returns : goal.returns
+returns g c =
     let R = g.K.Ord.cmp in
-    let p = c.args.self.now in
-    let k = c.args.key in
-    values_kept R g.met.K.Ord.total (keys_of p) p.values.items k q
-    ∙ ap (λ (l : List _). cond (is_eq (R k q)) l (bucket_values R p q)) (missing_without R g.V.Numbered.numbered_by p k c.args.number c.requires.ascending c.in_default.field-0 c.in_default.ensures)
+    let total = g.met.K.Ord.total in
+    let f = c.in-Ok.ensures in
+    take_found R total c.args.self.now c.requires.sorted g.V.Numbered.numbered_by c.args.key c.args.number c.in-Ok.at c.requires.ascending (record { keys = c.take_out.new.v; values = c.take_out-2.new.v }) f
+    (take_edited R total c.args.self.now c.requires.sorted (record { keys = c.take_out.new.v; values = c.take_out-2.new.v }) c.args.key c.in-Ok.at f.low f.top c.take_out.ensures.items c.take_out-2.ensures.items
+    c.take_out.ensures.len c.take_out-2.ensures.len (omega (arith, c.take_out.ensures.capacity)) (omega (arith, c.take_out-2.ensures.capacity)))

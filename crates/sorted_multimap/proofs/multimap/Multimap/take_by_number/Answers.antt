@@ -21,7 +21,7 @@ invariant_of-self g c =
     let l = located R g.K.Key.spread_of _ _ c.args.key _ _ c.deref.ensures.value c.place_of-at.ensures.at c.place_of-at.ensures.within c.index_mut.ensures.value in
     let here = located_values R g.K.Key.spread_of _ _ c.self.invariant _ _ _ l in
     let shown = ap (λ s. values_in R s c.args.key) c.self.view_is in
-    let room = c.take_by_number.ensures.room c.self.inside.spare (located_room R g.K.Key.spread_of _ _ c.self.invariant _ _ _ l) in
+    let room = c.take_by_number.ensures.room c.self.inside.spare c.self.inside.spare (omega arith) (located_room R g.K.Key.spread_of _ _ c.self.invariant _ _ _ l) in
     put_spread R g.K.Key.spread_of g.met.K.Key.agrees _ _ _ _ _ _ c.self.invariant (omega arith) c.take_by_number.ensures.sorted room _ l _ c.take_by_number.ensures.values
 
 pub returns-clause-values : goal.returns-clause-values
@@ -31,6 +31,6 @@ returns-clause-values g c q =
     let l = located R g.K.Key.spread_of _ _ c.args.key _ _ c.deref.ensures.value c.place_of-at.ensures.at c.place_of-at.ensures.within c.index_mut.ensures.value in
     let here = located_values R g.K.Key.spread_of _ _ c.self.invariant _ _ _ l in
     let shown = ap (λ s. values_in R s c.args.key) c.self.view_is in
-    let room = c.take_by_number.ensures.room c.self.inside.spare (located_room R g.K.Key.spread_of _ _ c.self.invariant _ _ _ l) in
+    let room = c.take_by_number.ensures.room c.self.inside.spare c.self.inside.spare (omega arith) (located_room R g.K.Key.spread_of _ _ c.self.invariant _ _ _ l) in
     put_values R g.K.Key.spread_of g.met.K.Key.agrees _ _ _ _ _ _ c.self.invariant (omega arith) c.take_by_number.ensures.sorted room _ l _ c.take_by_number.ensures.values (values_in R c.args.self.now) (λ p. ap (λ s. values_in R s p) c.self.view_is) q
     ∙ ap (λ (vs : List _). cond (is_eq (R c.args.key q)) (filter (λ v. not (eqb (by v) c.args.number)) vs) (values_in R c.args.self.now q)) (sym here ∙ shown)
