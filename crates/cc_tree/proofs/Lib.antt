@@ -1,5 +1,6 @@
 pub mod Facts
 pub mod Paths
+pub mod Followers
 pub mod Meets
 pub mod Stored
 pub mod Below

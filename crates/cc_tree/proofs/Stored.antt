@@ -10,21 +10,18 @@ use Rattle.cc_tree.specs.declared.tree.Tree.TheInside.{Inside}
 use Rattle.cc_tree.specs.Grown.{node_numbers, rows_of}
 use Rattle.cc_tree.specs.Stored.{IsStored, paths_of, path_among}
 
-abbrev numbers_of : Vec Node Global → List ℕ
-numbers_of p = node_numbers p.items
-
-abbrev parts_of : Vec (Vec Node Global) Global → List (List ℕ)
-parts_of ps = map numbers_of ps.items
+abbrev parts_of : Vec (List Node) Global → List (List ℕ)
+parts_of ps = map node_numbers ps.items
 
 -- what is read at the place of the type, and there at the place of the part, is the path
-pub stored_path : (t : Inside) → IsStored t → (s : Spot) → s.kind.0 < length t.paths.items → (ps : Vec (Vec Node Global) Global) (p : Vec Node Global) (k i : ℕ) →
-    k ≡ s.kind.0 → ps ≡ get_or t.paths.items k ps → i ≡ s.instance % length ps.items → p ≡ get_or ps.items i p → node_numbers p.items ≡ path (rows_of t.rows.items) s
+pub stored_path : (t : Inside) → IsStored t → (s : Spot) → s.kind.0 < length t.paths.items → (ps : Vec (List Node) Global) (p : List Node) (k i : ℕ) →
+    k ≡ s.kind.0 → ps ≡ get_or t.paths.items k ps → i ≡ s.instance % length ps.items → p ≡ get_or ps.items i p → node_numbers p ≡ path (rows_of t.rows.items) s
 stored_path t st s h ps p k i ek eps ei ep =
     let lk : s.kind.0 < length (paths_of t) = omega (arith, length-map t.paths.items parts_of) in
     let e : get_or (paths_of t) s.kind.0 [] ≡ parts_of ps = get_or-map parts_of t.paths.items s.kind.0 ps [] h ∙ ap parts_of (ap (λ (z : ℕ). get_or t.paths.items z ps) (sym ek) ∙ sym eps) in
-    let n : length (get_or (paths_of t) s.kind.0 []) ≡ length ps.items = ap length e ∙ length-map ps.items numbers_of in
+    let n : length (get_or (paths_of t) s.kind.0 []) ≡ length ps.items = ap length e ∙ length-map ps.items node_numbers in
     let some : 0 < length ps.items = (let z = st.some s.kind.0 lk in omega arith) in
     let li : i < length ps.items = (let z = mod-lt s.instance some in omega arith) in
-    let g : get_or (parts_of ps) i [] ≡ node_numbers p.items = get_or-map numbers_of ps.items i p [] li ∙ ap numbers_of (sym ep) in
-    let w : path_among (get_or (paths_of t) s.kind.0 []) s ≡ get_or (parts_of ps) i [] = ap (λ (z : List (List ℕ)). get_or z (s.instance % length z) []) e ∙ ap (λ (z : ℕ). get_or (parts_of ps) z []) (ap (λ (z : ℕ). s.instance % z) (length-map ps.items numbers_of) ∙ sym ei) in
+    let g : get_or (parts_of ps) i [] ≡ node_numbers p = get_or-map node_numbers ps.items i p [] li ∙ ap node_numbers (sym ep) in
+    let w : path_among (get_or (paths_of t) s.kind.0 []) s ≡ get_or (parts_of ps) i [] = ap (λ (z : List (List ℕ)). get_or z (s.instance % length z) []) e ∙ ap (λ (z : ℕ). get_or (parts_of ps) z []) (ap (λ (z : ℕ). s.instance % z) (length-map ps.items node_numbers) ∙ sym ei) in
     sym g ∙ sym w ∙ st.right s lk

@@ -21,8 +21,5 @@ unfoldable pub part_paths : List NodeRow → ℕ → List (List ℕ)
 part_paths T k = map (λ i. path T (spot_of k i)) (below (unwrap_or (parts_of k T) 0))
 
 -- lists of nodes as lists of numbers
-abbrev pub number_list : Vec Node Global → List ℕ
-number_list p = node_numbers p.items
-
-abbrev pub part_lists : Vec (Vec Node Global) Global → List (List ℕ)
-part_lists ps = map number_list ps.items
+abbrev pub part_lists : Vec (List Node) Global → List (List ℕ)
+part_lists ps = map node_numbers ps.items

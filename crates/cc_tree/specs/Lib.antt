@@ -1,4 +1,5 @@
 pub mod Grown
+pub mod Followers
 pub mod Stored
 pub mod Sound
 pub mod Meets

@@ -11,7 +11,7 @@ grown t = record { rows = rows_of t.rows.items; types = length t.paths.items }
 
 -- for each type, the paths to its leaves
 abbrev pub paths_of : Inside → List (List (List ℕ))
-paths_of t = map (λ ps. map (λ p. node_numbers p.items) ps.items) t.paths.items
+paths_of t = map (λ ps. map node_numbers ps.items) t.paths.items
 
 -- the path of a spot, in a list of the paths of the parts of its type
 abbrev pub path_among : List (List ℕ) → Spot → List ℕ

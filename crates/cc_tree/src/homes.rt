@@ -9,6 +9,7 @@ ghost use Rattle.teb_rules.specs.Accepted.{Homeless, is_homeless};
 ghost use Rattle.teb_rules.specs.Setup.{among};
 ghost use Rattle.teb_rules.specs.Tree.{below, houses, leaf, way};
 
+use crate::path::Path;
 use crate::shape::holds;
 use crate::way::{count_above, push_way};
 use crate::{NodeRow, ShapeWhy, TreeError};
@@ -64,11 +65,7 @@ fn count_homes(rows: &[NodeRow], k: Kind) -> u8
 }
 
 /// For each type below `types`, the paths to its leaves in order of their parts.
-pub fn all_paths(
-    alloc: Global,
-    rows: &[NodeRow],
-    types: u8,
-) -> Result<Vec<Vec<Vec<Node>>>, AllocError>
+pub fn all_paths(alloc: Global, rows: &[NodeRow], types: u8) -> Result<Vec<Vec<Path>>, AllocError>
     requires few { length rows.now ≤ 64 }
     requires parts { All (λ r. 0 < r.of) rows.now }
     ensures { IfOk result (λ v. map part_lists v.items ≡ map (λ k. part_paths (rows_of rows.now) k) (below types)) }
@@ -81,7 +78,7 @@ pub fn all_paths(
 }
 
 // The paths to the leaves of one type, in order of their parts.
-fn part_paths(alloc: Global, rows: &[NodeRow], k: Kind) -> Result<Vec<Vec<Node>>, AllocError>
+fn part_paths(alloc: Global, rows: &[NodeRow], k: Kind) -> Result<Vec<Path>, AllocError>
     requires few { length rows.now ≤ 64 }
     requires parts { All (λ r. 0 < r.of) rows.now }
     ensures { IfOk result (λ v. part_lists v ≡ part_paths (rows_of rows.now) k.0) }
@@ -99,12 +96,13 @@ fn part_paths(alloc: Global, rows: &[NodeRow], k: Kind) -> Result<Vec<Vec<Node>>
 }
 
 #[tactic(auto, unfolding(teb_rules::specs::Tree::way))]
-fn way_to(alloc: Global, rows: &[NodeRow], n: Node) -> Result<Vec<Node>, AllocError>
-    ensures { IfOk result (λ v. node_numbers v.items ≡ way (rows_of rows.now) n.0) }
+fn way_to(alloc: Global, rows: &[NodeRow], n: Node) -> Result<Path, AllocError>
+    requires { length rows.now ≤ 64 }
+    ensures { IfOk result (λ p. node_numbers p ≡ way (rows_of rows.now) n.0) }
 {
     let mut way = Vec::with_capacity(alloc, usize::from(count_above(rows, n, n.0)) + 1)?;
     push_way(rows, n, n.0, &mut way)?;
-    Ok(way)
+    Path::new(alloc, way, rows.len())
 }
 
 // The first node that has the type of a spot and the part of its instance; node 0 where none has.

@@ -1,52 +1,140 @@
-//! Paths, as lists of nodes from the root down.
+//! Paths from the root to a leaf.
 
-ghost use Rattle.std.specs.Prelude.{◌≡◌, ℕ, length};
+ghost use Rattle.std.specs.Prelude.{◌≡◌, ◌≤◌, ℕ, length, IfOk};
 ghost use Rattle.cc_tree.specs.Grown.{node_numbers, side_found, side_number};
 ghost use Rattle.cc_tree.specs.Meets.{last_shared};
+ghost use Rattle.cc_tree.specs.Followers.{follower_in, AreFollowers};
 ghost use Rattle.teb_rules.specs.Setup.{among};
 ghost use Rattle.teb_rules.specs.Tree.{next_of};
 
+use std::alloc::{AllocError, Global};
+use std::marker::Model;
 use teb_names::Node;
 
-/// Whether a node is on the path.
-#[tactic(auto, using(crate::proofs::Paths::among_numbers))]
-#[inline(always)]
-pub fn has(path: &[Node], n: Node) -> bool
-    ensures { result ≡ among n.0 (node_numbers path.now) }
-{
-    path.contains(&n)
+/// What follows a node on a path.
+#[derive(Clone, Copy)]
+pub(crate) enum Follower {
+    /// The node is not on the path.
+    Absent,
+    /// The node is its last.
+    Nobody,
+    Child(Node),
 }
 
-/// The node that follows n on the path.
-#[tactic(auto, unfolding(teb_rules::specs::Tree::next_of))]
-pub fn next_on(path: &[Node], n: Node) -> Option<Node>
-    ensures { (own : ℕ) → side_number result own ≡ next_of n.0 own (node_numbers path.now) }
-{
-    match path {
-        [m, l, ..] if *m == n => Some(*l),
-        [_, rest @ ..] => next_on(rest, n),
-        [] => None,
+/// A path: nodes from the root down. Contracts see the list of the nodes.
+///
+/// Whether a node is on it, and what follows it there, costs one look.
+#[derive(Drop)]
+pub(crate) struct Path {
+    nodes: Vec<Node>,
+    // By number, for the nodes of the tree.
+    followers: Vec<Follower>,
+}
+
+impl Model for Path {
+    ghost use Rattle.std.specs.Prelude.{List};
+    ghost use Rattle.teb_names.specs.declared.Node.{Node};
+    ghost use Rattle.cc_tree.specs.Followers.{AreFollowers};
+
+    ghost Value = { List Node };
+
+    ghost view = { λ p. p.nodes.items };
+
+    ghost invariant = { λ p. AreFollowers p.followers.items p.nodes.items };
+}
+
+impl Path {
+    /// The path of these nodes, in a tree of so many.
+    pub(crate) fn new(alloc: Global, nodes: Vec<Node>, count: usize) -> Result<Path, AllocError>
+        requires { count ≤ 64 }
+        ensures { IfOk result (λ p. p ≡ nodes.items) }
+    {
+        let followers = followers_on(alloc, &nodes, count as u8)?;
+        Ok(Path { nodes, followers })
     }
-}
 
-/// The number of the side of n on the path of a transaction with the number `own`: that of the node behind n, or `own` where n
-/// is the last. None where n is not on the path.
-#[tactic(auto, unfolding(teb_rules::specs::Tree::next_of))]
-pub fn side_on(path: &[Node], n: Node, own: u32) -> Option<u32>
-    ensures { result ≡ side_found n.0 own (node_numbers path.now) }
-{
-    let mut rest = path;
-    while let [m, behind @ ..] = rest {
-        if *m == n {
-            return Some(behind.first().map_or(own, |child| u32::from(child.0)));
+    /// Its nodes, from the root down.
+    pub(crate) fn nodes(&self) -> &[Node]
+        ensures { result.now ≡ self.now }
+    {
+        &self.nodes
+    }
+
+    /// Whether a node is on the path.
+    #[inline(always)]
+    pub(crate) fn has(&self, n: Node) -> bool
+        ensures { result ≡ among n.0 (node_numbers self.now) }
+    {
+        match self.follower(n) {
+            Follower::Absent => false,
+            Follower::Nobody | Follower::Child(_) => true,
         }
-        rest = behind;
     }
-    None
+
+    /// The node that follows n on the path.
+    pub(crate) fn next(&self, n: Node) -> Option<Node>
+        ensures { (own : ℕ) → side_number result own ≡ next_of n.0 own (node_numbers self.now) }
+    {
+        match self.follower(n) {
+            Follower::Child(child) => Some(child),
+            Follower::Nobody => None,
+            Follower::Absent => None,
+        }
+    }
+
+    /// The number of the side of n for a transaction with the number `own`: that of the node behind n, or `own` where n is the last. None
+    /// where n is not on the path.
+    #[inline(always)]
+    pub(crate) fn side(&self, n: Node, own: u32) -> Option<u32>
+        ensures { result ≡ side_found n.0 own (node_numbers self.now) }
+    {
+        match self.follower(n) {
+            Follower::Absent => None,
+            Follower::Nobody => Some(own),
+            Follower::Child(child) => Some(u32::from(child.0)),
+        }
+    }
+
+    // What follows a node.
+    #[inline(always)]
+    fn follower(&self, n: Node) -> Follower
+        ensures { result ≡ follower_in n.0 self.now }
+    {
+        let i = usize::from(n.0);
+        if i < self.followers.len() {
+            self.followers[i]
+        } else {
+            follower_on(&self.nodes, n)
+        }
+    }
+}
+
+// What follows each node of a tree of so many.
+fn followers_on(alloc: Global, nodes: &[Node], count: u8) -> Result<Vec<Follower>, AllocError>
+    ensures { IfOk result (λ v. AreFollowers v.items nodes.now) }
+{
+    let mut followers = Vec::with_capacity(alloc, usize::from(count))?;
+    for n in 0..count {
+        followers.push(follower_on(nodes, Node(n)))?;
+    }
+    Ok(followers)
+}
+
+// What follows a node in a list of nodes.
+fn follower_on(nodes: &[Node], n: Node) -> Follower
+    ensures { result ≡ follower_in n.0 nodes.now }
+{
+    match nodes {
+        [m, behind @ ..] if *m == n => behind
+            .first()
+            .map_or(Follower::Nobody, |child| Follower::Child(*child)),
+        [_, behind @ ..] => follower_on(behind, n),
+        [] => Follower::Absent,
+    }
 }
 
 /// The last node that both paths share from their beginning on, and `above` where their first nodes differ.
-pub fn last_shared(a: &[Node], b: &[Node], above: Node) -> Node
+pub(crate) fn last_shared(a: &[Node], b: &[Node], above: Node) -> Node
     ensures { result.0 ≡ last_shared above.0 (node_numbers a.now) (node_numbers b.now) }
 {
     let [m, a @ ..] = a else {

@@ -10,7 +10,8 @@ ghost use Rattle.teb_rules.specs.Tree.{leaf, on_path, path, row, side_at};
 
 use crate::check::check;
 use crate::homes::all_paths;
-use crate::{NodeRow, TreeError, path};
+use crate::path::{Path, last_shared};
+use crate::{NodeRow, TreeError};
 use std::alloc::Global;
 use std::marker::Model;
 use teb_names::{Node, Spot};
@@ -20,7 +21,7 @@ use teb_names::{Node, Spot};
 pub struct Tree {
     rows: Vec<NodeRow>,
     // For each type the paths to its leaves, in order of their parts.
-    paths: Vec<Vec<Vec<Node>>>,
+    paths: Vec<Vec<Path>>,
 }
 
 impl Model for Tree {
@@ -85,6 +86,16 @@ impl Tree {
         ensures within { All (λ n. n.0 < length self.now.rows) result.now }
         ensures accepted { IsAccepted self.now }
     {
+        self.stored(s).nodes()
+    }
+
+    // The path that is stored for a type and an instance.
+    #[inline(always)]
+    fn stored(&self, s: Spot) -> &Path
+        requires { s.kind.0 < self.now.types }
+        ensures nodes { node_numbers result.now ≡ path self.now.rows s }
+        ensures accepted { IsAccepted self.now }
+    {
         let parts = &self.paths[usize::from(s.kind.0)];
         &parts[s.instance as usize % parts.len()]
     }
@@ -96,7 +107,7 @@ impl Tree {
         requires { s.kind.0 < self.now.types }
         ensures { result ≡ on_path self.now.rows n.0 s }
     {
-        path::has(self.path(s), n)
+        self.stored(s).has(n)
     }
 
     /// The child of a node on the path of a type and an instance; none exactly at their leaf.
@@ -108,7 +119,7 @@ impl Tree {
         ensures none { (result ≡ None) ↔ (n.0 ≡ leaf self.now.rows s) }
         ensures within { IfSome result (λ m. m.0 < length self.now.rows) }
     {
-        path::next_on(self.path(s), n)
+        self.stored(s).next(n)
     }
 
     /// The number of the side of a node on which a transaction is that has this spot and the number `own`: the child's above
@@ -118,7 +129,7 @@ impl Tree {
         requires { s.kind.0 < self.now.types }
         ensures { result ≡ cond (on_path self.now.rows n.0 s) (Some (side_at self.now.rows n.0 s own)) None }
     {
-        path::side_on(self.path(s), n, own)
+        self.stored(s).side(n, own)
     }
 
     /// The lowest node on the paths of two spots: the node at which two transactions with these spots meet.
@@ -129,6 +140,6 @@ impl Tree {
         ensures meet { IsMeet self.now.rows a b result.0 }
         ensures within { result.0 < length self.now.rows }
     {
-        path::last_shared(self.path(a), self.path(b), Node(0))
+        last_shared(self.path(a), self.path(b), Node(0))
     }
 }

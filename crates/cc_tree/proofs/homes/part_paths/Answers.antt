@@ -1,16 +1,16 @@
 use Rattle.std.proofs.Common.{◌≡◌, ℕ, map, ◌∙◌, ap, unwrap_or, Option, arith}
-use Rattle.cc_tree.specs.Grown.{rows_of}
-use Rattle.cc_tree.specs.Homes.{number_list, part_paths, parts_of, spot_of}
+use Rattle.cc_tree.specs.Grown.{node_numbers, rows_of}
+use Rattle.cc_tree.specs.Homes.{part_paths, parts_of, spot_of}
 use Rattle.teb_rules.specs.Tree.{below, leaf, path, way}
 use Rattle.cc_tree.proofs.Below.{map_none, map_step}
 use Rattle.cc_tree.proofs.homes.part_paths.Goals as goal
 
 pub loop-part-init : goal.loop-part-init
-loop-part-init c = map_none number_list (λ i. path (rows_of c.args.rows.now) (spot_of c.args.k.0 i)) c.in_ok-paths.paths.items c.in_ok-paths.ensures.items
+loop-part-init c = map_none node_numbers (λ i. path (rows_of c.args.rows.now) (spot_of c.args.k.0 i)) c.in_ok-paths.paths.items c.in_ok-paths.ensures.items
 
 pub loop-part-preserved : goal.loop-part-preserved
 unfolding path
-loop-part-preserved c = map_step number_list (λ i. path (rows_of c.args.rows.now) (spot_of c.args.k.0 i)) c.loop-part.part c.loop-part.paths.items c.push.new.self.items c.in_ok-way_to.field-0 c.in_ok-push.ensures.items c.loop-part.invariant
+loop-part-preserved c = map_step node_numbers (λ i. path (rows_of c.args.rows.now) (spot_of c.args.k.0 i)) c.loop-part.part c.loop-part.paths.items c.push.new.self.items c.in_ok-way_to.field-0 c.in_ok-push.ensures.items c.loop-part.invariant
     (c.in_ok-way_to.ensures ∙ ap (way (rows_of c.args.rows.now)) c.leaf_of.ensures ∙ ap (λ (i : ℕ). way (rows_of c.args.rows.now) (leaf (rows_of c.args.rows.now) (spot_of c.args.k.0 i))) c.from-in-loop-part.ensures)
 
 pub returns : goal.returns

@@ -5,9 +5,9 @@ use Rattle.cc_tree.proofs.tree.Tree.side.Goals as goal
 
 pub returns-clause-none : goal.returns-clause-none
 unfolding on_path
-returns-clause-none c = none_at_leaf _ c.path.ensures.accepted c.args.s c.requires.kind c.args.n.0 c.requires.on c.next_on.result
-    (λ own. c.next_on.ensures own ∙ ap (next_of c.args.n.0 own) c.path.ensures.nodes)
+returns-clause-none c = none_at_leaf _ c.stored.ensures.accepted c.args.s c.requires.kind c.args.n.0 c.requires.on c.next.result
+    (λ own. c.next.ensures own ∙ ap (next_of c.args.n.0 own) c.stored.ensures.nodes)
 
 pub returns-clause-within : goal.returns-clause-within
-returns-clause-within c = side_within _ c.path.ensures.accepted c.args.s c.requires.kind c.args.n.0 c.next_on.result
-    (λ own. c.next_on.ensures own ∙ ap (next_of c.args.n.0 own) c.path.ensures.nodes)
+returns-clause-within c = side_within _ c.stored.ensures.accepted c.args.s c.requires.kind c.args.n.0 c.next.result
+    (λ own. c.next.ensures own ∙ ap (next_of c.args.n.0 own) c.stored.ensures.nodes)
