@@ -19,15 +19,18 @@ pub fn make_room<T>(v: &mut Vec<T>, n: usize, more: usize) -> Result<(), AllocEr
     v.reserve(n.saturating_add(more))
 }
 
-/// Makes room for n more values, and for three times as many as there are where there is less, so that a vector that grows for long seldom
-/// moves. Room that is never written costs no memory.
+/// How many values a vector that grows for long has room for from its first one on.
+const WIDE: usize = 16_384;
+
+/// Makes room for n more values where there is less, and then for at least 16,384 more and for three times as many as there are, so that a
+/// vector that grows for long seldom moves. Room that is never written costs no memory.
 pub fn make_wide_room<T>(v: &mut Vec<T>, n: usize) -> Result<(), AllocError>
     ensures items { v.new.items ≡ v.old.items }
     ensures len { vec_len v.new ≡ vec_len v.old }
     ensures room { OnOk result (vec_len v.new + n ≤ vec_capacity v.new) }
     ensures kept { vec_capacity v.old ≤ vec_capacity v.new }
 {
-    let more = v.len().saturating_mul(3);
+    let more = v.len().saturating_mul(3).max(WIDE);
     make_room(v, n, more)
 }
 

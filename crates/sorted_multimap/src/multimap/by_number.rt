@@ -12,6 +12,7 @@ use crate::{Key, Numbered};
 impl<K: Key, V: Numbered> Multimap<K, V> {
     /// Puts a value among those of a key, which ascend by number, instead of the one that has its number. Whether there was none; then it
     /// takes one place of the room.
+    #[inline(always)]
     pub fn put_by_number(&mut self, key: K, value: V) -> bool
         requires room { 0 < self.old.spare }
         requires ascending { IsAscendingBy V.numbered_by (values_in K.cmp self.old key) }
@@ -27,6 +28,7 @@ impl<K: Key, V: Numbered> Multimap<K, V> {
 
     /// Puts a value among those of a key, which ascend by number, unless one has its number. Whether there was none; then it takes one place
     /// of the room.
+    #[inline(always)]
     pub fn add_by_number(&mut self, key: K, value: V) -> bool
         requires room { 0 < self.old.spare }
         requires ascending { IsAscendingBy V.numbered_by (values_in K.cmp self.old key) }
@@ -41,6 +43,7 @@ impl<K: Key, V: Numbered> Multimap<K, V> {
     }
 
     /// Takes the value with a number out from among those of a key, which ascend by number. Where there is none, it holds the same.
+    #[inline(always)]
     pub fn take_by_number(&mut self, key: K, number: u32)
         requires { IsAscendingBy V.numbered_by (values_in K.cmp self.old key) }
         ensures values { (q : K) → values_in K.cmp self.new q ≡ cond (is_eq (K.cmp key q)) (filter (λ v. not (eqb (V.numbered_by v) number)) (values_in K.cmp self.old key)) (values_in K.cmp self.old q) }
