@@ -15,7 +15,7 @@ use Rattle.sorted_multimap.proofs.CellValues.{same_exact}
 use Rattle.hold_book.specs.declared.Hold.{Hold}
 use Rattle.hold_book.specs.Books.{hold_number, has_put, accessed, released, IsFiled}
 
-or_false : (b : Bool) → (b || false) ≡ b
+pub or_false : (b : Bool) → (b || false) ≡ b
 or_false true = refl
 or_false false = refl
 

@@ -1,4 +1,6 @@
 pub mod Cells
+pub mod Entering
 pub mod Filing
+pub mod FreeSlots
 pub mod Holders
 pub mod Releasing

@@ -1,25 +1,33 @@
 -- What a book shows: for each cell the holds on it.
-use Rattle.std.specs.Prelude.{ℕ, Bool, not, ◌&&◌, ◌||◌, eqb, List, filter}
+use Rattle.std.specs.Prelude.{◌≡◌, ◌<◌, ◌≤◌, ◌+◌, ℕ, Bool, not, ◌&&◌, ◌||◌, eqb, List, [], filter, length, Option, IsTrue}
+use Rattle.std.specs.Option.{is_some}
 use Rattle.std.specs.List.{list_any}
 use Rattle.teb_names.specs.declared.Txn.{Txn}
 use Rattle.teb_names.specs.declared.Cell.{Cell}
 use Rattle.teb_names.specs.Cells.{cell_cmp}
 use Rattle.teb_history.specs.Ascending.{IsAscendingBy, put_by}
-use Rattle.sorted_multimap.specs.Multimap.{Shown, values_of, values_in}
+use Rattle.sorted_multimap.specs.Multimap.{Shown, values_in}
 use Rattle.hold_book.specs.declared.Hold.{Hold}
+use Rattle.hold_book.specs.declared.slots.Alone.{Alone}
+use Rattle.hold_book.specs.Slots.{only_hold, only_or}
 
 -- the number of the transaction that holds
 abbrev pub hold_number : Hold → ℕ
 hold_number h = h.txn.0
 
--- what contracts see of a book: its holds beside their cells, and for how many accesses it has room
+-- what contracts see of a book: the cells that lie in their slots, the holds on the others, and for how many accesses it has room
 pub record Held : Type 0 where
-  pub holds : List (Cell × Hold)
+  pub slots : List (Option Alone)
+  pub others : Shown Cell Hold
   pub spare : ℕ
+
+-- the holds on x, by what lies in the slots and by the others
+abbrev pub shown_in : List (Option Alone) → Shown Cell Hold → Cell → List Hold
+shown_in ss o x = only_or (only_hold ss x) (values_in cell_cmp o x)
 
 -- the holds on x
 abbrev pub shown : Held → Cell → List Hold
-shown b x = values_of cell_cmp b.holds x
+shown b x = shown_in b.slots b.others x
 
 -- t is among those that have put
 abbrev pub has_put : ℕ → List Hold → Bool
@@ -36,3 +44,14 @@ released t hs = filter (λ h. not (eqb h.txn.0 t)) hs
 -- the holds on each cell ascend by transaction
 pub record IsFiled (holds : Shown Cell Hold) : Type 0 where
   pub ascending : (x : Cell) → IsAscendingBy hold_number (values_in cell_cmp holds x)
+
+-- a cell that lies in its slot is held by nobody else
+pub record IsApart (ss : List (Option Alone)) (o : Shown Cell Hold) : Type 0 where
+  pub filed : IsFiled o
+  pub alone : (x : Cell) → IsTrue (is_some (only_hold ss x)) → values_in cell_cmp o x ≡ []
+
+-- an access puts two holds among the others at the most
+pub record IsBook (ss : List (Option Alone)) (o : Shown Cell Hold) (spare : ℕ) : Type 0 where
+  pub apart : IsApart ss o
+  pub made : 0 < spare → 1024 ≤ length ss
+  pub room : spare + spare ≤ o.spare

@@ -12,28 +12,36 @@ ghost use Rattle.hold_book.specs.Books.{shown, accessed, released};
 ghost use Rattle.hold_book.specs.Holders.{HoldsOf, MayHold};
 
 use crate::Hold;
-use crate::filed::{put_in, take_out};
+use crate::entries::{access_in, release_in};
+use crate::slots::{Alone, make_slots, only_list};
 use sorted_multimap::Multimap;
 use std::alloc::{AllocError, Global};
 use std::marker::Model;
 use teb_history::{Event, History};
 use teb_names::{Cell, Txn};
 
-/// Who holds which cell at a node. Contracts see the holds beside their cells, and for how many accesses there is room.
+/// For how many accesses a book makes room at the least.
+const AHEAD: usize = 64;
+
+/// Who holds which cell at a node. Contracts see the holds on each cell, and for how many accesses there is room.
 #[derive(Drop)]
 pub struct HoldBook {
-    // By cell: the holds on it, in ascending number.
-    holds: Multimap<Cell, Hold>,
+    // The cells that one transaction alone holds, each in its slot. There are none before the first `reserve`.
+    slots: Vec<Option<Alone>>,
+    // By cell: the holds on each other cell, in ascending number.
+    others: Multimap<Cell, Hold>,
+    // For how many accesses there is room.
+    spare: usize,
 }
 
 impl Model for HoldBook {
-    ghost use Rattle.hold_book.specs.Books.{Held, IsFiled};
+    ghost use Rattle.hold_book.specs.Books.{Held, IsBook};
 
     ghost Value = { Held };
 
-    ghost view = { λ b. record { holds = b.holds.entries; spare = b.holds.spare } };
+    ghost view = { λ b. record { slots = b.slots.items; others = b.others; spare = b.spare } };
 
-    ghost invariant = { λ b. IsFiled b.holds };
+    ghost invariant = { λ b. IsBook b.slots.items b.others b.spare };
 }
 
 impl HoldBook {
@@ -43,21 +51,27 @@ impl HoldBook {
         ensures empty { (S : Setup) (n : ℕ) → HoldsOf result S [] n }
     {
         HoldBook {
-            holds: Multimap::small(alloc),
+            slots: Vec::new(alloc),
+            others: Multimap::narrow(alloc),
+            spare: 0,
         }
     }
 
     /// Makes room for n accesses. It shows what it showed, also after an `Err`.
+    #[inline(always)]
     pub fn reserve(&mut self, n: usize) -> Result<(), AllocError>
         ensures shown { (x : Cell) → shown self.new x ≡ shown self.old x }
         ensures room { OnOk result (n ≤ self.new.spare) }
         ensures kept { self.old.spare ≤ self.new.spare }
     {
-        self.holds.reserve(n)
+        if n <= self.spare {
+            return Ok(());
+        }
+        self.make_room(n.max(AHEAD))
     }
 
-    /// A transaction accesses a cell: it reads it, or puts it where `wrote` is true. It takes one place of the room at most, and costs a
-    /// search by the cell.
+    /// A transaction accesses a cell: it reads it, or puts it where `wrote` is true. It takes one place of the room at most. It costs a look
+    /// at a slot where nobody else holds the cell, and else a search by the cell.
     #[inline(always)]
     pub fn access(&mut self, t: Txn, cell: Cell, wrote: bool)
         requires { 0 < self.old.spare }
@@ -69,10 +83,12 @@ impl HoldBook {
         ensures got { (S : Setup) (P : List Event) (n : ℕ) (w : Txn) (v : Option ℤ) → IsFalse wrote → MayHold S P n t.0 → HoldsOf self.old S P n → HoldsOf self.new S (Got t cell w v ∷ P) n }
         ensures put { (S : Setup) (P : List Event) (n : ℕ) (v : Option ℤ) → IsTrue wrote → MayHold S P n t.0 → HoldsOf self.old S P n → HoldsOf self.new S (Put t cell v ∷ P) n }
     {
-        put_in(&mut self.holds, cell, t, wrote);
+        access_in(&mut self.slots, &mut self.others, cell, t, wrote);
+        self.spare -= 1;
     }
 
-    /// A transaction no longer holds any of the cells that it has accessed. The room stays. It costs a search for each of its accesses.
+    /// A transaction no longer holds any of the cells that it has accessed. The room stays. It costs what each of its accesses
+    /// costs.
     pub fn release_all(&mut self, history: &History, t: Txn)
         ensures shown { (x : Cell) → shown self.new x ≡ cond (wrote history.now.events t.0 x || got history.now.events t.0 x) (released t.0 (shown self.old x)) (shown self.old x) }
         ensures spare { self.new.spare ≡ self.old.spare }
@@ -89,15 +105,34 @@ impl HoldBook {
     pub fn holds(&self, cell: Cell) -> &[Hold]
         ensures { result.now ≡ shown self.now cell }
     {
-        self.holds.list(cell)
+        let alone = only_list(&self.slots, cell);
+        if alone.is_empty() {
+            return self.others.list(cell);
+        }
+        alone
     }
 
     // A transaction no longer holds a cell. The room stays.
+    #[inline(always)]
     fn release(&mut self, t: Txn, cell: Cell)
         ensures here { shown self.new cell ≡ released t.0 (shown self.old cell) }
         ensures elsewhere { (x : Cell) → IsFalse (same_cell cell x) → shown self.new x ≡ shown self.old x }
         ensures spare { self.new.spare ≡ self.old.spare }
     {
-        take_out(&mut self.holds, cell, t);
+        release_in(&mut self.slots, &mut self.others, cell, t);
+    }
+
+    // Makes room for n accesses, where there is less.
+    #[inline(never)]
+    fn make_room(&mut self, n: usize) -> Result<(), AllocError>
+        requires { self.old.spare ≤ n }
+        ensures shown { (x : Cell) → shown self.new x ≡ shown self.old x }
+        ensures room { OnOk result (n ≤ self.new.spare) }
+        ensures kept { self.old.spare ≤ self.new.spare }
+    {
+        make_slots(&mut self.slots)?;
+        self.others.reserve(n.checked_mul(2).ok_or(AllocError)?)?;
+        self.spare = n;
+        Ok(())
     }
 }

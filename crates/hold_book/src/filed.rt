@@ -11,7 +11,7 @@ use sorted_multimap::Multimap;
 use teb_names::{Cell, Txn};
 
 /// Puts in that a transaction has accessed a cell, and whether it put it. It takes one place of the room at the most.
-#[inline(always)]
+#[inline(never)]
 pub(crate) fn put_in(holds: &mut Multimap<Cell, Hold>, cell: Cell, t: Txn, wrote: bool)
     requires filed { IsFiled holds.old }
     requires room { 0 < holds.old.spare }
@@ -28,6 +28,7 @@ pub(crate) fn put_in(holds: &mut Multimap<Cell, Hold>, cell: Cell, t: Txn, wrote
 }
 
 /// Takes out the hold of a transaction on a cell, where it is there. The room stays.
+#[inline(never)]
 pub(crate) fn take_out(holds: &mut Multimap<Cell, Hold>, cell: Cell, t: Txn)
     requires { IsFiled holds.old }
     ensures filed { IsFiled holds.new }

@@ -5,7 +5,9 @@ ghost use Rattle.std.specs.Prelude.{◌≡◌};
 ghost use Rattle.hold_book.specs.Books.{hold_number};
 
 mod book;
+mod entries;
 mod filed;
+mod slots;
 
 pub use book::HoldBook;
 use sorted_multimap::Numbered;

@@ -1,17 +1,21 @@
-use Rattle.std.proofs.Common.{◌∙◌, Bool, cond, ap}
+use Rattle.std.proofs.Common.{◌∙◌, ap, cond, Bool}
 use Rattle.hold_book.specs.Books.{shown, accessed}
+use Rattle.hold_book.proofs.Entering.{edited_lent}
 use Rattle.hold_book.proofs.Cells.{same_itself}
 use Rattle.hold_book.proofs.Holders.{stands_got, stands_put}
 use Rattle.hold_book.proofs.book.HoldBook.access.Goals as goal
 
 pub returns-clause-here : goal.returns-clause-here
 returns-clause-here c =
-    let x = c.args.cell in
-    let old = shown c.args.self.now x in
-    c.put_in.ensures.holds x ∙ (λ j. let hs = shown (c.self.view_is j) x in cond (same_itself x j) (accessed c.args.t c.args.wrote hs) hs)
+    let hs = shown c.args.self.now c.args.cell in
+    edited_lent c.args.cell c.args.self.now c.self.inside.slots c.deref_mut.result.now c.access_in.new.slots c.self.inside.others c.access_in.new.others c.self.inside.spare (accessed c.args.t c.args.wrote) c.self.view_is c.deref_mut.ensures.value (c.access_in.ensures.len ∙ c.deref_mut.ensures.len) c.access_in.ensures.holds c.args.cell
+    ∙ ap (λ (b : Bool). cond b (accessed c.args.t c.args.wrote hs) hs) (same_itself c.args.cell)
 
 pub returns-clause-elsewhere : goal.returns-clause-elsewhere
-returns-clause-elsewhere c y e = c.put_in.ensures.holds y ∙ (λ j. let hs = shown (c.self.view_is j) y in cond (e j) (accessed c.args.t c.args.wrote hs) hs)
+returns-clause-elsewhere c y e =
+    let hs = shown c.args.self.now y in
+    edited_lent c.args.cell c.args.self.now c.self.inside.slots c.deref_mut.result.now c.access_in.new.slots c.self.inside.others c.access_in.new.others c.self.inside.spare (accessed c.args.t c.args.wrote) c.self.view_is c.deref_mut.ensures.value (c.access_in.ensures.len ∙ c.deref_mut.ensures.len) c.access_in.ensures.holds y
+    ∙ ap (λ (b : Bool). cond b (accessed c.args.t c.args.wrote hs) hs) e
 
 pub returns-clause-got : goal.returns-clause-got
 returns-clause-got c S P n w v read m stood =

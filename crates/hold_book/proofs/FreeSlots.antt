@@ -1,0 +1,17 @@
+-- Slots in which nothing lies.
+use Rattle.std.proofs.Common.{◌≡◌, ◌<◌, ℕ, zero, suc, List, [], ◌∷◌, ◌++◌, take, replicate, length, get_or, refl, ◌∙◌, ap, arith}
+use Rattle.std.proofs.lemmas.List.{take_all}
+
+none_more : {A : Type 0} (d : A) (n i : ℕ) → get_or (replicate n d) i d ≡ d
+none_more d zero i = refl
+none_more d (suc n) zero = refl
+none_more d (suc n) (suc i) = none_more d n i
+
+more_slots : {A : Type 0} (d : A) (ss : List A) (n i : ℕ) → get_or (ss ++ replicate n d) i d ≡ get_or ss i d
+more_slots d [] n i = none_more d n i
+more_slots d (s ∷ ss) n zero = refl
+more_slots d (s ∷ ss) n (suc i) = more_slots d ss n i
+
+-- further slots are free ones
+pub resized : {A : Type 0} (d : A) (ss : List A) (m n i : ℕ) → length ss < m → get_or (take m ss ++ replicate n d) i d ≡ get_or ss i d
+resized {A} d ss m n i l = ap (λ (ts : List A). get_or (ts ++ replicate n d) i d) (take_all m ss (omega (arith, l))) ∙ more_slots d ss n i
