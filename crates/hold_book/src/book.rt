@@ -52,7 +52,7 @@ impl HoldBook {
     {
         HoldBook {
             slots: Vec::new(alloc),
-            others: Multimap::narrow(alloc),
+            others: Multimap::small(alloc),
             spare: 0,
         }
     }

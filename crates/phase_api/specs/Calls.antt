@@ -1,12 +1,12 @@
 -- The conditions of the calls of a control.
-use Rattle.std.specs.Prelude.{◌≡◌, ◌<◌, ◌∷◌, ◌||◌, ℕ, suc, Bool, true, false, List, IsTrue, IsFalse, is_some, drop}
+use Rattle.std.specs.Prelude.{◌≡◌, ◌<◌, ◌∷◌, ◌||◌, ℕ, suc, List, IsTrue, IsFalse, is_some, drop}
 use Rattle.teb_names.specs.declared.Cell.{Cell}
 use Rattle.teb_history.specs.declared.Event.{Event}
 use Rattle.teb_history.specs.declared.Event.TheVariants.{Began, Got, Put, Ready, Done, Gone, Told}
 use Rattle.teb_history.specs.Phases.{begun_count, unfinished, prepared, aborted, kind_of}
 use Rattle.teb_history.specs.Accesses.{wrote}
 use Rattle.teb_rules.specs.Setup.{Setup, profile}
-use Rattle.teb_rules.specs.Tree.{row, on, on_path, meets}
+use Rattle.teb_rules.specs.Tree.{on, on_path, meets}
 use Rattle.teb_rules.specs.Steps.{least_step, cursor}
 use Rattle.teb_rules.specs.declared.Verdict.TheVariants.{Go}
 use Rattle.teb_rules.specs.Stops.{on_begin}

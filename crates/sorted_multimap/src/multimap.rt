@@ -14,7 +14,7 @@ use std::alloc::{AllocError, Global};
 use std::marker::Model;
 
 // How many buckets there are for some hundred values.
-const BUCKETS: usize = 64;
+const BUCKETS: usize = 32;
 
 // Among how many buckets the keys are spread.
 #[derive(Clone, Copy)]
@@ -65,7 +65,7 @@ impl<K: Key, V: Copy> Model for Multimap<K, V> {
 }
 
 impl<K: Key, V: Copy> Multimap<K, V> {
-    /// No values, and no room, for some hundred values: in 64 buckets, so that each has a few values. Takes no memory.
+    /// No values, and no room, for some hundred values: in 32 buckets, so that each has a few values. Takes no memory.
     pub fn small(alloc: Global) -> Self
         ensures entries { result.entries ≡ [] }
         ensures spare { result.spare ≡ 0 }
