@@ -163,12 +163,16 @@ impl Predecessors {
     }
 }
 
-// Whether t is the only holder. Nobody is in its way then: its own hold never is. It costs two comparisons.
+// Whether nobody but t holds. Nobody is in its way then: its own hold never is. It costs two comparisons.
 #[inline(always)]
 fn is_alone(holds: &[Hold], t: Txn) -> bool
     ensures { IsTrue result → All (λ h. h.txn.0 ≡ t.0) holds.now }
 {
-    matches!(holds, [only] if only.txn == t)
+    match holds {
+        [] => true,
+        [only] => only.txn == t,
+        _ => false,
+    }
 }
 
 // Puts the holders that are in the way of an access into the list of the transaction that accesses. Whether there are any.
