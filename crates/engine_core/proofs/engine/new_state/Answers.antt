@@ -1,4 +1,4 @@
-use Rattle.std.proofs.Common.{◌∙◌, subst}
+use Rattle.std.proofs.Common.{subst}
 use Rattle.teb_history.specs.Written.{Written}
 use Rattle.teb_rules.specs.Setup.{Setup}
 use Rattle.phase_api.specs.FactsView.{setup_of}
