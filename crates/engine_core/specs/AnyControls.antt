@@ -31,7 +31,7 @@ any_spare (Snapshot c) = snapshot_spare c
 
 -- the history for which it stands is orderly
 pub any_orderly : (c : AnyControl) (S : Setup) (H : List Event) → any_stands c S H → IsOrderly S H
-any_orderly (Locks c) S H s = s.register.orderly
-any_orderly (Pipeline c) S H s = s.register.orderly
+any_orderly (Locks c) S H s = s.register.book.orderly
+any_orderly (Pipeline c) S H s = s.register.book.orderly
 any_orderly (Timestamp c) S H s = s.orderly
 any_orderly (Snapshot c) S H s = s.register.orderly
