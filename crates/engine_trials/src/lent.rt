@@ -154,10 +154,19 @@ fn write_stamps(text: &mut String, facts: &Facts, stamps: &Stamps) -> Result<(),
     Ok(())
 }
 
-/// Whether the first report sees what the first and the second sale have put, at a snapshot node.
+/// The committed writers of each cell, and whether the first report sees what the first and the second sale have put, at a snapshot node.
 fn write_snapshot(text: &mut String, facts: &Facts, snapshot: &Snapshot) -> Result<(), AllocError>
     requires { SnapshotStandsFor snapshot.now (setup_of facts.now) (events_of facts.now) }
 {
+    for cell in CELLS {
+        writeln!(
+            text,
+            "committed {}.{}: {:?}",
+            cell.table.0,
+            cell.key,
+            snapshot.committed(facts, cell)
+        )?;
+    }
     for writer in [Txn(1), Txn(3)] {
         if may_ask(facts, snapshot, FIRST_REPORT, writer, SOLD) {
             let sees = snapshot.sees(facts, FIRST_REPORT, writer, SOLD);
