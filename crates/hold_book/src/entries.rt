@@ -8,13 +8,36 @@ ghost use Rattle.hold_book.specs.Slots.{only_hold as spec_only_hold};
 
 use crate::Hold;
 use crate::filed::{put_in, take_out};
-use crate::slots::{Alone, clear, is_free, only_hold, take};
+use crate::slots::{Alone, clear, only_hold, take, take_free};
 use sorted_multimap::Multimap;
 use teb_names::{Cell, Txn};
 
 /// A transaction has accessed a cell, and has put it where `wrote` is true. A cell that nobody holds goes to its slot, where that is free.
 #[inline(always)]
 pub(crate) fn access_in(
+    slots: &mut [Option<Alone>],
+    others: &mut Multimap<Cell, Hold>,
+    cell: Cell,
+    t: Txn,
+    wrote: bool,
+)
+    requires made { 1024 ≤ length slots.old }
+    requires apart { IsApart slots.old others.old }
+    requires room { 2 ≤ others.old.spare }
+    ensures apart { IsApart slots.new others.new }
+    ensures holds { (x : Cell) → shown_in slots.new others.new x ≡ cond (same_cell cell x) (accessed t wrote (shown_in slots.old others.old x)) (shown_in slots.old others.old x) }
+    ensures len { length slots.new ≡ length slots.old }
+    ensures spare { others.old.spare ≤ others.new.spare + 2 }
+{
+    if others.list(cell).is_empty() && take_free(slots, cell, Hold { txn: t, wrote }) {
+        return;
+    }
+    access_taken(slots, others, cell, t, wrote);
+}
+
+/// The same for a cell that is held, or whose slot has another.
+#[inline(never)]
+fn access_taken(
     slots: &mut [Option<Alone>],
     others: &mut Multimap<Cell, Hold>,
     cell: Cell,
@@ -38,13 +61,7 @@ pub(crate) fn access_in(
                 share(slots, others, cell, hold, t, wrote);
             }
         }
-        None => {
-            if is_free(slots, cell) && others.list(cell).is_empty() {
-                take(slots, cell, Hold { txn: t, wrote });
-            } else {
-                put_in(others, cell, t, wrote);
-            }
-        }
+        None => put_in(others, cell, t, wrote),
     }
 }
 

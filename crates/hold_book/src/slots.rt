@@ -1,6 +1,6 @@
 //! Slots, in which cells lie that one transaction alone holds.
 
-ghost use Rattle.std.specs.Prelude.{◌≡◌, ◌<◌, ◌≤◌, ℕ, [], cond, length, Some, None, IsTrue, OnOk};
+ghost use Rattle.std.specs.Prelude.{◌≡◌, ◌<◌, ◌≤◌, ℕ, [], cond, length, Some, None, IsTrue, IsFalse, OnOk};
 ghost use Rattle.std.specs.Option.{is_some, is_none};
 ghost use Rattle.teb_names.specs.declared.Cell.{Cell};
 ghost use Rattle.teb_names.specs.Cells.{same_cell};
@@ -63,15 +63,6 @@ pub(crate) fn only_list(slots: &[Option<Alone>], cell: Cell) -> &[Hold]
     }
 }
 
-/// Whether no cell lies in the slot of a cell.
-#[inline(always)]
-pub(crate) fn is_free(slots: &[Option<Alone>], cell: Cell) -> bool
-    requires { 1024 ≤ length slots.now }
-    ensures { result ≡ is_none (slot_at slots.now cell) }
-{
-    slots[slot_of(cell)].is_none()
-}
-
 /// Puts a cell into its slot, with the only hold on it.
 #[inline(always)]
 pub(crate) fn take(slots: &mut [Option<Alone>], cell: Cell, hold: Hold)
@@ -81,6 +72,23 @@ pub(crate) fn take(slots: &mut [Option<Alone>], cell: Cell, hold: Hold)
     ensures len { length slots.new ≡ length slots.old }
 {
     slots[slot_of(cell)] = Some(Alone { cell, hold });
+}
+
+/// Puts a cell into its slot, with the only hold on it, where the slot is free. Whether it was.
+#[inline(always)]
+pub(crate) fn take_free(slots: &mut [Option<Alone>], cell: Cell, hold: Hold) -> bool
+    requires { 1024 ≤ length slots.old }
+    ensures free { result ≡ is_none (slot_at slots.old cell) }
+    ensures holds { IsTrue result → (x : Cell) → spec_only_hold slots.new x ≡ cond (same_cell cell x) (Some hold) (spec_only_hold slots.old x) }
+    ensures kept { IsFalse result → slots.new ≡ slots.old }
+    ensures len { length slots.new ≡ length slots.old }
+{
+    let slot = slot_of(cell);
+    if slots[slot].is_some() {
+        return false;
+    }
+    slots[slot] = Some(Alone { cell, hold });
+    true
 }
 
 /// Takes a cell out of its slot.
