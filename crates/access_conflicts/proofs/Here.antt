@@ -1,5 +1,5 @@
 -- Whether a node is on the path of a transaction, as it is told from its Began on.
-use Rattle.std.proofs.Common.{◌≡◌, ◌≢◌, ◌⊎◌, ℕ, ℤ, zero, suc, ◌-◌, ◌<◌, ◌≤◌, ◌+◌, Bool, true, false, cond, eqb, List, Option, [], ◌∷◌, ◌++◌, length, get_or, drop, refl, sym, ◌∙◌, ap, subst, arith, inl, inr, IsTrue, length-append}
+use Rattle.std.proofs.Common.{◌≡◌, ◌⊎◌, ℕ, ℤ, zero, suc, ◌<◌, ◌≤◌, Bool, true, false, eqb, List, Option, [], ◌∷◌, ◌++◌, length, drop, refl, sym, ◌∙◌, ap, subst, arith, inl, inr, IsTrue, length-append}
 use Rattle.std.proofs.lemmas.Bool.{ne_eqb, eq-eqb, cases_lt, or_left}
 use Rattle.teb_history.proofs.Newest.{begun-cons}
 use Rattle.std.proofs.lemmas.List.{get_or_append_left, get_or_push}
@@ -79,11 +79,14 @@ module _ (S : Setup) (H : List Event) (n : ℕ) (e : Event) (i : H ≡ e ∷ dro
   told_now : (t : ℕ) → begins e ≡ false → IsTrue (unfinished (drop 1 H) t) → is_here here t ≡ on S H n t
   told_now t q u = here_told S (drop 1 H) n here a t o u ∙ sym (on_kept S (drop 1 H) n t e q) ∙ ap (λ (G : List Event). on S G n t) (sym i)
 
-  pub told_got : (t : Txn) (x : Cell) (w : Txn) (v : Option ℤ) → e ≡ Got t x w v → is_here here t.0 ≡ on S H n t.0
-  told_got t x w v q = told_now t.0 (ap begins q) (subst (λ (d : Event). MayNote S (drop 1 H) n d) q m).0
+  pub told_access : (t : Txn) (x : Cell) → (((w : Txn) × (v : Option ℤ) × (e ≡ Got t x w v)) ⊎ ((v : Option ℤ) × (e ≡ Put t x v))) → is_here here t.0 ≡ on S H n t.0
+  told_access t x q = elim q [
+    | inl g ↦ told_now t.0 (ap begins g.2) (subst (λ (d : Event). MayNote S (drop 1 H) n d) g.2 m).0
+    | inr p ↦ told_now t.0 (ap begins p.1) (subst (λ (d : Event). MayNote S (drop 1 H) n d) p.1 m).0
+  ]
 
-  pub told_put : (t : Txn) (x : Cell) (v : Option ℤ) → e ≡ Put t x v → is_here here t.0 ≡ on S H n t.0
-  told_put t x v q = told_now t.0 (ap begins q) (subst (λ (d : Event). MayNote S (drop 1 H) n d) q m).0
+  pub here_access : (t : Txn) (x : Cell) → (((w : Txn) × (v : Option ℤ) × (e ≡ Got t x w v)) ⊎ ((v : Option ℤ) × (e ≡ Put t x v))) → AreHere here S H n
+  here_access t x q = elim q [ inl g ↦ here_now (ap begins g.2) | inr p ↦ here_now (ap begins p.1) ]
 
   pub told_end : (t : Txn) → ((e ≡ Done t) ⊎ ((c : Cause) × (e ≡ Gone t c))) → is_here here t.0 ≡ on S H n t.0
   told_end t q = elim q [

@@ -1,6 +1,7 @@
 -- For what the register of a node stands.
-use Rattle.std.specs.Prelude.{◌≡◌, ◌<◌, ◌≤◌, ◌-◌, ℕ, zero, suc, min, Bool, false, List, length, get_or, vec_len, vec_capacity}
+use Rattle.std.specs.Prelude.{◌≡◌, ◌<◌, ◌≤◌, ◌-◌, ℕ, zero, suc, min, Bool, true, false, List, length, get_or, vec_len, vec_capacity}
 use Rattle.teb_history.specs.declared.Event.{Event}
+use Rattle.teb_history.specs.declared.Event.TheVariants.{Put}
 use Rattle.teb_history.specs.Phases.{begun_count}
 use Rattle.teb_rules.specs.Setup.{Setup}
 use Rattle.teb_rules.specs.Tree.{on}
@@ -32,3 +33,8 @@ pub record Registered (r : HoldRegister) (S : Setup) (H : List Event) : Type 0 w
 -- for how many events it has room
 abbrev pub register_spare : HoldRegister → ℕ
 register_spare r = min r.book.spare (vec_capacity r.here - vec_len r.here)
+
+-- whether an event puts
+abbrev pub puts : Event → Bool
+puts (Put t x v) = true
+puts _ = false

@@ -1,12 +1,13 @@
 //! The register of a node.
 
-ghost use Rattle.std.specs.Prelude.{◌≡◌, ◌<◌, ◌≤◌, ◌+◌, [], List, drop, OnOk};
+ghost use Rattle.std.specs.Prelude.{◌≡◌, ◌<◌, ◌≤◌, ◌+◌, [], ◌∷◌, ◌++◌, List, drop, OnOk};
 ghost use Rattle.teb_history.specs.declared.Event.{Event};
 ghost use Rattle.teb_rules.specs.Setup.{Setup};
-ghost use Rattle.phase_api.specs.FactsView.{setup_of, events_of};
+ghost use Rattle.teb_rules.specs.Tree.{on};
+ghost use Rattle.phase_api.specs.FactsView.{IsTyped, setup_of, events_of};
 ghost use Rattle.phase_api.specs.Calls.{IsNewest};
 ghost use Rattle.hold_book.specs.Holders.{holds_in};
-ghost use Rattle.access_conflicts.specs.Registered.{Registered, is_here, register_spare};
+ghost use Rattle.access_conflicts.specs.Registered.{Registered, is_here, register_spare, puts};
 
 use hold_book::{Hold, HoldBook};
 use phase_api::Facts;
@@ -66,18 +67,10 @@ impl HoldRegister {
         ensures spare { register_spare self.old ≤ register_spare self.new + 1 }
     {
         match e {
-            Event::Began { txn, .. } => {
-                let here = facts.is_on(self.node, txn);
-                self.here.push_reserved(here);
-            }
-            Event::Got { txn, cell, .. } => {
+            Event::Began { txn, .. } => self.begin(facts, txn),
+            Event::Got { txn, cell, .. } | Event::Put { txn, cell, .. } => {
                 if is_here(&self.here, txn) {
-                    self.book.access(txn, cell, false);
-                }
-            }
-            Event::Put { txn, cell, .. } => {
-                if is_here(&self.here, txn) {
-                    self.book.access(txn, cell, true);
+                    self.book.access(txn, cell, is_put(e));
                 }
             }
             Event::Done(txn) | Event::Gone { txn, .. } => {
@@ -87,6 +80,20 @@ impl HoldRegister {
             }
             Event::Ready(_) | Event::Told(_) => {}
         }
+    }
+
+    // Notes a transaction that has begun.
+    #[inline(never)]
+    fn begin(&mut self, facts: &Facts, txn: Txn)
+        requires typed { IsTyped facts.now txn.0 }
+        requires room { 0 < register_spare self.old }
+        ensures here { self.new.here.items ≡ self.old.here.items ++ on (setup_of facts.now) (events_of facts.now) self.old.node.0 txn.0 ∷ [] }
+        ensures book { self.new.book ≡ self.old.book }
+        ensures node { self.new.node ≡ self.old.node }
+        ensures spare { register_spare self.old ≤ register_spare self.new + 1 }
+    {
+        let here = facts.is_on(self.node, txn);
+        self.here.push_reserved(here);
     }
 
     /// Who holds a cell: the unfinished transactions on whose path the node stands that have accessed it, in ascending number.
@@ -105,9 +112,14 @@ impl HoldRegister {
 fn is_here(here: &[bool], t: Txn) -> bool
     ensures { result ≡ is_here here.now t.0 }
 {
-    if t.0 == 0 {
-        return false;
-    }
-    let i = t.0 as usize - 1;
-    if i < here.len() { here[i] } else { false }
+    let i = (t.0 as usize).wrapping_sub(1);
+    i < here.len() && here[i]
+}
+
+// Whether an event is a Put.
+#[inline(always)]
+fn is_put(e: Event) -> bool
+    ensures { result ≡ puts e }
+{
+    matches!(e, Event::Put { .. })
 }
