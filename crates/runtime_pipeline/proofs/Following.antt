@@ -443,6 +443,11 @@ put_unfinished : (P : List Event) (t : Txn) (x : Cell) (v : Option ℤ) → unfi
 unfolding txns begun_count
 put_unfinished P t x v = λ j. map numbered (filter (λ u. unfinished_same (Put t x v) P u refl refl refl j) (numbers (begun_count P)))
 
+-- the event is a Put
+abbrev pub is_put : Event → Bool
+is_put (Put t x v) = true
+is_put _ = false
+
 -- the newest event of a history
 module _ (S : Setup) (H : List Event) (n : ℕ) (e : Event) (i : H ≡ e ∷ drop 1 H) (m : MayNote S (drop 1 H) n e) (o : IsOrderly S (drop 1 H)) (k : Kept) (was : PredecessorsOf k S (drop 1 H) n) where
   may : (d : Event) → e ≡ d → MayNote S (drop 1 H) n d
@@ -481,11 +486,11 @@ module _ (S : Setup) (H : List Event) (n : ℕ) (e : Event) (i : H ≡ e ∷ dro
     abbrev pub Accessed : Kept → Bool → List Event → Type 0
     Accessed k' write G = (v : Txn) → list_of k' v ≡ cond (eqb t.0 v.0) (joined (in_the_way S G n t.0 write) (holds_in S G n x) (list_of k v)) (list_of k v)
 
-    pub got_next : (k' : Kept) (w : Txn) (v : Option ℤ) → e ≡ Got t x w v → k'.unfinished ≡ k.unfinished → Accessed k' false H → PredecessorsOf k' S H n
+    got_next : (k' : Kept) (w : Txn) (v : Option ℤ) → e ≡ Got t x w v → k'.unfinished ≡ k.unfinished → Accessed k' false H → PredecessorsOf k' S H n
     got_next k' w v q same lists =
         now k' (Got t x w v) q (noted_got S (drop 1 H) n t x w v k k' (may (Got t x w v) q).0 same (subst (λ (G : List Event). Accessed k' false G) (is_now (Got t x w v) q) lists) was)
 
-    pub put_next : (k' : Kept) (v : Option ℤ) → e ≡ Put t x v → k'.unfinished ≡ k.unfinished → Accessed k' true H → PredecessorsOf k' S H n
+    put_next : (k' : Kept) (v : Option ℤ) → e ≡ Put t x v → k'.unfinished ≡ k.unfinished → Accessed k' true H → PredecessorsOf k' S H n
     put_next k' v q same lists =
         now k' (Put t x v) q (noted_put S (drop 1 H) n t x v k k' (may (Put t x v) q).0 same (subst (λ (G : List Event). Accessed k' true G) (is_now (Put t x v) q) lists) was)
 
@@ -495,8 +500,21 @@ module _ (S : Setup) (H : List Event) (n : ℕ) (e : Event) (i : H ≡ e ∷ dro
         let s = ap (λ (us : List Txn). length us) (ap unfinished_in (is_now d q) ∙ same) in
         omega (arith, was.counted)
 
-    pub got_few : (w : Txn) (v : Option ℤ) → e ≡ Got t x w v → length (holds_in S H n x) ≤ k.unfinished
+    got_few : (w : Txn) (v : Option ℤ) → e ≡ Got t x w v → length (holds_in S H n x) ≤ k.unfinished
     got_few w v q = few (Got t x w v) q (got_unfinished (drop 1 H) t x w v)
 
-    pub put_few : (v : Option ℤ) → e ≡ Put t x v → length (holds_in S H n x) ≤ k.unfinished
+    put_few : (v : Option ℤ) → e ≡ Put t x v → length (holds_in S H n x) ≤ k.unfinished
     put_few v q = few (Put t x v) q (put_unfinished (drop 1 H) t x v)
+
+    -- the event is an access of t to x
+    abbrev pub IsAccess : Type 0
+    IsAccess = ((w : Txn) × (v : Option ℤ) × (e ≡ Got t x w v)) ⊎ ((v : Option ℤ) × (e ≡ Put t x v))
+
+    pub access_next : (k' : Kept) → IsAccess → k'.unfinished ≡ k.unfinished → Accessed k' (is_put e) H → PredecessorsOf k' S H n
+    access_next k' a same lists = elim a [
+      | inl q ↦ got_next k' q.0 q.1 q.2 same (subst (λ (b : Bool). Accessed k' b H) (ap is_put q.2) lists)
+      | inr q ↦ put_next k' q.0 q.1 same (subst (λ (b : Bool). Accessed k' b H) (ap is_put q.1) lists)
+    ]
+
+    pub access_few : IsAccess → length (holds_in S H n x) ≤ k.unfinished
+    access_few a = elim a [ inl q ↦ got_few q.0 q.1 q.2 | inr q ↦ put_few q.0 q.1 ]

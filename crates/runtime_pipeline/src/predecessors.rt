@@ -103,16 +103,11 @@ impl Predecessors {
     {
         match e {
             Event::Began { .. } => self.begin(),
-            Event::Got { txn, cell, .. } => {
+            Event::Got { txn, cell, .. } | Event::Put { txn, cell, .. } => {
                 let holds = register.holds(facts, cell);
                 if !is_alone(holds, txn) {
-                    self.access(facts, register.node(), txn, holds, false);
-                }
-            }
-            Event::Put { txn, cell, .. } => {
-                let holds = register.holds(facts, cell);
-                if !is_alone(holds, txn) {
-                    self.access(facts, register.node(), txn, holds, true);
+                    let write = matches!(e, Event::Put { .. });
+                    self.access(facts, register.node(), txn, holds, write);
                 }
             }
             Event::Done(txn) | Event::Gone { txn, .. } => self.finish(txn),

@@ -3,7 +3,7 @@ use Rattle.teb_names.specs.declared.Node.{Node}
 use Rattle.teb_names.specs.declared.ControlKind.TheVariants.{Pipeline}
 use Rattle.teb_history.specs.declared.Event.{Event}
 use Rattle.teb_rules.specs.Tree.{row}
-use Rattle.phase_api.specs.FactsView.{setup_of, events_of}
+use Rattle.phase_api.specs.FactsView.{setup_of}
 use Rattle.access_conflicts.specs.Registered.{Registered}
 use Rattle.cursor_book.specs.Cursors.{CursorsOf}
 use Rattle.cursor_book.proofs.Moves.{cursors_none}
