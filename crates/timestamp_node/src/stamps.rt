@@ -1,7 +1,7 @@
 //! The control of a timestamp node: versions stand in the order in which batches start, and a write that comes too late for a
 //! read breaks.
 
-ghost use Rattle.std.specs.Prelude.{◌≡◌, ◌⊎◌, ◌||◌, ◌&&◌, ◌<◌, [], IfOk, IsTrue, List, eqb, ltb, find};
+ghost use Rattle.std.specs.Prelude.{◌≡◌, ◌⊎◌, ◌||◌, ◌&&◌, ◌<◌, ◌≤◌, ◌+◌, [], IfOk, IsTrue, List, drop, eqb, length, ltb, find};
 ghost use Rattle.teb_names.specs.declared.ControlKind.TheVariants.{Timestamp as IsTimestamp};
 ghost use Rattle.teb_history.specs.declared.Event.{Event};
 ghost use Rattle.teb_history.specs.Phases.{txns, unfinished};
@@ -18,6 +18,7 @@ ghost use Rattle.phase_api.specs.Versions.{HoldsVersions, IsPlaceOf, SourcesStan
 ghost use Rattle.timestamp_node.specs.Reads.{reads};
 ghost use Rattle.timestamp_node.specs.Late.{is_after, lesser_txn};
 ghost use Rattle.timestamp_node.specs.Standing.{StampsStand};
+ghost use Rattle.timestamp_node.specs.Controls.{HasBegun, StampsStandFor, stamps_spare};
 
 use crate::reads::{forget_reads, push_read};
 use access_conflicts::wait_for;
@@ -127,6 +128,22 @@ impl Stamps {
             && is_at_most(chains, at, t, cell, writer)
     }
 
+    // Notes the Began of a transaction at position `at`, the newest event: where the node is on its path, it joins a batch.
+    #[inline(never)]
+    fn begin(&mut self, facts: &Facts, txn: Txn, at: usize)
+        requires newest { HasBegun facts.now self.old.node.0 txn }
+        requires stands { StampsStandFor self.old (setup_of facts.now) (drop 1 (events_of facts.now)) }
+        requires room { 0 < self.old.batches.spare }
+        requires at { at ≡ length (drop 1 (events_of facts.now)) }
+        ensures stands { StampsStandFor self.new (setup_of facts.now) (events_of facts.now) }
+        ensures node { self.new.node ≡ self.old.node }
+        ensures spare { stamps_spare self.old ≤ stamps_spare self.new + 1 }
+    {
+        if facts.is_on(self.node, txn) {
+            self.batches.join(facts.side(self.node, txn), txn, at);
+        }
+    }
+
     // Whether an unfinished transaction that meets t here started before it.
     fn holds_back(&self, facts: &Facts, t: Txn, u: Txn) -> bool
         requires stands { StampsStand self.now.node.0 self.now.ordered self.now.batches self.now.reads (setup_of facts.now) (events_of facts.now) }
@@ -188,11 +205,7 @@ impl Control for Stamps {
     fn note(&mut self, facts: &Facts, e: Event) {
         let at = facts.history.len() - 1;
         match e {
-            Event::Began { txn, .. } => {
-                if facts.is_on(self.node, txn) {
-                    self.batches.join(facts.side(self.node, txn), txn, at);
-                }
-            }
+            Event::Began { txn, .. } => self.begin(facts, txn, at),
             Event::Got {
                 txn,
                 cell,

@@ -1,63 +1,24 @@
-use Rattle.std.proofs.Common.{◌≡◌, ◌∙◌, ◌-◌, ◌∷◌, ℕ, List, drop, length, sym, ap, subst, refl, inl, inr, eq-eqb}
+use Rattle.std.proofs.Common.{◌≡◌, ◌∙◌, ◌-◌, ◌∷◌, ℕ, List, length, sym, subst, refl, inl, inr}
 use Rattle.teb_history.specs.declared.Event.{Event}
-use Rattle.teb_history.specs.Phases.{is_began}
 use Rattle.teb_rules.specs.Setup.{Setup}
 use Rattle.phase_api.specs.FactsView.{setup_of, events_of}
-use Rattle.phase_api.specs.Calls.{MayNote}
-use Rattle.access_conflicts.proofs.Noting.{typed_now}
+use Rattle.phase_api.specs.Calls.{IsNewest}
 use Rattle.batch_book.specs.Histories.{BatchesOf, MayCome, Finishes}
-use Rattle.batch_book.proofs.Telling.{next_new}
 use Rattle.timestamp_node.specs.declared.stamps.Stamps.{Stamps}
 use Rattle.timestamp_node.specs.Standing.{StampsStand}
-use Rattle.timestamp_node.proofs.Noting.{at_end, orderly_now, begun_now, began_on, began_off, got_on, got_off, done, gone_read, gone_on, gone_off, put, readied, told}
+use Rattle.timestamp_node.proofs.Noting.{at_end, got_on, got_off, done, gone_read, gone_on, gone_off, put, readied, told}
 use Rattle.timestamp_node.proofs.stamps.StampsControl.note.Goals as goal
 use Rattle.timestamp_node.proofs.stamps.StampsControl.note.Goals.{then-has-2, else-has-2}
 
-pub is_on-requires : goal.is_on-requires
-is_on-requires c =
-    let S = setup_of c.args.facts.now in
-    let H = events_of c.args.facts.now in
-    let n = c.args.self.now.node.0 in
-    let is = c.requires.newest.is in
-    let may = c.requires.newest.may in
-    typed_now c.args.facts.now c.in-Began.txn.0 (orderly_now S H n c.args.e is may c.requires.stands.orderly) (begun_now S H n c.args.e is may c.in-Began.txn.0 (ap (is_began c.in-Began.txn.0) c.in-Began.is ∙ eq-eqb c.in-Began.txn.0 c.in-Began.txn.0 refl))
+pub begin-requires-clause-newest : goal.begin-requires-clause-newest
+begin-requires-clause-newest c =
+    let f = c.args.facts.now in
+    let now = subst (λ (d : Event). IsNewest f d c.args.self.now.node.0) c.in-Began.is c.requires.newest in
+    (c.in-Began.session, c.in-Began.kind, c.in-Began.instance, now)
 
-pub side-requires-clause-typed : goal.side-requires-clause-typed
-side-requires-clause-typed c =
-    let S = setup_of c.args.facts.now in
-    let H = events_of c.args.facts.now in
-    let n = c.args.self.now.node.0 in
-    let is = c.requires.newest.is in
-    let may = c.requires.newest.may in
-    typed_now c.args.facts.now c.in-Began.txn.0 (orderly_now S H n c.args.e is may c.requires.stands.orderly) (begun_now S H n c.args.e is may c.in-Began.txn.0 (ap (is_began c.in-Began.txn.0) c.in-Began.is ∙ eq-eqb c.in-Began.txn.0 c.in-Began.txn.0 refl))
-
-pub join-requires-clause-new : goal.join-requires-clause-new
-join-requires-clause-new c =
-    let S = setup_of c.args.facts.now in
-    let H = events_of c.args.facts.now in
-    let n = c.args.self.now.node.0 in
-    let is = c.requires.newest.is in
-    let may = c.requires.newest.may in
-    next_new c.args.self.now.batches S (drop 1 H) n c.in-Began.txn.0 c.requires.stands.batches (subst (λ (d : Event). MayNote S (drop 1 H) n d) c.in-Began.is may).0
-
-pub returns-then-is_on-clause-stands : goal.returns-then-is_on-clause-stands
-returns-then-is_on-clause-stands c =
-    let S = setup_of c.args.facts.now in
-    let H = events_of c.args.facts.now in
-    let n = c.args.self.now.node.0 in
-    let is = c.requires.newest.is in
-    let may = c.requires.newest.may in
-    began_on S H n c.args.e is may c.args.self.now.ordered c.args.self.now.batches c.args.self.now.reads c.requires.stands c.in-Began.txn c.in-Began.session c.in-Began.kind c.in-Began.instance c.in-Began.is (sym c.is_on.ensures ∙ c.if-is_on.true) c.join.new.self c.side.result (c.len-at.result - 1) c.side.ensures
-    (at_end S H n c.args.e is may (c.len-at.result - 1) c.len-at.result c.len-at.ensures refl) c.join.ensures.size c.join.ensures.batches
-
-pub returns-else-is_on-clause-stands : goal.returns-else-is_on-clause-stands
-returns-else-is_on-clause-stands c =
-    let S = setup_of c.args.facts.now in
-    let H = events_of c.args.facts.now in
-    let n = c.args.self.now.node.0 in
-    let is = c.requires.newest.is in
-    let may = c.requires.newest.may in
-    began_off S H n c.args.e is may c.args.self.now.ordered c.args.self.now.batches c.args.self.now.reads c.requires.stands c.in-Began.txn c.in-Began.session c.in-Began.kind c.in-Began.instance c.in-Began.is (sym c.is_on.ensures ∙ c.if-is_on.false)
+pub begin-requires-clause-at : goal.begin-requires-clause-at
+begin-requires-clause-at c =
+    at_end (setup_of c.args.facts.now) (events_of c.args.facts.now) c.args.self.now.node.0 c.args.e c.requires.newest.is c.requires.newest.may (c.len-at.result - 1) c.len-at.result c.len-at.ensures refl
 
 pub returns-then-has-clause-stands : goal.returns-then-has-clause-stands
 returns-then-has-clause-stands c =
