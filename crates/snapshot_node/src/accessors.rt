@@ -12,7 +12,6 @@ use teb_names::{Cell, Txn};
 
 /// Puts a transaction among the accessors of a cell, in ascending number, unless it is there. It takes one place of the room at
 /// the most.
-#[inline(always)]
 pub(crate) fn put_in(accessors: &mut ArenaMultimap<Cell, Txn>, cell: Cell, t: Txn)
     requires filed { AreFiled accessors.old }
     requires room { 0 < accessors.old.spare }

@@ -1,14 +1,14 @@
 //! What a snapshot control keeps of a history: the batches of its node, and the readers, the writers and the committed writers of
 //! each cell.
 
-ghost use Rattle.std.specs.Prelude.{◌≡◌, ◌<◌, ◌≤◌, ◌+◌, [], List, drop, IfOk, OnOk};
+ghost use Rattle.std.specs.Prelude.{◌≡◌, ◌<◌, ◌≤◌, ◌+◌, [], List, drop, length, IfOk, OnOk};
 ghost use Rattle.teb_names.specs.declared.ControlKind.TheVariants.{Snapshot as IsSnapshot};
 ghost use Rattle.teb_history.specs.declared.Event.{Event};
 ghost use Rattle.teb_rules.specs.Setup.{Setup};
 ghost use Rattle.teb_rules.specs.Tree.{row};
 ghost use Rattle.phase_api.specs.FactsView.{setup_of, events_of};
 ghost use Rattle.phase_api.specs.Calls.{IsNewest};
-ghost use Rattle.snapshot_node.specs.Stood.{CommittedStands, RegisterStands, StandsFor, room_of};
+ghost use Rattle.snapshot_node.specs.Stood.{CommittedStands, HasBegun, RegisterStands, StandsFor, room_of};
 
 use crate::accessors::{forget_puts, forget_reads, put_in};
 use crate::committed::Committed;
@@ -75,11 +75,7 @@ impl Register {
     {
         let at = facts.history.len() - 1;
         match e {
-            Event::Began { txn, .. } => {
-                if facts.is_on(self.node, txn) {
-                    self.batches.join(facts.side(self.node, txn), txn, at);
-                }
-            }
+            Event::Began { txn, .. } => self.begin(facts, txn, at),
             Event::Got { txn, cell, .. } => {
                 if self.batches.has(txn) {
                     put_in(&mut self.readers, cell, txn);
@@ -102,6 +98,23 @@ impl Register {
                 self.batches.finish(txn, at);
             }
             Event::Ready(_) | Event::Told(_) => {}
+        }
+    }
+
+    // Notes the Began of a transaction at position `at`, the newest event: where the node is on its path, it joins a batch.
+    #[inline(never)]
+    fn begin(&mut self, facts: &Facts, txn: Txn, at: usize)
+        requires newest { HasBegun facts.now self.old.node.0 txn }
+        requires stands { RegisterStands self.old (setup_of facts.now) (drop 1 (events_of facts.now)) }
+        requires room { 0 < self.old.batches.spare }
+        requires at { at ≡ length (drop 1 (events_of facts.now)) }
+        ensures stands { StandsFor self.new facts.now }
+        ensures committed { self.new.committed ≡ self.old.committed }
+        ensures node { self.new.node ≡ self.old.node }
+        ensures spare { room_of self.old ≤ room_of self.new + 1 }
+    {
+        if facts.is_on(self.node, txn) {
+            self.batches.join(facts.side(self.node, txn), txn, at);
         }
     }
 }

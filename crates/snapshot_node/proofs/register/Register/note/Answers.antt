@@ -1,81 +1,29 @@
-use Rattle.std.proofs.Common.{◌≡◌, ◌≤◌, ◌∙◌, ◌∷◌, ◌+◌, ◌-◌, ◌&&◌, ◌||◌, cond, ℕ, List, true, false, not, eqb, sym, ap, subst, arith, drop, length, inl, inr}
+use Rattle.std.proofs.Common.{◌≡◌, ◌≤◌, ◌∙◌, ◌∷◌, ◌+◌, ◌-◌, ◌&&◌, ◌||◌, cond, ℕ, List, not, eqb, sym, ap, subst, arith, drop, length, inl, inr}
 use Rattle.teb_names.specs.declared.Cell.{Cell}
+use Rattle.teb_names.specs.declared.Node.{Node}
 use Rattle.teb_history.specs.declared.Event.{Event}
-use Rattle.teb_history.specs.declared.Event.TheVariants.{Began, Got, Put, Done, Gone}
-use Rattle.teb_history.specs.Phases.{begun}
+use Rattle.teb_history.specs.declared.Event.TheVariants.{Got, Put, Done, Gone}
 use Rattle.teb_history.specs.Accesses.{wrote, got}
-use Rattle.teb_rules.specs.Tree.{on, side}
 use Rattle.phase_api.specs.FactsView.{setup_of, events_of}
 use Rattle.batch_book.specs.Book.{has_joined}
-use Rattle.phase_api.specs.Calls.{MayNote}
-use Rattle.access_conflicts.proofs.Noting.{orderly_now, typed_now}
+use Rattle.phase_api.specs.Calls.{IsNewest, MayNote}
+use Rattle.snapshot_node.specs.declared.committed.Committed.{Committed}
 use Rattle.snapshot_node.specs.Accessors.{is_accessor}
 use Rattle.snapshot_node.specs.Standing.{SnapshotStand}
-use Rattle.snapshot_node.proofs.Noting.{here, newest_place, began_begun, began_new, noted_began, noted_began_off, noted_put, noted_put_off, noted_done, noted_gone, noted_got, noted_got_off, noted_ready, noted_told}
+use Rattle.snapshot_node.proofs.Noting.{here, newest_place, noted_put, noted_put_off, noted_done, noted_gone, noted_got, noted_got_off, noted_ready, noted_told}
 use Rattle.snapshot_node.specs.Committed.{CommittedStand, puts_of}
 use Rattle.snapshot_node.proofs.Committing.{committed_began, committed_got, committed_put, committed_put_off, committed_ready, committed_told, committed_done, committed_gone, done_puts, gone_puts}
 use Rattle.snapshot_node.proofs.register.Register.note.Goals as goal
 
-pub is_on-requires : goal.is_on-requires
-is_on-requires c =
-    let f = c.args.facts.now in
-    let S = setup_of f in
-    let H = events_of f in
-    let t = c.in-Began.txn in
-    let h : H ≡ Began t c.in-Began.session c.in-Began.kind c.in-Began.instance ∷ drop 1 H = c.requires.newest.is ∙ ap (λ (d : Event). d ∷ drop 1 H) c.in-Began.is in
-    typed_now f t.0 (orderly_now S H _ c.args.e c.requires.newest.is c.requires.newest.may c.requires.stands.orderly) (ap (λ (G : List Event). begun G t.0) h ∙ began_begun (drop 1 H) t c.in-Began.session c.in-Began.kind c.in-Began.instance)
+pub begin-requires-clause-newest : goal.begin-requires-clause-newest
+begin-requires-clause-newest c =
+    let now = subst (λ (d : Event). IsNewest c.args.facts.now d c.args.self.now.node.0) c.in-Began.is c.requires.newest in
+    (c.in-Began.session, c.in-Began.kind, c.in-Began.instance, now)
 
-pub side-requires-clause-typed : goal.side-requires-clause-typed
-side-requires-clause-typed c =
-    let f = c.args.facts.now in
-    let S = setup_of f in
-    let H = events_of f in
-    let t = c.in-Began.txn in
-    let h : H ≡ Began t c.in-Began.session c.in-Began.kind c.in-Began.instance ∷ drop 1 H = c.requires.newest.is ∙ ap (λ (d : Event). d ∷ drop 1 H) c.in-Began.is in
-    typed_now f t.0 (orderly_now S H _ c.args.e c.requires.newest.is c.requires.newest.may c.requires.stands.orderly) (ap (λ (G : List Event). begun G t.0) h ∙ began_begun (drop 1 H) t c.in-Began.session c.in-Began.kind c.in-Began.instance)
-
-pub join-requires-clause-new : goal.join-requires-clause-new
-join-requires-clause-new c =
-    let S = setup_of c.args.facts.now in
-    let P = drop 1 (events_of c.args.facts.now) in
-    let n = c.args.self.now.node.0 in
-    began_new S P n c.args.self.now.batches c.args.self.now.readers c.args.self.now.writers c.requires.stands c.in-Began.txn c.in-Began.session c.in-Began.kind c.in-Began.instance (subst (λ (d : Event). MayNote S P n d) c.in-Began.is c.requires.newest.may)
-
-pub returns-then-is_on-clause-stands : goal.returns-then-is_on-clause-stands
-returns-then-is_on-clause-stands c =
-    let S = setup_of c.args.facts.now in
-    let H = events_of c.args.facts.now in
-    let P = drop 1 H in
-    let n = c.args.self.now.node.0 in
-    let t = c.in-Began.txn in
-    let b = c.args.self.now.batches in
-    let r = c.args.self.now.readers in
-    let p = c.args.self.now.writers in
-    let b' = c.join.new.self in
-    let d = c.side.result in
-    let h : H ≡ Began t c.in-Began.session c.in-Began.kind c.in-Began.instance ∷ P = c.requires.newest.is ∙ ap (λ (d : Event). d ∷ P) c.in-Began.is in
-    let m = subst (λ (d : Event). MayNote S P n d) c.in-Began.is c.requires.newest.may in
-    let z = newest_place H c.args.e c.requires.newest.is in
-    let l : c.len-at.result - 1 ≡ length P = omega (arith, c.len-at.ensures, z) in
-    subst (λ (G : List Event). on S G n t.0 ≡ true → d ≡ side S G n t.0 → SnapshotStand n b' r p S G) (sym h)
-    (λ o q. noted_began S P n b r p c.requires.stands t c.in-Began.session c.in-Began.kind c.in-Began.instance m b' d (c.len-at.result - 1) o q l c.join.ensures.size c.join.ensures.batches)
-    (sym c.is_on.ensures ∙ c.if-is_on.true) c.side.ensures
-
-pub returns-else-is_on-clause-stands : goal.returns-else-is_on-clause-stands
-returns-else-is_on-clause-stands c =
-    let S = setup_of c.args.facts.now in
-    let H = events_of c.args.facts.now in
-    let P = drop 1 H in
-    let n = c.args.self.now.node.0 in
-    let t = c.in-Began.txn in
-    let b = c.args.self.now.batches in
-    let r = c.args.self.now.readers in
-    let p = c.args.self.now.writers in
-    let h : H ≡ Began t c.in-Began.session c.in-Began.kind c.in-Began.instance ∷ P = c.requires.newest.is ∙ ap (λ (d : Event). d ∷ P) c.in-Began.is in
-    let m = subst (λ (d : Event). MayNote S P n d) c.in-Began.is c.requires.newest.may in
-    subst (λ (G : List Event). on S G n t.0 ≡ false → SnapshotStand n b r p S G) (sym h)
-    (λ o. noted_began_off S P n b r p c.requires.stands t c.in-Began.session c.in-Began.kind c.in-Began.instance m o)
-    (sym c.is_on.ensures ∙ c.if-is_on.false)
+pub begin-requires-clause-at : goal.begin-requires-clause-at
+begin-requires-clause-at c =
+    let z = newest_place (events_of c.args.facts.now) c.args.e c.requires.newest.is in
+    omega (arith, c.len-at.ensures, z)
 
 pub returns-then-has-clause-stands : goal.returns-then-has-clause-stands
 returns-then-has-clause-stands c =
@@ -210,23 +158,17 @@ abort-requires c j =
     subst (λ (G : List Event). puts_of G t.0 ≤ c.args.self.now.committed.pending) (sym (c.requires.newest.is ∙ ap (λ (d : Event). d ∷ P) c.in-Gone.is))
     (gone_puts S P n c.args.self.now.committed c.requires.committed t m c.in-Gone.cause (here S P n c.args.self.now.batches c.args.self.now.readers c.args.self.now.writers c.requires.stands t.0 m ∙ j))
 
-pub returns-then-is_on-clause-committed : goal.returns-then-is_on-clause-committed
-returns-then-is_on-clause-committed c =
+pub returns-in-Began-clause-committed : goal.returns-in-Began-clause-committed
+returns-in-Began-clause-committed c =
     let S = setup_of c.args.facts.now in
-    let P = drop 1 (events_of c.args.facts.now) in
+    let H = events_of c.args.facts.now in
+    let P = drop 1 H in
     let n = c.args.self.now.node.0 in
     let m = subst (λ (d : Event). MayNote S P n d) c.in-Began.is c.requires.newest.may in
-    subst (λ (G : List Event). CommittedStand n c.args.self.now.committed S G) (sym (c.requires.newest.is ∙ ap (λ (d : Event). d ∷ P) c.in-Began.is))
-    (committed_began S P n c.args.self.now.committed c.requires.committed c.in-Began.txn c.in-Began.session c.in-Began.kind c.in-Began.instance c.requires.stands.orderly m)
-
-pub returns-else-is_on-clause-committed : goal.returns-else-is_on-clause-committed
-returns-else-is_on-clause-committed c =
-    let S = setup_of c.args.facts.now in
-    let P = drop 1 (events_of c.args.facts.now) in
-    let n = c.args.self.now.node.0 in
-    let m = subst (λ (d : Event). MayNote S P n d) c.in-Began.is c.requires.newest.may in
-    subst (λ (G : List Event). CommittedStand n c.args.self.now.committed S G) (sym (c.requires.newest.is ∙ ap (λ (d : Event). d ∷ P) c.in-Began.is))
-    (committed_began S P n c.args.self.now.committed c.requires.committed c.in-Began.txn c.in-Began.session c.in-Began.kind c.in-Began.instance c.requires.stands.orderly m)
+    let now = subst (λ (G : List Event). CommittedStand n c.args.self.now.committed S G) (sym (c.requires.newest.is ∙ ap (λ (d : Event). d ∷ P) c.in-Began.is))
+    (committed_began S P n c.args.self.now.committed c.requires.committed c.in-Began.txn c.in-Began.session c.in-Began.kind c.in-Began.instance c.requires.stands.orderly m) in
+    subst (λ (k : Node). CommittedStand k.0 c.begin.new.self.committed S H) (sym c.begin.ensures.node)
+    (subst (λ (k : Committed). CommittedStand n k S H) (sym c.begin.ensures.committed) now)
 
 pub returns-then-has-clause-committed : goal.returns-then-has-clause-committed
 returns-then-has-clause-committed c =

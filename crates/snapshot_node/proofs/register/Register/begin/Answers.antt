@@ -1,0 +1,63 @@
+use Rattle.std.proofs.Common.{◌≡◌, ◌∙◌, List, true, false, drop, sym, ap, subst}
+use Rattle.teb_history.specs.declared.Event.{Event}
+use Rattle.teb_history.specs.declared.Event.TheVariants.{Began}
+use Rattle.teb_history.specs.Phases.{begun}
+use Rattle.teb_rules.specs.Tree.{on, side}
+use Rattle.phase_api.specs.FactsView.{setup_of, events_of}
+use Rattle.access_conflicts.proofs.Noting.{orderly_now, typed_now}
+use Rattle.snapshot_node.specs.Standing.{SnapshotStand}
+use Rattle.snapshot_node.proofs.Noting.{began_begun, began_new, noted_began, noted_began_off}
+use Rattle.snapshot_node.proofs.register.Register.begin.Goals as goal
+
+pub is_on-requires : goal.is_on-requires
+is_on-requires c =
+    let f = c.args.facts.now in
+    let H = events_of f in
+    let t = c.args.txn in
+    let q = c.requires.newest in
+    typed_now f t.0 (orderly_now (setup_of f) H _ (Began t q.0 q.1 q.2) q.3.is q.3.may c.requires.stands.orderly)
+    (ap (λ (G : List Event). begun G t.0) q.3.is ∙ began_begun (drop 1 H) t q.0 q.1 q.2)
+
+pub side-requires-clause-typed : goal.side-requires-clause-typed
+side-requires-clause-typed c =
+    let f = c.args.facts.now in
+    let H = events_of f in
+    let t = c.args.txn in
+    let q = c.requires.newest in
+    typed_now f t.0 (orderly_now (setup_of f) H _ (Began t q.0 q.1 q.2) q.3.is q.3.may c.requires.stands.orderly)
+    (ap (λ (G : List Event). begun G t.0) q.3.is ∙ began_begun (drop 1 H) t q.0 q.1 q.2)
+
+pub join-requires-clause-new : goal.join-requires-clause-new
+join-requires-clause-new c =
+    let f = c.args.facts.now in
+    let was = c.args.self.now in
+    let q = c.requires.newest in
+    began_new (setup_of f) (drop 1 (events_of f)) was.node.0 was.batches was.readers was.writers c.requires.stands c.args.txn q.0 q.1 q.2 q.3.may
+
+pub returns-then-is_on-clause-stands : goal.returns-then-is_on-clause-stands
+returns-then-is_on-clause-stands c =
+    let S = setup_of c.args.facts.now in
+    let H = events_of c.args.facts.now in
+    let P = drop 1 H in
+    let was = c.args.self.now in
+    let n = was.node.0 in
+    let t = c.args.txn in
+    let b' = c.join.new.self in
+    let d = c.side.result in
+    let q = c.requires.newest in
+    subst (λ (G : List Event). on S G n t.0 ≡ true → d ≡ side S G n t.0 → SnapshotStand n b' was.readers was.writers S G) (sym q.3.is)
+    (λ o e. noted_began S P n was.batches was.readers was.writers c.requires.stands t q.0 q.1 q.2 q.3.may b' d c.args.at o e c.requires.at c.join.ensures.size c.join.ensures.batches)
+    (sym c.is_on.ensures ∙ c.if-is_on.true) c.side.ensures
+
+pub returns-else-is_on-clause-stands : goal.returns-else-is_on-clause-stands
+returns-else-is_on-clause-stands c =
+    let S = setup_of c.args.facts.now in
+    let H = events_of c.args.facts.now in
+    let P = drop 1 H in
+    let was = c.args.self.now in
+    let n = was.node.0 in
+    let t = c.args.txn in
+    let q = c.requires.newest in
+    subst (λ (G : List Event). on S G n t.0 ≡ false → SnapshotStand n was.batches was.readers was.writers S G) (sym q.3.is)
+    (noted_began_off S P n was.batches was.readers was.writers c.requires.stands t q.0 q.1 q.2 q.3.may)
+    (sym c.is_on.ensures ∙ c.if-is_on.false)
