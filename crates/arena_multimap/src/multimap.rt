@@ -119,6 +119,7 @@ impl<K: Ord + Copy + Hash + Drop, V: Copy> ArenaMultimap<K, V> {
 }
 
 /// The place of a key, or their number where it is none.
+#[inline(always)]
 fn place_of<K: Ord + Copy + Hash + Drop>(keys: &IndexSet<K>, key: K) -> usize
     ensures { result ≡ spec_place_of K.eq keys.now.keys key }
 {
