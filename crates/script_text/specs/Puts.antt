@@ -3,8 +3,8 @@ use Rattle.std.specs.Prelude.{◌≡◌, ℕ, ◌++◌, ◌∷◌, List, [], Res
 use Rattle.script_text.specs.declared.text.word.Word.{Word}
 use Rattle.script_text.specs.declared.text.word.Word.TheVariants as word
 use Rattle.std.specs.Prelude.{decimal, codes}
-use Rattle.teb_names.specs.declared.Reply.{Reply}
-use Rattle.teb_names.specs.declared.Reply.TheVariants as reply
+use Rattle.short_reply.specs.declared.ShortReply.{ShortReply}
+use Rattle.short_reply.specs.declared.ShortReply.TheVariants as reply
 use Rattle.script_text.specs.Texts.{txn_text, value_text}
 
 -- new is old with something behind it
@@ -33,8 +33,7 @@ abbrev pub spaced_words : List Word → List ℕ
 spaced_words ws = spaced (map word_text ws)
 
 -- whether a reply may have many words, or long ones
-abbrev pub IsLong : Reply → Type 0
-IsLong (reply.Values vs) = Unit {0}
+abbrev pub IsLong : ShortReply → Type 0
 IsLong (reply.Again u n) = Unit {0}
 IsLong (reply.Aborted c) = Unit {0}
 IsLong _ = ⊥

@@ -14,7 +14,7 @@ pub use line_count::has_more_lines;
 pub use script::{number, parse_script};
 pub use scripts::{Scripts, scripts_of};
 use teb_names::{Reply, Request, Session};
-pub use text::{put_event, put_recovered, put_reply, put_report, put_starts};
+pub use text::{put_event, put_recovered, put_reply, put_report, put_short_reply, put_starts};
 
 /// A line that asks something.
 #[derive(Clone, Copy, Debug, PartialEq, Eq)]

@@ -7,5 +7,5 @@ mod tail;
 mod word;
 
 pub use event::put_event;
-pub use reply::put_reply;
+pub use reply::{put_reply, put_short_reply};
 pub use report::{put_recovered, put_report, put_starts};

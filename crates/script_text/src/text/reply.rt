@@ -1,17 +1,18 @@
 //! The texts of replies.
 
 ghost use Rattle.std.specs.Prelude.{◌≡◌, ◌≤◌, ◌+◌, ◌*◌, ◌++◌, ◌∷◌, [], IsTrue, OnOk, OnErr, codes, decimal, false, length, map};
+ghost use Rattle.short_reply.specs.ShortReplies.{full_reply};
 ghost use Rattle.script_text.specs.Texts.{cause_words, line_text, name_of, refusal_text, reply_text, reply_words, txn_text, value_text};
 ghost use Rattle.script_text.specs.Named.{CauseNamed, NodeNamed, ReplyNamed};
 ghost use Rattle.script_text.specs.Puts.{IsLong, Puts, spaced, word_text};
 
 use super::tail::Tail;
 use super::word::{Word, node, put_cell, put_feed, put_text, put_words, whole};
+use short_reply::ShortReply;
 use std::alloc::AllocError;
 use teb_names::{Cause, NameBook, Node, Refusal, Reply, ScanList, Session, Txn};
 
 /// Appends the line of a reply, or, for want of memory, nothing.
-#[tactic(auto, using(crate::proofs::Wholes::kept, crate::proofs::Wholes::taken_back))]
 pub fn put_reply(
     out: &mut Vec<u8>,
     names: &NameBook,
@@ -20,6 +21,38 @@ pub fn put_reply(
 ) -> Result<(), AllocError>
     requires { ReplyNamed names.now reply.now }
     ensures ok { OnOk result (out.new.items ≡ out.old.items ++ reply_text names.now (record { session = session; reply = reply.now })) }
+    ensures err { OnErr result (out.new.items ≡ out.old.items) }
+{
+    match ShortReply::of(reply) {
+        Some(short) => put_short_reply(out, names, session, &short),
+        None => match reply {
+            Reply::Values(values) => put_whole_scan(out, session, values),
+            _ => unreachable!(),
+        },
+    }
+}
+
+// Appends the line of a reply to a scan, or, for want of memory, nothing.
+#[tactic(auto, using(crate::proofs::Wholes::kept, crate::proofs::Wholes::taken_back))]
+fn put_whole_scan(out: &mut Vec<u8>, session: Session, values: &ScanList) -> Result<(), AllocError>
+    ensures ok { OnOk result (out.new.items ≡ out.old.items ++ line_text (decimal session.0 ∷ codes "values" ∷ map value_text values.now)) }
+    ensures err { OnErr result (out.new.items ≡ out.old.items) }
+{
+    let start = out.len();
+    let written = put_scan(out, session, values);
+    whole(out, start, written)
+}
+
+/// Appends the line of a reply without the values of a scan, or, for want of memory, nothing.
+#[tactic(auto, using(crate::proofs::Wholes::kept, crate::proofs::Wholes::taken_back))]
+pub fn put_short_reply(
+    out: &mut Vec<u8>,
+    names: &NameBook,
+    session: Session,
+    reply: &ShortReply,
+) -> Result<(), AllocError>
+    requires { ReplyNamed names.now (full_reply reply.now) }
+    ensures ok { OnOk result (out.new.items ≡ out.old.items ++ reply_text names.now (record { session = session; reply = full_reply reply.now })) }
     ensures err { OnErr result (out.new.items ≡ out.old.items) }
 {
     let start = out.len();
@@ -31,10 +64,10 @@ fn put_answered(
     out: &mut Vec<u8>,
     names: &NameBook,
     session: Session,
-    reply: &Reply,
+    reply: &ShortReply,
 ) -> Result<(), AllocError>
-    requires { ReplyNamed names.now reply.now }
-    ensures { Puts out.old.items (line_text (decimal session.0 ∷ reply_words names.now reply.now)) out.new.items result }
+    requires { ReplyNamed names.now (full_reply reply.now) }
+    ensures { Puts out.old.items (line_text (decimal session.0 ∷ reply_words names.now (full_reply reply.now))) out.new.items result }
 {
     let mut line = Tail::new();
     if !put_short(&mut line, names, reply) {
@@ -45,35 +78,35 @@ fn put_answered(
 }
 
 // Puts the words of a reply, each behind a space, and a line feed. False where they may not fit.
-fn put_short(line: &mut Tail<72>, names: &NameBook, reply: &Reply) -> bool
+fn put_short(line: &mut Tail<72>, names: &NameBook, reply: &ShortReply) -> bool
     requires empty { line.old ≡ [] }
-    requires named { ReplyNamed names.now reply.now }
-    ensures text { IsTrue result → line.new ≡ spaced (reply_words names.now reply.now) ++ codes "\n" }
+    requires named { ReplyNamed names.now (full_reply reply.now) }
+    ensures text { IsTrue result → line.new ≡ spaced (reply_words names.now (full_reply reply.now)) ++ codes "\n" }
     ensures short { IsTrue result → length line.new ≤ 62 }
     ensures long { result ≡ false → IsLong reply.now }
 {
     match reply {
-        Reply::Begun(txn) => {
+        ShortReply::Begun(txn) => {
             line.put(b"\n");
             line.put_natural(txn.0);
             line.put(b" begun t");
         }
-        Reply::Value(None) => line.put(b" none\n"),
-        Reply::Value(Some(value)) => {
+        ShortReply::Value(None) => line.put(b" none\n"),
+        ShortReply::Value(Some(value)) => {
             line.put(b"\n");
             line.put_integer(*value);
             line.put(b" value ");
         }
-        Reply::Done => line.put(b" done\n"),
-        Reply::Prepared => line.put(b" prepared\n"),
-        Reply::Committed => line.put(b" committed\n"),
-        Reply::Refused(refusal) => {
+        ShortReply::Done => line.put(b" done\n"),
+        ShortReply::Prepared => line.put(b" prepared\n"),
+        ShortReply::Committed => line.put(b" committed\n"),
+        ShortReply::Refused(refusal) => {
             line.put(b"\n");
             line.put(refusal_text(*refusal).as_bytes());
             line.put(b" refused ");
         }
-        Reply::Again { who, node } => return put_again(line, names.nodes.name(node.0), *who),
-        Reply::Values(_) | Reply::Aborted(_) => return false,
+        ShortReply::Again { who, node } => return put_again(line, names.nodes.name(node.0), *who),
+        ShortReply::Aborted(_) => return false,
     }
     true
 }
@@ -99,16 +132,15 @@ fn put_long(
     out: &mut Vec<u8>,
     names: &NameBook,
     session: Session,
-    reply: &Reply,
+    reply: &ShortReply,
 ) -> Result<(), AllocError>
-    requires named { ReplyNamed names.now reply.now }
+    requires named { ReplyNamed names.now (full_reply reply.now) }
     requires long { IsLong reply.now }
-    ensures { Puts out.old.items (line_text (decimal session.0 ∷ reply_words names.now reply.now)) out.new.items result }
+    ensures { Puts out.old.items (line_text (decimal session.0 ∷ reply_words names.now (full_reply reply.now))) out.new.items result }
 {
     match reply {
-        Reply::Values(values) => put_scan(out, session, values),
-        Reply::Again { who, node } => put_long_again(out, names, session, *who, *node),
-        Reply::Aborted(cause) => put_aborted(out, names, session, cause),
+        ShortReply::Again { who, node } => put_long_again(out, names, session, *who, *node),
+        ShortReply::Aborted(cause) => put_aborted(out, names, session, cause),
         _ => unreachable!(),
     }
 }
