@@ -1,6 +1,6 @@
 -- Lines are the texts of the replies, where all that they name has a name.
-use Rattle.std.proofs.Common.{◌≡◌, ℕ, zero, suc, true, List, [], ◌∷◌, ◌++◌, length, refl, ap₂, ◌∙◌, arith}
-use Rattle.std.specs.Prelude.{All, ◌<◌}
+use Rattle.std.proofs.Common.{◌≡◌, ℕ, zero, true, List, [], ◌∷◌, ◌++◌, length, refl, ap₂, ◌∙◌, arith}
+use Rattle.std.specs.Prelude.{All}
 use Rattle.std.specs.List.{flat_map}
 use Rattle.std.proofs.lemmas.Bool.{and_parts, lt-ltb, ltb-true}
 use Rattle.std.proofs.lemmas.Grind.{flat_map-append}

@@ -3,6 +3,7 @@
 ghost use Rattle.std.specs.Prelude.{◌≡◌};
 
 use crate::Log;
+use short_reply::ShortReply;
 use std::alloc::AllocError;
 use teb_names::{NameBook, Reply, Session};
 
@@ -37,6 +38,10 @@ impl Log for AnswerCount {
     }
 
     fn add(&mut self, _: &NameBook, _: Session, _: &Reply) {
+        self.count += 1;
+    }
+
+    fn add_short(&mut self, _: &NameBook, _: Session, _: &ShortReply) {
         self.count += 1;
     }
 }

@@ -4,6 +4,7 @@ ghost use Rattle.std.specs.Prelude.{◌≡◌, []};
 
 use crate::Log;
 use script_text::Answered;
+use short_reply::ShortReply;
 use std::alloc::{AllocError, Global};
 use teb_names::{NameBook, Reply, Session};
 
@@ -38,5 +39,9 @@ impl Log for AnswerList {
     fn add(&mut self, _: &NameBook, session: Session, reply: &Reply) {
         let reply = *reply;
         self.answers.push_reserved(Answered { session, reply });
+    }
+
+    fn add_short(&mut self, names: &NameBook, session: Session, reply: &ShortReply) {
+        self.add(names, session, &reply.full());
     }
 }

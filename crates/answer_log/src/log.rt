@@ -2,8 +2,10 @@
 
 ghost use Rattle.std.specs.Prelude.{◌++◌, ◌∷◌, [], List, OnOk};
 ghost use Rattle.teb_names.specs.declared.naming.NameBook.{NameBook};
+ghost use Rattle.short_reply.specs.ShortReplies.{full_reply};
 ghost use Rattle.script_text.specs.declared.Answered.{Answered};
 
+use short_reply::ShortReply;
 use std::alloc::AllocError;
 use teb_names::{NameBook, Reply, Session};
 
@@ -26,4 +28,10 @@ pub trait Log: Drop {
         requires { has_room self.old }
         ensures { (answers : List Answered) → tells self.old names.now answers
             → tells self.new names.now (answers ++ record { session = session; reply = reply.now } ∷ []) };
+
+    /// Adds the answer to a session behind the others: one without the values of a scan. It uses up the room.
+    fn add_short(&mut self, names: &NameBook, session: Session, reply: &ShortReply)
+        requires { has_room self.old }
+        ensures { (answers : List Answered) → tells self.old names.now answers
+            → tells self.new names.now (answers ++ record { session = session; reply = full_reply reply.now } ∷ []) };
 }

@@ -1,16 +1,18 @@
 //! Whether all that a reply names has a name.
 
 ghost use Rattle.std.specs.Prelude.{◌≡◌};
+ghost use Rattle.short_reply.specs.ShortReplies.{full_reply};
 ghost use Rattle.answer_log.specs.Lines.{is_cell_named, is_cause_named, is_node_named, is_reply_named};
 
-use teb_names::{Cause, Cell, NameBook, Node, Reply};
+use short_reply::ShortReply;
+use teb_names::{Cause, Cell, NameBook, Node};
 
-pub(crate) fn is_named(names: &NameBook, reply: &Reply) -> bool
-    ensures { result ≡ is_reply_named names.now reply.now }
+pub(crate) fn is_named(names: &NameBook, reply: &ShortReply) -> bool
+    ensures { result ≡ is_reply_named names.now (full_reply reply.now) }
 {
     match reply {
-        Reply::Again { node, .. } => is_node_named(names, *node),
-        Reply::Aborted(cause) => is_cause_named(names, cause),
+        ShortReply::Again { node, .. } => is_node_named(names, *node),
+        ShortReply::Aborted(cause) => is_cause_named(names, cause),
         _ => true,
     }
 }

@@ -3,6 +3,7 @@
 ghost use Rattle.std.specs.Prelude.{◌≡◌, ◌++◌, [], All, IfOk, List, OnErr, OnOk};
 ghost use Rattle.std.specs.List.{flat_map};
 ghost use Rattle.teb_names.specs.declared.naming.NameBook.{NameBook};
+ghost use Rattle.short_reply.specs.ShortReplies.{full_reply};
 ghost use Rattle.script_text.specs.declared.Answered.{Answered};
 ghost use Rattle.script_text.specs.Named.{ReplyNamed};
 ghost use Rattle.script_text.specs.Texts.{reply_text};
@@ -11,7 +12,8 @@ ghost use Rattle.answer_log.specs.Telling.{HasLines};
 
 use crate::Log;
 use crate::named::is_named;
-use script_text::{Answered, put_reply};
+use script_text::{Answered, put_reply, put_short_reply};
+use short_reply::ShortReply;
 use std::alloc::{AllocError, Global};
 use teb_names::{NameBook, Reply, Session};
 
@@ -80,6 +82,14 @@ impl Log for ReplyText {
             self.waiting = Some(Answered { session, reply });
         }
     }
+
+    /// Writes a line, or lets it wait.
+    fn add_short(&mut self, names: &NameBook, session: Session, reply: &ShortReply) {
+        if put_short_line(&mut self.text, names, session, reply).is_err() {
+            let reply = reply.full();
+            self.waiting = Some(Answered { session, reply });
+        }
+    }
 }
 
 /// Appends the line of an answer, or, for want of memory, nothing.
@@ -92,8 +102,24 @@ fn put_line(
     ensures ok { OnOk result (out.new.items ≡ out.old.items ++ line_of names.now (record { session = session; reply = reply.now })) }
     ensures err { OnErr result (out.new.items ≡ out.old.items) }
 {
+    match ShortReply::of(reply) {
+        Some(short) => put_short_line(out, names, session, &short),
+        None => put_reply(out, names, session, reply),
+    }
+}
+
+/// The same for an answer without the values of a scan.
+fn put_short_line(
+    out: &mut Vec<u8>,
+    names: &NameBook,
+    session: Session,
+    reply: &ShortReply,
+) -> Result<(), AllocError>
+    ensures ok { OnOk result (out.new.items ≡ out.old.items ++ line_of names.now (record { session = session; reply = full_reply reply.now })) }
+    ensures err { OnErr result (out.new.items ≡ out.old.items) }
+{
     if is_named(names, reply) {
-        put_reply(out, names, session, reply)
+        put_short_reply(out, names, session, reply)
     } else {
         Ok(())
     }
