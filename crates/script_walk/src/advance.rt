@@ -2,8 +2,10 @@
 
 ghost use Rattle.std.specs.Prelude.{◌≡◌};
 ghost use Rattle.teb_rules.specs.Scripts.{move_of, move_by};
+ghost use Rattle.short_reply.specs.ShortReplies.{full_reply};
 ghost use Rattle.script_walk.specs.Advances.{move_at};
 
+use short_reply::ShortReply;
 use teb_names::{Cause, Reply};
 
 /// How a session goes on along its script after an answer.
@@ -26,13 +28,25 @@ pub enum Advance {
 pub fn advance_after(reply: &Reply) -> Advance
     ensures { move_at result ≡ move_of reply.now }
 {
+    match ShortReply::of(reply) {
+        Some(short) => advance_after_short(&short),
+        None => Advance::Go,
+    }
+}
+
+/// How a session goes on after an answer that has no values of a scan.
+#[inline(always)]
+pub fn advance_after_short(reply: &ShortReply) -> Advance
+    ensures { move_at result ≡ move_of (full_reply reply.now) }
+{
     match reply {
-        Reply::Again { .. } => Advance::Stay,
-        Reply::Begun(_) => Advance::Enter,
-        Reply::Committed => Advance::Leave,
-        Reply::Aborted(cause) => advance_by(cause),
-        Reply::Value(_) | Reply::Values(_) | Reply::Done | Reply::Prepared | Reply::Refused(_) =>
-            Advance::Go,
+        ShortReply::Again { .. } => Advance::Stay,
+        ShortReply::Begun(_) => Advance::Enter,
+        ShortReply::Committed => Advance::Leave,
+        ShortReply::Aborted(cause) => advance_by(cause),
+        ShortReply::Value(_) | ShortReply::Done | ShortReply::Prepared | ShortReply::Refused(_) => {
+            Advance::Go
+        }
     }
 }
 

@@ -4,5 +4,5 @@
 mod advance;
 mod walker;
 
-pub use advance::{Advance, advance_after};
+pub use advance::{Advance, advance_after, advance_after_short};
 pub use walker::Walker;
