@@ -1,5 +1,5 @@
 -- The cursors after the newest event of a lawful history.
-use Rattle.std.proofs.Common.{◌≡◌, ℕ, suc, ◌<◌, ◌≤◌, Bool, true, false, List, [], ◌∷◌, ◌++◌, length, drop, Option, ℤ, refl, sym, ap, ◌∙◌, subst, arith, eqb, eqb-true, ltb-true, inl, inr, ◌||◌}
+use Rattle.std.proofs.Common.{◌≡◌, ℕ, suc, ◌<◌, ◌≤◌, Bool, true, false, List, [], ◌∷◌, ◌++◌, length, drop, Option, ℤ, refl, sym, ap, ◌∙◌, subst, arith, eqb, eqb-true, ltb-true, inl, inr, ◌⊎◌, ◌||◌}
 use Rattle.std.proofs.lemmas.Bool.{cases_Bool, both_ways}
 use Rattle.teb_names.specs.declared.Cell.{Cell}
 use Rattle.teb_names.specs.declared.Txn.{Txn}
@@ -103,18 +103,18 @@ module _ (f : Facts) (e : Event) (cs : List ℕ) (newest : events_of f ≡ e ∷
   lawful_with : (d : Event) → e ≡ d → Lawful (setup_of f) (d ∷ drop 1 (events_of f))
   lawful_with d q = subst (λ (H : List Event). Lawful (setup_of f) H) (newest ∙ ap (λ (d : Event). d ∷ drop 1 (events_of f)) q) lawful
 
-  pub got_mover : (t w : Txn) (x : Cell) (v : Option ℤ) → e ≡ Got t x w v → IsMover f cs t.0
+  got_mover : (t w : Txn) (x : Cell) (v : Option ℤ) → e ≡ Got t x w v → IsMover f cs t.0
   got_mover t w x v q = mover f (Got t x w v) (drop 1 (events_of f)) cs t.0 (newest ∙ ap (λ (d : Event). d ∷ drop 1 (events_of f)) q) (lawful_with (Got t x w v) q) stood
       (got_unfinished (setup_of f) (drop 1 (events_of f)) t w x v (lawful_with (Got t x w v) q)) (got_begun (drop 1 (events_of f)) t w x v t.0) (got_kind (drop 1 (events_of f)) t w x v t.0)
 
-  pub put_mover : (t : Txn) (x : Cell) (v : Option ℤ) → e ≡ Put t x v → IsMover f cs t.0
+  put_mover : (t : Txn) (x : Cell) (v : Option ℤ) → e ≡ Put t x v → IsMover f cs t.0
   put_mover t x v q = mover f (Put t x v) (drop 1 (events_of f)) cs t.0 (newest ∙ ap (λ (d : Event). d ∷ drop 1 (events_of f)) q) (lawful_with (Put t x v) q) stood
       (put_unfinished (setup_of f) (drop 1 (events_of f)) t x v (lawful_with (Put t x v) q)) (put_begun (drop 1 (events_of f)) t x v t.0) (put_kind (drop 1 (events_of f)) t x v t.0)
 
   with_newest : (d : Event) (ds : List ℕ) → e ≡ d → CursorsOf ds (setup_of f) (d ∷ drop 1 (events_of f)) → CursorsOf ds (setup_of f) (events_of f)
   with_newest d ds q h = subst (λ (H : List Event). CursorsOf ds (setup_of f) H) (sym (newest ∙ ap (λ (d : Event). d ∷ drop 1 (events_of f)) q)) h
 
-  pub got_moves : (t w : Txn) (x : Cell) (v : Option ℤ) (ds : List ℕ) → e ≡ Got t x w v → ds ≡ moved cs t.0 (profile (setup_of f) (kind_of (events_of f) t.0)) x.table.0 → CursorsOf ds (setup_of f) (events_of f)
+  got_moves : (t w : Txn) (x : Cell) (v : Option ℤ) (ds : List ℕ) → e ≡ Got t x w v → ds ≡ moved cs t.0 (profile (setup_of f) (kind_of (events_of f) t.0)) x.table.0 → CursorsOf ds (setup_of f) (events_of f)
   got_moves t w x v ds q k =
       let S = setup_of f in
       let P = drop 1 (events_of f) in
@@ -122,13 +122,25 @@ module _ (f : Facts) (e : Event) (cs : List ℕ) (newest : events_of f ≡ e ∷
       let same : kind_of (events_of f) t.0 ≡ kind_of P t.0 = ap (λ (H : List Event). kind_of H t.0) (newest ∙ ap (λ (d : Event). d ∷ P) q) ∙ got_kind P t w x v t.0 in
       with_newest (Got t x w v) ds q (subst (λ (ds : List ℕ). CursorsOf ds S (Got t x w v ∷ P)) (sym (k ∙ ap (λ (z : ℕ). moved cs t.0 (profile S z) x.table.0) same)) (cursors_got cs S P t x stood n.0 n.1 w v))
 
-  pub put_moves : (t : Txn) (x : Cell) (v : Option ℤ) (ds : List ℕ) → e ≡ Put t x v → ds ≡ moved cs t.0 (profile (setup_of f) (kind_of (events_of f) t.0)) x.table.0 → CursorsOf ds (setup_of f) (events_of f)
+  put_moves : (t : Txn) (x : Cell) (v : Option ℤ) (ds : List ℕ) → e ≡ Put t x v → ds ≡ moved cs t.0 (profile (setup_of f) (kind_of (events_of f) t.0)) x.table.0 → CursorsOf ds (setup_of f) (events_of f)
   put_moves t x v ds q k =
       let S = setup_of f in
       let P = drop 1 (events_of f) in
       let n = unfinished_numbered S P t.0 (lawful_before S _ P (lawful_with (Put t x v) q)) (put_unfinished S P t x v (lawful_with (Put t x v) q)) in
       let same : kind_of (events_of f) t.0 ≡ kind_of P t.0 = ap (λ (H : List Event). kind_of H t.0) (newest ∙ ap (λ (d : Event). d ∷ P) q) ∙ put_kind P t x v t.0 in
       with_newest (Put t x v) ds q (subst (λ (ds : List ℕ). CursorsOf ds S (Put t x v ∷ P)) (sym (k ∙ ap (λ (z : ℕ). moved cs t.0 (profile S z) x.table.0) same)) (cursors_put cs S P t x stood n.0 n.1 v))
+
+  -- the newest event is an access of x by t
+  abbrev pub IsAccess : Txn → Cell → Type 0
+  IsAccess t x = ((w : Txn) × (v : Option ℤ) × (e ≡ Got t x w v)) ⊎ ((v : Option ℤ) × (e ≡ Put t x v))
+
+  pub access_mover : (t : Txn) (x : Cell) → IsAccess t x → IsMover f cs t.0
+  access_mover t x (inl (w, v, q)) = got_mover t w x v q
+  access_mover t x (inr (v, q)) = put_mover t x v q
+
+  pub access_moves : (t : Txn) (x : Cell) (ds : List ℕ) → IsAccess t x → ds ≡ moved cs t.0 (profile (setup_of f) (kind_of (events_of f) t.0)) x.table.0 → CursorsOf ds (setup_of f) (events_of f)
+  access_moves t x ds (inl (w, v, q)) = got_moves t w x v ds q
+  access_moves t x ds (inr (v, q)) = put_moves t x v ds q
 
   pub began_stands : (t : Txn) (s : Session) (k : Kind) (i : ℕ) (ds : List ℕ) → e ≡ Began t s k i → ds ≡ cs ++ 0 ∷ [] → CursorsOf ds (setup_of f) (events_of f)
   began_stands t s k i ds q m =

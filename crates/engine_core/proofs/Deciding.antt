@@ -26,7 +26,7 @@ use Rattle.engine_core.specs.declared.engine_view.EngineView.{EngineView}
 use Rattle.engine_core.specs.Wholes.{store_in, events_in}
 use Rattle.engine_core.specs.declared.decision.Decision.{Decision}
 use Rattle.engine_core.specs.declared.decision.Decision.TheVariants.{Answer}
-use Rattle.engine_core.specs.declared.decision.ShortReply.TheVariants as short
+use Rattle.short_reply.specs.declared.ShortReply.TheVariants as short
 use Rattle.engine_core.specs.Decisions.{carried, told, IsRefusal, IsStopped}
 
 -- a request of t that is stopped, and one that is not

@@ -18,3 +18,4 @@ pub mod Reached
 pub mod Setups
 pub mod Starting
 pub mod Rooms
+pub mod NoScans

@@ -1,7 +1,6 @@
 -- A decision, and the answer that it carries out.
 use Rattle.std.specs.Prelude.{◌≡◌, ◌≤◌, ◌<◌, ◌+◌, ◌^◌, ℕ, List, ◌∷◌, Option, Some, None, unwrap_or, cond, ℤ, ◌+ℤ◌}
 use Rattle.teb_names.specs.declared.Cause.TheVariants.{Asked}
-use Rattle.teb_names.specs.declared.Reply.{Reply}
 use Rattle.teb_names.specs.declared.Reply.TheVariants as reply
 use Rattle.teb_names.specs.declared.Cell.{Cell}
 use Rattle.teb_names.specs.declared.Refusal.{Refusal}
@@ -16,22 +15,10 @@ use Rattle.teb_rules.specs.declared.Stop.TheVariants as stop
 use Rattle.teb_rules.specs.Cascade.{txn}
 use Rattle.teb_rules.specs.Answer.{Answered, cells_from, read_all, got_values, broken_off, refuse, or_stop, or_refused, fits}
 use Rattle.version_chain.specs.Lists.{Version}
+use Rattle.short_reply.specs.ShortReplies.{full_reply}
 use Rattle.engine_core.specs.Keeping.{IsPlaced}
-use Rattle.engine_core.specs.declared.decision.ShortReply.{ShortReply}
-use Rattle.engine_core.specs.declared.decision.ShortReply.TheVariants.{Begun, Value, Done, Prepared, Committed, Again, Aborted, Refused}
 use Rattle.engine_core.specs.declared.decision.Decision.{Decision}
 use Rattle.engine_core.specs.declared.decision.Decision.TheVariants.{Answer, Grant, Put, Scan, Fall}
-
--- the reply as the session gets it
-abbrev pub full_reply : ShortReply → Reply
-full_reply (Begun t) = reply.Begun t
-full_reply (Value v) = reply.Value v
-full_reply Done = reply.Done
-full_reply Prepared = reply.Prepared
-full_reply Committed = reply.Committed
-full_reply (Again u n) = reply.Again u n
-full_reply (Aborted c) = reply.Aborted c
-full_reply (Refused r) = reply.Refused r
 
 -- the reply and the history after a decision
 abbrev pub carried : Store → List Event → Decision → Answered

@@ -7,5 +7,6 @@ pub mod HeldBy
 pub mod Stopping
 pub mod Cells
 pub mod Decisions
+pub mod Responses
 pub mod Keeping
 pub mod AnyControls

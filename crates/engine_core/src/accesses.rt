@@ -9,10 +9,11 @@ ghost use Rattle.engine_core.specs.Asking.{IsAsking};
 ghost use Rattle.engine_core.specs.Decisions.{carried, IsBounded, IsRefusal};
 
 use crate::asking::Asking;
-use crate::decision::{Decision, ShortReply, refused, stopped};
+use crate::decision::{Decision, refused, stopped};
 use crate::put_places::{asked_place, at_of, granted_place};
 use crate::stops::{read_stop, write_stop};
 use phase_api::Control;
+use short_reply::ShortReply;
 use teb_history::Event;
 use teb_names::{Cell, Refusal};
 use teb_rules::Stop;

@@ -2,22 +2,25 @@
 
 ghost use Rattle.std.specs.Prelude.{◌≡◌, ◌≤◌, ◌+◌, ◌^◌};
 ghost use Rattle.teb_laws.specs.Lawful.{Lawful, Settled};
-ghost use Rattle.engine_core.specs.Decisions.{carried, full_reply, IsBounded, IsShort};
+ghost use Rattle.short_reply.specs.ShortReplies.{full_reply};
+ghost use Rattle.engine_core.specs.Decisions.{carried, IsBounded, IsShort};
 ghost use Rattle.engine_core.specs.Stores.{store_of};
 ghost use Rattle.engine_core.specs.Wholes.{StateIsWhole, HasRoom};
 
 use crate::append_event::append_event;
-use crate::decision::{Decision, ShortReply};
+use crate::decision::Decision;
 use crate::engine_state::EngineState;
 use crate::falls::fall;
 use crate::read_cells::read_cells;
 use candidate_reads::Place;
 use phase_api::Control;
+use short_reply::ShortReply;
 use teb_history::Event;
 use teb_names::{Cell, Reply, Txn};
 use version_chain::Chains;
 
-/// Reads the cells of a scan, and replies with their values.
+/// Reads the cells of a scan, and replies with their values: out of line, since scans are rare and their reply is long.
+#[inline(never)]
 pub fn scan<K: Control, C: Chains>(
     state: &mut EngineState<K, C>,
     t: Txn,

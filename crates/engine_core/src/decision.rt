@@ -4,11 +4,12 @@ ghost use Rattle.std.specs.Prelude.{◌≡◌, List};
 ghost use Rattle.teb_history.specs.declared.Event.{Event};
 ghost use Rattle.teb_rules.specs.Setup.{Store};
 ghost use Rattle.teb_rules.specs.Verdicts.{cause_at};
-ghost use Rattle.engine_core.specs.Decisions.{IsStopped, full_reply};
+ghost use Rattle.engine_core.specs.Decisions.{IsStopped};
 
 use candidate_reads::Place;
+use short_reply::ShortReply;
 use teb_history::Event;
-use teb_names::{Cause, Cell, Node, Refusal, Reply, Txn};
+use teb_names::{Cause, Cell, Node, Refusal, Txn};
 use teb_rules::{Broken, Stop};
 
 /// What the engine does with a request.
@@ -29,37 +30,6 @@ pub enum Decision {
     Scan(Txn, Cell, u8),
     /// The transaction is aborted, and all that have to fall with it.
     Fall(Txn, Cause),
-}
-
-/// A reply without the values of a scan: a decision carries one at little cost.
-#[derive(Clone, Copy)]
-pub enum ShortReply {
-    Begun(Txn),
-    Value(Option<i64>),
-    Done,
-    Prepared,
-    Committed,
-    Again { who: Txn, node: Node },
-    Aborted(Cause),
-    Refused(Refusal),
-}
-
-impl ShortReply {
-    /// The reply as the session gets it.
-    pub fn full(self) -> Reply
-        ensures { result ≡ full_reply self }
-    {
-        match self {
-            ShortReply::Begun(t) => Reply::Begun(t),
-            ShortReply::Value(value) => Reply::Value(value),
-            ShortReply::Done => Reply::Done,
-            ShortReply::Prepared => Reply::Prepared,
-            ShortReply::Committed => Reply::Committed,
-            ShortReply::Again { who, node } => Reply::Again { who, node },
-            ShortReply::Aborted(cause) => Reply::Aborted(cause),
-            ShortReply::Refused(why) => Reply::Refused(why),
-        }
-    }
 }
 
 /// A refusal.

@@ -8,6 +8,7 @@ ghost use Rattle.teb_laws.specs.Lawful.{Lawful};
 ghost use Rattle.phase_api.specs.Standing.{StandAll};
 ghost use Rattle.phase_api.specs.Versions.{HoldsVersions};
 ghost use Rattle.dependency_book.specs.Books.{BookOf};
+ghost use Rattle.short_reply.specs.ShortReplies.{full_reply, IsNoScan};
 ghost use Rattle.tree_toml.specs.Seen.{setup_view};
 ghost use Rattle.tree_toml.specs.Sound.{IsWhole};
 ghost use Rattle.engine_core.specs.Stores.{store_of};
@@ -15,14 +16,15 @@ ghost use Rattle.engine_core.specs.AnyControls.{any_node_number, any_spare, any_
 ghost use Rattle.engine_core.specs.EngineModel.{IsEngine, IsOfEngine};
 
 use crate::any_control::{AnyControl, controls_of};
-use crate::carry_out::{scan, write};
+use crate::carry_out::scan;
 use crate::decide::MOST_TXNS;
-use crate::decision::Decision;
 use crate::engine_state::{EngineState, facts_of};
 use crate::latest_txns::LatestTxns;
+use crate::respond::{Response, respond};
 use crate::room::make_room;
 use cursor_book::Cursors;
 use dependency_book::Book;
+use short_reply::ShortReply;
 use std::alloc::{AllocError, Global};
 use std::marker::Model;
 use teb_history::History;
@@ -118,11 +120,29 @@ impl<C: Chains> Engine<C> {
     {
         self.ready = false;
         let state = &mut *self.state;
-        let decision = state.decide(session, request);
-        if let Decision::Scan(t, first, count) = decision {
-            return scan(state, t, first, count);
+        match respond(state, session, request) {
+            Response::Reply(reply) => reply.full(),
+            Response::Scan(t, first, count) => scan(state, t, first, count),
         }
-        write(decision, state).full()
+    }
+
+    /// Answers a request that is no scan: a short reply costs less to move. It uses up the room, and takes no memory.
+    #[inline(always)]
+    pub fn ask_short(&mut self, session: Session, request: Request) -> ShortReply
+        requires ready { IsTrue self.old.ready }
+        requires short { IsNoScan request }
+        ensures reply { full_reply result ≡ (answer self.old.store self.old.events session request).0 }
+        ensures events { self.new.events ≡ (answer self.old.store self.old.events session request).1 }
+        ensures store { self.new.store ≡ self.old.store }
+        ensures names { self.new.names ≡ self.old.names }
+        ensures ready { self.new.ready ≡ false }
+    {
+        self.ready = false;
+        let state = &mut *self.state;
+        match respond(state, session, request) {
+            Response::Reply(reply) => reply,
+            Response::Scan(..) => unreachable!(),
+        }
     }
 
     /// What has happened so far: a history of the store to which requests lead, each event of which the rules granted.

@@ -54,8 +54,9 @@ pub fn keep_cursors(cursors: &mut Cursors, facts: &Facts, event: Event)
 {
     match event {
         Event::Began { .. } => cursors.begin(),
-        Event::Got { txn, cell, .. } => move_cursor(cursors, facts, txn, cell),
-        Event::Put { txn, cell, .. } => move_cursor(cursors, facts, txn, cell),
+        Event::Got { txn, cell, .. } | Event::Put { txn, cell, .. } => {
+            move_cursor(cursors, facts, txn, cell)
+        }
         _ => {}
     }
 }

@@ -19,6 +19,7 @@ mod latest_txns;
 mod notes;
 mod put_places;
 mod read_cells;
+mod respond;
 mod room;
 mod scans;
 mod stops;

@@ -1,32 +1,20 @@
-use Rattle.engine_core.proofs.CursorSteps.{got_mover, put_mover, got_moves, put_moves, began_stands, others_stand}
+use Rattle.engine_core.proofs.CursorSteps.{access_mover, access_moves, began_stands, others_stand}
 use Rattle.engine_core.proofs.keeping.keep_cursors.Goals as goal
 
 pub move_cursor-requires-clause-typed : goal.move_cursor-requires-clause-typed
-move_cursor-requires-clause-typed c = (got_mover c.args.facts.now c.args.event _ c.requires.newest c.requires.lawful c.requires.cursors c.in-Got.txn c.in-Got.from c.in-Got.cell c.in-Got.value c.in-Got.is).typed
+move_cursor-requires-clause-typed c = (access_mover c.args.facts.now c.args.event _ c.requires.newest c.requires.lawful c.requires.cursors c.in-Got.txn c.in-Got.cell c.in-Got.is).typed
 
 pub move_cursor-requires-clause-above : goal.move_cursor-requires-clause-above
-move_cursor-requires-clause-above c = (got_mover c.args.facts.now c.args.event _ c.requires.newest c.requires.lawful c.requires.cursors c.in-Got.txn c.in-Got.from c.in-Got.cell c.in-Got.value c.in-Got.is).above
+move_cursor-requires-clause-above c = (access_mover c.args.facts.now c.args.event _ c.requires.newest c.requires.lawful c.requires.cursors c.in-Got.txn c.in-Got.cell c.in-Got.is).above
 
 pub move_cursor-requires-clause-begun : goal.move_cursor-requires-clause-begun
-move_cursor-requires-clause-begun c = (got_mover c.args.facts.now c.args.event _ c.requires.newest c.requires.lawful c.requires.cursors c.in-Got.txn c.in-Got.from c.in-Got.cell c.in-Got.value c.in-Got.is).begun
-
-pub move_cursor-requires-in-Put-clause-typed : goal.move_cursor-requires-in-Put-clause-typed
-move_cursor-requires-in-Put-clause-typed c = (put_mover c.args.facts.now c.args.event _ c.requires.newest c.requires.lawful c.requires.cursors c.in-Put.txn c.in-Put.cell c.in-Put.value c.in-Put.is).typed
-
-pub move_cursor-requires-in-Put-clause-above : goal.move_cursor-requires-in-Put-clause-above
-move_cursor-requires-in-Put-clause-above c = (put_mover c.args.facts.now c.args.event _ c.requires.newest c.requires.lawful c.requires.cursors c.in-Put.txn c.in-Put.cell c.in-Put.value c.in-Put.is).above
-
-pub move_cursor-requires-in-Put-clause-begun : goal.move_cursor-requires-in-Put-clause-begun
-move_cursor-requires-in-Put-clause-begun c = (put_mover c.args.facts.now c.args.event _ c.requires.newest c.requires.lawful c.requires.cursors c.in-Put.txn c.in-Put.cell c.in-Put.value c.in-Put.is).begun
+move_cursor-requires-clause-begun c = (access_mover c.args.facts.now c.args.event _ c.requires.newest c.requires.lawful c.requires.cursors c.in-Got.txn c.in-Got.cell c.in-Got.is).begun
 
 pub returns-in-Began-clause-cursors : goal.returns-in-Began-clause-cursors
 returns-in-Began-clause-cursors c = began_stands c.args.facts.now c.args.event _ c.requires.newest c.requires.lawful c.requires.cursors c.in-Began.txn c.in-Began.session c.in-Began.kind c.in-Began.instance _ c.in-Began.is c.begin.ensures.cursors
 
 pub returns-in-Got-clause-cursors : goal.returns-in-Got-clause-cursors
-returns-in-Got-clause-cursors c = got_moves c.args.facts.now c.args.event _ c.requires.newest c.requires.lawful c.requires.cursors c.in-Got.txn c.in-Got.from c.in-Got.cell c.in-Got.value _ c.in-Got.is c.move_cursor.ensures.cursors
-
-pub returns-in-Put-clause-cursors : goal.returns-in-Put-clause-cursors
-returns-in-Put-clause-cursors c = put_moves c.args.facts.now c.args.event _ c.requires.newest c.requires.lawful c.requires.cursors c.in-Put.txn c.in-Put.cell c.in-Put.value _ c.in-Put.is c.move_cursor-in-Put.ensures.cursors
+returns-in-Got-clause-cursors c = access_moves c.args.facts.now c.args.event _ c.requires.newest c.requires.lawful c.requires.cursors c.in-Got.txn c.in-Got.cell _ c.in-Got.is c.move_cursor.ensures.cursors
 
 pub returns-in_default-clause-cursors : goal.returns-in_default-clause-cursors
 returns-in_default-clause-cursors c = others_stand c.args.facts.now c.args.event _ c.requires.newest c.requires.lawful c.requires.cursors c.in_default.not-Began c.in_default.not-Got c.in_default.not-Put

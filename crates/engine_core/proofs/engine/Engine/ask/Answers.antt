@@ -1,52 +1,49 @@
-use Rattle.std.proofs.Common.{subst, sym, ap, ◌∙◌}
-use Rattle.teb_laws.specs.Lawful.{Lawful}
-use Rattle.teb_rules.specs.Answer.{Answered}
-use Rattle.engine_core.specs.declared.decision.Decision.{Decision}
+use Rattle.std.proofs.Common.{sym, ap, subst, ◌∙◌}
+use Rattle.teb_rules.specs.Answer.{Answered, answer}
+use Rattle.engine_core.specs.declared.decision.Decision.TheVariants as decision
+use Rattle.engine_core.specs.declared.engine_state.EngineState.{EngineState}
 use Rattle.engine_core.specs.AnyControls.{any_node_number, any_spare, any_stands}
-use Rattle.engine_core.specs.Decisions.{carried}
+use Rattle.engine_core.specs.Responses.{IsResponse}
 use Rattle.engine_core.specs.Stores.{store_of}
-use Rattle.engine_core.proofs.Carrying.{leads_on, is_short}
 use Rattle.engine_core.proofs.Reached.{answered_engine, lent_engine, settled_of}
+use Rattle.engine_core.proofs.Carrying.{leads_on}
+use Rattle.engine_core.specs.declared.any_control.AnyControl.{AnyControl}
+use Rattle.engine_core.specs.declared.engine.Engine.TheInside.{Inside}
+use Rattle.engine_core.specs.EngineModel.{IsEngine}
+use Rattle.engine_core.specs.Decisions.{carried}
+use Rattle.teb_laws.specs.Lawful.{Lawful}
+use Rattle.engine_core.proofs.engine.Engine.ask.Goals.{in-Reply, in-Scan}
 use Rattle.engine_core.proofs.engine.Engine.ask.Goals as goal
 
-pub decide-decision-requires-clause-settled : goal.decide-decision-requires-clause-settled
-decide-decision-requires-clause-settled g c =
+pub respond-requires-clause-settled : goal.respond-requires-clause-settled
+respond-requires-clause-settled g c =
     let was = lent_engine c.self.invariant c.deref_mut-state.ensures.value in
     settled_of (store_of c.deref_mut-state.result.now.setup) c.deref_mut-state.result.now.history.events was.whole.sound was.reached
 
 pub scan-requires-clause-leads : goal.scan-requires-clause-leads
 scan-requires-clause-leads g c =
-    let X = store_of c.deref_mut-state.result.now.setup in
-    let H = c.deref_mut-state.result.now.history.events in
+    let old = c.deref_mut-state.result.now in
     let was = lent_engine c.self.invariant c.deref_mut-state.ensures.value in
-    subst (λ (d : Decision). Lawful X.setup (carried X H d).1) c.in-Scan.is
-    (leads_on X H c.args.session c.args.request was.whole.sound was.whole.lawful (settled_of X H was.whole.sound was.reached) c.decide-decision.result c.decide-decision.ensures.answer)
+    let put_off = subst (IsResponse old c.respond.new.state (answer (store_of old.setup) old.history.events c.args.session c.args.request)) c.in-Scan.is c.respond.ensures.answer in
+    subst (λ (k : EngineState AnyControl g.row.C.Denot). Lawful (store_of k.setup).setup (carried (store_of k.setup) k.history.events (decision.Scan c.in-Scan.t c.in-Scan.first c.in-Scan.count)).1) (sym put_off.0)
+    (leads_on (store_of old.setup) old.history.events c.args.session c.args.request was.whole.sound was.whole.lawful (settled_of (store_of old.setup) old.history.events was.whole.sound was.reached) (decision.Scan c.in-Scan.t c.in-Scan.first c.in-Scan.count) put_off.1)
 
 pub invariant_of-self : goal.invariant_of-self
 invariant_of-self g c =
-    let X = store_of c.deref_mut-state.result.now.setup in
-    let H = c.deref_mut-state.result.now.history.events in
-    answered_engine any_node_number any_stands any_spare g.C.Chains.lists g.C.Chains.spare c.deref_mut-state.result.now c.scan.new.state c.self.inside.ready c.args.session c.args.request
-    (lent_engine c.self.invariant c.deref_mut-state.ensures.value) c.scan.ensures.setup c.scan.ensures.whole c.scan.ensures.room
-    (c.scan.ensures.events ∙ ap (λ (d : Decision). (carried X H d).1) (sym c.in-Scan.is) ∙ ap (λ (a : Answered). a.1) c.decide-decision.ensures.answer)
-
-pub write-requires-clause-short : goal.write-requires-clause-short
-write-requires-clause-short g c = is_short c.decide-decision.result c.in_default.not-Scan
-
-pub write-requires-clause-settled : goal.write-requires-clause-settled
-write-requires-clause-settled g c =
+    let old = c.deref_mut-state.result.now in
     let was = lent_engine c.self.invariant c.deref_mut-state.ensures.value in
-    settled_of (store_of c.deref_mut-state.result.now.setup) c.deref_mut-state.result.now.history.events was.whole.sound was.reached
-
-pub write-requires-clause-leads : goal.write-requires-clause-leads
-write-requires-clause-leads g c =
-    let X = store_of c.deref_mut-state.result.now.setup in
-    let H = c.deref_mut-state.result.now.history.events in
-    let was = lent_engine c.self.invariant c.deref_mut-state.ensures.value in
-    leads_on X H c.args.session c.args.request was.whole.sound was.whole.lawful (settled_of X H was.whole.sound was.reached) c.decide-decision.result c.decide-decision.ensures.answer
-
-pub invariant_of-self-2 : goal.invariant_of-self-2
-invariant_of-self-2 g c =
-    answered_engine any_node_number any_stands any_spare g.C.Chains.lists g.C.Chains.spare c.deref_mut-state.result.now c.write.new.state c.self.inside.ready c.args.session c.args.request
-    (lent_engine c.self.invariant c.deref_mut-state.ensures.value) c.write.ensures.setup c.write.ensures.whole c.write.ensures.room
-    (c.write.ensures.events ∙ ap (λ (a : Answered). a.1) c.decide-decision.ensures.answer)
+    elim c.match-respond.branch [
+      | in-Reply w ↦
+          let reply = subst (IsResponse old c.respond.new.state (answer (store_of old.setup) old.history.events c.args.session c.args.request)) w.in-Reply.is c.respond.ensures.answer in
+          subst (λ (i : Inside g.row.C.Denot). IsEngine any_node_number any_stands any_spare g.C.Chains.lists g.C.Chains.spare i.state.value i.ready) (sym w.self-inside-is)
+          (answered_engine any_node_number any_stands any_spare g.C.Chains.lists g.C.Chains.spare old c.respond.new.state c.self.inside.ready c.args.session c.args.request
+          was c.respond.ensures.setup c.respond.ensures.whole c.respond.ensures.room reply.1)
+      | in-Scan w ↦
+          let put_off = subst (IsResponse old c.respond.new.state (answer (store_of old.setup) old.history.events c.args.session c.args.request)) w.in-Scan.is c.respond.ensures.answer in
+          subst (λ (i : Inside g.row.C.Denot). IsEngine any_node_number any_stands any_spare g.C.Chains.lists g.C.Chains.spare i.state.value i.ready) (sym w.self-inside-is)
+          (answered_engine any_node_number any_stands any_spare g.C.Chains.lists g.C.Chains.spare old w.scan.new.state c.self.inside.ready c.args.session c.args.request
+          was (w.scan.ensures.setup ∙ c.respond.ensures.setup) w.scan.ensures.whole w.scan.ensures.room
+          (w.scan.ensures.events
+          ∙ ap (λ (k : EngineState AnyControl g.row.C.Denot). (carried (store_of k.setup) k.history.events (decision.Scan w.in-Scan.t w.in-Scan.first w.in-Scan.count)).1) put_off.0
+          ∙ ap (λ (a : Answered). a.1) put_off.1))
+    ]

@@ -1,0 +1,10 @@
+use Rattle.engine_core.specs.Stores.{store_of}
+use Rattle.engine_core.proofs.Carrying.{leads_on, is_short}
+use Rattle.engine_core.proofs.respond.respond.Goals as goal
+
+pub write-requires-clause-short : goal.write-requires-clause-short
+write-requires-clause-short g c = is_short c.decide-decision.result c.in_default.not-Scan
+
+pub write-requires-clause-leads : goal.write-requires-clause-leads
+write-requires-clause-leads g c =
+    leads_on (store_of c.args.state.now.setup) c.args.state.now.history.events c.args.session c.args.request c.requires.whole.sound c.requires.whole.lawful c.requires.settled c.decide-decision.result c.decide-decision.ensures.answer

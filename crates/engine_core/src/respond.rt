@@ -1,0 +1,48 @@
+//! The answer to a request, all but the cells of a scan.
+
+ghost use Rattle.std.specs.Prelude.{◌≡◌, ◌≤◌};
+ghost use Rattle.teb_rules.specs.Answer.{answer};
+ghost use Rattle.teb_laws.specs.Lawful.{Settled};
+ghost use Rattle.engine_core.specs.Responses.{IsResponse};
+ghost use Rattle.engine_core.specs.Stores.{store_of};
+ghost use Rattle.engine_core.specs.Wholes.{StateIsWhole, HasRoom};
+
+use crate::carry_out::write;
+use crate::decision::Decision;
+use crate::engine_state::EngineState;
+use phase_api::Control;
+use short_reply::ShortReply;
+use teb_names::{Cell, Request, Session, Txn};
+use version_chain::Chains;
+
+/// What came of a request.
+#[derive(Clone, Copy)]
+pub enum Response {
+    /// The reply: all is done.
+    Reply(ShortReply),
+    /// The transaction reads so many cells from this one on, and nothing is written yet.
+    Scan(Txn, Cell, u8),
+}
+
+/// Answers a request, all but the cells of a scan. No other function decides or writes, so that both can be inlined here.
+#[inline(never)]
+pub fn respond<K: Control, C: Chains>(
+    state: &mut EngineState<K, C>,
+    session: Session,
+    request: Request,
+) -> Response
+    requires whole { StateIsWhole K.node_number K.stands C.lists state.old }
+    requires settled { Settled state.old.history.events }
+    requires room { HasRoom K.spare C.spare state.old }
+    requires enough { 32 ≤ state.old.room }
+    ensures answer { IsResponse state.old state.new (answer (store_of state.old.setup) state.old.history.events session request) result }
+    ensures whole { StateIsWhole K.node_number K.stands C.lists state.new }
+    ensures setup { state.new.setup ≡ state.old.setup }
+    ensures room { HasRoom K.spare C.spare state.new }
+{
+    let decision = state.decide(session, request);
+    if let Decision::Scan(t, first, count) = decision {
+        return Response::Scan(t, first, count);
+    }
+    Response::Reply(write(decision, state))
+}
