@@ -1,5 +1,5 @@
 -- The last committed version of a cell is what the final table has there.
-use Rattle.std.proofs.Common.{ℕ, zero, suc, ◌≡◌, ◌⊎◌, ◌<◌, Bool, true, false, not, ◌&&◌, List, [], ◌∷◌, Option, Some, None, refl, sym, ap, subst, ◌∙◌, arith, inl, inr, length, get_or, filter, unwrap_or, le-ltb, ℤ, slice_get}
+use Rattle.std.proofs.Common.{ℕ, zero, suc, ◌≡◌, ◌⊎◌, ◌<◌, Bool, true, false, not, ◌&&◌, eqb, List, [], ◌∷◌, Option, Some, None, refl, sym, ap, subst, ◌∙◌, arith, inl, inr, length, get_or, filter, unwrap_or, le-ltb, ℤ, slice_get}
 use Rattle.std.proofs.lemmas.Bool.{both_ways, cases_order, and_from, and_parts, not-true, not_from_false}
 use Rattle.teb_names.specs.declared.Cell.{Cell}
 use Rattle.teb_names.specs.Rows.{row_of}
@@ -15,12 +15,12 @@ use Rattle.teb_laws.proofs.Ranks.{commits}
 use Rattle.teb_laws.proofs.Serial.{In-filter, filter-In, commits_from}
 use Rattle.teb_laws.proofs.ReadRule.{list_all_at, list_all_from}
 use Rattle.teb_laws.proofs.VersionOrder.{precedes_irreflexive}
-use Rattle.version_chain.specs.Lists.{Version, writers_of, last_place}
+use Rattle.version_chain.specs.Lists.{Version, writers_of, first_place, last_place, own_or_last}
 use Rattle.version_chain.proofs.Places.{IsLast}
 use Rattle.phase_api.specs.Versions.{HoldsVersions, HaveLastValues, has_version}
-use Rattle.candidate_reads.proofs.InOrder.{among_In, In_among, at-In, In-at, Pairs-at, find_only, find_nothing, is_last}
+use Rattle.candidate_reads.proofs.InOrder.{among_In, In_among, at-In, In-at, Pairs-at, find_only, find_nothing, own_there, is_last}
 use Rattle.candidate_reads.proofs.Shows.{version_parts}
-use Rattle.candidate_reads.proofs.Sources.{Strict, writer_began, at-writer}
+use Rattle.candidate_reads.proofs.Sources.{Strict, writer_began, writer_counted, at-writer}
 
 -- of a list in version order, the last one that passes is the latest of all that pass
 latest_place : (S : Setup) (H : List Event) (x : Cell) (p : ℕ → Bool) (ws : List ℕ) → Pairs (Strict S H x) ws → ((w : ℕ) → p w ≡ true → In w ws) → ((w : ℕ) → In w ws → In w (txns H)) →
@@ -65,6 +65,14 @@ is_final H x w = committed H w && wrote H w x
 module _ (S : Setup) (H : List Event) (x : Cell) (L : Cell → List Version) (l : Lawful S H) (h : HoldsVersions S H L) where
   have : (w : ℕ) → In w (writers_of (L x)) → has_version H x w ≡ true
   have w i = sym (h.writers x w) ∙ In_among w (writers_of (L x)) i
+
+  -- no version is of 0
+  pub of_nobody : (p : ℕ → Bool) → own_or_last 0 p (writers_of (L x)) ≡ last_place p (writers_of (L x))
+  of_nobody p = go (first_place (λ w. eqb w 0) (writers_of (L x))) refl
+    where
+      go : (o : Option ℕ) → o ≡ first_place (λ w. eqb w 0) (writers_of (L x)) → elim o [ None ↦ last_place p (writers_of (L x)) | Some i ↦ Some i ] ≡ last_place p (writers_of (L x))
+      go None e = refl
+      go (Some i) e = absurd (omega (arith, writer_counted S H 0 x l (version_parts H x 0 (sym (h.writers x 0) ∙ own_there (writers_of (L x)) 0 i e)).0))
 
   final_in : (w : ℕ) → is_final H x w ≡ true → In w (writers_of (L x))
   final_in w f = let p = and_parts _ _ f in among_In w (writers_of (L x)) (h.writers x w ∙ and_from _ _ p.1 (not_from_false _ (committed_stands S H w l p.0)))

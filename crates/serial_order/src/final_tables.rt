@@ -1,6 +1,7 @@
 //! The final tables.
 
-ghost use Rattle.std.specs.Prelude.{◌≡◌, ℕ, ◌++◌, map, reverse, IfOk, OnOk};
+ghost use Rattle.std.specs.Prelude.{◌≡◌, ℕ, ◌++◌, map, reverse, slice_get, Some, IfOk, IfSome, OnOk};
+ghost use Rattle.std.specs.Option.{option_map};
 ghost use Rattle.teb_history.specs.Phases.{committed};
 ghost use Rattle.version_chain.specs.Lists.{writers_of, last_place};
 ghost use Rattle.phase_api.specs.FactsView.{events_of};
@@ -12,7 +13,7 @@ use phase_api::Facts;
 use std::alloc::{AllocError, Global};
 use teb_history::Event;
 use teb_names::{Cell, Txn};
-use version_chain::Chains;
+use version_chain::{Chains, Found};
 
 /// The rows of the final tables, in ascending order of cells: for each cell the value of its last committed version, or of its
 /// starting row. A deleted row is left out. Beside the walk over the events, a cell costs the versions above that one, which
@@ -100,17 +101,18 @@ impl<'a, C: Chains> EndState<'a, C> {
         ensures { result ≡ left self.now cell }
     {
         match self.last_committed(cell) {
-            Some(i) => self.chains.at(cell, i).1,
+            Some(found) => found.value,
             None => self.rows.get(cell),
         }
     }
 
-    // The place of the last version whose writer is committed.
-    fn last_committed(&self, cell: Cell) -> Option<usize>
-        ensures { result ≡ last_place (committed (events_of self.now.facts.now)) (writers_of (C.lists self.now.chains.now cell)) }
+    // The last version whose writer is committed. No version is of transaction 0.
+    fn last_committed(&self, cell: Cell) -> Option<Found>
+        ensures place { option_map (λ v. v.at) result ≡ last_place (committed (events_of self.now.facts.now)) (writers_of (C.lists self.now.chains.now cell)) }
+        ensures version { IfSome result (λ v. slice_get (C.lists self.now.chains.now cell) v.at ≡ Some (v.writer, v.value)) }
     {
         let history = self.facts.history;
         self.chains
-            .last_where(cell, &|w: Txn| history.is_committed(w))
+            .own_or_last(cell, Txn(0), &|w: Txn| history.is_committed(w))
     }
 }
