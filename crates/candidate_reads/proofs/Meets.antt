@@ -1,6 +1,6 @@
 -- Where a writer and another transaction meet, and what that node says of the two.
 use Rattle.std.proofs.Common.{ℕ, ◌≡◌, ◌≢◌, ◌<◌, Bool, true, false, not, ◌&&◌, ltb, List, sym, subst, ◌∙◌, length, lt-ltb, ltb-true, ne_eqb, refl, inl, inr, arith}
-use Rattle.std.proofs.lemmas.Bool.{cases_Bool, ltb-false}
+use Rattle.std.proofs.lemmas.Bool.{both_ways, cases_Bool, ltb-false}
 use Rattle.teb_names.specs.declared.Cell.{Cell}
 use Rattle.teb_names.specs.declared.ControlKind.{ControlKind}
 use Rattle.teb_names.specs.declared.ControlKind.TheVariants.{Timestamp}
@@ -8,7 +8,7 @@ use Rattle.teb_history.specs.declared.Event.{Event}
 use Rattle.teb_history.specs.Phases.{aborted, begun, began_at, spot_of}
 use Rattle.teb_history.specs.Accesses.{wrote, put_at}
 use Rattle.teb_rules.specs.Setup.{Setup}
-use Rattle.teb_rules.specs.Tree.{row, path, meet, meets, is_timestamp}
+use Rattle.teb_rules.specs.Tree.{row, path, on_path, meet, meets, is_timestamp}
 use Rattle.teb_rules.specs.Versions.{precedes, orders, sees, sees_by}
 use Rattle.teb_laws.specs.TreeFacts.{TreeFacts}
 use Rattle.teb_laws.specs.Lawful.{Lawful}
@@ -21,6 +21,7 @@ use Rattle.phase_api.specs.declared.facts.Facts.{Facts}
 use Rattle.phase_api.specs.FactsView.{setup_of, events_of, IsTyped}
 use Rattle.phase_api.specs.Calls.{IsPair}
 use Rattle.phase_api.specs.Versions.{has_version}
+use Rattle.candidate_reads.specs.Asked.{MeetsNoTimestamp}
 use Rattle.candidate_reads.proofs.InOrder.{among_In}
 use Rattle.candidate_reads.proofs.Shows.{version_parts}
 use Rattle.candidate_reads.proofs.Sources.{writer_began, begun_place}
@@ -87,3 +88,13 @@ module _ (f : Facts) (x : Cell) (n w t : ℕ) (a : TreeFacts (setup_of f)) (l : 
       let e : meet (setup_of f) (events_of f) t w ≡ n = meet_is (setup_of f) a (events_of f) n t w l (begun_place (events_of f) t ty.begun) (writer_began (setup_of f) (events_of f) w x l (version_parts (events_of f) x w v).0) h in
       let p = version_parts (events_of f) x w v in
       rw (ne_eqb w t ne, p.0, p.1, e) refl
+
+-- where no timestamp node is on t's path, and t has not put x, its version will be later than each that is there
+pub later_than_all : (f : Facts) (x : Cell) (w t : ℕ) → TreeFacts (setup_of f) → Lawful (setup_of f) (events_of f) → has_version (events_of f) x w ≡ true → IsTyped f t →
+    MeetsNoTimestamp (setup_of f) (events_of f) t → has_version (events_of f) x t ≡ false → aborted (events_of f) t ≡ false → true ≡ precedes (setup_of f) (events_of f) x w t
+unfolding on_path
+later_than_all f x w t a l v ty free none na =
+    let S = setup_of f in
+    let H = events_of f in
+    let m = meets_exists S a H w t l (writer_began S H w x l (version_parts H x w v).0) (begun_place H t ty.begun) (λ e. both_ways _ none (subst (λ (z : ℕ). has_version H x z ≡ true) e v)) in
+    later_there f x m.node w t a l v ty (free m.node (on-among S H m.node t (meets_parts S H m.node w t m.meet).1)) none na m.meet

@@ -1,5 +1,6 @@
 -- Where a transaction's version belongs among those that are there.
-use Rattle.std.proofs.Common.{ℕ, ◌≡◌, ◌≢◌, suc, ◌+◌, ◌≤◌, true, false, eqb, List, Some, None, refl, sym, ap, subst, ◌∙◌, arith, inl, inr, length, get_or, slice_get, ◌<◌}
+use Rattle.std.proofs.Common.{ℕ, ◌≡◌, ◌≢◌, suc, ◌+◌, ◌≤◌, Bool, true, false, cond, eqb, IfSome, List, Option, Some, None, refl, sym, ap, subst, ◌∙◌, arith, inl, inr, length, get_or, slice_get, ◌<◌, eqb-true, eq-eqb}
+use Rattle.std.specs.Option.{option_map}
 use Rattle.std.proofs.lemmas.Bool.{both_ways, cases_order, and_parts, and_from, or_cases, not-true, not_from_false}
 use Rattle.std.proofs.lemmas.Option.{slice_get_within, get_or_from_slice_get}
 use Rattle.std.proofs.lemmas.List.{length-map}
@@ -18,13 +19,16 @@ use Rattle.teb_laws.proofs.Lists.{Pairs-weaker}
 use Rattle.teb_laws.proofs.Pigeons.{distinct-length}
 use Rattle.teb_laws.proofs.Timeline.{begun_counted}
 use Rattle.teb_laws.proofs.VersionOrder.{precedes_irreflexive}
-use Rattle.version_chain.specs.Lists.{Version, writers_of, first_place, last_place}
+use Rattle.version_chain.specs.declared.chains.Found.{Found}
+use Rattle.version_chain.specs.Lists.{Version, writers_of, is_writer, first_place, last_place, own_or_last}
 use Rattle.version_chain.proofs.Places.{IsLast}
 use Rattle.phase_api.specs.Calls.{Writes}
 use Rattle.phase_api.specs.Versions.{HoldsVersions, IsPlaceOf, has_version}
-use Rattle.candidate_reads.proofs.InOrder.{at-In, In_among, Pairs-at, is_last, own_found, own_absent}
+use Rattle.candidate_reads.specs.declared.placing.Place.{Place}
+use Rattle.candidate_reads.specs.Places.{place_from}
+use Rattle.candidate_reads.proofs.InOrder.{at-In, In_among, Pairs-at, is_last, own_found, own_there, own_absent}
 use Rattle.candidate_reads.proofs.Shows.{version_parts}
-use Rattle.candidate_reads.proofs.Sources.{Strict, writer_began}
+use Rattle.candidate_reads.proofs.Sources.{Strict, writer_began, own_at, other_at, nothing_at}
 
 pub unfinished_stands : (H : List Event) (t : ℕ) → unfinished H t ≡ true → aborted H t ≡ false
 unfolding unfinished
@@ -33,6 +37,14 @@ unfinished_stands H t h = not-true _ (and_parts _ _ h).1
 -- a version's place is one of the chain, or its end
 pub place_within : (S : Setup) (H : List Event) (x : Cell) (t at : ℕ) (vs : List Version) → IsPlaceOf S H x t at (writers_of vs) → at ≤ length vs
 place_within S H x t at vs p = rw length-map at p.within
+
+-- what it is that p is the place of t's version of x among the versions vs
+abbrev pub IsPlaced : Setup → List Event → Cell → ℕ → List Version → Place → Type 0
+IsPlaced S H x t vs p = IsPlaceOf S H x t p.at (writers_of vs) × (is_writer vs t ≡ true → slice_get (writers_of vs) p.at ≡ Some t) × (p.is_there ≡ is_writer vs t)
+
+-- what it is that a version was found in vs, and that it is t's, or else the last one that is before t's
+abbrev pub IsFound : Setup → List Event → Cell → ℕ → List Version → Option Found → Type 0
+IsFound S H x t vs f = (option_map (λ v. v.at) f ≡ own_or_last t (λ w. precedes S H x w t) (writers_of vs)) × IfSome f (λ v. slice_get vs v.at ≡ Some (v.writer, v.value))
 
 -- t's own version stands where it belongs
 own_place : (S : Setup) (H : List Event) (x : Cell) (t i : ℕ) (ws : List ℕ) → Pairs (Strict S H x) ws → i < length ws → slice_get ws i ≡ Some t → IsPlaceOf S H x t i ws
@@ -90,7 +102,12 @@ module _ (S : Setup) (H : List Event) (L : Cell → List Version) (l : Lawful S 
   pub versions_counted : length (L x) ≤ suc (begun_count H)
   versions_counted = rw length-map at writers_counted
 
-  pub place_own : (t i : ℕ) → Some i ≡ first_place (λ w. eqb w t) (writers_of (L x)) → IsPlaceOf S H x t i (writers_of (L x))
+  -- and each place is one of so many
+  pub found_counted : (f : Option Found) → IfSome f (λ v. slice_get (L x) v.at ≡ Some (v.writer, v.value)) → IfSome f (λ v. v.at ≤ begun_count H)
+  found_counted None g = g
+  found_counted (Some v) g = let within = slice_get_within (L x) v.at (v.writer, v.value) g in let most = versions_counted in omega arith
+
+  place_own : (t i : ℕ) → Some i ≡ first_place (λ w. eqb w t) (writers_of (L x)) → IsPlaceOf S H x t i (writers_of (L x))
   place_own t i e = let r = own_found (writers_of (L x)) t i e in own_place S H x t i (writers_of (L x)) (h.order x) r.0 r.1
 
   -- who may write and has no place is unfinished
@@ -101,8 +118,25 @@ module _ (S : Setup) (H : List Event) (L : Cell → List Version) (l : Lawful S 
     along_t : (u v : ℕ) → In u (writers_of (L x)) → In v (writers_of (L x)) → precedes S H x u v ≡ true → precedes S H x v t ≡ true → precedes S H x u t ≡ true
     along_t u v i j p q = (lawful_orders S a H l).transitive x t u v t (writer t u i) (writer t v j) (record { stands = na; puts = inr (refl, about_to t na w e) }) p q
 
-    pub place_after : (i : ℕ) → Some i ≡ last_place (λ w. precedes S H x w t) (writers_of (L x)) → IsPlaceOf S H x t (i + 1) (writers_of (L x))
+    place_after : (i : ℕ) → Some i ≡ last_place (λ w. precedes S H x w t) (writers_of (L x)) → IsPlaceOf S H x t (i + 1) (writers_of (L x))
     place_after i q = place_behind S H x t (writers_of (L x)) (h.order x) along_t i (is_last (λ w. precedes S H x w t) (writers_of (L x)) (Some i) q)
 
-    pub place_at_front : None ≡ last_place (λ w. precedes S H x w t) (writers_of (L x)) → IsPlaceOf S H x t 0 (writers_of (L x))
+    place_at_front : None ≡ last_place (λ w. precedes S H x w t) (writers_of (L x)) → IsPlaceOf S H x t 0 (writers_of (L x))
     place_at_front q = place_first S H x t (writers_of (L x)) (h.order x) along_t (is_last (λ w. precedes S H x w t) (writers_of (L x)) None q)
+
+  -- the version found leads to the place of t's version
+  pub placed : TreeFacts S → (t : ℕ) → aborted H t ≡ false → Writes H t x → (f : Option Found) → IsFound S H x t (L x) f → IsPlaced S H x t (L x) (place_from f t)
+  placed a t na w None r =
+      let none = nothing_at t _ (writers_of (L x)) r.0 in
+      let absent = own_absent (writers_of (L x)) t none.0 in
+      (place_at_front a t na w none.0 none.1, λ o. absurd (both_ways _ absent o), sym absent)
+  placed a t na w (Some v) r = go (eqb v.writer.0 t) refl
+    where
+      go : (b : Bool) → eqb v.writer.0 t ≡ b → IsPlaced S H x t (L x) (cond b (record { at = v.at; is_there = true }) (record { at = v.at + 1; is_there = false }))
+      go true e =
+          let own = own_at (L x) t v.at _ (v.writer, v.value) r.0 r.1 (eqb-true _ _ e) in
+          (place_own t v.at own, λ _. (own_found (writers_of (L x)) t v.at own).1, sym (own_there (writers_of (L x)) t v.at own))
+      go false e =
+          let last = other_at (L x) t v.at _ (v.writer, v.value) r.0 r.1 (λ q. both_ways _ e (eq-eqb _ _ q)) in
+          let absent = own_absent (writers_of (L x)) t last.0 in
+          (place_after a t na w last.0 v.at last.1, λ o. absurd (both_ways _ absent o), sym absent)

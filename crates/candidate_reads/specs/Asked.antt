@@ -2,8 +2,9 @@
 use Rattle.std.specs.Prelude.{ℕ, List, IsTrue, IsFalse}
 use Rattle.teb_names.specs.declared.Cell.{Cell}
 use Rattle.teb_history.specs.declared.Event.{Event}
-use Rattle.teb_history.specs.Phases.{aborted, unfinished}
+use Rattle.teb_history.specs.Phases.{aborted, unfinished, spot_of}
 use Rattle.teb_rules.specs.Setup.{Setup}
+use Rattle.teb_rules.specs.Tree.{row, on_path, is_timestamp}
 use Rattle.teb_laws.specs.TreeFacts.{TreeFacts}
 use Rattle.teb_laws.specs.Lawful.{Lawful}
 use Rattle.phase_api.specs.declared.facts.Facts.{Facts}
@@ -28,3 +29,7 @@ pub record ReadsOthers (f : Facts) (t : ℕ) (x : Cell) : Type 0 where
   pub typed : IsTyped f t
   pub kept : IsFalse (aborted (events_of f) t)
   pub absent : IsFalse (has_version (events_of f) x t)
+
+-- no timestamp node is on t's path
+abbrev pub MeetsNoTimestamp : Setup → List Event → ℕ → Type 0
+MeetsNoTimestamp S H t = (n : ℕ) → IsTrue (on_path S.tree n (spot_of H t)) → IsFalse (is_timestamp (row S.tree n).control)

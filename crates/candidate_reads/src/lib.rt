@@ -7,6 +7,6 @@ mod reading;
 mod sight;
 
 pub use node_control::{control_at, control_between};
-pub use placing::{Place, place_of};
+pub use placing::{Place, place_behind, place_of};
 pub use reading::read;
 pub use sight::{amend, candidate};

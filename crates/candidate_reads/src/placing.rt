@@ -1,6 +1,6 @@
 //! Where a transaction's version belongs.
 
-ghost use Rattle.std.specs.Prelude.{◌≡◌, slice_get, Some, IfSome, IsTrue, IsFalse};
+ghost use Rattle.std.specs.Prelude.{◌≡◌, ◌≤◌, slice_get, Some, IfSome, IsTrue, IsFalse};
 ghost use Rattle.std.specs.Option.{option_map};
 ghost use Rattle.teb_history.specs.Phases.{aborted};
 ghost use Rattle.teb_rules.specs.Versions.{precedes};
@@ -11,7 +11,8 @@ ghost use Rattle.phase_api.specs.FactsView.{setup_of, events_of, IsTyped};
 ghost use Rattle.phase_api.specs.Calls.{Writes};
 ghost use Rattle.phase_api.specs.Versions.{HoldsVersions, IsPlaceOf, has_version};
 ghost use Rattle.phase_api.specs.Standing.{StandAll};
-ghost use Rattle.candidate_reads.specs.Asked.{AreAsked, MayPut};
+ghost use Rattle.candidate_reads.specs.Asked.{AreAsked, MayPut, MeetsNoTimestamp};
+ghost use Rattle.candidate_reads.specs.Places.{place_from};
 
 use crate::node_control::control_between;
 use phase_api::{Control, Facts};
@@ -54,20 +55,43 @@ pub fn place_of<K: Control, C: Chains>(
     ensures own { IsTrue (is_writer (C.lists chains.now cell) t.0) → slice_get (writers_of (C.lists chains.now cell)) result.at ≡ Some t.0 }
     ensures there { result.is_there ≡ is_writer (C.lists chains.now cell) t.0 }
 {
-    let begun = facts.history.begun();
-    match own_or_before(controls, chains, facts, t, cell) {
+    let found = own_or_before(controls, chains, facts, t, cell);
+    place_from(found, t, facts.history.begun())
+}
+
+/// The place of t's version of a cell where no timestamp node is on t's path: where it stands, or else behind all that are there.
+pub fn place_behind<C: Chains>(chains: &C, facts: &Facts, t: Txn, cell: Cell) -> Place
+    requires tree { TreeFacts (setup_of facts.now) }
+    requires lawful { Lawful (setup_of facts.now) (events_of facts.now) }
+    requires chains { HoldsVersions (setup_of facts.now) (events_of facts.now) (C.lists chains.now) }
+    requires typed { IsTyped facts.now t.0 }
+    requires kept { IsFalse (aborted (events_of facts.now) t.0) }
+    requires writes { Writes (events_of facts.now) t.0 cell }
+    requires path { MeetsNoTimestamp (setup_of facts.now) (events_of facts.now) t.0 }
+    ensures place { IsPlaceOf (setup_of facts.now) (events_of facts.now) cell t.0 result.at (writers_of (C.lists chains.now cell)) }
+    ensures own { IsTrue (is_writer (C.lists chains.now cell) t.0) → slice_get (writers_of (C.lists chains.now cell)) result.at ≡ Some t.0 }
+    ensures there { result.is_there ≡ is_writer (C.lists chains.now cell) t.0 }
+{
+    let found = chains.own_or_last(cell, t, &|_w: Txn| true);
+    place_from(found, t, facts.history.begun())
+}
+
+// The place of t's version, where it is the one that was found, or else behind the one that was found. A cell has at most one
+// version of each transaction that has begun.
+#[inline(always)]
+fn place_from(found: Option<Found>, t: Txn, _begun: u32) -> Place
+    requires { IfSome found (λ v. v.at ≤ _begun) }
+    ensures { result ≡ place_from found t.0 }
+{
+    match found {
         Some(found) if found.writer == t => Place {
             at: found.at,
             is_there: true,
         },
-        Some(found) => {
-            // A cell has at most one version of each transaction.
-            prove!(found.at <= begun as usize);
-            Place {
-                at: found.at + 1,
-                is_there: false,
-            }
-        }
+        Some(found) => Place {
+            at: found.at + 1,
+            is_there: false,
+        },
         None => Place::FRONT,
     }
 }
