@@ -13,7 +13,7 @@ ghost use Rattle.engine_core.specs.Wholes.{store_in, events_in, ViewIsWhole};
 ghost use Rattle.engine_core.specs.Stopping.{at_of, AreTold};
 
 use crate::asking::Asking;
-use candidate_reads::Place;
+use candidate_reads::{Place, place_behind};
 use cc_tree::Tree;
 use phase_api::Control;
 use teb_names::{Cell, ControlKind, Node};
@@ -43,7 +43,8 @@ pub fn at_of(asked: Option<Place>) -> Option<usize>
     }
 }
 
-/// The place of t's version of a cell, which may have been asked for already.
+/// The place of t's version of a cell, which is asked for already where a timestamp node is on t's path. Where none is, no control
+/// need be asked.
 pub fn granted_place<K: Control, C: Chains>(
     asking: &Asking<'_, K, C>,
     asked: Option<Place>,
@@ -51,11 +52,13 @@ pub fn granted_place<K: Control, C: Chains>(
 ) -> Place
     requires whole { ViewIsWhole K.node_number K.stands C.lists asking.now.view.now }
     requires asked { IfSome asked (λ p. IsPlaced (store_in asking.now.view.now).setup (events_in asking.now.view.now) (C.lists asking.now.view.now.chains.now) asking.now.txn.0 cell p) }
+    requires told { AreTold (store_in asking.now.view.now).setup (events_in asking.now.view.now) cell asking.now.txn.0 (at_of asked) (writers_of (C.lists asking.now.view.now.chains.now cell)) }
     ensures { IsPlaced (store_in asking.now.view.now).setup (events_in asking.now.view.now) (C.lists asking.now.view.now.chains.now) asking.now.txn.0 cell result }
 {
+    let view = asking.view;
     match asked {
         Some(place) => place,
-        None => asking.view.place_of(asking.txn, cell),
+        None => place_behind(view.chains, &view.facts, asking.txn, cell),
     }
 }
 
