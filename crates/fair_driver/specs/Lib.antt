@@ -1,3 +1,4 @@
+pub mod Effects
 pub mod Seats
 pub mod Rounds
 pub mod Turns

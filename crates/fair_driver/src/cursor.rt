@@ -2,15 +2,17 @@
 
 ghost use Rattle.std.specs.Prelude.{◌≡◌, ◌≤◌, List, ◌∷◌};
 ghost use Rattle.teb_names.specs.declared.Request.{Request};
-ghost use Rattle.teb_rules.specs.Scripts.{at_first, asks, move_of};
+ghost use Rattle.teb_names.specs.declared.Reply.{Reply};
+ghost use Rattle.teb_rules.specs.Scripts.{at_first, asks};
 ghost use Rattle.teb_rules.specs.Driver.{due, counted, seat_after};
-ghost use Rattle.script_walk.specs.Advances.{move_at};
 ghost use Rattle.script_walk.specs.ScriptStates.{requests_on};
+ghost use Rattle.fair_driver.specs.Effects.{IsEffect};
 ghost use Rattle.fair_driver.specs.Seats.{seat_of};
 
+use crate::effect::Effect;
 use script_text::Line;
-use script_walk::{Advance, Walker, advance_after};
-use teb_names::{Refusal, Reply, Request, Session};
+use script_walk::{Advance, Walker};
+use teb_names::{Request, Session};
 
 /// How often a session is sent back before it runs alone.
 const MOST_ABORTS: u8 = 3;
@@ -55,32 +57,30 @@ impl<'a> Cursor<'a> {
         self.aborts == MOST_ABORTS && self.next().is_some()
     }
 
-    /// Takes an answer to what the session asked.
+    /// Takes the effect of an answer to what the session asked.
     #[inline(always)]
-    pub fn take(&mut self, reply: &Reply)
+    pub fn take(&mut self, effect: Effect)
         requires { self.old.aborts ≤ 3 }
-        ensures { seat_of self.new ≡ seat_after (seat_of self.old) reply.now }
+        ensures { (a : Reply) → IsEffect effect a → seat_of self.new ≡ seat_after (seat_of self.old) a }
     {
         if self.walker.at < self.lines.len() {
-            let advance = advance_after(reply);
-            self.aborts = self.aborts_after(reply, advance);
-            self.walker.go(advance);
+            self.aborts = self.aborts_after(effect);
+            self.walker.go(effect.advance);
         } else {
             self.walker.begun = None;
         }
     }
 
-    /// How often the session was sent back, after an answer to a line by which it advances so. The count starts anew where it got through, and where no further transaction may begin.
+    /// How often the session was sent back, after an answer to a line that has this effect. The count starts anew where it got through, and where no further transaction may begin.
     #[inline(always)]
-    fn aborts_after(&self, reply: &Reply, advance: Advance) -> u8
-        requires few { self.now.aborts ≤ 3 }
-        requires way { move_at advance ≡ move_of reply.now }
-        ensures { (r : Request) (rs : List Request) → result ≡ counted (r ∷ rs) reply.now self.now.aborts }
+    fn aborts_after(&self, effect: Effect) -> u8
+        requires { self.now.aborts ≤ 3 }
+        ensures { (r : Request) (rs : List Request) (a : Reply) → IsEffect effect a → result ≡ counted (r ∷ rs) a self.now.aborts }
     {
-        if matches!(reply, Reply::Refused(Refusal::Full)) {
+        if effect.is_full {
             return 0;
         }
-        match advance {
+        match effect.advance {
             Advance::Return => self.aborts + 1,
             Advance::Leave => 0,
             Advance::Stay | Advance::Enter | Advance::Go => self.aborts,

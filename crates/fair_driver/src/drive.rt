@@ -7,6 +7,7 @@ ghost use Rattle.fair_driver.specs.Seats.{seats_in, scripts_on};
 ghost use Rattle.fair_driver.specs.Rounds.{round_of};
 ghost use Rattle.fair_driver.specs.Logged.{AreAnswers, IsMade};
 
+use crate::effect::Effect;
 use crate::ring::Ring;
 use crate::steps::Steps;
 use answer_log::Log;
@@ -81,7 +82,7 @@ fn make_turn<C: Chains, G: Log>(
     log.ready(&engine.setup().names)?;
     engine.ready()?;
     let reply = &engine.ask(asked.session, asked.request);
-    ring.take(asked.index, reply);
+    ring.take(asked.index, Effect::of_full(reply));
     log.add(&engine.setup().names, asked.session, reply);
     Ok(true)
 }

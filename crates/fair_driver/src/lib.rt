@@ -3,6 +3,7 @@
 
 mod cursor;
 mod drive;
+mod effect;
 mod offer;
 mod quiet;
 mod ring;

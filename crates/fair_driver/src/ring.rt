@@ -6,11 +6,12 @@ ghost use Rattle.teb_rules.specs.Driver.{Seat, due, offer, seated, seat_after};
 ghost use Rattle.fair_driver.specs.Seats.{seat_of};
 
 use crate::cursor::Cursor;
+use crate::effect::Effect;
 use crate::offer::{is_any_due, offer};
 use script_text::Scripts;
 use std::alloc::{AllocError, Global};
 use teb_history::History;
-use teb_names::{Reply, Request, Session};
+use teb_names::{Request, Session};
 
 /// The sessions, in ascending number. The turn goes round.
 #[derive(Drop)]
@@ -38,6 +39,8 @@ impl<'a> Ring<'a> {
     ghost use Rattle.fair_driver.specs.Seats.{seats_in, scripts_on};
     ghost use Rattle.fair_driver.specs.Rounds.{round_of};
     ghost use Rattle.fair_driver.specs.Turns.{IsFirst, IsTurn};
+    ghost use Rattle.fair_driver.specs.Effects.{IsEffect};
+    ghost use Rattle.teb_names.specs.declared.Reply.{Reply};
 
     /// Each session at the first line of its script. The least-numbered is looked at first.
     pub fn new(alloc: Global, scripts: &'a Scripts) -> Result<Ring<'a>, AllocError>
@@ -87,19 +90,19 @@ impl<'a> Ring<'a> {
         None
     }
 
-    /// Takes the answer to what a session asked. The turn goes to the session behind it. The others are looked at only where that session is to
+    /// Takes the effect of an answer to what a session asked. The turn goes to the session behind it. The others are looked at only where that session is to
     /// run alone from now on, or no longer.
     #[inline(always)]
-    pub fn take(&mut self, index: usize, reply: &Reply)
+    pub fn take(&mut self, index: usize, effect: Effect)
         requires within { index < vec_len self.old.cursors }
         requires few { IfSome (slice_get (seats_in self.old.cursors.items) index) (λ w. w.aborts ≤ 3) }
-        ensures { (w : Seat) → slice_get (seats_in self.old.cursors.items) index ≡ Some w → round_of self.new
-            ≡ drop (index + 1) (seats_in self.old.cursors.items) ++ take index (seats_in self.old.cursors.items) ++ seat_after w reply.now ∷ [] }
+        ensures { (w : Seat) (a : Reply) → slice_get (seats_in self.old.cursors.items) index ≡ Some w → IsEffect effect a → round_of self.new
+            ≡ drop (index + 1) (seats_in self.old.cursors.items) ++ take index (seats_in self.old.cursors.items) ++ seat_after w a ∷ [] }
     {
         self.next = index + 1;
         let cursor = &mut self.cursors[index];
         let was_due = cursor.is_due();
-        cursor.take(reply);
+        cursor.take(effect);
         if cursor.is_due() != was_due {
             self.has_due = is_any_due(&self.cursors);
         }

@@ -26,7 +26,7 @@ returns-clause-ok g c = λ told t.
       record {
         entry = entry;
         stepped = turn_taken X c.ready-2.new.self.store H c.ready-2.new.self.events c.ask.new.self.events r.next (seats_in r.cursors.items) (round_of c.take.new.self) a c.ask.result turn
-            c.in_ok-ready-2.ensures.store c.in_ok-ready-2.ensures.events c.ask.ensures.reply c.ask.ensures.events (c.take.ensures turn.of.seat turn.seat);
+            c.in_ok-ready-2.ensures.store c.in_ok-ready-2.ensures.events c.ask.ensures.reply c.ask.ensures.events (c.take.ensures turn.of.seat c.ask.result turn.seat c.of_full.ensures);
         replies = refl;
       },
     )

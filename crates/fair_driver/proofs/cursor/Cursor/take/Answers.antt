@@ -5,9 +5,9 @@ use Rattle.fair_driver.proofs.Counts.{counted_at}
 use Rattle.fair_driver.proofs.cursor.Cursor.take.Goals as goal
 
 pub returns-then-self : goal.returns-then-self
-returns-then-self c =
+returns-then-self c = λ a e.
     let k = c.args.self.now in
     let s = (seat_of k).state in
     ap₂ (λ (state : ScriptState) (aborts : ℕ). record { session = k.session; state = state; aborts = aborts })
-    (c.go.ensures k.lines.now c.if-self.true ∙ ap (λ (m : Move). moved s.rest s.begun m) c.advance_after-advance.ensures)
-    (counted_at k.lines.now k.walker.at c.args.reply.now k.aborts _ c.if-self.true c.aborts_after-self.ensures)
+    (c.go.ensures k.lines.now c.if-self.true ∙ ap (λ (m : Move). moved s.rest s.begun m) e.way)
+    (counted_at k.lines.now k.walker.at a k.aborts _ c.if-self.true (λ r rs. c.aborts_after-self.ensures r rs a e))

@@ -7,20 +7,20 @@ use Rattle.fair_driver.proofs.Offers.{any_set, not_other}
 use Rattle.fair_driver.proofs.ring.Ring.take.Goals as goal
 
 pub returns-then-is_due-was_due : goal.returns-then-is_due-was_due
-returns-then-is_due-was_due c = λ w h.
+returns-then-is_due-was_due c = λ w a h e.
     let v = c.args.self.now.cursors in
     let z = v.ok.0 in
     let l : c.args.index < length v.items = omega (arith, c.requires.within) in
-    round_on v.items c.args.index c.take.new.self (seat_after w c.args.reply.now) l
-    (c.take.ensures ∙ ap (λ (s : Seat). seat_after s c.args.reply.now) (seat_there v.items c.args.index c.index_mut-cursor.result.now w l c.index_mut-cursor.ensures.value h))
+    round_on v.items c.args.index c.take.new.self (seat_after w a) l
+    (c.take.ensures a e ∙ ap (λ (s : Seat). seat_after s a) (seat_there v.items c.args.index c.index_mut-cursor.result.now w l c.index_mut-cursor.ensures.value h))
 
 pub returns-else-is_due-was_due : goal.returns-else-is_due-was_due
-returns-else-is_due-was_due c = λ w h.
+returns-else-is_due-was_due c = λ w a h e.
     let v = c.args.self.now.cursors in
     let z = v.ok.0 in
     let l : c.args.index < length v.items = omega (arith, c.requires.within) in
-    round_on v.items c.args.index c.take.new.self (seat_after w c.args.reply.now) l
-    (c.take.ensures ∙ ap (λ (s : Seat). seat_after s c.args.reply.now) (seat_there v.items c.args.index c.index_mut-cursor.result.now w l c.index_mut-cursor.ensures.value h))
+    round_on v.items c.args.index c.take.new.self (seat_after w a) l
+    (c.take.ensures a e ∙ ap (λ (s : Seat). seat_after s a) (seat_there v.items c.args.index c.index_mut-cursor.result.now w l c.index_mut-cursor.ensures.value h))
 
 pub invariant_of-self-else-is_due-was_due-clause-told : goal.invariant_of-self-else-is_due-was_due-clause-told
 invariant_of-self-else-is_due-was_due-clause-told c =
