@@ -1,6 +1,6 @@
 //! The requests of a script, in order.
 
-ghost use Rattle.std.specs.Prelude.{◌≡◌, ◌++◌, ◌∷◌, [], List, OnOk};
+ghost use Rattle.std.specs.Prelude.{◌≡◌, ◌++◌, ◌∷◌, [], IsTrue, List, OnOk};
 ghost use Rattle.teb_rules.specs.Answer.{answer};
 ghost use Rattle.teb_rules.specs.Run.{history_after};
 ghost use Rattle.script_text.specs.declared.Answered.{Answered};
@@ -62,7 +62,32 @@ pub fn ask<C: Chains, L: Log>(
 {
     log.ready(&engine.setup().names)?;
     engine.ready()?;
+    match request {
+        Request::Scan { .. } => ask_scan(engine, session, request, log),
+        _ => {
+            let reply = &engine.ask_short(session, request);
+            log.add_short(&engine.setup().names, session, reply);
+        }
+    }
+    Ok(())
+}
+
+/// Asks a scan, and logs the reply: out of line, since scans are rare and their reply is long.
+#[inline(never)]
+fn ask_scan<C: Chains, L: Log>(
+    engine: &mut Engine<C>,
+    session: Session,
+    request: Request,
+    log: &mut L,
+)
+    requires ready { IsTrue engine.old.ready }
+    requires room { L.has_room log.old }
+    ensures store { engine.new.store ≡ engine.old.store }
+    ensures names { engine.new.names ≡ engine.old.names }
+    ensures log { (told : List Answered) → L.tells log.old engine.old.names told → L.tells log.new engine.old.names
+        (told ++ record { session = session; reply = (answer engine.old.store engine.old.events session request).0 } ∷ []) }
+    ensures events { engine.new.events ≡ (answer engine.old.store engine.old.events session request).1 }
+{
     let reply = &engine.ask(session, request);
     log.add(&engine.setup().names, session, reply);
-    Ok(())
 }
