@@ -1,8 +1,10 @@
 //! The turns of the sessions.
 
-ghost use Rattle.std.specs.Prelude.{◌≡◌, ◌≤◌, [], All, IfOk, List, OnErr, OnOk};
+ghost use Rattle.std.specs.Prelude.{◌≡◌, ◌+◌, ◌<◌, ◌≤◌, [], ◌∷◌, ◌++◌, All, IfOk, IfSome, IsTrue, List, OnErr, OnOk, Some, slice_get, take, drop, vec_len};
+ghost use Rattle.teb_names.specs.declared.Request.TheVariants.{Scan};
 ghost use Rattle.script_text.specs.declared.Answered.{Answered};
-ghost use Rattle.teb_rules.specs.Driver.{Ascending, Follows, Turns, seated};
+ghost use Rattle.teb_rules.specs.Answer.{answer};
+ghost use Rattle.teb_rules.specs.Driver.{Ascending, Follows, Seat, Turns, seat_after, seated};
 ghost use Rattle.fair_driver.specs.Seats.{seats_in, scripts_on};
 ghost use Rattle.fair_driver.specs.Rounds.{round_of};
 ghost use Rattle.fair_driver.specs.Logged.{AreAnswers, IsMade};
@@ -15,6 +17,7 @@ use engine_core::Engine;
 use script_text::Scripts;
 use std::alloc::{AllocError, Global};
 use std::sync::ledger::Ledger;
+use teb_names::{Cell, Request, Session};
 use version_chain::Chains;
 
 /// Asks the sessions in turn, each along its script, until every script is worked through. The replies are added to
@@ -81,8 +84,45 @@ fn make_turn<C: Chains, G: Log>(
     };
     log.ready(&engine.setup().names)?;
     engine.ready()?;
-    let reply = &engine.ask(asked.session, asked.request);
-    ring.take(asked.index, Effect::of_full(reply));
-    log.add(&engine.setup().names, asked.session, reply);
+    match asked.request {
+        Request::Scan { cell, count } => {
+            ask_scan(engine, ring, log, asked.index, asked.session, cell, count);
+        }
+        _ => {
+            let reply = &engine.ask_short(asked.session, asked.request);
+            ring.take(asked.index, Effect::of(reply));
+            log.add_short(&engine.setup().names, asked.session, reply);
+        }
+    }
     Ok(true)
+}
+
+/// Asks a scan for the session whose turn it is, and logs the reply: out of line, since scans are rare and their reply
+/// is long.
+#[inline(never)]
+fn ask_scan<C: Chains, G: Log>(
+    engine: &mut Engine<C>,
+    ring: &mut Ring<'_>,
+    log: &mut G,
+    index: usize,
+    session: Session,
+    cell: Cell,
+    count: u8,
+)
+    requires ready { IsTrue engine.old.ready }
+    requires room { G.has_room log.old }
+    requires within { index < vec_len ring.old.cursors }
+    requires few { IfSome (slice_get (seats_in ring.old.cursors.items) index) (λ w. w.aborts ≤ 3) }
+    ensures store { engine.new.store ≡ engine.old.store }
+    ensures names { engine.new.names ≡ engine.old.names }
+    ensures events { engine.new.events ≡ (answer engine.old.store engine.old.events session (Scan cell count)).1 }
+    ensures log { (told : List Answered) → G.tells log.old engine.old.names told → G.tells log.new engine.old.names
+        (told ++ record { session = session; reply = (answer engine.old.store engine.old.events session (Scan cell count)).0 } ∷ []) }
+    ensures round { (w : Seat) → slice_get (seats_in ring.old.cursors.items) index ≡ Some w → round_of ring.new
+        ≡ drop (index + 1) (seats_in ring.old.cursors.items) ++ take index (seats_in ring.old.cursors.items)
+        ++ seat_after w (answer engine.old.store engine.old.events session (Scan cell count)).0 ∷ [] }
+{
+    let reply = &engine.ask(session, Request::Scan { cell, count });
+    ring.take(index, Effect::of_full(reply));
+    log.add(&engine.setup().names, session, reply);
 }
