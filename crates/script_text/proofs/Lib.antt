@@ -3,9 +3,11 @@ pub mod Places
 pub mod LineSteps
 pub mod VerbWords
 pub mod WordSteps
+pub mod NearWords
 pub mod FrontSteps
 pub mod Digits
 pub mod NameBytes
+pub mod NameSteps
 pub mod ScriptSteps
 pub mod LineWords
 pub mod InputSteps

@@ -1,15 +1,16 @@
 -- Bytes that are looked at together: a mask has a bit for each, and the lowest bit that is set is the first place that passes a test.
-use Rattle.std.proofs.Common.{◌≡◌, ℕ, zero, suc, ◌+◌, ◌-◌, ◌*◌, ◌/◌, ◌%◌, ◌^◌, ◌<◌, ◌≤◌, Bool, true, false, not, cond, eqb, add-one, List, [], ◌∷◌, map, length, take, drop, Fits, w8, refl, sym, ap, ap₂, ◌∙◌, arith, take_all}
+use Rattle.std.proofs.Common.{◌≡◌, ℕ, zero, suc, ◌+◌, ◌-◌, ◌*◌, ◌/◌, ◌%◌, ◌^◌, ◌<◌, ◌≤◌, Bool, true, false, not, cond, eqb, add-one, List, [], ◌∷◌, map, length, take, drop, Fits, w8, refl, sym, ap, ap₂, ◌∙◌, arith}
 use Rattle.std.proofs.lemmas.Bool.{agree_below, agree_below_at, eq-eqb, ne_eqb}
 use Rattle.std.proofs.Math.Nat.{add-mul-mod_self_left, mul_assoc, pow-le-pow_right, zero-div, div-one, pow-suc, mul_comm, div-div-eq-div-mul}
-use Rattle.std.proofs.lemmas.Simd.{mask_l-mod, chunk-drop, length-chunk, leading_from_mask_l, trailing_mask_l}
+use Rattle.std.proofs.lemmas.Nat.{pow-add}
+use Rattle.std.proofs.lemmas.Simd.{mask_l-lt, mask_l-mod, chunk-drop, length-chunk, leading_from_mask_l, trailing_mask_l}
 use Rattle.std.proofs.lemmas.List.{length-map, length-take-le, take_at, take-map, drop-map, drop-take}
 use Rattle.std.proofs.Math.Seq.{take-add}
 use Rattle.std.proofs.lemmas.List.Folds.{prefix_len-append}
 use Rattle.std.proofs.lemmas.List.Sums.{prefix_len-le-length, prefix_len_passes, prefix_len-drop_yes}
-use Rattle.std.specs.List.{position_or_len}
+use Rattle.std.specs.List.{position_or_len, prefix_len}
 use lib.Lanes.{zip2, mask_l, top, chunk, Each1}
-use lib.Count.{count_trailing_zeros}
+use lib.Count.{count_trailing_zeros, under}
 
 zip2-map : (h : ℕ → ℕ → ℕ) (f g : ℕ → ℕ) (xs : List ℕ) → zip2 h (map f xs) (map g xs) ≡ map (λ x. h (f x) (g x)) xs
 zip2-map h f g [] = refl
@@ -49,11 +50,11 @@ take_less d n m h room =
     ap (λ k. take n (take k d)) (sym e) ∙ ap (take n) (take-add n (m - n) d) ∙ take_at (take n d) (take (m - n) (drop n d)) n (length-take-le n d (omega (arith, h, room)))
 
 -- the mask of a line, from that of what stands where it begins
-pub line_mask : (p : ℕ → Bool) (d line : List ℕ) (m : ℕ) → m ≤ length d → length line ≤ m → line ≡ take (length line) d → mask_l (map p (take m d)) % 2 ^ length line ≡ mask_l (map p (take (length line) line))
+pub line_mask : (p : ℕ → Bool) (d line : List ℕ) (m : ℕ) → m ≤ length d → length line ≤ m → line ≡ take (length line) d → mask_l (map p (take m d)) % 2 ^ length line ≡ mask_l (map p line)
 line_mask p d line m room short is =
     let n = length line in
     mask_front (map p (take m d)) n (omega (arith, length-map (take m d) p, length-take-le m d room, short))
-    ∙ ap mask_l (take-map p n (take m d) ∙ ap (map p) (take_less d n m short room ∙ sym is ∙ sym (take_all n line (omega arith))))
+    ∙ ap mask_l (take-map p n (take m d) ∙ ap (map p) (take_less d n m short room ∙ sym is))
 
 -- a shift that keeps the bit
 pub one_bit : (n : ℕ) → n ≤ 32 → 1 * 2 ^ n % 2 ^ 64 ≡ 2 ^ n
@@ -69,6 +70,40 @@ mask_behind [] (suc i) = zero-div (2 ^ suc i)
 mask_behind (b ∷ bs) zero = div-one (mask_l (b ∷ bs))
 mask_behind (b ∷ bs) (suc i) =
     ap (λ n. mask_l (b ∷ bs) / n) (pow-suc 2 i ∙ mul_comm (2 ^ i) 2) ∙ sym (div-div-eq-div-mul (mask_l (b ∷ bs)) 2 (2 ^ i)) ∙ ap (λ n. n / 2 ^ i) (half b (mask_l bs)) ∙ mask_behind bs i
+
+-- the mask of what stands behind the first i
+pub mask_after : (p : ℕ → Bool) (xs : List ℕ) (mask i : ℕ) → mask ≡ mask_l (map p xs) → mask / 2 ^ i ≡ mask_l (map p (drop i xs))
+mask_after p xs mask i is = ap (λ m. m / 2 ^ i) is ∙ mask_behind (map p xs) i ∙ ap mask_l (drop-map p i xs)
+
+-- a shift, and then another
+pub shifted : (m i j : ℕ) → m / 2 ^ i / 2 ^ j ≡ m / 2 ^ (i + j)
+shifted m i j = div-div-eq-div-mul m (2 ^ i) (2 ^ j) ∙ ap (λ k. m / k) (sym (pow-add 2 i j))
+
+-- the lowest bit that is not set
+low_zero : (b : Bool) (k m : ℕ) → m < 2 ^ k → count_trailing_zeros (suc k) (2 ^ suc k - 1 - (cond b 1 0 + 2 * m)) ≡ cond b (1 + count_trailing_zeros k (2 ^ k - 1 - m)) 0
+unfolding count_trailing_zeros
+low_zero true k m small =
+    let n : ℕ = 2 ^ suc k - 1 - (1 + 2 * m) in
+    let even : n % 2 ≡ 0 = omega (arith, pow-suc 2 k, small) in
+    let rest : n / 2 ≡ 2 ^ k - 1 - m = omega (arith, pow-suc 2 k, small) in
+    ap₂ (λ d r. under d (count_trailing_zeros k r)) even rest ∙ omega arith
+low_zero false k m small =
+    let n : ℕ = 2 ^ suc k - 1 - (0 + 2 * m) in
+    let odd : n % 2 ≡ 1 = omega (arith, pow-suc 2 k, small) in
+    ap (λ d. under d (count_trailing_zeros k (n / 2))) odd
+
+zero_le : (k : ℕ) → 0 ≤ k
+zero_le k = omega arith
+
+-- is the first place that does not pass the test, if at least one bit is above them all
+pub ones_at_front : (p : ℕ → Bool) (k : ℕ) (xs : List ℕ) → length xs < k → count_trailing_zeros k (2 ^ k - 1 - mask_l (map p xs)) ≡ prefix_len p xs
+ones_at_front p zero xs h = absurd (omega (arith, h))
+ones_at_front p (suc k) [] h = low_zero false k 0 (omega (arith, pow-le-pow_right {n = 2} (omega arith) (zero_le k)))
+ones_at_front p (suc k) (x ∷ xs) h =
+    let room : length xs < k = omega (arith, h) in
+    let fewer : length (map p xs) ≤ k = omega (arith, length-map xs p, room) in
+    let small : mask_l (map p xs) < 2 ^ k = omega (arith, mask_l-lt (map p xs), pow-le-pow_right {n = 2} (omega arith) fewer) in
+    low_zero (p x) k (mask_l (map p xs)) small ∙ ap (λ n. cond (p x) (1 + n) 0) (ones_at_front p k xs room)
 
 none_passes : (b : Bool) (n l m : ℕ) → n ≤ l → cond (not b) (1 + n) 0 ≡ 1 + l → (n ≡ l → m ≡ 0) → cond b 1 0 + 2 * m ≡ 0
 none_passes true n l m le e more = let no : ⊥ = omega arith in absurd no

@@ -1,12 +1,13 @@
 -- The lines of a script, one after the other.
-use Rattle.std.proofs.Common.{◌≡◌, ℕ, ◌+◌, List, [], ◌∷◌, ◌++◌, map, length, Option, Result, Ok, Err, refl, ap, arith, append_assoc}
+use Rattle.std.proofs.Common.{◌≡◌, ℕ, ◌+◌, List, [], ◌∷◌, ◌++◌, map, length, Option, Result, Ok, Err, refl, sym, ap, ◌∙◌, arith, append_assoc}
 use Rattle.std.proofs.lemmas.List.{append-nil, length-map}
 use Rattle.std.specs.Option.{option_to_list}
 use Rattle.teb_names.specs.declared.naming.NameBook.{NameBook}
 use Rattle.script_text.specs.declared.Line.{Line}
 use Rattle.script_text.specs.declared.error.ScriptError.{ScriptError}
 use Rattle.script_text.specs.declared.error.ScriptError.TheVariants as errors
-use Rattle.script_text.specs.Grammar.{script_from, line_in, line_of, at_line, Answers, ◌>>=◌}
+use Rattle.script_text.specs.Grammar.{script_from, script_of, line_in, line_of, at_line, Answers, ◌>>=◌}
+use Rattle.script_text.specs.Lines.{lines_of}
 use Rattle.script_text.specs.Words.{words_of}
 
 -- lines that are read already, and then those of what follows
@@ -50,3 +51,7 @@ module _ (names : NameBook) (format : ℕ) where
   pub script_end : (done : List Line) (n : ℕ) (more : List (List (List ℕ))) → more ≡ [] → behind done (script_by n more) ≡ Ok done
   unfolding script_by
   script_end done n more e = rw (e, append-nil done)
+
+-- a script by the words of its lines, with another book that is the same
+pub book_script : (names book : NameBook) (format : ℕ) (text : List ℕ) → book ≡ names → script_of names format text ≡ script_by book format 1 (map words_of (lines_of text))
+book_script names book format text same = ap (λ b. script_of b format text) (sym same) ∙ by_words book format 1 (lines_of text)

@@ -1,6 +1,7 @@
 pub mod Lines
 pub mod Words
 pub mod Fronts
+pub mod AtHand
 pub mod Numbers
 pub mod Grammar
 pub mod Input

@@ -16,12 +16,13 @@ mod words;
 use super::{Line, ScriptError};
 use fronts::Fronts;
 use grammar::parse_line;
+use names::BookAtHand;
 pub use numbers::number;
 use std::alloc::{AllocError, Global};
 use teb_names::NameBook;
 
-/// A usual length of a line in bytes. Room is made at once for as many lines as fit a script at this length.
-const USUAL_LEN: usize = 32;
+/// A usual length of a short line in bytes. Room is made at once for as many lines as fit a script at this length.
+const USUAL_LEN: usize = 12;
 
 /// The lines of a script that ask something, in order. `format` is that of the tree: from 2 on `begin` may
 /// have an instance, from 3 on there are `delete` and `scan`. A name that the tree does not have becomes the
@@ -40,10 +41,11 @@ pub fn parse_script(
     let mut lines = Vec::new(alloc);
     lines.reserve(script.len() / USUAL_LEN)?;
     let mut words: [&[u8]; 6] = [b""; 6];
+    let book = BookAtHand::new(names);
     let mut number = 0;
     for front in Fronts(script) {
         number += 1;
-        match parse_line(names, format, number, &front, &mut words) {
+        match parse_line(&book, format, number, &front, &mut words) {
             Ok(line) => add_line(&mut lines, line)?,
             Err(why) => return Err(ScriptError::BadLine { number, why }),
         }

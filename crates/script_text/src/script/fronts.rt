@@ -7,25 +7,21 @@ ghost use Rattle.std.specs.Simd.Lanes.{mask_l};
 ghost use Rattle.std.specs.Str.Lines.{strip_carriage_return};
 ghost use Rattle.script_text.specs.Lines.{is_feed, lines_of};
 ghost use Rattle.script_text.specs.Words.{is_other, words_of};
-ghost use Rattle.script_text.specs.Fronts.{HasMasks};
+ghost use Rattle.script_text.specs.Fronts.{HasMask};
 
 use super::lines::{Lines, after_line, without_return};
-use super::words::{blanks_of, inside_of};
+use super::words::inside_of;
 use std::simd::prelude::*;
 
 /// How many bytes are looked at together.
 const LANES: usize = 32;
 
-/// A line, as far as its words go, and masks of its first bytes. A mask has a bit for each, the lowest for the first.
+/// A line, as far as its words go.
 #[derive(Clone, Copy)]
 pub struct Front<'a> {
     pub line: &'a [u8],
-    /// Of how many bytes the masks tell, at most 32.
-    pub near: usize,
-    /// Which of these are neither spaces nor tabs.
-    pub inside: u64,
-    /// Which of these are spaces or tabs.
-    pub blanks: u64,
+    /// Where it has at most 32 bytes: which of them are neither spaces nor tabs, a bit for each, the lowest for the first.
+    pub inside: Option<u64>,
 }
 
 /// The lines of a text, each with all its words. A line that has only spaces behind its first 32 bytes is cut there.
@@ -38,11 +34,11 @@ impl<'a> Iterator for Fronts<'a> {
     ghost use Rattle.std.specs.Prelude.{◌≡◌, ◌∷◌, [], MatchOption, map};
     ghost use Rattle.script_text.specs.Lines.{lines_of};
     ghost use Rattle.script_text.specs.Words.{words_of};
-    ghost use Rattle.script_text.specs.Fronts.{HasMasks};
+    ghost use Rattle.script_text.specs.Fronts.{HasMask};
 
     ghost next_gives = { λ s r t. MatchOption r
         ((lines_of s.0.now ≡ []) × (lines_of t.0.now ≡ []))
-        (λ x. (map words_of (lines_of s.0.now) ≡ words_of x.line.now ∷ map words_of (lines_of t.0.now)) × HasMasks x) };
+        (λ x. (map words_of (lines_of s.0.now) ≡ words_of x.line.now ∷ map words_of (lines_of t.0.now)) × HasMask x) };
 
     ghost remaining = { item_count (λ s. lines_of s.0.now) };
 
@@ -58,12 +54,7 @@ impl<'a> Iterator for Fronts<'a> {
                 let line = lines.next();
                 self.0 = lines.0;
                 match line {
-                    Some(line) => Some(Front {
-                        line,
-                        near: 0,
-                        inside: 0,
-                        blanks: 0,
-                    }),
+                    Some(line) => Some(Front { line, inside: None }),
                     None => None,
                 }
             }
@@ -76,7 +67,7 @@ fn near_front(text: &[u8]) -> Option<(Front, usize)>
     ensures end { IfSome result (λ p. p.1 ≡ position_or_len is_feed text.now) }
     ensures within { IfSome result (λ p. p.1 < length text.now) }
     ensures words { IfSome result (λ p. words_of p.0.line.now ≡ words_of (strip_carriage_return (take p.1 text.now))) }
-    ensures masks { IfSome result (λ p. HasMasks p.0) }
+    ensures mask { IfSome result (λ p. HasMask p.0) }
 {
     if text.len() < LANES {
         return None;
@@ -85,29 +76,26 @@ fn near_front(text: &[u8]) -> Option<(Front, usize)>
     if feeds == 0 {
         match padded_len(text) {
             None => None,
-            Some(len) => Some((with_masks(text, &text[..LANES]), len)),
+            Some(len) => Some((with_mask(text, &text[..LANES]), len)),
         }
     } else {
         let len = feeds.trailing_zeros() as usize;
-        Some((with_masks(text, without_return(&text[..len])), len))
+        Some((with_mask(text, without_return(&text[..len])), len))
     }
 }
 
-/// A line of at most 32 bytes that stands at the front of a text, with its masks.
-fn with_masks<'a>(text: &'a [u8], line: &'a [u8]) -> Front<'a>
+/// A line of at most 32 bytes that stands at the front of a text, with its mask.
+fn with_mask<'a>(text: &'a [u8], line: &'a [u8]) -> Front<'a>
     requires long { 32 ≤ length text.now }
     requires short { length line.now ≤ 32 }
     requires front { line.now ≡ take (length line.now) text.now }
     ensures line { result.line.now ≡ line.now }
-    ensures masks { HasMasks result }
+    ensures mask { HasMask result }
 {
-    let bytes = u8x32::from_slice(text);
-    let near = line.len();
+    let inside = inside_of(u8x32::from_slice(text));
     Front {
         line,
-        near,
-        inside: inside_of(bytes) % (1 << near),
-        blanks: blanks_of(bytes) % (1 << near),
+        inside: Some(inside % (1 << line.len())),
     }
 }
 

@@ -1,21 +1,20 @@
 //! What a line of a script asks.
 
-ghost use Rattle.std.specs.Prelude.{◌≡◌, ◌==◌, IsTrue, slice_index, true};
-ghost use Rattle.teb_names.specs.Names.{is_name, number_of};
-ghost use Rattle.script_text.specs.Fronts.{HasMasks};
+ghost use Rattle.std.specs.Prelude.{◌≡◌, ◌==◌, slice_index};
+ghost use Rattle.script_text.specs.Fronts.{HasMask};
 ghost use Rattle.script_text.specs.Words.{nows, words_of};
 ghost use Rattle.script_text.specs.Numbers.{number_from_one};
-ghost use Rattle.script_text.specs.Grammar.{verb_of, name_at, number_at, session_at, value_at, cell_at, cell_in, cell_and_value_in, cell_and_count_in, spot_in, nothing_in, arguments, after_session, line_in};
+ghost use Rattle.script_text.specs.Grammar.{verb_of, number_at, session_at, value_at, cell_at, cell_in, cell_and_value_in, cell_and_count_in, spot_in, nothing_in, arguments, after_session, line_in};
 
 use super::fronts::Front;
-use super::names::name_text;
+use super::names::{BookAtHand, NamesAtHand};
 use super::numbers::{integer, number, small_number};
 use super::verbs::{
     is_abort, is_add, is_begin, is_commit, is_delete, is_prepare, is_read, is_scan, is_write,
 };
 use super::words::first_words;
 use crate::{Line, LineWhy};
-use teb_names::{Cell, Kind, NameBook, Names, Request, Session, Spot, Table, is_name};
+use teb_names::{Cell, Kind, Request, Session, Spot, Table};
 
 /// The words that may follow a session.
 #[derive(Clone, Copy)]
@@ -34,13 +33,13 @@ pub enum Verb {
 /// What a line asks: nothing where it is blank or a comment. Its first words are left in `words`.
 #[tactic(auto, using(crate::proofs::LineWords::line_of_first))]
 pub fn parse_line<'a>(
-    names: &NameBook,
+    names: &BookAtHand,
     format: u8,
     number: u32,
     front: &Front<'a>,
     words: &mut [&'a [u8]; 6],
 ) -> Result<Option<Line>, LineWhy>
-    requires { HasMasks front.now }
+    requires { HasMask front.now }
     ensures { result ≡ line_in names.now format number (words_of front.now.line.now) }
 {
     let len = first_words(front, words);
@@ -49,7 +48,7 @@ pub fn parse_line<'a>(
 
 #[tactic(auto, unfolding(crate::specs::Grammar::line_in))]
 fn line_in(
-    names: &NameBook,
+    names: &BookAtHand,
     format: u8,
     number: u32,
     words: &[&[u8]],
@@ -99,7 +98,7 @@ fn number_from_one(word: &[u8], most: u8) -> Option<u8>
     }
 }
 
-fn request(names: &NameBook, format: u8, words: &[&[u8]]) -> Result<Request, LineWhy>
+fn request(names: &BookAtHand, format: u8, words: &[&[u8]]) -> Result<Request, LineWhy>
     ensures { result ≡ after_session names.now format (nows words.now) }
 {
     match words {
@@ -138,7 +137,12 @@ fn verb_in(format: u8, word: &[u8]) -> Option<Verb>
     }
 }
 
-fn arguments(names: &NameBook, format: u8, verb: Verb, words: &[&[u8]]) -> Result<Request, LineWhy>
+fn arguments(
+    names: &BookAtHand,
+    format: u8,
+    verb: Verb,
+    words: &[&[u8]],
+) -> Result<Request, LineWhy>
     ensures { result ≡ arguments names.now format verb (nows words.now) }
 {
     match verb {
@@ -173,16 +177,16 @@ fn arguments(names: &NameBook, format: u8, verb: Verb, words: &[&[u8]]) -> Resul
 }
 
 #[tactic(auto, unfolding(crate::specs::Grammar::spot_in))]
-fn spot(types: &Names, format: u8, words: &[&[u8]]) -> Result<Spot, LineWhy>
+fn spot(types: &NamesAtHand, format: u8, words: &[&[u8]]) -> Result<Spot, LineWhy>
     ensures { result ≡ spot_in types.now format (nows words.now) }
 {
     match words {
         [kind] => {
-            let kind = Kind(name(types, kind)?);
+            let kind = Kind(types.number(kind)?);
             Ok(Spot { kind, instance: 0 })
         }
         [kind, instance] if format >= 2 => {
-            let kind = Kind(name(types, kind)?);
+            let kind = Kind(types.number(kind)?);
             let instance = number_below(instance)?;
             Ok(Spot { kind, instance })
         }
@@ -190,8 +194,9 @@ fn spot(types: &Names, format: u8, words: &[&[u8]]) -> Result<Spot, LineWhy>
     }
 }
 
+#[inline(always)]
 #[tactic(auto, unfolding(crate::specs::Grammar::cell_in))]
-fn cell(tables: &Names, words: &[&[u8]]) -> Result<Cell, LineWhy>
+fn cell(tables: &NamesAtHand, words: &[&[u8]]) -> Result<Cell, LineWhy>
     ensures { result ≡ cell_in tables.now (nows words.now) }
 {
     match words {
@@ -200,8 +205,9 @@ fn cell(tables: &Names, words: &[&[u8]]) -> Result<Cell, LineWhy>
     }
 }
 
+#[inline(always)]
 #[tactic(auto, unfolding(crate::specs::Grammar::cell_and_value_in))]
-fn cell_and_value(tables: &Names, words: &[&[u8]]) -> Result<(Cell, i64), LineWhy>
+fn cell_and_value(tables: &NamesAtHand, words: &[&[u8]]) -> Result<(Cell, i64), LineWhy>
     ensures { result ≡ cell_and_value_in tables.now (nows words.now) }
 {
     match words {
@@ -214,8 +220,9 @@ fn cell_and_value(tables: &Names, words: &[&[u8]]) -> Result<(Cell, i64), LineWh
     }
 }
 
+#[inline(always)]
 #[tactic(auto, unfolding(crate::specs::Grammar::cell_and_count_in))]
-fn cell_and_count(tables: &Names, words: &[&[u8]]) -> Result<(Cell, u8), LineWhy>
+fn cell_and_count(tables: &NamesAtHand, words: &[&[u8]]) -> Result<(Cell, u8), LineWhy>
     ensures { result ≡ cell_and_count_in tables.now (nows words.now) }
 {
     match words {
@@ -241,67 +248,14 @@ fn nothing(words: &[&[u8]]) -> Result<(), LineWhy>
     }
 }
 
+#[inline(always)]
 #[tactic(auto, unfolding(crate::specs::Grammar::cell_at))]
-fn cell_at(tables: &Names, table: &[u8], key: &[u8]) -> Result<Cell, LineWhy>
+fn cell_at(tables: &NamesAtHand, table: &[u8], key: &[u8]) -> Result<Cell, LineWhy>
     ensures { result ≡ cell_at tables.now table.now key.now }
 {
-    let table = Table(name(tables, table)?);
+    let table = Table(tables.number(table)?);
     let key = number_below(key)?;
     Ok(Cell { table, key })
-}
-
-#[tactic(auto, unfolding(crate::specs::Grammar::name_at))]
-fn name(names: &Names, word: &[u8]) -> Result<u8, LineWhy>
-    ensures { result ≡ name_at names.now word.now }
-{
-    if !is_name(word) {
-        return Err(LineWhy::Name);
-    }
-    match number_of(names, word) {
-        None => Ok(255),
-        Some(n) => Ok(n),
-    }
-}
-
-/// The number of a name, which is often one of the first.
-fn number_of(names: &Names, word: &[u8]) -> Option<u8>
-    requires { is_name word.now ≡ true }
-    ensures { result ≡ number_of names.now word.now }
-{
-    let few = names.len().min(4);
-    for i in 0..few {
-        if is_same(names.name(i).as_bytes(), word) {
-            return Some(i);
-        }
-    }
-    later_number(names, word)
-}
-
-/// The number of a name at any place. A call of its own, so that one of the first names costs no more than it has to.
-#[inline(never)]
-fn later_number(names: &Names, word: &[u8]) -> Option<u8>
-    requires { is_name word.now ≡ true }
-    ensures { result ≡ number_of names.now word.now }
-{
-    match name_text(word) {
-        None => None,
-        Some(text) => names.number(text),
-    }
-}
-
-/// True only where two words are the same. They are short, so a loop costs less than a call.
-fn is_same(a: &[u8], b: &[u8]) -> bool
-    ensures { IsTrue result → a.now ≡ b.now }
-{
-    if a.len() != b.len() {
-        return false;
-    }
-    for i in 0..a.len() {
-        if a[i] != b[i] {
-            return false;
-        }
-    }
-    true
 }
 
 #[tactic(auto, unfolding(crate::specs::Grammar::number_at))]
@@ -314,6 +268,7 @@ fn number_below(word: &[u8]) -> Result<u32, LineWhy>
     }
 }
 
+#[inline(always)]
 #[tactic(auto, unfolding(crate::specs::Grammar::value_at))]
 fn value_at(word: &[u8]) -> Result<i64, LineWhy>
     ensures { result ≡ value_at word.now }

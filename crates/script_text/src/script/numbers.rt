@@ -1,20 +1,41 @@
 //! Numbers in a script.
 
-ghost use Rattle.std.specs.Prelude.{◌≡◌, ◌<◌, ◌≤◌, ◌+◌, ◌*◌, ◌^◌, MatchOption, IfSome, IsTrue, false, length, pos, neg_ℤ};
+ghost use Rattle.std.specs.Prelude.{◌≡◌, ◌<◌, ◌≤◌, ◌+◌, ◌*◌, ◌^◌, MatchOption, IfSome, option_map, IsTrue, false, length, pos, neg_ℤ};
+ghost use Rattle.std.specs.Char.{digit_value, is_ascii_digit};
 ghost use Rattle.std.specs.Str.{all_ascii_digits};
 ghost use Rattle.std.specs.Str.Parse.{digits_value};
 ghost use Rattle.script_text.specs.Numbers.{number_upto, integer_of};
 
 /// The value of one to twenty digits, which is at most `most`.
+#[inline(always)]
 #[tactic(auto, unfolding(crate::specs::Numbers::number_upto))]
 pub fn number(word: &[u8], most: u64) -> Option<u64>
     ensures value { result ≡ number_upto most word.now }
     ensures bound { IfSome result (λ n. n ≤ most) }
 {
-    if word.is_empty() || word.len() > 20 {
+    if word.len() >= 20 {
+        return long_number(word, most);
+    }
+    let value = short_value_of(word)?;
+    if value <= most && !word.is_empty() {
+        Some(value)
+    } else {
+        None
+    }
+}
+
+/// The same of twenty bytes or more. A call of its own, since few words are so long.
+#[inline(never)]
+#[tactic(auto, unfolding(crate::specs::Numbers::number_upto))]
+fn long_number(word: &[u8], most: u64) -> Option<u64>
+    requires { 20 ≤ length word.now }
+    ensures value { result ≡ number_upto most word.now }
+    ensures bound { IfSome result (λ n. n ≤ most) }
+{
+    if word.len() > 20 {
         return None;
     }
-    let value = value_of(word)?;
+    let value = long_value_of(word)?;
     if value <= most { Some(value) } else { None }
 }
 
@@ -46,15 +67,13 @@ fn few_digits(word: &[u8]) -> Option<u8>
 }
 
 /// The value of one to twenty digits with one `-` before them or none, in 64 bits.
+#[inline(always)]
 #[tactic(auto, unfolding(crate::specs::Numbers::integer_of))]
 pub fn integer(word: &[u8]) -> Option<i64>
     ensures { result ≡ integer_of word.now }
 {
     if !word.is_empty() && word[0] == b'-' {
-        match number(&word[1..], 1 << 63) {
-            None => None,
-            Some(n) => Some(negative(n)),
-        }
+        negative_of(&word[1..])
     } else {
         match number(word, (1 << 63) - 1) {
             None => None,
@@ -63,20 +82,18 @@ pub fn integer(word: &[u8]) -> Option<i64>
     }
 }
 
-/// The value of these digits, where there are only digits and it has 64 bits.
-fn value_of(word: &[u8]) -> Option<u64>
-    ensures { MatchOption result
-        (IsTrue (all_ascii_digits word.now) → 2 ^ 64 ≤ digits_value 10 word.now)
-        (λ n. IsTrue (all_ascii_digits word.now) × (n ≡ digits_value 10 word.now)) }
+/// What stands behind a `-`, below zero. A call of its own, since few numbers have one.
+#[inline(never)]
+fn negative_of(digits: &[u8]) -> Option<i64>
+    ensures { result ≡ option_map (λ n. neg_ℤ (pos n)) (number_upto (2 ^ 63) digits.now) }
 {
-    if word.len() < 20 {
-        short_value_of(word)
-    } else {
-        long_value_of(word)
+    match number(digits, 1 << 63) {
+        None => None,
+        Some(n) => Some(negative(n)),
     }
 }
 
-/// The same of fewer than twenty digits, whose value has 64 bits.
+/// The value of fewer than twenty digits, which has 64 bits. `None` where there is anything else.
 fn short_value_of(word: &[u8]) -> Option<u64>
     requires { length word.now < 20 }
     ensures { MatchOption result
@@ -85,15 +102,21 @@ fn short_value_of(word: &[u8]) -> Option<u64>
 {
     let mut total = 0u64;
     for b in word {
-        if !b.is_ascii_digit() {
-            return None;
-        }
-        total = total * 10 + u64::from(*b - b'0');
+        total = total * 10 + digit_of(*b)?;
     }
     Some(total)
 }
 
-/// The same of any number of digits.
+/// The value of a digit.
+#[inline(always)]
+fn digit_of(b: u8) -> Option<u64>
+    ensures { MatchOption result (is_ascii_digit b ≡ false) (λ d. IsTrue (is_ascii_digit b) × (d ≡ digit_value b) × (d ≤ 9)) }
+{
+    let digit = u64::from(b).wrapping_sub(u64::from(b'0'));
+    if digit <= 9 { Some(digit) } else { None }
+}
+
+/// The value of these digits, where there are only digits and it has 64 bits.
 fn long_value_of(word: &[u8]) -> Option<u64>
     ensures { MatchOption result
         (IsTrue (all_ascii_digits word.now) → 2 ^ 64 ≤ digits_value 10 word.now)

@@ -1,10 +1,10 @@
 //! The words of a line.
 
-ghost use Rattle.std.specs.Prelude.{◌≡◌, ◌≤◌, ◌++◌, drop, length, map, take, position};
+ghost use Rattle.std.specs.Prelude.{◌≡◌, ◌≤◌, length, map, take, position};
 ghost use Rattle.std.specs.Iterator.{YieldsFirstRef, item_count};
 ghost use Rattle.std.specs.List.{position_or_len};
 ghost use Rattle.std.specs.Simd.Lanes.{mask_l};
-ghost use Rattle.script_text.specs.Fronts.{HasMasks};
+ghost use Rattle.script_text.specs.Fronts.{HasMask};
 ghost use Rattle.script_text.specs.Words.{is_blank, is_inside, nows, without_blanks, words_of};
 
 use super::fronts::Front;
@@ -35,15 +35,48 @@ impl<'a> Iterator for Words<'a> {
 /// Writes the first six words of a line, and tells how many of the six there are. No line that asks something has more
 /// than five.
 pub fn first_words<'a>(front: &Front<'a>, words: &mut [&'a [u8]; 6]) -> usize
-    requires { HasMasks front.now }
+    requires { HasMask front.now }
     ensures words { nows (take result words.new) ≡ take 6 (words_of front.now.line.now) }
     ensures count { result ≤ 6 }
 {
-    let (mut len, at) = near_words(front, words);
-    if at == front.line.len() {
-        return len;
+    match front.inside {
+        Some(inside) => near_words(front.line, inside, words),
+        None => far_words(front.line, words),
     }
-    for word in Words(&front.line[at..]) {
+}
+
+/// The same of a line of at most 32 bytes, by the mask of those that are neither spaces nor tabs.
+fn near_words<'a>(line: &'a [u8], inside: u64, words: &mut [&'a [u8]; 6]) -> usize
+    requires short { length line.now ≤ 32 }
+    requires mask { inside ≡ mask_l (map is_inside line.now) }
+    ensures words { nows (take result words.new) ≡ take 6 (words_of line.now) }
+    ensures count { result ≤ 6 }
+{
+    let mut len = 0;
+    let mut at = 0;
+    let mut rest = inside;
+    while rest != 0 && len < 6 {
+        let gap = rest.trailing_zeros();
+        let start = at + gap as usize;
+        let ahead = rest >> gap;
+        let long = ahead.trailing_ones();
+        let end = start + long as usize;
+        words[len] = &line[start..end];
+        len += 1;
+        rest = ahead >> long;
+        at = end;
+    }
+    len
+}
+
+/// The same of any line.
+#[inline(never)]
+fn far_words<'a>(line: &'a [u8], words: &mut [&'a [u8]; 6]) -> usize
+    ensures words { nows (take result words.new) ≡ take 6 (words_of line.now) }
+    ensures count { result ≤ 6 }
+{
+    let mut len = 0;
+    for word in Words(line) {
         if len == 6 {
             return len;
         }
@@ -51,39 +84,6 @@ pub fn first_words<'a>(front: &Front<'a>, words: &mut [&'a [u8]; 6]) -> usize
         len += 1;
     }
     len
-}
-
-/// Writes the words that the masks tell of, at most six, and tells how many there are and up to where there are no others.
-fn near_words<'a>(front: &Front<'a>, words: &mut [&'a [u8]; 6]) -> (usize, usize)
-    requires { HasMasks front.now }
-    ensures words { nows (take result.0 words.new) ++ words_of (drop result.1 front.now.line.now) ≡ words_of front.now.line.now }
-    ensures long { length words.new ≡ 6 }
-    ensures count { result.0 ≤ 6 }
-    ensures within { result.1 ≤ length front.now.line.now }
-{
-    let line = front.line;
-    let mut len = 0;
-    let mut at = 0;
-    while len < 6 {
-        let ahead = front.inside >> at;
-        if ahead == 0 {
-            return (len, front.near);
-        }
-        let start = at + ahead.trailing_zeros() as usize;
-        let behind = front.blanks >> start;
-        if behind == 0 {
-            if front.near == line.len() {
-                words[len] = &line[start..];
-                return (len + 1, front.near);
-            }
-            break;
-        }
-        let end = start + behind.trailing_zeros() as usize;
-        words[len] = &line[start..end];
-        len += 1;
-        at = end;
-    }
-    (len, at)
 }
 
 fn is_blank(b: u8) -> bool
@@ -125,15 +125,7 @@ fn blank_len(text: &[u8]) -> usize
     text.len()
 }
 
-/// Which of these bytes are spaces or tabs: a bit for each, the lowest for the first.
-#[inline(always)]
-pub fn blanks_of(bytes: u8x32) -> u64
-    ensures { result ≡ mask_l (map is_blank bytes) }
-{
-    (bytes.simd_eq(u8x32::splat(b' ')) | bytes.simd_eq(u8x32::splat(b'\t'))).to_bitmask()
-}
-
-/// Which of these bytes are neither.
+/// Which of these bytes are neither spaces nor tabs: a bit for each, the lowest for the first.
 #[inline(always)]
 pub fn inside_of(bytes: u8x32) -> u64
     ensures { result ≡ mask_l (map is_inside bytes) }

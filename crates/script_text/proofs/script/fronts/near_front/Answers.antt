@@ -9,13 +9,13 @@ slice_bounds-without_return-end c =
     let near = near_within c.args.text.now _ (omega arith) c.feeds_of-feeds.ensures c.if-feeds-eq0.false in
     sym (length-take-le _ c.args.text.now (omega (arith, near)))
 
-pub with_masks-requires-else-feeds-eq0-clause-short : goal.with_masks-requires-else-feeds-eq0-clause-short
-with_masks-requires-else-feeds-eq0-clause-short c =
+pub with_mask-requires-else-feeds-eq0-clause-short : goal.with_mask-requires-else-feeds-eq0-clause-short
+with_mask-requires-else-feeds-eq0-clause-short c =
     let near = near_within c.args.text.now _ (omega arith) c.feeds_of-feeds.ensures c.if-feeds-eq0.false in
     omega (arith, near, (stripped_front c.args.text.now _ (count_trailing_zeros 64 c.feeds_of-feeds.result) (omega (arith, near)) c.without_return.ensures).1)
 
-pub with_masks-requires-else-feeds-eq0-clause-front : goal.with_masks-requires-else-feeds-eq0-clause-front
-with_masks-requires-else-feeds-eq0-clause-front c =
+pub with_mask-requires-else-feeds-eq0-clause-front : goal.with_mask-requires-else-feeds-eq0-clause-front
+with_mask-requires-else-feeds-eq0-clause-front c =
     let near = near_within c.args.text.now _ (omega arith) c.feeds_of-feeds.ensures c.if-feeds-eq0.false in
     (stripped_front c.args.text.now _ (count_trailing_zeros 64 c.feeds_of-feeds.result) (omega (arith, near)) c.without_return.ensures).0
 

@@ -7,4 +7,4 @@ overflow_mul-total c = omega (arith, below 18 c.loop-b.total c.loop-b.b-index c.
 
 pub overflow_add-total : goal.overflow_add-total
 overflow_add-total c =
-    omega (arith, below 18 c.loop-b.total c.loop-b.b-index c.loop-b.invariant.short (omega arith), c.from.ensures, c.if-not-is_ascii_digit.ensures.bound)
+    omega (arith, below 18 c.loop-b.total c.loop-b.b-index c.loop-b.invariant.short (omega arith), c.in_ok-total.ensures.2)

@@ -10,7 +10,7 @@ first_line c = rw (c.after_line-self.ensures) (lines_first _ _ c.in-Some.ensures
 
 pub returns-in-Some-clause-steps : goal.returns-in-Some-clause-steps
 returns-in-Some-clause-steps c =
-    (ap (map words_of) (first_line c) ∙ ap (λ w. w ∷ map words_of (lines_of c.after_line-self.result.now)) (sym c.in-Some.ensures.words), c.in-Some.ensures.masks)
+    (ap (map words_of) (first_line c) ∙ ap (λ w. w ∷ map words_of (lines_of c.after_line-self.result.now)) (sym c.in-Some.ensures.words), c.in-Some.ensures.mask)
 
 pub returns-in-Some-clause-goes : goal.returns-in-Some-clause-goes
 returns-in-Some-clause-goes c = record { on = λ _. (tt, tt, omega (arith, ap length (first_line c))); keeps = tt; rests = λ _. tt }

@@ -1,6 +1,6 @@
 use Rattle.std.proofs.Common.{arith, length-set}
-use Rattle.script_text.proofs.WordSteps.{words_more, words_all, words_end, words_full}
-use Rattle.script_text.proofs.script.words.first_words.Goals as goal
+use Rattle.script_text.proofs.WordSteps.{words_more, words_all, words_full}
+use Rattle.script_text.proofs.script.words.far_words.Goals as goal
 
 pub loop-word-preserved : goal.loop-word-preserved
 loop-word-preserved c = record {
@@ -14,7 +14,3 @@ returns-then-len-eq6-clause-words c = words_full _ _ _ _ c.if-len-eq6.true c.loo
 
 pub returns-clause-words : goal.returns-clause-words
 returns-clause-words c = words_all _ _ _ _ c.loop-word.invariant.within c.loop-word.invariant.words c.in-None.ensures.steps.0
-
-pub returns-then-at-front-clause-words : goal.returns-then-at-front-clause-words
-returns-then-at-front-clause-words c =
-    words_all _ _ _ _ c.near_words-len.ensures.count c.near_words-len.ensures.words (words_end _ _ c.if-at-front.true)
