@@ -4,12 +4,13 @@ use Rattle.std.proofs.lemmas.Bool.{both_ways, cases_order, and_from, and_parts, 
 use Rattle.teb_names.specs.declared.Cell.{Cell}
 use Rattle.teb_names.specs.Rows.{row_of}
 use Rattle.teb_history.specs.declared.Event.{Event}
-use Rattle.teb_history.specs.Phases.{txns, committed, aborted}
+use Rattle.teb_history.specs.Phases.{txns, begun_count, committed, aborted}
 use Rattle.teb_history.specs.Accesses.{wrote, last_put}
 use Rattle.teb_rules.specs.Setup.{Setup, Store}
 use Rattle.teb_rules.specs.Serializes.{In, Pairs, value_of, final_table}
 use Rattle.teb_rules.specs.Versions.{precedes, latest}
 use Rattle.teb_laws.specs.Lawful.{Lawful}
+use Rattle.teb_laws.proofs.Timeline.{begun_counted}
 use Rattle.teb_laws.proofs.Locks.{In-txns}
 use Rattle.teb_laws.proofs.Ranks.{commits}
 use Rattle.teb_laws.proofs.Serial.{In-filter, filter-In, commits_from}
@@ -20,7 +21,7 @@ use Rattle.version_chain.proofs.Places.{IsLast}
 use Rattle.phase_api.specs.Versions.{HoldsVersions, HaveLastValues, has_version}
 use Rattle.candidate_reads.proofs.InOrder.{among_In, In_among, at-In, In-at, Pairs-at, find_only, find_nothing, own_there, is_last}
 use Rattle.candidate_reads.proofs.Shows.{version_parts}
-use Rattle.candidate_reads.proofs.Sources.{Strict, writer_began, writer_counted, at-writer}
+use Rattle.candidate_reads.proofs.Sources.{Strict, writer_began, at-writer}
 
 -- of a list in version order, the last one that passes is the latest of all that pass
 latest_place : (S : Setup) (H : List Event) (x : Cell) (p : ℕ → Bool) (ws : List ℕ) → Pairs (Strict S H x) ws → ((w : ℕ) → p w ≡ true → In w ws) → ((w : ℕ) → In w ws → In w (txns H)) →
@@ -66,13 +67,17 @@ module _ (S : Setup) (H : List Event) (x : Cell) (L : Cell → List Version) (l 
   have : (w : ℕ) → In w (writers_of (L x)) → has_version H x w ≡ true
   have w i = sym (h.writers x w) ∙ In_among w (writers_of (L x)) i
 
-  -- no version is of 0
-  pub of_nobody : (p : ℕ → Bool) → own_or_last 0 p (writers_of (L x)) ≡ last_place p (writers_of (L x))
-  of_nobody p = go (first_place (λ w. eqb w 0) (writers_of (L x))) refl
+  -- no version is of 0, or of who has not begun
+  pub of_nobody : (t : ℕ) → (0 < t → begun_count H < t) → (p : ℕ → Bool) → own_or_last t p (writers_of (L x)) ≡ last_place p (writers_of (L x))
+  of_nobody t nobody p = go (first_place (λ w. eqb w t) (writers_of (L x))) refl
     where
-      go : (o : Option ℕ) → o ≡ first_place (λ w. eqb w 0) (writers_of (L x)) → elim o [ None ↦ last_place p (writers_of (L x)) | Some i ↦ Some i ] ≡ last_place p (writers_of (L x))
+      go : (o : Option ℕ) → o ≡ first_place (λ w. eqb w t) (writers_of (L x)) → elim o [ None ↦ last_place p (writers_of (L x)) | Some i ↦ Some i ] ≡ last_place p (writers_of (L x))
       go None e = refl
-      go (Some i) e = absurd (omega (arith, writer_counted S H 0 x l (version_parts H x 0 (sym (h.writers x 0) ∙ own_there (writers_of (L x)) 0 i e)).0))
+      go (Some i) e = absurd (
+          let wrote = (version_parts H x t (sym (h.writers x t) ∙ own_there (writers_of (L x)) t i e)).0 in
+          let counted = begun_counted S H t l (writer_began S H t x l wrote) in
+          let above = nobody counted.0 in
+          omega (arith, counted.1))
 
   final_in : (w : ℕ) → is_final H x w ≡ true → In w (writers_of (L x))
   final_in w f = let p = and_parts _ _ f in among_In w (writers_of (L x)) (h.writers x w ∙ and_from _ _ p.1 (not_from_false _ (committed_stands S H w l p.0)))

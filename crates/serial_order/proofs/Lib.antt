@@ -1,3 +1,4 @@
+pub mod Adding
 pub mod AnyOf
 pub mod Commits
 pub mod Cut
@@ -5,9 +6,10 @@ pub mod EdgesOut
 pub mod OfControls
 pub mod LastCommitted
 pub mod Left
+pub mod Merged
 pub mod OfEngines
 pub mod Places
+pub mod Seen
 pub mod Typed
-pub mod Values
 pub mod Walks
 pub mod Within

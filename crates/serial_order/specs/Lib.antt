@@ -4,5 +4,6 @@ pub mod Commits
 pub mod Edges
 pub mod Keys
 pub mod Laws
+pub mod Seen
 pub mod Tables
 pub mod EndState

@@ -1,6 +1,7 @@
 -- The final tables as a list of rows.
-use Rattle.std.specs.Prelude.{◌≡◌, ℕ, ℤ, false, List, [], ◌∷◌, Option, Some, None}
+use Rattle.std.specs.Prelude.{◌≡◌, ℕ, ℤ, false, List, [], ◌∷◌, ◌++◌, Option, Some, None}
 use Rattle.std.specs.List.{list_any}
+use Rattle.std.specs.declared.cmp.Ordering.TheVariants.{Less, Equal, Greater}
 use Rattle.std.specs.List.Sorted.{IsStrictlySortedBy}
 use Rattle.teb_names.specs.declared.Cell.{Cell}
 use Rattle.teb_names.specs.Cells.{same_cell, cell_cmp}
@@ -31,17 +32,27 @@ cells_put [] = []
 cells_put (Put t x v ∷ es) = x ∷ cells_put es
 cells_put (_ ∷ es) = cells_put es
 
--- the cells ascend, and nothing is left in any other
-pub record AreCells (left : Cell → Option ℤ) (xs : List Cell) : Type 0 where
+-- the cells ascend, and in any other its starting row is left
+pub record AreCells (left : Cell → Option ℤ) (rows : List (Cell × ℤ)) (xs : List Cell) : Type 0 where
   pub ascending : IsStrictlySortedBy cell_cmp xs
-  pub all : (x : Cell) → list_any (λ y. same_cell y x) xs ≡ false → left x ≡ None
+  pub all : (x : Cell) → list_any (λ y. same_cell y x) xs ≡ false → left x ≡ row_of rows x
+
+-- of rows that ascend, those before a cell
+abbrev pub rows_before : Cell → List (Cell × ℤ) → List (Cell × ℤ)
+rows_before x [] = []
+rows_before x (r ∷ rs) = elim (cell_cmp r.0 x) [ Less ↦ r ∷ rows_before x rs | Equal ↦ [] | Greater ↦ [] ]
+
+-- of rows that ascend, those behind a cell
+abbrev pub rows_behind : Cell → List (Cell × ℤ) → List (Cell × ℤ)
+rows_behind x [] = []
+rows_behind x (r ∷ rs) = elim (cell_cmp r.0 x) [ Less ↦ rows_behind x rs | Equal ↦ rs | Greater ↦ r ∷ rs ]
 
 -- these rows behind that of a cell, if it has a value
 abbrev pub row_before : Cell → Option ℤ → List (Cell × ℤ) → List (Cell × ℤ)
 row_before x None rows = rows
 row_before x (Some v) rows = (x, v) ∷ rows
 
--- the cells in which a value is left, with it
-abbrev pub rows_in : (Cell → Option ℤ) → List Cell → List (Cell × ℤ)
-rows_in left [] = []
-rows_in left (x ∷ xs) = row_before x (left x) (rows_in left xs)
+-- rows that ascend, with what is left in these cells in the place of theirs
+abbrev pub merged_rows : (Cell → Option ℤ) → List (Cell × ℤ) → List Cell → List (Cell × ℤ)
+merged_rows left rs [] = rs
+merged_rows left rs (x ∷ xs) = rows_before x rs ++ row_before x (left x) (merged_rows left (rows_behind x rs) xs)

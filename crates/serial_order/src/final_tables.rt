@@ -1,23 +1,28 @@
 //! The final tables.
 
-ghost use Rattle.std.specs.Prelude.{◌≡◌, ℕ, ◌++◌, map, reverse, slice_get, Some, IfOk, IfSome, OnOk};
+ghost use Rattle.std.specs.Prelude.{◌≡◌, ◌<◌, ℕ, ◌++◌, reverse, slice_get, Some, IfOk, IfSome, OnOk};
 ghost use Rattle.std.specs.Option.{option_map};
-ghost use Rattle.teb_history.specs.Phases.{committed};
+ghost use Rattle.teb_names.specs.Rows.{IsAscending};
+ghost use Rattle.teb_history.specs.Phases.{begun_count, committed};
 ghost use Rattle.version_chain.specs.Lists.{writers_of, last_place};
 ghost use Rattle.phase_api.specs.FactsView.{events_of};
-ghost use Rattle.serial_order.specs.Tables.{cells_put, rows_in, AreCells, IsFinalRows};
+ghost use Rattle.serial_order.specs.Tables.{cells_put, rows_before, rows_behind, merged_rows, AreCells, IsFinalRows};
+ghost use Rattle.serial_order.specs.Seen.{IsSound, AddsAll};
 
 use crate::end_state::EndState;
+use crate::seen_cells::SeenCells;
 use engine_core::Engine;
 use phase_api::Facts;
 use std::alloc::{AllocError, Global};
+use std::cmp::Ordering;
 use teb_history::Event;
 use teb_names::{Cell, Txn};
 use version_chain::{Chains, Found};
 
 /// The rows of the final tables, in ascending order of cells: for each cell the value of its last committed version, or of its
-/// starting row. A deleted row is left out. Beside the walk over the events, a cell costs the versions above that one, which
-/// are of unfinished transactions.
+/// starting row. A deleted row is left out. Beside the walk over the events and the starting rows, and a sort of the cells
+/// whose keys are greater than the share of the events that falls to a table, a cell that was put costs the versions above that
+/// one, which are of unfinished transactions.
 pub fn tables<C: Chains>(alloc: Global, engine: &Engine<C>) -> Result<Vec<(Cell, i64)>, AllocError>
     ensures { IfOk result (λ v. IsFinalRows engine.now.store engine.now.events v.items) }
 {
@@ -31,6 +36,7 @@ pub fn tables<C: Chains>(alloc: Global, engine: &Engine<C>) -> Result<Vec<(Cell,
         facts: &facts,
         chains: engine.chains(),
         rows: &setup.rows,
+        tables: setup.names.tables.len(),
     };
     state.rows_left(alloc)
 }
@@ -46,52 +52,43 @@ impl<'a, C: Chains> EndState<'a, C> {
         self.rows_of(alloc, &cells)
     }
 
-    // The cells that somebody has put or that have a starting row, each once, in ascending order. The rows ascend, so that
-    // the last sort merges them with the others.
+    // The cells that somebody has put, each once, in ascending order. There are as many marks as events, so that they cost no
+    // more than the walk over these.
     fn cells(&self, alloc: Global) -> Result<Vec<Cell>, AllocError>
-        ensures { IfOk result (λ v. AreCells (left self.now) v.items) }
+        ensures { IfOk result (λ v. AreCells (left self.now) self.now.rows.now v.items) }
     {
-        let mut cells = self.cells_put(alloc)?;
-        cells.sort_unstable();
-        self.add_rows(&mut cells)?;
-        cells.sort()?;
-        cells.dedup();
-        Ok(cells)
+        let mut seen = SeenCells::new(alloc, self.tables, self.facts.history.len())?;
+        self.add_puts(&mut seen)?;
+        seen.ascending(alloc)
     }
 
-    // The cells that somebody has put, each as often as that.
-    fn cells_put(&self, alloc: Global) -> Result<Vec<Cell>, AllocError>
-        ensures { IfOk result (λ v. v.items ≡ cells_put (reverse (events_of self.now.facts.now))) }
+    // Adds the cells that somebody has put.
+    fn add_puts(&self, seen: &mut SeenCells) -> Result<(), AllocError>
+        requires { IsSound seen.old }
+        ensures { OnOk result (AddsAll seen.old seen.new (cells_put (reverse (events_of self.now.facts.now)))) }
     {
-        let mut cells = Vec::new(alloc);
         for event in self.facts.history.events() {
             if let Event::Put { cell, .. } = event {
-                cells.push(*cell)?;
+                seen.add(*cell)?;
             }
-        }
-        Ok(cells)
-    }
-
-    // Adds the cells that have a starting row.
-    fn add_rows(&self, cells: &mut Vec<Cell>) -> Result<(), AllocError>
-        ensures { OnOk result (cells.new.items ≡ cells.old.items ++ map (λ r. r.0) self.now.rows.now) }
-    {
-        for (cell, _) in self.rows.rows() {
-            cells.push(*cell)?;
         }
         Ok(())
     }
 
-    // Those of these cells in which a value is left, with it.
+    // The starting rows, with what is left in these cells in the place of theirs.
     fn rows_of(&self, alloc: Global, cells: &[Cell]) -> Result<Vec<(Cell, i64)>, AllocError>
-        ensures { IfOk result (λ v. v.items ≡ rows_in (left self.now) cells.now) }
+        ensures rows { IfOk result (λ v. v.items ≡ merged_rows (left self.now) self.now.rows.now cells.now) }
+        ensures ascending { IsAscending self.now.rows.now }
     {
-        let mut rows = Vec::with_capacity(alloc, cells.len())?;
+        let mut starting = self.rows.rows();
+        let mut rows = Vec::with_capacity(alloc, cells.len().max(starting.len()))?;
         for cell in cells {
+            starting = pass_rows(&mut rows, starting, *cell)?;
             if let Some(value) = self.value(*cell) {
                 rows.push((*cell, value))?;
             }
         }
+        rows.extend_from_slice(starting)?;
         Ok(rows)
     }
 
@@ -106,13 +103,42 @@ impl<'a, C: Chains> EndState<'a, C> {
         }
     }
 
-    // The last version whose writer is committed. No version is of transaction 0.
+    // The last version whose writer is committed.
     fn last_committed(&self, cell: Cell) -> Option<Found>
         ensures place { option_map (λ v. v.at) result ≡ last_place (committed (events_of self.now.facts.now)) (writers_of (C.lists self.now.chains.now cell)) }
         ensures version { IfSome result (λ v. slice_get (C.lists self.now.chains.now cell) v.at ≡ Some (v.writer, v.value)) }
     {
         let history = self.facts.history;
         self.chains
-            .own_or_last(cell, Txn(0), &|w: Txn| history.is_committed(w))
+            .own_or_last(cell, self.nobody(), &|w: Txn| history.is_committed(w))
     }
+
+    // A transaction that has no version: the one that would begin next, of which the chains may tell so without a look-up, or 0.
+    fn nobody(&self) -> Txn
+        ensures { 0 < result.0 → begun_count (events_of self.now.facts.now) < result.0 }
+    {
+        Txn(self.facts.history.begun().wrapping_add(1))
+    }
+}
+
+// Adds the starting rows before a cell, and gives those behind it.
+#[inline(always)]
+fn pass_rows<'r>(
+    rows: &mut Vec<(Cell, i64)>,
+    starting: &'r [(Cell, i64)],
+    cell: Cell,
+) -> Result<&'r [(Cell, i64)], AllocError>
+    ensures passed { OnOk result (rows.new.items ≡ rows.old.items ++ rows_before cell starting.now) }
+    ensures left { IfOk result (λ r. r.now ≡ rows_behind cell starting.now) }
+{
+    let mut left = starting;
+    while let [row, behind @ ..] = left {
+        match row.0.cmp(&cell) {
+            Ordering::Less => rows.push(*row)?,
+            Ordering::Equal => return Ok(behind),
+            Ordering::Greater => return Ok(left),
+        }
+        left = behind;
+    }
+    Ok(left)
 }

@@ -8,6 +8,7 @@ mod end_state;
 mod final_tables;
 mod keys;
 pub mod laws;
+mod seen_cells;
 mod serial;
 
 pub use final_tables::tables;

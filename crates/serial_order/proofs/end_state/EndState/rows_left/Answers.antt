@@ -1,21 +1,23 @@
 use Rattle.std.proofs.Common.{◌≡◌, ap, ◌∙◌}
 use Rattle.std.proofs.lemmas.Result.{IfOk-weaker}
+use Rattle.teb_names.specs.Rows.{IsAscending}
 use Rattle.phase_api.specs.FactsView.{events_of}
 use Rattle.serial_order.specs.EndState.{left, store}
-use Rattle.serial_order.specs.Tables.{rows_in, IsFinalRows}
+use Rattle.serial_order.specs.Tables.{merged_rows, IsFinalRows}
 use Rattle.serial_order.proofs.Left.{tables_alike}
-use Rattle.serial_order.proofs.Values.{row_left, rows_ascend}
+use Rattle.serial_order.proofs.Merged.{merged_ascend, merged_left}
 use Rattle.serial_order.proofs.end_state.EndState.rows_left.Goals as goal
 
 pub returns : goal.returns
 returns g c = λ n.
     let l = c.args.self.now in
     let cells = c.in_ok-cells.cells.items in
-    IfOk-weaker c.rows_of.result (λ v. v.items ≡ rows_in (left l) c.deref.result.now) (λ v. IsFinalRows (store l n) (events_of l.facts.now) v.items)
+    IfOk-weaker c.rows_of.result (λ v. v.items ≡ merged_rows (left l) l.rows.now c.deref.result.now) (λ v. IsFinalRows (store l n) (events_of l.facts.now) v.items)
     (λ v e.
-    let rows : v.items ≡ rows_in (left l) cells = e ∙ ap (rows_in (left l)) c.deref.ensures.value in
+    let rows : v.items ≡ merged_rows (left l) l.rows.now cells = e ∙ ap (merged_rows (left l) l.rows.now) c.deref.ensures.value in
+    let starting : IsAscending l.rows.now = c.rows_of.ensures.ascending in
     record {
-      ascending = rw rows (rows_ascend (left l) cells c.in_ok-cells.ensures.ascending);
-      each = λ x. rw rows (row_left (left l) cells x c.in_ok-cells.ensures ∙ tables_alike (store l 0) n (events_of l.facts.now) x);
+      ascending = rw rows (merged_ascend (left l) l.rows.now cells starting c.in_ok-cells.ensures.ascending);
+      each = λ x. rw rows (merged_left (left l) l.rows.now cells x starting c.in_ok-cells.ensures.ascending (c.in_ok-cells.ensures.all x) ∙ tables_alike (store l 0) n (events_of l.facts.now) x);
     })
-    c.rows_of.ensures
+    c.rows_of.ensures.rows

@@ -1,7 +1,7 @@
 use Rattle.std.proofs.Common.{◌≡◌, ◌++◌, drop}
 use Rattle.serial_order.specs.EndState.{left}
-use Rattle.serial_order.specs.Tables.{rows_in}
+use Rattle.serial_order.specs.Tables.{merged_rows}
 use Rattle.serial_order.proofs.end_state.EndState.rows_of.Given as goal
 
 abbrev pub invariant-loop-cell : goal.invariant-loop-cell
-invariant-loop-cell g l = l.rows.items ++ rows_in (left l.self) (drop l.cell-index l.cells) ≡ rows_in (left l.self) l.cells
+invariant-loop-cell g l = l.rows.items ++ merged_rows (left l.self) l.starting (drop l.cell-index l.cells) ≡ merged_rows (left l.self) l.self.rows.now l.cells
