@@ -1,12 +1,12 @@
 //! Lists by number, in one vector.
 
-ghost use Rattle.std.specs.Prelude.{◌≡◌, ◌<◌, ◌≤◌, ◌+◌, ◌++◌, ◌∷◌, [], length, cond, set, OnOk};
+ghost use Rattle.std.specs.Prelude.{◌≡◌, ◌<◌, ◌≤◌, ◌+◌, ◌++◌, ◌∷◌, [], length, cond, eqb, filter, not, remove, set, OnOk};
 ghost use Rattle.std.specs.Result.{is_err};
 ghost use Rattle.teb_history.specs.Ascending.{IsAscendingBy, place_of, put_by};
 ghost use Rattle.arena_multimap.specs.NumberedLists.{list_in};
 
 use crate::arena::{AHEAD, Arena};
-use sorted_multimap::Numbered;
+use sorted_multimap::{Numbered, find_number};
 use std::alloc::{AllocError, Global};
 use std::marker::Model;
 
@@ -85,10 +85,32 @@ impl<V: Copy> NumberedLists<V> {
     }
 
     /// The values of a list, in their order; none of one that there is not.
+    #[inline(always)]
     pub fn list(&self, i: usize) -> &[V]
         ensures { result.now ≡ list_in self.now.lists i }
     {
         self.lists.list(i)
+    }
+
+    /// Puts a value behind those of a list. It takes one place of the room.
+    #[inline(always)]
+    pub fn push(&mut self, i: usize, value: V)
+        requires room { 0 < self.old.spare }
+        requires within { i < length self.old.lists }
+        ensures lists { self.new.lists ≡ set self.old.lists i (list_in self.old.lists i ++ value ∷ []) }
+        ensures spare { self.old.spare ≡ self.new.spare + 1 }
+    {
+        self.lists.push(i, value);
+        self.spare -= 1;
+    }
+
+    /// Takes out the value at an index of a list.
+    pub fn take(&mut self, i: usize, at: usize)
+        requires { at < length (list_in self.old.lists i) }
+        ensures lists { self.new.lists ≡ set self.old.lists i (remove (list_in self.old.lists i) at) }
+        ensures spare { self.new.spare ≡ self.old.spare }
+    {
+        self.lists.take(i, at);
     }
 
     /// Takes out all values of a list, if there is one.
@@ -116,5 +138,16 @@ impl<V: Numbered> NumberedLists<V> {
         }
         self.spare -= 1;
         true
+    }
+
+    /// Takes the value with a number out of a list, whose values ascend by number. Where there is none, it stays.
+    pub fn take_by_number(&mut self, i: usize, number: u32)
+        requires { IsAscendingBy V.numbered_by (list_in self.old.lists i) }
+        ensures lists { self.new.lists ≡ set self.old.lists i (filter (λ v. not (eqb (V.numbered_by v) number)) (list_in self.old.lists i)) }
+        ensures spare { self.new.spare ≡ self.old.spare }
+    {
+        if let Ok(at) = find_number(self.lists.list(i), number) {
+            self.lists.take(i, at);
+        }
     }
 }

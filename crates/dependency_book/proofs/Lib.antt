@@ -1,6 +1,7 @@
 pub mod OrderlyHistories
 pub mod Positive
 pub mod SourceLists
+pub mod Places
 pub mod MultimapEdits
 pub mod OwnAccesses
 pub mod LawfulHistories

@@ -25,6 +25,25 @@ reads_if t y w v x = accessed_if (same_cell y x) v
 pub puts_if : (t : Txn) (y : Cell) (v : Option ℤ) (x : Cell) → puts x (Put t y v) ≡ same_cell y x
 puts_if t y v x = accessed_if (same_cell y x) v
 
+-- what is no read reads nothing, and what is no put puts nothing
+pub no_read : (e : Event) → ((t : Txn) (y : Cell) (w : Txn) (v : Option ℤ) → e ≡ Got t y w v → ⊥) → (x : Cell) → reads x e ≡ false
+no_read (Began t s k i) f x = refl
+no_read (Got t y w v) f x = absurd (f t y w v refl)
+no_read (Put t y v) f x = refl
+no_read (Ready t) f x = refl
+no_read (Done t) f x = refl
+no_read (Gone t c) f x = refl
+no_read (Told t) f x = refl
+
+pub no_put : (e : Event) → ((t : Txn) (y : Cell) (v : Option ℤ) → e ≡ Put t y v → ⊥) → (x : Cell) → puts x e ≡ false
+no_put (Began t s k i) f x = refl
+no_put (Got t y w v) f x = refl
+no_put (Put t y v) f x = absurd (f t y v refl)
+no_put (Ready t) f x = refl
+no_put (Done t) f x = refl
+no_put (Gone t c) f x = refl
+no_put (Told t) f x = refl
+
 any_push : {A : Type 0} (q : A → Bool) (c : Bool) (xs : List A) (a : A) → list_any q (cond c (xs ++ a ∷ []) xs) ≡ (list_any q xs || (c && q a))
 any_push q true [] a = or_back (q a)
   where

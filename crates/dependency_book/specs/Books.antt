@@ -2,21 +2,21 @@
 use Rattle.std.specs.Prelude.{◌≡◌, ℕ, zero, suc, ◌+◌, ◌≤◌, List, [], length, vec_len, vec_capacity}
 use Rattle.teb_names.specs.declared.Txn.{Txn}
 use Rattle.teb_names.specs.declared.Cell.{Cell}
-use Rattle.teb_names.specs.Cells.{cell_cmp}
 use Rattle.teb_history.specs.declared.Event.{Event}
 use Rattle.teb_history.specs.Ascending.{IsAscendingBy}
 use Rattle.teb_history.specs.Live.{number_of}
 use Rattle.teb_history.specs.Phases.{begun_count}
 use Rattle.arena_multimap.specs.NumberedLists.{list_in}
-use Rattle.sorted_multimap.specs.Multimap.{values_of}
 use Rattle.dependency_book.specs.declared.registers.Registers.{Registers}
 use Rattle.dependency_book.specs.Dependencies.{readers, writers, sources, unfinished_txns}
 use Rattle.dependency_book.specs.Orderly.{Orderly}
+use Rattle.dependency_book.specs.Places.{list_for, HasRoom}
 
--- who read and who put which cell; whom each transaction read from, in the order in which they began; and who is unfinished
+-- the cells, and for each of them in that order who read it, beside the writer read from, and who put it; whom each transaction read from, in the order in which they began; and who is unfinished
 pub record Lists : Type 0 where
-  pub readers : List (Cell × (Txn × Txn))
-  pub writers : List (Cell × Txn)
+  pub cells : List Cell
+  pub readers : List (List (Txn × Txn))
+  pub writers : List (List Txn)
   pub sources : List (List Txn)
   pub unfinished : List Txn
 
@@ -26,10 +26,10 @@ pub record Shown : Type 0 where
   pub spare : ℕ
 
 abbrev pub readers_in : Lists → Cell → List (Txn × Txn)
-readers_in b x = values_of cell_cmp b.readers x
+readers_in b x = list_for b.cells b.readers x
 
 abbrev pub writers_in : Lists → Cell → List Txn
-writers_in b x = values_of cell_cmp b.writers x
+writers_in b x = list_for b.cells b.writers x
 
 -- the list of the transaction with a number: lists are numbered from 0, and transactions from 1
 abbrev pub list_of : List (List Txn) → ℕ → List Txn
@@ -49,7 +49,7 @@ pub record BookOf (b : Lists) (H : List Event) : Type 0 where
   pub unfinished : b.unfinished ≡ unfinished_txns H
 
 abbrev pub lists_of : Registers → Lists
-lists_of r = record { readers = r.readers.entries; writers = r.writers.entries; sources = r.sources.lists; unfinished = r.unfinished.items }
+lists_of r = record { cells = r.cells.cells; readers = r.cells.readers; writers = r.cells.writers; sources = r.sources.lists; unfinished = r.unfinished.items }
 
 -- the sources of each transaction ascend
 abbrev pub SourcesAscend : List (List Txn) → Type 0
@@ -57,8 +57,7 @@ SourcesAscend ls = (t : Txn) → IsAscendingBy number_of (list_of ls t.0)
 
 -- each list has room for n more
 pub record HasRooms (r : Registers) (n : ℕ) : Type 0 where
-  pub readers : n ≤ r.readers.spare
-  pub writers : n ≤ r.writers.spare
+  pub cells : HasRoom r.cells.room n
   pub sources : n ≤ r.sources.spare
   pub unfinished : vec_len r.unfinished + n ≤ vec_capacity r.unfinished
 

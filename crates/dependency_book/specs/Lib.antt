@@ -1,3 +1,4 @@
 pub mod Orderly
 pub mod Dependencies
+pub mod Places
 pub mod Books

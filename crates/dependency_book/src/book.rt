@@ -64,7 +64,7 @@ impl Book {
     /// Notes the newest event of the history. Of a Put is told whether its transaction has put the cell before. It takes one place of
     /// the room at most.
     ///
-    /// A read or a put costs a look-up of its cell; whom a transaction read from is found by its number alone. An abort costs look-ups for
+    /// A read or a put costs a look-up of its cell; whom a transaction read from is found by its number alone. An abort costs a look-up for
     /// each access of its transaction, and goes through what was read or put in the same cells since; where its transaction put a cell
     /// again, through all that put it. A commit and an abort cost a binary search among the unfinished, and a move of those behind.
     #[inline(always)]
@@ -81,14 +81,14 @@ impl Book {
     pub fn readers(&self, cell: Cell) -> &[(Txn, Txn)]
         ensures { result.now ≡ readers_in self.now.lists cell }
     {
-        self.registers.readers.list(cell)
+        self.registers.cells.readers(cell)
     }
 
     /// Who put a cell and is not aborted, in order of the first Put.
     pub fn writers(&self, cell: Cell) -> &[Txn]
         ensures { result.now ≡ writers_in self.now.lists cell }
     {
-        self.registers.writers.list(cell)
+        self.registers.cells.writers(cell)
     }
 
     /// Whom a transaction read from, in ascending number, each once, without itself and the starting rows. None where it is aborted.

@@ -2,7 +2,7 @@
 #![tactic(auto)]
 
 mod book;
-mod edits;
+mod cell_lists;
 mod registers;
 mod source_lists;
 

@@ -11,8 +11,9 @@ ghost use Rattle.dependency_book.specs.Books.{BookOf, lists_of, SourcesAscend, H
 ghost use Rattle.dependency_book.specs.Dependencies.{IsAgain};
 ghost use Rattle.dependency_book.specs.Orderly.{MayFollow};
 
-use crate::{edits, source_lists};
-use arena_multimap::{ArenaMultimap, NumberedLists};
+use crate::cell_lists::CellLists;
+use crate::source_lists;
+use arena_multimap::NumberedLists;
 use std::alloc::{AllocError, Global};
 use teb_history::{Event, History};
 use teb_names::{Cell, Txn};
@@ -20,10 +21,8 @@ use teb_names::{Cell, Txn};
 /// Who read and put what, from whom, and who is unfinished.
 #[derive(Drop)]
 pub struct Registers {
-    // By cell: reader and writer read from, in order of access.
-    pub(crate) readers: ArenaMultimap<Cell, (Txn, Txn)>,
-    // By cell, in order of the first Put.
-    pub(crate) writers: ArenaMultimap<Cell, Txn>,
+    // Who read each cell, beside the writer read from, and who put it, in order of access.
+    pub(crate) cells: CellLists,
     // Whom each transaction read from, in ascending number: a list for each that has begun, the oldest first.
     pub(crate) sources: NumberedLists<Txn>,
     // In ascending number.
@@ -36,8 +35,7 @@ impl Registers {
         ensures book { BookOf (lists_of result) [] }
     {
         Registers {
-            readers: ArenaMultimap::new(alloc),
-            writers: ArenaMultimap::new(alloc),
+            cells: CellLists::new(alloc),
             sources: NumberedLists::new(alloc),
             unfinished: Vec::new(alloc),
         }
@@ -49,8 +47,7 @@ impl Registers {
         ensures room { OnOk result (HasRooms self.new n) }
         ensures kept { (m : ℕ) → HasRooms self.old m → HasRooms self.new m }
     {
-        self.readers.reserve(n)?;
-        self.writers.reserve(n)?;
+        self.cells.reserve(n)?;
         self.sources.reserve(n)?;
         self.unfinished.reserve(n)?;
         Ok(())
@@ -100,7 +97,7 @@ impl Registers {
         ensures room { (n : ℕ) → HasRooms self.old (n + 1) → HasRooms self.new n }
         ensures book { (P : List Event) (v : Option ℤ) → BookOf (lists_of self.old) P → MayFollow P (event.Got t cell from v) → BookOf (lists_of self.new) (event.Got t cell from v ∷ P) }
     {
-        self.readers.push(cell, (t, from));
+        self.cells.read(cell, (t, from));
         source_lists::add_source(&mut self.sources, t, from);
     }
 
@@ -115,7 +112,7 @@ impl Registers {
         if again {
             return;
         }
-        self.writers.push(cell, t);
+        self.cells.put(cell, t);
     }
 
     /// A transaction commits.
@@ -135,7 +132,7 @@ impl Registers {
         ensures room { (n : ℕ) → HasRooms self.old n → HasRooms self.new n }
         ensures book { (P : List Event) (c : Cause) → history.now.events ≡ event.Gone t c ∷ P → BookOf (lists_of self.old) P → MayFollow P (event.Gone t c) → BookOf (lists_of self.new) (event.Gone t c ∷ P) }
     {
-        edits::forget_accesses(&mut self.readers, &mut self.writers, history, t);
+        self.cells.forget_accesses(history, t);
         source_lists::clear_sources(&mut self.sources, t);
         teb_history::remove_txn(&mut self.unfinished, t);
     }

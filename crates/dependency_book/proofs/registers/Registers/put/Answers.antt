@@ -1,9 +1,6 @@
-use Rattle.std.proofs.Common.{◌≡◌, Bool, true, false, cond, not, ◌&&◌, refl, sym, ◌∙◌, List}
-use Rattle.teb_names.specs.declared.Cell.{Cell}
-use Rattle.teb_names.specs.Cells.{cell_cmp, same_cell}
-use Rattle.sorted_multimap.specs.Multimap.{values_in}
+use Rattle.std.proofs.Common.{◌≡◌, Bool, true, false, cond, not, ◌&&◌, refl, sym, ◌∙◌, List, arith}
+use Rattle.teb_names.specs.Cells.{same_cell}
 use Rattle.teb_history.specs.Accesses.{wrote}
-use Rattle.sorted_multimap.proofs.CellValues.{pushed_cell}
 use Rattle.dependency_book.proofs.Noted.{noted_put}
 use Rattle.dependency_book.proofs.registers.Registers.put.Goals as goal
 
@@ -33,6 +30,9 @@ returns-clause-book c P v told was may =
     let t = c.args.t in
     let x = c.args.cell in
     let is : false ≡ wrote P t.0 x = sym c.if-again.false ∙ told in
-    noted_put _ _ P was t x v may (λ y. refl)
-    (λ y. c.push.ensures.values y ∙ pushed_cell (λ (z : Cell). values_in cell_cmp c.args.self.now.writers z) x y t ∙ added _ (same_cell x y) _ _ is)
+    noted_put _ _ P was t x v may c.put.ensures.readers
+    (λ y. c.put.ensures.writers y ∙ added _ (same_cell x y) _ _ is)
     refl refl
+
+pub returns-clause-room : goal.returns-clause-room
+returns-clause-room c n h = record { cells = c.put.ensures.room n h.cells; sources = omega (arith, h.sources); unfinished = omega (arith, h.unfinished) }

@@ -1,0 +1,200 @@
+//! Who read and who put each cell: readers and writers have one place under one index.
+
+ghost use Rattle.std.specs.Prelude.{◌≡◌, ◌<◌, ◌≤◌, ◌+◌, ◌++◌, ◌∷◌, [], ℕ, cond, eqb, OnOk};
+ghost use Rattle.std.specs.List.{count_by};
+ghost use Rattle.indexmap.specs.IndexSet.{IsUnique, insert_key, spare as set_spare};
+ghost use Rattle.teb_names.specs.declared.Cell.{Cell};
+ghost use Rattle.teb_names.specs.declared.Txn.{Txn};
+ghost use Rattle.teb_names.specs.Cells.{same_cell};
+ghost use Rattle.teb_history.specs.OwnEvents.{own_events};
+ghost use Rattle.sorted_multimap.specs.LastMatches.{IsLastPlace, without_last, without_lasts};
+ghost use Rattle.dependency_book.specs.Dependencies.{reads, puts};
+ghost use Rattle.dependency_book.specs.Places.{HasRoom, place_in, readers_of, with_place, writers_of};
+
+use arena_multimap::NumberedLists;
+use indexmap::IndexSet;
+use std::alloc::{AllocError, Global};
+use std::marker::Model;
+use teb_history::{Event, History};
+use teb_names::{Cell, Txn};
+
+/// By cell, who read it and from whom, and who put it, each in order of access.
+#[derive(Drop)]
+pub struct CellLists {
+    // Each cell has the lists of its place.
+    cells: IndexSet<Cell>,
+    readers: NumberedLists<(Txn, Txn)>,
+    writers: NumberedLists<Txn>,
+}
+
+impl Model for CellLists {
+    ghost use Rattle.dependency_book.specs.Places.{Shown, shown_of, ArePlaced};
+
+    ghost Value = { Shown };
+
+    ghost view = { λ p. shown_of p.cells p.readers p.writers };
+
+    ghost invariant = { λ p. ArePlaced p.cells p.readers.lists p.writers.lists };
+}
+
+impl CellLists {
+    /// The lists of an empty history, with no room. Takes no memory.
+    pub(crate) fn new(alloc: Global) -> Self
+        ensures readers { (x : Cell) → readers_of result x ≡ [] }
+        ensures writers { (x : Cell) → writers_of result x ≡ [] }
+    {
+        CellLists {
+            cells: IndexSet::new(alloc),
+            readers: NumberedLists::new(alloc),
+            writers: NumberedLists::new(alloc),
+        }
+    }
+
+    /// Makes room for n accesses. The lists stay, also after an `Err`.
+    pub(crate) fn reserve(&mut self, n: usize) -> Result<(), AllocError>
+        ensures cells { self.new.cells ≡ self.old.cells }
+        ensures readers { self.new.readers ≡ self.old.readers }
+        ensures writers { self.new.writers ≡ self.old.writers }
+        ensures room { OnOk result (HasRoom self.new.room n) }
+        ensures kept { (m : ℕ) → HasRoom self.old.room m → HasRoom self.new.room m }
+    {
+        let twice = n.checked_mul(2).ok_or(AllocError)?;
+        self.cells.reserve(n)?;
+        self.readers.reserve(twice)?;
+        self.writers.reserve(twice)?;
+        Ok(())
+    }
+
+    /// A transaction reads a cell: the pair of it and of whom it reads from comes behind the readers. It takes one place of the room.
+    pub(crate) fn read(&mut self, cell: Cell, pair: (Txn, Txn))
+        requires { HasRoom self.old.room 1 }
+        ensures readers { (x : Cell) → readers_of self.new x ≡ cond (same_cell cell x) (readers_of self.old x ++ pair ∷ []) (readers_of self.old x) }
+        ensures writers { (x : Cell) → writers_of self.new x ≡ writers_of self.old x }
+        ensures room { (n : ℕ) → HasRoom self.old.room (n + 1) → HasRoom self.new.room n }
+    {
+        let place = place_for(&mut self.cells, &mut self.readers, &mut self.writers, cell);
+        self.readers.push(place, pair);
+    }
+
+    /// A transaction puts a cell: it comes behind the writers. It takes one place of the room.
+    pub(crate) fn put(&mut self, cell: Cell, t: Txn)
+        requires { HasRoom self.old.room 1 }
+        ensures readers { (x : Cell) → readers_of self.new x ≡ readers_of self.old x }
+        ensures writers { (x : Cell) → writers_of self.new x ≡ cond (same_cell cell x) (writers_of self.old x ++ t ∷ []) (writers_of self.old x) }
+        ensures room { (n : ℕ) → HasRoom self.old.room (n + 1) → HasRoom self.new.room n }
+    {
+        let place = place_for(&mut self.cells, &mut self.readers, &mut self.writers, cell);
+        self.writers.push(place, t);
+    }
+
+    /// Who read a cell, and from whom.
+    pub(crate) fn readers(&self, cell: Cell) -> &[(Txn, Txn)]
+        ensures { result.now ≡ readers_of self.now cell }
+    {
+        self.readers.list(place_of(&self.cells, cell))
+    }
+
+    /// Who put a cell.
+    pub(crate) fn writers(&self, cell: Cell) -> &[Txn]
+        ensures { result.now ≡ writers_of self.now cell }
+    {
+        self.writers.list(place_of(&self.cells, cell))
+    }
+
+    /// Takes out a pair of t for each of its reads of a cell, and t from the writers of each cell that it put, the newest first. The room
+    /// stays.
+    pub(crate) fn forget_accesses(&mut self, history: &History, t: Txn)
+        ensures readers { (x : Cell) → readers_of self.new x ≡ without_lasts (count_by (reads x) (own_events history.now.events t.0)) (λ r. eqb r.0.0 t.0) (readers_of self.old x) }
+        ensures writers { (x : Cell) → writers_of self.new x ≡ without_lasts (count_by (puts x) (own_events history.now.events t.0)) (λ u. eqb u.0 t.0) (writers_of self.old x) }
+        ensures room { self.new.room ≡ self.old.room }
+    {
+        for event in history.own_events(t) {
+            match event {
+                Event::Got { cell, .. } => self.forget_read(cell, t),
+                Event::Put { cell, .. } => self.forget_put(cell, t),
+                _ => {}
+            }
+        }
+    }
+
+    /// Takes the last pair of t out of the readers of a cell. The search goes from the end, past what was read there since.
+    fn forget_read(&mut self, cell: Cell, t: Txn)
+        ensures readers { (x : Cell) → readers_of self.new x ≡ cond (same_cell cell x) (without_last (λ r. eqb r.0.0 t.0) (readers_of self.old x)) (readers_of self.old x) }
+        ensures writers { (x : Cell) → writers_of self.new x ≡ writers_of self.old x }
+        ensures room { self.new.room ≡ self.old.room }
+    {
+        let place = place_of(&self.cells, cell);
+        if let Some(i) = read_place(self.readers.list(place), t) {
+            self.readers.take(place, i);
+        }
+    }
+
+    /// Takes t out of the writers of a cell, where it is there. The search goes from the end, past what was put there since.
+    fn forget_put(&mut self, cell: Cell, t: Txn)
+        ensures readers { (x : Cell) → readers_of self.new x ≡ readers_of self.old x }
+        ensures writers { (x : Cell) → writers_of self.new x ≡ cond (same_cell cell x) (without_last (λ u. eqb u.0 t.0) (writers_of self.old x)) (writers_of self.old x) }
+        ensures room { self.new.room ≡ self.old.room }
+    {
+        let place = place_of(&self.cells, cell);
+        if let Some(i) = put_place(self.writers.list(place), t) {
+            self.writers.take(place, i);
+        }
+    }
+}
+
+/// The place of a cell, or their number where it has none.
+#[inline(always)]
+fn place_of(cells: &IndexSet<Cell>, cell: Cell) -> usize
+    ensures { result ≡ place_in cells.now.keys cell }
+{
+    match cells.get_index_of(&cell) {
+        Some(place) => place,
+        None => cells.len(),
+    }
+}
+
+/// The place of a cell, which gets lists of its own where it has none.
+#[inline(always)]
+fn place_for(
+    cells: &mut IndexSet<Cell>,
+    readers: &mut NumberedLists<(Txn, Txn)>,
+    writers: &mut NumberedLists<Txn>,
+    cell: Cell,
+) -> usize
+    requires cells { 0 < set_spare cells.old }
+    requires readers { 0 < readers.old.spare }
+    requires writers { 0 < writers.old.spare }
+    ensures place { result ≡ place_in cells.old.keys cell }
+    ensures cells { cells.new.keys ≡ insert_key same_cell cells.old.keys cell }
+    ensures unique { IsUnique same_cell cells.new }
+    ensures cells_room { set_spare cells.old ≤ set_spare cells.new + 1 }
+    ensures readers { readers.new.lists ≡ with_place cells.old.keys cell readers.old.lists }
+    ensures readers_room { readers.old.spare ≤ readers.new.spare + 1 }
+    ensures writers { writers.new.lists ≡ with_place cells.old.keys cell writers.old.lists }
+    ensures writers_room { writers.old.spare ≤ writers.new.spare + 1 }
+{
+    match cells.insert_full(cell) {
+        Ok((place, is_new)) => {
+            if is_new {
+                readers.begin();
+                writers.begin();
+            }
+            place
+        }
+        Err(_) => 0,
+    }
+}
+
+// The last pair of t.
+fn read_place(pairs: &[(Txn, Txn)], t: Txn) -> Option<usize>
+    ensures { IsLastPlace (λ r. eqb r.0.0 t.0) pairs.now result }
+{
+    pairs.iter().rposition(|pair| pair.0 == t)
+}
+
+// The last place of t.
+fn put_place(txns: &[Txn], t: Txn) -> Option<usize>
+    ensures { IsLastPlace (λ u. eqb u.0 t.0) txns.now result }
+{
+    txns.iter().rposition(|u| *u == t)
+}
