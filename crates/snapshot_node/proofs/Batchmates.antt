@@ -9,7 +9,7 @@ use Rattle.teb_history.specs.Accesses.{is_got, got, wrote, got_at}
 use Rattle.teb_history.specs.Phases.{begun, begun_count}
 use Rattle.teb_history.proofs.Any.{came_any}
 use Rattle.teb_history.specs.OwnEvents.{is_of}
-use Rattle.snapshot_node.proofs.KeyOrders.{same_itself}
+use Rattle.version_chain.proofs.Cells.{same_cell-itself}
 use Rattle.batch_book.specs.Fields.{Has}
 use Rattle.batch_book.proofs.Elements.{any_Has, Has-any}
 use Rattle.teb_rules.specs.Setup.{Setup}
@@ -54,7 +54,7 @@ edge_begun S H n a b o e = let r = any_Has (is_touch H a b) H (past_touch S H a 
     each : (e : Event) → Has e H → is_touch H a b e ≡ true → (begun H a ≡ true) × (begun H b ≡ true)
     each (Got s x w v) i q =
         let p = and_parts (eqb s.0 a) (wrote H b x) q in
-        (o.got a x (came_any (is_got a x) H ∙ Has-any (is_got a x) (Got s x w v) H i (and_from _ _ p.0 (same_itself x))), o.wrote b x p.1)
+        (o.got a x (came_any (is_got a x) H ∙ Has-any (is_got a x) (Got s x w v) H i (and_from _ _ p.0 (same_cell-itself x))), o.wrote b x p.1)
     each e i q = let z = (and_parts (is_of a e) (gets_put H b e) q).1 in absurd (cc)
 
 pub leads_here : (f : Facts) (n t a b : ℕ) → IsOrderly (setup_of f) (events_of f) → Leads (setup_of f) (events_of f) n t a b → IsHere f n a × IsHere f n b

@@ -2,8 +2,6 @@
 use Rattle.std.proofs.Common.{◌≡◌, ℕ, false, not, ◌&&◌, List, [], sym, ◌∙◌, ap, subst}
 use Rattle.std.proofs.lemmas.Bool.{and_right}
 use Rattle.teb_names.specs.declared.Cell.{Cell}
-use Rattle.teb_names.specs.declared.Txn.{Txn}
-use Rattle.teb_names.specs.Cells.{cell_cmp}
 use Rattle.teb_history.specs.declared.Event.{Event}
 use Rattle.teb_history.specs.Phases.{aborted, committed}
 use Rattle.teb_history.specs.Accesses.{is_put, is_got, put_at, got_at, wrote, got}
@@ -16,11 +14,10 @@ use Rattle.teb_names.specs.declared.ControlKind.TheVariants.{Snapshot}
 use Rattle.batch_book.specs.Book.{Book}
 use Rattle.batch_book.specs.Histories.{BatchesOf}
 use Rattle.access_conflicts.proofs.Orderly.{orderly_none}
-use Rattle.sorted_multimap.specs.Multimap.{Shown, values_of, values_in}
-use Rattle.snapshot_node.specs.declared.committed.Committed.{Committed}
-use Rattle.snapshot_node.specs.Accessors.{is_among, AreFiled}
+use Rattle.access_book.specs.Books.{Shown, is_among, AreFiled, IsEmpty}
 use Rattle.snapshot_node.specs.Standing.{SnapshotStand, counts, has_put_in, has_committed_in, has_read_in}
 use Rattle.snapshot_node.specs.Committed.{CommittedStand}
+use Rattle.snapshot_node.proofs.Touching.{count_none, touched_none}
 
 wrote_none : (u : ℕ) (x : Cell) → wrote [] u x ≡ false
 unfolding wrote put_at
@@ -39,27 +36,30 @@ reads_none S n x u = and_right (on S [] n u && not (aborted [] u)) (got [] u x) 
 committed_none_in : (S : Setup) (n : ℕ) (x : Cell) (u : ℕ) → has_committed_in S [] n x u ≡ false
 committed_none_in S n x u = and_right (on S [] n u && committed [] u) (wrote [] u x) (wrote_none u x)
 
-bare : (s : Shown Cell Txn) → s.entries ≡ [] → (x : Cell) → values_in cell_cmp s x ≡ []
-bare s h x = ap (λ (es : List (Cell × Txn)). values_of cell_cmp es x) h
+-- and the empty book of accesses tells so
+module _ (S : Setup) (H : List Event) (n : ℕ) (a : Shown) (e : H ≡ []) (h : IsEmpty a) where
+  filed_none : AreFiled a
+  filed_none = record {
+    readers = λ x. subst (IsAscendingBy number_of) (sym (h.readers x)) tt;
+    writers = λ x. subst (IsAscendingBy number_of) (sym (h.writers x)) tt;
+    committed = λ x. subst (IsAscendingBy number_of) (sym (h.committed x)) tt;
+  }
 
-filed_none : (s : Shown Cell Txn) → s.entries ≡ [] → AreFiled s
-filed_none s h = record { ascending = λ x. subst (IsAscendingBy number_of) (sym (bare s h x)) tt }
+  pub stands_none : (b : Book) → (row S.tree n).control ≡ Snapshot → b.size ≡ (row S.tree n).batch → BatchesOf b S [] n → SnapshotStand n b a S H
+  stands_none b k z q = subst (λ (G : List Event). SnapshotStand n b a S G) (sym e) (record {
+    kind = k;
+    size = z;
+    orderly = orderly_none S;
+    batches = q;
+    filed = filed_none;
+    read = λ x u. ap (is_among u) (h.readers x) ∙ sym (reads_none S n x u);
+    put = λ x u. ap (is_among u) (h.writers x) ∙ sym (puts_none S n x u);
+    begun = h.begun ∙ sym count_none;
+    touched = λ u. h.touched u ∙ touched_none S n u;
+  })
 
-pub stands_none : (S : Setup) (H : List Event) (n : ℕ) (b : Book) (r p : Shown Cell Txn) → H ≡ [] → (row S.tree n).control ≡ Snapshot → b.size ≡ (row S.tree n).batch → BatchesOf b S [] n → r.entries ≡ [] → p.entries ≡ [] → SnapshotStand n b r p S H
-stands_none S H n b r p e k z h c q = subst (λ (G : List Event). SnapshotStand n b r p S G) (sym e) (record {
-  kind = k;
-  size = z;
-  orderly = orderly_none S;
-  batches = h;
-  readers_filed = filed_none r c;
-  read = λ x u. ap (is_among u) (bare r c x) ∙ sym (reads_none S n x u);
-  writers_filed = filed_none p q;
-  put = λ x u. ap (is_among u) (bare p q x) ∙ sym (puts_none S n x u);
-})
-
-pub committed_none : (S : Setup) (H : List Event) (n : ℕ) (c : Committed) → H ≡ [] → c.writers.entries ≡ [] → c.pending ≡ 0 → CommittedStand n c S H
-committed_none S H n c e h p = subst (λ (G : List Event). CommittedStand n c S G) (sym e) (record {
-  filed = filed_none c.writers h;
-  put = λ x u. ap (is_among u) (bare c.writers h x) ∙ sym (committed_none_in S n x u);
-  pending = p;
-})
+  pub committed_none : CommittedStand n a S H
+  committed_none = subst (λ (G : List Event). CommittedStand n a S G) (sym e) (record {
+    put = λ x u. ap (is_among u) (h.committed x) ∙ sym (committed_none_in S n x u);
+    pending = h.pending;
+  })

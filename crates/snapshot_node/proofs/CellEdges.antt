@@ -1,17 +1,16 @@
--- To whom edges lead from a transaction, and from whom they lead to it, cell by cell.
-use Rattle.std.proofs.Common.{◌≡◌, ℕ, Bool, true, false, cond, not, ◌&&◌, List, inl, inr, Option, Some, None, is_some, ℤ, refl, sym, ◌∙◌, ap}
+-- To whom edges lead from a transaction, and from whom they lead to it, access by access.
+use Rattle.std.proofs.Common.{◌≡◌, ℕ, Bool, true, false, not, ◌&&◌, List, inl, inr, is_some, sym, ◌∙◌, ap}
 use Rattle.std.specs.List.{list_any}
 use Rattle.std.proofs.lemmas.Bool.{and_parts, and_from, cases_Bool, not_from_false, or_left, or_right}
 use Rattle.teb_names.specs.declared.Cell.{Cell}
-use Rattle.teb_names.specs.declared.Txn.{Txn}
 use Rattle.teb_names.specs.declared.ControlKind.TheVariants.{Snapshot}
 use Rattle.teb_names.specs.Cells.{same_cell}
 use Rattle.teb_history.specs.declared.Event.{Event}
-use Rattle.teb_history.specs.declared.Event.TheVariants.{Got, Put}
+use Rattle.teb_history.specs.declared.Event.TheVariants.{Got}
 use Rattle.teb_history.specs.Phases.{committed, unfinished, aborted}
 use Rattle.teb_history.specs.Accesses.{wrote, got}
-use Rattle.teb_history.specs.OwnEvents.{own_events, put_in, got_in}
-use Rattle.teb_history.proofs.OwnWalks.{wrote_own, got_own}
+use Rattle.teb_history.specs.OwnEvents.{own_events, got_in}
+use Rattle.teb_history.proofs.OwnWalks.{got_own}
 use Rattle.teb_rules.specs.Setup.{Setup}
 use Rattle.teb_rules.specs.Tree.{row, on, meets}
 use Rattle.teb_rules.specs.Batches.{concurrent}
@@ -24,9 +23,10 @@ use Rattle.batch_book.specs.Fields.{Has}
 use Rattle.batch_book.proofs.Elements.{any_Has, Has-any}
 use Rattle.batch_book.proofs.Numbered.{unfinished_from}
 use Rattle.version_chain.proofs.Cells.{same_cell-itself, same_cell-exact}
+use Rattle.access_book.specs.Touched.{Touched, Reads, Puts, reads, puts}
 use Rattle.snapshot_node.specs.Standing.{counts, writers_in, readers_in}
 use Rattle.snapshot_node.specs.Pivots.{is_at_stake, is_across, IsAcross, PutsAcross, Leads}
-use Rattle.snapshot_node.proofs.Forgetting.{some_if}
+use Rattle.snapshot_node.proofs.Accessed.{some_if, accesses_of, reads_own, puts_own}
 use Rattle.snapshot_node.proofs.Listed.{puts_parts, among_writers, reads_parts, among_readers}
 use Rattle.snapshot_node.proofs.Least.{Along, along_of, along_item}
 use Rattle.snapshot_node.proofs.Edges.{gets_put, edge_found, stake_stands, across_turned}
@@ -37,72 +37,58 @@ pub record Shared (H : List Event) (a b : ℕ) : Type 0 where
   pub read : got H a cell ≡ true
   pub put : wrote H b cell ≡ true
 
-got_itself : (s : Txn) (x : Cell) (w : Txn) (v : Option ℤ) → is_some (got_in x (Got s x w v)) ≡ true
-got_itself s x w v = some_if (same_cell x x) v ∙ same_cell-itself x
+-- what holds of a cell holds of the same
+of_same : (P : Cell → Bool) (y x : Cell) → same_cell y x ≡ true → P x ≡ true → P y ≡ true
+of_same P y x h p = ap P (same_cell-exact y x h) ∙ p
 
-put_itself : (s : Txn) (x : Cell) (v : Option ℤ) → is_some (put_in x (Put s x v)) ≡ true
-put_itself s x v = some_if (same_cell x x) v ∙ same_cell-itself x
+-- whom an access tells of, where only reads count, each by its cell
+abbrev pub ByRead : (Cell → ℕ → Type 0) → Touched → ℕ → Type 0
+ByRead F (Reads x) d = F x d
+ByRead F (Puts x) d = ⊥
 
--- what holds of x holds of the cell of a Got or a Put of x
-of_same : (P : Cell → Bool) (y x : Cell) (v : Option ℤ) → is_some (cond (same_cell y x) (Some v) None) ≡ true → P x ≡ true → P y ≡ true
-of_same P y x v h p = ap P (same_cell-exact y x (sym (some_if (same_cell y x) v) ∙ h)) ∙ p
-
--- whom an event tells of, where only Gots count, each by its cell
-abbrev pub ByGot : (Cell → ℕ → Type 0) → Event → ℕ → Type 0
-ByGot F (Got s x w v) d = F x d
-ByGot F _ d = ⊥
-
--- the same where only Puts count
-abbrev pub ByPut : (Cell → ℕ → Type 0) → Event → ℕ → Type 0
-ByPut F (Put s x v) a = F x a
-ByPut F _ a = ⊥
-
-pub only_gots : (F : Cell → ℕ → Type 0) (e : Event) → ((s : Txn) (x : Cell) (w : Txn) (v : Option ℤ) → e ≡ Got s x w v → ⊥) → (d : ℕ) → ByGot F e d → ⊥
-only_gots F (Got s x w v) none d h = none s x w v refl
-only_gots F _ none d h = h
-
-pub only_puts : (F : Cell → ℕ → Type 0) (e : Event) → ((s : Txn) (x : Cell) (v : Option ℤ) → e ≡ Put s x v → ⊥) → (a : ℕ) → ByPut F e a → ⊥
-only_puts F (Put s x v) none a h = none s x v refl
-only_puts F _ none a h = h
+-- the same where only puts count
+abbrev pub ByPut : (Cell → ℕ → Type 0) → Touched → ℕ → Type 0
+ByPut F (Reads x) a = ⊥
+ByPut F (Puts x) a = F x a
 
 module _ (S : Setup) (H : List Event) (n t : ℕ) where
-  -- the writer of a cell that the event, a Got by c, has read
-  abbrev pub Ahead : ℕ → Event → ℕ → Type 0
-  Ahead c = ByGot (PutsAcross S H n t c)
+  -- the writer of a cell that the access, a read by c, has read
+  abbrev pub Ahead : ℕ → Touched → ℕ → Type 0
+  Ahead c = ByRead (PutsAcross S H n t c)
 
-  -- a reader of a cell that the event, a Put by b, has put
+  -- a reader of a cell that the access, a put by b, has put
   abbrev pub ReadAcross : ℕ → Cell → ℕ → Type 0
   ReadAcross b x = IsAcross S H n t b (readers_in S H n x)
 
-  abbrev pub Behind : ℕ → Event → ℕ → Type 0
+  abbrev pub Behind : ℕ → Touched → ℕ → Type 0
   Behind b = ByPut (ReadAcross b)
 
--- where two are across and share a cell, the events of each of them tell of the other
+-- where two are across and share a cell, the accesses of each of them tell of the other
 module _ (S : Setup) (H : List Event) (n t : ℕ) where
-  pub shared_ahead : (c d : ℕ) → is_at_stake H t d ≡ true → is_across S H n c d ≡ true → Shared H c d → Along (Ahead S H n t c) (own_events H c) d
+  pub shared_ahead : (c d : ℕ) → is_at_stake H t d ≡ true → is_across S H n c d ≡ true → Shared H c d → Along (Ahead S H n t c) (accesses_of H c) d
   shared_ahead c d st k p =
-      let r = any_Has (λ e. is_some (got_in p.cell e)) (own_events H c) (sym (got_own H c p.cell) ∙ p.read) in
-      along_of (Ahead S H n t c) d r.0 (own_events H c) r.1 (each r.0 r.2)
+      let r = any_Has (reads p.cell) (accesses_of H c) (reads_own H c p.cell ∙ p.read) in
+      along_of (Ahead S H n t c) d r.0 (accesses_of H c) r.1 (each r.0 r.2)
     where
-      each : (e : Event) → is_some (got_in p.cell e) ≡ true → Ahead S H n t c e d
-      each (Got s y w v) i = record { put = of_same (wrote H d) y p.cell v i p.put; stake = st; across = k }
-      each _ i = absurd (cc)
+      each : (z : Touched) → reads p.cell z ≡ true → Ahead S H n t c z d
+      each (Reads y) i = record { put = of_same (wrote H d) y p.cell i p.put; stake = st; across = k }
+      each (Puts y) i = absurd (cc)
 
-  pub shared_behind : IsOrderly S H → (b u : ℕ) → aborted H u ≡ false → is_at_stake H t u ≡ true → is_across S H n u b ≡ true → Shared H u b → Along (Behind S H n t b) (own_events H b) u
+  pub shared_behind : IsOrderly S H → (b u : ℕ) → aborted H u ≡ false → is_at_stake H t u ≡ true → is_across S H n u b ≡ true → Shared H u b → Along (Behind S H n t b) (accesses_of H b) u
   shared_behind o b u stands st k p =
-      let r = any_Has (λ e. is_some (put_in p.cell e)) (own_events H b) (sym (wrote_own H b p.cell) ∙ p.put) in
-      along_of (Behind S H n t b) u r.0 (own_events H b) r.1 (each r.0 r.2)
+      let r = any_Has (puts p.cell) (accesses_of H b) (puts_own H b p.cell ∙ p.put) in
+      along_of (Behind S H n t b) u r.0 (accesses_of H b) r.1 (each r.0 r.2)
     where
       here : (on S H n u && not (aborted H u)) ≡ true
       here = and_from _ _ (meets_parts S H n u b (and_parts (meets S H n u b) (concurrent S H n u b) k).0).0 (not_from_false _ stands)
 
-      each : (e : Event) → is_some (put_in p.cell e) ≡ true → Behind S H n t b e u
-      each (Put s y v) i = record {
-        listed = among_readers S H n y u o ∙ and_from _ _ here (of_same (got H u) y p.cell v i p.read);
+      each : (z : Touched) → puts p.cell z ≡ true → Behind S H n t b z u
+      each (Puts y) i = record {
+        listed = among_readers S H n y u o ∙ and_from _ _ here (of_same (got H u) y p.cell i p.read);
         stake = st;
         across = across_turned S H n u b k;
       }
-      each _ i = absurd (cc)
+      each (Reads y) i = absurd (cc)
 
 -- those at stake, where t is not aborted
 module _ (S : Setup) (H : List Event) (n t : ℕ) (l : Lawful S H) (o : IsOrderly S H) (runs : aborted H t ≡ false) where
@@ -133,7 +119,11 @@ module _ (S : Setup) (H : List Event) (n t : ℕ) (l : Lawful S H) (o : IsOrderl
     shared u w h = let r = any_Has (gets_put H w) (own_events H u) h in found r.0 r.1 r.2
       where
         found : (e : Event) → Has e (own_events H u) → gets_put H w e ≡ true → Shared H u w
-        found (Got s x v z) i q = record { cell = x; read = got_own H u x ∙ Has-any (λ e. is_some (got_in x e)) (Got s x v z) (own_events H u) i (got_itself s x v z); put = q }
+        found (Got s x v z) i q = record {
+          cell = x;
+          read = got_own H u x ∙ Has-any (λ e. is_some (got_in x e)) (Got s x v z) (own_events H u) i (some_if (same_cell x x) z ∙ same_cell-itself x);
+          put = q;
+        }
         found _ i q = absurd (cc)
 
     pub edge_shared : (u w : ℕ) → aborted H w ≡ false → edge S H n u w ≡ true → (is_across S H n u w ≡ true) × Shared H u w
@@ -145,37 +135,37 @@ module _ (S : Setup) (H : List Event) (n t : ℕ) (l : Lawful S H) (o : IsOrderl
         sym (edge_found S a H n l k u w s) ∙ and_from _ _ c (Has-any (gets_put H w) r.0 (own_events H u) r.1 (each r.0 r.2))
       where
         each : (e : Event) → is_some (got_in h.cell e) ≡ true → gets_put H w e ≡ true
-        each (Got r y v z) i = of_same (wrote H w) y h.cell z i h.put
+        each (Got r y v z) i = of_same (wrote H w) y h.cell (sym (some_if (same_cell y h.cell) z) ∙ i) h.put
         each _ i = absurd (cc)
 
-    pub ahead_leads : (c d : ℕ) → is_at_stake H t c ≡ true → Along (Ahead S H n t c) (own_events H c) d → Leads S H n t c d
-    ahead_leads c d st h = let r = along_item (Ahead S H n t c) d (own_events H c) h in each r.0 r.1 r.2
+    pub ahead_leads : (c d : ℕ) → is_at_stake H t c ≡ true → Along (Ahead S H n t c) (accesses_of H c) d → Leads S H n t c d
+    ahead_leads c d st h = let r = along_item (Ahead S H n t c) d (accesses_of H c) h in each r.0 r.1 r.2
       where
-        each : (e : Event) → Has e (own_events H c) → Ahead S H n t c e d → Leads S H n t c d
-        each (Got s x w v) i q = record {
+        each : (z : Touched) → Has z (accesses_of H c) → Ahead S H n t c z d → Leads S H n t c d
+        each (Reads x) i q = record {
           from = st;
           to = q.stake;
-          edge = shared_edge c d (stake_stands S H t d l runs q.stake) q.across (record { cell = x; read = got_own H c x ∙ Has-any (λ e. is_some (got_in x e)) (Got s x w v) (own_events H c) i (got_itself s x w v); put = q.put });
+          edge = shared_edge c d (stake_stands S H t d l runs q.stake) q.across (record { cell = x; read = sym (reads_own H c x) ∙ Has-any (reads x) (Reads x) (accesses_of H c) i (same_cell-itself x); put = q.put });
         }
-        each _ i q = absurd q
+        each (Puts x) i q = absurd q
 
-    pub leads_ahead : (c d : ℕ) → Leads S H n t c d → Along (Ahead S H n t c) (own_events H c) d
+    pub leads_ahead : (c d : ℕ) → Leads S H n t c d → Along (Ahead S H n t c) (accesses_of H c) d
     leads_ahead c d h = let p = edge_shared c d (stake_stands S H t d l runs h.to) h.edge in shared_ahead S H n t c d h.to p.0 p.1
 
-    pub behind_leads : (b u : ℕ) → is_at_stake H t b ≡ true → Along (Behind S H n t b) (own_events H b) u → Leads S H n t u b
-    behind_leads b u st h = let r = along_item (Behind S H n t b) u (own_events H b) h in each r.0 r.1 r.2
+    pub behind_leads : (b u : ℕ) → is_at_stake H t b ≡ true → Along (Behind S H n t b) (accesses_of H b) u → Leads S H n t u b
+    behind_leads b u st h = let r = along_item (Behind S H n t b) u (accesses_of H b) h in each r.0 r.1 r.2
       where
-        each : (e : Event) → Has e (own_events H b) → Behind S H n t b e u → Leads S H n t u b
-        each (Put s x v) i q = record {
+        each : (z : Touched) → Has z (accesses_of H b) → Behind S H n t b z u → Leads S H n t u b
+        each (Puts x) i q = record {
           from = q.stake;
           to = st;
           edge = shared_edge u b (stake_stands S H t b l runs st) (across_turned S H n b u q.across) (record {
             cell = x;
             read = (reads_parts S H n x u (sym (among_readers S H n x u o) ∙ q.listed)).2;
-            put = wrote_own H b x ∙ Has-any (λ e. is_some (put_in x e)) (Put s x v) (own_events H b) i (put_itself s x v);
+            put = sym (puts_own H b x) ∙ Has-any (puts x) (Puts x) (accesses_of H b) i (same_cell-itself x);
           });
         }
-        each _ i q = absurd q
+        each (Reads x) i q = absurd q
 
-    pub leads_behind : (b u : ℕ) → Leads S H n t u b → Along (Behind S H n t b) (own_events H b) u
+    pub leads_behind : (b u : ℕ) → Leads S H n t u b → Along (Behind S H n t b) (accesses_of H b) u
     leads_behind b u h = let p = edge_shared u b (stake_stands S H t b l runs h.to) h.edge in shared_behind S H n t o b u (stake_stands S H t u l runs h.from) h.from p.0 p.1

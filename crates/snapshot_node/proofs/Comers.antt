@@ -5,8 +5,6 @@ use Rattle.std.proofs.lemmas.Bool.{and_parts, or_left}
 use Rattle.teb_names.specs.declared.Txn.{Txn}
 use Rattle.teb_names.specs.declared.ControlKind.TheVariants.{Snapshot}
 use Rattle.teb_history.specs.declared.Event.{Event}
-use Rattle.teb_history.specs.declared.Event.TheVariants.{Put}
-use Rattle.teb_history.specs.OwnEvents.{own_events}
 use Rattle.teb_history.specs.Phases.{begun, prepared, committed, aborted}
 use Rattle.teb_rules.specs.Setup.{Setup}
 use Rattle.teb_rules.specs.Tree.{row, meets}
@@ -17,9 +15,11 @@ use Rattle.teb_laws.proofs.Nodes.{meets_parts}
 use Rattle.phase_api.specs.FactsView.{IsOrderly}
 use Rattle.batch_book.specs.Fields.{Has}
 use Rattle.batch_book.proofs.Elements.{any_Has, Has-any}
+use Rattle.access_book.specs.Touched.{Touched, Reads, Puts}
 use Rattle.snapshot_node.specs.Standing.{readers_in}
 use Rattle.snapshot_node.specs.Pivots.{is_at_stake, is_across, lesser_of, IsLeast, Leads, Leaves, Reaches, IsMiddle, IsFirst, ComesBefore, ComesAfter, ComesIn, ComesInAmong}
 use Rattle.snapshot_node.proofs.Least.{Remains, least_as, least_either, lesser_twice, remains_next, Along, along_of, along_item}
+use Rattle.snapshot_node.proofs.Accessed.{accesses_of}
 use Rattle.snapshot_node.proofs.CellEdges.{ByPut, Behind, behind_leads, leads_behind}
 use Rattle.snapshot_node.proofs.Batchmates.{batch_parts, batch_sym, batch_trans}
 use Rattle.snapshot_node.proofs.Reach.{with_t}
@@ -29,8 +29,8 @@ pub stake_itself : (H : List Event) (t : ℕ) → is_at_stake H t t ≡ true
 stake_itself H t = or_left _ (committed H t) (or_left _ (prepared H t) (eq-eqb t t refl))
 
 module _ (S : Setup) (H : List Event) (n t : ℕ) where
-  -- a comes in by a reader of the cell that the event has put
-  abbrev pub ComesBy : Event → ℕ → Type 0
+  -- a comes in by a reader of the cell that the access has put
+  abbrev pub ComesBy : Touched → ℕ → Type 0
   ComesBy = ByPut (λ x. ComesInAmong S H n t (readers_in S H n x))
 
   -- the same by the batch of c, which is at stake and across from t
@@ -54,25 +54,25 @@ module _ (S : Setup) (H : List Event) (n t : ℕ) where
   module _ (l : Lawful S H) (o : IsOrderly S H) (runs : aborted H t ≡ false) where
     -- at a snapshot node
     module _ (f : TreeFacts S) (k : (row S.tree n).control ≡ Snapshot) where
-      pub along_comes : (a : ℕ) → Along ComesBy (own_events H t) a → ComesIn S H n t a
-      along_comes a h = let r = along_item ComesBy a (own_events H t) h in each r.0 r.1 r.2
+      pub along_comes : (a : ℕ) → Along ComesBy (accesses_of H t) a → ComesIn S H n t a
+      along_comes a h = let r = along_item ComesBy a (accesses_of H t) h in each r.0 r.1 r.2
         where
-          each : (e : Event) → Has e (own_events H t) → ComesBy e a → ComesIn S H n t a
-          each (Put s x v) i q = record {
+          each : (z : Touched) → Has z (accesses_of H t) → ComesBy z a → ComesIn S H n t a
+          each (Puts x) i q = record {
             third = q.third;
             into = q.into;
-            out = behind_leads S H n t l o runs f k t q.third (stake_itself H t) (along_of (Behind S H n t t) q.third (Put s x v) (own_events H t) i q.across);
+            out = behind_leads S H n t l o runs f k t q.third (stake_itself H t) (along_of (Behind S H n t t) q.third (Puts x) (accesses_of H t) i q.across);
           }
-          each _ i q = absurd q
+          each (Reads x) i q = absurd q
 
-      pub comes_along : (a : ℕ) → ComesIn S H n t a → Along ComesBy (own_events H t) a
+      pub comes_along : (a : ℕ) → ComesIn S H n t a → Along ComesBy (accesses_of H t) a
       comes_along a h =
-          let r = along_item (Behind S H n t t) h.third (own_events H t) (leads_behind S H n t l o runs f k t h.third h.out) in
-          along_of ComesBy a r.0 (own_events H t) r.1 (each r.0 r.2)
+          let r = along_item (Behind S H n t t) h.third (accesses_of H t) (leads_behind S H n t l o runs f k t h.third h.out) in
+          along_of ComesBy a r.0 (accesses_of H t) r.1 (each r.0 r.2)
         where
-          each : (e : Event) → Behind S H n t t e h.third → ComesBy e a
-          each (Put s x v) q = record { third = h.third; into = h.into; across = q }
-          each _ q = absurd q
+          each : (z : Touched) → Behind S H n t t z h.third → ComesBy z a
+          each (Puts x) q = record { third = h.third; into = h.into; across = q }
+          each (Reads x) q = absurd q
 
 -- the least with P or, where C holds, with Q
 pub least_with : (P Q : ℕ → Type 0) (C : Type 0) (best next : Option Txn) → C → IsLeast P best → IsLeast Q next → IsLeast (λ u. P u ⊎ (Q u × C)) (lesser_of best next)

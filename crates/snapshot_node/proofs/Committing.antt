@@ -17,13 +17,13 @@ use Rattle.batch_book.proofs.Numbered.{committed_step, unfinished_parts, on_kept
 use Rattle.phase_api.specs.FactsView.{IsOrderly}
 use Rattle.phase_api.specs.Calls.{MayNote}
 use Rattle.access_conflicts.proofs.Orderly.{new_accesses_none}
-use Rattle.sorted_multimap.specs.Multimap.{Shown}
-use Rattle.snapshot_node.specs.declared.committed.Committed.{Committed}
-use Rattle.snapshot_node.specs.Accessors.{is_accessor, AreFiled}
+use Rattle.access_book.specs.Touched.{any_puts, puts_among}
+use Rattle.access_book.specs.Books.{Shown, committed_of, touched_of, is_among, is_accessor, AreKept}
 use Rattle.snapshot_node.specs.Standing.{has_committed_in}
 use Rattle.snapshot_node.specs.Committed.{CommittedStand, pending_in, puts_of, is_pending}
 use Rattle.snapshot_node.proofs.Writing.{committed_kept, wrote_kept}
-use Rattle.snapshot_node.proofs.Pending.{pending_stays, pending_more, pending_began, pending_ended, ends_done, ends_gone, puts_kept}
+use Rattle.snapshot_node.proofs.Pending.{pending_stays, pending_more, pending_began, pending_ended, ends_done, ends_gone}
+use Rattle.snapshot_node.proofs.Touching.{touched_at, puts_at, count_at}
 
 -- an event that is none of u's Began, Put and Done
 still_committed : (S : Setup) (P : List Event) (n : ℕ) (e : Event) (x : Cell) (u : ℕ) → is_began u e ≡ false → is_put u x e ≡ false → is_done u e ≡ false → has_committed_in S (e ∷ P) n x u ≡ has_committed_in S P n x u
@@ -72,24 +72,24 @@ done_committed S P n t x u = go (eqb t.0 u) refl ∙ sym (λ j. on_kept S (Done 
     go true q = let e = eqb-true t.0 u q in (λ j. has_committed_in S P n x u || (on S P n (e j) && wrote P (e j) x && true)) ∙ joins (on S P n u) (committed P u) (wrote P u x)
     go false q = apart (has_committed_in S P n x u) (on S P n t.0 && wrote P t.0 x)
 
-module _ (S : Setup) (P : List Event) (n : ℕ) (c : Committed) (old : CommittedStand n c S P) where
+module _ (S : Setup) (P : List Event) (n : ℕ) (a : Shown) (old : CommittedStand n a S P) where
   -- an event that changes neither
-  stays : (e : Event) → ((x : Cell) (u : ℕ) → has_committed_in S (e ∷ P) n x u ≡ has_committed_in S P n x u) → pending_in S (e ∷ P) n ≡ pending_in S P n → CommittedStand n c S (e ∷ P)
-  stays e h p = record { filed = old.filed; put = λ x u. old.put x u ∙ sym (h x u); pending = old.pending ∙ sym p }
+  stays : (a' : Shown) (e : Event) → AreKept (committed_of a) (committed_of a') → a'.pending ≡ a.pending → ((x : Cell) (u : ℕ) → has_committed_in S (e ∷ P) n x u ≡ has_committed_in S P n x u) → pending_in S (e ∷ P) n ≡ pending_in S P n → CommittedStand n a' S (e ∷ P)
+  stays a' e k q h p = record { put = λ x u. ap (is_among u) (k x) ∙ old.put x u ∙ sym (h x u); pending = q ∙ old.pending ∙ sym p }
 
-  pub committed_began : (t : Txn) (s : Session) (k : Kind) (i : ℕ) → IsOrderly S P → MayNote S P n (Began t s k i) → CommittedStand n c S (Began t s k i ∷ P)
-  committed_began t s k i o m =
+  pub committed_began : (a' : Shown) → AreKept (committed_of a) (committed_of a') → a'.pending ≡ a.pending → (t : Txn) (s : Session) (k : Kind) (i : ℕ) → IsOrderly S P → MayNote S P n (Began t s k i) → CommittedStand n a' S (Began t s k i ∷ P)
+  committed_began a' d q t s k i o m =
       let new : (x : Cell) → wrote P t.0 x ≡ false = λ x. (new_accesses_none S P t.0 x o m.0).0 in
-      stays (Began t s k i) (began_committed S P n t s k i new) (pending_began S P n t s k i new)
+      stays a' (Began t s k i) d q (began_committed S P n t s k i new) (pending_began S P n t s k i new)
 
-  pub committed_got : (t : Txn) (y : Cell) (w : Txn) (v : Option ℤ) → CommittedStand n c S (Got t y w v ∷ P)
-  committed_got t y w v = stays _ (λ x u. still_committed S P n (Got t y w v) x u refl refl refl) (pending_stays S P n (Got t y w v) (λ u. refl) (λ u. refl) (λ u. refl) refl)
+  pub committed_got : (a' : Shown) → AreKept (committed_of a) (committed_of a') → a'.pending ≡ a.pending → (t : Txn) (y : Cell) (w : Txn) (v : Option ℤ) → CommittedStand n a' S (Got t y w v ∷ P)
+  committed_got a' d q t y w v = stays a' _ d q (λ x u. still_committed S P n (Got t y w v) x u refl refl refl) (pending_stays S P n (Got t y w v) (λ u. refl) (λ u. refl) (λ u. refl) refl)
 
-  pub committed_ready : (t : Txn) → CommittedStand n c S (Ready t ∷ P)
-  committed_ready t = stays _ (λ x u. still_committed S P n (Ready t) x u refl refl refl) (pending_stays S P n (Ready t) (λ u. refl) (λ u. refl) (λ u. refl) refl)
+  pub committed_ready : (t : Txn) → CommittedStand n a S (Ready t ∷ P)
+  committed_ready t = stays a _ (λ x. refl) refl (λ x u. still_committed S P n (Ready t) x u refl refl refl) (pending_stays S P n (Ready t) (λ u. refl) (λ u. refl) (λ u. refl) refl)
 
-  pub committed_told : (t : Txn) → CommittedStand n c S (Told t ∷ P)
-  committed_told t = stays _ (λ x u. still_committed S P n (Told t) x u refl refl refl) (pending_stays S P n (Told t) (λ u. refl) (λ u. refl) (λ u. refl) refl)
+  pub committed_told : (t : Txn) → CommittedStand n a S (Told t ∷ P)
+  committed_told t = stays a _ (λ x. refl) refl (λ x u. still_committed S P n (Told t) x u refl refl refl) (pending_stays S P n (Told t) (λ u. refl) (λ u. refl) (λ u. refl) refl)
 
   module _ (t : Txn) (y : Cell) (v : Option ℤ) (run : unfinished P t.0 ≡ true) where
     waits : (o : Bool) → on S P n t.0 ≡ o → is_pending S (Put t y v ∷ P) n (Put t y v) ≡ o
@@ -99,42 +99,35 @@ module _ (S : Setup) (P : List Event) (n : ℕ) (c : Committed) (old : Committed
         bare true = refl
         bare false = refl
 
-    pub committed_put : (c' : Committed) → on S P n t.0 ≡ true → c'.writers ≡ c.writers → c'.pending ≡ c.pending + 1 → CommittedStand n c' S (Put t y v ∷ P)
-    committed_put c' o w p = record {
-      filed = rw w old.filed;
-      put = λ x u. ap (λ (s : Shown Cell Txn). is_accessor s x u) w ∙ old.put x u ∙ sym (put_committed S P n t y v x u run);
-      pending = p ∙ ap {B = ℕ} (λ (k : ℕ). k + 1) old.pending ∙ sym (pending_more S P n (Put t y v) (λ u. refl) (λ u. refl) (λ u. refl) (waits true o));
+    pub committed_put : (a' : Shown) → on S P n t.0 ≡ true → AreKept (committed_of a) (committed_of a') → a'.pending ≡ a.pending + 1 → CommittedStand n a' S (Put t y v ∷ P)
+    committed_put a' o d q = record {
+      put = λ x u. ap (is_among u) (d x) ∙ old.put x u ∙ sym (put_committed S P n t y v x u run);
+      pending = q ∙ ap {B = ℕ} (λ (k : ℕ). k + 1) old.pending ∙ sym (pending_more S P n (Put t y v) (λ u. refl) (λ u. refl) (λ u. refl) (waits true o));
     }
 
-    pub committed_put_off : on S P n t.0 ≡ false → CommittedStand n c S (Put t y v ∷ P)
-    committed_put_off o = stays _ (λ x u. put_committed S P n t y v x u run) (pending_stays S P n (Put t y v) (λ u. refl) (λ u. refl) (λ u. refl) (waits false o))
+    pub committed_put_off : on S P n t.0 ≡ false → CommittedStand n a S (Put t y v ∷ P)
+    committed_put_off o = stays a _ (λ x. refl) refl (λ x u. put_committed S P n t y v x u run) (pending_stays S P n (Put t y v) (λ u. refl) (λ u. refl) (λ u. refl) (waits false o))
 
-  module _ (t : Txn) (run : unfinished P t.0 ≡ true) where
-    done_fewer : pending_in S P n ≡ pending_in S (Done t ∷ P) n + cond (on S P n t.0) (puts_of (Done t ∷ P) t.0) 0
-    done_fewer = pending_ended S P n (Done t) t.0 (λ u. refl) refl run (ends_done P t) ∙ sym (λ j. pending_in S (Done t ∷ P) n + cond (on S P n t.0) (puts_kept (Done t) P t.0 refl j) 0)
+  -- t ends, whose accesses the book shows
+  module _ (t : Txn) (run : unfinished P t.0 ≡ true) (z : touched_of a t.0 ≡ touched_at S P n t.0) where
+    counted : puts_among (touched_of a t.0) ≡ cond (on S P n t.0) (puts_of P t.0) 0
+    counted = ap puts_among z ∙ count_at S P n t.0
 
-    pub done_puts : on S P n t.0 ≡ true → puts_of (Done t ∷ P) t.0 ≤ c.pending
-    done_puts o = omega (arith, old.pending, done_fewer, ap {B = ℕ} (λ (z : Bool). cond z (puts_of (Done t ∷ P) t.0) 0) o)
+    done_fewer : pending_in S P n ≡ pending_in S (Done t ∷ P) n + cond (on S P n t.0) (puts_of P t.0) 0
+    done_fewer = pending_ended S P n (Done t) t.0 (λ u. refl) refl run (ends_done P t)
 
-    pub committed_done : (c' : Committed) (here : Bool) → on S P n t.0 ≡ here → AreFiled c'.writers
-        → ((x : Cell) (u : ℕ) → is_accessor c'.writers x u ≡ (is_accessor c.writers x u || (here && wrote (Done t ∷ P) t.0 x && eqb t.0 u)))
-        → c'.pending + cond here (puts_of (Done t ∷ P) t.0) 0 ≡ c.pending → CommittedStand n c' S (Done t ∷ P)
-    committed_done c' here o f w p = record {
-      filed = f;
-      put = λ x u. w x u ∙ (λ j. old.put x u j || (sym o j && wrote_kept (Done t) P t.0 x refl j && eqb t.0 u)) ∙ done_committed S P n t x u;
-      pending = omega (arith, p, old.pending, done_fewer, ap {B = ℕ} (λ (z : Bool). cond z (puts_of (Done t ∷ P) t.0) 0) o);
+    pub ended_puts : puts_among (touched_of a t.0) ≤ a.pending
+    ended_puts = omega (arith, old.pending, done_fewer, counted)
+
+    pub committed_done : (a' : Shown) → ((x : Cell) (u : ℕ) → is_accessor (committed_of a') x u ≡ (is_accessor (committed_of a) x u || (any_puts x (touched_of a t.0) && eqb t.0 u)))
+        → a'.pending + puts_among (touched_of a t.0) ≡ a.pending → CommittedStand n a' S (Done t ∷ P)
+    committed_done a' w p = record {
+      put = λ x u. w x u ∙ (λ j. old.put x u j || ((ap (any_puts x) z ∙ puts_at S P n t.0 x) j && eqb t.0 u)) ∙ done_committed S P n t x u;
+      pending = omega (arith, p, old.pending, done_fewer, counted);
     }
 
-    module _ (a : Cause) where
-      gone_fewer : pending_in S P n ≡ pending_in S (Gone t a ∷ P) n + cond (on S P n t.0) (puts_of (Gone t a ∷ P) t.0) 0
-      gone_fewer = pending_ended S P n (Gone t a) t.0 (λ u. refl) refl run (ends_gone P t a) ∙ sym (λ j. pending_in S (Gone t a ∷ P) n + cond (on S P n t.0) (puts_kept (Gone t a) P t.0 refl j) 0)
-
-      pub gone_puts : on S P n t.0 ≡ true → puts_of (Gone t a ∷ P) t.0 ≤ c.pending
-      gone_puts o = omega (arith, old.pending, gone_fewer, ap {B = ℕ} (λ (z : Bool). cond z (puts_of (Gone t a ∷ P) t.0) 0) o)
-
-      pub committed_gone : (c' : Committed) (here : Bool) → on S P n t.0 ≡ here → c'.writers ≡ c.writers → c'.pending + cond here (puts_of (Gone t a ∷ P) t.0) 0 ≡ c.pending → CommittedStand n c' S (Gone t a ∷ P)
-      committed_gone c' here o w p = record {
-        filed = rw w old.filed;
-        put = λ x u. ap (λ (s : Shown Cell Txn). is_accessor s x u) w ∙ old.put x u ∙ sym (still_committed S P n (Gone t a) x u refl refl refl);
-        pending = omega (arith, p, old.pending, gone_fewer, ap {B = ℕ} (λ (z : Bool). cond z (puts_of (Gone t a ∷ P) t.0) 0) o);
-      }
+    pub committed_gone : (a' : Shown) (c : Cause) → AreKept (committed_of a) (committed_of a') → a'.pending + puts_among (touched_of a t.0) ≡ a.pending → CommittedStand n a' S (Gone t c ∷ P)
+    committed_gone a' c d p = record {
+      put = λ x u. ap (is_among u) (d x) ∙ old.put x u ∙ sym (still_committed S P n (Gone t c) x u refl refl refl);
+      pending = (let fewer = pending_ended S P n (Gone t c) t.0 (λ u. refl) refl run (ends_gone P t c) in omega (arith, p, old.pending, fewer, counted));
+    }

@@ -5,7 +5,7 @@ use Rattle.std.proofs.lemmas.Bool.{cases_lt, both_ways, or_cases, or_left, or_ri
 use Rattle.teb_names.specs.declared.Txn.{Txn}
 use Rattle.teb_history.specs.Ascending.{AllAbove, IsAscendingBy}
 use Rattle.teb_history.specs.Live.{number_of}
-use Rattle.snapshot_node.specs.Accessors.{is_among}
+use Rattle.access_book.specs.Books.{is_among}
 use Rattle.snapshot_node.specs.Pivots.{IsLeast}
 use Rattle.snapshot_node.proofs.Among.{among_above}
 

@@ -6,7 +6,6 @@ use Rattle.teb_names.specs.declared.Cell.{Cell}
 use Rattle.teb_names.specs.declared.Txn.{Txn}
 use Rattle.teb_names.specs.declared.ControlKind.TheVariants.{Snapshot}
 use Rattle.teb_history.specs.declared.Event.{Event}
-use Rattle.teb_history.specs.OwnEvents.{own_events}
 use Rattle.teb_history.specs.Phases.{aborted}
 use Rattle.teb_rules.specs.Setup.{Setup}
 use Rattle.teb_rules.specs.Tree.{row}
@@ -18,6 +17,7 @@ use Rattle.snapshot_node.specs.Standing.{writers_in}
 use Rattle.snapshot_node.specs.Pivots.{IsLeast, IsLeastEdge, IsLeastEdgeAside, IsLeastEdgeFrom, IsLeastAside, IsMateAmong, IsMateByPut, EntersAt, Leads, Leaves, Reaches, ReachesOne, lesser_of, earlier_of}
 use Rattle.snapshot_node.proofs.Least.{least_as, Along}
 use Rattle.snapshot_node.proofs.Middles.{Both, both_from, both_to}
+use Rattle.snapshot_node.proofs.Accessed.{accesses_of}
 use Rattle.snapshot_node.proofs.CellEdges.{Ahead, Behind, puts_across, listed_across, ahead_leads, leads_ahead, behind_leads, leads_behind}
 use Rattle.snapshot_node.proofs.Comers.{stake_itself}
 
@@ -118,14 +118,14 @@ module _ (S : Setup) (H : List Event) (n t b : ℕ) where
     mate_writers x p h = least_as (IsMateAmong S H n t b (writers_in S H n x)) (IsMateByPut S H n t b x) p (λ u y. (puts_across S H n t l o runs t x u y.0, y.1)) (λ u y. (listed_across S H n t l o runs t x u y.0, y.1)) h
 
     module _ (f : TreeFacts S) (k : (row S.tree n).control ≡ Snapshot) where
-      pub along_behind : (c : ℕ) → Along (Both (Behind S H n t t) IsMateOf) (own_events H t) c → Leaves S H n t b c t
-      along_behind c h = let r = both_from (Behind S H n t t) IsMateOf (own_events H t) c h in record { batch = r.1; out = behind_leads S H n t l o runs f k t c (stake_itself H t) r.0 }
+      pub along_behind : (c : ℕ) → Along (Both (Behind S H n t t) IsMateOf) (accesses_of H t) c → Leaves S H n t b c t
+      along_behind c h = let r = both_from (Behind S H n t t) IsMateOf (accesses_of H t) c h in record { batch = r.1; out = behind_leads S H n t l o runs f k t c (stake_itself H t) r.0 }
 
-      pub behind_along : (c : ℕ) → Leaves S H n t b c t → Along (Both (Behind S H n t t) IsMateOf) (own_events H t) c
-      behind_along c h = both_to (Behind S H n t t) IsMateOf (own_events H t) c (leads_behind S H n t l o runs f k t c h.out) h.batch
+      pub behind_along : (c : ℕ) → Leaves S H n t b c t → Along (Both (Behind S H n t t) IsMateOf) (accesses_of H t) c
+      behind_along c h = both_to (Behind S H n t t) IsMateOf (accesses_of H t) c (leads_behind S H n t l o runs f k t c h.out) h.batch
 
-      pub along_ahead : (u : ℕ) → Along (Both (Ahead S H n t t) IsMateOf) (own_events H t) u → EntersAt S H n t b u
-      along_ahead u h = let r = both_from (Ahead S H n t t) IsMateOf (own_events H t) u h in record { batch = r.1; into = ahead_leads S H n t l o runs f k t u (stake_itself H t) r.0 }
+      pub along_ahead : (u : ℕ) → Along (Both (Ahead S H n t t) IsMateOf) (accesses_of H t) u → EntersAt S H n t b u
+      along_ahead u h = let r = both_from (Ahead S H n t t) IsMateOf (accesses_of H t) u h in record { batch = r.1; into = ahead_leads S H n t l o runs f k t u (stake_itself H t) r.0 }
 
-      pub ahead_along : (u : ℕ) → EntersAt S H n t b u → Along (Both (Ahead S H n t t) IsMateOf) (own_events H t) u
-      ahead_along u h = both_to (Ahead S H n t t) IsMateOf (own_events H t) u (leads_ahead S H n t l o runs f k t u h.into) h.batch
+      pub ahead_along : (u : ℕ) → EntersAt S H n t b u → Along (Both (Ahead S H n t t) IsMateOf) (accesses_of H t) u
+      ahead_along u h = both_to (Ahead S H n t t) IsMateOf (accesses_of H t) u (leads_ahead S H n t l o runs f k t u h.into) h.batch

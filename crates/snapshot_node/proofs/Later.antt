@@ -17,7 +17,7 @@ use Rattle.phase_api.specs.declared.facts.Facts.{Facts}
 use Rattle.phase_api.specs.FactsView.{IsOrderly, setup_of, events_of}
 use Rattle.batch_book.specs.Histories.{IsNumbered, ClosedBelow}
 use Rattle.batch_book.proofs.Closings.{still_open, unfinished_open}
-use Rattle.snapshot_node.specs.Accessors.{is_among}
+use Rattle.access_book.specs.Books.{is_among}
 use Rattle.snapshot_node.specs.Asking.{comes_first, is_met}
 use Rattle.snapshot_node.specs.Standing.{writers_in}
 use Rattle.snapshot_node.proofs.Listed.{puts_parts, among_writers}
@@ -99,10 +99,6 @@ module _ (S : Setup) (H : List Event) (n m : ℕ) (x : Cell) (o : IsOrderly S H)
   met_late k b h =
       let p = puts_parts S H n x u.0 (sym (among_writers S H n x u.0 o) ∙ a) in
       late (ap not (sym (still_open S H n u.0 t (sym (unfinished_open S H n u.0 k (and_parts (unfinished H u.0) (meets S H n t u.0) h).0 p.0)) b)))
-
--- what is kept of one list is kept of the other
-pub kept : (m : ℕ) {xs ys ts : List Txn} → xs ≡ ys → ts ≡ filter (λ u. leb m u.0) xs → ts ≡ filter (λ u. leb m u.0) ys
-kept m e h = h ∙ ap (filter (λ (u : Txn). leb m u.0)) e
 
 -- the writers of a cell from the horizon m of t on
 module _ (f : Facts) (n m : ℕ) (x : Cell) (o : IsOrderly (setup_of f) (events_of f)) (ts : List Txn) (e : ts ≡ filter (λ u. leb m u.0) (writers_in (setup_of f) (events_of f) n x))

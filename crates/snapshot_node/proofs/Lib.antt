@@ -1,6 +1,4 @@
 pub mod Among
-pub mod KeyOrders
-pub mod Forgetting
 pub mod Said
 pub mod Listed
 pub mod Writing
@@ -10,13 +8,14 @@ pub mod Later
 pub mod Begins
 pub mod Noting
 pub mod Pending
+pub mod Touching
 pub mod Committing
-pub mod Moving
 pub mod Least
 pub mod FirstOf
 pub mod ReadsPast
 pub mod Edges
 pub mod Batchmates
+pub mod Accessed
 pub mod CellEdges
 pub mod Searching
 pub mod Reach

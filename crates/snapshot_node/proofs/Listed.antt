@@ -20,7 +20,7 @@ use Rattle.phase_api.specs.FactsView.{IsOrderly, setup_of, events_of}
 use Rattle.phase_api.specs.Calls.{IsHere}
 use Rattle.access_conflicts.specs.Waits.{some_txn}
 use Rattle.access_conflicts.proofs.Noting.{typed_now}
-use Rattle.snapshot_node.specs.Accessors.{is_among}
+use Rattle.access_book.specs.Books.{is_among}
 use Rattle.snapshot_node.specs.Standing.{counts, has_put_in, writers_in, has_committed_in, has_read_in, readers_in}
 use Rattle.snapshot_node.specs.Pivots.{AreHere}
 use Rattle.snapshot_node.proofs.Among.{among_same}

@@ -4,7 +4,6 @@ use Rattle.teb_names.specs.declared.Cell.{Cell}
 use Rattle.teb_names.specs.declared.Txn.{Txn}
 use Rattle.teb_names.specs.declared.ControlKind.TheVariants.{Snapshot}
 use Rattle.teb_history.specs.declared.Event.{Event}
-use Rattle.teb_history.specs.OwnEvents.{own_events}
 use Rattle.teb_history.specs.Phases.{aborted}
 use Rattle.teb_rules.specs.Setup.{Setup}
 use Rattle.teb_rules.specs.Tree.{row}
@@ -14,6 +13,7 @@ use Rattle.phase_api.specs.FactsView.{IsOrderly}
 use Rattle.snapshot_node.specs.Standing.{writers_in}
 use Rattle.snapshot_node.specs.Pivots.{is_at_stake, IsLeast, IsLeastEdge, PutsAcross, IsLeft, IsMiddle, IsMiddleAmong}
 use Rattle.snapshot_node.proofs.Least.{least_as, Along}
+use Rattle.snapshot_node.proofs.Accessed.{accesses_of}
 use Rattle.snapshot_node.proofs.CellEdges.{Ahead, puts_across, listed_across, ahead_leads, leads_ahead}
 
 -- what an option says of whether there is one
@@ -55,10 +55,10 @@ module _ (S : Setup) (H : List Event) (n t : ℕ) (l : Lawful S H) (o : IsOrderl
       (λ u y. (puts_across S H n t l o runs a x u y.across, y.left))
       (λ u y. record { across = listed_across S H n t l o runs a x u y.0; left = y.1 }) h
 
-  -- by the events of a
+  -- by the accesses of a
   module _ (f : TreeFacts S) (k : (row S.tree n).control ≡ Snapshot) (a : ℕ) where
-    pub along_middle : is_at_stake H t a ≡ true → (b : ℕ) → Along (Both (Ahead S H n t a) (IsLeft S H n t)) (own_events H a) b → IsMiddle S H n t a b
-    along_middle st b h = let r = both_from (Ahead S H n t a) (IsLeft S H n t) (own_events H a) b h in record { into = ahead_leads S H n t l o runs f k a b st r.0; left = r.1 }
+    pub along_middle : is_at_stake H t a ≡ true → (b : ℕ) → Along (Both (Ahead S H n t a) (IsLeft S H n t)) (accesses_of H a) b → IsMiddle S H n t a b
+    along_middle st b h = let r = both_from (Ahead S H n t a) (IsLeft S H n t) (accesses_of H a) b h in record { into = ahead_leads S H n t l o runs f k a b st r.0; left = r.1 }
 
-    pub middle_along : (b : ℕ) → IsMiddle S H n t a b → Along (Both (Ahead S H n t a) (IsLeft S H n t)) (own_events H a) b
-    middle_along b h = both_to (Ahead S H n t a) (IsLeft S H n t) (own_events H a) b (leads_ahead S H n t l o runs f k a b h.into) h.left
+    pub middle_along : (b : ℕ) → IsMiddle S H n t a b → Along (Both (Ahead S H n t a) (IsLeft S H n t)) (accesses_of H a) b
+    middle_along b h = both_to (Ahead S H n t a) (IsLeft S H n t) (accesses_of H a) b (leads_ahead S H n t l o runs f k a b h.into) h.left

@@ -24,7 +24,7 @@ use Rattle.teb_laws.proofs.VersionOrder.{put_differs}
 use Rattle.batch_book.proofs.Numbered.{begun_all, txns-In, unfinished_parts}
 use Rattle.batch_book.proofs.Telling.{lawful_numbered}
 use Rattle.phase_api.specs.FactsView.{IsOrderly}
-use Rattle.snapshot_node.specs.Accessors.{is_among}
+use Rattle.access_book.specs.Books.{is_among}
 use Rattle.snapshot_node.specs.Standing.{counts, writers_in}
 use Rattle.snapshot_node.specs.Pivots.{is_across}
 use Rattle.snapshot_node.specs.Leaving.{is_beside, is_overwritten, AreStarted}

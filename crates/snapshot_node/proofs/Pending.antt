@@ -19,11 +19,11 @@ use Rattle.teb_rules.specs.Tree.{on}
 use Rattle.batch_book.proofs.Numbered.{unfinished_is, unfinished_step, unfinished_kept, on_kept}
 use Rattle.sorted_multimap.proofs.TakenMatches.{count_cons}
 use Rattle.snapshot_node.specs.Committed.{is_any_put, puts_of, is_pending, pending_in}
-use Rattle.snapshot_node.proofs.KeyOrders.{same_itself}
+use Rattle.version_chain.proofs.Cells.{same_cell-itself}
 use Rattle.snapshot_node.proofs.Writing.{wrote_step}
 
-count_step : (p : Event → Bool) (e : Event) (P : List Event) → count_by p (e ∷ P) ≡ cond (p e) 1 0 + count_by p P
-count_step p e P = sum_by-cons (λ d. cond (p d) 1 0) e P
+pub count_step : {A : Type 0} (p : A → Bool) (a : A) (xs : List A) → count_by p (a ∷ xs) ≡ cond (p a) 1 0 + count_by p xs
+count_step p a xs = sum_by-cons (λ b. cond (p b) 1 0) a xs
 
 -- each event that has p has one of q and r
 count_both : (p q r : Event → Bool) → ((e : Event) → cond (p e) 1 0 ≡ cond (q e) 1 0 + cond (r e) 1 0) → (P : List Event) → count_by p P ≡ count_by q P + count_by r P
@@ -38,16 +38,6 @@ count_own : (t : ℕ) (P : List Event) → count_by (λ e. is_of t e && is_any_p
 unfolding own_events
 count_own t [] = refl
 count_own t (e ∷ P) = omega (arith, count_step (λ e. is_of t e && is_any_put e) e P, count_own t P, count_cons is_any_put (is_of t e) e (filter (is_of t) P))
-
--- an event that is no Put
-pub puts_kept : (e : Event) (P : List Event) (t : ℕ) → is_any_put e ≡ false → puts_of (e ∷ P) t ≡ puts_of P t
-unfolding own_events
-puts_kept e P t h = count_cons is_any_put (is_of t e) e (filter (is_of t) P) ∙ none (is_of t e) (is_any_put e) h
-  where
-    none : (a b : Bool) → b ≡ false → count_by is_any_put (filter (is_of t) P) + cond (a && b) 1 0 ≡ count_by is_any_put (filter (is_of t) P)
-    none true true h = absurd (cc)
-    none true false h = omega arith
-    none false b h = omega arith
 
 module _ (S : Setup) (P : List Event) (n : ℕ) where
   -- an event that neither begins nor finishes anybody
@@ -73,7 +63,7 @@ module _ (S : Setup) (P : List Event) (n : ℕ) where
       e = Began t s k i
 
       other : (u : Txn) (y : Cell) → (eqb u.0 t.0 && same_cell y y) ≡ false → eqb t.0 u.0 ≡ false
-      other u y h = false_from_ne_true _ (λ q. both_ways _ h (and_from _ _ (eq-eqb u.0 t.0 (sym (eqb-true t.0 u.0 q))) (same_itself y)))
+      other u y h = false_from_ne_true _ (λ q. both_ways _ h (and_from _ _ (eq-eqb u.0 t.0 (sym (eqb-true t.0 u.0 q))) (same_cell-itself y)))
 
       same : (x : Event) → ((y : Cell) → is_put t.0 y x ≡ false) → is_pending S (e ∷ P) n x ≡ is_pending S P n x
       same (Put u y v) h = let q = other u y (h y) in λ j. on_kept S e P n u.0 q j && unfinished_kept e P u.0 q refl refl j

@@ -24,7 +24,7 @@ got_step : (e : Event) (P : List Event) (u : ℕ) (x : Cell) → got (e ∷ P) u
 unfolding got got_at
 got_step e P u x = came_any (is_got u x) (e ∷ P) ∙ ap (λ (b : Bool). is_got u x e || b) (sym (came_any (is_got u x) P))
 
-pub got_kept : (e : Event) (P : List Event) (u : ℕ) (x : Cell) → is_got u x e ≡ false → got (e ∷ P) u x ≡ got P u x
+got_kept : (e : Event) (P : List Event) (u : ℕ) (x : Cell) → is_got u x e ≡ false → got (e ∷ P) u x ≡ got P u x
 got_kept e P u x h = got_step e P u x ∙ ap (λ (b : Bool). b || got P u x) h
 
 -- an event that is none of u's Began, Got and Gone
@@ -79,13 +79,13 @@ module _ (S : Setup) (P : List Event) (n : ℕ) (t : Txn) (y : Cell) (w : Txn) (
       go false q = refl
 
 -- t aborts, and counts as a reader no more
-pub gone_read : (S : Setup) (P : List Event) (n : ℕ) (t : Txn) (c : Cause) (x : Cell) (u : ℕ) → (has_read_in S P n x u && not (got P t.0 x && eqb t.0 u)) ≡ has_read_in S (Gone t c ∷ P) n x u
+pub gone_read : (S : Setup) (P : List Event) (n : ℕ) (t : Txn) (c : Cause) (x : Cell) (u : ℕ) → (has_read_in S P n x u && not ((on S P n t.0 && got P t.0 x) && eqb t.0 u)) ≡ has_read_in S (Gone t c ∷ P) n x u
 gone_read S P n t c x u = go (eqb t.0 u) refl
   where
     whole : has_read_in S (Gone t c ∷ P) n x u ≡ (on S P n u && not (eqb t.0 u || aborted P u) && got P u x)
     whole = (λ j. on_kept S (Gone t c) P n u refl j && not (aborted_step (Gone t c) P u j) && got_kept (Gone t c) P u x refl j)
 
-    out : (o a g : Bool) → ((o && a && g) && not (g && true)) ≡ (o && false && g)
+    out : (o a g : Bool) → ((o && a && g) && not ((o && g) && true)) ≡ (o && false && g)
     out true true true = refl
     out true true false = refl
     out true false g = refl
@@ -96,8 +96,8 @@ gone_read S P n t c x u = go (eqb t.0 u) refl
     stays true false = refl
     stays false g = refl
 
-    go : (z : Bool) → eqb t.0 u ≡ z → (has_read_in S P n x u && not (got P t.0 x && z)) ≡ has_read_in S (Gone t c ∷ P) n x u
+    go : (z : Bool) → eqb t.0 u ≡ z → (has_read_in S P n x u && not ((on S P n t.0 && got P t.0 x) && z)) ≡ has_read_in S (Gone t c ∷ P) n x u
     go true q =
-        (λ j. has_read_in S P n x u && not (got P (eqb-true t.0 u q j) x && true)) ∙ out (on S P n u) (not (aborted P u)) (got P u x)
+        (λ j. has_read_in S P n x u && not ((on S P n (eqb-true t.0 u q j) && got P (eqb-true t.0 u q j) x) && true)) ∙ out (on S P n u) (not (aborted P u)) (got P u x)
         ∙ sym (whole ∙ (λ j. on S P n u && not (q j || aborted P u) && got P u x))
-    go false q = stays (has_read_in S P n x u) (got P t.0 x) ∙ sym (whole ∙ (λ j. on S P n u && not (q j || aborted P u) && got P u x))
+    go false q = stays (has_read_in S P n x u) (on S P n t.0 && got P t.0 x) ∙ sym (whole ∙ (λ j. on S P n u && not (q j || aborted P u) && got P u x))

@@ -6,7 +6,7 @@ use Rattle.teb_history.specs.Live.{number_of}
 use Rattle.teb_history.proofs.AscendingLists.{ascending-filter}
 use Rattle.phase_api.specs.FactsView.{setup_of, events_of}
 use Rattle.snapshot_node.specs.declared.asked.Asked.{Asked}
-use Rattle.snapshot_node.specs.Accessors.{is_among}
+use Rattle.access_book.specs.Books.{is_among}
 use Rattle.snapshot_node.specs.Asking.{AreLate, AreThere, there}
 use Rattle.snapshot_node.specs.Pivots.{IsAcross, IsLeast, IsMateAmong, IsMiddleAmong, ComesInAmong}
 use Rattle.snapshot_node.proofs.Among.{among_part}
@@ -14,9 +14,10 @@ use Rattle.snapshot_node.proofs.Edges.{across_later}
 use Rattle.snapshot_node.proofs.FirstOf.{among_from}
 use Rattle.snapshot_node.proofs.Least.{least_as}
 
--- what is known by one control and one transaction is known by the same
-pub late_as : (f : Asked → List Txn) {a b : Asked} {t u : Txn} {us : List Txn} → b ≡ a → u ≡ t → AreLate b u.0 (f b) us → AreLate a t.0 (f a) us
-late_as f {a} {b} {t} {u} {us} e k h = subst (λ (z : Asked). AreLate z t.0 (f z) us) e (subst (λ (z : Txn). AreLate b z.0 (f b) us) k h)
+-- what is known by one control, one transaction and one list is known by the same
+pub late_as : {a b : Asked} {t u : Txn} {those all us : List Txn} → b ≡ a → u ≡ t → all ≡ those → AreLate b u.0 all us → AreLate a t.0 those us
+late_as {a} {b} {t} {u} {those} {all} {us} e k i h =
+    subst (λ (xs : List Txn). AreLate a t.0 xs us) i (subst (λ (z : Asked). AreLate z t.0 all us) e (subst (λ (z : Txn). AreLate b z.0 all us) k h))
 
 module _ (a : Asked) (t : ℕ) (all us : List Txn) (late : AreLate a t all us) where
   pub late_ascend : IsAscendingBy number_of all → IsAscendingBy number_of us

@@ -116,13 +116,13 @@ module _ (S : Setup) (P : List Event) (n : ℕ) (t : Txn) (y : Cell) (v : Option
       go false q = refl
 
 -- t, which is unfinished, aborts, and counts as a writer no more
-pub gone_put : (S : Setup) (P : List Event) (n : ℕ) (t : Txn) (c : Cause) (x : Cell) (u : ℕ) → unfinished P t.0 ≡ true → (has_put_in S P n x u && not (wrote P t.0 x && eqb t.0 u)) ≡ has_put_in S (Gone t c ∷ P) n x u
+pub gone_put : (S : Setup) (P : List Event) (n : ℕ) (t : Txn) (c : Cause) (x : Cell) (u : ℕ) → unfinished P t.0 ≡ true → (has_put_in S P n x u && not ((on S P n t.0 && wrote P t.0 x) && eqb t.0 u)) ≡ has_put_in S (Gone t c ∷ P) n x u
 gone_put S P n t c x u run = go (eqb t.0 u) refl
   where
     whole : has_put_in S (Gone t c ∷ P) n x u ≡ (on S P n u && (counts P u && not (eqb t.0 u)) && wrote P u x)
     whole = (λ j. on_kept S (Gone t c) P n u refl j && counts_gone P t c u run j && wrote_kept (Gone t c) P u x refl j)
 
-    out : (o a w : Bool) → ((o && a && w) && not (w && true)) ≡ (o && (a && false) && w)
+    out : (o a w : Bool) → ((o && a && w) && not ((o && w) && true)) ≡ (o && (a && false) && w)
     out true true true = refl
     out true true false = refl
     out true false w = refl
@@ -135,8 +135,8 @@ gone_put S P n t c x u run = go (eqb t.0 u) refl
     stays true false w z = refl
     stays false a w z = refl
 
-    go : (z : Bool) → eqb t.0 u ≡ z → (has_put_in S P n x u && not (wrote P t.0 x && z)) ≡ has_put_in S (Gone t c ∷ P) n x u
+    go : (z : Bool) → eqb t.0 u ≡ z → (has_put_in S P n x u && not ((on S P n t.0 && wrote P t.0 x) && z)) ≡ has_put_in S (Gone t c ∷ P) n x u
     go true q =
-        (λ j. has_put_in S P n x u && not (wrote P (eqb-true t.0 u q j) x && true)) ∙ out (on S P n u) (counts P u) (wrote P u x)
+        (λ j. has_put_in S P n x u && not ((on S P n (eqb-true t.0 u q j) && wrote P (eqb-true t.0 u q j) x) && true)) ∙ out (on S P n u) (counts P u) (wrote P u x)
         ∙ sym (whole ∙ (λ j. on S P n u && (counts P u && not (q j)) && wrote P u x))
-    go false q = stays (on S P n u) (counts P u) (wrote P u x) (wrote P t.0 x) ∙ sym (whole ∙ (λ j. on S P n u && (counts P u && not (q j)) && wrote P u x))
+    go false q = stays (on S P n u) (counts P u) (wrote P u x) (on S P n t.0 && wrote P t.0 x) ∙ sym (whole ∙ (λ j. on S P n u && (counts P u && not (q j)) && wrote P u x))

@@ -2,6 +2,7 @@
 use Rattle.std.specs.Prelude.{◌≡◌, ◌&&◌, ℕ, Bool, not, List, IsTrue, IsFalse, filter, leb, ltb}
 use Rattle.teb_names.specs.declared.Txn.{Txn}
 use Rattle.teb_history.specs.declared.Event.{Event}
+use Rattle.teb_history.specs.OwnEvents.{own_events}
 use Rattle.teb_history.specs.Phases.{begun, committed, aborted, unfinished}
 use Rattle.teb_rules.specs.Setup.{Setup}
 use Rattle.teb_rules.specs.Tree.{meets}
@@ -11,6 +12,8 @@ use Rattle.phase_api.specs.FactsView.{setup_of, events_of}
 use Rattle.phase_api.specs.Calls.{IsHere}
 use Rattle.batch_book.specs.Histories.{ClosedBelow}
 use Rattle.snapshot_node.specs.Pivots.{AreHere}
+use Rattle.access_book.specs.Touched.{touched_in}
+use Rattle.access_book.specs.Books.{Walk}
 use Rattle.snapshot_node.specs.declared.asked.Asked.{Asked}
 
 abbrev pub history : Asked → List Event
@@ -49,3 +52,8 @@ pub record AreLate (a : Asked) (t : ℕ) (all us : List Txn) : Type 0 where
 pub record IsGranted (a : Asked) (t : ℕ) : Type 0 where
   pub lawful : Lawful (setup_of a.facts.now) (events_of a.facts.now)
   pub runs : IsFalse (aborted (events_of a.facts.now) t)
+
+-- what is left of a walk along the accesses of t, in the control's own book, is all of them
+pub record IsWalk (a : Asked) (t : ℕ) (w : Walk) : Type 0 where
+  pub book : w.book ≡ a.register.now.accesses
+  pub left : w.left ≡ touched_in (own_events (history a) t)

@@ -1,5 +1,5 @@
--- For what the committed writers of each cell stand, and for how many events there is room.
-use Rattle.std.specs.Prelude.{◌≡◌, ◌-◌, ℕ, Bool, true, false, ◌&&◌, List}
+-- For what the committed writers of each cell stand, and how many may come.
+use Rattle.std.specs.Prelude.{◌≡◌, ℕ, Bool, true, false, ◌&&◌, List}
 use Rattle.std.specs.List.{count_by}
 use Rattle.teb_names.specs.declared.Cell.{Cell}
 use Rattle.teb_history.specs.declared.Event.{Event}
@@ -8,8 +8,7 @@ use Rattle.teb_history.specs.Phases.{unfinished}
 use Rattle.teb_history.specs.OwnEvents.{own_events}
 use Rattle.teb_rules.specs.Setup.{Setup}
 use Rattle.teb_rules.specs.Tree.{on}
-use Rattle.snapshot_node.specs.declared.committed.Committed.{Committed}
-use Rattle.snapshot_node.specs.Accessors.{is_accessor, AreFiled}
+use Rattle.access_book.specs.Books.{Shown, committed_of, is_accessor}
 use Rattle.snapshot_node.specs.Standing.{has_committed_in}
 
 abbrev pub is_any_put : Event → Bool
@@ -29,11 +28,6 @@ is_pending S H n _ = false
 abbrev pub pending_in : Setup → List Event → ℕ → ℕ
 pending_in S H n = count_by (is_pending S H n) H
 
-pub record CommittedStand (n : ℕ) (c : Committed) (S : Setup) (H : List Event) : Type 0 where
-  pub filed : AreFiled c.writers
-  pub put : (x : Cell) (u : ℕ) → is_accessor c.writers x u ≡ has_committed_in S H n x u
-  pub pending : c.pending ≡ pending_in S H n
-
--- room is kept for the pending Puts
-abbrev pub spare_of : Committed → ℕ
-spare_of c = c.writers.spare - c.pending
+pub record CommittedStand (n : ℕ) (accesses : Shown) (S : Setup) (H : List Event) : Type 0 where
+  pub put : (x : Cell) (u : ℕ) → is_accessor (committed_of accesses) x u ≡ has_committed_in S H n x u
+  pub pending : accesses.pending ≡ pending_in S H n

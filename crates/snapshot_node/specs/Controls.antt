@@ -8,7 +8,7 @@ use Rattle.snapshot_node.specs.declared.snapshot.Snapshot.{Snapshot}
 
 -- for which setup and history it stands, the number of its node, and for how many events it has room
 abbrev pub SnapshotStandsFor : Snapshot → Setup → List Event → Type 0
-SnapshotStandsFor c S H = MarkedStand c.register.node.0 c.register.batches c.register.readers c.register.writers c.register.committed c.marks.items S H
+SnapshotStandsFor c S H = MarkedStand c.register.node.0 c.register.batches c.register.accesses c.marks.items S H
 
 abbrev pub snapshot_node_number : Snapshot → ℕ
 snapshot_node_number c = c.register.node.0

@@ -1,4 +1,3 @@
-pub mod Accessors
 pub mod Standing
 pub mod Committed
 pub mod Stood

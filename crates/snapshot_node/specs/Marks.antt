@@ -11,10 +11,9 @@ use Rattle.teb_rules.specs.Batches.{start}
 use Rattle.teb_laws.specs.Lawful.{Lawful}
 use Rattle.teb_laws.specs.Pivots.{IsSettled}
 use Rattle.batch_book.specs.Book.{Book}
-use Rattle.sorted_multimap.specs.Multimap.{Shown}
+use Rattle.access_book.specs.Books.{Shown}
 use Rattle.snapshot_node.specs.declared.marks.Mark.{Mark}
 use Rattle.snapshot_node.specs.Standing.{SnapshotStand}
-use Rattle.snapshot_node.specs.declared.committed.Committed.{Committed}
 use Rattle.snapshot_node.specs.Committed.{CommittedStand}
 use Rattle.snapshot_node.specs.Pivots.{is_across}
 
@@ -73,7 +72,7 @@ pub record AreMarked (S : Setup) (H : List Event) (n : ℕ) (ms : List Mark) : T
   pub told : Lawful S H → (u w : ℕ) → IsSettled H u → IsSettled H w → Touches S H n u w → IsTold S H n ms u w
 
 -- for what a snapshot control stands, by its register and its marks
-pub record MarkedStand (n : ℕ) (book : Book) (readers writers : Shown Cell Txn) (kept : Committed) (marks : List Mark) (S : Setup) (H : List Event) : Type 0 where
-  pub register : SnapshotStand n book readers writers S H
-  pub committed : CommittedStand n kept S H
+pub record MarkedStand (n : ℕ) (batches : Book) (accesses : Shown) (marks : List Mark) (S : Setup) (H : List Event) : Type 0 where
+  pub register : SnapshotStand n batches accesses S H
+  pub committed : CommittedStand n accesses S H
   pub marked : AreMarked S H n marks

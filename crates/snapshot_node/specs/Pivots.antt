@@ -14,7 +14,7 @@ use Rattle.teb_rules.specs.declared.Verdict.{Verdict}
 use Rattle.teb_rules.specs.declared.Verdict.TheVariants.{Go, Break}
 use Rattle.phase_api.specs.declared.facts.Facts.{Facts}
 use Rattle.phase_api.specs.Calls.{IsHere}
-use Rattle.snapshot_node.specs.Accessors.{is_among}
+use Rattle.access_book.specs.Books.{is_among}
 
 abbrev pub is_at_stake : List Event → ℕ → ℕ → Bool
 is_at_stake H t u = eqb u t || prepared H u || committed H u

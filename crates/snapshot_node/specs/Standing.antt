@@ -1,18 +1,19 @@
 -- For what a snapshot control stands.
-use Rattle.std.specs.Prelude.{◌≡◌, ℕ, Bool, not, ◌&&◌, ◌||◌, List, map, filter}
+use Rattle.std.specs.Prelude.{◌≡◌, ℕ, Bool, not, cond, ◌&&◌, ◌||◌, List, [], map, filter}
 use Rattle.teb_names.specs.declared.Cell.{Cell}
 use Rattle.teb_names.specs.declared.Txn.{Txn}
 use Rattle.teb_names.specs.declared.ControlKind.TheVariants.{Snapshot}
 use Rattle.teb_history.specs.declared.Event.{Event}
-use Rattle.teb_history.specs.Phases.{txns, unfinished, committed, aborted}
+use Rattle.teb_history.specs.Phases.{txns, begun_count, unfinished, committed, aborted}
 use Rattle.teb_history.specs.Accesses.{wrote, got}
+use Rattle.teb_history.specs.OwnEvents.{own_events}
 use Rattle.teb_rules.specs.Setup.{Setup}
 use Rattle.teb_rules.specs.Tree.{row, on}
 use Rattle.phase_api.specs.FactsView.{IsOrderly}
 use Rattle.batch_book.specs.Book.{Book}
 use Rattle.batch_book.specs.Histories.{BatchesOf}
-use Rattle.sorted_multimap.specs.Multimap.{Shown}
-use Rattle.snapshot_node.specs.Accessors.{is_accessor, AreFiled}
+use Rattle.access_book.specs.Touched.{touched_in}
+use Rattle.access_book.specs.Books.{Shown, readers_of, writers_of, touched_of, is_accessor, AreFiled}
 
 -- u is unfinished or committed
 abbrev pub counts : List Event → ℕ → Bool
@@ -42,13 +43,14 @@ has_read_in S H n x u = on S H n u && not (aborted H u) && got H u x
 abbrev pub readers_in : Setup → List Event → ℕ → Cell → List Txn
 readers_in S H n x = map (λ (u : ℕ). record { 0 = u }) (filter (has_read_in S H n x) (txns H))
 
--- node n is a snapshot node, the book shows its batches, and the multimaps the readers and the writers of each cell
-pub record SnapshotStand (n : ℕ) (book : Book) (readers writers : Shown Cell Txn) (S : Setup) (H : List Event) : Type 0 where
+-- node n is a snapshot node, one book shows its batches, and another who accessed what
+pub record SnapshotStand (n : ℕ) (book : Book) (accesses : Shown) (S : Setup) (H : List Event) : Type 0 where
   pub kind : (row S.tree n).control ≡ Snapshot
   pub size : book.size ≡ (row S.tree n).batch
   pub orderly : IsOrderly S H
   pub batches : BatchesOf book S H n
-  pub readers_filed : AreFiled readers
-  pub read : (x : Cell) (u : ℕ) → is_accessor readers x u ≡ has_read_in S H n x u
-  pub writers_filed : AreFiled writers
-  pub put : (x : Cell) (u : ℕ) → is_accessor writers x u ≡ has_put_in S H n x u
+  pub filed : AreFiled accesses
+  pub read : (x : Cell) (u : ℕ) → is_accessor (readers_of accesses) x u ≡ has_read_in S H n x u
+  pub put : (x : Cell) (u : ℕ) → is_accessor (writers_of accesses) x u ≡ has_put_in S H n x u
+  pub begun : accesses.begun ≡ begun_count H
+  pub touched : (u : ℕ) → touched_of accesses u ≡ cond (on S H n u) (touched_in (own_events H u)) []

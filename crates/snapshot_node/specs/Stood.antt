@@ -11,19 +11,19 @@ use Rattle.phase_api.specs.FactsView.{setup_of, events_of}
 use Rattle.phase_api.specs.Calls.{IsNewest}
 use Rattle.snapshot_node.specs.declared.register.Register.{Register}
 use Rattle.snapshot_node.specs.Standing.{SnapshotStand}
-use Rattle.snapshot_node.specs.Committed.{CommittedStand, spare_of}
+use Rattle.snapshot_node.specs.Committed.{CommittedStand}
 
 abbrev pub RegisterStands : Register → Setup → List Event → Type 0
-RegisterStands r S H = SnapshotStand r.node.0 r.batches r.readers r.writers S H
+RegisterStands r S H = SnapshotStand r.node.0 r.batches r.accesses S H
 
 abbrev pub CommittedStands : Register → Setup → List Event → Type 0
-CommittedStands r S H = CommittedStand r.node.0 r.committed S H
+CommittedStands r S H = CommittedStand r.node.0 r.accesses S H
 
 abbrev pub StandsFor : Register → Facts → Type 0
 StandsFor r f = RegisterStands r (setup_of f) (events_of f)
 
 abbrev pub room_of : Register → ℕ
-room_of r = min r.batches.spare (min r.readers.spare (min r.writers.spare (spare_of r.committed)))
+room_of r = min r.batches.spare r.accesses.spare
 
 -- the newest event of the history is the Began of t, and may be noted at node n
 abbrev pub HasBegun : Facts → ℕ → Txn → Type 0

@@ -1,12 +1,13 @@
-//! A snapshot control that is asked: whose batches are closed before whose, and who has put or read a cell.
+//! A snapshot control that is asked: whose batches are closed before whose, who has put a cell, and what one has accessed.
 
 ghost use Rattle.std.specs.Prelude.{◌≡◌, find, ltb};
 ghost use Rattle.teb_rules.specs.Batches.{start, close};
-ghost use Rattle.snapshot_node.specs.Standing.{writers_in, readers_in};
+ghost use Rattle.snapshot_node.specs.Standing.{writers_in};
 ghost use Rattle.snapshot_node.specs.Stood.{StandsFor};
 ghost use Rattle.snapshot_node.specs.Props.{kept};
 
 use crate::register::Register;
+use access_book::Accesses;
 use phase_api::Facts;
 use teb_names::{Cell, Txn};
 
@@ -19,22 +20,23 @@ pub(crate) struct Asked<'a> {
 }
 
 impl<'a> Asked<'a> {
-    ghost use Rattle.snapshot_node.specs.Asking.{AreThere, IsAt, comes_first, is_met, there};
+    ghost use Rattle.snapshot_node.specs.Asking.{AreThere, IsAt, IsWalk, comes_first, is_met, there};
 
     // Those on whose path the node stands that have put a cell and are not aborted, in ascending number, each once.
     #[inline(always)]
     pub(crate) fn writers(&self, cell: Cell) -> &[Txn]
         ensures { result.now ≡ there self.now writers_in cell }
     {
-        self.register.writers.list(cell)
+        self.register.accesses.writers(cell)
     }
 
-    // The same of those that have read it.
+    // The accesses of a transaction, the newest first.
     #[inline(always)]
-    pub(crate) fn readers(&self, cell: Cell) -> &[Txn]
-        ensures { result.now ≡ there self.now readers_in cell }
+    pub(crate) fn accesses(&self, t: Txn) -> Accesses<'_>
+        requires { IsAt self.now t.0 }
+        ensures { IsWalk self.now t.0 result }
     {
-        self.register.readers.list(cell)
+        self.register.accesses.accesses(t)
     }
 
     // Whether u's batch is closed before t's starts.

@@ -1,10 +1,8 @@
 //! Snapshots: the control of a snapshot node.
 #![tactic(auto)]
 
-mod accessors;
 mod asked;
 mod batch_edges;
-mod committed;
 mod leaving;
 mod marking;
 mod marks;

@@ -10,6 +10,7 @@ ghost use Rattle.snapshot_node.specs.Pivots.{is_at_stake, is_across, IsAcross};
 use crate::asked::Asked;
 use crate::marks::{Mark, mark_edge, mark_ends, place_of};
 use crate::neighbours::is_at_stake;
+use access_book::Access;
 use teb_history::Event;
 use teb_names::Txn;
 
@@ -32,11 +33,10 @@ pub(crate) fn mark_edges(marks: &mut [Mark], asked: &Asked, t: Txn)
     ensures behind { IsGranted asked.now t.0 → (u : ℕ) → IsTrue (is_at_stake (history asked.now) t.0 u) → there asked.now Touches u t.0 → there asked.now IsTold marks.new u t.0 }
 {
     let recent = asked.recent(t);
-    for event in asked.facts.history.own_events(t) {
-        match event {
-            Event::Got { cell, .. } => mark_ahead(marks, asked, t, recent.writers(cell)),
-            Event::Put { cell, .. } => mark_behind(marks, asked, t, recent.readers(cell)),
-            _ => {}
+    for access in asked.accesses(t) {
+        match access {
+            Access::Read { writers } => mark_ahead(marks, asked, t, recent.among(writers)),
+            Access::Put { readers } => mark_behind(marks, asked, t, recent.among(readers)),
         }
     }
 }

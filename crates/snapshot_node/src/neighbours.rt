@@ -10,7 +10,8 @@ ghost use Rattle.snapshot_node.specs.Validating.{AreAt, AreOwn, IsAtStake, at};
 ghost use Rattle.snapshot_node.specs.Pivots.{is_at_stake, is_across, lesser_of, IsLeast, IsAcross, Leads};
 
 use crate::validation::{Own, Validation};
-use teb_history::{Event, History};
+use access_book::Access;
+use teb_history::History;
 use teb_names::Txn;
 
 /// Whether u is at stake where t validates: it is t itself, or prepared or committed.
@@ -84,19 +85,18 @@ impl<'a> Validation<'a> {
         let mut behind = None;
         let mut left = false;
         let mut entered = false;
-        for event in self.asked.facts.history.own_events(self.t) {
-            match event {
-                Event::Got { cell, .. } => {
-                    let (first, is_left) = self.heads_among(recent.writers(cell));
+        for access in self.asked.accesses(self.t) {
+            match access {
+                Access::Read { writers } => {
+                    let (first, is_left) = self.heads_among(recent.among(writers));
                     ahead = lesser(ahead, first);
                     left |= is_left;
                 }
-                Event::Put { cell, .. } => {
-                    let (first, is_entered) = self.tails_among(recent.readers(cell));
+                Access::Put { readers } => {
+                    let (first, is_entered) = self.tails_among(recent.among(readers));
                     behind = lesser(behind, first);
                     entered |= is_entered;
                 }
-                _ => {}
             }
         }
         Own {
@@ -115,9 +115,9 @@ impl<'a> Validation<'a> {
     {
         let recent = self.asked.recent(c);
         let mut least = None;
-        for event in self.asked.facts.history.own_events(c) {
-            if let Event::Got { cell, .. } = event {
-                least = lesser(least, self.first_across(c, recent.writers(cell)));
+        for access in self.asked.accesses(c) {
+            if let Access::Read { writers } = access {
+                least = lesser(least, self.first_across(c, recent.among(writers)));
             }
         }
         least
@@ -131,9 +131,9 @@ impl<'a> Validation<'a> {
     {
         let recent = self.asked.recent(b);
         let mut least = None;
-        for event in self.asked.facts.history.own_events(b) {
-            if let Event::Put { cell, .. } = event {
-                least = lesser(least, self.first_across(b, recent.readers(cell)));
+        for access in self.asked.accesses(b) {
+            if let Access::Put { readers } = access {
+                least = lesser(least, self.first_across(b, recent.among(readers)));
             }
         }
         least

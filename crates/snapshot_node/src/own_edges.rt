@@ -7,7 +7,7 @@ ghost use Rattle.snapshot_node.specs.Validating.{AreAt, at};
 
 use crate::neighbours::{is_at_stake, lesser};
 use crate::validation::Validation;
-use teb_history::Event;
+use access_book::Access;
 use teb_names::Txn;
 
 impl<'a> Validation<'a> {
@@ -18,9 +18,9 @@ impl<'a> Validation<'a> {
     {
         let recent = self.asked.recent(self.t);
         let mut least = None;
-        for event in self.asked.facts.history.own_events(self.t) {
-            if let Event::Put { cell, .. } = event {
-                least = lesser(least, self.first_mate_across(b, recent.readers(cell)));
+        for access in self.asked.accesses(self.t) {
+            if let Access::Put { readers } = access {
+                least = lesser(least, self.first_mate_across(b, recent.among(readers)));
             }
         }
         least
@@ -33,9 +33,9 @@ impl<'a> Validation<'a> {
     {
         let recent = self.asked.recent(self.t);
         let mut least = None;
-        for event in self.asked.facts.history.own_events(self.t) {
-            if let Event::Got { cell, .. } = event {
-                least = lesser(least, self.first_mate_across(b, recent.writers(cell)));
+        for access in self.asked.accesses(self.t) {
+            if let Access::Read { writers } = access {
+                least = lesser(least, self.first_mate_across(b, recent.among(writers)));
             }
         }
         least

@@ -12,7 +12,7 @@ ghost use Rattle.snapshot_node.specs.Pivots.{IsLeast, IsMiddle, IsMiddleAmong, I
 
 use crate::neighbours::{is_at_stake, lesser};
 use crate::validation::{Own, Validation};
-use teb_history::Event;
+use access_book::Access;
 use teb_names::Txn;
 use teb_rules::Broken;
 
@@ -81,9 +81,9 @@ impl<'a> Validation<'a> {
     {
         let recent = self.asked.recent(self.t);
         let mut least = None;
-        for event in self.asked.facts.history.own_events(self.t) {
-            if let Event::Put { cell, .. } = event {
-                least = lesser(least, self.least_before_by(recent.readers(cell), own));
+        for access in self.asked.accesses(self.t) {
+            if let Access::Put { readers } = access {
+                least = lesser(least, self.least_before_by(recent.among(readers), own));
             }
         }
         least
@@ -120,9 +120,9 @@ impl<'a> Validation<'a> {
     {
         let recent = self.asked.recent(a);
         let mut least = None;
-        for event in self.asked.facts.history.own_events(a) {
-            if let Event::Got { cell, .. } = event {
-                least = lesser(least, self.middle_by(a, recent.writers(cell), own));
+        for access in self.asked.accesses(a) {
+            if let Access::Read { writers } = access {
+                least = lesser(least, self.middle_by(a, recent.among(writers), own));
             }
         }
         least

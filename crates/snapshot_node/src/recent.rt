@@ -1,15 +1,14 @@
-//! Who has put or read a cell, of those whose batches may overlap that of one transaction.
+//! Of some transactions, those whose batches may overlap that of one.
 
 ghost use Rattle.std.specs.Prelude.{◌≡◌};
 ghost use Rattle.teb_history.specs.Ascending.{IsAscendingBy};
 ghost use Rattle.teb_history.specs.Live.{number_of};
 ghost use Rattle.batch_book.specs.Histories.{ClosedBelow};
 ghost use Rattle.snapshot_node.specs.Asking.{AreLate, AreThere, IsAt, there};
-ghost use Rattle.snapshot_node.specs.Standing.{readers_in, writers_in};
 
 use crate::asked::Asked;
 use crate::numbered::from_number;
-use teb_names::{Cell, Txn};
+use teb_names::Txn;
 
 /// A control that is asked, a transaction t, and t's horizon there: whoever is numbered below it was of a batch closed before
 /// t's started.
@@ -22,7 +21,7 @@ pub(crate) struct Recent<'a> {
 }
 
 impl<'a> Asked<'a> {
-    /// Those from t's horizon on. It costs a binary search, and a walk along t's events needs it once.
+    /// Those from t's horizon on. It costs a binary search, and a walk along t's accesses needs it once.
     pub(crate) fn recent(&self, t: Txn) -> Recent<'a>
         requires { IsAt self.now t.0 }
         ensures asked { result.asked ≡ self.now }
@@ -37,23 +36,15 @@ impl<'a> Asked<'a> {
 }
 
 impl<'a> Recent<'a> {
-    /// Those of them that have put a cell and are not aborted, in ascending number, each once.
+    /// Those among some transactions of the node.
     #[inline(always)]
-    pub(crate) fn writers(&self, cell: Cell) -> &[Txn]
+    pub(crate) fn among<'b>(&self, txns: &'b [Txn]) -> &'b [Txn]
+        requires ascending { IsAscendingBy number_of txns.now }
+        requires txns_here { AreThere self.now.asked txns.now }
         ensures ascending { IsAscendingBy number_of result.now }
         ensures here { AreThere self.now.asked result.now }
-        ensures late { AreLate self.now.asked self.now.t.0 (there self.now.asked writers_in cell) result.now }
+        ensures late { AreLate self.now.asked self.now.t.0 txns.now result.now }
     {
-        from_number(self.asked.writers(cell), self.horizon)
-    }
-
-    /// The same of those that have read it.
-    #[inline(always)]
-    pub(crate) fn readers(&self, cell: Cell) -> &[Txn]
-        ensures ascending { IsAscendingBy number_of result.now }
-        ensures here { AreThere self.now.asked result.now }
-        ensures late { AreLate self.now.asked self.now.t.0 (there self.now.asked readers_in cell) result.now }
-    {
-        from_number(self.asked.readers(cell), self.horizon)
+        from_number(txns, self.horizon)
     }
 }

@@ -1,5 +1,4 @@
-//! What a snapshot control keeps of a history: the batches of its node, and the readers, the writers and the committed writers of
-//! each cell.
+//! What a snapshot control keeps of a history: the batches of its node, and who has accessed what.
 
 ghost use Rattle.std.specs.Prelude.{◌≡◌, ◌<◌, ◌≤◌, ◌+◌, [], List, drop, length, IfOk, OnOk};
 ghost use Rattle.teb_names.specs.declared.ControlKind.TheVariants.{Snapshot as IsSnapshot};
@@ -10,24 +9,19 @@ ghost use Rattle.phase_api.specs.FactsView.{setup_of, events_of};
 ghost use Rattle.phase_api.specs.Calls.{IsNewest};
 ghost use Rattle.snapshot_node.specs.Stood.{CommittedStands, HasBegun, RegisterStands, StandsFor, room_of};
 
-use crate::accessors::{forget_puts, forget_reads, put_in};
-use crate::committed::Committed;
-use arena_multimap::ArenaMultimap;
+use access_book::AccessBook;
 use batch_book::Batches;
 use phase_api::Facts;
 use std::alloc::{AllocError, Global};
 use teb_history::Event;
-use teb_names::{Cell, Node, Txn};
+use teb_names::{Node, Txn};
 
 /// The batches of a snapshot node, and who has read and put each cell.
 #[derive(Drop)]
 pub struct Register {
     pub(crate) node: Node,
     pub(crate) batches: Batches,
-    pub(crate) readers: ArenaMultimap<Cell, Txn>,
-    // Of the unfinished and the committed ones.
-    pub(crate) writers: ArenaMultimap<Cell, Txn>,
-    pub(crate) committed: Committed,
+    pub(crate) accesses: AccessBook,
 }
 
 impl Register {
@@ -42,9 +36,7 @@ impl Register {
         Ok(Register {
             node,
             batches: Batches::new(alloc, facts.tree.row(node).batch),
-            readers: ArenaMultimap::new(alloc),
-            writers: ArenaMultimap::new(alloc),
-            committed: Committed::new(alloc),
+            accesses: AccessBook::new(alloc),
         })
     }
 
@@ -56,9 +48,7 @@ impl Register {
         ensures room { OnOk result (n ≤ room_of self.new) }
     {
         self.batches.reserve(n)?;
-        self.readers.reserve(n)?;
-        self.writers.reserve(n)?;
-        self.committed.reserve(n)
+        self.accesses.reserve(n)
     }
 
     /// Notes the newest event of the history, which takes one place of the room at the most.
@@ -78,23 +68,20 @@ impl Register {
             Event::Began { txn, .. } => self.begin(facts, txn, at),
             Event::Got { txn, cell, .. } => {
                 if self.batches.has(txn) {
-                    put_in(&mut self.readers, cell, txn);
+                    self.accesses.read(txn, cell);
                 }
             }
             Event::Put { txn, cell, .. } => {
                 if self.batches.has(txn) {
-                    put_in(&mut self.writers, cell, txn);
-                    self.committed.await_put();
+                    self.accesses.put(txn, cell);
                 }
             }
             Event::Done(txn) => {
-                self.committed.commit(&self.batches, facts.history, txn);
+                self.accesses.commit(txn);
                 self.batches.finish(txn, at);
             }
             Event::Gone { txn, .. } => {
-                forget_reads(&mut self.readers, facts.history, txn);
-                forget_puts(&mut self.writers, facts.history, txn);
-                self.committed.abort(&self.batches, facts.history, txn);
+                self.accesses.abort(txn);
                 self.batches.finish(txn, at);
             }
             Event::Ready(_) | Event::Told(_) => {}
@@ -106,13 +93,15 @@ impl Register {
     fn begin(&mut self, facts: &Facts, txn: Txn, at: usize)
         requires newest { HasBegun facts.now self.old.node.0 txn }
         requires stands { RegisterStands self.old (setup_of facts.now) (drop 1 (events_of facts.now)) }
-        requires room { 0 < self.old.batches.spare }
+        requires committed { CommittedStands self.old (setup_of facts.now) (drop 1 (events_of facts.now)) }
+        requires room { 0 < room_of self.old }
         requires at { at ≡ length (drop 1 (events_of facts.now)) }
         ensures stands { StandsFor self.new facts.now }
-        ensures committed { self.new.committed ≡ self.old.committed }
+        ensures committed { CommittedStands self.new (setup_of facts.now) (events_of facts.now) }
         ensures node { self.new.node ≡ self.old.node }
         ensures spare { room_of self.old ≤ room_of self.new + 1 }
     {
+        self.accesses.begin();
         if facts.is_on(self.node, txn) {
             self.batches.join(facts.side(self.node, txn), txn, at);
         }

@@ -50,7 +50,7 @@ impl Snapshot {
         requires { SnapshotStandsFor self.now (setup_of _facts.now) (events_of _facts.now) }
         ensures { result.now ≡ committed_in (setup_of _facts.now) (events_of _facts.now) (snapshot_node_number self.now) cell }
     {
-        self.register.committed.list(cell)
+        self.register.accesses.committed(cell)
     }
 
     /// The batches of its node.
@@ -120,7 +120,7 @@ impl Control for Snapshot {
             facts,
         };
         let recent = asked.recent(t);
-        let among = recent.writers(cell);
+        let among = recent.among(asked.writers(cell));
         match asked.first_writer(t, among) {
             Some(writer) => Verdict::Break(Broken::First { writer, cell }),
             None => wait_for(asked.blocker(t, among)),

@@ -11,4 +11,4 @@ returns c =
     let n = c.args.self.now.register.node.0 in
     let x = c.args.cell in
     let o = c.requires.register.orderly in
-    c.list.ensures ∙ listed (has_committed_in S H n x) H o (committer_begun S H n x o) _ (c.requires.committed.filed.ascending x) (c.requires.committed.put x)
+    c.committed.ensures ∙ listed (has_committed_in S H n x) H o (committer_begun S H n x o) _ (c.requires.register.filed.committed x) (c.requires.committed.put x)

@@ -36,7 +36,7 @@ returns-then-has-clause-stands c =
     let grown = subst (λ (xs : List Mark). HaveGrown xs ms) c.deref_mut.ensures.value c.mark_edges.ensures.grown in
     let long : c.push.new.self.len ≡ length ms = sym (c.mark_edges.ensures.grown.long ∙ c.deref_mut.ensures.len) in
     let whole = ap (λ (l : ℕ). take l (ms ++ drop (length ms) pushed)) long ∙ take-append_seam ms (drop (length ms) pushed) in
-    subst (λ (xs : List Mark). MarkedStand m c.note.new.self.batches c.note.new.self.readers c.note.new.self.writers c.note.new.self.committed xs S H) (sym whole) (record {
+    subst (λ (xs : List Mark). MarkedStand m c.note.new.self.batches c.note.new.self.accesses xs S H) (sym whole) (record {
       register = c.note.ensures.stands;
       committed = c.note.ensures.committed;
       marked = marked_noted S H c.args.e (drop 1 H) c.requires.newest.is m c.args.self.now.register.node.0 same old pushed ms no_mark push grown c.requires.stands.marked

@@ -1,5 +1,9 @@
+use Rattle.std.proofs.Common.{◌≡◌}
 use Rattle.snapshot_node.proofs.OwnEdges.{BehindIn}
 use Rattle.snapshot_node.proofs.validation.Validation.least_behind.Given as goal
 
-abbrev pub invariant-loop-event : goal.invariant-loop-event
-invariant-loop-event l = BehindIn l.fn.self l.fn.b.0 l.event-iterator l.least
+abbrev pub invariant-loop-access : goal.invariant-loop-access
+invariant-loop-access l = record {
+  book : l.access-iterator.book ≡ l.fn.self.asked.register.now.accesses;
+  least : BehindIn l.fn.self l.fn.b.0 l.access-iterator.left l.least;
+}

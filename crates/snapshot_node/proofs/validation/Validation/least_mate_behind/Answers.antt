@@ -1,63 +1,78 @@
-use Rattle.std.proofs.Common.{◌∙◌, ◌∷◌, ℕ, ap, sym, subst}
-use Rattle.teb_history.specs.declared.Event.{Event}
-use Rattle.teb_history.specs.declared.Event.TheVariants.{Put}
-use Rattle.teb_history.specs.OwnEvents.{own_events}
+use Rattle.std.proofs.Common.{ℕ, sym, subst}
 use Rattle.teb_laws.proofs.Sound.{tree_facts}
 use Rattle.batch_book.proofs.Numbered.{unfinished_parts}
 use Rattle.phase_api.specs.FactsView.{setup_of, events_of}
+use Rattle.access_book.specs.Touched.{Reads, Puts}
 use Rattle.snapshot_node.specs.declared.asked.Asked.{Asked}
-use Rattle.snapshot_node.specs.Asking.{AreThere, there}
+use Rattle.snapshot_node.specs.Asking.{AreThere, IsWalk}
 use Rattle.snapshot_node.specs.Standing.{readers_in}
 use Rattle.snapshot_node.specs.Pivots.{Leaves}
 use Rattle.snapshot_node.proofs.Listed.{readers_here}
 use Rattle.snapshot_node.proofs.Least.{Remains, remains_start, remains_next, remains_skip, remains_end}
-use Rattle.snapshot_node.proofs.CellEdges.{Behind, ReadAcross, only_puts}
+use Rattle.snapshot_node.proofs.Accessed.{accesses_of, book_next, puts_next, reads_else, next_readers_ascend, next_readers_here, walk_end}
+use Rattle.snapshot_node.proofs.CellEdges.{Behind}
 use Rattle.snapshot_node.proofs.Known.{IsMateOf, along_behind, behind_along}
 use Rattle.snapshot_node.proofs.Middles.{Both}
 use Rattle.snapshot_node.proofs.RecentAcross.{late_as, mate_recent}
 use Rattle.snapshot_node.proofs.validation.Validation.least_mate_behind.Goals as goal
 
-pub loop-event-init : goal.loop-event-init
-loop-event-init c =
+pub loop-access-init : goal.loop-access-init
+loop-access-init c =
     let v = c.args.self.now in
     let S = setup_of v.asked.facts.now in
     let H = events_of v.asked.facts.now in
     let n = v.asked.register.now.node.0 in
     let t = v.t.0 in
     let b = c.args.b.0 in
-    remains_start (Both (Behind S H n t t) (IsMateOf S H n t b)) (λ (u : ℕ). Leaves S H n t b u t) (own_events H t) c.into_iter-event-iterator.result (c.into_iter-event-iterator.ensures.into_iter_gives ∙ c.own_events-event-items.ensures)
-    (along_behind S H n t b v.lawful v.asked.stands.orderly (unfinished_parts H t v.unfinished).2 (tree_facts S v.tree) v.asked.stands.kind)
-    (behind_along S H n t b v.lawful v.asked.stands.orderly (unfinished_parts H t v.unfinished).2 (tree_facts S v.tree) v.asked.stands.kind)
+    let w = subst (IsWalk v.asked t) (sym c.into_iter-access-iterator.ensures.into_iter_gives) c.accesses-access-items.ensures in
+    record {
+      book = w.book;
+      least = remains_start (Both (Behind S H n t t) (IsMateOf S H n t b)) (λ (u : ℕ). Leaves S H n t b u t) (accesses_of H t) c.into_iter-access-iterator.result.left w.left
+          (along_behind S H n t b v.lawful v.asked.stands.orderly (unfinished_parts H t v.unfinished).2 (tree_facts S v.tree) v.asked.stands.kind) (behind_along S H n t b v.lawful v.asked.stands.orderly (unfinished_parts H t v.unfinished).2 (tree_facts S v.tree) v.asked.stands.kind);
+    }
+
+pub among-requires-clause-ascending : goal.among-requires-clause-ascending
+among-requires-clause-ascending c = next_readers_ascend c.args.self.now.asked (puts_next c.args.self.now.asked c.loop-access.access-iterator c.next.new.self c.loop-access.invariant.book c.in-Some.access c.in-Some.ensures.steps c.in-Put.readers c.in-Put.is)
+
+pub among-requires-clause-txns_here : goal.among-requires-clause-txns_here
+among-requires-clause-txns_here c = next_readers_here c.args.self.now.asked c.recent-recent.ensures.asked (puts_next c.args.self.now.asked c.loop-access.access-iterator c.next.new.self c.loop-access.invariant.book c.in-Some.access c.in-Some.ensures.steps c.in-Put.readers c.in-Put.is)
 
 pub first_mate_across-requires-clause-among_here : goal.first_mate_across-requires-clause-among_here
-first_mate_across-requires-clause-among_here c = subst (λ (a : Asked). AreThere a c.readers.result.now) c.recent-recent.ensures.asked c.readers.ensures.here
+first_mate_across-requires-clause-among_here c = subst (λ (a : Asked). AreThere a c.among.result.now) c.recent-recent.ensures.asked c.among.ensures.here
 
-pub loop-event-preserved-in-Put : goal.loop-event-preserved-in-Put
-loop-event-preserved-in-Put c =
+pub loop-access-preserved-in-Put : goal.loop-access-preserved-in-Put
+loop-access-preserved-in-Put c =
     let v = c.args.self.now in
     let S = setup_of v.asked.facts.now in
     let H = events_of v.asked.facts.now in
     let n = v.asked.register.now.node.0 in
     let t = v.t.0 in
     let b = c.args.b.0 in
-    let Q = Both (Behind S H n t t) (IsMateOf S H n t b) in
-    let x = c.in-Put.cell in
-    let e : Event = Put c.in-Put.txn x c.in-Put.value in
-    let late = late_as (λ (a : Asked). there a readers_in x) c.recent-recent.ensures.asked c.recent-recent.ensures.t c.readers.ensures.late in
-    subst (Remains Q (λ (u : ℕ). Leaves S H n t b u t) c.next.new.self) (sym c.lesser-least.ensures)
-    (remains_next Q (λ (u : ℕ). Leaves S H n t b u t) e c.loop-event.event-iterator c.next.new.self c.loop-event.least _ (c.in-Some.ensures.steps ∙ ap (λ (z : Event). z ∷ c.next.new.self) c.in-Put.is) c.loop-event.invariant
-    (mate_recent v.asked t (readers_in S H n x) c.readers.result.now late (readers_here v.asked.facts.now n x v.asked.stands.orderly) b c.first_mate_across.result c.first_mate_across.ensures))
+    let r = puts_next v.asked c.loop-access.access-iterator c.next.new.self c.loop-access.invariant.book c.in-Some.access c.in-Some.ensures.steps c.in-Put.readers c.in-Put.is in
+    let x = r.cell in
+    let us = c.among.result.now in
+    let late = late_as c.recent-recent.ensures.asked c.recent-recent.ensures.t r.those c.among.ensures.late in
+    let rest = c.next.new.self.left in
+    record {
+      book = book_next v.asked c.loop-access.access-iterator c.next.new.self c.loop-access.invariant.book c.in-Some.access c.in-Some.ensures.steps;
+      least = subst (Remains (Both (Behind S H n t t) (IsMateOf S H n t b)) (λ (u : ℕ). Leaves S H n t b u t) rest) (sym c.lesser-least.ensures)
+          (remains_next (Both (Behind S H n t t) (IsMateOf S H n t b)) (λ (u : ℕ). Leaves S H n t b u t) (Puts x) c.loop-access.access-iterator.left rest c.loop-access.least c.first_mate_across.result r.left c.loop-access.invariant.least
+          (mate_recent v.asked t (readers_in S H n x) us late (readers_here v.asked.facts.now n x v.asked.stands.orderly) b c.first_mate_across.result c.first_mate_across.ensures));
+    }
 
-pub loop-event-preserved : goal.loop-event-preserved
-loop-event-preserved c =
+pub loop-access-preserved : goal.loop-access-preserved
+loop-access-preserved c =
     let v = c.args.self.now in
     let S = setup_of v.asked.facts.now in
     let H = events_of v.asked.facts.now in
     let n = v.asked.register.now.node.0 in
     let t = v.t.0 in
     let b = c.args.b.0 in
-    remains_skip (Both (Behind S H n t t) (IsMateOf S H n t b)) (λ (u : ℕ). Leaves S H n t b u t) c.in-Some.event c.loop-event.event-iterator c.next.new.self c.loop-event.least c.in-Some.ensures.steps c.loop-event.invariant
-    (λ u q. only_puts (ReadAcross S H n t t) c.in-Some.event c.in_default.not-Put u q.0)
+    let r = reads_else v.asked c.loop-access.access-iterator c.next.new.self c.loop-access.invariant.book c.in-Some.access c.in-Some.ensures.steps c.in_default.not-Put in
+    record {
+      book = book_next v.asked c.loop-access.access-iterator c.next.new.self c.loop-access.invariant.book c.in-Some.access c.in-Some.ensures.steps;
+      least = remains_skip (Both (Behind S H n t t) (IsMateOf S H n t b)) (λ (u : ℕ). Leaves S H n t b u t) (Reads r.0) c.loop-access.access-iterator.left c.next.new.self.left c.loop-access.least r.1 c.loop-access.invariant.least (λ u q. q.0);
+    }
 
 pub returns : goal.returns
 returns c =
@@ -67,4 +82,4 @@ returns c =
     let n = v.asked.register.now.node.0 in
     let t = v.t.0 in
     let b = c.args.b.0 in
-    remains_end (Both (Behind S H n t t) (IsMateOf S H n t b)) (λ (u : ℕ). Leaves S H n t b u t) c.loop-event.event-iterator c.loop-event.least c.in-None.ensures.steps.0 c.loop-event.invariant
+    remains_end (Both (Behind S H n t t) (IsMateOf S H n t b)) (λ (u : ℕ). Leaves S H n t b u t) c.loop-access.access-iterator.left c.loop-access.least (walk_end _ _ c.in-None.ensures.steps) c.loop-access.invariant.least

@@ -1,0 +1,5 @@
+pub mod SameCells
+pub mod Among
+pub mod Places
+pub mod Touches
+pub mod Filing

@@ -1,0 +1,93 @@
+use Rattle.std.proofs.Common.{◌≡◌, ◌<◌, ◌-◌, ◌∙◌, suc, length, cond, eqb, ◌||◌, ◌&&◌, ◌∷◌, refl, sym, ap, subst, arith}
+use Rattle.std.specs.List.{IsDistinct}
+use Rattle.teb_names.specs.Cells.{same_cell}
+use Rattle.access_book.specs.declared.accesses.Touch.TheVariants as touch
+use Rattle.teb_history.specs.Ascending.{IsAscendingBy}
+use Rattle.teb_history.specs.Live.{number_of}
+use Rattle.access_book.specs.Books.{Shown, readers_of, writers_of, committed_of, touched_of, is_accessor, AreFiled}
+use Rattle.access_book.specs.Touched.{Puts}
+use Rattle.access_book.proofs.Filing.{at_most_one}
+use Rattle.access_book.proofs.Places.{kept, kept_filed, length-with_place, put_within, put_ascends, put_filed, put_among, put_count}
+use Rattle.access_book.proofs.Touches.{pushed_by, known_pushed, own_cell}
+use Rattle.access_book.proofs.book.AccessBook.put.Goals as goal
+
+pub put_by_number-requires-clause-within : goal.put_by_number-requires-clause-within
+put_by_number-requires-clause-within c =
+    let b = c.self.inside in
+    let n = c.place_for-place in
+    put_within b.cells.keys b.writers.lists c.args.cell c.self.invariant.writers_paired c.args.t n.new.cells.keys n.new.writers.lists _ n.result n.ensures.cells n.ensures.writers n.ensures.place refl
+
+pub put_by_number-requires-clause-ascending : goal.put_by_number-requires-clause-ascending
+put_by_number-requires-clause-ascending c =
+    let b = c.self.inside in
+    let n = c.place_for-place in
+    put_ascends b.cells.keys b.writers.lists c.args.cell c.self.invariant.writers_paired c.args.t n.new.cells.keys n.new.writers.lists _ n.result n.ensures.cells n.ensures.writers n.ensures.place refl
+    (subst (λ (s : Shown). (x : _) → IsAscendingBy number_of (writers_of s x)) (sym c.self.view_is) c.requires.filed.writers)
+
+pub overflow_add-self : goal.overflow_add-self
+overflow_add-self c = omega (arith, c.self.invariant.fits, ap (λ (s : Shown). s.spare) c.self.view_is, c.requires.room)
+
+pub invariant_of-self : goal.invariant_of-self
+invariant_of-self c =
+    let b = c.self.inside in
+    let h = c.self.invariant in
+    let n = c.place_for-place in
+    let k = c.put_by_number in
+    let one = at_most_one k.result in
+    let some = ap (λ (s : Shown). s.spare) c.self.view_is in
+    let begun : c.args.t.0 - 1 < length b.touches.lists = omega (arith, c.requires.first, c.requires.begun, ap (λ (s : Shown). s.begun) c.self.view_is) in
+    let number : c.args.t.0 ≡ suc (c.args.t.0 - 1) = omega (arith, c.requires.first) in
+    record {
+      unique = n.ensures.unique;
+      writers_paired = put_count b.cells.keys b.writers.lists c.args.cell h.writers_paired c.args.t n.new.cells.keys n.new.writers.lists k.new.self.lists n.result n.ensures.cells n.ensures.writers n.ensures.place k.ensures.lists;
+      readers_paired = ap length n.ensures.readers ∙ length-with_place b.cells.keys b.readers.lists c.args.cell h.readers_paired ∙ sym (ap length n.ensures.cells);
+      committed_paired = ap length n.ensures.committed ∙ length-with_place b.cells.keys b.committed.lists c.args.cell h.committed_paired ∙ sym (ap length n.ensures.cells);
+      known = known_pushed b.cells.keys c.args.cell b.touches.lists c.push.new.self.lists n.new.cells.keys c.args.t.0 (c.args.t.0 - 1) (touch.Put n.result) (Puts c.args.cell) n.ensures.cells c.push.ensures.lists number begun h.known n.ensures.place;
+      cells_room = omega (arith, n.ensures.cells_room, h.cells_room);
+      writers_room = omega (arith, n.ensures.writers_room, h.writers_room, k.ensures.spare, one, some, c.requires.room);
+      readers_room = omega (arith, n.ensures.readers_room, h.readers_room, some, c.requires.room);
+      committed_room = omega (arith, n.ensures.committed_room, h.committed_room, some, c.requires.room);
+      touches_room = omega (arith, c.push.ensures.spare, h.touches_room);
+      fits = omega (arith, h.fits, some, c.requires.room);
+    }
+
+pub returns-clause-filed : goal.returns-clause-filed
+returns-clause-filed c =
+    let b = c.self.inside in
+    let h = c.self.invariant in
+    let n = c.place_for-place in
+    let filed = subst AreFiled (sym c.self.view_is) c.requires.filed in
+    record {
+      writers = put_filed b.cells.keys b.writers.lists c.args.cell h.writers_paired c.args.t n.new.cells.keys n.new.writers.lists c.put_by_number.new.self.lists n.result n.ensures.cells n.ensures.writers n.ensures.place c.put_by_number.ensures.lists filed.writers;
+      readers = kept_filed b.cells.keys b.readers.lists c.args.cell h.readers_paired n.new.cells.keys n.new.readers.lists n.ensures.cells n.ensures.readers filed.readers;
+      committed = kept_filed b.cells.keys b.committed.lists c.args.cell h.committed_paired n.new.cells.keys n.new.committed.lists n.ensures.cells n.ensures.committed filed.committed;
+    }
+
+pub returns-clause-writers : goal.returns-clause-writers
+returns-clause-writers c x u =
+    let b = c.self.inside in
+    let n = c.place_for-place in
+    put_among b.cells.keys b.writers.lists c.args.cell c.self.invariant.writers_paired c.args.t n.new.cells.keys n.new.writers.lists c.put_by_number.new.self.lists n.result n.ensures.cells n.ensures.writers n.ensures.place c.put_by_number.ensures.lists x u
+    ∙ ap (λ (s : Shown). is_accessor (writers_of s) x u || (same_cell c.args.cell x && eqb c.args.t.0 u)) c.self.view_is
+
+pub returns-clause-readers : goal.returns-clause-readers
+returns-clause-readers c x =
+    let b = c.self.inside in
+    let n = c.place_for-place in
+    kept b.cells.keys b.readers.lists c.args.cell c.self.invariant.readers_paired n.new.cells.keys n.new.readers.lists n.ensures.cells n.ensures.readers x ∙ ap (λ (s : Shown). readers_of s x) c.self.view_is
+
+pub returns-clause-committed : goal.returns-clause-committed
+returns-clause-committed c x =
+    let b = c.self.inside in
+    let n = c.place_for-place in
+    kept b.cells.keys b.committed.lists c.args.cell c.self.invariant.committed_paired n.new.cells.keys n.new.committed.lists n.ensures.cells n.ensures.committed x ∙ ap (λ (s : Shown). committed_of s x) c.self.view_is
+
+pub returns-clause-touched : goal.returns-clause-touched
+returns-clause-touched c u =
+    let b = c.self.inside in
+    let n = c.place_for-place in
+    let begun : c.args.t.0 - 1 < length b.touches.lists = omega (arith, c.requires.first, c.requires.begun, ap (λ (s : Shown). s.begun) c.self.view_is) in
+    let number : c.args.t.0 ≡ suc (c.args.t.0 - 1) = omega (arith, c.requires.first) in
+    let own = own_cell b.cells.keys c.args.cell (subst (IsDistinct same_cell) n.ensures.cells n.ensures.unique) n.result n.ensures.place in
+    pushed_by b.cells.keys c.args.cell b.touches.lists c.push.new.self.lists n.new.cells.keys c.args.t.0 (c.args.t.0 - 1) (touch.Put n.result) (Puts c.args.cell) n.ensures.cells c.push.ensures.lists number begun c.self.invariant.known (ap Puts own) u
+    ∙ ap (λ (s : Shown). cond (eqb c.args.t.0 u) (Puts c.args.cell ∷ touched_of s u) (touched_of s u)) c.self.view_is

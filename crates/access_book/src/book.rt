@@ -1,0 +1,357 @@
+//! The book: what each access, commit and abort adds or takes out, and the lists that it lends.
+
+ghost use Rattle.std.specs.Prelude.{◌≡◌, ◌<◌, ◌≤◌, ◌+◌, ◌∷◌, ◌&&◌, ◌||◌, ℕ, length, not, eqb, cond, OnOk};
+ghost use Rattle.teb_names.specs.declared.Cell.{Cell};
+ghost use Rattle.teb_names.specs.Cells.{same_cell};
+ghost use Rattle.access_book.specs.Touched.{Reads, Puts, any_reads, any_puts, puts_among};
+ghost use Rattle.teb_history.specs.Ascending.{IsAscendingBy};
+ghost use Rattle.teb_history.specs.Live.{number_of};
+ghost use Rattle.indexmap.specs.IndexSet.{IsUnique, insert_key, spare as set_spare};
+ghost use Rattle.arena_multimap.specs.NumberedLists.{list_in};
+ghost use Rattle.access_book.specs.Books.{is_among, is_accessor, place_in, readers_of, writers_of, committed_of, touched_of, AreFiled, AreKept, IsAccess, IsEmpty, IsKept};
+ghost use Rattle.access_book.specs.Places.{with_place, touch_place, touched_at, reads_at, puts_at, puts_held, AreKnown};
+
+use crate::accesses::{Access, Accesses, Touch};
+use arena_multimap::NumberedLists;
+use indexmap::IndexSet;
+use std::alloc::{AllocError, Global};
+use std::marker::Model;
+use teb_names::{Cell, Txn};
+
+/// For how many events room is made at the least, so that not every `reserve` goes through all lists.
+const AHEAD: usize = 256;
+
+/// By cell, who has read it, who has put it, and who has put it and committed, each in ascending number; by transaction, what it has
+/// accessed. Whoever aborts is no reader and no writer.
+pub struct AccessBook {
+    // Each cell has the lists of its place.
+    cells: IndexSet<Cell>,
+    readers: NumberedLists<Txn>,
+    writers: NumberedLists<Txn>,
+    committed: NumberedLists<Txn>,
+    // Of each transaction that has begun, the oldest first.
+    touches: NumberedLists<Touch>,
+    // How many Puts there are of transactions that may still commit: for so many committed writers room is kept.
+    pending: usize,
+    // For how many events there is room.
+    spare: usize,
+}
+
+/// A call of its own, so that no owner has to prove anew how it is dropped.
+impl Drop for AccessBook {
+    fn drop(self) {
+        let AccessBook {
+            cells: _cells,
+            readers: _readers,
+            writers: _writers,
+            committed: _committed,
+            touches: _touches,
+            pending: _pending,
+            spare: _spare,
+        } = self;
+    }
+}
+
+impl Model for AccessBook {
+    ghost use Rattle.access_book.specs.Books.{Shown};
+    ghost use Rattle.access_book.specs.Places.{shown_of, IsBook};
+
+    ghost Value = { Shown };
+
+    ghost view = { λ b. shown_of b.cells.keys b.readers.lists b.writers.lists b.committed.lists b.touches.lists b.pending b.spare };
+
+    ghost invariant = { λ b. IsBook b.cells b.readers b.writers b.committed b.touches b.pending b.spare };
+}
+
+impl AccessBook {
+    /// The book of an empty history, with no room. Takes no memory.
+    pub fn new(alloc: Global) -> Self
+        ensures { IsEmpty result }
+    {
+        AccessBook {
+            cells: IndexSet::new(alloc),
+            readers: NumberedLists::new(alloc),
+            writers: NumberedLists::new(alloc),
+            committed: NumberedLists::new(alloc),
+            touches: NumberedLists::new(alloc),
+            pending: 0,
+            spare: 0,
+        }
+    }
+
+    /// Makes room for n events. The lists stay, also after an `Err`.
+    pub fn reserve(&mut self, n: usize) -> Result<(), AllocError>
+        ensures same { IsKept self.old self.new }
+        ensures room { OnOk result (n ≤ self.new.spare) }
+        ensures kept { self.old.spare ≤ self.new.spare }
+    {
+        if n <= self.spare {
+            return Ok(());
+        }
+        let room = n.max(AHEAD);
+        let twice = room.checked_mul(2).ok_or(AllocError)?;
+        let committed = twice.checked_add(self.pending).ok_or(AllocError)?;
+        self.cells.reserve(room)?;
+        self.readers.reserve(twice)?;
+        self.writers.reserve(twice)?;
+        self.committed.reserve(committed)?;
+        self.touches.reserve(room)?;
+        self.spare = room;
+        Ok(())
+    }
+
+    /// A transaction begins, numbered behind all that have begun. It takes one place of the room.
+    pub fn begin(&mut self)
+        requires { 0 < self.old.spare }
+        ensures readers { AreKept (readers_of self.old) (readers_of self.new) }
+        ensures writers { AreKept (writers_of self.old) (writers_of self.new) }
+        ensures committed { AreKept (committed_of self.old) (committed_of self.new) }
+        ensures touched { (u : ℕ) → touched_of self.new u ≡ touched_of self.old u }
+        ensures begun { self.new.begun ≡ self.old.begun + 1 }
+        ensures pending { self.new.pending ≡ self.old.pending }
+        ensures spare { self.old.spare ≡ self.new.spare + 1 }
+    {
+        self.touches.begin();
+        self.spare -= 1;
+    }
+
+    /// A transaction reads a cell. It takes one place of the room.
+    pub fn read(&mut self, t: Txn, cell: Cell)
+        requires room { 0 < self.old.spare }
+        requires filed { AreFiled self.old }
+        requires first { 0 < t.0 }
+        requires begun { t.0 ≤ self.old.begun }
+        ensures filed { AreFiled self.new }
+        ensures readers { (x : Cell) (u : ℕ) → is_accessor (readers_of self.new) x u ≡ (is_accessor (readers_of self.old) x u || (same_cell cell x && eqb t.0 u)) }
+        ensures writers { AreKept (writers_of self.old) (writers_of self.new) }
+        ensures committed { AreKept (committed_of self.old) (committed_of self.new) }
+        ensures touched { (u : ℕ) → touched_of self.new u ≡ cond (eqb t.0 u) (Reads cell ∷ touched_of self.old u) (touched_of self.old u) }
+        ensures begun { self.new.begun ≡ self.old.begun }
+        ensures pending { self.new.pending ≡ self.old.pending }
+        ensures spare { self.old.spare ≡ self.new.spare + 1 }
+    {
+        let place = place_for(
+            &mut self.cells,
+            &mut self.readers,
+            &mut self.writers,
+            &mut self.committed,
+            cell,
+        );
+        self.readers.put_by_number(place, t);
+        self.touches.push(t.0 as usize - 1, Touch::Read(place));
+        self.spare -= 1;
+    }
+
+    /// A transaction puts a cell. It takes one place of the room.
+    pub fn put(&mut self, t: Txn, cell: Cell)
+        requires room { 0 < self.old.spare }
+        requires filed { AreFiled self.old }
+        requires first { 0 < t.0 }
+        requires begun { t.0 ≤ self.old.begun }
+        ensures filed { AreFiled self.new }
+        ensures readers { AreKept (readers_of self.old) (readers_of self.new) }
+        ensures writers { (x : Cell) (u : ℕ) → is_accessor (writers_of self.new) x u ≡ (is_accessor (writers_of self.old) x u || (same_cell cell x && eqb t.0 u)) }
+        ensures committed { AreKept (committed_of self.old) (committed_of self.new) }
+        ensures touched { (u : ℕ) → touched_of self.new u ≡ cond (eqb t.0 u) (Puts cell ∷ touched_of self.old u) (touched_of self.old u) }
+        ensures begun { self.new.begun ≡ self.old.begun }
+        ensures pending { self.new.pending ≡ self.old.pending + 1 }
+        ensures spare { self.old.spare ≡ self.new.spare + 1 }
+    {
+        let place = place_for(
+            &mut self.cells,
+            &mut self.readers,
+            &mut self.writers,
+            &mut self.committed,
+            cell,
+        );
+        self.writers.put_by_number(place, t);
+        self.touches.push(t.0 as usize - 1, Touch::Put(place));
+        self.pending += 1;
+        self.spare -= 1;
+    }
+
+    /// A transaction commits: it is a committed writer of each cell that it has put. The room stays.
+    pub fn commit(&mut self, t: Txn)
+        requires filed { AreFiled self.old }
+        requires first { 0 < t.0 }
+        requires begun { t.0 ≤ self.old.begun }
+        requires puts { puts_among (touched_of self.old t.0) ≤ self.old.pending }
+        ensures filed { AreFiled self.new }
+        ensures readers { AreKept (readers_of self.old) (readers_of self.new) }
+        ensures writers { AreKept (writers_of self.old) (writers_of self.new) }
+        ensures committed { (x : Cell) (u : ℕ) → is_accessor (committed_of self.new) x u ≡ (is_accessor (committed_of self.old) x u || (any_puts x (touched_of self.old t.0) && eqb t.0 u)) }
+        ensures touched { (u : ℕ) → touched_of self.new u ≡ touched_of self.old u }
+        ensures begun { self.new.begun ≡ self.old.begun }
+        ensures pending { self.new.pending + puts_among (touched_of self.old t.0) ≡ self.old.pending }
+        ensures spare { self.new.spare ≡ self.old.spare }
+    {
+        let touches = self.touches.list(t.0 as usize - 1);
+        self.pending -= put_in(&mut self.committed, touches, t);
+    }
+
+    /// A transaction aborts: it is no reader and no writer of any cell. The room stays.
+    pub fn abort(&mut self, t: Txn)
+        requires filed { AreFiled self.old }
+        requires first { 0 < t.0 }
+        requires begun { t.0 ≤ self.old.begun }
+        requires puts { puts_among (touched_of self.old t.0) ≤ self.old.pending }
+        ensures filed { AreFiled self.new }
+        ensures readers { (x : Cell) (u : ℕ) → is_accessor (readers_of self.new) x u ≡ (is_accessor (readers_of self.old) x u && not (any_reads x (touched_of self.old t.0) && eqb t.0 u)) }
+        ensures writers { (x : Cell) (u : ℕ) → is_accessor (writers_of self.new) x u ≡ (is_accessor (writers_of self.old) x u && not (any_puts x (touched_of self.old t.0) && eqb t.0 u)) }
+        ensures committed { AreKept (committed_of self.old) (committed_of self.new) }
+        ensures touched { (u : ℕ) → touched_of self.new u ≡ touched_of self.old u }
+        ensures begun { self.new.begun ≡ self.old.begun }
+        ensures pending { self.new.pending + puts_among (touched_of self.old t.0) ≡ self.old.pending }
+        ensures spare { self.new.spare ≡ self.old.spare }
+    {
+        let touches = self.touches.list(t.0 as usize - 1);
+        self.pending -= take_out(&mut self.readers, &mut self.writers, touches, t);
+    }
+
+    /// The accesses of a transaction, the newest first, each with who has accessed its cell in the other way. Each costs one step and no
+    /// look-up.
+    #[inline(always)]
+    pub fn accesses(&self, t: Txn) -> Accesses<'_>
+        requires { 0 < t.0 }
+        ensures book { result.book ≡ self.now }
+        ensures left { result.left ≡ touched_of self.now t.0 }
+    {
+        Accesses {
+            book: self,
+            left: self.touches.list(t.0 as usize - 1),
+        }
+    }
+
+    // An access, with who has accessed its cell in the other way.
+    #[inline(always)]
+    pub(crate) fn access(&self, touch: Touch) -> Access<'_>
+        requires { touch_place touch < length self.now.cells }
+        ensures { IsAccess self.now result (touched_at self.now.cells touch) }
+    {
+        match touch {
+            Touch::Read(place) => Access::Read {
+                writers: self.writers.list(place),
+            },
+            Touch::Put(place) => Access::Put {
+                readers: self.readers.list(place),
+            },
+        }
+    }
+
+    /// Who has put a cell and not aborted.
+    pub fn writers(&self, cell: Cell) -> &[Txn]
+        ensures { result.now ≡ writers_of self.now cell }
+    {
+        self.writers.list(place_of(&self.cells, cell))
+    }
+
+    /// Who has put a cell and committed.
+    pub fn committed(&self, cell: Cell) -> &[Txn]
+        ensures { result.now ≡ committed_of self.now cell }
+    {
+        self.committed.list(place_of(&self.cells, cell))
+    }
+}
+
+/// The place of a cell, or their number where it has none.
+#[inline(always)]
+fn place_of(cells: &IndexSet<Cell>, cell: Cell) -> usize
+    ensures { result ≡ place_in cells.now.keys cell }
+{
+    match cells.get_index_of(&cell) {
+        Some(place) => place,
+        None => cells.len(),
+    }
+}
+
+/// The place of a cell, which gets lists of its own where it has none.
+#[inline(always)]
+fn place_for(
+    cells: &mut IndexSet<Cell>,
+    readers: &mut NumberedLists<Txn>,
+    writers: &mut NumberedLists<Txn>,
+    committed: &mut NumberedLists<Txn>,
+    cell: Cell,
+) -> usize
+    requires cells { 0 < set_spare cells.old }
+    requires readers { 0 < readers.old.spare }
+    requires writers { 0 < writers.old.spare }
+    requires committed { 0 < committed.old.spare }
+    ensures place { result ≡ place_in cells.old.keys cell }
+    ensures cells { cells.new.keys ≡ insert_key same_cell cells.old.keys cell }
+    ensures unique { IsUnique same_cell cells.new }
+    ensures cells_room { set_spare cells.old ≤ set_spare cells.new + 1 }
+    ensures readers { readers.new.lists ≡ with_place cells.old.keys cell readers.old.lists }
+    ensures readers_room { readers.old.spare ≤ readers.new.spare + 1 }
+    ensures writers { writers.new.lists ≡ with_place cells.old.keys cell writers.old.lists }
+    ensures writers_room { writers.old.spare ≤ writers.new.spare + 1 }
+    ensures committed { committed.new.lists ≡ with_place cells.old.keys cell committed.old.lists }
+    ensures committed_room { committed.old.spare ≤ committed.new.spare + 1 }
+{
+    match cells.insert_full(cell) {
+        Ok((place, is_new)) => {
+            if is_new {
+                readers.begin();
+                writers.begin();
+                committed.begin();
+            }
+            place
+        }
+        Err(_) => 0,
+    }
+}
+
+/// Puts a transaction among the committed writers of each cell that it has put. The number of its Puts.
+fn put_in(committed: &mut NumberedLists<Txn>, touches: &[Touch], t: Txn) -> usize
+    requires filed { (i : ℕ) → IsAscendingBy number_of (list_in committed.old.lists i) }
+    requires known { AreKnown (length committed.old.lists) touches.now }
+    requires room { puts_held touches.now ≤ committed.old.spare }
+    ensures puts { result ≡ puts_held touches.now }
+    ensures filed { (i : ℕ) → IsAscendingBy number_of (list_in committed.new.lists i) }
+    ensures count { length committed.new.lists ≡ length committed.old.lists }
+    ensures lists { (i u : ℕ) → is_among u (list_in committed.new.lists i) ≡ (is_among u (list_in committed.old.lists i) || (puts_at i touches.now && eqb t.0 u)) }
+    ensures room { committed.old.spare ≤ committed.new.spare + result }
+{
+    let mut puts = 0;
+    for touch in touches {
+        if let Touch::Put(place) = *touch {
+            committed.put_by_number(place, t);
+            puts += 1;
+        }
+    }
+    puts
+}
+
+/// Takes a transaction out from among the readers and the writers of each cell that it has accessed. The number of its Puts.
+fn take_out(
+    readers: &mut NumberedLists<Txn>,
+    writers: &mut NumberedLists<Txn>,
+    touches: &[Touch],
+    t: Txn,
+) -> usize
+    requires readers { (i : ℕ) → IsAscendingBy number_of (list_in readers.old.lists i) }
+    requires writers { (i : ℕ) → IsAscendingBy number_of (list_in writers.old.lists i) }
+    requires readers_known { AreKnown (length readers.old.lists) touches.now }
+    requires writers_known { AreKnown (length writers.old.lists) touches.now }
+    ensures puts { result ≡ puts_held touches.now }
+    ensures readers_filed { (i : ℕ) → IsAscendingBy number_of (list_in readers.new.lists i) }
+    ensures readers_count { length readers.new.lists ≡ length readers.old.lists }
+    ensures readers { (i u : ℕ) → is_among u (list_in readers.new.lists i) ≡ (is_among u (list_in readers.old.lists i) && not (reads_at i touches.now && eqb t.0 u)) }
+    ensures readers_room { readers.new.spare ≡ readers.old.spare }
+    ensures writers_filed { (i : ℕ) → IsAscendingBy number_of (list_in writers.new.lists i) }
+    ensures writers_count { length writers.new.lists ≡ length writers.old.lists }
+    ensures writers { (i u : ℕ) → is_among u (list_in writers.new.lists i) ≡ (is_among u (list_in writers.old.lists i) && not (puts_at i touches.now && eqb t.0 u)) }
+    ensures writers_room { writers.new.spare ≡ writers.old.spare }
+{
+    let mut puts = 0;
+    for touch in touches {
+        match *touch {
+            Touch::Read(place) => readers.take_by_number(place, t.0),
+            Touch::Put(place) => {
+                writers.take_by_number(place, t.0);
+                puts += 1;
+            }
+        }
+    }
+    puts
+}
