@@ -1,0 +1,6 @@
+pub mod SameCells
+pub mod Places
+pub mod Lists
+pub mod ListEdits
+mod Slots
+mod Numbers
