@@ -8,13 +8,13 @@ use Rattle.teb_names.specs.declared.Txn.{Txn}
 use Rattle.teb_history.specs.Ascending.{IsAscendingBy, put_by}
 use Rattle.teb_history.specs.Live.{number_of}
 use Rattle.teb_history.proofs.AscendingLists.{ascending-put, ascending-filter}
+use Rattle.cell_index.proofs.Lists.{set_tells}
 use Rattle.arena_multimap.specs.NumberedLists.{Shown as Numbered, list_in}
 use Rattle.access_book.specs.declared.accesses.Touch.{Touch}
 use Rattle.access_book.specs.declared.accesses.Touch.TheVariants as touch
 use Rattle.access_book.specs.Books.{is_among}
 use Rattle.access_book.specs.Places.{puts_here, holds_put, puts_held, AreKnown}
 use Rattle.access_book.proofs.Among.{among_put, among_others, put_cond, take_cond}
-use Rattle.access_book.proofs.Places.{set_tells}
 
 -- the lists ascend
 abbrev pub AllAscend : List (List Txn) → Type 0

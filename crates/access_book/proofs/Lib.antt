@@ -1,4 +1,3 @@
-pub mod SameCells
 pub mod Among
 pub mod Places
 pub mod Touches

@@ -8,18 +8,19 @@ use Rattle.std.proofs.Math.Seq.{drop-cons}
 use Rattle.std.proofs.lemmas.List.Folds.{list_any-append}
 use Rattle.std.proofs.lemmas.List.Sums.{sum_by-append, sum_by-cons}
 use Rattle.std.proofs.Math.ListN.{get_or-append, get_or-map}
-use Rattle.indexmap.specs.IndexSet.{insert_key}
 use Rattle.teb_names.specs.declared.Cell.{Cell}
 use Rattle.teb_names.specs.Cells.{same_cell}
+use Rattle.cell_index.specs.Cells.{place_in, with_cell}
+use Rattle.cell_index.proofs.SameCells.{same_cell-true}
+use Rattle.cell_index.proofs.Places.{decided, place_tells, put_place, put_length}
+use Rattle.cell_index.proofs.Lists.{set_tells, with_empty}
+use Rattle.cell_index.proofs.ListEdits.{distinct-with_cell}
 use Rattle.arena_multimap.specs.NumberedLists.{list_in}
-use Rattle.arena_multimap.proofs.KeyedLists.{put_place, put_length}
 use Rattle.access_book.specs.declared.accesses.Touch.{Touch}
 use Rattle.access_book.specs.declared.accesses.Touch.TheVariants as touch
-use Rattle.access_book.specs.Books.{list_by, place_in}
+use Rattle.access_book.specs.Books.{list_by}
 use Rattle.access_book.specs.Touched.{Touched, Reads, Puts, any_reads, any_puts, is_put, puts_among}
 use Rattle.access_book.specs.Places.{cell_at, touch_place, touched_at, all_touched, reads_at, puts_at, holds_put, puts_held, AreKnown}
-use Rattle.access_book.proofs.SameCells.{same_cell-true, same_laws}
-use Rattle.access_book.proofs.Places.{decided, place_tells, set_tells, with_empty}
 
 or_swap : (a b : Bool) → (a || (b || false)) ≡ (b || a)
 or_swap true true = refl
@@ -43,15 +44,19 @@ count_reverse q (x ∷ xs) =
 
 -- what accesses show
 module _ (cells : List Cell) (unique : IsDistinct same_cell cells) (x : Cell) where
+  -- a place tells whether its cell is x
+  told : (p : ℕ) → p < length cells → eqb (place_in cells x) p ≡ same_cell (cell_at cells p) x
+  told p lt = place_tells cells p _ x unique lt
+
   reads_shown : (zs : List Touch) → AreKnown (length cells) zs → any_reads x (map (touched_at cells) zs) ≡ reads_at (place_in cells x) zs
   reads_shown [] k = refl
-  reads_shown (touch.Read p ∷ zs) k = λ j. sym (place_tells cells p x unique k.0) j || reads_shown zs k.1 j
+  reads_shown (touch.Read p ∷ zs) k = λ j. sym (told p k.0) j || reads_shown zs k.1 j
   reads_shown (touch.Put p ∷ zs) k = reads_shown zs k.1
 
   puts_shown : (zs : List Touch) → AreKnown (length cells) zs → any_puts x (map (touched_at cells) zs) ≡ puts_at (place_in cells x) zs
   puts_shown [] k = refl
   puts_shown (touch.Read p ∷ zs) k = puts_shown zs k.1
-  puts_shown (touch.Put p ∷ zs) k = λ j. sym (place_tells cells p x unique k.0) j || puts_shown zs k.1 j
+  puts_shown (touch.Put p ∷ zs) k = λ j. sym (told p k.0) j || puts_shown zs k.1 j
 
   pub any_reads-is : (zs : List Touch) → AreKnown (length cells) zs → any_reads x (all_touched cells zs) ≡ reads_at (place_in cells x) zs
   any_reads-is zs k = any_reverse _ (map (touched_at cells) zs) ∙ reads_shown zs k
@@ -132,40 +137,40 @@ by_set ls i t Z e lt (suc j) = set_tells ls i j (Z ∷ list_in ls i) lt ∙ elim
 
 -- a cell gets a place where it has none
 module _ (cells : List Cell) (c : Cell) where
-  cell_kept : (p : ℕ) → p < length cells → cell_at (insert_key same_cell cells c) p ≡ cell_at cells p
+  cell_kept : (p : ℕ) → p < length cells → cell_at (with_cell cells c) p ≡ cell_at cells p
   cell_kept p lt = elim (decided (list_any (same_cell c) cells)) [
     | inl e ↦ ap (λ (b : Bool). cell_at (if b then cells else cells ++ c ∷ []) p) e
     | inr e ↦ ap (λ (b : Bool). cell_at (if b then cells else cells ++ c ∷ []) p) e ∙ get_or-append cells (c ∷ []) _ p lt
   ]
 
-  touched_kept : (zs : List Touch) → AreKnown (length cells) zs → map (touched_at (insert_key same_cell cells c)) zs ≡ map (touched_at cells) zs
+  touched_kept : (zs : List Touch) → AreKnown (length cells) zs → map (touched_at (with_cell cells c)) zs ≡ map (touched_at cells) zs
   touched_kept [] k = refl
   touched_kept (touch.Read p ∷ zs) k = λ j. Reads (cell_kept p k.0 j) ∷ touched_kept zs k.1 j
   touched_kept (touch.Put p ∷ zs) k = λ j. Puts (cell_kept p k.0 j) ∷ touched_kept zs k.1 j
 
-  all_kept : (ls : List (List Touch)) → ((i : ℕ) → AreKnown (length cells) (list_in ls i)) → map (all_touched (insert_key same_cell cells c)) ls ≡ map (all_touched cells) ls
+  all_kept : (ls : List (List Touch)) → ((i : ℕ) → AreKnown (length cells) (list_in ls i)) → map (all_touched (with_cell cells c)) ls ≡ map (all_touched cells) ls
   all_kept [] k = refl
   all_kept (zs ∷ ls) k = λ j. reverse (touched_kept zs (k zero) j) ∷ all_kept ls (λ i. k (suc i)) j
 
   -- the cell of its place
-  pub own_cell : IsDistinct same_cell (insert_key same_cell cells c) → (p : ℕ) → p ≡ place_in cells c → cell_at (insert_key same_cell cells c) p ≡ c
+  pub own_cell : IsDistinct same_cell cells → (p : ℕ) → p ≡ place_in cells c → cell_at (with_cell cells c) p ≡ c
   own_cell d p e =
-      let cells' = insert_key same_cell cells c in
-      let own = put_place same_cell same_laws cells c in
-      let m = put_length same_cell same_laws cells c in
-      let tells = place_tells cells' p c d (omega (arith, e, m)) in
+      let cells' = with_cell cells c in
+      let own = put_place cells c in
+      let m = put_length cells c in
+      let tells = place_tells cells' p _ c (distinct-with_cell cells c d) (omega (arith, e, m)) in
       same_cell-true (cell_at cells' p) c (sym tells ∙ eq-eqb (place_in cells' c) p (omega (arith, own, e)))
 
   -- and t makes an access, which shows Z
-  module _ (ls ls' : List (List Touch)) (cells' : List Cell) (t i : ℕ) (z : Touch) (Z : Touched) (e : cells' ≡ insert_key same_cell cells c) (put : ls' ≡ set ls i (list_in ls i ++ z ∷ []))
+  module _ (ls ls' : List (List Touch)) (cells' : List Cell) (t i : ℕ) (z : Touch) (Z : Touched) (e : cells' ≡ with_cell cells c) (put : ls' ≡ set ls i (list_in ls i ++ z ∷ []))
       (number : t ≡ suc i) (lt : i < length ls) (known : (j : ℕ) → AreKnown (length cells) (list_in ls j)) where
-    pub pushed_by : touched_at (insert_key same_cell cells c) z ≡ Z → (u : ℕ) → list_by (map (all_touched cells') ls') u ≡ cond (eqb t u) (Z ∷ list_by (map (all_touched cells) ls) u) (list_by (map (all_touched cells) ls) u)
+    pub pushed_by : touched_at (with_cell cells c) z ≡ Z → (u : ℕ) → list_by (map (all_touched cells') ls') u ≡ cond (eqb t u) (Z ∷ list_by (map (all_touched cells) ls) u) (list_by (map (all_touched cells) ls) u)
     pushed_by shows u =
-        let f' = all_touched (insert_key same_cell cells c) in
+        let f' = all_touched (with_cell cells c) in
         let L = map (all_touched cells) ls in
         let n = length-map ls (all_touched cells) in
         let newest : f' (list_in ls i ++ z ∷ []) ≡ Z ∷ list_in L i =
-        ap reverse (map-append (touched_at (insert_key same_cell cells c)) (list_in ls i) (z ∷ [])) ∙ reverse-append (map (touched_at (insert_key same_cell cells c)) (list_in ls i)) (touched_at (insert_key same_cell cells c) z ∷ [])
+        ap reverse (map-append (touched_at (with_cell cells c)) (list_in ls i) (z ∷ [])) ∙ reverse-append (map (touched_at (with_cell cells c)) (list_in ls i)) (touched_at (with_cell cells c) z ∷ [])
         ∙ (λ j. shows j ∷ reverse (touched_kept (list_in ls i) (known i) j)) ∙ ap (λ (l : List Touched). Z ∷ l) (sym (get_or-map (all_touched cells) ls i [])) in
         (λ j. list_by (map (all_touched (e j)) (put j)) u)
         ∙ ap (λ (l : List (List Touched)). list_by l u) (map-set f' ls i (list_in ls i ++ z ∷ []) ∙ (λ j. set (all_kept ls known j) i (newest j)))
@@ -173,7 +178,7 @@ module _ (cells : List Cell) (c : Cell) where
 
     pub known_pushed : touch_place z ≡ place_in cells c → (j : ℕ) → AreKnown (length cells') (list_in ls' j)
     known_pushed here j =
-        let m = put_length same_cell same_laws cells c in
+        let m = put_length cells c in
         let n = ap length e in
         let le : length cells ≤ length cells' = omega (arith, m, n) in
         let all = known_all (length cells) (length cells') ls le known in

@@ -1,11 +1,11 @@
 -- What contracts see of a book of accesses.
 use Rattle.std.specs.Prelude.{◌≡◌, ℕ, zero, suc, Bool, eqb, List, [], ◌∷◌, MatchOption, Option}
-use Rattle.std.specs.List.{list_any, position_or_len}
+use Rattle.std.specs.List.{list_any}
 use Rattle.teb_names.specs.declared.Cell.{Cell}
 use Rattle.teb_names.specs.declared.Txn.{Txn}
-use Rattle.teb_names.specs.Cells.{same_cell}
 use Rattle.teb_history.specs.Ascending.{IsAscendingBy}
 use Rattle.teb_history.specs.Live.{number_of}
+use Rattle.cell_index.specs.Lists.{list_for}
 use Rattle.arena_multimap.specs.NumberedLists.{list_in}
 use Rattle.access_book.specs.declared.accesses.Access.{Access}
 use Rattle.access_book.specs.declared.accesses.Access.TheVariants as access
@@ -23,13 +23,9 @@ pub record Shown : Type 0 where
   pub pending : ℕ
   pub spare : ℕ
 
--- the place of x among the cells; where it has none, their number
-abbrev pub place_in : List Cell → Cell → ℕ
-place_in cells x = position_or_len (same_cell x) cells
-
 -- the list of x, of lists in the order of the cells
 unfoldable pub list_of : List Cell → List (List Txn) → Cell → List Txn
-list_of cells lists x = list_in lists (place_in cells x)
+list_of cells lists x = list_for cells lists x
 
 abbrev pub readers_of : Shown → Cell → List Txn
 readers_of b = list_of b.cells b.readers

@@ -1,10 +1,10 @@
 -- How a book holds what contracts see of it: each cell has a place, the accessors of a cell have the list of that place, and an access holds it.
-use Rattle.std.specs.Prelude.{◌≡◌, ◌≤◌, ◌<◌, ◌+◌, ◌*◌, ◌^◌, ◌++◌, ℕ, Bool, true, false, eqb, List, [], ◌∷◌, length, map, reverse, get_or, if◌then◌else◌}
-use Rattle.std.specs.List.{list_any, count_by, AllByRecursion}
-use Rattle.indexmap.specs.IndexSet.{IndexSet, IsUnique, spare as set_spare}
+use Rattle.std.specs.Prelude.{◌≡◌, ◌≤◌, ◌<◌, ◌+◌, ◌*◌, ◌^◌, ℕ, Bool, true, false, eqb, List, length, map, reverse, get_or}
+use Rattle.std.specs.List.{list_any, count_by, AllByRecursion, IsDistinct}
 use Rattle.teb_names.specs.declared.Cell.{Cell}
 use Rattle.teb_names.specs.declared.Txn.{Txn}
 use Rattle.teb_names.specs.Cells.{same_cell}
+use Rattle.cell_index.specs.Cells.{Shown as Index}
 use Rattle.arena_multimap.specs.NumberedLists.{Shown as Numbered, list_in}
 use Rattle.access_book.specs.declared.accesses.Touch.{Touch}
 use Rattle.access_book.specs.declared.accesses.Touch.TheVariants as touch
@@ -14,10 +14,6 @@ use Rattle.access_book.specs.Touched.{Touched, Reads, Puts}
 -- the cell of a place
 abbrev pub cell_at : List Cell → ℕ → Cell
 cell_at cells p = get_or cells p (record { table = record { 0 = 0 }; key = 0 })
-
--- the lists, with one for x where it has none
-abbrev pub with_place : List Cell → Cell → List (List Txn) → List (List Txn)
-with_place cells x lists = if list_any (same_cell x) cells then lists else lists ++ [] ∷ []
 
 -- the place that an access holds
 abbrev pub touch_place : Touch → ℕ
@@ -74,13 +70,13 @@ shown_of cells readers writers committed touches pending spare = record {
 
 -- each cell once, and lists for each; each access is of one of them. There is room for n events, each of which may begin lists for its cell and put one value in one of
 -- them, and among the committed writers for all Puts that are pending, whose number fits with that
-pub record IsBook {S : Type 0} (cells : IndexSet Cell S) (readers writers committed : Numbered Txn) (touches : Numbered Touch) (pending n : ℕ) : Type 0 where
-  pub unique : IsUnique same_cell cells
-  pub readers_paired : length readers.lists ≡ length cells.keys
-  pub writers_paired : length writers.lists ≡ length cells.keys
-  pub committed_paired : length committed.lists ≡ length cells.keys
-  pub known : (i : ℕ) → AreKnown (length cells.keys) (list_in touches.lists i)
-  pub cells_room : n ≤ set_spare cells
+pub record IsBook (index : Index) (readers writers committed : Numbered Txn) (touches : Numbered Touch) (pending n : ℕ) : Type 0 where
+  pub unique : IsDistinct same_cell index.cells
+  pub readers_paired : length readers.lists ≡ length index.cells
+  pub writers_paired : length writers.lists ≡ length index.cells
+  pub committed_paired : length committed.lists ≡ length index.cells
+  pub known : (i : ℕ) → AreKnown (length index.cells) (list_in touches.lists i)
+  pub cells_room : n ≤ index.spare
   pub readers_room : 2 * n ≤ readers.spare
   pub writers_room : 2 * n ≤ writers.spare
   pub committed_room : 2 * n + pending ≤ committed.spare

@@ -6,14 +6,14 @@ ghost use Rattle.teb_names.specs.Cells.{same_cell};
 ghost use Rattle.access_book.specs.Touched.{Reads, Puts, any_reads, any_puts, puts_among};
 ghost use Rattle.teb_history.specs.Ascending.{IsAscendingBy};
 ghost use Rattle.teb_history.specs.Live.{number_of};
-ghost use Rattle.indexmap.specs.IndexSet.{IsUnique, insert_key, spare as set_spare};
+ghost use Rattle.cell_index.specs.Cells.{place_in, with_cell, with_place};
 ghost use Rattle.arena_multimap.specs.NumberedLists.{list_in};
-ghost use Rattle.access_book.specs.Books.{is_among, is_accessor, place_in, readers_of, writers_of, committed_of, touched_of, AreFiled, AreKept, IsAccess, IsEmpty, IsKept};
-ghost use Rattle.access_book.specs.Places.{with_place, touch_place, touched_at, reads_at, puts_at, puts_held, AreKnown};
+ghost use Rattle.access_book.specs.Books.{is_among, is_accessor, readers_of, writers_of, committed_of, touched_of, AreFiled, AreKept, IsAccess, IsEmpty, IsKept};
+ghost use Rattle.access_book.specs.Places.{touch_place, touched_at, reads_at, puts_at, puts_held, AreKnown};
 
 use crate::accesses::{Access, Accesses, Touch};
 use arena_multimap::NumberedLists;
-use indexmap::IndexSet;
+use cell_index::CellIndex;
 use std::alloc::{AllocError, Global};
 use std::marker::Model;
 use teb_names::{Cell, Txn};
@@ -25,7 +25,7 @@ const AHEAD: usize = 256;
 /// accessed. Whoever aborts is no reader and no writer.
 pub struct AccessBook {
     // Each cell has the lists of its place.
-    cells: IndexSet<Cell>,
+    cells: CellIndex,
     readers: NumberedLists<Txn>,
     writers: NumberedLists<Txn>,
     committed: NumberedLists<Txn>,
@@ -58,7 +58,7 @@ impl Model for AccessBook {
 
     ghost Value = { Shown };
 
-    ghost view = { λ b. shown_of b.cells.keys b.readers.lists b.writers.lists b.committed.lists b.touches.lists b.pending b.spare };
+    ghost view = { λ b. shown_of b.cells.cells b.readers.lists b.writers.lists b.committed.lists b.touches.lists b.pending b.spare };
 
     ghost invariant = { λ b. IsBook b.cells b.readers b.writers b.committed b.touches b.pending b.spare };
 }
@@ -69,7 +69,7 @@ impl AccessBook {
         ensures { IsEmpty result }
     {
         AccessBook {
-            cells: IndexSet::new(alloc),
+            cells: CellIndex::new(alloc),
             readers: NumberedLists::new(alloc),
             writers: NumberedLists::new(alloc),
             committed: NumberedLists::new(alloc),
@@ -242,63 +242,48 @@ impl AccessBook {
     pub fn writers(&self, cell: Cell) -> &[Txn]
         ensures { result.now ≡ writers_of self.now cell }
     {
-        self.writers.list(place_of(&self.cells, cell))
+        self.writers.list(self.cells.place(cell))
     }
 
     /// Who has put a cell and committed.
     pub fn committed(&self, cell: Cell) -> &[Txn]
         ensures { result.now ≡ committed_of self.now cell }
     {
-        self.committed.list(place_of(&self.cells, cell))
-    }
-}
-
-/// The place of a cell, or their number where it has none.
-#[inline(always)]
-fn place_of(cells: &IndexSet<Cell>, cell: Cell) -> usize
-    ensures { result ≡ place_in cells.now.keys cell }
-{
-    match cells.get_index_of(&cell) {
-        Some(place) => place,
-        None => cells.len(),
+        self.committed.list(self.cells.place(cell))
     }
 }
 
 /// The place of a cell, which gets lists of its own where it has none.
 #[inline(always)]
 fn place_for(
-    cells: &mut IndexSet<Cell>,
+    cells: &mut CellIndex,
     readers: &mut NumberedLists<Txn>,
     writers: &mut NumberedLists<Txn>,
     committed: &mut NumberedLists<Txn>,
     cell: Cell,
 ) -> usize
-    requires cells { 0 < set_spare cells.old }
+    requires cells { 0 < cells.old.spare }
     requires readers { 0 < readers.old.spare }
     requires writers { 0 < writers.old.spare }
     requires committed { 0 < committed.old.spare }
-    ensures place { result ≡ place_in cells.old.keys cell }
-    ensures cells { cells.new.keys ≡ insert_key same_cell cells.old.keys cell }
-    ensures unique { IsUnique same_cell cells.new }
-    ensures cells_room { set_spare cells.old ≤ set_spare cells.new + 1 }
-    ensures readers { readers.new.lists ≡ with_place cells.old.keys cell readers.old.lists }
+    ensures place { result ≡ place_in cells.old.cells cell }
+    ensures cells { cells.new.cells ≡ with_cell cells.old.cells cell }
+    ensures cells_room { cells.old.spare ≤ cells.new.spare + 1 }
+    ensures readers { readers.new.lists ≡ with_place cells.old.cells cell readers.old.lists }
     ensures readers_room { readers.old.spare ≤ readers.new.spare + 1 }
-    ensures writers { writers.new.lists ≡ with_place cells.old.keys cell writers.old.lists }
+    ensures writers { writers.new.lists ≡ with_place cells.old.cells cell writers.old.lists }
     ensures writers_room { writers.old.spare ≤ writers.new.spare + 1 }
-    ensures committed { committed.new.lists ≡ with_place cells.old.keys cell committed.old.lists }
+    ensures committed { committed.new.lists ≡ with_place cells.old.cells cell committed.old.lists }
     ensures committed_room { committed.old.spare ≤ committed.new.spare + 1 }
 {
-    match cells.insert_full(cell) {
-        Ok((place, is_new)) => {
-            if is_new {
-                readers.begin();
-                writers.begin();
-                committed.begin();
-            }
-            place
-        }
-        Err(_) => 0,
+    let len = cells.len();
+    let place = cells.add(cell);
+    if place == len {
+        readers.begin();
+        writers.begin();
+        committed.begin();
     }
+    place
 }
 
 /// Puts a transaction among the committed writers of each cell that it has put. The number of its Puts.

@@ -6,11 +6,12 @@ use Rattle.teb_history.specs.declared.Event.{Event}
 use Rattle.teb_history.specs.Ascending.{IsAscendingBy}
 use Rattle.teb_history.specs.Live.{number_of}
 use Rattle.teb_history.specs.Phases.{begun_count}
+use Rattle.cell_index.specs.Lists.{list_for}
 use Rattle.arena_multimap.specs.NumberedLists.{list_in}
 use Rattle.dependency_book.specs.declared.registers.Registers.{Registers}
 use Rattle.dependency_book.specs.Dependencies.{readers, writers, sources, unfinished_txns}
 use Rattle.dependency_book.specs.Orderly.{Orderly}
-use Rattle.dependency_book.specs.Places.{list_for, HasRoom}
+use Rattle.dependency_book.specs.Places.{HasRoom}
 
 -- the cells, and for each of them in that order who read it, beside the writer read from, and who put it; whom each transaction read from, in the order in which they began; and who is unfinished
 pub record Lists : Type 0 where

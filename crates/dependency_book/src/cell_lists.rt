@@ -2,17 +2,17 @@
 
 ghost use Rattle.std.specs.Prelude.{◌≡◌, ◌<◌, ◌≤◌, ◌+◌, ◌++◌, ◌∷◌, [], ℕ, cond, eqb, OnOk};
 ghost use Rattle.std.specs.List.{count_by};
-ghost use Rattle.indexmap.specs.IndexSet.{IsUnique, insert_key, spare as set_spare};
 ghost use Rattle.teb_names.specs.declared.Cell.{Cell};
 ghost use Rattle.teb_names.specs.declared.Txn.{Txn};
 ghost use Rattle.teb_names.specs.Cells.{same_cell};
 ghost use Rattle.teb_history.specs.OwnEvents.{own_events};
+ghost use Rattle.cell_index.specs.Cells.{place_in, with_cell, with_place};
 ghost use Rattle.sorted_multimap.specs.LastMatches.{IsLastPlace, without_last, without_lasts};
 ghost use Rattle.dependency_book.specs.Dependencies.{reads, puts};
-ghost use Rattle.dependency_book.specs.Places.{HasRoom, place_in, readers_of, with_place, writers_of};
+ghost use Rattle.dependency_book.specs.Places.{HasRoom, readers_of, writers_of};
 
 use arena_multimap::NumberedLists;
-use indexmap::IndexSet;
+use cell_index::CellIndex;
 use std::alloc::{AllocError, Global};
 use std::marker::Model;
 use teb_history::{Event, History};
@@ -22,7 +22,7 @@ use teb_names::{Cell, Txn};
 #[derive(Drop)]
 pub struct CellLists {
     // Each cell has the lists of its place.
-    cells: IndexSet<Cell>,
+    cells: CellIndex,
     readers: NumberedLists<(Txn, Txn)>,
     writers: NumberedLists<Txn>,
 }
@@ -34,7 +34,7 @@ impl Model for CellLists {
 
     ghost view = { λ p. shown_of p.cells p.readers p.writers };
 
-    ghost invariant = { λ p. ArePlaced p.cells p.readers.lists p.writers.lists };
+    ghost invariant = { λ p. ArePlaced p.cells.cells p.readers.lists p.writers.lists };
 }
 
 impl CellLists {
@@ -44,7 +44,7 @@ impl CellLists {
         ensures writers { (x : Cell) → writers_of result x ≡ [] }
     {
         CellLists {
-            cells: IndexSet::new(alloc),
+            cells: CellIndex::new(alloc),
             readers: NumberedLists::new(alloc),
             writers: NumberedLists::new(alloc),
         }
@@ -91,14 +91,14 @@ impl CellLists {
     pub(crate) fn readers(&self, cell: Cell) -> &[(Txn, Txn)]
         ensures { result.now ≡ readers_of self.now cell }
     {
-        self.readers.list(place_of(&self.cells, cell))
+        self.readers.list(self.cells.place(cell))
     }
 
     /// Who put a cell.
     pub(crate) fn writers(&self, cell: Cell) -> &[Txn]
         ensures { result.now ≡ writers_of self.now cell }
     {
-        self.writers.list(place_of(&self.cells, cell))
+        self.writers.list(self.cells.place(cell))
     }
 
     /// Takes out a pair of t for each of its reads of a cell, and t from the writers of each cell that it put, the newest first. The room
@@ -123,7 +123,7 @@ impl CellLists {
         ensures writers { (x : Cell) → writers_of self.new x ≡ writers_of self.old x }
         ensures room { self.new.room ≡ self.old.room }
     {
-        let place = place_of(&self.cells, cell);
+        let place = self.cells.place(cell);
         if let Some(i) = read_place(self.readers.list(place), t) {
             self.readers.take(place, i);
         }
@@ -135,54 +135,39 @@ impl CellLists {
         ensures writers { (x : Cell) → writers_of self.new x ≡ cond (same_cell cell x) (without_last (λ u. eqb u.0 t.0) (writers_of self.old x)) (writers_of self.old x) }
         ensures room { self.new.room ≡ self.old.room }
     {
-        let place = place_of(&self.cells, cell);
+        let place = self.cells.place(cell);
         if let Some(i) = put_place(self.writers.list(place), t) {
             self.writers.take(place, i);
         }
     }
 }
 
-/// The place of a cell, or their number where it has none.
-#[inline(always)]
-fn place_of(cells: &IndexSet<Cell>, cell: Cell) -> usize
-    ensures { result ≡ place_in cells.now.keys cell }
-{
-    match cells.get_index_of(&cell) {
-        Some(place) => place,
-        None => cells.len(),
-    }
-}
-
 /// The place of a cell, which gets lists of its own where it has none.
 #[inline(always)]
 fn place_for(
-    cells: &mut IndexSet<Cell>,
+    cells: &mut CellIndex,
     readers: &mut NumberedLists<(Txn, Txn)>,
     writers: &mut NumberedLists<Txn>,
     cell: Cell,
 ) -> usize
-    requires cells { 0 < set_spare cells.old }
+    requires cells { 0 < cells.old.spare }
     requires readers { 0 < readers.old.spare }
     requires writers { 0 < writers.old.spare }
-    ensures place { result ≡ place_in cells.old.keys cell }
-    ensures cells { cells.new.keys ≡ insert_key same_cell cells.old.keys cell }
-    ensures unique { IsUnique same_cell cells.new }
-    ensures cells_room { set_spare cells.old ≤ set_spare cells.new + 1 }
-    ensures readers { readers.new.lists ≡ with_place cells.old.keys cell readers.old.lists }
+    ensures place { result ≡ place_in cells.old.cells cell }
+    ensures cells { cells.new.cells ≡ with_cell cells.old.cells cell }
+    ensures cells_room { cells.old.spare ≤ cells.new.spare + 1 }
+    ensures readers { readers.new.lists ≡ with_place cells.old.cells cell readers.old.lists }
     ensures readers_room { readers.old.spare ≤ readers.new.spare + 1 }
-    ensures writers { writers.new.lists ≡ with_place cells.old.keys cell writers.old.lists }
+    ensures writers { writers.new.lists ≡ with_place cells.old.cells cell writers.old.lists }
     ensures writers_room { writers.old.spare ≤ writers.new.spare + 1 }
 {
-    match cells.insert_full(cell) {
-        Ok((place, is_new)) => {
-            if is_new {
-                readers.begin();
-                writers.begin();
-            }
-            place
-        }
-        Err(_) => 0,
+    let len = cells.len();
+    let place = cells.add(cell);
+    if place == len {
+        readers.begin();
+        writers.begin();
     }
+    place
 }
 
 // The last pair of t.

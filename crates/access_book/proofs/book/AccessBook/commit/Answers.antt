@@ -1,6 +1,7 @@
 use Rattle.std.proofs.Common.{◌≡◌, ◌≤◌, ◌-◌, ◌∙◌, length, map, eqb, ◌||◌, ◌&&◌, sym, ap, subst, arith}
 use Rattle.access_book.specs.Touched.{any_puts, puts_among}
-use Rattle.access_book.specs.Books.{Shown, list_by, committed_of, touched_of, is_among, is_accessor, place_in, AreFiled}
+use Rattle.cell_index.specs.Cells.{place_in}
+use Rattle.access_book.specs.Books.{Shown, list_by, committed_of, touched_of, is_among, is_accessor, AreFiled}
 use Rattle.access_book.specs.Places.{all_touched, puts_at, AreKnown}
 use Rattle.access_book.proofs.Places.{all_ascend, filed_back, list_of-is}
 use Rattle.access_book.proofs.Touches.{accesses_are, any_puts-is, puts_among-is}
@@ -9,21 +10,21 @@ use Rattle.access_book.proofs.book.AccessBook.commit.Goals as goal
 pub put_in-requires-clause-filed : goal.put_in-requires-clause-filed
 put_in-requires-clause-filed c =
     let b = c.self.inside in
-    all_ascend b.cells.keys b.committed.lists c.self.invariant.unique c.self.invariant.committed_paired (subst AreFiled (sym c.self.view_is) c.requires.filed).committed
+    all_ascend b.cells.cells b.committed.lists c.self.invariant.unique c.self.invariant.committed_paired (subst AreFiled (sym c.self.view_is) c.requires.filed).committed
 
 pub put_in-requires-clause-room : goal.put_in-requires-clause-room
 put_in-requires-clause-room c =
     let b = c.self.inside in
-    let held = puts_among-is b.cells.keys c.list-touches.result.now in
-    let all = ap puts_among (accesses_are b.cells.keys b.touches.lists c.args.t.0 c.requires.first ∙ ap (all_touched b.cells.keys) (sym c.list-touches.ensures)) in
+    let held = puts_among-is b.cells.cells c.list-touches.result.now in
+    let all = ap puts_among (accesses_are b.cells.cells b.touches.lists c.args.t.0 c.requires.first ∙ ap (all_touched b.cells.cells) (sym c.list-touches.ensures)) in
     let was = ap (λ (s : Shown). puts_among (touched_of s c.args.t.0)) c.self.view_is in
     omega (arith, held, all, was, c.requires.puts, c.self.invariant.committed_room, ap (λ (s : Shown). s.pending) c.self.view_is)
 
 pub overflow_sub-self : goal.overflow_sub-self
 overflow_sub-self c =
     let b = c.self.inside in
-    let held = puts_among-is b.cells.keys c.list-touches.result.now in
-    let all = ap puts_among (accesses_are b.cells.keys b.touches.lists c.args.t.0 c.requires.first ∙ ap (all_touched b.cells.keys) (sym c.list-touches.ensures)) in
+    let held = puts_among-is b.cells.cells c.list-touches.result.now in
+    let all = ap puts_among (accesses_are b.cells.cells b.touches.lists c.args.t.0 c.requires.first ∙ ap (all_touched b.cells.cells) (sym c.list-touches.ensures)) in
     let was = ap (λ (s : Shown). puts_among (touched_of s c.args.t.0)) c.self.view_is in
     omega (arith, held, all, was, c.requires.puts, c.put_in.ensures.puts, ap (λ (s : Shown). s.pending) c.self.view_is)
 
@@ -31,8 +32,8 @@ pub invariant_of-self : goal.invariant_of-self
 invariant_of-self c =
     let b = c.self.inside in
     let h = c.self.invariant in
-    let held = puts_among-is b.cells.keys c.list-touches.result.now in
-    let all = ap puts_among (accesses_are b.cells.keys b.touches.lists c.args.t.0 c.requires.first ∙ ap (all_touched b.cells.keys) (sym c.list-touches.ensures)) in
+    let held = puts_among-is b.cells.cells c.list-touches.result.now in
+    let all = ap puts_among (accesses_are b.cells.cells b.touches.lists c.args.t.0 c.requires.first ∙ ap (all_touched b.cells.cells) (sym c.list-touches.ensures)) in
     let was = ap (λ (s : Shown). puts_among (touched_of s c.args.t.0)) c.self.view_is in
     let le : c.put_in.result ≤ b.pending = omega (arith, held, all, was, c.requires.puts, c.put_in.ensures.puts, ap (λ (s : Shown). s.pending) c.self.view_is) in
     record {
@@ -56,24 +57,24 @@ returns-clause-filed c =
     record {
       readers = filed.readers;
       writers = filed.writers;
-      committed = filed_back b.cells.keys c.put_in.new.committed.lists c.put_in.ensures.filed;
+      committed = filed_back b.cells.cells c.put_in.new.committed.lists c.put_in.ensures.filed;
     }
 
 pub returns-clause-committed : goal.returns-clause-committed
 returns-clause-committed c x u =
     let b = c.self.inside in
     let zs = c.list-touches.result.now in
-    let known = subst (AreKnown (length b.cells.keys)) (sym c.list-touches.ensures) (c.self.invariant.known (c.args.t.0 - 1)) in
-    let shown : puts_at (place_in b.cells.keys x) zs ≡ any_puts x (list_by (map (all_touched b.cells.keys) b.touches.lists) c.args.t.0) =
-    sym (any_puts-is b.cells.keys c.self.invariant.unique x zs known) ∙ ap (λ ls. any_puts x (all_touched b.cells.keys ls)) c.list-touches.ensures ∙ ap (any_puts x) (sym (accesses_are b.cells.keys b.touches.lists c.args.t.0 c.requires.first)) in
-    ap (is_among u) (list_of-is b.cells.keys c.put_in.new.committed.lists x) ∙ c.put_in.ensures.lists (place_in b.cells.keys x) u
-    ∙ (λ j. (is_among u (sym (list_of-is b.cells.keys b.committed.lists x) j) || (shown j && eqb c.args.t.0 u)))
+    let known = subst (AreKnown (length b.cells.cells)) (sym c.list-touches.ensures) (c.self.invariant.known (c.args.t.0 - 1)) in
+    let shown : puts_at (place_in b.cells.cells x) zs ≡ any_puts x (list_by (map (all_touched b.cells.cells) b.touches.lists) c.args.t.0) =
+    sym (any_puts-is b.cells.cells c.self.invariant.unique x zs known) ∙ ap (λ ls. any_puts x (all_touched b.cells.cells ls)) c.list-touches.ensures ∙ ap (any_puts x) (sym (accesses_are b.cells.cells b.touches.lists c.args.t.0 c.requires.first)) in
+    ap (is_among u) (list_of-is b.cells.cells c.put_in.new.committed.lists x) ∙ c.put_in.ensures.lists (place_in b.cells.cells x) u
+    ∙ (λ j. (is_among u (sym (list_of-is b.cells.cells b.committed.lists x) j) || (shown j && eqb c.args.t.0 u)))
     ∙ ap (λ (s : Shown). (is_accessor (committed_of s) x u || (any_puts x (touched_of s c.args.t.0) && eqb c.args.t.0 u))) c.self.view_is
 
 pub returns-clause-pending : goal.returns-clause-pending
 returns-clause-pending c =
     let b = c.self.inside in
-    let held = puts_among-is b.cells.keys c.list-touches.result.now in
-    let all = ap puts_among (accesses_are b.cells.keys b.touches.lists c.args.t.0 c.requires.first ∙ ap (all_touched b.cells.keys) (sym c.list-touches.ensures)) in
+    let held = puts_among-is b.cells.cells c.list-touches.result.now in
+    let all = ap puts_among (accesses_are b.cells.cells b.touches.lists c.args.t.0 c.requires.first ∙ ap (all_touched b.cells.cells) (sym c.list-touches.ensures)) in
     let was = ap (λ (s : Shown). puts_among (touched_of s c.args.t.0)) c.self.view_is in
     omega (arith, held, all, was, c.requires.puts, c.put_in.ensures.puts, ap (λ (s : Shown). s.pending) c.self.view_is)

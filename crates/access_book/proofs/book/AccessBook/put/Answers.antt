@@ -1,13 +1,14 @@
-use Rattle.std.proofs.Common.{◌≡◌, ◌<◌, ◌-◌, ◌∙◌, suc, length, cond, eqb, ◌||◌, ◌&&◌, ◌∷◌, refl, sym, ap, subst, arith}
+use Rattle.std.proofs.Common.{◌≡◌, ◌<◌, ◌-◌, ◌∙◌, suc, length, cond, eqb, ◌||◌, ◌&&◌, ◌∷◌, sym, ap, subst, arith}
 use Rattle.std.specs.List.{IsDistinct}
 use Rattle.teb_names.specs.Cells.{same_cell}
+use Rattle.cell_index.proofs.ListEdits.{distinct-with_cell, placed_count, placed_within, placed_edited_count}
 use Rattle.access_book.specs.declared.accesses.Touch.TheVariants as touch
 use Rattle.teb_history.specs.Ascending.{IsAscendingBy}
 use Rattle.teb_history.specs.Live.{number_of}
 use Rattle.access_book.specs.Books.{Shown, readers_of, writers_of, committed_of, touched_of, is_accessor, AreFiled}
 use Rattle.access_book.specs.Touched.{Puts}
 use Rattle.access_book.proofs.Filing.{at_most_one}
-use Rattle.access_book.proofs.Places.{kept, kept_filed, length-with_place, put_within, put_ascends, put_filed, put_among, put_count}
+use Rattle.access_book.proofs.Places.{kept, kept_filed, put_ascends, put_filed, put_among}
 use Rattle.access_book.proofs.Touches.{pushed_by, known_pushed, own_cell}
 use Rattle.access_book.proofs.book.AccessBook.put.Goals as goal
 
@@ -15,13 +16,13 @@ pub put_by_number-requires-clause-within : goal.put_by_number-requires-clause-wi
 put_by_number-requires-clause-within c =
     let b = c.self.inside in
     let n = c.place_for-place in
-    put_within b.cells.keys b.writers.lists c.args.cell c.self.invariant.writers_paired c.args.t n.new.cells.keys n.new.writers.lists _ n.result n.ensures.cells n.ensures.writers n.ensures.place refl
+    placed_within b.cells.cells b.writers.lists c.args.cell c.self.invariant.writers_paired n.new.cells.cells n.new.writers.lists n.ensures.cells n.ensures.writers n.result n.ensures.place
 
 pub put_by_number-requires-clause-ascending : goal.put_by_number-requires-clause-ascending
 put_by_number-requires-clause-ascending c =
     let b = c.self.inside in
     let n = c.place_for-place in
-    put_ascends b.cells.keys b.writers.lists c.args.cell c.self.invariant.writers_paired c.args.t n.new.cells.keys n.new.writers.lists _ n.result n.ensures.cells n.ensures.writers n.ensures.place refl
+    put_ascends b.cells.cells b.writers.lists c.args.cell c.self.invariant.writers_paired n.new.cells.cells n.new.writers.lists n.ensures.cells n.ensures.writers n.result n.ensures.place
     (subst (λ (s : Shown). (x : _) → IsAscendingBy number_of (writers_of s x)) (sym c.self.view_is) c.requires.filed.writers)
 
 pub overflow_add-self : goal.overflow_add-self
@@ -38,11 +39,11 @@ invariant_of-self c =
     let begun : c.args.t.0 - 1 < length b.touches.lists = omega (arith, c.requires.first, c.requires.begun, ap (λ (s : Shown). s.begun) c.self.view_is) in
     let number : c.args.t.0 ≡ suc (c.args.t.0 - 1) = omega (arith, c.requires.first) in
     record {
-      unique = n.ensures.unique;
-      writers_paired = put_count b.cells.keys b.writers.lists c.args.cell h.writers_paired c.args.t n.new.cells.keys n.new.writers.lists k.new.self.lists n.result n.ensures.cells n.ensures.writers n.ensures.place k.ensures.lists;
-      readers_paired = ap length n.ensures.readers ∙ length-with_place b.cells.keys b.readers.lists c.args.cell h.readers_paired ∙ sym (ap length n.ensures.cells);
-      committed_paired = ap length n.ensures.committed ∙ length-with_place b.cells.keys b.committed.lists c.args.cell h.committed_paired ∙ sym (ap length n.ensures.cells);
-      known = known_pushed b.cells.keys c.args.cell b.touches.lists c.push.new.self.lists n.new.cells.keys c.args.t.0 (c.args.t.0 - 1) (touch.Put n.result) (Puts c.args.cell) n.ensures.cells c.push.ensures.lists number begun h.known n.ensures.place;
+      unique = subst (IsDistinct same_cell) (sym n.ensures.cells) (distinct-with_cell b.cells.cells c.args.cell h.unique);
+      writers_paired = placed_edited_count b.cells.cells b.writers.lists c.args.cell h.writers_paired n.new.cells.cells n.new.writers.lists n.ensures.cells n.ensures.writers n.result n.ensures.place k.new.self.lists _ k.ensures.lists;
+      readers_paired = placed_count b.cells.cells b.readers.lists c.args.cell h.readers_paired n.new.cells.cells n.new.readers.lists n.ensures.cells n.ensures.readers;
+      committed_paired = placed_count b.cells.cells b.committed.lists c.args.cell h.committed_paired n.new.cells.cells n.new.committed.lists n.ensures.cells n.ensures.committed;
+      known = known_pushed b.cells.cells c.args.cell b.touches.lists c.push.new.self.lists n.new.cells.cells c.args.t.0 (c.args.t.0 - 1) (touch.Put n.result) (Puts c.args.cell) n.ensures.cells c.push.ensures.lists number begun h.known n.ensures.place;
       cells_room = omega (arith, n.ensures.cells_room, h.cells_room);
       writers_room = omega (arith, n.ensures.writers_room, h.writers_room, k.ensures.spare, one, some, c.requires.room);
       readers_room = omega (arith, n.ensures.readers_room, h.readers_room, some, c.requires.room);
@@ -58,29 +59,29 @@ returns-clause-filed c =
     let n = c.place_for-place in
     let filed = subst AreFiled (sym c.self.view_is) c.requires.filed in
     record {
-      writers = put_filed b.cells.keys b.writers.lists c.args.cell h.writers_paired c.args.t n.new.cells.keys n.new.writers.lists c.put_by_number.new.self.lists n.result n.ensures.cells n.ensures.writers n.ensures.place c.put_by_number.ensures.lists filed.writers;
-      readers = kept_filed b.cells.keys b.readers.lists c.args.cell h.readers_paired n.new.cells.keys n.new.readers.lists n.ensures.cells n.ensures.readers filed.readers;
-      committed = kept_filed b.cells.keys b.committed.lists c.args.cell h.committed_paired n.new.cells.keys n.new.committed.lists n.ensures.cells n.ensures.committed filed.committed;
+      writers = put_filed b.cells.cells b.writers.lists c.args.cell h.writers_paired n.new.cells.cells n.new.writers.lists n.ensures.cells n.ensures.writers n.result n.ensures.place c.args.t c.put_by_number.new.self.lists c.put_by_number.ensures.lists filed.writers;
+      readers = kept_filed b.cells.cells b.readers.lists c.args.cell h.readers_paired n.new.cells.cells n.new.readers.lists n.ensures.cells n.ensures.readers filed.readers;
+      committed = kept_filed b.cells.cells b.committed.lists c.args.cell h.committed_paired n.new.cells.cells n.new.committed.lists n.ensures.cells n.ensures.committed filed.committed;
     }
 
 pub returns-clause-writers : goal.returns-clause-writers
 returns-clause-writers c x u =
     let b = c.self.inside in
     let n = c.place_for-place in
-    put_among b.cells.keys b.writers.lists c.args.cell c.self.invariant.writers_paired c.args.t n.new.cells.keys n.new.writers.lists c.put_by_number.new.self.lists n.result n.ensures.cells n.ensures.writers n.ensures.place c.put_by_number.ensures.lists x u
+    put_among b.cells.cells b.writers.lists c.args.cell c.self.invariant.writers_paired n.new.cells.cells n.new.writers.lists n.ensures.cells n.ensures.writers n.result n.ensures.place c.args.t c.put_by_number.new.self.lists c.put_by_number.ensures.lists x u
     ∙ ap (λ (s : Shown). is_accessor (writers_of s) x u || (same_cell c.args.cell x && eqb c.args.t.0 u)) c.self.view_is
 
 pub returns-clause-readers : goal.returns-clause-readers
 returns-clause-readers c x =
     let b = c.self.inside in
     let n = c.place_for-place in
-    kept b.cells.keys b.readers.lists c.args.cell c.self.invariant.readers_paired n.new.cells.keys n.new.readers.lists n.ensures.cells n.ensures.readers x ∙ ap (λ (s : Shown). readers_of s x) c.self.view_is
+    kept b.cells.cells b.readers.lists c.args.cell c.self.invariant.readers_paired n.new.cells.cells n.new.readers.lists n.ensures.cells n.ensures.readers x ∙ ap (λ (s : Shown). readers_of s x) c.self.view_is
 
 pub returns-clause-committed : goal.returns-clause-committed
 returns-clause-committed c x =
     let b = c.self.inside in
     let n = c.place_for-place in
-    kept b.cells.keys b.committed.lists c.args.cell c.self.invariant.committed_paired n.new.cells.keys n.new.committed.lists n.ensures.cells n.ensures.committed x ∙ ap (λ (s : Shown). committed_of s x) c.self.view_is
+    kept b.cells.cells b.committed.lists c.args.cell c.self.invariant.committed_paired n.new.cells.cells n.new.committed.lists n.ensures.cells n.ensures.committed x ∙ ap (λ (s : Shown). committed_of s x) c.self.view_is
 
 pub returns-clause-touched : goal.returns-clause-touched
 returns-clause-touched c u =
@@ -88,6 +89,6 @@ returns-clause-touched c u =
     let n = c.place_for-place in
     let begun : c.args.t.0 - 1 < length b.touches.lists = omega (arith, c.requires.first, c.requires.begun, ap (λ (s : Shown). s.begun) c.self.view_is) in
     let number : c.args.t.0 ≡ suc (c.args.t.0 - 1) = omega (arith, c.requires.first) in
-    let own = own_cell b.cells.keys c.args.cell (subst (IsDistinct same_cell) n.ensures.cells n.ensures.unique) n.result n.ensures.place in
-    pushed_by b.cells.keys c.args.cell b.touches.lists c.push.new.self.lists n.new.cells.keys c.args.t.0 (c.args.t.0 - 1) (touch.Put n.result) (Puts c.args.cell) n.ensures.cells c.push.ensures.lists number begun c.self.invariant.known (ap Puts own) u
+    let own = own_cell b.cells.cells c.args.cell c.self.invariant.unique n.result n.ensures.place in
+    pushed_by b.cells.cells c.args.cell b.touches.lists c.push.new.self.lists n.new.cells.cells c.args.t.0 (c.args.t.0 - 1) (touch.Put n.result) (Puts c.args.cell) n.ensures.cells c.push.ensures.lists number begun c.self.invariant.known (ap Puts own) u
     ∙ ap (λ (s : Shown). cond (eqb c.args.t.0 u) (Puts c.args.cell ∷ touched_of s u) (touched_of s u)) c.self.view_is
