@@ -1,3 +1,3 @@
 pub mod Segments
-pub mod KeyedLists
+pub mod CellLists
 pub mod AllLists

@@ -1,3 +1,3 @@
 pub mod Arenas
-pub mod Multimap
+pub mod CellMultimap
 pub mod NumberedLists

@@ -1,9 +1,9 @@
-//! Lists of values in one vector, those of a list one behind the other: by key, many values to a key, or by number.
+//! Lists of values in one vector, those of a list one behind the other: by cell, many values to a cell, or by number.
 #![tactic(auto)]
 
 mod arena;
-mod multimap;
+mod cell_multimap;
 mod numbered_lists;
 
-pub use multimap::ArenaMultimap;
+pub use cell_multimap::CellMultimap;
 pub use numbered_lists::NumberedLists;

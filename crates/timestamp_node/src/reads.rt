@@ -7,12 +7,12 @@ ghost use Rattle.sorted_multimap.specs.Multimap.{values_in};
 ghost use Rattle.sorted_multimap.specs.LastMatches.{IsLastPlace, without_last};
 ghost use Rattle.timestamp_node.specs.Reads.{all_reads, is_by};
 
-use arena_multimap::ArenaMultimap;
+use arena_multimap::CellMultimap;
 use teb_history::{Event, History};
 use teb_names::{Cell, Txn};
 
 /// Puts a read behind those of its cell. It takes one place of the room.
-pub(crate) fn push_read(reads: &mut ArenaMultimap<Cell, (Txn, Txn)>, cell: Cell, t: Txn, from: Txn)
+pub(crate) fn push_read(reads: &mut CellMultimap<(Txn, Txn)>, cell: Cell, t: Txn, from: Txn)
     requires { 0 < reads.old.spare }
     ensures values { (x : Cell) → values_in cell_cmp reads.new x ≡ cond (same_cell cell x) (values_in cell_cmp reads.old x ++ (t, from) ∷ []) (values_in cell_cmp reads.old x) }
     ensures spare { reads.old.spare ≡ reads.new.spare + 1 }
@@ -21,7 +21,7 @@ pub(crate) fn push_read(reads: &mut ArenaMultimap<Cell, (Txn, Txn)>, cell: Cell,
 }
 
 /// Takes out all reads of t, which are those of the history; the others stay. Each costs what was read of its cell since.
-pub(crate) fn forget_reads(reads: &mut ArenaMultimap<Cell, (Txn, Txn)>, history: &History, t: Txn)
+pub(crate) fn forget_reads(reads: &mut CellMultimap<(Txn, Txn)>, history: &History, t: Txn)
     requires { (x : Cell) → filter (is_by t) (values_in cell_cmp reads.old x) ≡ filter (is_by t) (all_reads history.now.events x) }
     ensures values { (x : Cell) → values_in cell_cmp reads.new x ≡ filter (λ r. not (is_by t r)) (values_in cell_cmp reads.old x) }
     ensures spare { reads.new.spare ≡ reads.old.spare }
@@ -34,7 +34,7 @@ pub(crate) fn forget_reads(reads: &mut ArenaMultimap<Cell, (Txn, Txn)>, history:
 }
 
 /// Takes out the last read of t in a cell, where there is one.
-fn forget_last(reads: &mut ArenaMultimap<Cell, (Txn, Txn)>, cell: Cell, t: Txn)
+fn forget_last(reads: &mut CellMultimap<(Txn, Txn)>, cell: Cell, t: Txn)
     ensures values { (x : Cell) → values_in cell_cmp reads.new x ≡ cond (same_cell cell x) (without_last (is_by t) (values_in cell_cmp reads.old x)) (values_in cell_cmp reads.old x) }
     ensures spare { reads.new.spare ≡ reads.old.spare }
 {

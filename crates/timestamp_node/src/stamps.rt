@@ -22,7 +22,7 @@ ghost use Rattle.timestamp_node.specs.Controls.{HasBegun, StampsStandFor, stamps
 
 use crate::reads::{forget_reads, push_read};
 use access_conflicts::wait_for;
-use arena_multimap::ArenaMultimap;
+use arena_multimap::CellMultimap;
 use batch_book::Batches;
 use phase_api::{Control, Facts};
 use std::alloc::{AllocError, Global};
@@ -39,7 +39,7 @@ pub struct Stamps {
     ordered: bool,
     batches: Batches,
     // By cell: reader and writer read from, in the order of the history.
-    reads: ArenaMultimap<Cell, (Txn, Txn)>,
+    reads: CellMultimap<(Txn, Txn)>,
 }
 
 impl Stamps {
@@ -55,7 +55,7 @@ impl Stamps {
             node,
             ordered: row.ordered,
             batches: Batches::new(alloc, row.batch),
-            reads: ArenaMultimap::new(alloc),
+            reads: CellMultimap::new(alloc),
         })
     }
 
