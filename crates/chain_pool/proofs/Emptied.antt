@@ -48,7 +48,7 @@ module _ (ps : List Place) (chain : Cell → Head) (unused : Head) (t : Txn) whe
 pub no_entry : (was now : List (Txn × Head)) (t : Txn) → ((u : Txn) → lookup (same_txn u) now ≡ cond (same_txn t u) None (lookup (same_txn u) was)) → writer_head now t ≡ empty
 no_entry was now t gone = ap (λ (o : Option Head). unwrap_or o empty) (gone t ∙ ap (λ (b : Bool). cond b None (lookup (same_txn t) was)) (same_txn-itself t))
 
-pub busy_without : (was now : List (Txn × Head)) (t : Txn) → ((u : Txn) → lookup (same_txn u) now ≡ cond (same_txn t u) None (lookup (same_txn u) was)) → IsBusy same_txn was → IsBusy same_txn now
+pub busy_without : (was now : List (Txn × Head)) (t : Txn) → ((u : Txn) → lookup (same_txn u) now ≡ cond (same_txn t u) None (lookup (same_txn u) was)) → IsBusy was → IsBusy now
 busy_without was now t gone busy u = subst (λ (o : Option Head). IfSome o (λ h. 0 < h.len)) (sym (gone u)) (left (same_txn t u) (lookup (same_txn u) was) (busy u))
   where
     left : (b : Bool) (o : Option Head) → IfSome o (λ h. 0 < h.len) → IfSome (cond b None o) (λ h. 0 < h.len)

@@ -1,5 +1,6 @@
 pub mod Keys
 pub mod Lookups
+pub mod Beside
 pub mod Threads
 pub mod Rings
 pub mod Slots

@@ -1,9 +1,9 @@
 -- The head of a key's list, as entries change.
-use Rattle.std.proofs.Common.{true, false, Bool, cond, ◌≡◌, List, [], ◌∷◌, map, refl, ap, if◌then◌else◌, Option, Some, unwrap_or}
+use Rattle.std.proofs.Common.{true, false, Bool, cond, ◌≡◌, ◌<◌, List, [], ◌∷◌, map, refl, sym, ap, subst, if◌then◌else◌, Option, Some, unwrap_or, IfSome}
 use Rattle.std.specs.Map.{lookup}
 use Rattle.teb_names.specs.declared.Txn.{Txn}
 use Rattle.chain_pool.specs.declared.places.Head.{Head}
-use Rattle.chain_pool.specs.Heads.{same_txn, with_head}
+use Rattle.chain_pool.specs.Heads.{IsBusy, same_txn, with_head}
 use Rattle.chain_pool.proofs.Keys.{same_txn-itself}
 
 -- what is looked up where each value is changed by a function
@@ -25,3 +25,11 @@ with_head-twice t h g own u = at (same_txn t u)
 
 pub with_head-here : (t : Txn) (h : Head) (own : Txn → Head) → with_head t h own t ≡ h
 with_head-here t h own = ap (λ (b : Bool). if b then h else own t) (same_txn-itself t)
+
+-- where t has a list that is not empty
+pub busy_with : (was now : List (Txn × Head)) (t : Txn) (h : Head) → ((u : Txn) → lookup (same_txn u) now ≡ cond (same_txn t u) (Some h) (lookup (same_txn u) was)) → 0 < h.len → IsBusy was → IsBusy now
+busy_with was now t h put some busy u = subst (λ (o : Option Head). IfSome o (λ g. 0 < g.len)) (sym (put u)) (at (same_txn t u) (lookup (same_txn u) was) (busy u))
+  where
+    at : (b : Bool) (o : Option Head) → IfSome o (λ g. 0 < g.len) → IfSome (cond b (Some h) o) (λ g. 0 < g.len)
+    at true o rest = some
+    at false o rest = rest

@@ -1,5 +1,5 @@
 -- One that is none of the writers, as chains change.
-use Rattle.std.proofs.Common.{true, false, Bool, IsTrue, ◌↔◌, cond, not, eqb, ne_eqb, ◌||◌, ◌≡◌, ◌≢◌, ℕ, zero, suc, List, [], ◌∷◌, insert, refl, sym, ◌∙◌, ap, subst, Option, Some, None, ℤ}
+use Rattle.std.proofs.Common.{true, false, Bool, IsTrue, ◌↔◌, cond, not, eqb, ne_eqb, ◌||◌, ◌≡◌, ◌≢◌, ℕ, zero, suc, List, [], ◌∷◌, insert, refl, sym, ◌∙◌, ap, subst, Option, None, ℤ}
 use Rattle.std.proofs.lemmas.Bool.{or_from, or_parts}
 use Rattle.std.specs.Bool.{OnTrue}
 use Rattle.teb_names.specs.declared.Cell.{Cell}

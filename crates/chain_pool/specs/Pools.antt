@@ -4,13 +4,13 @@ use Rattle.teb_names.specs.declared.Cell.{Cell}
 use Rattle.version_chain.specs.Lists.{Version}
 use Rattle.indexmap.specs.IndexMap.{spare}
 use Rattle.chain_pool.specs.declared.pool.Pool.{Pool}
-use Rattle.chain_pool.specs.Heads.{chain_head, writer_head, same_txn, IsBusy}
+use Rattle.chain_pool.specs.Heads.{chain_head, writer_head, IsBusy}
 use Rattle.chain_pool.specs.Linked.{Linked, versions}
 
 -- its links are sound, and a writer without versions has no entry
 pub record IsSound (p : Pool) : Type 0 where
   pub linked : Linked p.places.items (chain_head p.cells.entries) (writer_head p.writers.entries) p.unused
-  pub busy : IsBusy same_txn p.writers.entries
+  pub busy : IsBusy p.writers.entries
 
 -- the versions of a cell
 abbrev pub chain_of : Pool → Cell → List Version
@@ -19,5 +19,5 @@ chain_of p x = versions p.places.items (chain_head p.cells.entries x)
 -- the places and the entries have room for so many more
 pub record HasRoom (p : Pool) (n : ℕ) : Type 0 where
   pub places : vec_len p.places + n ≤ vec_capacity p.places
-  pub cells : n ≤ spare p.cells
+  pub cells : n ≤ p.cells.spare
   pub writers : n ≤ spare p.writers

@@ -8,12 +8,13 @@ ghost use Rattle.teb_names.specs.declared.Cell.{Cell};
 ghost use Rattle.teb_names.specs.declared.Txn.{Txn};
 ghost use Rattle.version_chain.specs.Lists.{without, set_value, writers_of, is_writer, first_place, last_place, unless_below, own_or_last as spec_own_or_last};
 ghost use Rattle.chain_pool.specs.Places.{InChain, IsOwned};
-ghost use Rattle.chain_pool.specs.Heads.{IsBusy, chain_head, writer_head, with_head, same_txn};
+ghost use Rattle.chain_pool.specs.Heads.{IsBusy, chain_head, writer_head, with_head};
 ghost use Rattle.chain_pool.specs.Linked.{Linked, versions};
 ghost use Rattle.chain_pool.specs.Pools.{IsSound, chain_of, HasRoom};
 
+use crate::chain_heads::ChainHeads;
 use crate::places::{self, EMPTY, Head, Place, Slot, Version};
-use crate::{heads, walks};
+use crate::{walks, writer_heads};
 use indexmap::IndexMap;
 use std::alloc::{AllocError, Global};
 use teb_names::{Cell, Txn};
@@ -27,7 +28,7 @@ const SHORT: usize = 8;
 /// are left.
 fn put(
     places: &mut [Place],
-    cells: &mut IndexMap<Cell, Head>,
+    cells: &mut ChainHeads,
     writers: &mut IndexMap<Txn, Head>,
     unused: Head,
     i: usize,
@@ -35,20 +36,20 @@ fn put(
 ) -> Head
     requires linked { Linked places.old (chain_head cells.old.entries) (writer_head writers.old.entries) unused }
     requires some { 0 < unused.len }
-    requires cells_room { 0 < spare cells.old }
+    requires cells_room { 0 < cells.old.spare }
     requires writers_room { 0 < spare writers.old }
     requires within { i ≤ (chain_head cells.old.entries version.cell).len }
     requires absent { (p : ℕ) → InChain places.old version.cell p → IsOwned places.old version.writer p → ⊥ }
     ensures linked { Linked places.new (chain_head cells.new.entries) (writer_head writers.new.entries) result }
-    ensures busy { IsBusy same_txn writers.old.entries → IsBusy same_txn writers.new.entries }
+    ensures busy { IsBusy writers.old.entries → IsBusy writers.new.entries }
     ensures here { versions places.new (chain_head cells.new.entries version.cell) ≡ insert (versions places.old (chain_head cells.old.entries version.cell)) i (version.writer, version.value) }
     ensures elsewhere { (x : Cell) → (version.cell ≡ x → ⊥) → versions places.new (chain_head cells.new.entries x) ≡ versions places.old (chain_head cells.old.entries x) }
-    ensures cells_room { spare cells.old ≤ spare cells.new + 1 }
+    ensures cells_room { cells.old.spare ≤ cells.new.spare + 1 }
     ensures writers_room { spare writers.old ≤ spare writers.new + 1 }
 {
     let place = unused.first;
-    let chain = heads::lengthen(cells, version.cell, place, i == 0);
-    let own = heads::lengthen(writers, version.writer, place, true);
+    let chain = cells.lengthen(version.cell, place, i == 0);
+    let own = writer_heads::lengthen(writers, version.writer, place);
     let (before, after) = walks::neighbours(places, chain, i, place);
     let free = places[place].slot.sibling;
     let slot = Slot {
@@ -76,7 +77,7 @@ fn place_of(found: Option<Found>) -> Option<usize>
 #[derive(Drop)]
 pub(crate) struct Pool {
     pub(crate) places: Vec<Place>,
-    pub(crate) cells: IndexMap<Cell, Head>,
+    pub(crate) cells: ChainHeads,
     pub(crate) writers: IndexMap<Txn, Head>,
     pub(crate) unused: Head,
 }
@@ -88,7 +89,7 @@ impl Pool {
     {
         Pool {
             places: Vec::new(alloc),
-            cells: IndexMap::new(alloc),
+            cells: ChainHeads::new(alloc),
             writers: IndexMap::new(alloc),
             unused: EMPTY,
         }
@@ -112,7 +113,7 @@ impl Pool {
         requires { IsSound self.now }
         ensures { result ≡ length (chain_of self.now cell) }
     {
-        heads::head_of(&self.cells, &cell).len
+        self.cells.head_of(cell).len
     }
 
     pub(crate) fn at(&self, cell: Cell, i: usize) -> (Txn, Option<i64>)
@@ -120,7 +121,7 @@ impl Pool {
         requires within { i < length (chain_of self.now cell) }
         ensures { slice_get (chain_of self.now cell) i ≡ Some result }
     {
-        let chain = heads::head_of(&self.cells, &cell);
+        let chain = self.cells.head_of(cell);
         self.version_in(chain, i)
     }
 
@@ -164,7 +165,7 @@ impl Pool {
             → result ≡ unless_below from (last_place p (writers_of (chain_of self.now cell))) }
         ensures within { IfSome result (λ i. i < length (chain_of self.now cell)) }
     {
-        let chain = heads::head_of(&self.cells, &cell);
+        let chain = self.cells.head_of(cell);
         place_of(self.last_in(chain, from, f))
     }
 
@@ -173,7 +174,7 @@ impl Pool {
         requires { IsSound self.now }
         ensures { OnTrue result (first_place (λ w. eqb w t.0) (writers_of (chain_of self.now cell)) ≡ None) }
     {
-        let own = heads::head_of(&self.writers, &t);
+        let own = writer_heads::head_of(&self.writers, t);
         own.len < chain.len && !walks::has_cell(&self.places, own, cell)
     }
 
@@ -182,7 +183,7 @@ impl Pool {
         requires sound { IsSound self.now }
         ensures { result ≡ first_place (λ w. eqb w t.0) (writers_of (chain_of self.now cell)) }
     {
-        let chain = heads::head_of(&self.cells, &cell);
+        let chain = self.cells.head_of(cell);
         place_of(self.find_in(cell, chain, t))
     }
 
@@ -232,7 +233,7 @@ impl Pool {
             → option_map (λ v. v.at) result ≡ spec_own_or_last t.0 p (writers_of (chain_of self.now cell)) }
         ensures version { IfSome result (λ v. slice_get (chain_of self.now cell) v.at ≡ Some (v.writer, v.value)) }
     {
-        let chain = heads::head_of(&self.cells, &cell);
+        let chain = self.cells.head_of(cell);
         match self.own_in(cell, chain, t, is_new) {
             Some(own) => Some(own),
             None => self.last_in(chain, 0, f),
@@ -302,7 +303,7 @@ impl Pool {
         ensures elsewhere { (x : Cell) → (cell ≡ x → ⊥) → chain_of self.new x ≡ chain_of self.old x }
         ensures room { (n : ℕ) → HasRoom self.old n → HasRoom self.new n }
     {
-        let chain = heads::head_of(&self.cells, &cell);
+        let chain = self.cells.head_of(cell);
         let place = walks::place_of(&self.places, chain, i);
         places::rewrite(&mut self.places, place, value);
     }
@@ -326,7 +327,7 @@ impl Pool {
                     sibling: self.unused.first,
                 };
                 places::unlink(&mut self.places, place, slot, taken.previous, taken.next);
-                heads::shorten(&mut self.cells, &version.cell, place, taken.next);
+                self.cells.shorten(version.cell, place, taken.next);
                 self.unused = Head {
                     first: place,
                     len: self.unused.len + 1,

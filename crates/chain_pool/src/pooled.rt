@@ -12,8 +12,8 @@ use std::marker::Model;
 use teb_names::{Cell, Txn};
 use version_chain::{Chains, Found};
 
-/// Versions by cell, each linked by index into its cell's chain and its writer's list. A cell and a writer are found by hash;
-/// a place of a chain costs its way from the chain's end, and an abort its own versions.
+/// Versions by cell, each linked by index into its cell's chain and its writer's list. A cell is found by its place in an index
+/// of cells, a writer by hash; a place of a chain costs its way from the chain's end, and an abort its own versions.
 pub struct PooledChains {
     pool: Pool,
     spare: usize,

@@ -19,7 +19,7 @@ lengthen-own-requires-clause-short c = let lt = owned_short c.args.places.now _ 
 
 pub returns : goal.returns
 returns c =
-    let p = placing c.args.places.now c.link.new.places (chain_head c.args.cells.now.entries) (chain_head c.lengthen-chain.new.heads.entries) (writer_head c.args.writers.now.entries) (writer_head c.lengthen-own.new.heads.entries) c.args.unused c.requires.linked
+    let p = placing c.args.places.now c.link.new.places (chain_head c.args.cells.now.entries) (chain_head c.lengthen-chain.new.self.entries) (writer_head c.args.writers.now.entries) (writer_head c.lengthen-own.new.writers.entries) c.args.unused c.requires.linked
     c.args.version c.args.i c.neighbours-before.result c.lengthen-chain.result c.lengthen-own.result c.lengthen-chain.ensures.result c.lengthen-own.ensures.result
     c.requires.some c.requires.within c.requires.absent c.neighbours-before.ensures.alone c.neighbours-before.ensures.before c.neighbours-before.ensures.after
     c.link.auto.places c.link.ensures.next c.link.ensures.previous c.link.ensures.slot c.lengthen-chain.ensures.heads c.lengthen-own.ensures.heads in

@@ -2,7 +2,7 @@ use Rattle.std.proofs.Common.{◌∙◌, ap, sym, subst, arith, Option, unwrap_o
 use Rattle.teb_names.specs.declared.Txn.{Txn}
 use Rattle.indexmap.specs.IndexMap.{IndexMap}
 use Rattle.chain_pool.specs.declared.places.Head.{Head}
-use Rattle.chain_pool.specs.Heads.{empty, IsBusy, chain_head, writer_head, same_txn}
+use Rattle.chain_pool.specs.Heads.{empty, IsBusy, chain_head, writer_head}
 use Rattle.chain_pool.proofs.Chains.{none_left}
 use Rattle.chain_pool.proofs.Emptied.{taken_out, emptied, no_entry, busy_without, none_there}
 use Rattle.chain_pool.proofs.pool.Pool.remove_all_of.Goals as goal
@@ -22,7 +22,7 @@ returns-in-Some-clause-sound c =
     let none = ap (λ (m : IndexMap Txn Head _). writer_head m.entries c.args.t) c.take_all.ensures.writers ∙ no_entry was now c.args.t gone in
     record {
       linked = emptied p.places.items (chain_head p.cells.entries) p.unused c.args.t (writer_head p.writers.entries) l.0 l.2 l.1 none;
-      busy = subst (λ (m : IndexMap Txn Head _). IsBusy same_txn m.entries) (sym c.take_all.ensures.writers) (busy_without was now c.args.t gone c.requires.sound.busy);
+      busy = subst (λ (m : IndexMap Txn Head _). IsBusy m.entries) (sym c.take_all.ensures.writers) (busy_without was now c.args.t gone c.requires.sound.busy);
     }
 
 pub returns-in-Some-clause-room : goal.returns-in-Some-clause-room

@@ -28,7 +28,7 @@ pub shorten-requires : goal.shorten-requires
 shorten-requires c =
     let p = c.args.self.now in
     let used = first_used p.places.items _ (writer_head p.writers.entries) p.unused c.args.t c.args.own c.requires.linked c.requires.some c.deref_mut.result.now c.deref_mut.ensures.value c.index-taken.result.now c.index-taken.ensures c.in-Some.version c.in-Some.is in
-    record { some = used.2 }
+    used.2
 
 pub overflow_add-self : goal.overflow_add-self
 overflow_add-self c =
@@ -45,14 +45,14 @@ pub returns-clause-linked : goal.returns-clause-linked
 returns-clause-linked c =
     let p = c.args.self.now in
     let freed = first_freed p.places.items _ (writer_head p.writers.entries) p.unused c.args.t c.args.own c.requires.linked c.requires.some c.deref_mut.result.now c.deref_mut.ensures.value c.index-taken.result.now c.index-taken.ensures c.in-Some.version c.in-Some.is
-    c.unlink.new.places (chain_head c.shorten.new.heads.entries) c.unlink.auto.places c.unlink.ensures.next c.unlink.ensures.previous c.unlink.ensures.slot c.shorten.ensures.heads in
+    c.unlink.new.places (chain_head c.shorten.new.self.entries) c.unlink.auto.places c.unlink.ensures.next c.unlink.ensures.previous c.unlink.ensures.slot c.shorten.ensures.heads in
     let new = written p.places.len c.unlink.new.places p.places.items (sym c.deref_mut.ensures.len ∙ sym c.unlink.auto.places) in
-    subst (λ (l : List Place). Linked l (chain_head c.shorten.new.heads.entries) (with_head c.args.t (record { first = c.index-taken.result.now.slot.sibling; len = c.args.own.len - 1 }) (writer_head p.writers.entries)) (record { first = c.args.own.first; len = p.unused.len + 1 })) (sym new) freed.linked
+    subst (λ (l : List Place). Linked l (chain_head c.shorten.new.self.entries) (with_head c.args.t (record { first = c.index-taken.result.now.slot.sibling; len = c.args.own.len - 1 }) (writer_head p.writers.entries)) (record { first = c.args.own.first; len = p.unused.len + 1 })) (sym new) freed.linked
 
 pub returns-clause-kept : goal.returns-clause-kept
 returns-clause-kept c x =
     let p = c.args.self.now in
     let freed = first_freed p.places.items _ (writer_head p.writers.entries) p.unused c.args.t c.args.own c.requires.linked c.requires.some c.deref_mut.result.now c.deref_mut.ensures.value c.index-taken.result.now c.index-taken.ensures c.in-Some.version c.in-Some.is
-    c.unlink.new.places (chain_head c.shorten.new.heads.entries) c.unlink.auto.places c.unlink.ensures.next c.unlink.ensures.previous c.unlink.ensures.slot c.shorten.ensures.heads in
+    c.unlink.new.places (chain_head c.shorten.new.self.entries) c.unlink.auto.places c.unlink.ensures.next c.unlink.ensures.previous c.unlink.ensures.slot c.shorten.ensures.heads in
     let new = written p.places.len c.unlink.new.places p.places.items (sym c.deref_mut.ensures.len ∙ sym c.unlink.auto.places) in
-    ap (λ (l : List Place). without c.args.t.0 (versions l (chain_head c.shorten.new.heads.entries x))) new ∙ freed.kept x
+    ap (λ (l : List Place). without c.args.t.0 (versions l (chain_head c.shorten.new.self.entries x))) new ∙ freed.kept x
