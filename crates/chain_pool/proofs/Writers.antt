@@ -41,16 +41,19 @@ absent-without u (v ∷ vs) t off =
     at false here rest = or_from _ _ here rest
 
 -- where one cell's chain changes
-module _ (L M : Cell → List Version) (cell : Cell) (elsewhere : (x : Cell) → (cell ≡ x → ⊥) → M x ≡ L x) (t : ℕ) (off : (x : Cell) → is_writer (L x) t ≡ false) where
-  in_each : is_writer (M cell) t ≡ false → (x : Cell) → is_writer (M x) t ≡ false
-  in_each here x = at (same_cell x cell) refl
+module _ (L M : Cell → List Version) (cell : Cell) (elsewhere : (x : Cell) → (cell ≡ x → ⊥) → M x ≡ L x) (t : ℕ) (x : Cell) (off : is_writer (L x) t ≡ false) where
+  off_here : cell ≡ x → is_writer (L cell) t ≡ false
+  off_here e = subst (λ (y : Cell). is_writer (L y) t ≡ false) (sym e) off
+
+  in_each : (cell ≡ x → is_writer (M cell) t ≡ false) → is_writer (M x) t ≡ false
+  in_each here = at (same_cell x cell) refl
     where
       at : (b : Bool) → same_cell x cell ≡ b → is_writer (M x) t ≡ false
-      at true e = subst (λ (y : Cell). is_writer (M y) t ≡ false) (sym (same_cell-exact x cell e)) here
-      at false e = ap (λ (l : List Version). is_writer l t) (elsewhere x (apart_from x cell e)) ∙ off x
+      at true e = let is = same_cell-exact x cell e in subst (λ (y : Cell). is_writer (M y) t ≡ false) (sym is) (here (sym is))
+      at false e = ap (λ (l : List Version). is_writer l t) (elsewhere x (apart_from x cell e)) ∙ off
 
-  pub absent-put : (i : ℕ) (v : Version) → M cell ≡ insert (L cell) i v → v.0.0 ≢ t → (x : Cell) → is_writer (M x) t ≡ false
-  absent-put i v is other = in_each (ap (λ (l : List Version). is_writer l t) is ∙ put (L cell) i v t other (off cell))
+  pub absent-put : (i : ℕ) (v : Version) → M cell ≡ insert (L cell) i v → (cell ≡ x → v.0.0 ≢ t) → is_writer (M x) t ≡ false
+  absent-put i v is other = in_each (λ e. ap (λ (l : List Version). is_writer l t) is ∙ put (L cell) i v t (other e) (off_here e))
 
-  pub absent-written : (i : ℕ) (value : Option ℤ) → M cell ≡ set_value i value (L cell) → (x : Cell) → is_writer (M x) t ≡ false
-  absent-written i value is = in_each (ap (λ (l : List Version). is_writer l t) is ∙ (written i value (L cell) t ∙ off cell))
+  pub absent-written : (i : ℕ) (value : Option ℤ) → M cell ≡ set_value i value (L cell) → is_writer (M x) t ≡ false
+  absent-written i value is = in_each (λ e. ap (λ (l : List Version). is_writer l t) is ∙ (written i value (L cell) t ∙ off_here e))

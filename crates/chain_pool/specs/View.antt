@@ -21,9 +21,9 @@ list_in v x = unwrap_or (lookup (same_cell x) v.entries) []
 abbrev pub view_of : Pool → ℕ → View
 view_of p n = record { entries = map (λ e. (e.0, versions p.places.items e.1)) p.cells.entries; spare = n }
 
--- a writer above the one of its remainder has no version
+-- a writer above the one of the mark that it has with a cell has no version of the cell
 abbrev pub IsMarked : Pool → List ℕ → Type 0
-IsMarked p latest = (t : ℕ) → IsAbove latest t → (x : Cell) → is_writer (chain_of p x) t ≡ false
+IsMarked p latest = (t : ℕ) (x : Cell) → IsAbove latest t x → is_writer (chain_of p x) t ≡ false
 
 pub record Holds (p : Pool) (n : ℕ) (latest : List ℕ) : Type 0 where
   pub sound : IsSound p

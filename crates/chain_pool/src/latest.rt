@@ -1,29 +1,45 @@
-//! For each remainder the greatest writer that was marked. One above that of its own remainder was never marked: with numbers
-//! in order of beginning, that is each one that is new, where no more transactions are open at a time than there are remainders.
+//! The greatest writer of each mark. A writer and a cell have the mark of a remainder of the writer and one of the cell's key; a
+//! writer above the one of that mark was never marked with the cell. With numbers in order of beginning, that is each one that
+//! has put no cell of that remainder, where no more transactions are open at a time than writers' remainders are told apart.
 
-ghost use Rattle.std.specs.Prelude.{ℕ, ◌↔◌, IsTrue};
-ghost use Rattle.chain_pool.specs.Latest.{IsAbove};
+ghost use Rattle.std.specs.Prelude.{ℕ, ◌≡◌, ◌↔◌, IsTrue};
+ghost use Rattle.teb_names.specs.declared.Cell.{Cell};
+ghost use Rattle.chain_pool.specs.Latest.{IsAbove, mark_of as spec_mark_of};
 
-use teb_names::Txn;
+use teb_names::{Cell, Txn};
 
-/// How many remainders are told apart, twice as many as there are sessions.
-pub(crate) const REMAINDERS: usize = 64;
+/// How many remainders of writers are told apart, twice as many as there are sessions.
+const WRITERS: usize = 64;
 
-/// Whether a writer is above each of its remainder that was marked.
+/// How many remainders of cells' keys are told apart.
+const KEYS: usize = 32;
+
+/// How many marks there are, one for each pair of remainders.
+pub(crate) const MARKS: usize = WRITERS * KEYS;
+
+/// The place of the mark that a writer and a cell have.
 #[inline(always)]
-pub(crate) fn is_above(latest: &[u32], t: Txn) -> bool
-    ensures { IsTrue result ↔ IsAbove latest.now t.0 }
+fn mark_of(t: Txn, cell: Cell) -> usize
+    ensures { result ≡ spec_mark_of t.0 cell }
 {
-    let i = t.0 as usize % REMAINDERS;
+    (t.0 as usize % WRITERS) * KEYS + cell.key as usize % KEYS
+}
+
+/// Whether a writer is above each that was marked with a cell of the same mark.
+#[inline(always)]
+pub(crate) fn is_above(latest: &[u32], t: Txn, cell: Cell) -> bool
+    ensures { IsTrue result ↔ IsAbove latest.now t.0 cell }
+{
+    let i = mark_of(t, cell);
     i < latest.len() && latest[i] < t.0
 }
 
-/// Marks a writer.
-pub(crate) fn mark(latest: &mut [u32], t: Txn)
-    ensures marked { IsAbove latest.new t.0 → ⊥ }
-    ensures kept { (u : ℕ) → IsAbove latest.new u → IsAbove latest.old u }
+/// Marks a writer with a cell.
+pub(crate) fn mark(latest: &mut [u32], t: Txn, cell: Cell)
+    ensures marked { IsAbove latest.new t.0 cell → ⊥ }
+    ensures kept { (u : ℕ) (x : Cell) → IsAbove latest.new u x → IsAbove latest.old u x }
 {
-    if is_above(latest, t) {
-        latest[t.0 as usize % REMAINDERS] = t.0;
+    if is_above(latest, t, cell) {
+        latest[mark_of(t, cell)] = t.0;
     }
 }

@@ -201,7 +201,7 @@ impl Pool {
         self.last_in(chain, 0, &|w: Txn| w.0 == t.0)
     }
 
-    /// The version of a writer in a chain, which is that of the cell. One that is new has none.
+    /// The version of a writer in a chain, which is that of the cell. One that is new to the cell has none.
     #[inline(always)]
     fn own_in(&self, cell: Cell, chain: Head, t: Txn, is_new: bool) -> Option<Found>
         requires sound { IsSound self.now }
@@ -216,7 +216,7 @@ impl Pool {
         self.find_in(cell, chain, t)
     }
 
-    /// The version of a writer, or else the last one whose writer f accepts. A writer that is new has none of the cell.
+    /// The version of a writer, or else the last one whose writer f accepts. A writer that is new to the cell has none of it.
     #[inline(always)]
     pub(crate) fn own_or_last<F: Fn(Txn) -> bool>(
         &self,

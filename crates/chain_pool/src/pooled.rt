@@ -4,7 +4,7 @@ ghost use Rattle.std.specs.Prelude.{◌≡◌, []};
 ghost use Rattle.teb_names.specs.declared.Cell.{Cell};
 ghost use Rattle.chain_pool.specs.View.{list_in};
 
-use crate::latest::{self, REMAINDERS};
+use crate::latest::{self, MARKS};
 use crate::places::Version;
 use crate::pool::Pool;
 use std::alloc::{AllocError, Global};
@@ -17,8 +17,8 @@ use version_chain::{Chains, Found};
 pub struct PooledChains {
     pool: Pool,
     spare: usize,
-    /// Tells most writers that have no version yet without a look-up.
-    latest: [u32; REMAINDERS],
+    /// Tells most writers that have no version of a cell without a look at its chain.
+    latest: [u32; MARKS],
 }
 
 /// A call of its own, so that no owner has to prove anew how a pool is dropped.
@@ -50,7 +50,7 @@ impl PooledChains {
         PooledChains {
             pool: Pool::new(alloc),
             spare: 0,
-            latest: [0; REMAINDERS],
+            latest: [0; MARKS],
         }
     }
 }
@@ -88,7 +88,7 @@ impl Chains for PooledChains {
             value,
         };
         self.pool.place(i, version);
-        latest::mark(&mut self.latest, t);
+        latest::mark(&mut self.latest, t, cell);
         self.spare -= 1;
     }
 
@@ -105,7 +105,7 @@ impl Chains for PooledChains {
     }
 
     fn own_or_last<F: Fn(Txn) -> bool>(&self, cell: Cell, t: Txn, f: &F) -> Option<Found> {
-        let is_new = latest::is_above(&self.latest, t);
+        let is_new = latest::is_above(&self.latest, t, cell);
         self.pool.own_or_last(cell, t, is_new, f)
     }
 }

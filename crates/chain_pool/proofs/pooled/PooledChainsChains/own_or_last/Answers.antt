@@ -14,7 +14,7 @@ own_or_last-requires-clause-callable g c =
 
 pub own_or_last-requires-clause-absent : goal.own_or_last-requires-clause-absent
 own_or_last-requires-clause-absent g c =
-    on_true c.is_above-is_new.result (IsAbove c.self.inside.latest c.args.t.0) (is_writer (chain_of c.self.inside.pool c.args.cell) c.args.t.0 ≡ false) c.is_above-is_new.ensures (λ above. c.self.invariant.marked c.args.t.0 above c.args.cell)
+    on_true c.is_above-is_new.result (IsAbove c.self.inside.latest c.args.t.0 c.args.cell) (is_writer (chain_of c.self.inside.pool c.args.cell) c.args.t.0 ≡ false) c.is_above-is_new.ensures (c.self.invariant.marked c.args.t.0 c.args.cell)
 
 pub returns-clause-place : goal.returns-clause-place
 returns-clause-place g c p agrees =
