@@ -2,7 +2,7 @@
 use Rattle.std.proofs.Common.{true, false, Bool, eqb, cond, not, ◌≡◌, ◌==◌, ℕ, zero, suc, ◌+◌, ◌-◌, ◌<◌, ◌≢◌, List, [], ◌∷◌, length, get_or, map, filter, refl, sym, ◌∙◌, ap, subst, inl, inr, arith, if◌then◌else◌, None, Some, eq-eqb}
 use Rattle.std.specs.List.{remove}
 use Rattle.std.specs.Option.{option_map}
-use Rattle.std.proofs.lemmas.Bool.{cases_eq}
+use Rattle.std.proofs.lemmas.Bool.{cases_eq, cases_lt}
 use Rattle.std.proofs.lemmas.List.{get_or-map, length-map}
 use Rattle.teb_names.specs.declared.Cell.{Cell}
 use Rattle.teb_names.specs.declared.Txn.{Txn}
@@ -15,18 +15,19 @@ use Rattle.chain_pool.specs.declared.places.Slot.{Slot}
 use Rattle.chain_pool.specs.declared.places.Head.{Head}
 use Rattle.chain_pool.specs.Threads.{Thread, Ring}
 use Rattle.chain_pool.specs.Places.{slot_at, next_at, previous_at, sibling_at, cell_in, pair_at, InChain, IsOwned, IsFree}
-use Rattle.chain_pool.specs.Heads.{same_txn, without_place}
-use Rattle.chain_pool.specs.Linked.{Linked, versions}
+use Rattle.chain_pool.specs.Heads.{same_txn, without_place, last_without}
+use Rattle.chain_pool.specs.Linked.{Linked, HasLasts, versions}
 use Rattle.chain_pool.proofs.Keys.{same_txn-itself, same_txn-exact, key_cases, key_apart, key_other}
-use Rattle.chain_pool.proofs.Threads.{thread-insert, thread-remove, thread-keep}
-use Rattle.chain_pool.proofs.Rings.{ring-remove, ring-keep, places-ring-remove, places-ring-keep, mine_next, mine_previous}
-use Rattle.chain_pool.proofs.Slots.{chosen, passed, map-remove, map-agree, RingWith, ring-versions, one_chain, one_owner, free_chain, free_owned, pair_owner, slot_here, slot_else, pair_else, chain_kept, chain_was, owned_kept, owned_was, free_kept, free_was}
+use Rattle.chain_pool.proofs.Threads.{high, low, thread-insert, thread-remove, thread-keep}
+use Rattle.chain_pool.proofs.Rings.{step_back, ring-remove, ring-keep, places-ring-remove, places-ring-keep, mine_next, mine_previous}
+use Rattle.chain_pool.proofs.Slots.{chosen, passed, map-remove, map-agree, RingWith, ring-versions, ring-end, same-end, one_chain, one_owner, free_chain, free_owned, pair_owner, slot_here, slot_else, pair_else, chain_kept, chain_was, owned_kept, owned_was, free_kept, free_was}
 
 -- what there is then
-pub record IsFreed (ps ps' : List Place) (chain chain' : Cell → Head) (own own' : Txn → Head) (unused' : Head) (t : Txn) : Type 0 where
+pub record IsFreed (ps ps' : List Place) (chain chain' : Cell → Head) (own own' : Txn → Head) (unused' : Head) (t : Txn) (cell : Cell) (p a : ℕ) : Type 0 where
   pub linked : Linked ps' chain' own' unused'
   pub fewer : (own' t).len + 1 ≡ (own t).len
   pub kept : (x : Cell) → without t.0 (versions ps' (chain' x)) ≡ without t.0 (versions ps (chain x))
+  pub lasts : (last last' : Cell → ℕ) → HasLasts ps chain last → ((y : Cell) → last' y ≡ (if same_cell cell y then last_without (last cell) p a else last y)) → HasLasts ps' chain' last'
 
 filter-remove : (f : Version → Bool) (vs : List Version) (i : ℕ) (d : Version) → i < length vs → f (get_or vs i d) ≡ false → filter f (remove vs i) ≡ filter f vs
 filter-remove f [] i d lt off = absurd (omega (arith, lt))
@@ -203,8 +204,41 @@ module _ (ps ps' : List Place) (chain chain' : Cell → Head) (own own' : Txn �
             ap (λ g. without t.0 (versions ps' g)) chain_here ∙ (ap (without t.0) (new ∙ (same ∙ map-remove (pair_at ps) L p_place.0))
             ∙ (filter-remove (λ v. not (eqb v.0.0 t.0)) (map (pair_at ps) L) p_place.0 (pair_at ps 0) (omega (arith, in_L, n)) gone ∙ ap (without t.0) (sym old)))
 
-    is_freed : IsFreed ps ps' chain chain' own own' more_free t
-    is_freed = record { linked = freed; fewer = omega (arith, ap (λ (h : Head). h.len) own_here, some); kept = without_kept }
+    module _ (last last' : Cell → ℕ) (ends : HasLasts ps chain last) (lasts_are : (y : Cell) → last' y ≡ (if same_cell cell y then last_without (last cell) p a else last y)) where
+      -- the last place of the chain that has one less
+      shorter_end : 0 < (chain cell).len - 1 → last_without (last cell) p a ≡ previous_at ps' (without_place (chain cell) p b).first
+      shorter_end more =
+          let L = (S.chains cell).thread.places in
+          let n = (chain cell).len in
+          let fits : p_place.0 < length L = omega (arith, (S.chains cell).thread.count, p_place.1.0) in
+          let end : get_or (remove L p_place.0) (n - 2) 0 ≡ previous_at ps' (without_place (chain cell) p b).first =
+          ap (λ k. get_or (remove L p_place.0) k 0) (omega arith) ∙ sym (ring-end ps' cell (without_place (chain cell) p b) _ here_shorter more) in
+          let was : last cell ≡ get_or L (n - 1) 0 = ends cell (omega (arith, more)) ∙ ring-end ps cell (chain cell) _ (S.chains cell, refl) (omega (arith, more)) in
+          elim (cases_eq p_place.0 (n - 1)) [
+            | inl e ↦
+                let is_p : get_or L (n - 1) 0 ≡ p = ap (λ k. get_or L k 0) (sym e) ∙ p_place.1.1 in
+                let back : a ≡ get_or L (n - 2) 0 =
+                a_is ∙ (ap (previous_at ps) (sym is_p ∙ ap (λ k. get_or L k 0) (omega (arith, more))) ∙ step_back _ _ _ _ _ (S.chains cell) (n - 2) (omega (arith, more))) in
+                chosen (last cell) p _ _ (was ∙ is_p) ∙ (back ∙ (sym (low L p_place.0 fits (n - 2) (omega (arith, more, e))) ∙ end))
+            | inr ne ↦
+                let apart : last cell ≢ p = λ e. ne ((S.chains cell).thread.distinct p_place.0 (n - 1) p_place.1.0 (omega (arith, more)) (p_place.1.1 ∙ (sym e ∙ was))) in
+                passed (last cell) p _ _ apart ∙ (was ∙ (ap (λ k. get_or L k 0) (omega (arith, more)) ∙ (sym (high L p_place.0 fits (n - 2) (omega (arith, ne, p_place.1.0))) ∙ end)))
+          ]
+
+      lasts_kept : HasLasts ps' chain' last'
+      lasts_kept y more_y = elim (key_cases same_cell same_cell-itself same_cell-exact cell y) [
+        | inl e ↦ subst (λ (x : Cell). 0 < (chain' x).len → last' x ≡ previous_at ps' (chain' x).first) e (λ more.
+            lasts_are cell ∙ (ap (λ (o : Bool). if o then last_without (last cell) p a else last cell) (same_cell-itself cell)
+            ∙ (shorter_end (subst (λ (g : Head). 0 < g.len) chain_here more) ∙ ap (λ (g : Head). previous_at ps' g.first) (sym chain_here)))) more_y
+        | inr off ↦
+            let ne = key_apart same_cell same_cell-itself same_cell-exact cell y off in
+            let old : 0 < (chain y).len = subst (λ (g : Head). 0 < g.len) (chain_else y ne) more_y in
+            lasts_are y ∙ (ap (λ (o : Bool). if o then last_without (last cell) p a else last y) off
+            ∙ (ends y old ∙ (same-end ps ps' y (chain y) _ (S.chains y, refl) (other_chain y ne) old ∙ ap (λ (g : Head). previous_at ps' g.first) (sym (chain_else y ne)))))
+      ]
+
+    is_freed : IsFreed ps ps' chain chain' own own' more_free t cell p a
+    is_freed = record { linked = freed; fewer = omega (arith, ap (λ (h : Head). h.len) own_here, some); kept = without_kept; lasts = lasts_kept }
 
 -- the same where the writer's head was read before
 pub freeing : (ps ps' : List Place) (chain chain' : Cell → Head) (own own' : Txn → Head) (unused : Head) (S : Linked ps chain own unused) (v : Stored) (t : Txn) (h : Head)
@@ -214,7 +248,7 @@ pub freeing : (ps ps' : List Place) (chain chain' : Cell → Head) (own own' : T
     → ((r : ℕ) → slot_at ps' r ≡ (if r == h.first then record { version = None; sibling = unused.first } else slot_at ps r))
     → ((y : Cell) → chain' y ≡ (if same_cell v.cell y then without_place (chain v.cell) h.first (next_at ps h.first) else chain y))
     → ((u : Txn) → own' u ≡ (if same_txn t u then record { first = sibling_at ps h.first; len = h.len - 1 } else own u))
-    → IsFreed ps ps' chain chain' own own' (record { first = h.first; len = unused.len + 1 }) t
+    → IsFreed ps ps' chain chain' own own' (record { first = h.first; len = unused.len + 1 }) t v.cell h.first (previous_at ps h.first)
 freeing ps ps' chain chain' own own' unused S v t h h_is some holds len next previous slots chains owners =
     is_freed ps ps' chain chain' own own' unused S v.cell t h.first _ _ (ap (λ (z : Head). z.first) h_is) some (ap (option_map (λ (w : Stored). w.cell)) holds) refl refl len next previous slots chains
     (subst (λ (n : ℕ). (u : Txn) → own' u ≡ (if same_txn t u then record { first = sibling_at ps h.first; len = n - 1 } else own u)) (ap (λ (z : Head). z.len) h_is) owners)

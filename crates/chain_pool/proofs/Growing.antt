@@ -6,10 +6,10 @@ use Rattle.teb_names.specs.declared.Txn.{Txn}
 use Rattle.chain_pool.specs.declared.places.Place.{Place}
 use Rattle.chain_pool.specs.declared.places.Head.{Head}
 use Rattle.chain_pool.specs.Places.{blank, next_at, previous_at, sibling_at, cell_in, writer_in, pair_in, pair_at, InChain, IsOwned, IsFree}
-use Rattle.chain_pool.specs.Linked.{Linked, versions}
+use Rattle.chain_pool.specs.Linked.{Linked, HasLasts, versions}
 use Rattle.chain_pool.proofs.Threads.{thread-insert, thread-keep}
 use Rattle.chain_pool.proofs.Rings.{ring-keep, places-ring-keep}
-use Rattle.chain_pool.proofs.Slots.{RingWith, ring-versions, map-agree, free_chain, free_owned}
+use Rattle.chain_pool.proofs.Slots.{RingWith, ring-versions, same-end, map-agree, free_chain, free_owned}
 
 -- what stands at a place of a longer list
 pushed_low : (ps : List Place) (b d : Place) (r : ℕ) → r < length ps → get_or (ps ++ b ∷ []) r d ≡ get_or ps r d
@@ -90,6 +90,9 @@ module _ (ps ps' : List Place) (chain : Cell → Head) (own : Txn → Head) (unu
         q (λ _. refl) (λ lo. absurd (omega (arith, lo)));
     once = λ x t p r mp mr op or. S.once x t p r (chain_was x p mp) (chain_was x r mr) (owned_was t p op) (owned_was t r or);
   }
+
+  pub grown_lasts : (last : Cell → ℕ) → HasLasts ps chain last → HasLasts ps' chain last
+  grown_lasts last ends x some = ends x some ∙ same-end ps ps' x (chain x) _ (S.chains x, refl) (chain_with x) some
 
   pub grown_versions : (x : Cell) → versions ps' (chain x) ≡ versions ps (chain x)
   grown_versions x = ring-versions ps' x (chain x) _ (chain_with x)

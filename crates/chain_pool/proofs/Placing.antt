@@ -13,17 +13,18 @@ use Rattle.chain_pool.specs.declared.places.Head.{Head}
 use Rattle.chain_pool.specs.Threads.{Thread, Ring}
 use Rattle.chain_pool.specs.Places.{slot_at, next_at, previous_at, sibling_at, cell_in, writer_in, pair_in, pair_at, InChain, IsOwned, IsFree}
 use Rattle.chain_pool.specs.Heads.{same_txn}
-use Rattle.chain_pool.specs.Linked.{Linked, versions, nth_place}
+use Rattle.chain_pool.specs.Linked.{Linked, HasLasts, versions, nth_place}
 use Rattle.chain_pool.proofs.Keys.{same_txn-itself, same_txn-exact, key_cases, key_apart, key_other}
-use Rattle.chain_pool.proofs.Threads.{thread-insert, thread-remove, thread-keep}
+use Rattle.chain_pool.proofs.Threads.{here, above, thread-insert, thread-remove, thread-keep}
 use Rattle.chain_pool.proofs.Rings.{ring-insert, ring-keep, ring-one, places-ring-insert, places-ring-one, places-ring-keep, mine_first, mine_previous, steps-at, steps-end}
-use Rattle.chain_pool.proofs.Slots.{chosen, passed, map-insert, map-agree, RingWith, ring-versions, one_chain, one_owner, free_chain, free_owned, slot_here, slot_else, pair_else, chain_kept, chain_was, owned_kept, owned_was, free_kept, free_was}
+use Rattle.chain_pool.proofs.Slots.{chosen, passed, map-insert, map-agree, RingWith, ring-versions, ring-end, same-end, one_chain, one_owner, free_chain, free_owned, slot_here, slot_else, pair_else, chain_kept, chain_was, owned_kept, owned_was, free_kept, free_was}
 
 -- what there is then
-pub record IsPlaced (ps ps' : List Place) (chain chain' : Cell → Head) (own' : Txn → Head) (unused' : Head) (v : Stored) (i : ℕ) : Type 0 where
+pub record IsPlaced (ps ps' : List Place) (chain chain' : Cell → Head) (own' : Txn → Head) (unused' : Head) (v : Stored) (i q : ℕ) : Type 0 where
   pub linked : Linked ps' chain' own' unused'
   pub here : versions ps' (chain' v.cell) ≡ insert (versions ps (chain v.cell)) i (v.writer, v.value)
   pub elsewhere : (y : Cell) → v.cell ≢ y → versions ps' (chain' y) ≡ versions ps (chain y)
+  pub lasts : (last last' : Cell → ℕ) → HasLasts ps chain last → ((y : Cell) → last' y ≡ (if same_cell v.cell y then (if i == (chain v.cell).len then q else last v.cell) else last y)) → HasLasts ps' chain' last'
 
 -- the version v goes into the free place q, between a and b, as the i-th of its chain
 module _ (ps ps' : List Place) (chain chain' : Cell → Head) (own own' : Txn → Head) (unused : Head) (S : Linked ps chain own unused)
@@ -241,8 +242,36 @@ module _ (ps ps' : List Place) (chain chain' : Cell → Head) (own own' : Txn �
         let new : versions ps' (chain y) ≡ map (pair_at ps') (S.chains y).thread.places = ring-versions ps' y (chain y) _ (other_chain y ne) in
         ap (versions ps') (chain_else y ne) ∙ (new ∙ (kept_pairs y ∙ sym old))
 
-    is_placed : IsPlaced ps ps' chain chain' own' fewer_free v i
-    is_placed = record { linked = placed; here = versions_here; elsewhere = versions_else }
+    module _ (last last' : Cell → ℕ) (ends : HasLasts ps chain last) (lasts_are : (y : Cell) → last' y ≡ (if same_cell v.cell y then (if i == (chain v.cell).len then q else last v.cell) else last y)) where
+      -- the last place of the chain that has one more
+      longer_end : (if i == (chain v.cell).len then q else last v.cell) ≡ previous_at ps' longer_chain.first
+      longer_end =
+          let L = (S.chains v.cell).thread.places in
+          let fits : i ≤ length L = omega (arith, within, (S.chains v.cell).thread.count) in
+          let end : get_or (insert L i q) (chain v.cell).len 0 ≡ previous_at ps' longer_chain.first =
+          ap (λ k. get_or (insert L i q) k 0) (omega arith) ∙ sym (ring-end ps' v.cell longer_chain _ here_chain (omega arith)) in
+          elim (cases_eq i (chain v.cell).len) [
+            | inl e ↦ chosen i _ _ _ e ∙ (sym (here L i q fits (chain v.cell).len (sym e)) ∙ end)
+            | inr ne ↦
+                let some : 0 < (chain v.cell).len = omega (arith, within, ne) in
+                passed i _ _ _ ne ∙ (ends v.cell some ∙ (ring-end ps v.cell (chain v.cell) _ (S.chains v.cell, refl) some ∙ (sym (above L i q fits (chain v.cell).len (omega (arith, within, ne))) ∙ end)))
+          ]
+
+      lasts_kept : HasLasts ps' chain' last'
+      lasts_kept y some = elim (key_cases same_cell same_cell-itself same_cell-exact v.cell y) [
+        | inl e ↦ subst (λ (x : Cell). last' x ≡ previous_at ps' (chain' x).first) e (
+            lasts_are v.cell ∙ (ap (λ (b : Bool). if b then (if i == (chain v.cell).len then q else last v.cell) else last v.cell) (same_cell-itself v.cell)
+            ∙ (longer_end ∙ ap (λ (g : Head). previous_at ps' g.first) (sym chain_here)))
+            )
+        | inr off ↦
+            let ne = key_apart same_cell same_cell-itself same_cell-exact v.cell y off in
+            let old : 0 < (chain y).len = subst (λ (g : Head). 0 < g.len) (chain_else y ne) some in
+            lasts_are y ∙ (ap (λ (b : Bool). if b then (if i == (chain v.cell).len then q else last v.cell) else last y) off
+            ∙ (ends y old ∙ (same-end ps ps' y (chain y) _ (S.chains y, refl) (other_chain y ne) old ∙ ap (λ (g : Head). previous_at ps' g.first) (sym (chain_else y ne)))))
+      ]
+
+    is_placed : IsPlaced ps ps' chain chain' own' fewer_free v i q
+    is_placed = record { linked = placed; here = versions_here; elsewhere = versions_else; lasts = lasts_kept }
 
 -- the same where the two heads were read before: h is the chain's, g the writer's
 pub placing : (ps ps' : List Place) (chain chain' : Cell → Head) (own own' : Txn → Head) (unused : Head) (S : Linked ps chain own unused) (v : Stored) (i : ℕ) (two : ℕ × ℕ) (h g : Head)
@@ -256,7 +285,7 @@ pub placing : (ps ps' : List Place) (chain chain' : Cell → Head) (own own' : T
     → ((r : ℕ) → slot_at ps' r ≡ (if r == unused.first then record { version = Some v; sibling = g.first } else slot_at ps r))
     → ((y : Cell) → chain' y ≡ (if same_cell v.cell y then record { first = (if i == 0 then unused.first else h.first); len = h.len + 1 } else chain y))
     → ((u : Txn) → own' u ≡ (if same_txn v.writer u then record { first = unused.first; len = g.len + 1 } else own u))
-    → IsPlaced ps ps' chain chain' own' (record { first = sibling_at ps unused.first; len = unused.len - 1 }) v i
+    → IsPlaced ps ps' chain chain' own' (record { first = sibling_at ps unused.first; len = unused.len - 1 }) v i unused.first
 placing ps ps' chain chain' own own' unused S v i two h g h_is g_is some within absent alone before after len next previous slots chains owners =
     let last = subst (λ (z : Head). 0 < z.len → two.1 ≡ nth_place ps z i) h_is after in
     is_placed ps ps' chain chain' own own' unused S v i unused.first two.0 two.1 refl some within

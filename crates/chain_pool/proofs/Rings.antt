@@ -228,3 +228,8 @@ steps-end previous first len i e = let z : len - i ≡ 0 = omega arith in ap (λ
 pub steps-mine : (mine : ℕ → Type 0) (next previous : ℕ → ℕ) (first len : ℕ) (r : Ring mine next previous first len) (n : ℕ) → 0 < len → mine (steps previous n first)
 steps-mine mine next previous first len r zero some = mine_first mine next previous first len r some
 steps-mine mine next previous first len r (suc n) some = mine_previous mine next previous first len r _ (steps-mine mine next previous first len r n some)
+
+-- a step before the others, or after them
+pub steps-first : (link : ℕ → ℕ) (n p : ℕ) → steps link n (link p) ≡ link (steps link n p)
+steps-first link zero p = refl
+steps-first link (suc n) p = ap link (steps-first link n p)

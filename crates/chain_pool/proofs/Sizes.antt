@@ -1,5 +1,5 @@
 -- No list is longer than there are places, and a walk along a chain stays in it.
-use Rattle.std.proofs.Common.{◌≡◌, ℕ, ◌<◌, ◌≤◌, List, length, refl, sym, subst, arith, IsSome, Option, Some, None}
+use Rattle.std.proofs.Common.{◌≡◌, ◌∙◌, ℕ, ◌<◌, ◌≤◌, List, length, refl, sym, ap, subst, arith, IsSome, Option, Some, None}
 use Rattle.std.specs.Option.{option_map}
 use Rattle.teb_names.specs.declared.Cell.{Cell}
 use Rattle.teb_names.specs.declared.Txn.{Txn}
@@ -8,7 +8,7 @@ use Rattle.chain_pool.specs.declared.places.Place.{Place}
 use Rattle.chain_pool.specs.declared.places.Head.{Head}
 use Rattle.chain_pool.specs.Threads.{steps}
 use Rattle.chain_pool.specs.Places.{slot_at, next_at, previous_at, sibling_at, InChain, IsOwned, IsFree}
-use Rattle.chain_pool.specs.Linked.{Linked}
+use Rattle.chain_pool.specs.Linked.{Linked, HasLasts}
 use Rattle.chain_pool.proofs.Threads.{len-le, len-lt, thread-steps}
 use Rattle.chain_pool.proofs.Rings.{steps-mine, mine_next, mine_previous}
 use Rattle.chain_pool.proofs.Slots.{free_chain, free_owned}
@@ -76,6 +76,11 @@ module _ (ps : List Place) (chain : Cell → Head) (own : Txn → Head) (unused 
     read_used n some =
         subst (λ (rs : List Place). IsSome (slot_at rs (steps (previous_at rs) n h.first)).version) (sym same)
         (subst (λ (g : Head). IsSome (slot_at ps (steps (previous_at ps) n g.first)).version) (sym is) (walk_used x n (subst (λ (g : Head). 0 < g.len) is some)))
+
+    pub read_last : (last : Cell → ℕ) → HasLasts ps chain last → (l : ℕ) → l ≡ last x → 0 < h.len → l ≡ previous_at qs h.first
+    read_last last ends l l_is some =
+        l_is ∙ (ends x (subst (λ (g : Head). 0 < g.len) is some)
+        ∙ (ap (λ (g : Head). previous_at ps g.first) (sym is) ∙ ap (λ (rs : List Place). previous_at rs h.first) (sym same)))
 
   -- the places of a writer's list
   pub owned_steps : (qs : List Place) → qs ≡ ps → (t : Txn) (h : Head) → h ≡ own t → (n : ℕ) → n < h.len → steps (sibling_at qs) n h.first < length qs

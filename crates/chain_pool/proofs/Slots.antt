@@ -1,5 +1,5 @@
 -- A slot that is written: what stays of the other places, and what a chain shows.
-use Rattle.std.proofs.Common.{true, false, ◌≡◌, ◌==◌, ℕ, suc, ◌<◌, ◌≢◌, List, [], ◌∷◌, ◌++◌, length, get_or, take, drop, map, refl, sym, ◌∙◌, ap, arith, if◌then◌else◌, Option, Some, None, ℤ, unwrap_or, eq-eqb}
+use Rattle.std.proofs.Common.{true, false, ◌≡◌, ◌==◌, ℕ, suc, ◌-◌, ◌<◌, ◌≢◌, List, [], ◌∷◌, ◌++◌, length, get_or, take, drop, map, refl, sym, ◌∙◌, ap, arith, if◌then◌else◌, Option, Some, None, ℤ, unwrap_or, eq-eqb}
 use Rattle.std.specs.List.{insert, remove}
 use Rattle.std.specs.Option.{option_map}
 use Rattle.std.proofs.lemmas.Bool.Decides.{nat_tests}
@@ -14,6 +14,7 @@ use Rattle.chain_pool.specs.Threads.{Ring}
 use Rattle.chain_pool.specs.Places.{slot_at, next_at, previous_at, cell_in, writer_in, pair_in, pair_at, InChain, IsOwned, IsFree}
 use Rattle.chain_pool.specs.Linked.{versions}
 use Rattle.chain_pool.proofs.Threads.{thread-walk}
+use Rattle.chain_pool.proofs.Rings.{last_place}
 
 -- a choice by a test of two numbers
 pub chosen : {X : Type 0} (r q : ℕ) (x y : X) → r ≡ q → (if r == q then x else y) ≡ x
@@ -67,6 +68,14 @@ RingWith mine next previous h L = (r : Ring mine next previous h.first h.len) ×
 
 pub ring-versions : (ps : List Place) (x : Cell) (h : Head) (L : List ℕ) → RingWith (InChain ps x) (next_at ps) (previous_at ps) h L → versions ps h ≡ map (pair_at ps) L
 ring-versions ps x h L r = ap (map (pair_at ps)) (thread-walk (InChain ps x) (next_at ps) h.first h.len r.0.thread ∙ r.1)
+
+-- the place before the first is the last
+pub ring-end : (ps : List Place) (x : Cell) (h : Head) (L : List ℕ) → RingWith (InChain ps x) (next_at ps) (previous_at ps) h L → 0 < h.len → previous_at ps h.first ≡ get_or L (h.len - 1) 0
+ring-end ps x h L r some = last_place (InChain ps x) (next_at ps) (previous_at ps) h.first h.len r.0 some ∙ ap (λ l. get_or l (h.len - 1) 0) r.1
+
+pub same-end : (ps ps' : List Place) (x : Cell) (h : Head) (L : List ℕ) → RingWith (InChain ps x) (next_at ps) (previous_at ps) h L → RingWith (InChain ps' x) (next_at ps') (previous_at ps') h L
+    → 0 < h.len → previous_at ps h.first ≡ previous_at ps' h.first
+same-end ps ps' x h L r r' some = ring-end ps x h L r some ∙ sym (ring-end ps' x h L r' some)
 
 -- what stays where one slot is written
 module _ (ps ps' : List Place) (q : ℕ) (s : Slot) (len : length ps' ≡ length ps) (slots : (r : ℕ) → slot_at ps' r ≡ (if r == q then s else slot_at ps r)) where

@@ -43,7 +43,7 @@ module _ (ps : List Place) (chain : Cell → Head) (own : Txn → Head) (unused 
       → ((r : ℕ) → previous_at ps' r ≡ (if r == taken.next then taken.previous else previous_at qs r))
       → ((r : ℕ) → slot_at ps' r ≡ (if r == h.first then record { version = None; sibling = unused.first } else slot_at qs r))
       → ((y : Cell) → chain' y ≡ (if same_cell v.cell y then without_place (chain v.cell) h.first taken.next else chain y))
-      → IsFreed ps ps' chain chain' with_h (with_head t (record { first = taken.slot.sibling; len = h.len - 1 }) own) (record { first = h.first; len = unused.len + 1 }) t
+      → IsFreed ps ps' chain chain' with_h (with_head t (record { first = taken.slot.sibling; len = h.len - 1 }) own) (record { first = h.first; len = unused.len + 1 }) t v.cell h.first taken.previous
 
   used_here : UsedAs ps (get_or ps h.first blank)
   used_here v holds =

@@ -5,37 +5,49 @@ use Rattle.teb_names.specs.declared.Cell.{Cell}
 use Rattle.teb_names.specs.declared.Txn.{Txn}
 use Rattle.teb_names.specs.Cells.{same_cell}
 use Rattle.chain_pool.specs.declared.places.Head.{Head}
+use Rattle.chain_pool.specs.declared.places.Chain.{Chain}
 
 -- the head of no list
 abbrev pub empty : Head
 empty = record { first = 0; len = 0 }
 
--- cells in the order of their places, each beside the head of its chain, and for how many more there is room
+-- a chain of no places
+abbrev pub no_chain : Chain
+no_chain = record { head = empty; last = 0 }
+
+-- cells in the order of their places, each beside its chain, and for how many more there is room
 pub record CellHeads : Type 0 where
-  pub entries : List (Cell × Head)
+  pub entries : List (Cell × Chain)
   pub spare : ℕ
 
--- the heads, with one more where a place is the next one
-abbrev pub with_next : List Head → ℕ → List Head
-with_next heads at = if at == length heads then heads ++ empty ∷ [] else heads
-
--- the head of a key's list; empty where the key has no entry
-abbrev pub head_of : {K : Type 0} → (K → K → Bool) → List (K × Head) → K → Head
-head_of eq entries k = unwrap_or (lookup (eq k) entries) empty
+-- the chains, with one more where a place is the next one
+abbrev pub with_next : List Chain → ℕ → List Chain
+with_next chains at = if at == length chains then chains ++ no_chain ∷ [] else chains
 
 -- the head without a place, at which the next may take the first's part
 abbrev pub without_place : Head → ℕ → ℕ → Head
 without_place h place next = record { first = (if h.first == place then next else h.first); len = h.len - 1 }
 
+-- the last place without a place, at which the previous one may take its part
+abbrev pub last_without : ℕ → ℕ → ℕ → ℕ
+last_without last place previous = if last == place then previous else last
+
 abbrev pub same_txn : Txn → Txn → Bool
 same_txn t u = eqb t.0 u.0
 
--- the head of a cell's chain, and of a writer's list
-abbrev pub chain_head : List (Cell × Head) → Cell → Head
-chain_head cells x = head_of same_cell cells x
+-- the chain of a cell, empty where the cell has no entry; its head, and its last place
+abbrev pub chain_at : List (Cell × Chain) → Cell → Chain
+chain_at cells x = unwrap_or (lookup (same_cell x) cells) no_chain
 
+abbrev pub chain_head : List (Cell × Chain) → Cell → Head
+chain_head cells x = (chain_at cells x).head
+
+abbrev pub last_of : List (Cell × Chain) → Cell → ℕ
+last_of cells x = (chain_at cells x).last
+
+-- the head of a writer's list; empty where the writer has no entry
 abbrev pub writer_head : List (Txn × Head) → Txn → Head
-writer_head writers t = head_of same_txn writers t
+writer_head writers t = unwrap_or (lookup (same_txn t) writers) empty
 
 -- the heads of the writers' lists, with h for t's
 abbrev pub with_head : Txn → Head → (Txn → Head) → Txn → Head

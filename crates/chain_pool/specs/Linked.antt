@@ -1,5 +1,5 @@
 -- Places as chains, writers' lists and one list of free places.
-use Rattle.std.specs.Prelude.{◌≡◌, ℕ, ◌-◌, List, map}
+use Rattle.std.specs.Prelude.{◌≡◌, ℕ, ◌-◌, ◌<◌, List, map}
 use Rattle.teb_names.specs.declared.Cell.{Cell}
 use Rattle.teb_names.specs.declared.Txn.{Txn}
 use Rattle.version_chain.specs.Lists.{Version}
@@ -14,6 +14,10 @@ pub record Linked (ps : List Place) (chain : Cell → Head) (own : Txn → Head)
   pub owners : (t : Txn) → Thread (IsOwned ps t) (sibling_at ps) (own t).first (own t).len
   pub frees : Thread (IsFree ps) (sibling_at ps) unused.first unused.len
   pub once : (x : Cell) (t : Txn) (p q : ℕ) → InChain ps x p → InChain ps x q → IsOwned ps t p → IsOwned ps t q → p ≡ q
+
+-- a chain that is not empty has its last place before its first
+abbrev pub HasLasts : List Place → (Cell → Head) → (Cell → ℕ) → Type 0
+HasLasts ps chain last = (x : Cell) → 0 < (chain x).len → last x ≡ previous_at ps (chain x).first
 
 -- the versions of a chain
 abbrev pub versions : List Place → Head → List Version

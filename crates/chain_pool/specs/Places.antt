@@ -8,7 +8,7 @@ use Rattle.chain_pool.specs.declared.places.Place.{Place}
 
 -- what is read where there is no place
 abbrev pub blank : Place
-blank = record { previous = 0; next = 0; slot = record { version = None; sibling = 0 } }
+blank = record { slot = record { version = None; sibling = 0 }; previous = 0; next = 0 }
 
 abbrev pub slot_at : List Place → ℕ → Slot
 slot_at ps p = (slice_index_or ps p blank).slot

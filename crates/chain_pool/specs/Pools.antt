@@ -4,12 +4,13 @@ use Rattle.teb_names.specs.declared.Cell.{Cell}
 use Rattle.version_chain.specs.Lists.{Version}
 use Rattle.indexmap.specs.IndexMap.{spare}
 use Rattle.chain_pool.specs.declared.pool.Pool.{Pool}
-use Rattle.chain_pool.specs.Heads.{chain_head, writer_head, IsBusy}
-use Rattle.chain_pool.specs.Linked.{Linked, versions}
+use Rattle.chain_pool.specs.Heads.{chain_head, last_of, writer_head, IsBusy}
+use Rattle.chain_pool.specs.Linked.{Linked, HasLasts, versions}
 
--- its links are sound, and a writer without versions has no entry
+-- its links are sound, its chains' last places are known, and a writer without versions has no entry
 pub record IsSound (p : Pool) : Type 0 where
   pub linked : Linked p.places.items (chain_head p.cells.entries) (writer_head p.writers.entries) p.unused
+  pub lasts : HasLasts p.places.items (chain_head p.cells.entries) (last_of p.cells.entries)
   pub busy : IsBusy p.writers.entries
 
 -- the versions of a cell

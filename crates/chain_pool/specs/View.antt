@@ -19,7 +19,7 @@ abbrev pub list_in : View → Cell → List Version
 list_in v x = unwrap_or (lookup (same_cell x) v.entries) []
 
 abbrev pub view_of : Pool → ℕ → View
-view_of p n = record { entries = map (λ e. (e.0, versions p.places.items e.1)) p.cells.entries; spare = n }
+view_of p n = record { entries = map (λ e. (e.0, versions p.places.items e.1.head)) p.cells.entries; spare = n }
 
 -- a writer above the one of the mark that it has with a cell has no version of the cell
 abbrev pub IsMarked : Pool → List ℕ → Type 0

@@ -1,22 +1,22 @@
-//! Heads of cells' chains.
+//! Cells' chains: where each begins and ends.
 
-ghost use Rattle.std.specs.Prelude.{◌≡◌, ◌<◌, ◌≤◌, ◌+◌, ◌^◌, [], vec_len, vec_capacity, OnOk, if◌then◌else◌};
+ghost use Rattle.std.specs.Prelude.{◌≡◌, ◌==◌, ◌<◌, ◌≤◌, ◌+◌, ◌^◌, [], vec_len, vec_capacity, OnOk, if◌then◌else◌};
 ghost use Rattle.teb_names.specs.declared.Cell.{Cell};
 ghost use Rattle.teb_names.specs.Cells.{same_cell};
-ghost use Rattle.chain_pool.specs.Heads.{with_next, chain_head, without_place};
+ghost use Rattle.chain_pool.specs.Heads.{with_next, chain_head, last_of, without_place, last_without};
 
-use crate::places::{EMPTY, Head};
+use crate::places::{Chain, Head, NO_CHAIN};
 use cell_index::CellIndex;
 use std::alloc::{AllocError, Global};
 use std::marker::Model;
 use teb_names::Cell;
 use vec_room::make_wide_room;
 
-/// The head of each cell's chain, at the place that an index gives the cell.
+/// Each cell's chain, at the place that an index gives the cell.
 #[derive(Drop)]
 pub(crate) struct ChainHeads {
     cells: CellIndex,
-    heads: Vec<Head>,
+    chains: Vec<Chain>,
 }
 
 impl Model for ChainHeads {
@@ -26,9 +26,9 @@ impl Model for ChainHeads {
 
     ghost Value = { CellHeads };
 
-    ghost view = { λ h. record { entries = zip h.cells.cells h.heads.items; spare = min h.cells.spare (vec_capacity h.heads - vec_len h.heads) } };
+    ghost view = { λ h. record { entries = zip h.cells.cells h.chains.items; spare = min h.cells.spare (vec_capacity h.chains - vec_len h.chains) } };
 
-    ghost invariant = { λ h. length h.heads.items ≡ length h.cells.cells };
+    ghost invariant = { λ h. length h.chains.items ≡ length h.cells.cells };
 }
 
 /// One number or another.
@@ -38,16 +38,16 @@ fn chosen(first: bool, one: usize, other: usize) -> usize
     if first { one } else { other }
 }
 
-/// Adds the head of no list where a place is the next one.
+/// Adds a chain of no places where a place is the next one.
 #[inline(always)]
-fn add_next(heads: &mut Vec<Head>, at: usize)
-    requires { vec_len heads.old < vec_capacity heads.old }
-    ensures items { heads.new.items ≡ with_next heads.old.items at }
-    ensures len { vec_len heads.new ≤ vec_len heads.old + 1 }
-    ensures capacity { vec_capacity heads.old ≤ vec_capacity heads.new }
+fn add_next(chains: &mut Vec<Chain>, at: usize)
+    requires { vec_len chains.old < vec_capacity chains.old }
+    ensures items { chains.new.items ≡ with_next chains.old.items at }
+    ensures len { vec_len chains.new ≤ vec_len chains.old + 1 }
+    ensures capacity { vec_capacity chains.old ≤ vec_capacity chains.new }
 {
-    if at == heads.len() {
-        heads.push_reserved(EMPTY);
+    if at == chains.len() {
+        chains.push_reserved(NO_CHAIN);
     }
 }
 
@@ -58,11 +58,11 @@ impl ChainHeads {
     {
         ChainHeads {
             cells: CellIndex::new(alloc),
-            heads: Vec::new(alloc),
+            chains: Vec::new(alloc),
         }
     }
 
-    /// Makes room for n more cells. The heads stay, also after an `Err`, which comes where there is no
+    /// Makes room for n more cells. The chains stay, also after an `Err`, which comes where there is no
     /// memory, or where there would be more than 2^32 - 1 cells.
     pub(crate) fn reserve(&mut self, n: usize) -> Result<(), AllocError>
         ensures entries { self.new.entries ≡ self.old.entries }
@@ -70,52 +70,60 @@ impl ChainHeads {
         ensures kept { self.old.spare ≤ self.new.spare }
     {
         self.cells.reserve(n)?;
-        make_wide_room(&mut self.heads, n)
+        make_wide_room(&mut self.chains, n)
     }
 
-    /// The head of a cell's chain.
+    /// The chain of a cell.
     #[inline(always)]
-    pub(crate) fn head_of(&self, cell: Cell) -> Head
-        ensures { result ≡ chain_head self.now.entries cell }
+    pub(crate) fn chain_at(&self, cell: Cell) -> Chain
+        ensures head { result.head ≡ chain_head self.now.entries cell }
+        ensures last { result.last ≡ last_of self.now.entries cell }
     {
         let at = self.cells.place(cell);
-        if at < self.heads.len() {
-            self.heads[at]
+        if at < self.chains.len() {
+            self.chains[at]
         } else {
-            EMPTY
+            NO_CHAIN
         }
     }
 
-    /// Adds a place to a cell's chain, as its first or behind that. Gives the head that the chain had.
+    /// Adds a place to a cell's chain, as the i-th. Gives the head that the chain had.
     #[inline(always)]
-    pub(crate) fn lengthen(&mut self, cell: Cell, place: usize, as_first: bool) -> Head
+    pub(crate) fn lengthen(&mut self, cell: Cell, place: usize, i: usize) -> Head
         requires room { 0 < self.old.spare }
         requires short { (chain_head self.old.entries cell).len + 1 < 2 ^ 64 }
         ensures result { result ≡ chain_head self.old.entries cell }
-        ensures heads { (x : Cell) → chain_head self.new.entries x ≡ (if same_cell cell x then record { first = (if as_first then place else result.first); len = result.len + 1 } else chain_head self.old.entries x) }
+        ensures heads { (x : Cell) → chain_head self.new.entries x ≡ (if same_cell cell x then record { first = (if i == 0 then place else result.first); len = result.len + 1 } else chain_head self.old.entries x) }
+        ensures lasts { (x : Cell) → last_of self.new.entries x ≡ (if same_cell cell x then (if i == (chain_head self.old.entries cell).len then place else last_of self.old.entries cell) else last_of self.old.entries x) }
         ensures room { self.old.spare ≤ self.new.spare + 1 }
     {
         let at = self.cells.add(cell);
-        add_next(&mut self.heads, at);
-        let was = self.heads[at];
-        self.heads[at] = Head {
-            first: chosen(as_first, place, was.first),
-            len: was.len + 1,
+        add_next(&mut self.chains, at);
+        let was = self.chains[at];
+        let head = Head {
+            first: chosen(i == 0, place, was.head.first),
+            len: was.head.len + 1,
         };
-        was
+        let last = chosen(i == was.head.len, place, was.last);
+        self.chains[at] = Chain { head, last };
+        was.head
     }
 
-    /// Takes a place out of a cell's chain, whose next place takes its part where it was the first.
-    pub(crate) fn shorten(&mut self, cell: Cell, place: usize, next: usize)
+    /// Takes a place out of a cell's chain, whose next place takes its part where it was the first, and whose previous one
+    /// where it was the last.
+    pub(crate) fn shorten(&mut self, cell: Cell, place: usize, previous: usize, next: usize)
         requires { 0 < (chain_head self.old.entries cell).len }
         ensures heads { (x : Cell) → chain_head self.new.entries x ≡ (if same_cell cell x then without_place (chain_head self.old.entries cell) place next else chain_head self.old.entries x) }
+        ensures lasts { (x : Cell) → last_of self.new.entries x ≡ (if same_cell cell x then last_without (last_of self.old.entries cell) place previous else last_of self.old.entries x) }
         ensures room { self.old.spare ≤ self.new.spare }
     {
         let at = self.cells.place(cell);
-        let head = self.heads[at];
-        self.heads[at] = Head {
-            first: chosen(head.first == place, next, head.first),
-            len: head.len - 1,
+        let was = self.chains[at];
+        let head = Head {
+            first: chosen(was.head.first == place, next, was.head.first),
+            len: was.head.len - 1,
         };
+        let last = chosen(was.last == place, previous, was.last);
+        self.chains[at] = Chain { head, last };
     }
 }

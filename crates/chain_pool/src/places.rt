@@ -23,9 +23,9 @@ pub(crate) struct Slot {
 /// A place, with its neighbours in its cell's chain. A chain is a ring: its last place leads to its first.
 #[derive(Clone, Copy)]
 pub(crate) struct Place {
+    pub(crate) slot: Slot,
     pub(crate) previous: usize,
     pub(crate) next: usize,
-    pub(crate) slot: Slot,
 }
 
 /// Where a list of places begins, and how long it is.
@@ -38,6 +38,19 @@ pub(crate) struct Head {
 /// The head of no list.
 pub(crate) const EMPTY: Head = Head { first: 0, len: 0 };
 
+/// A cell's chain: its head, and its last place, where a read begins.
+#[derive(Clone, Copy)]
+pub(crate) struct Chain {
+    pub(crate) head: Head,
+    pub(crate) last: usize,
+}
+
+/// A chain of no places.
+pub(crate) const NO_CHAIN: Chain = Chain {
+    head: EMPTY,
+    last: 0,
+};
+
 /// Fills a place, and puts it between two neighbours; alone in its ring it is its own neighbour.
 pub(crate) fn link(places: &mut [Place], place: usize, slot: Slot, before: usize, after: usize)
     requires place_within { place < length places.old }
@@ -48,9 +61,9 @@ pub(crate) fn link(places: &mut [Place], place: usize, slot: Slot, before: usize
     ensures slot { (r : ℕ) → slot_at places.new r ≡ (if r == place then slot else slot_at places.old r) }
 {
     places[place] = Place {
+        slot,
         previous: before,
         next: after,
-        slot,
     };
     places[before].next = place;
     places[after].previous = place;

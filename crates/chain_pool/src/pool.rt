@@ -8,12 +8,12 @@ ghost use Rattle.teb_names.specs.declared.Cell.{Cell};
 ghost use Rattle.teb_names.specs.declared.Txn.{Txn};
 ghost use Rattle.version_chain.specs.Lists.{without, set_value, writers_of, is_writer, first_place, last_place, unless_below, own_or_last as spec_own_or_last};
 ghost use Rattle.chain_pool.specs.Places.{InChain, IsOwned};
-ghost use Rattle.chain_pool.specs.Heads.{IsBusy, chain_head, writer_head, with_head};
-ghost use Rattle.chain_pool.specs.Linked.{Linked, versions};
+ghost use Rattle.chain_pool.specs.Heads.{IsBusy, chain_head, last_of, writer_head, with_head};
+ghost use Rattle.chain_pool.specs.Linked.{Linked, HasLasts, versions};
 ghost use Rattle.chain_pool.specs.Pools.{IsSound, chain_of, HasRoom};
 
 use crate::chain_heads::ChainHeads;
-use crate::places::{self, EMPTY, Head, Place, Slot, Version};
+use crate::places::{self, Chain, EMPTY, Head, Place, Slot, Version};
 use crate::{walks, writer_heads};
 use indexmap::IndexMap;
 use std::alloc::{AllocError, Global};
@@ -35,12 +35,14 @@ fn put(
     version: Version,
 ) -> Head
     requires linked { Linked places.old (chain_head cells.old.entries) (writer_head writers.old.entries) unused }
+    requires lasts { HasLasts places.old (chain_head cells.old.entries) (last_of cells.old.entries) }
     requires some { 0 < unused.len }
     requires cells_room { 0 < cells.old.spare }
     requires writers_room { 0 < spare writers.old }
     requires within { i ≤ (chain_head cells.old.entries version.cell).len }
     requires absent { (p : ℕ) → InChain places.old version.cell p → IsOwned places.old version.writer p → ⊥ }
     ensures linked { Linked places.new (chain_head cells.new.entries) (writer_head writers.new.entries) result }
+    ensures lasts { HasLasts places.new (chain_head cells.new.entries) (last_of cells.new.entries) }
     ensures busy { IsBusy writers.old.entries → IsBusy writers.new.entries }
     ensures here { versions places.new (chain_head cells.new.entries version.cell) ≡ insert (versions places.old (chain_head cells.old.entries version.cell)) i (version.writer, version.value) }
     ensures elsewhere { (x : Cell) → (version.cell ≡ x → ⊥) → versions places.new (chain_head cells.new.entries x) ≡ versions places.old (chain_head cells.old.entries x) }
@@ -48,7 +50,7 @@ fn put(
     ensures writers_room { spare writers.old ≤ spare writers.new + 1 }
 {
     let place = unused.first;
-    let chain = cells.lengthen(version.cell, place, i == 0);
+    let chain = cells.lengthen(version.cell, place, i);
     let own = writer_heads::lengthen(writers, version.writer, place);
     let (before, after) = walks::neighbours(places, chain, i, place);
     let free = places[place].slot.sibling;
@@ -113,7 +115,7 @@ impl Pool {
         requires { IsSound self.now }
         ensures { result ≡ length (chain_of self.now cell) }
     {
-        self.cells.head_of(cell).len
+        self.cells.chain_at(cell).head.len
     }
 
     pub(crate) fn at(&self, cell: Cell, i: usize) -> (Txn, Option<i64>)
@@ -121,16 +123,16 @@ impl Pool {
         requires within { i < length (chain_of self.now cell) }
         ensures { slice_get (chain_of self.now cell) i ≡ Some result }
     {
-        let chain = self.cells.head_of(cell);
+        let chain = self.cells.chain_at(cell);
         self.version_in(chain, i)
     }
 
     /// The i-th version of a chain.
-    fn version_in(&self, chain: Head, i: usize) -> (Txn, Option<i64>)
+    fn version_in(&self, chain: Chain, i: usize) -> (Txn, Option<i64>)
         requires sound { IsSound self.now }
-        requires chain { (x : Cell) × (chain ≡ chain_head self.now.cells.entries x) }
-        requires within { i < length (versions self.now.places.items chain) }
-        ensures { slice_get (versions self.now.places.items chain) i ≡ Some result }
+        requires chain { (x : Cell) × (chain.head ≡ chain_head self.now.cells.entries x) × (chain.last ≡ last_of self.now.cells.entries x) }
+        requires within { i < length (versions self.now.places.items chain.head) }
+        ensures { slice_get (versions self.now.places.items chain.head) i ≡ Some result }
     {
         let place = walks::place_of(&self.places, chain, i);
         walks::pair_at(&self.places, place)
@@ -138,15 +140,15 @@ impl Pool {
 
     /// The last version of a chain whose writer f accepts, where it is `from` or above.
     #[inline(always)]
-    fn last_in<F: Fn(Txn) -> bool>(&self, chain: Head, from: usize, f: &F) -> Option<Found>
+    fn last_in<F: Fn(Txn) -> bool>(&self, chain: Chain, from: usize, f: &F) -> Option<Found>
         requires sound { IsSound self.now }
-        requires chain { (x : Cell) × (chain ≡ chain_head self.now.cells.entries x) }
-        requires callable { (u : Txn) → IsTrue (is_writer (versions self.now.places.items chain) u.0) → F.pre f.now u }
+        requires chain { (x : Cell) × (chain.head ≡ chain_head self.now.cells.entries x) × (chain.last ≡ last_of self.now.cells.entries x) }
+        requires callable { (u : Txn) → IsTrue (is_writer (versions self.now.places.items chain.head) u.0) → F.pre f.now u }
         ensures place { (p : ℕ → Bool)
-            → ((u : Txn) (b : Bool) → IsTrue (is_writer (versions self.now.places.items chain) u.0) → F.post f.now u b → b ≡ p u.0)
-            → option_map (λ v. v.at) result ≡ unless_below from (last_place p (writers_of (versions self.now.places.items chain))) }
-        ensures within { IfSome result (λ v. v.at < length (versions self.now.places.items chain)) }
-        ensures version { IfSome result (λ v. slice_get (versions self.now.places.items chain) v.at ≡ Some (v.writer, v.value)) }
+            → ((u : Txn) (b : Bool) → IsTrue (is_writer (versions self.now.places.items chain.head) u.0) → F.post f.now u b → b ≡ p u.0)
+            → option_map (λ v. v.at) result ≡ unless_below from (last_place p (writers_of (versions self.now.places.items chain.head))) }
+        ensures within { IfSome result (λ v. v.at < length (versions self.now.places.items chain.head)) }
+        ensures version { IfSome result (λ v. slice_get (versions self.now.places.items chain.head) v.at ≡ Some (v.writer, v.value)) }
     {
         walks::last_accepted(&self.places, chain, from, f)
     }
@@ -165,7 +167,7 @@ impl Pool {
             → result ≡ unless_below from (last_place p (writers_of (chain_of self.now cell))) }
         ensures within { IfSome result (λ i. i < length (chain_of self.now cell)) }
     {
-        let chain = self.cells.head_of(cell);
+        let chain = self.cells.chain_at(cell);
         place_of(self.last_in(chain, from, f))
     }
 
@@ -183,19 +185,20 @@ impl Pool {
         requires sound { IsSound self.now }
         ensures { result ≡ first_place (λ w. eqb w t.0) (writers_of (chain_of self.now cell)) }
     {
-        let chain = self.cells.head_of(cell);
+        let chain = self.cells.chain_at(cell);
         place_of(self.find_in(cell, chain, t))
     }
 
     /// The version of a writer in a chain, which is that of the cell. Where the chain is not short and the writer's list is
     /// shorter, that list says first whether there is one.
-    fn find_in(&self, cell: Cell, chain: Head, t: Txn) -> Option<Found>
+    fn find_in(&self, cell: Cell, chain: Chain, t: Txn) -> Option<Found>
         requires sound { IsSound self.now }
-        requires chain { chain ≡ chain_head self.now.cells.entries cell }
+        requires head { chain.head ≡ chain_head self.now.cells.entries cell }
+        requires last { chain.last ≡ last_of self.now.cells.entries cell }
         ensures place { option_map (λ v. v.at) result ≡ first_place (λ w. eqb w t.0) (writers_of (chain_of self.now cell)) }
         ensures version { IfSome result (λ v. slice_get (chain_of self.now cell) v.at ≡ Some (v.writer, v.value)) }
     {
-        if chain.len > SHORT && self.lacks(cell, chain, t) {
+        if chain.head.len > SHORT && self.lacks(cell, chain.head, t) {
             return None;
         }
         self.last_in(chain, 0, &|w: Txn| w.0 == t.0)
@@ -203,9 +206,10 @@ impl Pool {
 
     /// The version of a writer in a chain, which is that of the cell. One that is new to the cell has none.
     #[inline(always)]
-    fn own_in(&self, cell: Cell, chain: Head, t: Txn, is_new: bool) -> Option<Found>
+    fn own_in(&self, cell: Cell, chain: Chain, t: Txn, is_new: bool) -> Option<Found>
         requires sound { IsSound self.now }
-        requires chain { chain ≡ chain_head self.now.cells.entries cell }
+        requires head { chain.head ≡ chain_head self.now.cells.entries cell }
+        requires last { chain.last ≡ last_of self.now.cells.entries cell }
         requires absent { OnTrue is_new (is_writer (chain_of self.now cell) t.0 ≡ false) }
         ensures place { option_map (λ v. v.at) result ≡ first_place (λ w. eqb w t.0) (writers_of (chain_of self.now cell)) }
         ensures version { IfSome result (λ v. slice_get (chain_of self.now cell) v.at ≡ Some (v.writer, v.value)) }
@@ -233,7 +237,7 @@ impl Pool {
             → option_map (λ v. v.at) result ≡ spec_own_or_last t.0 p (writers_of (chain_of self.now cell)) }
         ensures version { IfSome result (λ v. slice_get (chain_of self.now cell) v.at ≡ Some (v.writer, v.value)) }
     {
-        let chain = self.cells.head_of(cell);
+        let chain = self.cells.chain_at(cell);
         match self.own_in(cell, chain, t, is_new) {
             Some(own) => Some(own),
             None => self.last_in(chain, 0, f),
@@ -262,9 +266,9 @@ impl Pool {
         };
         let first = self.places.len();
         let place = Place {
+            slot,
             previous: 0,
             next: 0,
-            slot,
         };
         match self.places.push(place) {
             Ok(()) => self.unused = Head { first, len: 1 },
@@ -303,7 +307,7 @@ impl Pool {
         ensures elsewhere { (x : Cell) → (cell ≡ x → ⊥) → chain_of self.new x ≡ chain_of self.old x }
         ensures room { (n : ℕ) → HasRoom self.old n → HasRoom self.new n }
     {
-        let chain = self.cells.head_of(cell);
+        let chain = self.cells.chain_at(cell);
         let place = walks::place_of(&self.places, chain, i);
         places::rewrite(&mut self.places, place, value);
     }
@@ -311,8 +315,10 @@ impl Pool {
     /// Frees the first place of a list, which is that of a writer who has no entry any more. Gives the rest of the list.
     fn take_first(&mut self, t: Txn, own: Head) -> Head
         requires linked { Linked self.old.places.items (chain_head self.old.cells.entries) (with_head t own (writer_head self.old.writers.entries)) self.old.unused }
+        requires lasts { HasLasts self.old.places.items (chain_head self.old.cells.entries) (last_of self.old.cells.entries) }
         requires some { 0 < own.len }
         ensures linked { Linked self.new.places.items (chain_head self.new.cells.entries) (with_head t result (writer_head self.new.writers.entries)) self.new.unused }
+        ensures lasts { HasLasts self.new.places.items (chain_head self.new.cells.entries) (last_of self.new.cells.entries) }
         ensures fewer { result.len + 1 ≡ own.len }
         ensures kept { (x : Cell) → without t.0 (chain_of self.new x) ≡ without t.0 (chain_of self.old x) }
         ensures writers { self.new.writers ≡ self.old.writers }
@@ -327,7 +333,8 @@ impl Pool {
                     sibling: self.unused.first,
                 };
                 places::unlink(&mut self.places, place, slot, taken.previous, taken.next);
-                self.cells.shorten(version.cell, place, taken.next);
+                self.cells
+                    .shorten(version.cell, place, taken.previous, taken.next);
                 self.unused = Head {
                     first: place,
                     len: self.unused.len + 1,
@@ -344,7 +351,9 @@ impl Pool {
     /// Frees each place of a list, which is that of a writer who has no entry any more.
     fn take_all(&mut self, t: Txn, own: Head)
         requires linked { Linked self.old.places.items (chain_head self.old.cells.entries) (with_head t own (writer_head self.old.writers.entries)) self.old.unused }
+        requires lasts { HasLasts self.old.places.items (chain_head self.old.cells.entries) (last_of self.old.cells.entries) }
         ensures linked { (left : Head) × (left.len ≡ 0) × Linked self.new.places.items (chain_head self.new.cells.entries) (with_head t left (writer_head self.new.writers.entries)) self.new.unused }
+        ensures lasts { HasLasts self.new.places.items (chain_head self.new.cells.entries) (last_of self.new.cells.entries) }
         ensures taken { (x : Cell) → chain_of self.new x ≡ without t.0 (chain_of self.old x) }
         ensures writers { self.new.writers ≡ self.old.writers }
         ensures room { (n : ℕ) → HasRoom self.old n → HasRoom self.new n }

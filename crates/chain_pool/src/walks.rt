@@ -7,16 +7,16 @@ ghost use Rattle.chain_pool.specs.Threads.{steps};
 ghost use Rattle.chain_pool.specs.Places.{slot_at, previous_at, sibling_at, cell_in, pair_at as spec_pair_at};
 ghost use Rattle.chain_pool.specs.Linked.{nth_place};
 
-use crate::places::{Head, Place, Slot};
+use crate::places::{Chain, Head, Place, Slot};
 use teb_names::{Cell, Txn};
 use version_chain::Found;
 
 /// The place that many steps back.
-fn step_back(places: &[Place], first: usize, count: usize) -> usize
-    requires { (n : ℕ) → n < count → steps (previous_at places.now) n first < length places.now }
-    ensures { result ≡ steps (previous_at places.now) count first }
+fn step_back(places: &[Place], start: usize, count: usize) -> usize
+    requires { (n : ℕ) → n < count → steps (previous_at places.now) n start < length places.now }
+    ensures { result ≡ steps (previous_at places.now) count start }
 {
-    let mut place = first;
+    let mut place = start;
     for _step in 0..count {
         place = places[place].previous;
     }
@@ -24,13 +24,14 @@ fn step_back(places: &[Place], first: usize, count: usize) -> usize
 }
 
 /// The place of the i-th version of a chain. The walk starts at the chain's end.
-pub(crate) fn place_of(places: &[Place], chain: Head, i: usize) -> usize
-    requires safe { (n : ℕ) → 0 < chain.len → steps (previous_at places.now) n chain.first < length places.now }
-    requires within { i < chain.len }
-    ensures place { result ≡ nth_place places.now chain i }
+pub(crate) fn place_of(places: &[Place], chain: Chain, i: usize) -> usize
+    requires safe { (n : ℕ) → 0 < chain.head.len → steps (previous_at places.now) n chain.head.first < length places.now }
+    requires last { 0 < chain.head.len → chain.last ≡ previous_at places.now chain.head.first }
+    requires within { i < chain.head.len }
+    ensures place { result ≡ nth_place places.now chain.head i }
     ensures within { result < length places.now }
 {
-    step_back(places, chain.first, chain.len - i)
+    step_back(places, chain.last, chain.head.len - 1 - i)
 }
 
 /// The places between which one goes that is to be the i-th of a chain; alone it stands beside itself.
@@ -74,28 +75,29 @@ fn accepts<F: Fn(Txn) -> bool>(f: &F, t: Txn) -> bool
 /// The last version of a chain whose writer f accepts, where it is `from` or above.
 pub(crate) fn last_accepted<F: Fn(Txn) -> bool>(
     places: &[Place],
-    chain: Head,
+    chain: Chain,
     from: usize,
     f: &F,
 ) -> Option<Found>
-    requires safe { (n : ℕ) → 0 < chain.len → steps (previous_at places.now) n chain.first < length places.now }
-    requires used { (n : ℕ) → 0 < chain.len → IsSome (slot_at places.now (steps (previous_at places.now) n chain.first)).version }
-    requires callable { (j : ℕ) → j < chain.len → F.pre f.now (spec_pair_at places.now (nth_place places.now chain j)).0 }
-    ensures within { IfSome result (λ v. v.at < chain.len) }
-    ensures version { IfSome result (λ v. spec_pair_at places.now (nth_place places.now chain v.at) ≡ (v.writer, v.value)) }
+    requires safe { (n : ℕ) → 0 < chain.head.len → steps (previous_at places.now) n chain.head.first < length places.now }
+    requires last { 0 < chain.head.len → chain.last ≡ previous_at places.now chain.head.first }
+    requires used { (n : ℕ) → 0 < chain.head.len → IsSome (slot_at places.now (steps (previous_at places.now) n chain.head.first)).version }
+    requires callable { (j : ℕ) → j < chain.head.len → F.pre f.now (spec_pair_at places.now (nth_place places.now chain.head j)).0 }
+    ensures within { IfSome result (λ v. v.at < chain.head.len) }
+    ensures version { IfSome result (λ v. spec_pair_at places.now (nth_place places.now chain.head v.at) ≡ (v.writer, v.value)) }
     ensures found { MatchOption (option_map (λ v. v.at) result)
-        ((j : ℕ) → from ≤ j → j < chain.len → F.post f.now (spec_pair_at places.now (nth_place places.now chain j)).0 false)
-        (λ i. (from ≤ i) × (i < chain.len) × F.post f.now (spec_pair_at places.now (nth_place places.now chain i)).0 true
-        × ((j : ℕ) → i < j → j < chain.len → F.post f.now (spec_pair_at places.now (nth_place places.now chain j)).0 false)) }
+        ((j : ℕ) → from ≤ j → j < chain.head.len → F.post f.now (spec_pair_at places.now (nth_place places.now chain.head j)).0 false)
+        (λ i. (from ≤ i) × (i < chain.head.len) × F.post f.now (spec_pair_at places.now (nth_place places.now chain.head i)).0 true
+        × ((j : ℕ) → i < j → j < chain.head.len → F.post f.now (spec_pair_at places.now (nth_place places.now chain.head j)).0 false)) }
 {
-    let mut place = chain.first;
-    for above in 0..chain.len.saturating_sub(from) {
-        place = places[place].previous;
+    let mut place = chain.last;
+    for above in 0..chain.head.len.saturating_sub(from) {
         let (writer, value) = pair_at(places, place);
         if accepts(f, writer) {
-            let at = chain.len - 1 - above;
+            let at = chain.head.len - 1 - above;
             return Some(Found { at, writer, value });
         }
+        place = places[place].previous;
     }
     None
 }

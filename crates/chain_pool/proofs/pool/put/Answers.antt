@@ -28,6 +28,7 @@ returns c =
       busy = c.lengthen-own.ensures.busy;
       here = p.here;
       elsewhere = p.elsewhere;
+      lasts = p.lasts _ _ c.requires.lasts c.lengthen-chain.ensures.lasts;
       cells_room = c.lengthen-chain.ensures.room;
       writers_room = c.lengthen-own.ensures.room;
     }

@@ -4,4 +4,4 @@ use Rattle.chain_pool.specs.Places.{previous_at}
 use Rattle.chain_pool.proofs.walks.step_back.Given as goal
 
 abbrev pub invariant-loop-step : goal.invariant-loop-step
-invariant-loop-step l = l.place ≡ steps (previous_at l.places) l._step l.first
+invariant-loop-step l = l.place ≡ steps (previous_at l.places) l._step l.start

@@ -8,15 +8,15 @@ use Rattle.chain_pool.specs.Pools.{chain_of}
 use Rattle.chain_pool.proofs.pool.Pool.last_where_from.Goals as goal
 
 pub last_in-requires-clause-chain : goal.last_in-requires-clause-chain
-last_in-requires-clause-chain g c = (c.args.cell, c.head_of-chain.ensures)
+last_in-requires-clause-chain g c = (c.args.cell, c.chain_at-chain.ensures.head, c.chain_at-chain.ensures.last)
 
 pub last_in-requires-clause-callable : goal.last_in-requires-clause-callable
 last_in-requires-clause-callable g c u there =
-    c.requires.callable u (ap (λ (h : Head). is_writer (versions c.args.self.now.places.items h) u.0) (sym c.head_of-chain.ensures) ∙ there)
+    c.requires.callable u (ap (λ (h : Head). is_writer (versions c.args.self.now.places.items h) u.0) (sym c.chain_at-chain.ensures.head) ∙ there)
 
 pub returns-clause-place : goal.returns-clause-place
 returns-clause-place g c p agrees =
-    let is = c.head_of-chain.ensures in
+    let is = c.chain_at-chain.ensures.head in
     let ps = c.args.self.now.places.items in
     c.place_of.ensures
     ∙ (c.last_in.ensures.place p (λ u b there answers. agrees u b (ap (λ (h : Head). is_writer (versions ps h) u.0) (sym is) ∙ there) answers)
@@ -30,5 +30,5 @@ at_place P (Some v) h = h
 pub returns-clause-within : goal.returns-clause-within
 returns-clause-within g c =
     let ps = c.args.self.now.places.items in
-    let here = subst (λ (h : Head). IfSome c.last_in.result (λ v. v.at < length (versions ps h))) c.head_of-chain.ensures c.last_in.ensures.within in
+    let here = subst (λ (h : Head). IfSome c.last_in.result (λ v. v.at < length (versions ps h))) c.chain_at-chain.ensures.head c.last_in.ensures.within in
     subst (λ (r : Option ℕ). IfSome r (λ i. i < length (chain_of c.args.self.now c.args.cell))) (sym c.place_of.ensures) (at_place (λ i. i < length (chain_of c.args.self.now c.args.cell)) c.last_in.result here)

@@ -5,5 +5,5 @@ use Rattle.chain_pool.proofs.pool.Pool.len_of.Goals as goal
 
 pub returns : goal.returns
 returns c =
-    let is = c.head_of.ensures in
+    let is = c.chain_at.ensures.head in
     ap (λ (h : Head). h.len) is ∙ sym (versions_len c.args.self.now.places.items _ _ c.args.self.now.unused c.requires.linked c.args.cell)

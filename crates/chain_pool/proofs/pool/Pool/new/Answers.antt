@@ -4,8 +4,8 @@ use Rattle.teb_names.specs.declared.Txn.{Txn}
 use Rattle.chain_pool.specs.declared.places.Place.{Place}
 use Rattle.chain_pool.specs.declared.places.Head.{Head}
 use Rattle.chain_pool.specs.Threads.{Thread}
-use Rattle.chain_pool.specs.Heads.{IsBusy, chain_head, writer_head}
-use Rattle.chain_pool.specs.Linked.{Linked}
+use Rattle.chain_pool.specs.Heads.{IsBusy, chain_head, last_of, writer_head}
+use Rattle.chain_pool.specs.Linked.{Linked, HasLasts}
 use Rattle.chain_pool.proofs.pool.Pool.new.Goals as goal
 
 no_thread : (mine : ℕ → Type 0) (next : ℕ → ℕ) (first len : ℕ) → len ≡ 0 → ((p : ℕ) → mine p → ⊥) → Thread mine next first len
@@ -37,5 +37,6 @@ no_places ps chain own unused none chains owners frees = record {
 pub returns-clause-sound : goal.returns-clause-sound
 returns-clause-sound c = record {
   linked = no_places _ _ _ _ c.new.ensures.items (λ x. ap (λ es. (chain_head es x).len) c.new-2.ensures) (λ t. ap (λ es. (writer_head es t).len) c.new-3.ensures.empty) refl;
+  lasts = subst (λ es. HasLasts c.new.result.items (chain_head es) (last_of es)) (sym c.new-2.ensures) (λ x some. absurd (omega (arith, some)));
   busy = subst IsBusy (sym c.new-3.ensures.empty) (λ t. tt);
 }

@@ -10,7 +10,7 @@ use Rattle.chain_pool.proofs.pool.Pool.remove_all_of.Goals as goal
 pub take_all-requires : goal.take_all-requires
 take_all-requires c =
     let p = c.args.self.now in
-    record { linked = taken_out p.places.items (chain_head p.cells.entries) p.unused c.args.t p.writers.entries c.swap_remove.new.self.entries c.in-Some.own c.requires.sound.linked (sym c.in-Some.ensures.value) c.swap_remove.ensures.updates.0 }
+    record { linked = taken_out p.places.items (chain_head p.cells.entries) p.unused c.args.t p.writers.entries c.swap_remove.new.self.entries c.in-Some.own c.requires.sound.linked (sym c.in-Some.ensures.value) c.swap_remove.ensures.updates.0; lasts = c.requires.sound.lasts }
 
 pub returns-in-Some-clause-sound : goal.returns-in-Some-clause-sound
 returns-in-Some-clause-sound c =
@@ -22,6 +22,7 @@ returns-in-Some-clause-sound c =
     let none = ap (λ (m : IndexMap Txn Head _). writer_head m.entries c.args.t) c.take_all.ensures.writers ∙ no_entry was now c.args.t gone in
     record {
       linked = emptied p.places.items (chain_head p.cells.entries) p.unused c.args.t (writer_head p.writers.entries) l.0 l.2 l.1 none;
+      lasts = c.take_all.ensures.lasts;
       busy = subst (λ (m : IndexMap Txn Head _). IsBusy m.entries) (sym c.take_all.ensures.writers) (busy_without was now c.args.t gone c.requires.sound.busy);
     }
 

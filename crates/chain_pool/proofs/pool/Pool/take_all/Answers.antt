@@ -17,6 +17,7 @@ returns-clause-taken c x =
 pub loop-version-preserved : goal.loop-version-preserved
 loop-version-preserved c = record {
   linked = c.take_first-left.ensures.linked;
+  lasts = c.take_first-left.ensures.lasts;
   count = omega (arith, c.take_first-left.ensures.fewer, c.loop-version.invariant.count);
   kept = λ x. c.take_first-left.ensures.kept x ∙ c.loop-version.invariant.kept x;
   writers = c.take_first-left.ensures.writers ∙ c.loop-version.invariant.writers;

@@ -1,8 +1,8 @@
 use Rattle.std.proofs.Common.{◌∙◌, ◌+◌, ◌-◌, refl, ap, sym, subst, arith, length, List}
 use Rattle.version_chain.specs.Lists.{without}
 use Rattle.chain_pool.specs.declared.places.Place.{Place}
-use Rattle.chain_pool.specs.Heads.{chain_head, with_head, writer_head}
-use Rattle.chain_pool.specs.Linked.{Linked, versions}
+use Rattle.chain_pool.specs.Heads.{chain_head, last_of, with_head, writer_head}
+use Rattle.chain_pool.specs.Linked.{Linked, HasLasts, versions}
 use Rattle.chain_pool.proofs.Rewriting.{written}
 use Rattle.chain_pool.proofs.Taken.{first_owned, first_used, first_freed, first_not_free}
 use Rattle.chain_pool.proofs.pool.Pool.take_first.Goals as goal
@@ -48,6 +48,14 @@ returns-clause-linked c =
     c.unlink.new.places (chain_head c.shorten.new.self.entries) c.unlink.auto.places c.unlink.ensures.next c.unlink.ensures.previous c.unlink.ensures.slot c.shorten.ensures.heads in
     let new = written p.places.len c.unlink.new.places p.places.items (sym c.deref_mut.ensures.len ∙ sym c.unlink.auto.places) in
     subst (λ (l : List Place). Linked l (chain_head c.shorten.new.self.entries) (with_head c.args.t (record { first = c.index-taken.result.now.slot.sibling; len = c.args.own.len - 1 }) (writer_head p.writers.entries)) (record { first = c.args.own.first; len = p.unused.len + 1 })) (sym new) freed.linked
+
+pub returns-clause-lasts : goal.returns-clause-lasts
+returns-clause-lasts c =
+    let p = c.args.self.now in
+    let freed = first_freed p.places.items _ (writer_head p.writers.entries) p.unused c.args.t c.args.own c.requires.linked c.requires.some c.deref_mut.result.now c.deref_mut.ensures.value c.index-taken.result.now c.index-taken.ensures c.in-Some.version c.in-Some.is
+    c.unlink.new.places (chain_head c.shorten.new.self.entries) c.unlink.auto.places c.unlink.ensures.next c.unlink.ensures.previous c.unlink.ensures.slot c.shorten.ensures.heads in
+    let new = written p.places.len c.unlink.new.places p.places.items (sym c.deref_mut.ensures.len ∙ sym c.unlink.auto.places) in
+    subst (λ (l : List Place). HasLasts l (chain_head c.shorten.new.self.entries) (last_of c.shorten.new.self.entries)) (sym new) (freed.lasts _ _ c.requires.lasts c.shorten.ensures.lasts)
 
 pub returns-clause-kept : goal.returns-clause-kept
 returns-clause-kept c x =
