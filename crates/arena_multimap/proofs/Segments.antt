@@ -10,7 +10,7 @@ use Rattle.std.proofs.lemmas.Bool.{cases_eq, cases_lt}
 use Rattle.std.proofs.lemmas.Bool.Decides.{eqb_tells}
 use Rattle.arena_multimap.specs.declared.arena.Arena.{Arena}
 use Rattle.arena_multimap.specs.declared.arena.Segment.{Segment}
-use Rattle.arena_multimap.specs.Arenas.{none, segment_at, values_at, list_at, lists, IsWithin, AreApart, Lies, owed}
+use Rattle.arena_multimap.specs.Arenas.{none, segment_at, values_at, list_at, lists, IsWithin, AreApart, Lies, HasRoomFor, owed}
 
 module _ {V : Type 0} where
   -- a part of a list, by its values
@@ -90,6 +90,14 @@ known ss vs i at lt = elim (cases_lt i (length ss)) [
 pub no_list : {V : Type 0} (a : Arena V) (i : ℕ) → lists a ≤ i → list_at a i ≡ []
 no_list a i le = ap (values_at a.values.items) (get_or_past a.segments.items i none le)
 
+-- where there is room there is so for less
+pub less_room : {V : Type 0} {a : Arena V} {m n : ℕ} → HasRoomFor a m n → (m' n' : ℕ) → m' ≤ m → n' ≤ n → HasRoomFor a m' n'
+less_room room m' n' fewer less = record {
+  segments = omega (arith, fewer, room.segments);
+  values = omega (arith, less, room.values);
+  short = omega (arith, less, room.short);
+}
+
 -- its segment, as it is read
 pub read_is : (ss : List Segment) (i : ℕ) (r : Segment) → i < length ss → r ≡ get_or ss i r → r ≡ segment_at ss i
 read_is ss i r lt e = e ∙ get_or_default ss i r none lt
@@ -148,10 +156,10 @@ module _ {V : Type 0} (ss : List Segment) (vs : List V) (debt i : ℕ) (r : Segm
       ])
 
   -- a value is taken out, and those behind it move down
-  pub removed : (vs' : List V) (at p : ℕ) (t : Segment) → at < length (values_at vs (segment_at ss i)) → p ≡ r.start + at → t.start ≡ r.start → t.len ≡ r.len - 1 → length vs' ≡ length vs
-      → CopiedTo vs vs' (p + 1) p (r.start + r.len - (p + 1)) → SameBelow vs vs' p → SameFrom vs vs' (p + (r.start + r.len - (p + 1)))
+  pub removed : (vs' : List V) (at p q : ℕ) (t : Segment) → at < length (values_at vs (segment_at ss i)) → p ≡ r.start + at → q ≡ r.start + r.len → t.start ≡ r.start → t.len ≡ r.len - 1 → length vs' ≡ length vs
+      → CopiedTo vs vs' (p + 1) p (q - (p + 1)) → SameBelow vs vs' p → SameFrom vs vs' (p + (q - (p + 1)))
       → (j : ℕ) → values_at vs' (segment_at (set ss i t) j) ≡ cond (eqb j i) (remove (values_at vs (segment_at ss i)) at) (values_at vs (segment_at ss j))
-  removed vs' at p t lt here start len same copied below from =
+  removed vs' at p q t lt here behind start len same copied below from =
       let s = segment_at ss i in
       let w = h.within i in
       let now : segment_at (set ss i t) i ≡ t = get_or-set_at ss i i t none refl (known ss vs i at lt) in
@@ -159,7 +167,7 @@ module _ {V : Type 0} (ss : List Segment) (vs : List V) (debt i : ℕ) (r : Segm
       let now_len = ap (λ (s : Segment). s.len) now in
       let n = length-remove (values_at vs s) at lt in
       edited ss (set ss i t) vs vs' i (remove (values_at vs s) at) h.within (λ j ne. h.apart j i ne) same (λ j ne. get_or-set_other ss i j t none ne)
-      (λ k d out. elim out [ inl a ↦ below k d (omega (arith, a, here, start_is)) | inr b ↦ from k d (omega (arith, b, here, start_is, len_is, lt, long, w.len)) ])
+      (λ k d out. elim out [ inl a ↦ below k d (omega (arith, a, here, start_is)) | inr b ↦ from k d (omega (arith, b, here, behind, start_is, len_is, lt, long, w.len)) ])
       (omega (arith, n, long, now_len, len))
       (omega (arith, now_start, now_len, start, len, start_is, len_is, w.len, w.end, same))
       (λ k d l. elim (cases_lt k at) [
@@ -169,17 +177,17 @@ module _ {V : Type 0} (ss : List Segment) (vs : List V) (debt i : ℕ) (r : Segm
             ∙ sym (get_or-values_at vs s k d (omega (arith, lo, lt, long, len_is)))
             ∙ sym (get_or-remove_below (values_at vs s) at d k lo lt)
         | inr hi ↦
-            copied ((segment_at (set ss i t) i).start + k) d (omega (arith, hi, here, now_start, start)) (omega (arith, l, n, long, here, now_start, start))
+            copied ((segment_at (set ss i t) i).start + k) d (omega (arith, hi, here, now_start, start)) (omega (arith, l, n, long, here, behind, now_start, start))
             ∙ ap (λ (m : ℕ). get_or vs m d) (let e : p + 1 + ((segment_at (set ss i t) i).start + k - p) ≡ s.start + (k + 1) = omega (arith, hi, here, now_start, start, start_is) in e)
             ∙ sym (get_or-values_at vs s (k + 1) d (omega (arith, l, n, long, len_is)))
             ∙ sym (get_or-remove_above (values_at vs s) at d k hi lt)
       ])
 
   -- the last value v goes to another place, and those from there on move up
-  pub brought : (vs' : List V) (at p : ℕ) (v : V) (M : List V) → values_at vs (segment_at ss i) ≡ M ++ v ∷ [] → at ≤ length M → p ≡ r.start + at → length vs' ≡ length vs
-      → CopiedTo vs vs' p (p + 1) (r.start + r.len - 1 - p) → SameBelow vs vs' (p + 1) → SameFrom vs vs' (p + 1 + (r.start + r.len - 1 - p))
+  pub brought : (vs' : List V) (at p q : ℕ) (v : V) (M : List V) → values_at vs (segment_at ss i) ≡ M ++ v ∷ [] → at ≤ length M → p ≡ r.start + at → q ≡ r.start + r.len - 1 → length vs' ≡ length vs
+      → CopiedTo vs vs' p (p + 1) (q - p) → SameBelow vs vs' (p + 1) → SameFrom vs vs' (p + 1 + (q - p))
       → (j : ℕ) → values_at (set vs' p v) (segment_at ss j) ≡ cond (eqb j i) (insert M at v) (values_at vs (segment_at ss j))
-  brought vs' at p v M was le here same copied below from =
+  brought vs' at p q v M was le here last same copied below from =
       let s = segment_at ss i in
       let w = h.within i in
       let m : length M + 1 ≡ r.len = omega (arith, length-append M (v ∷ []), ap length was, long) in
@@ -187,7 +195,7 @@ module _ {V : Type 0} (ss : List Segment) (vs : List V) (debt i : ℕ) (r : Segm
       edited ss ss vs (set vs' p v) i (insert M at v) h.within (λ j ne. h.apart j i ne) (length-set vs' p v ∙ same) (λ j ne. refl)
       (λ k d out. elim out [
         | inl a ↦ get_or-set_other vs' p k v d (omega (arith, a, here, start_is)) ∙ below k d (omega (arith, a, here, start_is))
-        | inr b ↦ get_or-set_other vs' p k v d (omega (arith, b, here, start_is, len_is, le, m, w.len)) ∙ from k d (omega (arith, b, here, start_is, len_is, le, m, w.len))
+        | inr b ↦ get_or-set_other vs' p k v d (omega (arith, b, here, start_is, len_is, le, m, w.len)) ∙ from k d (omega (arith, b, here, last, start_is, len_is, le, m, w.len))
       ])
       (omega (arith, n, m, len_is))
       (omega (arith, w.len, w.end, length-set vs' p v, same))
@@ -201,7 +209,7 @@ module _ {V : Type 0} (ss : List Segment) (vs : List V) (debt i : ℕ) (r : Segm
               ∙ sym (get_or-insert_below M at v d k lo le)
           | inr hi ↦
               let one : k ≡ k - 1 + 1 = omega (arith, hi, ne) in
-              get_or-set_other vs' p (s.start + k) v d (omega (arith, ne, here, start_is)) ∙ copied (s.start + k) d (omega (arith, hi, ne, here, start_is)) (omega (arith, l, n, m, hi, ne, here, start_is))
+              get_or-set_other vs' p (s.start + k) v d (omega (arith, ne, here, start_is)) ∙ copied (s.start + k) d (omega (arith, hi, ne, here, start_is)) (omega (arith, l, n, m, hi, ne, here, last, start_is))
               ∙ ap (λ (q : ℕ). get_or vs q d) (let e : p + (s.start + k - (p + 1)) ≡ s.start + (k - 1) = omega (arith, hi, ne, here, start_is) in e)
               ∙ sym (get_or-values_at vs s (k - 1) d (omega (arith, l, n, m, len_is, hi, ne))) ∙ ap (λ (l : List V). get_or l (k - 1) d) was
               ∙ get_or-append M (v ∷ []) d (k - 1) (omega (arith, l, n, hi, ne))

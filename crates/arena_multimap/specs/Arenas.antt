@@ -1,5 +1,5 @@
 -- Lists of values in one vector, each in a segment of its own.
-use Rattle.std.specs.Prelude.{◌≢◌, ◌⊎◌, ℕ, ◌+◌, ◌-◌, ◌*◌, ◌≤◌, List, length, take, drop, get_or, vec_len, vec_capacity}
+use Rattle.std.specs.Prelude.{◌≢◌, ◌⊎◌, ℕ, ◌+◌, ◌-◌, ◌*◌, ◌^◌, ◌<◌, ◌≤◌, List, length, take, drop, get_or, vec_len, vec_capacity}
 use Rattle.std.specs.List.{sum_by}
 use Rattle.arena_multimap.specs.declared.arena.Arena.{Arena}
 use Rattle.arena_multimap.specs.declared.arena.Segment.{Segment}
@@ -50,6 +50,7 @@ IsArena a = Lies a.segments.items (length a.values.items) a.debt
 pub record HasRoomFor {V : Type 0} (a : Arena V) (m n : ℕ) : Type 0 where
   pub segments : vec_len a.segments + m ≤ vec_capacity a.segments
   pub values : vec_len a.values + a.debt + 4 * n ≤ vec_capacity a.values
+  pub short : vec_len a.values + a.debt + 4 * n < 2 ^ 32
 
 -- there is room for n more values, each in any list or a new one
 abbrev pub HasRoom : {V : Type 0} → Arena V → ℕ → Type 0

@@ -17,9 +17,27 @@ const SHARE: usize = 4;
 /// Where a list lies: from `start`, `len` of `room` places.
 #[derive(Clone, Copy)]
 pub(crate) struct Segment {
-    start: usize,
-    len: usize,
-    room: usize,
+    start: u32,
+    len: u32,
+    room: u32,
+}
+
+impl Segment {
+    /// The place of its first value.
+    #[inline(always)]
+    fn start(self) -> usize
+        ensures { result ≡ self.start }
+    {
+        self.start as usize
+    }
+
+    /// The place behind its last value.
+    #[inline(always)]
+    fn end(self) -> usize
+        ensures { result ≡ self.start + self.len }
+    {
+        self.start as usize + self.len as usize
+    }
 }
 
 /// Where a list lies that has had no value: it has no place.
@@ -53,7 +71,8 @@ impl<V: Copy> Arena<V> {
         }
     }
 
-    /// Makes room for n more values, each in any list or a new one, or lists that begin empty. The lists stay, also after an `Err`.
+    /// Makes room for n more values, each in any list or a new one, or lists that begin empty. The lists stay, also after an `Err`, which
+    /// comes where there is no memory, or where the places would be more than 2^32 - 1, with those that are put by and those of n values.
     pub(crate) fn reserve(&mut self, n: usize) -> Result<(), AllocError>
         requires { IsArena self.old }
         ensures sound { IsArena self.new }
@@ -64,6 +83,10 @@ impl<V: Copy> Arena<V> {
     {
         let places = n.checked_mul(SHARE).ok_or(AllocError)?;
         let places = places.checked_add(self.debt).ok_or(AllocError)?;
+        let all = places.checked_add(self.values.len()).ok_or(AllocError)?;
+        if all > u32::MAX as usize {
+            return Err(AllocError);
+        }
         make_wide_room(&mut self.values, places)?;
         make_wide_room(&mut self.segments, n)
     }
@@ -84,7 +107,7 @@ impl<V: Copy> Arena<V> {
             return &[];
         }
         let segment = self.segments[i];
-        &self.values[segment.start..segment.start + segment.len]
+        &self.values[segment.start()..segment.end()]
     }
 
     /// Begins an empty list, which takes no place before its first value.
@@ -139,11 +162,11 @@ impl<V: Copy> Arena<V> {
         ensures values { (j : ℕ) → list_at self.new j ≡ cond (eqb j i) (list_at self.old i ++ value ∷ []) (list_at self.old j) }
         ensures room { (m n : ℕ) → HasRoomFor self.old m (n + 1) → HasRoomFor self.new m n }
     {
-        let start = self.values.len();
+        let start = self.values.len() as u32;
         self.segments[i] = Segment {
             start,
             len: 1,
-            room: SHARE,
+            room: SHARE as u32,
         };
         let _ = self.values.push(value);
         let _ = self.values.push(value);
@@ -164,13 +187,15 @@ impl<V: Copy> Arena<V> {
         ensures wide { (segment_at self.new.segments.items i).len < (segment_at self.new.segments.items i).room }
         ensures room { (n : ℕ) → HasRoom self.old n → HasRoom self.new n }
     {
-        let Segment { start, len, room } = self.segments[i];
+        let segment = self.segments[i];
         self.segments[i] = Segment {
-            start: self.values.len(),
-            len,
-            room: 2 * room,
+            start: self.values.len() as u32,
+            room: 2 * segment.room,
+            ..segment
         };
-        let _ = self.values.extend_from_within(start..start + room);
+        let room = segment.room as usize;
+        let values = segment.start()..segment.end();
+        let _ = self.values.extend_from_within(values);
         // Any values fill the rest of the room.
         let _ = self.values.extend_from_within(0..room);
         self.debt -= 2 * room;
@@ -187,13 +212,9 @@ impl<V: Copy> Arena<V> {
         ensures values { (j : ℕ) → list_at self.new j ≡ cond (eqb j i) (list_at self.old i ++ value ∷ []) (list_at self.old j) }
         ensures room { (n : ℕ) → HasRoom self.old (n + 1) → HasRoom self.new n }
     {
-        let Segment { start, len, room } = self.segments[i];
-        self.values[start + len] = value;
-        self.segments[i] = Segment {
-            start,
-            len: len + 1,
-            room,
-        };
+        let place = self.segments[i].end();
+        self.values[place] = value;
+        self.segments[i].len += 1;
         self.debt += SHARE;
     }
 
@@ -210,12 +231,13 @@ impl<V: Copy> Arena<V> {
         ensures room { (n : ℕ) → HasRoom self.old (n + 1) → HasRoom self.new n }
     {
         self.push(i, value);
-        let Segment { start, len, .. } = self.segments[i];
-        if at + 1 == len {
+        let segment = self.segments[i];
+        let place = segment.start() + at;
+        let last = segment.end() - 1;
+        if place == last {
             return;
         }
-        let place = start + at;
-        self.values.copy_within(place..start + len - 1, place + 1);
+        self.values.copy_within(place..last, place + 1);
         self.values[place] = value;
     }
 
@@ -228,8 +250,8 @@ impl<V: Copy> Arena<V> {
         ensures values { (j : ℕ) → list_at self.new j ≡ cond (eqb j i) (set (list_at self.old i) at value) (list_at self.old j) }
         ensures room { (n : ℕ) → HasRoom self.old n → HasRoom self.new n }
     {
-        let start = self.segments[i].start;
-        self.values[start + at] = value;
+        let place = self.segments[i].start() + at;
+        self.values[place] = value;
     }
 
     /// Takes a value out of a list.
@@ -241,14 +263,10 @@ impl<V: Copy> Arena<V> {
         ensures values { (j : ℕ) → list_at self.new j ≡ cond (eqb j i) (remove (list_at self.old i) at) (list_at self.old j) }
         ensures room { (n : ℕ) → HasRoom self.old n → HasRoom self.new n }
     {
-        let Segment { start, len, room } = self.segments[i];
-        let place = start + at;
-        self.values.copy_within(place + 1..start + len, place);
-        self.segments[i] = Segment {
-            start,
-            len: len - 1,
-            room,
-        };
+        let segment = self.segments[i];
+        let place = segment.start() + at;
+        self.values.copy_within(place + 1..segment.end(), place);
+        self.segments[i].len -= 1;
     }
 
     /// Takes all values out of a list, if there is one. Its segment stays.
@@ -262,11 +280,6 @@ impl<V: Copy> Arena<V> {
         if i >= self.segments.len() {
             return;
         }
-        let Segment { start, room, .. } = self.segments[i];
-        self.segments[i] = Segment {
-            start,
-            len: 0,
-            room,
-        };
+        self.segments[i].len = 0;
     }
 }

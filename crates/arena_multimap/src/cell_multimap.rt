@@ -63,8 +63,9 @@ impl<V: Copy> CellMultimap<V> {
         }
     }
 
-    /// Makes room for n more values, whatever their cells. The values stay, also after an `Err`, which comes where there is no memory, or
-    /// where there would be more cells than 2^32 - 1.
+    /// Makes room for n more values, whatever their cells. The values stay, also after an `Err`, which comes where there is no memory, where
+    /// there would be more cells than 2^32 - 1, or where 2^30 values or more would have been put in, with those that were taken out since and
+    /// with n more, or 64 where n is less.
     pub fn reserve(&mut self, n: usize) -> Result<(), AllocError>
         ensures entries { self.new.entries ≡ self.old.entries }
         ensures room { OnOk result (n ≤ self.new.spare) }

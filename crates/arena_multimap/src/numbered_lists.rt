@@ -52,7 +52,9 @@ impl<V: Copy> NumberedLists<V> {
         }
     }
 
-    /// Makes room for n more beginnings and values together, in whatever lists. The lists stay, also after an `Err`.
+    /// Makes room for n more beginnings and values together, in whatever lists. The lists stay, also after an `Err`, which comes where there
+    /// is no memory, or where 2^30 values or more would have been put in, with those that were taken out since and with n more, or 64 where n
+    /// is less.
     pub fn reserve(&mut self, n: usize) -> Result<(), AllocError>
         ensures lists { self.new.lists ≡ self.old.lists }
         ensures room { OnOk result (n ≤ self.new.spare) }

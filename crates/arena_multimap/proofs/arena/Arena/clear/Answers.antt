@@ -8,5 +8,5 @@ pub returns-clause-sound : goal.returns-clause-sound
 returns-clause-sound g c =
     let ss = c.args.self.now.segments.items in
     let lt : c.args.i < length ss = search rules in
-    let is : c.index.result.now ≡ segment_at ss c.args.i = read_is ss c.args.i c.index.result.now lt c.index.ensures in
+    let is : c.index_mut.result.now ≡ segment_at ss c.args.i = read_is ss c.args.i c.index_mut.result.now lt c.index_mut.ensures.value in
     shrunk ss _ c.args.self.now.debt c.args.i _ c.requires lt (ap (λ (r : Segment). r.start) is) (ap (λ (r : Segment). r.room) is) (omega arith)

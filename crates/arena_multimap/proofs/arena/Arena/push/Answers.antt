@@ -1,5 +1,6 @@
 use Rattle.std.proofs.Common.{◌+◌, sym, subst, arith}
 use Rattle.arena_multimap.specs.Arenas.{HasRoom}
+use Rattle.arena_multimap.proofs.Segments.{less_room}
 use Rattle.arena_multimap.proofs.arena.Arena.push.Goals as goal
 use Rattle.arena_multimap.proofs.arena.Arena.push.Goals.{then-segment, else-segment}
 
@@ -10,7 +11,7 @@ pub returns-then-i-len-clause-room : goal.returns-then-i-len-clause-room
 returns-then-i-len-clause-room g c n room = c.open.ensures.room n n (c.begin.ensures.room n (n + 1) room)
 
 pub returns-then-segment-eq0-clause-room : goal.returns-then-segment-eq0-clause-room
-returns-then-segment-eq0-clause-room g c n room = c.open-then-segment-eq0.ensures.room n n (record { segments = omega (arith, room.segments); values = room.values })
+returns-then-segment-eq0-clause-room g c n room = c.open-then-segment-eq0.ensures.room n n (less_room room n (n + 1) (omega arith) (omega arith))
 
 pub append-requires-clause-room : goal.append-requires-clause-room
 append-requires-clause-room g c = elim c.if-segment.branch [

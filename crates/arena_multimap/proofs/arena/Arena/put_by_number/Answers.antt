@@ -2,6 +2,7 @@ use Rattle.std.proofs.Common.{◌≡◌, ℕ, ◌∙◌, Result, List, cond, eqb
 use Rattle.teb_history.specs.Ascending.{place_of}
 use Rattle.teb_history.proofs.AscendingLists.{place_in, gap_in, put-set, put-insert}
 use Rattle.arena_multimap.specs.Arenas.{list_at}
+use Rattle.arena_multimap.proofs.Segments.{less_room}
 use Rattle.arena_multimap.proofs.arena.Arena.put_by_number.Goals as goal
 
 -- the place that was found is that in L
@@ -28,7 +29,7 @@ returns-in-Ok-clause-values g c j =
     ∙ ap (λ (l : List _). cond (eqb j c.args.i) l (list_at c.args.self.now j)) (sym (put-set by c.args.value L c.in-Ok.at (found by c.list.result.now L _ _ _ c.find_number.ensures c.list.ensures c.number.ensures ∙ c.in-Ok.is)))
 
 pub returns-in-Ok-clause-room : goal.returns-in-Ok-clause-room
-returns-in-Ok-clause-room g c n room = c.replace.ensures.room n (record { segments = omega (arith, room.segments); values = omega (arith, room.values) })
+returns-in-Ok-clause-room g c n room = c.replace.ensures.room n (less_room room n n (omega arith) (omega arith))
 
 pub returns-in-Err-clause-values : goal.returns-in-Err-clause-values
 returns-in-Err-clause-values g c j =

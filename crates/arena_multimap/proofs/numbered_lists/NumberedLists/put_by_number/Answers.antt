@@ -3,6 +3,7 @@ use Rattle.teb_history.specs.Ascending.{put_by}
 use Rattle.arena_multimap.specs.declared.arena.Arena.{Arena}
 use Rattle.arena_multimap.specs.Arenas.{list_at, lists}
 use Rattle.arena_multimap.specs.NumberedLists.{Shown, all_lists, list_in}
+use Rattle.arena_multimap.proofs.Segments.{less_room}
 use Rattle.arena_multimap.proofs.AllLists.{one_of_all, length-all_lists, edited_all}
 use Rattle.arena_multimap.proofs.numbered_lists.NumberedLists.put_by_number.Goals as goal
 
@@ -19,8 +20,7 @@ put_all a a' s by v i k shown within le count edit =
 pub invariant_of-self : goal.invariant_of-self
 invariant_of-self g c =
     let none = ap {B = ℕ} (λ (b : Bool). cond b 1 0) c.if-not-put_by_number.true in
-    let was = c.self.invariant.room in
-    record { sound = c.put_by_number.ensures.sound; room = c.put_by_number.ensures.room _ (record { segments = omega (arith, none, was.segments); values = omega (arith, none, was.values) }) }
+    record { sound = c.put_by_number.ensures.sound; room = c.put_by_number.ensures.room _ (less_room c.self.invariant.room _ _ (omega (arith, none)) (omega (arith, none))) }
 
 pub returns-then-not-put_by_number-clause-lists : goal.returns-then-not-put_by_number-clause-lists
 returns-then-not-put_by_number-clause-lists g c =
@@ -32,10 +32,9 @@ pub invariant_of-self-2 : goal.invariant_of-self-2
 invariant_of-self-2 g c =
     let one = ap {B = ℕ} (λ (b : Bool). cond b 1 0) c.if-not-put_by_number.false in
     let some = ap (λ s. s.spare) c.self.view_is in
-    let was = c.self.invariant.room in
     record {
       sound = c.put_by_number.ensures.sound;
-      room = c.put_by_number.ensures.room _ (record { segments = omega (arith, one, some, c.requires.room, was.segments); values = omega (arith, one, some, c.requires.room, was.values) });
+      room = c.put_by_number.ensures.room _ (less_room c.self.invariant.room _ _ (omega (arith, one, some, c.requires.room)) (omega (arith, one, some, c.requires.room)));
     }
 
 pub returns-clause-lists : goal.returns-clause-lists
