@@ -13,8 +13,8 @@ use std::alloc::AllocError;
 use teb_names::{Request, Session};
 use version_chain::Chains;
 
-/// Asks each line, and logs the replies. Room is made first for the events that the lines come to, so that the list of events need not move
-/// as they come.
+/// Asks each line, and logs the replies. Room is made first for an event a line, so that the list of events need not move as they come. Scans
+/// come to more: `Engine::ready` makes what room is missing.
 pub fn ask_lines<C: Chains, L: Log>(
     engine: &mut Engine<C>,
     lines: &[Line],
@@ -26,25 +26,11 @@ pub fn ask_lines<C: Chains, L: Log>(
         → L.tells log.new engine.old.names (told ++ log_of engine.old.store engine.old.events (requests_of lines.now))) }
     ensures events { OnOk result (engine.new.events ≡ history_after engine.old.store engine.old.events (requests_of lines.now)) }
 {
-    engine.reserve_ahead(events_in(lines))?;
+    engine.reserve_ahead(lines.len())?;
     for line in lines {
         ask(engine, line.session, line.request, log)?;
     }
     Ok(())
-}
-
-/// How many events the lines come to where all are granted: of a scan one for each cell, and of others one. So many have room ahead in the
-/// list of events. No clause speaks of it, since `Engine::ready` makes what room is missing.
-fn events_in(lines: &[Line]) -> usize {
-    let mut events: usize = 0;
-    for line in lines {
-        let own = match line.request {
-            Request::Scan { count, .. } => usize::from(count),
-            _ => 1,
-        };
-        events = events.saturating_add(own);
-    }
-    events
 }
 
 /// Asks one request, and logs the reply.
