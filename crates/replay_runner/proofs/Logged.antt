@@ -45,27 +45,42 @@ pub record HasFront (Tells : List Answered → Type 0) (rest all : List Answered
   pub told : Tells answers
   pub joined : answers ++ rest ≡ all
 
+-- some requests are asked, and then those behind them
+module _ (asked behind all : Requests) (is : all ≡ asked ++ behind) (X Y : Store) (H K : List Event) (same : Y ≡ X) (on : K ≡ history_after X H asked) where
+  pub part_after : after Y K behind ≡ after X H all
+  part_after = ap₂ (λ (Z : Store) (J : List Event). after Z J behind) same on ∙ sym (history_is X (history_after X H asked) behind)
+      ∙ sym (history_append X H asked behind) ∙ history_is X H (asked ++ behind) ∙ ap (λ (w : Requests). after X H w) (sym is)
+
+  -- their answers are told behind the others
+  pub part_told : (Tells Then : NameBook → List Answered → Type 0) (m n : NameBook) (answers : List Answered) → m ≡ n
+      → ((told : List Answered) → Tells m told → Then m (told ++ log_of X H asked))
+      → HasFront (Tells n) (log_of X H all) answers → HasFront (Then n) (log_of Y K behind) answers
+  part_told Tells Then m n answers e next front =
+      let more = log_of X H asked in
+      record {
+        answers = front.answers ++ more;
+        told = subst (λ (b : NameBook). Then b (front.answers ++ more)) e (next front.answers (subst (λ (b : NameBook). Tells b front.answers) (sym e) front.told));
+        joined = ap₂ (λ (Z : Store) (J : List Event). (front.answers ++ more) ++ log_of Z J behind) same on
+            ∙ append_assoc front.answers more (log_of X (history_after X H asked) behind) ∙ ap (λ (w : List Answered). front.answers ++ w) (sym (log_append X H asked behind))
+            ∙ ap (λ (w : Requests). front.answers ++ log_of X H w) (sym is) ∙ front.joined;
+      }
+
 -- one of some requests is asked, and then those behind it
 module _ {A : Type 0} (f : A → Session × Request) (xs : List A) (i : ℕ) (d : A) (within : i < length xs) (s : Session) (q : Request) (is : (s, q) ≡ f (get_or xs i d)) (X Y : Store) (H K : List Event) (same : Y ≡ X) (on : K ≡ (answer X H s q).1) where
   left : map f (drop i xs) ≡ (s, q) ∷ map f (drop (i + 1) xs)
   left = ap (map f) (drop_more xs i d within) ∙ ap (λ (r : Session × Request). r ∷ map f (drop (i + 1) xs)) (sym is)
 
+  one_on : K ≡ history_after X H ((s, q) ∷ [])
+  one_on = on ∙ sym (history_step X H (s, q) [] ∙ history_none X (answer X H s q).1)
+
   pub one_after : after Y K (map f (drop (i + 1) xs)) ≡ after X H (map f (drop i xs))
-  one_after = ap₂ (λ (Z : Store) (J : List Event). after Z J (map f (drop (i + 1) xs))) same on ∙ ap (λ (w : Requests). after X H w) (sym left)
+  one_after = part_after ((s, q) ∷ []) (map f (drop (i + 1) xs)) (map f (drop i xs)) left X Y H K same one_on
 
   -- its answer is told behind the others
   pub one_told : (Tells Then : NameBook → List Answered → Type 0) (m n : NameBook) (all : List Answered) → m ≡ n
       → ((told : List Answered) → Tells m told → Then m (told ++ record { session = s; reply = (answer X H s q).0 } ∷ []))
       → HasFront (Tells n) (log_of X H (map f (drop i xs))) all → HasFront (Then n) (log_of Y K (map f (drop (i + 1) xs))) all
-  one_told Tells Then m n all e next front =
-      let a : Answered = record { session = s; reply = (answer X H s q).0 } in
-      let more = map f (drop (i + 1) xs) in
-      record {
-        answers = front.answers ++ a ∷ [];
-        told = subst (λ (b : NameBook). Then b (front.answers ++ a ∷ [])) e (next front.answers (subst (λ (b : NameBook). Tells b front.answers) (sym e) front.told));
-        joined = ap₂ (λ (Z : Store) (J : List Event). (front.answers ++ a ∷ []) ++ log_of Z J more) same on ∙ append_assoc front.answers (a ∷ []) (log_of X (answer X H s q).1 more)
-            ∙ ap (λ (w : Requests). front.answers ++ log_of X H w) (sym left) ∙ front.joined;
-      }
+  one_told = part_told ((s, q) ∷ []) (map f (drop (i + 1) xs)) (map f (drop i xs)) left X Y H K same one_on
 
 -- none is left
 pub all_told : (Tells : List Answered → Type 0) (X : Store) (H : List Event) (rs : Requests) (all : List Answered) → rs ≡ [] → HasFront Tells (log_of X H rs) all → Tells all

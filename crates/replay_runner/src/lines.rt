@@ -1,6 +1,6 @@
 //! The requests of a script, in order.
 
-ghost use Rattle.std.specs.Prelude.{◌≡◌, ◌++◌, ◌∷◌, [], IsTrue, List, OnOk};
+ghost use Rattle.std.specs.Prelude.{◌≡◌, ◌<◌, ◌≤◌, ◌++◌, ◌∷◌, [], IsTrue, List, OnOk, length};
 ghost use Rattle.teb_rules.specs.Answer.{answer};
 ghost use Rattle.teb_rules.specs.Run.{history_after};
 ghost use Rattle.script_text.specs.declared.Answered.{Answered};
@@ -13,8 +13,11 @@ use std::alloc::AllocError;
 use teb_names::{Request, Session};
 use version_chain::Chains;
 
+/// How many lines are copied together.
+const NEAR: usize = 64;
+
 /// Asks each line, and logs the replies. Room is made first for an event a line, so that the list of events need not move as they come. Scans
-/// come to more: `Engine::ready` makes what room is missing.
+/// come to more: `Engine::ready` makes what room is missing, and no clause speaks of it.
 pub fn ask_lines<C: Chains, L: Log>(
     engine: &mut Engine<C>,
     lines: &[Line],
@@ -27,6 +30,45 @@ pub fn ask_lines<C: Chains, L: Log>(
     ensures events { OnOk result (engine.new.events ≡ history_after engine.old.store engine.old.events (requests_of lines.now)) }
 {
     engine.reserve_ahead(lines.len())?;
+    for piece in lines.chunks(NEAR) {
+        ask_piece(engine, piece, log)?;
+    }
+    Ok(())
+}
+
+/// Asks each of at most `NEAR` lines, and logs the replies. It copies them first: a request goes far through memory, so that between two
+/// requests the next line of a long list would have to be waited for.
+fn ask_piece<C: Chains, L: Log>(
+    engine: &mut Engine<C>,
+    piece: &[Line],
+    log: &mut L,
+) -> Result<(), AllocError>
+    requires some { 0 < length piece.now }
+    requires fits { length piece.now ≤ 64 }
+    ensures store { engine.new.store ≡ engine.old.store }
+    ensures names { engine.new.names ≡ engine.old.names }
+    ensures log { OnOk result ((told : List Answered) → L.tells log.old engine.old.names told
+        → L.tells log.new engine.old.names (told ++ log_of engine.old.store engine.old.events (requests_of piece.now))) }
+    ensures events { OnOk result (engine.new.events ≡ history_after engine.old.store engine.old.events (requests_of piece.now)) }
+{
+    let mut copy = [piece[0]; NEAR];
+    let near = &mut copy[..piece.len()];
+    near.copy_from_slice(piece);
+    ask_each(engine, near, log)
+}
+
+/// Asks each line, and logs the replies.
+fn ask_each<C: Chains, L: Log>(
+    engine: &mut Engine<C>,
+    lines: &[Line],
+    log: &mut L,
+) -> Result<(), AllocError>
+    ensures store { engine.new.store ≡ engine.old.store }
+    ensures names { engine.new.names ≡ engine.old.names }
+    ensures log { OnOk result ((told : List Answered) → L.tells log.old engine.old.names told
+        → L.tells log.new engine.old.names (told ++ log_of engine.old.store engine.old.events (requests_of lines.now))) }
+    ensures events { OnOk result (engine.new.events ≡ history_after engine.old.store engine.old.events (requests_of lines.now)) }
+{
     for line in lines {
         ask(engine, line.session, line.request, log)?;
     }

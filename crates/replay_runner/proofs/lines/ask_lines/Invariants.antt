@@ -1,11 +1,13 @@
-use Rattle.std.proofs.Common.{◌≡◌, List, ◌++◌, drop}
+use Rattle.std.proofs.Common.{◌≡◌, List, ◌++◌}
+use Rattle.std.specs.Slice.Iter.{chunks_rest, chunks_size}
 use Rattle.script_text.specs.declared.Answered.{Answered}
 use Rattle.replay_runner.specs.Logs.{log_of, requests_of}
 use Rattle.replay_runner.proofs.Logged.{after, HasFront}
 use Rattle.replay_runner.proofs.lines.ask_lines.Given as goal
 
-abbrev pub invariant-loop-line : goal.invariant-loop-line
-invariant-loop-line g l = let rest = requests_of (drop l.line-index l.lines) in record {
+abbrev pub invariant-loop-piece : goal.invariant-loop-piece
+invariant-loop-piece g l = let rest = requests_of (chunks_rest l.piece-iterator) in record {
+  size : chunks_size l.piece-iterator ≡ 64;
   store : l.engine.store ≡ l.fn.engine.store;
   names : l.engine.names ≡ l.fn.engine.names;
   log : (told : List Answered) → g.L.Log.tells l.fn.log l.fn.engine.names told
