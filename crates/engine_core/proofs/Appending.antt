@@ -13,8 +13,8 @@ use Rattle.version_chain.specs.Lists.{Version, writers_of}
 use Rattle.phase_api.specs.Standing.{StandAll}
 use Rattle.phase_api.specs.Versions.{HoldsVersions}
 use Rattle.candidate_reads.specs.declared.placing.Place.{Place}
-use Rattle.dependency_book.specs.Books.{Lists, Shown, BookOf}
-use Rattle.cursor_book.specs.Cursors.{Kept, CursorsOf}
+use Rattle.dependency_book.specs.Books.{Lists, BookOf}
+use Rattle.cursor_book.specs.Cursors.{CursorsOf}
 use Rattle.engine_core.specs.declared.engine_state.EngineState.{EngineState}
 use Rattle.engine_core.specs.declared.engine_view.EngineView.{EngineView}
 use Rattle.engine_core.specs.Latest.{AreLatest}
@@ -24,18 +24,13 @@ use Rattle.engine_core.specs.Keeping.{HasPlace, PutsAt, IsPlaced}
 use Rattle.engine_core.specs.Decisions.{MayBegin}
 
 -- the view of a whole state is whole
-module _ {K C : Type 0} (node_number : K → ℕ) (stands : K → Setup → List Event → Type 0) (lists : C → Cell → List Version) (k : EngineState K C) (p : EngineView K C)
-    (x : store_in p ≡ store_of k.setup) (h : p.facts.history.now ≡ k.history) (l : p.chains.now ≡ k.chains) where
-  pub view_whole : p.controls.now ≡ k.controls.items → p.book.now ≡ k.book → p.cursors.now ≡ k.cursors → p.latest.now ≡ k.latest → StateIsWhole node_number stands lists k → Settled k.history.events → ViewIsWhole node_number stands lists p
-  view_whole c b s m w t = record {
+module _ {K C : Type 0} (node_number : K → ℕ) (stands : K → Setup → List Event → Type 0) (lists : C → Cell → List Version) (k : EngineState K C) (p : EngineView K C) where
+  pub view_whole : store_in p ≡ store_of k.setup → p.facts.history.now ≡ k.history → p.state.now ≡ k → StateIsWhole node_number stands lists k → Settled k.history.events → ViewIsWhole node_number stands lists p
+  view_whole x h s w t = record {
     whole =
-        subst (λ (Y : Store). IsWhole node_number stands Y (events_in p) p.controls.now (lists p.chains.now) p.book.now.lists p.cursors.now.cursors p.latest.now) (sym x)
-        (subst (λ (H : Written). IsWhole node_number stands (store_of k.setup) H.events p.controls.now (lists p.chains.now) p.book.now.lists p.cursors.now.cursors p.latest.now) (sym h)
-        (subst (λ (cs : List K). IsWhole node_number stands (store_of k.setup) k.history.events cs (lists p.chains.now) p.book.now.lists p.cursors.now.cursors p.latest.now) (sym c)
-        (subst (λ (ch : C). IsWhole node_number stands (store_of k.setup) k.history.events k.controls.items (lists ch) p.book.now.lists p.cursors.now.cursors p.latest.now) (sym l)
-        (subst (λ (d : Shown). IsWhole node_number stands (store_of k.setup) k.history.events k.controls.items (lists k.chains) d.lists p.cursors.now.cursors p.latest.now) (sym b)
-        (subst (λ (d : Kept). IsWhole node_number stands (store_of k.setup) k.history.events k.controls.items (lists k.chains) k.book.lists d.cursors p.latest.now) (sym s)
-        (subst (λ (ts : List Txn). IsWhole node_number stands (store_of k.setup) k.history.events k.controls.items (lists k.chains) k.book.lists k.cursors.cursors ts) (sym m) w))))));
+        subst (λ (Y : Store). IsWhole node_number stands Y (events_in p) p.state.now.controls.items (lists p.state.now.chains) p.state.now.book.lists p.state.now.cursors.cursors p.state.now.latest) (sym x)
+        (subst (λ (H : Written). IsWhole node_number stands (store_of k.setup) H.events p.state.now.controls.items (lists p.state.now.chains) p.state.now.book.lists p.state.now.cursors.cursors p.state.now.latest) (sym h)
+        (subst (λ (j : EngineState K C). IsWhole node_number stands (store_of k.setup) k.history.events j.controls.items (lists j.chains) j.book.lists j.cursors.cursors j.latest) (sym s) w));
     settled = subst (λ (H : Written). Settled H.events) (sym h) t;
   }
 

@@ -33,14 +33,14 @@ pub record IsWhole {K : Type 0} (node_number : K → ℕ) (stands : K → Setup 
 
 -- the store and the history that a view tells of
 abbrev pub store_in : {K C : Type 0} → EngineView K C → Store
-store_in p = record { setup = setup_of p.facts; tables = p.tables; rows = p.rows.now }
+store_in p = record { setup = setup_of p.facts; tables = length p.state.now.setup.names.tables; rows = p.state.now.setup.rows }
 
 abbrev pub events_in : {K C : Type 0} → EngineView K C → List Event
 events_in p = events_of p.facts
 
 -- a view is whole, and nobody who is not aborted has read from somebody who is
 pub record ViewIsWhole {K C : Type 0} (node_number : K → ℕ) (stands : K → Setup → List Event → Type 0) (lists : C → Cell → List Version) (p : EngineView K C) : Type 0 where
-  pub whole : IsWhole node_number stands (store_in p) (events_in p) p.controls.now (lists p.chains.now) p.book.now.lists p.cursors.now.cursors p.latest.now
+  pub whole : IsWhole node_number stands (store_in p) (events_in p) p.state.now.controls.items (lists p.state.now.chains) p.state.now.book.lists p.state.now.cursors.cursors p.state.now.latest
   pub settled : Settled (events_in p)
 
 -- the same of what the engine owns, between two answers or amid one

@@ -23,7 +23,7 @@ use version_chain::Chains;
 pub fn decide_read<K: Control, C: Chains>(asking: &Asking<'_, K, C>, cell: Cell) -> Decision
     requires whole { ViewIsWhole K.node_number K.stands C.lists asking.now.view.now }
     ensures answer { carried (store_in asking.now.view.now) (events_in asking.now.view.now) result ≡ answer_of (store_in asking.now.view.now) (events_in asking.now.view.now) asking.now.txn.0 (request.Read cell) }
-    ensures bounded { IsBounded (C.lists asking.now.view.now.chains.now) (store_in asking.now.view.now).setup (events_in asking.now.view.now) result }
+    ensures bounded { IsBounded (C.lists asking.now.view.now.state.now.chains) (store_in asking.now.view.now).setup (events_in asking.now.view.now) result }
 {
     if let Some(why) = refusal(asking, cell) {
         return refused(why);
@@ -38,7 +38,7 @@ pub fn decide_read<K: Control, C: Chains>(asking: &Asking<'_, K, C>, cell: Cell)
 fn got<K: Control, C: Chains>(asking: &Asking<'_, K, C>, cell: Cell) -> Decision
     requires { ViewIsWhole K.node_number K.stands C.lists asking.now.view.now }
     ensures answer { carried (store_in asking.now.view.now) (events_in asking.now.view.now) result ≡ got_value (events_in asking.now.view.now) asking.now.txn.0 cell (read (store_in asking.now.view.now).setup (store_in asking.now.view.now).rows (events_in asking.now.view.now) asking.now.txn.0 cell) }
-    ensures bounded { IsBounded (C.lists asking.now.view.now.chains.now) (store_in asking.now.view.now).setup (events_in asking.now.view.now) result }
+    ensures bounded { IsBounded (C.lists asking.now.view.now.state.now.chains) (store_in asking.now.view.now).setup (events_in asking.now.view.now) result }
 {
     let (from, value) = asking.view.read(asking.txn, cell);
     Decision::Grant(
@@ -60,7 +60,7 @@ pub fn decide_write<K: Control, C: Chains>(
 ) -> Decision
     requires whole { ViewIsWhole K.node_number K.stands C.lists asking.now.view.now }
     ensures answer { carried (store_in asking.now.view.now) (events_in asking.now.view.now) result ≡ or_refused (store_in asking.now.view.now) (events_in asking.now.view.now) asking.now.txn.0 cell (put_value (store_in asking.now.view.now).setup (events_in asking.now.view.now) asking.now.txn.0 cell value) }
-    ensures bounded { IsBounded (C.lists asking.now.view.now.chains.now) (store_in asking.now.view.now).setup (events_in asking.now.view.now) result }
+    ensures bounded { IsBounded (C.lists asking.now.view.now.state.now.chains) (store_in asking.now.view.now).setup (events_in asking.now.view.now) result }
 {
     match refusal(asking, cell) {
         Some(why) => refused(why),
@@ -77,7 +77,7 @@ pub fn put<K: Control, C: Chains>(
     requires whole { ViewIsWhole K.node_number K.stands C.lists asking.now.view.now }
     requires asks { IsAsking (store_in asking.now.view.now).setup (events_in asking.now.view.now) asking.now.txn.0 cell }
     ensures answer { carried (store_in asking.now.view.now) (events_in asking.now.view.now) result ≡ put_value (store_in asking.now.view.now).setup (events_in asking.now.view.now) asking.now.txn.0 cell value }
-    ensures bounded { IsBounded (C.lists asking.now.view.now.chains.now) (store_in asking.now.view.now).setup (events_in asking.now.view.now) result }
+    ensures bounded { IsBounded (C.lists asking.now.view.now.state.now.chains) (store_in asking.now.view.now).setup (events_in asking.now.view.now) result }
 {
     let asked = asked_place(asking, cell);
     match write_stop(asking, cell, at_of(asked)) {

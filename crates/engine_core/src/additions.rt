@@ -22,7 +22,7 @@ pub fn decide_add<K: Control, C: Chains>(
 ) -> Decision
     requires whole { ViewIsWhole K.node_number K.stands C.lists asking.now.view.now }
     ensures answer { carried (store_in asking.now.view.now) (events_in asking.now.view.now) result ≡ answer_of (store_in asking.now.view.now) (events_in asking.now.view.now) asking.now.txn.0 (request.Add cell number) }
-    ensures bounded { IsBounded (C.lists asking.now.view.now.chains.now) (store_in asking.now.view.now).setup (events_in asking.now.view.now) result }
+    ensures bounded { IsBounded (C.lists asking.now.view.now.state.now.chains) (store_in asking.now.view.now).setup (events_in asking.now.view.now) result }
 {
     if let Some(why) = refusal(asking, cell) {
         return refused(why);

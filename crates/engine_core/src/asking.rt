@@ -55,7 +55,7 @@ impl<'a, K: Control, C: Chains> Asking<'a, K, C> {
         let view = self.view;
         let profile = &view.facts.profiles[usize::from(self.spot.kind.0)];
         profile
-            .cursor_after(view.cursors.cursor(self.txn), table)
+            .cursor_after(view.state.cursors.cursor(self.txn), table)
             .is_some()
     }
 }

@@ -34,7 +34,7 @@ pub fn decide<K: Control, C: Chains>(
 ) -> Decision
     requires { ViewIsWhole K.node_number K.stands C.lists view.now }
     ensures answer { carried (store_in view.now) (events_in view.now) result ≡ answer (store_in view.now) (events_in view.now) session request }
-    ensures bounded { IsBounded (C.lists view.now.chains.now) (store_in view.now).setup (events_in view.now) result }
+    ensures bounded { IsBounded (C.lists view.now.state.now.chains) (store_in view.now).setup (events_in view.now) result }
 {
     if !is_session(session) {
         return refused(Refusal::BadSession);
@@ -63,7 +63,7 @@ fn decide_new<K: Control, C: Chains>(
 ) -> Decision
     requires { ViewIsWhole K.node_number K.stands C.lists view.now }
     ensures answer { carried (store_in view.now) (events_in view.now) result ≡ answer_new (store_in view.now).setup (events_in view.now) session request }
-    ensures bounded { IsBounded (C.lists view.now.chains.now) (store_in view.now).setup (events_in view.now) result }
+    ensures bounded { IsBounded (C.lists view.now.state.now.chains) (store_in view.now).setup (events_in view.now) result }
 {
     match request {
         Request::Begin(spot) => decide_begin(view, session, spot),
@@ -78,7 +78,7 @@ fn decide_begin<K: Control, C: Chains>(
 ) -> Decision
     requires { ViewIsWhole K.node_number K.stands C.lists view.now }
     ensures answer { carried (store_in view.now) (events_in view.now) result ≡ answer_new (store_in view.now).setup (events_in view.now) session (Request.Begin spot) }
-    ensures bounded { IsBounded (C.lists view.now.chains.now) (store_in view.now).setup (events_in view.now) result }
+    ensures bounded { IsBounded (C.lists view.now.state.now.chains) (store_in view.now).setup (events_in view.now) result }
 {
     let begun = view.facts.history.begun();
     if !view.has_type(spot.kind) {
@@ -106,7 +106,7 @@ fn decide_begin<K: Control, C: Chains>(
 fn tell<K: Control, C: Chains>(view: &EngineView<K, C>, t: Txn) -> Decision
     requires { ViewIsWhole K.node_number K.stands C.lists view.now }
     ensures answer { carried (store_in view.now) (events_in view.now) result ≡ told (events_in view.now) t.0 }
-    ensures bounded { IsBounded (C.lists view.now.chains.now) (store_in view.now).setup (events_in view.now) result }
+    ensures bounded { IsBounded (C.lists view.now.state.now.chains) (store_in view.now).setup (events_in view.now) result }
 {
     let cause = view.facts.history.cause(t).unwrap_or(Cause::Asked);
     Decision::Grant(ShortReply::Aborted(cause), Event::Told(t))
@@ -116,7 +116,7 @@ fn tell<K: Control, C: Chains>(view: &EngineView<K, C>, t: Txn) -> Decision
 fn decide_of<K: Control, C: Chains>(asking: &Asking<'_, K, C>, request: Request) -> Decision
     requires whole { ViewIsWhole K.node_number K.stands C.lists asking.now.view.now }
     ensures answer { carried (store_in asking.now.view.now) (events_in asking.now.view.now) result ≡ answer_of (store_in asking.now.view.now) (events_in asking.now.view.now) asking.now.txn.0 request }
-    ensures bounded { IsBounded (C.lists asking.now.view.now.chains.now) (store_in asking.now.view.now).setup (events_in asking.now.view.now) result }
+    ensures bounded { IsBounded (C.lists asking.now.view.now.state.now.chains) (store_in asking.now.view.now).setup (events_in asking.now.view.now) result }
 {
     match request {
         Request::Begin(_) => refused(Refusal::InTxn),
@@ -135,7 +135,7 @@ fn decide_of<K: Control, C: Chains>(asking: &Asking<'_, K, C>, request: Request)
 fn decide_prepare<K: Control, C: Chains>(asking: &Asking<'_, K, C>) -> Decision
     requires whole { ViewIsWhole K.node_number K.stands C.lists asking.now.view.now }
     ensures answer { carried (store_in asking.now.view.now) (events_in asking.now.view.now) result ≡ answer_of (store_in asking.now.view.now) (events_in asking.now.view.now) asking.now.txn.0 Request.Prepare }
-    ensures bounded { IsBounded (C.lists asking.now.view.now.chains.now) (store_in asking.now.view.now).setup (events_in asking.now.view.now) result }
+    ensures bounded { IsBounded (C.lists asking.now.view.now.state.now.chains) (store_in asking.now.view.now).setup (events_in asking.now.view.now) result }
 {
     if asking.is_prepared {
         return refused(Refusal::Prepared);
@@ -149,7 +149,7 @@ fn decide_prepare<K: Control, C: Chains>(asking: &Asking<'_, K, C>) -> Decision
 fn decide_commit<K: Control, C: Chains>(asking: &Asking<'_, K, C>) -> Decision
     requires whole { ViewIsWhole K.node_number K.stands C.lists asking.now.view.now }
     ensures answer { carried (store_in asking.now.view.now) (events_in asking.now.view.now) result ≡ answer_of (store_in asking.now.view.now) (events_in asking.now.view.now) asking.now.txn.0 Request.Commit }
-    ensures bounded { IsBounded (C.lists asking.now.view.now.chains.now) (store_in asking.now.view.now).setup (events_in asking.now.view.now) result }
+    ensures bounded { IsBounded (C.lists asking.now.view.now.state.now.chains) (store_in asking.now.view.now).setup (events_in asking.now.view.now) result }
 {
     match commit_stop(asking) {
         Stop::Go => Decision::Grant(ShortReply::Committed, Event::Done(asking.txn)),

@@ -120,7 +120,7 @@ impl<C: Chains> Engine<C> {
     {
         self.ready = false;
         let state = &mut *self.state;
-        match respond(state, session, request) {
+        match respond(state, session, &request) {
             Response::Reply(reply) => reply.full(),
             Response::Scan(t, first, count) => scan(state, t, first, count),
         }
@@ -128,11 +128,11 @@ impl<C: Chains> Engine<C> {
 
     /// Answers a request that is no scan: a short reply costs less to move. It uses up the room, and takes no memory.
     #[inline(always)]
-    pub fn ask_short(&mut self, session: Session, request: Request) -> ShortReply
+    pub fn ask_short(&mut self, session: Session, request: &Request) -> ShortReply
         requires ready { IsTrue self.old.ready }
-        requires short { IsNoScan request }
-        ensures reply { full_reply result ≡ (answer self.old.store self.old.events session request).0 }
-        ensures events { self.new.events ≡ (answer self.old.store self.old.events session request).1 }
+        requires short { IsNoScan request.now }
+        ensures reply { full_reply result ≡ (answer self.old.store self.old.events session request.now).0 }
+        ensures events { self.new.events ≡ (answer self.old.store self.old.events session request.now).1 }
         ensures store { self.new.store ≡ self.old.store }
         ensures names { self.new.names ≡ self.old.names }
         ensures ready { self.new.ready ≡ false }

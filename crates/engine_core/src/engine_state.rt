@@ -43,21 +43,11 @@ impl<K: Control, C: Chains> EngineState<K, C> {
     pub fn view(&self) -> EngineView<'_, K, C>
         ensures store { store_in result ≡ store_of self.now.setup }
         ensures history { result.facts.history.now ≡ self.now.history }
-        ensures controls { result.controls.now ≡ self.now.controls.items }
-        ensures chains { result.chains.now ≡ self.now.chains }
-        ensures book { result.book.now ≡ self.now.book }
-        ensures cursors { result.cursors.now ≡ self.now.cursors }
-        ensures latest { result.latest.now ≡ self.now.latest }
+        ensures state { result.state.now ≡ self.now }
     {
         EngineView {
             facts: facts_of(&self.history, &self.setup),
-            controls: &self.controls,
-            chains: &self.chains,
-            book: &self.book,
-            cursors: &self.cursors,
-            latest: &self.latest,
-            rows: &self.setup.rows,
-            tables: self.setup.names.tables.len(),
+            state: self,
         }
     }
 

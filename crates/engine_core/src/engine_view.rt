@@ -1,4 +1,4 @@
-//! What a decision looks at: what an engine keeps, lent. Of it controls are told the `Facts`.
+//! What a decision looks at: what an engine keeps, lent, and the `Facts` of it, which controls are told.
 
 ghost use Rattle.std.specs.Prelude.{◌≡◌, ◌<◌, ltb, length, IsTrue, slice_get, Some};
 ghost use Rattle.teb_rules.specs.Versions.{read};
@@ -6,25 +6,17 @@ ghost use Rattle.version_chain.specs.Lists.{writers_of, is_writer};
 ghost use Rattle.phase_api.specs.Versions.{IsPlaceOf};
 ghost use Rattle.teb_history.specs.Phases.{unfinished, spot_of};
 
-use crate::latest_txns::LatestTxns;
+use crate::engine_state::EngineState;
 use candidate_reads::{Place, place_of, read};
-use cursor_book::Cursors;
-use dependency_book::Book;
 use phase_api::{Control, Facts};
-use teb_names::{Cell, Kind, Node, Rows, Spot, Table, Txn};
+use teb_names::{Cell, Kind, Node, Spot, Table, Txn};
 use version_chain::Chains;
 
-/// What an engine keeps (`EngineState`), lent to be read.
+/// What an engine keeps, lent to be read, and what controls are told of it. It is five words, made anew at each request.
 #[derive(Drop)]
 pub struct EngineView<'a, K: Control, C: Chains> {
     pub facts: Facts<'a>,
-    pub controls: &'a [K],
-    pub chains: &'a C,
-    pub book: &'a Book,
-    pub cursors: &'a Cursors,
-    pub latest: &'a LatestTxns,
-    pub rows: &'a Rows,
-    pub tables: u8,
+    pub state: &'a EngineState<K, C>,
 }
 
 impl<'a, K: Control, C: Chains> EngineView<'a, K, C> {
@@ -34,7 +26,7 @@ impl<'a, K: Control, C: Chains> EngineView<'a, K, C> {
     pub fn has_table(&self, table: Table) -> bool
         ensures { result ≡ ltb table.0 (store_in self.now).tables }
     {
-        table.0 < self.tables
+        table.0 < self.state.setup.names.tables.len()
     }
 
     /// Whether the store has a type.
@@ -64,7 +56,7 @@ impl<'a, K: Control, C: Chains> EngineView<'a, K, C> {
         ensures node_number { K.node_number result.now ≡ n.0 }
         ensures stands { K.stands result.now (store_in self.now).setup (events_in self.now) }
     {
-        &self.controls[usize::from(n.0)]
+        &self.state.controls[usize::from(n.0)]
     }
 
     /// What an unfinished transaction reads of a cell: from whom, and the value.
@@ -74,17 +66,26 @@ impl<'a, K: Control, C: Chains> EngineView<'a, K, C> {
         ensures source { result.0.0 ≡ (read (store_in self.now).setup (store_in self.now).rows (events_in self.now) t.0 cell).0 }
         ensures value { result.1 ≡ (read (store_in self.now).setup (store_in self.now).rows (events_in self.now) t.0 cell).1 }
     {
-        read(self.controls, self.chains, self.rows, &self.facts, t, cell)
+        let state = self.state;
+        read(
+            &state.controls,
+            &state.chains,
+            &state.setup.rows,
+            &self.facts,
+            t,
+            cell,
+        )
     }
 
     /// The place that the version of an unfinished transaction has, or would have, in the chain of a cell.
     pub fn place_of(&self, t: Txn, cell: Cell) -> Place
         requires whole { ViewIsWhole K.node_number K.stands C.lists self.now }
         requires unfinished { IsTrue (unfinished (events_in self.now) t.0) }
-        ensures place { IsPlaceOf (store_in self.now).setup (events_in self.now) cell t.0 result.at (writers_of (C.lists self.now.chains.now cell)) }
-        ensures own { IsTrue (is_writer (C.lists self.now.chains.now cell) t.0) → slice_get (writers_of (C.lists self.now.chains.now cell)) result.at ≡ Some t.0 }
-        ensures there { result.is_there ≡ is_writer (C.lists self.now.chains.now cell) t.0 }
+        ensures place { IsPlaceOf (store_in self.now).setup (events_in self.now) cell t.0 result.at (writers_of (C.lists self.now.state.now.chains cell)) }
+        ensures own { IsTrue (is_writer (C.lists self.now.state.now.chains cell) t.0) → slice_get (writers_of (C.lists self.now.state.now.chains cell)) result.at ≡ Some t.0 }
+        ensures there { result.is_there ≡ is_writer (C.lists self.now.state.now.chains cell) t.0 }
     {
-        place_of(self.controls, self.chains, &self.facts, t, cell)
+        let state = self.state;
+        place_of(&state.controls, &state.chains, &self.facts, t, cell)
     }
 }

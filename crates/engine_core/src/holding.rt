@@ -25,7 +25,7 @@ pub fn held<K: Control, C: Chains>(view: &EngineView<K, C>, session: Session) ->
     requires { ViewIsWhole K.node_number K.stands C.lists view.now }
     ensures { IsHeld (events_in view.now) session result }
 {
-    let txn = view.latest.of(session);
+    let txn = view.state.latest.of(session);
     match view.facts.history.phase(txn) {
         Phase::Running => Holding::Running {
             txn,

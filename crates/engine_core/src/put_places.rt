@@ -22,8 +22,8 @@ use version_chain::Chains;
 /// The place of t's version of a cell, where a timestamp node is on t's path.
 pub fn asked_place<K: Control, C: Chains>(asking: &Asking<'_, K, C>, cell: Cell) -> Option<Place>
     requires whole { ViewIsWhole K.node_number K.stands C.lists asking.now.view.now }
-    ensures placed { IfSome result (λ p. IsPlaced (store_in asking.now.view.now).setup (events_in asking.now.view.now) (C.lists asking.now.view.now.chains.now) asking.now.txn.0 cell p) }
-    ensures told { AreTold (store_in asking.now.view.now).setup (events_in asking.now.view.now) cell asking.now.txn.0 (at_of result) (writers_of (C.lists asking.now.view.now.chains.now cell)) }
+    ensures placed { IfSome result (λ p. IsPlaced (store_in asking.now.view.now).setup (events_in asking.now.view.now) (C.lists asking.now.view.now.state.now.chains) asking.now.txn.0 cell p) }
+    ensures told { AreTold (store_in asking.now.view.now).setup (events_in asking.now.view.now) cell asking.now.txn.0 (at_of result) (writers_of (C.lists asking.now.view.now.state.now.chains cell)) }
 {
     let view = asking.view;
     if has_timestamp(view.facts.tree, asking.nodes) {
@@ -51,14 +51,14 @@ pub fn granted_place<K: Control, C: Chains>(
     cell: Cell,
 ) -> Place
     requires whole { ViewIsWhole K.node_number K.stands C.lists asking.now.view.now }
-    requires asked { IfSome asked (λ p. IsPlaced (store_in asking.now.view.now).setup (events_in asking.now.view.now) (C.lists asking.now.view.now.chains.now) asking.now.txn.0 cell p) }
-    requires told { AreTold (store_in asking.now.view.now).setup (events_in asking.now.view.now) cell asking.now.txn.0 (at_of asked) (writers_of (C.lists asking.now.view.now.chains.now cell)) }
-    ensures { IsPlaced (store_in asking.now.view.now).setup (events_in asking.now.view.now) (C.lists asking.now.view.now.chains.now) asking.now.txn.0 cell result }
+    requires asked { IfSome asked (λ p. IsPlaced (store_in asking.now.view.now).setup (events_in asking.now.view.now) (C.lists asking.now.view.now.state.now.chains) asking.now.txn.0 cell p) }
+    requires told { AreTold (store_in asking.now.view.now).setup (events_in asking.now.view.now) cell asking.now.txn.0 (at_of asked) (writers_of (C.lists asking.now.view.now.state.now.chains cell)) }
+    ensures { IsPlaced (store_in asking.now.view.now).setup (events_in asking.now.view.now) (C.lists asking.now.view.now.state.now.chains) asking.now.txn.0 cell result }
 {
     let view = asking.view;
     match asked {
         Some(place) => place,
-        None => place_behind(view.chains, &view.facts, asking.txn, cell),
+        None => place_behind(&view.state.chains, &view.facts, asking.txn, cell),
     }
 }
 

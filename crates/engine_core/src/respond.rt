@@ -24,23 +24,24 @@ pub enum Response {
     Scan(Txn, Cell, u8),
 }
 
-/// Answers a request, all but the cells of a scan. No other function decides or writes, so that both can be inlined here.
+/// Answers a request, all but the cells of a scan. The request is lent, so that no call writes a copy of it. No other function
+/// decides or writes, so that both can be inlined here.
 #[inline(never)]
 pub fn respond<K: Control, C: Chains>(
     state: &mut EngineState<K, C>,
     session: Session,
-    request: Request,
+    request: &Request,
 ) -> Response
     requires whole { StateIsWhole K.node_number K.stands C.lists state.old }
     requires settled { Settled state.old.history.events }
     requires room { HasRoom K.spare C.spare state.old }
     requires enough { 32 ≤ state.old.room }
-    ensures answer { IsResponse state.old state.new (answer (store_of state.old.setup) state.old.history.events session request) result }
+    ensures answer { IsResponse state.old state.new (answer (store_of state.old.setup) state.old.history.events session request.now) result }
     ensures whole { StateIsWhole K.node_number K.stands C.lists state.new }
     ensures setup { state.new.setup ≡ state.old.setup }
     ensures room { HasRoom K.spare C.spare state.new }
 {
-    let decision = state.decide(session, request);
+    let decision = state.decide(session, *request);
     if let Decision::Scan(t, first, count) = decision {
         return Response::Scan(t, first, count);
     }

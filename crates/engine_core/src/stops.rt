@@ -43,14 +43,14 @@ pub fn write_stop<K: Control, C: Chains>(
 ) -> Stop
     requires whole { ViewIsWhole K.node_number K.stands C.lists asking.now.view.now }
     requires asks { IsAsking (store_in asking.now.view.now).setup (events_in asking.now.view.now) asking.now.txn.0 cell }
-    requires told { AreTold (store_in asking.now.view.now).setup (events_in asking.now.view.now) cell asking.now.txn.0 at (writers_of (C.lists asking.now.view.now.chains.now cell)) }
+    requires told { AreTold (store_in asking.now.view.now).setup (events_in asking.now.view.now) cell asking.now.txn.0 at (writers_of (C.lists asking.now.view.now.state.now.chains cell)) }
     ensures { result ≡ access_stop (store_in asking.now.view.now).setup (events_in asking.now.view.now) asking.now.txn.0 cell true }
 {
     let view = asking.view;
     for node in asking.nodes {
         match view
             .control_at(*node)
-            .before_write(&view.facts, view.chains, at, asking.txn, cell)
+            .before_write(&view.facts, &view.state.chains, at, asking.txn, cell)
         {
             Verdict::Go => {}
             verdict => return stop_at(*node, verdict),
@@ -80,7 +80,12 @@ pub fn commit_stop<K: Control, C: Chains>(asking: &Asking<'_, K, C>) -> Stop
     ensures { result ≡ commit_stop (store_in asking.now.view.now).setup (events_in asking.now.view.now) asking.now.txn.0 }
 {
     let view = asking.view;
-    may_commit(view.controls, view.book, &view.facts, asking.txn)
+    may_commit(
+        &view.state.controls,
+        &view.state.book,
+        &view.facts,
+        asking.txn,
+    )
 }
 
 /// Where a Begin stops.

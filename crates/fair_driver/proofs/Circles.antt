@@ -109,14 +109,14 @@ module _ (H : List Event) (n : ℕ) (ws : List Seat) (within : n ≤ length ws) 
   turn_none f g = none_first (offer H (round_from n ws)) (round_from n ws) (λ k d l. none_upto n (omega arith) f g k d (let z = size n ws within in omega arith))
 
   turned_at : (j : ℕ) (a : Asked) → a.index < length ws → j < length ws → ((k : ℕ) (e : Seat) → k < j → offer H (round_from n ws) (get_or (round_from n ws) k e) ≡ None) →
-      ((d : Seat) → get_or (round_from n ws) j d ≡ get_or ws a.index d) → ((d : Seat) → a.session ≡ (get_or ws a.index d).session) → ((d : Seat) → offer H ws (get_or ws a.index d) ≡ Some a.request) →
+      ((d : Seat) → get_or (round_from n ws) j d ≡ get_or ws a.index d) → ((d : Seat) → a.session ≡ (get_or ws a.index d).session) → ((d : Seat) → offer H ws (get_or ws a.index d) ≡ Some a.request.now) →
       drop (suc j) (round_from n ws) ++ take j (round_from n ws) ≡ drop (a.index + 1) ws ++ take a.index ws → IsTurnOf H n ws a
   unfolding turn
   turned_at j a l m before there s r o = record {
-    of = record { passed = take j (round_from n ws); seat = get_or ws a.index nobody; request = a.request; behind = drop (suc j) (round_from n ws) };
-    is = first_at (offer H (round_from n ws)) (round_from n ws) j a.request nobody (let z = size n ws within in omega arith) before
+    of = record { passed = take j (round_from n ws); seat = get_or ws a.index nobody; request = a.request.now; behind = drop (suc j) (round_from n ws) };
+    is = first_at (offer H (round_from n ws)) (round_from n ws) j a.request.now nobody (let z = size n ws within in omega arith) before
         (ap (offer H (round_from n ws)) (there nobody) ∙ offer_turned H n ws (get_or ws a.index nobody) ∙ r nobody)
-        ∙ ap (λ (w : Seat). Some (record { passed = take j (round_from n ws); seat = w; request = a.request; behind = drop (suc j) (round_from n ws) })) (there nobody);
+        ∙ ap (λ (w : Seat). Some (record { passed = take j (round_from n ws); seat = w; request = a.request.now; behind = drop (suc j) (round_from n ws) })) (there nobody);
     seat = slice_get-get_or ws a.index nobody l;
     session = s nobody;
     request = refl;

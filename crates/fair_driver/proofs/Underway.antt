@@ -26,16 +26,16 @@ use Rattle.fair_driver.specs.Turns.{IsTurnOf}
 use Rattle.fair_driver.specs.Logged.{answered, answers_of, AreAnswers, IsOf, IsAnswered, IsMade}
 
 -- one turn: who is asked, the answer, and the round behind it
-pub turn_taken : (X Y : Store) (H G K : List Event) (n : ℕ) (ws rs : List Seat) (a : Asked) (q : Reply) → (t : IsTurnOf H n ws a) → Y ≡ X → G ≡ H → q ≡ (answer Y G a.session a.request).0 → K ≡ (answer Y G a.session a.request).1 →
+pub turn_taken : (X Y : Store) (H G K : List Event) (n : ℕ) (ws rs : List Seat) (a : Asked) (q : Reply) → (t : IsTurnOf H n ws a) → Y ≡ X → G ≡ H → q ≡ (answer Y G a.session a.request.now).0 → K ≡ (answer Y G a.session a.request.now).1 →
     rs ≡ drop (a.index + 1) ws ++ take a.index ws ++ seat_after t.of.seat q ∷ [] →
-    Stepped X (record { history = H; round = round_from n ws }) (Some (record { session = a.session; request = a.request; reply = q })) (record { history = K; round = rs })
+    Stepped X (record { history = H; round = round_from n ws }) (Some (record { session = a.session; request = a.request.now; reply = q })) (record { history = K; round = rs })
 turn_taken X Y H G K n ws rs a q t x g p k r = (
   t.of,
   t.is,
   t.session,
   t.request,
-  p ∙ ap₂ (λ (Z : Store) (J : List Event). (answer Z J a.session a.request).0) x g,
-  ap₂ (λ (J : List Event) (vs : List Seat). record { history = J; round = vs }) (k ∙ ap₂ (λ (Z : Store) (J : List Event). (answer Z J a.session a.request).1) x g)
+  p ∙ ap₂ (λ (Z : Store) (J : List Event). (answer Z J a.session a.request.now).0) x g,
+  ap₂ (λ (J : List Event) (vs : List Seat). record { history = J; round = vs }) (k ∙ ap₂ (λ (Z : Store) (J : List Event). (answer Z J a.session a.request.now).1) x g)
       (r ∙ ap (λ (vs : List Seat). vs ++ seat_after t.of.seat q ∷ []) (sym t.others) ∙ sym (ap (λ (u : Option Turn). next_round u (round_from n ws) q) t.is)),
 )
 

@@ -13,7 +13,7 @@ pub record IsFirstAt (f : Seat → Option Request) (ws : List Seat) (from end : 
   pub within : a.index < end
   pub none_before : AllWithin (λ w. f w ≡ None) ws from a.index
   pub session : (d : Seat) → a.session ≡ (get_or ws a.index d).session
-  pub request : (d : Seat) → f (get_or ws a.index d) ≡ Some a.request
+  pub request : (d : Seat) → f (get_or ws a.index d) ≡ Some a.request.now
 
 abbrev pub IsFirst : (Seat → Option Request) → List Seat → ℕ → ℕ → Option Asked → Type 0
 IsFirst f ws from end None = AllWithin (λ w. f w ≡ None) ws from end
@@ -25,7 +25,7 @@ pub record IsTurnOf (H : List Event) (n : ℕ) (ws : List Seat) (a : Asked) : Ty
   pub is : turn H (round_from n ws) ≡ Some of
   pub seat : slice_get ws a.index ≡ Some of.seat
   pub session : a.session ≡ of.seat.session
-  pub request : a.request ≡ of.request
+  pub request : a.request.now ≡ of.request
   pub others : of.behind ++ of.passed ≡ drop (a.index + 1) ws ++ take a.index ws
 
 abbrev pub IsTurn : List Event → ℕ → List Seat → Option Asked → Type 0

@@ -1,6 +1,6 @@
 //! Where a session stands in its script.
 
-ghost use Rattle.std.specs.Prelude.{◌≡◌, ◌≤◌, List, ◌∷◌};
+ghost use Rattle.std.specs.Prelude.{◌≡◌, ◌≤◌, List, ◌∷◌, option_map};
 ghost use Rattle.teb_names.specs.declared.Request.{Request};
 ghost use Rattle.teb_names.specs.declared.Reply.{Reply};
 ghost use Rattle.teb_rules.specs.Scripts.{at_first, asks};
@@ -43,10 +43,16 @@ impl<'a> Cursor<'a> {
 
     /// What the session asks next: its line, or behind its last line End where it holds a transaction.
     #[inline(always)]
-    pub fn next(&self) -> Option<Request>
-        ensures { result ≡ asks (seat_of self.now).state }
+    pub fn next(&self) -> Option<&'a Request>
+        ensures { option_map (λ r. r.now) result ≡ asks (seat_of self.now).state }
     {
-        self.walker.next(self.lines)
+        if self.walker.at < self.lines.len() {
+            Some(&self.lines[self.walker.at].request)
+        } else if self.walker.begun.is_some() {
+            Some(&Request::End)
+        } else {
+            None
+        }
     }
 
     /// Whether the session is to run alone: it was sent back three times, and is not through.

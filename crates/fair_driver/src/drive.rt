@@ -86,7 +86,7 @@ fn make_turn<C: Chains, G: Log>(
     engine.ready()?;
     match asked.request {
         Request::Scan { cell, count } => {
-            ask_scan(engine, ring, log, asked.index, asked.session, cell, count);
+            ask_scan(engine, ring, log, asked.index, asked.session, *cell, *count);
         }
         _ => {
             let reply = &engine.ask_short(asked.session, asked.request);

@@ -1,6 +1,6 @@
 //! Who may ask.
 
-ghost use Rattle.std.specs.Prelude.{◌≡◌, not, leb, ◌||◌};
+ghost use Rattle.std.specs.Prelude.{◌≡◌, not, leb, ◌||◌, option_map};
 ghost use Rattle.std.specs.List.{list_any, list_all};
 ghost use Rattle.teb_rules.specs.Driver.{due, chosen, may_begin, offer, is_begin};
 ghost use Rattle.fair_driver.specs.Seats.{seat_of, seats_in};
@@ -13,17 +13,17 @@ use teb_names::{Request, Session};
 /// What one of the sessions may ask now. `None` where it is through, or would begin a transaction while it may not. `has_due` says whether
 /// some session is to run alone; where none is, the others are not looked at.
 #[inline(always)]
-pub fn offer(
+pub fn offer<'a>(
     history: &History,
-    cursors: &[Cursor<'_>],
+    cursors: &[Cursor<'a>],
     has_due: bool,
-    cursor: &Cursor<'_>,
-) -> Option<Request>
+    cursor: &Cursor<'a>,
+) -> Option<&'a Request>
     requires { has_due ≡ list_any (λ c. due (seat_of c)) cursors.now }
-    ensures { result ≡ offer history.now.events (seats_in cursors.now) (seat_of cursor.now) }
+    ensures { option_map (λ r. r.now) result ≡ offer history.now.events (seats_in cursors.now) (seat_of cursor.now) }
 {
     let request = cursor.next()?;
-    if !is_begin(&request)
+    if !is_begin(request)
         || cursor.walker.begun.is_some()
         || may_begin(history, cursors, has_due, cursor)
     {

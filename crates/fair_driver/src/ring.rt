@@ -27,12 +27,12 @@ pub struct Ring<'a> {
 
 /// A session whose turn it is.
 #[derive(Clone, Copy)]
-pub struct Asked {
+pub struct Asked<'a> {
     /// Its place in the ring.
     pub index: usize,
     pub session: Session,
     /// What it asks.
-    pub request: Request,
+    pub request: &'a Request,
 }
 
 impl<'a> Ring<'a> {
@@ -61,7 +61,7 @@ impl<'a> Ring<'a> {
 
     /// Whose turn it is: the first session that may ask. `None` where all are through.
     #[inline(always)]
-    pub fn turn(&self, history: &History) -> Option<Asked>
+    pub fn turn(&self, history: &History) -> Option<Asked<'a>>
         ensures { IsTurn history.now.events self.now.next (seats_in self.now.cursors.items) result }
     {
         if let Some(asked) = self.first(history, self.next, self.cursors.len()) {
@@ -72,7 +72,7 @@ impl<'a> Ring<'a> {
 
     /// The first from one place up to another that may ask.
     #[inline(always)]
-    fn first(&self, history: &History, from: usize, end: usize) -> Option<Asked>
+    fn first(&self, history: &History, from: usize, end: usize) -> Option<Asked<'a>>
         requires { end ≤ vec_len self.now.cursors }
         ensures { IsFirst (offer history.now.events (seats_in self.now.cursors.items)) (seats_in self.now.cursors.items) from end result }
     {

@@ -46,7 +46,7 @@ fn ask_ends<C: Chains, L: Log>(
     ensures events { OnOk result (engine.new.events ≡ history_after engine.old.store engine.old.events (map end_of holders.now)) }
 {
     for session in holders {
-        ask(engine, *session, Request::End, log)?;
+        ask(engine, *session, &Request::End, log)?;
     }
     Ok(())
 }

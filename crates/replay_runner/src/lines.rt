@@ -30,20 +30,24 @@ pub fn ask_lines<C: Chains, L: Log>(
     ensures events { OnOk result (engine.new.events ≡ history_after engine.old.store engine.old.events (requests_of lines.now)) }
 {
     engine.reserve_ahead(lines.len())?;
+    if lines.is_empty() {
+        return Ok(());
+    }
+    let mut near = [lines[0]; NEAR];
     for piece in lines.chunks(NEAR) {
-        ask_piece(engine, piece, log)?;
+        ask_piece(engine, &mut near, piece, log)?;
     }
     Ok(())
 }
 
-/// Asks each of at most `NEAR` lines, and logs the replies. It copies them first: a request goes far through memory, so that between two
-/// requests the next line of a long list would have to be waited for.
+/// Asks each of at most `NEAR` lines, and logs the replies. It copies them to `near` first: a request goes far through memory, so that
+/// between two requests the next line of a long list would have to be waited for.
 fn ask_piece<C: Chains, L: Log>(
     engine: &mut Engine<C>,
+    near: &mut [Line; NEAR],
     piece: &[Line],
     log: &mut L,
 ) -> Result<(), AllocError>
-    requires some { 0 < length piece.now }
     requires fits { length piece.now ≤ 64 }
     ensures store { engine.new.store ≡ engine.old.store }
     ensures names { engine.new.names ≡ engine.old.names }
@@ -51,8 +55,7 @@ fn ask_piece<C: Chains, L: Log>(
         → L.tells log.new engine.old.names (told ++ log_of engine.old.store engine.old.events (requests_of piece.now))) }
     ensures events { OnOk result (engine.new.events ≡ history_after engine.old.store engine.old.events (requests_of piece.now)) }
 {
-    let mut copy = [piece[0]; NEAR];
-    let near = &mut copy[..piece.len()];
+    let near = &mut near[..piece.len()];
     near.copy_from_slice(piece);
     ask_each(engine, near, log)
 }
@@ -70,7 +73,7 @@ fn ask_each<C: Chains, L: Log>(
     ensures events { OnOk result (engine.new.events ≡ history_after engine.old.store engine.old.events (requests_of lines.now)) }
 {
     for line in lines {
-        ask(engine, line.session, line.request, log)?;
+        ask(engine, line.session, &line.request, log)?;
     }
     Ok(())
 }
@@ -79,19 +82,19 @@ fn ask_each<C: Chains, L: Log>(
 pub fn ask<C: Chains, L: Log>(
     engine: &mut Engine<C>,
     session: Session,
-    request: Request,
+    request: &Request,
     log: &mut L,
 ) -> Result<(), AllocError>
     ensures store { engine.new.store ≡ engine.old.store }
     ensures names { engine.new.names ≡ engine.old.names }
     ensures log { OnOk result ((told : List Answered) → L.tells log.old engine.old.names told → L.tells log.new engine.old.names
-        (told ++ record { session = session; reply = (answer engine.old.store engine.old.events session request).0 } ∷ [])) }
-    ensures events { OnOk result (engine.new.events ≡ (answer engine.old.store engine.old.events session request).1) }
+        (told ++ record { session = session; reply = (answer engine.old.store engine.old.events session request.now).0 } ∷ [])) }
+    ensures events { OnOk result (engine.new.events ≡ (answer engine.old.store engine.old.events session request.now).1) }
 {
     log.ready(&engine.setup().names)?;
     engine.ready()?;
     match request {
-        Request::Scan { .. } => ask_scan(engine, session, request, log),
+        Request::Scan { .. } => ask_scan(engine, session, *request, log),
         _ => {
             let reply = &engine.ask_short(session, request);
             log.add_short(&engine.setup().names, session, reply);

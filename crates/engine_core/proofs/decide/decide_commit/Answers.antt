@@ -8,7 +8,7 @@ unfolding answer_of
 returns-in_default-clause-answer g c = stops (store_in c.args.asking.now.view.now) (events_in c.args.asking.now.view.now) c.args.asking.now.txn.0 _ _ _ _ c.commit_stop.ensures (c.stopped.ensures (store_in c.args.asking.now.view.now) (events_in c.args.asking.now.view.now))
 
 pub returns-in_default-clause-bounded : goal.returns-in_default-clause-bounded
-returns-in_default-clause-bounded g c = (c.stopped.ensures (store_in c.args.asking.now.view.now) (events_in c.args.asking.now.view.now)).1 (g.C.Chains.lists c.args.asking.now.view.now.chains.now)
+returns-in_default-clause-bounded g c = (c.stopped.ensures (store_in c.args.asking.now.view.now) (events_in c.args.asking.now.view.now)).1 (g.C.Chains.lists c.args.asking.now.view.now.state.now.chains)
 
 pub returns-in-Go-clause-answer : goal.returns-in-Go-clause-answer
 unfolding answer_of

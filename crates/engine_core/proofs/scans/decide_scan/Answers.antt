@@ -24,7 +24,7 @@ returns-in_default-scan_stop-clause-answer g c =
     ∙ sym (is_not_refused (store_in c.args.asking.now.view.now) (events_in c.args.asking.now.view.now) c.args.asking.now.txn.0 c.args.first _ _ c.refusal.ensures.refusal c.in_default.is)
 
 pub returns-in_default-scan_stop-clause-bounded : goal.returns-in_default-scan_stop-clause-bounded
-returns-in_default-scan_stop-clause-bounded g c = (c.stopped.ensures (store_in c.args.asking.now.view.now) (events_in c.args.asking.now.view.now)).1 (g.C.Chains.lists c.args.asking.now.view.now.chains.now)
+returns-in_default-scan_stop-clause-bounded g c = (c.stopped.ensures (store_in c.args.asking.now.view.now) (events_in c.args.asking.now.view.now)).1 (g.C.Chains.lists c.args.asking.now.view.now.state.now.chains)
 
 pub returns-in-Go-clause-answer : goal.returns-in-Go-clause-answer
 unfolding answer_of

@@ -24,7 +24,7 @@ pub before_write-requires-clause-sources : goal.before_write-requires-clause-sou
 before_write-requires-clause-sources g c = sources_stand (store_in c.args.asking.now.view.now).setup (events_in c.args.asking.now.view.now) c.args.cell c.requires.whole.whole.lawful c.requires.whole.settled
 
 pub before_write-requires-clause-at : goal.before_write-requires-clause-at
-before_write-requires-clause-at g c = subst (λ (n : ℕ). IsToldPlace (store_in c.args.asking.now.view.now).setup (events_in c.args.asking.now.view.now) n c.args.cell c.args.asking.now.txn.0 c.args.at (writers_of (g.C.Chains.lists c.args.asking.now.view.now.chains.now c.args.cell))) (sym c.control_at.ensures.node_number)
+before_write-requires-clause-at g c = subst (λ (n : ℕ). IsToldPlace (store_in c.args.asking.now.view.now).setup (events_in c.args.asking.now.view.now) n c.args.cell c.args.asking.now.txn.0 c.args.at (writers_of (g.C.Chains.lists c.args.asking.now.view.now.state.now.chains c.args.cell))) (sym c.control_at.ensures.node_number)
     (c.requires.told _ (on_at (store_in c.args.asking.now.view.now).setup (spot_of (events_in c.args.asking.now.view.now) c.args.asking.now.txn.0) c.args.asking.now.nodes.now c.loop-node.node-index _ c.args.asking.now.way c.loop-node-test.true))
 
 pub loop-node-preserved : goal.loop-node-preserved

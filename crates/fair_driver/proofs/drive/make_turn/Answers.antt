@@ -24,7 +24,7 @@ returns-in-Scan-clause-ok g c = λ told t.
     let a = c.in-Some.asked in
     let q : Reply = (answer Y G a.session (Scan c.in-Scan.cell c.in-Scan.count)).0 in
     let turn : IsTurnOf H r.next (seats_in r.cursors.items) a = subst (λ (J : List Event). IsTurnOf J r.next (seats_in r.cursors.items) a) c.history.ensures.events c.in-Some.ensures in
-    let entry : Entry = record { session = a.session; request = a.request; reply = q } in
+    let entry : Entry = record { session = a.session; request = a.request.now; reply = q } in
     let before : c.setup.result.now.names ≡ c.args.engine.now.names = c.setup.ensures.names in
     let behind : c.ready-2.new.self.names ≡ c.args.engine.now.names = c.in_ok-ready-2.ensures.names in
     let same : c.setup.result.now.names ≡ c.ready-2.new.self.names = before ∙ sym behind in
@@ -49,7 +49,7 @@ returns-in_default-request-clause-ok g c = λ told t.
     let a = c.in-Some.asked in
     let q : Reply = full_reply c.ask_short.result in
     let turn : IsTurnOf H r.next (seats_in r.cursors.items) a = subst (λ (J : List Event). IsTurnOf J r.next (seats_in r.cursors.items) a) c.history.ensures.events c.in-Some.ensures in
-    let entry : Entry = record { session = a.session; request = a.request; reply = q } in
+    let entry : Entry = record { session = a.session; request = a.request.now; reply = q } in
     let before : c.setup.result.now.names ≡ c.args.engine.now.names = c.setup.ensures.names in
     let behind : c.setup-in_default-request.result.now.names ≡ c.args.engine.now.names = c.setup-in_default-request.ensures.names ∙ c.ask_short.ensures.names ∙ c.in_ok-ready-2.ensures.names in
     let kept = c.in_ok-ready.ensures.told told (subst (λ (n : NameBook). g.G.Log.tells c.args.log.now n told) (sym before) t) in

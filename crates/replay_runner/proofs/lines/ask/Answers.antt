@@ -14,7 +14,7 @@ returns-in-Scan-clause-log g c = λ told t.
     let kept = c.in_ok-ready.ensures.told told (subst (λ (n : NameBook). g.L.Log.tells c.args.log.now n told) (sym before) t) in
     let added = c.ask_scan.ensures.log told (subst (λ (n : NameBook). g.L.Log.tells c.ready.new.self n told) same kept) in
     subst₂ (λ (n : NameBook) (q : Reply). g.L.Log.tells c.ask_scan.new.log n (told ++ record { session = c.args.session; reply = q } ∷ [])) behind
-    (ap₂ (λ (X : Store) (H : List Event). (answer X H c.args.session c.args.request).0) c.in_ok-ready-2.ensures.store c.in_ok-ready-2.ensures.events) added
+    (ap₂ (λ (X : Store) (H : List Event). (answer X H c.args.session c.args.request.now).0) c.in_ok-ready-2.ensures.store c.in_ok-ready-2.ensures.events) added
 
 pub returns-in_default-clause-log : goal.returns-in_default-clause-log
 returns-in_default-clause-log g c = λ told t.
@@ -23,5 +23,5 @@ returns-in_default-clause-log g c = λ told t.
     let kept = c.in_ok-ready.ensures.told told (subst (λ (n : NameBook). g.L.Log.tells c.args.log.now n told) (sym before) t) in
     let added = c.add_short.ensures told (subst (λ (n : NameBook). g.L.Log.tells c.ready.new.self n told) (before ∙ sym behind) kept) in
     subst₂ (λ (n : NameBook) (q : Reply). g.L.Log.tells c.add_short.new.self n (told ++ record { session = c.args.session; reply = q } ∷ [])) behind
-    (◌∙◌ {b = (answer c.ready-2.new.self.store c.ready-2.new.self.events c.args.session c.args.request).0} c.ask_short.ensures.reply
-    (ap₂ (λ (X : Store) (H : List Event). (answer X H c.args.session c.args.request).0) c.in_ok-ready-2.ensures.store c.in_ok-ready-2.ensures.events)) added
+    (◌∙◌ {b = (answer c.ready-2.new.self.store c.ready-2.new.self.events c.args.session c.args.request.now).0} c.ask_short.ensures.reply
+    (ap₂ (λ (X : Store) (H : List Event). (answer X H c.args.session c.args.request.now).0) c.in_ok-ready-2.ensures.store c.in_ok-ready-2.ensures.events)) added

@@ -1,9 +1,18 @@
-use Rattle.std.proofs.Common.{◌≡◌, ◌++◌, ◌∙◌, sym, ap}
+use Rattle.std.proofs.Common.{◌≡◌, List, ◌++◌, ◌∙◌, sym, ap, rules}
 use Rattle.std.proofs.lemmas.List.{map-append, nil_from_length}
 use Rattle.std.specs.Slice.Iter.{chunks_rest, chunks_size}
+use Rattle.script_text.specs.declared.Line.{Line}
+use Rattle.teb_rules.specs.Run.{history_after}
 use Rattle.replay_runner.specs.Logs.{request_of, requests_of, log_of}
-use Rattle.replay_runner.proofs.Logged.{after, all_told, history_is, part_after, part_told}
+use Rattle.replay_runner.proofs.Logged.{after, all_told, history_is, history_none, part_after, part_told}
 use Rattle.replay_runner.proofs.lines.ask_lines.Goals as goal
+
+pub returns-then-is_empty-clause-events : goal.returns-then-is_empty-clause-events
+returns-then-is_empty-clause-events g c =
+    let X = c.args.engine.now.store in
+    let H = c.args.engine.now.events in
+    let none = nil_from_length c.args.lines.now (search rules) in
+    c.reserve_ahead.ensures.events ∙ sym (ap (λ (ls : List Line). history_after X H (requests_of ls)) none ∙ history_none X H)
 
 pub loop-piece-init : goal.loop-piece-init
 loop-piece-init g c =

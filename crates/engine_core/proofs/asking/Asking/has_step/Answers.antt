@@ -14,7 +14,7 @@ cursor-requires-clause-above g c = (unfinished_numbered (setup_of c.args.self.no
 
 pub cursor-requires-clause-begun : goal.cursor-requires-clause-begun
 cursor-requires-clause-begun g c =
-    let e : length c.args.self.now.view.now.cursors.now.cursors ≡ begun_count (events_of c.args.self.now.view.now.facts) = length-cursors _ (setup_of c.args.self.now.view.now.facts) _ c.requires.whole.cursors in
+    let e : length c.args.self.now.view.now.state.now.cursors.cursors ≡ begun_count (events_of c.args.self.now.view.now.facts) = length-cursors _ (setup_of c.args.self.now.view.now.facts) _ c.requires.whole.cursors in
     let b : c.args.self.now.txn.0 ≤ begun_count (events_of c.args.self.now.view.now.facts) = (unfinished_numbered (setup_of c.args.self.now.view.now.facts) (events_of c.args.self.now.view.now.facts) c.args.self.now.txn.0 c.requires.whole.lawful c.args.self.now.runs).1 in
     omega arith
 

@@ -18,12 +18,12 @@ pub unreachable-requires : goal.unreachable-requires
 unreachable-requires g c =
     let X = store_of c.deref_mut-state.result.now.setup in
     let H = c.deref_mut-state.result.now.history.events in
-    let scan = subst (IsResponse c.deref_mut-state.result.now c.respond.new.state (answer X H c.args.session c.args.request)) c.in-Scan.is c.respond.ensures.answer in
-    no_scan X H c.args.session c.args.request (carried X H (decision.Scan c.in-Scan.field-0 c.in-Scan.field-1 c.in-Scan.field-2)) c.requires.short tt scan.1
+    let scan = subst (IsResponse c.deref_mut-state.result.now c.respond.new.state (answer X H c.args.session c.args.request.now)) c.in-Scan.is c.respond.ensures.answer in
+    no_scan X H c.args.session c.args.request.now (carried X H (decision.Scan c.in-Scan.field-0 c.in-Scan.field-1 c.in-Scan.field-2)) c.requires.short tt scan.1
 
 pub invariant_of-self : goal.invariant_of-self
 invariant_of-self g c =
     let old = c.deref_mut-state.result.now in
-    let reply = subst (IsResponse old c.respond.new.state (answer (store_of old.setup) old.history.events c.args.session c.args.request)) c.in-Reply.is c.respond.ensures.answer in
-    answered_engine any_node_number any_stands any_spare g.C.Chains.lists g.C.Chains.spare old c.respond.new.state c.self.inside.ready c.args.session c.args.request
+    let reply = subst (IsResponse old c.respond.new.state (answer (store_of old.setup) old.history.events c.args.session c.args.request.now)) c.in-Reply.is c.respond.ensures.answer in
+    answered_engine any_node_number any_stands any_spare g.C.Chains.lists g.C.Chains.spare old c.respond.new.state c.self.inside.ready c.args.session c.args.request.now
     (lent_engine c.self.invariant c.deref_mut-state.ensures.value) c.respond.ensures.setup c.respond.ensures.whole c.respond.ensures.room reply.1

@@ -9,8 +9,8 @@ use Rattle.engine_core.proofs.Appending.{view_whole}
 use Rattle.engine_core.proofs.engine_state.EngineState.read.Goals as goal
 
 pub read-requires-clause-whole : goal.read-requires-clause-whole
-read-requires-clause-whole g c = view_whole g.K.Control.node_number g.K.Control.stands g.C.Chains.lists c.args.self.now c.view.result c.view.ensures.store c.view.ensures.history c.view.ensures.chains
-    c.view.ensures.controls c.view.ensures.book c.view.ensures.cursors c.view.ensures.latest c.requires.whole c.requires.settled
+read-requires-clause-whole g c = view_whole g.K.Control.node_number g.K.Control.stands g.C.Chains.lists c.args.self.now c.view.result
+    c.view.ensures.store c.view.ensures.history c.view.ensures.state c.requires.whole c.requires.settled
 
 pub read-requires-clause-unfinished : goal.read-requires-clause-unfinished
 read-requires-clause-unfinished g c = subst (λ (h : Written). unfinished h.events c.args.t.0 ≡ true) (sym c.view.ensures.history) c.requires.unfinished
