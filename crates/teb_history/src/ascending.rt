@@ -88,6 +88,7 @@ fn place_standing(standings: &mut Vec<Standing>, t: Txn) -> usize
 }
 
 /// Puts a transaction in, or takes it out. Where it is to be as it was, nothing is looked at.
+#[inline(always)]
 pub fn keep_txn(txns: &mut Vec<Txn>, t: Txn, is_in: Option<bool>)
     requires ascending { IsAscendingBy number_of txns.old.items }
     requires room { vec_len txns.old < vec_capacity txns.old }
@@ -95,17 +96,29 @@ pub fn keep_txn(txns: &mut Vec<Txn>, t: Txn, is_in: Option<bool>)
     ensures len { vec_len txns.new ≤ vec_len txns.old + 1 }
     ensures capacity { vec_capacity txns.old ≤ vec_capacity txns.new }
 {
-    let Some(is_in) = is_in else {
-        return;
-    };
-    if !is_in {
-        remove_txn(txns, t);
-    } else if let Err(i) = find_txn(txns, t) {
+    match is_in {
+        Some(true) => put_txn(txns, t),
+        Some(false) => remove_txn(txns, t),
+        None => {}
+    }
+}
+
+/// Puts a transaction among ascending ones, where it is not one of them yet. It costs a binary search, and a move of those behind it.
+#[inline(never)]
+fn put_txn(txns: &mut Vec<Txn>, t: Txn)
+    requires ascending { IsAscendingBy number_of txns.old.items }
+    requires room { vec_len txns.old < vec_capacity txns.old }
+    ensures items { txns.new.items ≡ put_by number_of t txns.old.items }
+    ensures len { vec_len txns.new ≤ vec_len txns.old + 1 }
+    ensures capacity { vec_capacity txns.old ≤ vec_capacity txns.new }
+{
+    if let Err(i) = find_txn(txns, t) {
         put_in(txns, i, t);
     }
 }
 
 /// Takes a transaction out of ascending ones, where it is one of them. It costs a binary search, and a move of those behind it.
+#[inline(never)]
 pub fn remove_txn(txns: &mut Vec<Txn>, t: Txn)
     ensures items { IsAscendingBy number_of txns.old.items → txns.new.items ≡ filter (λ u. not (eqb u.0 t.0)) txns.old.items }
     ensures len { vec_len txns.new ≤ vec_len txns.old }

@@ -3,16 +3,16 @@ use Rattle.teb_names.specs.declared.Txn.{Txn}
 use Rattle.teb_history.specs.Ascending.{IsAscendingBy, place_of}
 use Rattle.teb_history.specs.Live.{number_of}
 use Rattle.teb_history.proofs.AscendingLists.{put-same, put-insert}
-use Rattle.teb_history.proofs.ascending.keep_txn.Goals as goal
+use Rattle.teb_history.proofs.ascending.put_txn.Goals as goal
 
 pub returns-in-Err-clause-items : goal.returns-in-Err-clause-items
 returns-in-Err-clause-items c =
     let place = λ (xs : List Txn). place_of number_of xs c.args.t.0 in
     let gap = c.find_txn.ensures.place (subst (IsAscendingBy number_of) (sym c.deref.ensures.value) c.requires.ascending) in
-    rw (c.in-Some.is, c.if-not-is_in.false) (c.put_in.ensures.items ∙ sym (put-insert number_of c.args.t c.args.txns.now.items _ (ap place (sym c.deref.ensures.value) ∙ sym gap ∙ c.in-Err.is)))
+    c.put_in.ensures.items ∙ sym (put-insert number_of c.args.t c.args.txns.now.items _ (ap place (sym c.deref.ensures.value) ∙ sym gap ∙ c.in-Err.is))
 
-pub returns-in_default-find_txn-clause-items : goal.returns-in_default-find_txn-clause-items
-returns-in_default-find_txn-clause-items c =
+pub returns-in_default-clause-items : goal.returns-in_default-clause-items
+returns-in_default-clause-items c =
     let place = λ (xs : List Txn). place_of number_of xs c.args.t.0 in
     let there = c.find_txn.ensures.place (subst (IsAscendingBy number_of) (sym c.deref.ensures.value) c.requires.ascending) in
-    rw (c.in-Some.is, c.if-not-is_in.false) (put-same number_of c.args.t (λ x e. ap (λ (n : _). record { 0 = n }) e) c.args.txns.now.items _ (ap place (sym c.deref.ensures.value) ∙ sym there ∙ c.in_default-find_txn.is))
+    put-same number_of c.args.t (λ x e. ap (λ (n : _). record { 0 = n }) e) c.args.txns.now.items _ (ap place (sym c.deref.ensures.value) ∙ sym there ∙ c.in_default.is)
