@@ -1,6 +1,6 @@
 -- What an edit at one cell makes of the holds that a book shows.
-use Rattle.std.proofs.Common.{◌≡◌, ◌==◌, ℕ, suc, Bool, true, false, cond, not, eqb, ◌||◌, List, [], ◌∷◌, length, Vec, Option, None, refl, sym, ◌∙◌, ap, subst, arith, le-ltb}
-use Rattle.std.proofs.lemmas.Bool.{eq-eqb, eqb-true}
+use Rattle.std.proofs.Common.{◌≡◌, ◌==◌, ℕ, Bool, true, false, cond, not, eqb, ◌||◌, List, [], ◌∷◌, length, Vec, Option, Some, None, refl, sym, ◌∙◌, ap, subst, arith, le-ltb}
+use Rattle.std.proofs.lemmas.Bool.{eq-eqb, ne_eqb}
 use Rattle.std.proofs.lemmas.List.{with_items_is}
 use Rattle.std.specs.Vec.{with_items}
 use Rattle.std.specs.declared.alloc.Global.{Global}
@@ -13,7 +13,7 @@ use Rattle.sorted_multimap.proofs.CellValues.{same_exact}
 use Rattle.hold_book.specs.declared.Hold.{Hold}
 use Rattle.hold_book.specs.declared.slots.Alone.{Alone}
 use Rattle.hold_book.specs.Slots.{only_hold, only_or}
-use Rattle.hold_book.specs.Books.{Held, shown, accessed, released, shown_in, IsApart}
+use Rattle.hold_book.specs.Books.{Held, shown, accessed, released, shown_in, IsFiled, IsApart}
 use Rattle.hold_book.proofs.Filing.{or_false}
 
 pub same_either : {B : Type 0} (b : Bool) (a : B) → a ≡ cond b a a
@@ -77,9 +77,26 @@ twice c f f' f'' g g' one two x = two x ∙ ap (λ (hs : List Hold). cond (same_
     go true = refl
     go false = refl
 
-pub nothing_in : (hs : List Hold) → (length hs == 0) ≡ true → hs ≡ []
+pub nothing_in : (hs : List Hold) → false ≡ not (length hs == 0) → hs ≡ []
 nothing_in [] e = refl
-nothing_in (h ∷ hs) e = absurd (let z : suc (length hs) ≡ 0 = eqb-true _ _ e in omega arith)
+nothing_in (h ∷ hs) e = absurd (let z : false ≡ true = e ∙ ap not (ne_eqb (length (h ∷ hs)) 0 (λ q. omega arith)) in cc)
+
+-- a cell that others hold does not lie in its slot
+pub held_elsewhere : (c : Cell) (ss : List (Option Alone)) (o : Shown Cell Hold) → IsApart ss o → true ≡ not (length (values_in cell_cmp o c) == 0) → only_hold ss c ≡ None
+held_elsewhere c ss o apart held = go (only_hold ss c) refl
+  where
+    go : (k : Option Hold) → only_hold ss c ≡ k → k ≡ None
+    go None e = refl
+    go (Some h) e = absurd (let z : true ≡ false = held ∙ ap (λ (hs : List Hold). not (length hs == 0)) (apart.alone c (ap is_some e)) in cc)
+
+-- an edit of the others, at a cell that does not lie in its slot
+pub apart_others : (c : Cell) (ss : List (Option Alone)) (o o' : Shown Cell Hold) (g : List Hold → List Hold) → IsApart ss o → IsFiled o' → only_hold ss c ≡ None
+    → ((x : Cell) → values_in cell_cmp o' x ≡ cond (same_cell c x) (g (values_in cell_cmp o x)) (values_in cell_cmp o x)) → IsApart ss o'
+apart_others c ss o o' g apart filed none others = record { filed = filed; alone = λ x s. others x ∙ go x (same_cell c x) refl s }
+  where
+    go : (x : Cell) (b : Bool) → same_cell c x ≡ b → is_some (only_hold ss x) ≡ true → cond b (g (values_in cell_cmp o x)) (values_in cell_cmp o x) ≡ []
+    go x true e s = absurd (let z : false ≡ true = sym (ap is_some (subst (λ (y : Cell). only_hold ss y ≡ None) (same_exact c x e) none)) ∙ s in cc)
+    go x false e s = apart.alone x s
 
 -- an edit of slots that are lent, and of the others, is one of the book b
 pub edited_lent : (c : Cell) (b : Held) (vs : Vec (Option Alone) Global) (ss ss' : List (Option Alone)) (o o' : Shown Cell Hold) (n : ℕ) (g : List Hold → List Hold)

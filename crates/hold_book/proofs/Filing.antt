@@ -96,6 +96,11 @@ put_unless t wrote hs added e a told = ap (λ (b : Bool). cond b (put_by hold_nu
     go (Ok i) p = read_again t wrote hs i e a p
     go (Err i) p = put_anew t wrote hs i a p
 
+-- the hold of a put, and of a read where there is none
+pub put_joined : (t : Txn) (wrote : Bool) (hs : List Hold) → IsAscendingBy hold_number hs → cond (wrote || is_err (place_of hold_number hs t.0)) (put_by hold_number (record { txn = t; wrote = wrote }) hs) hs ≡ accessed t wrote hs
+put_joined t true hs a = put_again t true hs refl
+put_joined t false hs a = put_unless t false hs _ refl a refl
+
 -- an edit at one cell alone
 pub edited_cell : (f : Cell → List Hold) (x : Cell) (g : List Hold → List Hold) (new : List Hold) → new ≡ g (f x) → (y : Cell) → cond (is_eq (cell_cmp x y)) new (f y) ≡ cond (same_cell x y) (g (f y)) (f y)
 edited_cell f x g new e y = go (same_cell x y) refl
@@ -116,6 +121,11 @@ filed_edit a a' x g filed keeps edit = record { ascending = λ y. subst (λ (hs 
 pub filed_access : (a a' : Shown Cell Hold) (x : Cell) (t : Txn) (wrote : Bool) → IsFiled a
     → ((y : Cell) → values_in cell_cmp a' y ≡ cond (same_cell x y) (accessed t wrote (values_in cell_cmp a y)) (values_in cell_cmp a y)) → IsFiled a'
 filed_access a a' x t wrote filed = filed_edit a a' x (accessed t wrote) filed (λ hs h. ascending-put hold_number _ hs h)
+
+pub filed_join : (a a' : Shown Cell Hold) (x : Cell) (t : Txn) (wrote joined : Bool) → IsFiled a
+    → (joined ≡ true → (y : Cell) → values_in cell_cmp a' y ≡ cond (same_cell x y) (accessed t wrote (values_in cell_cmp a y)) (values_in cell_cmp a y)) → (joined ≡ false → a' ≡ a) → IsFiled a'
+filed_join a a' x t wrote true filed edit kept = filed_access a a' x t wrote filed (edit refl)
+filed_join a a' x t wrote false filed edit kept = subst IsFiled (sym (kept refl)) filed
 
 pub filed_release : (a a' : Shown Cell Hold) (x : Cell) (t : Txn) → IsFiled a
     → ((y : Cell) → values_in cell_cmp a' y ≡ cond (same_cell x y) (released t.0 (values_in cell_cmp a y)) (values_in cell_cmp a y)) → IsFiled a'

@@ -7,7 +7,7 @@ ghost use Rattle.hold_book.specs.Books.{IsApart, shown_in, accessed, released};
 ghost use Rattle.hold_book.specs.Slots.{only_hold as spec_only_hold};
 
 use crate::Hold;
-use crate::filed::{put_in, take_out};
+use crate::filed::{join_in, put_in, take_out};
 use crate::slots::{Alone, clear, only_hold, take, take_free};
 use sorted_multimap::Multimap;
 use teb_names::{Cell, Txn};
@@ -29,13 +29,13 @@ pub(crate) fn access_in(
     ensures len { length slots.new ≡ length slots.old }
     ensures spare { others.old.spare ≤ others.new.spare + 2 }
 {
-    if others.list(cell).is_empty() && take_free(slots, cell, Hold { txn: t, wrote }) {
+    if join_in(others, cell, t, wrote) || take_free(slots, cell, Hold { txn: t, wrote }) {
         return;
     }
     access_taken(slots, others, cell, t, wrote);
 }
 
-/// The same for a cell that is held, or whose slot has another.
+/// The same for a cell that one holds, in its slot, or whose slot has another.
 #[inline(never)]
 fn access_taken(
     slots: &mut [Option<Alone>],

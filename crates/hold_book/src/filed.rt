@@ -1,6 +1,6 @@
 //! Holds filed by cell.
 
-ghost use Rattle.std.specs.Prelude.{◌≡◌, ◌<◌, ◌≤◌, ◌+◌, cond};
+ghost use Rattle.std.specs.Prelude.{◌≡◌, ◌<◌, ◌≤◌, ◌+◌, ◌==◌, cond, length, not, IsTrue, IsFalse};
 ghost use Rattle.teb_names.specs.declared.Cell.{Cell};
 ghost use Rattle.teb_names.specs.Cells.{same_cell, cell_cmp};
 ghost use Rattle.sorted_multimap.specs.Multimap.{values_in};
@@ -25,6 +25,21 @@ pub(crate) fn put_in(holds: &mut Multimap<Cell, Hold>, cell: Cell, t: Txn, wrote
     } else {
         holds.add_by_number(cell, hold);
     }
+}
+
+/// Puts in that a transaction has accessed a cell, and whether it put it, where a hold on the cell is filed. Whether one is; else nothing
+/// changes. It takes one place of the room at the most.
+#[inline(always)]
+pub(crate) fn join_in(holds: &mut Multimap<Cell, Hold>, cell: Cell, t: Txn, wrote: bool) -> bool
+    requires filed { IsFiled holds.old }
+    requires room { 0 < holds.old.spare }
+    ensures held { result ≡ not (length (values_in cell_cmp holds.old cell) == 0) }
+    ensures filed { IsFiled holds.new }
+    ensures holds { IsTrue result → (x : Cell) → values_in cell_cmp holds.new x ≡ cond (same_cell cell x) (accessed t wrote (values_in cell_cmp holds.old x)) (values_in cell_cmp holds.old x) }
+    ensures kept { IsFalse result → holds.new ≡ holds.old }
+    ensures spare { holds.old.spare ≤ holds.new.spare + 1 }
+{
+    holds.join_by_number(cell, Hold { txn: t, wrote }, wrote)
 }
 
 /// Takes out the hold of a transaction on a cell, where it is there. The room stays.

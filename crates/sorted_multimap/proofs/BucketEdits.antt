@@ -1,11 +1,13 @@
 -- What an edit of its two lists makes of a bucket.
-use Rattle.std.proofs.Common.{◌≡◌, ℕ, zero, suc, ◌+◌, ◌-◌, ◌<◌, ◌≤◌, List, [], ◌∷◌, ◌++◌, cond, length, set, take, drop, Ok, Err, vec_len, vec_capacity, refl, sym, ◌∙◌, ap, subst, arith}
+use Rattle.std.proofs.Common.{◌≡◌, ◌==◌, ℕ, zero, suc, ◌+◌, ◌-◌, ◌<◌, ◌≤◌, inl, inr, Bool, true, false, not, ltb, List, [], ◌∷◌, ◌++◌, cond, length, set, take, drop, Result, Ok, Err, MatchResult, vec_len, vec_capacity, refl, sym, ◌∙◌, ap, subst, arith}
 use Rattle.std.specs.declared.cmp.Ordering.{Ordering}
 use Rattle.std.specs.Vec.{with_item}
 use Rattle.std.specs.Cmp.{IsTotalOrder}
 use Rattle.std.specs.Ordering.{is_eq}
 use Rattle.std.specs.List.{insert, remove, remove_range}
+use Rattle.std.proofs.lemmas.Bool.{eq-eqb, ne_eqb}
 use Rattle.teb_history.specs.Ascending.{IsAscendingBy, place_of, put_by}
+use Rattle.teb_history.proofs.Comparisons.{ltb_tells}
 use Rattle.teb_history.proofs.AscendingLists.{place_in, gap_in, put-set, put-insert}
 use Rattle.sorted_multimap.specs.declared.bucket.Bucket.{Bucket}
 use Rattle.sorted_multimap.specs.Buckets.{values_beside, bucket_values, Ascends, lows, tops, IsSorted, IsEdited}
@@ -53,6 +55,13 @@ module _ {K V : Type 0} (R : K → K → Ordering) (total : IsTotalOrder R) (p :
   pub range_none : (k : K) → lows R p.keys.items k ≡ tops R p.keys.items k → bucket_values R p k ≡ []
   range_none k e = no_values (bucket_values R p k) (omega (arith, range_length k))
 
+  -- whether k has values
+  pub range_held : (k : K) (m n : ℕ) → m ≡ lows R p.keys.items k → n ≡ tops R p.keys.items k → ltb m n ≡ not (length (bucket_values R p k) == 0)
+  range_held k m n low top = elim (ltb_tells m n) [
+    | inl (some, less) ↦ some ∙ sym (ap not (ne_eqb (length (bucket_values R p k)) 0 (λ e. omega (arith, less, low, top, e, range_length k))))
+    | inr (none, more) ↦ none ∙ sym (ap not (eq-eqb (length (bucket_values R p k)) 0 (omega (arith, more, low, top, range_length k))))
+  ]
+
   -- nothing is edited
   pub left_alone : (k : K) (ws : List V) → bucket_values R p k ≡ ws → IsEdited R p p k ws 0
   left_alone k ws e = record {
@@ -64,6 +73,23 @@ module _ {K V : Type 0} (R : K → K → Ordering) (total : IsTotalOrder R) (p :
   -- other words for the same values
   pub reworded : (r : Bucket K V) (k : K) (ws us : List V) (n : ℕ) → ws ≡ us → IsEdited R p r k ws n → IsEdited R p r k us n
   reworded r k ws us n e h = subst (λ (l : List V). IsEdited R p r k l n) e h
+
+  -- one place of the room is taken at the most
+  pub one_taken : (r : Bucket K V) (k : K) (ws us : List V) (taken : Bool) → ws ≡ us → IsEdited R p r k ws (cond taken 1 0) → IsEdited R p r k us 1
+  one_taken r k ws us taken e h = record {
+    sorted = h.sorted;
+    values = λ q. h.values q ∙ ap (λ (l : List V). cond (is_eq (R k q)) l (bucket_values R p q)) e;
+    room = λ m n le. h.room m n (at_most taken m n le);
+  }
+    where
+      at_most : (b : Bool) (m n : ℕ) → n + 1 ≤ m → n + cond b 1 0 ≤ m
+      at_most true m n le = le
+      at_most false m n le = omega arith
+
+  -- an edit that is made only where `joined` is true
+  pub joined_edit : (joined : Bool) (r : Bucket K V) (k : K) (ws : List V) → (joined ≡ true → IsEdited R p r k ws 1) → (joined ≡ false → r ≡ p) → IsEdited R p r k (cond joined ws (bucket_values R p k)) (cond joined 1 0)
+  joined_edit true r k ws edit kept = edit refl
+  joined_edit false r k ws edit kept = subst (λ (b : Bucket K V). IsEdited R p b k (bucket_values R p k) 0) (sym (kept refl)) (left_alone k (bucket_values R p k) refl)
 
   -- the value at a place is replaced
   pub set_edited : (k : K) (at : ℕ) (v : V) → lows R p.keys.items k ≤ at → at < tops R p.keys.items k
@@ -127,14 +153,27 @@ module _ {K V : Type 0} (R : K → K → Ordering) (total : IsTotalOrder R) (p :
       let many : tops R ks k - lows R ks k ≡ length (bucket_values R p k) = omega (arith, range_length k) in
       ap (λ (i : ℕ). insert (bucket_values R p k) i v) many ∙ insert_end (bucket_values R p k) v
 
-  -- edits by number
+  -- what a search told, by its answer
+  module _ (key : V → ℕ) (k : K) (n at : ℕ) (place : Result ℕ ℕ) (told : MatchResult place (IsFound R key p k n) (IsMissing R key p k n)) where
+    told_as : (r : Result ℕ ℕ) → place ≡ r → MatchResult r (IsFound R key p k n) (IsMissing R key p k n)
+    told_as r e = subst (λ (q : Result ℕ ℕ). MatchResult q (IsFound R key p k n) (IsMissing R key p k n)) e told
+
+    pub place_found : place ≡ Ok at → IsFound R key p k n at
+    place_found e = told_as (Ok at) e
+
+    pub place_missing : place ≡ Err at → IsMissing R key p k n at
+    place_missing e = told_as (Err at) e
+
+  -- a value is put by its number
+  module _ (key : V → ℕ) (k : K) (v : V) (at : ℕ) where
+    pub put_found : IsFound R key p k (key v) at → IsEdited R p (record { keys = p.keys; values = with_item p.values at v }) k (put_by key v (bucket_values R p k)) 0
+    put_found f = reworded _ k _ _ 0 (sym (put-set key v (bucket_values R p k) (at - lows R ks k) f.is)) (set_edited k at v f.low f.top)
+
+    pub put_missing : (r : Bucket K V) → IsMissing R key p k (key v) at → IsEdited R p r k (insert (bucket_values R p k) (at - lows R p.keys.items k) v) 1 → IsEdited R p r k (put_by key v (bucket_values R p k)) 1
+    put_missing r f h = reworded r k _ _ 1 (sym (put-insert key v (bucket_values R p k) (at - lows R ks k) f.is)) h
+
+  -- the one with a number is taken out
   module _ (key : V → ℕ) (k : K) (n at : ℕ) where
-    pub put_found : (r : Bucket K V) (v : V) → n ≡ key v → IsFound R key p k n at → IsEdited R p r k (set (bucket_values R p k) (at - lows R p.keys.items k) v) 0 → IsEdited R p r k (put_by key v (bucket_values R p k)) 0
-    put_found r v e f h = reworded r k _ _ 0 (sym (put-set key v (bucket_values R p k) (at - lows R ks k) (ap (place_of key (bucket_values R p k)) (sym e) ∙ f.is))) h
-
-    pub put_missing : (r : Bucket K V) (v : V) → n ≡ key v → IsMissing R key p k n at → IsEdited R p r k (insert (bucket_values R p k) (at - lows R p.keys.items k) v) 1 → IsEdited R p r k (put_by key v (bucket_values R p k)) 1
-    put_missing r v e f h = reworded r k _ _ 1 (sym (put-insert key v (bucket_values R p k) (at - lows R ks k) (ap (place_of key (bucket_values R p k)) (sym e) ∙ f.is))) h
-
     module _ (a : IsAscendingBy key (bucket_values R p k)) where
       pub take_found : (r : Bucket K V) → IsFound R key p k n at → IsEdited R p r k (remove (bucket_values R p k) (at - lows R p.keys.items k)) 0 → IsEdited R p r k (without key n (bucket_values R p k)) 0
       take_found r f h = reworded r k _ _ 0 (without_found key n (bucket_values R p k) (at - lows R ks k) a f.is) h

@@ -2,14 +2,14 @@
 use Rattle.std.proofs.Common.{◌≡◌, ◌≢◌, ℕ, zero, suc, ◌+◌, ◌-◌, ◌%◌, ◌<◌, ◌≤◌, inl, inr, Bool, true, false, cond, List, [], ◌∷◌, ◌++◌, length, get_or, refl, sym, ◌∙◌, ap, subst, arith}
 use mir.Val.{bool_byte}
 use Rattle.std.proofs.Math.ListN.{set, length-set}
-use Rattle.std.proofs.lemmas.List.{get_or-set_other, get_or_default}
+use Rattle.std.proofs.lemmas.List.{get_or-set_other, get_or_default, set-get_or}
 use Rattle.std.proofs.lemmas.Bool.Decides.{eqb_tells}
 use Rattle.std.proofs.lemmas.Grind.{get_or-set_at}
 use Rattle.std.specs.declared.cmp.Ordering.{Ordering}
 use Rattle.std.specs.Ordering.{is_eq}
 use Rattle.sorted_multimap.specs.declared.bucket.Bucket.{Bucket}
 use Rattle.sorted_multimap.specs.Multimap.{values_of}
-use Rattle.sorted_multimap.specs.Buckets.{values_beside, bucket_values, beside, entries_of, HasRoom, IsSorted, IsBucket, IsSpread, IsKept, AreKept}
+use Rattle.sorted_multimap.specs.Buckets.{values_beside, bucket_values, beside, entries_of, HasRoom, IsSorted, IsEdited, IsBucket, IsSpread, IsKept, AreKept}
 
 module _ {K V : Type 0} (R : K → K → Ordering) where
   values_of-append : (es fs : List (K × V)) (q : K) → values_of R (es ++ fs) q ≡ values_of R es q ++ values_of R fs q
@@ -209,7 +209,7 @@ module _ {K V : Type 0} (R : K → K → Ordering) (spread : K → ℕ) where
   empty_more (a ∷ as_) b e s k v = (e.0, e.1, e.2, empty_more as_ b e.3 s k v)
 
 -- what is left of the room where it is taken, or is not
-pub left_room : (taken : Bool) (m n : ℕ) → 0 < m → n ≡ bool_byte taken → m - n + cond taken 1 0 ≤ m
+left_room : (taken : Bool) (m n : ℕ) → 0 < m → n ≡ bool_byte taken → m - n + cond taken 1 0 ≤ m
 left_room true m n some e = omega arith
 left_room false m n some e = omega arith
 
@@ -225,6 +225,9 @@ module _ {K V : Type 0} (R : K → K → Ordering) (spread : K → ℕ) where
 
   pub located_values : (bs : List (Bucket K V)) (m : ℕ) → IsSpread R spread bs m → (k : K) (i : ℕ) (b : Bucket K V) → IsLocated spread bs k i b → values_of R (entries_of bs) k ≡ bucket_values R b k
   located_values bs m is k i b l = values_there R spread bs m is k i b l.within l.at ∙ ap (λ (x : Bucket K V). bucket_values R x k) (sym l.is)
+
+  pub located_same : (bs : List (Bucket K V)) (k : K) (i : ℕ) (b c : Bucket K V) → IsLocated spread bs k i b → c ≡ b → set bs i c ≡ bs
+  located_same bs k i b c l e = ap (set bs i) (e ∙ l.is) ∙ set-get_or bs i b
 
   located_bucket : (bs : List (Bucket K V)) (m : ℕ) → IsSpread R spread bs m → (k : K) (i : ℕ) (b : Bucket K V) → IsLocated spread bs k i b → IsBucket R spread (length bs) i m b
   located_bucket bs m is k i b l = subst (IsBucket R spread (length bs) i m) (sym l.is) (is.each i b l.within)
@@ -246,6 +249,25 @@ module _ {K V : Type 0} (R : K → K → Ordering) (spread : K → ℕ) where
 
       pub put_values : (old : K → List V) → ((q : K) → values_of R (entries_of bs) q ≡ old q) → (q : K) → values_of R (entries_of (set bs i c)) q ≡ cond (is_eq (R k q)) new (old q)
       put_values old shown q = one_values R spread agrees bs i m n c b is l.within le sorted room k l.at new there q ∙ ap (λ (vs : List V). cond (is_eq (R k q)) new vs) (shown q)
+
+  -- what the bucket shows is what `old` shows
+  pub located_shown : (bs : List (Bucket K V)) (m : ℕ) → IsSpread R spread bs m → (k : K) (i : ℕ) (b : Bucket K V) → IsLocated spread bs k i b
+      → (old : K → List V) → ((q : K) → values_of R (entries_of bs) q ≡ old q) → bucket_values R b k ≡ old k
+  located_shown bs m is k i b l old shown = sym (located_values bs m is k i b l) ∙ shown k
+
+  -- they become what `new` makes of them, and a place of the room is taken where `taken` is true
+  module _ (agrees : (a b : K) → is_eq (R a b) ≡ true → spread a ≡ spread b) (bs : List (Bucket K V)) (m n i : ℕ) (b c : Bucket K V) (taken : Bool) (is : IsSpread R spread bs m) (some : 0 < m) (less : n ≡ bool_byte taken) where
+    module _ (k : K) (l : IsLocated spread bs k i b) (new : List V → List V) (edit : IsEdited R b c k (new (bucket_values R b k)) (cond taken 1 0)) where
+      left : HasRoom c (m - n)
+      left = edit.room m (m - n) (left_room taken m n some less) (located_room bs m is k i b l)
+
+      pub taken_spread : IsSpread R spread (set bs i c) (m - n)
+      taken_spread = put_spread agrees bs m (m - n) i b c is (omega arith) edit.sorted left k l _ edit.values
+
+      pub taken_values : (old : K → List V) → ((q : K) → values_of R (entries_of bs) q ≡ old q) → (q : K) → values_of R (entries_of (set bs i c)) q ≡ cond (is_eq (R k q)) (new (old k)) (old q)
+      taken_values old shown q =
+          put_values agrees bs m (m - n) i b c is (omega arith) edit.sorted left k l _ edit.values old shown q
+          ∙ ap (λ (vs : List V). cond (is_eq (R k q)) (new vs) (old q)) (located_shown bs m is k i b l old shown)
 
 module _ {K V : Type 0} (R : K → K → Ordering) (spread : K → ℕ) where
   -- no buckets have no room, and so have empty ones

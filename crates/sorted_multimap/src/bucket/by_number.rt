@@ -1,6 +1,6 @@
 //! Edits of the values of a key that ascend by number, each by one search.
 
-ghost use Rattle.std.specs.Prelude.{◌≡◌, cond, eqb, filter, not, MatchResult};
+ghost use Rattle.std.specs.Prelude.{◌≡◌, ◌==◌, ◌||◌, cond, eqb, filter, length, not, IsTrue, IsFalse, MatchResult};
 ghost use Rattle.std.specs.Result.{is_err};
 ghost use Rattle.teb_history.specs.Ascending.{IsAscendingBy, place_of, put_by};
 ghost use Rattle.sorted_multimap.specs.Buckets.{bucket_values, IsSorted, HasRoom, IsEdited};
@@ -37,16 +37,8 @@ impl<K: Ord + Copy, V: Numbered> Bucket<K, V> {
         ensures added { result ≡ is_err (place_of V.numbered_by (bucket_values K.cmp self.old key) (V.numbered_by value)) }
         ensures edited { IsEdited K.cmp self.old self.new key (put_by V.numbered_by value (bucket_values K.cmp self.old key)) (cond result 1 0) }
     {
-        match self.place_in(key, value.number()) {
-            Ok(at) => {
-                self.values[at] = value;
-                false
-            }
-            Err(at) => {
-                self.put_at(at, key, value);
-                true
-            }
-        }
+        let (_, place) = self.place_in(key, value.number());
+        self.put_in_place(place, key, value, true)
     }
 
     /// Puts a value among those of a key, unless one has its number. Whether there was none. Into a bucket of no values it costs two pushes.
@@ -74,13 +66,42 @@ impl<K: Ord + Copy, V: Numbered> Bucket<K, V> {
         ensures added { result ≡ is_err (place_of V.numbered_by (bucket_values K.cmp self.old key) (V.numbered_by value)) }
         ensures edited { IsEdited K.cmp self.old self.new key (cond result (put_by V.numbered_by value (bucket_values K.cmp self.old key)) (bucket_values K.cmp self.old key)) (cond result 1 0) }
     {
-        match self.place_in(key, value.number()) {
-            Ok(_) => false,
-            Err(at) => {
-                self.put_at(at, key, value);
-                true
-            }
+        let (_, place) = self.place_in(key, value.number());
+        self.put_in_place(place, key, value, false)
+    }
+
+    /// Puts a value among those of a key, where it has any: instead of the one that has its number where `replace` is true, and else unless
+    /// one has it. Whether the key has any. A bucket of no values costs one look.
+    #[inline(always)]
+    pub(crate) fn join_by_number(&mut self, key: K, value: V, replace: bool) -> bool
+        requires sorted { IsSorted K.cmp self.old }
+        requires room { HasRoom self.old 1 }
+        requires ascending { IsAscendingBy V.numbered_by (bucket_values K.cmp self.old key) }
+        ensures held { result ≡ not (length (bucket_values K.cmp self.old key) == 0) }
+        ensures edited { IsTrue result → IsEdited K.cmp self.old self.new key (cond (replace || is_err (place_of V.numbered_by (bucket_values K.cmp self.old key) (V.numbered_by value))) (put_by V.numbered_by value (bucket_values K.cmp self.old key)) (bucket_values K.cmp self.old key)) 1 }
+        ensures kept { IsFalse result → self.new ≡ self.old }
+    {
+        if self.keys.is_empty() {
+            return false;
         }
+        self.join_among(key, value, replace)
+    }
+
+    // The same among the values of others.
+    #[inline(never)]
+    fn join_among(&mut self, key: K, value: V, replace: bool) -> bool
+        requires sorted { IsSorted K.cmp self.old }
+        requires room { HasRoom self.old 1 }
+        requires ascending { IsAscendingBy V.numbered_by (bucket_values K.cmp self.old key) }
+        ensures held { result ≡ not (length (bucket_values K.cmp self.old key) == 0) }
+        ensures edited { IsTrue result → IsEdited K.cmp self.old self.new key (cond (replace || is_err (place_of V.numbered_by (bucket_values K.cmp self.old key) (V.numbered_by value))) (put_by V.numbered_by value (bucket_values K.cmp self.old key)) (bucket_values K.cmp self.old key)) 1 }
+        ensures kept { IsFalse result → self.new ≡ self.old }
+    {
+        let (held, place) = self.place_in(key, value.number());
+        if held {
+            self.put_in_place(place, key, value, replace);
+        }
+        held
     }
 
     /// Takes the value with a number out from among those of a key, where there is one. The only value of a bucket leaves no move.
@@ -89,7 +110,7 @@ impl<K: Ord + Copy, V: Numbered> Bucket<K, V> {
         requires ascending { IsAscendingBy V.numbered_by (bucket_values K.cmp self.old key) }
         ensures { IsEdited K.cmp self.old self.new key (filter (λ v. not (eqb (V.numbered_by v) number)) (bucket_values K.cmp self.old key)) 0 }
     {
-        let Ok(at) = self.place_in(key, number) else {
+        let Ok(at) = self.place_in(key, number).1 else {
             return;
         };
         if self.keys.len() == 1 {
@@ -101,17 +122,42 @@ impl<K: Ord + Copy, V: Numbered> Bucket<K, V> {
         take_out(&mut self.values, at);
     }
 
-    // Where the value with a number stands among those of a key, or where it would go.
+    // Puts a value at its place among those of a key. Where one stands there that has its number, it does so only if `replace` is true.
+    // Whether there was none.
     #[inline(always)]
-    fn place_in(&self, key: K, number: u32) -> Result<usize, usize>
+    fn put_in_place(&mut self, place: Result<usize, usize>, key: K, value: V, replace: bool) -> bool
+        requires sorted { IsSorted K.cmp self.old }
+        requires room { HasRoom self.old 1 }
+        requires place { MatchResult place (IsFound K.cmp V.numbered_by self.old key (V.numbered_by value)) (IsMissing K.cmp V.numbered_by self.old key (V.numbered_by value)) }
+        ensures added { result ≡ is_err (place_of V.numbered_by (bucket_values K.cmp self.old key) (V.numbered_by value)) }
+        ensures edited { IsEdited K.cmp self.old self.new key (cond (replace || result) (put_by V.numbered_by value (bucket_values K.cmp self.old key)) (bucket_values K.cmp self.old key)) (cond result 1 0) }
+    {
+        match place {
+            Ok(at) if replace => {
+                self.values[at] = value;
+                false
+            }
+            Ok(_) => false,
+            Err(at) => {
+                self.put_at(at, key, value);
+                true
+            }
+        }
+    }
+
+    // Whether a key has values, and where the one with a number stands among them, or where it would go.
+    #[inline(always)]
+    fn place_in(&self, key: K, number: u32) -> (bool, Result<usize, usize>)
         requires sorted { IsSorted K.cmp self.now }
         requires ascending { IsAscendingBy V.numbered_by (bucket_values K.cmp self.now key) }
-        ensures { MatchResult result (IsFound K.cmp V.numbered_by self.now key number) (IsMissing K.cmp V.numbered_by self.now key number) }
+        ensures held { result.0 ≡ not (length (bucket_values K.cmp self.now key) == 0) }
+        ensures place { MatchResult result.1 (IsFound K.cmp V.numbered_by self.now key number) (IsMissing K.cmp V.numbered_by self.now key number) }
     {
         let (start, end) = self.range_of(key);
+        let held = start < end;
         match find_number(&self.values[start..end], number) {
-            Ok(i) => Ok(start + i),
-            Err(i) => Err(start + i),
+            Ok(i) => (held, Ok(start + i)),
+            Err(i) => (held, Err(start + i)),
         }
     }
 }

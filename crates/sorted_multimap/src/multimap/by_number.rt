@@ -1,6 +1,6 @@
 //! Edits of the values of a key that ascend by number. Each looks for its key once.
 
-ghost use Rattle.std.specs.Prelude.{◌≡◌, ◌<◌, ◌≤◌, ◌+◌, cond, eqb, filter, not};
+ghost use Rattle.std.specs.Prelude.{◌≡◌, ◌<◌, ◌≤◌, ◌+◌, ◌==◌, ◌||◌, cond, eqb, filter, length, not, IsTrue, IsFalse};
 ghost use Rattle.std.specs.Ordering.{is_eq};
 ghost use Rattle.std.specs.Result.{is_err};
 ghost use Rattle.teb_history.specs.Ascending.{IsAscendingBy, place_of, put_by};
@@ -40,6 +40,23 @@ impl<K: Key, V: Numbered> Multimap<K, V> {
         let added = self.buckets[at].add_by_number(key, value);
         self.spare -= usize::from(added);
         added
+    }
+
+    /// Puts a value among those of a key, which ascend by number, where it has any: instead of the one that has its number where `replace`
+    /// is true, and else unless one has it. Whether the key has any; then it takes one place of the room, and else nothing changes.
+    #[inline(always)]
+    pub fn join_by_number(&mut self, key: K, value: V, replace: bool) -> bool
+        requires room { 0 < self.old.spare }
+        requires ascending { IsAscendingBy V.numbered_by (values_in K.cmp self.old key) }
+        ensures held { result ≡ not (length (values_in K.cmp self.old key) == 0) }
+        ensures values { IsTrue result → (q : K) → values_in K.cmp self.new q ≡ cond (is_eq (K.cmp key q)) (cond (replace || is_err (place_of V.numbered_by (values_in K.cmp self.old key) (V.numbered_by value))) (put_by V.numbered_by value (values_in K.cmp self.old key)) (values_in K.cmp self.old key)) (values_in K.cmp self.old q) }
+        ensures kept { IsFalse result → self.new ≡ self.old }
+        ensures spare { self.old.spare ≡ self.new.spare + cond result 1 0 }
+    {
+        let at = place_of(&self.buckets, key);
+        let joined = self.buckets[at].join_by_number(key, value, replace);
+        self.spare -= usize::from(joined);
+        joined
     }
 
     /// Takes the value with a number out from among those of a key, which ascend by number. Where there is none, it holds the same.
