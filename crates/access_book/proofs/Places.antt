@@ -10,7 +10,7 @@ use Rattle.teb_history.specs.Ascending.{IsAscendingBy, put_by}
 use Rattle.teb_history.specs.Live.{number_of}
 use Rattle.teb_history.proofs.AscendingLists.{ascending-put}
 use Rattle.cell_index.specs.Cells.{place_in, with_cell, with_place}
-use Rattle.cell_index.proofs.SameCells.{same_cell-true}
+use Rattle.teb_names.proofs.SameCells.{same_cell-true}
 use Rattle.cell_index.proofs.Places.{place_back}
 use Rattle.cell_index.proofs.ListEdits.{placed, placed_list, placed_edited}
 use Rattle.arena_multimap.specs.NumberedLists.{list_in}

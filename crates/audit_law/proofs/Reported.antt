@@ -16,7 +16,7 @@ use Rattle.teb_history.specs.Accesses.{last_put}
 use Rattle.teb_rules.specs.Setup.{Store}
 use Rattle.teb_rules.specs.Serializes.{In, Serializes, final_table, value_of}
 use Rattle.teb_rules.specs.Versions.{value_left}
-use Rattle.teb_laws.proofs.Timeline.{same_cell-true}
+use Rattle.teb_names.proofs.SameCells.{same_cell-true}
 use Rattle.script_text.specs.Ranges.{TxnFits, ValueFits}
 use Rattle.audit_check.specs.Standings.{committed}
 use Rattle.audit_law.specs.Printed.{CellFits, RowFits, EventFits}

@@ -19,7 +19,7 @@ use Rattle.teb_laws.specs.Laws.{IsWriter}
 use Rattle.teb_laws.proofs.Cascades.{unfinished_times}
 use Rattle.teb_laws.proofs.Laws.{lawful_orders}
 use Rattle.teb_laws.proofs.ReadRule.{put_skip}
-use Rattle.teb_laws.proofs.Timeline.{same_cell-true}
+use Rattle.teb_names.proofs.SameCells.{same_cell-true}
 use Rattle.teb_laws.proofs.VersionOrder.{precedes_irreflexive}
 use Rattle.version_chain.specs.Lists.{Version, writers_of, is_writer, set_value}
 use Rattle.version_chain.proofs.Cells.{same_cell-other}

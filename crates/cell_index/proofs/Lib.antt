@@ -1,4 +1,3 @@
-pub mod SameCells
 pub mod Places
 pub mod Lists
 pub mod ListEdits

@@ -7,7 +7,7 @@ use Rattle.teb_names.specs.declared.Cell.{Cell}
 use Rattle.teb_names.specs.Cells.{same_cell}
 use Rattle.cell_index.specs.Cells.{place_in, with_cell, with_place}
 use Rattle.cell_index.specs.Lists.{list_for}
-use Rattle.cell_index.proofs.SameCells.{same_cell-true, same_laws}
+use Rattle.teb_names.proofs.SameCells.{same_cell-true, same_laws}
 use Rattle.cell_index.proofs.Places.{decided, place_none, place_absent, same_place, with_known, with_new, put_place, put_length}
 use Rattle.cell_index.proofs.Lists.{set_tells, list_with_place, length-with_place, grown}
 

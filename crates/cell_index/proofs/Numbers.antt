@@ -14,7 +14,7 @@ use Rattle.cell_index.specs.declared.blocks.Blocks.{Blocks}
 use Rattle.cell_index.specs.Blocks.{keys, owner_of, has_cell, entry_by, number_or, IsPaged}
 use Rattle.cell_index.specs.Cells.{place_in}
 use Rattle.cell_index.specs.Index.{number_in, far_number, IsIndex}
-use Rattle.cell_index.proofs.SameCells.{same_cell-true, same_laws}
+use Rattle.teb_names.proofs.SameCells.{same_cell-true, same_laws}
 use Rattle.cell_index.proofs.Places.{decided, place_none, place_some, put_distinct}
 
 abbrev number_at : List Cell → Cell → Bool → ℕ

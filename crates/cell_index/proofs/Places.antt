@@ -7,7 +7,7 @@ use Rattle.std.proofs.lemmas.Map.Keys.{IsDistinct-head, IsDistinct-tail, IsDisti
 use Rattle.teb_names.specs.declared.Cell.{Cell}
 use Rattle.teb_names.specs.Cells.{same_cell}
 use Rattle.cell_index.specs.Cells.{place_in, with_cell}
-use Rattle.cell_index.proofs.SameCells.{same_itself, same_laws}
+use Rattle.teb_names.proofs.SameCells.{same_itself, same_laws}
 
 pub decided : (b : Bool) → (b ≡ true) ⊎ (b ≡ false)
 decided true = inl refl

@@ -13,7 +13,7 @@ use Rattle.teb_names.specs.Cells.{same_cell, cell_cmp}
 use Rattle.teb_names.proofs.CellOrder.{same_cell-cell_cmp}
 use Rattle.teb_history.specs.declared.Event.{Event}
 use Rattle.teb_history.specs.declared.Event.TheVariants.{Began, Got, Put, Ready, Done, Gone, Told}
-use Rattle.teb_laws.proofs.Timeline.{same_cell-true}
+use Rattle.teb_names.proofs.SameCells.{same_cell-true}
 use Rattle.record_journal.specs.declared.change.Change.{Change}
 use Rattle.record_journal.specs.Format.{Record}
 use Rattle.commit_laws.specs.Records.{last_puts, has, puts_of}

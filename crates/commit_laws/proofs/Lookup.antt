@@ -10,7 +10,7 @@ use Rattle.teb_history.specs.OwnEvents.{own_events, put_in as puts}
 use Rattle.teb_history.proofs.OwnWalks.{newest_in, last_put_own}
 use Rattle.teb_rules.specs.Replay.{Values, put_in}
 use Rattle.teb_rules.specs.Setup.{Setup}
-use Rattle.teb_laws.proofs.Timeline.{same_cell-true}
+use Rattle.teb_names.proofs.SameCells.{same_cell-true}
 use Rattle.record_journal.specs.Format.{Record}
 use Rattle.record_journal.specs.Journal.{after_changes, after_records}
 use Rattle.commit_laws.specs.Records.{last_puts, is_newest, record_of}

@@ -23,7 +23,7 @@ use Rattle.dependency_book.specs.Dependencies.{has, reads, puts, all_readers, al
 use Rattle.dependency_book.specs.Orderly.{MayFollow, Orderly}
 use Rattle.dependency_book.specs.Books.{Lists, BookOf, readers_in, writers_in, sources_in, list_of}
 use Rattle.sorted_multimap.proofs.TakenMatches.{without_all, count_kept}
-use Rattle.sorted_multimap.proofs.CellValues.{same_exact}
+use Rattle.teb_names.proofs.SameCells.{same_cell-true}
 use Rattle.dependency_book.proofs.SourceLists.{no_lists, one_more}
 use Rattle.dependency_book.proofs.OwnAccesses.{put_by_it, reads_counted, puts_counted}
 use Rattle.dependency_book.proofs.OrderlyHistories.{unfinished_is, unfinished_same, unfinished_parts, aborted_same, known, fresh}
@@ -223,7 +223,7 @@ module _ (b d : Lists) (P : List Event) (was : BookOf b P) where
     readers = λ y. r y ∙ was.readers y ∙ sym (readers_alike e P (λ z. refl) (all_readers P y));
     writers = λ y.
         wr y ∙ ap (λ (ts : List Txn). cond (same_cell x y && not (wrote P t.0 x)) (ts ++ t ∷ []) ts) (was.writers y)
-        ∙ ap (λ (c : Bool). cond c (writers P y ++ t ∷ []) (writers P y)) (where_it_is (same_cell x y) _ _ (λ h. ap (wrote P t.0) (same_exact x y h) ∙ sym (put_by_it P t y)))
+        ∙ ap (λ (c : Bool). cond c (writers P y ++ t ∷ []) (writers P y)) (where_it_is (same_cell x y) _ _ (λ h. ap (wrote P t.0) (same_cell-true x y h) ∙ sym (put_by_it P t y)))
         ∙ sym (writers_alike e P (λ z. refl) (all_writers (Put t x v ∷ P) y) ∙ here (same_cell x y && not (has t (all_writers P y))) (all_writers P y));
     sources = λ y. ap (λ (ls : List (List Txn)). list_of ls y.0) so ∙ was.sources y ∙ sym (sources_alike e P (λ z. refl) y (all_sources P y));
     begun = ap length so ∙ was.begun;

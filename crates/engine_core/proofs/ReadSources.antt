@@ -15,7 +15,7 @@ use Rattle.teb_rules.specs.Versions.{sees}
 use Rattle.teb_laws.specs.Lawful.{Granted, Lawful, Settled}
 use Rattle.teb_laws.proofs.ReadRule.{from_own, from_seen, from_row, read_case, latest-some, sees_parts}
 use Rattle.teb_laws.proofs.Serial.{filter-In}
-use Rattle.teb_laws.proofs.Timeline.{same_cell-true}
+use Rattle.teb_names.proofs.SameCells.{same_cell-true}
 use Rattle.phase_api.specs.Versions.{reads_from, SourcesStand}
 
 wrote_after : (e : Event) (P : List Event) (w : ℕ) (x : Cell) → wrote P w x ≡ true → wrote (e ∷ P) w x ≡ true

@@ -9,7 +9,7 @@ use Rattle.teb_names.specs.declared.Txn.{Txn}
 use Rattle.teb_names.specs.declared.Cell.{Cell}
 use Rattle.teb_names.specs.Cells.{same_cell, cell_cmp}
 use Rattle.sorted_multimap.specs.Multimap.{Shown, values_in}
-use Rattle.sorted_multimap.proofs.CellValues.{same_exact}
+use Rattle.teb_names.proofs.SameCells.{same_cell-true}
 use Rattle.hold_book.specs.declared.Hold.{Hold}
 use Rattle.hold_book.specs.declared.slots.Alone.{Alone}
 use Rattle.hold_book.specs.Slots.{only_hold, only_or}
@@ -27,7 +27,7 @@ pub edited : (c : Cell) (h h' : Cell → Option Hold) (f f' : Cell → List Hold
 edited c h h' f f' g k v slots others here x = (λ j. only_or (slots x j) (others x j)) ∙ go (same_cell c x) refl
   where
     go : (b : Bool) → same_cell c x ≡ b → only_or (cond b k (h x)) (cond b (v (f x)) (f x)) ≡ cond b (g (only_or (h x) (f x))) (only_or (h x) (f x))
-    go true e = subst (λ (z : Cell). only_or k (v (f z)) ≡ g (only_or (h z) (f z))) (same_exact c x e) here
+    go true e = subst (λ (z : Cell). only_or k (v (f z)) ≡ g (only_or (h z) (f z))) (same_cell-true c x e) here
     go false e = refl
 
 -- the same where the others stay
@@ -43,7 +43,7 @@ edited_others c h f f' g none others =
     edited c h h f f' g None g (λ x. absent x (same_cell c x) refl) others (λ j. g (only_or (sym none j) (f c)))
   where
     absent : (x : Cell) (b : Bool) → same_cell c x ≡ b → h x ≡ cond b None (h x)
-    absent x true e = subst (λ (z : Cell). h z ≡ None) (same_exact c x e) none
+    absent x true e = subst (λ (z : Cell). h z ≡ None) (same_cell-true c x e) none
     absent x false e = refl
 
 -- nobody else holds a cell that goes to its slot
@@ -52,7 +52,7 @@ pub apart_slots : (c : Cell) (ss ss' : List (Option Alone)) (o : Shown Cell Hold
 apart_slots c ss ss' o k apart slots none = record { filed = apart.filed; alone = λ x. go x (same_cell c x) refl (slots x) }
   where
     go : (x : Cell) (b : Bool) → same_cell c x ≡ b → only_hold ss' x ≡ cond b k (only_hold ss x) → is_some (only_hold ss' x) ≡ true → values_in cell_cmp o x ≡ []
-    go x true e q s = subst (λ (z : Cell). values_in cell_cmp o z ≡ []) (same_exact c x e) none
+    go x true e q s = subst (λ (z : Cell). values_in cell_cmp o z ≡ []) (same_cell-true c x e) none
     go x false e q s = apart.alone x (sym (ap is_some q) ∙ s)
 
 -- an access by the only one that holds
@@ -95,7 +95,7 @@ pub apart_others : (c : Cell) (ss : List (Option Alone)) (o o' : Shown Cell Hold
 apart_others c ss o o' g apart filed none others = record { filed = filed; alone = λ x s. others x ∙ go x (same_cell c x) refl s }
   where
     go : (x : Cell) (b : Bool) → same_cell c x ≡ b → is_some (only_hold ss x) ≡ true → cond b (g (values_in cell_cmp o x)) (values_in cell_cmp o x) ≡ []
-    go x true e s = absurd (let z : false ≡ true = sym (ap is_some (subst (λ (y : Cell). only_hold ss y ≡ None) (same_exact c x e) none)) ∙ s in cc)
+    go x true e s = absurd (let z : false ≡ true = sym (ap is_some (subst (λ (y : Cell). only_hold ss y ≡ None) (same_cell-true c x e) none)) ∙ s in cc)
     go x false e s = apart.alone x s
 
 -- an edit of slots that are lent, and of the others, is one of the book b

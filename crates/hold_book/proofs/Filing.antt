@@ -11,7 +11,7 @@ use Rattle.teb_names.proofs.CellOrder.{same_cell-cell_cmp}
 use Rattle.teb_history.specs.Ascending.{AllAbove, IsAscendingBy, next_place, place_of, put_by}
 use Rattle.teb_history.proofs.AscendingLists.{place_below, place_here, place_above, put-set, ascending-put, ascending-filter}
 use Rattle.sorted_multimap.specs.Multimap.{Shown, values_in}
-use Rattle.sorted_multimap.proofs.CellValues.{same_exact}
+use Rattle.teb_names.proofs.SameCells.{same_cell-true}
 use Rattle.hold_book.specs.declared.Hold.{Hold}
 use Rattle.hold_book.specs.Books.{hold_number, has_put, accessed, released, IsFiled}
 
@@ -106,7 +106,7 @@ pub edited_cell : (f : Cell → List Hold) (x : Cell) (g : List Hold → List Ho
 edited_cell f x g new e y = go (same_cell x y) refl
   where
     go : (b : Bool) → same_cell x y ≡ b → cond (is_eq (cell_cmp x y)) new (f y) ≡ cond b (g (f y)) (f y)
-    go true h = ap (λ (o : Bool). cond o new (f y)) (sym (same_cell-cell_cmp x y) ∙ h) ∙ e ∙ ap (λ (z : Cell). g (f z)) (same_exact x y h)
+    go true h = ap (λ (o : Bool). cond o new (f y)) (sym (same_cell-cell_cmp x y) ∙ h) ∙ e ∙ ap (λ (z : Cell). g (f z)) (same_cell-true x y h)
     go false h = ap (λ (o : Bool). cond o new (f y)) (sym (same_cell-cell_cmp x y) ∙ h)
 
 -- an edit of the holds on x alone, by what keeps holds in their order

@@ -20,8 +20,7 @@ use Rattle.teb_laws.proofs.AscendingNumbers.{number, numbers_ascending, above_in
 use Rattle.teb_laws.proofs.Locks.{In-numbers}
 use Rattle.teb_laws.proofs.Holding.{unfinished_same}
 use Rattle.hold_book.specs.declared.Hold.{Hold}
-use Rattle.sorted_multimap.proofs.CellValues.{same_exact}
-use Rattle.hold_book.proofs.Cells.{same_itself}
+use Rattle.teb_names.proofs.SameCells.{same_cell-true, same_itself}
 use Rattle.hold_book.specs.Books.{Held, shown, hold_number, has_put, accessed, released}
 use Rattle.hold_book.specs.Holders.{holds, hold_of, holds_in, HoldsOf, MayHold, LeavesHolds}
 use Rattle.teb_history.proofs.Newest.{wrote-cons, got-cons, unfinished-cons}
@@ -254,7 +253,7 @@ module _ (b b' : Held) (S : Setup) (P : List Event) (n : ℕ) (t : Txn) (stood :
   pub stands_got : (x : Cell) (w : Txn) (v : Option ℤ) → MayHold S P n t.0 → shown b' x ≡ accessed t false (shown b x) → ((y : Cell) → same_cell x y ≡ false → shown b' y ≡ shown b y) → HoldsOf b' S (Got t x w v ∷ P) n
   stands_got x w v m here else = record {
     shows = λ y. elim (cases_Bool (same_cell x y)) [
-      | inl e ↦ subst (λ (z : Cell). shown b' z ≡ holds_in S (Got t x w v ∷ P) n z) (same_exact x y e) (here ∙ ap (accessed t false) (stood.shows x) ∙ sym (got_here S P n t m x w v))
+      | inl e ↦ subst (λ (z : Cell). shown b' z ≡ holds_in S (Got t x w v ∷ P) n z) (same_cell-true x y e) (here ∙ ap (accessed t false) (stood.shows x) ∙ sym (got_here S P n t m x w v))
       | inr e ↦ else y e ∙ stood.shows y ∙ sym (got_elsewhere S P n t x y w v e)
     ];
   }
@@ -262,7 +261,7 @@ module _ (b b' : Held) (S : Setup) (P : List Event) (n : ℕ) (t : Txn) (stood :
   pub stands_put : (x : Cell) (v : Option ℤ) → MayHold S P n t.0 → shown b' x ≡ accessed t true (shown b x) → ((y : Cell) → same_cell x y ≡ false → shown b' y ≡ shown b y) → HoldsOf b' S (Put t x v ∷ P) n
   stands_put x v m here else = record {
     shows = λ y. elim (cases_Bool (same_cell x y)) [
-      | inl e ↦ subst (λ (z : Cell). shown b' z ≡ holds_in S (Put t x v ∷ P) n z) (same_exact x y e) (here ∙ ap (accessed t true) (stood.shows x) ∙ sym (put_here S P n t m x v))
+      | inl e ↦ subst (λ (z : Cell). shown b' z ≡ holds_in S (Put t x v ∷ P) n z) (same_cell-true x y e) (here ∙ ap (accessed t true) (stood.shows x) ∙ sym (put_here S P n t m x v))
       | inr e ↦ else y e ∙ stood.shows y ∙ sym (put_elsewhere S P n t x y v e)
     ];
   }

@@ -1,4 +1,3 @@
-pub mod Cells
 pub mod Entering
 pub mod Filing
 pub mod FreeSlots

@@ -16,7 +16,7 @@ use Rattle.hold_book.specs.declared.Hold.{Hold}
 use Rattle.hold_book.specs.Books.{Held, shown, released}
 use Rattle.hold_book.specs.Holders.{HoldsOf}
 use Rattle.hold_book.proofs.Holders.{stands_done, stands_gone, released_off, holder_accessed}
-use Rattle.sorted_multimap.proofs.CellValues.{same_exact}
+use Rattle.teb_names.proofs.SameCells.{same_cell-true}
 
 -- the event accesses x
 abbrev pub is_access : Cell → Event → Bool
@@ -72,7 +72,7 @@ module _ (t : ℕ) where
       once false hs = refl
 
       go : (x : Cell) (s : Bool) → same_cell y x ≡ s → (r : Bool) → released_if r t (shown c x) ≡ released_if (s || r) t (shown b x)
-      go x true f r = ap (λ (hs : List Hold). released_if r t hs) ((λ j. shown c (sym (same_exact y x f) j)) ∙ here ∙ (λ j. released t (shown b (same_exact y x f j)))) ∙ once r (shown b x)
+      go x true f r = ap (λ (hs : List Hold). released_if r t hs) ((λ j. shown c (sym (same_cell-true y x f) j)) ∙ here ∙ (λ j. released t (shown b (same_cell-true y x f j)))) ∙ once r (shown b x)
       go x false f r = ap (λ (hs : List Hold). released_if r t hs) (else x f)
 
 -- t's own events tell which cells it has accessed

@@ -1,6 +1,9 @@
 -- The conditions of the calls of a control.
 use Rattle.std.specs.Prelude.{◌≡◌, ◌<◌, ◌∷◌, ◌||◌, ℕ, suc, List, IsTrue, IsFalse, is_some, drop}
 use Rattle.teb_names.specs.declared.Cell.{Cell}
+use Rattle.teb_names.specs.declared.Kind.{Kind}
+use Rattle.teb_names.specs.declared.Session.{Session}
+use Rattle.teb_names.specs.declared.Txn.{Txn}
 use Rattle.teb_history.specs.declared.Event.{Event}
 use Rattle.teb_history.specs.declared.Event.TheVariants.{Began, Got, Put, Ready, Done, Gone, Told}
 use Rattle.teb_history.specs.Phases.{begun_count, unfinished, prepared, aborted, kind_of}
@@ -55,3 +58,7 @@ MayNote S P n (Told t) = IsTrue (aborted P t.0)
 pub record IsNewest (f : Facts) (e : Event) (n : ℕ) : Type 0 where
   pub is : events_of f ≡ e ∷ drop 1 (events_of f)
   pub may : MayNote (setup_of f) (drop 1 (events_of f)) n e
+
+-- the newest event of the history is the Began of t, and may be noted at node n
+abbrev pub HasJustBegun : Facts → ℕ → Txn → Type 0
+HasJustBegun f n t = (s : Session) × (k : Kind) × (i : ℕ) × IsNewest f (Began t s k i) n

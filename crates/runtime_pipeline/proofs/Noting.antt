@@ -20,7 +20,7 @@ use Rattle.teb_names.specs.declared.Spot.{Spot}
 use Rattle.teb_rules.specs.Steps.{cursor, least_step}
 use Rattle.phase_api.specs.FactsView.{IsOrderly}
 use Rattle.phase_api.specs.Calls.{MayNote}
-use Rattle.hold_book.proofs.Cells.{same_itself}
+use Rattle.teb_names.proofs.SameCells.{same_itself}
 use Rattle.access_conflicts.specs.Registered.{Registered}
 use Rattle.access_conflicts.proofs.Orderly.{unfinished_begun, begun_kept, new_accesses_none}
 use Rattle.cursor_book.specs.Cursors.{CursorsOf, moved}

@@ -10,7 +10,7 @@ use Rattle.teb_names.specs.declared.Cell.{Cell}
 use Rattle.teb_names.specs.Cells.{same_cell, cell_cmp, is_before}
 use Rattle.teb_names.specs.Rows.{row_of, is_ascending, IsAscending}
 use Rattle.teb_names.proofs.CellOrder.{cell_cmp_total, same_cell-cell_cmp, before_less}
-use Rattle.teb_laws.proofs.Timeline.{same_cell-true}
+use Rattle.teb_names.proofs.SameCells.{same_cell-true}
 use Rattle.serial_order.specs.Seen.{is_among}
 use Rattle.serial_order.specs.Tables.{rows_before, rows_behind, row_before, merged_rows}
 

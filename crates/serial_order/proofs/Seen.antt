@@ -1,5 +1,5 @@
 -- Cells by the places of their marks.
-use Rattle.std.proofs.Common.{ℕ, zero, suc, ◌≡◌, ◌+◌, ◌*◌, ◌/◌, ◌%◌, ◌<◌, ◌≤◌, Bool, true, false, cond, ◌&&◌, ◌||◌, eqb, List, [], ◌∷◌, get_or, refl, sym, ap, subst, ◌∙◌, arith, ltb-true, inl, inr, ◌-◌, ◌++◌}
+use Rattle.std.proofs.Common.{ℕ, zero, suc, ◌≡◌, ◌+◌, ◌*◌, ◌/◌, ◌%◌, ◌<◌, ◌≤◌, Bool, true, false, cond, ◌||◌, List, [], ◌∷◌, get_or, refl, sym, ap, subst, ◌∙◌, arith, ltb-true, inl, inr, ◌-◌, ◌++◌}
 use Rattle.std.specs.Ordering.{nat_cmp, ordering_then}
 use Rattle.std.specs.declared.cmp.Ordering.{Ordering}
 use Rattle.std.specs.declared.cmp.Ordering.TheVariants.{Less, Equal}
@@ -14,7 +14,7 @@ use Rattle.std.proofs.lemmas.Nat.{le-div, div-add-mod', div-mul-add, mod-mul-add
 use Rattle.std.proofs.lemmas.Bool.{cases_order, cases_lt, both_ways, and_parts}
 use Rattle.teb_names.specs.declared.Cell.{Cell}
 use Rattle.teb_names.specs.Cells.{same_cell, cell_cmp}
-use Rattle.teb_laws.proofs.Timeline.{same_cell-true}
+use Rattle.teb_names.proofs.SameCells.{same_cell-true, same_itself}
 use Rattle.teb_names.proofs.CellOrder.{cell_cmp_total, same_cell-cell_cmp}
 use Rattle.serial_order.specs.declared.seen_cells.SeenCells.{SeenCells}
 use Rattle.serial_order.specs.Seen.{is_among, place_of, cell_at, marked_cells, is_marked, IsSound, AreSeen}
@@ -22,12 +22,6 @@ use Rattle.serial_order.specs.Seen.{is_among, place_of, cell_at, marked_cells, i
 pub or_true : (a b : Bool) → b ≡ true → (a || b) ≡ true
 or_true true b h = refl
 or_true false b h = h
-
-eqb_itself : (n : ℕ) → eqb n n ≡ true
-eqb_itself n = grind arith
-
-same_itself : (x : Cell) → same_cell x x ≡ true
-same_itself x = ap (λ (b : Bool). b && eqb x.key x.key) (eqb_itself x.table.0) ∙ eqb_itself x.key
 
 -- the cell of its own place
 pub cell_of_place : (w : ℕ) (x : Cell) → x.key < w → cell_at w (place_of w x) ≡ x

@@ -14,7 +14,7 @@ use Rattle.teb_rules.specs.Setup.{Store}
 use Rattle.teb_rules.specs.Versions.{value_left}
 use Rattle.teb_rules.specs.Serializes.{final_table, value_of}
 use Rattle.teb_laws.specs.Within.{CellWithin, AllWithin}
-use Rattle.teb_laws.proofs.Timeline.{same_cell-true}
+use Rattle.teb_names.proofs.SameCells.{same_cell-true}
 use Rattle.serial_order.specs.Tables.{IsFinalRows}
 
 -- where all rows are of the first tables, so is each cell that has a row

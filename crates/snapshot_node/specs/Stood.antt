@@ -1,14 +1,9 @@
 -- For what a register stands, and for how many events it has room.
 use Rattle.std.specs.Prelude.{ℕ, List, min}
-use Rattle.teb_names.specs.declared.Txn.{Txn}
-use Rattle.teb_names.specs.declared.Session.{Session}
-use Rattle.teb_names.specs.declared.Kind.{Kind}
 use Rattle.teb_history.specs.declared.Event.{Event}
-use Rattle.teb_history.specs.declared.Event.TheVariants.{Began}
 use Rattle.teb_rules.specs.Setup.{Setup}
 use Rattle.phase_api.specs.declared.facts.Facts.{Facts}
 use Rattle.phase_api.specs.FactsView.{setup_of, events_of}
-use Rattle.phase_api.specs.Calls.{IsNewest}
 use Rattle.snapshot_node.specs.declared.register.Register.{Register}
 use Rattle.snapshot_node.specs.Standing.{SnapshotStand}
 use Rattle.snapshot_node.specs.Committed.{CommittedStand}
@@ -24,7 +19,3 @@ StandsFor r f = RegisterStands r (setup_of f) (events_of f)
 
 abbrev pub room_of : Register → ℕ
 room_of r = min r.batches.spare r.accesses.spare
-
--- the newest event of the history is the Began of t, and may be noted at node n
-abbrev pub HasBegun : Facts → ℕ → Txn → Type 0
-HasBegun f n t = (s : Session) × (k : Kind) × (i : ℕ) × IsNewest f (Began t s k i) n

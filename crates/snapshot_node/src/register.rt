@@ -6,8 +6,8 @@ ghost use Rattle.teb_history.specs.declared.Event.{Event};
 ghost use Rattle.teb_rules.specs.Setup.{Setup};
 ghost use Rattle.teb_rules.specs.Tree.{row};
 ghost use Rattle.phase_api.specs.FactsView.{setup_of, events_of};
-ghost use Rattle.phase_api.specs.Calls.{IsNewest};
-ghost use Rattle.snapshot_node.specs.Stood.{CommittedStands, HasBegun, RegisterStands, StandsFor, room_of};
+ghost use Rattle.phase_api.specs.Calls.{HasJustBegun, IsNewest};
+ghost use Rattle.snapshot_node.specs.Stood.{CommittedStands, RegisterStands, StandsFor, room_of};
 
 use access_book::AccessBook;
 use batch_book::Batches;
@@ -91,7 +91,7 @@ impl Register {
     // Notes the Began of a transaction at position `at`, the newest event: where the node is on its path, it joins a batch.
     #[inline(never)]
     fn begin(&mut self, facts: &Facts, txn: Txn, at: usize)
-        requires newest { HasBegun facts.now self.old.node.0 txn }
+        requires newest { HasJustBegun facts.now self.old.node.0 txn }
         requires stands { RegisterStands self.old (setup_of facts.now) (drop 1 (events_of facts.now)) }
         requires committed { CommittedStands self.old (setup_of facts.now) (drop 1 (events_of facts.now)) }
         requires room { 0 < room_of self.old }

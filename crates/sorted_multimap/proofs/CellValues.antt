@@ -1,26 +1,20 @@
 -- What an edit makes of the values of cells.
-use Rattle.std.proofs.Common.{◌≡◌, ℕ, Bool, true, false, cond, eqb, List, [], ◌∷◌, ◌++◌, Some, None, refl, sym, ◌∙◌, ap}
+use Rattle.std.proofs.Common.{◌≡◌, ℕ, Bool, true, false, cond, List, [], ◌∷◌, ◌++◌, Some, None, refl, sym, ◌∙◌, ap}
 use Rattle.std.specs.List.{remove}
-use Rattle.std.proofs.lemmas.Bool.{and_parts, eqb-true}
 use Rattle.std.specs.Ordering.{is_eq}
 use Rattle.teb_names.specs.declared.Cell.{Cell}
 use Rattle.teb_names.specs.Cells.{same_cell, cell_cmp}
 use Rattle.teb_names.proofs.CellOrder.{same_cell-cell_cmp}
+use Rattle.teb_names.proofs.SameCells.{same_cell-true}
 use Rattle.sorted_multimap.specs.LastMatches.{IsLastPlace, without_last}
 use Rattle.sorted_multimap.proofs.TakenMatches.{last_there, last_nowhere}
-
-pub same_exact : (x y : Cell) → same_cell x y ≡ true → x ≡ y
-same_exact x y h =
-    let two = and_parts (eqb x.table.0 y.table.0) (eqb x.key y.key) h in
-    let made : ℕ → ℕ → Cell = λ a b. record { table = record { 0 = a }; key = b } in
-    ap (λ (a : ℕ). made a x.key) (eqb-true x.table.0 y.table.0 two.0) ∙ ap (λ (b : ℕ). made y.table.0 b) (eqb-true x.key y.key two.1)
 
 -- a value at the end of the values_of of x
 pub pushed_cell : {V : Type 0} (f : Cell → List V) (x y : Cell) (v : V) → cond (is_eq (cell_cmp x y)) (f x ++ v ∷ []) (f y) ≡ cond (same_cell x y) (f y ++ v ∷ []) (f y)
 pushed_cell {V} f x y v = go (same_cell x y) refl
   where
     go : (b : Bool) → same_cell x y ≡ b → cond (is_eq (cell_cmp x y)) (f x ++ v ∷ []) (f y) ≡ cond b (f y ++ v ∷ []) (f y)
-    go true h = ap (λ (o : Bool). cond o (f x ++ v ∷ []) (f y)) (sym (same_cell-cell_cmp x y) ∙ h) ∙ ap (λ (z : Cell). f z ++ v ∷ []) (same_exact x y h)
+    go true h = ap (λ (o : Bool). cond o (f x ++ v ∷ []) (f y)) (sym (same_cell-cell_cmp x y) ∙ h) ∙ ap (λ (z : Cell). f z ++ v ∷ []) (same_cell-true x y h)
     go false h = ap (λ (o : Bool). cond o (f x ++ v ∷ []) (f y)) (sym (same_cell-cell_cmp x y) ∙ h)
 
 -- the last value that passes is taken out of the values_of of x
@@ -29,12 +23,12 @@ module _ {V : Type 0} (p : V → Bool) (f : Cell → List V) (x y : Cell) where
   taken_last i h = go (same_cell x y) refl
     where
       go : (b : Bool) → same_cell x y ≡ b → cond (is_eq (cell_cmp x y)) (remove (f x) i) (f y) ≡ cond b (without_last p (f y)) (f y)
-      go true e = ap (λ (o : Bool). cond o (remove (f x) i) (f y)) (sym (same_cell-cell_cmp x y) ∙ e) ∙ sym (last_there p (f x) i h) ∙ ap (λ (z : Cell). without_last p (f z)) (same_exact x y e)
+      go true e = ap (λ (o : Bool). cond o (remove (f x) i) (f y)) (sym (same_cell-cell_cmp x y) ∙ e) ∙ sym (last_there p (f x) i h) ∙ ap (λ (z : Cell). without_last p (f z)) (same_cell-true x y e)
       go false e = ap (λ (o : Bool). cond o (remove (f x) i) (f y)) (sym (same_cell-cell_cmp x y) ∙ e)
 
   pub taken_none : IsLastPlace p (f x) None → f y ≡ cond (same_cell x y) (without_last p (f y)) (f y)
   taken_none h = go (same_cell x y) refl
     where
       go : (b : Bool) → same_cell x y ≡ b → f y ≡ cond b (without_last p (f y)) (f y)
-      go true e = ap f (sym (same_exact x y e)) ∙ sym (last_nowhere p (f x) h) ∙ ap (λ (z : Cell). without_last p (f z)) (same_exact x y e)
+      go true e = ap f (sym (same_cell-true x y e)) ∙ sym (last_nowhere p (f x) h) ∙ ap (λ (z : Cell). without_last p (f z)) (same_cell-true x y e)
       go false e = refl

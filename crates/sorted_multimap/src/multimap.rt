@@ -13,7 +13,7 @@ use crate::bucket::Bucket;
 use std::alloc::{AllocError, Global};
 use std::marker::Model;
 
-// How many buckets there are for some hundred values.
+// How many buckets there are for some dozens of values.
 const BUCKETS: usize = 32;
 
 // Among how many buckets the keys are spread.
@@ -65,7 +65,7 @@ impl<K: Key, V: Copy> Model for Multimap<K, V> {
 }
 
 impl<K: Key, V: Copy> Multimap<K, V> {
-    /// No values, and no room, for some hundred values: in 32 buckets, so that each has a few values. Takes no memory.
+    /// No values, and no room, for some dozens of values at a time: in 32 buckets, so that most have one key or none. Takes no memory.
     pub fn small(alloc: Global) -> Self
         ensures entries { result.entries ≡ [] }
         ensures spare { result.spare ≡ 0 }

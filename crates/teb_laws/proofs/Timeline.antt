@@ -7,6 +7,7 @@ use Rattle.teb_history.specs.declared.Event.{Event}
 use Rattle.teb_history.specs.declared.Event.TheVariants.{Began, Got, Put, Ready, Done, Gone, Told}
 use Rattle.teb_history.specs.Accesses.{is_put, is_got, put_at, got_at, wrote, got}
 use Rattle.teb_names.specs.Cells.{same_cell}
+use Rattle.teb_names.proofs.SameCells.{same_cell-true}
 use Rattle.teb_names.specs.declared.Spot.{Spot}
 use Rattle.teb_history.specs.Phases.{spot_of, is_began, is_done, is_gone, is_ready, began_at, done_at, gone_at, begun, committed, aborted, unfinished, begun_count, kind_of}
 use Rattle.teb_history.specs.Positions.{upto, newest, first_event, came}
@@ -194,12 +195,6 @@ side-upto S H i n t l h b = ap (λ (s : Spot). side_at S.tree n s t) (spot-upto 
 pub meets-upto : (S : Setup) (H : List Event) (i n t u : ℕ) → Lawful S H → i ≤ length H → began_at H t < i → began_at H u < i → meets S (upto i H) n t u ≡ meets S H n t u
 unfolding meets
 meets-upto S H i n t u l h b c = rw (on-upto S H i n t l h b, on-upto S H i n u l h c, side-upto S H i n t l h b, side-upto S H i n u l h c) refl
-
-pub same_cell-true : (y x : Cell) → same_cell y x ≡ true → y ≡ x
-same_cell-true y x h = let p = and_parts (eqb y.table.0 x.table.0) (eqb y.key x.key) h in cell_path (eqb-true y.table.0 x.table.0 p.0) (eqb-true y.key x.key p.1)
-  where
-    cell_path : y.table.0 ≡ x.table.0 → y.key ≡ x.key → y ≡ x
-    cell_path a b = λ i. record { table = record { 0 = a i }; key = b i }
 
 -- what the rules ask of a Put, a Got, a Done, a Ready, a Gone
 pub put_may : (S : Setup) (P : List Event) (e : Event) (t : ℕ) (x : Cell) → is_put t x e ≡ true → Granted S P e → MayAccess S P t x true

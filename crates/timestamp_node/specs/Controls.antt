@@ -1,13 +1,7 @@
 -- What a timestamp control shows of itself.
 use Rattle.std.specs.Prelude.{ℕ, min, List}
-use Rattle.teb_names.specs.declared.Txn.{Txn}
-use Rattle.teb_names.specs.declared.Session.{Session}
-use Rattle.teb_names.specs.declared.Kind.{Kind}
 use Rattle.teb_history.specs.declared.Event.{Event}
-use Rattle.teb_history.specs.declared.Event.TheVariants.{Began}
 use Rattle.teb_rules.specs.Setup.{Setup}
-use Rattle.phase_api.specs.declared.facts.Facts.{Facts}
-use Rattle.phase_api.specs.Calls.{IsNewest}
 use Rattle.timestamp_node.specs.Standing.{StampsStand}
 use Rattle.timestamp_node.specs.declared.stamps.Stamps.{Stamps}
 
@@ -20,7 +14,3 @@ stamps_node_number c = c.node.0
 
 abbrev pub stamps_spare : Stamps → ℕ
 stamps_spare c = min c.batches.spare c.reads.spare
-
--- the newest event of the history is the Began of t, and may be noted at node n
-abbrev pub HasBegun : Facts → ℕ → Txn → Type 0
-HasBegun f n t = (s : Session) × (k : Kind) × (i : ℕ) × IsNewest f (Began t s k i) n

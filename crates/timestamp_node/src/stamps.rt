@@ -13,12 +13,12 @@ ghost use Rattle.teb_rules.specs.Versions.{precedes};
 ghost use Rattle.teb_rules.specs.Controls.{is_late};
 ghost use Rattle.version_chain.specs.Lists.{writers_of};
 ghost use Rattle.phase_api.specs.FactsView.{setup_of, events_of, IsTyped};
-ghost use Rattle.phase_api.specs.Calls.{IsHere};
+ghost use Rattle.phase_api.specs.Calls.{HasJustBegun, IsHere};
 ghost use Rattle.phase_api.specs.Versions.{HoldsVersions, IsPlaceOf, SourcesStand, has_version};
 ghost use Rattle.timestamp_node.specs.Reads.{reads};
 ghost use Rattle.timestamp_node.specs.Late.{is_after, lesser_txn};
 ghost use Rattle.timestamp_node.specs.Standing.{StampsStand};
-ghost use Rattle.timestamp_node.specs.Controls.{HasBegun, StampsStandFor, stamps_spare};
+ghost use Rattle.timestamp_node.specs.Controls.{StampsStandFor, stamps_spare};
 
 use crate::reads::{forget_reads, push_read};
 use access_conflicts::wait_for;
@@ -131,7 +131,7 @@ impl Stamps {
     // Notes the Began of a transaction at position `at`, the newest event: where the node is on its path, it joins a batch.
     #[inline(never)]
     fn begin(&mut self, facts: &Facts, txn: Txn, at: usize)
-        requires newest { HasBegun facts.now self.old.node.0 txn }
+        requires newest { HasJustBegun facts.now self.old.node.0 txn }
         requires stands { StampsStandFor self.old (setup_of facts.now) (drop 1 (events_of facts.now)) }
         requires room { 0 < self.old.batches.spare }
         requires at { at ≡ length (drop 1 (events_of facts.now)) }
