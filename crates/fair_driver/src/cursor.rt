@@ -46,13 +46,7 @@ impl<'a> Cursor<'a> {
     pub fn next(&self) -> Option<&'a Request>
         ensures { option_map (λ r. r.now) result ≡ asks (seat_of self.now).state }
     {
-        if self.walker.at < self.lines.len() {
-            Some(&self.lines[self.walker.at].request)
-        } else if self.walker.begun.is_some() {
-            Some(&Request::End)
-        } else {
-            None
-        }
+        self.walker.next(self.lines)
     }
 
     /// Whether the session is to run alone: it was sent back three times, and is not through.

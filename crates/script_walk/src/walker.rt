@@ -1,6 +1,6 @@
 //! Where a session stands in its script.
 
-ghost use Rattle.std.specs.Prelude.{◌≡◌, ◌+◌, ◌<◌, ◌^◌, List, length};
+ghost use Rattle.std.specs.Prelude.{◌≡◌, ◌+◌, ◌<◌, ◌^◌, List, length, option_map};
 ghost use Rattle.teb_rules.specs.Scripts.{asks, after_answer, at_first, moved};
 ghost use Rattle.script_walk.specs.Advances.{move_at};
 ghost use Rattle.script_walk.specs.ScriptStates.{state_of, requests_on};
@@ -29,13 +29,13 @@ impl Walker {
 
     /// What the session asks next: its line, or behind its last line End where it holds a transaction.
     #[inline(always)]
-    pub fn next(&self, lines: &[Line]) -> Option<Request>
-        ensures { result ≡ asks (state_of lines.now self.now) }
+    pub fn next<'a>(&self, lines: &'a [Line]) -> Option<&'a Request>
+        ensures { option_map (λ r. r.now) result ≡ asks (state_of lines.now self.now) }
     {
         if self.at < lines.len() {
-            Some(lines[self.at].request)
+            Some(&lines[self.at].request)
         } else if self.begun.is_some() {
-            Some(Request::End)
+            Some(&Request::End)
         } else {
             None
         }

@@ -76,12 +76,12 @@ fn ask_next<C: Chains, G: Gate, R: Wait>(
     pass: &mut Pass<C>,
     lines: &[Line],
     walker: &mut Walker,
-    request: Request,
+    request: &Request,
     gate: &G,
 ) -> Result<Reply, AskError>
     requires pass { IsPassOf hall.now pass.old }
     requires way { IsUnderWay lines.now (mine pass.old) walker.old }
-    requires next { asks (state_of lines.now walker.old) ≡ Some request }
+    requires next { asks (state_of lines.now walker.old) ≡ Some request.now }
     ensures pass { IsPassOf hall.now pass.new × (pass.new.session ≡ pass.old.session) }
     ensures way { IsUnderWay lines.now (mine pass.new) walker.new }
     ensures waits { IfOk result (WaitsAmong 8192) }
@@ -90,7 +90,7 @@ fn ask_next<C: Chains, G: Gate, R: Wait>(
     let number = number_at(walker, lines);
     let session = pass.session();
     gate.before(session, number);
-    match hall.ask(rt, pass, request) {
+    match hall.ask(rt, pass, *request) {
         Ok(reply) => {
             gate.after(session, number);
             walker.take(lines, &reply);
