@@ -32,7 +32,7 @@ module _ (ps : List Place) (chain : Cell → Head) (unused : Head) (t : Txn) whe
 
   -- an empty list needs no entry
   pub emptied : (own : Txn → Head) (h : Head) → Linked ps chain (with_head t h own) unused → h.len ≡ 0 → own t ≡ empty → Linked ps chain own unused
-  emptied own h S none no_entry = record { chains = S.chains; owners = owners; frees = S.frees; once = S.once }
+  emptied own h S none no_entry = record { chains = S.chains; owners = owners; frees = S.frees; short = S.short; once = S.once }
     where
       mine : Thread (IsOwned ps t) (sibling_at ps) h.first h.len
       mine = subst (λ (g : Head). Thread (IsOwned ps t) (sibling_at ps) g.first g.len) (with_head-here t h own) (S.owners t)

@@ -1,20 +1,17 @@
 -- The first place of a writer's list that is freed: the links are sound again, and of each chain that writer's version alone is gone.
 use Rattle.std.proofs.Common.{true, false, Bool, eqb, cond, not, ◌≡◌, ◌==◌, ℕ, zero, suc, ◌+◌, ◌-◌, ◌<◌, ◌≢◌, List, [], ◌∷◌, length, get_or, map, filter, refl, sym, ◌∙◌, ap, subst, inl, inr, arith, if◌then◌else◌, None, Some, eq-eqb}
 use Rattle.std.specs.List.{remove}
-use Rattle.std.specs.Option.{option_map}
-use Rattle.std.proofs.lemmas.Bool.{cases_eq, cases_lt}
+use Rattle.std.proofs.lemmas.Bool.{cases_eq}
 use Rattle.std.proofs.lemmas.List.{get_or-map, length-map}
 use Rattle.teb_names.specs.declared.Cell.{Cell}
 use Rattle.teb_names.specs.declared.Txn.{Txn}
 use Rattle.teb_names.specs.Cells.{same_cell}
 use Rattle.version_chain.specs.Lists.{Version, without}
 use Rattle.version_chain.proofs.Cells.{same_cell-itself, same_cell-exact}
-use Rattle.chain_pool.specs.declared.places.Version.{Version as Stored}
 use Rattle.chain_pool.specs.declared.places.Place.{Place}
-use Rattle.chain_pool.specs.declared.places.Slot.{Slot}
 use Rattle.chain_pool.specs.declared.places.Head.{Head}
 use Rattle.chain_pool.specs.Threads.{Thread, Ring}
-use Rattle.chain_pool.specs.Places.{slot_at, next_at, previous_at, sibling_at, cell_in, pair_at, InChain, IsOwned, IsFree}
+use Rattle.chain_pool.specs.Places.{Slot, slot_at, next_at, previous_at, sibling_at, cell_in, pair_at, InChain, IsOwned, IsFree}
 use Rattle.chain_pool.specs.Heads.{same_txn, without_place, last_without}
 use Rattle.chain_pool.specs.Linked.{Linked, HasLasts, versions}
 use Rattle.chain_pool.proofs.Keys.{same_txn-itself, same_txn-exact, key_cases, key_apart, key_other}
@@ -170,6 +167,7 @@ module _ (ps ps' : List Place) (chain chain' : Cell → Head) (own own' : Txn �
             subst (λ (g : Head). Thread (IsOwned ps' u) (sibling_at ps') g.first g.len) (sym (own_else u ne)) (others_owned u ne)
       ];
       frees = more;
+      short = omega (arith, len, S.short);
       once = λ x u k r mk mr ok or. S.once x u k r (chain_was ps ps' p free_slot len slots x k (not_p x k mk) mk) (chain_was ps ps' p free_slot len slots x r (not_p x r mr) mr)
           (owned_was ps ps' p free_slot len slots u k (not_p x k mk) ok) (owned_was ps ps' p free_slot len slots u r (not_p x r mr) or);
     }
@@ -241,14 +239,14 @@ module _ (ps ps' : List Place) (chain chain' : Cell → Head) (own own' : Txn �
     is_freed = record { linked = freed; fewer = omega (arith, ap (λ (h : Head). h.len) own_here, some); kept = without_kept; lasts = lasts_kept }
 
 -- the same where the writer's head was read before
-pub freeing : (ps ps' : List Place) (chain chain' : Cell → Head) (own own' : Txn → Head) (unused : Head) (S : Linked ps chain own unused) (v : Stored) (t : Txn) (h : Head)
-    → h ≡ own t → 0 < (own t).len → (slot_at ps h.first).version ≡ Some v → length ps' ≡ length ps
+pub freeing : (ps ps' : List Place) (chain chain' : Cell → Head) (own own' : Txn → Head) (unused : Head) (S : Linked ps chain own unused) (cell : Cell) (t : Txn) (h : Head)
+    → h ≡ own t → 0 < (own t).len → cell_in (slot_at ps h.first) ≡ Some cell → length ps' ≡ length ps
     → ((r : ℕ) → next_at ps' r ≡ (if r == previous_at ps h.first then next_at ps h.first else next_at ps r))
     → ((r : ℕ) → previous_at ps' r ≡ (if r == next_at ps h.first then previous_at ps h.first else previous_at ps r))
     → ((r : ℕ) → slot_at ps' r ≡ (if r == h.first then record { version = None; sibling = unused.first } else slot_at ps r))
-    → ((y : Cell) → chain' y ≡ (if same_cell v.cell y then without_place (chain v.cell) h.first (next_at ps h.first) else chain y))
+    → ((y : Cell) → chain' y ≡ (if same_cell cell y then without_place (chain cell) h.first (next_at ps h.first) else chain y))
     → ((u : Txn) → own' u ≡ (if same_txn t u then record { first = sibling_at ps h.first; len = h.len - 1 } else own u))
-    → IsFreed ps ps' chain chain' own own' (record { first = h.first; len = unused.len + 1 }) t v.cell h.first (previous_at ps h.first)
-freeing ps ps' chain chain' own own' unused S v t h h_is some holds len next previous slots chains owners =
-    is_freed ps ps' chain chain' own own' unused S v.cell t h.first _ _ (ap (λ (z : Head). z.first) h_is) some (ap (option_map (λ (w : Stored). w.cell)) holds) refl refl len next previous slots chains
+    → IsFreed ps ps' chain chain' own own' (record { first = h.first; len = unused.len + 1 }) t cell h.first (previous_at ps h.first)
+freeing ps ps' chain chain' own own' unused S cell t h h_is some holds len next previous slots chains owners =
+    is_freed ps ps' chain chain' own own' unused S cell t h.first _ _ (ap (λ (z : Head). z.first) h_is) some holds refl refl len next previous slots chains
     (subst (λ (n : ℕ). (u : Txn) → own' u ≡ (if same_txn t u then record { first = sibling_at ps h.first; len = n - 1 } else own u)) (ap (λ (z : Head). z.len) h_is) owners)

@@ -8,10 +8,9 @@ use Rattle.teb_names.specs.Cells.{same_cell}
 use Rattle.version_chain.proofs.Cells.{same_cell-itself, same_cell-exact}
 use Rattle.chain_pool.specs.declared.places.Version.{Version as Stored}
 use Rattle.chain_pool.specs.declared.places.Place.{Place}
-use Rattle.chain_pool.specs.declared.places.Slot.{Slot}
 use Rattle.chain_pool.specs.declared.places.Head.{Head}
 use Rattle.chain_pool.specs.Threads.{Thread, Ring}
-use Rattle.chain_pool.specs.Places.{slot_at, next_at, previous_at, sibling_at, cell_in, writer_in, pair_in, pair_at, InChain, IsOwned, IsFree}
+use Rattle.chain_pool.specs.Places.{Slot, slot_at, next_at, previous_at, sibling_at, cell_in, writer_in, pair_in, pair_at, InChain, IsOwned, IsFree}
 use Rattle.chain_pool.specs.Heads.{same_txn}
 use Rattle.chain_pool.specs.Linked.{Linked, HasLasts, versions, nth_place}
 use Rattle.chain_pool.proofs.Keys.{same_txn-itself, same_txn-exact, key_cases, key_apart, key_other}
@@ -223,6 +222,7 @@ module _ (ps ps' : List Place) (chain chain' : Cell → Head) (own own' : Txn �
             subst (λ (g : Head). Thread (IsOwned ps' u) (sibling_at ps') g.first g.len) (sym (own_else u ne)) (other_owned u ne)
       ];
       frees = fewer;
+      short = omega (arith, len, S.short);
       once = once';
     }
 

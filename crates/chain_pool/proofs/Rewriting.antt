@@ -8,9 +8,8 @@ use Rattle.teb_names.specs.declared.Txn.{Txn}
 use Rattle.version_chain.specs.Lists.{Version, set_value}
 use Rattle.chain_pool.specs.declared.places.Version.{Version as Stored}
 use Rattle.chain_pool.specs.declared.places.Place.{Place}
-use Rattle.chain_pool.specs.declared.places.Slot.{Slot}
 use Rattle.chain_pool.specs.declared.places.Head.{Head}
-use Rattle.chain_pool.specs.Places.{slot_at, next_at, previous_at, sibling_at, cell_in, writer_in, pair_in, pair_at, with_value, InChain, IsOwned, IsFree}
+use Rattle.chain_pool.specs.Places.{Slot, slot_at, next_at, previous_at, sibling_at, cell_in, writer_in, pair_in, pair_at, with_value, InChain, IsOwned, IsFree}
 use Rattle.chain_pool.specs.Linked.{Linked, versions, nth_place}
 use Rattle.chain_pool.proofs.Threads.{thread-keep}
 use Rattle.chain_pool.proofs.Rings.{ring-keep, places-ring-keep, steps-at}
@@ -88,6 +87,7 @@ module _ (ps ps' : List Place) (chain : Cell → Head) (own : Txn → Head) (unu
     chains = λ x. (chain_with x).0;
     owners = λ t. thread-keep _ _ _ _ _ _ (S.owners t) (owned_to t) (owned_from t) (λ p m. sibling_same p);
     frees = thread-keep _ _ _ _ _ _ S.frees free_to free_from (λ p m. sibling_same p);
+    short = omega (arith, len, S.short);
     once = λ x t p r mp mr op or. S.once x t p r (chain_from x p mp) (chain_from x r mr) (owned_from t p op) (owned_from t r or);
   }
 

@@ -21,4 +21,4 @@ pub apart_from : (x cell : Cell) → IsFalse (same_cell x cell) → cell ≢ x
 apart_from x cell differs e = let z : true ≡ false = sym (same_cell-itself x) ∙ (ap (same_cell x) (sym e) ∙ differs) in cc
 
 pub less_room : (p : Pool) (m n : ℕ) → n ≤ m → HasRoom p m → HasRoom p n
-less_room p m n le r = record { places = omega (arith, le, r.places); cells = omega (arith, le, r.cells); writers = omega (arith, le, r.writers) }
+less_room p m n le r = record { places = omega (arith, le, r.places); short = omega (arith, le, r.short); cells = omega (arith, le, r.cells); writers = omega (arith, le, r.writers) }

@@ -8,10 +8,9 @@ use Rattle.teb_names.specs.declared.Cell.{Cell}
 use Rattle.teb_names.specs.declared.Txn.{Txn}
 use Rattle.chain_pool.specs.declared.places.Version.{Version as Stored}
 use Rattle.chain_pool.specs.declared.places.Place.{Place}
-use Rattle.chain_pool.specs.declared.places.Slot.{Slot}
 use Rattle.chain_pool.specs.declared.places.Head.{Head}
 use Rattle.chain_pool.specs.Threads.{Ring}
-use Rattle.chain_pool.specs.Places.{slot_at, next_at, previous_at, cell_in, writer_in, pair_in, pair_at, InChain, IsOwned, IsFree}
+use Rattle.chain_pool.specs.Places.{Slot, slot_at, next_at, previous_at, cell_in, writer_in, pair_in, pair_at, InChain, IsOwned, IsFree}
 use Rattle.chain_pool.specs.Linked.{versions}
 use Rattle.chain_pool.proofs.Threads.{thread-walk}
 use Rattle.chain_pool.proofs.Rings.{last_place}

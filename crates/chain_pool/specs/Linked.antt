@@ -1,5 +1,5 @@
 -- Places as chains, writers' lists and one list of free places.
-use Rattle.std.specs.Prelude.{◌≡◌, ℕ, ◌-◌, ◌<◌, List, map}
+use Rattle.std.specs.Prelude.{◌≡◌, ℕ, ◌-◌, ◌<◌, ◌^◌, List, length, map}
 use Rattle.teb_names.specs.declared.Cell.{Cell}
 use Rattle.teb_names.specs.declared.Txn.{Txn}
 use Rattle.version_chain.specs.Lists.{Version}
@@ -8,11 +8,12 @@ use Rattle.chain_pool.specs.declared.places.Head.{Head}
 use Rattle.chain_pool.specs.Threads.{Thread, Ring, walk, steps}
 use Rattle.chain_pool.specs.Places.{next_at, previous_at, sibling_at, pair_at, InChain, IsOwned, IsFree}
 
--- each place stands in its cell's chain and its writer's list, or is free; and no writer has two versions of a cell
+-- each place stands in its cell's chain and its writer's list, or is free; no writer has two versions of a cell; and the number of places fits 32 bits
 pub record Linked (ps : List Place) (chain : Cell → Head) (own : Txn → Head) (unused : Head) : Type 0 where
   pub chains : (x : Cell) → Ring (InChain ps x) (next_at ps) (previous_at ps) (chain x).first (chain x).len
   pub owners : (t : Txn) → Thread (IsOwned ps t) (sibling_at ps) (own t).first (own t).len
   pub frees : Thread (IsFree ps) (sibling_at ps) unused.first unused.len
+  pub short : length ps < 2 ^ 32
   pub once : (x : Cell) (t : Txn) (p q : ℕ) → InChain ps x p → InChain ps x q → IsOwned ps t p → IsOwned ps t q → p ≡ q
 
 -- a chain that is not empty has its last place before its first

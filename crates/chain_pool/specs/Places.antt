@@ -3,21 +3,39 @@ use Rattle.std.specs.Prelude.{◌≡◌, ℕ, ◌<◌, List, length, slice_index
 use Rattle.teb_names.specs.declared.Cell.{Cell}
 use Rattle.teb_names.specs.declared.Txn.{Txn}
 use Rattle.chain_pool.specs.declared.places.Version.{Version}
-use Rattle.chain_pool.specs.declared.places.Slot.{Slot}
+use Rattle.chain_pool.specs.declared.places.Content.{Content}
+use Rattle.chain_pool.specs.declared.places.Content.TheVariants.{Free, Deleted, Value}
 use Rattle.chain_pool.specs.declared.places.Place.{Place}
+
+-- the version of a place, None where it is free, and the place behind it in its writer's list, or in the list of free places
+pub record Slot : Type 0 where
+  pub version : Option Version
+  pub sibling : ℕ
+
+-- the version of a cell and a writer that a place holds so
+abbrev pub version_of : Cell → Txn → Content → Option Version
+version_of cell writer Free = None
+version_of cell writer Deleted = Some (record { cell = cell; writer = writer; value = None })
+version_of cell writer (Value value) = Some (record { cell = cell; writer = writer; value = Some value })
+
+abbrev pub slot_of : Place → Slot
+slot_of p = record { version = version_of p.cell p.writer p.content; sibling = p.sibling }
 
 -- what is read where there is no place
 abbrev pub blank : Place
-blank = record { slot = record { version = None; sibling = 0 }; previous = 0; next = 0 }
+blank = record { cell = record { table = record { 0 = 0 }; key = 0 }; writer = record { 0 = 0 }; sibling = 0; previous = 0; next = 0; content = Free }
+
+abbrev pub place_at : List Place → ℕ → Place
+place_at ps p = slice_index_or ps p blank
 
 abbrev pub slot_at : List Place → ℕ → Slot
-slot_at ps p = (slice_index_or ps p blank).slot
+slot_at ps p = slot_of (place_at ps p)
 
 abbrev pub next_at : List Place → ℕ → ℕ
-next_at ps p = (slice_index_or ps p blank).next
+next_at ps p = (place_at ps p).next
 
 abbrev pub previous_at : List Place → ℕ → ℕ
-previous_at ps p = (slice_index_or ps p blank).previous
+previous_at ps p = (place_at ps p).previous
 
 abbrev pub sibling_at : List Place → ℕ → ℕ
 sibling_at ps p = (slot_at ps p).sibling

@@ -1,5 +1,5 @@
 -- A whole pool.
-use Rattle.std.specs.Prelude.{ℕ, ◌+◌, ◌≤◌, List, vec_len, vec_capacity}
+use Rattle.std.specs.Prelude.{ℕ, ◌+◌, ◌<◌, ◌≤◌, ◌^◌, List, vec_len, vec_capacity}
 use Rattle.teb_names.specs.declared.Cell.{Cell}
 use Rattle.version_chain.specs.Lists.{Version}
 use Rattle.indexmap.specs.IndexMap.{spare}
@@ -17,8 +17,9 @@ pub record IsSound (p : Pool) : Type 0 where
 abbrev pub chain_of : Pool → Cell → List Version
 chain_of p x = versions p.places.items (chain_head p.cells.entries x)
 
--- the places and the entries have room for so many more
+-- the places and the entries have room for so many more, and the number of places then still fits 32 bits
 pub record HasRoom (p : Pool) (n : ℕ) : Type 0 where
   pub places : vec_len p.places + n ≤ vec_capacity p.places
+  pub short : vec_len p.places + n < 2 ^ 32
   pub cells : n ≤ p.cells.spare
   pub writers : n ≤ spare p.writers

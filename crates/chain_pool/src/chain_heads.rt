@@ -32,7 +32,7 @@ impl Model for ChainHeads {
 }
 
 /// One number or another.
-fn chosen(first: bool, one: usize, other: usize) -> usize
+fn chosen(first: bool, one: u32, other: u32) -> u32
     ensures { result ≡ (if first then one else other) }
 {
     if first { one } else { other }
@@ -89,9 +89,9 @@ impl ChainHeads {
 
     /// Adds a place to a cell's chain, as the i-th. Gives the head that the chain had.
     #[inline(always)]
-    pub(crate) fn lengthen(&mut self, cell: Cell, place: usize, i: usize) -> Head
+    pub(crate) fn lengthen(&mut self, cell: Cell, place: u32, i: usize) -> Head
         requires room { 0 < self.old.spare }
-        requires short { (chain_head self.old.entries cell).len + 1 < 2 ^ 64 }
+        requires short { (chain_head self.old.entries cell).len + 1 < 2 ^ 32 }
         ensures result { result ≡ chain_head self.old.entries cell }
         ensures heads { (x : Cell) → chain_head self.new.entries x ≡ (if same_cell cell x then record { first = (if i == 0 then place else result.first); len = result.len + 1 } else chain_head self.old.entries x) }
         ensures lasts { (x : Cell) → last_of self.new.entries x ≡ (if same_cell cell x then (if i == (chain_head self.old.entries cell).len then place else last_of self.old.entries cell) else last_of self.old.entries x) }
@@ -104,14 +104,14 @@ impl ChainHeads {
             first: chosen(i == 0, place, was.head.first),
             len: was.head.len + 1,
         };
-        let last = chosen(i == was.head.len, place, was.last);
+        let last = chosen(i == was.head.len as usize, place, was.last);
         self.chains[at] = Chain { head, last };
         was.head
     }
 
     /// Takes a place out of a cell's chain, whose next place takes its part where it was the first, and whose previous one
     /// where it was the last.
-    pub(crate) fn shorten(&mut self, cell: Cell, place: usize, previous: usize, next: usize)
+    pub(crate) fn shorten(&mut self, cell: Cell, place: u32, previous: u32, next: u32)
         requires { 0 < (chain_head self.old.entries cell).len }
         ensures heads { (x : Cell) → chain_head self.new.entries x ≡ (if same_cell cell x then without_place (chain_head self.old.entries cell) place next else chain_head self.old.entries x) }
         ensures lasts { (x : Cell) → last_of self.new.entries x ≡ (if same_cell cell x then last_without (last_of self.old.entries cell) place previous else last_of self.old.entries x) }

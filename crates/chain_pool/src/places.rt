@@ -1,9 +1,11 @@
 //! Places, and what is written at them.
 
-ghost use Rattle.std.specs.Prelude.{◌≡◌, ◌<◌, ◌==◌, ℕ, length, if◌then◌else◌};
-ghost use Rattle.chain_pool.specs.Places.{slot_at, next_at, previous_at, with_value};
+ghost use Rattle.std.specs.Prelude.{◌≡◌, ◌<◌, ◌==◌, ℕ, length, if◌then◌else◌, IsSome, None, Some};
+ghost use Rattle.teb_names.specs.declared.Cell.{Cell};
+ghost use Rattle.teb_names.specs.declared.Txn.{Txn};
+ghost use Rattle.chain_pool.specs.Places.{place_at, slot_of, version_of, slot_at, next_at, previous_at, with_value};
 
-use teb_names::{Cell, Txn};
+use teb_names::{Cell, Table, Txn};
 
 /// A version with its cell.
 #[derive(Clone, Copy)]
@@ -13,26 +15,76 @@ pub(crate) struct Version {
     pub(crate) value: Option<i64>,
 }
 
-/// What a place holds, None where it is free, and the place behind it in its writer's list, or in the list of free places.
+/// What a place holds: nothing where it is free, a version that deletes the row, or one with a value.
 #[derive(Clone, Copy)]
-pub(crate) struct Slot {
-    pub(crate) version: Option<Version>,
-    pub(crate) sibling: usize,
+pub(crate) enum Content {
+    Free,
+    Deleted,
+    Value(i64),
 }
 
-/// A place, with its neighbours in its cell's chain. A chain is a ring: its last place leads to its first.
+impl Content {
+    /// What a place holds that has a version with the value.
+    #[inline(always)]
+    fn of(value: Option<i64>) -> Self
+        ensures { (cell : Cell) (writer : Txn) → version_of cell writer result ≡ Some (record { cell = cell; writer = writer; value = value }) }
+    {
+        match value {
+            Some(value) => Content::Value(value),
+            None => Content::Deleted,
+        }
+    }
+}
+
+/// A place, in 40 bytes: the cell and the writer of its version, the place behind it in its writer's list, or in the list of free places,
+/// its neighbours in its cell's chain, and what it holds. A chain is a ring: its last place leads to its first.
 #[derive(Clone, Copy)]
 pub(crate) struct Place {
-    pub(crate) slot: Slot,
-    pub(crate) previous: usize,
-    pub(crate) next: usize,
+    pub(crate) cell: Cell,
+    pub(crate) writer: Txn,
+    pub(crate) sibling: u32,
+    pub(crate) previous: u32,
+    pub(crate) next: u32,
+    pub(crate) content: Content,
+}
+
+/// A free place that leads nowhere.
+pub(crate) const BLANK: Place = Place {
+    cell: Cell {
+        table: Table(0),
+        key: 0,
+    },
+    writer: Txn(0),
+    sibling: 0,
+    previous: 0,
+    next: 0,
+    content: Content::Free,
+};
+
+impl Place {
+    /// The version at the place; None where it is free.
+    #[inline(always)]
+    pub(crate) fn version(&self) -> Option<Version>
+        ensures { result ≡ (slot_of self.now).version }
+    {
+        let value = match self.content {
+            Content::Free => return None,
+            Content::Deleted => None,
+            Content::Value(value) => Some(value),
+        };
+        Some(Version {
+            cell: self.cell,
+            writer: self.writer,
+            value,
+        })
+    }
 }
 
 /// Where a list of places begins, and how long it is.
 #[derive(Clone, Copy)]
 pub(crate) struct Head {
-    pub(crate) first: usize,
-    pub(crate) len: usize,
+    pub(crate) first: u32,
+    pub(crate) len: u32,
 }
 
 /// The head of no list.
@@ -42,7 +94,7 @@ pub(crate) const EMPTY: Head = Head { first: 0, len: 0 };
 #[derive(Clone, Copy)]
 pub(crate) struct Chain {
     pub(crate) head: Head,
-    pub(crate) last: usize,
+    pub(crate) last: u32,
 }
 
 /// A chain of no places.
@@ -51,46 +103,68 @@ pub(crate) const NO_CHAIN: Chain = Chain {
     last: 0,
 };
 
-/// Fills a place, and puts it between two neighbours; alone in its ring it is its own neighbour.
-pub(crate) fn link(places: &mut [Place], place: usize, slot: Slot, before: usize, after: usize)
+/// The place of a number.
+#[inline(always)]
+pub(crate) fn at(places: &[Place], place: u32) -> &Place
+    requires { place < length places.now }
+    ensures { result.now ≡ place_at places.now place }
+{
+    &places[place as usize]
+}
+
+/// Puts a version into a place, between two neighbours; alone in its ring it is its own neighbour. The sibling is the place behind it
+/// in its writer's list.
+#[inline(always)]
+pub(crate) fn link(
+    places: &mut [Place],
+    place: u32,
+    version: Version,
+    sibling: u32,
+    before: u32,
+    after: u32,
+)
     requires place_within { place < length places.old }
     requires before_within { before < length places.old }
     requires after_within { after < length places.old }
     ensures next { (r : ℕ) → next_at places.new r ≡ (if r == before then place else if r == place then after else next_at places.old r) }
     ensures previous { (r : ℕ) → previous_at places.new r ≡ (if r == after then place else if r == place then before else previous_at places.old r) }
-    ensures slot { (r : ℕ) → slot_at places.new r ≡ (if r == place then slot else slot_at places.old r) }
+    ensures slot { (r : ℕ) → slot_at places.new r ≡ (if r == place then record { version = Some version; sibling = sibling } else slot_at places.old r) }
 {
-    places[place] = Place {
-        slot,
+    places[place as usize] = Place {
+        cell: version.cell,
+        writer: version.writer,
+        sibling,
         previous: before,
         next: after,
+        content: Content::of(version.value),
     };
-    places[before].next = place;
-    places[after].previous = place;
+    places[before as usize].next = place;
+    places[after as usize].previous = place;
 }
 
-/// Writes what a place holds, and joins its two neighbours.
-pub(crate) fn unlink(places: &mut [Place], place: usize, slot: Slot, before: usize, after: usize)
+/// Frees a place, and joins its two neighbours. The sibling is the free place behind it.
+pub(crate) fn unlink(places: &mut [Place], place: u32, sibling: u32, before: u32, after: u32)
     requires place_within { place < length places.old }
     requires before_within { before < length places.old }
     requires after_within { after < length places.old }
     ensures next { (r : ℕ) → next_at places.new r ≡ (if r == before then after else next_at places.old r) }
     ensures previous { (r : ℕ) → previous_at places.new r ≡ (if r == after then before else previous_at places.old r) }
-    ensures slot { (r : ℕ) → slot_at places.new r ≡ (if r == place then slot else slot_at places.old r) }
+    ensures slot { (r : ℕ) → slot_at places.new r ≡ (if r == place then record { version = None; sibling = sibling } else slot_at places.old r) }
 {
-    places[place].slot = slot;
-    places[before].next = after;
-    places[after].previous = before;
+    let freed = &mut places[place as usize];
+    freed.content = Content::Free;
+    freed.sibling = sibling;
+    places[before as usize].next = after;
+    places[after as usize].previous = before;
 }
 
-/// Gives the version at a place another value.
-pub(crate) fn rewrite(places: &mut [Place], place: usize, value: Option<i64>)
-    requires { place < length places.old }
+/// Gives the version at a place that is not free another value.
+pub(crate) fn rewrite(places: &mut [Place], place: u32, value: Option<i64>)
+    requires within { place < length places.old }
+    requires used { IsSome (slot_at places.old place).version }
     ensures next { (r : ℕ) → next_at places.new r ≡ next_at places.old r }
     ensures previous { (r : ℕ) → previous_at places.new r ≡ previous_at places.old r }
     ensures slot { (r : ℕ) → slot_at places.new r ≡ (if r == place then with_value (slot_at places.old place) value else slot_at places.old r) }
 {
-    if let Some(version) = places[place].slot.version {
-        places[place].slot.version = Some(Version { value, ..version });
-    }
+    places[place as usize].content = Content::of(value);
 }

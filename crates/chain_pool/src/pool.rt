@@ -1,6 +1,6 @@
 //! Places in chains and writers' lists, and the steps that put a version in and take versions out.
 
-ghost use Rattle.std.specs.Prelude.{◌≡◌, ◌<◌, ◌≤◌, ◌+◌, ℕ, Bool, [], length, slice_get, insert, vec_len, vec_capacity, IsTrue, IsFalse, false, OnOk, IfSome, None, Some, eqb};
+ghost use Rattle.std.specs.Prelude.{◌≡◌, ◌<◌, ◌≤◌, ◌+◌, ◌^◌, ℕ, Bool, [], length, slice_get, insert, vec_len, vec_capacity, IsTrue, IsFalse, false, OnOk, IfSome, None, Some, eqb};
 ghost use Rattle.std.specs.Option.{option_map};
 ghost use Rattle.std.specs.Bool.{OnTrue};
 ghost use Rattle.indexmap.specs.IndexMap.{spare};
@@ -13,7 +13,7 @@ ghost use Rattle.chain_pool.specs.Linked.{Linked, HasLasts, versions};
 ghost use Rattle.chain_pool.specs.Pools.{IsSound, chain_of, HasRoom};
 
 use crate::chain_heads::ChainHeads;
-use crate::places::{self, Chain, EMPTY, Head, Place, Slot, Version};
+use crate::places::{self, BLANK, Chain, EMPTY, Head, Place, Version};
 use crate::{walks, writer_heads};
 use indexmap::IndexMap;
 use std::alloc::{AllocError, Global};
@@ -22,7 +22,7 @@ use vec_room::make_wide_room;
 use version_chain::Found;
 
 /// A chain up to this length costs less to walk than its writer's list to look up.
-const SHORT: usize = 8;
+const SHORT: u32 = 8;
 
 /// Puts a version into the first free place, and that into its cell's chain and its writer's list. Gives the free places that
 /// are left.
@@ -53,12 +53,8 @@ fn put(
     let chain = cells.lengthen(version.cell, place, i);
     let own = writer_heads::lengthen(writers, version.writer, place);
     let (before, after) = walks::neighbours(places, chain, i, place);
-    let free = places[place].slot.sibling;
-    let slot = Slot {
-        version: Some(version),
-        sibling: own.first,
-    };
-    places::link(places, place, slot, before, after);
+    let free = places::at(places, place).sibling;
+    places::link(places, place, version, own.first, before, after);
     Head {
         first: free,
         len: unused.len - 1,
@@ -97,7 +93,7 @@ impl Pool {
         }
     }
 
-    /// Makes room for n versions more.
+    /// Makes room for n versions more. An `Err` comes where there is no memory, or where there would be more places than 2^32 - 1.
     pub(crate) fn reserve(&mut self, n: usize) -> Result<(), AllocError>
         requires { IsSound self.old }
         ensures sound { IsSound self.new }
@@ -105,6 +101,9 @@ impl Pool {
         ensures room { OnOk result (HasRoom self.new n) }
         ensures kept { (m : ℕ) → HasRoom self.old m → HasRoom self.new m }
     {
+        if n > u32::MAX as usize - self.places.len() {
+            return Err(AllocError);
+        }
         make_wide_room(&mut self.places, n)?;
         self.cells.reserve(n)?;
         self.writers.reserve(n)?;
@@ -115,7 +114,7 @@ impl Pool {
         requires { IsSound self.now }
         ensures { result ≡ length (chain_of self.now cell) }
     {
-        self.cells.chain_at(cell).head.len
+        self.cells.chain_at(cell).head.len as usize
     }
 
     pub(crate) fn at(&self, cell: Cell, i: usize) -> (Txn, Option<i64>)
@@ -248,6 +247,7 @@ impl Pool {
     fn add_free(&mut self)
         requires sound { IsSound self.old }
         requires room { vec_len self.old.places < vec_capacity self.old.places }
+        requires short { vec_len self.old.places + 1 < 2 ^ 32 }
         ensures sound { IsSound self.new }
         ensures some { 0 < self.new.unused.len }
         ensures owners { (x : Cell) (u : Txn) (p : ℕ) → InChain self.new.places.items x p → IsOwned self.new.places.items u p → InChain self.old.places.items x p × IsOwned self.old.places.items u p }
@@ -260,20 +260,9 @@ impl Pool {
         if self.unused.len > 0 {
             return;
         }
-        let slot = Slot {
-            version: None,
-            sibling: self.unused.first,
-        };
-        let first = self.places.len();
-        let place = Place {
-            slot,
-            previous: 0,
-            next: 0,
-        };
-        match self.places.push(place) {
-            Ok(()) => self.unused = Head { first, len: 1 },
-            Err(_) => unreachable!(),
-        }
+        let first = self.places.len() as u32;
+        self.places.push_reserved(BLANK);
+        self.unused = Head { first, len: 1 };
     }
 
     /// Puts a version in at a place of its cell's chain.
@@ -325,26 +314,23 @@ impl Pool {
         ensures room { (n : ℕ) → HasRoom self.old n → HasRoom self.new n }
     {
         let place = own.first;
-        let taken = self.places[place];
-        match taken.slot.version {
-            Some(version) => {
-                let slot = Slot {
-                    version: None,
-                    sibling: self.unused.first,
-                };
-                places::unlink(&mut self.places, place, slot, taken.previous, taken.next);
-                self.cells
-                    .shorten(version.cell, place, taken.previous, taken.next);
-                self.unused = Head {
-                    first: place,
-                    len: self.unused.len + 1,
-                };
-                Head {
-                    first: taken.slot.sibling,
-                    len: own.len - 1,
-                }
-            }
-            None => unreachable!(),
+        let taken = *places::at(&self.places, place);
+        places::unlink(
+            &mut self.places,
+            place,
+            self.unused.first,
+            taken.previous,
+            taken.next,
+        );
+        self.cells
+            .shorten(taken.cell, place, taken.previous, taken.next);
+        self.unused = Head {
+            first: place,
+            len: self.unused.len + 1,
+        };
+        Head {
+            first: taken.sibling,
+            len: own.len - 1,
         }
     }
 

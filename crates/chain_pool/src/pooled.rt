@@ -14,6 +14,8 @@ use version_chain::{Chains, Found};
 
 /// Versions by cell, each linked by index into its cell's chain and its writer's list. A cell is found by its place in an index
 /// of cells, a writer by hash; a place of a chain costs its way from the chain's end, and an abort its own versions.
+///
+/// Places have numbers of 32 bits: `reserve` answers an `Err` also where there would be more of them than 2^32 - 1.
 pub struct PooledChains {
     pool: Pool,
     spare: usize,

@@ -7,35 +7,35 @@ ghost use Rattle.chain_pool.specs.Threads.{steps};
 ghost use Rattle.chain_pool.specs.Places.{slot_at, previous_at, sibling_at, cell_in, pair_at as spec_pair_at};
 ghost use Rattle.chain_pool.specs.Linked.{nth_place};
 
-use crate::places::{Chain, Head, Place, Slot};
+use crate::places::{self, Chain, Head, Place};
 use teb_names::{Cell, Txn};
 use version_chain::Found;
 
 /// The place that many steps back.
-fn step_back(places: &[Place], start: usize, count: usize) -> usize
+fn step_back(places: &[Place], start: u32, count: u32) -> u32
     requires { (n : ℕ) → n < count → steps (previous_at places.now) n start < length places.now }
     ensures { result ≡ steps (previous_at places.now) count start }
 {
     let mut place = start;
     for _step in 0..count {
-        place = places[place].previous;
+        place = places::at(places, place).previous;
     }
     place
 }
 
 /// The place of the i-th version of a chain. The walk starts at the chain's end.
-pub(crate) fn place_of(places: &[Place], chain: Chain, i: usize) -> usize
+pub(crate) fn place_of(places: &[Place], chain: Chain, i: usize) -> u32
     requires safe { (n : ℕ) → 0 < chain.head.len → steps (previous_at places.now) n chain.head.first < length places.now }
     requires last { 0 < chain.head.len → chain.last ≡ previous_at places.now chain.head.first }
     requires within { i < chain.head.len }
     ensures place { result ≡ nth_place places.now chain.head i }
     ensures within { result < length places.now }
 {
-    step_back(places, chain.last, chain.head.len - 1 - i)
+    step_back(places, chain.last, chain.head.len - 1 - i as u32)
 }
 
 /// The places between which one goes that is to be the i-th of a chain; alone it stands beside itself.
-pub(crate) fn neighbours(places: &[Place], chain: Head, i: usize, place: usize) -> (usize, usize)
+pub(crate) fn neighbours(places: &[Place], chain: Head, i: usize, place: u32) -> (u32, u32)
     requires safe { (n : ℕ) → 0 < chain.len → steps (previous_at places.now) n chain.first < length places.now }
     requires within { i ≤ chain.len }
     requires place { place < length places.now }
@@ -48,18 +48,18 @@ pub(crate) fn neighbours(places: &[Place], chain: Head, i: usize, place: usize) 
     if chain.len == 0 {
         (place, place)
     } else {
-        let after = step_back(places, chain.first, chain.len - i);
-        (places[after].previous, after)
+        let after = step_back(places, chain.first, chain.len - i as u32);
+        (places::at(places, after).previous, after)
     }
 }
 
 /// The writer and the value at a place that is not free.
-pub(crate) fn pair_at(places: &[Place], place: usize) -> (Txn, Option<i64>)
+pub(crate) fn pair_at(places: &[Place], place: u32) -> (Txn, Option<i64>)
     requires within { place < length places.now }
     requires used { IsSome (slot_at places.now place).version }
     ensures { result ≡ spec_pair_at places.now place }
 {
-    match places[place].slot.version {
+    match places::at(places, place).version() {
         Some(version) => (version.writer, version.value),
         None => unreachable!(),
     }
@@ -90,25 +90,17 @@ pub(crate) fn last_accepted<F: Fn(Txn) -> bool>(
         (λ i. (from ≤ i) × (i < chain.head.len) × F.post f.now (spec_pair_at places.now (nth_place places.now chain.head i)).0 true
         × ((j : ℕ) → i < j → j < chain.head.len → F.post f.now (spec_pair_at places.now (nth_place places.now chain.head j)).0 false)) }
 {
+    let len = chain.head.len as usize;
     let mut place = chain.last;
-    for above in 0..chain.head.len.saturating_sub(from) {
+    for above in 0..len.saturating_sub(from) {
         let (writer, value) = pair_at(places, place);
         if accepts(f, writer) {
-            let at = chain.head.len - 1 - above;
+            let at = len - 1 - above;
             return Some(Found { at, writer, value });
         }
-        place = places[place].previous;
+        place = places::at(places, place).previous;
     }
     None
-}
-
-fn is_of(slot: Slot, cell: Cell) -> bool
-    ensures { OnFalse result (cell_in slot ≡ Some cell → ⊥) }
-{
-    match slot.version {
-        Some(version) => version.cell == cell,
-        None => false,
-    }
 }
 
 /// Whether a writer's list has a version of the cell.
@@ -118,11 +110,11 @@ pub(crate) fn has_cell(places: &[Place], own: Head, cell: Cell) -> bool
 {
     let mut place = own.first;
     for _step in 0..own.len {
-        let slot = places[place].slot;
-        if is_of(slot, cell) {
+        let here = places::at(places, place);
+        if here.cell == cell {
             return true;
         }
-        place = slot.sibling;
+        place = here.sibling;
     }
     false
 }

@@ -21,9 +21,9 @@ pub(crate) fn head_of(writers: &IndexMap<Txn, Head>, t: Txn) -> Head
 }
 
 /// Adds a place to a writer's list, as its first. Gives the head that the list had.
-pub(crate) fn lengthen(writers: &mut IndexMap<Txn, Head>, t: Txn, place: usize) -> Head
+pub(crate) fn lengthen(writers: &mut IndexMap<Txn, Head>, t: Txn, place: u32) -> Head
     requires room { 0 < spare writers.old }
-    requires short { (writer_head writers.old.entries t).len + 1 < 2 ^ 64 }
+    requires short { (writer_head writers.old.entries t).len + 1 < 2 ^ 32 }
     ensures result { result ≡ writer_head writers.old.entries t }
     ensures heads { (u : Txn) → writer_head writers.new.entries u ≡ (if same_txn t u then record { first = place; len = result.len + 1 } else writer_head writers.old.entries u) }
     ensures busy { IsBusy writers.old.entries → IsBusy writers.new.entries }

@@ -28,6 +28,7 @@ no_places ps chain own unused none chains owners frees = record {
   };
   owners = λ t. no_thread _ _ _ _ (owners t) (λ p m. nowhere p m.within);
   frees = no_thread _ _ _ _ frees (λ p m. nowhere p m.within);
+  short = omega (arith, ap length none);
   once = λ x t p q mp mq op oq. absurd (nowhere p mp.within);
 }
   where

@@ -1,11 +1,12 @@
-use Rattle.std.proofs.Common.{◌∙◌, ap, sym, subst, arith, ◌≡◌, length, List}
+use Rattle.std.proofs.Common.{◌∙◌, ◌<◌, ◌-◌, refl, ap, sym, subst, arith, ◌≡◌, length, List, IsSome}
 use Rattle.chain_pool.specs.declared.places.Place.{Place}
 use Rattle.chain_pool.specs.declared.places.Head.{Head}
 use Rattle.chain_pool.specs.Heads.{chain_head, last_of, writer_head}
-use Rattle.chain_pool.specs.Linked.{Linked, HasLasts, versions}
+use Rattle.chain_pool.specs.Places.{slot_at}
+use Rattle.chain_pool.specs.Linked.{Linked, HasLasts, versions, nth_place}
 use Rattle.chain_pool.proofs.Chains.{versions_len}
 use Rattle.chain_pool.proofs.Rewriting.{written, rewritten, rewritten_here, rewritten_else}
-use Rattle.chain_pool.proofs.Sizes.{read_within, read_last}
+use Rattle.chain_pool.proofs.Sizes.{read_within, read_last, read_used}
 use Rattle.chain_pool.proofs.pool.Pool.overwrite.Goals as goal
 
 pub place_of-place-requires-clause-safe : goal.place_of-place-requires-clause-safe
@@ -24,6 +25,17 @@ place_of-place-requires-clause-within c =
     let is = c.chain_at-chain.ensures.head in
     let n = versions_len c.args.self.now.places.items _ _ c.args.self.now.unused c.requires.sound.linked c.args.cell in
     omega (arith, ap (λ (h : Head). h.len) is, n, c.requires.within)
+
+pub rewrite-requires-clause-used : goal.rewrite-requires-clause-used
+rewrite-requires-clause-used c =
+    let p = c.args.self.now in
+    let h = c.chain_at-chain.result.head in
+    let is = c.chain_at-chain.ensures.head in
+    let n = versions_len p.places.items _ _ p.unused c.requires.sound.linked c.args.cell in
+    let some : 0 < h.len = omega (arith, ap (λ (h : Head). h.len) is, n, c.requires.within) in
+    let there : c.place_of-place.result ≡ nth_place p.places.items h c.args.i = rw c.deref.ensures.value at c.place_of-place.ensures.place in
+    subst (λ (ps : List Place). IsSome (slot_at ps c.place_of-place.result).version) (sym c.deref_mut.ensures.value)
+    (subst (λ q. IsSome (slot_at p.places.items q).version) (sym there) (read_used p.places.items _ _ p.unused c.requires.sound.linked p.places.items refl c.args.cell h is (h.len - c.args.i) some))
 
 pub returns-clause-sound : goal.returns-clause-sound
 returns-clause-sound c =

@@ -27,7 +27,7 @@ returns-in-Some-clause-sound c =
     }
 
 pub returns-in-Some-clause-room : goal.returns-in-Some-clause-room
-returns-in-Some-clause-room c n r = c.take_all.ensures.room n (record { places = r.places; cells = r.cells; writers = omega (arith, r.writers, c.swap_remove.ensures.room.0) })
+returns-in-Some-clause-room c n r = c.take_all.ensures.room n (record { places = r.places; short = r.short; cells = r.cells; writers = omega (arith, r.writers, c.swap_remove.ensures.room.0) })
 
 pub returns-in_default-clause-taken : goal.returns-in_default-clause-taken
 returns-in_default-clause-taken c x =
