@@ -1,4 +1,5 @@
 pub mod Ascending
+pub mod Bools
 pub mod CellOrder
 mod Padding
 pub mod SameCells
