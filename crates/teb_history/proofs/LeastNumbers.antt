@@ -51,11 +51,6 @@ Upto : ℕ → Option ℕ → Type 0
 Upto n None = Unit {0}
 Upto n (Some a) = a ≤ n
 
-upto_more : (n : ℕ) (o : Option ℕ) → Upto n o → Upto (suc n) o
-unfolding Upto
-upto_more n None h = tt
-upto_more n (Some a) h = omega arith
-
 numbers_upto : (q : ℕ → Bool) (n : ℕ) → Upto n (find q (numbers n))
 unfolding numbers Upto first_or
 numbers_upto q zero = tt

@@ -4,22 +4,12 @@ use Rattle.std.specs.List.{list_any}
 use Rattle.std.specs.Option.{option_or}
 use Rattle.teb_names.specs.declared.Cell.{Cell}
 use Rattle.teb_names.specs.Cells.{same_cell}
+use Rattle.teb_names.proofs.Bools.{and_true, and_false}
 use Rattle.teb_history.specs.declared.Event.{Event}
 use Rattle.teb_history.specs.declared.Event.TheVariants.{Began, Got, Put, Ready, Done, Gone, Told}
 use Rattle.teb_history.specs.Accesses.{is_put, is_got, is_from, put_at, got_at, wrote, got, last_put, last_got, read_from}
 use Rattle.teb_history.specs.OwnEvents.{is_of, own_events, put_in, got_in, gets_from}
 use Rattle.teb_history.proofs.Any.{came_any}
-
--- what only t's events change, step by step, is told by t's own events
-pub own_walk : {A : Type 0} (t : ℕ) (f : List Event → A) → ((e : Event) (P : List Event) → is_of t e ≡ false → f (e ∷ P) ≡ f P) → ((e : Event) (P Q : List Event) → f P ≡ f Q → f (e ∷ P) ≡ f (e ∷ Q))
-    → (H : List Event) → f (own_events H t) ≡ f H
-unfolding own_events
-own_walk t f strange along [] = refl
-own_walk t f strange along (e ∷ P) = go (is_of t e) refl (own_walk t f strange along P)
-  where
-    go : (b : Bool) → is_of t e ≡ b → f (filter (is_of t) P) ≡ f P → f (cond b (e ∷ filter (is_of t) P) (filter (is_of t) P)) ≡ f (e ∷ P)
-    go true q h = along e (filter (is_of t) P) P h
-    go false q h = h ∙ sym (strange e P q)
 
 -- each of t's own events is t's
 own_events_are : (t : ℕ) (f g : Event → Bool) → ((e : Event) → g e ≡ (is_of t e && f e)) → (H : List Event) → list_any f (own_events H t) ≡ list_any g H
@@ -32,8 +22,7 @@ own_events_are t f g same (e ∷ P) = go (is_of t e) (same e) (own_events_are t 
     go false q h = h ∙ ap (λ b. b || list_any g P) (sym q)
 
 nothing : (b : Bool) → false ≡ (b && false)
-nothing true = refl
-nothing false = refl
+nothing b = sym (and_false b)
 
 found_there : (b c : Bool) (v : Option ℤ) → (b && c) ≡ (b && is_some (cond c (Some v) None))
 found_there true true v = refl
@@ -72,17 +61,13 @@ read_from_own H t u = go (eqb t u) refl
   where
     none : (H : List Event) → eqb t u ≡ true → list_any (is_from t u) H ≡ false
     none [] q = refl
-    none (Got s y w v ∷ P) q = ap (λ b. b || list_any (is_from t u) P) (ap (λ b. (eqb s.0 t && eqb w.0 u) && not b) q ∙ sym (nothing (eqb s.0 t && eqb w.0 u))) ∙ none P q
+    none (Got s y w v ∷ P) q = ap (λ b. b || list_any (is_from t u) P) (ap (λ b. (eqb s.0 t && eqb w.0 u) && not b) q ∙ and_false (eqb s.0 t && eqb w.0 u)) ∙ none P q
     none (Began s a k i ∷ P) q = none P q
     none (Put s y v ∷ P) q = none P q
     none (Ready s ∷ P) q = none P q
     none (Done s ∷ P) q = none P q
     none (Gone s c ∷ P) q = none P q
     none (Told s ∷ P) q = none P q
-
-    and_true : (b : Bool) → (b && true) ≡ b
-    and_true true = refl
-    and_true false = refl
 
     from : eqb t u ≡ false → (e : Event) → is_from t u e ≡ (is_of t e && gets_from u e)
     from q (Got s y w v) = ap (λ b. (eqb s.0 t && eqb w.0 u) && not b) q ∙ and_true (eqb s.0 t && eqb w.0 u)

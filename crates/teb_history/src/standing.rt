@@ -76,6 +76,7 @@ impl Standing {
         Some(self.is_live())
     }
 
+    /// How far the transaction has come.
     pub fn phase(&self) -> Phase
         ensures { result ≡ standing_phase self.now }
     {
