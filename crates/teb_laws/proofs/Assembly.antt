@@ -7,8 +7,9 @@ use Rattle.teb_names.specs.declared.Cell.{Cell}
 use Rattle.teb_history.specs.declared.Event.{Event}
 use Rattle.teb_history.specs.declared.Event.TheVariants.{Began, Got, Put, Ready, Done, Gone, Told}
 use Rattle.teb_history.specs.Accesses.{is_from, put_at, wrote, last_put, read_from}
-use Rattle.teb_history.specs.Phases.{txns, is_done, is_began, began_at, done_at, gone_at, committed, aborted}
+use Rattle.teb_history.specs.Phases.{txns, is_done, began_at, done_at, gone_at, committed, aborted}
 use Rattle.teb_history.specs.Positions.{upto, newest, first_event}
+use Rattle.teb_history.proofs.Chains.{length-upto, upto-upto}
 use Rattle.teb_laws.specs.Lawful.{ReadsRows, Lawful}
 use Rattle.teb_laws.specs.TreeFacts.{TreeFacts}
 use Rattle.teb_rules.specs.Ranks.{rank, serially, serial_order}
@@ -18,7 +19,7 @@ use Rattle.teb_rules.specs.Setup.{Store, Setup}
 use Rattle.teb_names.specs.Rows.{row_of}
 use Rattle.teb_rules.specs.Tree.{row, meets, meet}
 use Rattle.teb_rules.specs.Versions.{orders, precedes, sees, sees_by, latest}
-use Rattle.teb_laws.proofs.Positions.{upto_all, upto_cons, length-upto, upto-upto, first-upto}
+use Rattle.teb_laws.proofs.Positions.{upto_all, upto_cons}
 use Rattle.teb_laws.proofs.Timeline.{Lawful-upto, unfinished-upto, upto-unfinished, begun_there, put_order, done_granted, begun_counted, meets-upto, aborted-upto, wrote-upto, event_first}
 use Rattle.teb_laws.proofs.Lists.{Pairs-weaker, stands_sorted}
 use Rattle.teb_laws.proofs.Replay.{ReadWell, AllReadWell, replays, left_last, left_row}
@@ -42,19 +43,11 @@ pub record NodeLaw (S : Setup) (H : List Event) (n : ℕ) : Type 0 where
 abbrev pub IsOrdered : Setup → List Event → Type 0
 IsOrdered S H = (x : Cell) (u v w : ℕ) → Writes H x u → Writes H x v → Writes H x w → precedes S H x u v ≡ true → precedes S H x v w ≡ true → precedes S H x u w ≡ true
 
-pub begun_here : (H : List Event) (i u : ℕ) → i ≤ length H → began_at (upto i H) u < length (upto i H) → began_at H u < i
-unfolding began_at first_event
-begun_here H i u h b = let z = first-upto (newest (is_began u)) i H h in let y = length-upto i H h in omega arith
-
 pub wrote_here : (H : List Event) (i u : ℕ) (x : Cell) → i ≤ length H → wrote (upto i H) u x ≡ true → put_at H u x < i
 wrote_here H i u x h w = ltb-true _ _ (sym (wrote-upto H i u x h) ∙ w)
 
 pub stands_here : (H : List Event) (i u : ℕ) → i ≤ length H → aborted (upto i H) u ≡ false → i ≤ gone_at H u
 stands_here H i u h w = ltb-false _ _ (sym (aborted-upto H i u h) ∙ w)
-
-writes_then : (H : List Event) (x : Cell) (u : ℕ) → wrote H u x ≡ true → aborted H u ≡ false → Writes H x u
-unfolding wrote aborted
-writes_then H x u p q = record { put = ltb-true _ _ p; stands = ltb-false _ _ q }
 
 -- an event that the history has, at a place
 any_at : (q : Event → Bool) (H : List Event) (i : ℕ) (e : Event) → i < length H → upto (suc i) H ≡ e ∷ upto i H → q e ≡ true → list_any q H ≡ true

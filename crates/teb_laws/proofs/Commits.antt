@@ -1,5 +1,5 @@
 -- The order of commits, which is the serial order where the root ranks by it.
-use Rattle.std.proofs.Common.{◌≡◌, ◌≢◌, ◌⊎◌, ℕ, suc, ◌<◌, ◌≤◌, Bool, true, false, List, [], ◌∷◌, ◌++◌, refl, sym, ap, subst, subst₂, inl, inr, arith, length, eqb, ltb, lt-ltb, eqb-true, eq-eqb, flat_map}
+use Rattle.std.proofs.Common.{◌≡◌, ◌⊎◌, ℕ, suc, ◌<◌, ◌≤◌, Bool, true, false, List, [], ◌∷◌, ◌++◌, refl, sym, subst, subst₂, inl, inr, arith, length, eqb, ltb, lt-ltb, eqb-true, eq-eqb, flat_map}
 use Rattle.std.proofs.lemmas.Bool.{both_ways, or_left}
 use Rattle.teb_history.specs.declared.Event.{Event}
 use Rattle.teb_history.specs.declared.Event.TheVariants.{Began, Got, Put, Ready, Done, Gone, Told}

@@ -11,6 +11,7 @@ use Rattle.teb_history.specs.Accesses.{is_put, put_at}
 use Rattle.teb_names.specs.Cells.{same_cell}
 use Rattle.teb_history.specs.Phases.{txns, began_at, gone_at, aborted}
 use Rattle.teb_history.specs.Positions.{upto, newest}
+use Rattle.teb_history.proofs.Chains.{length-upto, upto-upto}
 use Rattle.teb_laws.specs.Lawful.{Lawful, MayAccess}
 use Rattle.teb_laws.specs.TreeFacts.{TreeFacts}
 use Rattle.teb_rules.specs.Batches.{start}
@@ -20,7 +21,7 @@ use Rattle.teb_rules.specs.Tree.{row, meets}
 use Rattle.teb_rules.specs.declared.Verdict.TheVariants.{Go}
 use Rattle.teb_rules.specs.Verdicts.{break_for}
 use Rattle.teb_rules.specs.Versions.{precedes, sees_by}
-use Rattle.teb_laws.proofs.Positions.{upto_all, upto_cons, length-upto, upto-upto}
+use Rattle.teb_laws.proofs.Positions.{upto_all, upto_cons}
 use Rattle.teb_laws.proofs.Timeline.{Lawful-upto, granted_at, begun_there, put_order, begun_counted, on-upto, meets-upto, aborted-upto, put_may}
 use Rattle.teb_laws.proofs.Locks.{In-txns}
 use Rattle.teb_laws.proofs.Nodes.{meets_parts, meets_sym}

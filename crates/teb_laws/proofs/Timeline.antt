@@ -11,10 +11,11 @@ use Rattle.teb_names.proofs.SameCells.{same_cell-true}
 use Rattle.teb_names.specs.declared.Spot.{Spot}
 use Rattle.teb_history.specs.Phases.{spot_of, is_began, is_done, is_gone, is_ready, began_at, done_at, gone_at, begun, committed, aborted, unfinished, begun_count, kind_of}
 use Rattle.teb_history.specs.Positions.{upto, newest, first_event, came}
+use Rattle.teb_history.proofs.Chains.{length-upto}
 use Rattle.teb_laws.specs.Lawful.{Granted, Lawful, MayAccess, MayCommit}
 use Rattle.teb_rules.specs.Setup.{Setup}
 use Rattle.teb_rules.specs.Tree.{on, side, on_path, side_at, meets}
-use Rattle.teb_laws.proofs.Positions.{upto_all, upto_cons, length-upto, has_event, before, now, later, first_cases, first-upto, first-holds, first_not, came-upto}
+use Rattle.teb_laws.proofs.Positions.{upto_all, upto_cons, has_event, before, now, later, first_cases, first-upto, first-holds, first_not, came-upto}
 use Rattle.teb_names.specs.declared.Kind.{Kind}
 use Rattle.teb_names.specs.declared.Session.{Session}
 

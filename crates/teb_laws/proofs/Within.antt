@@ -36,18 +36,10 @@ use Rattle.teb_rules.specs.declared.Stop.{Stop}
 use Rattle.teb_rules.specs.declared.Stop.TheVariants as stop
 use Rattle.teb_laws.specs.TreeFacts.{TreeFacts}
 use Rattle.teb_laws.specs.Within.{NodeWithin, CellWithin, CauseWithin, ReplyWithin, AllWithin, StaysWithin}
-use Rattle.teb_laws.proofs.Lists.{In-append_cases}
 use Rattle.teb_laws.proofs.ReadRule.{find_some}
 use Rattle.teb_laws.proofs.Sound.{tree_facts}
 use Rattle.teb_laws.specs.Laws.{OfEveryStore, reached}
-
-below-In : (n m : ℕ) → In m (below n) → m < n
-unfolding below
-below-In zero m i = absurd i
-below-In (suc n) m i = elim (In-append_cases m (below n) (n ∷ []) i) [
-  | inl j ↦ (let z = below-In n m j in omega arith)
-  | inr j ↦ elim j [ inl e ↦ omega arith | inr k ↦ absurd k ]
-]
+use Rattle.teb_laws.proofs.TableRanks.{below-In}
 
 found_below : (p : ℕ → Bool) (n : ℕ) → 0 < n → unwrap_or (find p (below n)) 0 < n
 found_below p n h = go (find p (below n)) refl
