@@ -7,13 +7,12 @@ use Rattle.std.proofs.lemmas.List.Folds.{list_any-append, find-append}
 use Rattle.std.specs.Option.{option_or}
 use Rattle.teb_laws.proofs.TableRanks.{In-below}
 use Rattle.teb_names.specs.declared.Kind.{Kind}
-use Rattle.teb_names.specs.declared.Node.{Node}
 use Rattle.teb_rules.specs.Setup.{NodeRow, among}
 use Rattle.teb_rules.specs.Tree.{below, houses, leaf, row, no_row}
 use Rattle.teb_names.specs.declared.Spot.{Spot}
 use Rattle.teb_rules.specs.Accepted.{Fault, first_at, or_fault, is_child_of, has_children, is_twice, repeats}
 use Rattle.cc_tree.specs.declared.rows.NodeRow.{NodeRow as Row}
-use Rattle.cc_tree.specs.Grown.{kind_numbers, node_numbers, row_of, rows_of}
+use Rattle.cc_tree.specs.Grown.{kind_numbers, row_of, rows_of}
 use Rattle.cc_tree.specs.Rows.{clash}
 use Rattle.teb_laws.proofs.Lists.{list_any_from}
 
@@ -28,11 +27,6 @@ row_at rs n r h e = get_or-map row_of rs n r no_row h ∙ ap row_of (sym e)
 
 pub houses_at : (rs : List Row) (s : Spot) (n m : ℕ) (r : Row) → m ≡ n → m < length rs → r ≡ get_or rs m r → houses (row (rows_of rs) n) s ≡ houses (row_of r) s
 houses_at rs s n m r e h i = ap (λ (z : ℕ). houses (row (rows_of rs) z) s) (sym e) ∙ ap (λ (z : NodeRow). houses z s) (row_at rs m r h i)
-
--- one more node behind
-pub push_number : (ns : List Node) (n : Node) (lower : List ℕ) → node_numbers (ns ++ n ∷ []) ++ lower ≡ node_numbers ns ++ n.0 ∷ lower
-push_number [] n lower = refl
-push_number (m ∷ ns) n lower = ap (λ (z : List ℕ). m.0 ∷ z) (push_number ns n lower)
 
 -- the rows of the numbers below a bound are the first rows
 pub rows_below : (T : List NodeRow) (n : ℕ) → n ≤ length T → map (row T) (below n) ≡ take n T

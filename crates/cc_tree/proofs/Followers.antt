@@ -1,5 +1,5 @@
 -- What the follower of a node on a path tells: whether the node is on it, and its side.
-use Rattle.std.proofs.Common.{◌≡◌, ℕ, Bool, true, false, cond, ◌||◌, eqb, List, [], ◌∷◌, Option, Some, None, refl, sym, ◌∙◌, ap}
+use Rattle.std.proofs.Common.{◌≡◌, ℕ, Bool, true, false, cond, ◌||◌, eqb, List, [], ◌∷◌, Option, Some, None, refl, ◌∙◌, ap}
 use Rattle.teb_names.specs.declared.Node.{Node}
 use Rattle.teb_rules.specs.Setup.{among}
 use Rattle.teb_rules.specs.Tree.{next_of}

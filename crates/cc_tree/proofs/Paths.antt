@@ -1,6 +1,6 @@
 -- Paths of an accepted tree: their nodes, and what follows a node.
-use Rattle.std.proofs.Common.{◌≡◌, ◌⊎◌, ◌↔◌, ℕ, suc, ◌<◌, IfSome, Bool, true, false, cond, ◌||◌, eqb, List, [], ◌∷◌, ◌++◌, length, get_or, Option, Some, None, refl, sym, ◌∙◌, ap, subst, inl, inr, arith, eqb-true, eq-eqb}
-use Rattle.std.specs.List.{list_any, All}
+use Rattle.std.proofs.Common.{◌≡◌, ◌⊎◌, ◌↔◌, ℕ, suc, ◌<◌, IfSome, Bool, true, false, cond, eqb, List, [], ◌∷◌, ◌++◌, length, get_or, Option, Some, None, refl, sym, ◌∙◌, ap, subst, inl, inr, arith, eqb-true, eq-eqb}
+use Rattle.std.specs.List.{All}
 use Rattle.std.proofs.lemmas.Bool.{or_cases, or_left, or_right}
 use Rattle.std.proofs.lemmas.List.Folds.{list_any_at}
 use Rattle.std.proofs.lemmas.List.{get_or-map}
@@ -16,11 +16,6 @@ use Rattle.teb_rules.specs.Serializes.{Pairs}
 use Rattle.cc_tree.specs.Grown.{Grown, node_numbers, side_number}
 use Rattle.cc_tree.specs.Sound.{IsAccepted}
 use Rattle.cc_tree.proofs.Facts.{setup_of_tree, facts_of}
-
--- a node is in a list of nodes where its number is among theirs
-pub among_numbers : (n : Node) (ns : List Node) → among n.0 (node_numbers ns) ≡ list_any (λ m. eqb m.0 n.0) ns
-among_numbers n [] = refl
-among_numbers n (m ∷ ms) = ap (λ b. eqb m.0 n.0 || b) (among_numbers n ms)
 
 -- the nodes of a path are nodes of the tree
 pub path_within : (T : Grown) → IsAccepted T → (s : Spot) → s.kind.0 < T.types → (m : ℕ) → among m (path T.rows s) ≡ true → m < length T.rows

@@ -1,6 +1,6 @@
 //! All that is asked of a list of nodes, in order.
 
-ghost use Rattle.std.specs.Prelude.{◌≡◌, ◌≤◌, length};
+ghost use Rattle.std.specs.Prelude.{◌≤◌, length};
 ghost use Rattle.cc_tree.specs.Answers.{Finds};
 ghost use Rattle.cc_tree.specs.Grown.{rows_of};
 ghost use Rattle.teb_rules.specs.Accepted.{tree_fault};

@@ -1,6 +1,6 @@
 //! The leaves in which a type stands.
 
-ghost use Rattle.std.specs.Prelude.{◌≡◌, ◌<◌, ◌≤◌, ℕ, length, cond, Some, None, count_by, map, IfOk};
+ghost use Rattle.std.specs.Prelude.{◌≡◌, ◌<◌, ◌≤◌, length, cond, Some, None, count_by, map, IfOk};
 ghost use Rattle.std.specs.List.{All, list_any};
 ghost use Rattle.cc_tree.specs.Answers.{Finds};
 ghost use Rattle.cc_tree.specs.Grown.{node_numbers, row_of, rows_of};

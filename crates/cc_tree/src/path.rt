@@ -1,6 +1,6 @@
 //! Paths from the root to a leaf.
 
-ghost use Rattle.std.specs.Prelude.{◌≡◌, ◌≤◌, ℕ, length, IfOk};
+ghost use Rattle.std.specs.Prelude.{◌≡◌, ◌≤◌, ℕ, IfOk};
 ghost use Rattle.cc_tree.specs.Grown.{node_numbers, side_found, side_number};
 ghost use Rattle.cc_tree.specs.Meets.{last_shared};
 ghost use Rattle.cc_tree.specs.Followers.{follower_in, AreFollowers};

@@ -4,7 +4,7 @@ ghost use Rattle.std.specs.Prelude.{◌≡◌, ◌<◌, ◌≤◌, length};
 ghost use Rattle.cc_tree.specs.Answers.{Finds, rule_name};
 ghost use Rattle.cc_tree.specs.Grown.{rows_of};
 ghost use Rattle.cc_tree.specs.Rows.{is_kind};
-ghost use Rattle.teb_rules.specs.Accepted.{breaks_P1, breaks_P2, breaks_P3, first_at, placement_fault, some_above};
+ghost use Rattle.teb_rules.specs.Accepted.{first_at, placement_fault, some_above};
 ghost use Rattle.teb_rules.specs.Tree.{below};
 
 use crate::way::some_above;

@@ -1,6 +1,6 @@
 //! The shape of a tree: each node has its parent, and either types or children.
 
-ghost use Rattle.std.specs.Prelude.{◌≡◌, ◌<◌, ◌≤◌, length, ltb};
+ghost use Rattle.std.specs.Prelude.{◌≡◌, ◌<◌, ◌≤◌, length};
 ghost use Rattle.std.specs.List.{list_any};
 ghost use Rattle.cc_tree.specs.Answers.{Finds, shape_name};
 ghost use Rattle.cc_tree.specs.Grown.{kind_numbers, row_of, rows_of};

@@ -1,6 +1,6 @@
 //! The way from a node up to the root.
 
-ghost use Rattle.std.specs.Prelude.{◌≡◌, ◌<◌, ◌≤◌, ◌+◌, ◌++◌, ◌||◌, ◌&&◌, not, eqb, suc, List, ℕ, length, OnOk};
+ghost use Rattle.std.specs.Prelude.{◌≡◌, ◌<◌, ◌≤◌, ◌+◌, ◌++◌, ◌||◌, ◌&&◌, suc, List, ℕ, length, OnOk};
 ghost use Rattle.cc_tree.specs.Grown.{node_numbers, parent_number, rows_of};
 ghost use Rattle.cc_tree.specs.Rows.{any_other, is_kind};
 ghost use Rattle.cc_tree.specs.Ways.{Climbs};
