@@ -269,12 +269,6 @@ module _ {K V : Type 0} (R : K → K → Ordering) (spread : K → ℕ) where
           put_values agrees bs m (m - n) i b c is (omega arith) edit.sorted left k l _ edit.values old shown q
           ∙ ap (λ (vs : List V). cond (is_eq (R k q)) (new vs) (old q)) (located_shown bs m is k i b l old shown)
 
-module _ {K V : Type 0} (R : K → K → Ordering) (spread : K → ℕ) where
-  -- no buckets have no room, and so have empty ones
-  pub made_empty : (as_ bs : List (Bucket K V)) → length as_ ≡ 0 → AreEmpty R bs → 0 < length bs → (n : ℕ) → IsSpread R spread as_ n → IsSpread R spread bs n
-  made_empty as_ bs none e some zero is = empty_spread R spread bs e some
-  made_empty as_ bs none e some (suc n) is = absurd (let h = is.some (omega arith) in omega arith)
-
 -- each of the n buckets is empty
 pub record AreNew {K V : Type 0} (R : K → K → Ordering) (bs : List (Bucket K V)) (n : ℕ) : Type 0 where
   pub empty : AreEmpty R bs

@@ -2,7 +2,7 @@
 
 mod by_number;
 
-ghost use Rattle.std.specs.Prelude.{ℕ, ◌≡◌, ◌<◌, ◌≤◌, ◌+◌, ◌-◌, ◌++◌, ◌∷◌, length, take, drop, [], insert, vec_len, vec_capacity, OnOk};
+ghost use Rattle.std.specs.Prelude.{◌≡◌, ◌<◌, ◌≤◌, ◌+◌, ◌-◌, ◌++◌, ◌∷◌, take, drop, [], insert, vec_len, vec_capacity, OnOk};
 ghost use Rattle.std.specs.List.{remove_range};
 ghost use Rattle.sorted_multimap.specs.Buckets.{bucket_values, IsSorted, HasRoom, IsKept, IsEdited, lows, tops, Ascends};
 

@@ -1,6 +1,6 @@
 //! Edits of the values of a key that ascend by number. Each looks for its key once.
 
-ghost use Rattle.std.specs.Prelude.{◌≡◌, ◌<◌, ◌≤◌, ◌+◌, ◌==◌, ◌||◌, cond, eqb, filter, length, not, IsTrue, IsFalse};
+ghost use Rattle.std.specs.Prelude.{◌≡◌, ◌<◌, ◌+◌, ◌==◌, ◌||◌, cond, eqb, filter, length, not, IsTrue, IsFalse};
 ghost use Rattle.std.specs.Ordering.{is_eq};
 ghost use Rattle.std.specs.Result.{is_err};
 ghost use Rattle.teb_history.specs.Ascending.{IsAscendingBy, place_of, put_by};
