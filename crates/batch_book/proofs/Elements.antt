@@ -3,7 +3,7 @@ use Rattle.std.proofs.Common.{◌≡◌, ◌⊎◌, ℕ, suc, ◌<◌, Bool, tru
 use Rattle.std.specs.List.{All, list_any}
 use Rattle.std.specs.Option.{option_map, IsSome}
 use Rattle.std.proofs.lemmas.Bool.{cases_Bool, ne_eqb, or_cases, or_left, or_right, or_parts}
-use Rattle.std.proofs.lemmas.List.Elements.{All-nil, All-cons, All-head, All-tail}
+use Rattle.std.proofs.lemmas.List.Elements.{All-head, All-tail}
 use Rattle.teb_history.specs.Ascending.{AllAbove, IsAscendingBy, next_place, place_of}
 use Rattle.batch_book.specs.Book.{AllBelow}
 use Rattle.batch_book.specs.Fields.{Has}
@@ -86,11 +86,6 @@ module _ {A : Type 0} where
   unfolding Has
   All-Has P x [] a h = absurd h
   All-Has P x (y ∷ xs) a h = elim h [ inl q ↦ subst P q (All-head P y xs a) | inr j ↦ All-Has P x xs (All-tail P y xs a) j ]
-
-  pub All-from_Has : (P : A → Type 0) (xs : List A) → ((x : A) → Has x xs → P x) → All P xs
-  unfolding Has
-  All-from_Has P [] f = All-nil P
-  All-from_Has P (y ∷ xs) f = All-cons P y xs (f y (inl refl)) (All-from_Has P xs (λ x h. f x (inr h)))
 
   pub any_Has : (p : A → Bool) (xs : List A) → list_any p xs ≡ true → (x : A) × Has x xs × (p x ≡ true)
   unfolding Has

@@ -5,6 +5,7 @@ use Rattle.std.proofs.lemmas.List.Elements.{filter-append, filter_agree}
 use Rattle.teb_names.specs.declared.Txn.{Txn}
 use Rattle.teb_names.specs.declared.Session.{Session}
 use Rattle.teb_names.specs.declared.Kind.{Kind}
+use Rattle.teb_names.proofs.Bools.{and_true, eqb_swap}
 use Rattle.teb_history.specs.declared.Event.{Event}
 use Rattle.teb_history.specs.declared.Event.TheVariants.{Began, Got, Put, Ready, Done, Gone, Told}
 use Rattle.teb_history.specs.Phases.{is_began, begun, unfinished, txns, committed, aborted}
@@ -17,7 +18,7 @@ use Rattle.batch_book.specs.Book.{Running, closed_at, is_busy, running_finished,
 use Rattle.batch_book.specs.Histories.{IsNumbered, MayCome, Passes, Finishes, closing, admitted, members, row_of, running_of, rows_in, running_in}
 use Rattle.batch_book.proofs.Numbered.{begins_once, unfinished_is, unfinished_step, unfinished_kept, In-txns_begun, txns_began, txns_kept, spot_began, on_kept, side_kept, is_began_event}
 use Rattle.batch_book.proofs.Intervals.{start_kept, closing_step, closing_busy}
-use Rattle.batch_book.proofs.Lists.{filter_in, map_in, count_in, map-map, filter-map, filter-filter, eqb-sym}
+use Rattle.batch_book.proofs.Lists.{filter_in, map_in, count_in, map-map, filter-map, filter-filter}
 use Rattle.batch_book.proofs.Idle.{row_path, running_path, idle_running}
 
 -- the members stay, and nobody of them begins: start, side and the number admitted stay
@@ -33,12 +34,8 @@ module _ (S : Setup) (P : List Event) (n : ℕ) (e : Event) (l : IsNumbered P) (
   steady_kept h q = ap (filter (λ u. on S (e ∷ P) n u && q u)) (txns_kept e P h) ∙ filter_in _ _ (txns P) (λ u i j. on_kept S e P n u (old u i) j && q u)
 
   pub members_kept : Steady → members S (e ∷ P) n ≡ members S P n
-  members_kept h = filter_agree (on S (e ∷ P) n) (λ u. on S (e ∷ P) n u && true) (λ u. and_true (on S (e ∷ P) n u)) (txns (e ∷ P)) ∙ h (λ u. true)
-      ∙ filter_agree (λ u. on S P n u && true) (on S P n) (λ u. sym (and_true (on S P n u))) (txns P)
-    where
-      and_true : (b : Bool) → b ≡ (b && true)
-      and_true true = refl
-      and_true false = refl
+  members_kept h = filter_agree (on S (e ∷ P) n) (λ u. on S (e ∷ P) n u && true) (λ u. sym (and_true (on S (e ∷ P) n u))) (txns (e ∷ P)) ∙ h (λ u. true)
+      ∙ filter_agree (λ u. on S P n u && true) (on S P n) (λ u. and_true (on S P n u)) (txns P)
 
   -- the same for those who are on side y
   filter_sides : Steady → (y : ℕ) → filter (λ v. on S (e ∷ P) n v && eqb (side S (e ∷ P) n v) y) (txns (e ∷ P)) ≡ filter (λ v. on S P n v && eqb (side S P n v) y) (txns P)
@@ -122,10 +119,10 @@ or_not_last false c d g = refl
 pub finished : (t : ℕ) (e : Event) (P : List Event) → Finishes t e → (u : ℕ) → unfinished (e ∷ P) u ≡ (unfinished P u && not (eqb u t))
 finished t (Done v) P f u =
     unfinished_step (Done v) P u ∙ or_not (begun P u) (committed P u) (eqb v.0 u) (aborted P u)
-    ∙ (λ i. sym (unfinished_is P u) i && not ((ap (λ (w : ℕ). eqb w u) f ∙ eqb-sym t u) i))
+    ∙ (λ i. sym (unfinished_is P u) i && not ((ap (λ (w : ℕ). eqb w u) f ∙ eqb_swap t u) i))
 finished t (Gone v c) P f u =
     unfinished_step (Gone v c) P u ∙ or_not_last (begun P u) (committed P u) (eqb v.0 u) (aborted P u)
-    ∙ (λ i. sym (unfinished_is P u) i && not ((ap (λ (w : ℕ). eqb w u) f ∙ eqb-sym t u) i))
+    ∙ (λ i. sym (unfinished_is P u) i && not ((ap (λ (w : ℕ). eqb w u) f ∙ eqb_swap t u) i))
 finished t _ P f u = absurd f
 
 pub finish_no_begin : (t : ℕ) (e : Event) → Finishes t e → is_began_event e ≡ false
@@ -135,10 +132,6 @@ finish_no_begin t _ f = refl
 -- where the transaction is another
 other_unfinished : (S : Setup) (P : List Event) (n t u : ℕ) → on S P n t ≡ false → on S P n u ≡ true → eqb u t ≡ false
 other_unfinished S P n t u f o = false_from_ne_true _ (λ q. both_ways _ f (subst (λ (w : ℕ). on S P n w ≡ true) (eqb-true u t q) o))
-
-and_yes : (b : Bool) → (b && true) ≡ b
-and_yes true = refl
-and_yes false = refl
 
 on_began : (S : Setup) (P : List Event) (n : ℕ) (t : Txn) (s : Session) (k : Kind) (i : ℕ) → on S (Began t s k i ∷ P) n t.0 ≡ on_path S.tree n (record { kind = k; instance = i })
 unfolding on
@@ -165,11 +158,11 @@ passed S P n (Began t s k i) l m h = let r = running_passed S P n (Began t s k i
     f u w = unfinished_kept (Began t s k i) P u (old S P n (Began t s k i) l m u (filter-In (on S P n) u (txns P) w).0) refl refl
 passed S P n (Done t) l m h =
     let g = steady_kept S P n (Done t) l m refl in
-    let r = running_passed S P n (Done t) l m g (λ u w. finished t.0 (Done t) P refl u ∙ ap (λ (b : Bool). unfinished P u && not b) (other_unfinished S P n t.0 u h (filter-In (on S P n) u (txns P) w).1) ∙ and_yes (unfinished P u)) in
+    let r = running_passed S P n (Done t) l m g (λ u w. finished t.0 (Done t) P refl u ∙ ap (λ (b : Bool). unfinished P u && not b) (other_unfinished S P n t.0 u h (filter-In (on S P n) u (txns P) w).1) ∙ and_true (unfinished P u)) in
     (r, rows_passed S P n (Done t) l m g r)
 passed S P n (Gone t c) l m h =
     let g = steady_kept S P n (Gone t c) l m refl in
-    let r = running_passed S P n (Gone t c) l m g (λ u w. finished t.0 (Gone t c) P refl u ∙ ap (λ (b : Bool). unfinished P u && not b) (other_unfinished S P n t.0 u h (filter-In (on S P n) u (txns P) w).1) ∙ and_yes (unfinished P u)) in
+    let r = running_passed S P n (Gone t c) l m g (λ u w. finished t.0 (Gone t c) P refl u ∙ ap (λ (b : Bool). unfinished P u && not b) (other_unfinished S P n t.0 u h (filter-In (on S P n) u (txns P) w).1) ∙ and_true (unfinished P u)) in
     (r, rows_passed S P n (Gone t c) l m g r)
 passed S P n (Got t x w v) l m h =
     let g = steady_kept S P n (Got t x w v) l m refl in

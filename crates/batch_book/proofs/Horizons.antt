@@ -16,8 +16,8 @@ use Rattle.batch_book.specs.Book.{Row, Book}
 use Rattle.batch_book.specs.Histories.{BatchesOf, ClosedBelow, closing, members, row_of}
 use Rattle.batch_book.specs.Fields.{batch_at, member_number, row_shown}
 use Rattle.batch_book.specs.Settled.{no_member, IsClosedBefore, IsKept}
-use Rattle.batch_book.proofs.Lists.{In-filter}
 use Rattle.batch_book.proofs.Numbered.{txns-In}
+use Rattle.teb_laws.proofs.Serial.{In-filter}
 
 above_at : (n : ℕ) (J : List Member) (i : ℕ) → AllAbove member_number n J → i < length J → n < member_number (get_or J i no_member)
 above_at n [] i h l = absurd (omega arith)

@@ -6,11 +6,12 @@ use Rattle.teb_history.specs.declared.Event.{Event}
 use Rattle.teb_history.specs.declared.Event.TheVariants.{Began}
 use Rattle.teb_history.specs.Positions.{upto, first, last, first_event, newest, came}
 use Rattle.teb_history.specs.Phases.{is_began, began_at, begun, unfinished, txns}
+use Rattle.teb_history.proofs.Chains.{length-upto}
 use Rattle.teb_rules.specs.Setup.{Setup}
 use Rattle.teb_rules.specs.Serializes.{In}
 use Rattle.teb_rules.specs.Tree.{on, side}
 use Rattle.teb_rules.specs.Batches.{idle, opens, start, close}
-use Rattle.teb_laws.proofs.Positions.{upto_all, upto_cons, length-upto, first-holds, before, now, later, first_cases}
+use Rattle.teb_laws.proofs.Positions.{upto_all, upto_cons, first-holds, before, now, later, first_cases}
 use Rattle.teb_laws.proofs.Timeline.{begun-upto}
 use Rattle.batch_book.specs.Book.{closed_at}
 use Rattle.batch_book.specs.Histories.{IsNumbered, closing}

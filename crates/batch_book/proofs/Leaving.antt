@@ -45,9 +45,6 @@ pub left_running : (B : List Batch) (t : ℕ) (R : List Member) → map (running
 left_running B t R = sym (shown_without B t R)
 
 module _ (J R : List Member) (B : List Batch) (t : ℕ) (h : IsHeld J R B) where
-  in_joined : (m : Member) → Has m J → m.batch < length B
-  in_joined m k = All-Has (λ (o : Member). o.batch < length B) m J h.joined_within k
-
   left_Has : (m : Member) → Has m (without t R) → Has m R
   left_Has m k = (filter-Has (λ m. not (eqb m.txn.0 t)) m R k).0
 

@@ -1,6 +1,5 @@
 -- Lists of transactions: filters, maps and counts.
-use Rattle.std.proofs.Common.{◌≡◌, ℕ, ◌+◌, Bool, true, false, cond, ◌&&◌, eqb, List, [], ◌∷◌, ◌++◌, length, filter, map, refl, sym, ◌∙◌, ap, subst, inl, inr, eq-eqb, eqb-true, count_by, length-append}
-use Rattle.std.proofs.lemmas.Bool.{cases_Bool, eqb-false, ne_eqb}
+use Rattle.std.proofs.Common.{◌≡◌, ℕ, ◌+◌, Bool, true, false, cond, ◌&&◌, List, [], ◌∷◌, ◌++◌, length, filter, map, refl, sym, ◌∙◌, ap, inl, inr, count_by, length-append}
 use Rattle.std.proofs.lemmas.List.Elements.{filter-append}
 use Rattle.std.proofs.lemmas.List.Sums.{length-filter}
 use Rattle.teb_rules.specs.Serializes.{In}
@@ -48,24 +47,3 @@ filter-filter p q (v ∷ vs) = go (p v) (filter-filter p q vs)
     go : (b : Bool) → filter q (filter p vs) ≡ filter (λ u. p u && q u) vs → filter q (cond b (v ∷ filter p vs) (filter p vs)) ≡ cond (b && q v) (v ∷ filter (λ u. p u && q u) vs) (filter (λ u. p u && q u) vs)
     go true h = λ i. cond (q v) (v ∷ h i) (h i)
     go false h = h
-
-pub eqb-sym : (a b : ℕ) → eqb a b ≡ eqb b a
-eqb-sym a b = elim (cases_Bool (eqb a b)) [
-  | inl t ↦ t ∙ sym (eq-eqb b a (sym (eqb-true a b t)))
-  | inr f ↦ f ∙ sym (ne_eqb b a (λ e. eqb-false a b f (sym e)))
-]
-
-pub In-filter : (p : ℕ → Bool) (u : ℕ) (us : List ℕ) → In u us → p u ≡ true → In u (filter p us)
-In-filter p u [] i h = absurd i
-In-filter p u (v ∷ vs) i h = elim i [
-  | inl q ↦ go (p v) (subst (λ (z : ℕ). p z ≡ true) (sym q) h) (inl q)
-  | inr j ↦ skip (p v) (In-filter p u vs j h)
-]
-  where
-    go : (b : Bool) → b ≡ true → In u (v ∷ filter p vs) → In u (cond b (v ∷ filter p vs) (filter p vs))
-    go true e k = k
-    go false e k = absurd (cc)
-
-    skip : (b : Bool) → In u (filter p vs) → In u (cond b (v ∷ filter p vs) (filter p vs))
-    skip true k = inr k
-    skip false k = k

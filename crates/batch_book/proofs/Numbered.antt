@@ -1,5 +1,5 @@
 -- Phases and numbers of transactions, event by event, in a numbered history.
-use Rattle.std.proofs.Common.{◌≡◌, ℕ, zero, suc, ◌<◌, ◌≤◌, Bool, true, false, not, ◌&&◌, ◌||◌, eqb, List, [], ◌∷◌, ◌++◌, refl, sym, ◌∙◌, ap, subst, inl, inr, arith, eqb-true, eq-eqb, le_refl}
+use Rattle.std.proofs.Common.{◌≡◌, ℕ, suc, ◌<◌, ◌≤◌, Bool, true, false, not, ◌&&◌, ◌||◌, eqb, List, [], ◌∷◌, ◌++◌, refl, sym, ◌∙◌, ap, subst, inl, inr, arith, eqb-true, eq-eqb, le_refl}
 use Rattle.std.proofs.lemmas.Bool.{cases_order, both_ways, or_cases, or_left, or_right, or_parts, or_from, and_parts, false_from_ne_true, not-true}
 use Rattle.teb_names.specs.declared.Txn.{Txn}
 use Rattle.teb_names.specs.declared.Spot.{Spot}
@@ -7,42 +7,21 @@ use Rattle.teb_names.specs.declared.Session.{Session}
 use Rattle.teb_names.specs.declared.Kind.{Kind}
 use Rattle.teb_rules.specs.Setup.{Setup}
 use Rattle.teb_rules.specs.Tree.{on, side, on_path, side_at}
-use Rattle.teb_laws.proofs.Lists.{In-append_cases}
 use Rattle.teb_laws.proofs.Serial.{numbers-In}
 use Rattle.teb_history.specs.declared.Event.{Event}
 use Rattle.teb_history.specs.declared.Event.TheVariants.{Began, Done, Gone}
-use Rattle.teb_history.specs.Positions.{first, first_event, came}
+use Rattle.teb_history.specs.Positions.{first, first_event}
 use Rattle.teb_history.specs.Phases.{is_began, is_done, is_gone, began_at, done_at, gone_at, begun, committed, aborted, unfinished, begun_count, numbers, txns, spot_of}
-use Rattle.teb_history.proofs.Any.{came_any}
 use Rattle.teb_rules.specs.Serializes.{In}
 use Rattle.teb_laws.proofs.Locks.{In-numbers}
+use Rattle.teb_laws.proofs.Cascades.{numbers_pos}
 use Rattle.batch_book.specs.Histories.{IsNumbered, MayCome}
-
-has_step : (q : Event → Bool) (e : Event) (P : List Event) → came (e ∷ P) (first_event q (e ∷ P)) ≡ (q e || came P (first_event q P))
-has_step q e P = came_any q (e ∷ P) ∙ ap (λ (b : Bool). q e || b) (sym (came_any q P))
-
-pub begun_step : (e : Event) (P : List Event) (u : ℕ) → begun (e ∷ P) u ≡ (is_began u e || begun P u)
-unfolding begun began_at
-begun_step e P u = has_step (is_began u) e P
-
-pub committed_step : (e : Event) (P : List Event) (u : ℕ) → committed (e ∷ P) u ≡ (is_done u e || committed P u)
-unfolding committed done_at
-committed_step e P u = has_step (is_done u) e P
-
-pub aborted_step : (e : Event) (P : List Event) (u : ℕ) → aborted (e ∷ P) u ≡ (is_gone u e || aborted P u)
-unfolding aborted gone_at
-aborted_step e P u = has_step (is_gone u) e P
+pub use Rattle.teb_history.proofs.Newest.{begun-cons as begun_step, committed-cons as committed_step, aborted-cons as aborted_step, unfinished-cons as unfinished_step}
+pub use Rattle.teb_laws.proofs.Holding.{unfinished_same as unfinished_kept}
 
 pub unfinished_is : (H : List Event) (u : ℕ) → unfinished H u ≡ (begun H u && not (committed H u) && not (aborted H u))
 unfolding unfinished
 unfinished_is H u = refl
-
-pub unfinished_step : (e : Event) (P : List Event) (u : ℕ) → unfinished (e ∷ P) u ≡ ((is_began u e || begun P u) && not (is_done u e || committed P u) && not (is_gone u e || aborted P u))
-unfinished_step e P u = unfinished_is (e ∷ P) u ∙ (λ i. begun_step e P u i && not (committed_step e P u i) && not (aborted_step e P u i))
-
--- an event that neither begins nor finishes u leaves it as it stood
-pub unfinished_kept : (e : Event) (P : List Event) (u : ℕ) → is_began u e ≡ false → is_done u e ≡ false → is_gone u e ≡ false → unfinished (e ∷ P) u ≡ unfinished P u
-unfinished_kept e P u b d g = unfinished_step e P u ∙ (λ i. (b i || begun P u) && not (d i || committed P u) && not (g i || aborted P u)) ∙ sym (unfinished_is P u)
 
 pub unfinished_parts : (H : List Event) (u : ℕ) → unfinished H u ≡ true → (begun H u ≡ true) × (committed H u ≡ false) × (aborted H u ≡ false)
 unfinished_parts H u h =
@@ -128,11 +107,6 @@ finish_begun (e ∷ P) u l h =
     no_finish (Done t) P u m b = (other P t.0 u m b, refl)
     no_finish (Gone t c) P u m b = (refl, other P t.0 u m b)
     no_finish _ P u m b = (refl, refl)
-
-numbers_pos : (n u : ℕ) → In u (numbers n) → 0 < u
-unfolding numbers
-numbers_pos zero u i = absurd i
-numbers_pos (suc n) u i = elim (In-append_cases u (numbers n) (suc n ∷ []) i) [ inl j ↦ numbers_pos n u j | inr j ↦ elim j [ inl e ↦ omega arith | inr k ↦ absurd k ] ]
 
 -- whoever has begun is looked at, and whoever is looked at has begun
 pub txns-In : (H : List Event) (u : ℕ) → IsNumbered H → begun H u ≡ true → In u (txns H)

@@ -1,5 +1,5 @@
 -- What each batch knows of those that were closed before it started, when a member joins and when one finishes.
-use Rattle.std.proofs.Common.{◌≡◌, ℕ, ◌+◌, ◌<◌, ◌≤◌, List, [], ◌∷◌, ◌++◌, length, get_or, set, Option, Some, None, refl, sym, ◌∙◌, ap, subst, inl, inr, arith, length-append}
+use Rattle.std.proofs.Common.{◌≡◌, ℕ, ◌+◌, ◌<◌, ◌≤◌, List, [], ◌∷◌, ◌++◌, length, get_or, set, Some, None, refl, sym, ◌∙◌, ap, subst, inl, inr, arith, length-append}
 use Rattle.std.proofs.Math.ListN.{length-set}
 use Rattle.std.specs.List.{All}
 use Rattle.std.proofs.lemmas.Bool.{cases_eq, cases_lt}
@@ -10,10 +10,6 @@ use Rattle.batch_book.specs.declared.members.Batch.{Batch}
 use Rattle.batch_book.specs.Fields.{no_batch, batch_at}
 use Rattle.batch_book.specs.Settled.{no_member, IsClosedBefore, AreClosed, IsSettled}
 use Rattle.batch_book.proofs.Entering.{set_keeps}
-
-pub closed_later : (i j : ℕ) (o : Option ℕ) → i ≤ j → IsClosedBefore i o → IsClosedBefore j o
-closed_later i j None l h = h
-closed_later i j (Some c) l h = omega arith
 
 module _ (J : List Member) (B : List Batch) where
   -- other batches that know as much, and of which as many are closed

@@ -13,14 +13,13 @@ use Rattle.teb_rules.specs.Verdicts.{wait_for}
 use Rattle.teb_rules.specs.declared.Verdict.TheVariants.{Go}
 use Rattle.teb_names.specs.declared.Spot.{Spot}
 use Rattle.teb_laws.specs.Lawful.{Granted, Lawful}
-use Rattle.teb_laws.proofs.Serial.{filter-In}
+use Rattle.teb_laws.proofs.Serial.{filter-In, In-filter}
 use Rattle.batch_book.specs.Book.{Row, Running, Book, full_on, AllBelow, IsNew, has_joined, rows_joined, running_joined, rows_finished, running_finished}
 use Rattle.batch_book.specs.Histories.{IsNumbered, MayCome, Joins, Finishes, Passes, BatchesOf, full_at, admitted, members, row_of, running_of, rows_in, running_in}
 use Rattle.batch_book.proofs.Numbered.{begun_bounds, In-txns_begun, txns-In}
 use Rattle.batch_book.proofs.Joining.{running_began, rows_began}
 use Rattle.batch_book.proofs.Finishing.{finished, finish_no_begin, steady_kept, running_done, rows_kept, passed}
 use Rattle.batch_book.proofs.Fullness.{full_running}
-use Rattle.batch_book.proofs.Lists.{In-filter}
 
 pub batches_none : (b : Book) (S : Setup) (n : ℕ) → b.rows ≡ [] → b.running ≡ [] → BatchesOf b S [] n
 unfolding IsNumbered txns begun_count
@@ -66,10 +65,6 @@ pub batches_passed : (b : Book) (S : Setup) (P : List Event) (n : ℕ) (e : Even
 batches_passed b S P n e h m p =
     let r = passed S P n e h.numbered m p in
     record { numbered = number_it P e m h.numbered; rows = h.rows ∙ sym r.1; running = h.running ∙ sym r.0 }
-
--- whoever shows the same stands for the same
-pub batches_same : (b c : Book) (S : Setup) (H : List Event) (n : ℕ) → BatchesOf b S H n → c.rows ≡ b.rows → c.running ≡ b.running → BatchesOf c S H n
-batches_same b c S H n h r q = record { numbered = h.numbered; rows = r ∙ h.rows; running = q ∙ h.running }
 
 below_map : {A : Type 0} (f : ℕ → A) (key : A → ℕ) (n : ℕ) (us : List ℕ) → ((u : ℕ) → In u us → key (f u) < n) → AllBelow key n (map f us)
 below_map f key n [] h = tt

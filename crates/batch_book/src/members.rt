@@ -1,10 +1,10 @@
 //! Those that have joined, and their batches.
 
-ghost use Rattle.std.specs.Prelude.{◌≡◌, ◌<◌, ◌≤◌, ℕ, Bool, eqb, not, find, filter, length, map, option_map, IfSome, vec_len, vec_capacity, List, None, ◌+◌, ◌-◌, ◌^◌};
+ghost use Rattle.std.specs.Prelude.{◌≡◌, ◌<◌, ◌≤◌, eqb, not, find, filter, length, vec_len, vec_capacity, None, ◌+◌, ◌-◌, ◌^◌};
 ghost use Rattle.std.specs.List.{All, list_any};
 ghost use Rattle.teb_history.specs.Ascending.{IsAscendingBy, place_of};
 ghost use Rattle.batch_book.specs.declared.members.Member.{Member};
-ghost use Rattle.batch_book.specs.Fields.{batch_at, member_number, running_shown, Entered, IsHeld, Has};
+ghost use Rattle.batch_book.specs.Fields.{batch_at, member_number, Entered, Has};
 ghost use Rattle.batch_book.specs.Settled.{IsSettled};
 
 use crate::settled::settled_before;
