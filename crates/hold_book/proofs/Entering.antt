@@ -10,11 +10,11 @@ use Rattle.teb_names.specs.declared.Cell.{Cell}
 use Rattle.teb_names.specs.Cells.{same_cell, cell_cmp}
 use Rattle.sorted_multimap.specs.Multimap.{Shown, values_in}
 use Rattle.teb_names.proofs.SameCells.{same_cell-true}
+use Rattle.teb_names.proofs.Bools.{or_false}
 use Rattle.hold_book.specs.declared.Hold.{Hold}
 use Rattle.hold_book.specs.declared.slots.Alone.{Alone}
 use Rattle.hold_book.specs.Slots.{only_hold, only_or}
 use Rattle.hold_book.specs.Books.{Held, shown, accessed, released, shown_in, IsFiled, IsApart}
-use Rattle.hold_book.proofs.Filing.{or_false}
 
 pub same_either : {B : Type 0} (b : Bool) (a : B) → a ≡ cond b a a
 same_either true a = refl

@@ -12,12 +12,9 @@ use Rattle.teb_history.specs.Ascending.{AllAbove, IsAscendingBy, next_place, pla
 use Rattle.teb_history.proofs.AscendingLists.{place_below, place_here, place_above, put-set, ascending-put, ascending-filter}
 use Rattle.sorted_multimap.specs.Multimap.{Shown, values_in}
 use Rattle.teb_names.proofs.SameCells.{same_cell-true}
+use Rattle.teb_names.proofs.Bools.{or_false}
 use Rattle.hold_book.specs.declared.Hold.{Hold}
 use Rattle.hold_book.specs.Books.{hold_number, has_put, accessed, released, IsFiled}
-
-pub or_false : (b : Bool) → (b || false) ≡ b
-or_false true = refl
-or_false false = refl
 
 -- nobody of a number that is below all
 none_above : (t : ℕ) (hs : List Hold) → AllAbove hold_number t hs → has_put t hs ≡ false

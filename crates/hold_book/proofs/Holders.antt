@@ -21,6 +21,7 @@ use Rattle.teb_laws.proofs.Locks.{In-numbers}
 use Rattle.teb_laws.proofs.Holding.{unfinished_same}
 use Rattle.hold_book.specs.declared.Hold.{Hold}
 use Rattle.teb_names.proofs.SameCells.{same_cell-true, same_itself}
+use Rattle.teb_names.proofs.Bools.{or_true, eqb_swap}
 use Rattle.hold_book.specs.Books.{Held, shown, hold_number, has_put, accessed, released}
 use Rattle.hold_book.specs.Holders.{holds, hold_of, holds_in, HoldsOf, MayHold, LeavesHolds}
 use Rattle.teb_history.proofs.Newest.{wrote-cons, got-cons, unfinished-cons}
@@ -73,10 +74,6 @@ put_some t w p on pass (u ∷ us) i = elim i [
   | inr j ↦ go (p u) (put_some t w p on pass us j)
 ]
   where
-    or_true : (b : Bool) → (b || true) ≡ true
-    or_true true = refl
-    or_true false = refl
-
     go : (b : Bool) → has_put t (map (hold_by w) (filter p us)) ≡ true → has_put t (map (hold_by w) (cond b (u ∷ filter p us) (filter p us))) ≡ true
     go true ih = ap (λ (b : Bool). (eqb u t && w u) || b) ih ∙ or_true (eqb u t && w u)
     go false ih = ih
@@ -132,14 +129,11 @@ ends_gone true false false true = refl
 ends_gone true false false false = refl
 ends_gone false c d a = refl
 
-same_number : (a b : ℕ) → eqb a b ≡ eqb b a
-same_number a b = elim (cases_eq a b) [ inl e ↦ eq-eqb a b e ∙ sym (eq-eqb b a (sym e)) | inr ne ↦ ne_eqb a b ne ∙ sym (ne_eqb b a (λ e. ne (sym e))) ]
-
 unfinished_done : (P : List Event) (t : Txn) (u : ℕ) → unfinished (Done t ∷ P) u ≡ (unfinished P u && not (eqb u t.0))
-unfinished_done P t u = unfinished-cons (Done t) P u ∙ ends_done (begun P u) (eqb t.0 u) (committed P u) (aborted P u) ∙ (unfold unfinished in ap (λ (b : Bool). unfinished P u && not b) (same_number t.0 u))
+unfinished_done P t u = unfinished-cons (Done t) P u ∙ ends_done (begun P u) (eqb t.0 u) (committed P u) (aborted P u) ∙ (unfold unfinished in ap (λ (b : Bool). unfinished P u && not b) (eqb_swap t.0 u))
 
 unfinished_gone : (P : List Event) (t : Txn) (c : Cause) (u : ℕ) → unfinished (Gone t c ∷ P) u ≡ (unfinished P u && not (eqb u t.0))
-unfinished_gone P t c u = unfinished-cons (Gone t c) P u ∙ ends_gone (begun P u) (committed P u) (eqb t.0 u) (aborted P u) ∙ (unfold unfinished in ap (λ (b : Bool). unfinished P u && not b) (same_number t.0 u))
+unfinished_gone P t c u = unfinished-cons (Gone t c) P u ∙ ends_gone (begun P u) (committed P u) (eqb t.0 u) (aborted P u) ∙ (unfold unfinished in ap (λ (b : Bool). unfinished P u && not b) (eqb_swap t.0 u))
 
 -- the order of three tests does not matter
 moved_not : (a b c d : Bool) → (a && (b && d) && c) ≡ ((a && b && c) && d)

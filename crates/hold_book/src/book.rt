@@ -71,7 +71,7 @@ impl HoldBook {
     }
 
     /// A transaction accesses a cell: it reads it, or puts it where `wrote` is true. It takes one place of the room at most. It costs a look
-    /// at a slot where nobody else holds the cell, and else a search by the cell.
+    /// into the cell's bucket, and one at its slot where nobody else holds the cell, and else a search by the cell.
     #[inline(always)]
     pub fn access(&mut self, t: Txn, cell: Cell, wrote: bool)
         requires { 0 < self.old.spare }

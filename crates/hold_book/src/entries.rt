@@ -35,7 +35,7 @@ pub(crate) fn access_in(
     access_taken(slots, others, cell, t, wrote);
 }
 
-/// The same for a cell that one holds, in its slot, or whose slot has another.
+/// The same for a cell of which no hold is filed, and which lies in its slot or whose slot another cell has.
 #[inline(never)]
 fn access_taken(
     slots: &mut [Option<Alone>],

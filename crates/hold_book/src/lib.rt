@@ -1,7 +1,6 @@
 //! Who holds which cell at a node: the unfinished transactions on whose path it stands that have accessed it.
 #![tactic(auto)]
 
-ghost use Rattle.std.specs.Prelude.{◌≡◌};
 ghost use Rattle.hold_book.specs.Books.{hold_number};
 
 mod book;

@@ -1,6 +1,6 @@
 //! Slots, in which cells lie that one transaction alone holds.
 
-ghost use Rattle.std.specs.Prelude.{◌≡◌, ◌<◌, ◌≤◌, ℕ, [], cond, length, Some, None, IsTrue, IsFalse, OnOk};
+ghost use Rattle.std.specs.Prelude.{◌≡◌, ◌<◌, ◌≤◌, [], cond, length, Some, None, IsTrue, IsFalse, OnOk};
 ghost use Rattle.std.specs.Option.{is_some, is_none};
 ghost use Rattle.teb_names.specs.declared.Cell.{Cell};
 ghost use Rattle.teb_names.specs.Cells.{same_cell};
