@@ -33,9 +33,6 @@ last_is_first p ws one (Some i) h =
     rw (le-leb 0 i le) (first_place_is p ws (Some i) (h.0, h.1, λ j le lt. false_from_ne_true _ (λ t. let e = one j i (omega (arith, lt, h.0)) h.0 t h.1 in omega (arith, e, lt))))
 
 module _ (ps : List Place) (chain : Cell → Head) (own : Txn → Head) (unused : Head) (S : Linked ps chain own unused) where
-  place_of : Cell → ℕ → ℕ
-  place_of x j = get_or (S.chains x).thread.places j 0
-
   pub is_map : (x : Cell) → versions ps (chain x) ≡ map (pair_at ps) (S.chains x).thread.places
   is_map x = ring-versions ps x (chain x) _ (S.chains x, refl)
 

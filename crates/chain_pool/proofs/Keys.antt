@@ -2,16 +2,13 @@
 use Rattle.std.proofs.Common.{true, false, Bool, ◌≡◌, ◌≢◌, ◌⊎◌, ℕ, refl, sym, ◌∙◌, ap, inl, inr, eq-eqb, eqb-true}
 use Rattle.teb_names.specs.declared.Txn.{Txn}
 use Rattle.chain_pool.specs.Heads.{same_txn}
+use Rattle.cell_index.proofs.Places.{decided}
 
 pub same_txn-itself : (t : Txn) → same_txn t t ≡ true
 same_txn-itself t = eq-eqb t.0 t.0 refl
 
 pub same_txn-exact : (t u : Txn) → same_txn t u ≡ true → t ≡ u
 same_txn-exact t u e = let made : ℕ → Txn = λ a. record { 0 = a } in ap made (eqb-true _ _ e)
-
-decided : (b : Bool) → (b ≡ true) ⊎ (b ≡ false)
-decided true = inl refl
-decided false = inr refl
 
 module _ {K : Type 0} (same : K → K → Bool) (itself : (x : K) → same x x ≡ true) (exact : (x y : K) → same x y ≡ true → x ≡ y) where
   pub key_cases : (x y : K) → (x ≡ y) ⊎ (same x y ≡ false)

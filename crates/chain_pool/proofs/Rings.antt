@@ -72,9 +72,6 @@ module _ (mine mine' : ℕ → Type 0) (next next' previous previous' : ℕ → 
     (b_at : i < len → b ≡ get_or r.thread.places i 0) (b_end : i ≡ len → b ≡ first) (a_is : a ≡ previous b)
     (next_a : next' a ≡ q) (next_q : next' q ≡ b) (next_else : (p : ℕ) → p ≢ a → p ≢ q → next' p ≡ next p)
     (previous_b : previous' b ≡ q) (previous_q : previous' q ≡ a) (previous_else : (p : ℕ) → p ≢ b → p ≢ q → previous' p ≡ previous p) where
-  place : ℕ → ℕ
-  place j = get_or r.thread.places j 0
-
   a_inner : 0 < i → a ≡ get_or r.thread.places (i - 1) 0
   a_inner lo = elim (cases_lt i len) [
     | inl lt ↦ a_is ∙ ap previous (b_at lt ∙ ap (λ k. get_or r.thread.places k 0) (omega arith)) ∙ step_back mine next previous first len r (i - 1) (omega arith)

@@ -1,5 +1,5 @@
 -- No list is longer than there are places, and a walk along a chain stays in it.
-use Rattle.std.proofs.Common.{◌≡◌, ◌∙◌, ℕ, ◌<◌, ◌≤◌, List, length, refl, sym, ap, subst, arith, IsSome, Option, Some, None}
+use Rattle.std.proofs.Common.{◌≡◌, ◌∙◌, ℕ, ◌<◌, List, length, refl, sym, ap, subst, arith, IsSome, Option, Some, None}
 use Rattle.std.specs.Option.{option_map}
 use Rattle.teb_names.specs.declared.Cell.{Cell}
 use Rattle.teb_names.specs.declared.Txn.{Txn}
@@ -9,7 +9,7 @@ use Rattle.chain_pool.specs.declared.places.Head.{Head}
 use Rattle.chain_pool.specs.Threads.{steps}
 use Rattle.chain_pool.specs.Places.{slot_at, next_at, previous_at, sibling_at, InChain, IsOwned, IsFree}
 use Rattle.chain_pool.specs.Linked.{Linked, HasLasts}
-use Rattle.chain_pool.proofs.Threads.{len-le, len-lt, thread-steps}
+use Rattle.chain_pool.proofs.Threads.{len-lt, thread-steps}
 use Rattle.chain_pool.proofs.Rings.{steps-mine, mine_next, mine_previous}
 use Rattle.chain_pool.proofs.Slots.{free_chain, free_owned}
 
@@ -30,9 +30,6 @@ module _ (ps : List Place) (chain : Cell → Head) (own : Txn → Head) (unused 
 
   pub walk_used : (x : Cell) (n : ℕ) → 0 < (chain x).len → IsSome (slot_at ps (steps (previous_at ps) n (chain x).first)).version
   walk_used x n some = is_used ps x _ (walk_mine x n some)
-
-  pub free-le : unused.len ≤ length ps
-  free-le = len-le (IsFree ps) (sibling_at ps) unused.first unused.len (length ps) S.frees (λ p m. m.within)
 
   pub free_first : 0 < unused.len → IsFree ps unused.first
   free_first some = subst (IsFree ps) (sym (S.frees.head some)) (S.frees.inside 0 some)

@@ -202,12 +202,6 @@ all_below (x ∷ L) n h q in_it = elim (cases_eq q x) [
   | inr ne ↦ all_below L n (λ i lt. h (suc i) (omega arith)) q (grind (arith, nat_tests, in_it, ne))
 ]
 
-pub len-le : (mine : ℕ → Type 0) (next : ℕ → ℕ) (first len room : ℕ) (t : Thread mine next first len) → ((p : ℕ) → mine p → p < room) → len ≤ room
-len-le mine next first len room t within =
-    let short : (i : ℕ) → i < length t.places → get_or t.places i 0 < room = λ i lt. within _ (t.inside i (omega (arith, t.count, lt))) in
-    let apart : (i j : ℕ) → i < length t.places → j < length t.places → get_or t.places i 0 ≡ get_or t.places j 0 → i ≡ j = λ i j li lj e. t.distinct i j (omega (arith, t.count, li)) (omega (arith, t.count, lj)) e in
-    omega (arith, t.count, length-le_from_distinct_below t.places room (is_distinct t.places apart) (all_below t.places room short))
-
 -- nor as many, where one is not mine
 pub len-lt : (mine : ℕ → Type 0) (next : ℕ → ℕ) (first len room : ℕ) (t : Thread mine next first len) → ((p : ℕ) → mine p → p < room) → (q : ℕ) → q < room → (mine q → ⊥) → len < room
 unfolding IsDistinct

@@ -12,7 +12,7 @@ pub record Slot : Type 0 where
   pub version : Option Version
   pub sibling : ℕ
 
--- the version of a cell and a writer that a place holds so
+-- the version that a place of this cell and writer holds, by its content; None where it is free
 abbrev pub version_of : Cell → Txn → Content → Option Version
 version_of cell writer Free = None
 version_of cell writer Deleted = Some (record { cell = cell; writer = writer; value = None })

@@ -1,6 +1,6 @@
 //! The greatest writer of each mark. A writer and a cell have the mark of a remainder of the writer and one of the cell's key; a
-//! writer above the one of that mark was never marked with the cell. With numbers in order of beginning, that is each one that
-//! has put no cell of that remainder, where no more transactions are open at a time than writers' remainders are told apart.
+//! writer above the one of that mark was never marked with the cell. With numbers in order of beginning, that is nearly each one
+//! that has put no cell of that remainder: only a later writer of the same remainder may have put one before it.
 
 ghost use Rattle.std.specs.Prelude.{ℕ, ◌≡◌, ◌↔◌, IsTrue};
 ghost use Rattle.teb_names.specs.declared.Cell.{Cell};
