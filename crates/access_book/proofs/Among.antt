@@ -2,15 +2,10 @@
 use Rattle.std.proofs.Common.{◌≡◌, ℕ, Bool, true, false, cond, not, ltb, eqb, ◌&&◌, ◌||◌, List, [], ◌∷◌, filter, refl, sym, ◌∙◌, ap, arith}
 use Rattle.std.proofs.lemmas.Bool.{both_ways, eqb-true, eq-eqb, ne_eqb}
 use Rattle.teb_names.specs.declared.Txn.{Txn}
+use Rattle.teb_names.proofs.Bools.{and_false, or_swap}
 use Rattle.teb_history.specs.Ascending.{put_by}
 use Rattle.teb_history.specs.Live.{number_of}
 use Rattle.access_book.specs.Books.{is_among}
-
-or_swap : (a b : Bool) → (a || b) ≡ (b || a)
-or_swap true true = refl
-or_swap true false = refl
-or_swap false true = refl
-or_swap false false = refl
 
 or_later : (a b c : Bool) → (a || (b || c)) ≡ ((a || b) || c)
 or_later true b c = refl
@@ -38,14 +33,10 @@ pub among_others : (n : ℕ) (xs : List Txn) (u : ℕ) → is_among u (others n 
 among_others n [] u = refl
 among_others n (x ∷ xs) u = go (eqb x.0 n) refl (eqb x.0 u) refl (among_others n xs u)
   where
-    nobody : (b : Bool) → (b && false) ≡ false
-    nobody true = refl
-    nobody false = refl
-
     go : (b : Bool) → eqb x.0 n ≡ b → (c : Bool) → eqb x.0 u ≡ c → is_among u (others n xs) ≡ (is_among u xs && not (eqb n u)) → is_among u (cond (not b) (x ∷ others n xs) (others n xs)) ≡ ((c || is_among u xs) && not (eqb n u))
     go true h true k ih =
         let e : eqb n u ≡ true = eq-eqb n u (let a = eqb-true x.0 n h in let b = eqb-true x.0 u k in omega arith) in
-        ih ∙ ap (λ (b : Bool). is_among u xs && not b) e ∙ nobody (is_among u xs) ∙ sym (ap not e)
+        ih ∙ ap (λ (b : Bool). is_among u xs && not b) e ∙ and_false (is_among u xs) ∙ sym (ap not e)
     go true h false k ih = ih
     go false h true k ih =
         let e : eqb n u ≡ false = ne_eqb n u (λ q. both_ways (eqb x.0 u) (ap (λ (m : ℕ). eqb x.0 m) (sym q) ∙ h) k) in

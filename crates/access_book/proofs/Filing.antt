@@ -105,12 +105,6 @@ module _ (t : Txn) (a b c : Numbered Txn) (all left rest : List Touch) (puts p :
             ∙ ap (λ (zs : List Touch). is_among u (list_in b.lists i) || (list_any (puts_here i) zs && eqb t.0 u)) (sym q) ∙ h.lists i u;
       }
 
-  pub filing_room : IsFiling t.0 a b all left puts → left ≡ touch.Put p ∷ rest → 0 < b.spare
-  filing_room h q = let e = ap puts_held q ∙ held_more (touch.Put p) rest in let m = h.enough in omega (arith, e, m)
-
-  pub filing_within : IsFiling t.0 a b all left puts → left ≡ touch.Put p ∷ rest → p < length b.lists
-  filing_within h q = let k = (subst (AreKnown (length a.lists)) q h.known).0 in let n = h.count in omega (arith, k, n)
-
 module _ (t : Txn) (here : ℕ → Touch → Bool) (a b c : Numbered Txn) (all left rest : List Touch) (z : Touch) (p : ℕ) where
   -- an access of another kind
   pub taking_skip : IsTaking t.0 here a b all left → left ≡ z ∷ rest → ((i : ℕ) → here i z ≡ false) → IsTaking t.0 here a b all rest

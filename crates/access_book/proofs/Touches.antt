@@ -119,9 +119,6 @@ known_more m n (z ∷ zs) le k = (omega (arith, k.0, le), known_more m n zs le k
 pub known_all : (m n : ℕ) (ls : List (List Touch)) → m ≤ n → ((i : ℕ) → AreKnown m (list_in ls i)) → (i : ℕ) → AreKnown n (list_in ls i)
 known_all m n ls le k i = known_more m n (list_in ls i) le (k i)
 
-pub known_begun : (n : ℕ) (ls ls' : List (List Touch)) → ls' ≡ ls ++ [] ∷ [] → ((i : ℕ) → AreKnown n (list_in ls i)) → (i : ℕ) → AreKnown n (list_in ls' i)
-known_begun n ls ls' e k i = subst (AreKnown n) (sym (ap (λ (l : List (List Touch)). list_in l i) e ∙ with_empty ls i)) (k i)
-
 known_push : (n : ℕ) (zs : List Touch) (z : Touch) → AreKnown n zs → touch_place z < n → AreKnown n (zs ++ z ∷ [])
 known_push n [] z k lt = (lt, tt)
 known_push n (y ∷ zs) z k lt = (k.0, known_push n zs z k.1 lt)
