@@ -1,7 +1,6 @@
 -- The lists of a history after one more event.
 use Rattle.std.proofs.Common.{◌≡◌, ℕ, zero, suc, ◌<◌, ◌≤◌, Bool, true, false, cond, not, ◌&&◌, ◌||◌, eqb, ltb, List, [], ◌∷◌, ◌++◌, filter, map, length, length-append, Option, ℤ, refl, sym, ◌∙◌, ap, subst, arith}
 use Rattle.std.specs.List.{count_by}
-use Rattle.std.proofs.lemmas.Bool.Decides.{nat_tests}
 use Rattle.std.proofs.lemmas.Bool.{eqb-true, ne_eqb, eq-eqb}
 use Rattle.std.proofs.lemmas.List.{map-append}
 use Rattle.std.proofs.lemmas.List.Elements.{filter-append}
@@ -24,11 +23,13 @@ use Rattle.dependency_book.specs.Orderly.{MayFollow, Orderly}
 use Rattle.dependency_book.specs.Books.{Lists, BookOf, readers_in, writers_in, sources_in, list_of}
 use Rattle.sorted_multimap.proofs.TakenMatches.{without_all, count_kept}
 use Rattle.teb_names.proofs.SameCells.{same_cell-true}
+use Rattle.teb_names.proofs.Bools.{eqb_swap}
 use Rattle.dependency_book.proofs.SourceLists.{no_lists, one_more}
 use Rattle.dependency_book.proofs.OwnAccesses.{put_by_it, reads_counted, puts_counted}
-use Rattle.dependency_book.proofs.OrderlyHistories.{unfinished_is, unfinished_same, unfinished_parts, aborted_same, known, fresh}
+use Rattle.dependency_book.proofs.OrderlyHistories.{unfinished_is, unfinished_parts, aborted_same, known, fresh}
 use Rattle.dependency_book.proofs.Positive.{begun_pos}
 use Rattle.teb_laws.proofs.AscendingNumbers.{number, txns_ascending}
+use Rattle.teb_laws.proofs.Holding.{unfinished_same}
 use Rattle.teb_history.proofs.AscendingLists.{ascending-filter}
 use Rattle.teb_history.proofs.Filters.{filter_both, filter_push}
 use Rattle.teb_history.proofs.Newest.{aborted-cons, unfinished-cons}
@@ -61,9 +62,6 @@ ascending_made (n ∷ ns) h = (above_made n ns h.0, ascending_made ns h.1)
 pub unfinished_ascend : (b : Lists) (P : List Event) → BookOf b P → IsAscendingBy number_of b.unfinished
 unfolding unfinished_txns
 unfinished_ascend b P was = subst (IsAscendingBy number_of) (sym was.unfinished) (ascending_made (filter (unfinished P) (txns P)) (ascending-filter number (unfinished P) (txns P) (txns_ascending P)))
-
-eqb_back : (m n : ℕ) → eqb m n ≡ eqb n m
-eqb_back m n = grind (arith, nat_tests)
 
 -- an event that begins, commits and aborts nobody
 module _ (e : Event) (P : List Event) (b : (u : ℕ) → is_began u e ≡ false) (d : (u : ℕ) → is_done u e ≡ false) (g : (u : ℕ) → is_gone u e ≡ false) where
@@ -269,7 +267,7 @@ module _ (b d : Lists) (P : List Event) (was : BookOf b P) where
   }
     where
       others : (u : ℕ) → unfinished (Done t ∷ P) u ≡ (not (eqb u t.0) && unfinished P u)
-      others u = unfinished-cons (Done t) P u ∙ go (eqb t.0 u) (eqb u t.0) (eqb_back t.0 u) (begun P u) (committed P u) (aborted P u) ∙ ap (λ (b : Bool). not (eqb u t.0) && b) (sym (unfinished_is P u))
+      others u = unfinished-cons (Done t) P u ∙ go (eqb t.0 u) (eqb u t.0) (eqb_swap t.0 u) (begun P u) (committed P u) (aborted P u) ∙ ap (λ (b : Bool). not (eqb u t.0) && b) (sym (unfinished_is P u))
         where
           go : (k l : Bool) → k ≡ l → (x y z : Bool) → (x && not (k || y) && not z) ≡ (not l && (x && not y && not z))
           go true true h true y z = refl
@@ -308,7 +306,7 @@ module _ (b d : Lists) (P : List Event) (was : BookOf b P) where
       own = own_events (Gone t c ∷ P) t.0
 
       others : (u : ℕ) → unfinished (Gone t c ∷ P) u ≡ (not (eqb u t.0) && unfinished P u)
-      others u = unfinished-cons (Gone t c) P u ∙ go (eqb t.0 u) (eqb u t.0) (eqb_back t.0 u) (begun P u) (committed P u) (aborted P u) ∙ ap (λ (b : Bool). not (eqb u t.0) && b) (sym (unfinished_is P u))
+      others u = unfinished-cons (Gone t c) P u ∙ go (eqb t.0 u) (eqb u t.0) (eqb_swap t.0 u) (begun P u) (committed P u) (aborted P u) ∙ ap (λ (b : Bool). not (eqb u t.0) && b) (sym (unfinished_is P u))
         where
           go : (k l : Bool) → k ≡ l → (x y z : Bool) → (x && not y && not (k || z)) ≡ (not l && (x && not y && not z))
           go true true h true true z = refl
@@ -319,7 +317,7 @@ module _ (b d : Lists) (P : List Event) (was : BookOf b P) where
           go false false h x y z = refl
 
       stands : (u : ℕ) → not (aborted (Gone t c ∷ P) u) ≡ (not (eqb u t.0) && not (aborted P u))
-      stands u = ap not (aborted-cons (Gone t c) P u) ∙ go (eqb t.0 u) (eqb u t.0) (eqb_back t.0 u) (aborted P u)
+      stands u = ap not (aborted-cons (Gone t c) P u) ∙ go (eqb t.0 u) (eqb u t.0) (eqb_swap t.0 u) (aborted P u)
         where
           go : (k l : Bool) → k ≡ l → (z : Bool) → not (k || z) ≡ (not l && not z)
           go true true h z = refl

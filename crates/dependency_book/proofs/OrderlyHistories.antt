@@ -7,15 +7,11 @@ use Rattle.teb_history.specs.Positions.{first_event, came}
 use Rattle.teb_history.specs.Phases.{is_began, is_done, is_gone, began_at, done_at, gone_at, begun, committed, aborted, unfinished, begun_count}
 use Rattle.teb_history.proofs.Any.{came_any}
 use Rattle.dependency_book.specs.Orderly.{Orderly}
-use Rattle.teb_history.proofs.Newest.{begun-cons, committed-cons, aborted-cons, unfinished-cons}
+use Rattle.teb_history.proofs.Newest.{begun-cons, committed-cons, aborted-cons}
 
 pub unfinished_is : (P : List Event) (u : ℕ) → unfinished P u ≡ (begun P u && not (committed P u) && not (aborted P u))
 unfolding unfinished
 unfinished_is P u = refl
-
--- an event that begins, commits and aborts nobody
-pub unfinished_same : (e : Event) (P : List Event) (u : ℕ) → is_began u e ≡ false → is_done u e ≡ false → is_gone u e ≡ false → unfinished (e ∷ P) u ≡ unfinished P u
-unfinished_same e P u a b c = unfinished-cons e P u ∙ (λ j. (a j || begun P u) && not (b j || committed P u) && not (c j || aborted P u)) ∙ sym (unfinished_is P u)
 
 pub aborted_same : (e : Event) (P : List Event) (u : ℕ) → is_gone u e ≡ false → aborted (e ∷ P) u ≡ aborted P u
 aborted_same e P u h = aborted-cons e P u ∙ ap (λ (b : Bool). b || aborted P u) h

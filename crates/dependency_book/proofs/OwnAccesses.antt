@@ -4,6 +4,7 @@ use Rattle.std.specs.List.{list_any, count_by}
 use Rattle.teb_names.specs.declared.Txn.{Txn}
 use Rattle.teb_names.specs.declared.Cell.{Cell}
 use Rattle.teb_names.specs.Cells.{same_cell}
+use Rattle.teb_names.proofs.Bools.{or_false}
 use Rattle.teb_history.specs.declared.Event.{Event}
 use Rattle.teb_history.specs.declared.Event.TheVariants.{Began, Got, Put, Ready, Done, Gone, Told}
 use Rattle.teb_history.specs.Accesses.{is_put, put_at, wrote}
@@ -45,21 +46,13 @@ no_put (Gone t c) f x = refl
 no_put (Told t) f x = refl
 
 any_push : {A : Type 0} (q : A → Bool) (c : Bool) (xs : List A) (a : A) → list_any q (cond c (xs ++ a ∷ []) xs) ≡ (list_any q xs || (c && q a))
-any_push q true [] a = or_back (q a)
-  where
-    or_back : (b : Bool) → (b || false) ≡ b
-    or_back true = refl
-    or_back false = refl
+any_push q true [] a = or_false (q a)
 any_push q true (x ∷ xs) a = ap (λ (b : Bool). q x || b) (any_push q true xs a) ∙ or_assoc (q x) (list_any q xs) (q a)
   where
     or_assoc : (a b c : Bool) → (a || (b || c)) ≡ ((a || b) || c)
     or_assoc true b c = refl
     or_assoc false b c = refl
-any_push q false xs a = or_false (list_any q xs)
-  where
-    or_false : (b : Bool) → b ≡ (b || false)
-    or_false true = refl
-    or_false false = refl
+any_push q false xs a = sym (or_false (list_any q xs))
 
 -- a first Put of the cell m by the transaction e, where h says whether it has put before, and k whether t has
 first_put : (m e h k : Bool) → (e ≡ true → h ≡ k) → (k || ((m && not h) && e)) ≡ ((e && m) || k)

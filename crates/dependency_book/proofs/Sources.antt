@@ -3,6 +3,7 @@ use Rattle.std.proofs.Common.{◌≡◌, ℕ, ◌<◌, ◌≤◌, Bool, true, fa
 use Rattle.std.proofs.lemmas.Bool.Decides.{nat_tests}
 use Rattle.std.proofs.lemmas.Bool.{eqb-true, ne_eqb}
 use Rattle.teb_names.specs.declared.Txn.{Txn}
+use Rattle.teb_names.proofs.Bools.{and_false, eqb_swap}
 use Rattle.teb_history.specs.declared.Event.{Event}
 use Rattle.teb_history.specs.declared.Event.TheVariants.{Began, Got, Put, Ready, Done, Gone, Told}
 use Rattle.teb_history.specs.Phases.{aborted}
@@ -11,9 +12,6 @@ use Rattle.teb_history.specs.Ascending.{AllAbove, IsAscendingBy, put_by}
 use Rattle.teb_history.specs.Live.{number_of}
 use Rattle.teb_history.proofs.AscendingLists.{ascending-put}
 use Rattle.dependency_book.specs.Dependencies.{has, all_sources, sources}
-
-eqb_back : (m n : ℕ) → eqb m n ≡ eqb n m
-eqb_back m n = grind (arith, nat_tests)
 
 has-put : (w v : Txn) (ts : List Txn) → has w (put_by number_of v ts) ≡ (eqb v.0 w.0 || has w ts)
 has-put w v [] = refl
@@ -37,11 +35,7 @@ has-put w v (x ∷ xs) = go (ltb x.0 v.0) (eqb x.0 v.0) refl (has-put w v xs)
 -- w is among the sources of t exactly where t read from it and it is no starting row
 pub has_source : (H : List Event) (t w : Txn) → has w (all_sources H t) ≡ (ltb 0 w.0 && read_from H t.0 w.0)
 unfolding all_sources read_from
-has_source [] t w = none (ltb 0 w.0)
-  where
-    none : (b : Bool) → false ≡ (b && false)
-    none true = refl
-    none false = refl
+has_source [] t w = sym (and_false (ltb 0 w.0))
 has_source (Got s y v x ∷ P) t w = ap (λ (ts : List Txn). has w ts) refl ∙ went (eqb s.0 t.0 && not (eqb v.0 t.0) && ltb 0 v.0) ∙ ap (λ (o : Bool). (eqb s.0 t.0 && not (eqb v.0 t.0) && ltb 0 v.0) && eqb v.0 w.0 || o) (has_source P t w) ∙ same (eqb v.0 w.0) refl (eqb s.0 t.0) (read_from P t.0 w.0)
   where
     went : (c : Bool) → has w (cond c (put_by number_of v (all_sources P t)) (all_sources P t)) ≡ (c && eqb v.0 w.0 || has w (all_sources P t))
@@ -51,7 +45,7 @@ has_source (Got s y v x ∷ P) t w = ap (λ (ts : List Txn). has w ts) refl ∙ 
     same : (e : Bool) → eqb v.0 w.0 ≡ e → (a r : Bool) → ((a && not (eqb v.0 t.0) && ltb 0 v.0) && e || (ltb 0 w.0 && r)) ≡ (ltb 0 w.0 && ((a && e && not (eqb t.0 w.0)) || r))
     same true h a r =
         let n = eqb-true v.0 w.0 h in
-        ap (λ (k : ℕ). (a && not (eqb k t.0) && ltb 0 k) && true || (ltb 0 w.0 && r)) n ∙ ap (λ (o : Bool). (a && not o && ltb 0 w.0) && true || (ltb 0 w.0 && r)) (eqb_back w.0 t.0) ∙ tests a (eqb t.0 w.0) (ltb 0 w.0) r
+        ap (λ (k : ℕ). (a && not (eqb k t.0) && ltb 0 k) && true || (ltb 0 w.0 && r)) n ∙ ap (λ (o : Bool). (a && not o && ltb 0 w.0) && true || (ltb 0 w.0 && r)) (eqb_swap w.0 t.0) ∙ tests a (eqb t.0 w.0) (ltb 0 w.0) r
       where
         tests : (a o p r : Bool) → ((a && not o && p) && true || (p && r)) ≡ (p && ((a && true && not o) || r))
         tests true true true r = refl
