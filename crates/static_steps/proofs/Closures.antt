@@ -1,9 +1,10 @@
 -- The closure of arrows, in rows.
-use Rattle.std.proofs.Common.{◌≡◌, ℕ, zero, suc, ◌+◌, ◌<◌, ◌≤◌, Bool, true, false, ◌&&◌, ◌||◌, List, length, get_or, ◌≢◌, set, refl, ◌∙◌, inl, inr, arith, get_or-set_same, get_or-set_other}
+use Rattle.std.proofs.Common.{◌≡◌, ℕ, zero, suc, ◌+◌, ◌<◌, ◌≤◌, Bool, true, false, ◌&&◌, ◌||◌, List, length, get_or, ◌≢◌, set, refl, sym, ◌∙◌, inl, inr, arith, get_or-set_same, get_or-set_other}
 use Rattle.std.proofs.lemmas.Bool.{cases_eq, cases_lt}
 use Rattle.teb_rules.specs.Steps.{arrow, reaches}
+use Rattle.teb_names.proofs.Bools.{or_false}
 use Rattle.static_steps.specs.Squares.{is_in, leads_in, closure}
-use Rattle.static_steps.proofs.Square.{no_row, or_nothing}
+use Rattle.static_steps.proofs.Square.{no_row}
 
 -- a row, closed through one table
 abbrev pub through_row : List ℕ → ℕ → ℕ → ℕ → Bool
@@ -38,7 +39,7 @@ row_kept old rows i m f g has_not = (
     | inl e ↦ (
         let same : get_or rows a 0 ≡ get_or old a 0 = g a (omega arith) in
         let miss : is_in (get_or old a 0) m ≡ false = rw same at (rw (← e) at has_not) in
-        rw (same, miss) (or_nothing (is_in (get_or old a 0) b)))
+        rw (same, miss) (sym (or_false (is_in (get_or old a 0) b))))
     | inr ne ↦ f a b (omega arith)
   ]),
   (λ a le. g a (omega arith)),

@@ -5,4 +5,3 @@ pub mod AddedArrows
 pub mod Closures
 pub mod LongestChains
 pub mod TableRanks
-pub mod Under

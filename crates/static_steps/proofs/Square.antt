@@ -4,6 +4,7 @@ use Rattle.std.proofs.lemmas.Bool.{cases_eq}
 use Rattle.std.proofs.lemmas.List.{get_or_past}
 use Rattle.static_steps.specs.Squares.{is_in, leads_in}
 use Rattle.static_steps.proofs.Bits.{none_in}
+use Rattle.teb_names.proofs.Bools.{or_false}
 
 -- past the last row
 pub no_row : (rows : List ℕ) (a b : ℕ) → length rows ≤ a → leads_in rows a b ≡ false
@@ -17,14 +18,10 @@ or_both false true true false = refl
 or_both false true false false = refl
 or_both false false m i = refl
 
-pub or_nothing : (x : Bool) → x ≡ (x || false)
-or_nothing true = refl
-or_nothing false = refl
-
 -- one row more has a set
 pub row_joined : (rows : List ℕ) (t r later : ℕ) → t < length rows → ((b : ℕ) → is_in r b ≡ (is_in (get_or rows t 0) b || is_in later b)) → (a b : ℕ) → leads_in (set rows t r) a b ≡ (leads_in rows a b || (eqb t a && is_in later b))
 unfolding leads_in
 row_joined rows t r later h f a b = elim (cases_eq t a) [
   | inl e ↦ (let s = get_or-set_same rows t r 0 h in rw (eq-eqb t a e, ← e, s) (f b))
-  | inr e ↦ (let s = get_or-set_other rows t a r 0 (λ q. e (sym q)) in rw (ne_eqb t a e, s) (or_nothing (is_in (get_or rows a 0) b)))
+  | inr e ↦ (let s = get_or-set_other rows t a r 0 (λ q. e (sym q)) in rw (ne_eqb t a e, s) (sym (or_false (is_in (get_or rows a 0) b))))
 ]

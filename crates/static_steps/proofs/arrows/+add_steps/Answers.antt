@@ -1,10 +1,10 @@
-use Rattle.std.proofs.Common.{arith}
+use Rattle.std.proofs.Common.{sym, arith}
 use Rattle.std.proofs.lemmas.List.{drop_all}
+use Rattle.teb_names.proofs.Bools.{or_false}
 use Rattle.teb_rules.specs.Steps.{leads}
 use Rattle.txn_profile.specs.Steps.{numbers_of}
 use Rattle.static_steps.proofs.AddedArrows.{step_added}
 use Rattle.static_steps.proofs.Bits.{none_in}
-use Rattle.static_steps.proofs.Square.{or_nothing}
 use Rattle.static_steps.proofs.arrows.+add_steps.Goals as goal
 
 pub returns-then-from-len-clause-later : goal.returns-then-from-len-clause-later
@@ -12,7 +12,7 @@ returns-then-from-len-clause-later t c = λ b. rw (drop_all c.args.from c.args.p
 
 pub returns-then-from-len-clause-rows : goal.returns-then-from-len-clause-rows
 unfolding leads
-returns-then-from-len-clause-rows t c = λ a b. rw (drop_all c.args.from c.args.profile.now (omega arith)) (or_nothing _)
+returns-then-from-len-clause-rows t c = λ a b. rw (drop_all c.args.from c.args.profile.now (omega arith)) (sym (or_false _))
 
 pub returns-clause-rows : goal.returns-clause-rows
 returns-clause-rows t c =
