@@ -39,9 +39,6 @@ module _ (S : Setup) (H : List Event) (n : ℕ) (e : Event) (i : H ≡ e ∷ dro
   pub writer_begun : (t : Txn) (x : Cell) → ((v : Option ℤ) × (e ≡ Put t x v)) → IsTrue (begun H t.0)
   writer_begun t x q = begun_now t.0 (subst (λ (d : Event). MayNote S (drop 1 H) n d) q.1 m).0
 
-  pub finisher_begun : (t : Txn) → ((e ≡ Done t) ⊎ ((c : Cause) × (e ≡ Gone t c))) → IsTrue (begun H t.0)
-  finisher_begun t o = begun_now t.0 (elim o [ inl q ↦ subst (λ (d : Event). MayNote S (drop 1 H) n d) q m | inr q ↦ subst (λ (d : Event). MayNote S (drop 1 H) n d) q.1 m ])
-
   -- with the book that stands for the history with the event
   registered : (b : Held) → IsOrderly S (drop 1 H) → HoldsOf b S (e ∷ drop 1 H) n → BookStands n b S H
   registered b o h = record { orderly = orderly_now o; holds = subst (λ (G : List Event). HoldsOf b S G n) (sym i) h }

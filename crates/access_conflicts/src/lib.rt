@@ -1,4 +1,4 @@
-//! The register of a node: who holds which cell there. And which of the holders are in the way of an access of it.
+//! The register of a node, which keeps who holds which cell there; and which of the holders are in the way of an access.
 #![tactic(auto)]
 
 ghost use Rattle.std.specs.Prelude.{◌≡◌};

@@ -1,5 +1,6 @@
 use Rattle.std.proofs.Common.{◌≡◌, ℕ, ◌&&◌, ◌||◌, Bool, true, false, eqb, List, inl, inr, sym, ◌∙◌, ap}
 use Rattle.std.proofs.lemmas.Bool.{cases_Bool, eqb-true}
+use Rattle.teb_names.proofs.Bools.{and_false}
 use Rattle.teb_history.specs.declared.Event.{Event}
 use Rattle.teb_rules.specs.Setup.{Setup}
 use Rattle.teb_rules.specs.Tree.{meets, side}
@@ -13,10 +14,6 @@ apart S H n t u e = elim (cases_Bool (meets S H n t u)) [
   | inl m ↦ absurd ((meets_parts S H n t u m).2 (ap (λ (k : ℕ). side S H n k) (sym (eqb-true u t e))))
   | inr m ↦ m
 ]
-
-and_false : (b : Bool) → (b && false) ≡ false
-and_false true = λ j. false
-and_false false = λ j. false
 
 pub returns-then-eq : goal.returns-then-eq
 returns-then-eq c =
