@@ -3,6 +3,7 @@ use Rattle.std.proofs.Common.{◌≡◌, ◌<◌, ℕ, zero, suc, Bool, true, fa
 use Rattle.std.proofs.lemmas.Bool.{and_parts, cases_lt, ltb-true, le-ltb, eq-eqb, or_left, or_right}
 use Rattle.teb_names.specs.declared.Node.{Node}
 use Rattle.teb_names.specs.declared.Txn.{Txn}
+use Rattle.teb_names.proofs.Bools.{and_true, and_false}
 use Rattle.teb_history.specs.declared.Event.{Event}
 use Rattle.teb_history.specs.Phases.{txns, begun_count, unfinished, spot_of, begun, began_at}
 use Rattle.teb_history.specs.Accesses.{read_from}
@@ -55,6 +56,13 @@ module _ (S : Setup) (H : List Event) (n : ℕ) (t : Txn) (orderly : Orderly H) 
   abbrev Meets : ℕ → Bool
   Meets u = unfinished H u && meets S H n t.0 u
 
+  unmet : (v : ℕ) → (read_from H t.0 v ≡ true → (unfinished H v && meets S H n t.0 v) ≡ false) → (unfinished H v && meets S H n t.0 v && read_from H t.0 v) ≡ false
+  unmet v f = go (read_from H t.0 v) f
+    where
+      go : (r : Bool) → (r ≡ true → (unfinished H v && meets S H n t.0 v) ≡ false) → (unfinished H v && meets S H n t.0 v && r) ≡ false
+      go true f = and_true (unfinished H v && meets S H n t.0 v) ∙ f refl
+      go false f = and_false (unfinished H v && meets S H n t.0 v)
+
   source_find : (o : Option Txn) → find (λ w. unfinished H w.0 && meets S H n t.0 w.0) (all_sources H t) ≡ o → find (λ u. unfinished H u && meets S H n t.0 u && read_from H t.0 u) (txns H) ≡ number o
   unfolding number txns
   source_find (Some w) h =
@@ -63,37 +71,7 @@ module _ (S : Setup) (H : List Event) (n : ℕ) (t : Txn) (orderly : Orderly H) 
       let un = (and_parts (unfinished H w.0) (meets S H n t.0 w.0) least.passes).0 in
       numbers_find Waits (begun_count H) w.0 (ltb-true 0 w.0 read.0) ((known H w.0 orderly).begins (unfinished_parts H w.0 un).0) ((λ j. least.passes j && read.1 j))
       (λ v p lt. unmet v (λ r. least.lower (record { 0 = v }) lt (has_source H t (record { 0 = v }) ∙ (λ j. lt-ltb 0 v p j && r j))))
-    where
-      unmet : (v : ℕ) → (read_from H t.0 v ≡ true → (unfinished H v && meets S H n t.0 v) ≡ false) → (unfinished H v && meets S H n t.0 v && read_from H t.0 v) ≡ false
-      unmet v f = go (read_from H t.0 v) f
-        where
-          off : (o : Bool) → (o && false) ≡ false
-          off true = refl
-          off false = refl
-
-          on_true : (o : Bool) → (o && true) ≡ o
-          on_true true = refl
-          on_true false = refl
-
-          go : (r : Bool) → (r ≡ true → (unfinished H v && meets S H n t.0 v) ≡ false) → (unfinished H v && meets S H n t.0 v && r) ≡ false
-          go true f = on_true (unfinished H v && meets S H n t.0 v) ∙ f refl
-          go false f = off (unfinished H v && meets S H n t.0 v)
   source_find None h = none_below Waits (suc (begun_count H)) (begun_count H) (omega arith) (λ v p lt. unmet v (λ r. find_absent Meets (all_sources H t) h (record { 0 = v }) (has_source H t (record { 0 = v }) ∙ (λ j. lt-ltb 0 v p j && r j))))
-    where
-      unmet : (v : ℕ) → (read_from H t.0 v ≡ true → (unfinished H v && meets S H n t.0 v) ≡ false) → (unfinished H v && meets S H n t.0 v && read_from H t.0 v) ≡ false
-      unmet v f = go (read_from H t.0 v) f
-        where
-          off : (o : Bool) → (o && false) ≡ false
-          off true = refl
-          off false = refl
-
-          on_true : (o : Bool) → (o && true) ≡ o
-          on_true true = refl
-          on_true false = refl
-
-          go : (r : Bool) → (r ≡ true → (unfinished H v && meets S H n t.0 v) ≡ false) → (unfinished H v && meets S H n t.0 v && r) ≡ false
-          go true f = on_true (unfinished H v && meets S H n t.0 v) ∙ f refl
-          go false f = off (unfinished H v && meets S H n t.0 v)
 
   pub commit_waits : (sources : List Txn) → sources ≡ all_sources H t → (g : ℕ → Bool) → first_wait (wait_for (find g (txns H))) (find (λ w. unfinished H w.0 && meets S H n t.0 w.0) sources) ≡ wait_for (find (λ u. g u || (unfinished H u && meets S H n t.0 u && read_from H t.0 u)) (txns H))
   unfolding txns
