@@ -3,6 +3,7 @@ use Rattle.std.proofs.Common.{◌≡◌, ℕ, suc, ◌<◌, ◌≤◌, Bool, tru
 use Rattle.std.proofs.lemmas.Bool.{cases_Bool, both_ways, and_parts, eqb-true, eq-eqb, ne_eqb}
 use Rattle.teb_names.specs.declared.Txn.{Txn}
 use Rattle.teb_names.specs.declared.Cell.{Cell}
+use Rattle.teb_names.proofs.Bools.{or_true, or_false}
 use Rattle.teb_history.specs.declared.Event.{Event}
 use Rattle.teb_history.specs.Phases.{unfinished, txns}
 use Rattle.teb_history.specs.Ascending.{AllAbove, IsAscendingBy, put_by}
@@ -30,34 +31,18 @@ made_ascend (u ∷ us) h = (made_above u us h.0, made_ascend us h.1)
 pub before_ascends : (S : Setup) (H : List Event) (n t : ℕ) → IsAscendingBy number_of (before_in S H n t)
 before_ascends S H n t = made_ascend (filter (is_ahead S H n t) (txns H)) (ascending-filter number (is_ahead S H n t) (txns H) (txns_ascending H))
 
--- tests that agree on a list, and what no one passes
+-- tests that agree on a list
 filter_agree : (p q : ℕ → Bool) (us : List ℕ) → ((u : ℕ) → In u us → q u ≡ p u) → filter q us ≡ filter p us
 filter_agree p q [] f = refl
 filter_agree p q (u ∷ us) f = λ j. cond (f u (inl refl) j) (u ∷ filter_agree p q us (λ v i. f v (inr i)) j) (filter_agree p q us (λ v i. f v (inr i)) j)
-
-pub filter_none : (us : List ℕ) → filter (λ u. false) us ≡ []
-filter_none [] = refl
-filter_none (u ∷ us) = filter_none us
 
 -- one more that passes
 put_front : (v : ℕ) (us : List ℕ) → AllAbove number v us → put_by number_of (numbered v) (map numbered us) ≡ numbered v ∷ map numbered us
 put_front v [] h = refl
 put_front v (u ∷ us) h = rw (le-ltb u v (let l : v < u = h.0 in omega arith), ne_eqb u v (λ e. let l : v < u = h.0 in omega arith)) refl
 
-or_true : (b : Bool) → (b || true) ≡ true
-or_true true = refl
-or_true false = refl
-
-pub and_none : (b : Bool) → (b && false) ≡ false
-and_none true = refl
-and_none false = refl
-
-or_false : (b : Bool) → b ≡ (b || false)
-or_false true = refl
-or_false false = refl
-
 none_equal : (q : ℕ → Bool) (v : ℕ) (us : List ℕ) → AllAbove number v us → filter (λ u. q u || eqb v u) us ≡ filter q us
-none_equal q v us h = filter_agree q (λ u. q u || eqb v u) us (λ u i. ap (λ (b : Bool). q u || b) (ne_eqb v u (λ e. let l = above_in v u us h i in omega arith)) ∙ sym (or_false (q u)))
+none_equal q v us h = filter_agree q (λ u. q u || eqb v u) us (λ u i. ap (λ (b : Bool). q u || b) (ne_eqb v u (λ e. let l = above_in v u us h i in omega arith)) ∙ or_false (q u))
 
 put_among : (v : ℕ) (q : ℕ → Bool) (us : List ℕ) → IsAscendingBy number us → In v us → put_by number_of (numbered v) (map numbered (filter q us)) ≡ map numbered (filter (λ u. q u || eqb v u) us)
 put_among v q [] a i = absurd i
@@ -109,7 +94,7 @@ module _ (S : Setup) (H : List Event) (n t : ℕ) (x : Cell) (write : Bool) wher
 
   joined_among : (all us : List ℕ) → IsAscendingBy number all → ((u : ℕ) → In u us → In u all) → (q : ℕ → Bool)
       → joined (in_the_way S H n t write) (map (hold_of H x) (filter (holds S H n x) us)) (map numbered (filter q all)) ≡ map numbered (filter (λ u. q u || (among u us && blocks S H n t x write u)) all)
-  joined_among all [] a i q = λ j. map numbered (filter (λ u. or_false (q u) j) all)
+  joined_among all [] a i q = λ j. map numbered (filter (λ u. sym (or_false (q u)) j) all)
   joined_among all (v ∷ us) a i q = go (joined_among all us a (λ u j. i u (inr j))) (holds S H n x v) refl (blocks S H n t x write v) refl
     where
       skipped : ((q : ℕ → Bool) → Joined all (map (hold_of H x) (filter (holds S H n x) us)) (map numbered (filter q all)) (λ u. q u || (among u us && blocks S H n t x write u))) → blocks S H n t x write v ≡ false

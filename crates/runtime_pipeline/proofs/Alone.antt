@@ -3,6 +3,7 @@ use Rattle.std.proofs.Common.{◌≡◌, ℕ, suc, Bool, true, false, cond, ◌|
 use Rattle.std.specs.Prelude.{All}
 use Rattle.std.proofs.lemmas.Bool.{cases_Bool}
 use Rattle.teb_names.specs.declared.Txn.{Txn}
+use Rattle.teb_names.proofs.Bools.{and_false}
 use Rattle.teb_history.specs.Ascending.{put_by}
 use Rattle.teb_history.specs.Live.{number_of}
 use Rattle.teb_history.specs.declared.Event.{Event}
@@ -20,10 +21,6 @@ module _ (S : Setup) (H : List Event) (n t : ℕ) (write : Bool) where
     | inl m ↦ absurd ((meets_parts S H n t u m).2 (ap (λ (k : ℕ). side S H n k) (sym e)))
     | inr m ↦ m
   ]
-
-  and_false : (b : Bool) → (b && false) ≡ false
-  and_false true = refl
-  and_false false = refl
 
   -- its own hold is not in its way
   own_hold_off : (h : Hold) → h.txn.0 ≡ t → in_the_way S H n t write h ≡ false

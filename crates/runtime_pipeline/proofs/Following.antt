@@ -7,6 +7,7 @@ use Rattle.teb_names.specs.declared.Kind.{Kind}
 use Rattle.teb_names.specs.declared.Cause.{Cause}
 use Rattle.teb_names.specs.declared.Cell.{Cell}
 use Rattle.teb_names.specs.Cells.{same_cell}
+use Rattle.teb_names.proofs.Bools.{and_true, and_false, or_true, or_swap}
 use Rattle.teb_history.specs.declared.Event.{Event}
 use Rattle.teb_history.specs.declared.Event.TheVariants.{Began, Got, Put, Ready, Done, Gone, Told}
 use Rattle.teb_history.specs.Phases.{is_began, is_done, is_gone, done_at, gone_at, begun, committed, aborted, unfinished, begun_count, numbers, txns, spot_of}
@@ -23,6 +24,7 @@ use Rattle.teb_laws.proofs.Locks.{In-numbers}
 use Rattle.teb_laws.proofs.Serial.{numbers-In}
 use Rattle.teb_laws.proofs.Holding.{unfinished_same}
 use Rattle.teb_laws.proofs.Nodes.{meets_parts}
+use Rattle.teb_laws.proofs.Cascades.{no_members}
 use Rattle.phase_api.specs.FactsView.{IsOrderly}
 use Rattle.phase_api.specs.Calls.{MayNote}
 use Rattle.hold_book.specs.Holders.{holds_in}
@@ -33,7 +35,7 @@ use Rattle.dependency_book.proofs.MultimapEdits.{one_txn}
 use Rattle.runtime_pipeline.specs.Predecessors.{Kept, numbered, is_ahead, before_in, unfinished_in, list_of, joined, without, EndsFollow, PredecessorsOf}
 use Rattle.runtime_pipeline.proofs.Noting.{wrote_before, got_before, no_put, no_got, other}
 use Rattle.runtime_pipeline.proofs.ListEdits.{without_less}
-use Rattle.runtime_pipeline.proofs.Aheads.{before_ascends, few_holders, joined_all, filter_without, filter_none, and_none}
+use Rattle.runtime_pipeline.proofs.Aheads.{before_ascends, few_holders, joined_all, filter_without}
 
 off : (a b : Bool) → (a || b) ≡ false → (a ≡ false) × (b ≡ false)
 off false b h = (refl, h)
@@ -127,12 +129,6 @@ unfolding begun_count meets on side spot_of earlier
 noted_told S P n t k was = noted_inert S P n (Told t) refl (λ u. unfinished_same (Told t) P u refl refl refl) (λ v u. refl) k (none_ends (Told t) P (λ u. refl) (λ u. refl) was.ends) (λ u v. refl) was
 
 -- accesses
-swap : (a b : Bool) → (a || b) ≡ (b || a)
-swap true true = refl
-swap true false = refl
-swap false true = refl
-swap false false = refl
-
 got_ahead : (a m ea w : Bool) → ((a && m && ea) || (a && m && (w || false))) ≡ (a && m && (w || ea))
 got_ahead false m ea w = refl
 got_ahead true false ea w = refl
@@ -145,7 +141,7 @@ put_ahead : (a m ea c w g : Bool) → (m ≡ true → c ≡ false) → ((a && m 
 put_ahead false m ea c w g h = refl
 put_ahead true false ea c w g h = refl
 put_ahead true true ea true w g h = absurd (let z = h refl in cc)
-put_ahead true true ea false w g h = swap ea (w || g)
+put_ahead true true ea false w g h = or_swap ea (w || g)
 
 module _ (S : Setup) (P : List Event) (n : ℕ) (t : Txn) (x : Cell) where
   apart : (H : List Event) (u : ℕ) → meets S H n t.0 u ≡ true → (eqb t.0 u && same_cell x x) ≡ false
@@ -190,10 +186,6 @@ has_made v p (u ∷ us) h i = elim i [
   | inr j ↦ go (p u) (has_made v p us h j)
 ]
   where
-    or_true : (b : Bool) → (b || true) ≡ true
-    or_true true = refl
-    or_true false = refl
-
     go : (b : Bool) → has v (map numbered (filter p us)) ≡ true → has v (map numbered (cond b (u ∷ filter p us) (filter p us))) ≡ true
     go true ih = ap (λ (b : Bool). eqb u v.0 || b) ih ∙ or_true (eqb u v.0)
     go false ih = ih
@@ -224,10 +216,6 @@ module _ (S : Setup) (P : List Event) (n : ℕ) (e : Event) (t : Txn) (count : b
       (λ j. map numbered (filter (is_ahead S (e ∷ P) n v) (numbers (count j))))
       ∙ filter_without t.0 (is_ahead S P n v) (is_ahead S (e ∷ P) n v) (λ u. (λ j. ended u j && meet v u j && early u v j) ∙ shuffled (unfinished P u) (not (eqb u t.0)) (meets S P n v u) (earlier P u v)) (numbers (begun_count P))
 
-  and_false : (b : Bool) → (b && false) ≡ false
-  and_false true = refl
-  and_false false = refl
-
   noted_end : (k k' : Kept) → IsOrderly S P → EndsFollow (e ∷ P) → unfinished P t.0 ≡ true → k.unfinished ≡ k'.unfinished + 1
       → ((v : Txn) → list_of k' v ≡ cond (eqb t.0 v.0) [] (without t.0 (list_of k v)))
       → PredecessorsOf k S P n → PredecessorsOf k' S (e ∷ P) n
@@ -249,10 +237,6 @@ module _ (S : Setup) (P : List Event) (n : ℕ) (e : Event) (t : Txn) (count : b
 
       off_t : (v : Txn) → eqb t.0 v.0 ≡ false → unfinished (e ∷ P) v.0 ≡ unfinished P v.0
       off_t v h = ended v.0 ∙ ap (λ (b : Bool). unfinished P v.0 && not b) (ne_eqb v.0 t.0 (λ q. both_ways _ h (eq-eqb t.0 v.0 (sym q)))) ∙ and_true (unfinished P v.0)
-        where
-          and_true : (b : Bool) → (b && true) ≡ b
-          and_true true = refl
-          and_true false = refl
 
       other_than_t : (v : Txn) → eqb t.0 v.0 ≡ false → (b : Bool) → unfinished P v.0 ≡ b → without t.0 (list_of k v) ≡ cond (unfinished (e ∷ P) v.0) (before_in S (e ∷ P) n v.0) []
       other_than_t v h true g =
@@ -284,12 +268,8 @@ module _ (S : Setup) (P : List Event) (n : ℕ) (t : Txn) (o : IsOrderly S P) (o
       ended : (u : ℕ) (b : Bool) → eqb t.0 u ≡ b → unfinished (Done t ∷ P) u ≡ (unfinished P u && not (eqb u t.0))
       ended u true h =
           unfinished-cons (Done t) P u ∙ ap (λ (b : Bool). begun P u && not (b || committed P u) && not (aborted P u)) h ∙ ended_by (begun P u) (committed P u) (not (aborted P u))
-          ∙ sym (ap (λ (b : Bool). unfinished P u && not b) (eq-eqb u t.0 (sym (eqb-true t.0 u h))) ∙ and_none (unfinished P u))
+          ∙ sym (ap (λ (b : Bool). unfinished P u && not b) (eq-eqb u t.0 (sym (eqb-true t.0 u h))) ∙ and_false (unfinished P u))
       ended u false h = unfinished_same (Done t) P u refl h refl ∙ sym (ap (λ (b : Bool). unfinished P u && not b) (ne_eqb u t.0 (λ q. both_ways _ h (eq-eqb t.0 u (sym q)))) ∙ and_true (unfinished P u))
-        where
-          and_true : (b : Bool) → (b && true) ≡ b
-          and_true true = refl
-          and_true false = refl
 
   pub noted_gone : (c : Cause) → PredecessorsOf k' S (Gone t c ∷ P) n
   unfolding begun_count meets on side spot_of earlier
@@ -298,12 +278,8 @@ module _ (S : Setup) (P : List Event) (n : ℕ) (t : Txn) (o : IsOrderly S P) (o
       ended : (u : ℕ) (b : Bool) → eqb t.0 u ≡ b → unfinished (Gone t c ∷ P) u ≡ (unfinished P u && not (eqb u t.0))
       ended u true h =
           unfinished-cons (Gone t c) P u ∙ ap (λ (b : Bool). begun P u && not (committed P u) && not (b || aborted P u)) h ∙ aborted_by (begun P u) (not (committed P u)) (aborted P u)
-          ∙ sym (ap (λ (b : Bool). unfinished P u && not b) (eq-eqb u t.0 (sym (eqb-true t.0 u h))) ∙ and_none (unfinished P u))
+          ∙ sym (ap (λ (b : Bool). unfinished P u && not b) (eq-eqb u t.0 (sym (eqb-true t.0 u h))) ∙ and_false (unfinished P u))
       ended u false h = unfinished_same (Gone t c) P u refl refl h ∙ sym (ap (λ (b : Bool). unfinished P u && not b) (ne_eqb u t.0 (λ q. both_ways _ h (eq-eqb t.0 u (sym q)))) ∙ and_true (unfinished P u))
-        where
-          and_true : (b : Bool) → (b && true) ≡ b
-          and_true true = refl
-          and_true false = refl
 
 -- whoever has accessed nothing is earlier than nobody, and nobody is earlier
 earlier_none : (P : List Event) (t u : ℕ) → ((x : Cell) → wrote P t x ≡ false) → ((x : Cell) → got P t x ≡ false) → earlier P t u ≡ false
@@ -311,11 +287,11 @@ unfolding earlier
 earlier_none [] t u w g = refl
 earlier_none (Got s x v z ∷ P) t u w g =
     let pw = wrote_before (Got s x v z) P t w in
-    ap (λ (b : Bool). (eqb s.0 u && b) || earlier P t u) (pw x) ∙ ap (λ (b : Bool). b || earlier P t u) (and_none (eqb s.0 u)) ∙ earlier_none P t u pw (got_before (Got s x v z) P t g)
+    ap (λ (b : Bool). (eqb s.0 u && b) || earlier P t u) (pw x) ∙ ap (λ (b : Bool). b || earlier P t u) (and_false (eqb s.0 u)) ∙ earlier_none P t u pw (got_before (Got s x v z) P t g)
 earlier_none (Put s x v ∷ P) t u w g =
     let pw = wrote_before (Put s x v) P t w in
     let pg = got_before (Put s x v) P t g in
-    (λ j. (eqb s.0 u && (pw x j || pg x j)) || earlier P t u) ∙ ap (λ (b : Bool). b || earlier P t u) (and_none (eqb s.0 u)) ∙ earlier_none P t u pw pg
+    (λ j. (eqb s.0 u && (pw x j || pg x j)) || earlier P t u) ∙ ap (λ (b : Bool). b || earlier P t u) (and_false (eqb s.0 u)) ∙ earlier_none P t u pw pg
 earlier_none (Began s a k i ∷ P) t u w g = earlier_none P t u (wrote_before (Began s a k i) P t w) (got_before (Began s a k i) P t g)
 earlier_none (Ready s ∷ P) t u w g = earlier_none P t u (wrote_before (Ready s) P t w) (got_before (Ready s) P t g)
 earlier_none (Done s ∷ P) t u w g = earlier_none P t u (wrote_before (Done s) P t w) (got_before (Done s) P t g)
@@ -395,7 +371,7 @@ module _ (S : Setup) (P : List Event) (n : ℕ) (t : Txn) (s : Session) (l : Kin
   before_others v h =
       last_out (is_ahead S (Began t s l i ∷ P) n v) (is_ahead S P n v) (suc (begun_count P))
       (ap (λ (b : Bool). unfinished (Began t s l i ∷ P) (suc (begun_count P)) && meets S (Began t s l i ∷ P) n v (suc (begun_count P)) && b) (ap (λ (m : ℕ). earlier P m v) (sym new) ∙ earlier_none P t.0 v (λ x. (none x).0) (λ x. (none x).1))
-      ∙ and_none (unfinished (Began t s l i ∷ P) (suc (begun_count P)) && meets S (Began t s l i ∷ P) n v (suc (begun_count P))))
+      ∙ and_false (unfinished (Began t s l i ∷ P) (suc (begun_count P)) && meets S (Began t s l i ∷ P) n v (suc (begun_count P))))
       (numbers (begun_count P))
       (λ u j. let f = old_number u j in (λ k. open_old u f k && same_meets v u h f k && earlier P u v))
 
@@ -403,8 +379,8 @@ module _ (S : Setup) (P : List Event) (n : ℕ) (t : Txn) (s : Session) (l : Kin
   unfolding earlier
   before_new =
       (λ j. map numbered (filter (λ u. unfinished (Began t s l i ∷ P) u && meets S (Began t s l i ∷ P) n t.0 u && none_earlier P u t.0 (λ x. (none x).0) (λ x. (none x).1) j) (txns (Began t s l i ∷ P))))
-      ∙ (λ j. map numbered (filter (λ u. and_none (unfinished (Began t s l i ∷ P) u && meets S (Began t s l i ∷ P) n t.0 u) j) (txns (Began t s l i ∷ P))))
-      ∙ ap (map numbered) (filter_none (txns (Began t s l i ∷ P)))
+      ∙ (λ j. map numbered (filter (λ u. and_false (unfinished (Began t s l i ∷ P) u && meets S (Began t s l i ∷ P) n t.0 u) j) (txns (Began t s l i ∷ P))))
+      ∙ ap (map numbered) (no_members (txns (Began t s l i ∷ P)))
 
   pub noted_began : (k k' : Kept) → k'.lists ≡ k.lists → k'.unfinished ≡ k.unfinished + 1 → PredecessorsOf k S P n → PredecessorsOf k' S (Began t s l i ∷ P) n
   noted_began k k' same more was = record {

@@ -1,5 +1,5 @@
 -- What edits make of the lists that are kept by transaction.
-use Rattle.std.proofs.Common.{◌≡◌, ℕ, zero, suc, ◌+◌, ◌<◌, ◌≤◌, Bool, true, false, cond, not, ◌||◌, eqb, List, [], ◌∷◌, length, drop, get_or, refl, sym, ◌∙◌, ap, subst, arith, IsFalse}
+use Rattle.std.proofs.Common.{◌≡◌, ℕ, suc, ◌+◌, ◌<◌, ◌≤◌, Bool, true, false, cond, not, ◌||◌, eqb, List, [], ◌∷◌, length, drop, get_or, refl, sym, ◌∙◌, ap, subst, arith, IsFalse}
 use Rattle.std.proofs.lemmas.Bool.{both_ways, eqb-true, eq-eqb, ne_eqb}
 use Rattle.std.proofs.lemmas.List.Filters.{length-filter_both}
 use Rattle.std.proofs.lemmas.Map.Views.{any-filter_same}
@@ -72,17 +72,8 @@ pub record IsPutting (p : Hold → Bool) (t : Txn) (hs rest : List Hold) (i : �
   pub none : IsFalse some → (v : Txn) → values_in txn_cmp b v ≡ values_in txn_cmp a v
   pub spare : a.spare ≤ b.spare + i
 
-drop_end : {A : Type 0} (xs : List A) (i : ℕ) → length xs ≤ i → drop i xs ≡ []
-drop_end [] zero l = refl
-drop_end [] (suc i) l = refl
-drop_end (x ∷ xs) zero l = absurd (omega arith)
-drop_end (x ∷ xs) (suc i) l = drop_end xs i (omega arith)
-
 -- the list of one more
 module _ (t : ℕ) (us : List Txn) where
-  pub taking_first : (a : Shown Txn Txn) → ((v : Txn) → IsAscendingBy number_of (values_in txn_cmp a v)) → IsTaking t us us a a
-  taking_first a asc = record { values = λ v. refl; ascending = asc; spare = refl }
-
   one_more : (o r : Bool) (xs : List Txn) → cond r (without t (cond o (without t xs) xs)) (cond o (without t xs) xs) ≡ cond (o || r) (without t xs) xs
   one_more true true xs = without_twice t xs
   one_more true false xs = refl
@@ -106,14 +97,8 @@ module _ (t : ℕ) (us : List Txn) where
         spare = spare ∙ was.spare;
       }
 
-  pub taking_all : (a b : Shown Txn Txn) (i : ℕ) → length us ≤ i → IsTaking t us (drop i us) a b → (v : Txn) → values_in txn_cmp b v ≡ cond (has v us) (without t (values_in txn_cmp a v)) (values_in txn_cmp a v)
-  taking_all a b i l was v = sym (ap (λ (ts : List Txn). cond (has v ts) (without t (values_in txn_cmp b v)) (values_in txn_cmp b v)) (drop_end us i l)) ∙ was.values v
-
 -- one more holder
 module _ (p : Hold → Bool) (t : Txn) (hs : List Hold) where
-  pub putting_first : (a : Shown Txn Txn) → IsAscendingBy number_of (values_in txn_cmp a t) → IsPutting p t hs hs 0 false a a
-  putting_first a asc = record { values = λ v. refl; ascending = asc; none = λ n v. refl; spare = omega arith }
-
   one_put : (rest : List Hold) (o : Bool) (xs ys : List Txn) → cond o (joined p rest (cond o ys xs)) (cond o ys xs) ≡ cond o (joined p rest ys) xs
   one_put rest true xs ys = refl
   one_put rest false xs ys = refl
@@ -152,6 +137,3 @@ module _ (p : Hold → Bool) (t : Txn) (hs : List Hold) where
   pub putting_none : (a b : Shown Txn Txn) (i : ℕ) (d : Hold) (s : Bool) → i < length hs → IsPutting p t hs (drop i hs) i s a b → p (get_or hs i d) ≡ false → IsPutting p t hs (drop (i + 1) hs) (i + 1) s a b
   putting_none a b i d s l was q = putting_more a b b i d s s l was
       (λ v. same (eqb t.0 v.0) (values_in txn_cmp b v) ∙ sym (ap (λ (o : Bool). cond (eqb t.0 v.0) (cond o (put_by number_of (get_or hs i d).txn (values_in txn_cmp b v)) (values_in txn_cmp b v)) (values_in txn_cmp b v)) q)) was.none (omega arith)
-
-  pub putting_all : (a b : Shown Txn Txn) (i : ℕ) (s : Bool) → length hs ≤ i → IsPutting p t hs (drop i hs) i s a b → (v : Txn) → values_in txn_cmp b v ≡ cond (eqb t.0 v.0) (joined p hs (values_in txn_cmp a v)) (values_in txn_cmp a v)
-  putting_all a b i s l was v = same (eqb t.0 v.0) (values_in txn_cmp b v) ∙ sym (ap (λ (ks : List Hold). cond (eqb t.0 v.0) (joined p ks (values_in txn_cmp b v)) (values_in txn_cmp b v)) (drop_end hs i l)) ∙ was.values v

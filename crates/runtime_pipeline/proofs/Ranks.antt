@@ -1,14 +1,16 @@
 -- The ranks over the profiles under a node are the ranks at the node.
-use Rattle.std.proofs.Common.{◌≡◌, ℕ, zero, suc, ◌<◌, ◌≤◌, Bool, true, false, not, ◌||◌, ◌&&◌, List, [], ◌∷◌, length, filter, map, get_or, refl, sym, ◌∙◌, ap, subst, arith, inl, inr}
+use Rattle.std.proofs.Common.{◌≡◌, ℕ, zero, suc, ◌<◌, ◌≤◌, Bool, false, not, ◌||◌, ◌&&◌, List, [], ◌∷◌, length, filter, map, get_or, refl, sym, ◌∙◌, ap, subst, arith, inl, inr}
 use Rattle.std.specs.List.{list_any, All}
 use Rattle.std.proofs.lemmas.Bool.{cases_lt, ne_eqb}
 use Rattle.std.proofs.Math.ListN.{get_or-eq_default}
 use Rattle.teb_names.specs.declared.Kind.{Kind}
+use Rattle.teb_names.proofs.Bools.{and_false}
 use Rattle.teb_rules.specs.Setup.{Setup, among, above, above_steps, above_profiles, ranked_tables, profile}
 use Rattle.teb_rules.specs.Tree.{below}
 use Rattle.teb_rules.specs.Serializes.{In}
 use Rattle.teb_rules.specs.Steps.{leads, arrow, reaches, greatest, ahead, longest, table_rank, stands_under, profiles_under, rank_of_table}
 use Rattle.teb_laws.proofs.Serial.{filter-In}
+use Rattle.teb_laws.proofs.Cascades.{no_members}
 use Rattle.teb_laws.proofs.TableRanks.{below-In}
 use Rattle.static_steps.specs.Profiles.{profiles_of}
 use Rattle.cc_tree.specs.Grown.{kind_numbers}
@@ -23,14 +25,10 @@ not_in_steps : (ss : List (List ℕ)) (a : ℕ) → above_steps ss ≤ a → lis
 not_in_steps [] a h = refl
 not_in_steps (s ∷ ss) a h = λ j. not_among s a (omega arith) j || not_in_steps ss a (omega arith) j
 
-and_none : (b : Bool) → (b && false) ≡ false
-and_none true = refl
-and_none false = refl
-
 no_leads : (ss : List (List ℕ)) (b a : ℕ) → above_steps ss ≤ a → leads ss b a ≡ false
 unfolding leads
 no_leads [] b a h = refl
-no_leads (s ∷ ss) b a h = (λ j. (among b s && not_in_steps (s ∷ ss) a h j) || no_leads ss b a (omega arith) j) ∙ ap (λ (c : Bool). c || false) (and_none (among b s))
+no_leads (s ∷ ss) b a h = (λ j. (among b s && not_in_steps (s ∷ ss) a h j) || no_leads ss b a (omega arith) j) ∙ ap (λ (c : Bool). c || false) (and_false (among b s))
 
 no_arrow : (ps : List (List (List ℕ))) (b a : ℕ) → above_profiles ps ≤ a → arrow ps b a ≡ false
 unfolding arrow
@@ -40,15 +38,11 @@ no_arrow (p ∷ ps) b a h = λ j. no_leads p b a (omega arith) j || no_arrow ps 
 no_reach : (ps : List (List (List ℕ))) (m b a : ℕ) → above_profiles ps ≤ a → reaches ps m b a ≡ false
 unfolding reaches
 no_reach ps zero b a h = no_arrow ps b a h
-no_reach ps (suc m) b a h = (λ j. no_reach ps m b a h j || (reaches ps m b m && no_reach ps m m a h j)) ∙ and_none (reaches ps m b m)
+no_reach ps (suc m) b a h = (λ j. no_reach ps m b a h j || (reaches ps m b m && no_reach ps m m a h j)) ∙ and_false (reaches ps m b m)
 
 no_ahead : (ps : List (List (List ℕ))) (m a : ℕ) → above_profiles ps ≤ a → ahead ps m a ≡ []
 unfolding ahead
-no_ahead ps m a h = (λ j. filter (λ b. no_reach ps m b a h j && not (reaches ps m a b)) (below m)) ∙ nobody (below m)
-  where
-    nobody : (us : List ℕ) → filter (λ (u : ℕ). false) us ≡ []
-    nobody [] = refl
-    nobody (u ∷ us) = nobody us
+no_ahead ps m a h = (λ j. filter (λ b. no_reach ps m b a h j && not (reaches ps m a b)) (below m)) ∙ no_members (below m)
 
 no_rank : (ps : List (List (List ℕ))) (m d a : ℕ) → above_profiles ps ≤ a → longest ps m d a ≡ 0
 unfolding longest

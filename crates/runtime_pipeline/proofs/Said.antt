@@ -5,9 +5,11 @@ use Rattle.teb_names.specs.declared.Txn.{Txn}
 use Rattle.teb_names.specs.declared.Cell.{Cell}
 use Rattle.teb_names.specs.declared.Spot.{Spot}
 use Rattle.teb_names.specs.declared.ControlKind.TheVariants.{Pipeline}
+use Rattle.teb_names.proofs.Bools.{and_true}
 use Rattle.teb_history.specs.declared.Event.{Event}
 use Rattle.teb_history.specs.Phases.{txns, begun, unfinished, committed, kind_of}
 use Rattle.teb_history.specs.Accesses.{put_at}
+use Rattle.teb_history.proofs.LeastNumbers.{nobody}
 use Rattle.teb_rules.specs.Setup.{Setup}
 use Rattle.teb_rules.specs.Tree.{row, meets}
 use Rattle.teb_rules.specs.Steps.{passed, rank_of_table, rank_of_step, cursor}
@@ -75,10 +77,6 @@ waits : (o : Option ℕ) → wait_for_txn (some_txn o) ≡ wait_for o
 waits None = refl
 waits (Some u) = refl
 
-nobody : (us : List ℕ) → find (λ (u : ℕ). false) us ≡ None
-nobody [] = refl
-nobody (u ∷ us) = nobody us
-
 module _ (S : Setup) (H : List Event) (n : ℕ) (is : (row S.tree n).control ≡ Pipeline) where
   pub pipeline_start : (s : Spot) → Go ≡ on_begin S H s n
   unfolding on_begin
@@ -98,11 +96,7 @@ module _ (S : Setup) (H : List Event) (n : ℕ) (is : (row S.tree n).control ≡
 
   pub pipeline_gate : (t : ℕ) → wait_for_txn (some_txn (find (holds_up S H n t None) (txns H))) ≡ wait_for (find (gate (row S.tree n).control S H n t) (txns H))
   unfolding gate
-  pipeline_gate t = rw is (waits (find (holds_up S H n t None) (txns H)) ∙ (λ j. wait_for (find (λ u. and_all (unfinished H u && meets S H n t u && earlier H u t) j) (txns H))))
-    where
-      and_all : (b : Bool) → (b && true) ≡ b
-      and_all true = refl
-      and_all false = refl
+  pipeline_gate t = rw is (waits (find (holds_up S H n t None) (txns H)) ∙ (λ j. wait_for (find (λ u. and_true (unfinished H u && meets S H n t u && earlier H u t) j) (txns H))))
 
   enters_none : (t : ℕ) (x : Cell) → ltb (rank_of_step S n (kind_of H t) (cursor S H t)) (rank_of_table S n x.table.0) ≡ false → find (entry_blocks S H n t x) (txns H) ≡ None
   unfolding entry_blocks

@@ -2,6 +2,7 @@
 use Rattle.std.proofs.Common.{◌≡◌, ℕ, zero, suc, ◌+◌, Bool, true, false, cond, ◌||◌, eqb, List, [], ◌∷◌, ◌++◌, filter, Option, Some, None, refl, sym, ◌∙◌, ap, arith, append-nil}
 use Rattle.std.specs.List.{list_any}
 use Rattle.teb_names.specs.declared.Kind.{Kind}
+use Rattle.teb_names.proofs.Bools.{or_true, or_false}
 use Rattle.cc_tree.specs.Grown.{kind_numbers}
 use Rattle.teb_rules.specs.Setup.{NodeRow, among}
 use Rattle.teb_rules.specs.Tree.{below, climb, row}
@@ -9,10 +10,6 @@ use Rattle.teb_rules.specs.Tree.{below, climb, row}
 or_assoc : (a b c : Bool) → (a || (b || c)) ≡ ((a || b) || c)
 or_assoc true b c = refl
 or_assoc false b c = refl
-
-or_false : (a : Bool) → (a || false) ≡ a
-or_false true = refl
-or_false false = refl
 
 -- the nodes on the way up, and those that are given
 climb_lower : (T : List NodeRow) (m d n : ℕ) (l : List ℕ) → among m (climb T d n l) ≡ (among m (climb T d n []) || among m l)
@@ -36,10 +33,6 @@ unfolding climb
 climb_here T m zero n e = ap (λ (b : Bool). b || false) e
 climb_here T m (suc d) n e = go (row T n).parent
   where
-    or_true : (b : Bool) → (b || true) ≡ true
-    or_true true = refl
-    or_true false = refl
-
     go : (o : Option ℕ) → among m (elim o as (λ z. List ℕ) [ None ↦ n ∷ [] | Some p ↦ climb T d p (n ∷ []) ]) ≡ true
     go None = ap (λ (b : Bool). b || false) e
     go (Some p) = climb_lower T m d p (n ∷ []) ∙ ap (λ (b : Bool). among m (climb T d p []) || (b || false)) e ∙ or_true (among m (climb T d p []))
