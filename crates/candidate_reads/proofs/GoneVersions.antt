@@ -4,6 +4,7 @@ use Rattle.std.proofs.lemmas.Bool.{both_ways, false_from_ne_true}
 use Rattle.teb_names.specs.declared.Cell.{Cell}
 use Rattle.teb_names.specs.declared.Txn.{Txn}
 use Rattle.teb_names.specs.declared.Cause.{Cause}
+use Rattle.teb_names.proofs.Bools.{and_false}
 use Rattle.teb_history.specs.declared.Event.{Event}
 use Rattle.teb_history.specs.declared.Event.TheVariants.{Gone}
 use Rattle.teb_rules.specs.Setup.{Setup}
@@ -17,11 +18,7 @@ use Rattle.candidate_reads.proofs.OneMore.{version_gone, values_same, order_stay
 use Rattle.candidate_reads.proofs.KeptVersions.{HoldsCell, cell_of, all_cells, have}
 
 among-without : (w t : ℕ) (vs : List Version) → is_writer (without t vs) w ≡ (not (eqb t w) && is_writer vs w)
-among-without w t [] = sym (go (eqb t w))
-  where
-    go : (b : Bool) → (not b && false) ≡ false
-    go true = refl
-    go false = refl
+among-without w t [] = sym (and_false (not (eqb t w)))
 among-without w t (v ∷ vs) = go (eqb v.0.0 t) refl (among-without w t vs)
   where
     same : (a b c : Bool) → (b ≡ true → a ≡ false) → (b || (not a && c)) ≡ (not a && (b || c))

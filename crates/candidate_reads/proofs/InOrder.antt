@@ -1,12 +1,11 @@
 -- Lists of numbers, place by place: what stands at a place, and what is last.
-use Rattle.std.proofs.Common.{◌≡◌, ℕ, zero, suc, ◌<◌, Bool, true, false, cond, ◌||◌, max, eqb, List, [], ◌∷◌, length, get_or, slice_get, find, Option, Some, None, refl, sym, ap, ap₂, subst, ◌∙◌, arith, inl, inr, eqb-true, eq-eqb}
+use Rattle.std.proofs.Common.{◌≡◌, ℕ, zero, suc, ◌<◌, Bool, true, false, cond, eqb, List, [], ◌∷◌, length, get_or, slice_get, find, Option, Some, None, refl, sym, ap, subst, ◌∙◌, arith, inl, inr, eqb-true, eq-eqb}
 use Rattle.std.proofs.lemmas.Bool.{both_ways, false_from_ne_true, or_cases, or_left, or_right}
 use Rattle.std.proofs.lemmas.Option.{slice_get-get_or}
 use Rattle.teb_rules.specs.Serializes.{In, Pairs}
 use Rattle.teb_rules.specs.Setup.{among}
 use Rattle.version_chain.specs.Lists.{first_place, last_place}
 use Rattle.version_chain.proofs.Places.{IsFirst, IsLast, first_place-found, last_place-found}
-use Rattle.candidate_reads.specs.Shown.{later}
 
 pub among_In : (u : ℕ) (us : List ℕ) → among u us ≡ true → In u us
 among_In u [] i = absurd (cc)
@@ -44,32 +43,6 @@ find_only q (u ∷ us) w i h f = go (q u) refl (λ j. find_only q us w j h (λ v
 pub find_nothing : (q : ℕ → Bool) (us : List ℕ) → ((u : ℕ) → In u us → ⊥) → find q us ≡ None
 find_nothing q [] f = refl
 find_nothing q (u ∷ us) f = absurd (f u (inl refl))
-
--- two tests that agree on the elements have one last place
-pub last_same : (p q : ℕ → Bool) (us : List ℕ) → ((u : ℕ) → In u us → p u ≡ q u) → last_place p us ≡ last_place q us
-last_same p q [] f = refl
-last_same p q (u ∷ us) f = ap₂ (λ (o : Option ℕ) (b : Bool). elim o [ None ↦ cond b (Some 0) None | Some i ↦ Some (suc i) ]) (last_same p q us (λ v i. f v (inr i))) (f u (inl refl))
-
-pub last_none : (us : List ℕ) → last_place (λ u. false) us ≡ None
-last_none [] = refl
-last_none (u ∷ us) = ap (λ (o : Option ℕ). elim o [ None ↦ None | Some i ↦ Some (suc i) ]) (last_none us)
-
--- the later of the last places of two tests is that of either
-step_later : (a b : Bool) (o p : Option ℕ) →
-    later (elim o [ None ↦ cond a (Some 0) None | Some i ↦ Some (suc i) ]) (elim p [ None ↦ cond b (Some 0) None | Some i ↦ Some (suc i) ])
-    ≡ elim (later o p) [ None ↦ cond (a || b) (Some 0) None | Some i ↦ Some (suc i) ]
-step_later true true None None = refl
-step_later true false None None = refl
-step_later false b None None = refl
-step_later true b None (Some j) = ap (λ (z : ℕ). Some z) (let e : max 0 (suc j) ≡ suc j = omega arith in e)
-step_later false b None (Some j) = refl
-step_later a true (Some i) None = ap (λ (z : ℕ). Some z) (let e : max (suc i) 0 ≡ suc i = omega arith in e)
-step_later a false (Some i) None = refl
-step_later a b (Some i) (Some j) = ap (λ (z : ℕ). Some z) (let e : max (suc i) (suc j) ≡ suc (max i j) = omega arith in e)
-
-pub later_last : (p q : ℕ → Bool) (us : List ℕ) → later (last_place p us) (last_place q us) ≡ last_place (λ u. p u || q u) us
-later_last p q [] = refl
-later_last p q (u ∷ us) = step_later (p u) (q u) (last_place p us) (last_place q us) ∙ ap (λ (o : Option ℕ). elim o [ None ↦ cond (p u || q u) (Some 0) None | Some i ↦ Some (suc i) ]) (later_last p q us)
 
 -- what a place that was found is
 pub is_last : (p : ℕ → Bool) (us : List ℕ) (o : Option ℕ) → o ≡ last_place p us → IsLast p us o

@@ -1,7 +1,6 @@
 pub mod InOrder
 pub mod Shows
 pub mod Sources
-pub mod Amended
 pub mod Meets
 pub mod Placed
 pub mod OneMore

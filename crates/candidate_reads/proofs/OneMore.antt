@@ -4,13 +4,14 @@ use Rattle.std.proofs.lemmas.Bool.{both_ways}
 use Rattle.teb_names.specs.declared.Cell.{Cell}
 use Rattle.teb_names.specs.declared.Txn.{Txn}
 use Rattle.teb_names.specs.declared.Cause.{Cause}
-use Rattle.teb_names.specs.Cells.{same_cell}
+use Rattle.teb_names.proofs.Bools.{and_true}
+use Rattle.teb_names.proofs.SameCells.{same_itself}
 use Rattle.teb_history.specs.declared.Event.{Event}
 use Rattle.teb_history.specs.declared.Event.TheVariants.{Put, Gone}
-use Rattle.teb_history.specs.Phases.{is_began, is_gone, began_at, gone_at, aborted}
+use Rattle.teb_history.specs.Phases.{is_began, is_gone, began_at, aborted}
 use Rattle.teb_history.specs.Accesses.{is_put, put_at, wrote, last_put}
-use Rattle.teb_history.specs.Positions.{first, first_event, newest, came, upto}
-use Rattle.teb_history.proofs.Any.{came_any}
+use Rattle.teb_history.specs.Positions.{first, first_event, newest, upto}
+use Rattle.teb_history.proofs.Newest.{wrote-cons, aborted-cons}
 use Rattle.teb_rules.specs.Setup.{Setup}
 use Rattle.teb_rules.specs.Serializes.{In, Pairs}
 use Rattle.teb_rules.specs.Versions.{precedes}
@@ -26,18 +27,6 @@ use Rattle.phase_api.specs.Versions.{has_version, HaveLastValues}
 use Rattle.candidate_reads.proofs.Shows.{version_parts}
 use Rattle.candidate_reads.proofs.Sources.{Strict, writer_began}
 
--- whether an event has come, with one more event
-came-cons : (q : Event → Bool) (e : Event) (P : List Event) → came (e ∷ P) (first_event q (e ∷ P)) ≡ (q e || came P (first_event q P))
-came-cons q e P = came_any q (e ∷ P) ∙ ap (λ (b : Bool). q e || b) (sym (came_any q P))
-
-wrote-cons : (e : Event) (P : List Event) (w : ℕ) (x : Cell) → wrote (e ∷ P) w x ≡ (is_put w x e || wrote P w x)
-unfolding wrote put_at
-wrote-cons e P w x = came-cons (is_put w x) e P
-
-aborted-cons : (e : Event) (P : List Event) (w : ℕ) → aborted (e ∷ P) w ≡ (is_gone w e || aborted P w)
-unfolding aborted gone_at
-aborted-cons e P w = came-cons (is_gone w) e P
-
 version-cons : (e : Event) (P : List Event) (x : Cell) (w : ℕ) → has_version (e ∷ P) x w ≡ ((is_put w x e || wrote P w x) && not (is_gone w e || aborted P w))
 version-cons e P x w = ap₂ (λ (a b : Bool). a && not b) (wrote-cons e P w x) (aborted-cons e P w)
 
@@ -45,15 +34,8 @@ version-cons e P x w = ap₂ (λ (a b : Bool). a && not b) (wrote-cons e P w x) 
 pub version_same : (e : Event) (P : List Event) (x : Cell) (w : ℕ) → is_put w x e ≡ false → is_gone w e ≡ false → has_version (e ∷ P) x w ≡ has_version P x w
 version_same e P x w p g = version-cons e P x w ∙ rw (p, g) refl
 
-same_cell-itself : (x : Cell) → same_cell x x ≡ true
-same_cell-itself x = rw (eq-eqb x.table.0 x.table.0 refl, eq-eqb x.key x.key refl) refl
-
 is_put-own : (t : Txn) (x : Cell) (v : Option ℤ) (w : ℕ) → is_put w x (Put t x v) ≡ eqb t.0 w
-is_put-own t x v w = rw (same_cell-itself x) (go (eqb t.0 w))
-  where
-    go : (b : Bool) → (b && true) ≡ b
-    go true = refl
-    go false = refl
+is_put-own t x v w = rw (same_itself x) (and_true (eqb t.0 w))
 
 pub version_put : (t : Txn) (v : Option ℤ) (P : List Event) (x : Cell) (w : ℕ) → aborted P t.0 ≡ false → has_version (Put t x v ∷ P) x w ≡ (eqb t.0 w || has_version P x w)
 version_put t v P x w na = version-cons (Put t x v) P x w ∙ ap (λ (b : Bool). (b || wrote P w x) && not (aborted P w)) (is_put-own t x v w) ∙ go (eqb t.0 w) refl
@@ -77,7 +59,7 @@ values_same e P x (v ∷ vs) f h = (put_skip e P v.0.0 x (f v.0.0 (inl refl)) �
 
 pub value_put : (t : Txn) (x : Cell) (v : Option ℤ) (P : List Event) → last_put (Put t x v ∷ P) t.0 x ≡ Some v
 unfolding last_put
-value_put t x v P = rw (eq-eqb t.0 t.0 refl, same_cell-itself x) refl
+value_put t x v P = rw (eq-eqb t.0 t.0 refl, same_itself x) refl
 
 pub put_by_other : (t : Txn) (x y : Cell) (v : Option ℤ) (u : ℕ) → t.0 ≢ u → is_put u y (Put t x v) ≡ false
 put_by_other t x y v u ne = rw (ne_eqb t.0 u ne) refl

@@ -34,10 +34,6 @@ pub unfinished_stands : (H : List Event) (t : ℕ) → unfinished H t ≡ true �
 unfolding unfinished
 unfinished_stands H t h = not-true _ (and_parts _ _ h).1
 
--- a version's place is one of the chain, or its end
-pub place_within : (S : Setup) (H : List Event) (x : Cell) (t at : ℕ) (vs : List Version) → IsPlaceOf S H x t at (writers_of vs) → at ≤ length vs
-place_within S H x t at vs p = rw length-map at p.within
-
 -- what it is that p is the place of t's version of x among the versions vs
 abbrev pub IsPlaced : Setup → List Event → Cell → ℕ → List Version → Place → Type 0
 IsPlaced S H x t vs p = IsPlaceOf S H x t p.at (writers_of vs) × (is_writer vs t ≡ true → slice_get (writers_of vs) p.at ≡ Some t) × (p.is_there ≡ is_writer vs t)

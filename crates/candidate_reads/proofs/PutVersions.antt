@@ -1,11 +1,12 @@
 -- Chains that hold the versions of a history hold those of the history with one more Put, once the version has its value, or its place.
-use Rattle.std.proofs.Common.{ℕ, ◌≡◌, ◌≢◌, ◌⊎◌, zero, suc, ◌≤◌, ◌<◌, Bool, true, false, ◌||◌, ◌&&◌, eqb, List, [], ◌∷◌, Option, Some, IsFalse, refl, sym, ap, subst, ◌∙◌, arith, inl, inr, ℤ, slice_get, eq-eqb, eqb-true}
+use Rattle.std.proofs.Common.{ℕ, ◌≡◌, ◌≢◌, ◌⊎◌, zero, suc, ◌≤◌, ◌<◌, Bool, true, false, ◌||◌, eqb, List, [], ◌∷◌, Option, Some, IsFalse, refl, sym, ap, subst, ◌∙◌, arith, inl, inr, ℤ, slice_get, eq-eqb, eqb-true}
 use Rattle.std.proofs.lemmas.Bool.{both_ways, cases_Bool, false_from_ne_true}
 use Rattle.std.proofs.lemmas.Option.{slice_get-get_or}
 use Rattle.std.specs.List.{insert}
 use Rattle.teb_names.specs.declared.Cell.{Cell}
 use Rattle.teb_names.specs.declared.Txn.{Txn}
 use Rattle.teb_names.specs.Cells.{same_cell}
+use Rattle.teb_names.proofs.Bools.{and_false, or_true}
 use Rattle.teb_history.specs.declared.Event.{Event}
 use Rattle.teb_history.specs.declared.Event.TheVariants.{Put}
 use Rattle.teb_history.specs.Phases.{aborted, unfinished}
@@ -35,11 +36,7 @@ use Rattle.candidate_reads.proofs.KeptVersions.{HoldsCell, cell_of, all_cells, h
 
 -- an edit of one list
 elsewhere : (t : Txn) (x y : Cell) (v : Option ℤ) (u : ℕ) → same_cell y x ≡ false → is_put u y (Put t x v) ≡ false
-elsewhere t x y v u e = rw (same_cell-other y x e) (go (eqb t.0 u))
-  where
-    go : (b : Bool) → (b && false) ≡ false
-    go true = refl
-    go false = refl
+elsewhere t x y v u e = rw (same_cell-other y x e) (and_false (eqb t.0 u))
 
 put_cells : (S : Setup) (a : TreeFacts S) (t : Txn) (x : Cell) (v : Option ℤ) (P : List Event) (L M : Cell → List Version) → Lawful S (Put t x v ∷ P) → HoldsVersions S P L → ((y : Cell) → IsFalse (same_cell y x) → M y ≡ L y) →
     HoldsCell S (Put t x v ∷ P) x (M x) → HoldsVersions S (Put t x v ∷ P) M
@@ -142,10 +139,6 @@ module _ (S : Setup) (a : TreeFacts S) (t : Txn) (x : Cell) (v : Option ℤ) (P 
 
   others_stay : (w : ℕ) → In w (writers_of vs) → has_version (Put t x v ∷ P) x w ≡ true
   others_stay w i = version_put t v P x w stands ∙ rw (have S P x vs h w i) (or_true (eqb t.0 w))
-    where
-      or_true : (b : Bool) → (b || true) ≡ true
-      or_true true = refl
-      or_true false = refl
 
   own_there : has_version (Put t x v ∷ P) x t.0 ≡ true
   own_there = version_put t v P x t.0 stands ∙ rw (eq-eqb t.0 t.0 refl) refl

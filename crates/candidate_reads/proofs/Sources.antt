@@ -2,7 +2,6 @@
 use Rattle.std.proofs.Common.{ℕ, ◌≡◌, ◌⊎◌, zero, suc, ◌<◌, Bool, true, false, not, eqb, List, [], ◌∷◌, Option, Some, None, refl, sym, ap, subst, ◌∙◌, arith, inl, inr, length, get_or, filter, unwrap_or, ltb-true, ℤ, slice_get}
 use Rattle.std.proofs.lemmas.Bool.{both_ways, cases_order, and_from, not-true, not_from_false, false_from_ne_true}
 use Rattle.std.proofs.lemmas.Option.{get_or_from_slice_get}
-use Rattle.std.proofs.lemmas.List.{length-map}
 use Rattle.teb_names.specs.declared.Cell.{Cell}
 use Rattle.teb_names.specs.Rows.{row_of}
 use Rattle.teb_history.specs.declared.Event.{Event}
@@ -20,7 +19,7 @@ use Rattle.teb_laws.proofs.VersionOrder.{precedes_irreflexive}
 use Rattle.version_chain.specs.Lists.{Version, writers_of, first_place, last_place, own_or_last}
 use Rattle.version_chain.proofs.Places.{IsLast, last_place-found, own_or_last_cases}
 use Rattle.phase_api.specs.Versions.{HoldsVersions, HaveLastValues, has_version}
-use Rattle.candidate_reads.proofs.InOrder.{among_In, In_among, at-In, In-at, Pairs-at, find_only, find_nothing, is_last, own_found, own_absent}
+use Rattle.candidate_reads.proofs.InOrder.{among_In, In_among, at-In, In-at, Pairs-at, find_only, find_nothing, own_found, own_absent}
 use Rattle.candidate_reads.proofs.Shows.{version_parts}
 
 -- u's version is before w's, and not the other way round
@@ -179,7 +178,3 @@ nothing_at t p ws e = elim (own_or_last_cases t p ws None e) [
   | inl own ↦ absurd (own.1 refl)
   | inr last ↦ last
 ]
-
--- a place that a test gives is one of the list
-pub last_within : (p : ℕ → Bool) (vs : List Version) (i : ℕ) → Some i ≡ last_place p (writers_of vs) → i < length vs
-last_within p vs i e = rw length-map at (is_last p (writers_of vs) (Some i) e).0
