@@ -6,6 +6,7 @@ use Rattle.std.proofs.lemmas.Bool.{cases_Bool, eqb-true, ltb-false, false_from_n
 use Rattle.teb_names.specs.declared.Txn.{Txn}
 use Rattle.teb_names.specs.declared.Cell.{Cell}
 use Rattle.teb_names.specs.Cells.{same_cell}
+use Rattle.teb_names.proofs.Bools.{and_false, or_false, or_swap}
 use Rattle.teb_history.specs.declared.Event.{Event}
 use Rattle.teb_history.specs.declared.Event.TheVariants.{Got}
 use Rattle.teb_history.specs.Phases.{numbers, txns, begun_count, aborted}
@@ -27,11 +28,7 @@ read_by p rs u = list_any (λ r. eqb r.0.0 u && p r) rs
 
 module _ {A : Type 0} where
   any_push : (q : A → Bool) (xs : List A) (a : A) → list_any q (xs ++ a ∷ []) ≡ (list_any q xs || q a)
-  any_push q [] a = go (q a)
-    where
-      go : (b : Bool) → (b || false) ≡ b
-      go true = refl
-      go false = refl
+  any_push q [] a = or_false (q a)
   any_push q (x ∷ xs) a = ap (λ (b : Bool). q x || b) (any_push q xs a) ∙ go (q x) (list_any q xs) (q a)
     where
       go : (a b c : Bool) → (a || (b || c)) ≡ ((a || b) || c)
@@ -100,12 +97,6 @@ module _ (S : Setup) (H : List Event) (n t : ℕ) (x : Cell) where
       parts false a true l w h = absurd (let z : false ≡ true = h refl in cc)
       parts false a false l w h = refl
 
-      none : (b c : Bool) → (b && false) ≡ (c && false)
-      none true true = refl
-      none true false = refl
-      none false true = refl
-      none false false = refl
-
       same : (r : Txn × Txn) → (on S H n r.0.0 && not (aborted H r.0.0) && (eqb r.0.0 u && is_after S H n t x r)) ≡ (meets S H n t u && not (aborted H u) && ltb (start S H n t) (start S H n u) && (eqb r.0.0 u && old r))
       same r = elim (cases_Bool (eqb r.0.0 u)) [
         | inl e ↦ (let q = eqb-true r.0.0 u e in
@@ -113,7 +104,7 @@ module _ (S : Setup) (H : List Event) (n t : ℕ) (x : Cell) where
             ∙ ap (λ (k : ℕ). on S H n k && not (aborted H k) && (meets S H n t k && ltb (start S H n t) (start S H n k) && old r)) q
             ∙ parts (on S H n u) (not (aborted H u)) (meets S H n t u) (ltb (start S H n t) (start S H n u)) (old r) (λ m. (meets_parts S H n t u m).1)
             ∙ ap (λ (b : Bool). meets S H n t u && not (aborted H u) && ltb (start S H n t) (start S H n u) && (b && old r)) (sym e))
-        | inr e ↦ ap (λ (b : Bool). on S H n r.0.0 && not (aborted H r.0.0) && (b && is_after S H n t x r)) e ∙ none _ _
+        | inr e ↦ ap (λ (b : Bool). on S H n r.0.0 && not (aborted H r.0.0) && (b && is_after S H n t x r)) e ∙ and_false _ ∙ sym (and_false _)
             ∙ ap (λ (b : Bool). meets S H n t u && not (aborted H u) && ltb (start S H n t) (start S H n u) && (b && old r)) (sym e)
       ]
 
@@ -129,11 +120,7 @@ module _ (p : Txn × Txn → Bool) (count : ℕ) where
   -- reads that do not pass change nothing
   skipped : (rs seen : List (Txn × Txn)) → AllOf (λ r. p r ≡ false) rs → (u : ℕ) → read_by p (rs ++ seen) u ≡ read_by p seen u
   skipped [] seen h u = refl
-  skipped (r ∷ rs) seen h u = ap (λ (b : Bool). eqb r.0.0 u && b || read_by p (rs ++ seen) u) h.0 ∙ ap (λ (b : Bool). b || read_by p (rs ++ seen) u) (none (eqb r.0.0 u)) ∙ skipped rs seen h.1 u
-    where
-      none : (b : Bool) → (b && false) ≡ false
-      none true = refl
-      none false = refl
+  skipped (r ∷ rs) seen h u = ap (λ (b : Bool). eqb r.0.0 u && b || read_by p (rs ++ seen) u) h.0 ∙ ap (λ (b : Bool). b || read_by p (rs ++ seen) u) (and_false (eqb r.0.0 u)) ∙ skipped rs seen h.1 u
 
   least_skip : (rs seen : List (Txn × Txn)) → AllOf (λ r. p r ≡ false) rs → least (rs ++ seen) ≡ least seen
   unfolding least
@@ -156,13 +143,7 @@ module _ (p : Txn × Txn → Bool) (count : ℕ) where
   least_more r seen h pos le =
       lesser_of (find (read_by p seen) (numbers count)) r.0
       ∙ ap (λ (o : Option ℕ). txn_of (lesser (find (read_by p seen) (numbers count)) o)) (sym (alone r h pos le))
-      ∙ ap txn_of (sym (find_alike _ _ (λ u. swap (eqb r.0.0 u && p r) (read_by p seen u)) (numbers count) ∙ find_either (read_by p seen) (λ u. eqb r.0.0 u && p r) count))
-    where
-      swap : (a b : Bool) → (a || b) ≡ (b || a)
-      swap true true = refl
-      swap true false = refl
-      swap false true = refl
-      swap false false = refl
+      ∙ ap txn_of (sym (find_alike _ _ (λ u. or_swap (eqb r.0.0 u && p r) (read_by p seen u)) (numbers count) ∙ find_either (read_by p seen) (λ u. eqb r.0.0 u && p r) count))
 
   -- of all reads those up to `rest` are still to be looked at, and `found` is the least reader behind them
   pub record IsWalked (all rest : List (Txn × Txn)) (found : Option Txn) : Type 0 where

@@ -8,6 +8,7 @@ use Rattle.teb_names.specs.declared.Session.{Session}
 use Rattle.teb_names.specs.declared.Kind.{Kind}
 use Rattle.teb_names.specs.declared.Cause.{Cause}
 use Rattle.teb_names.specs.Cells.{cell_cmp, same_cell}
+use Rattle.teb_names.proofs.Bools.{eqb_swap}
 use Rattle.teb_history.specs.declared.Event.{Event}
 use Rattle.teb_history.specs.declared.Event.TheVariants.{Began, Got, Put, Ready, Done, Gone, Told}
 use Rattle.teb_history.specs.Phases.{is_began, is_gone, begun, unfinished, aborted, spot_of}
@@ -98,11 +99,8 @@ module _ (S : Setup) (P : List Event) (n : ℕ) where
         go true false h a b = absurd (cc)
         go false true h a b = absurd (cc)
 
-        back : (i j : ℕ) → eqb i j ≡ eqb j i
-        back i j = grind arith
-
         split : (r : Txn × Txn) → here S (Gone t c ∷ P) n r ≡ (others t r && here S P n r)
-        split r = gone_here r ∙ go (eqb t.0 r.0.0) (eqb r.0.0 t.0) (back t.0 r.0.0) (aborted P r.0.0) (on S P n r.0.0)
+        split r = gone_here r ∙ go (eqb t.0 r.0.0) (eqb r.0.0 t.0) (eqb_swap t.0 r.0.0) (aborted P r.0.0) (on S P n r.0.0)
 
     -- whoever is here and not aborted has all its reads there
     gone_reads : (x : Cell) → on S P n t.0 ≡ true → aborted P t.0 ≡ false → filter (is_by t) (reads S P n x) ≡ filter (is_by t) (all_reads (Gone t c ∷ P) x)

@@ -1,6 +1,6 @@
 -- A read whose reader's batch closed before another starts: all reads before it are by those whose batches started before too.
-use Rattle.std.proofs.Common.{◌≡◌, ℕ, ◌<◌, ◌≤◌, Bool, true, false, cond, ◌&&◌, ◌||◌, eqb, List, [], ◌∷◌, ◌++◌, length, None, refl, sym, ◌∙◌, ap, subst, inl, inr, arith, le-ltb}
-use Rattle.std.proofs.lemmas.Bool.{cases_Bool, both_ways, and_left, and_right}
+use Rattle.std.proofs.Common.{◌≡◌, ℕ, ◌<◌, ◌≤◌, Bool, true, false, cond, ◌&&◌, ◌||◌, eqb, List, [], ◌∷◌, ◌++◌, length, refl, sym, ◌∙◌, subst, arith, le-ltb}
+use Rattle.std.proofs.lemmas.Bool.{and_left, and_right}
 use Rattle.teb_names.specs.declared.Txn.{Txn}
 use Rattle.teb_names.specs.declared.Cell.{Cell}
 use Rattle.teb_names.specs.Cells.{same_cell}
@@ -15,32 +15,17 @@ use Rattle.teb_rules.specs.Versions.{precedes}
 use Rattle.teb_laws.proofs.Positions.{first-le, before, now, later, first_cases}
 use Rattle.phase_api.specs.Calls.{MayNote}
 use Rattle.access_conflicts.proofs.Orderly.{unfinished_begun, begun_kept}
-use Rattle.batch_book.specs.Book.{closed_at}
-use Rattle.batch_book.specs.Histories.{IsNumbered, closing}
-use Rattle.batch_book.proofs.Numbered.{begun_none, begins_once, begins_new, unfinished_before, unfinished_kept, on_kept, side_kept}
-use Rattle.batch_book.proofs.Closings.{open_late}
-use Rattle.batch_book.proofs.Intervals.{start_kept, start-lt, busy_idle, closing_step, closing_here}
+use Rattle.batch_book.specs.Histories.{IsNumbered}
+use Rattle.batch_book.proofs.Numbered.{begins_once, unfinished_kept, on_kept, side_kept}
+use Rattle.batch_book.proofs.Closings.{open_late, unfinished_open}
+use Rattle.batch_book.proofs.Intervals.{start_kept, start-lt}
 use Rattle.timestamp_node.specs.Reads.{all_reads, reads, IsTimely}
 use Rattle.timestamp_node.specs.Late.{is_after}
 use Rattle.timestamp_node.proofs.Readers.{AllOf, all_map, all_push, IsRead, reads_are}
 use Rattle.timestamp_node.proofs.OrderedLists.{IsOrderedBy, all_within, ordered_push, ordered_filter, ordered_map, ordered_upto}
 
--- the batch of an unfinished transaction is open
-open_unfinished : (S : Setup) (H : List Event) (n u : ℕ) → IsNumbered H → unfinished H u ≡ true → on S H n u ≡ true → closing S H n u ≡ None
-unfolding IsNumbered
-open_unfinished S [] n u l h o = absurd (both_ways _ (begun_none u) (unfinished_begun [] u h))
-open_unfinished S (e ∷ P) n u l h o =
-    let busy = busy_idle S (e ∷ P) n (side S (e ∷ P) n u) u l h o refl in
-    elim (cases_Bool (is_began u e)) [
-      | inl b ↦ closing_here S e P n u (begins_new e P u l.1 l.0 b) busy
-      | inr b ↦ (let w = unfinished_before e P u b h in
-          let idle_now = ap (λ (s : ℕ). idle S (e ∷ P) n s) (sym (side_kept S e P n u b)) ∙ busy in
-          let before = open_unfinished S P n u l.1 w (sym (on_kept S e P n u b) ∙ o) in
-          closing_step S e P n u (unfinished_begun P u w) b ∙ (λ j. closed_at (idle_now j) (length P) (before j)))
-    ]
-
 close_unfinished : (S : Setup) (H : List Event) (n u : ℕ) → IsNumbered H → unfinished H u ≡ true → on S H n u ≡ true → length H ≤ close S H n u
-close_unfinished S H n u l h o = open_late S H n u (open_unfinished S H n u l h o)
+close_unfinished S H n u l h o = open_late S H n u (unfinished_open S H n u l h o)
 
 -- a batch closes no earlier for another event
 first_grows : (p : List Event → Bool) (e : Event) (P : List Event) → first p P ≤ first p (e ∷ P)

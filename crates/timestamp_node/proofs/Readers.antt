@@ -46,10 +46,6 @@ module _ {A : Type 0} where
   filter_alike p q f [] = refl
   filter_alike p q f (x ∷ xs) = λ j. cond (f x j) (x ∷ filter_alike p q f xs j) (filter_alike p q f xs j)
 
-  pub filter_all : (p : A → Bool) (xs : List A) → AllOf (λ x. p x ≡ true) xs → filter p xs ≡ xs
-  filter_all p [] h = refl
-  filter_all p (x ∷ xs) h = λ j. cond (h.0 j) (x ∷ filter_all p xs h.1 j) (filter_all p xs h.1 j)
-
 any_implies : (p q : Event → Bool) → ((e : Event) → p e ≡ true → q e ≡ true) → (H : List Event) → list_any p H ≡ true → list_any q H ≡ true
 any_implies p q f [] h = h
 any_implies p q f (e ∷ P) h = elim (or_cases (p e) (list_any p P) h) [ inl k ↦ or_left (q e) _ (f e k) | inr k ↦ or_right (q e) _ (any_implies p q f P k) ]

@@ -1,5 +1,5 @@
 -- What a timestamp node says.
-use Rattle.std.proofs.Common.{◌≡◌, ℕ, zero, suc, ◌<◌, Bool, true, false, cond, not, ◌&&◌, ◌||◌, eqb, ltb, List, [], ◌∷◌, find, length, slice_get, Option, Some, None, refl, sym, ◌∙◌, ap, subst, inl, inr, arith, eq-eqb, lt-ltb, le-leb, ltb-true}
+use Rattle.std.proofs.Common.{◌≡◌, ℕ, suc, ◌<◌, Bool, true, false, cond, not, ◌&&◌, ◌||◌, eqb, ltb, List, [], ◌∷◌, find, length, slice_get, Option, Some, None, refl, sym, ◌∙◌, ap, subst, inl, inr, arith, eq-eqb, lt-ltb, le-leb, ltb-true}
 use Rattle.std.specs.List.{list_any}
 use Rattle.std.proofs.lemmas.Bool.{cases_Bool, and_parts, or_left, ltb-false, eqb-true}
 use Rattle.teb_names.specs.declared.Txn.{Txn}
@@ -7,6 +7,7 @@ use Rattle.teb_names.specs.declared.Cell.{Cell}
 use Rattle.teb_names.specs.declared.Spot.{Spot}
 use Rattle.teb_names.specs.declared.ControlKind.{ControlKind}
 use Rattle.teb_names.specs.declared.ControlKind.TheVariants.{Timestamp}
+use Rattle.teb_names.proofs.Bools.{and_false}
 use Rattle.teb_history.specs.declared.Event.{Event}
 use Rattle.teb_history.specs.Phases.{txns, unfinished, begun_count}
 use Rattle.teb_history.specs.Written.{txn_of}
@@ -114,12 +115,8 @@ module _ (S : Setup) (H : List Event) (n : ℕ) (k : (row S.tree n).control ≡ 
       numbered u = elim (cases_Bool (holds_back S H n t u.0)) [
         | inl b ↦ (let m = w.numbered u.0 (unfinished_begun H u.0 (running u.0 b)) in
             b ∙ sym (λ j. lt-ltb 0 u.0 m.0 j && le-leb u.0 (begun_count H) m.1 j && b j))
-        | inr b ↦ b ∙ sym (ap (λ (c : Bool). is_numbered H u && c) b ∙ none (is_numbered H u))
+        | inr b ↦ b ∙ sym (ap (λ (c : Bool). is_numbered H u && c) b ∙ and_false (is_numbered H u))
       ]
-        where
-          none : (c : Bool) → (c && false) ≡ false
-          none true = refl
-          none false = refl
 
 -- a writer that is found in a list stands at the place, and one that is not found is not there
 place_next : (o : Option ℕ) (i : ℕ) → next_place o ≡ Some i → (j : ℕ) × (i ≡ suc j) × (o ≡ Some j)
@@ -146,12 +143,6 @@ not_found (v ∷ ws) w e = elim (cases_Bool (eqb v w)) [
     rest : (o : Option ℕ) → next_place o ≡ None → o ≡ None
     rest None e = refl
     rest (Some i) e = absurd (cc)
-
--- the starting row is before each version
-pub before_all : (S : Setup) (H : List Event) (x : Cell) (t : ℕ) → 0 < t → precedes S H x 0 t ≡ true
-unfolding precedes
-before_all S H x zero h = absurd (omega arith)
-before_all S H x (suc t) h = refl
 
 -- a version that is there is before t's where its place is below that of t's
 pub place_tells : (S : Setup) (H : List Event) (x : Cell) (t at : ℕ) (ws : List ℕ) (w i : ℕ) → IsPlaceOf S H x t at ws → slice_get ws i ≡ Some w → ltb i at ≡ precedes S H x w t

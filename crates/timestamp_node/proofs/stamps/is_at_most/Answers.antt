@@ -1,15 +1,16 @@
 use Rattle.std.proofs.Common.{◌∙◌, ◌||◌, ℕ, Bool, sym, ap, inl, inr}
 use Rattle.std.proofs.lemmas.Bool.{both_ways, or_left, or_right}
 use Rattle.teb_rules.specs.Versions.{precedes}
+use Rattle.teb_laws.proofs.VersionOrder.{precedes_row}
 use Rattle.version_chain.specs.Lists.{writers_of}
-use Rattle.timestamp_node.proofs.Said.{before_all, found_place, not_found, place_tells}
+use Rattle.timestamp_node.proofs.Said.{found_place, not_found, place_tells}
 use Rattle.timestamp_node.proofs.stamps.is_at_most.Goals as goal
 
 pub returns-then-eq : goal.returns-then-eq
 returns-then-eq g c S H k p h =
     elim c.then-eq.either [
       | inl e ↦ sym (or_left _ _ (sym c.eq.ensures ∙ e))
-      | inr z ↦ sym (or_right _ _ (ap (λ (w : ℕ). precedes S H c.args.cell w c.args.t.0) z.1 ∙ before_all S H c.args.cell c.args.t.0 c.requires))
+      | inr z ↦ sym (or_right _ _ (ap (λ (w : ℕ). precedes S H c.args.cell w c.args.t.0) z.1 ∙ precedes_row S H c.args.cell c.args.t.0 c.requires))
     ]
 
 pub returns-in-Some : goal.returns-in-Some
