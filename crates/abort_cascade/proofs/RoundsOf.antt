@@ -2,9 +2,9 @@
 use Rattle.std.proofs.Common.{◌≡◌, ◌≢◌, ℕ, zero, suc, ◌+◌, ◌<◌, ◌≤◌, Bool, true, false, cond, not, ◌&&◌, ◌||◌, eqb, ltb, List, [], ◌∷◌, ◌++◌, length, filter, map, find, take, get_or, Option, Some, None, is_some, unwrap_or, refl, sym, ◌∙◌, ap, subst, inl, inr, arith, lt-ltb}
 use Rattle.std.specs.List.{list_any}
 use Rattle.std.proofs.lemmas.List.{take_more}
-use Rattle.std.proofs.lemmas.Bool.Decides.{nat_tests}
 use Rattle.std.proofs.lemmas.Bool.{eqb-true, and_parts, both_ways, or_cases, ltb-true}
 use Rattle.teb_names.specs.declared.Txn.{Txn}
+use Rattle.teb_names.proofs.Bools.{and_true, and_false, eqb_swap}
 use Rattle.teb_history.specs.declared.Event.{Event}
 use Rattle.teb_history.specs.Phases.{txns, begun_count, begun, committed, aborted, unfinished}
 use Rattle.teb_history.specs.Accesses.{read_from}
@@ -88,12 +88,9 @@ found_any q (x ∷ xs) = go (q x) (found_any q xs)
     go true h = refl
     go false h = h
 
-eqb_back : (m n : ℕ) → eqb m n ≡ eqb n m
-eqb_back m n = grind (arith, nat_tests)
-
 member_number : (fell : List (Txn × Txn)) (w : ℕ) → is_member fell w ≡ list_any (λ a. eqb w a) (fallen_numbers fell)
 member_number [] w = refl
-member_number (p ∷ ps) w = λ j. eqb_back p.0.0 w j || member_number ps w j
+member_number (p ∷ ps) w = λ j. eqb_swap p.0.0 w j || member_number ps w j
 
 -- the filters of a list
 filter_alike_in : (p q : ℕ → Bool) (xs : List ℕ) → ((x : ℕ) → In x xs → q x ≡ p x) → filter q xs ≡ filter p xs
@@ -104,14 +101,6 @@ filter_twice : (p r : ℕ → Bool) (xs : List ℕ) → filter r (filter p xs) �
 filter_twice p r [] = refl
 filter_twice p r (x ∷ xs) = go (p x) (filter_twice p r xs)
   where
-    and_false : (a : Bool) → (a && false) ≡ false
-    and_false true = refl
-    and_false false = refl
-
-    and_true : (a : Bool) → (a && true) ≡ a
-    and_true true = refl
-    and_true false = refl
-
     go : (b : Bool) → filter r (filter p xs) ≡ filter (λ x. r x && p x) xs → filter r (cond b (x ∷ filter p xs) (filter p xs)) ≡ cond (r x && b) (x ∷ filter (λ x. r x && p x) xs) (filter (λ x. r x && p x) xs)
     go true ih = ap (λ (ys : List ℕ). cond (r x) (x ∷ ys) ys) ih ∙ ap (λ (o : Bool). cond o (x ∷ filter (λ x. r x && p x) xs) (filter (λ x. r x && p x) xs)) (sym (and_true (r x)))
     go false ih = ih ∙ ap (λ (o : Bool). cond o (x ∷ filter (λ x. r x && p x) xs) (filter (λ x. r x && p x) xs)) (sym (and_false (r x)))
@@ -145,9 +134,6 @@ module _ (b : Lists) (H : List Event) (is : BookOf b H) (t : ℕ) (now : unfinis
   culprit_any : (fell : List (Txn × Txn)) (u : ℕ) → unfinished H u ≡ true → AllUnfinished (fallen_numbers fell) → is_some (culprit b t fell (record { 0 = u })) ≡ (not (eqb u t) && list_any (read_from H u) (t ∷ fallen_numbers fell))
   culprit_any fell u un all = go (eqb u t)
     where
-      who : Txn
-      who = record { 0 = u }
-
       listed : sources_in b (record { 0 = u }) ≡ all_sources H (record { 0 = u })
       listed = is.sources (record { 0 = u }) ∙ sources_standing H (record { 0 = u }) (unfinished_parts H u un).2
 
@@ -185,21 +171,13 @@ module _ (b : Lists) (H : List Event) (is : BookOf b H) (t : ℕ) (now : unfinis
   unfolding falls
   falls_same fell u all i = go (unfinished H u) refl
     where
-      off : (o : Bool) → (o && false) ≡ false
-      off true = refl
-      off false = refl
-
-      on : (o : Bool) → (o && true) ≡ o
-      on true = refl
-      on false = refl
-
       no : (f : Bool) → (f ≡ true → ⊥) → false ≡ f
       no true h = absurd (h refl)
       no false h = refl
 
       go : (o : Bool) → unfinished H u ≡ o → (is_some (culprit b t fell (record { 0 = u })) && o) ≡ (not (aborted H u) && not (eqb u t) && list_any (read_from H u) (t ∷ fallen_numbers fell))
-      go true h = on (is_some (culprit b t fell (record { 0 = u }))) ∙ culprit_any fell u h all ∙ sym (ap (λ (o : Bool). not o && not (eqb u t) && list_any (read_from H u) (t ∷ fallen_numbers fell)) (unfinished_parts H u h).2)
-      go false h = off (is_some (culprit b t fell (record { 0 = u }))) ∙ no _ (λ f. let z : true ≡ false = sym (falls_unfinished (fallen_numbers fell) u all i (unfold falls in f)) ∙ h in cc)
+      go true h = and_true (is_some (culprit b t fell (record { 0 = u }))) ∙ culprit_any fell u h all ∙ sym (ap (λ (o : Bool). not o && not (eqb u t) && list_any (read_from H u) (t ∷ fallen_numbers fell)) (unfinished_parts H u h).2)
+      go false h = and_false (is_some (culprit b t fell (record { 0 = u }))) ∙ no _ (λ f. let z : true ≡ false = sym (falls_unfinished (fallen_numbers fell) u all i (unfold falls in f)) ∙ h in cc)
 
   pub round_falls : (fell : List (Txn × Txn)) → AllUnfinished (fallen_numbers fell) → fallen_numbers (round_of b t fell b.unfinished) ≡ filter (falls H t (fallen_numbers fell)) (txns H)
   unfolding unfinished_txns
