@@ -1,11 +1,12 @@
 -- What a locks node says.
-use Rattle.std.proofs.Common.{◌≡◌, ℕ, Bool, false, ltb, List, [], ◌∷◌, find, Option, Some, None, refl, ◌∙◌}
+use Rattle.std.proofs.Common.{◌≡◌, ℕ, Bool, ltb, List, find, Option, Some, None, refl, ◌∙◌}
 use Rattle.teb_names.specs.declared.Cell.{Cell}
 use Rattle.teb_names.specs.declared.Spot.{Spot}
 use Rattle.teb_names.specs.declared.ControlKind.TheVariants.{Locks}
 use Rattle.teb_history.specs.declared.Event.{Event}
 use Rattle.teb_history.specs.Phases.{txns, committed}
 use Rattle.teb_history.specs.Accesses.{put_at}
+use Rattle.teb_history.proofs.LeastNumbers.{nobody}
 use Rattle.teb_rules.specs.Setup.{Setup}
 use Rattle.teb_rules.specs.Tree.{row}
 use Rattle.teb_rules.specs.Versions.{sees_by, orders}
@@ -36,10 +37,6 @@ locks_validate S H n t e = rw e refl
 pub locks_gate : (S : Setup) (H : List Event) (n t : ℕ) → (row S.tree n).control ≡ Locks → Go ≡ wait_for (find (gate (row S.tree n).control S H n t) (txns H))
 unfolding gate
 locks_gate S H n t e = rw (e, nobody (txns H)) refl
-  where
-    nobody : (us : List ℕ) → find (λ (u : ℕ). false) us ≡ None
-    nobody [] = refl
-    nobody (u ∷ us) = nobody us
 
 pub locks_sees : (S : Setup) (H : List Event) (n t w : ℕ) (x : Cell) → (row S.tree n).control ≡ Locks → committed H w ≡ sees_by (row S.tree n).control S H n x t w
 unfolding sees_by
