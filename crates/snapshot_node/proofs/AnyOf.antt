@@ -1,20 +1,12 @@
 -- Tests of lists: where one passes, and how two of them combine.
-use Rattle.std.proofs.Common.{◌≡◌, ℕ, Bool, true, false, ◌&&◌, ◌||◌, List, [], ◌∷◌, refl, sym, ap, subst, ◌∙◌, inl, inr}
+use Rattle.std.proofs.Common.{◌≡◌, ℕ, Bool, true, false, ◌&&◌, ◌||◌, List, [], ◌∷◌, refl, sym, ap, ◌∙◌, inl, inr}
 use Rattle.std.specs.List.{list_any}
-use Rattle.std.proofs.lemmas.Bool.{or_cases, or_left, or_right}
-use Rattle.teb_rules.specs.Serializes.{In}
-
-pub any_from : (p : ℕ → Bool) (us : List ℕ) (u : ℕ) → In u us → p u ≡ true → list_any p us ≡ true
-any_from p [] u i h = absurd i
-any_from p (v ∷ vs) u i h = elim i [ inl e ↦ or_left (p v) (list_any p vs) (subst (λ (z : ℕ). p z ≡ true) (sym e) h) | inr j ↦ or_right (p v) (list_any p vs) (any_from p vs u j h) ]
+use Rattle.std.proofs.lemmas.Bool.{or_cases, or_left}
+use Rattle.teb_names.proofs.Bools.{and_false}
 
 pub any_is : (p : ℕ → Bool) (us : List ℕ) → list_any p us ≡ true → (u : ℕ) × (p u ≡ true)
 any_is p [] h = absurd (cc)
 any_is p (v ∷ vs) h = elim (or_cases (p v) (list_any p vs) h) [ inl e ↦ (v, e) | inr e ↦ any_is p vs e ]
-
-and_false : (a : Bool) → (a && false) ≡ false
-and_false true = refl
-and_false false = refl
 
 pub any_no : (k : ℕ → Bool) (us : List ℕ) → list_any (λ u. k u && false) us ≡ false
 any_no k [] = refl

@@ -7,6 +7,7 @@ use Rattle.teb_names.specs.declared.Session.{Session}
 use Rattle.teb_names.specs.declared.Kind.{Kind}
 use Rattle.teb_names.specs.declared.Cause.{Cause}
 use Rattle.teb_names.specs.Cells.{same_cell}
+use Rattle.teb_names.proofs.Bools.{and_true}
 use Rattle.teb_history.specs.declared.Event.{Event}
 use Rattle.teb_history.specs.declared.Event.TheVariants.{Began, Got, Put, Ready, Done, Gone, Told}
 use Rattle.teb_history.specs.Phases.{is_began, is_done, committed, unfinished}
@@ -93,11 +94,7 @@ module _ (S : Setup) (P : List Event) (n : ℕ) (a : Shown) (old : CommittedStan
 
   module _ (t : Txn) (y : Cell) (v : Option ℤ) (run : unfinished P t.0 ≡ true) where
     waits : (o : Bool) → on S P n t.0 ≡ o → is_pending S (Put t y v ∷ P) n (Put t y v) ≡ o
-    waits o q = (λ j. (on_kept S (Put t y v) P n t.0 refl ∙ q) j && (unfinished_kept (Put t y v) P t.0 refl refl refl ∙ run) j) ∙ bare o
-      where
-        bare : (b : Bool) → (b && true) ≡ b
-        bare true = refl
-        bare false = refl
+    waits o q = (λ j. (on_kept S (Put t y v) P n t.0 refl ∙ q) j && (unfinished_kept (Put t y v) P t.0 refl refl refl ∙ run) j) ∙ and_true o
 
     pub committed_put : (a' : Shown) → on S P n t.0 ≡ true → AreKept (committed_of a) (committed_of a') → a'.pending ≡ a.pending + 1 → CommittedStand n a' S (Put t y v ∷ P)
     committed_put a' o d q = record {

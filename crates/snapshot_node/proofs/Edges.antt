@@ -5,6 +5,7 @@ use Rattle.std.proofs.lemmas.Bool.{cases_lt, cases_eq, cases_Bool, both_ways, ne
 use Rattle.teb_names.specs.declared.Txn.{Txn}
 use Rattle.teb_names.specs.declared.Cell.{Cell}
 use Rattle.teb_names.specs.declared.ControlKind.TheVariants.{Snapshot}
+use Rattle.teb_names.proofs.Bools.{and_false}
 use Rattle.teb_history.specs.declared.Event.{Event}
 use Rattle.teb_history.specs.declared.Event.TheVariants.{Began, Got, Put, Ready, Done, Gone, Told}
 use Rattle.teb_history.specs.Accesses.{wrote, put_at}
@@ -74,22 +75,18 @@ record Touch (H : List Event) (a b : ℕ) : Type 0 where
   reader : txn.0 ≡ a
   put : wrote H b cell ≡ true
 
-no_touch : (z : Bool) → (z && false) ≡ false
-no_touch true = refl
-no_touch false = refl
-
 touch_is : (H : List Event) (a b : ℕ) (P : List Event) → length P ≤ length H → upto (length P) H ≡ P → list_any (is_touch H a b) P ≡ true → Touch H a b
 touch_is H a b [] h q e = absurd (cc)
 touch_is H a b (Got s x w v ∷ P) h q e = elim (or_cases (eqb s.0 a && wrote H b x) _ e) [
   | inl f ↦ (let r = and_parts (eqb s.0 a) (wrote H b x) f in record { place = length P; txn = s; cell = x; from = w; value = v; is = suffix_got H s x w v P h q; reader = eqb-true s.0 a r.0; put = r.1 })
   | inr f ↦ touch_is H a b P (omega arith) (suffix_next H (Got s x w v) P q) f
 ]
-touch_is H a b (Began s z k i ∷ P) h q e = touch_is H a b P (omega arith) (suffix_next H (Began s z k i) P q) (sym (ap (λ (t : Bool). t || list_any (is_touch H a b) P) (no_touch (eqb s.0 a))) ∙ e)
-touch_is H a b (Put s x v ∷ P) h q e = touch_is H a b P (omega arith) (suffix_next H (Put s x v) P q) (sym (ap (λ (t : Bool). t || list_any (is_touch H a b) P) (no_touch (eqb s.0 a))) ∙ e)
-touch_is H a b (Ready s ∷ P) h q e = touch_is H a b P (omega arith) (suffix_next H (Ready s) P q) (sym (ap (λ (t : Bool). t || list_any (is_touch H a b) P) (no_touch (eqb s.0 a))) ∙ e)
-touch_is H a b (Done s ∷ P) h q e = touch_is H a b P (omega arith) (suffix_next H (Done s) P q) (sym (ap (λ (t : Bool). t || list_any (is_touch H a b) P) (no_touch (eqb s.0 a))) ∙ e)
-touch_is H a b (Gone s z ∷ P) h q e = touch_is H a b P (omega arith) (suffix_next H (Gone s z) P q) (sym (ap (λ (t : Bool). t || list_any (is_touch H a b) P) (no_touch (eqb s.0 a))) ∙ e)
-touch_is H a b (Told s ∷ P) h q e = touch_is H a b P (omega arith) (suffix_next H (Told s) P q) (sym (ap (λ (t : Bool). t || list_any (is_touch H a b) P) (no_touch (eqb s.0 a))) ∙ e)
+touch_is H a b (Began s z k i ∷ P) h q e = touch_is H a b P (omega arith) (suffix_next H (Began s z k i) P q) (sym (ap (λ (t : Bool). t || list_any (is_touch H a b) P) (and_false (eqb s.0 a))) ∙ e)
+touch_is H a b (Put s x v ∷ P) h q e = touch_is H a b P (omega arith) (suffix_next H (Put s x v) P q) (sym (ap (λ (t : Bool). t || list_any (is_touch H a b) P) (and_false (eqb s.0 a))) ∙ e)
+touch_is H a b (Ready s ∷ P) h q e = touch_is H a b P (omega arith) (suffix_next H (Ready s) P q) (sym (ap (λ (t : Bool). t || list_any (is_touch H a b) P) (and_false (eqb s.0 a))) ∙ e)
+touch_is H a b (Done s ∷ P) h q e = touch_is H a b P (omega arith) (suffix_next H (Done s) P q) (sym (ap (λ (t : Bool). t || list_any (is_touch H a b) P) (and_false (eqb s.0 a))) ∙ e)
+touch_is H a b (Gone s z ∷ P) h q e = touch_is H a b P (omega arith) (suffix_next H (Gone s z) P q) (sym (ap (λ (t : Bool). t || list_any (is_touch H a b) P) (and_false (eqb s.0 a))) ∙ e)
+touch_is H a b (Told s ∷ P) h q e = touch_is H a b P (omega arith) (suffix_next H (Told s) P q) (sym (ap (λ (t : Bool). t || list_any (is_touch H a b) P) (and_false (eqb s.0 a))) ∙ e)
 
 stays : (H : List Event) (u : ℕ) → aborted H u ≡ false → length H ≤ gone_at H u
 unfolding aborted
@@ -203,23 +200,6 @@ module _ (S : Setup) (H : List Event) (n b c : ℕ) where
   unfolding one_batch
   one_start x y z = λ j. ((sym x j && sym y j) && sym z j) && eqb (start S H n b) (start S H n c)
 
-  pub off_start : eqb (start S H n b) (start S H n c) ≡ false → false ≡ one_batch S H n b c
-  unfolding one_batch
-  off_start h = go ((on S H n b && on S H n c) && eqb (side S H n b) (side S H n c)) (eqb (start S H n b) (start S H n c)) h
-    where
-      go : (x y : Bool) → y ≡ false → false ≡ (x && y)
-      go true true h = absurd (cc)
-      go true false h = refl
-      go false y h = refl
-
-  pub one_side : on S H n b ≡ true → on S H n c ≡ true → eqb (start S H n b) (start S H n c) ≡ true → eqb (side S H n b) (side S H n c) ≡ one_batch S H n b c
-  unfolding one_batch
-  one_side x y z = bare (eqb (side S H n b) (side S H n c)) ∙ (λ j. ((sym x j && sym y j) && eqb (side S H n b) (side S H n c)) && sym z j)
-    where
-      bare : (q : Bool) → q ≡ (q && true)
-      bare true = refl
-      bare false = refl
-
 -- where a batch starts, of one on whose path the node stands or does not
 pub started : (b : Bool) (s i : ℕ) → Some i ≡ cond b (Some s) None → (b ≡ true) × (i ≡ s)
 started true s i e = (refl, (let q : Some i ≡ Some s = e in cc))
@@ -259,7 +239,7 @@ module _ (S : Setup) (H : List Event) (n : ℕ) (l : Lawful S H) (u w : ℕ) (bu
       ∙ ap (λ (z : Bool). not (eqb (start S H n u) (start S H n w)) && z) (concurrent_unless S H n l u w bu bw ou ow)
       ∙ elim (cases_Bool (concurrent S H n u w)) [
         | inl c ↦ ap (λ (z : Bool). z && concurrent S H n u w) (apart_meet c)
-        | inr c ↦ (λ j. not (eqb (start S H n u) (start S H n w)) && c j) ∙ off (not (eqb (start S H n u) (start S H n w))) ∙ sym (off (meets S H n u w)) ∙ (λ j. meets S H n u w && sym c j)
+        | inr c ↦ (λ j. not (eqb (start S H n u) (start S H n w)) && c j) ∙ and_false (not (eqb (start S H n u) (start S H n w))) ∙ sym (and_false (meets S H n u w)) ∙ (λ j. meets S H n u w && sym c j)
       ]
     where
       turn : (a x y : Bool) → ((a && x) && y) ≡ (a && (y && x))
@@ -268,7 +248,3 @@ module _ (S : Setup) (H : List Event) (n : ℕ) (l : Lawful S H) (u w : ℕ) (bu
       turn true false true = refl
       turn true false false = refl
       turn false x y = refl
-
-      off : (a : Bool) → (a && false) ≡ false
-      off true = refl
-      off false = refl

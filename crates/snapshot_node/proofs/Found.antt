@@ -2,6 +2,7 @@
 use Rattle.std.proofs.Common.{◌≡◌, ℕ, Bool, true, false, not, ◌&&◌, ltb, List, find, refl, ◌∙◌}
 use Rattle.std.proofs.lemmas.Bool.{and_parts, and_from, or_left, or_right}
 use Rattle.teb_names.specs.declared.Cell.{Cell}
+use Rattle.teb_names.proofs.Bools.{and_true}
 use Rattle.teb_history.specs.declared.Event.{Event}
 use Rattle.teb_history.specs.Phases.{txns, committed, unfinished}
 use Rattle.teb_history.specs.Accesses.{wrote}
@@ -48,11 +49,7 @@ met_found S H n t x = finds (has_put_in S H n x) H (λ u. unfinished H u && meet
         let q = and_parts (unfinished H u) (meets S H n t u) p.0 in
         and_from _ _ (and_from _ _ (meets_parts S H n t u q.1).1 (or_left (unfinished H u) _ q.0)) p.1
 
-    bare : (m : Bool) → (m && true) ≡ m
-    bare true = refl
-    bare false = refl
-
     same : (u : ℕ) → has_put_in S H n x u ≡ true → (unfinished H u && meets S H n t u && wrote H u x) ≡ is_met S H n t (as_txn u)
     same u h =
         let p = puts_parts S H n x u h in
-        (λ j. (unfinished H u && meets S H n t u) && p.2 j) ∙ bare (unfinished H u && meets S H n t u)
+        (λ j. (unfinished H u && meets S H n t u) && p.2 j) ∙ and_true (unfinished H u && meets S H n t u)

@@ -36,9 +36,6 @@ module _ (P R : ℕ → Type 0) (d : Txn) (xs : List Txn) where
   abbrev pub EachBefore : ℕ → Type 0
   EachBefore i = (j : ℕ) → j < i → P (get_or xs j d).0 → R (get_or xs j d).0
 
-  pub each_none : EachBefore 0
-  each_none j l p = absurd (omega arith)
-
   pub each_more : (i : ℕ) → EachBefore i → (P (get_or xs i d).0 → R (get_or xs i d).0) → EachBefore (i + 1)
   each_more i h f j l p = elim (cases_lt j i) [
     | inl m ↦ h j m p

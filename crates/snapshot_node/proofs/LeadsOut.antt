@@ -1,21 +1,20 @@
 -- Who has an edge to a committed transaction, by what it has read.
 use Rattle.std.proofs.Common.{◌≡◌, ℕ, Bool, true, false, ◌&&◌, List, ℤ, Option, refl, sym, ◌∙◌}
 use Rattle.std.specs.List.{list_any}
-use Rattle.std.proofs.lemmas.Bool.{both_ways, and_parts, or_right, false_from_ne_true, le-ltb}
+use Rattle.std.proofs.lemmas.Bool.{both_ways, and_parts, or_right, false_from_ne_true}
 use Rattle.teb_names.specs.declared.Cell.{Cell}
 use Rattle.teb_names.specs.declared.Txn.{Txn}
 use Rattle.teb_names.specs.declared.ControlKind.TheVariants.{Snapshot}
 use Rattle.teb_history.specs.declared.Event.{Event}
 use Rattle.teb_history.specs.declared.Event.TheVariants.{Began, Got, Put, Ready, Done, Gone, Told}
 use Rattle.teb_history.specs.OwnEvents.{own_events}
-use Rattle.teb_history.specs.Phases.{txns, prepared, committed, aborted}
+use Rattle.teb_history.specs.Phases.{txns, prepared, committed}
 use Rattle.teb_rules.specs.Controls.{edge}
 use Rattle.teb_rules.specs.Setup.{Setup}
 use Rattle.teb_rules.specs.Tree.{row}
 use Rattle.teb_laws.specs.Lawful.{Lawful}
 use Rattle.teb_laws.specs.TreeFacts.{TreeFacts}
-use Rattle.teb_laws.proofs.Ranks.{commits}
-use Rattle.teb_laws.proofs.Serial.{commits_from}
+use Rattle.teb_laws.proofs.Grows.{not_aborted}
 use Rattle.phase_api.specs.FactsView.{IsOrderly}
 use Rattle.snapshot_node.specs.declared.marks.Mark.{Mark}
 use Rattle.snapshot_node.specs.Leaving.{has_edge, is_beside, is_overwritten}
@@ -29,10 +28,6 @@ use Rattle.snapshot_node.proofs.Edges.{gets_put, edge_found}
 abbrev pub gets_overwritten : Setup → List Event → ℕ → ℕ → Event → Bool
 gets_overwritten S H n a (Got s x w v) = is_overwritten S H n a x
 gets_overwritten S H n a _ = false
-
-stays : (S : Setup) (H : List Event) (b : ℕ) → Lawful S H → committed H b ≡ true → aborted H b ≡ false
-unfolding aborted
-stays S H b l e = le-ltb _ _ (commits S H b l (commits_from H b e)).1
 
 -- the same by pairs
 by_pairs : (S : Setup) (H : List Event) (n a : ℕ) (e : Event) → gets_overwritten S H n a e ≡ list_any (λ b. is_beside S H n a b && gets_put H b e) (txns H)
@@ -61,7 +56,7 @@ by_reads S f H n a l c =
     ∙ (λ j. list_any (λ b. as_edge b (committed H b) refl j) (txns H))
   where
     as_edge : (b : ℕ) (z : Bool) → committed H b ≡ z → ((z && is_across S H n a b) && list_any (gets_put H b) (own_events H a)) ≡ (z && edge S H n a b)
-    as_edge b true e = edge_found S f H n l c a b (stays S H b l e)
+    as_edge b true e = edge_found S f H n l c a b (not_aborted S H b l e)
     as_edge b false e = refl
 
 -- a committed one from which no edge is marked has none
@@ -69,5 +64,5 @@ pub unmarked : (S : Setup) (f : TreeFacts S) (H : List Event) (n a : ℕ) (ms : 
 unmarked S f H n a ms l o c m k none = sym (false_from_ne_true _ (λ q.
     let b = any_is _ (txns H) q in
     let p = and_parts (committed H b.0) (edge S H n a b.0) b.1 in
-    let e = edge_shared S H n a l o (stays S H a l k) f c a b.0 (stays S H b.0 l p.0) p.1 in
+    let e = edge_shared S H n a l o (not_aborted S H a l k) f c a b.0 (not_aborted S H b.0 l p.0) p.1 in
     both_ways _ none (m.told l a b.0 (or_right (prepared H a) _ k) (or_right (prepared H b.0) _ p.0) (record { cell = e.1.cell; read = e.1.read; put = e.1.put; across = e.0 })).ahead))

@@ -14,6 +14,7 @@ use Rattle.teb_rules.specs.Setup.{Setup}
 use Rattle.teb_rules.specs.Tree.{row, on, side, meets}
 use Rattle.teb_rules.specs.Batches.{start, close, concurrent}
 use Rattle.teb_laws.specs.Lawful.{Lawful}
+use Rattle.teb_laws.proofs.Lists.{list_any_from}
 use Rattle.teb_laws.proofs.Timeline.{put_order, put_granted, Lawful-upto, begun-upto, begun_counted, begun_there}
 use Rattle.teb_laws.proofs.Nodes.{meets_parts, meets_from, meets_sym}
 use Rattle.teb_laws.proofs.Ranks.{commits, same_close}
@@ -28,7 +29,7 @@ use Rattle.access_book.specs.Books.{is_among}
 use Rattle.snapshot_node.specs.Standing.{counts, writers_in}
 use Rattle.snapshot_node.specs.Pivots.{is_across}
 use Rattle.snapshot_node.specs.Leaving.{is_beside, is_overwritten, AreStarted}
-use Rattle.snapshot_node.proofs.AnyOf.{any_from, any_is}
+use Rattle.snapshot_node.proofs.AnyOf.{any_is}
 use Rattle.snapshot_node.proofs.Grown.{place_among}
 use Rattle.snapshot_node.proofs.Later.{numbers_rise}
 use Rattle.snapshot_node.proofs.Listed.{at_among, puts_parts, among_writers, writers_ascend}
@@ -236,5 +237,5 @@ module _ (S : Setup) (H : List Event) (n : ℕ) (l : Lawful S H) (c : (row S.tre
           | inl q ↦ (let b = any_is _ (txns H) q in across b.0 (beside_is b.0 b.1) ∙ sym q)
           | inr q ↦ false_from_ne_true _ (λ e. both_ways _ q (
               let p = (puts_parts S H n x t (sym (among_writers S H n x t o) ∙ started_among i low)).2 in
-              any_from _ (txns H) t (txns-In H t (lawful_numbered S H l) (o.wrote t x p)) (and_from _ _ (and_from _ _ done e) p))) ∙ sym q
+              list_any_from _ (txns H) t (txns-In H t (lawful_numbered S H l) (o.wrote t x p)) (and_from _ _ (and_from _ _ done e) p))) ∙ sym q
         ]

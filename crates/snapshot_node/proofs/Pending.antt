@@ -14,13 +14,13 @@ use Rattle.teb_history.specs.declared.Event.TheVariants.{Began, Put, Done, Gone}
 use Rattle.teb_history.specs.Phases.{is_began, is_done, is_gone, begun, committed, aborted, unfinished}
 use Rattle.teb_history.specs.Accesses.{is_put, wrote}
 use Rattle.teb_history.specs.OwnEvents.{is_of, own_events}
+use Rattle.teb_history.proofs.Newest.{wrote-cons}
 use Rattle.teb_rules.specs.Setup.{Setup}
 use Rattle.teb_rules.specs.Tree.{on}
 use Rattle.batch_book.proofs.Numbered.{unfinished_is, unfinished_step, unfinished_kept, on_kept}
 use Rattle.sorted_multimap.proofs.TakenMatches.{count_cons}
 use Rattle.snapshot_node.specs.Committed.{is_any_put, puts_of, is_pending, pending_in}
 use Rattle.version_chain.proofs.Cells.{same_cell-itself}
-use Rattle.snapshot_node.proofs.Writing.{wrote_step}
 
 pub count_step : {A : Type 0} (p : A → Bool) (a : A) (xs : List A) → count_by p (a ∷ xs) ≡ cond (p a) 1 0 + count_by p xs
 count_step p a xs = sum_by-cons (λ b. cond (p b) 1 0) a xs
@@ -72,7 +72,7 @@ module _ (S : Setup) (P : List Event) (n : ℕ) where
       along : (Q : List Event) → ((x : Cell) → wrote Q t.0 x ≡ false) → count_by (is_pending S (e ∷ P) n) Q ≡ count_by (is_pending S P n) Q
       along [] h = refl
       along (x ∷ Q) h =
-          let parts = λ (y : Cell). or_parts (is_put t.0 y x) (wrote Q t.0 y) (sym (wrote_step x Q t.0 y) ∙ h y) in
+          let parts = λ (y : Cell). or_parts (is_put t.0 y x) (wrote Q t.0 y) (sym (wrote-cons x Q t.0 y) ∙ h y) in
           count_step (is_pending S (e ∷ P) n) x Q ∙ (λ j. cond (same x (λ y. (parts y).0) j) 1 0 + along Q (λ y. (parts y).1) j) ∙ sym (count_step (is_pending S P n) x Q)
 
   -- t, which is unfinished, ends by an event

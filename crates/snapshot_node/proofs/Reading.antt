@@ -10,8 +10,8 @@ use Rattle.teb_names.specs.Cells.{same_cell}
 use Rattle.teb_history.specs.declared.Event.{Event}
 use Rattle.teb_history.specs.declared.Event.TheVariants.{Began, Got, Gone}
 use Rattle.teb_history.specs.Phases.{is_began, is_gone, aborted, unfinished, begun_count}
-use Rattle.teb_history.specs.Accesses.{is_got, got_at, got}
-use Rattle.teb_history.proofs.Any.{came_any}
+use Rattle.teb_history.specs.Accesses.{is_got, got}
+use Rattle.teb_history.proofs.Newest.{got-cons}
 use Rattle.teb_rules.specs.Setup.{Setup}
 use Rattle.teb_rules.specs.Tree.{on}
 use Rattle.teb_laws.proofs.Answers.{aborted_kept}
@@ -20,12 +20,8 @@ use Rattle.phase_api.specs.FactsView.{IsOrderly}
 use Rattle.access_conflicts.proofs.Orderly.{new_accesses_none}
 use Rattle.snapshot_node.specs.Standing.{has_read_in}
 
-got_step : (e : Event) (P : List Event) (u : ℕ) (x : Cell) → got (e ∷ P) u x ≡ (is_got u x e || got P u x)
-unfolding got got_at
-got_step e P u x = came_any (is_got u x) (e ∷ P) ∙ ap (λ (b : Bool). is_got u x e || b) (sym (came_any (is_got u x) P))
-
 got_kept : (e : Event) (P : List Event) (u : ℕ) (x : Cell) → is_got u x e ≡ false → got (e ∷ P) u x ≡ got P u x
-got_kept e P u x h = got_step e P u x ∙ ap (λ (b : Bool). b || got P u x) h
+got_kept e P u x h = got-cons e P u x ∙ ap (λ (b : Bool). b || got P u x) h
 
 -- an event that is none of u's Began, Got and Gone
 pub still_read : (S : Setup) (P : List Event) (n : ℕ) (e : Event) (x : Cell) (u : ℕ) → is_began u e ≡ false → is_got u x e ≡ false → is_gone u e ≡ false → has_read_in S (e ∷ P) n x u ≡ has_read_in S P n x u
@@ -44,7 +40,7 @@ began_read S P n t s k i o new x u = elim (cases_Bool (eqb t.0 u)) [
 -- t, which is unfinished, reads y
 module _ (S : Setup) (P : List Event) (n : ℕ) (t : Txn) (y : Cell) (w : Txn) (v : Option ℤ) (x : Cell) (u : ℕ) where
   steps : has_read_in S (Got t y w v ∷ P) n x u ≡ (on S P n u && not (aborted P u) && ((eqb t.0 u && same_cell y x) || got P u x))
-  steps = (λ j. on_kept S (Got t y w v) P n u refl j && not (aborted_kept (Got t y w v) P u refl j) && got_step (Got t y w v) P u x j)
+  steps = (λ j. on_kept S (Got t y w v) P n u refl j && not (aborted_kept (Got t y w v) P u refl j) && got-cons (Got t y w v) P u x j)
 
   joins : (s r : Bool) → (s || r) ≡ (r || (s && true))
   joins true true = refl

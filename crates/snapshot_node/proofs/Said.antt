@@ -1,5 +1,5 @@
 -- What a snapshot node says.
-use Rattle.std.proofs.Common.{◌≡◌, ℕ, zero, suc, ◌<◌, Bool, true, false, cond, not, ◌&&◌, eqb, ltb, List, [], ◌∷◌, length, find, Option, Some, None, refl, sym, ◌∙◌, ap, arith}
+use Rattle.std.proofs.Common.{◌≡◌, ℕ, Bool, true, false, cond, not, ◌&&◌, eqb, ltb, List, find, Option, Some, None, refl, sym, ◌∙◌, ap}
 use Rattle.std.proofs.lemmas.Bool.{eq-eqb, ne_eqb}
 use Rattle.teb_names.specs.declared.Cell.{Cell}
 use Rattle.teb_names.specs.declared.Txn.{Txn}
@@ -9,7 +9,8 @@ use Rattle.teb_history.specs.declared.Event.{Event}
 use Rattle.teb_history.specs.Phases.{txns, unfinished}
 use Rattle.teb_history.specs.Accesses.{put_at, wrote}
 use Rattle.teb_history.specs.Written.{txn_of}
-use Rattle.teb_rules.specs.Setup.{Setup, NodeRow}
+use Rattle.teb_history.proofs.LeastNumbers.{nobody}
+use Rattle.teb_rules.specs.Setup.{Setup}
 use Rattle.teb_rules.specs.Tree.{row, leaf, meets, has_batches, side_at}
 use Rattle.teb_rules.specs.Batches.{start, close}
 use Rattle.teb_rules.specs.Versions.{sees_by, orders}
@@ -22,12 +23,6 @@ use Rattle.batch_book.specs.Histories.{full_at}
 use Rattle.batch_book.proofs.Telling.{begin_waits}
 use Rattle.access_conflicts.specs.Waits.{some_txn, wait_for_txn}
 
--- a node that is a snapshot node is one of the tree
-pub row_there : (T : List NodeRow) (n : ℕ) → (row T n).control ≡ Snapshot → n < length T
-row_there [] n h = absurd (cc)
-row_there (r ∷ rs) zero h = omega arith
-row_there (r ∷ rs) (suc n) h = let z = row_there rs n h in omega arith
-
 waits : (o : Option ℕ) → wait_for_txn (some_txn o) ≡ wait_for o
 waits None = refl
 waits (Some u) = refl
@@ -39,10 +34,6 @@ snapshot_read S H n t x e = rw e refl
 pub snapshot_gate : (S : Setup) (H : List Event) (n t : ℕ) → (row S.tree n).control ≡ Snapshot → Go ≡ wait_for (find (gate (row S.tree n).control S H n t) (txns H))
 unfolding gate
 snapshot_gate S H n t e = rw (e, nobody (txns H)) refl
-  where
-    nobody : (us : List ℕ) → find (λ (u : ℕ). false) us ≡ None
-    nobody [] = refl
-    nobody (u ∷ us) = nobody us
 
 pub snapshot_sees : (S : Setup) (H : List Event) (n t w : ℕ) (x : Cell) → (row S.tree n).control ≡ Snapshot → ltb (close S H n w) (start S H n t) ≡ sees_by (row S.tree n).control S H n x t w
 unfolding sees_by

@@ -7,11 +7,12 @@ use Rattle.teb_names.specs.declared.Kind.{Kind}
 use Rattle.teb_names.specs.declared.Cause.{Cause}
 use Rattle.teb_names.specs.declared.Cell.{Cell}
 use Rattle.teb_names.specs.Cells.{same_cell}
+use Rattle.teb_names.proofs.Bools.{and_true}
 use Rattle.teb_history.specs.declared.Event.{Event}
 use Rattle.teb_history.specs.declared.Event.TheVariants.{Began, Put, Done, Gone}
 use Rattle.teb_history.specs.Phases.{is_began, is_done, is_gone, begun, committed, aborted, unfinished, begun_count}
-use Rattle.teb_history.specs.Accesses.{is_put, put_at, wrote}
-use Rattle.teb_history.proofs.Any.{came_any}
+use Rattle.teb_history.specs.Accesses.{is_put, wrote}
+use Rattle.teb_history.proofs.Newest.{wrote-cons}
 use Rattle.teb_rules.specs.Setup.{Setup}
 use Rattle.teb_rules.specs.Tree.{on}
 use Rattle.batch_book.proofs.Numbered.{committed_step, unfinished_step, unfinished_parts, unfinished_kept, on_kept}
@@ -19,12 +20,8 @@ use Rattle.phase_api.specs.FactsView.{IsOrderly}
 use Rattle.access_conflicts.proofs.Orderly.{new_accesses_none}
 use Rattle.snapshot_node.specs.Standing.{counts, has_put_in}
 
-pub wrote_step : (e : Event) (P : List Event) (u : ℕ) (x : Cell) → wrote (e ∷ P) u x ≡ (is_put u x e || wrote P u x)
-unfolding wrote put_at
-wrote_step e P u x = came_any (is_put u x) (e ∷ P) ∙ ap (λ (b : Bool). is_put u x e || b) (sym (came_any (is_put u x) P))
-
 pub wrote_kept : (e : Event) (P : List Event) (u : ℕ) (x : Cell) → is_put u x e ≡ false → wrote (e ∷ P) u x ≡ wrote P u x
-wrote_kept e P u x h = wrote_step e P u x ∙ ap (λ (b : Bool). b || wrote P u x) h
+wrote_kept e P u x h = wrote-cons e P u x ∙ ap (λ (b : Bool). b || wrote P u x) h
 
 pub committed_kept : (e : Event) (P : List Event) (u : ℕ) → is_done u e ≡ false → committed (e ∷ P) u ≡ committed P u
 committed_kept e P u h = committed_step e P u ∙ ap (λ (b : Bool). b || committed P u) h
@@ -44,16 +41,12 @@ counts_done P t u run = elim (cases_Bool (eqb t.0 u)) [
 counts_gone : (P : List Event) (t : Txn) (c : Cause) (u : ℕ) → unfinished P t.0 ≡ true → counts (Gone t c ∷ P) u ≡ (counts P u && not (eqb t.0 u))
 counts_gone P t c u run = elim (cases_Bool (eqb t.0 u)) [
   | inl q ↦ (λ j. ended q j || over q j) ∙ sym (and_right (counts P u) _ (ap not q))
-  | inr q ↦ counts_kept (Gone t c) P u refl refl q ∙ bare (counts P u) ∙ ap (λ (z : Bool). counts P u && not z) (sym q)
+  | inr q ↦ counts_kept (Gone t c) P u refl refl q ∙ sym (and_true (counts P u)) ∙ ap (λ (z : Bool). counts P u && not z) (sym q)
 ]
   where
     off : (a b : Bool) → (a && not (true || b)) ≡ false
     off true b = refl
     off false b = refl
-
-    bare : (a : Bool) → a ≡ (a && true)
-    bare true = refl
-    bare false = refl
 
     ended : eqb t.0 u ≡ true → unfinished (Gone t c ∷ P) u ≡ false
     ended q = unfinished_step (Gone t c) P u ∙ ap (λ (z : Bool). (begun P u && not (committed P u)) && not (z || aborted P u)) q ∙ off (begun P u && not (committed P u)) (aborted P u)
@@ -81,7 +74,7 @@ began_put S P n t s k i o new x u = elim (cases_Bool (eqb t.0 u)) [
 -- t, which is unfinished, puts y
 module _ (S : Setup) (P : List Event) (n : ℕ) (t : Txn) (y : Cell) (v : Option ℤ) (x : Cell) (u : ℕ) where
   steps : has_put_in S (Put t y v ∷ P) n x u ≡ (on S P n u && counts P u && ((eqb t.0 u && same_cell y x) || wrote P u x))
-  steps = (λ j. on_kept S (Put t y v) P n u refl j && counts_kept (Put t y v) P u refl refl refl j && wrote_step (Put t y v) P u x j)
+  steps = (λ j. on_kept S (Put t y v) P n u refl j && counts_kept (Put t y v) P u refl refl refl j && wrote-cons (Put t y v) P u x j)
 
   joins : (s w : Bool) → (s || w) ≡ (w || (s && true))
   joins true true = refl

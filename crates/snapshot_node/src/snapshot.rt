@@ -27,7 +27,7 @@ use version_chain::Chains;
 #[derive(Drop)]
 pub struct Snapshot {
     pub(crate) register: Register,
-    // For each event the mark of the batch that starts there, if one does.
+    // For each event the mark of its place: of the batch that starts there, if one does, and of the transaction of that place.
     pub(crate) marks: Vec<Mark>,
 }
 

@@ -13,7 +13,8 @@ use crate::asked::Asked;
 use crate::marks::Mark;
 use teb_names::Txn;
 
-/// The control, with the marks of its batches, is asked of a transaction that is unfinished there, and the history is lawful.
+/// The control, with its marks of batches and transactions, is asked of a transaction that is unfinished there, and the history
+/// is lawful.
 #[derive(Clone, Copy)]
 pub(crate) struct Validation<'a> {
     pub(crate) asked: Asked<'a>,
