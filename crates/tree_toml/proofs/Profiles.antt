@@ -8,6 +8,7 @@ use Rattle.std.specs.Str.{bytes_eq}
 use Rattle.teb_names.specs.Names.{number_of}
 use Rattle.teb_rules.specs.Setup.{among, above, above_steps}
 use Rattle.teb_rules.specs.Tree.{below}
+use Rattle.cc_tree.proofs.Parts.{length_below}
 use Rattle.toml.specs.Data.{Data, Members, as_str}
 use Rattle.txn_profile.specs.Steps.{has_twice}
 use Rattle.txn_profile.specs.declared.faults.StepsError.{StepsError}
@@ -158,11 +159,6 @@ once_below : (n : ℕ) → has_twice (below n) ≡ false
 unfolding below
 once_below zero = refl
 once_below (suc n) = twice_last n (below n) (once_below n) (not_among n n (omega arith))
-
-length_below : (n : ℕ) → length (below n) ≡ n
-unfolding below
-length_below zero = refl
-length_below (suc n) = omega (arith, length-append (below n) (n ∷ []), length_below n)
 
 all_tables : (n : ℕ) → 0 < n → IsSteps n (below n ∷ [])
 all_tables n h = record {
