@@ -1,5 +1,6 @@
 -- Whether a Put is of a cell that its transaction has put before is told by its place.
-use Rattle.std.proofs.Common.{◌≡◌, Bool, true, false, ◌&&◌, not, List, refl, ◌∙◌, ap}
+use Rattle.std.proofs.Common.{Bool, ◌&&◌, not, List, ◌∙◌, ap}
+use Rattle.teb_names.proofs.Bools.{and_true}
 use Rattle.teb_names.specs.declared.Cell.{Cell}
 use Rattle.teb_history.specs.declared.Event.{Event}
 use Rattle.teb_history.specs.declared.Event.TheVariants.{Began, Got, Put, Ready, Done, Gone, Told}
@@ -16,11 +17,7 @@ use Rattle.engine_core.specs.Keeping.{HasPlace}
 -- a transaction that puts has a version of the cell exactly where it has put the cell before
 pub put_again : (S : Setup) (P : List Event) (L : Cell → List Version) (e : Event) (p : Place) → HoldsVersions S P L → HasPlace L e p → Granted S P e → IsAgain P e p.is_there
 put_again S P L (Put t x v) p h placed g =
-    placed.2 ∙ h.writers x t.0 ∙ ap (λ (o : Bool). wrote P t.0 x && not o) (unfinished_parts P t.0 g.unfinished).2 ∙ alone (wrote P t.0 x)
-  where
-    alone : (b : Bool) → (b && true) ≡ b
-    alone true = refl
-    alone false = refl
+    placed.2 ∙ h.writers x t.0 ∙ ap (λ (o : Bool). wrote P t.0 x && not o) (unfinished_parts P t.0 g.unfinished).2 ∙ and_true (wrote P t.0 x)
 put_again S P L (Began t s k i) p h placed g = tt
 put_again S P L (Got t x w v) p h placed g = tt
 put_again S P L (Ready t) p h placed g = tt

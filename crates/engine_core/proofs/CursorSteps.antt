@@ -1,13 +1,13 @@
 -- The cursors after the newest event of a lawful history.
-use Rattle.std.proofs.Common.{◌≡◌, ℕ, suc, ◌<◌, ◌≤◌, Bool, true, false, List, [], ◌∷◌, ◌++◌, length, drop, Option, ℤ, refl, sym, ap, ◌∙◌, subst, arith, eqb, eqb-true, ltb-true, inl, inr, ◌⊎◌, ◌||◌}
-use Rattle.std.proofs.lemmas.Bool.{cases_Bool, both_ways}
+use Rattle.std.proofs.Common.{◌≡◌, ℕ, suc, ◌<◌, ◌≤◌, true, false, List, [], ◌∷◌, ◌++◌, length, drop, Option, ℤ, refl, sym, ap, ◌∙◌, subst, arith, eqb, eqb-true, inl, inr, ◌⊎◌}
+use Rattle.std.proofs.lemmas.Bool.{cases_Bool, both_ways, or_parts}
 use Rattle.teb_names.specs.declared.Cell.{Cell}
 use Rattle.teb_names.specs.declared.Txn.{Txn}
 use Rattle.teb_names.specs.declared.Kind.{Kind}
 use Rattle.teb_names.specs.declared.Session.{Session}
 use Rattle.teb_history.specs.declared.Event.{Event}
 use Rattle.teb_history.specs.declared.Event.TheVariants.{Began, Got, Put, Ready, Done, Gone, Told}
-use Rattle.teb_history.specs.Phases.{is_began, began_at, begun, begun_count, kind_of, spot_of, unfinished}
+use Rattle.teb_history.specs.Phases.{begun, begun_count, kind_of, spot_of, unfinished}
 use Rattle.teb_rules.specs.Setup.{Setup, profile}
 use Rattle.teb_rules.specs.Steps.{cursor}
 use Rattle.teb_laws.specs.Lawful.{Lawful}
@@ -16,12 +16,9 @@ use Rattle.phase_api.specs.FactsView.{setup_of, events_of, IsTyped}
 use Rattle.cursor_book.specs.Cursors.{CursorsOf, moved}
 use Rattle.cursor_book.proofs.Moves.{length-cursors, cursors_began, cursors_got, cursors_put, cursors_ready, cursors_done, cursors_gone, cursors_told}
 use Rattle.teb_laws.proofs.Timeline.{begun_counted}
-use Rattle.teb_history.proofs.Any.{came_any}
+use Rattle.teb_history.proofs.Newest.{begun-cons}
+use Rattle.candidate_reads.proofs.Sources.{begun_place}
 use Rattle.engine_core.proofs.Running.{unfinished_numbered, unfinished_typed, begun_unfinished}
-
-begun_more : (e : Event) (P : List Event) (u : ℕ) → begun (e ∷ P) u ≡ (is_began u e || begun P u)
-unfolding begun began_at
-begun_more e P u = came_any (is_began u) (e ∷ P) ∙ ap (λ (b : Bool). is_began u e || b) (sym (came_any (is_began u) P))
 
 -- an access was granted to an unfinished transaction
 got_unfinished : (S : Setup) (P : List Event) (t w : Txn) (x : Cell) (v : Option ℤ) → Lawful S (Got t x w v ∷ P) → unfinished P t.0 ≡ true
@@ -36,23 +33,15 @@ lawful_before : (S : Setup) (e : Event) (P : List Event) → Lawful S (e ∷ P) 
 unfolding Lawful
 lawful_before S e P l = l.1
 
-earlier_false : (a b : Bool) → (a || b) ≡ false → b ≡ false
-earlier_false true b e = absurd (cc)
-earlier_false false b e = e
-
 other : (u t : ℕ) (P : List Event) → begun P u ≡ true → begun P t ≡ false → eqb u t ≡ false
 other u t P b n = elim (cases_Bool (eqb u t)) [ inl e ↦ absurd (both_ways _ n (subst (λ (z : ℕ). begun P z ≡ true) (eqb-true u t e) b)) | inr e ↦ e ]
 
-began_place : (P : List Event) (t : ℕ) → begun P t ≡ true → began_at P t < length P
-unfolding begun
-began_place P t h = ltb-true _ _ h
-
 -- an access begins nothing
 got_begun : (P : List Event) (t w : Txn) (x : Cell) (v : Option ℤ) (u : ℕ) → begun (Got t x w v ∷ P) u ≡ begun P u
-got_begun P t w x v u = begun_more (Got t x w v) P u
+got_begun P t w x v u = begun-cons (Got t x w v) P u
 
 put_begun : (P : List Event) (t : Txn) (x : Cell) (v : Option ℤ) (u : ℕ) → begun (Put t x v ∷ P) u ≡ begun P u
-put_begun P t x v u = begun_more (Put t x v) P u
+put_begun P t x v u = begun-cons (Put t x v) P u
 
 got_kind : (P : List Event) (t w : Txn) (x : Cell) (v : Option ℤ) (u : ℕ) → kind_of (Got t x w v ∷ P) u ≡ kind_of P u
 unfolding spot_of
@@ -66,21 +55,21 @@ put_kind P t x v u = refl
 idle_cursor : (S : Setup) (P : List Event) (t : ℕ) → Lawful S P → begun P t ≡ false → cursor S P t ≡ 0
 unfolding cursor
 idle_cursor S [] t l b = refl
-idle_cursor S (Began u s k i ∷ P) t l b = idle_cursor S P t (lawful_before S (Began u s k i) P l) (earlier_false _ _ (sym (begun_more (Began u s k i) P t) ∙ b))
+idle_cursor S (Began u s k i ∷ P) t l b = idle_cursor S P t (lawful_before S (Began u s k i) P l) (or_parts _ _ (sym (begun-cons (Began u s k i) P t) ∙ b)).1
 idle_cursor S (Got u x w v ∷ P) t l b =
     let n = sym (got_begun P u w x v t) ∙ b in
     rw (other u.0 t P (begun_unfinished P u.0 (got_unfinished S P u w x v l)) n) (idle_cursor S P t (lawful_before S (Got u x w v) P l) n)
 idle_cursor S (Put u x v ∷ P) t l b =
     let n = sym (put_begun P u x v t) ∙ b in
     rw (other u.0 t P (begun_unfinished P u.0 (put_unfinished S P u x v l)) n) (idle_cursor S P t (lawful_before S (Put u x v) P l) n)
-idle_cursor S (Ready u ∷ P) t l b = idle_cursor S P t (lawful_before S (Ready u) P l) (sym (begun_more (Ready u) P t) ∙ b)
-idle_cursor S (Done u ∷ P) t l b = idle_cursor S P t (lawful_before S (Done u) P l) (sym (begun_more (Done u) P t) ∙ b)
-idle_cursor S (Gone u c ∷ P) t l b = idle_cursor S P t (lawful_before S (Gone u c) P l) (sym (begun_more (Gone u c) P t) ∙ b)
-idle_cursor S (Told u ∷ P) t l b = idle_cursor S P t (lawful_before S (Told u) P l) (sym (begun_more (Told u) P t) ∙ b)
+idle_cursor S (Ready u ∷ P) t l b = idle_cursor S P t (lawful_before S (Ready u) P l) (sym (begun-cons (Ready u) P t) ∙ b)
+idle_cursor S (Done u ∷ P) t l b = idle_cursor S P t (lawful_before S (Done u) P l) (sym (begun-cons (Done u) P t) ∙ b)
+idle_cursor S (Gone u c ∷ P) t l b = idle_cursor S P t (lawful_before S (Gone u c) P l) (sym (begun-cons (Gone u c) P t) ∙ b)
+idle_cursor S (Told u ∷ P) t l b = idle_cursor S P t (lawful_before S (Told u) P l) (sym (begun-cons (Told u) P t) ∙ b)
 
 -- the next number has not begun
 unbegun : (S : Setup) (P : List Event) → Lawful S P → begun P (suc (begun_count P)) ≡ false
-unbegun S P l = elim (cases_Bool (begun P (suc (begun_count P)))) [ inl y ↦ absurd (let q = (begun_counted S P (suc (begun_count P)) l (began_place P _ y)).1 in omega arith) | inr n ↦ n ]
+unbegun S P l = elim (cases_Bool (begun P (suc (begun_count P)))) [ inl y ↦ absurd (let q = (begun_counted S P (suc (begun_count P)) l (begun_place P _ y)).1 in omega arith) | inr n ↦ n ]
 
 -- what is known of the transaction of an access, which is the newest event
 pub record IsMover (f : Facts) (cs : List ℕ) (t : ℕ) : Type 0 where

@@ -36,9 +36,6 @@ pub record AreDone {K : Type 0} (P : ℕ → K → Type 0) (old new : List K) (i
   pub left : (n : ℕ) (c : K) → i ≤ n → slice_get new n ≡ Some c → slice_get old n ≡ Some c
 
 module _ {K : Type 0} (P : ℕ → K → Type 0) where
-  pub none_done : (cs : List K) → AreDone P cs cs 0
-  none_done cs = record { len = refl; done = λ n c lt e. absurd (omega arith); left = λ n c le e. e }
-
   pub one_more_done : (old new : List K) (i : ℕ) (b : K) → AreDone P old new i → P i b → AreDone P old (set new i b) (i + 1)
   one_more_done old new i b a p = record {
     len = length-set new i b ∙ a.len;

@@ -1,13 +1,12 @@
 -- Transactions of a lawful history that are unfinished.
-use Rattle.std.proofs.Common.{◌≡◌, ℕ, ◌<◌, ◌≤◌, true, List, length, IsFalse, ltb-true}
+use Rattle.std.proofs.Common.{◌≡◌, ℕ, ◌<◌, ◌≤◌, true, List, IsFalse}
 use Rattle.std.proofs.lemmas.Bool.{and_parts, not-true}
 use Rattle.teb_history.specs.declared.Event.{Event}
-use Rattle.teb_history.specs.Phases.{began_at, begun, unfinished, aborted, begun_count, kind_of}
+use Rattle.teb_history.specs.Phases.{begun, unfinished, aborted, begun_count, kind_of}
 use Rattle.teb_rules.specs.Setup.{Setup}
 use Rattle.teb_laws.specs.Lawful.{Lawful}
 use Rattle.teb_laws.proofs.Timeline.{begun_counted, kind-lt}
-use Rattle.phase_api.specs.declared.facts.Facts.{Facts}
-use Rattle.phase_api.specs.FactsView.{setup_of, events_of, IsTyped}
+use Rattle.candidate_reads.proofs.Sources.{begun_place}
 
 pub begun_unfinished : (H : List Event) (t : ℕ) → unfinished H t ≡ true → begun H t ≡ true
 unfolding unfinished
@@ -17,16 +16,8 @@ pub unfinished_kept : (H : List Event) (t : ℕ) → unfinished H t ≡ true →
 unfolding unfinished
 unfinished_kept H t h = not-true _ (and_parts _ _ h).1
 
-begun_place : (H : List Event) (t : ℕ) → begun H t ≡ true → began_at H t < length H
-unfolding begun
-begun_place H t h = ltb-true _ _ h
-
 pub unfinished_numbered : (S : Setup) (H : List Event) (t : ℕ) → Lawful S H → unfinished H t ≡ true → (0 < t) × (t ≤ begun_count H)
 unfinished_numbered S H t l h = begun_counted S H t l (begun_place H t (begun_unfinished H t h))
 
 pub unfinished_typed : (S : Setup) (H : List Event) (t : ℕ) → Lawful S H → unfinished H t ≡ true → kind_of H t < S.types
 unfinished_typed S H t l h = kind-lt S H t l (begun_place H t (begun_unfinished H t h))
-
--- such a transaction is of a type of the tree
-pub running_typed : (f : Facts) (t : ℕ) → Lawful (setup_of f) (events_of f) → unfinished (events_of f) t ≡ true → IsTyped f t
-running_typed f t l h = record { begun = begun_unfinished (events_of f) t h; kind = unfinished_typed (setup_of f) (events_of f) t l h }

@@ -10,9 +10,6 @@ pub record AreFirst {K : Type 0} (node_number : K → ℕ) (stands : K → Setup
   pub each : (i : ℕ) (c : K) → slice_get cs i ≡ Some c → (node_number c ≡ i) × stands c S H
 
 module _ {K : Type 0} (node_number : K → ℕ) (stands : K → Setup → List Event → Type 0) (S : Setup) (H : List Event) where
-  pub first_none : (cs : List K) → cs ≡ [] → AreFirst node_number stands S H cs 0
-  first_none cs q = subst (λ (ds : List K). AreFirst node_number stands S H ds 0) (sym q) (record { many = refl; each = λ i c e. absurd (cc) })
-
   last_or_before : (cs : List K) (d : K) (i : ℕ) (c : K) → slice_get (cs ++ d ∷ []) i ≡ Some c → (slice_get cs i ≡ Some c) ⊎ ((i ≡ length cs) × (d ≡ c))
   last_or_before [] d zero c e = inr (refl, (cc))
   last_or_before [] d (suc i) c e = absurd (cc)

@@ -1,7 +1,6 @@
 //! What a request is answered, before anything is written.
 
-ghost use Rattle.std.specs.Prelude.{◌≡◌, ◌&&◌, leb, IsTrue};
-ghost use Rattle.teb_history.specs.Phases.{unfinished};
+ghost use Rattle.std.specs.Prelude.{◌≡◌, ◌&&◌, leb};
 ghost use Rattle.teb_rules.specs.Answer.{answer, answer_new, answer_of};
 ghost use Rattle.engine_core.specs.Wholes.{store_in, events_in, ViewIsWhole};
 ghost use Rattle.engine_core.specs.Decisions.{carried, told, IsBounded};

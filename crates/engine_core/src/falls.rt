@@ -4,7 +4,6 @@ ghost use Rattle.std.specs.Prelude.{◌≡◌, ◌≤◌, IsTrue};
 ghost use Rattle.teb_history.specs.Phases.{unfinished};
 ghost use Rattle.teb_rules.specs.Cascade.{abort};
 ghost use Rattle.teb_laws.specs.Lawful.{Settled};
-ghost use Rattle.engine_core.specs.Stores.{store_of};
 ghost use Rattle.engine_core.specs.Wholes.{StateIsWhole, HasRoom};
 
 use crate::append_event::append_event;

@@ -1,6 +1,6 @@
 //! Each control is told of each event.
 
-ghost use Rattle.std.specs.Prelude.{◌≡◌, ◌<◌, ◌≤◌, ◌+◌, ℕ, suc, List, drop, length, OnOk, ◌∷◌};
+ghost use Rattle.std.specs.Prelude.{◌≡◌, ◌<◌, ◌≤◌, ℕ, suc, List, drop, length, OnOk, ◌∷◌};
 ghost use Rattle.teb_history.specs.declared.Event.{Event};
 ghost use Rattle.teb_rules.specs.Setup.{Setup as Rules};
 ghost use Rattle.phase_api.specs.Calls.{MayNote};

@@ -1,13 +1,11 @@
 //! The place of the version that a Put is about to write: it is looked for before the nodes are asked where one of them orders
 //! versions by it, and else once the Put is granted.
 
-ghost use Rattle.std.specs.Prelude.{◌≡◌, ◌<◌, All, IfSome, IsTrue, length};
+ghost use Rattle.std.specs.Prelude.{◌≡◌, ◌<◌, All, IfSome, length};
 ghost use Rattle.std.specs.List.{list_any};
-ghost use Rattle.teb_history.specs.Phases.{unfinished, spot_of};
-ghost use Rattle.teb_rules.specs.Tree.{row, path, is_timestamp, on_path};
+ghost use Rattle.teb_rules.specs.Tree.{row, is_timestamp};
 ghost use Rattle.cc_tree.specs.Grown.{node_numbers};
 ghost use Rattle.version_chain.specs.Lists.{writers_of};
-ghost use Rattle.phase_api.specs.Versions.{IsToldPlace};
 ghost use Rattle.engine_core.specs.Keeping.{IsPlaced};
 ghost use Rattle.engine_core.specs.Wholes.{store_in, events_in, ViewIsWhole};
 ghost use Rattle.engine_core.specs.Stopping.{at_of, AreTold};
@@ -37,10 +35,7 @@ pub fn asked_place<K: Control, C: Chains>(asking: &Asking<'_, K, C>, cell: Cell)
 pub fn at_of(asked: Option<Place>) -> Option<usize>
     ensures { result ≡ at_of asked }
 {
-    match asked {
-        Some(place) => Some(place.at),
-        None => None,
-    }
+    asked.map(|place| place.at)
 }
 
 /// The place of t's version of a cell, which is asked for already where a timestamp node is on t's path. Where none is, no control

@@ -1,6 +1,6 @@
-use Rattle.std.proofs.Common.{◌≡◌, inl, inr, ℕ, Bool, true, false, List, [], ◌∷◌, ◌||◌, eqb, eqb-true, refl, sym, ◌∙◌, subst}
+use Rattle.std.proofs.Common.{◌≡◌, inl, inr, ℕ, Bool, true, false, List, [], ◌∷◌, eqb, eqb-true, sym, ◌∙◌, subst}
 use Rattle.std.specs.List.{list_any}
-use Rattle.std.proofs.lemmas.Bool.{or_cases}
+use Rattle.std.proofs.lemmas.Bool.{or_cases, or_parts}
 use Rattle.teb_history.specs.Phases.{spot_of}
 use Rattle.teb_rules.specs.Setup.{among}
 use Rattle.teb_rules.specs.Tree.{row, is_timestamp, on_path}
@@ -9,15 +9,11 @@ use Rattle.engine_core.specs.Wholes.{store_in, events_in}
 use Rattle.engine_core.proofs.Along.{within}
 use Rattle.engine_core.proofs.put_places.asked_place.Goals as goal
 
-neither : (a b : Bool) → (a || b) ≡ false → (a ≡ false) × (b ≡ false)
-neither false b e = (refl, e)
-neither true b e = absurd (cc)
-
 -- what holds of none of a list
 none_of : (p : ℕ → Bool) (ns : List ℕ) (n : ℕ) → list_any p ns ≡ false → among n ns ≡ true → p n ≡ false
 none_of p [] n h i = absurd (cc)
 none_of p (m ∷ ms) n h i =
-    let f = neither (p m) (list_any p ms) h in
+    let f = or_parts (p m) (list_any p ms) h in
     elim (or_cases (eqb m n) (among n ms) i) [ inl e ↦ subst (λ (z : ℕ). p z ≡ false) (eqb-true m n e) f.0 | inr j ↦ none_of p ms n f.1 j ]
 
 pub has_timestamp-requires : goal.has_timestamp-requires

@@ -9,7 +9,7 @@ use Rattle.phase_api.specs.Versions.{IsToldPlace}
 use Rattle.phase_api.proofs.StopAlong.{stop_next, stop_here, stop_end}
 use Rattle.engine_core.specs.Wholes.{store_in, events_in}
 use Rattle.engine_core.proofs.ReadSources.{sources_stand}
-use Rattle.engine_core.proofs.Running.{running_typed}
+use Rattle.commit_gate.proofs.CommitWaits.{typed_now}
 use Rattle.engine_core.proofs.Along.{on_at, here_at, node_at, access_along}
 use Rattle.engine_core.proofs.stops.write_stop.Goals as goal
 
@@ -18,7 +18,7 @@ control_at-requires-clause-node g c = node_at (store_in c.args.asking.now.view.n
 
 pub before_write-requires-clause-access : goal.before_write-requires-clause-access
 before_write-requires-clause-access g c = subst (λ (n : ℕ). IsAccess c.args.asking.now.view.now.facts n c.args.asking.now.txn.0 c.args.cell) (sym c.control_at.ensures.node_number)
-    (record { here = here_at c.args.asking.now.view.now.facts c.args.asking.now.txn.0 c.args.asking.now.nodes.now c.loop-node.node-index _ (running_typed c.args.asking.now.view.now.facts c.args.asking.now.txn.0 c.requires.whole.whole.lawful c.args.asking.now.runs) c.args.asking.now.way c.loop-node-test.true; unfinished = c.requires.asks.unfinished; unprepared = c.requires.asks.unprepared; step = c.requires.asks.step })
+    (record { here = here_at c.args.asking.now.view.now.facts c.args.asking.now.txn.0 c.args.asking.now.nodes.now c.loop-node.node-index _ (typed_now c.args.asking.now.view.now.facts c.args.asking.now.txn.0 c.requires.whole.whole.lawful c.args.asking.now.runs) c.args.asking.now.way c.loop-node-test.true; unfinished = c.requires.asks.unfinished; unprepared = c.requires.asks.unprepared; step = c.requires.asks.step })
 
 pub before_write-requires-clause-sources : goal.before_write-requires-clause-sources
 before_write-requires-clause-sources g c = sources_stand (store_in c.args.asking.now.view.now).setup (events_in c.args.asking.now.view.now) c.args.cell c.requires.whole.whole.lawful c.requires.whole.settled

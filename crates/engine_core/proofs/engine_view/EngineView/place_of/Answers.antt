@@ -3,11 +3,12 @@ use Rattle.std.proofs.lemmas.Bool.{or_right}
 use Rattle.teb_history.specs.Phases.{unfinished}
 use Rattle.teb_history.specs.Accesses.{wrote}
 use Rattle.phase_api.specs.FactsView.{events_of}
-use Rattle.engine_core.proofs.Running.{running_typed, unfinished_kept}
+use Rattle.commit_gate.proofs.CommitWaits.{typed_now}
+use Rattle.engine_core.proofs.Running.{unfinished_kept}
 use Rattle.engine_core.proofs.engine_view.EngineView.place_of.Goals as goal
 
 pub place_of-requires-clause-typed : goal.place_of-requires-clause-typed
-place_of-requires-clause-typed g c = running_typed c.args.self.now.facts c.args.t.0 c.requires.whole.whole.lawful c.requires.unfinished
+place_of-requires-clause-typed g c = typed_now c.args.self.now.facts c.args.t.0 c.requires.whole.whole.lawful c.requires.unfinished
 
 pub place_of-requires-clause-tree : goal.place_of-requires-clause-tree
 place_of-requires-clause-tree g c = tree_facts _ c.requires.whole.whole.sound
