@@ -1,5 +1,5 @@
 -- The words of the notes, and what is known of them.
-use Rattle.std.proofs.Common.{◌≡◌, ◌≢◌, ℕ, zero, suc, ◌<◌, max, List, [], ◌∷◌, set, length, get_or, sym, refl, ap, ◌∙◌, arith, length-set, get_or-set_same, get_or-set_other, replicate}
+use Rattle.std.proofs.Common.{◌≡◌, ℕ, zero, suc, ◌<◌, max, List, [], ◌∷◌, set, length, get_or, sym, refl, ap, ◌∙◌, arith, length-set, get_or-set_same, get_or-set_other, replicate}
 use mathlib.Core.Logic.{dite}
 use native.Mathlib.Decide.{ℕ_discrete, dec_le}
 use lib.Seq.{set-get_or}
@@ -52,9 +52,3 @@ zeros_at (suc n) (suc i) = zeros_at n i
 pub zeros_long : (n : ℕ) → length (replicate {A = ℕ} n 0) ≡ n
 zeros_long zero = refl
 zeros_long (suc n) = ap suc (zeros_long n)
-
--- words that are the same at each place still are where both have one more
-pub set_alike : (i n : ℕ) (xs ys : List ℕ) → i < length xs → ((j : ℕ) → get_or ys j 0 ≡ get_or xs j 0) → get_or (set ys i n) i 0 ≡ n → (j : ℕ) → get_or (set xs i n) j 0 ≡ get_or (set ys i n) j 0
-set_alike i n xs ys short alike here j = dite (ℕ_discrete j i)
-    (λ (e : j ≡ i). ap (λ k. get_or (set xs i n) k 0) e ∙ (get_or-set_same xs i n 0 short ∙ (sym here ∙ ap (λ k. get_or (set ys i n) k 0) (sym e))))
-    (λ (other : j ≢ i). get_or-set_other xs i j n 0 other ∙ (sym (alike j) ∙ sym (get_or-set_other ys i j n 0 other)))

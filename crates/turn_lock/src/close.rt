@@ -1,7 +1,6 @@
 //! How a turn ends.
-ghost use Rattle.std.specs.Prelude.{◌≡◌, ◌<◌, [], All};
+ghost use Rattle.std.specs.Prelude.{◌≡◌, ◌<◌, All};
 ghost use Rattle.turn_lock.specs.Counts.{HasAll};
-ghost use Rattle.turn_lock.specs.Views.{both_views};
 ghost use Rattle.turn_lock.specs.Calls.{AreOwned, Follows, Ends};
 ghost use Rattle.turn_lock.specs.Seats.{base_in, owner_count, view_of, all_owners, IsOf, IsOutside};
 
