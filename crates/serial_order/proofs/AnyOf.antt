@@ -1,14 +1,11 @@
 -- Tests of the numbers up to one.
 use Rattle.std.proofs.Common.{◌≡◌, ℕ, suc, ◌+◌, Bool, true, false, ◌||◌, List, [], ◌∷◌, ◌++◌, refl, ap, subst, ◌∙◌, arith}
 use Rattle.std.specs.List.{list_any}
+use Rattle.teb_names.proofs.Bools.{or_false}
 use Rattle.teb_history.specs.Phases.{numbers}
 
 any_append : (p : ℕ → Bool) (us : List ℕ) (u : ℕ) → list_any p (us ++ u ∷ []) ≡ (list_any p us || p u)
-any_append p [] u = one (p u)
-  where
-    one : (b : Bool) → (b || false) ≡ b
-    one true = refl
-    one false = refl
+any_append p [] u = or_false (p u)
 any_append p (v ∷ us) u = ap (λ (b : Bool). p v || b) (any_append p us u) ∙ assoc (p v) (list_any p us) (p u)
   where
     assoc : (a b c : Bool) → (a || (b || c)) ≡ ((a || b) || c)

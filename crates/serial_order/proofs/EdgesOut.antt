@@ -3,6 +3,7 @@ use Rattle.std.proofs.Common.{◌≡◌, ℕ, ◌+◌, ◌<◌, Bool, true, fals
 use Rattle.std.specs.List.{list_any}
 use Rattle.std.proofs.lemmas.Bool.{cases_eq, and_parts, or_right}
 use Rattle.std.proofs.lemmas.List.{length-replicate, get_or-replicate, length-set, get_or-set_same, get_or-set_other}
+use Rattle.teb_names.proofs.Bools.{and_false, or_false}
 use Rattle.teb_names.specs.declared.ControlKind.TheVariants.{Snapshot}
 use Rattle.teb_history.specs.declared.Event.{Event}
 use Rattle.teb_history.specs.Phases.{txns, numbers, begun_count, begun, began_at, committed}
@@ -33,12 +34,8 @@ module _ (S : Setup) (H : List Event) (n : ℕ) (l : Lawful S H) where
     | inl e ↦ (let ba : began_at H a < length H = (let d = commits_from H a ca in let z = commits S H a l d in omega arith) in
         let s : side S H n t ≡ side S H n a = elim (cases_eq (side S H n t) (side S H n a)) [ inl q ↦ q | inr ne ↦ absurd (start_differs S H n t a l bt ba ot oa ne e) ] in
         rw (eq-eqb _ _ s, eq-eqb _ _ e, eq-eqb _ _ (sym e)) refl)
-    | inr ne ↦ rw (ne_eqb _ _ ne, ne_eqb (start S H n a) (start S H n t) (λ q. ne (sym q))) (none (eqb (side S H n t) (side S H n a)))
+    | inr ne ↦ rw (ne_eqb _ _ ne, ne_eqb (start S H n a) (start S H n t) (λ q. ne (sym q))) (and_false (eqb (side S H n t) (side S H n a)))
   ])
-    where
-      none : (b : Bool) → (b && false) ≡ false
-      none true = refl
-      none false = refl
 
   leads_one : (t a : ℕ) → began_at H t < length H → on S H n t ≡ true → leads_from S H n (start S H n t) a ≡ (committed H a && one_batch S H n t a && has_edge S H n a)
   leads_one t a bt ot = go (committed H a) refl (on S H n a) refl
@@ -78,12 +75,8 @@ module _ (S : Setup) (H : List Event) (n : ℕ) (l : Lawful S H) where
   pub marks_same : (k : ℕ) (ms : List Bool) → AreMarked S H n (numbers k) ms → leads_out S H n (k + 1) ≡ false → AreMarked S H n (numbers (k + 1)) ms
   marks_same k ms m f = record {
     one_each = m.one_each;
-    marked = λ i lt. m.marked i lt ∙ unless (list_any (leads_from S H n i) (numbers k)) ∙ ap (λ (b : Bool). list_any (leads_from S H n i) (numbers k) || (b && eqb (start S H n (k + 1)) i)) (sym f) ∙ sym (any_next (leads_from S H n i) k);
+    marked = λ i lt. m.marked i lt ∙ sym (or_false (list_any (leads_from S H n i) (numbers k))) ∙ ap (λ (b : Bool). list_any (leads_from S H n i) (numbers k) || (b && eqb (start S H n (k + 1)) i)) (sym f) ∙ sym (any_next (leads_from S H n i) k);
   }
-    where
-      unless : (b : Bool) → b ≡ (b || false)
-      unless true = refl
-      unless false = refl
 
   pub marks_more : (k : ℕ) (ms : List Bool) → AreMarked S H n (numbers k) ms → leads_out S H n (k + 1) ≡ true → start S H n (k + 1) < length ms → AreMarked S H n (numbers (k + 1)) (set ms (start S H n (k + 1)) true)
   marks_more k ms m f low = record {
@@ -94,12 +87,8 @@ module _ (S : Setup) (H : List Event) (n : ℕ) (l : Lawful S H) where
       here : (i : ℕ) → i < length H → get_or (set ms (start S H n (k + 1)) true) i false ≡ (list_any (leads_from S H n i) (numbers k) || eqb (start S H n (k + 1)) i)
       here i lt = elim (cases_eq (start S H n (k + 1)) i) [
         | inl e ↦ sym (ap (λ (j : ℕ). get_or (set ms (start S H n (k + 1)) true) j false) e) ∙ get_or-set_same ms (start S H n (k + 1)) true false low ∙ sym (or_right (list_any (leads_from S H n i) (numbers k)) _ (eq-eqb _ _ e))
-        | inr ne ↦ get_or-set_other ms (start S H n (k + 1)) i true false (λ e. ne (sym e)) ∙ m.marked i lt ∙ unless (list_any (leads_from S H n i) (numbers k)) ∙ ap (λ (b : Bool). list_any (leads_from S H n i) (numbers k) || b) (sym (ne_eqb _ _ ne))
+        | inr ne ↦ get_or-set_other ms (start S H n (k + 1)) i true false (λ e. ne (sym e)) ∙ m.marked i lt ∙ sym (or_false (list_any (leads_from S H n i) (numbers k))) ∙ ap (λ (b : Bool). list_any (leads_from S H n i) (numbers k) || b) (sym (ne_eqb _ _ ne))
       ]
-        where
-          unless : (b : Bool) → b ≡ (b || false)
-          unless true = refl
-          unless false = refl
 
   -- who leads out is of the node, and its batch starts within the history
   pub leads_here : (a : ℕ) → leads_out S H n a ≡ true → (committed H a ≡ true) × (on S H n a ≡ true)

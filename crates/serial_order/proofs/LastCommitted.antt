@@ -1,10 +1,11 @@
 -- The last committed version of a cell is what the final table has there.
-use Rattle.std.proofs.Common.{ℕ, zero, suc, ◌≡◌, ◌⊎◌, ◌<◌, Bool, true, false, not, ◌&&◌, eqb, List, [], ◌∷◌, Option, Some, None, refl, sym, ap, subst, ◌∙◌, arith, inl, inr, length, get_or, filter, unwrap_or, le-ltb, ℤ, slice_get}
+use Rattle.std.proofs.Common.{ℕ, zero, suc, ◌≡◌, ◌⊎◌, ◌<◌, Bool, true, not, ◌&&◌, eqb, List, [], ◌∷◌, Option, Some, None, refl, sym, ap, subst, ◌∙◌, arith, inl, inr, length, get_or, filter, unwrap_or, ℤ, slice_get}
 use Rattle.std.proofs.lemmas.Bool.{both_ways, cases_order, and_from, and_parts, not-true, not_from_false}
+use Rattle.teb_names.proofs.Bools.{and_true}
 use Rattle.teb_names.specs.declared.Cell.{Cell}
 use Rattle.teb_names.specs.Rows.{row_of}
 use Rattle.teb_history.specs.declared.Event.{Event}
-use Rattle.teb_history.specs.Phases.{txns, begun_count, committed, aborted}
+use Rattle.teb_history.specs.Phases.{txns, begun_count, committed}
 use Rattle.teb_history.specs.Accesses.{wrote, last_put}
 use Rattle.teb_rules.specs.Setup.{Setup, Store}
 use Rattle.teb_rules.specs.Serializes.{In, Pairs, value_of, final_table}
@@ -12,8 +13,8 @@ use Rattle.teb_rules.specs.Versions.{precedes, latest}
 use Rattle.teb_laws.specs.Lawful.{Lawful}
 use Rattle.teb_laws.proofs.Timeline.{begun_counted}
 use Rattle.teb_laws.proofs.Locks.{In-txns}
-use Rattle.teb_laws.proofs.Ranks.{commits}
-use Rattle.teb_laws.proofs.Serial.{In-filter, filter-In, commits_from}
+use Rattle.teb_laws.proofs.Grows.{not_aborted}
+use Rattle.teb_laws.proofs.Serial.{In-filter, filter-In}
 use Rattle.teb_laws.proofs.ReadRule.{list_all_at, list_all_from}
 use Rattle.teb_laws.proofs.VersionOrder.{precedes_irreflexive}
 use Rattle.version_chain.specs.Lists.{Version, writers_of, first_place, last_place, own_or_last}
@@ -54,11 +55,6 @@ at-value H x [] i v l e = absurd (cc)
 at-value H x (p ∷ ps) zero v l e = subst (λ (z : Version). last_put H z.0.0 x ≡ Some z.1) (let q : p ≡ v = cc in q) l.0
 at-value H x (p ∷ ps) (suc i) v l e = at-value H x ps i v l.1 e
 
--- who is committed is not aborted
-committed_stands : (S : Setup) (H : List Event) (w : ℕ) → Lawful S H → committed H w ≡ true → aborted H w ≡ false
-unfolding aborted
-committed_stands S H w l c = le-ltb _ _ (commits S H w l (commits_from H w c)).1
-
 -- w is committed, and has put x
 abbrev pub is_final : List Event → Cell → ℕ → Bool
 is_final H x w = committed H w && wrote H w x
@@ -80,18 +76,14 @@ module _ (S : Setup) (H : List Event) (x : Cell) (L : Cell → List Version) (l 
           omega (arith, counted.1))
 
   final_in : (w : ℕ) → is_final H x w ≡ true → In w (writers_of (L x))
-  final_in w f = let p = and_parts _ _ f in among_In w (writers_of (L x)) (h.writers x w ∙ and_from _ _ p.1 (not_from_false _ (committed_stands S H w l p.0)))
+  final_in w f = let p = and_parts _ _ f in among_In w (writers_of (L x)) (h.writers x w ∙ and_from _ _ p.1 (not_from_false _ (not_aborted S H w l p.0)))
 
   begun_in : (w : ℕ) → In w (writers_of (L x)) → In w (txns H)
   begun_in w i = In-txns S H w l (writer_began S H w x l (version_parts H x w (have w i)).0)
 
   -- a writer in the list passes both tests or neither
   same_test : (w : ℕ) → In w (writers_of (L x)) → is_final H x w ≡ committed H w
-  same_test w i = let e = (version_parts H x w (have w i)).0 in ap (λ (b : Bool). committed H w && b) e ∙ and_with (committed H w)
-    where
-      and_with : (b : Bool) → (b && true) ≡ b
-      and_with true = refl
-      and_with false = refl
+  same_test w i = let e = (version_parts H x w (have w i)).0 in ap (λ (b : Bool). committed H w && b) e ∙ and_true (committed H w)
 
   writer_there : (i : ℕ) → i < length (writers_of (L x)) → In (get_or (writers_of (L x)) i 0) (writers_of (L x))
   writer_there i low = at-In (writers_of (L x)) i low

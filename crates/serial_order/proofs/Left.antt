@@ -1,8 +1,8 @@
 -- In a cell that nobody has put its starting row is left.
-use Rattle.std.proofs.Common.{ℕ, ◌≡◌, Bool, true, false, ◌&&◌, ◌||◌, eqb, List, [], ◌∷◌, reverse, refl, sym, ap, ◌∙◌, filter}
+use Rattle.std.proofs.Common.{ℕ, ◌≡◌, Bool, true, false, ◌||◌, eqb, List, [], ◌∷◌, reverse, refl, sym, ap, ◌∙◌, filter}
 use Rattle.std.specs.List.{list_any}
 use Rattle.std.specs.List.Sorted.{IsStrictlySortedBy}
-use Rattle.std.proofs.lemmas.Bool.{both_ways, and_parts, false_from_ne_true}
+use Rattle.std.proofs.lemmas.Bool.{both_ways, and_parts, and_right, or_parts, false_from_ne_true}
 use Rattle.teb_names.specs.declared.Cell.{Cell}
 use Rattle.teb_names.specs.Cells.{same_cell, cell_cmp}
 use Rattle.teb_names.specs.Rows.{row_of}
@@ -18,19 +18,11 @@ use Rattle.serial_order.specs.Tables.{cells_put, AreCells}
 use Rattle.serial_order.specs.Seen.{is_among}
 use Rattle.serial_order.proofs.LastCommitted.{latest_nobody, is_final}
 
-neither : (a b : Bool) → (a || b) ≡ false → (a ≡ false) × (b ≡ false)
-neither true b h = absurd (cc)
-neither false b h = (refl, h)
-
-and_none : (a b : Bool) → b ≡ false → (a && b) ≡ false
-and_none true b h = h
-and_none false b h = refl
-
 none_put : (x : Cell) (w : ℕ) (es : List Event) → is_among x (cells_put es) ≡ false → list_any (is_put w x) es ≡ false
 none_put x w [] h = refl
 none_put x w (Put t y v ∷ es) h =
-    let p = neither (same_cell y x) (is_among x (cells_put es)) h in
-    ap (λ (b : Bool). b || list_any (is_put w x) es) (and_none (eqb t.0 w) (same_cell y x) p.0) ∙ none_put x w es p.1
+    let p = or_parts (same_cell y x) (is_among x (cells_put es)) h in
+    ap (λ (b : Bool). b || list_any (is_put w x) es) (and_right (eqb t.0 w) (same_cell y x) p.0) ∙ none_put x w es p.1
 none_put x w (Began t s k i ∷ es) h = none_put x w es h
 none_put x w (Got t y u v ∷ es) h = none_put x w es h
 none_put x w (Ready t ∷ es) h = none_put x w es h

@@ -1,11 +1,11 @@
 -- Rows that ascend, with others in the place of some.
-use Rattle.std.proofs.Common.{◌≡◌, Bool, true, false, cond, ◌||◌, ◌&&◌, List, [], ◌∷◌, ◌++◌, Option, Some, None, ℤ, refl, sym, ap, subst, ◌∙◌}
+use Rattle.std.proofs.Common.{◌≡◌, Bool, true, false, cond, ◌||◌, List, [], ◌∷◌, ◌++◌, Option, Some, None, ℤ, refl, sym, ap, subst, ◌∙◌}
 use Rattle.std.specs.List.{list_all, AllByRecursion}
 use Rattle.std.specs.List.Sorted.{IsStrictlySortedBy}
 use Rattle.std.specs.Ordering.{is_eq, is_lt, ordering_reverse}
 use Rattle.std.specs.declared.cmp.Ordering.{Ordering}
 use Rattle.std.specs.declared.cmp.Ordering.TheVariants.{Less, Equal, Greater}
-use Rattle.std.proofs.lemmas.Bool.{and_parts}
+use Rattle.std.proofs.lemmas.Bool.{and_parts, and_from}
 use Rattle.teb_names.specs.declared.Cell.{Cell}
 use Rattle.teb_names.specs.Cells.{same_cell, cell_cmp, is_before}
 use Rattle.teb_names.specs.Rows.{row_of, is_ascending, IsAscending}
@@ -38,16 +38,13 @@ rise : (rs : List Row) → IsAscending rs → Rise rs
 rise [] h = tt
 rise (r ∷ rs) h = let p = and_parts _ _ h in (above r.0 rs p.0, rise rs p.1)
 
-both : (a b : Bool) → a ≡ true → b ≡ true → (a && b) ≡ true
-both a b p q = rw (p, q)
-
 all_before : (x : Cell) (rs : List Row) → Above x rs → list_all (λ (s : Row). is_before x s.0) rs ≡ true
 all_before x [] h = refl
-all_before x (r ∷ rs) h = both (is_before x r.0) (list_all (λ (s : Row). is_before x s.0) rs) (ap is_lt h.0) (all_before x rs h.1)
+all_before x (r ∷ rs) h = and_from (is_before x r.0) (list_all (λ (s : Row). is_before x s.0) rs) (ap is_lt h.0) (all_before x rs h.1)
 
 ascends : (rs : List Row) → Rise rs → IsAscending rs
 ascends [] h = refl
-ascends (r ∷ rs) h = both (list_all (λ (s : Row). is_before r.0 s.0) rs) (is_ascending rs) (all_before r.0 rs h.0) (ascends rs h.1)
+ascends (r ∷ rs) h = and_from (list_all (λ (s : Row). is_before r.0 s.0) rs) (is_ascending rs) (all_before r.0 rs h.0) (ascends rs h.1)
 
 above_further : (x y : Cell) (rs : List Row) → cell_cmp x y ≡ Less → Above y rs → Above x rs
 above_further x y [] l h = tt

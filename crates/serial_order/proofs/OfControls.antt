@@ -1,11 +1,10 @@
 -- The control of a node is of the node's kind, and keeps its batches.
-use Rattle.std.proofs.Common.{◌≡◌, ℕ, true, ◌||◌, ◌∙◌, false, List, refl, sym, ap, subst, subst₂}
-use Rattle.std.proofs.lemmas.Bool.{both_ways}
+use Rattle.std.proofs.Common.{◌≡◌, ℕ, ◌∙◌, List, refl, sym, ap, subst, subst₂}
 use Rattle.teb_names.specs.declared.ControlKind.{ControlKind}
 use Rattle.teb_names.specs.declared.ControlKind.TheVariants.{Locks as IsLocks, Pipeline as IsPipeline, Timestamp as IsTimestamp, Snapshot as IsSnapshot}
 use Rattle.teb_history.specs.declared.Event.{Event}
 use Rattle.teb_rules.specs.Setup.{Setup}
-use Rattle.teb_rules.specs.Tree.{row, has_batches, is_timestamp, is_snapshot}
+use Rattle.teb_rules.specs.Tree.{row}
 use Rattle.batch_book.specs.Book.{Book}
 use Rattle.batch_book.specs.Histories.{BatchesOf}
 use Rattle.timestamp_node.specs.declared.stamps.Stamps.{Stamps}
@@ -46,10 +45,6 @@ module _ (S : Setup) (H : List Event) where
 
     pub snapshot_batches : (k : SnapshotControl) → c ≡ Snapshot k → BatchesOf k.register.batches S H n
     snapshot_batches k e = subst (λ (m : ℕ). BatchesOf k.register.batches S H m) (snapshot_there k e) (snapshot_stands k e).register.batches
-
-    -- a node of locks or a pipeline has none
-    pub none_of_kind : (k : ControlKind) → kind_of_control c ≡ k → (is_timestamp k || is_snapshot k) ≡ false → has_batches S.tree n ≡ true → ⊥
-    none_of_kind k e f h = both_ways _ ((λ j. is_timestamp ((kind_there ∙ e) j) || is_snapshot ((kind_there ∙ e) j)) ∙ f) h
 
     -- a node whose control is no snapshot control is no snapshot node
     pub no_snapshot : ((k : SnapshotControl) → c ≡ Snapshot k → ⊥) → (row S.tree n).control ≡ IsSnapshot → ⊥

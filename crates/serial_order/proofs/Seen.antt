@@ -11,17 +11,13 @@ use Rattle.std.proofs.lemmas.List.Sorted.{list_any-IsPermutation}
 use Rattle.std.proofs.lemmas.List.Kept.{IsStrictlySortedBy-dedup}
 use Rattle.std.proofs.Math.Nat.{div-mul-le_self}
 use Rattle.std.proofs.lemmas.Nat.{le-div, div-add-mod', div-mul-add, mod-mul-add}
-use Rattle.std.proofs.lemmas.Bool.{cases_order, cases_lt, both_ways, and_parts}
+use Rattle.std.proofs.lemmas.Bool.{cases_order, cases_lt, both_ways, and_parts, or_right}
 use Rattle.teb_names.specs.declared.Cell.{Cell}
 use Rattle.teb_names.specs.Cells.{same_cell, cell_cmp}
 use Rattle.teb_names.proofs.SameCells.{same_cell-true, same_itself}
 use Rattle.teb_names.proofs.CellOrder.{cell_cmp_total, same_cell-cell_cmp}
 use Rattle.serial_order.specs.declared.seen_cells.SeenCells.{SeenCells}
 use Rattle.serial_order.specs.Seen.{is_among, place_of, cell_at, marked_cells, is_marked, IsSound, AreSeen}
-
-pub or_true : (a b : Bool) → b ≡ true → (a || b) ≡ true
-or_true true b h = refl
-or_true false b h = h
 
 -- the cell of its own place
 pub cell_of_place : (w : ℕ) (x : Cell) → x.key < w → cell_at w (place_of w x) ≡ x
@@ -78,7 +74,7 @@ module _ (w : ℕ) (wide : 0 < w) where
         here false h = absurd (cc)
 
         behind : (b : Bool) → is_among (cell_at w p) (marked_cells w marks (suc i) n) ≡ true → is_among (cell_at w p) (cond b (cell_at w i ∷ marked_cells w marks (suc i) n) (marked_cells w marks (suc i) n)) ≡ true
-        behind true h = or_true _ _ h
+        behind true h = or_right _ _ h
         behind false h = h
 
 -- each cell that is marked is one of those at the places below the end
@@ -149,5 +145,5 @@ all_sorted s ms ps qs ok e others both sorted = record {
       among_once x qs ∙ sym (list_any-IsPermutation (λ (y : Cell). same_cell y x) (ms ++ ps) qs both) ∙ list_any-append (λ (y : Cell). same_cell y x) ms ps
       ∙ either_way (is_marked s x) (is_among x s.others.items) h
       (λ m. ap (λ (b : Bool). b || is_among x ps) (ap (is_among x) e ∙ marked_there s x ok m))
-      (λ o. or_true (is_among x ms) (is_among x ps) (sym (list_any-IsPermutation (λ (y : Cell). same_cell y x) s.others.items ps others) ∙ o));
+      (λ o. or_right (is_among x ms) (is_among x ps) (sym (list_any-IsPermutation (λ (y : Cell). same_cell y x) s.others.items ps others) ∙ o));
 }

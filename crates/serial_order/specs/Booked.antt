@@ -9,9 +9,6 @@ use Rattle.phase_api.specs.Standing.{StandAll}
 use Rattle.engine_core.specs.AnyControls.{any_node_number, any_stands}
 use Rattle.serial_order.specs.declared.booked.Booked.{Booked}
 
-abbrev pub setup : Booked → Setup
-setup b = setup_of b.facts.now
-
 abbrev pub history : Booked → List Event
 history b = events_of b.facts.now
 
