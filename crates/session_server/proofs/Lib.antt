@@ -8,3 +8,4 @@ pub mod Gathering
 pub mod Walking
 pub mod Naming
 pub mod Numbers
+pub mod PutBack

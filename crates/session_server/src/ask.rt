@@ -1,6 +1,6 @@
 //! A request of a session.
 
-ghost use Rattle.std.specs.Prelude.{◌≡◌, ◌≢◌, ◌↔◌, Ok, Err, IfOk, IfErr};
+ghost use Rattle.std.specs.Prelude.{◌≡◌, ◌↔◌, Ok, Err, IfOk};
 ghost use Rattle.session_server.specs.Passes.{base_of, IsPassOf, Turned, Asked, Unasked};
 ghost use Rattle.session_server.specs.Waits.{WaitsAmong};
 ghost use Rattle.session_server.specs.declared.error.AskError.TheVariants.{PassSpent, OutOfMemory};

@@ -1,6 +1,6 @@
 //! The value that goes from turn to turn: the engine, with the list of what it was asked and answered.
 
-ghost use Rattle.std.specs.Prelude.{◌≡◌, ℕ, suc, ◌≤◌, [], ◌∷◌, ◌++◌, IfOk, OnErr, length};
+ghost use Rattle.std.specs.Prelude.{◌≡◌, suc, ◌≤◌, [], ◌∷◌, ◌++◌, IfOk, OnErr, length};
 ghost use Rattle.teb_history.specs.Phases.{begun_count};
 ghost use Rattle.teb_rules.specs.Answer.{answer};
 ghost use Rattle.teb_rules.specs.Run.{IsLegal, history_of};
