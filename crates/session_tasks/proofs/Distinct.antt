@@ -1,10 +1,9 @@
--- Which scripts are of distinct sessions: those in ascending order, and so those of any lines.
-use Rattle.std.proofs.Common.{◌≡◌, ℕ, zero, suc, ◌+◌, ◌≤◌, ◌==◌, Bool, true, false, not, cond, List, [], ◌∷◌, length, filter, map, Some, refl, ap, arith}
-use Rattle.std.specs.List.{slice_get, range_with_len}
+-- Scripts in ascending order are of distinct sessions.
+use Rattle.std.proofs.Common.{◌≡◌, ℕ, zero, suc, ◌≤◌, List, [], ◌∷◌, map, Some, refl, ap, arith}
+use Rattle.std.specs.List.{slice_get}
 use Rattle.teb_names.specs.declared.Session.{Session}
 use Rattle.teb_names.specs.declared.Request.{Request}
 use Rattle.script_text.specs.declared.Line.{Line}
-use Rattle.script_text.specs.Scripts.{session, session_numbers, lines_for, scripts_of}
 use Rattle.teb_rules.specs.Driver.{Ascending}
 use Rattle.script_walk.specs.ScriptStates.{requests_on}
 use Rattle.session_tasks.specs.Scripted.{Scripted, AreDistinct}
@@ -36,20 +35,3 @@ ascending_rises least (y ∷ ys) a = ((let z = a.0 in omega arith), ascending_ri
 
 pub ascending_distinct : (least : ℕ) (scripts : Scripted) → Ascending least (asked_by scripts) → AreDistinct scripts
 ascending_distinct least scripts a = rising_distinct (suc least) scripts (ascending_rises least scripts a)
-
--- the scripts of the sessions from a on
-abbrev kept : List Line → ℕ → ℕ → Scripted
-kept lines a n = filter (λ (s : Session × List Line). not (length s.1 == 0)) (map (λ (k : ℕ). (session k, lines_for lines k)) (range_with_len a n))
-
-kept_rises : (lines : List Line) (low a n : ℕ) → low ≤ a → Rising low (kept lines a n)
-kept_rises lines low a zero b = tt
-kept_rises lines low a (suc n) b = go (not (length (lines_for lines a) == 0)) (kept_rises lines (suc a) (a + 1) n (omega arith)) (kept_rises lines low (a + 1) n (omega arith))
-  where
-    go : (t : Bool) → Rising (suc a) (kept lines (a + 1) n) → Rising low (kept lines (a + 1) n) → Rising low (cond t ((session a, lines_for lines a) ∷ kept lines (a + 1) n) (kept lines (a + 1) n))
-    go true more same = (b, more)
-    go false more same = same
-
--- the scripts of any lines
-pub scripts_distinct : (lines : List Line) → AreDistinct (scripts_of lines)
-unfolding scripts_of session_numbers
-scripts_distinct lines = rising_distinct 0 (kept lines 0 256) (kept_rises lines 0 0 256 (let z : 0 ≤ 0 = omega arith in z))

@@ -114,13 +114,6 @@ module _ {C : Type 0} {g : Ghosts C} (h : Hall C g) (x : Scripted) where
         session = p.session;
       }
 
-  pub finish_all : (k : ℕ) (us : List (Task C g)) → k ≤ 32 → AreTasks h x (count_from (suc k) (32 - k)) us → us ≡ [] → k ≡ 32
-  finish_all k [] b a is = elim (cases_lt k 32) [
-    | inl l ↦ (let z : [] ≡ suc k ∷ count_from (suc (suc k)) (31 - k) = a.numbers ∙ sessions_from k l in absurd (cc))
-    | inr l ↦ (let e : k ≡ 32 = omega arith in e)
-  ]
-  finish_all k (u ∷ us) b a is = absurd (cc)
-
 -- passes in order
 module _ {C : Type 0} {g : Ghosts C} (h : Hall C g) where
   pub all_passes : (ps : List (Pass C g)) (n : ℕ) → length ps ≡ n → map number_of ps ≡ numbers 32 → n ≡ 32

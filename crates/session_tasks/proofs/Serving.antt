@@ -1,5 +1,5 @@
 -- A task as it is begun, served on and ended.
-use Rattle.std.proofs.Common.{◌≡◌, ◌≢◌, ℕ, Bool, true, false, Result, Ok, Err, List, [], Option, Some, None, refl, sym, ◌∙◌, ap, subst}
+use Rattle.std.proofs.Common.{◌≡◌, ◌≢◌, ℕ, List, [], Option, Some, None, refl, sym, ◌∙◌, ap, subst}
 use Rattle.std.specs.List.{slice_get}
 use Rattle.teb_names.specs.declared.Entry.{Entry}
 use Rattle.teb_names.specs.declared.Session.{Session}
@@ -11,15 +11,13 @@ use Rattle.script_walk.specs.declared.walker.Walker.{Walker}
 use Rattle.version_chain.specs.declared.chains.Chains.{Ghosts}
 use Rattle.session_server.specs.declared.hall.Hall.{Hall}
 use Rattle.session_server.specs.declared.pass.Pass.{Pass}
-use Rattle.session_server.specs.declared.error.AskError.{AskError}
 use Rattle.session_server.specs.declared.error.AskError.TheVariants.{PassSpent}
-use Rattle.session_server.specs.Passes.{IsPassOf, IsNew, mine}
+use Rattle.session_server.specs.Passes.{IsNew, mine}
 use Rattle.session_server.specs.Walks.{IsUnderWay}
 use Rattle.session_tasks.specs.Scripted.{Scripted, AreDistinct, place_in, lines_at}
 use Rattle.session_tasks.specs.Served.{IsServed, IsSpent}
-use Rattle.session_tasks.specs.Tasks.{IsTask, progress_at, progress_after}
+use Rattle.session_tasks.specs.Tasks.{IsTask, progress_at}
 use Rattle.session_tasks.specs.declared.task.Task.{Task}
-use Rattle.session_tasks.specs.declared.task.Progress.{Progress}
 use Rattle.session_tasks.specs.declared.task.Progress.TheVariants.{Open, Through, Failed}
 use Rattle.session_tasks.proofs.Placing.{place_script, lines_there, script_lines}
 
@@ -34,16 +32,6 @@ way_new lines E w e s = record {
 walk_none : (E : List Entry) → E ≡ [] → IsWalk [] E
 unfolding WayFrom next state_after
 walk_none E e = subst (IsWalk []) (sym e) (tt, refl)
-
-through_is : (r : Result Bool AskError) → progress_after r ≡ Through → r ≡ Ok true
-through_is (Ok true) e = refl
-through_is (Ok false) e = absurd (cc)
-through_is (Err a) e = absurd (cc)
-
-spent_is : (r : Result Bool AskError) → progress_after r ≡ Failed PassSpent → r ≡ Err PassSpent
-spent_is (Ok true) e = absurd (cc)
-spent_is (Ok false) e = absurd (cc)
-spent_is (Err a) e = ap Err (let z : a ≡ PassSpent = cc in z)
 
 module _ {C : Type 0} {g : Ghosts C} (h : Hall C g) (x : Scripted) where
   mine_none : (p : Pass C g) → IsNew h p → mine p ≡ []
@@ -73,18 +61,6 @@ module _ {C : Type 0} {g : Ghosts C} (h : Hall C g) (x : Scripted) where
   pub begun : (p : Pass C g) (o : Option ℕ) (w : Walker) → IsNew h p → o ≡ place_in x p.session.0 → ((lines : List Line) → state_of lines w ≡ at_first (requests_on lines)) → IsTask h x (record { place = o; pass = p; walker = w; progress = progress_at o })
   begun p None w n q s = begun_idle p w n q s
   begun p (Some i) w n q s = begun_open p i w n q s
-
-  -- a session that was served on
-  pub served_on : (t : Task C g) (lines : List Line) (p : Pass C g) (w : Walker) (r : Result Bool AskError) (q : Progress) → IsTask h x t → t.progress ≡ Open → lines ≡ lines_at x t.place → IsPassOf h p → p.session ≡ t.pass.session → IsUnderWay lines (mine p) w
-      → (r ≡ Ok true → IsWalk (requests_on lines) (mine p)) → (r ≡ Err PassSpent → p.asks ≡ 1099511627776) → q ≡ progress_after r → IsTask h x (record { place = t.place; pass = p; walker = w; progress = q })
-  served_on t lines p w r q a o l k s u walk spent is = record {
-    place = a.place ∙ ap (λ (y : Session). place_in x y.0) (sym s);
-    hall = k;
-    way = subst (λ (ls : List Line). IsUnderWay ls (mine p) w) l u;
-    through = λ e. subst (λ (ls : List Line). IsWalk (requests_on ls) (mine p)) l (walk (through_is r (sym is ∙ e)));
-    spent = λ e. spent (spent_is r (sym is ∙ e));
-    idle = λ e. absurd (let z : Open ≡ Through = sym o ∙ (a.idle e).1 in cc);
-  }
 
   no_place : (s : Session) (o : Option ℕ) → o ≡ place_in x s.0 → ((i : ℕ) (lines : List Line) → slice_get x i ≢ Some (s, lines)) → o ≡ None
   no_place s None q f = refl
