@@ -1,19 +1,13 @@
 -- Tasks that are dealt into hands and taken out of them.
-use Rattle.std.proofs.Common.{◌≡◌, ◌≢◌, ℕ, zero, suc, ◌+◌, ◌-◌, ◌<◌, ◌≤◌, Bool, true, false, if◌then◌else◌, List, [], ◌∷◌, ◌++◌, map, length, set, get_or, get_or-set_other, length-append, length-set, All, Vec, inl, inr, eqb, eq-eqb, ne_eqb, refl, sym, ◌∙◌, ap, subst, arith}
+use Rattle.std.proofs.Common.{◌≡◌, ◌≢◌, ℕ, suc, ◌+◌, ◌-◌, ◌<◌, ◌≤◌, if◌then◌else◌, List, [], ◌∷◌, ◌++◌, map, length, set, get_or, get_or-set_other, length-set, All, Vec, eq-eqb, ne_eqb, refl, sym, ◌∙◌, ap, subst, arith}
 use Rattle.std.specs.declared.alloc.Global.{Global}
-use Rattle.std.proofs.lemmas.List.{map-append, get_or-set_same, length-map}
-use Rattle.std.proofs.lemmas.List.Elements.{All-push, All-set}
-use Rattle.std.proofs.Math.Seq.{map-set_same}
-use Rattle.std.proofs.lemmas.Bool.{cases_lt}
+use Rattle.std.proofs.lemmas.List.{get_or-set_same}
 use mathlib.Core.Logic.{dite}
 use native.Mathlib.Decide.{ℕ_discrete}
 use Rattle.teb_history.specs.Phases.{numbers}
 use Rattle.turn_lock.specs.Counts.{count_from}
-use Rattle.turn_lock.proofs.Lists.{All_none, All_left, All_last}
 use Rattle.version_chain.specs.declared.chains.Chains.{Ghosts}
 use Rattle.session_server.specs.declared.hall.Hall.{Hall}
-use Rattle.session_server.specs.declared.pass.Pass.{Pass}
-use Rattle.session_server.specs.Passes.{IsNew, number_of}
 use Rattle.session_tasks.specs.Scripted.{Scripted}
 use Rattle.session_tasks.specs.Tasks.{AreTasks, IsTask, number_in}
 use Rattle.thread_runner.specs.Hands.{AreDealt, held, hand_of}
@@ -97,16 +91,6 @@ module _ {C : Type 0} {g : Ghosts C} (h : Hall C g) (x : Scripted) (w : ℕ) whe
           (sym (held_elsewhere (hand_of x w) j s rest (λ q. o (sym q ∙ sym e))))
           (ap (λ (y : Vec (Task C g) Global). y.items) (get_or-set_other hands i j v d o))
           (a.each j d m))
-
-  pub dealt_all : (sessions : List ℕ) (hands : List (Vec (Task C g) Global)) → AreDealt h x w sessions hands → All (λ (v : Vec (Task C g) Global). All (IsTask h x) v.items) hands
-  dealt_all sessions hands a = λ i d l. (a.each i d (let z = a.count in omega arith)).each
-
-  -- the hands after their tasks were served
-  pub dealt_served : (sessions : List ℕ) (hands hands2 : List (Vec (Task C g) Global)) → AreDealt h x w sessions hands → length hands2 ≡ length hands → ((i : ℕ) (d : Vec (Task C g) Global) → i < length hands → AreTasks h x (map number_in (in_hand hands i d)) (in_hand hands2 i d)) → AreDealt h x w sessions hands2
-  dealt_served sessions hands hands2 a n f = record {
-    count = n ∙ a.count;
-    each = λ i d l. let b = f i d (let z = a.count in omega arith) in record { numbers = b.numbers ∙ (a.each i d l).numbers; each = b.each };
-  }
 
 -- the steps of the deal and of the gathering
 module _ {C : Type 0} {g : Ghosts C} (h : Hall C g) (x : Scripted) (w : ℕ) where

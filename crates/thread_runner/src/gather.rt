@@ -1,6 +1,6 @@
 //! How the sessions come back from the workers.
 
-ghost use Rattle.std.specs.Prelude.{◌≡◌, ◌<◌, IfOk, IfErr, vec_len};
+ghost use Rattle.std.specs.Prelude.{◌<◌, IfOk, IfErr, vec_len};
 ghost use Rattle.teb_history.specs.Phases.{numbers};
 ghost use Rattle.session_tasks.specs.Tasks.{AreTasks};
 ghost use Rattle.thread_runner.specs.Hands.{AreDealt};

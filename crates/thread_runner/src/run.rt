@@ -17,7 +17,7 @@ use std::sync::Wait;
 use std::thread::Threads;
 use version_chain::Chains;
 
-/// Serves each session that has a script along it, by so many workers, from 1 to 16, each in a thread of its own.
+/// Serves each session that has a script along it, by so many workers, one at the least, each in a thread of its own.
 ///
 /// The workers take the scripts in turn: the one at place i, from 0, is served by worker i mod `workers`. Where no
 /// thread can be made the workers go one after another. A worker whose session meets an error stops the others; where

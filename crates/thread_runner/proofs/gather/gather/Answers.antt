@@ -1,7 +1,5 @@
-use Rattle.std.proofs.Common.{◌≡◌, ℕ, suc, ◌+◌, ◌-◌, ◌<◌, List, [], ◌++◌, ◌∙◌, length, vec_len, refl, sym, ap, subst, arith, rules}
+use Rattle.std.proofs.Common.{ℕ, ◌+◌, ◌-◌, ◌<◌, List, ◌++◌, ◌∙◌, length, vec_len, refl, sym, ap, subst, rules}
 use Rattle.std.specs.Option.{option_to_list}
-use Rattle.teb_history.specs.Phases.{numbers}
-use Rattle.turn_lock.specs.Counts.{count_from}
 use Rattle.session_tasks.specs.Tasks.{AreTasks}
 use Rattle.thread_runner.specs.Hands.{AreDealt}
 use Rattle.session_tasks.proofs.InOrder.{all_sessions, no_numbers, tasks_none, gathered_on}
