@@ -1,5 +1,5 @@
 -- What waits is pushed, one after the other.
-use Rattle.std.proofs.Common.{◌≡◌, ℕ, zero, suc, ◌+◌, ◌-◌, ◌≤◌, List, [], ◌∷◌, Some, All, length, map, drop, refl, sym, ap, ◌∙◌, subst, arith}
+use Rattle.std.proofs.Common.{◌≡◌, ℕ, zero, suc, ◌+◌, ◌-◌, ◌≤◌, List, [], ◌∷◌, Some, All, length, map, drop, sym, ap, ◌∙◌, subst, arith}
 use Rattle.std.specs.List.{slice_get}
 
 -- what a list that was begun goes on with

@@ -1,5 +1,5 @@
 -- What lies in the hands is what was taken.
-use Rattle.std.proofs.Common.{◌≡◌, ℕ, suc, ◌+◌, ◌<◌, List, [], ◌∷◌, ◌++◌, All, Vec, length, map, refl, sym, ap, ◌∙◌, subst, arith}
+use Rattle.std.proofs.Common.{◌≡◌, ℕ, suc, ◌+◌, List, [], ◌∷◌, ◌++◌, All, Vec, length, map, refl, sym, ap, ◌∙◌, subst, arith}
 use Rattle.std.specs.List.{flat_map}
 use Rattle.std.specs.declared.alloc.Global.{Global}
 use Rattle.std.proofs.lemmas.List.{map-append, length-map}
@@ -9,7 +9,7 @@ use Rattle.turn_lock.proofs.Lists.{All_none, All_cons}
 use Rattle.version_chain.specs.declared.chains.Chains.{Ghosts}
 use Rattle.session_server.specs.declared.hall.Hall.{Hall}
 use Rattle.session_tasks.specs.Scripted.{Scripted}
-use Rattle.session_tasks.specs.Tasks.{IsTask, number_in}
+use Rattle.session_tasks.specs.Tasks.{number_in}
 use Rattle.session_tasks.specs.declared.task.Task.{Task}
 use Rattle.session_pool.specs.Rising.{Rising}
 use Rattle.session_pool.specs.Taken.{AreTaken}

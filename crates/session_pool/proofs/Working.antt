@@ -1,5 +1,5 @@
 -- Workers, as they take sessions, and what is left when they go.
-use Rattle.std.proofs.Common.{◌≡◌, ℕ, zero, suc, ◌+◌, ◌-◌, ◌<◌, ◌≤◌, false, List, [], ◌∷◌, ◌++◌, Option, Result, Ok, Err, IfOk, All, Vec, length, map, get_or, set, take, vec_len, vec_capacity, refl, sym, ap, ◌∙◌, subst, arith}
+use Rattle.std.proofs.Common.{◌≡◌, ℕ, zero, suc, ◌+◌, ◌-◌, ◌<◌, ◌≤◌, false, List, [], ◌∷◌, ◌++◌, Option, Result, Ok, Err, IfOk, All, Vec, length, map, get_or, set, take, vec_capacity, refl, sym, ap, ◌∙◌, subst, arith}
 use Rattle.std.specs.declared.alloc.Global.{Global}
 use Rattle.std.specs.declared.alloc.AllocError.{AllocError}
 use Rattle.std.proofs.lemmas.List.{map-append, length-map}
@@ -12,7 +12,7 @@ use Rattle.crossbeam_queue.specs.Fifo.{Held}
 use Rattle.crossbeam_queue.specs.Passes.{Pass, view, IsPassOf}
 use Rattle.atomic_table.specs.Seated.{TableId}
 use Rattle.turn_lock.specs.Seats.{view_of}
-use Rattle.turn_lock.specs.Counts.{total, same, times}
+use Rattle.turn_lock.specs.Counts.{total, same}
 use Rattle.turn_lock.proofs.Counts.{total_snoc}
 use Rattle.version_chain.specs.declared.chains.Chains.{Ghosts}
 use Rattle.session_server.specs.declared.hall.Hall.{Hall}
@@ -26,7 +26,7 @@ use Rattle.session_pool.specs.Tallies.{tally, after_pop, merged, IsWhole}
 use Rattle.session_pool.specs.HandedOut.{IsTaken, IsRest}
 use Rattle.session_pool.specs.Hands.{taken_in, weight_of, AreHands, AreCollected}
 use Rattle.session_pool.specs.Suits.{Suits}
-use Rattle.session_pool.specs.Waits.{IsUnused, IsWaiting, number_at, scripted, tells_of}
+use Rattle.session_pool.specs.Waits.{IsUnused, number_at, scripted, tells_of}
 use Rattle.session_pool.specs.Workers.{HasToken, IsHired, IsAtWork}
 use Rattle.session_pool.specs.declared.tally.Tally.{Tally}
 use Rattle.session_pool.specs.declared.waiting.Waiting.{Waiting}
@@ -102,15 +102,6 @@ module _ {C : Type 0} {g : Ghosts C} (h : Hall C g) (scripts : Scripted) where
   tasks_on u v t is a k = subst (All (IsTask h scripts)) (sym is) (All-push (IsTask h scripts) u.items t a k)
 
   module _ {Q A : Type 0} (line : Slotted (Option (Waiting C g)) (Doing (Waiting C g) Tally) Q A) where
-    -- those who were hired are at work
-    pub hired_work : (ws : List (Worker C g)) → All (IsHired line) ws → All (IsAtWork line h scripts) ws
-    hired_work ws a k d l = let w = a k d l in record {
-      token = w.token;
-      tasks = subst (All (IsTask h scripts)) (sym w.empty) (λ i t b. absurd (omega arith));
-      rising = subst (λ (ts : List (Task C g)). Rising 0 (map number_in ts)) (sym w.empty) tt;
-      room = w.room;
-    }
-
     -- what is in the hands of those who worked
     pub worked_tokens : (ws : List (Worker C g)) → All (IsAtWork line h scripts) ws → All (HasToken line) ws
     worked_tokens ws a k d l = (a k d l).token
@@ -216,9 +207,6 @@ module _ {C : Type 0} {g : Ghosts C} (h : Hall C g) (numbers : List ℕ) (told :
 
 -- those that wait suit their own hall
 module _ {C : Type 0} {g : Ghosts C} (h : Hall C g) (ws : List (Waiting C g)) where
-  pub waiting_unused : All (IsWaiting h) ws → All (IsUnused (tells_of h)) ws
-  waiting_unused a k d l = let w = a k d l in record { place = (w.new.seat, w.new.base); seen = w.new.seen; asks = w.new.asks; session = w.session }
-
   pub waiting_suit : (scripts : Scripted) → map number_at ws ≡ scripted scripts → Suits h (map number_at ws) (tells_of h)
   waiting_suit scripts is = record {
     few = subst (λ (ns : List ℕ). length ns ≤ 32) (sym is) (scripted_few scripts);

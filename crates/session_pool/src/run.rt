@@ -40,7 +40,7 @@ pub struct Pooled<C: Chains> {
     pub taken: Vec<Vec<Session>>,
 }
 
-/// Serves each session that has a script along it, by so many workers, from 1 to 16, each in a thread of its own.
+/// Serves each session that has a script along it, by so many workers, one at the least, each in a thread of its own.
 ///
 /// The sessions wait in a queue, in ascending order, and a worker takes the next when it is through with one. Where no
 /// thread can be made the workers go one after another. A worker whose session meets an error stops the others; where

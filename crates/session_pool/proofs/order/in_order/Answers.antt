@@ -1,8 +1,7 @@
-use Rattle.std.proofs.Common.{◌≡◌, ◌<◌, List, All, length, sym, ap, ◌∙◌, subst, arith, rules}
+use Rattle.std.proofs.Common.{◌≡◌, ◌<◌, All, length, sym, ap, ◌∙◌, subst, arith, rules}
 use Rattle.std.proofs.lemmas.List.Sorted.{All-permutation, IsNonDecreasingBy-from_sort_by_key}
 use Rattle.teb_history.specs.Phases.{numbers}
 use Rattle.session_tasks.specs.Tasks.{IsTask, AreTasks, number_in}
-use Rattle.session_tasks.specs.declared.task.Task.{Task}
 use Rattle.session_pool.proofs.Ordering.{put_in_order}
 use Rattle.session_pool.proofs.order.in_order.Goals as goal
 

@@ -1,7 +1,6 @@
-use Rattle.std.proofs.Common.{◌≡◌, ℕ, ◌+◌, ◌<◌, ◌≤◌, length, sym, ap, ◌∙◌, arith}
+use Rattle.std.proofs.Common.{◌≡◌, ◌<◌, length, ap, ◌∙◌, arith}
 use Rattle.teb_names.specs.declared.Session.{Session}
 use Rattle.crossbeam_queue.specs.Passes.{view}
-use Rattle.turn_lock.specs.Counts.{total}
 use Rattle.session_tasks.specs.Tasks.{number_in}
 use Rattle.session_pool.specs.Waits.{IsUnused, number_at}
 use Rattle.session_pool.specs.declared.tally.Tally.{Tally}

@@ -1,11 +1,10 @@
-use Rattle.std.proofs.Common.{◌≡◌, ℕ, ◌<◌, All, length, map, drop, ◌++◌, refl, sym, ap, ◌∙◌, subst, arith}
+use Rattle.std.proofs.Common.{◌≡◌, ◌<◌, All, length, map, drop, refl, sym, ap, ◌∙◌, subst, arith}
 use Rattle.crossbeam_queue.specs.Passes.{view}
-use Rattle.session_pool.specs.Hands.{AreCollected}
 use Rattle.session_pool.specs.Waits.{IsUnused, number_at}
 use Rattle.session_pool.specs.Workers.{HasToken}
 use Rattle.session_pool.specs.declared.worker.Worker.{Worker}
 use Rattle.session_pool.proofs.Handing.{begins}
-use Rattle.session_pool.proofs.Working.{hired_work, worked_tokens, worked_hands, first_hand, all_hands, written_back}
+use Rattle.session_pool.proofs.Working.{worked_tokens, worked_hands, first_hand, all_hands, written_back}
 use Rattle.session_pool.proofs.run.by_queue.Goals as goal
 
 pub ruled-requires-clause-rule : goal.ruled-requires-clause-rule
@@ -18,8 +17,8 @@ dismiss-requires-clause-workers g c =
     subst (All (HasToken c.in_ok-line.line)) (sym (written_back ws (drop (length ws) c.in_ok-workers.workers.items) c.in_ok-workers.workers.len n))
     (worked_tokens c.args.run.now.hall.now c.args.run.now.scripts.now c.in_ok-line.line ws c.work.ensures)
 
-pub take_rest-requires-clause-tasks : goal.take_rest-requires-clause-tasks
-take_rest-requires-clause-tasks g c =
+pub take_rest-requires : goal.take_rest-requires
+take_rest-requires g c =
     let h = c.args.run.now.hall.now in
     let x = c.args.run.now.scripts.now in
     let ws = c.work.new.workers in
@@ -33,58 +32,14 @@ take_rest-requires-clause-tasks g c =
     c.in_ok-hands.ensures.whole c.in_ok-hands.ensures.shared in
     let many = collected.count in
     let below : 0 < length hands.items = omega arith in
-    (first_hand h x c.args.workers (length g.J.Roster.numbers) last hands.items c.index_mut.result.now collected below c.index_mut.ensures.value).tasks
-
-pub take_rest-requires-clause-rising : goal.take_rest-requires-clause-rising
-take_rest-requires-clause-rising g c =
-    let h = c.args.run.now.hall.now in
-    let x = c.args.run.now.scripts.now in
-    let ws = c.work.new.workers in
-    let n : length ws ≡ c.in_ok-workers.workers.len = omega arith in
-    let count : c.in_ok-workers.workers.len ≡ c.args.workers = c.in_ok-workers.ensures.count in
-    let some_ = c.requires.workers in
-    let hands = c.in_ok-hands.hands in
-    let last = view c.dismiss.new.token in
-    let collected = worked_hands h x c.in_ok-line.line ws c.args.workers (length g.J.Roster.numbers) last hands.items c.work.ensures (n ∙ count)
-    (c.in_ok-hands.ensures.hands ∙ ap (map (λ (w : Worker g.row.C.Denot g.C.Chains). w.hand)) (written_back ws (drop (length ws) c.in_ok-workers.workers.items) c.in_ok-workers.workers.len n))
-    c.in_ok-hands.ensures.whole c.in_ok-hands.ensures.shared in
-    let many = collected.count in
-    let below : 0 < length hands.items = omega arith in
-    (first_hand h x c.args.workers (length g.J.Roster.numbers) last hands.items c.index_mut.result.now collected below c.index_mut.ensures.value).rising
-
-pub take_rest-requires-clause-within : goal.take_rest-requires-clause-within
-take_rest-requires-clause-within g c =
-    let h = c.args.run.now.hall.now in
-    let x = c.args.run.now.scripts.now in
-    let ws = c.work.new.workers in
-    let n : length ws ≡ c.in_ok-workers.workers.len = omega arith in
-    let count : c.in_ok-workers.workers.len ≡ c.args.workers = c.in_ok-workers.ensures.count in
-    let some_ = c.requires.workers in
-    let hands = c.in_ok-hands.hands in
-    let last = view c.dismiss.new.token in
-    let collected = worked_hands h x c.in_ok-line.line ws c.args.workers (length g.J.Roster.numbers) last hands.items c.work.ensures (n ∙ count)
-    (c.in_ok-hands.ensures.hands ∙ ap (map (λ (w : Worker g.row.C.Denot g.C.Chains). w.hand)) (written_back ws (drop (length ws) c.in_ok-workers.workers.items) c.in_ok-workers.workers.len n))
-    c.in_ok-hands.ensures.whole c.in_ok-hands.ensures.shared in
-    let many = collected.count in
-    let below : 0 < length hands.items = omega arith in
-    (first_hand h x c.args.workers (length g.J.Roster.numbers) last hands.items c.index_mut.result.now collected below c.index_mut.ensures.value).within
-
-pub take_rest-requires-clause-room : goal.take_rest-requires-clause-room
-take_rest-requires-clause-room g c =
-    let h = c.args.run.now.hall.now in
-    let x = c.args.run.now.scripts.now in
-    let ws = c.work.new.workers in
-    let n : length ws ≡ c.in_ok-workers.workers.len = omega arith in
-    let count : c.in_ok-workers.workers.len ≡ c.args.workers = c.in_ok-workers.ensures.count in
-    let some_ = c.requires.workers in
-    let hands = c.in_ok-hands.hands in
-    let last = view c.dismiss.new.token in
-    let collected = worked_hands h x c.in_ok-line.line ws c.args.workers (length g.J.Roster.numbers) last hands.items c.work.ensures (n ∙ count)
-    (c.in_ok-hands.ensures.hands ∙ ap (map (λ (w : Worker g.row.C.Denot g.C.Chains). w.hand)) (written_back ws (drop (length ws) c.in_ok-workers.workers.items) c.in_ok-workers.workers.len n))
-    c.in_ok-hands.ensures.whole c.in_ok-hands.ensures.shared in
-    let many = collected.count in
-    let below : 0 < length hands.items = omega arith in
-    (first_hand h x c.args.workers (length g.J.Roster.numbers) last hands.items c.index_mut.result.now collected below c.index_mut.ensures.value).room
+    let first = first_hand h x c.args.workers (length g.J.Roster.numbers) last hands.items c.index_mut.result.now collected below c.index_mut.ensures.value in record {
+      suits = c.requires.suits;
+      token = (c.dismiss.ensures.token, c.in_ok-hands.ensures.whole);
+      tasks = first.tasks;
+      rising = first.rising;
+      within = first.within;
+      room = first.room;
+    }
 
 pub returns : goal.returns
 returns g c =

@@ -1,4 +1,4 @@
-use Rattle.std.proofs.Common.{◌≡◌, ℕ, ◌+◌, map, sym, ap, ◌∙◌, arith}
+use Rattle.std.proofs.Common.{map, ap, ◌∙◌, arith}
 use Rattle.session_tasks.specs.Tasks.{IsTask}
 use Rattle.session_pool.specs.Hands.{taken_in}
 use Rattle.session_pool.proofs.Takings.{hands_taken, tasks_all, tasks_weigh}

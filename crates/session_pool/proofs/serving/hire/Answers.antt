@@ -1,7 +1,6 @@
-use Rattle.std.proofs.Common.{◌≡◌, ℕ, ◌+◌, ◌-◌, ◌<◌, true, [], ◌∷◌, All, length, vec_len, sym, ap, ◌∙◌, subst, arith}
-use Rattle.std.proofs.lemmas.List.Elements.{All-push, All-nil}
+use Rattle.std.proofs.Common.{◌≡◌, ℕ, ◌+◌, ◌-◌, true, [], All, length, sym, ap, ◌∙◌, subst, arith}
+use Rattle.std.proofs.lemmas.List.Elements.{All-push}
 use Rattle.crossbeam_queue.specs.Passes.{view}
-use Rattle.session_tasks.specs.Tasks.{number_in}
 use Rattle.session_pool.specs.Tallies.{tally, kept_tally}
 use Rattle.session_pool.specs.Waits.{IsUnused, number_at}
 use Rattle.session_pool.specs.Workers.{IsHired}

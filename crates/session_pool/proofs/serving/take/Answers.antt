@@ -1,4 +1,4 @@
-use Rattle.std.proofs.Common.{◌≡◌, ◌<◌, ◌≤◌, length, sym, ap, ◌∙◌, arith}
+use Rattle.std.proofs.Common.{◌≡◌, ◌<◌, length, sym, ap, ◌∙◌, arith}
 use Rattle.teb_names.specs.declared.Session.{Session}
 use Rattle.crossbeam_queue.specs.Passes.{view}
 use Rattle.session_tasks.specs.Tasks.{number_in}
