@@ -1,6 +1,6 @@
 //! A hall that two sessions ask.
 
-ghost use Rattle.std.specs.Prelude.{◌≡◌, ◌≤◌, All, map};
+ghost use Rattle.std.specs.Prelude.{◌≡◌, All, map};
 ghost use Rattle.teb_history.specs.Phases.{numbers};
 ghost use Rattle.session_server.specs.Passes.{IsPassOf, IsNew, number_of};
 

@@ -78,9 +78,10 @@ pub const REPORTED: Cell = Cell {
 /// A session that asks none of the requests.
 pub const READER: Session = Session(8);
 
-/// How many requests there are, and how many come before the registers are looked at for the first time.
+/// How many requests there are.
 pub const REQUESTS: usize = 24;
 
+/// How many requests come before the registers are looked at for the first time.
 pub const MIDST: usize = 22;
 
 /// How many events come before the last of the requests.

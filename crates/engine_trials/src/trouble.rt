@@ -2,8 +2,10 @@
 
 use std::alloc::AllocError;
 
+/// Why a trial came to nothing.
 #[derive(Drop)]
 pub enum Trouble {
+    /// Memory was wanting.
     Memory,
     /// Something that a refusal must leave has changed.
     Changed,

@@ -2,7 +2,7 @@ use Rattle.std.proofs.Common.{All, map, refl, sym, ◌∙◌, ap, subst}
 use Rattle.std.proofs.lemmas.List.Elements.{All-pop, All-push, All-weaker}
 use Rattle.session_server.proofs.Numbers.{has_all}
 use Rattle.session_server.specs.Passes.{IsPassOf, IsNew, number_of}
-use Rattle.engine_trials.proofs.PutBack.{is_pass, same_numbers}
+use Rattle.session_server.proofs.PutBack.{is_pass, same_numbers}
 use Rattle.engine_trials.proofs.hall_trial.closed_after.Goals as goal
 
 pub close-requires-clause-passes : goal.close-requires-clause-passes
