@@ -18,17 +18,6 @@ call_ok most made made' written written' stop stop' n v is same le never = recor
   fails = λ f. let small = f.small in absurd (never (f.from.0, omega (arith, f.from.1)));
 }
 
-pub call_err : {T E : Type 0} (most made made' written written' stop stop' n : ℕ) (e : E) → made' ≡ next made → stop' ≡ stop → written' ≤ written + n → (AreSure most 1 n (memory_tally made written stop) → ⊥) → AreCalls {T = T} most 1 n (memory_tally made written stop) (memory_tally made' written' stop') (Err e)
-call_err most made made' written written' stop stop' n e is same le never = record {
-  up_to = record { made = omega arith; written = le; promise = ap (λ (s : ℕ). (memory_tally 0 0 s).promise) same };
-  all = tt;
-  sure = λ s. absurd (never s);
-  fails = λ f. refl;
-}
-
-pub sure_next : (most made written stop n : ℕ) → AreSure most 1 n (memory_tally made written stop) → IsBefore stop (next made)
-sure_next most made written stop n s = before_fewer stop (made + 1) (next made) s.before (omega arith)
-
 -- ---- two groups
 
 pub up_to_then : (k n k' n' : ℕ) (a b c : Tally) → IsUpTo k n a b → IsUpTo k' n' b c → IsUpTo (k + k') (n + n') a c

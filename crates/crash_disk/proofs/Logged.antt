@@ -4,7 +4,7 @@ use Rattle.std.proofs.lemmas.List.{get_or-take, get_or-drop, get_or_append_left,
 use Rattle.std.proofs.lemmas.Bool.{cases_lt}
 use Rattle.crash_disk.specs.declared.call.Call.{Call}
 use Rattle.crash_disk.specs.declared.call.Call.TheVariants as call
-use Rattle.crash_disk.specs.Disk.{IsTorn, Holds, Elapses, Follows, NoMore}
+use Rattle.crash_disk.specs.Disk.{IsTorn, Elapses, Follows, NoMore}
 use Rattle.crash_disk.specs.Log.{Step, Wrote, Synced, steps, total, Image, bytes_of, after_step, after_steps, left_after, IsLeft, blank, contents, MayLeave, LeftSince, image_of, room, zeros, AllFit, byte_count, IsOneWriteLess, EndsSynced, synced_image, safe_contents}
 use Rattle.crash_disk.specs.LogLaws.{read_is_left}
 
@@ -45,9 +45,6 @@ IsLeft-push m left (y ∷ xs) x c has = IsLeft-push (after_step m y) (left_after
 
 -- ---- time
 
-pub elapses_same : (xs : List Step) → Elapses (length xs) (length xs) (LeftSince xs) (LeftSince xs) (MayLeave xs)
-elapses_same xs = record { later = omega arith; nothing_else = λ t c le left. inl left; keeps = λ t c le left. left }
-
 elapses_push : (xs : List Step) (x : Step) → Elapses (length xs) (length (xs ++ x ∷ [])) (LeftSince xs) (LeftSince (xs ++ x ∷ [])) (MayLeave (xs ++ x ∷ []))
 elapses_push xs x = record {
   later = omega (arith, length-append xs (x ∷ []));
@@ -85,12 +82,6 @@ module _ (m : Image) (at : ℕ) (piece : List ℕ) (inside : m.len ≤ length m.
   low : (i : ℕ) → i < at → get_or now.all i 0 ≡ get_or m.all i 0
   low i lt = get_or_append_left (take at m.all) (piece ++ drop (at + length piece) m.all) 0 i (omega (arith, length-front)) ∙ get_or-take at m.all i 0 lt
 
-  middle : (i : ℕ) → i < length piece → get_or now.all (at + i) 0 ≡ get_or piece i 0
-  middle i lt =
-      get_or-append_right (take at m.all) (piece ++ drop (at + length piece) m.all) at (at + i) 0 length-front (omega arith)
-      ∙ ap (λ (k : ℕ). get_or (piece ++ drop (at + length piece) m.all) k 0) (omega arith)
-      ∙ get_or_append_left piece (drop (at + length piece) m.all) 0 i lt
-
   high : (i : ℕ) → at + length piece ≤ i → get_or now.all i 0 ≡ get_or m.all i 0
   high i le =
       let back : i - at - length piece ≡ i - (at + length piece) = omega arith in
@@ -115,12 +106,6 @@ module _ (m : Image) (at : ℕ) (piece : List ℕ) (inside : m.len ≤ length m.
       stays i lt (inl below) = both i (omega (arith, length-old)) (low i below)
       stays i lt (inr above) = both i (omega (arith, length-old)) (high i above)
 
-  pub write_holds : Holds at piece (bytes_of now)
-  write_holds = record {
-    within = λ i lt. omega (arith, lt, length-now);
-    each = λ i lt. get_or-take (max m.len (at + length piece)) now.all (at + i) 0 (omega (arith, lt)) ∙ middle i lt;
-  }
-
 -- ---- what the calls of a disk promise, of a log
 
 module _ (xs ys : List Step) where
@@ -142,9 +127,6 @@ module _ (xs ys : List Step) where
 
   pub sync_crash : ys ≡ xs ++ Synced ∷ [] → NoMore (MayLeave xs) (MayLeave ys)
   sync_crash is c left = subst (MayLeave xs) (sym (sync_only is c left)) (read_is_left xs)
-
-pub torn_same : (at n : ℕ) (c : List ℕ) → IsTorn at n c c
-torn_same at n c = record { stays = λ i lt out. refl; no_shorter = omega arith; no_longer = omega arith }
 
 -- ---- a disk in memory, after a call
 
@@ -253,9 +235,6 @@ one_less cs bytes at n counted =
           ∙ steps-write cs (take kept bytes) (drop kept bytes) at n (omega (arith, length-take-le kept bytes (omega arith))) (omega (arith, length-drop kept bytes, total-push cs at n));
     }
 
-pub ends_sync : (cs : List Call) (bytes : List ℕ) → EndsSynced (steps (cs ++ call.Sync ∷ []) bytes)
-ends_sync cs bytes = inr (steps cs bytes, steps-sync cs bytes)
-
 pub less_safe : (old new : List Step) → IsOneWriteLess old new → safe_contents new ≡ safe_contents old
 less_safe old new less = sym (safe_write new old less.at less.piece less.is)
 
@@ -274,9 +253,6 @@ ended_only xs (inl none) c left = subst (λ (l : List Step). MayLeave l c) none 
 ended_only xs (inr last) c left = sync_only last.0 xs last.1 c left ∙ sym (safe_sync last.0 xs last.1)
 
 -- ---- the writes once more
-
-pub after_next-write : (m : Image) (cs : List Call) (bytes : List ℕ) (at n : ℕ) → after_steps m (steps (call.Write at n ∷ cs) bytes) ≡ after_steps (after_step m (Wrote at (take n bytes))) (steps cs (drop n bytes))
-after_next-write m cs bytes at n = refl
 
 pub sizes : (cs : List Call) (bytes : List ℕ) (xs : List Step) → steps cs bytes ≡ xs → total cs ≡ length bytes → (length xs ≡ length cs) × (byte_count xs ≡ length bytes)
 sizes cs bytes xs is counted = (ap length (sym is) ∙ length-steps cs bytes, ap byte_count (sym is) ∙ count-steps cs bytes (omega arith) ∙ counted)

@@ -1,6 +1,6 @@
 //! How a disk in memory is made, and that it meets what is asked of a disk.
 
-ghost use Rattle.std.specs.Prelude.{◌≡◌, ◌≤◌, [], ℕ, IfOk};
+ghost use Rattle.std.specs.Prelude.{◌≡◌, [], IfOk};
 ghost use Rattle.crash_disk.specs.Log.{contents, safe_contents, byte_count};
 ghost use Rattle.crash_disk.specs.Left.{IsLeft};
 
