@@ -1,8 +1,8 @@
 -- Groups of writes and syncs of a disk.
 use Rattle.std.proofs.Common.{◌≡◌, ℕ, ◌+◌, ◌-◌, ◌≤◌, subst, ap, arith, Result, Ok, Err}
 use Rattle.std.specs.Prelude.{IsErr, IsOk}
-use Rattle.crash_disk.specs.Calls.{Promise, Tally, AreCalls, AreSure, IsUpTo}
-use Rattle.crash_disk.proofs.Groups.{cut, then_ok, then_err, as_before, sure_first, sure_then}
+use Rattle.crash_disk.specs.Calls.{Promise, Tally, AreCalls}
+use Rattle.crash_disk.proofs.Groups.{cut, then_ok, then_err, as_before}
 
 -- one group more
 pub more : {T E U F : Type 0} (K N k n k2 n2 : ℕ) (a b c : Tally) (v : T) (s : Result U F) → k + k2 ≡ K → n + n2 ≡ N → AreCalls {E = E} a.promise.writes k n a b (Ok v) → AreCalls b.promise.writes k2 n2 b c s → AreCalls a.promise.writes K N a c s
@@ -23,12 +23,6 @@ stop {U = U} {F = F} K N k n a b r s le-k le-n one failed this =
     go : (s : Result U F) → IsErr s → AreCalls a.promise.writes (k + (K - k)) (n + (N - n)) a b s
     go (Ok w) e = absurd (cc)
     go (Err f) e = cut a.promise.writes k n (K - k) (N - n) a b r f one failed
-
--- of n calls that are sure, k more are sure behind j that were made
-pub still_sure : (most n j k : ℕ) (a b : Tally) → AreSure most n 0 a → IsUpTo j 0 a b → j + k ≤ n → AreSure most k 0 b
-still_sure most n j k a b s one le =
-    let is : n ≡ (j + k) + (n - (j + k)) = omega arith in
-    sure_then most j 0 k 0 a b (sure_first most (j + k) 0 (n - (j + k)) 0 a (subst (λ (m : ℕ). AreSure most m 0 a) is s)) one
 
 pub never_fails : {T E : Type 0} (r : Result T E) → IsOk r → IsErr r → ⊥
 never_fails (Ok v) a b = absurd (cc)

@@ -59,9 +59,6 @@ module _ (rs : List Record) (r : Record) (end : ℕ) (bytes old : List ℕ) (add
       torn_behind c (subst (λ f. IsTorn (end + 1) (length bytes) f c) (only from.0 from.1) from.2)
 
   module _ (staged : List ℕ) (is_staged : IsStaged rs r staged) where
-    tail : List ℕ
-    tail = body r ++ 0 ∷ is_staged.rest
-
     staged_split : staged ≡ front ++ (body r ++ 0 ∷ is_staged.rest)
     staged_split = is_staged.is ∙ sym (append_assoc (records rs) (0 ∷ []) (body r ++ 0 ∷ is_staged.rest))
 

@@ -1,20 +1,11 @@
 -- Calls that write nothing, one after the other, and what they read.
-use Rattle.std.proofs.Common.{◌≡◌, ◌⊎◌, inl, inr, ℕ, zero, suc, ◌+◌, ◌<◌, ◌≤◌, min, List, [], ◌∷◌, ◌++◌, length, take, drop, refl, sym, ◌∙◌, ap, arith, length-append}
+use Rattle.std.proofs.Common.{◌≡◌, ℕ, zero, suc, ◌+◌, ◌≤◌, min, List, [], ◌∷◌, ◌++◌, length, take, drop, refl, sym, ◌∙◌, ap, arith, length-append}
 use Rattle.std.proofs.lemmas.List.{take_at, length-take, take_min, take-append-le, length-take-le}
 use Rattle.crash_disk.specs.Disk.{NoMore, Elapses, IsQuiet, IsRead}
-use Rattle.teb_io.specs.Faults.{Rose}
-use Rattle.record_journal.proofs.Moments.{started, goes_on}
+use Rattle.record_journal.proofs.Moments.{goes_on}
 use Rattle.record_journal.proofs.Spelled.{take_past}
 
 module _ {D : Type 0} (seen : D → List ℕ) (may_leave : D → List ℕ → Type 0) (moment : D → ℕ) (left_since : D → ℕ → List ℕ → Type 0) (faults : D → ℕ) where
-  pub quiet : (old : D) → ((c : List ℕ) → left_since old (moment old) c → may_leave old c) → IsQuiet seen may_leave moment left_since faults old old
-  quiet old only_now = record {
-    same = refl;
-    crash = λ c left. left;
-    any_moment = started moment left_since old (may_leave old) only_now;
-    later = omega arith;
-  }
-
   pub quieter : (old mid new : D) → IsQuiet seen may_leave moment left_since faults old mid → seen new ≡ seen mid → NoMore (may_leave mid) (may_leave new)
       → Elapses (moment mid) (moment new) (left_since mid) (left_since new) (may_leave new) → faults mid ≤ faults new → IsQuiet seen may_leave moment left_since faults old new
   quieter old mid new so_far same crash time later = record {
@@ -23,30 +14,6 @@ module _ {D : Type 0} (seen : D → List ℕ) (may_leave : D → List ℕ → Ty
     any_moment = goes_on moment left_since old mid new (may_leave old) (may_leave new) so_far.any_moment time (λ c left. so_far.crash c (crash c left));
     later = omega (arith, so_far.later, later);
   }
-
-  -- two such runs
-  pub quiet_then : (old mid new : D) → IsQuiet seen may_leave moment left_since faults old mid → IsQuiet seen may_leave moment left_since faults mid new → IsQuiet seen may_leave moment left_since faults old new
-  quiet_then old mid new one two = record {
-    same = two.same ∙ one.same;
-    crash = λ c left. one.crash c (two.crash c left);
-    any_moment = record {
-      later = omega (arith, one.any_moment.later, two.any_moment.later);
-      each = λ c left. either c (two.any_moment.before (moment old) c one.any_moment.later left);
-      before = λ t c le left. earlier t c le (two.any_moment.before t c (omega (arith, le, one.any_moment.later)) left);
-    };
-    later = omega (arith, one.later, two.later);
-  }
-    where
-      either : (c : List ℕ) → left_since mid (moment old) c ⊎ may_leave mid c → may_leave old c
-      either c (inl was) = one.any_moment.each c was
-      either c (inr now) = one.crash c now
-
-      earlier : (t : ℕ) (c : List ℕ) → t ≤ moment old → left_since mid t c ⊎ may_leave mid c → left_since old t c ⊎ may_leave old c
-      earlier t c le (inl was) = one.any_moment.before t c le was
-      earlier t c le (inr now) = inr (one.crash c now)
-
-pub rose_later : (a b c : ℕ) → a ≤ b → Rose b c → Rose a c
-rose_later a b c le rose = omega arith
 
 take_nil : (n : ℕ) → take {A = ℕ} n [] ≡ []
 take_nil zero = refl
@@ -69,11 +36,6 @@ filled_more file bytes next piece filled n so_far le is long reads =
     ∙ ap (λ (l : List ℕ). l ++ take n piece) so_far
     ∙ ap (λ (l : List ℕ). take filled file ++ l) reads
     ∙ sym (take_more_of file filled n)
-
--- a read that was asked for bytes before the end gives one at least
-pub reads_some : (file buf : List ℕ) (at n : ℕ) → IsRead file at n buf → at < length file → 0 < length buf → 0 < n
-reads_some file buf at zero read below asked = absurd (omega (arith, read.at_end refl asked))
-reads_some file buf at (suc n) read below asked = omega arith
 
 pub filled_part : (file bytes ys post : List ℕ) (filled n : ℕ) → take filled bytes ≡ take filled file → filled ≤ length bytes → IsRead file filled n ys → take (filled + n) (take filled bytes ++ (ys ++ post)) ≡ take (filled + n) file
 filled_part file bytes ys post filled n so_far le read =

@@ -37,11 +37,6 @@ next front n m rest c total is long found so_far =
     ∙ ap (prefixed front) (sym (ap (λ (k : ℕ). changes_of k rest) is ∙ one m rest long ∙ ap (λ (o : Option Change). follow o (changes_of m (drop 14 rest))) found))
     ∙ so_far
 
-pub all_read : (front : Record) (n : ℕ) (rest : List ℕ) (total : Option Record) → n ≡ 0 → prefixed front (changes_of n rest) ≡ total → total ≡ Some front
-unfolding changes_of
-all_read front n rest total is so_far =
-    sym so_far ∙ ap (λ (k : ℕ). prefixed front (changes_of k rest)) is ∙ ap (λ (l : Record). Some l) (append-nil front)
-
 -- ---- records
 
 push_all-push : (rs : List Record) (r : Record) (x : Reading) → push_all (rs ++ r ∷ []) x ≡ push_all rs (push r x)
@@ -86,7 +81,3 @@ closed_empty (b ∷ bytes) at none = absurd (omega arith)
 pub closed_gate : (bytes front : List ℕ) (at : ℕ) → 1 ≤ length bytes → front ≡ take 1 bytes → get_or front 0 0 ≢ 1 → reading 0 at bytes ≡ Whole []
 closed_gate [] front at some is shut = absurd (omega arith)
 closed_gate (b ∷ bytes) front at some is shut = reading_closed at b bytes (λ one. shut (ap (λ (l : List ℕ). get_or l 0 0) is ∙ one))
-
-pub open_gate : (bytes front : List ℕ) → 1 ≤ length bytes → front ≡ take 1 bytes → get_or front 0 0 ≡ 1 → bytes ≡ 1 ∷ drop 1 bytes
-open_gate [] front some is open_ = absurd (omega arith)
-open_gate (b ∷ bytes) front some is open_ = ap (λ (g : ℕ). g ∷ bytes) (sym (ap (λ (l : List ℕ). get_or l 0 0) is) ∙ open_)

@@ -1,5 +1,5 @@
 -- The rows that records leave, one change after the other.
-use Rattle.std.proofs.Common.{◌≡◌, ℕ, ◌+◌, ◌<◌, Bool, true, cond, List, [], ◌∷◌, ◌++◌, length, get_or, take, drop, Option, Some, ℤ, Vec, Ordering, refl, sym, ◌∙◌, ap, arith}
+use Rattle.std.proofs.Common.{◌≡◌, ℕ, ◌+◌, ◌<◌, Bool, true, cond, List, [], ◌∷◌, ◌++◌, length, get_or, take, Option, Some, ℤ, Vec, Ordering, refl, sym, ◌∙◌, ap, arith}
 use Rattle.std.specs.BTreeMap.{is_at}
 use Rattle.std.specs.Map.{lookup, keys_of}
 use Rattle.std.specs.List.{list_all, AllByRecursion}
@@ -7,7 +7,7 @@ use Rattle.std.specs.List.Sorted.{IsStrictlySortedBy}
 use Rattle.std.specs.Ordering.{is_lt}
 use Rattle.std.specs.declared.cmp.Ordering.TheVariants.{Less}
 use Rattle.std.specs.declared.alloc.Global.{Global}
-use Rattle.std.proofs.lemmas.List.{take_more, drop_more, map_push}
+use Rattle.std.proofs.lemmas.List.{take_more, map_push}
 use Rattle.std.proofs.lemmas.Bool.{and_from}
 use Rattle.std.proofs.lemmas.Map.Keys.{sorted_tail, sorted_head}
 use Rattle.std.proofs.lemmas.Grind.{common_steps}
@@ -70,9 +70,3 @@ record_more vs i d T now next below puts so_far x =
     ∙ sym (after_records-push (record_lists (take i vs)) (get_or vs i d).items T x)
     ∙ ap (λ (l : List Record). after_records l T x) (sym (map_push _ (take i vs) (get_or vs i d)))
     ∙ ap (λ (l : List (Vec Change Global)). after_records (record_lists l) T x) (sym (take_more vs i d below))
-
-pub row_more : (start : List (Cell × ℤ)) (i : ℕ) (d : Cell × ℤ) (now next : Values) (x : Cell) → i < length start → next x ≡ put_in (get_or start i d).0 (Some (get_or start i d).1) now x → now x ≡ row_of (drop (i + 1) start) x → next x ≡ row_of (drop i start) x
-row_more start i d now next x below puts so_far =
-    puts
-    ∙ ap (λ (v : Option ℤ). cond (same_cell (get_or start i d).0 x) (Some (get_or start i d).1) v) so_far
-    ∙ ap (λ (l : List (Cell × ℤ)). row_of l x) (sym (drop_more start i d below))

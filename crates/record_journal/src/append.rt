@@ -1,6 +1,6 @@
 //! How a journal begins, and how it grows.
 
-ghost use Rattle.std.specs.Prelude.{◌≡◌, ◌+◌, ◌<◌, ◌≤◌, ◌++◌, ◌∷◌, [], List, ℕ, length, true, false, OnOk, OnErr, IfOk, IfErr, IsOk, IsErr, ◌^◌};
+ghost use Rattle.std.specs.Prelude.{◌≡◌, ◌+◌, ◌<◌, ◌≤◌, ◌++◌, ◌∷◌, [], List, length, true, false, OnOk, OnErr, IfOk, IfErr, IsOk, IsErr, ◌^◌};
 ghost use Rattle.crash_disk.specs.Calls.{AreCalls, AreSure, Fails, IsUpTo};
 ghost use Rattle.crash_disk.specs.Disk.{LeavesOnly, Only};
 ghost use Rattle.teb_io.specs.Faults.{HasCause, Rose};

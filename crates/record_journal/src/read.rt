@@ -1,6 +1,6 @@
 //! The records that bytes stand for.
 
-ghost use Rattle.std.specs.Prelude.{◌≡◌, ◌+◌, ◌*◌, ◌<◌, ◌≤◌, ◌^◌, ◌∷◌, [], ℕ, length, None, Some, IfOk, IsErrOf, IfSome, MatchOption};
+ghost use Rattle.std.specs.Prelude.{◌≡◌, ◌+◌, ◌*◌, ◌<◌, ◌≤◌, ◌∷◌, [], ℕ, length, None, Some, IfOk, IsErrOf, IfSome, MatchOption};
 ghost use Rattle.std.specs.Int.{w64, from_be_bytes};
 ghost use Rattle.record_journal.specs.Format.{value_of_tag, change_of, changes_of, record_of, reading, Damaged, Whole};
 ghost use Rattle.record_journal.specs.Views.{record_lists};
