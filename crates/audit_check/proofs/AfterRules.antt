@@ -6,6 +6,7 @@ use Rattle.std.specs.declared.alloc.Global.{Global}
 use Rattle.std.proofs.lemmas.Bool.{cases_eq}
 use Rattle.std.proofs.lemmas.Bool.Decides.{nat_tests}
 use Rattle.std.proofs.lemmas.List.Folds.{list_any-append}
+use Rattle.teb_names.proofs.Bools.{or_false, or_swap}
 use Rattle.audit_check.specs.Items.{Item}
 use Rattle.audit_check.specs.Faults.{reads_from}
 use Rattle.audit_check.specs.Keeps.{MarksCommits, KeepsSources}
@@ -21,7 +22,7 @@ module _ (p : ℕ → Bool) (t txn from : ℕ) (xs : List ℕ) where
         let apart : (from == t) ≡ false = grind (arith, nat_tests) in
         let above : (from == 0) ≡ false = grind (arith, nat_tests) in
         let longer : ys ≡ xs ++ from ∷ [] = is ∙ chosen (txn == t) here in
-        rw (here, apart, above) (ap (list_any p) longer ∙ list_any-append p xs (from ∷ []) ∙ turned (list_any p xs) (p from))
+        rw (here, apart, above) (ap (list_any p) longer ∙ list_any-append p xs (from ∷ []) ∙ ap (λ b. list_any p xs || b) (or_false (p from)) ∙ or_swap (list_any p xs) (p from))
     | inr apart ↦
         let there : (txn == t) ≡ false = grind (arith, nat_tests) in
         let same : ys ≡ xs = is ∙ left (txn == t) there in
@@ -33,12 +34,6 @@ module _ (p : ℕ → Bool) (t txn from : ℕ) (xs : List ℕ) where
 
       left : (b : Bool) → b ≡ false → (if b then xs ++ from ∷ [] else xs) ≡ xs
       left b h = rw h
-
-      turned : (a b : Bool) → (a || (b || false)) ≡ (b || a)
-      turned true true = refl
-      turned true false = refl
-      turned false true = refl
-      turned false false = refl
 
   pub source_own : from ≡ txn → list_any p xs ≡ (txn == t && not (from == t) && not (from == 0) && p from || list_any p xs)
   source_own same = elim (cases_eq txn t) [

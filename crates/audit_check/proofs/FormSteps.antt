@@ -11,7 +11,7 @@ use Rattle.audit_check.specs.declared.error.AuditError.{AuditError}
 use Rattle.audit_check.specs.declared.error.AuditError.TheVariants as errors
 use Rattle.audit_check.specs.declared.line.RowKey.{RowKey as Named}
 use Rattle.audit_check.specs.declared.line.Line.{Line}
-use Rattle.audit_check.specs.Views.{nows, views, KeepsCells, Takes, ReadsLines, ReadsInto}
+use Rattle.audit_check.specs.Views.{nows, KeepsCells, Takes, ReadsLines, ReadsInto}
 
 -- a text has a part
 pub has_part : (xs : List (Bor (List ℕ))) (text : List ℕ) → nows xs ≡ parts_of text → 0 < length xs

@@ -1,17 +1,11 @@
 -- Marks and lists by number, as they grow.
-use Rattle.std.proofs.Common.{◌≡◌, ℕ, zero, suc, ◌<◌, ◌==◌, true, false, if◌then◌else◌, List, [], ◌∷◌, ◌++◌, map, length, get_or, set, refl, ap, sym, ◌∙◌, arith, inl, inr}
+use Rattle.std.proofs.Common.{◌≡◌, ℕ, ◌<◌, ◌==◌, true, false, if◌then◌else◌, List, [], ◌++◌, map, length, get_or, set, ap, sym, ◌∙◌, arith, inl, inr}
 use Rattle.std.specs.Prelude.{Vec}
 use Rattle.std.specs.declared.alloc.Global.{Global}
 use Rattle.std.proofs.lemmas.Bool.{cases_eq}
 use Rattle.std.proofs.lemmas.Bool.Decides.{nat_tests}
 use Rattle.std.proofs.lemmas.List.{map-set, length-map, get_or-set_same, get_or-set_other, get_or-map}
 use Rattle.audit_check.specs.Marks.{list_at}
-
-pub list_push : (lists : List (Vec ℕ Global)) (v : Vec ℕ Global) → v.items ≡ [] → (n : ℕ) → list_at (lists ++ v ∷ []) n ≡ list_at lists n
-list_push [] v e zero = e
-list_push [] v e (suc n) = refl
-list_push (l ∷ ls) v e zero = refl
-list_push (l ∷ ls) v e (suc n) = list_push ls v e n
 
 pub list_set : (lists : List (Vec ℕ Global)) (i : ℕ) (v : Vec ℕ Global) (more : List ℕ) → i < length lists → v.items ≡ list_at lists i ++ more
     → (n : ℕ) → list_at (set lists i v) n ≡ (if i == n then list_at lists n ++ more else list_at lists n)

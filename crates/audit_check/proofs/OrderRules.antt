@@ -1,7 +1,7 @@
 -- When an order lists each committed transaction once and no other.
 use Rattle.std.proofs.Common.{◌≡◌, ℕ, zero, suc, ◌+◌, ◌<◌, ◌==◌, Bool, true, false, not, ◌&&◌, ◌||◌, List, [], ◌∷◌, ◌++◌, length, take, get_or, None, refl, ap, sym, ◌∙◌, arith, inl, inr}
 use Rattle.std.specs.List.{list_all}
-use Rattle.std.proofs.lemmas.Bool.{and_parts, and_from, and_left, and_right, or_parts, or_cases}
+use Rattle.std.proofs.lemmas.Bool.{and_parts, and_from, and_left, and_right, or_parts, or_cases, not-false}
 use Rattle.std.proofs.lemmas.Bool.Decides.{nat_tests}
 use Rattle.std.proofs.lemmas.List.Folds.{list_all-append, list_any-append, list_any_at, list_all_at}
 use Rattle.std.proofs.lemmas.List.{take_more}
@@ -15,17 +15,13 @@ use Rattle.audit_check.specs.Keeps.{commit_passes}
 use Rattle.audit_check.specs.Views.{views, line_view}
 use Rattle.audit_check.specs.declared.line.Line.{Line}
 use Rattle.audit_check.proofs.FirstLines.{views_append, first_parts}
-use Rattle.audit_check.proofs.TxnSteps.{not_false}
+use Rattle.teb_names.proofs.Bools.{and_true, or_false, or_swap}
 
 and_turned : (a b : Bool) → (a && b) ≡ (b && a)
 and_turned true true = refl
 and_turned true false = refl
 and_turned false true = refl
 and_turned false false = refl
-
-and_true : (a : Bool) → (a && true) ≡ a
-and_true true = refl
-and_true false = refl
 
 -- the commits of the lines, one by one
 commits-append : (a b : List Item) → commits (a ++ b) ≡ commits a ++ commits b
@@ -79,10 +75,6 @@ distinct_push (x ∷ xs) t h new =
     let (other, rest) = or_parts (x == t) (is_among xs t) new in
     let apart : (t == x) ≡ false = grind (arith, nat_tests, other) in
     rw (list_any-append (λ s. s == x) xs (t ∷ []), apart, or_false (is_among xs x)) (and_from (not (is_among xs x)) (are_distinct (xs ++ t ∷ [])) here (distinct_push xs t more rest))
-  where
-    or_false : (b : Bool) → (b || false) ≡ b
-    or_false true = refl
-    or_false false = refl
 
 module _ (p : ℕ → Bool) (ts : List ℕ) (i t : ℕ) (within : i < length ts) (is : t ≡ get_or ts i 0) where
   front : take (i + 1) ts ≡ take i ts ++ t ∷ []
@@ -95,13 +87,7 @@ module _ (p : ℕ → Bool) (ts : List ℕ) (i t : ℕ) (within : i < length ts)
       rw front (and_from (are_distinct (take i ts ++ t ∷ [])) (list_all p (take i ts ++ t ∷ [])) (distinct_push (take i ts) t once new) each)
 
   pub among_more : (n : ℕ) → is_among (take (i + 1) ts) n ≡ (t == n || is_among (take i ts) n)
-  among_more n = rw front (list_any-append (λ s. s == n) (take i ts) (t ∷ []) ∙ turned (is_among (take i ts) n) (t == n))
-    where
-      turned : (a b : Bool) → (a || (b || false)) ≡ (b || a)
-      turned true true = refl
-      turned true false = refl
-      turned false true = refl
-      turned false false = refl
+  among_more n = rw front (list_any-append (λ s. s == n) (take i ts) (t ∷ []) ∙ ap (λ b. is_among (take i ts) n || b) (or_false (t == n)) ∙ or_swap (is_among (take i ts) n) (t == n))
 
 -- one that was there before, and one that does not pass
 repeated : (ts : List ℕ) (i : ℕ) → i < length ts → is_among (take i ts) (get_or ts i 0) ≡ true → are_distinct ts ≡ false
@@ -121,7 +107,7 @@ not_passing p ts i t within is fails = and_right (are_distinct ts) (list_all p t
 
 order_right : (H : List Item) (ts : List ℕ) → wrong_order H [] (Order ts) ≡ false → are_distinct ts ≡ true
 order_right H ts right =
-    let listed = not_false (are_distinct_and (committed H) ts && list_all (is_among ts) (commits H)) right in
+    let listed = not-false (are_distinct_and (committed H) ts && list_all (is_among ts) (commits H)) right in
     (and_parts (are_distinct ts) (list_all (committed H) ts) (and_parts (are_distinct_and (committed H) ts) (list_all (is_among ts) (commits H)) listed).0).0
 
 -- the order of lines without a wrong one has each transaction once

@@ -2,7 +2,7 @@
 use Rattle.std.proofs.Common.{◌≡◌, ℕ, zero, suc, ◌+◌, ◌-◌, ◌<◌, ◌≤◌, ◌==◌, Bool, true, false, not, ◌||◌, if◌then◌else◌, List, [], ◌∷◌, ◌++◌, length, take, drop, replicate, get_or, Option, refl, ap, sym, subst, ◌∙◌, arith, inl, inr}
 use Rattle.std.specs.Prelude.{ℤ, Vec}
 use Rattle.std.specs.declared.alloc.Global.{Global}
-use Rattle.std.proofs.lemmas.Bool.{cases_Bool, cases_eq, and_parts, false_from_ne_true, both_ways}
+use Rattle.std.proofs.lemmas.Bool.{cases_Bool, cases_eq, and_parts, false_from_ne_true, both_ways, not-true}
 use Rattle.std.proofs.lemmas.Bool.Decides.{nat_tests}
 use Rattle.std.proofs.lemmas.List.Folds.{list_any_at}
 use Rattle.std.proofs.lemmas.List.{take_more, take_all, drop_more, drop_all, length-take-le, get_or_default}
@@ -20,7 +20,6 @@ use Rattle.audit_check.specs.declared.line.Line.TheVariants as line
 use Rattle.audit_check.proofs.Cells.{views_push}
 use Rattle.audit_check.proofs.FirstLines.{views_next}
 use Rattle.audit_check.proofs.OrderRules.{among_more}
-use Rattle.audit_check.proofs.TxnSteps.{not_true}
 
 -- the lines of one transaction
 own_more : (t n k : ℕ) (ls : List Line) (l : Line) → k ≡ n + length ls → own_from t n (ls ++ l ∷ []) ≡ (if is_own t (line_view l) then own_from t n ls ++ k ∷ [] else own_from t n ls)
@@ -271,7 +270,7 @@ before_at [] j once within = absurd (omega (arith, within))
 before_at (x ∷ xs) zero once within = let same : (x == x) ≡ true = grind (arith, nat_tests) in rw same
 before_at (x ∷ xs) (suc j) once within =
     let (new, more) = and_parts (not (is_among xs x)) (are_distinct xs) once in
-    let apart : (x == get_or xs j 0) ≡ false = false_from_ne_true (x == get_or xs j 0) (λ e. both_ways (is_among xs x) (not_true (is_among xs x) new)
+    let apart : (x == get_or xs j 0) ≡ false = false_from_ne_true (x == get_or xs j 0) (λ e. both_ways (is_among xs x) (not-true (is_among xs x) new)
     (list_any_at (λ s. s == x) xs j 0 (omega (arith, within)) (grind (arith, nat_tests, e)))) in
     rw apart (ap (λ (l : List ℕ). x ∷ l) (before_at xs j more (omega (arith, within))))
 

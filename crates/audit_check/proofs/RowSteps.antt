@@ -1,11 +1,12 @@
 -- Which final rows have been seen, and which are missing.
-use Rattle.std.proofs.Common.{◌≡◌, ℕ, ◌==◌, Bool, true, false, not, ◌&&◌, ◌||◌, if◌then◌else◌, List, [], ◌∷◌, ◌++◌, ◌+◌, ◌<◌, length, take, drop, get_or, Option, refl, ap, sym, ◌∙◌, inl, inr}
+use Rattle.std.proofs.Common.{◌≡◌, ℕ, ◌==◌, Bool, true, false, not, ◌&&◌, ◌||◌, if◌then◌else◌, List, [], ◌∷◌, ◌++◌, Option, refl, ap, sym, ◌∙◌, inl, inr}
 use Rattle.std.specs.Prelude.{ℤ, is_some}
 use Rattle.std.specs.List.{list_any}
-use Rattle.std.proofs.lemmas.Bool.{and_parts, or_from, or_left, or_right, cases_Bool, eqb-true}
+use Rattle.std.proofs.lemmas.Bool.{and_parts, cases_Bool, eqb-true}
 use Rattle.std.proofs.lemmas.Slice.Eq.{bytes_eq-Decides}
 use Rattle.std.specs.Str.{bytes_eq}
-use Rattle.std.proofs.lemmas.List.{map-append, take-append-drop}
+use Rattle.std.proofs.lemmas.List.{map-append}
+use Rattle.teb_names.proofs.Bools.{or_false, or_swap}
 use Rattle.audit_check.specs.Items.{Item, RowKey, same_row_key}
 use Rattle.audit_check.specs.Items.Item.{Start, Began, Got, Put, Ready, Done, Gone, Told, Order, Row, End}
 use Rattle.audit_check.specs.Faults.{row_keys_in, is_missing}
@@ -14,9 +15,8 @@ use Rattle.audit_check.specs.Keeps.{HoldsTable, SeesRows, row_key_passes, value_
 use Rattle.audit_check.specs.Views.{row_key_view, line_view, views, row_keys, has_row_key}
 use Rattle.audit_check.specs.declared.line.RowKey.{RowKey as Key}
 use Rattle.audit_check.specs.declared.line.Line.{Line}
-use Rattle.audit_check.specs.declared.line.Line.TheVariants as line
 use Rattle.audit_check.proofs.Cells.{has_push}
-use Rattle.audit_check.proofs.FirstLines.{views_next, views_append}
+use Rattle.audit_check.proofs.FirstLines.{views_append}
 
 pub same_row_keys : (x y : RowKey) → same_row_key x y ≡ true → x ≡ y
 same_row_keys x y h =
@@ -40,29 +40,12 @@ row_seen rows rows' p v past is seen = record {
   each = λ x. ap (λ (ks : List Key). has_row_key (row_keys ks) x) is ∙ seen_push rows p x (has_row_key (row_keys rows) (row_key_view p)) refl ∙ ap (λ b. same_row_key x (row_key_view p) || b) (seen.each x);
 }
 
-abbrev pub is_row_line : Item → Bool
-is_row_line (Row x v) = true
-is_row_line _ = false
-
-pub other_seen : (rows : List Key) (i : Item) (past : List Item) → is_row_line i ≡ false → SeesRows rows past → SeesRows rows (i ∷ past)
-other_seen rows (Row x v) past h seen = absurd (cc)
-other_seen rows (Start x v) past h seen = record { each = seen.each }
-other_seen rows (Began t) past h seen = record { each = seen.each }
-other_seen rows (Got t x u v) past h seen = record { each = seen.each }
-other_seen rows (Put t x v) past h seen = record { each = seen.each }
-other_seen rows (Ready t) past h seen = record { each = seen.each }
-other_seen rows (Done t) past h seen = record { each = seen.each }
-other_seen rows (Gone t) past h seen = record { each = seen.each }
-other_seen rows (Told t) past h seen = record { each = seen.each }
-other_seen rows (Order ts) past h seen = record { each = seen.each }
-other_seen rows End past h seen = record { each = seen.each }
-
 pub missed : (H past : List Item) (entries : List (Key × Option ℤ)) (rows : List Key) (p : Key) → HoldsTable entries (last_table H) → SeesRows rows past
     → (is_some (value_at entries p) && not (has_row_key (row_keys rows) (row_key_view p))) ≡ is_missing H past (row_key_view p)
 missed H past entries rows p held seen = rw (held.each p, seen.each (row_key_view p))
 
 -- the row keys of the lines, one by one
-pub row_keys_more : (p : RowKey → Bool) (i : Item) (past : List Item) → list_any p (row_keys_in (i ∷ past)) ≡ (row_key_passes p i || list_any p (row_keys_in past))
+row_keys_more : (p : RowKey → Bool) (i : Item) (past : List Item) → list_any p (row_keys_in (i ∷ past)) ≡ (row_key_passes p i || list_any p (row_keys_in past))
 unfolding row_keys_in
 row_keys_more p (Start x v) past = refl
 row_keys_more p (Put t x v) past = refl
@@ -76,42 +59,34 @@ row_keys_more p (Order ts) past = refl
 row_keys_more p (Row x v) past = refl
 row_keys_more p End past = refl
 
-pub row_keys_behind : (p : RowKey → Bool) (more past : List Item) → list_any p (row_keys_in past) ≡ true → list_any p (row_keys_in (more ++ past)) ≡ true
-row_keys_behind p [] past h = h
-row_keys_behind p (i ∷ more) past h = row_keys_more p i (more ++ past) ∙ or_right (row_key_passes p i) (list_any p (row_keys_in (more ++ past))) (row_keys_behind p more past h)
-
-pub not_row : (l : Line) → ((p : Key) (v : ℤ) → l ≡ line.Row p v → ⊥) → is_row_line (line_view l) ≡ false
-not_row (line.Row p v) unlike = absurd (unlike p v refl)
-not_row (line.Start p v) unlike = refl
-not_row (line.Began t) unlike = refl
-not_row (line.Got t p u v) unlike = refl
-not_row (line.Put t p v) unlike = refl
-not_row (line.Ready t) unlike = refl
-not_row (line.Done t) unlike = refl
-not_row (line.Gone t) unlike = refl
-not_row (line.Told t) unlike = refl
-not_row (line.Order ts) unlike = refl
-not_row line.End unlike = refl
-
-module _ (p : RowKey → Bool) (lines : List Line) (i : ℕ) (l : Line) (within : i < length lines) (is : l ≡ get_or lines i l) where
-  pub row_keys_right : list_any p (row_keys_in (views (take i lines))) ≡ false → row_key_passes p (line_view l) ≡ false → list_any p (row_keys_in (views (take (i + 1) lines))) ≡ false
-  row_keys_right none right =
-      ap (λ (past : List Item). list_any p (row_keys_in past)) (views_next lines i l within is)
-      ∙ row_keys_more p (line_view l) (views (take i lines))
-      ∙ or_from (row_key_passes p (line_view l)) (list_any p (row_keys_in (views (take i lines)))) right none
-
-  pub row_keys_wrong : row_key_passes p (line_view l) ≡ true → list_any p (row_keys_in (views lines)) ≡ true
-  row_keys_wrong wrong =
-      let here : list_any p (row_keys_in (views (take (i + 1) lines))) ≡ true =
-      ap (λ (past : List Item). list_any p (row_keys_in past)) (views_next lines i l within is)
-      ∙ row_keys_more p (line_view l) (views (take i lines))
-      ∙ or_left (row_key_passes p (line_view l)) (list_any p (row_keys_in (views (take i lines)))) wrong in
-      let whole : views lines ≡ views (drop (i + 1) lines) ++ views (take (i + 1) lines) = ap views (sym (take-append-drop (i + 1) lines)) ∙ views_append (take (i + 1) lines) (drop (i + 1) lines) in
-      ap (λ (past : List Item). list_any p (row_keys_in past)) whole ∙ row_keys_behind p (views (drop (i + 1) lines)) (views (take (i + 1) lines)) here
-
-pub no_row_keys : (p : RowKey → Bool) → list_any p (row_keys_in []) ≡ false
+no_row_keys : (p : RowKey → Bool) → list_any p (row_keys_in []) ≡ false
 unfolding row_keys_in
 no_row_keys p = refl
+
+one_row_key : (p : RowKey → Bool) (i : Item) → list_any p (row_keys_in (i ∷ [])) ≡ row_key_passes p i
+one_row_key p i = row_keys_more p i [] ∙ ap (λ b. row_key_passes p i || b) (no_row_keys p) ∙ or_false (row_key_passes p i)
+
+row_keys_behind : (p : RowKey → Bool) (more past : List Item) → list_any p (row_keys_in (more ++ past)) ≡ (list_any p (row_keys_in more) || list_any p (row_keys_in past))
+row_keys_behind p [] past = ap (λ b. b || list_any p (row_keys_in past)) (sym (no_row_keys p))
+row_keys_behind p (i ∷ more) past =
+    row_keys_more p i (more ++ past)
+    ∙ ap (λ b. row_key_passes p i || b) (row_keys_behind p more past)
+    ∙ or_assoc (row_key_passes p i) (list_any p (row_keys_in more)) (list_any p (row_keys_in past))
+    ∙ ap (λ b. b || list_any p (row_keys_in past)) (sym (row_keys_more p i more))
+  where
+    or_assoc : (a b c : Bool) → (a || (b || c)) ≡ ((a || b) || c)
+    or_assoc true b c = refl
+    or_assoc false b c = refl
+
+-- a row key of the lines passes where a line of one does
+pub row_keys_pass : (p : RowKey → Bool) (lines : List Line) → list_any (λ l. row_key_passes p (line_view l)) lines ≡ list_any p (row_keys_in (views lines))
+row_keys_pass p [] = sym (no_row_keys p)
+row_keys_pass p (l ∷ ls) =
+    ap (λ b. row_key_passes p (line_view l) || b) (row_keys_pass p ls)
+    ∙ or_swap (row_key_passes p (line_view l)) (list_any p (row_keys_in (views ls)))
+    ∙ ap (λ b. list_any p (row_keys_in (views ls)) || b) (sym (one_row_key p (line_view l)))
+    ∙ sym (row_keys_behind p (views ls) (line_view l ∷ []))
+    ∙ ap (λ (is : List Item). list_any p (row_keys_in is)) (sym (views_append (l ∷ []) ls))
 
 pub none_seen : (rows : List Key) → rows ≡ [] → SeesRows rows []
 none_seen rows is = rw is (record { each = λ x. refl })

@@ -1,29 +1,14 @@
 -- A table of values, as it changes at one row key.
-use Rattle.std.proofs.Common.{◌≡◌, Bool, true, false, if◌then◌else◌, List, [], ◌∷◌, Option, Some, refl, ap, sym, subst, ◌∙◌}
+use Rattle.std.proofs.Common.{◌≡◌, Bool, true, false, List, [], ◌∷◌, Option, Some, refl, sym, subst}
 use Rattle.std.specs.Prelude.{ℤ}
-use Rattle.std.specs.Map.{lookup}
-use Rattle.audit_check.specs.Items.{Item, RowKey, same_row_key}
+use Rattle.audit_check.specs.Items.{Item, RowKey}
 use Rattle.audit_check.specs.Items.Item.{Start, Began, Got, Put, Ready, Done, Gone, Told, Order, Row, End}
 use Rattle.audit_check.specs.Tables.{Values, put_at, starts_in}
-use Rattle.audit_check.specs.Keeps.{HoldsTable, row_of}
-use Rattle.audit_check.specs.Views.{row_key_view, line_view}
+use Rattle.audit_check.specs.Keeps.{HoldsTable}
+use Rattle.audit_check.specs.Views.{line_view}
 use Rattle.audit_check.specs.declared.line.RowKey.{RowKey as Key}
 use Rattle.audit_check.specs.declared.line.Line.{Line}
 use Rattle.audit_check.specs.declared.line.Line.TheVariants as line
-
-abbrev found : List (Key × Option ℤ) → Key → Option (Option ℤ)
-found entries q = lookup (λ r. same_row_key (row_key_view q) (row_key_view r)) entries
-
-pub put_held : (entries entries' : List (Key × Option ℤ)) (p : Key) (v : Option ℤ) (T : Values)
-    → ((q : Key) → found entries' q ≡ (if same_row_key (row_key_view p) (row_key_view q) then Some v else found entries q))
-    → HoldsTable entries T → HoldsTable entries' (put_at (row_key_view p) v T)
-put_held entries entries' p v T puts h = record {
-  each = λ q. ap row_of (puts q) ∙ chosen (same_row_key (row_key_view p) (row_key_view q)) (found entries q) ∙ ap (λ o. if same_row_key (row_key_view p) (row_key_view q) then v else o) (h.each q);
-}
-  where
-    chosen : (b : Bool) (o : Option (Option ℤ)) → row_of (if b then Some v else o) ≡ (if b then v else row_of o)
-    chosen true o = refl
-    chosen false o = refl
 
 pub none_held : (entries : List (Key × Option ℤ)) → entries ≡ [] → HoldsTable entries (starts_in [])
 unfolding starts_in

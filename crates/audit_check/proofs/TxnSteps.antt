@@ -1,5 +1,6 @@
 -- Where transactions stand, as lines are looked at one after the other.
 use Rattle.std.proofs.Common.{◌≡◌, ℕ, ◌+◌, ◌==◌, nat_lt, nat_le, Bool, true, false, not, ◌&&◌, ◌||◌, List, [], ◌∷◌, refl, ap, sym, ◌∙◌, arith}
+use Rattle.std.proofs.lemmas.Bool.{not-false}
 use Rattle.std.proofs.lemmas.Bool.Decides.{nat_tests}
 use Rattle.audit_check.specs.Items.{Item}
 use Rattle.audit_check.specs.Items.Item.{Start, Began, Got, Put, Ready, Done, Gone, Told, Order, Row, End}
@@ -10,14 +11,6 @@ use Rattle.audit_check.specs.Marks.{is_marked}
 use Rattle.audit_check.specs.Views.{line_view}
 use Rattle.audit_check.specs.declared.line.Line.{Line}
 use Rattle.audit_check.specs.declared.line.Line.TheVariants as line
-
-pub not_true : (b : Bool) → not b ≡ true → b ≡ false
-not_true true h = cc
-not_true false h = refl
-
-pub not_false : (b : Bool) → not b ≡ false → b ≡ true
-not_false true h = refl
-not_false false h = cc
 
 double : (b : Bool) → b ≡ not (not b)
 double true = refl
@@ -82,7 +75,7 @@ module _ (count : ℕ) (done gone : List Bool) (past : List Item) (kept : KeepsS
   pub begun_stands : (t : ℕ) → wrong_txn past (Began t) ≡ false → KeepsStandings t done gone (Began t ∷ past)
   unfolding begun committed aborted begun_count
   begun_stands t right =
-      let next : (t == begun_count past + 1) ≡ true = not_false (t == begun_count past + 1) right in
+      let next : (t == begun_count past + 1) ≡ true = not-false (t == begun_count past + 1) right in
       let at : t ≡ begun_count past + 1 = grind (arith, nat_tests, next) in
       record {
         count_is = omega (arith, at);

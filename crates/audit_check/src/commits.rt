@@ -35,8 +35,8 @@ fn committed(alloc: Global, lines: &[Line]) -> Result<Vec<bool>, AllocError>
     ensures { IfOk result (λ done. MarksCommits done.items (views lines.now)) }
 {
     let mut done = Vec::new(alloc);
-    for i in 0..lines.len() {
-        mark_commit(&mut done, &lines[i])?;
+    for line in lines {
+        mark_commit(&mut done, line)?;
     }
     Ok(done)
 }

@@ -40,10 +40,8 @@ fn lines_in<'a>(alloc: Global, parts: &[&'a [u8]]) -> Result<Vec<Line<'a>>, Audi
     ensures few { IfOk result (λ v. length v.items < length parts.now) }
 {
     let mut lines = Vec::new(alloc);
-    match add_lines(alloc, &mut lines, parts) {
-        Ok(()) => Ok(lines),
-        Err(error) => Err(error),
-    }
+    add_lines(alloc, &mut lines, parts)?;
+    Ok(lines)
 }
 
 /// Puts the lines of the parts into a list that has none.

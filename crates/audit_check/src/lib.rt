@@ -41,10 +41,7 @@ pub fn audit(alloc: Global, text: &[u8]) -> Result<(), AuditError>
     requires { length (parts_of text.now) < 2 ^ 32 }
     ensures { Answers result (audit_of text.now) }
 {
-    match read_lines(alloc, text) {
-        Ok(lines) => check_lines(alloc, &lines),
-        Err(error) => Err(error),
-    }
+    check_lines(alloc, &read_lines(alloc, text)?)
 }
 
 /// The same of lines that have their form.

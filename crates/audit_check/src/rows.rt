@@ -88,12 +88,7 @@ fn any_missing(table: &Table, seen: &IndexSet<RowKey>, lines: &[Line]) -> bool
     requires { HoldsTable table.now.values.entries (last_table (views lines.now)) }
     ensures { (past : List Item) → SeesRows seen.now.keys past → result ≡ list_any (is_missing (views lines.now) past) (row_keys_in (views lines.now)) }
 {
-    for i in 0..lines.len() {
-        if misses(table, seen, &lines[i]) {
-            return true;
-        }
-    }
-    false
+    lines.iter().any(|line| misses(table, seen, line))
 }
 
 /// Whether the line is of a row key that has a row and has not been seen.

@@ -29,8 +29,8 @@ pub fn starting_table<'a>(alloc: Global, lines: &[Line<'a>]) -> Result<Table<'a>
     let mut table = Table {
         values: IndexMap::new(alloc),
     };
-    for i in 0..lines.len() {
-        put_start(&mut table, &lines[i])?;
+    for line in lines {
+        put_start(&mut table, line)?;
     }
     Ok(table)
 }

@@ -1,20 +1,15 @@
-use Rattle.std.proofs.Common.{◌∙◌, sym}
+use Rattle.std.proofs.Common.{◌∙◌, rules, tests}
+use Rattle.std.proofs.lemmas.Iterator.{YieldsList-from_slice}
+use Rattle.std.proofs.lemmas.Iterator.Search.{any_from_yields_List}
 use Rattle.audit_check.specs.Faults.{is_missing}
-use Rattle.audit_check.specs.Views.{views}
-use Rattle.audit_check.proofs.RowSteps.{no_row_keys, row_keys_right, row_keys_wrong}
+use Rattle.audit_check.specs.Keeps.{row_key_passes}
+use Rattle.audit_check.specs.Views.{views, line_view}
+use Rattle.audit_check.specs.declared.line.Line.{Line}
+use Rattle.audit_check.proofs.RowSteps.{row_keys_pass}
 use Rattle.audit_check.proofs.rows.any_missing.Goals as goal
 
-pub loop-i-init : goal.loop-i-init
-loop-i-init c = λ past seen. no_row_keys (is_missing (views c.args.lines.now) past)
-
-pub loop-i-preserved : goal.loop-i-preserved
-loop-i-preserved c = λ past seen.
-    let lines = c.args.lines.now in
-    row_keys_right (is_missing (views lines) past) lines c.loop-i.i c.index-lines-i.result c.loop-i-test.true c.index-lines-i.is (c.loop-i.invariant past seen)
-    (sym (c.misses.ensures (views lines) past c.requires seen) ∙ c.if-misses.false)
-
-pub returns-then-misses : goal.returns-then-misses
-returns-then-misses c = λ past seen.
-    let lines = c.args.lines.now in
-    sym (row_keys_wrong (is_missing (views lines) past) lines c.loop-i.i c.index-lines-i.result c.loop-i-test.true c.index-lines-i.is
-    (sym (c.misses.ensures (views lines) past c.requires seen) ∙ c.if-misses.true))
+pub returns : goal.returns
+returns c = λ past seen.
+    let missing = is_missing (views c.args.lines.now) past in
+    any_from_yields_List (λ (l : Line). row_key_passes missing (line_view l)) _ _ _ c.any.ensures.ran (YieldsList-from_slice c.args.lines.now cc) (λ x b q k. search (rules, tests))
+    ∙ row_keys_pass missing c.args.lines.now
