@@ -2,9 +2,10 @@
 use Rattle.std.proofs.Common.{◌≡◌, ℕ, ◌<◌, ◌==◌, Bool, true, false, not, ◌&&◌, ◌||◌, List, [], ◌∷◌, refl, ap, ◌∙◌, arith, eqb}
 use Rattle.std.specs.Prelude.{ℤ}
 use Rattle.std.specs.List.{list_any}
-use Rattle.std.proofs.lemmas.Bool.{and_parts}
+use Rattle.std.proofs.lemmas.Bool.{and_parts, not-true}
 use Rattle.std.proofs.lemmas.Bool.Decides.{nat_tests}
 use Rattle.teb_names.specs.declared.naming.NameBook.{NameBook}
+use Rattle.teb_names.proofs.Bools.{or_true}
 use Rattle.teb_history.specs.declared.Event.{Event}
 use Rattle.teb_history.specs.declared.Event.TheVariants as event
 use Rattle.teb_history.specs.Accesses.{is_from}
@@ -12,11 +13,6 @@ use Rattle.audit_check.specs.Items.{Item, RowKey}
 use Rattle.audit_check.specs.Faults.{reads_from}
 use Rattle.audit_check.specs.Standings.{committed}
 use Rattle.audit_law.proofs.Bridge.{items, starts}
-use Rattle.audit_check.proofs.TxnSteps.{not_true}
-
-or_true : (b : Bool) → (b || true) ≡ true
-or_true true = refl
-or_true false = refl
 
 clash : (b : Bool) → b ≡ true → b ≡ false → ⊥
 clash true e f = cc
@@ -34,7 +30,7 @@ module _ (names : NameBook) (rows : List (RowKey × ℤ)) (Z : List Item) (t : �
           let (own, other) = and_parts (s == t) (not (u == t)) both in
           let reads : (eqb s t && eqb u u && not (eqb t u)) ≡ true = grind (arith, nat_tests, own, other) in
           let above : 0 < u = grind (arith, nat_tests, some) in
-          absurd (clash (committed Z u) (h reads above) (not_true (committed Z u) late))
+          absurd (clash (committed Z u) (h reads above) (not-true (committed Z u) late))
 
   pub none_early : (Q : List Event) → ((w : ℕ) → 0 < w → list_any (is_from t w) Q ≡ true → committed Z w ≡ true) → list_any (reads_from (λ u. not (committed Z u)) t) (items names rows Q) ≡ false
   none_early [] h = none rows

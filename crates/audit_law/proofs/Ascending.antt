@@ -1,9 +1,9 @@
 -- Rows in ascending order: each cell has one, and their order does not matter.
-use Rattle.std.proofs.Common.{◌≡◌, ℕ, ◌==◌, Bool, true, false, cond, List, [], ◌∷◌, ◌++◌, reverse, Option, Some, None, refl, ap, ◌∙◌, inl, inr, ◌⊎◌}
+use Rattle.std.proofs.Common.{◌≡◌, Bool, true, false, cond, List, [], ◌∷◌, ◌++◌, reverse, Option, Some, None, refl, ap, ◌∙◌, inl, inr, ◌⊎◌}
 use Rattle.std.specs.Prelude.{ℤ}
 use Rattle.std.specs.List.{All, list_all}
 use Rattle.std.specs.Option.{option_or}
-use Rattle.std.proofs.lemmas.Bool.{and_parts, cases_Bool, both_ways, eqb-true, eq-eqb, and_from, false_from_ne_true}
+use Rattle.std.proofs.lemmas.Bool.{and_parts, cases_Bool, both_ways, false_from_ne_true}
 use Rattle.std.proofs.lemmas.List.Elements.{All-nil, All-cons, All-head, All-tail}
 use Rattle.std.proofs.lemmas.List.{reverse-append}
 use Rattle.teb_names.specs.declared.Cell.{Cell}
@@ -13,6 +13,7 @@ use Rattle.std.specs.declared.cmp.Ordering.TheVariants.{Less, Equal, Greater}
 use Rattle.teb_names.specs.Cells.{same_cell, cell_cmp, is_before}
 use Rattle.teb_names.specs.Rows.{row_of, is_ascending}
 use Rattle.teb_names.proofs.CellOrder.{same_cell-cell_cmp}
+use Rattle.teb_names.proofs.SameCells.{same_cell-true, same_itself}
 
 -- rows of other cells
 abbrev pub OthersThan : Cell → List (Cell × ℤ) → Type 0
@@ -44,12 +45,6 @@ ascending_apart (r ∷ rs) h =
     let (here, more) = and_parts (list_all (λ s. is_before r.0 s.0) rs) (is_ascending rs) h in
     (others_before r.0 rs here, ascending_apart rs more)
 
-same_is : (x y : Cell) → same_cell x y ≡ true → x ≡ y
-same_is x y e =
-    let two = and_parts _ _ e in
-    let made : ℕ → ℕ → Cell = λ a b. record { table = record { 0 = a }; key = b } in
-    ap (λ a. made a x.key) (eqb-true _ _ two.0) ∙ ap (λ b. made y.table.0 b) (eqb-true _ _ two.1)
-
 row_append : (xs ys : List (Cell × ℤ)) (x : Cell) → row_of (xs ++ ys) x ≡ option_or (row_of xs x) (row_of ys x)
 row_append [] ys x = refl
 row_append (r ∷ xs) ys x = rw (row_append xs ys x) (chosen (same_cell r.0 x) (row_of xs x))
@@ -59,7 +54,7 @@ row_append (r ∷ xs) ys x = rw (row_append xs ys x) (chosen (same_cell r.0 x) (
     chosen false o = refl
 
 apart_from : (y x z : Cell) → same_cell y x ≡ true → same_cell y z ≡ false → same_cell z x ≡ false
-apart_from y x z same other = false_from_ne_true (same_cell z x) (λ e. both_ways (same_cell y z) other (ap (same_cell y) (same_is z x e) ∙ same))
+apart_from y x z same other = false_from_ne_true (same_cell z x) (λ e. both_ways (same_cell y z) other (ap (same_cell y) (same_cell-true z x e) ∙ same))
 
 no_row : (y x : Cell) (rs : List (Cell × ℤ)) → same_cell y x ≡ true → OthersThan y rs → row_of rs x ≡ None
 no_row y x [] same h = refl
@@ -97,9 +92,6 @@ has_under r rows (s ∷ ss) others has =
 pub rows_stand : (rs : List (Cell × ℤ)) → Apart rs → All (HasRow rs) rs
 rows_stand [] h = All-nil (HasRow [])
 rows_stand (r ∷ rs) h =
-    let own : same_cell r.0 r.0 ≡ true = itself r.0 in
+    let own : same_cell r.0 r.0 ≡ true = same_itself r.0 in
     let here : HasRow (r ∷ rs) r = rw own in
     All-cons (HasRow (r ∷ rs)) r rs here (has_under r rs rs h.0 (rows_stand rs h.1))
-  where
-    itself : (x : Cell) → same_cell x x ≡ true
-    itself x = and_from (x.table.0 == x.table.0) (x.key == x.key) (eq-eqb x.table.0 x.table.0 refl) (eq-eqb x.key x.key refl)

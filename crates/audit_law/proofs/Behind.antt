@@ -5,7 +5,7 @@ use Rattle.audit_check.specs.Items.{Item, RowKey}
 use Rattle.audit_check.specs.Items.Item.{Order, Row, End}
 use Rattle.audit_check.specs.Audit.{first_line}
 use Rattle.audit_check.specs.Faults.{row_keys_in}
-use Rattle.audit_check.specs.Standings.{committed, commits}
+use Rattle.audit_check.specs.Standings.{committed}
 use Rattle.audit_check.specs.Tables.{Values, after_puts, table_after, starts_in, order_in}
 use Rattle.audit_check.proofs.FirstLines.{first_more}
 
@@ -26,15 +26,6 @@ module _ (ts : List ℕ) (Q : List Item) where
   pub committed_reported : (rows : List (RowKey × ℤ)) (t : ℕ) → committed (with_report rows ts Q) t ≡ committed Q t
   unfolding committed
   committed_reported rows t = committed_behind rows t
-
-  commits_behind : (rows : List (RowKey × ℤ)) → commits (row_items rows ++ Order ts ∷ Q) ≡ commits Q
-  unfolding commits
-  commits_behind [] = refl
-  commits_behind (r ∷ rows) = commits_behind rows
-
-  pub commits_reported : (rows : List (RowKey × ℤ)) → commits (with_report rows ts Q) ≡ commits Q
-  unfolding commits
-  commits_reported rows = commits_behind rows
 
   order_behind : (rows : List (RowKey × ℤ)) → order_in (row_items rows ++ Order ts ∷ Q) ≡ ts
   unfolding order_in

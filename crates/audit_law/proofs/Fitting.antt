@@ -1,5 +1,5 @@
 -- The events of a lawful history whose numbers are in range, and whose names are there, can be printed.
-use Rattle.std.proofs.Common.{◌<◌, ◌≤◌, true, List, [], ◌∷◌, reverse, subst, arith}
+use Rattle.std.proofs.Common.{◌<◌, ◌≤◌, List, [], ◌∷◌, reverse, subst, arith}
 use Rattle.std.specs.Prelude.{IsTrue, leb, ◌&&◌}
 use Rattle.std.specs.List.{All}
 use Rattle.std.proofs.lemmas.Bool.{and_parts, leb-true}

@@ -1,5 +1,5 @@
 -- The serial order lists each committed transaction once and no other.
-use Rattle.std.proofs.Common.{◌≡◌, ◌≢◌, ℕ, ◌==◌, Bool, true, false, not, ◌&&◌, List, [], ◌∷◌, refl, sym, ◌∙◌, inl, inr}
+use Rattle.std.proofs.Common.{◌≡◌, ◌≢◌, ℕ, ◌==◌, true, false, not, ◌&&◌, List, [], ◌∷◌, refl, sym, ◌∙◌, inl, inr}
 use Rattle.std.specs.Prelude.{ℤ}
 use Rattle.std.specs.List.{list_all}
 use Rattle.std.proofs.lemmas.Bool.{and_from, eq-eqb, ne_eqb, or_from, or_left, or_right, not_from_false, not_from_true}
@@ -8,6 +8,7 @@ use Rattle.teb_history.specs.declared.Event.{Event}
 use Rattle.teb_history.specs.Phases as history
 use Rattle.teb_rules.specs.Serializes.{In, Pairs, Serializes}
 use Rattle.teb_rules.specs.Setup.{Store}
+use Rattle.teb_laws.proofs.ReadRule.{list_all_from}
 use Rattle.audit_check.specs.Items.{Item, RowKey}
 use Rattle.audit_check.specs.Items.Item.{Start, Began, Got, Put, Ready, Done, Gone, Told, Order, Row, End}
 use Rattle.audit_check.specs.Faults.{is_among, are_distinct, are_distinct_and, wrong_order}
@@ -27,10 +28,6 @@ not_among (s ∷ ss) t h = or_from (s == t) (is_among ss t) (ne_eqb s t (λ e. h
 distinct_pairs : (ts : List ℕ) → Pairs (λ t u. t ≢ u) ts → are_distinct ts ≡ true
 distinct_pairs [] h = refl
 distinct_pairs (t ∷ ts) h = and_from (not (is_among ts t)) (are_distinct ts) (not_from_false (is_among ts t) (not_among ts t h.0)) (distinct_pairs ts h.1)
-
-all_in : (p : ℕ → Bool) (ts : List ℕ) → ((t : ℕ) → In t ts → p t ≡ true) → list_all p ts ≡ true
-all_in p [] h = refl
-all_in p (t ∷ ts) h = and_from (p t) (list_all p ts) (h t (inl refl)) (all_in p ts (λ u i. h u (inr i)))
 
 -- whoever commits has committed
 commits_in : (Q : List Item) (t : ℕ) → In t (commits Q) → committed Q t ≡ true
@@ -65,5 +62,5 @@ module _ (names : NameBook) (starting rows : List (RowKey × ℤ)) (X : Store) (
   pub order_right : (past : List Item) → wrong_order W past (Order order) ≡ false
   order_right past = not_from_true (are_distinct_and (committed W) order && list_all (is_among order) (commits W))
       (and_from (are_distinct_and (committed W) order) (list_all (is_among order) (commits W))
-      (and_from (are_distinct order) (list_all (committed W) order) (distinct_pairs order s.once) (all_in (committed W) order listed_committed))
-      (all_in (is_among order) (commits W) committed_listed))
+      (and_from (are_distinct order) (list_all (committed W) order) (distinct_pairs order s.once) (list_all_from (committed W) order listed_committed))
+      (list_all_from (is_among order) (commits W) committed_listed))

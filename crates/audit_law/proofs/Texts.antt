@@ -2,7 +2,7 @@
 use Rattle.std.proofs.Common.{◌≡◌, ℕ, Bool, true, false, not, List, [], ◌∷◌, ◌++◌, map, Some, refl, ap, ◌∙◌, arith, append_assoc}
 use Rattle.std.specs.Prelude.{Ok}
 use Rattle.std.specs.List.{slice_split, join_with_byte, list_all, flat_map, All}
-use Rattle.std.proofs.lemmas.Bool.{and_parts}
+use Rattle.std.proofs.lemmas.Bool.{and_parts, not-true}
 use Rattle.std.proofs.lemmas.Bool.Decides.{nat_tests}
 use Rattle.std.proofs.lemmas.List.Splits.{slice_split_at}
 use Rattle.std.proofs.lemmas.List.Folds.{list_all-append}
@@ -34,11 +34,7 @@ inner_line (w ∷ v ∷ ws) h =
     rw (list_all-append is_inner w (32 ∷ join_with_byte 32 (v ∷ ws)), inner_word w here, inner_line (v ∷ ws) more)
 
 no_feed : (l : List ℕ) → list_all is_inner l ≡ true → All (λ b. is_feed b ≡ false) l
-no_feed l h = All-weaker (λ b. is_inner b ≡ true) (λ b. is_feed b ≡ false) (λ b e. not_false (is_feed b) e) l (AllPass-from_list_all is_inner l h)
-  where
-    not_false : (b : Bool) → not b ≡ true → b ≡ false
-    not_false true e = cc
-    not_false false e = refl
+no_feed l h = All-weaker (λ b. is_inner b ≡ true) (λ b. is_feed b ≡ false) (λ b e. not-true (is_feed b) e) l (AllPass-from_list_all is_inner l h)
 
 -- the lines of a text are what stands before its line feeds
 pub parts_back : (wss : List (List (List ℕ))) → list_all are_words wss ≡ true → parts_of (flat_map line_text wss) ≡ map (join_with_byte 32) wss ++ [] ∷ []
