@@ -1,5 +1,5 @@
 -- What a record leaves in a cell.
-use Rattle.std.proofs.Common.{◌≡◌, ℕ, Bool, true, false, cond, not, List, [], ◌∷◌, ◌++◌, Option, Some, None, ℤ, refl, sym, ap, ◌∙◌, unwrap_or, filter, eqb, arith}
+use Rattle.std.proofs.Common.{◌≡◌, ℕ, Bool, true, false, cond, not, List, [], ◌∷◌, ◌++◌, Option, Some, None, ℤ, refl, sym, ap, ◌∙◌, unwrap_or, filter}
 use Rattle.std.specs.Option.{option_or}
 use Rattle.teb_names.specs.declared.Cell.{Cell}
 use Rattle.teb_names.specs.Cells.{same_cell}
@@ -10,7 +10,7 @@ use Rattle.teb_history.specs.OwnEvents.{own_events, put_in as puts}
 use Rattle.teb_history.proofs.OwnWalks.{newest_in, last_put_own}
 use Rattle.teb_rules.specs.Replay.{Values, put_in}
 use Rattle.teb_rules.specs.Setup.{Setup}
-use Rattle.teb_names.proofs.SameCells.{same_cell-true}
+use Rattle.teb_names.proofs.SameCells.{same_cell-true, same_laws}
 use Rattle.record_journal.specs.Format.{Record}
 use Rattle.record_journal.specs.Journal.{after_changes, after_records}
 use Rattle.commit_laws.specs.Records.{last_puts, is_newest, record_of}
@@ -42,9 +42,6 @@ lookup_filter p [] x = go (p x)
     go false = refl
 lookup_filter p (c ∷ cs) x = go (p c.cell) refl (same_cell c.cell x) refl (lookup_filter p cs x)
   where
-    left : Record
-    left = filter (λ c. p c.cell) cs
-
     none_or : (o : Option (Option ℤ)) → option_or o None ≡ o
     none_or None = refl
     none_or (Some v) = refl
@@ -66,18 +63,12 @@ lookup_filter p (c ∷ cs) x = go (p c.cell) refl (same_cell c.cell x) refl (loo
         ih ∙ ap (λ (b : Bool). cond b (lookup cs x) None) q ∙ sym (ap (λ (b : Bool). cond b (option_or (lookup cs x) (Some c.value)) None) q)
     go false e false other ih = ih ∙ ap (λ (o : Option (Option ℤ)). cond (p x) o None) (sym (none_or (lookup cs x)))
 
-eqb_swap : (m n : ℕ) → eqb m n ≡ eqb n m
-eqb_swap m n = grind arith
-
-cell_swap : (x y : Cell) → same_cell x y ≡ same_cell y x
-cell_swap x y = rw (eqb_swap x.table.0 y.table.0, eqb_swap x.key y.key) refl
-
 pub lookup_puts : (es : List Event) (x : Cell) → lookup (last_puts es) x ≡ newest_in (puts x) es
 unfolding last_puts
 lookup_puts [] x = refl
 lookup_puts (Put t y v ∷ es) x =
     ap (λ (o : Option (Option ℤ)). option_or o (cond (same_cell y x) (Some v) None)) (lookup_filter (λ z. not (same_cell z y)) (last_puts es) x)
-    ∙ ap (λ (s : Bool). option_or (cond (not s) (lookup (last_puts es) x) None) (cond (same_cell y x) (Some v) None)) (cell_swap x y)
+    ∙ ap (λ (s : Bool). option_or (cond (not s) (lookup (last_puts es) x) None) (cond (same_cell y x) (Some v) None)) (same_laws.symm x y)
     ∙ go (same_cell y x) (lookup_puts es x)
   where
     go : (s : Bool) → lookup (last_puts es) x ≡ newest_in (puts x) es → option_or (cond (not s) (lookup (last_puts es) x) None) (cond s (Some v) None) ≡ option_or (cond s (Some v) None) (newest_in (puts x) es)

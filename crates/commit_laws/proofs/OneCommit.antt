@@ -1,7 +1,7 @@
 -- What one more commit leaves.
 use Rattle.std.proofs.Common.{◌≡◌, ◌≢◌, ◌⊎◌, ◌<◌, ◌≤◌, ℕ, suc, Bool, true, false, cond, not, ◌&&◌, List, [], ◌∷◌, Option, Some, None, ℤ, refl, sym, ap, subst, ◌∙◌, arith, inl, inr, length, unwrap_or, lt-ltb, le-ltb, ltb-true, ltb-false, eqb-true, le_refl}
 use Rattle.std.specs.List.{list_all}
-use Rattle.std.proofs.lemmas.Bool.{eq-eqb, both_ways, cases_eq, cases_lt, and_from, and_parts, not-true, false_from_ne_true}
+use Rattle.std.proofs.lemmas.Bool.{eq-eqb, both_ways, cases_eq, cases_lt, and_from, and_parts, not-true, not-false, false_from_ne_true}
 use Rattle.teb_names.specs.declared.Txn.{Txn}
 use Rattle.teb_names.specs.declared.Cell.{Cell}
 use Rattle.teb_history.specs.declared.Event.{Event}
@@ -117,14 +117,10 @@ module _ (X : Store) (a : TreeFacts X.setup) (t : Txn) (P : List Event) (l : Law
   unfolding is_newest
   followed f =
       let r = not_all _ (txns Q) f in
-      let all = not_false (committed Q r.0 && wrote Q r.0 x && precedes S Q x t.0 r.0) r.2 in
+      let all = not-false (committed Q r.0 && wrote Q r.0 x && precedes S Q x t.0 r.0) r.2 in
       let two = and_parts _ _ all in
       (r.0, In-both r.0 r.1 two.0, two.1)
     where
-      not_false : (b : Bool) → not b ≡ false → b ≡ true
-      not_false true e = refl
-      not_false false e = absurd (cc)
-
       In-both : (w : ℕ) → In w (txns Q) → (committed Q w && wrote Q w x) ≡ true → In w (counted (committed Q) Q x)
       In-both w j e = In-filter (λ w. committed Q w && wrote Q w x) w (txns Q) j e
 

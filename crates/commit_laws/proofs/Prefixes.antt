@@ -9,7 +9,6 @@ use Rattle.teb_history.specs.Positions.{upto}
 use Rattle.teb_rules.specs.Setup.{Setup}
 use Rattle.teb_laws.specs.Lawful.{ReadsRows}
 use Rattle.teb_laws.proofs.Positions.{upto_all, upto_cons}
-use Rattle.record_journal.specs.Format.{Record}
 use Rattle.commit_laws.specs.Commits.{commit_count, up_to_commit}
 use Rattle.commit_laws.specs.Records.{record_of, records_of}
 
@@ -59,9 +58,6 @@ unfolding records_of up_to_commit
 prefix_records S k [] = sym (take_all k [] (omega arith))
 prefix_records S k (Done t ∷ P) = go (leb k (commit_count P)) refl (prefix_records S k P)
   where
-    rs : List Record
-    rs = records_of S P
-
     go : (b : Bool) → leb k (commit_count P) ≡ b → records_of S (up_to_commit k P) ≡ take k (records_of S P) → records_of S (up_to_commit k (Done t ∷ P)) ≡ take k (records_of S P ++ record_of S P t.0 ∷ [])
     go true e ih =
         ap (λ (b : Bool). records_of S (cond b (up_to_commit k P) (Done t ∷ P))) e
