@@ -52,10 +52,6 @@ txn_of_some (Some n) t e = ap (λ (u : Option Txn). number u) (sym e)
     number None = None
     number (Some u) = Some u.0
 
-pub txn_of_none : (o : Option ℕ) → None ≡ txn_of o → o ≡ None
-txn_of_none None e = refl
-txn_of_none (Some n) e = absurd (cc)
-
 pub committing_some : (H : List Event) (s : Session) (t : Txn) → Some t ≡ txn_of (held H s.0) → unfinished H t.0 ≡ true → Some t ≡ txn_of (committing H s Commit)
 committing_some H s t e u = ap txn_of (sym (ap (if_unfinished H) (txn_of_some (held H s.0) t e) ∙ ap (λ (b : Bool). cond b (Some t.0) None) u))
 

@@ -3,7 +3,7 @@ use Rattle.std.proofs.Common.{◌≡◌, ◌⊎◌, ◌<◌, ℕ, Bool, true, fa
 use Rattle.std.proofs.lemmas.Bool.{eq-eqb, both_ways, cases_order, cases_Bool, and_from, and_parts, or_cases, or_left, or_right, not-true, not_from_false, false_from_ne_true, eqb-false}
 use Rattle.teb_names.specs.declared.Cell.{Cell}
 use Rattle.teb_history.specs.declared.Event.{Event}
-use Rattle.teb_history.specs.Phases.{txns, committed, aborted, unfinished}
+use Rattle.teb_history.specs.Phases.{txns, committed, aborted}
 use Rattle.teb_history.specs.Accesses.{wrote}
 use Rattle.teb_rules.specs.Setup.{Setup}
 use Rattle.teb_rules.specs.Serializes.{In}
@@ -93,8 +93,3 @@ module _ (S : Setup) (H : List Event) (x : Cell) (L : Cell → List Version) (l 
       | inl e ↦ tops (eqb-true _ _ e) ∙ sym e
       | inr e ↦ is_followed (eqb-false _ _ e) ∙ sym e
     ]
-
--- who is unfinished is not aborted
-pub stands_if : (H : List Event) (t : ℕ) → unfinished H t ≡ true → aborted H t ≡ false
-unfolding unfinished
-stands_if H t u = not-true _ (and_parts _ _ u).1

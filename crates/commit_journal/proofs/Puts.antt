@@ -1,19 +1,20 @@
 -- The last Puts of a transaction, one event after the other.
-use Rattle.std.proofs.Common.{◌≡◌, ◌≤◌, ◌<◌, ◌+◌, ℕ, zero, suc, Bool, true, false, cond, not, eqb, ◌||◌, List, [], ◌∷◌, ◌++◌, Option, Some, None, ℤ, refl, sym, ap, ap₂, subst, ◌∙◌, arith, inl, inr, length, length-append, filter, get_or, take, append_assoc, if◌then◌else◌, lt-ltb}
+use Rattle.std.proofs.Common.{◌≡◌, ◌≤◌, ◌<◌, ◌+◌, ℕ, zero, suc, Bool, true, false, cond, not, ◌||◌, List, [], ◌∷◌, ◌++◌, Option, Some, None, ℤ, refl, sym, ap, ap₂, subst, ◌∙◌, arith, inl, inr, length, length-append, filter, get_or, take, append_assoc, if◌then◌else◌, lt-ltb}
 use Rattle.std.specs.List.{list_any}
 use Rattle.std.specs.BTreeMap.{is_at}
 use Rattle.std.specs.BTreeSet.{BTreeSet, contains}
 use Rattle.std.specs.Option.{option_or}
-use Rattle.std.proofs.lemmas.Bool.{cases_lt, and_from, eq-eqb}
+use Rattle.std.proofs.lemmas.Bool.{cases_lt}
 use Rattle.std.proofs.lemmas.List.Elements.{filter-append}
 use Rattle.std.proofs.lemmas.List.{append-nil, take_more}
 use Rattle.teb_names.specs.declared.Cell.{Cell}
 use Rattle.teb_names.specs.declared.Txn.{Txn}
 use Rattle.teb_names.specs.Cells.{same_cell, cell_cmp}
+use Rattle.teb_names.proofs.Bools.{or_false}
 use Rattle.teb_names.proofs.CellOrder.{same_cell-cell_cmp}
 use Rattle.teb_history.specs.declared.Event.{Event}
 use Rattle.teb_history.specs.declared.Event.TheVariants.{Began, Got, Put, Ready, Done, Gone, Told}
-use Rattle.teb_names.proofs.SameCells.{same_cell-true}
+use Rattle.teb_names.proofs.SameCells.{same_cell-true, same_itself, same_laws}
 use Rattle.record_journal.specs.declared.change.Change.{Change}
 use Rattle.record_journal.specs.Format.{Record}
 use Rattle.commit_laws.specs.Records.{last_puts, has, puts_of}
@@ -43,11 +44,7 @@ same_fresh seen (c ∷ cs) y h = go (same_cell c.cell y) refl (same_fresh seen c
     go false e ih = ap (λ (l : Record). cond (not (has seen c.cell)) (c ∷ l) l) ih
 
 has_push : (seen : Record) (c : Change) (x : Cell) → has (seen ++ c ∷ []) x ≡ cond (has seen x) true (same_cell c.cell x)
-has_push [] c x = go (same_cell c.cell x)
-  where
-    go : (b : Bool) → (b || false) ≡ b
-    go true = refl
-    go false = refl
+has_push [] c x = or_false (same_cell c.cell x)
 has_push (d ∷ seen) c x = go (same_cell d.cell x) (has_push seen c x)
   where
     go : (b : Bool) → has (seen ++ c ∷ []) x ≡ cond (has seen x) true (same_cell c.cell x) → (b || has (seen ++ c ∷ []) x) ≡ cond (b || has seen x) true (same_cell c.cell x)
@@ -61,15 +58,6 @@ either false = refl
 itself : (b : Bool) → cond b true false ≡ b
 itself true = refl
 itself false = refl
-
-swap : (x y : Cell) → same_cell x y ≡ same_cell y x
-swap x y = rw (eqb_swap x.table.0 y.table.0, eqb_swap x.key y.key) refl
-  where
-    eqb_swap : (m n : ℕ) → eqb m n ≡ eqb n m
-    eqb_swap m n = grind arith
-
-same_as_itself : (x : Cell) → same_cell x x ≡ true
-same_as_itself x = and_from _ _ (eq-eqb x.table.0 x.table.0 refl) (eq-eqb x.key x.key refl)
 
 -- a change of a cell that is not there yet
 pub more_fresh : (seen cs : Record) (d : Change) → has seen d.cell ≡ false → fresh seen (d ∷ filter (λ c. not (same_cell c.cell d.cell)) cs) ≡ d ∷ fresh (seen ++ d ∷ []) cs
@@ -85,10 +73,10 @@ more_fresh seen cs d absent = ap (λ (b : Bool). cond (not b) (d ∷ rest) rest)
         go : (b : Bool) → same_cell c.cell d.cell ≡ b → (s : Bool) → has seen c.cell ≡ s → fresh seen (filter (λ c. not (same_cell c.cell d.cell)) cs) ≡ fresh (seen ++ d ∷ []) cs
             → fresh seen (cond (not b) (c ∷ filter (λ c. not (same_cell c.cell d.cell)) cs) (filter (λ c. not (same_cell c.cell d.cell)) cs)) ≡ fresh (seen ++ d ∷ []) (c ∷ cs)
         go true e s f ih =
-            let there : has (seen ++ d ∷ []) c.cell ≡ true = has_push seen d c.cell ∙ ap (λ (t : Bool). cond (has seen c.cell) true t) (swap d.cell c.cell ∙ e) ∙ either (has seen c.cell) in
+            let there : has (seen ++ d ∷ []) c.cell ≡ true = has_push seen d c.cell ∙ ap (λ (t : Bool). cond (has seen c.cell) true t) (same_laws.symm d.cell c.cell ∙ e) ∙ either (has seen c.cell) in
             ih ∙ sym (ap (λ (t : Bool). cond (not t) (c ∷ fresh (seen ++ d ∷ []) cs) (fresh (seen ++ d ∷ []) cs)) there)
         go false e s f ih =
-            let same : has (seen ++ d ∷ []) c.cell ≡ has seen c.cell = has_push seen d c.cell ∙ ap (λ (t : Bool). cond (has seen c.cell) true t) (swap d.cell c.cell ∙ e) ∙ itself (has seen c.cell) in
+            let same : has (seen ++ d ∷ []) c.cell ≡ has seen c.cell = has_push seen d c.cell ∙ ap (λ (t : Bool). cond (has seen c.cell) true t) (same_laws.symm d.cell c.cell ∙ e) ∙ itself (has seen c.cell) in
             ap (λ (l : Record). cond (not (has seen c.cell)) (c ∷ l) l) ih ∙ ap (λ (t : Bool). cond (not t) (c ∷ fresh (seen ++ d ∷ []) cs) (fresh (seen ++ d ∷ []) cs)) (sym same)
 
 -- what was found, and what the events that are left add, are the last Puts
@@ -136,7 +124,7 @@ found_at (c ∷ cs) zero d lt = go (lookup cs c.cell)
   where
     go : (o : Option (Option ℤ)) → (v : Option ℤ) × (option_or o (cond (same_cell c.cell c.cell) (Some c.value) None) ≡ Some v)
     go (Some v) = (v, refl)
-    go None = (c.value, ap (λ (b : Bool). cond b (Some c.value) None) (same_as_itself c.cell))
+    go None = (c.value, ap (λ (b : Bool). cond b (Some c.value) None) (same_itself c.cell))
 found_at (c ∷ cs) (suc i) d lt = let r = found_at cs i d (omega arith) in (r.0, ap (λ (o : Option (Option ℤ)). option_or o (cond (same_cell c.cell (get_or cs i d).cell) (Some c.value) None)) r.1)
 
 wrote_if : (H : List Event) (t : ℕ) (x : Cell) (v : Option ℤ) → last_put H t x ≡ Some v → wrote H t x ≡ true

@@ -5,7 +5,8 @@ use Rattle.version_chain.specs.Lists.{last_place, writers_of}
 use Rattle.candidate_reads.proofs.InOrder.{is_last}
 use Rattle.candidate_reads.proofs.Sources.{at-writer}
 use Rattle.commit_journal.specs.Kept.{counts}
-use Rattle.commit_journal.proofs.Newest.{nobody, found, stands_if}
+use Rattle.candidate_reads.proofs.Placed.{unfinished_stands}
+use Rattle.commit_journal.proofs.Newest.{nobody, found}
 use Rattle.commit_journal.proofs.commit.is_newest.Goals as goal
 
 pub at-requires : goal.at-requires
@@ -23,7 +24,7 @@ returns-in-Some g c =
     let place = is_last (counts e.events t) (writers_of (lists x)) (Some c.in-Some.i) (c.in-Some.ensures ∙ ap (λ (P : List Event). last_place (counts P t) (writers_of (lists x))) c.history.ensures.events) in
     c.eq.ensures
     ∙ ap (λ (k : ℕ). eqb k t) (sym (at-writer (lists x) c.in-Some.i c.at.result c.at.ensures).0)
-    ∙ sym (found e.store.setup e.events x lists c.history.ensures.lawful c.chains-chains.ensures t c.requires.put (stands_if e.events t c.requires.unfinished) c.in-Some.i place)
+    ∙ sym (found e.store.setup e.events x lists c.history.ensures.lawful c.chains-chains.ensures t c.requires.put (unfinished_stands e.events t c.requires.unfinished) c.in-Some.i place)
 
 pub returns-in-None : goal.returns-in-None
 returns-in-None g c =
@@ -31,5 +32,5 @@ returns-in-None g c =
     let x = c.args.cell in
     let t = c.args.t.0 in
     let e = c.args.engine.now in
-    absurd (nobody e.store.setup e.events x lists c.history.ensures.lawful c.chains-chains.ensures t c.requires.put (stands_if e.events t c.requires.unfinished)
+    absurd (nobody e.store.setup e.events x lists c.history.ensures.lawful c.chains-chains.ensures t c.requires.put (unfinished_stands e.events t c.requires.unfinished)
     (is_last (counts e.events t) (writers_of (lists x)) None (c.in-None.ensures ∙ ap (λ (P : List Event). last_place (counts P t) (writers_of (lists x))) c.history.ensures.events)))
