@@ -1,13 +1,12 @@
 //! The command that checks a printed run.
 #![tactic(auto)]
 
-ghost use Rattle.std.specs.Prelude.{◌≡◌, ◌≤◌, length, Some, None, IfOk};
-ghost use Rattle.audit_runner.specs.Verdicts.{audited, verdict, why_text};
+ghost use Rattle.std.specs.Prelude.{◌≡◌, ◌≤◌, length, None, IfOk};
+ghost use Rattle.audit_runner.specs.Verdicts.{audited, why_text};
 
 use audit_check::{AuditError, AuditWhy, audit};
 use command_output::Output;
 use command_output::status::{AUDIT_NO, OK};
-use itoa::Buffer;
 use std::alloc::{AllocError, Global};
 
 /// Whether a text is a printed run whose order executes to its reads and its final rows: `audit yes`, or the first line
@@ -19,22 +18,11 @@ pub fn run_audit(alloc: Global, text: &[u8]) -> Result<Output, AllocError>
 {
     match audit(alloc, text) {
         Ok(()) => Output::line(alloc, OK, "audit yes"),
-        Err(AuditError::No { line, why }) => wrong_line(alloc, line, why),
+        Err(AuditError::No { line, why }) => {
+            Output::numbered_line(alloc, AUDIT_NO, "audit no line ", line, why_text(why))
+        }
         Err(AuditError::OutOfMemory) => Err(AllocError),
     }
-}
-
-fn wrong_line(alloc: Global, line: u32, why: AuditWhy) -> Result<Output, AllocError>
-    ensures shown { IfOk result (λ o. o ≡ verdict (Some (line, why))) }
-    ensures history { IfOk result (λ o. o.history ≡ None) }
-{
-    let mut text = Vec::new(alloc);
-    text.extend_from_slice(b"audit no line ")?;
-    text.extend_from_slice(Buffer::new().format(line).as_bytes())?;
-    text.push(b' ')?;
-    text.extend_from_slice(why_text(why).as_bytes())?;
-    text.push(b'\n')?;
-    Ok(Output::new(AUDIT_NO, text, None))
 }
 
 fn why_text(why: AuditWhy) -> &'static str

@@ -1,8 +1,9 @@
 //! A status, a text, and the history where there was a run.
 
-ghost use Rattle.std.specs.Prelude.{◌≡◌, IfOk};
+ghost use Rattle.std.specs.Prelude.{◌≡◌, ◌++◌, codes, decimal, IfOk};
 ghost use Rattle.command_output.specs.Shown.{line_alone, events_of, IsShowable};
 
+use itoa::Buffer;
 use std::alloc::{AllocError, Global};
 use std::marker::Model;
 use teb_history::History;
@@ -44,6 +45,25 @@ impl Output {
         ensures { IfOk result (λ o. o ≡ line_alone status line.now) }
     {
         let mut text = line.as_bytes().to_vec(alloc)?;
+        text.push(b'\n')?;
+        Ok(Output::new(status, text, None))
+    }
+
+    /// A line alone: a front, a number, a space and a word.
+    pub fn numbered_line(
+        alloc: Global,
+        status: u8,
+        front: &str,
+        number: u32,
+        word: &str,
+    ) -> Result<Output, AllocError>
+        requires { IsShowable status }
+        ensures { IfOk result (λ o. o ≡ line_alone status (front.now ++ decimal number ++ codes " " ++ word.now)) }
+    {
+        let mut text = front.as_bytes().to_vec(alloc)?;
+        text.extend_from_slice(Buffer::new().format(number).as_bytes())?;
+        text.push(b' ')?;
+        text.extend_from_slice(word.as_bytes())?;
         text.push(b'\n')?;
         Ok(Output::new(status, text, None))
     }
