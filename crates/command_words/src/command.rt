@@ -5,6 +5,15 @@ ghost use Rattle.command_words.specs.Commands.{command_of, lone_command, counted
 
 use script_text::number;
 
+/// The most workers that serve sessions.
+const MOST_WORKERS: u32 = 16;
+
+/// The greatest number of a load, and of a call of a disk.
+const MOST_NUMBER: u32 = 2_147_483_647;
+
+/// The most transactions of a load.
+const MOST_SIZE: u32 = 2_000;
+
 /// What the words ask for.
 #[derive(Clone, Copy, Debug, PartialEq, Eq)]
 pub enum Command {
@@ -60,15 +69,15 @@ fn counted_command(word: &str, number: &str) -> Option<Command>
 {
     match word {
         "threads" => {
-            let workers = number_within(number, 1, 16)?;
+            let workers = number_within(number, 1, MOST_WORKERS)?;
             Some(Command::Threads(workers as u8))
         }
         "pool" => {
-            let workers = number_within(number, 1, 16)?;
+            let workers = number_within(number, 1, MOST_WORKERS)?;
             Some(Command::Pool(workers as u8))
         }
         "crash" => {
-            let call = number_within(number, 0, 2_147_483_647)?;
+            let call = number_within(number, 0, MOST_NUMBER)?;
             Some(Command::Crash(call))
         }
         _ => None,
@@ -83,8 +92,8 @@ fn load_command(word: &str, number: &str, size: &str) -> Option<Command>
     if word != "load" {
         return None;
     }
-    let number = number_within(number, 0, 2_147_483_647)?;
-    let size = number_within(size, 1, 2_000)?;
+    let number = number_within(number, 0, MOST_NUMBER)?;
+    let size = number_within(size, 1, MOST_SIZE)?;
     Some(Command::Load { number, size })
 }
 
