@@ -6,17 +6,13 @@ use Rattle.teb_names.specs.declared.naming.NameBook.{NameBook}
 use Rattle.script_text.specs.declared.Line.{Line}
 use Rattle.script_text.specs.declared.error.ScriptError.{ScriptError}
 use Rattle.script_text.specs.declared.error.ScriptError.TheVariants as errors
-use Rattle.script_text.specs.Grammar.{script_from, script_of, line_in, line_of, at_line, Answers, ◌>>=◌}
+use Rattle.script_text.specs.Grammar.{script_from, script_of, line_in, line_of, at_line, ◌>>=◌}
 use Rattle.script_text.specs.Lines.{lines_of}
 use Rattle.script_text.specs.Words.{words_of}
 
 -- lines that are read already, and then those of what follows
 abbrev pub behind : List Line → Result (List Line) ScriptError → Result (List Line) ScriptError
 behind done rest = rest >>= (λ more. Ok (done ++ more))
-
-pub answers_bad : (e : ScriptError) (script : Result (List Line) ScriptError) → script ≡ Err e → Answers (Err e) script
-answers_bad errors.OutOfMemory script h = tt
-answers_bad (errors.BadLine n w) script h = h
 
 behind_more : (done : List Line) (o : Option Line) (rest : Result (List Line) ScriptError) → behind (done ++ option_to_list o) rest ≡ behind done (rest >>= (λ more. Ok (option_to_list o ++ more)))
 behind_more done o (Ok more) = ap (λ l. Ok l) (append_assoc done (option_to_list o) more)
