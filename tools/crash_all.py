@@ -9,6 +9,7 @@ The last line is `crashes: N passed, M failed`.
 """
 import argparse
 import concurrent.futures
+import functools
 import pathlib
 import re
 import sys
@@ -28,6 +29,7 @@ OF_EACH_KIND = [
 MOST_LINES = 200
 
 
+@functools.lru_cache(maxsize=None)
 def reported(program, data):
     """The replies and the rows that `replay` writes; None where it refuses the input."""
     status, text = ended(program, ["replay"], data)
