@@ -1,10 +1,8 @@
 -- Lines are the texts of the replies, where all that they name has a name.
-use Rattle.std.proofs.Common.{◌≡◌, ℕ, zero, true, List, [], ◌∷◌, ◌++◌, length, refl, ap₂, ◌∙◌, arith}
+use Rattle.std.proofs.Common.{◌≡◌, ℕ, zero, true, List, [], ◌∷◌, ◌++◌, length, refl, ap₂, arith}
 use Rattle.std.specs.Prelude.{All}
 use Rattle.std.specs.List.{flat_map}
-use Rattle.std.proofs.lemmas.Bool.{and_parts, lt-ltb, ltb-true}
-use Rattle.std.proofs.lemmas.Grind.{flat_map-append}
-use Rattle.std.proofs.lemmas.List.{append-nil}
+use Rattle.std.proofs.lemmas.Bool.{lt-ltb}
 use Rattle.std.proofs.lemmas.List.Elements.{All-tail}
 use Rattle.teb_names.specs.declared.Cause.{Cause}
 use Rattle.teb_names.specs.declared.Cause.TheVariants as cause
@@ -17,27 +15,6 @@ use Rattle.script_text.specs.Texts.{reply_text}
 use Rattle.answer_log.specs.Lines.{is_cause_named, is_reply_named, line_of, lines_of}
 
 module _ (names : NameBook) where
-  cause_has_names : (c : Cause) → is_cause_named names c ≡ true → CauseNamed names c
-  cause_has_names (cause.Late n r x) h = let (a, b) = and_parts _ _ h in (ltb-true n.0 (length names.nodes) a, ltb-true x.table.0 (length names.tables) b)
-  cause_has_names (cause.First n w x) h = let (a, b) = and_parts _ _ h in (ltb-true n.0 (length names.nodes) a, ltb-true x.table.0 (length names.tables) b)
-  cause_has_names (cause.Pivot n a b c d) h = ltb-true n.0 (length names.nodes) h
-  cause_has_names (cause.Newer n u) h = ltb-true n.0 (length names.nodes) h
-  cause_has_names (cause.After u) h = tt
-  cause_has_names cause.Asked h = tt
-  cause_has_names cause.Ended h = tt
-
-  -- all that the reply names has a name, as the test says
-  pub has_names : (r : Reply) → is_reply_named names r ≡ true → ReplyNamed names r
-  has_names (reply.Begun t) h = tt
-  has_names (reply.Value v) h = tt
-  has_names (reply.Values vs) h = tt
-  has_names reply.Done h = tt
-  has_names reply.Prepared h = tt
-  has_names reply.Committed h = tt
-  has_names (reply.Again u n) h = ltb-true n.0 (length names.nodes) h
-  has_names (reply.Aborted c) h = cause_has_names c h
-  has_names (reply.Refused w) h = tt
-
   cause_test : (c : Cause) → CauseNamed names c → is_cause_named names c ≡ true
   cause_test (cause.Late n r x) h = rw (lt-ltb n.0 (length names.nodes) h.0, lt-ltb x.table.0 (length names.tables) h.1) refl
   cause_test (cause.First n w x) h = rw (lt-ltb n.0 (length names.nodes) h.0, lt-ltb x.table.0 (length names.tables) h.1) refl
@@ -64,7 +41,3 @@ module _ (names : NameBook) where
   pub lines_named : (answers : List Answered) → All (λ (a : Answered). ReplyNamed names a.reply) answers → lines_of names answers ≡ flat_map (reply_text names) answers
   lines_named [] h = refl
   lines_named (a ∷ answers) h = ap₂ (λ (l ls : List ℕ). l ++ ls) (line_named a (h zero a (omega arith))) (lines_named answers (All-tail (λ (a : Answered). ReplyNamed names a.reply) a answers h))
-
-  -- one answer more
-  pub one_more : (answers : List Answered) (a : Answered) → lines_of names (answers ++ a ∷ []) ≡ lines_of names answers ++ line_of names a
-  one_more answers a = flat_map-append (line_of names) answers (a ∷ []) ∙ rw append-nil refl
