@@ -5,6 +5,7 @@ ghost use Rattle.crash_runner.specs.declared.halt.Halt.TheVariants.{OutOfMemory}
 
 use std::alloc::{AllocError, AllocFailed};
 
+/// Why a run ends before its last request.
 #[derive(Clone, Copy, Debug, PartialEq, Eq)]
 pub(crate) enum Halt {
     /// The disk has failed.
