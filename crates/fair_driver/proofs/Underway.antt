@@ -9,13 +9,14 @@ use Rattle.teb_history.specs.declared.Event.{Event}
 use Rattle.teb_rules.specs.Setup.{Store}
 use Rattle.teb_rules.specs.Accepted.{IsSound}
 use Rattle.teb_rules.specs.Answer.{answer}
-use Rattle.teb_rules.specs.Run.{requests_of, history_of, history_after}
+use Rattle.teb_rules.specs.Run.{history_of}
 use Rattle.teb_rules.specs.Scripts.{Script}
-use Rattle.teb_rules.specs.Driver.{Seat, Ascending, Drive, Follows, Turn, Turns, Stepped, at_start, drive_after, driven, next_round, seat_after, seated}
+use Rattle.teb_rules.specs.Driver.{Seat, Ascending, Drive, Follows, Turn, Turns, Stepped, at_start, next_round, seat_after, seated}
 use Rattle.driver_laws.specs.Laws.{Driving, most_requests}
 use Rattle.driver_laws.proofs.Bound.{start_round}
 use Rattle.driver_laws.proofs.Ends.{driving_start, driving_step, driving_short, driving_end, driving_bound, follows_round}
 use Rattle.driver_laws.proofs.Keeping.{SeatOk}
+use Rattle.driver_laws.proofs.Logs.{drive_history}
 use Rattle.driver_laws.proofs.Lone.{Every, every_append, every_more}
 use Rattle.driver_laws.proofs.Rounds.{Round, every_back, every_front}
 use Rattle.teb_laws.proofs.Sound.{tree_facts}
@@ -43,12 +44,6 @@ every_all : (P : Seat → Type 0) (ws : List Seat) → Every P ws → All P ws
 every_all P [] h k d l = absurd (omega (arith, l))
 every_all P (w ∷ ws) h zero d l = h.0
 every_all P (w ∷ ws) h (suc k) d l = every_all P ws h.1 k d (omega (arith, l))
-
--- the history of a drive
-history_driven : (X : Store) (log : List Entry) (d : Drive) → (drive_after X d log).history ≡ history_after X d.history (requests_of log)
-unfolding drive_after history_after
-history_driven X [] d = refl
-history_driven X (e ∷ log) d = history_driven X log (driven X d e)
 
 -- a log of the driver, its history, and the round behind it
 pub record IsUnderway (X : Store) (scripts : List Script) (log : List Answered) (H : List Event) (ws : List Seat) : Type 0 where
@@ -82,7 +77,7 @@ underway_bound X a scripts h log H ws u =
     let y = driving_bound X a scripts h u.entries (record { history = H; round = ws }) u.driving in omega arith
 
 underway_history : (X : Store) (scripts : List Script) (entries : List Entry) (H : List Event) (ws : List Seat) → Driving X scripts entries (record { history = H; round = ws }) → H ≡ history_of X entries
-underway_history X scripts entries H ws v = sym (ap (λ (d : Drive). d.history) v.stands) ∙ history_driven X entries (at_start scripts)
+underway_history X scripts entries H ws v = sym (ap (λ (d : Drive). d.history) v.stands) ∙ drive_history X entries (at_start scripts)
 
 pub underway_made : (X : Store) (scripts : List Script) (log : List Answered) (H : List Event) (ws : List Seat) → IsUnderway X scripts log H ws → IsOf (Follows X [] (seated scripts)) X log H
 underway_made X scripts log H ws u = record { entries = u.entries; holds = u.driving.follows; replies = u.replies; events = underway_history X scripts u.entries H ws u.driving }
