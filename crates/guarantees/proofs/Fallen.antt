@@ -2,8 +2,8 @@
 use Rattle.std.proofs.Common.{◌≡◌, ◌≢◌, ◌⊎◌, ℕ, ◌<◌, Bool, true, false, ◌&&◌, ◌||◌, eqb, List, [], ◌∷◌, find, Option, Some, None, unwrap_or, refl, sym, ◌∙◌, ap, subst, inl, inr, arith, ltb-true, eqb-true, eq-eqb, ne_eqb}
 use Rattle.std.proofs.lemmas.Bool.{and_from, and_parts, or_cases, or_left, or_right, both_ways, cases_eq, not-true, eqb-false}
 use Rattle.std.specs.List.{list_any}
+use Rattle.teb_names.proofs.SameCells.{same_itself}
 use Rattle.teb_names.specs.declared.Cell.{Cell}
-use Rattle.teb_names.specs.Cells.{same_cell}
 use Rattle.teb_names.specs.declared.Txn.{Txn}
 use Rattle.teb_names.specs.declared.Cause.{Cause}
 use Rattle.teb_names.specs.declared.Cause.TheVariants.{After}
@@ -182,10 +182,6 @@ pub none_fallen : Fallen []
 unfolding cause_of
 none_fallen t u e = absurd (cc)
 
--- what t read from u is a version that u put
-pub same_self : (x : Cell) → same_cell x x ≡ true
-same_self x = and_from (eqb x.table.0 x.table.0) (eqb x.key x.key) (eq-eqb x.table.0 x.table.0 refl) (eq-eqb x.key x.key refl)
-
 -- a cell that t got from u, and that u had put
 record ReadPut (H : List Event) (t u : ℕ) : Type 0 where
   cell : Cell
@@ -209,7 +205,7 @@ read_now S (Got s y v z) P t u g f pos =
     ] in
     record {
       cell = y;
-      read = or_left _ (list_any (is_read t y u) P) (and_from _ _ (and_from _ _ q.0 (same_self y)) q.1);
+      read = or_left _ (list_any (is_read t y u) P) (and_from _ _ (and_from _ _ q.0 (same_itself y)) q.1);
       put = wrote-cons (Got s y v z) P u y ∙ subst (λ (k : ℕ). wrote P k y ≡ true) vu put;
     }
 read_now S (Began s a k i) P t u g f pos = absurd (cc)

@@ -2,6 +2,7 @@
 use Rattle.std.proofs.Common.{◌≡◌, ◌≢◌, ◌⊎◌, ℕ, Bool, true, false, not, ◌&&◌, ◌||◌, eqb, List, [], ◌∷◌, find, Option, Some, None, refl, ◌∙◌, ap, subst, inl, inr, ltb-true, ltb-false, eqb-true, eq-eqb}
 use Rattle.std.proofs.lemmas.Bool.{and_from, and_parts, or_cases, or_left, or_right, cases_eq, not-true}
 use Rattle.std.specs.List.{list_any}
+use Rattle.teb_names.proofs.SameCells.{same_itself}
 use Rattle.teb_names.specs.declared.Cell.{Cell}
 use Rattle.teb_names.specs.Cells.{same_cell}
 use Rattle.teb_names.specs.declared.Node.{Node}
@@ -36,7 +37,6 @@ use Rattle.teb_laws.proofs.Pivots.{edges_from, find_has, no_stake_pivot, quads_f
 use Rattle.teb_laws.proofs.ReadRule.{find_some}
 use Rattle.teb_laws.proofs.Serial.{filter-In}
 use Rattle.teb_laws.proofs.Waits.{InWay, access_way, commit_way}
-use Rattle.guarantees.proofs.Fallen.{same_self}
 use Rattle.teb_rules.specs.Steps.{passed, rank_of_table}
 use Rattle.guarantees.specs.Causes.{IsGrounded, IsOverwritten, IsSecond, IsTooLate, writes}
 
@@ -135,7 +135,7 @@ unfolding reads_past
 past_read S H [] a b h = absurd (cc)
 past_read S H (Got s x w v ∷ P) a b h = elim (or_cases (eqb s.0 a && wrote H b x && precedes S H x w.0 b) _ h) [
   | inl k ↦ (let p = and_parts _ _ k in let q = and_parts _ _ p.0 in
-      (x, w.0, or_left _ (list_any (is_read a x w.0) P) (and_from _ _ (and_from _ _ q.0 (same_self x)) (eq-eqb w.0 w.0 refl)), q.1, p.1))
+      (x, w.0, or_left _ (list_any (is_read a x w.0) P) (and_from _ _ (and_from _ _ q.0 (same_itself x)) (eq-eqb w.0 w.0 refl)), q.1, p.1))
   | inr k ↦ (let r = past_read S H P a b k in (r.0, r.1, or_right _ (list_any (is_read a r.0 r.1) P) r.2, r.3, r.4))
 ]
 past_read S H (Began s c k i ∷ P) a b h = past_read S H P a b h

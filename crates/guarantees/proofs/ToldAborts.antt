@@ -1,6 +1,7 @@
 -- What an answer tells of an abort, and whom it aborts.
 use Rattle.std.proofs.Common.{◌≡◌, ◌≢◌, ◌⊎◌, ℕ, Bool, true, false, not, cond, ◌&&◌, ltb, leb, List, [], ◌∷◌, Option, Some, None, is_none, unwrap_or, refl, sym, ◌∙◌, ap, subst, inl, inr, ltb-true, eqb-true, eq-eqb, ℤ, ◌+ℤ◌}
 use Rattle.std.proofs.lemmas.Bool.{and_parts, or_cases, both_ways}
+use Rattle.teb_names.proofs.SameCells.{same_itself}
 use Rattle.teb_names.specs.declared.Cell.{Cell}
 use Rattle.teb_names.specs.declared.Txn.{Txn}
 use Rattle.teb_names.specs.declared.Spot.{Spot}
@@ -35,7 +36,7 @@ use Rattle.teb_laws.proofs.Cascades.{cascade-In, falls_parts}
 use Rattle.teb_laws.proofs.Holding.{held_holds, holds_cases, not_unfinished}
 use Rattle.guarantees.specs.Causes.{IsGrounded, writes}
 use Rattle.guarantees.proofs.Following.{held_runs}
-use Rattle.guarantees.proofs.Fallen.{Fallen, aborts_fall, cause_member, cause_other, fell_after, same_self}
+use Rattle.guarantees.proofs.Fallen.{Fallen, aborts_fall, cause_member, cause_other, fell_after}
 use Rattle.guarantees.proofs.Named.{StopNames, access_names, commit_names, prepare_names, scan_names}
 
 abbrev is_aborted : Reply → Bool
@@ -100,9 +101,9 @@ module _ (X : Store) (tf : TreeFacts X.setup) (H : List Event) (l : Lawful X.set
   unfolding answer_of read
   of_tells (Begin s) = same_tells (Begin s) _ refl
   of_tells (Read x) = refused_tells (Read x) x _ (or_stop_tells (Read x) (access_stop X.setup H t x false) _ (access_names X.setup H (Read x) t x false (λ e. absurd (cc))) (granted_tells (Read x) (Value _) (Got (txn t) x _ _ ∷ H) refl (λ v. aborted_kept (Got (txn t) x _ _) H v refl)))
-  of_tells (Write x v) = refused_tells (Write x v) x _ (put_tells (Write x v) x (Some v) (same_self x))
-  of_tells (Add x v) = refused_tells (Add x v) x _ (added_tells (Add x v) x v _ (same_self x))
-  of_tells (Delete x) = refused_tells (Delete x) x _ (put_tells (Delete x) x None (same_self x))
+  of_tells (Write x v) = refused_tells (Write x v) x _ (put_tells (Write x v) x (Some v) (same_itself x))
+  of_tells (Add x v) = refused_tells (Add x v) x _ (added_tells (Add x v) x v _ (same_itself x))
+  of_tells (Delete x) = refused_tells (Delete x) x _ (put_tells (Delete x) x None (same_itself x))
   of_tells (Scan x n) = refused_tells (Scan x n) x _ (cond_tells (Scan x n) (is_scan x n) (scan_values X H t x n) (refuse H Range)
       (or_stop_tells (Scan x n) (scan_stop X.setup H t (cells_from x n)) _ (scan_names X.setup H (Scan x n) t (cells_from x n)) (granted_tells (Scan x n) (Values _) _ refl (reads_abort_none X t (cells_from x n) H)))
       (same_tells (Scan x n) _ refl))
