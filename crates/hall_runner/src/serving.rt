@@ -154,8 +154,5 @@ fn serve_from_queue<C: Chains + Send, R: Threads + Wait + Sync, G: Gate + Sync>(
     ensures served { IfOk result (λ v. All (IsServed hall.now scripts.now) v.items) }
     ensures cause { IfErr result (IsCause hall.now scripts.now) }
 {
-    match run_pool(rt, alloc, hall, passes, scripts, workers, gate) {
-        Ok(pooled) => Ok(pooled.passes),
-        Err(error) => Err(error),
-    }
+    Ok(run_pool(rt, alloc, hall, passes, scripts, workers, gate)?.passes)
 }
