@@ -1,6 +1,6 @@
 -- Where a session stands, by indices of its script.
-use Rattle.std.proofs.Common.{◌≡◌, ℕ, ◌+◌, ◌<◌, ◌≤◌, List, [], ◌∷◌, Option, Some, None, refl, sym, ◌∙◌, ap, length, drop, get_or, is_some, unwrap_or, arith}
-use Rattle.std.proofs.lemmas.List.{drop_more, drop_all, drop-map, length-map}
+use Rattle.std.proofs.Common.{◌≡◌, ℕ, ◌+◌, ◌<◌, List, [], ◌∷◌, Option, Some, None, refl, sym, ◌∙◌, ap, length, drop, get_or, is_some, unwrap_or, arith}
+use Rattle.std.proofs.lemmas.List.{drop_more, drop-map}
 use Rattle.teb_names.specs.declared.Request.{Request}
 use Rattle.script_text.specs.declared.Line.{Line}
 use Rattle.teb_rules.specs.Scripts.{asks, asks_at, Stays, Enters, Leaves, Returns, Goes, moved}
@@ -14,9 +14,6 @@ line_at (l ∷ ls) i h = l
 -- what is left of a script at a line of it, and behind its last line
 pub rest_at : (lines : List Line) (i : ℕ) (d : Line) → i < length lines → drop i (requests_on lines) ≡ (get_or lines i d).request ∷ drop (i + 1) (requests_on lines)
 rest_at lines i d h = drop-map (λ (l : Line). l.request) i lines ∙ ap requests_on (drop_more lines i d h) ∙ ap (λ (rs : List Request). (get_or lines i d).request ∷ rs) (sym (drop-map (λ (l : Line). l.request) (i + 1) lines))
-
-pub rest_over : (lines : List Line) (i : ℕ) → length lines ≤ i → drop i (requests_on lines) ≡ []
-rest_over lines i h = drop_all i (requests_on lines) (let n : length (requests_on lines) ≡ length lines = length-map lines (λ (l : Line). l.request) in omega arith)
 
 -- what is asked there
 pub asks_line : (lines : List Line) (i : ℕ) (b : Option ℕ) (d : Line) → i < length lines → asks (state_at (requests_on lines) i b) ≡ Some (get_or lines i d).request
