@@ -1,8 +1,9 @@
 //! The generated load: transactions of a shop, drawn from a number.
 
-ghost use Rattle.std.specs.Prelude.{◌≡◌, ◌+◌, ◌/◌, ◌%◌, ◌^◌, ◌<◌, ◌≤◌, ◌++◌, ◌∷◌, [], length, IfOk, OnOk, vec_len};
+ghost use Rattle.std.specs.Prelude.{◌≡◌, ◌+◌, ◌/◌, ◌%◌, ◌^◌, ◌<◌, ◌≤◌, ◌++◌, length, IfOk, OnOk, vec_len};
 ghost use Rattle.shop_load.specs.Loads.{next_state, begin, report, new_order, payment, delivery, requests_from, asked_by, numbered, loaded_lines};
 
+use crate::shop::{ACCOUNTS, KEYS, ORDERS, STOCK};
 use script_text::Line;
 use std::alloc::{AllocError, Global};
 use teb_names::{Cell, Kind, Request, Session, Spot, Table};
@@ -15,11 +16,8 @@ const PAYMENT: Kind = Kind(2);
 
 const DELIVERY: Kind = Kind(3);
 
-const STOCK: Table = Table(0);
-
-const ORDERS: Table = Table(1);
-
-const ACCOUNTS: Table = Table(2);
+/// The sessions, which take the transactions in turn.
+const SESSIONS: u32 = 8;
 
 /// The most lines of one transaction: room is made at once for as many of each.
 const MOST_LINES: usize = 5;
@@ -62,7 +60,7 @@ impl Draws {
         ensures state { self.new.state ≡ next_state self.old.state }
         ensures drawn { result ≡ 1 + next_state self.old.state / 65536 % 16 }
     {
-        1 + self.draw() % 16
+        1 + self.draw() % KEYS
     }
 }
 
@@ -77,7 +75,7 @@ fn add_transaction(lines: &mut Vec<Line>, draws: &mut Draws, i: u32) -> Result<(
     let kind = draws.draw() % 4;
     let a = draws.key();
     let b = draws.key();
-    let session = Session(1 + (i % 8) as u8);
+    let session = Session(1 + (i % SESSIONS) as u8);
     match kind {
         0 => add_requests(lines, session, &report(a, b)),
         1 => add_requests(lines, session, &new_order(i, a, b)),

@@ -12,11 +12,20 @@ use teb_names::{Cell, ControlKind, Kind, NameBook, Names, Node, Rows, Table};
 use tree_toml::Setup;
 use txn_profile::Profile;
 
-const STOCK: Table = Table(0);
+/// How much is in stock, by key.
+pub(crate) const STOCK: Table = Table(0);
 
-const ORDERS: Table = Table(1);
+/// The number of the last order, by key.
+pub(crate) const ORDERS: Table = Table(1);
 
-const ACCOUNTS: Table = Table(2);
+/// What is on an account, by key.
+pub(crate) const ACCOUNTS: Table = Table(2);
+
+/// The keys of each table are 1 to this.
+pub(crate) const KEYS: u32 = 16;
+
+/// How many transactions a batch admits, at the nodes below the root.
+const BATCH: u16 = 64;
 
 /// The setup of the shop.
 pub fn shop_setup(alloc: Global) -> Result<Setup, AllocError>
@@ -128,16 +137,22 @@ fn nodes(alloc: Global) -> Result<Vec<NodeRow>, AllocError>
     let below_root = Some(Node(0));
     let below_updates = Some(Node(2));
     let root = node(alloc, ControlKind::Snapshot, None, &[], 16)?;
-    let reports = node(alloc, ControlKind::Locks, below_root, &[Kind(0)], 64)?;
-    let updates = node(alloc, ControlKind::Locks, below_root, &[], 64)?;
+    let reports = node(alloc, ControlKind::Locks, below_root, &[Kind(0)], BATCH)?;
+    let updates = node(alloc, ControlKind::Locks, below_root, &[], BATCH)?;
     let sales = node(
         alloc,
         ControlKind::Pipeline,
         below_updates,
         &[Kind(1), Kind(2)],
-        64,
+        BATCH,
     )?;
-    let shipping = node(alloc, ControlKind::Pipeline, below_updates, &[Kind(3)], 64)?;
+    let shipping = node(
+        alloc,
+        ControlKind::Pipeline,
+        below_updates,
+        &[Kind(3)],
+        BATCH,
+    )?;
     Ok(vec![in alloc; root, reports, updates, sales, shipping]?)
 }
 
@@ -176,7 +191,7 @@ fn rows(alloc: Global) -> Result<Rows, AllocError>
 fn fill(rows: &mut Vec<(Cell, i64)>, table: Table, value: i64) -> Result<(), AllocError>
     ensures { OnOk result (rows.new.items ≡ rows.old.items ++ filled table.0 value 16) }
 {
-    for i in 0..16u32 {
+    for i in 0..KEYS {
         rows.push((Cell { table, key: i + 1 }, value))?;
     }
     Ok(())

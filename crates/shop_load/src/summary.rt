@@ -6,6 +6,7 @@ ghost use Rattle.script_text.specs.Texts.{line_text};
 ghost use Rattle.teb_history.specs.Phases.{committed as is_committed, aborted as is_aborted};
 ghost use Rattle.shop_load.specs.Summaries.{IsSummary, count_of, count_line, added, sum_in, sum_line};
 
+use crate::shop::{ACCOUNTS, ORDERS, STOCK};
 use engine_core::Engine;
 use itoa::Buffer;
 use serial_order::tables;
@@ -33,9 +34,9 @@ pub fn summary_of<C: Chains>(
     put_count(&mut text, "committed", committed as usize)?;
     put_count(&mut text, "aborted", aborted as usize)?;
     put_count(&mut text, "requests", requests)?;
-    put_sum(&mut text, "stock", sum_in(&rows, Table(0)))?;
-    put_sum(&mut text, "orders", sum_in(&rows, Table(1)))?;
-    put_sum(&mut text, "acct", sum_in(&rows, Table(2)))?;
+    put_sum(&mut text, "stock", sum_in(&rows, STOCK))?;
+    put_sum(&mut text, "orders", sum_in(&rows, ORDERS))?;
+    put_sum(&mut text, "acct", sum_in(&rows, ACCOUNTS))?;
     text.extend_from_slice(b"end\n")?;
     Ok(text)
 }
