@@ -1,5 +1,5 @@
 -- How a command ends, from what was read and what was written.
-use Rattle.std.proofs.Common.{◌≡◌, ◌≢◌, ℕ, true, false, List, [], Option, Some, None, Result, Ok, Err, IfOk, MatchResult, length, inl, refl, sym, ◌∙◌, ap, subst}
+use Rattle.std.proofs.Common.{◌≡◌, ◌≢◌, ℕ, List, [], Option, Some, None, Result, Ok, Err, IfOk, MatchResult, length, inl, refl, sym, ◌∙◌, ap, subst}
 use Rattle.std.proofs.lemmas.List.{append-nil}
 use Rattle.std.specs.Io.KnownBytes.{Keeps, Appends}
 use Rattle.std.proofs.lemmas.Bool.{le-ltb, lt-ltb}
@@ -19,20 +19,16 @@ use Rattle.input_reader.specs.Readings.{AreOf, AreReadFrom, IsReadFrom}
 use Rattle.input_reader.specs.Refusals.{ShowsInput, IsSetUp, refusal}
 use Rattle.input_reader.specs.Tasks.{Task}
 use Rattle.input_runner.specs.Runs.{IsSerialized}
-use Rattle.std.proofs.lemmas.Result.{IfOk-weaker}
-use Rattle.shop_load.specs.Shop.{shop}
-use Rattle.shop_load.specs.Runs.{IsLoad}
 use Rattle.audit_check.specs.Audit.{IsAudited}
 use Rattle.audit_runner.specs.Verdicts.{verdict}
 use Rattle.hall_runner.specs.Outcomes.{IsServedBy, history_in}
 use Rattle.hall_runner.specs.declared.served.Served.{Served}
 use Rattle.hall_runner.specs.declared.served.Served.TheVariants.{Through, Spent}
-use Rattle.command_words.specs.Commands.{reads}
 use Rattle.output_writer.specs.Endings.{IsWritten}
 use Rattle.tebaldi.specs.Endings.{IsServedAndWritten, IsRight}
 use Rattle.tebaldi.specs.Shows.{Ends, SetsUp, ServesInput, ShowsBytes, IsAlone, IsAuditedYes}
 use Rattle.command_words.specs.declared.command.Command.{Command}
-use Rattle.command_words.specs.declared.command.Command.TheVariants.{Threads, Pool, Load}
+use Rattle.command_words.specs.declared.command.Command.TheVariants.{Threads, Pool}
 use Rattle.tebaldi.specs.declared.ended.Ended.{Ended}
 
 -- what is serialized over one kind of setups is so over another that has them all
@@ -152,29 +148,3 @@ module _ (left rest : Option (List ℕ)) (e : Ended) (before now : Option (List 
     pub pooled_of : (task : Task) → IsReadFrom left rest (Ok task) → (r : Result Served AllocError) → IfOk r (IsServedBy task) → IfOk r (λ s. IsSerialized (λ m. task.setup ≡ m) (history_in s))
         → MatchResult r (λ s. IsServedAndWritten s e before now) (λ _. e.status ≡ 8) → e.status ≢ 8 → IsRight (Some (Pool workers)) left rest e before now
     pooled_of task read r served serialized written ne = served_by (Some (Pool workers)) (λ bytes d s. s) (λ bytes m s. s) task read r served serialized written ne
-
-  -- a command that reads nothing
-  module _ (command : Option Command) (unread : reads command ≡ false) where
-    pub right_alone : (d : Shown) → Ends command [] e d → IsWritten d e.status e.history before now → IsSerialized (SetsUp command []) d.history → IsRight command left rest e before now
-    right_alone d ends written serialized = record {
-      bytes = [];
-      read = λ r. (let z : false ≡ true = sym unread ∙ r in absurd (cc));
-      shown = d;
-      ends = ends;
-      written = written;
-      serialized = subst (IsSerialized (SetsUp command [])) (sym written.history) serialized;
-    }
-
-    -- with an output, or for want of memory without one
-    pub right_output : (r : Result Shown AllocError) → IfOk r (λ o. Ends command [] e o) → IfOk r (λ o. IsSerialized (SetsUp command []) o.history) → MatchResult r (λ o. IsWritten o e.status e.history before now) (λ _. e.status ≡ 8) → e.status ≢ 8 → IsRight command left rest e before now
-    right_output (Ok o) ends serialized written ne = right_alone o ends written serialized
-    right_output (Err w) ends serialized written ne = absurd (ne written)
-
-  -- what the words come to, by their command
-  pub right_words : (command known : Option Command) → command ≡ known → reads known ≡ false → (d : Shown) → Ends known [] e d → IsWritten d e.status e.history before now → d.history ≡ None → IsRight command left rest e before now
-  right_words command known is unread d ends written none = rw is (right_alone known unread d ends written (rw none tt))
-
-  pub right_load : (command : Option Command) (number size : ℕ) → command ≡ Some (Load number size) → (r : Result Shown AllocError) → IfOk r (IsLoad number size) → IfOk r (λ o. IsSerialized (λ m. shop ≡ m) o.history)
-      → MatchResult r (λ o. IsWritten o e.status e.history before now) (λ _. e.status ≡ 8) → IsAlone e → e.status ≢ 8 → IsRight command left rest e before now
-  right_load command number size is r shown serialized written alone ne =
-      rw is (right_output (Some (Load number size)) refl r (IfOk-weaker r (IsLoad number size) (λ o. IsLoad number size o × IsAlone e) (λ o h. (h, alone)) shown) serialized written ne)

@@ -43,7 +43,7 @@ pub record IsAlone (e : Ended) : Type 0 where
 abbrev pub IsAuditedYes : List ℕ → Type 0
 IsAuditedYes text = length text ≤ 4194304 → Shows (Some Audit) text (line_alone 0 (codes "audit yes"))
 
--- what several threads make of an input: its fault, or what its scripts come to; `audit` answers yes to the text of a whole run
+-- what several threads make of an input: its fault, or what its scripts come to; `audit` answers yes to the text of a whole run that is not too long to be read
 abbrev pub ServesInput : List ℕ → Ended → Shown → Type 0
 ServesInput bytes e d = MatchResult (input_of bytes) (λ task. IsServedAs task e.entries e.spent d × IfSome e.entries (λ _. IsAuditedYes d.text)) (λ why. (d ≡ refusal why) × IsAlone e)
 

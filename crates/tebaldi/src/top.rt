@@ -21,22 +21,27 @@ use std::thread::Threads;
 use teb_io::{Sink, Source};
 
 /// Does what the words say: reads the input, runs it, and writes the whole text at once. The words are looked at
-/// first, and all but `load` read. Where a read fails or memory is wanting, nothing is written and nothing is kept. Only
-/// `threads` and `pool` wait and start threads; the gate is called round each of their requests.
+/// first; words of no command, and `load`, leave the input unread. Where a read fails or memory is wanting, nothing is
+/// written and nothing is kept. Only `threads` and `pool` wait and start threads; the gate is called round each of their
+/// requests.
 pub fn run_tebaldi<R: Threads + Wait + Sync, S: Source, K: Sink, G: Gate + Sync>(
     rt: &R,
     alloc: Global,
-    words: &Vec<String>,
+    words: &[String],
     input: &mut S,
     out: &mut K,
     gate: &G,
 ) -> Ended
-    // There are bytes, those of the source where it tells them, by which the words come to what was written. Of the history of any run, over the store that these bytes set up, or over the shop: the serial order, executed whole, gives every read its value and the final tables; it keeps every node's order; nobody commits before a transaction it read from. To what `threads` writes of a whole run, `audit` answers yes.
-    ensures right { result.status ≢ 3 → result.status ≢ 8 → IsRight (command_of (texts words.now.items)) (S.left input.old) (S.left input.new) result (K.written out.old) (K.written out.new) }
+    // There are bytes, those of the source where it tells them, by which the words come to what was written. Of the history
+    // of any run, over the store that these bytes set up, or over the shop: the serial order, executed whole, gives every
+    // read its value and the final tables; it keeps every node's order; nobody commits before a transaction it read from.
+    // To what `threads` or `pool` writes of a whole run, `audit` answers yes, where the text is no longer than an input may
+    // be.
+    ensures right { result.status ≢ 3 → result.status ≢ 8 → IsRight (command_of (texts words.now)) (S.left input.old) (S.left input.new) result (K.written out.old) (K.written out.new) }
     ensures read_fault { result.status ≡ 3 → Rose (S.faults input.old) (S.faults input.new) × IsSilent result (K.written out.old) (K.written out.new) }
     ensures write_fault { result.status ≡ 4 → Rose (K.faults out.old) (K.faults out.new) }
     ensures out_of_memory { result.status ≡ 8 → IsSilent result (K.written out.old) (K.written out.new) }
-    ensures unread { reads (command_of (texts words.now.items)) ≡ false → input.new ≡ input.old }
+    ensures unread { reads (command_of (texts words.now)) ≡ false → input.new ≡ input.old }
 {
     match command_of(words) {
         Some(Command::Replay) => replay_source(alloc, input, out),

@@ -1,4 +1,4 @@
-use Rattle.std.proofs.Common.{◌≡◌, Some, ℕ, List, IfOk, subst}
+use Rattle.std.proofs.Common.{Some, ℕ, List, IfOk, subst}
 use Rattle.command_output.specs.Shown.{Shown}
 use Rattle.phase_runner.specs.Runs.{ArePhases}
 use Rattle.command_words.specs.declared.command.Command.TheVariants.{Phases}
