@@ -6,7 +6,6 @@ ghost use Rattle.input_reader.specs.Refusals.{why_text, refusal};
 use crate::InputError;
 use command_output::Output;
 use command_output::status::{BAD_SCRIPT, BAD_TREE, TOO_LONG};
-use itoa::Buffer;
 use script_text::LineWhy;
 use std::alloc::{AllocError, Global};
 use tree_toml::{TreeText, put_fault};
@@ -21,7 +20,13 @@ pub fn refusal(alloc: Global, error: &InputError) -> Result<Output, AllocError>
         InputError::TooLong => Output::line(alloc, TOO_LONG, "too long"),
         InputError::NoSeparator => Output::line(alloc, BAD_TREE, "bad tree: no separator"),
         InputError::BadTree(why) => bad_tree(alloc, why),
-        InputError::BadLine { number, why } => bad_line(alloc, *number, *why),
+        InputError::BadLine { number, why } => Output::numbered_line(
+            alloc,
+            BAD_SCRIPT,
+            "bad script: line ",
+            *number,
+            why_text(*why),
+        ),
         InputError::OutOfMemory => Err(AllocError),
     }
 }
@@ -33,19 +38,6 @@ fn bad_tree(alloc: Global, why: &TreeText) -> Result<Output, AllocError>
     let mut text = Vec::new(alloc);
     put_fault(&mut text, why)?;
     Ok(Output::new(BAD_TREE, text, None))
-}
-
-/// The line of the first bad line of a script.
-fn bad_line(alloc: Global, number: u32, why: LineWhy) -> Result<Output, AllocError>
-    ensures { IfOk result (λ o. o ≡ refusal (InputError.BadLine number why)) }
-{
-    let mut text = Vec::new(alloc);
-    text.extend_from_slice(b"bad script: line ")?;
-    text.extend_from_slice(Buffer::new().format(number).as_bytes())?;
-    text.push(b' ')?;
-    text.extend_from_slice(why_text(why).as_bytes())?;
-    text.push(b'\n')?;
-    Ok(Output::new(BAD_SCRIPT, text, None))
 }
 
 fn why_text(why: LineWhy) -> &'static str

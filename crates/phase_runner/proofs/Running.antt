@@ -13,7 +13,7 @@ use Rattle.replay_runner.specs.Logs.{log_of, replayed}
 use Rattle.tree_toml.specs.declared.setup.Setup.{Setup}
 use Rattle.tree_toml.specs.SetupView.{SetupView}
 use Rattle.tree_toml.specs.Seen.{setup_view}
-use Rattle.tree_toml.specs.Sound.{IsNamed, IsWhole}
+use Rattle.tree_toml.specs.Sound.{IsWhole}
 use Rattle.engine_core.specs.EngineModel.{EngineModel, IsReached}
 use Rattle.engine_core.specs.Stores as engine
 use Rattle.tree_switch.specs.Courses.{Course, IsCourse}
@@ -120,9 +120,6 @@ module _ (s : Setup) (m : SetupView) (is : setup_view s ≡ m) (before e : Engin
 
   pub started_names : e.names ≡ names_of m
   started_names = i.names ∙ ap names_of is
-
-  pub started_named : IsNamed (setup_view s) → length e.store.setup.tree ≡ length e.names.nodes
-  started_named named = ap (λ (S : Rules). length S.tree) i.setup ∙ named ∙ ap (λ (b : NameBook). length b.nodes) (sym i.names)
 
 -- the same of what was handed back
 pub phase_run : (rows : Table) (task : Task) (e : EngineModel) (lines : List Line) (old new : List ℕ) (r : Result Course AllocError) → e.store ≡ store_of_view (starting_with rows task.setup) → e.names ≡ names_of task.setup → lines ≡ task.lines

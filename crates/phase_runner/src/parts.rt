@@ -1,6 +1,6 @@
 //! The parts of an input.
 
-ghost use Rattle.std.specs.Prelude.{◌≡◌, ◌≤◌, All, length, IfOk};
+ghost use Rattle.std.specs.Prelude.{◌≤◌, All, length, IfOk};
 ghost use Rattle.phase_runner.specs.Parts.{AreParts, texts};
 
 use script_text::split_input;

@@ -33,7 +33,7 @@ pub fn read_phases(alloc: Global, bytes: &[u8]) -> Result<VecDeque<Input>, Phase
 {
     let parts = parts(alloc, bytes)?;
     if parts.len() > 2 * MOST_PAIRS {
-        return Err(bad_phase(17, PhaseWhy::Many));
+        return Err(bad_phase(MOST_PAIRS as u8 + 1, PhaseWhy::Many));
     }
     if parts.len() % 2 == 1 {
         return Err(bad_phase((parts.len() / 2 + 1) as u8, PhaseWhy::Script));

@@ -7,7 +7,6 @@ use crate::error::{PhaseError, PhaseWhy};
 use command_output::Output;
 use command_output::status::BAD_PHASE;
 use input_reader::{InputError, refusal};
-use itoa::Buffer;
 use std::alloc::{AllocError, Global};
 
 /// The status and the line of a fault.
@@ -16,22 +15,15 @@ pub fn phase_refusal(alloc: Global, error: &PhaseError) -> Result<Output, AllocE
     ensures { IfOk result (λ o. o ≡ spec_phase_refusal error.now) }
 {
     match error {
-        PhaseError::BadPhase { pair, why } => bad_phase(alloc, *pair, *why),
+        PhaseError::BadPhase { pair, why } => Output::numbered_line(
+            alloc,
+            BAD_PHASE,
+            "bad phase: ",
+            u32::from(*pair),
+            why_text(*why),
+        ),
         PhaseError::BadInput(why) => refusal(alloc, why),
     }
-}
-
-/// The line of a pair that can't be a phase.
-fn bad_phase(alloc: Global, pair: u8, why: PhaseWhy) -> Result<Output, AllocError>
-    ensures { IfOk result (λ o. o ≡ spec_phase_refusal (PhaseError.BadPhase pair why)) }
-{
-    let mut text = Vec::new(alloc);
-    text.extend_from_slice(b"bad phase: ")?;
-    text.extend_from_slice(Buffer::new().format(pair).as_bytes())?;
-    text.push(b' ')?;
-    text.extend_from_slice(why_text(why).as_bytes())?;
-    text.push(b'\n')?;
-    Ok(Output::new(BAD_PHASE, text, None))
 }
 
 fn why_text(why: PhaseWhy) -> &'static str
