@@ -38,7 +38,9 @@ impl<C: Chains> Hall<C> {
         if pass.asks == MOST_ASKS {
             return Err(AskError::PassSpent);
         }
+        let inside = self.door.lock(rt);
         let answer = take_turn(rt, &self.turn, &mut pass.seat, pass.session, request);
+        drop(inside);
         pass.asks += 1;
         match answer {
             Ok(reply) => Ok(reply),
