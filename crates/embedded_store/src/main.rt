@@ -1,12 +1,18 @@
-//! A store within a program: two sessions move money between accounts, and the program prints the order and the balances.
+//! A store within a program: sessions move money between accounts, and the program prints the order and the balances.
+//!
+//! `money` has what every user of a store needs: a transaction that checks a balance, is aborted if it cannot be
+//! finished, and starts over if the store aborted it.
 #![tactic(auto)]
+
+mod money;
 
 use chain_pool::PooledChains;
 use engine_core::Engine;
+use money::{Transfer, account, ask, move_money};
 use serial_order::{order, tables};
-use std::alloc::{AllocError, Global};
-use teb_names::{Cell, Kind, Reply, Request, Session, Spot, Table};
-use tree_toml::read_tree;
+use std::alloc::Global;
+use teb_names::{Request, Session};
+use tree_toml::{put_fault, read_tree};
 
 const TREE: &[u8] = br#"
 format = 1
@@ -27,27 +33,43 @@ key = 2
 value = 20
 "#;
 
-/// A type of the tree by its number: transfers.
-const TRANSFER: Spot = Spot {
-    kind: Kind(0),
-    instance: 0,
-};
-
 fn main(rt: HostRuntime) -> anyhow::Result<()> {
     let alloc = rt.alloc();
-    let mut store = Engine::new(alloc, read_tree(alloc, TREE)?, PooledChains::new(alloc))?;
-    move_money(&rt, alloc, &mut store)
+    let setup = match read_tree(alloc, TREE) {
+        Ok(setup) => setup,
+        Err(fault) => {
+            let mut line = Vec::new(alloc);
+            put_fault(&mut line, &fault)?;
+            print!(rt; "{}", String::from_utf8_lossy(alloc, &line)?)?;
+            return Ok(());
+        }
+    };
+    let mut store = Engine::new(alloc, setup, PooledChains::new(alloc))?;
+    run(&rt, alloc, &mut store)
 }
 
-/// Two transfers, the order in which they count, and the balances that they leave.
-fn move_money(
-    rt: &impl Print,
-    alloc: Global,
-    store: &mut Engine<PooledChains>,
-) -> anyhow::Result<()> {
-    let first = transfer(store, Session(1), 1, 2, 30)?;
-    let second = transfer(store, Session(2), 2, 1, 5)?;
-    println!(rt; "{first:?}, {second:?}")?;
+/// Four transfers, the order in which they count, and the balances that they leave.
+fn run(rt: &impl Print, alloc: Global, store: &mut Engine<PooledChains>) -> anyhow::Result<()> {
+    let rent = Transfer {
+        from: 1,
+        to: 2,
+        amount: 30,
+    };
+    let gift = Transfer {
+        from: 2,
+        to: 1,
+        amount: 500,
+    };
+    println!(rt; "rent: {:?}", move_money(store, Session(1), &rent))?;
+    println!(rt; "gift: {:?}", move_money(store, Session(2), &gift))?;
+
+    // Session 3 reads a balance in a transaction that stays open: who would change it has to wait.
+    ask(store, Session(3), Request::Begin(money::TRANSFER))?;
+    ask(store, Session(3), Request::Read(account(1)))?;
+    println!(rt; "rent: {:?}", move_money(store, Session(1), &rent))?;
+    ask(store, Session(3), Request::Commit)?;
+    println!(rt; "rent: {:?}", move_money(store, Session(1), &rent))?;
+
     for txn in &order(alloc, store)? {
         println!(rt; "transaction {}", txn.0)?;
     }
@@ -55,51 +77,4 @@ fn move_money(
         println!(rt; "account {} {balance}", cell.key)?;
     }
     Ok(())
-}
-
-/// Moves an amount from one account to another, and commits. It answers the last reply: the first one that lets it go on no further.
-fn transfer(
-    store: &mut Engine<PooledChains>,
-    session: Session,
-    from: u32,
-    to: u32,
-    amount: i32,
-) -> Result<Reply, AllocError> {
-    let amount = i64::from(amount);
-    let requests = [
-        Request::Begin(TRANSFER),
-        Request::Read(account(from)),
-        Request::Add(account(from), -amount),
-        Request::Read(account(to)),
-        Request::Add(account(to), amount),
-        Request::Commit,
-    ];
-    let mut last = Reply::Done;
-    for request in requests {
-        last = ask(store, session, request)?;
-        if matches!(
-            last,
-            Reply::Again { .. } | Reply::Aborted(_) | Reply::Refused(_)
-        ) {
-            return Ok(last);
-        }
-    }
-    Ok(last)
-}
-
-/// Makes room for an answer, which may find no memory, and asks, which takes none.
-fn ask(
-    store: &mut Engine<PooledChains>,
-    session: Session,
-    request: Request,
-) -> Result<Reply, AllocError> {
-    store.ready()?;
-    Ok(store.ask(session, request))
-}
-
-fn account(key: u32) -> Cell {
-    Cell {
-        table: Table(0),
-        key,
-    }
 }
