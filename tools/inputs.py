@@ -247,7 +247,7 @@ SET = {
     **{f"{tree}-convoy": Plan(tree, "convoy") for tree in ("locks", "ordered", "snapshot", "batches")},
 }
 
-# The inputs of the table in docs/ARCHITECTURE.md, and what it says of them.
+# The inputs of the table in docs/PERFORMANCE.md, and what it says of them.
 TABLE = {
     "locks-uniform-mixed": "locks, cells drawn evenly",
     "locks-hot-mixed": "locks, half of all accesses on four cells",

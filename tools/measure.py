@@ -2,7 +2,7 @@
 """What the program takes for large inputs: instructions, by callgrind of valgrind, processor time and peak memory.
 
     tools/measure.py [--program FILE] [--transactions N] [--quick] [NAME..]
-    tools/measure.py --table [--program FILE] [NAME..]     the lines of the table in docs/ARCHITECTURE.md
+    tools/measure.py --table [--program FILE] [NAME..]     the lines of the table in docs/PERFORMANCE.md
 
 The inputs are those of tools/inputs.py, all or those whose names have one of the words: those that are mixed by replay, all others by turns. Of each
 it measures one of N transactions and one of half as many, so that the last column, how often the instructions of the half go into those of the whole, tells
