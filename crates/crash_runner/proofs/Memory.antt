@@ -6,9 +6,9 @@ use Rattle.crash_disk.specs.declared.memory.MemDisk.{MemDisk}
 use Rattle.crash_disk.specs.Calls.{Tally, memory_tally}
 use Rattle.crash_disk.specs.Log.{Step, byte_count, safe_contents, MayLeave}
 use Rattle.crash_disk.specs.LogLaws.{safe_is_left}
-use Rattle.tree_toml.specs.SetupView.{SetupView}
-use Rattle.tree_toml.specs.Sound.{IsWhole}
-use Rattle.input_reader.specs.Stores.{store_of_view}
+use Rattle.store_setup.specs.SetupView.{SetupView}
+use Rattle.store_setup.specs.Sound.{IsWhole}
+use Rattle.store_setup.specs.Stores.{store_of_view}
 use Rattle.crash_runner.specs.Underway.{IsRoomy}
 
 abbrev pub tally_of : MemDisk → Tally

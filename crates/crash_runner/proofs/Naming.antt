@@ -11,9 +11,9 @@ use Rattle.serial_order.specs.Tables.{IsFinalRows}
 use Rattle.script_text.specs.declared.Answered.{Answered}
 use Rattle.script_text.specs.Named.{ReplyNamed, RowsNamed}
 use Rattle.replay_runner.specs.Logs.{Requests, log_of}
-use Rattle.tree_toml.specs.SetupView.{SetupView}
-use Rattle.tree_toml.specs.Sound.{IsWhole, IsNamed}
-use Rattle.input_reader.specs.Stores.{store_of_view, names_of}
+use Rattle.store_setup.specs.SetupView.{SetupView}
+use Rattle.store_setup.specs.Sound.{IsWhole, IsNamed}
+use Rattle.store_setup.specs.Stores.{store_of_view, names_of}
 use Rattle.input_runner.specs.Runs.{IsRunOver}
 use Rattle.input_runner.proofs.Runs.{replies_named, rows_named}
 use Rattle.crash_runner.specs.Crashes.{Course, Through, AtOnce, AtCommit}

@@ -14,10 +14,10 @@ use Rattle.commit_laws.proofs.Prefixes.{length-records}
 use Rattle.script_text.specs.declared.Answered.{Answered}
 use Rattle.script_text.specs.Named.{ReplyNamed, RowsNamed}
 use Rattle.replay_runner.specs.Logs.{log_of, replayed}
-use Rattle.tree_toml.specs.SetupView.{SetupView}
-use Rattle.tree_toml.specs.Sound.{IsWhole, IsNamed}
+use Rattle.store_setup.specs.SetupView.{SetupView}
+use Rattle.store_setup.specs.Sound.{IsWhole, IsNamed}
 use Rattle.command_output.specs.Shown.{Shown}
-use Rattle.input_reader.specs.Stores.{store_of_view, names_of}
+use Rattle.store_setup.specs.Stores.{store_of_view, names_of}
 use Rattle.input_reader.specs.Tasks.{Task}
 use Rattle.input_runner.proofs.Runs.{sound}
 use Rattle.crash_runner.specs.Crashes.{IsCrash, crash_text}

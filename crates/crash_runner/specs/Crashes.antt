@@ -13,7 +13,7 @@ use Rattle.commit_laws.specs.Commits.{commit_count, rows_after}
 use Rattle.script_text.specs.declared.Answered.{Answered}
 use Rattle.script_text.specs.Texts.{line_text, reply_text, recovered_text}
 use Rattle.command_output.specs.Shown.{Shown}
-use Rattle.input_reader.specs.Stores.{store_of_view, names_of}
+use Rattle.store_setup.specs.Stores.{store_of_view, names_of}
 use Rattle.input_reader.specs.Tasks.{Task}
 use Rattle.input_runner.specs.Runs.{IsReplay}
 

@@ -2,9 +2,9 @@
 
 ghost use Rattle.std.specs.Prelude.{◌≡◌, ◌≤◌, [], length, OnOk, IfOk, IsErrOf};
 ghost use Rattle.teb_rules.specs.Run.{history_after};
-ghost use Rattle.tree_toml.specs.Seen.{setup_view};
-ghost use Rattle.tree_toml.specs.Sound.{IsWhole};
-ghost use Rattle.input_reader.specs.Stores.{store_of_view};
+ghost use Rattle.store_setup.specs.SetupView.{setup_view};
+ghost use Rattle.store_setup.specs.Sound.{IsWhole};
+ghost use Rattle.store_setup.specs.Stores.{store_of_view};
 ghost use Rattle.commit_journal.specs.Kept.{IsSameStore};
 ghost use Rattle.replay_runner.specs.Logs.{log_of, replayed};
 ghost use Rattle.crash_runner.specs.Underway.{IsUnderway, HasAsked, StopsAt, IsRunOn, effects};
@@ -20,7 +20,7 @@ use engine_core::Engine;
 use replay_runner::holding_sessions;
 use script_text::{Answered, Line};
 use std::alloc::{AllocError, Global};
-use tree_toml::Setup;
+use store_setup::Setup;
 use version_chain::Chains;
 
 /// What a run on a disk has come to: the replies that were given, whether the disk has failed, and the disk.

@@ -3,8 +3,8 @@
 ghost use Rattle.std.specs.Prelude.{◌≡◌, IfOk};
 
 use std::alloc::{AllocError, Global};
+use store_setup::Setup;
 use teb_names::{NameBook, Names, Rows};
-use tree_toml::Setup;
 
 /// The names of a setup, and its starting rows.
 #[derive(Drop)]

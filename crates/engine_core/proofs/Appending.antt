@@ -18,7 +18,7 @@ use Rattle.cursor_book.specs.Cursors.{CursorsOf}
 use Rattle.engine_core.specs.declared.engine_state.EngineState.{EngineState}
 use Rattle.engine_core.specs.declared.engine_view.EngineView.{EngineView}
 use Rattle.engine_core.specs.Latest.{AreLatest}
-use Rattle.engine_core.specs.Stores.{store_of}
+use Rattle.store_setup.specs.Stores.{store_of}
 use Rattle.engine_core.specs.Wholes.{IsWhole, StateIsWhole, ViewIsWhole, store_in, events_in}
 use Rattle.engine_core.specs.Keeping.{HasPlace, PutsAt, IsPlaced}
 use Rattle.engine_core.specs.Decisions.{MayBegin}

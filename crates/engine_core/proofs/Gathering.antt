@@ -14,7 +14,7 @@ use Rattle.teb_rules.specs.Answer.{cells_from, read_all}
 use Rattle.teb_laws.specs.Lawful.{Granted, Lawful, MayAccess}
 use Rattle.version_chain.specs.Lists.{Version}
 use Rattle.engine_core.specs.declared.engine_state.EngineState.{EngineState}
-use Rattle.engine_core.specs.Stores.{store_of}
+use Rattle.store_setup.specs.Stores.{store_of}
 use Rattle.engine_core.specs.Wholes.{StateIsWhole, HasRoom}
 use Rattle.engine_core.specs.Cells.{cell_at}
 

@@ -14,12 +14,12 @@ use Rattle.teb_laws.proofs.Reachable.{run_good, empty_good}
 use Rattle.teb_laws.proofs.Runs.{history_after-append}
 use Rattle.teb_laws.proofs.Sound.{tree_facts}
 use Rattle.version_chain.specs.Lists.{Version}
-use Rattle.tree_toml.specs.declared.setup.Setup as kept
-use Rattle.tree_toml.specs.Seen.{setup_view}
-use Rattle.tree_toml.specs.Sound.{IsWhole}
+use Rattle.store_setup.specs.declared.Setup as kept
+use Rattle.store_setup.specs.SetupView.{setup_view}
+use Rattle.store_setup.specs.Sound.{IsWhole}
 use Rattle.engine_core.specs.declared.engine_state.EngineState.{EngineState}
 use Rattle.engine_core.specs.EngineModel.{IsReached, IsEngine}
-use Rattle.engine_core.specs.Stores.{store_of}
+use Rattle.store_setup.specs.Stores.{store_of}
 use Rattle.engine_core.specs.Wholes.{StateIsWhole, HasRoom}
 
 -- no request leads to nothing

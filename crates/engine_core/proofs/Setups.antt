@@ -13,20 +13,20 @@ use Rattle.phase_api.specs.Standing.{StandAll}
 use Rattle.candidate_reads.proofs.KeptVersions.{versions_none}
 use Rattle.dependency_book.specs.Books.{Lists, BookOf}
 use Rattle.cursor_book.proofs.Moves.{cursors_none}
-use Rattle.tree_toml.specs.declared.setup.Setup.{Setup}
-use Rattle.tree_toml.specs.Seen.{setup_view}
-use Rattle.tree_toml.specs.Sound as toml
+use Rattle.store_setup.specs.declared.Setup.{Setup}
+use Rattle.store_setup.specs.SetupView.{setup_view}
+use Rattle.store_setup.specs.Sound as SetUp
 use Rattle.engine_core.specs.Latest.{AreLatest}
-use Rattle.engine_core.specs.Stores.{store_of}
+use Rattle.store_setup.specs.Stores.{store_of}
 use Rattle.engine_core.specs.Wholes.{IsWhole}
 
-pub sound_rules : (s : Setup) → toml.IsWhole (setup_view s) → IsSound (store_of s).setup
+pub sound_rules : (s : Setup) → SetUp.IsWhole (setup_view s) → IsSound (store_of s).setup
 sound_rules s w = subst (λ (n : ℕ). let R : Rules = record { types = n; profiles = s.profiles.items; tree = s.tree.rows } in IsSound R) (sym w.types) w.sound
 
-pub enough_profiles : (s : Setup) (F : Rules) → F ≡ (store_of s).setup → toml.IsWhole (setup_view s) → F.types ≤ length F.profiles
+pub enough_profiles : (s : Setup) (F : Rules) → F ≡ (store_of s).setup → SetUp.IsWhole (setup_view s) → F.types ≤ length F.profiles
 enough_profiles s F q w = subst (λ (S : Rules). S.types ≤ length S.profiles) (sym q) (let a = w.profiles in let b = w.types in omega arith)
 
-pub few_ranked : (s : Setup) (F : Rules) → F ≡ (store_of s).setup → toml.IsWhole (setup_view s) → above_profiles F.profiles ≤ 64
+pub few_ranked : (s : Setup) (F : Rules) → F ≡ (store_of s).setup → SetUp.IsWhole (setup_view s) → above_profiles F.profiles ≤ 64
 few_ranked s F q w = subst (λ (S : Rules). above_profiles S.profiles ≤ 64) (sym q) (let a : above_profiles s.profiles.items ≤ length s.names.tables = w.ranked in let b : length s.names.tables ≤ 64 = w.few_tables in omega arith)
 
 none_begun : begun_count [] ≤ 8192
@@ -36,7 +36,7 @@ none_begun = omega arith
 lawful_none : (S : Rules) → Lawful S []
 lawful_none S = (empty_good S).legal
 
-pub whole_from_nothing : {K : Type 0} (node_number : K → ℕ) (stands : K → Rules → List Event → Type 0) (s : Setup) (H : List Event) (cs : List K) (L : Cell → List Version) (b : Lists) (steps : List ℕ) (latest : List Txn) → toml.IsWhole (setup_view s) → H ≡ [] →
+pub whole_from_nothing : {K : Type 0} (node_number : K → ℕ) (stands : K → Rules → List Event → Type 0) (s : Setup) (H : List Event) (cs : List K) (L : Cell → List Version) (b : Lists) (steps : List ℕ) (latest : List Txn) → SetUp.IsWhole (setup_view s) → H ≡ [] →
     StandAll node_number stands cs (store_of s).setup H → ((x : Cell) → L x ≡ []) → BookOf b [] → steps ≡ [] → AreLatest latest [] → IsWhole node_number stands (store_of s) H cs L b steps latest
 whole_from_nothing {K} node_number stands s H cs L b steps latest w q sa l bo cu la =
     subst (λ (P : List Event). IsWhole node_number stands (store_of s) P cs L b steps latest) (sym q)

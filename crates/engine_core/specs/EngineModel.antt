@@ -9,10 +9,10 @@ use Rattle.teb_rules.specs.Setup.{Setup, Store}
 use Rattle.teb_rules.specs.Accepted.{IsSound}
 use Rattle.teb_laws.specs.Laws.{reached}
 use Rattle.version_chain.specs.Lists.{Version}
-use Rattle.tree_toml.specs.Seen.{setup_view}
-use Rattle.tree_toml.specs.Sound as SetUp
+use Rattle.store_setup.specs.SetupView.{setup_view}
+use Rattle.store_setup.specs.Sound as SetUp
 use Rattle.engine_core.specs.declared.engine_state.EngineState.{EngineState}
-use Rattle.engine_core.specs.Stores.{store_of}
+use Rattle.store_setup.specs.Stores.{store_of}
 use Rattle.engine_core.specs.Wholes.{StateIsWhole, HasRoom}
 
 -- the store, its names, its history, the newest event first, and whether there is room for the events of one answer

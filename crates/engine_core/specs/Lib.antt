@@ -1,4 +1,3 @@
-pub mod Stores
 pub mod EngineModel
 pub mod Latest
 pub mod Wholes

@@ -7,7 +7,7 @@ use Rattle.engine_core.specs.declared.engine_state.EngineState.{EngineState}
 use Rattle.engine_core.specs.declared.respond.Response.{Response}
 use Rattle.engine_core.specs.declared.respond.Response.TheVariants.{Reply, Scan}
 use Rattle.engine_core.specs.Decisions.{carried}
-use Rattle.engine_core.specs.Stores.{store_of}
+use Rattle.store_setup.specs.Stores.{store_of}
 
 -- a reply comes where all of the answer is written; a scan comes where nothing is written yet, and carried out it is the answer: it has at most 16 cells, each of which has a key
 abbrev pub IsResponse : {K C : Type 0} → EngineState K C → EngineState K C → Answered → Response → Type 0

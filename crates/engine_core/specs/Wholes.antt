@@ -16,7 +16,7 @@ use Rattle.cursor_book.specs.Cursors.{CursorsOf}
 use Rattle.engine_core.specs.Latest.{AreLatest}
 use Rattle.engine_core.specs.declared.engine_state.EngineState.{EngineState}
 use Rattle.engine_core.specs.declared.engine_view.EngineView.{EngineView}
-use Rattle.engine_core.specs.Stores.{store_of}
+use Rattle.store_setup.specs.Stores.{store_of}
 
 -- a sound store, with a profile for each type, and a lawful history, for which controls, chains, book, cursors and what each session began last stand
 pub record IsWhole {K : Type 0} (node_number : K → ℕ) (stands : K → Setup → List Event → Type 0) (X : Store) (H : List Event) (cs : List K) (L : Cell → List Version) (b : Lists) (steps : List ℕ) (last : List Txn) : Type 0 where

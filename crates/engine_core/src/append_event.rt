@@ -6,7 +6,7 @@ ghost use Rattle.teb_laws.specs.Lawful.{Granted, Lawful};
 ghost use Rattle.cursor_book.specs.Cursors.{CursorsOf};
 ghost use Rattle.engine_core.specs.Decisions.{MayBegin};
 ghost use Rattle.engine_core.specs.Keeping.{HasPlace, PutsAt};
-ghost use Rattle.engine_core.specs.Stores.{store_of};
+ghost use Rattle.store_setup.specs.Stores.{store_of};
 ghost use Rattle.engine_core.specs.Wholes.{StateIsWhole, HasRoom};
 
 use crate::engine_state::{EngineState, facts_of};
@@ -15,8 +15,8 @@ use crate::notes::note_each;
 use candidate_reads::Place;
 use cursor_book::Cursors;
 use phase_api::Control;
+use store_setup::Setup;
 use teb_history::{Event, History};
-use tree_toml::Setup;
 use version_chain::Chains;
 
 /// Appends an event that the rules grant; a Put comes with the place of its version. It takes one place of the room.

@@ -4,7 +4,7 @@ ghost use Rattle.std.specs.Prelude.{◌≡◌, ◌≤◌, ◌+◌, ◌^◌};
 ghost use Rattle.teb_laws.specs.Lawful.{Lawful, Settled};
 ghost use Rattle.short_reply.specs.ShortReplies.{full_reply};
 ghost use Rattle.engine_core.specs.Decisions.{carried, IsBounded, IsShort};
-ghost use Rattle.engine_core.specs.Stores.{store_of};
+ghost use Rattle.store_setup.specs.Stores.{store_of};
 ghost use Rattle.engine_core.specs.Wholes.{StateIsWhole, HasRoom};
 
 use crate::append_event::append_event;

@@ -9,9 +9,9 @@ ghost use Rattle.phase_api.specs.Standing.{StandAll};
 ghost use Rattle.phase_api.specs.Versions.{HoldsVersions};
 ghost use Rattle.dependency_book.specs.Books.{BookOf};
 ghost use Rattle.short_reply.specs.ShortReplies.{full_reply, IsNoScan};
-ghost use Rattle.tree_toml.specs.Seen.{setup_view};
-ghost use Rattle.tree_toml.specs.Sound.{IsWhole};
-ghost use Rattle.engine_core.specs.Stores.{store_of};
+ghost use Rattle.store_setup.specs.SetupView.{setup_view};
+ghost use Rattle.store_setup.specs.Sound.{IsWhole};
+ghost use Rattle.store_setup.specs.Stores.{store_of};
 ghost use Rattle.engine_core.specs.AnyControls.{any_node_number, any_spare, any_stands};
 ghost use Rattle.engine_core.specs.EngineModel.{IsEngine, IsOfEngine};
 
@@ -27,9 +27,9 @@ use dependency_book::Book;
 use short_reply::ShortReply;
 use std::alloc::{AllocError, Global};
 use std::marker::Model;
+use store_setup::Setup;
 use teb_history::History;
 use teb_names::{Reply, Request, Session};
-use tree_toml::Setup;
 use version_chain::Chains;
 
 /// A store with its history, and the answers that go on with it. Contracts see the store, its names, the events, the
@@ -50,7 +50,7 @@ impl<C: Chains> Drop for Engine<C> {
 }
 
 impl<C: Chains> Model for Engine<C> {
-    ghost use Rattle.engine_core.specs.Stores.{store_of};
+    ghost use Rattle.store_setup.specs.Stores.{store_of};
     ghost use Rattle.engine_core.specs.AnyControls.{any_node_number, any_stands, any_spare};
     ghost use Rattle.engine_core.specs.EngineModel.{EngineModel, IsEngine};
 

@@ -6,7 +6,7 @@ ghost use Rattle.teb_rules.specs.Answer.{answer};
 ghost use Rattle.teb_rules.specs.Versions.{read};
 ghost use Rattle.teb_laws.specs.Lawful.{Settled};
 ghost use Rattle.phase_api.specs.FactsView.{setup_of};
-ghost use Rattle.engine_core.specs.Stores.{store_of};
+ghost use Rattle.store_setup.specs.Stores.{store_of};
 ghost use Rattle.engine_core.specs.Decisions.{carried, IsBounded};
 
 use crate::decide::decide;
@@ -16,9 +16,9 @@ use crate::latest_txns::LatestTxns;
 use cursor_book::Cursors;
 use dependency_book::Book;
 use phase_api::{Control, Facts};
+use store_setup::Setup;
 use teb_history::History;
 use teb_names::{Cell, Request, Session, Txn};
-use tree_toml::Setup;
 use version_chain::Chains;
 
 /// A store with its history, and what is kept of the history: a control for each node, the versions, who read from whom,

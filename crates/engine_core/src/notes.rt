@@ -5,14 +5,14 @@ ghost use Rattle.teb_history.specs.declared.Event.{Event};
 ghost use Rattle.teb_rules.specs.Setup.{Setup as Rules};
 ghost use Rattle.phase_api.specs.Calls.{MayNote};
 ghost use Rattle.phase_api.specs.Standing.{StandAll};
-ghost use Rattle.engine_core.specs.Stores.{store_of};
+ghost use Rattle.store_setup.specs.Stores.{store_of};
 ghost use Rattle.engine_core.specs.Wholes.{RoomFor};
 
 use crate::engine_state::facts_of;
 use phase_api::Control;
 use std::alloc::AllocError;
+use store_setup::Setup;
 use teb_history::{Event, History};
-use tree_toml::Setup;
 
 /// The control of each node notes the newest event.
 #[inline(always)]

@@ -3,7 +3,7 @@
 ghost use Rattle.std.specs.Prelude.{◌≡◌, ◌≤◌, ◌+◌, ◌^◌};
 ghost use Rattle.teb_rules.specs.Answer.{cells_from, read_all};
 ghost use Rattle.teb_laws.specs.Lawful.{Lawful};
-ghost use Rattle.engine_core.specs.Stores.{store_of};
+ghost use Rattle.store_setup.specs.Stores.{store_of};
 ghost use Rattle.engine_core.specs.Wholes.{StateIsWhole, HasRoom};
 
 use crate::append_event::append_event;

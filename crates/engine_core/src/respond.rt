@@ -4,7 +4,7 @@ ghost use Rattle.std.specs.Prelude.{◌≡◌, ◌≤◌};
 ghost use Rattle.teb_rules.specs.Answer.{answer};
 ghost use Rattle.teb_laws.specs.Lawful.{Settled};
 ghost use Rattle.engine_core.specs.Responses.{IsResponse};
-ghost use Rattle.engine_core.specs.Stores.{store_of};
+ghost use Rattle.store_setup.specs.Stores.{store_of};
 ghost use Rattle.engine_core.specs.Wholes.{StateIsWhole, HasRoom};
 
 use crate::carry_out::write;

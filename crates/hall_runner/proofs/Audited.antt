@@ -16,9 +16,9 @@ use Rattle.teb_laws.proofs.Sound.{tree_facts}
 use Rattle.script_text.specs.declared.Answered.{Answered}
 use Rattle.script_text.specs.Ranges.{EventInRange, RowInRange}
 use Rattle.script_text.specs.Texts.{starts_text, event_text, report_text}
-use Rattle.tree_toml.specs.SetupView.{SetupView}
-use Rattle.tree_toml.specs.Sound.{IsWhole, HasNames}
-use Rattle.input_reader.specs.Stores.{store_of_view, names_of}
+use Rattle.store_setup.specs.SetupView.{SetupView}
+use Rattle.store_setup.specs.Sound.{IsWhole, HasNames}
+use Rattle.store_setup.specs.Stores.{store_of_view, names_of}
 use Rattle.input_runner.specs.Runs.{IsReportAfter, IsRunOver}
 use Rattle.input_runner.proofs.Runs.{events_named, starts_named}
 use Rattle.audit_check.specs.Audit.{IsAudited}

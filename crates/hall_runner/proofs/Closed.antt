@@ -13,11 +13,11 @@ use Rattle.script_text.specs.declared.Line.{Line}
 use Rattle.script_text.specs.declared.Answered.{Answered}
 use Rattle.script_walk.specs.ScriptStates.{requests_on}
 use Rattle.replay_runner.specs.Logs.{log_of}
-use Rattle.tree_toml.specs.SetupView.{SetupView}
-use Rattle.tree_toml.specs.Sound.{HasNames}
+use Rattle.store_setup.specs.SetupView.{SetupView}
+use Rattle.store_setup.specs.Sound.{HasNames}
 use Rattle.audit_check.specs.Audit.{IsAudited}
 use Rattle.command_output.specs.Shown.{Shown}
-use Rattle.input_reader.specs.Stores.{store_of_view}
+use Rattle.store_setup.specs.Stores.{store_of_view}
 use Rattle.input_runner.specs.Runs.{IsReportAfter, IsRunOver}
 use Rattle.input_runner.proofs.Runs.{is_serialized}
 use Rattle.hall_runner.specs.Served.{AreServed, lines_of_run}

@@ -11,10 +11,10 @@ use Rattle.version_chain.specs.declared.chains.Chains.{Ghosts}
 use Rattle.script_text.specs.declared.Line.{Line}
 use Rattle.script_text.specs.Scripts.{scripts_of}
 use Rattle.session_server.specs.declared.pass.Pass.{Pass}
-use Rattle.tree_toml.specs.SetupView.{SetupView}
-use Rattle.tree_toml.specs.Sound.{IsWhole, IsNamed, HasNames}
+use Rattle.store_setup.specs.SetupView.{SetupView}
+use Rattle.store_setup.specs.Sound.{IsWhole, IsNamed, HasNames}
 use Rattle.command_output.specs.Shown.{Shown}
-use Rattle.input_reader.specs.Stores.{store_of_view, names_of}
+use Rattle.store_setup.specs.Stores.{store_of_view, names_of}
 use Rattle.input_reader.specs.Tasks.{Task}
 use Rattle.hall_runner.specs.Served.{AreServed}
 use Rattle.hall_runner.specs.Spent.{IsSpentOn}

@@ -1,6 +1,6 @@
 //! A gate that holds one session back until another was answered.
 
-use session_server::Gate;
+use session_tasks::Gate;
 use std::sync::atomic::AtomicBool;
 use std::sync::atomic::Ordering::SeqCst;
 use std::thread;

@@ -3,7 +3,7 @@
 use crate::hold::{Hold, SessionLine, Unheld};
 use hall_runner::{Served, serve_by_pool, serve_by_threads};
 use input_reader::{Input, read_input};
-use session_server::Gate;
+use session_tasks::Gate;
 use std::alloc::{AllocError, Global};
 use std::process::Abort;
 use std::sync::Wait;

@@ -8,11 +8,12 @@ use Rattle.script_text.specs.Lines.{lines_of}
 use Rattle.script_text.specs.Grammar.{script_of}
 use Rattle.script_text.proofs.ParsedSessions.{script_few}
 use Rattle.tree_toml.specs.declared.fault.TreeText.{TreeText}
-use Rattle.tree_toml.specs.SetupView.{SetupView, setup_of_text}
+use Rattle.store_setup.specs.SetupView.{SetupView}
+use Rattle.tree_toml.specs.SetupText.{setup_of_text}
 use Rattle.input_reader.specs.declared.error.InputError.{InputError}
 use Rattle.input_reader.specs.declared.error.InputError.TheVariants.{TooLong, NoSeparator}
 use Rattle.input_reader.specs.Inputs.{input_of, task_in, task_of, task_under, script_error, tree_error}
-use Rattle.input_reader.specs.Stores.{names_of}
+use Rattle.store_setup.specs.Stores.{names_of}
 use Rattle.input_reader.specs.Tasks.{Task}
 
 apart : (task : Task) (why : InputError) → Ok task ≡ Err why → ⊥

@@ -13,12 +13,13 @@ use Rattle.script_text.specs.declared.error.ScriptError.TheVariants as script
 use Rattle.script_text.specs.Input.{parts_of}
 use Rattle.script_text.specs.Lines.{lines_of}
 use Rattle.script_text.specs.Grammar.{script_of, Answers}
-use Rattle.tree_toml.specs.SetupView.{SetupView, setup_of_text}
+use Rattle.store_setup.specs.SetupView.{SetupView}
+use Rattle.tree_toml.specs.SetupText.{setup_of_text}
 use Rattle.input_reader.specs.declared.error.InputError.TheVariants.{TooLong}
 use Rattle.input_reader.specs.Inputs.{input_of, task_of, task_under, script_error}
 use Rattle.input_reader.specs.Reads.{read_error}
 use Rattle.input_reader.specs.Readings.{AreOf, AreReadFrom, IsRead, IsReadFrom}
-use Rattle.input_reader.specs.Stores.{names_of}
+use Rattle.store_setup.specs.Stores.{names_of}
 use Rattle.input_reader.specs.Tasks.{Task}
 
 module _ (bytes tree text : List ℕ) (few : length bytes ≤ 4194304) (parts : parts_of bytes ≡ Some (tree, text)) (lines : length (lines_of text) ≤ 65536) (m : SetupView) (setup : setup_of_text tree ≡ Ok m) where

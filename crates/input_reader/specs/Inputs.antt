@@ -8,10 +8,11 @@ use Rattle.script_text.specs.Lines.{lines_of}
 use Rattle.script_text.specs.Grammar.{script_of}
 use Rattle.tree_toml.specs.declared.fault.TreeText.{TreeText}
 use Rattle.tree_toml.specs.declared.fault.TreeText.TheVariants as tree
-use Rattle.tree_toml.specs.SetupView.{SetupView, setup_of_text}
+use Rattle.store_setup.specs.SetupView.{SetupView}
+use Rattle.tree_toml.specs.SetupText.{setup_of_text}
 use Rattle.input_reader.specs.declared.error.InputError.{InputError}
 use Rattle.input_reader.specs.declared.error.InputError.TheVariants.{TooLong, NoSeparator, BadTree, BadLine, OutOfMemory}
-use Rattle.input_reader.specs.Stores.{names_of}
+use Rattle.store_setup.specs.Stores.{names_of}
 use Rattle.input_reader.specs.Tasks.{Task}
 
 -- a fault of the tree part, and of the script part

@@ -2,5 +2,4 @@ pub mod Inputs
 pub mod Reads
 pub mod Readings
 pub mod Refusals
-pub mod Stores
 pub mod Tasks

@@ -2,7 +2,7 @@
 use Rattle.std.specs.Prelude.{◌≡◌, ℕ, List, [], ◌++◌, codes, decimal, None, MatchResult, IfOk}
 use Rattle.script_text.specs.declared.error.LineWhy.{LineWhy}
 use Rattle.script_text.specs.declared.error.LineWhy.TheVariants as why
-use Rattle.tree_toml.specs.SetupView.{SetupView}
+use Rattle.store_setup.specs.SetupView.{SetupView}
 use Rattle.tree_toml.specs.Texts.{fault_text}
 use Rattle.command_output.specs.Shown.{Shown, line_alone}
 use Rattle.input_reader.specs.declared.error.InputError.{InputError}

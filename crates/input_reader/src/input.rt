@@ -2,12 +2,12 @@
 
 ghost use Rattle.std.specs.Prelude.{◌≡◌};
 ghost use Rattle.script_text.specs.Sessions.{AreOfSessions};
-ghost use Rattle.tree_toml.specs.Seen.{setup_view};
-ghost use Rattle.tree_toml.specs.Sound.{IsWhole, IsNamed, HasNames};
+ghost use Rattle.store_setup.specs.SetupView.{setup_view};
+ghost use Rattle.store_setup.specs.Sound.{IsWhole, IsNamed, HasNames};
 
 use script_text::Line;
 use std::marker::Model;
-use tree_toml::Setup;
+use store_setup::Setup;
 
 /// A setup, and the lines to be run over its store. The store can be set up, each node has a name, all
 /// names are as names may be, and the lines are of sessions 1 to 32.
@@ -21,8 +21,8 @@ pub struct Input {
 
 impl Model for Input {
     ghost use Rattle.script_text.specs.Sessions.{AreOfSessions};
-    ghost use Rattle.tree_toml.specs.Seen.{setup_view};
-    ghost use Rattle.tree_toml.specs.Sound.{IsWhole, IsNamed, HasNames};
+    ghost use Rattle.store_setup.specs.SetupView.{setup_view};
+    ghost use Rattle.store_setup.specs.Sound.{IsWhole, IsNamed, HasNames};
     ghost use Rattle.input_reader.specs.Tasks.{Task};
 
     ghost Value = { Task };

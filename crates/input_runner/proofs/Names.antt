@@ -12,9 +12,9 @@ use Rattle.teb_history.specs.declared.Event.{Event}
 use Rattle.teb_history.specs.declared.Event.TheVariants as event
 use Rattle.teb_laws.specs.Within.{NodeWithin, CauseWithin, ReplyWithin, EventWithin, AllWithin}
 use Rattle.script_text.specs.Named.{NodeNamed, CauseNamed, ReplyNamed, EventNamed}
-use Rattle.tree_toml.specs.SetupView.{SetupView}
-use Rattle.tree_toml.specs.Sound.{IsWhole, IsNamed}
-use Rattle.input_reader.specs.Stores.{store_of_view, names_of}
+use Rattle.store_setup.specs.SetupView.{SetupView}
+use Rattle.store_setup.specs.Sound.{IsWhole, IsNamed}
+use Rattle.store_setup.specs.Stores.{store_of_view, names_of}
 
 module _ (m : SetupView) (whole : IsWhole m) (named : IsNamed m) where
   node_named : (n : Node) → NodeWithin (store_of_view m) n → NodeNamed (names_of m) n

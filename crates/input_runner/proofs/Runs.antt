@@ -29,9 +29,9 @@ use Rattle.replay_runner.proofs.Logged.{history_none}
 use Rattle.replay_runner.proofs.Within.{log_within}
 use Rattle.fair_driver.specs.Logged.{AreAnswers, IsOf, answers_of}
 use Rattle.fair_driver.specs.Seats.{scripts_on}
-use Rattle.tree_toml.specs.SetupView.{SetupView}
-use Rattle.tree_toml.specs.Sound.{IsWhole, IsNamed}
-use Rattle.input_reader.specs.Stores.{store_of_view, names_of}
+use Rattle.store_setup.specs.SetupView.{SetupView}
+use Rattle.store_setup.specs.Sound.{IsWhole, IsNamed}
+use Rattle.store_setup.specs.Stores.{store_of_view, names_of}
 use Rattle.input_reader.specs.Tasks.{Task}
 use Rattle.input_runner.proofs.Names.{reply_named, all_named}
 use Rattle.engine_core.specs.EngineModel.{EngineModel}

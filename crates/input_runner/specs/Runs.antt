@@ -21,10 +21,10 @@ use Rattle.script_text.specs.Texts.{reply_text, report_text}
 use Rattle.replay_runner.specs.Logs.{Requests, log_of, replayed}
 use Rattle.fair_driver.specs.Seats.{scripts_on}
 use Rattle.fair_driver.specs.Logged.{IsOf}
-use Rattle.tree_toml.specs.SetupView.{SetupView}
-use Rattle.tree_toml.specs.Sound.{IsWhole, IsNamed}
+use Rattle.store_setup.specs.SetupView.{SetupView}
+use Rattle.store_setup.specs.Sound.{IsWhole, IsNamed}
 use Rattle.command_output.specs.Shown.{Shown}
-use Rattle.input_reader.specs.Stores.{store_of_view, names_of}
+use Rattle.store_setup.specs.Stores.{store_of_view, names_of}
 use Rattle.input_reader.specs.Tasks.{Task}
 
 -- which replies and which history come of these lines, over a store

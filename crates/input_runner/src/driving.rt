@@ -3,7 +3,7 @@
 ghost use Rattle.std.specs.Prelude.{◌≡◌, ◌<◌, [], IfOk, List, OnOk};
 ghost use Rattle.script_text.specs.declared.Answered.{Answered};
 ghost use Rattle.script_text.specs.Sessions.{AreOfSessions};
-ghost use Rattle.input_reader.specs.Stores.{names_of};
+ghost use Rattle.store_setup.specs.Stores.{names_of};
 ghost use Rattle.input_runner.specs.Runs.{AreTurns, HasRun};
 
 use answer_log::Log;

@@ -1,7 +1,7 @@
 //! The run of an input as one interleaving of its sessions.
 
 ghost use Rattle.std.specs.Prelude.{[], IfOk};
-ghost use Rattle.input_reader.specs.Stores.{names_of};
+ghost use Rattle.store_setup.specs.Stores.{names_of};
 ghost use Rattle.input_runner.specs.Runs.{HasRun, IsReplay};
 
 use answer_log::Log;

@@ -6,7 +6,7 @@ ghost use Rattle.script_text.specs.declared.Answered.{Answered};
 ghost use Rattle.script_text.specs.Texts.{reply_text};
 ghost use Rattle.script_text.specs.Named.{ReplyNamed, RowsNamed};
 ghost use Rattle.serial_order.specs.Tables.{IsFinalRows};
-ghost use Rattle.tree_toml.specs.SetupView.{SetupView};
+ghost use Rattle.store_setup.specs.SetupView.{SetupView};
 ghost use Rattle.answer_log.specs.Telling.{HasLines};
 ghost use Rattle.input_runner.specs.Runs.{IsReport, IsReportAfter, IsRunOver};
 

@@ -6,13 +6,14 @@ use Rattle.script_text.specs.declared.Line.{Line}
 use Rattle.script_text.specs.declared.error.ScriptError.{ScriptError}
 use Rattle.script_text.specs.Input.{parts_of}
 use Rattle.script_text.specs.Grammar.{◌>>=◌, script_of}
-use Rattle.tree_toml.specs.SetupView.{SetupView, setup_of_text}
+use Rattle.store_setup.specs.SetupView.{SetupView}
+use Rattle.tree_toml.specs.SetupText.{setup_of_text}
 use Rattle.tree_switch.specs.Names.{same_names}
 use Rattle.tree_switch.proofs.Refusing.{no_rows}
 use Rattle.tree_switch.proofs.SameNames.{same_decides}
 use Rattle.input_reader.specs.declared.error.InputError.TheVariants.{TooLong}
 use Rattle.input_reader.specs.Inputs.{task_of}
-use Rattle.input_reader.specs.Stores.{names_of}
+use Rattle.store_setup.specs.Stores.{names_of}
 use Rattle.input_reader.specs.Tasks.{Task}
 use Rattle.phase_runner.specs.declared.error.PhaseError.{PhaseError}
 use Rattle.phase_runner.specs.declared.error.PhaseError.TheVariants.{BadPhase, BadInput}

@@ -12,12 +12,13 @@ use Rattle.script_text.specs.declared.error.ScriptError.TheVariants.{BadLine}
 use Rattle.script_text.specs.declared.error.ScriptError.TheVariants as script
 use Rattle.script_text.specs.Grammar.{script_of}
 use Rattle.script_text.specs.Grammar as grammar
-use Rattle.tree_toml.specs.SetupView.{SetupView, setup_of_text}
+use Rattle.store_setup.specs.SetupView.{SetupView}
+use Rattle.tree_toml.specs.SetupText.{setup_of_text}
 use Rattle.tree_switch.specs.Names.{same_names}
 use Rattle.input_reader.specs.declared.error.InputError.{InputError}
 use Rattle.input_reader.specs.declared.error.InputError.TheVariants as input
 use Rattle.input_reader.specs.Inputs.{script_error}
-use Rattle.input_reader.specs.Stores.{names_of}
+use Rattle.store_setup.specs.Stores.{names_of}
 use Rattle.input_reader.specs.Tasks.{Task}
 use Rattle.phase_runner.specs.declared.error.PhaseError.{PhaseError}
 use Rattle.phase_runner.specs.declared.error.PhaseError.TheVariants.{BadPhase, BadInput}

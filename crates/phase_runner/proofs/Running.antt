@@ -10,12 +10,11 @@ use Rattle.serial_order.specs.Tables.{IsFinalRows}
 use Rattle.script_text.specs.declared.Line.{Line}
 use Rattle.script_text.specs.declared.Answered.{Answered}
 use Rattle.replay_runner.specs.Logs.{log_of, replayed}
-use Rattle.tree_toml.specs.declared.setup.Setup.{Setup}
-use Rattle.tree_toml.specs.SetupView.{SetupView}
-use Rattle.tree_toml.specs.Seen.{setup_view}
-use Rattle.tree_toml.specs.Sound.{IsWhole}
+use Rattle.store_setup.specs.declared.Setup.{Setup}
+use Rattle.store_setup.specs.SetupView.{SetupView, setup_view}
+use Rattle.store_setup.specs.Sound.{IsWhole}
 use Rattle.engine_core.specs.EngineModel.{EngineModel, IsReached}
-use Rattle.engine_core.specs.Stores as engine
+use Rattle.store_setup.specs.Stores as engine
 use Rattle.tree_switch.specs.Courses.{Course, IsCourse}
 use Rattle.tree_switch.specs.declared.error.SwitchError.{SwitchError}
 use Rattle.tree_switch.specs.declared.error.SwitchError.TheVariants.{Again, Untold, Tables, Rows, OutOfMemory}
@@ -23,7 +22,7 @@ use Rattle.tree_switch.specs.Refusals.{IsCause, IsDrained, MaySwitch}
 use Rattle.tree_switch.specs.Starts.{IsStarted}
 use Rattle.tree_switch.proofs.GoingOn.{further}
 use Rattle.tree_switch.proofs.Starting.{present}
-use Rattle.input_reader.specs.Stores.{store_of_view, names_of}
+use Rattle.store_setup.specs.Stores.{store_of_view, names_of}
 use Rattle.input_reader.specs.Tasks.{Task}
 use Rattle.input_runner.specs.Runs.{IsReplay, IsReport, IsRunOver}
 use Rattle.phase_runner.specs.Runs.{IsPhase, Table, starting_with}

@@ -7,9 +7,9 @@ use Rattle.teb_rules.specs.Setup.{Store}
 use Rattle.serial_order.specs.Tables.{IsFinalRows}
 use Rattle.script_text.specs.declared.Line.{Line}
 use Rattle.script_text.specs.declared.Answered.{Answered}
-use Rattle.tree_toml.specs.SetupView.{SetupView}
+use Rattle.store_setup.specs.SetupView.{SetupView}
 use Rattle.command_output.specs.Shown.{Shown}
-use Rattle.input_reader.specs.Stores.{store_of_view, names_of}
+use Rattle.store_setup.specs.Stores.{store_of_view, names_of}
 use Rattle.input_reader.specs.Tasks.{Task}
 use Rattle.input_runner.specs.Runs.{IsReplay, IsReport}
 use Rattle.phase_runner.specs.Parts.{AreParts}

@@ -3,8 +3,8 @@
 ghost use Rattle.std.specs.Prelude.{◌≡◌, ◌++◌, [], length, IfOk, OnOk};
 ghost use Rattle.teb_names.specs.declared.Cell.{Cell};
 ghost use Rattle.serial_order.specs.Tables.{IsFinalRows};
-ghost use Rattle.tree_toml.specs.Seen.{setup_view};
-ghost use Rattle.tree_toml.specs.Sound.{IsWhole};
+ghost use Rattle.store_setup.specs.SetupView.{setup_view};
+ghost use Rattle.store_setup.specs.Sound.{IsWhole};
 ghost use Rattle.tree_switch.specs.Refusals.{IsDrained, MaySwitch};
 ghost use Rattle.tree_switch.specs.Starts.{IsStarted};
 ghost use Rattle.phase_runner.specs.Runs.{IsPhase};
@@ -17,8 +17,8 @@ use input_runner::report_of;
 use replay_runner::replay;
 use script_text::Line;
 use std::alloc::{AllocError, Global};
+use store_setup::Setup;
 use tree_switch::{Phases, SwitchError};
-use tree_toml::Setup;
 use version_chain::Chains;
 
 /// The first phase, after the task has run in it over chains with no version. Its report is appended.

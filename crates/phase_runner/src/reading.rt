@@ -3,7 +3,7 @@
 ghost use Rattle.std.specs.Prelude.{◌≡◌, ◌≤◌, All, length, None};
 ghost use Rattle.std.specs.Option.{option_copied};
 ghost use Rattle.script_text.specs.Input.{parts_of};
-ghost use Rattle.tree_toml.specs.Seen.{setup_view};
+ghost use Rattle.store_setup.specs.SetupView.{setup_view};
 ghost use Rattle.phase_runner.specs.Inputs.{phases_of, tasks_from, task_at, following, behind, is_long as spec_is_long};
 ghost use Rattle.phase_runner.specs.Parts.{AreParts, pairs_of, texts};
 ghost use Rattle.phase_runner.specs.Readings.{IsRead};
@@ -14,8 +14,9 @@ use input_reader::{Input, InputError, MOST_LINES};
 use script_text::{has_more_lines, parse_script, split_input};
 use std::alloc::Global;
 use std::collections::VecDeque;
+use store_setup::Setup;
 use tree_switch::same_names;
-use tree_toml::{Setup, read_tree};
+use tree_toml::read_tree;
 
 /// The most pairs of a tree part and a script part.
 const MOST_PAIRS: usize = 16;

@@ -8,8 +8,8 @@ ghost use Rattle.session_tasks.specs.Tasks.{IsTask, number_in};
 ghost use Rattle.session_pool.specs.Waits.{IsWaiting, number_at, scripted};
 
 use crate::waiting::Waiting;
-use session_server::{Gate, Pass};
-use session_tasks::{Run, SESSIONS, Task, place_in};
+use session_server::Pass;
+use session_tasks::{Gate, Run, SESSIONS, Task, place_in};
 use std::alloc::{AllocError, Global};
 use std::collections::VecDeque;
 use version_chain::Chains;

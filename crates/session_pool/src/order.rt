@@ -9,8 +9,7 @@ ghost use Rattle.session_tasks.specs.Tasks.{IsTask, AreTasks, number_in};
 ghost use Rattle.session_pool.specs.Hands.{taken_in};
 ghost use Rattle.session_pool.specs.Taken.{numbers_in};
 
-use session_server::{Gate, RunError};
-use session_tasks::{Progress, Run, Task};
+use session_tasks::{Gate, Progress, Run, RunError, Task};
 use std::alloc::{AllocError, Global};
 use std::collections::VecDeque;
 use teb_names::Session;

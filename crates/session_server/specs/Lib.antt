@@ -6,5 +6,3 @@ pub mod Turning
 pub mod Hosting
 pub mod Passes
 pub mod Waits
-pub mod Walks
-pub mod Stops

@@ -1,20 +1,9 @@
-//! Why a request or a run came to nothing.
-
-use crate::pass::Pass;
-use version_chain::Chains;
+//! Why a request came to nothing.
 
 /// Why a request was not asked.
 #[derive(Clone, Copy, Debug, PartialEq, Eq)]
 pub enum AskError {
     /// The pass has asked 2^40 times.
     PassSpent,
-    OutOfMemory,
-}
-
-/// Why sessions were not served to their end.
-#[derive(Drop)]
-pub enum RunError<C: Chains> {
-    /// This pass has asked 2^40 times.
-    PassSpent(Pass<C>),
     OutOfMemory,
 }

@@ -13,7 +13,7 @@ use Rattle.session_server.specs.declared.hall.Hall.{Hall}
 use Rattle.session_server.specs.declared.pass.Pass.{Pass}
 use Rattle.session_server.specs.declared.error.AskError.TheVariants.{PassSpent}
 use Rattle.session_server.specs.Passes.{IsNew, mine}
-use Rattle.session_server.specs.Walks.{IsUnderWay}
+use Rattle.session_tasks.specs.Walks.{IsUnderWay}
 use Rattle.session_tasks.specs.Scripted.{Scripted, AreDistinct, place_in, lines_at}
 use Rattle.session_tasks.specs.Served.{IsServed, IsSpent}
 use Rattle.session_tasks.specs.Tasks.{IsTask, progress_at}

@@ -1,3 +1,5 @@
 pub mod Scripted
 pub mod Served
+pub mod Stops
 pub mod Tasks
+pub mod Walks

@@ -6,8 +6,8 @@ use Rattle.script_walk.specs.ScriptStates.{requests_on}
 use Rattle.version_chain.specs.declared.chains.Chains.{Ghosts}
 use Rattle.session_server.specs.declared.hall.Hall.{Hall}
 use Rattle.session_server.specs.declared.pass.Pass.{Pass}
-use Rattle.session_server.specs.declared.error.RunError.{RunError}
-use Rattle.session_server.specs.declared.error.RunError.TheVariants.{PassSpent, OutOfMemory}
+use Rattle.session_tasks.specs.declared.error.RunError.{RunError}
+use Rattle.session_tasks.specs.declared.error.RunError.TheVariants.{PassSpent, OutOfMemory}
 use Rattle.session_server.specs.Passes.{IsPassOf, IsNew, mine}
 use Rattle.session_tasks.specs.Scripted.{Scripted}
 

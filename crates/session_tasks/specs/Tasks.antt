@@ -7,7 +7,7 @@ use Rattle.session_server.specs.declared.hall.Hall.{Hall}
 use Rattle.session_server.specs.declared.error.AskError.{AskError}
 use Rattle.session_server.specs.declared.error.AskError.TheVariants.{PassSpent}
 use Rattle.session_server.specs.Passes.{IsPassOf, IsNew, mine}
-use Rattle.session_server.specs.Walks.{IsUnderWay}
+use Rattle.session_tasks.specs.Walks.{IsUnderWay}
 use Rattle.session_tasks.specs.Scripted.{Scripted, place_in, lines_at}
 use Rattle.session_tasks.specs.declared.task.Task.{Task}
 use Rattle.session_tasks.specs.declared.task.Progress.{Progress}

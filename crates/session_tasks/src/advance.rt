@@ -6,11 +6,13 @@ ghost use Rattle.session_server.specs.Passes.{IsNew};
 ghost use Rattle.session_tasks.specs.Tasks.{IsTask, progress_at, progress_after};
 ghost use Rattle.session_tasks.specs.declared.task.Progress.TheVariants.{Open};
 
+use crate::gate::Gate;
 use crate::place::{lines_at, place_in};
 use crate::run::Run;
+use crate::serving::serve;
 use crate::task::{Progress, Task};
 use script_walk::Walker;
-use session_server::{AskError, Gate, Pass, serve};
+use session_server::{AskError, Pass};
 use std::sync::Wait;
 use std::sync::atomic::{AtomicIn, Rule};
 use version_chain::Chains;

@@ -8,9 +8,12 @@ ghost use Rattle.session_tasks.specs.Tasks.{IsTask, AreTasks};
 ghost use Rattle.session_tasks.specs.Served.{IsServed, IsCause};
 ghost use Rattle.session_tasks.specs.declared.task.Progress.TheVariants.{Failed};
 
+use crate::error::RunError;
+use crate::gate::Gate;
 use crate::run::{Run, SESSIONS};
+use crate::stop::Stops;
 use crate::task::{Progress, Task};
-use session_server::{AskError, Gate, Pass, RunError, Stops};
+use session_server::{AskError, Pass};
 use std::alloc::Global;
 use std::collections::VecDeque;
 use std::sync::Wait;

@@ -5,11 +5,19 @@
 #![tactic(auto)]
 
 mod advance;
+mod error;
 mod finish;
+mod gate;
 mod place;
 mod run;
+mod serving;
+mod stop;
 mod task;
 
+pub use error::RunError;
+pub use gate::Gate;
 pub use place::place_in;
 pub use run::{Run, SESSIONS};
+pub use serving::serve;
+pub use stop::Stops;
 pub use task::{Progress, Task};

@@ -17,7 +17,7 @@ use Rattle.cc_tree.specs.Grown.{Grown, row_of, rows_of}
 use Rattle.cc_tree.specs.declared.fault.TreeError.{TreeError}
 use Rattle.cc_tree.specs.declared.fault.TreeError.TheVariants.{Shape, Misplaced, OutOfMemory}
 use Rattle.cc_tree.specs.declared.rows.NodeRow.{NodeRow as Row}
-use Rattle.tree_toml.specs.Sound.{IsWhole, IsNamed, HasNames, rules_of}
+use Rattle.store_setup.specs.Sound.{IsWhole, IsNamed, HasNames, rules_of}
 use Rattle.shop_load.specs.Shop.{shop, shop_nodes, shop_rows, shop_profiles, filled}
 
 no_fault : tree_fault shop_nodes 4 ≡ None

@@ -5,7 +5,7 @@ use Rattle.teb_names.specs.declared.ControlKind.{ControlKind}
 use Rattle.teb_names.specs.declared.ControlKind.TheVariants.{Locks, Pipeline, Snapshot}
 use Rattle.teb_history.specs.Phases.{numbers}
 use Rattle.teb_rules.specs.Setup.{NodeRow}
-use Rattle.tree_toml.specs.SetupView.{SetupView}
+use Rattle.store_setup.specs.SetupView.{SetupView}
 
 -- a node that takes all instances of its types
 abbrev pub node : ControlKind → Option ℕ → List ℕ → ℕ → NodeRow

@@ -2,14 +2,14 @@
 
 ghost use Rattle.std.specs.Prelude.{◌≡◌, ◌++◌, ◌∷◌, [], IfOk, OnOk};
 ghost use Rattle.cc_tree.specs.Grown.{row_of, rows_of, parent_number, kind_numbers};
-ghost use Rattle.tree_toml.specs.Seen.{setup_view};
-ghost use Rattle.tree_toml.specs.Sound.{IsWhole, IsNamed, HasNames};
+ghost use Rattle.store_setup.specs.SetupView.{setup_view};
+ghost use Rattle.store_setup.specs.Sound.{IsWhole, IsNamed, HasNames};
 ghost use Rattle.shop_load.specs.Shop.{shop as spec_shop, node as spec_node, filled};
 
 use cc_tree::{NodeRow, Tree, TreeError};
 use std::alloc::{AllocError, Global};
+use store_setup::Setup;
 use teb_names::{Cell, ControlKind, Kind, NameBook, Names, Node, Rows, Table};
-use tree_toml::Setup;
 use txn_profile::Profile;
 
 /// How much is in stock, by key.

@@ -10,7 +10,7 @@ use Rattle.teb_io.specs.declared.source.ReadError.TheVariants as read
 use Rattle.input_reader.specs.Reads.{read_error}
 use Rattle.std.specs.declared.alloc.AllocError.{AllocError}
 use Rattle.teb_history.specs.declared.Event.{Event}
-use Rattle.tree_toml.specs.SetupView.{SetupView}
+use Rattle.store_setup.specs.SetupView.{SetupView}
 use Rattle.command_output.specs.Shown.{Shown, events_of}
 use Rattle.input_reader.specs.declared.error.InputError.{InputError}
 use Rattle.input_reader.specs.declared.error.InputError.TheVariants.{ReadFault, TooLong, NoSeparator, BadTree, BadLine, OutOfMemory}

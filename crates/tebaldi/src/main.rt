@@ -9,7 +9,7 @@ mod writing;
 use command_output::status::OUT_OF_MEMORY;
 use command_words::words_of;
 use output_writer::exit_code;
-use session_server::Gate;
+use session_tasks::Gate;
 use std::env;
 use std::process::ExitCode;
 use teb_io::{StdSink, StdSource};

@@ -17,7 +17,7 @@ use hall_runner::{serve_by_pool, serve_by_threads};
 use input_reader::{InputError, read_bytes, read_input, refusal};
 use input_runner::{run_replay, run_turns};
 use phase_runner::run_phases;
-use session_server::Gate;
+use session_tasks::Gate;
 use std::alloc::Global;
 use std::sync::Wait;
 use std::thread::Threads;

@@ -13,7 +13,7 @@ use crate::source::{
 use crate::writing::{put_out, write};
 use command_output::status::BAD_WORDS;
 use command_words::{Command, command_of};
-use session_server::Gate;
+use session_tasks::Gate;
 use shop_load::run_load;
 use std::alloc::Global;
 use std::sync::Wait;

@@ -6,8 +6,8 @@ ghost use Rattle.session_server.specs.Passes.{IsNew, number_of};
 ghost use Rattle.thread_runner.specs.Hands.{AreDealt};
 
 use crate::hand::hand_of;
-use session_server::{Gate, Pass};
-use session_tasks::{Run, Task};
+use session_server::Pass;
+use session_tasks::{Gate, Run, Task};
 use std::alloc::{AllocError, Global};
 use version_chain::Chains;
 

@@ -7,8 +7,7 @@ ghost use Rattle.thread_runner.specs.Hands.{AreDealt};
 ghost use Rattle.session_tasks.specs.Served.{IsCause};
 
 use crate::hand::hand_of;
-use session_server::{Gate, RunError};
-use session_tasks::{Progress, Run, SESSIONS, Task};
+use session_tasks::{Gate, Progress, Run, RunError, SESSIONS, Task};
 use std::alloc::Global;
 use std::collections::VecDeque;
 use teb_names::Session;

@@ -3,8 +3,7 @@
 ghost use Rattle.std.specs.Prelude.{ℕ, ◌<◌, All, map, length, slice_index_or};
 ghost use Rattle.session_tasks.specs.Tasks.{IsTask, AreTasks, number_in};
 
-use session_server::{Gate, Stops};
-use session_tasks::{Progress, Run, Task};
+use session_tasks::{Gate, Progress, Run, Stops, Task};
 use std::sync::Wait;
 use std::sync::atomic::AtomicIn;
 use std::sync::atomic::Ordering::SeqCst;

@@ -13,11 +13,11 @@ use Rattle.teb_laws.specs.Within.{StaysWithin}
 use Rattle.teb_laws.proofs.Within.{stays_within}
 use Rattle.serial_order.specs.Tables.{IsFinalRows}
 use Rattle.serial_order.proofs.Within.{rows_within, row_within}
-use Rattle.tree_toml.specs.declared.setup.Setup.{Setup}
-use Rattle.tree_toml.specs.Seen.{setup_view}
-use Rattle.tree_toml.specs.Sound.{IsWhole}
+use Rattle.store_setup.specs.declared.Setup.{Setup}
+use Rattle.store_setup.specs.SetupView.{setup_view}
+use Rattle.store_setup.specs.Sound.{IsWhole}
 use Rattle.engine_core.specs.EngineModel.{EngineModel, IsOfEngine, IsReached}
-use Rattle.engine_core.specs.Stores.{store_of}
+use Rattle.store_setup.specs.Stores.{store_of}
 use Rattle.engine_core.proofs.Reached.{law_of, reached_none, reached_more}
 use Rattle.engine_core.proofs.Setups.{sound_rules}
 use Rattle.tree_switch.specs.Courses.{start_of, end_of, first_of, GoOn, IsCourse}

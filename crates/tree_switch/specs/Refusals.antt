@@ -3,7 +3,7 @@ use Rattle.std.specs.Prelude.{◌≡◌, ◌≢◌, ℕ, ◌<◌, ◌≤◌, Lis
 use Rattle.teb_history.specs.declared.Event.{Event}
 use Rattle.teb_history.specs.Phases.{begun_count, unfinished, aborted, held}
 use Rattle.engine_core.specs.EngineModel.{EngineModel}
-use Rattle.tree_toml.specs.SetupView.{SetupView}
+use Rattle.store_setup.specs.SetupView.{SetupView}
 use Rattle.tree_switch.specs.declared.error.SwitchError.{SwitchError}
 use Rattle.tree_switch.specs.declared.error.SwitchError.TheVariants.{Again, Untold, Tables, Rows, OutOfMemory}
 

@@ -1,8 +1,8 @@
 -- How a phase starts.
 use Rattle.std.specs.Prelude.{◌≡◌, [], false}
-use Rattle.tree_toml.specs.declared.setup.Setup.{Setup}
+use Rattle.store_setup.specs.declared.Setup.{Setup}
 use Rattle.engine_core.specs.EngineModel.{EngineModel}
-use Rattle.engine_core.specs.Stores.{store_of}
+use Rattle.store_setup.specs.Stores.{store_of}
 use Rattle.serial_order.specs.Tables.{IsFinalRows}
 
 -- nothing has happened in it; it has the types, the tree and the names of the setup, and the rows that the phase before it left

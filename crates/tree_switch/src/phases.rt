@@ -4,8 +4,8 @@ ghost use Rattle.std.specs.Prelude.{◌≡◌, ◌++◌, ◌∷◌, ◌<◌, [],
 ghost use Rattle.teb_names.specs.declared.Cell.{Cell};
 ghost use Rattle.teb_names.specs.Rows.{IsAscending};
 ghost use Rattle.teb_rules.specs.Answer.{answer};
-ghost use Rattle.tree_toml.specs.Seen.{setup_view};
-ghost use Rattle.tree_toml.specs.Sound.{IsWhole};
+ghost use Rattle.store_setup.specs.SetupView.{setup_view};
+ghost use Rattle.store_setup.specs.Sound.{IsWhole};
 ghost use Rattle.engine_core.specs.EngineModel.{IsOfEngine};
 ghost use Rattle.tree_switch.specs.Courses.{IsCourse};
 ghost use Rattle.tree_switch.specs.Refusals.{IsRefusedBy};
@@ -19,8 +19,8 @@ use serial_order::tables;
 use std::alloc::{AllocError, Global};
 use std::marker::Model;
 use std::mem;
+use store_setup::Setup;
 use teb_names::{Cell, Reply, Request, Rows, Session};
-use tree_toml::Setup;
 use version_chain::Chains;
 
 /// A store in phases, each under a tree of its own. A phase starts with the tables that the one before it left. Contracts

@@ -1,15 +1,15 @@
 //! Whether a store may go on under another tree.
 
 ghost use Rattle.std.specs.Prelude.{◌↔◌, MatchOption, IsTrue};
-ghost use Rattle.tree_toml.specs.Seen.{setup_view};
+ghost use Rattle.store_setup.specs.SetupView.{setup_view};
 ghost use Rattle.tree_switch.specs.Refusals.{IsLeast, IsUnfinished, IsUntold, AllFinished, AllTold, AreNumbered, AreOfSessions, IsRefusedBy};
 
 use crate::error::SwitchError;
 use crate::names::same_names;
 use engine_core::Engine;
+use store_setup::Setup;
 use teb_history::History;
 use teb_names::{Session, Txn};
-use tree_toml::Setup;
 use version_chain::Chains;
 
 /// How many sessions there are. They are numbered from 1.

@@ -5,9 +5,9 @@ use Rattle.std.proofs.lemmas.Str.{IsUtf8-from_is_utf8, is_utf8-from_IsUtf8}
 use Rattle.toml.specs.Data.{Members}
 use Rattle.toml.specs.Parse.{parse_document}
 use Rattle.tree_toml.specs.Reading.{Answers}
-use Rattle.tree_toml.specs.SetupView.{setup_in, document_of, document_in}
-use Rattle.tree_toml.specs.Seen.{setup_view}
-use Rattle.tree_toml.specs.declared.setup.Setup.{Setup}
+use Rattle.tree_toml.specs.SetupText.{setup_in, document_of, document_in}
+use Rattle.store_setup.specs.SetupView.{setup_view}
+use Rattle.store_setup.specs.declared.Setup.{Setup}
 use Rattle.tree_toml.specs.declared.fault.TreeText.{TreeText}
 use Rattle.tree_toml.specs.declared.fault.TreeText.TheVariants.{NotToml}
 

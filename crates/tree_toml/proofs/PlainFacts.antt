@@ -7,7 +7,7 @@ use Rattle.teb_rules.specs.Accepted.{tree_fault, homes}
 use Rattle.cc_tree.specs.Grown.{Grown, row_of, rows_of}
 use Rattle.cc_tree.specs.declared.rows.NodeRow.{NodeRow as Row}
 use Rattle.tree_toml.specs.Reading.{Answers}
-use Rattle.tree_toml.specs.SetupView.{grown, plain, plain_row}
+use Rattle.tree_toml.specs.SetupText.{grown, plain, plain_row}
 use Rattle.tree_toml.specs.Kept.{IsRow, AreRows}
 use Rattle.tree_toml.specs.declared.fault.TreeText.{TreeText}
 

@@ -18,10 +18,11 @@ use Rattle.tree_toml.specs.Tables.{format_of, tables_of}
 use Rattle.tree_toml.specs.Types.{types_of}
 use Rattle.tree_toml.specs.Nodes.{nodes_of}
 use Rattle.tree_toml.specs.Rows.{rows_of}
-use Rattle.tree_toml.specs.SetupView.{SetupView, grown, shape_text, lists_in, setup_in, setup_of_text, document_of, document_in, plain, plain_row, is_blank}
-use Rattle.tree_toml.specs.Seen.{setup_view}
-use Rattle.tree_toml.specs.Sound.{IsWhole, IsNamed, HasNames, IsOfText, rules_of}
-use Rattle.tree_toml.specs.declared.setup.Setup.{Setup as SetupRead}
+use Rattle.store_setup.specs.SetupView.{SetupView, setup_view}
+use Rattle.tree_toml.specs.SetupText.{grown, shape_text, lists_in, setup_in, setup_of_text, document_of, document_in, plain, plain_row, is_blank}
+use Rattle.store_setup.specs.Sound.{IsWhole, IsNamed, HasNames, rules_of}
+use Rattle.tree_toml.specs.Limits.{IsOfText}
+use Rattle.store_setup.specs.declared.Setup.{Setup as SetupRead}
 use Rattle.tree_toml.specs.declared.fault.ListName.TheVariants as list
 use Rattle.tree_toml.specs.declared.fault.Key.TheVariants as key
 use Rattle.tree_toml.specs.declared.fault.TreeText.{TreeText}

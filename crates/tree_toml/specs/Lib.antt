@@ -5,8 +5,8 @@ pub mod Tables
 pub mod Types
 pub mod Nodes
 pub mod Rows
-pub mod SetupView
+pub mod SetupText
 pub mod Seen
 pub mod Kept
-pub mod Sound
+pub mod Limits
 pub mod Texts

@@ -2,10 +2,8 @@
 use Rattle.tree_toml.specs.declared.types.Types.{Types}
 use Rattle.tree_toml.specs.declared.nodes.Nodes.{Nodes}
 use Rattle.tree_toml.specs.declared.shares.Share.{Share as ShareRead}
-use Rattle.tree_toml.specs.declared.setup.Setup.{Setup}
 use Rattle.cc_tree.specs.Grown.{rows_of}
 use Rattle.tree_toml.specs.Types.{TypeList}
-use Rattle.tree_toml.specs.SetupView.{SetupView}
 use Rattle.tree_toml.specs.Nodes.{NodeList, Share}
 
 abbrev pub types_view : Types → TypeList
@@ -16,14 +14,3 @@ nodes_view n = record { names = n.names; rows = rows_of n.rows.items }
 
 abbrev pub share_view : ShareRead → Share
 share_view s = record { part = s.part; parts = s.parts }
-
-abbrev pub setup_view : Setup → SetupView
-setup_view s = record {
-  tables = s.names.tables;
-  types = s.names.types;
-  nodes = s.names.nodes;
-  profiles = s.profiles.items;
-  tree = s.tree;
-  rows = s.rows;
-  format = s.format;
-}

@@ -19,5 +19,6 @@ mod trees;
 mod types;
 
 pub use fault::{FieldWhy, Key, ListName, Place, TreeText};
-pub use setup::{Setup, read_tree};
+pub use setup::read_tree;
+pub use store_setup::Setup;
 pub use text::put_fault;

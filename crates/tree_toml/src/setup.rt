@@ -3,9 +3,10 @@
 ghost use Rattle.std.specs.Prelude.{◌≡◌, IfOk};
 ghost use Rattle.toml.specs.View.{table_view};
 ghost use Rattle.tree_toml.specs.Reading.{Answers};
-ghost use Rattle.tree_toml.specs.SetupView.{lists_in, setup_in, document_of, setup_of_text, is_blank as spec_is_blank, is_blank_byte as spec_is_blank_byte};
-ghost use Rattle.tree_toml.specs.Sound.{IsWhole, IsNamed, HasNames, IsOfText};
-ghost use Rattle.tree_toml.specs.Seen.{setup_view};
+ghost use Rattle.tree_toml.specs.SetupText.{lists_in, setup_in, document_of, setup_of_text, is_blank as spec_is_blank, is_blank_byte as spec_is_blank_byte};
+ghost use Rattle.store_setup.specs.Sound.{IsWhole, IsNamed, HasNames};
+ghost use Rattle.tree_toml.specs.Limits.{IsOfText};
+ghost use Rattle.store_setup.specs.SetupView.{setup_view};
 
 use crate::fault::{FieldWhy, Key, ListName, TreeText, at};
 use crate::fields::{all_known, place};
@@ -15,22 +16,10 @@ use crate::rows::read_rows;
 use crate::tables::{read_format, read_tables};
 use crate::trees::grow;
 use crate::types::read_types;
-use cc_tree::Tree;
 use std::alloc::Global;
-use teb_names::{NameBook, Rows};
+use store_setup::Setup;
+use teb_names::NameBook;
 use toml::Table;
-use txn_profile::Profile;
-
-/// What a store is set up with: the names, for each type its profile, the tree of controls, and the starting rows.
-#[derive(Drop)]
-pub struct Setup {
-    pub names: NameBook,
-    pub profiles: Vec<Profile>,
-    pub tree: Tree,
-    pub rows: Rows,
-    /// The format of the text, 1 to 3.
-    pub format: u8,
-}
 
 /// The setup that a text is. A text of spaces, tabs, carriage returns and line feeds alone is the plain setup: the table
 /// `t`, the type `any`, one locks leaf `root`, and no rows.
@@ -79,7 +68,7 @@ fn is_blank_byte(b: u8) -> bool
     b == b' ' || b == b'\t' || b == b'\r' || b == b'\n'
 }
 
-#[tactic(auto, unfolding(crate::specs::SetupView::setup_in))]
+#[tactic(auto, unfolding(crate::specs::SetupText::setup_in))]
 fn read_setup(alloc: Global, table: &Table) -> Result<Setup, TreeText>
     ensures { Answers setup_view result (setup_in (table_view table.now)) }
 {
@@ -90,7 +79,7 @@ fn read_setup(alloc: Global, table: &Table) -> Result<Setup, TreeText>
     read_lists(alloc, format, table)
 }
 
-#[tactic(auto, unfolding(crate::specs::SetupView::lists_in))]
+#[tactic(auto, unfolding(crate::specs::SetupText::lists_in))]
 fn read_lists(alloc: Global, format: u8, table: &Table) -> Result<Setup, TreeText>
     ensures { Answers setup_view result (lists_in format (table_view table.now)) }
 {

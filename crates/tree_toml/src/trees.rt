@@ -3,7 +3,7 @@
 ghost use Rattle.std.specs.Prelude.{◌<◌, ◌≤◌, length};
 ghost use Rattle.cc_tree.specs.Grown.{rows_of};
 ghost use Rattle.tree_toml.specs.Reading.{Answers};
-ghost use Rattle.tree_toml.specs.SetupView.{grown};
+ghost use Rattle.tree_toml.specs.SetupText.{grown};
 ghost use Rattle.tree_toml.specs.Kept.{AreRows};
 
 use crate::fault::TreeText;

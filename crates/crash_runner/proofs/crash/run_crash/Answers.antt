@@ -2,9 +2,9 @@ use Rattle.std.proofs.Common.{◌∙◌, List, sym, ap, subst, subst₂}
 use Rattle.record_journal.specs.Format.{Whole}
 use Rattle.script_text.specs.declared.Line.{Line}
 use Rattle.script_text.specs.declared.Answered.{Answered}
-use Rattle.tree_toml.specs.SetupView.{SetupView}
-use Rattle.tree_toml.specs.Sound.{IsWhole, IsNamed}
-use Rattle.input_reader.specs.Stores.{store_of_view, names_of}
+use Rattle.store_setup.specs.SetupView.{SetupView}
+use Rattle.store_setup.specs.Sound.{IsWhole, IsNamed}
+use Rattle.store_setup.specs.Stores.{store_of_view, names_of}
 use Rattle.crash_runner.specs.Crashes.{crash_text}
 use Rattle.crash_runner.specs.Underway.{IsRunOn}
 use Rattle.crash_runner.proofs.Memory.{tally_of, safe_of}

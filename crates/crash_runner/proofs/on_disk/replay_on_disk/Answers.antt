@@ -2,8 +2,8 @@ use Rattle.std.proofs.Common.{◌≡◌, true, ◌<◌, ◌≤◌, ◌∙◌, �
 use Rattle.teb_rules.specs.Setup.{Store}
 use Rattle.teb_rules.specs.Accepted.{IsSound}
 use Rattle.script_text.specs.declared.Answered.{Answered}
-use Rattle.tree_toml.specs.Seen.{setup_view}
-use Rattle.input_reader.specs.Stores.{store_of_view}
+use Rattle.store_setup.specs.SetupView.{setup_view}
+use Rattle.store_setup.specs.Stores.{store_of_view}
 use Rattle.crash_runner.specs.Underway.{IsRunOn}
 use Rattle.crash_runner.proofs.Courses.{never_began}
 use Rattle.crash_runner.proofs.Halting.{as_create_error, not_ok_and_err, not_err_and_ok}

@@ -5,7 +5,7 @@ use Rattle.teb_laws.proofs.Answers.{lawful_cons}
 use Rattle.teb_laws.proofs.Sound.{tree_facts}
 use Rattle.phase_api.specs.Calls.{MayNote}
 use Rattle.dependency_book.proofs.LawfulHistories.{granted_follows}
-use Rattle.engine_core.specs.Stores.{store_of}
+use Rattle.store_setup.specs.Stores.{store_of}
 use Rattle.engine_core.specs.Wholes.{RoomFor}
 use Rattle.engine_core.proofs.Noting.{granted_noted}
 use Rattle.engine_core.proofs.Appending.{whole_after}

@@ -2,7 +2,7 @@ use Rattle.std.proofs.Common.{subst}
 use Rattle.teb_laws.specs.Lawful.{Lawful}
 use Rattle.engine_core.specs.declared.decision.Decision.{Decision}
 use Rattle.engine_core.specs.Decisions.{carried, IsBounded, IsShort}
-use Rattle.engine_core.specs.Stores.{store_of}
+use Rattle.store_setup.specs.Stores.{store_of}
 use Rattle.engine_core.proofs.Appending.{put_placed}
 use Rattle.engine_core.proofs.Falling.{abort_unfinished}
 use Rattle.engine_core.proofs.Carrying.{leads_granted, no_put_placed}

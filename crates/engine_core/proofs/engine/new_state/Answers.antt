@@ -4,7 +4,7 @@ use Rattle.teb_rules.specs.Setup.{Setup}
 use Rattle.phase_api.specs.FactsView.{setup_of}
 use Rattle.phase_api.specs.Standing.{StandAll}
 use Rattle.engine_core.specs.AnyControls.{any_node_number, any_stands, any_spare}
-use Rattle.engine_core.specs.Stores.{store_of}
+use Rattle.store_setup.specs.Stores.{store_of}
 use Rattle.engine_core.proofs.Reached.{reached_none}
 use Rattle.engine_core.proofs.Rooms.{no_room}
 use Rattle.engine_core.proofs.Setups.{whole_from_nothing, enough_profiles, few_ranked}

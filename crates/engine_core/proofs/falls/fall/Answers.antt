@@ -8,7 +8,7 @@ use Rattle.teb_laws.proofs.Sessions.{cascade_few}
 use Rattle.abort_cascade.specs.Recoverable.{IsRecoverable}
 use Rattle.abort_cascade.specs.Rounds.{blames}
 use Rattle.abort_cascade.proofs.LawfulCascades.{good_recoverable}
-use Rattle.engine_core.specs.Stores.{store_of}
+use Rattle.store_setup.specs.Stores.{store_of}
 use Rattle.engine_core.proofs.Falling.{next_fallen, next_unfinished, next_events, first_events, last_events}
 use Rattle.engine_core.proofs.falls.fall.Goals as goal
 

@@ -3,7 +3,7 @@ use Rattle.std.proofs.lemmas.List.{take_at}
 use Rattle.std.proofs.lemmas.Option.{slice_get_within}
 use Rattle.teb_history.specs.Written.{Written}
 use Rattle.phase_api.specs.Standing.{StandAll}
-use Rattle.engine_core.specs.Stores.{store_of}
+use Rattle.store_setup.specs.Stores.{store_of}
 use Rattle.engine_core.specs.Wholes.{RoomFor}
 use Rattle.engine_core.proofs.Noting.{next_there, one_more_done, told_newest, told_standing, all_standing}
 use Rattle.engine_core.proofs.notes.note_each.Goals as goal

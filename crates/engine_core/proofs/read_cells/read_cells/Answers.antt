@@ -1,5 +1,5 @@
 use Rattle.std.proofs.Common.{◌≡◌, ◌<◌, ℤ, List, Option, refl, subst, sym, ap, ◌∙◌, arith}
-use Rattle.engine_core.specs.Stores.{store_of}
+use Rattle.store_setup.specs.Stores.{store_of}
 use Rattle.engine_core.proofs.Gathering.{HasRead, read_none, read_whole, may_read, got_granted, read_next}
 use Rattle.engine_core.proofs.read_cells.read_cells.Goals as goal
 

@@ -1,4 +1,4 @@
-use Rattle.engine_core.specs.Stores.{store_of}
+use Rattle.store_setup.specs.Stores.{store_of}
 use Rattle.engine_core.proofs.Carrying.{leads_on, is_short}
 use Rattle.engine_core.proofs.respond.respond.Goals as goal
 

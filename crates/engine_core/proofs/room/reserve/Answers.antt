@@ -1,5 +1,5 @@
 use Rattle.std.proofs.Common.{refl}
-use Rattle.engine_core.specs.Stores.{store_of}
+use Rattle.store_setup.specs.Stores.{store_of}
 use Rattle.engine_core.proofs.Rooms.{still_whole}
 use Rattle.engine_core.proofs.room.reserve.Goals as goal
 

@@ -5,7 +5,7 @@ use Rattle.teb_rules.specs.Scripts.{IsWay, WayFrom, at_first, state_after, entri
 use Rattle.script_text.specs.declared.Line.{Line}
 use Rattle.script_walk.specs.ScriptStates.{requests_on, state_of}
 use Rattle.script_walk.specs.declared.walker.Walker.{Walker}
-use Rattle.session_server.specs.Walks.{IsUnderWay}
+use Rattle.session_tasks.specs.Walks.{IsUnderWay}
 use Rattle.hall_trials.proofs.stopping.stop_and_go_on.Goals as goal
 
 -- a session that has asked nothing stands at its first line

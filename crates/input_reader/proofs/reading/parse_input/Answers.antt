@@ -1,7 +1,7 @@
 use Rattle.std.proofs.Common.{◌≡◌, ◌≤◌, ℕ, Bool, false, nat_lt, sym, arith}
 use Rattle.std.proofs.lemmas.Bool.Decides.{nat_tests}
 use Rattle.std.proofs.lemmas.Result.{err_from_is_err_and}
-use Rattle.tree_toml.specs.Seen.{setup_view}
+use Rattle.store_setup.specs.SetupView.{setup_view}
 use Rattle.input_reader.proofs.Parsed.{is_input, is_bad}
 use Rattle.input_reader.proofs.reading.parse_input.Goals as goal
 

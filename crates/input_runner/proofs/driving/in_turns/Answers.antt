@@ -4,8 +4,8 @@ use Rattle.teb_rules.specs.Setup.{Store}
 use Rattle.script_text.specs.declared.Line.{Line}
 use Rattle.script_text.specs.Scripts.{scripts_of}
 use Rattle.script_text.specs.Sessions.{AreOfSessions}
-use Rattle.tree_toml.specs.Sound.{IsWhole, IsNamed}
-use Rattle.input_reader.specs.Stores.{store_of_view, names_of}
+use Rattle.store_setup.specs.Sound.{IsWhole, IsNamed}
+use Rattle.store_setup.specs.Stores.{store_of_view, names_of}
 use Rattle.input_runner.specs.Runs.{AreTurns}
 use Rattle.input_runner.proofs.Runs.{turns_over}
 use Rattle.input_runner.proofs.driving.in_turns.Goals as goal

@@ -1,7 +1,7 @@
 use Rattle.std.proofs.Common.{◌≡◌, [], refl, sym, ◌∙◌, ap, subst}
 use Rattle.teb_names.specs.declared.naming.NameBook.{NameBook}
-use Rattle.tree_toml.specs.Sound.{IsWhole, IsNamed}
-use Rattle.input_reader.specs.Stores.{store_of_view, names_of}
+use Rattle.store_setup.specs.Sound.{IsWhole, IsNamed}
+use Rattle.store_setup.specs.Stores.{store_of_view, names_of}
 use Rattle.replay_runner.specs.Logs.{log_of, replayed}
 use Rattle.input_runner.proofs.Runs.{replay_over, replayed_is}
 use Rattle.input_runner.proofs.interleaving.in_order.Goals as goal

@@ -1,7 +1,7 @@
 use Rattle.std.proofs.Common.{◌∙◌, ap}
 use Rattle.engine_core.specs.EngineModel.{EngineModel}
-use Rattle.tree_toml.specs.SetupView.{SetupView}
-use Rattle.input_reader.specs.Stores.{store_of_view, names_of}
+use Rattle.store_setup.specs.SetupView.{SetupView}
+use Rattle.store_setup.specs.Stores.{store_of_view, names_of}
 use Rattle.phase_runner.proofs.Running.{phase_run}
 use Rattle.phase_runner.proofs.phase.first_phase.Goals as goal
 

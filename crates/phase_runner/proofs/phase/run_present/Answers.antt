@@ -1,7 +1,7 @@
 use Rattle.std.proofs.Common.{◌≡◌, [], ◌++◌, refl, sym, subst, rules}
 use Rattle.teb_names.specs.declared.naming.NameBook.{NameBook}
 use Rattle.engine_core.specs.EngineModel.{EngineModel}
-use Rattle.tree_toml.specs.Seen.{setup_view}
+use Rattle.store_setup.specs.SetupView.{setup_view}
 use Rattle.tree_switch.specs.Refusals.{IsDrained}
 use Rattle.answer_log.specs.Telling.{HasLines}
 use Rattle.replay_runner.specs.Logs.{log_of, replayed}

@@ -1,4 +1,4 @@
-use Rattle.tree_toml.specs.Seen.{setup_view}
+use Rattle.store_setup.specs.SetupView.{setup_view}
 use Rattle.phase_runner.proofs.Running.{only_memory}
 use Rattle.phase_runner.proofs.phase.switch.Goals as goal
 

@@ -2,7 +2,7 @@ use Rattle.std.proofs.Common.{sym, arith}
 use Rattle.std.specs.Option.{option_copied}
 use Rattle.std.proofs.lemmas.Result.{err_from_is_err_and}
 use Rattle.script_text.proofs.LineSteps.{lines_length}
-use Rattle.tree_toml.specs.Seen.{setup_view}
+use Rattle.store_setup.specs.SetupView.{setup_view}
 use Rattle.phase_runner.proofs.PairSteps.{is_refused, is_bad, is_task}
 use Rattle.phase_runner.proofs.reading.read_pair.Goals as goal
 

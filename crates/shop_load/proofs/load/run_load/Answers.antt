@@ -3,7 +3,7 @@ use Rattle.command_output.specs.Shown.{Shown}
 use Rattle.input_reader.specs.Tasks.{Task}
 use Rattle.input_runner.specs.Runs.{AreTurns, IsRun, IsSerialized}
 use Rattle.input_runner.proofs.Runs.{is_run, is_serialized}
-use Rattle.tree_toml.specs.SetupView.{SetupView}
+use Rattle.store_setup.specs.SetupView.{SetupView}
 use Rattle.shop_load.specs.Summaries.{IsSummary}
 use Rattle.shop_load.proofs.load.run_load.Goals as goal
 

@@ -4,7 +4,7 @@ use Rattle.engine_core.specs.declared.decision.Decision.TheVariants as decision
 use Rattle.engine_core.specs.declared.engine_state.EngineState.{EngineState}
 use Rattle.engine_core.specs.AnyControls.{any_node_number, any_spare, any_stands}
 use Rattle.engine_core.specs.Responses.{IsResponse}
-use Rattle.engine_core.specs.Stores.{store_of}
+use Rattle.store_setup.specs.Stores.{store_of}
 use Rattle.engine_core.proofs.Reached.{answered_engine, lent_engine, settled_of}
 use Rattle.engine_core.proofs.Carrying.{leads_on}
 use Rattle.engine_core.specs.declared.any_control.AnyControl.{AnyControl}

@@ -3,7 +3,7 @@ use Rattle.engine_core.specs.declared.decision.Decision.TheVariants as decision
 use Rattle.engine_core.specs.AnyControls.{any_node_number, any_spare, any_stands}
 use Rattle.engine_core.specs.Decisions.{carried}
 use Rattle.engine_core.specs.Responses.{IsResponse}
-use Rattle.engine_core.specs.Stores.{store_of}
+use Rattle.store_setup.specs.Stores.{store_of}
 use Rattle.teb_rules.specs.Answer.{answer}
 use Rattle.engine_core.proofs.NoScans.{no_scan}
 use Rattle.engine_core.proofs.Reached.{answered_engine, lent_engine, settled_of}

@@ -6,7 +6,7 @@ use Rattle.teb_rules.specs.Answer.{answer}
 use Rattle.version_chain.specs.Lists.{Version}
 use Rattle.engine_core.specs.declared.engine_state.EngineState.{EngineState}
 use Rattle.engine_core.specs.Decisions.{carried, IsBounded}
-use Rattle.engine_core.specs.Stores.{store_of}
+use Rattle.store_setup.specs.Stores.{store_of}
 use Rattle.engine_core.specs.Wholes.{events_in}
 use Rattle.engine_core.proofs.Appending.{view_whole}
 use Rattle.engine_core.proofs.engine_state.EngineState.decide.Goals as goal

@@ -3,7 +3,7 @@ use Rattle.teb_history.specs.Written.{Written}
 use Rattle.teb_history.specs.Phases.{unfinished}
 use Rattle.teb_rules.specs.Setup.{Store}
 use Rattle.teb_rules.specs.Versions.{read}
-use Rattle.engine_core.specs.Stores.{store_of}
+use Rattle.store_setup.specs.Stores.{store_of}
 use Rattle.engine_core.specs.Wholes.{events_in}
 use Rattle.engine_core.proofs.Appending.{view_whole}
 use Rattle.engine_core.proofs.engine_state.EngineState.read.Goals as goal

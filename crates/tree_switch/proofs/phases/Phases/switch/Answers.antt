@@ -1,5 +1,5 @@
 use Rattle.std.proofs.Common.{sym, subst}
-use Rattle.tree_toml.specs.Seen.{setup_view}
+use Rattle.store_setup.specs.SetupView.{setup_view}
 use Rattle.tree_switch.specs.Courses.{Course}
 use Rattle.tree_switch.specs.Refusals.{IsCause}
 use Rattle.tree_switch.specs.Starts.{IsStarted}

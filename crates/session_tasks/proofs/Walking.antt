@@ -12,7 +12,7 @@ use Rattle.teb_rules.specs.Scripts.{ScriptState, IsWay, IsWalk, after_answer, as
 use Rattle.teb_laws.proofs.Runs.{state_push, way_push}
 use Rattle.script_text.specs.declared.Line.{Line}
 use Rattle.script_walk.specs.ScriptStates.{requests_on, state_of}
-use Rattle.session_server.specs.Walks.{IsUnderWay}
+use Rattle.session_tasks.specs.Walks.{IsUnderWay}
 use Rattle.script_walk.specs.declared.walker.Walker.{Walker}
 
 next_is : (script : List Request) (E : List Entry) (p : ScriptState) → p ≡ state_after (at_first script) (replies_of E) → next script (replies_of E) ≡ asks p

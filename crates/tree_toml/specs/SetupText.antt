@@ -1,8 +1,7 @@
 -- What a text of a tree is: a setup, or its first fault.
-use Rattle.std.specs.Prelude.{ℕ, ℤ, Bool, false, ◌||◌, ◌==◌, if◌then◌else◌, List, [], ◌∷◌, length, codes, Result, Ok, Err, Option, Some, None}
+use Rattle.std.specs.Prelude.{ℕ, Bool, false, ◌||◌, ◌==◌, if◌then◌else◌, List, [], ◌∷◌, length, codes, Result, Ok, Err, Option, Some, None}
 use Rattle.std.specs.List.{list_all}
 use Rattle.std.specs.Str.{is_utf8}
-use Rattle.teb_names.specs.declared.Cell.{Cell}
 use Rattle.teb_names.specs.declared.ControlKind.TheVariants.{Locks}
 use Rattle.teb_rules.specs.Setup.{NodeRow}
 use Rattle.teb_rules.specs.Accepted.{Fault, tree_fault}
@@ -10,6 +9,7 @@ use Rattle.teb_rules.specs.Accepted as fault
 use Rattle.cc_tree.specs.Grown.{Grown}
 use Rattle.cc_tree.specs.declared.fault.Rule.TheVariants as rule
 use Rattle.cc_tree.specs.declared.fault.ShapeWhy.TheVariants as shape
+use Rattle.store_setup.specs.SetupView.{SetupView}
 use Rattle.toml.specs.Data.{Members}
 use Rattle.toml.specs.Parse.{parse_document}
 use Rattle.tree_toml.specs.declared.fault.ListName.TheVariants as list
@@ -23,17 +23,6 @@ use Rattle.tree_toml.specs.Tables.{format_of, tables_of}
 use Rattle.tree_toml.specs.Types.{types_of}
 use Rattle.tree_toml.specs.Nodes.{nodes_of}
 use Rattle.tree_toml.specs.Rows.{rows_of}
-
--- the names of tables, types and nodes; for each type its steps, each a list of numbers of tables; the tree; the starting rows, which
--- ascend by cell; and the format of the text
-pub record SetupView : Type 0 where
-  pub tables : List (List ℕ)
-  pub types : List (List ℕ)
-  pub nodes : List (List ℕ)
-  pub profiles : List (List (List ℕ))
-  pub tree : Grown
-  pub rows : List (Cell × ℤ)
-  pub format : ℕ
 
 abbrev pub shape_text : ℕ → Fault → TreeText
 shape_text n fault.Root = Shape (record { 0 = n }) shape.Root

@@ -2,7 +2,7 @@
 
 ghost use Rattle.std.specs.Prelude.{◌≡◌, ◌≤◌, true};
 ghost use Rattle.std.specs.Option.{IsSome};
-ghost use Rattle.session_server.specs.Stops.{FoundRaised};
+ghost use Rattle.session_tasks.specs.Stops.{FoundRaised};
 
 use std::sync::atomic::Ordering::SeqCst;
 use std::sync::atomic::{AtomicIn, Rule};

@@ -1,12 +1,11 @@
--- What a setup that was read is good for.
+-- What a setup is good for.
 use Rattle.std.specs.Prelude.{◌≡◌, ◌<◌, ◌≤◌, true, length}
 use Rattle.std.specs.List.{All, IsDistinct, list_all}
 use Rattle.std.specs.Str.{bytes_eq}
-use Rattle.teb_names.specs.Rows.{IsAscending}
+use Rattle.teb_names.specs.Names.{is_name}
 use Rattle.teb_rules.specs.Setup.{Setup, ranked_tables}
 use Rattle.teb_rules.specs.Accepted.{IsSound}
-use Rattle.tree_toml.specs.SetupView.{SetupView}
-use Rattle.teb_names.specs.Names.{is_name}
+use Rattle.store_setup.specs.SetupView.{SetupView}
 
 -- what the controls go by
 abbrev pub rules_of : SetupView → Setup
@@ -33,11 +32,3 @@ pub record HasNames (m : SetupView) : Type 0 where
   pub types : list_all is_name m.types ≡ true
   pub nodes : list_all is_name m.nodes ≡ true
   pub tables_differ : IsDistinct bytes_eq m.tables
-
--- what a tree text can say: no more than it may have of each list, one row a cell, in ascending order, and a known format
-pub record IsOfText (m : SetupView) : Type 0 where
-  pub few_types : length m.types ≤ 64
-  pub few_nodes : length m.nodes ≤ 64
-  pub few_rows : length m.rows ≤ 16384
-  pub ascending : IsAscending m.rows
-  pub format : (1 ≤ m.format) × (m.format ≤ 3)

@@ -1,0 +1,3 @@
+pub mod SetupView
+pub mod Sound
+pub mod Stores

@@ -1,0 +1,12 @@
+-- What a tree text can say.
+use Rattle.std.specs.Prelude.{◌≤◌, length}
+use Rattle.teb_names.specs.Rows.{IsAscending}
+use Rattle.store_setup.specs.SetupView.{SetupView}
+
+-- no more than it may have of each list, one row a cell, in ascending order, and a known format
+pub record IsOfText (m : SetupView) : Type 0 where
+  pub few_types : length m.types ≤ 64
+  pub few_nodes : length m.nodes ≤ 64
+  pub few_rows : length m.rows ≤ 16384
+  pub ascending : IsAscending m.rows
+  pub format : (1 ≤ m.format) × (m.format ≤ 3)
