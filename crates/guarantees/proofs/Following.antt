@@ -1,5 +1,6 @@
 -- What each answer keeps holds of every run.
 use Rattle.std.proofs.Common.{◌≡◌, ℕ, suc, Bool, true, false, cond, not, ◌&&◌, ltb, leb, List, [], ◌∷◌, Option, Some, None, is_none, refl, ℤ, ◌+ℤ◌}
+use Rattle.teb_names.specs.declared.TheConstants.{MOST_TXNS, SESSIONS}
 use Rattle.teb_names.specs.declared.Cell.{Cell}
 use Rattle.teb_names.specs.declared.Spot.{Spot}
 use Rattle.teb_names.specs.declared.Node.{Node}
@@ -110,8 +111,8 @@ module _ (X : Store) (Q : List Event → Type 0) (k : Keeps X Q) where
     unfolding answer_new
     new_keeps s (Begin j) =
         let inner = begin_or_wait H s j (begin_stop X.setup H j) in
-        cond_keeps (not (ltb j.kind.0 X.setup.types)) (refuse H UnknownType) (cond (leb 8192 (begun_count H)) (refuse H Full) inner) q
-        (cond_keeps (leb 8192 (begun_count H)) (refuse H Full) inner q (begin_keeps s j (begin_stop X.setup H j) refl))
+        cond_keeps (not (ltb j.kind.0 X.setup.types)) (refuse H UnknownType) (cond (leb MOST_TXNS (begun_count H)) (refuse H Full) inner) q
+        (cond_keeps (leb MOST_TXNS (begun_count H)) (refuse H Full) inner q (begin_keeps s j (begin_stop X.setup H j) refl))
     new_keeps s (Read x) = q
     new_keeps s (Write x v) = q
     new_keeps s (Add x v) = q
@@ -132,7 +133,7 @@ module _ (X : Store) (Q : List Event → Type 0) (k : Keeps X Q) where
 
     pub answer_keeps : (s : Session) (r : Request) → Q (answer X H s r).1
     unfolding answer
-    answer_keeps s r = cond_keeps (leb 1 s.0 && leb s.0 32) (answer_to X H s r (held H s.0)) (refuse H BadSession) (to_keeps s r (held H s.0) refl) q
+    answer_keeps s r = cond_keeps (leb 1 s.0 && leb s.0 SESSIONS) (answer_to X H s r (held H s.0)) (refuse H BadSession) (to_keeps s r (held H s.0) refl) q
 
   run_from : IsSound X.setup → (asked : List (Session × Request)) (H : List Event) → Good X.setup H → Q H → Q (history_after X H asked)
   unfolding history_after

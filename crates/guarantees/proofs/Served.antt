@@ -1,6 +1,7 @@
 -- Reads under timestamp and snapshot nodes are served.
 use Rattle.std.proofs.Common.{◌≡◌, ℕ, ◌≤◌, Bool, true, false, not, cond, ◌&&◌, ◌||◌, eqb, ltb, leb, List, [], ◌∷◌, Some, is_none, refl, ◌∙◌, ap, subst, le-leb, eqb-true, eq-eqb}
 use Rattle.std.proofs.lemmas.Bool.{and_from, and_parts, or_left, or_right, not-true}
+use Rattle.teb_names.specs.declared.TheConstants.{SESSIONS}
 use Rattle.teb_names.specs.declared.Cell.{Cell}
 use Rattle.teb_names.specs.declared.Session.{Session}
 use Rattle.teb_names.specs.declared.ControlKind.{ControlKind}
@@ -64,13 +65,13 @@ read_served X H t x granted r a b c g =
     (cond_served r (prepared H t) (refuse H IsPrepared) inner b
     (cond_served r (is_none (least_step (profile X.setup (kind_of H t)) (cursor X.setup H t) x.table.0)) (refuse H NotInProfile) granted c g))
 
--- the session of whoever runs is one of 1 to 32, and its request is the transaction's
+-- the session of whoever runs is one of 1 to SESSIONS, and its request is the transaction's
 asked_by : (X : Store) (H : List Event) (s : Session) (t : ℕ) (r : Request) → Lawful X.setup H → held H s.0 ≡ Some t → unfinished H t ≡ true → answer X H s r ≡ answer_of X H t r
 unfolding answer unfinished
 asked_by X H s t r l h u =
     let e : session_of H t ≡ s.0 = eqb-true _ _ (and_parts _ _ (held_holds H s.0 t h)).0 in
     let b = session_range X.setup H t l (unfinished_times H t u).0 in
-    let valid : (leb 1 s.0 && leb s.0 32) ≡ true = and_from _ _ (le-leb 1 s.0 (subst (λ (z : ℕ). 1 ≤ z) e b.0)) (le-leb s.0 32 (subst (λ (z : ℕ). z ≤ 32) e b.1)) in
+    let valid : (leb 1 s.0 && leb s.0 SESSIONS) ≡ true = and_from _ _ (le-leb 1 s.0 (subst (λ (z : ℕ). 1 ≤ z) e b.0)) (le-leb s.0 SESSIONS (subst (λ (z : ℕ). z ≤ SESSIONS) e b.1)) in
     let a : aborted H t ≡ false = not-true _ (and_parts _ _ u).1 in
     rw (valid, h, a) refl
 

@@ -1,6 +1,7 @@
 -- What an answer tells of an abort, and whom it aborts.
 use Rattle.std.proofs.Common.{◌≡◌, ◌≢◌, ◌⊎◌, ℕ, Bool, true, false, not, cond, ◌&&◌, ltb, leb, List, [], ◌∷◌, Option, Some, None, is_none, unwrap_or, refl, sym, ◌∙◌, ap, subst, inl, inr, ltb-true, eqb-true, eq-eqb, ℤ, ◌+ℤ◌}
 use Rattle.std.proofs.lemmas.Bool.{and_parts, or_cases, both_ways}
+use Rattle.teb_names.specs.declared.TheConstants.{MOST_TXNS, SESSIONS}
 use Rattle.teb_names.proofs.SameCells.{same_itself}
 use Rattle.teb_names.specs.declared.Cell.{Cell}
 use Rattle.teb_names.specs.declared.Txn.{Txn}
@@ -147,8 +148,8 @@ new_names : (S : Setup) (H : List Event) (s : Session) (r : Request) → Names S
 unfolding answer_new
 new_names S H s (Begin k) =
     let inner = begin_or_wait H s k (begin_stop S H k) in
-    cond_names S H s (Begin k) (not (ltb k.kind.0 S.types)) (refuse H UnknownType) (cond (leb 8192 (begun_count H)) (refuse H Full) inner) (quiet_names S H s (Begin k) _ refl (λ v. refl))
-    (cond_names S H s (Begin k) (leb 8192 (begun_count H)) (refuse H Full) inner (quiet_names S H s (Begin k) _ refl (λ v. refl)) (begin_names S H s k (begin_stop S H k)))
+    cond_names S H s (Begin k) (not (ltb k.kind.0 S.types)) (refuse H UnknownType) (cond (leb MOST_TXNS (begun_count H)) (refuse H Full) inner) (quiet_names S H s (Begin k) _ refl (λ v. refl))
+    (cond_names S H s (Begin k) (leb MOST_TXNS (begun_count H)) (refuse H Full) inner (quiet_names S H s (Begin k) _ refl (λ v. refl)) (begin_names S H s k (begin_stop S H k)))
 new_names S H s (Read x) = quiet_names S H s (Read x) _ refl (λ v. refl)
 new_names S H s (Write x z) = quiet_names S H s (Write x z) _ refl (λ v. refl)
 new_names S H s (Add x z) = quiet_names S H s (Add x z) _ refl (λ v. refl)
@@ -206,4 +207,4 @@ to_names X tf H s r (Some t) e l q = go (aborted H t) refl
 
 pub answer_names : (X : Store) (tf : TreeFacts X.setup) (H : List Event) (s : Session) (r : Request) → Lawful X.setup H → Fallen H → Names X.setup H s r (answer X H s r)
 unfolding answer
-answer_names X tf H s r l q = cond_names X.setup H s r (leb 1 s.0 && leb s.0 32) (answer_to X H s r (held H s.0)) (refuse H BadSession) (to_names X tf H s r (held H s.0) refl l q) (quiet_names X.setup H s r _ refl (λ v. refl))
+answer_names X tf H s r l q = cond_names X.setup H s r (leb 1 s.0 && leb s.0 SESSIONS) (answer_to X H s r (held H s.0)) (refuse H BadSession) (to_names X tf H s r (held H s.0) refl l q) (quiet_names X.setup H s r _ refl (λ v. refl))

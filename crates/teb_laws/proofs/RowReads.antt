@@ -2,6 +2,7 @@
 use Rattle.std.proofs.Common.{◌≡◌, ℕ, suc, Bool, true, false, cond, not, ◌&&◌, ltb, leb, List, [], ◌∷◌, Option, Some, None, refl, arith, is_none, unwrap_or, ℤ, ◌+ℤ◌}
 use Rattle.teb_history.specs.declared.Event.{Event}
 use Rattle.teb_history.specs.declared.Event.TheVariants.{Got, Ready, Gone, Told}
+use Rattle.teb_names.specs.declared.TheConstants.{MOST_TXNS, SESSIONS}
 use Rattle.teb_names.specs.declared.Request.{Request}
 use Rattle.teb_names.specs.declared.Request.TheVariants.{Begin, Read, Write, Add, Delete, Scan, Prepare, Commit, Abort, End}
 use Rattle.teb_names.specs.declared.Reply.TheVariants.{Prepared, Aborted, Again}
@@ -100,8 +101,8 @@ new_rows : (R : List (Cell × ℤ)) (S : Setup) (H : List Event) (s : Session) (
 unfolding answer_new
 new_rows R S H s (Begin k) g =
     let inner = begin_or_wait H s k (begin_stop S H k) in
-    cond_rows R (not (ltb k.kind.0 S.types)) (refuse H UnknownType) (cond (leb 8192 (begun_count H)) (refuse H Full) inner) g
-    (cond_rows R (leb 8192 (begun_count H)) (refuse H Full) inner g (begin_rows R H s k (begin_stop S H k) g))
+    cond_rows R (not (ltb k.kind.0 S.types)) (refuse H UnknownType) (cond (leb MOST_TXNS (begun_count H)) (refuse H Full) inner) g
+    (cond_rows R (leb MOST_TXNS (begun_count H)) (refuse H Full) inner g (begin_rows R H s k (begin_stop S H k) g))
 new_rows R S H s (Read x) g = g
 new_rows R S H s (Write x v) g = g
 new_rows R S H s (Add x v) g = g
@@ -119,7 +120,7 @@ to_rows X H s r (Some t) g = cond_rows X.rows (aborted H t) (Aborted (unwrap_or 
 
 pub answer_rows : (X : Store) (H : List Event) (s : Session) (r : Request) → ReadsRows X.rows H → ReadsRows X.rows (answer X H s r).1
 unfolding answer
-answer_rows X H s r g = cond_rows X.rows (leb 1 s.0 && leb s.0 32) (answer_to X H s r (held H s.0)) (refuse H BadSession) (to_rows X H s r (held H s.0) g) g
+answer_rows X H s r g = cond_rows X.rows (leb 1 s.0 && leb s.0 SESSIONS) (answer_to X H s r (held H s.0)) (refuse H BadSession) (to_rows X H s r (held H s.0) g) g
 
 pub run_rows : (X : Store) (asked : List (Session × Request)) (H : List Event) → ReadsRows X.rows H → ReadsRows X.rows (history_after X H asked)
 unfolding history_after

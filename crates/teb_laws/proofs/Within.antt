@@ -1,6 +1,7 @@
 -- Every answer names nodes of the tree, and tables and types of the store.
 use Rattle.std.proofs.Common.{◌≡◌, ◌⊎◌, ℕ, zero, suc, ◌<◌, ◌+◌, Bool, true, false, cond, not, ◌&&◌, ltb, leb, List, [], ◌∷◌, Option, Some, None, is_none, unwrap_or, eqb, refl, subst, inl, inr, arith, length, find, ltb-true, ℤ, ◌+ℤ◌}
 use Rattle.std.proofs.lemmas.Bool.{not-false}
+use Rattle.teb_names.specs.declared.TheConstants.{MOST_TXNS, SESSIONS}
 use Rattle.teb_names.specs.declared.Node.{Node}
 use Rattle.teb_names.specs.declared.Cell.{Cell}
 use Rattle.teb_names.specs.declared.Spot.{Spot}
@@ -256,7 +257,7 @@ module _ (X : Store) (a : TreeFacts X.setup) where
   new_within : (H : List Event) (s : Session) (r : Request) → AllWithin X H → AnswerWithin (answer_new X.setup H s r)
   unfolding answer_new
   new_within H s (Begin k) h = cond_within (not (ltb k.kind.0 X.setup.types)) _ _ (λ _. refuse_within H UnknownType h)
-      (λ e. cond_within (leb 8192 (begun_count H)) _ _ (λ _. refuse_within H Full h) (λ _. waiting_within H s k (begin_stop X.setup H k) h (ltb-true _ _ (not-false _ e)) (begin_stop_within H k)))
+      (λ e. cond_within (leb MOST_TXNS (begun_count H)) _ _ (λ _. refuse_within H Full h) (λ _. waiting_within H s k (begin_stop X.setup H k) h (ltb-true _ _ (not-false _ e)) (begin_stop_within H k)))
   new_within H s (Read x) h = refuse_within H NoTxn h
   new_within H s (Write x v) h = refuse_within H NoTxn h
   new_within H s (Add x v) h = refuse_within H NoTxn h
@@ -289,7 +290,7 @@ module _ (X : Store) (a : TreeFacts X.setup) where
 
   answer_within : (H : List Event) (s : Session) (r : Request) → AllWithin X H → AnswerWithin (answer X H s r)
   unfolding answer
-  answer_within H s r h = cond_within (leb 1 s.0 && leb s.0 32) _ _ (λ _. to_within H s r (held H s.0) h) (λ _. refuse_within H BadSession h)
+  answer_within H s r h = cond_within (leb 1 s.0 && leb s.0 SESSIONS) _ _ (λ _. to_within H s r (held H s.0) h) (λ _. refuse_within H BadSession h)
 
   run_within : (asked : List (Session × Request)) (H : List Event) → AllWithin X H → AllWithin X (history_after X H asked)
   unfolding history_after

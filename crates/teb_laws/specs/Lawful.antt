@@ -1,5 +1,6 @@
 -- Histories each event of which was granted by the rules: what the history before the event must be like.
 use Rattle.std.specs.Prelude.{None, leb, ◌&&◌, ◌≡◌, ℕ, suc, ◌<◌, Bool, true, false, List, [], ◌∷◌, ℤ, IsTrue, IsFalse, is_some}
+use Rattle.teb_names.specs.declared.TheConstants.{SESSIONS}
 use Rattle.teb_names.specs.declared.Cell.{Cell}
 use Rattle.teb_history.specs.declared.Event.{Event}
 use Rattle.teb_history.specs.declared.Event.TheVariants.{Began, Got, Put, Ready, Done, Gone, Told}
@@ -39,7 +40,7 @@ pub record MayCommit (S : Setup) (P : List Event) (t : ℕ) : Type 0 where
 
 -- the rules grant the event after P
 abbrev pub Granted : Setup → List Event → Event → Type 0
-Granted S P (Began t s k i) = (t.0 ≡ suc (begun_count P)) × (k.0 < S.types) × Settled P × (held P s.0 ≡ None) × IsTrue (leb 1 s.0 && leb s.0 32)
+Granted S P (Began t s k i) = (t.0 ≡ suc (begun_count P)) × (k.0 < S.types) × Settled P × (held P s.0 ≡ None) × IsTrue (leb 1 s.0 && leb s.0 SESSIONS)
 Granted S P (Got t x w v) = MayAccess S P t.0 x false × (source S P t.0 x ≡ w.0) × (0 < w.0 → v ≡ value_left P w.0 x)
 Granted S P (Put t x v) = MayAccess S P t.0 x true
 Granted S P (Ready t) = MayPrepare S P t.0

@@ -1,6 +1,7 @@
 -- The laws of every run: X is the store, S its setup, and `asked` any list of requests, of any sessions, in any order.
 use Rattle.std.specs.Prelude.{◌≡◌, ◌≢◌, ◌⊎◌, ℕ, ◌<◌, ◌≤◌, Bool, false, ◌&&◌, ◌||◌, eqb, leb, List, [], ◌∷◌, ◌++◌, length, Option, Some, None, ℤ, IsTrue, IsFalse}
 use Rattle.std.specs.List.{list_any}
+use Rattle.teb_names.specs.declared.TheConstants.{SESSIONS}
 use Rattle.teb_names.specs.declared.Txn.{Txn}
 use Rattle.teb_names.specs.declared.Session.{Session}
 use Rattle.teb_names.specs.declared.Cell.{Cell}
@@ -89,9 +90,9 @@ pub record BatchesNest (S : Setup) (H : List Event) : Type 0 where
 abbrev pub SessionsHoldOne : Setup → List Event → Type 0
 SessionsHoldOne S H = (t u : ℕ) → IsTrue (begun H t) → IsTrue (begun H u) → IsTrue (unfinished H t || untold H t) → IsTrue (unfinished H u || untold H u) → session_of H t ≡ session_of H u → t ≡ u
 
--- an abort takes at most 31 others with it
+-- an abort takes fewer than SESSIONS others with it
 abbrev pub CascadesAreFew : Setup → List Event → Type 0
-CascadesAreFew S H = (t : ℕ) → IsTrue (unfinished H t) → length (cascade H t) ≤ 31
+CascadesAreFew S H = (t : ℕ) → IsTrue (unfinished H t) → length (cascade H t) < SESSIONS
 
 -- whoever is named by an Again is unfinished, and of a smaller number than the transaction that the session holds
 pub record IsOlder (H : List Event) (s u : ℕ) : Type 0 where
@@ -109,5 +110,5 @@ pub record OnlyGrows (X : Store) (H : List Event) : Type 0 where
 
 -- a transaction that runs alone is never told to wait, and nothing breaks it; and where nobody is unfinished a transaction may begin
 pub record ServesAlone (X : Store) (H : List Event) : Type 0 where
-  pub alone : (s : Session) (t : ℕ) (r : Request) → IsTrue (leb 1 s.0 && leb s.0 32) → held H s.0 ≡ Some t → IsTrue (unfinished H t) → IsTrue (is_alone H t) → IsTrue (is_served r (answer X H s r).0)
+  pub alone : (s : Session) (t : ℕ) (r : Request) → IsTrue (leb 1 s.0 && leb s.0 SESSIONS) → held H s.0 ≡ Some t → IsTrue (unfinished H t) → IsTrue (is_alone H t) → IsTrue (is_served r (answer X H s r).0)
   pub begins : (s : Session) (k : Spot) → held H s.0 ≡ None → IsTrue (is_quiet H) → IsTrue (is_served (Begin k) (answer X H s (Begin k)).0)

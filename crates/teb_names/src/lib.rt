@@ -8,16 +8,23 @@ mod scan;
 
 pub use name_form::is_name;
 pub use naming::{NameBook, Names};
-pub use rows::Rows;
+pub use rows::{MOST_ROWS, Rows};
 pub use scan::ScanList;
 
 /// A transaction, numbered from 1 in order of beginning. 0 stands for the starting rows.
 #[derive(Clone, Copy, Debug, PartialEq, Eq, PartialOrd, Ord, Hash)]
 pub struct Txn(pub u32);
 
-/// A session, 1 to 32.
+/// How many transactions of one engine begin at most: a Begin past them is refused as `Full`. A hall lays out a note for each of
+/// them beforehand.
+pub const MOST_TXNS: u32 = 8192;
+
+/// A session, 1 to `SESSIONS`.
 #[derive(Clone, Copy, Debug, PartialEq, Eq, PartialOrd, Ord)]
 pub struct Session(pub u8);
+
+/// How many sessions an engine has. Each holds one transaction at most, so that no more than these are unfinished at a time.
+pub const SESSIONS: u8 = 32;
 
 /// A table. 255 stands for a name that the tree does not have.
 #[derive(Clone, Copy, Debug, PartialEq, Eq, PartialOrd, Ord, Hash)]

@@ -9,6 +9,9 @@ use crate::Cell;
 use std::alloc::{AllocError, Global};
 use std::marker::Model;
 
+/// How many starting rows a store has at most.
+pub const MOST_ROWS: usize = 16_384;
+
 /// Rows, each a cell with its value, at most one of a cell. Contracts see the list of them, which ascends by cell:
 /// by table, and in one table by key.
 #[derive(Drop)]
