@@ -6,7 +6,7 @@ use version_chain::Chains;
 /// Why a request was not asked.
 #[derive(Clone, Copy, Debug, PartialEq, Eq)]
 pub enum AskError {
-    /// The pass has asked 2^40 times.
+    /// The pass has asked `MOST_ASKS` times.
     PassSpent,
     OutOfMemory,
 }
@@ -14,7 +14,7 @@ pub enum AskError {
 /// Why sessions were not served to their end.
 #[derive(Drop)]
 pub enum RunError<C: Chains> {
-    /// This pass has asked 2^40 times.
+    /// This pass has asked `MOST_ASKS` times.
     PassSpent(Pass<C>),
     OutOfMemory,
 }

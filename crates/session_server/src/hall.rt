@@ -1,24 +1,16 @@
 //! The hall.
 
 ghost use Rattle.std.specs.Prelude.{◌≡◌};
+ghost use Rattle.teb_names.specs.declared.TheConstants.{MOST_TXNS, SESSIONS};
 ghost use Rattle.turn_lock.specs.Seats.{note_count, owner_count};
 
 use crate::hosted::Hosted;
 use turn_lock::Turn;
 use version_chain::Chains;
 
-/// How many transactions begin at most. Each has a note.
-pub(crate) const MOST_TXNS: u32 = 8192;
-
-/// How many sessions there are.
-pub(crate) const SESSIONS: u8 = 32;
-
-/// How often a pass may ask.
-pub(crate) const MOST_ASKS: u64 = 1 << 40;
-
-/// One engine for 32 sessions, each with a pass.
+/// One engine for all sessions, each with a pass. Each transaction has a note of how it finished.
 #[derive(Drop)]
 pub struct Hall<C: Chains> {
     pub(crate) turn: Turn<Hosted<C>>,
-    ghost sized: { (note_count turn ≡ 8192) × (owner_count turn ≡ 32) },
+    ghost sized: { (note_count turn ≡ MOST_TXNS) × (owner_count turn ≡ SESSIONS) },
 }

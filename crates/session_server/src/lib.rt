@@ -24,7 +24,7 @@ pub use gate::Gate;
 pub use hall::Hall;
 pub use hosted::Hosted;
 pub use outfit::Outfit;
-pub use pass::Pass;
+pub use pass::{MOST_ASKS, Pass};
 pub use script_walk::Walker;
 pub use serving::serve;
 pub use stop::Stops;

@@ -8,12 +8,13 @@ ghost use Rattle.session_tasks.specs.Tasks.{IsTask, AreTasks};
 ghost use Rattle.session_tasks.specs.Served.{IsServed, IsCause};
 ghost use Rattle.session_tasks.specs.declared.task.Progress.TheVariants.{Failed};
 
-use crate::run::{Run, SESSIONS};
+use crate::run::Run;
 use crate::task::{Progress, Task};
 use session_server::{AskError, Gate, Pass, RunError, Stops};
 use std::alloc::Global;
 use std::collections::VecDeque;
 use std::sync::Wait;
+use teb_names::SESSIONS;
 use version_chain::Chains;
 
 impl<C: Chains, G: Gate> Run<'_, C, G> {
@@ -24,9 +25,9 @@ impl<C: Chains, G: Gate> Run<'_, C, G> {
         alloc: Global,
         mut tasks: VecDeque<Task<C>>,
     ) -> Result<Vec<Pass<C>>, RunError<C>>
-        requires tasks { AreTasks self.now.hall.now self.now.scripts.now (numbers 32) tasks.items }
+        requires tasks { AreTasks self.now.hall.now self.now.scripts.now (numbers SESSIONS) tasks.items }
         requires scripts { AreDistinct self.now.scripts.now }
-        ensures sessions { IfOk result (λ v. map number_of v.items ≡ numbers 32) }
+        ensures sessions { IfOk result (λ v. map number_of v.items ≡ numbers SESSIONS) }
         ensures served { IfOk result (λ v. All (IsServed self.now.hall.now self.now.scripts.now) v.items) }
         ensures cause { IfErr result (IsCause self.now.hall.now self.now.scripts.now) }
     {

@@ -11,5 +11,5 @@ mod run;
 mod task;
 
 pub use place::place_in;
-pub use run::{Run, SESSIONS};
+pub use run::Run;
 pub use task::{Progress, Task};
