@@ -2,6 +2,7 @@
 use Rattle.std.specs.Prelude.{◌≡◌, ◌<◌, ◌≤◌, true, length}
 use Rattle.std.specs.List.{All, IsDistinct, list_all}
 use Rattle.std.specs.Str.{bytes_eq}
+use Rattle.teb_names.specs.declared.rows.TheConstants.{MOST_ROWS}
 use Rattle.teb_names.specs.Rows.{IsAscending}
 use Rattle.teb_rules.specs.Setup.{Setup, ranked_tables}
 use Rattle.teb_rules.specs.Accepted.{IsSound}
@@ -38,6 +39,6 @@ pub record HasNames (m : SetupView) : Type 0 where
 pub record IsOfText (m : SetupView) : Type 0 where
   pub few_types : length m.types ≤ 64
   pub few_nodes : length m.nodes ≤ 64
-  pub few_rows : length m.rows ≤ 16384
+  pub few_rows : length m.rows ≤ MOST_ROWS
   pub ascending : IsAscending m.rows
   pub format : (1 ≤ m.format) × (m.format ≤ 3)
