@@ -15,6 +15,7 @@ use Rattle.teb_laws.proofs.Cascades.{falls, numbers_pos, cascade-In}
 use Rattle.dependency_book.specs.Dependencies.{all_sources, unfinished_txns}
 use Rattle.dependency_book.specs.Books.{Lists, BookOf, sources_in}
 use Rattle.dependency_book.proofs.OrderlyHistories.{unfinished_is, unfinished_parts, known}
+use Rattle.abort_cascade.specs.declared.list.TheConstants.{MOST_FALLEN}
 use Rattle.abort_cascade.specs.Recoverable.{IsRecoverable}
 use Rattle.abort_cascade.specs.Rounds.{is_member, culprit, with_culprit, round_of, blames}
 use Rattle.dependency_book.proofs.Sources.{has_source, sources_ascend, sources_standing, find_least, IsLeast}
@@ -274,7 +275,7 @@ module _ (b : Lists) (H : List Event) (is : BookOf b H) (t : ℕ) (now : unfinis
       ∙ ap (λ (xs : List Txn). map (λ u. (txn u, txn (blamed H t u))) (fallen_numbers (round_of b t fell xs))) (sym is.unfinished)
       ∙ ap (map (λ u. (txn u, txn (blamed H t u)))) (next ∙ last.0 ∙ last.1)
 
-  pub round_length : (fell : List (Txn × Txn)) (k : ℕ) → fallen_numbers fell ≡ stage H t k → length (cascade H t) ≤ 32 → length (round_of b t fell b.unfinished) ≤ 32
+  pub round_length : (fell : List (Txn × Txn)) (k : ℕ) → fallen_numbers fell ≡ stage H t k → length (cascade H t) ≤ MOST_FALLEN → length (round_of b t fell b.unfinished) ≤ MOST_FALLEN
   round_length fell k e few = omega (arith, sym (length-fallen (round_of b t fell b.unfinished)) ∙ ap length (round_stage fell k e), stage_length H t (suc k))
 
   -- a round that is not the last adds somebody

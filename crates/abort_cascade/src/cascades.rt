@@ -8,7 +8,7 @@ ghost use Rattle.dependency_book.specs.Books.{BookOf};
 ghost use Rattle.abort_cascade.specs.Recoverable.{IsRecoverable};
 ghost use Rattle.abort_cascade.specs.Rounds.{is_member, culprit, round_of, blames};
 
-use crate::list::CascadeList;
+use crate::list::{CascadeList, MOST_FALLEN};
 use dependency_book::Book;
 use phase_api::Facts;
 use teb_names::Txn;
@@ -19,7 +19,7 @@ pub fn cascade(book: &Book, facts: &Facts, t: Txn) -> CascadeList
     requires book { BookOf book.now.lists (events_of facts.now) }
     requires unfinished { IsTrue (unfinished (events_of facts.now) t.0) }
     requires recoverable { IsRecoverable (events_of facts.now) }
-    requires few { length (cascade (events_of facts.now) t.0) ≤ 32 }
+    requires few { length (cascade (events_of facts.now) t.0) ≤ MOST_FALLEN }
     ensures { result ≡ blames (events_of facts.now) t.0 }
 {
     let mut fell = CascadeList::new();
@@ -34,7 +34,7 @@ pub fn cascade(book: &Book, facts: &Facts, t: Txn) -> CascadeList
 
 // The unfinished transactions that read from t or from one that fell before, each with the least such.
 fn round(book: &Book, t: Txn, fell: &CascadeList) -> CascadeList
-    requires { length (round_of book.now.lists t.0 fell.now book.now.lists.unfinished) ≤ 32 }
+    requires { length (round_of book.now.lists t.0 fell.now book.now.lists.unfinished) ≤ MOST_FALLEN }
     ensures { result ≡ round_of book.now.lists t.0 fell.now book.now.lists.unfinished }
 {
     let mut next = CascadeList::new();

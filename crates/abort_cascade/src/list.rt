@@ -4,24 +4,28 @@ ghost use Rattle.std.specs.Prelude.{◌≡◌, ◌<◌, ◌++◌, ◌∷◌, [],
 ghost use Rattle.abort_cascade.specs.Rounds.{is_member};
 
 use std::marker::Model;
-use teb_names::Txn;
+use teb_names::{SESSIONS, Txn};
 
-/// At most 32 transactions, each with the one that it is blamed on.
+/// How many fall with another at most: each session holds one unfinished transaction at most.
+pub(crate) const MOST_FALLEN: usize = SESSIONS as usize;
+
+/// At most `MOST_FALLEN` transactions, each with the one that it is blamed on.
 #[derive(Drop)]
 pub struct CascadeList {
-    pairs: [(Txn, Txn); 32],
+    pairs: [(Txn, Txn); MOST_FALLEN],
     len: usize,
 }
 
 impl Model for CascadeList {
     ghost use Rattle.std.specs.Prelude.{List, ◌≡◌, ◌≤◌, take, length};
     ghost use Rattle.teb_names.specs.declared.Txn.{Txn};
+    ghost use Rattle.abort_cascade.specs.declared.list.TheConstants.{MOST_FALLEN};
 
     ghost Value = { List (Txn × Txn) };
 
     ghost view = { λ l. take l.len l.pairs };
 
-    ghost invariant = { λ l. (l.len ≤ 32) × (length l.pairs ≡ 32) };
+    ghost invariant = { λ l. (l.len ≤ MOST_FALLEN) × (length l.pairs ≡ MOST_FALLEN) };
 }
 
 impl CascadeList {
@@ -29,12 +33,12 @@ impl CascadeList {
         ensures { result ≡ [] }
     {
         CascadeList {
-            pairs: [(Txn(0), Txn(0)); 32],
+            pairs: [(Txn(0), Txn(0)); MOST_FALLEN],
             len: 0,
         }
     }
 
-    /// How many there are, at most 32.
+    /// How many there are, at most `MOST_FALLEN`.
     pub fn len(&self) -> usize
         ensures { result ≡ length self.now }
     {
@@ -56,7 +60,7 @@ impl CascadeList {
     }
 
     pub(crate) fn push(&mut self, t: Txn, blamed: Txn)
-        requires { length self.old < 32 }
+        requires { length self.old < MOST_FALLEN }
         ensures { self.new ≡ self.old ++ (t, blamed) ∷ [] }
     {
         self.pairs[self.len] = (t, blamed);

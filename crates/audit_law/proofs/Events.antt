@@ -5,6 +5,7 @@ use Rattle.std.specs.Prelude.{◌<◌, length, decimal, codes, ℤ, All}
 use Rattle.std.specs.Fmt.{signed_decimal}
 use Rattle.std.proofs.lemmas.Bool.Decides.{nat_tests}
 use Rattle.std.proofs.lemmas.List.Elements.{All-head, All-tail}
+use Rattle.teb_names.specs.declared.TheConstants.{SESSIONS}
 use Rattle.teb_names.specs.declared.Txn.{Txn}
 use Rattle.teb_names.specs.declared.Cell.{Cell}
 use Rattle.teb_names.specs.declared.Node.{Node}
@@ -83,14 +84,14 @@ module _ (names : NameBook) (are : AreNames names) where
   cause_are_words cause.Ended h = refl
 
   -- the words of an event
-  began_back : (t : Txn) (s : ℕ) (k i : ℕ) → TxnFits t → 0 < s → s ≤ 32 → k < length names.types → i < 2 ^ 32
+  began_back : (t : Txn) (s : ℕ) (k i : ℕ) → TxnFits t → 0 < s → s ≤ SESSIONS → k < length names.types → i < 2 ^ 32
       → began_in (txn_text t ∷ decimal s ∷ name_of names.types k ∷ instance_words i) ≡ Some (Began t.0)
-  began_back t s k zero fits some most kind small = rw (txn_back t fits, from_one_back 32 s some most (omega (arith, most)), kind_back k kind)
+  began_back t s k zero fits some most kind small = rw (txn_back t fits, from_one_back SESSIONS s some most (omega (arith, most)), kind_back k kind)
   began_back t s k (suc i) fits some most kind small =
       let told : (suc i == 0) ≡ false = grind (arith, nat_tests) in
-      rw (told, txn_back t fits, from_one_back 32 s some most (omega (arith, most)), kind_back k kind, from_one_back (2 ^ 32 - 1) (suc i) (omega arith) (omega (arith, small)) (omega (arith, small)))
+      rw (told, txn_back t fits, from_one_back SESSIONS s some most (omega (arith, most)), kind_back k kind, from_one_back (2 ^ 32 - 1) (suc i) (omega arith) (omega (arith, small)) (omega (arith, small)))
 
-  began_are_words : (t : Txn) (s : ℕ) (k i : ℕ) → TxnFits t → s ≤ 32 → k < length names.types → i < 2 ^ 32
+  began_are_words : (t : Txn) (s : ℕ) (k i : ℕ) → TxnFits t → s ≤ SESSIONS → k < length names.types → i < 2 ^ 32
       → list_all is_word (txn_text t ∷ decimal s ∷ name_of names.types k ∷ instance_words i) ≡ true
   began_are_words t s k zero fits most kind small = rw (txn_is_word t fits, number_is_word s (omega (arith, most)), kind_is_word k kind)
   began_are_words t s k (suc i) fits most kind small =

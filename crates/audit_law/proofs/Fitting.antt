@@ -5,6 +5,7 @@ use Rattle.std.specs.List.{All}
 use Rattle.std.proofs.lemmas.Bool.{and_parts, leb-true}
 use Rattle.std.proofs.lemmas.List.{reverse-reverse}
 use Rattle.std.proofs.lemmas.List.Elements.{All-nil, All-cons, All-head, All-tail}
+use Rattle.teb_names.specs.declared.TheConstants.{SESSIONS}
 use Rattle.teb_names.specs.declared.Cause.{Cause}
 use Rattle.teb_names.specs.declared.Cause.TheVariants as cause
 use Rattle.teb_names.specs.declared.Cell.{Cell}
@@ -30,11 +31,11 @@ module _ (names : NameBook) where
   cause_fits cause.Asked named range = tt
   cause_fits cause.Ended named range = tt
 
-  session_fits : (s : Session) → IsTrue (leb 1 s.0 && leb s.0 32) → (0 < s.0) × (s.0 ≤ 32)
+  session_fits : (s : Session) → IsTrue (leb 1 s.0 && leb s.0 SESSIONS) → (0 < s.0) × (s.0 ≤ SESSIONS)
   session_fits s h =
-      let both = and_parts (leb 1 s.0) (leb s.0 32) h in
+      let both = and_parts (leb 1 s.0) (leb s.0 SESSIONS) h in
       let low = leb-true 1 s.0 both.0 in
-      (omega (arith, low), leb-true s.0 32 both.1)
+      (omega (arith, low), leb-true s.0 SESSIONS both.1)
 
   event_fits : (S : Setup) (P : List Event) (e : Event) → Granted S P e → EventNamed names e → EventInRange e → EventFits names e
   event_fits S P (event.Began t s k i) granted named range = let session = session_fits s granted.4 in (range.0, session.0, session.1, named, range.1)

@@ -7,12 +7,13 @@ ghost use Rattle.audit_runner.specs.Verdicts.{audited, why_text};
 use audit_check::{AuditError, AuditWhy, audit};
 use command_output::Output;
 use command_output::status::{AUDIT_NO, OK};
+use script_text::MOST_BYTES;
 use std::alloc::{AllocError, Global};
 
 /// Whether a text is a printed run whose order executes to its reads and its final rows: `audit yes`, or the first line
 /// that is wrong and why.
 pub fn run_audit(alloc: Global, text: &[u8]) -> Result<Output, AllocError>
-    requires { length text.now ≤ 4194304 }
+    requires { length text.now ≤ MOST_BYTES }
     ensures shown { IfOk result (λ o. o ≡ audited text.now) }
     ensures history { IfOk result (λ o. o.history ≡ None) }
 {

@@ -1,6 +1,7 @@
 -- What a reply says of commits.
 use Rattle.std.proofs.Common.{inl, inr, ◌≡◌, ℕ, Bool, true, false, cond, not, ◌&&◌, leb, ltb, is_none, List, [], ◌∷◌, Option, Some, None, refl, ◌∙◌, ap, unwrap_or, ℤ, ◌+ℤ◌}
 use Rattle.std.proofs.lemmas.Bool.{both_ways}
+use Rattle.teb_names.specs.declared.TheConstants.{MOST_TXNS, SESSIONS}
 use Rattle.teb_names.specs.declared.Session.{Session}
 use Rattle.teb_names.specs.declared.Spot.{Spot}
 use Rattle.teb_names.specs.declared.Cell.{Cell}
@@ -116,7 +117,7 @@ cond_outcome S H s r false x y p q = q
 of_new : (S : Setup) (H : List Event) (s : Session) (r : Request) → Outcome S H s r (answer_new S H s r)
 unfolding answer_new
 of_new S H s (Begin k) = cond_outcome S H s (Begin k) (not (ltb k.kind.0 S.types)) (refuse H UnknownType) _ (others ((λ q. absurd (cc)), refl))
-    (cond_outcome S H s (Begin k) (leb 8192 (begun_count H)) (refuse H Full) (begin_or_wait H s k (begin_stop S H k)) (others ((λ q. absurd (cc)), refl)) (begin_outcome S H s k (begin_stop S H k)))
+    (cond_outcome S H s (Begin k) (leb MOST_TXNS (begun_count H)) (refuse H Full) (begin_or_wait H s k (begin_stop S H k)) (others ((λ q. absurd (cc)), refl)) (begin_outcome S H s k (begin_stop S H k)))
 of_new S H s (Read x) = others ((λ q. absurd (cc)), refl)
 of_new S H s (Write x v) = others ((λ q. absurd (cc)), refl)
 of_new S H s (Add x v) = others ((λ q. absurd (cc)), refl)
@@ -141,7 +142,7 @@ to_outcome X H s r (Some t) e = go (aborted H t) refl
 
 pub outcome : (X : Store) (H : List Event) (s : Session) (r : Request) → Outcome X.setup H s r (answer X H s r)
 unfolding answer
-outcome X H s r = cond_outcome X.setup H s r (leb 1 s.0 && leb s.0 32) (answer_to X H s r (held H s.0)) (refuse H BadSession) (to_outcome X H s r (held H s.0) refl) (others ((λ q. absurd (cc)), refl))
+outcome X H s r = cond_outcome X.setup H s r (leb 1 s.0 && leb s.0 SESSIONS) (answer_to X H s r (held H s.0)) (refuse H BadSession) (to_outcome X H s r (held H s.0) refl) (others ((λ q. absurd (cc)), refl))
 
 -- a Committed is the Done of what the session asked to commit
 pub committed_now : (S : Setup) (H : List Event) (s : Session) (r : Request) (x : Answered) → Outcome S H s r x → x.0 ≡ Committed → (t : ℕ) × (committing H s r ≡ Some t) × (x.1 ≡ Done (txn t) ∷ H)

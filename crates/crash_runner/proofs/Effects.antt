@@ -1,5 +1,6 @@
 -- What an answer adds to a history: one commit or put at most, and an End none.
 use Rattle.std.proofs.Common.{◌≡◌, ◌≤◌, ◌+◌, ℕ, Bool, true, false, cond, not, ◌&&◌, leb, ltb, is_none, List, [], ◌∷◌, Option, Some, None, refl, ap, arith, unwrap_or, ℤ, ◌+ℤ◌}
+use Rattle.teb_names.specs.declared.TheConstants.{MOST_TXNS, SESSIONS}
 use Rattle.teb_names.specs.declared.Session.{Session}
 use Rattle.teb_names.specs.declared.Spot.{Spot}
 use Rattle.teb_names.specs.declared.Cell.{Cell}
@@ -107,7 +108,7 @@ begin_adds H s k (stop.Break n b) = omega arith
 of_new : (S : Setup) (H : List Event) (s : Session) (r : Request) → AddsUpTo (weight r) H (answer_new S H s r)
 unfolding answer_new
 of_new S H s (Begin k) = either 1 H (not (ltb k.kind.0 S.types)) (refuse H UnknownType) _ (refused 1 H UnknownType)
-    (either 1 H (leb 8192 (begun_count H)) (refuse H Full) (begin_or_wait H s k (begin_stop S H k)) (refused 1 H Full) (begin_adds H s k (begin_stop S H k)))
+    (either 1 H (leb MOST_TXNS (begun_count H)) (refuse H Full) (begin_or_wait H s k (begin_stop S H k)) (refused 1 H Full) (begin_adds H s k (begin_stop S H k)))
 of_new S H s (Read x) = refused 1 H NoTxn
 of_new S H s (Write x v) = refused 1 H NoTxn
 of_new S H s (Add x v) = refused 1 H NoTxn
@@ -125,4 +126,4 @@ to_any X H s r (Some t) = either (weight r) H (aborted H t) (Aborted (unwrap_or 
 
 pub adds_few : (X : Store) (H : List Event) (s : Session) (r : Request) → effects (answer X H s r).1 ≤ weight r + effects H
 unfolding answer
-adds_few X H s r = either (weight r) H (leb 1 s.0 && leb s.0 32) (answer_to X H s r (held H s.0)) (refuse H BadSession) (to_any X H s r (held H s.0)) (refused (weight r) H BadSession)
+adds_few X H s r = either (weight r) H (leb 1 s.0 && leb s.0 SESSIONS) (answer_to X H s r (held H s.0)) (refuse H BadSession) (to_any X H s r (held H s.0)) (refused (weight r) H BadSession)

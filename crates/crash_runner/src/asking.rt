@@ -11,7 +11,7 @@ ghost use Rattle.crash_runner.specs.declared.halt.Halt.TheVariants as halts;
 use crate::halt::Halt;
 use commit_journal::{Durable, DurableError};
 use crash_disk::Disk;
-use script_text::Answered;
+use script_text::{Answered, MOST_LINES};
 use std::alloc::Global;
 use teb_names::{Request, Session};
 use version_chain::Chains;
@@ -25,7 +25,7 @@ pub(crate) fn ask<C: Chains, D: Disk>(
     log: &mut Vec<Answered>,
 ) -> Result<(), Halt>
     requires underway { IsUnderway (D.tally durable.old.disk).promise D.tally D.safe durable.old log.old.items }
-    requires few { weight request + effects durable.old.events ≤ 65536 }
+    requires few { weight request + effects durable.old.events ≤ MOST_LINES }
     ensures store { IsSameStore durable.old durable.new }
     ensures underway { OnOk result (IsUnderway (D.tally durable.old.disk).promise D.tally D.safe durable.new log.new.items) }
     ensures asked { OnOk result (HasAsked durable.old.store ((session, request) ∷ []) log.old.items durable.old.events log.new.items durable.new.events) }

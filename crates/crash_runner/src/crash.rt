@@ -11,12 +11,13 @@ use crate::text::text_of;
 use command_output::Output;
 use command_output::status::OK;
 use input_reader::Input;
+use script_text::MOST_LINES;
 use std::alloc::{AllocError, Global};
 
 /// Replays an input on a disk in memory that fails from its call `stop` on, 0 for none; then recovers what is left, and shows the
 /// replies that were given and the rows.
 pub fn run_crash(alloc: Global, stop: u32, input: Input) -> Result<Output, AllocError>
-    requires { length input.lines ≤ 65536 }
+    requires { length input.lines ≤ MOST_LINES }
     ensures shown { IfOk result (IsCrash stop input) }
     // There is no history to be serialized.
     ensures serialized { IfOk result (λ o. IsSerialized (λ m. input.setup ≡ m) o.history) }

@@ -12,7 +12,7 @@ use crate::asking::ask;
 use crate::halt::Halt;
 use commit_journal::Durable;
 use crash_disk::Disk;
-use script_text::Answered;
+use script_text::{Answered, MOST_LINES};
 use std::alloc::Global;
 use teb_names::{Request, Session};
 use version_chain::Chains;
@@ -25,11 +25,11 @@ pub(crate) fn ask_ends<C: Chains, D: Disk>(
     log: &mut Vec<Answered>,
 ) -> Result<(), Halt>
     requires underway { IsUnderway (D.tally durable.old.disk).promise D.tally D.safe durable.old log.old.items }
-    requires few { effects durable.old.events ≤ 65536 }
+    requires few { effects durable.old.events ≤ MOST_LINES }
     ensures store { IsSameStore durable.old durable.new }
     ensures underway { OnOk result (IsUnderway (D.tally durable.old.disk).promise D.tally D.safe durable.new log.new.items) }
     ensures asked { OnOk result (HasAsked durable.old.store (map end_of holders.now) log.old.items durable.old.events log.new.items durable.new.events) }
-    ensures few { OnOk result (effects durable.new.events ≤ 65536) }
+    ensures few { OnOk result (effects durable.new.events ≤ MOST_LINES) }
     // Whatever would have been asked behind them.
     ensures stopped { (rest : Requests) → IsErrOf result halts.Stopped
         → StopsAt (D.tally durable.old.disk).promise durable.old.store (log.old.items ++ log_of durable.old.store durable.old.events (map end_of holders.now ++ rest)) (history_after durable.old.store durable.old.events (map end_of holders.now ++ rest))

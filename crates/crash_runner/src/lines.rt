@@ -11,7 +11,7 @@ use crate::asking::ask;
 use crate::halt::Halt;
 use commit_journal::Durable;
 use crash_disk::Disk;
-use script_text::{Answered, Line};
+use script_text::{Answered, Line, MOST_LINES};
 use std::alloc::Global;
 use version_chain::Chains;
 
@@ -23,7 +23,7 @@ pub(crate) fn ask_lines<C: Chains, D: Disk>(
     log: &mut Vec<Answered>,
 ) -> Result<(), Halt>
     requires underway { IsUnderway (D.tally durable.old.disk).promise D.tally D.safe durable.old log.old.items }
-    requires few { length lines.now + effects durable.old.events ≤ 65536 }
+    requires few { length lines.now + effects durable.old.events ≤ MOST_LINES }
     ensures store { IsSameStore durable.old durable.new }
     ensures underway { OnOk result (IsUnderway (D.tally durable.old.disk).promise D.tally D.safe durable.new log.new.items) }
     ensures asked { OnOk result (HasAsked durable.old.store (requests_of lines.now) log.old.items durable.old.events log.new.items durable.new.events) }

@@ -18,7 +18,7 @@ use commit_journal::{CreateError, Durable};
 use crash_disk::{Disk, MemDisk};
 use engine_core::Engine;
 use replay_runner::holding_sessions;
-use script_text::{Answered, Line};
+use script_text::{Answered, Line, MOST_LINES};
 use std::alloc::{AllocError, Global};
 use store_setup::Setup;
 use version_chain::Chains;
@@ -39,7 +39,7 @@ pub(crate) fn replay_on_disk(
     lines: &[Line],
 ) -> Result<DiskRun<MemDisk>, AllocError>
     requires whole { IsWhole (setup_view setup) }
-    requires few { length lines.now ≤ 65536 }
+    requires few { length lines.now ≤ MOST_LINES }
     ensures { IfOk result (λ run. IsRunOn stop (store_of_view (setup_view setup)) lines.now run.given.items run.stopped (⟦<MemDisk as Disk>⟧.tally run.disk) (⟦<MemDisk as Disk>⟧.safe run.disk)) }
 {
     let engine = Engine::new(alloc, setup, PooledChains::new(alloc))?;
@@ -62,7 +62,7 @@ fn replay_durable<C: Chains, D: Disk + Drop>(
 ) -> Result<DiskRun<D>, AllocError>
     requires underway { IsUnderway (D.tally durable.disk).promise D.tally D.safe durable [] }
     requires new { durable.events ≡ [] }
-    requires few { length lines.now ≤ 65536 }
+    requires few { length lines.now ≤ MOST_LINES }
     ensures { IfOk result (λ run. IsRunOn (D.tally durable.disk).promise.stop durable.store lines.now run.given.items run.stopped (D.tally run.disk) (D.safe run.disk)) }
 {
     let mut durable = durable;
@@ -89,10 +89,10 @@ fn ask_all<C: Chains, D: Disk>(
     requires underway { IsUnderway (D.tally durable.old.disk).promise D.tally D.safe durable.old log.old.items }
     requires new { durable.old.events ≡ [] }
     requires none { log.old.items ≡ [] }
-    requires few { length lines.now ≤ 65536 }
+    requires few { length lines.now ≤ MOST_LINES }
     ensures store { IsSameStore durable.old durable.new }
     ensures underway { OnOk result (IsUnderway (D.tally durable.old.disk).promise D.tally D.safe durable.new log.new.items) }
-    ensures few { OnOk result (effects durable.new.events ≤ 65536) }
+    ensures few { OnOk result (effects durable.new.events ≤ MOST_LINES) }
     ensures asked { OnOk result (HasAsked durable.old.store (replayed durable.old.store [] lines.now) [] [] log.new.items durable.new.events) }
     ensures stopped { IsErrOf result halts.Stopped
         → StopsAt (D.tally durable.old.disk).promise durable.old.store (log_of durable.old.store [] (replayed durable.old.store [] lines.now)) (history_after durable.old.store [] (replayed durable.old.store [] lines.now))

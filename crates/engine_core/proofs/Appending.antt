@@ -1,5 +1,6 @@
 -- What is kept of the history, before and after one more event.
 use Rattle.std.proofs.Common.{◌≡◌, ℕ, zero, suc, ◌≤◌, List, [], ◌∷◌, length, Option, ℤ, sym, subst, arith}
+use Rattle.teb_names.specs.declared.TheConstants.{MOST_TXNS}
 use Rattle.teb_names.specs.declared.Cell.{Cell}
 use Rattle.teb_names.specs.declared.Txn.{Txn}
 use Rattle.teb_history.specs.declared.Event.{Event}
@@ -43,8 +44,8 @@ within_chain (w ∷ vs) (suc i) b = let r = within_chain vs i (let z : suc i ≤
 pub put_placed : (S : Setup) (H : List Event) (L : Cell → List Version) (t : Txn) (y : Cell) (v : Option ℤ) (p : Place) → IsPlaced S H L t.0 y p → HasPlace L (Put t y v) p × PutsAt S H L (Put t y v) p
 put_placed S H L t y v p i = ((within_chain (L y) p.at i.place.within, i.own, i.there), i.place)
 
--- no more than 8,192 begin
-begun_after : (S : Setup) (P : List Event) (e : Event) → begun_count P ≤ 8192 → MayBegin S P e → begun_count (e ∷ P) ≤ 8192
+-- no more than MOST_TXNS begin
+begun_after : (S : Setup) (P : List Event) (e : Event) → begun_count P ≤ MOST_TXNS → MayBegin S P e → begun_count (e ∷ P) ≤ MOST_TXNS
 unfolding begun_count
 begun_after S P (Began t s k i) h b = b.0
 begun_after S P (Got t y w v) h b = h
@@ -62,7 +63,7 @@ whole_after node_number stands X H G e cs ds L M b d steps more latest next w g 
   profiled = w.profiled;
   nodes = w.nodes;
   lawful = subst (Lawful X.setup) (sym q) (lawful_cons X.setup e H g w.lawful);
-  few = subst (λ (P : List Event). begun_count P ≤ 8192) (sym q) (begun_after X.setup H e w.few m);
+  few = subst (λ (P : List Event). begun_count P ≤ MOST_TXNS) (sym q) (begun_after X.setup H e w.few m);
   controls = sa;
   versions = subst (λ (P : List Event). HoldsVersions X.setup P M) (sym q) hv;
   book = subst (BookOf d) (sym q) bo;

@@ -1,5 +1,6 @@
 -- What a refusal, a stop and a grant come to in the answer rule.
 use Rattle.std.proofs.Common.{◌≡◌, ◌&&◌, ℕ, suc, ◌<◌, ◌≤◌, true, false, cond, ltb, leb, List, ◌∷◌, Option, Some, None, refl, sym, ◌∙◌, ap, subst}
+use Rattle.teb_names.specs.declared.TheConstants.{MOST_TXNS, SESSIONS}
 use Rattle.teb_names.specs.declared.Cell.{Cell}
 use Rattle.std.proofs.lemmas.Bool.{le-leb, lt-leb}
 use Rattle.teb_names.specs.declared.Node.{Node}
@@ -48,18 +49,18 @@ pub begins_unknown : (S : Setup) (H : List Event) (s : Session) (k : Spot) → l
 unfolding answer_new
 begins_unknown S H s k e = rw e refl
 
-pub begins_full : (S : Setup) (H : List Event) (s : Session) (k : Spot) → ltb k.kind.0 S.types ≡ true → 8192 ≤ begun_count H → answer_new S H s (Begin k) ≡ refuse H Full
+pub begins_full : (S : Setup) (H : List Event) (s : Session) (k : Spot) → ltb k.kind.0 S.types ≡ true → MOST_TXNS ≤ begun_count H → answer_new S H s (Begin k) ≡ refuse H Full
 unfolding answer_new
-begins_full S H s k e f = rw (e, le-leb 8192 (begun_count H) f) refl
+begins_full S H s k e f = rw (e, le-leb MOST_TXNS (begun_count H) f) refl
 
-pub begins_late : (S : Setup) (H : List Event) (s : Session) (k : Spot) (u : Txn) (n : Node) → ltb k.kind.0 S.types ≡ true → begun_count H < 8192 → stop.Wait u n ≡ begin_stop S H k → answer_new S H s (Begin k) ≡ (Again u n, H)
+pub begins_late : (S : Setup) (H : List Event) (s : Session) (k : Spot) (u : Txn) (n : Node) → ltb k.kind.0 S.types ≡ true → begun_count H < MOST_TXNS → stop.Wait u n ≡ begin_stop S H k → answer_new S H s (Begin k) ≡ (Again u n, H)
 unfolding answer_new
-begins_late S H s k u n e f w = rw (e, lt-leb 8192 (begun_count H) f, ← w) refl
+begins_late S H s k u n e f w = rw (e, lt-leb MOST_TXNS (begun_count H) f, ← w) refl
 
-pub begins : (S : Setup) (H : List Event) (s : Session) (k : Spot) (t : Txn) → ltb k.kind.0 S.types ≡ true → begun_count H < 8192 → ((u : Txn) (n : Node) → begin_stop S H k ≡ stop.Wait u n → ⊥) → t.0 ≡ suc (begun_count H) →
+pub begins : (S : Setup) (H : List Event) (s : Session) (k : Spot) (t : Txn) → ltb k.kind.0 S.types ≡ true → begun_count H < MOST_TXNS → ((u : Txn) (n : Node) → begin_stop S H k ≡ stop.Wait u n → ⊥) → t.0 ≡ suc (begun_count H) →
     answer_new S H s (Begin k) ≡ (Begun t, Began t s k.kind k.instance ∷ H)
 unfolding answer_new
-begins S H s k t e f w q = rw (e, lt-leb 8192 (begun_count H) f) (go (begin_stop S H k) w ∙ ap (λ (n : ℕ). (Begun (txn n), Began (txn n) s k.kind k.instance ∷ H)) (sym q))
+begins S H s k t e f w q = rw (e, lt-leb MOST_TXNS (begun_count H) f) (go (begin_stop S H k) w ∙ ap (λ (n : ℕ). (Begun (txn n), Began (txn n) s k.kind k.instance ∷ H)) (sym q))
   where
     go : (o : Stop) → ((u : Txn) (n : Node) → o ≡ stop.Wait u n → ⊥) → begin_or_wait H s k o ≡ (Begun (txn (suc (begun_count H))), Began (txn (suc (begun_count H))) s k.kind k.instance ∷ H)
     go stop.Go w = refl
@@ -79,11 +80,11 @@ pub in_range : (H : List Event) (x : Cell) (n : ℕ) (granted : Answered) → is
 in_range H x n granted e = rw e refl
 
 -- what a session is answered by what it holds
-pub bad_session : (X : Store) (H : List Event) (s : Session) (r : Request) → (leb 1 s.0 && leb s.0 32) ≡ false → answer X H s r ≡ refuse H BadSession
+pub bad_session : (X : Store) (H : List Event) (s : Session) (r : Request) → (leb 1 s.0 && leb s.0 SESSIONS) ≡ false → answer X H s r ≡ refuse H BadSession
 unfolding answer
 bad_session X H s r b = rw b refl
 
-good_session : (X : Store) (H : List Event) (s : Session) (r : Request) → (leb 1 s.0 && leb s.0 32) ≡ true → answer X H s r ≡ answer_to X H s r (held H s.0)
+good_session : (X : Store) (H : List Event) (s : Session) (r : Request) → (leb 1 s.0 && leb s.0 SESSIONS) ≡ true → answer X H s r ≡ answer_to X H s r (held H s.0)
 unfolding answer
 good_session X H s r b = rw b refl
 
@@ -101,13 +102,13 @@ somebody_held H s t e = go (held H s.0) e
     go None e = absurd (cc)
     go (Some u) e = let q : record { 0 = u } ≡ t = cc in ap (λ (v : Txn). Some v.0) q
 
-pub nothing_held : (X : Store) (H : List Event) (s : Session) (r : Request) → (leb 1 s.0 && leb s.0 32) ≡ true → held_txn H s ≡ None → answer X H s r ≡ answer_new X.setup H s r
+pub nothing_held : (X : Store) (H : List Event) (s : Session) (r : Request) → (leb 1 s.0 && leb s.0 SESSIONS) ≡ true → held_txn H s ≡ None → answer X H s r ≡ answer_new X.setup H s r
 nothing_held X H s r b e = good_session X H s r b ∙ ap (answer_to X H s r) (nobody_held H s e)
 
-pub aborted_held : (X : Store) (H : List Event) (s : Session) (r : Request) (t : Txn) → (leb 1 s.0 && leb s.0 32) ≡ true → held_txn H s ≡ Some t → aborted H t.0 ≡ true → answer X H s r ≡ told H t.0
+pub aborted_held : (X : Store) (H : List Event) (s : Session) (r : Request) (t : Txn) → (leb 1 s.0 && leb s.0 SESSIONS) ≡ true → held_txn H s ≡ Some t → aborted H t.0 ≡ true → answer X H s r ≡ told H t.0
 aborted_held X H s r t b e a = good_session X H s r b ∙ ap (answer_to X H s r) (somebody_held H s t e) ∙ rw a refl
 
-pub running_held : (X : Store) (H : List Event) (s : Session) (r : Request) (t : Txn) → (leb 1 s.0 && leb s.0 32) ≡ true → held_txn H s ≡ Some t → aborted H t.0 ≡ false → answer X H s r ≡ answer_of X H t.0 r
+pub running_held : (X : Store) (H : List Event) (s : Session) (r : Request) (t : Txn) → (leb 1 s.0 && leb s.0 SESSIONS) ≡ true → held_txn H s ≡ Some t → aborted H t.0 ≡ false → answer X H s r ≡ answer_of X H t.0 r
 running_held X H s r t b e a = good_session X H s r b ∙ ap (answer_to X H s r) (somebody_held H s t e) ∙ rw a refl
 
 -- the answer to who asks, by what it looks at

@@ -1,6 +1,7 @@
 -- Only a scan is answered with the values of a scan.
 use Rattle.std.proofs.Common.{◌≡◌, ℕ, Bool, true, false, cond, ◌&&◌, leb, not, ltb, List, ◌∷◌, Option, Some, None, is_none, ℤ, subst}
 use Rattle.std.specs.Prelude.{◌+ℤ◌}
+use Rattle.teb_names.specs.declared.TheConstants.{MOST_TXNS, SESSIONS}
 use Rattle.teb_names.specs.declared.Cell.{Cell}
 use Rattle.teb_names.specs.declared.Reply.{Reply}
 use Rattle.teb_names.specs.declared.Reply.TheVariants.{Refused}
@@ -68,7 +69,7 @@ new_plain : (S : Setup) (H : List Event) (s : Session) (r : Request) → IsPlain
 unfolding answer_new
 new_plain S H s (Begin k) =
     either (not (ltb k.kind.0 S.types)) _ _ (refuses H UnknownType)
-    (either (leb 8192 (begun_count H)) _ _ (refuses H Full) (waited_plain H s k (begin_stop S H k)))
+    (either (leb MOST_TXNS (begun_count H)) _ _ (refuses H Full) (waited_plain H s k (begin_stop S H k)))
 new_plain S H s (Read x) = refuses H NoTxn
 new_plain S H s (Write x w) = refuses H NoTxn
 new_plain S H s (Add x w) = refuses H NoTxn
@@ -99,7 +100,7 @@ to_plain X H s r (Some t) h = either (aborted H t) _ _ (plain _ _ (λ v. v)) (of
 -- the answer to what is no scan
 plain_answer : (X : Store) (H : List Event) (s : Session) (r : Request) → IsNoScan r → IsPlain (answer X H s r)
 unfolding answer
-plain_answer X H s r h = either (leb 1 s.0 && leb s.0 32) _ _ (to_plain X H s r (held H s.0) h) (refuses H BadSession)
+plain_answer X H s r h = either (leb 1 s.0 && leb s.0 SESSIONS) _ _ (to_plain X H s r (held H s.0) h) (refuses H BadSession)
 
 -- what is no scan is not answered with what a scan comes to
 pub no_scan : (X : Store) (H : List Event) (s : Session) (r : Request) (a : Answered) → IsNoScan r → HasValues a.0 → a ≡ answer X H s r → ⊥

@@ -1,5 +1,6 @@
 -- A setup that a store can be set up with, and what is kept of an empty history.
 use Rattle.std.proofs.Common.{◌≡◌, ℕ, ◌≤◌, List, [], length, sym, ◌∙◌, subst, arith}
+use Rattle.teb_names.specs.declared.TheConstants.{MOST_TXNS}
 use Rattle.teb_names.specs.declared.Cell.{Cell}
 use Rattle.teb_names.specs.declared.Txn.{Txn}
 use Rattle.teb_history.specs.declared.Event.{Event}
@@ -29,7 +30,7 @@ enough_profiles s F q w = subst (λ (S : Rules). S.types ≤ length S.profiles) 
 pub few_ranked : (s : Setup) (F : Rules) → F ≡ (store_of s).setup → SetUp.IsWhole (setup_view s) → above_profiles F.profiles ≤ 64
 few_ranked s F q w = subst (λ (S : Rules). above_profiles S.profiles ≤ 64) (sym q) (let a : above_profiles s.profiles.items ≤ length s.names.tables = w.ranked in let b : length s.names.tables ≤ 64 = w.few_tables in omega arith)
 
-none_begun : begun_count [] ≤ 8192
+none_begun : begun_count [] ≤ MOST_TXNS
 unfolding begun_count
 none_begun = omega arith
 

@@ -1,5 +1,6 @@
 -- A decision, and the answer that it carries out.
 use Rattle.std.specs.Prelude.{◌≡◌, ◌≤◌, ◌<◌, ◌+◌, ◌^◌, ℕ, List, ◌∷◌, Option, Some, None, unwrap_or, cond, ℤ, ◌+ℤ◌}
+use Rattle.teb_names.specs.declared.TheConstants.{MOST_TXNS}
 use Rattle.teb_names.specs.declared.Cause.TheVariants.{Asked}
 use Rattle.teb_names.specs.declared.Reply.TheVariants as reply
 use Rattle.teb_names.specs.declared.Cell.{Cell}
@@ -28,9 +29,9 @@ carried X H (Put t x v p) = (reply.Done, event.Put t x v ∷ H)
 carried X H (Scan t x n) = got_values (read_all X H t.0 (cells_from x n))
 carried X H (Fall t c) = broken_off H t.0 c
 
--- a Began comes only where fewer than 8,192 transactions have begun, and no node on the way to its leaf holds it back
+-- a Began comes only where fewer than MOST_TXNS transactions have begun, and no node on the way to its leaf holds it back
 abbrev pub MayBegin : Setup → List Event → Event → Type 0
-MayBegin S H (Began t s k i) = (begun_count H < 8192) × (begin_stop S H (record { kind = k; instance = i }) ≡ stop.Go)
+MayBegin S H (Began t s k i) = (begun_count H < MOST_TXNS) × (begin_stop S H (record { kind = k; instance = i }) ≡ stop.Go)
 MayBegin S H _ = Unit {0}
 
 -- the event is no Put

@@ -11,6 +11,7 @@ use Rattle.teb_laws.specs.Laws.{reached}
 use Rattle.version_chain.specs.Lists.{Version}
 use Rattle.store_setup.specs.SetupView.{setup_view}
 use Rattle.store_setup.specs.Sound as SetUp
+use Rattle.engine_core.specs.declared.room.TheConstants.{MOST_EVENTS}
 use Rattle.engine_core.specs.declared.engine_state.EngineState.{EngineState}
 use Rattle.store_setup.specs.Stores.{store_of}
 use Rattle.engine_core.specs.Wholes.{StateIsWhole, HasRoom}
@@ -37,4 +38,4 @@ pub record IsEngine {K C : Type 0} (node_number : K → ℕ) (stands : K → Set
   pub whole : StateIsWhole node_number stands lists k
   pub reached : IsReached (store_of k.setup) k.history.events
   pub room : HasRoom spare chain_spare k
-  pub enough : ready ≡ true → 32 ≤ k.room
+  pub enough : ready ≡ true → MOST_EVENTS ≤ k.room

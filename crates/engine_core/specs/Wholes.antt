@@ -1,5 +1,6 @@
 -- What holds of all that an engine keeps at once.
 use Rattle.std.specs.Prelude.{◌≡◌, ◌≤◌, ℕ, List, length, slice_get, Some}
+use Rattle.teb_names.specs.declared.TheConstants.{MOST_TXNS}
 use Rattle.teb_names.specs.declared.Cell.{Cell}
 use Rattle.teb_names.specs.declared.Txn.{Txn}
 use Rattle.teb_history.specs.declared.Event.{Event}
@@ -24,7 +25,7 @@ pub record IsWhole {K : Type 0} (node_number : K → ℕ) (stands : K → Setup 
   pub profiled : length X.setup.profiles ≡ X.setup.types
   pub nodes : length X.setup.tree ≤ 64
   pub lawful : Lawful X.setup H
-  pub few : begun_count H ≤ 8192
+  pub few : begun_count H ≤ MOST_TXNS
   pub controls : StandAll node_number stands cs X.setup H
   pub versions : HoldsVersions X.setup H L
   pub book : BookOf b H

@@ -12,6 +12,7 @@ use crate::decision::Decision;
 use crate::engine_state::EngineState;
 use crate::falls::fall;
 use crate::read_cells::read_cells;
+use crate::room::MOST_EVENTS;
 use candidate_reads::Place;
 use phase_api::Control;
 use short_reply::ShortReply;
@@ -32,7 +33,7 @@ pub fn scan<K: Control, C: Chains>(
     requires few { count ≤ 16 }
     requires keys { first.key + count ≤ 2 ^ 32 }
     requires room { HasRoom K.spare C.spare state.old }
-    requires enough { 32 ≤ state.old.room }
+    requires enough { MOST_EVENTS ≤ state.old.room }
     ensures reply { result ≡ (carried (store_of state.old.setup) state.old.history.events (Decision.Scan t first count)).0 }
     ensures events { state.new.history.events ≡ (carried (store_of state.old.setup) state.old.history.events (Decision.Scan t first count)).1 }
     ensures whole { StateIsWhole K.node_number K.stands C.lists state.new }
@@ -50,7 +51,7 @@ pub fn write<K: Control, C: Chains>(decision: Decision, state: &mut EngineState<
     requires leads { Lawful (store_of state.old.setup).setup (carried (store_of state.old.setup) state.old.history.events decision).1 }
     requires bounded { IsBounded (C.lists state.old.chains) (store_of state.old.setup).setup state.old.history.events decision }
     requires room { HasRoom K.spare C.spare state.old }
-    requires enough { 32 ≤ state.old.room }
+    requires enough { MOST_EVENTS ≤ state.old.room }
     ensures reply { full_reply result ≡ (carried (store_of state.old.setup) state.old.history.events decision).0 }
     ensures events { state.new.history.events ≡ (carried (store_of state.old.setup) state.old.history.events decision).1 }
     ensures whole { StateIsWhole K.node_number K.stands C.lists state.new }

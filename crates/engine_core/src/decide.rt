@@ -16,14 +16,9 @@ use crate::stops::{begin_stop, commit_stop, prepare_stop};
 use phase_api::Control;
 use short_reply::ShortReply;
 use teb_history::Event;
-use teb_names::{Cause, Refusal, Request, Session, Spot, Txn};
+use teb_names::{Cause, MOST_TXNS, Refusal, Request, SESSIONS, Session, Spot, Txn};
 use teb_rules::Stop;
 use version_chain::Chains;
-
-const SESSIONS: u8 = 32;
-
-/// How many transactions begin at most.
-pub(crate) const MOST_TXNS: u32 = 8192;
 
 /// What a request of a session is answered.
 pub fn decide<K: Control, C: Chains>(
@@ -47,9 +42,9 @@ pub fn decide<K: Control, C: Chains>(
     }
 }
 
-/// Whether a session's number is one of 1 to 32.
+/// Whether a session's number is one of 1 to `SESSIONS`.
 fn is_session(session: Session) -> bool
-    ensures { result ≡ (leb 1 session.0 && leb session.0 32) }
+    ensures { result ≡ (leb 1 session.0 && leb session.0 SESSIONS) }
 {
     (1..=SESSIONS).contains(&session.0)
 }

@@ -17,7 +17,6 @@ ghost use Rattle.engine_core.specs.EngineModel.{IsEngine, IsOfEngine};
 
 use crate::any_control::{AnyControl, controls_of};
 use crate::carry_out::scan;
-use crate::decide::MOST_TXNS;
 use crate::engine_state::{EngineState, facts_of};
 use crate::latest_txns::LatestTxns;
 use crate::respond::{Response, respond};
@@ -29,7 +28,7 @@ use std::alloc::{AllocError, Global};
 use std::marker::Model;
 use store_setup::Setup;
 use teb_history::History;
-use teb_names::{Reply, Request, Session};
+use teb_names::{MOST_TXNS, Reply, Request, Session};
 use version_chain::Chains;
 
 /// A store with its history, and the answers that go on with it. Contracts see the store, its names, the events, the

@@ -8,6 +8,7 @@ ghost use Rattle.engine_core.specs.Wholes.{StateIsWhole, HasRoom};
 
 use crate::append_event::append_event;
 use crate::engine_state::{EngineState, facts_of};
+use crate::room::MOST_EVENTS;
 use abort_cascade::cascade;
 use candidate_reads::Place;
 use phase_api::Control;
@@ -21,7 +22,7 @@ pub fn fall<K: Control, C: Chains>(state: &mut EngineState<K, C>, t: Txn, cause:
     requires settled { Settled state.old.history.events }
     requires unfinished { IsTrue (unfinished state.old.history.events t.0) }
     requires room { HasRoom K.spare C.spare state.old }
-    requires enough { 32 ≤ state.old.room }
+    requires enough { MOST_EVENTS ≤ state.old.room }
     ensures whole { StateIsWhole K.node_number K.stands C.lists state.new }
     ensures events { state.new.history.events ≡ abort state.old.history.events t.0 cause }
     ensures setup { state.new.setup ≡ state.old.setup }

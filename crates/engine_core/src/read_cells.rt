@@ -8,6 +8,7 @@ ghost use Rattle.engine_core.specs.Wholes.{StateIsWhole, HasRoom};
 
 use crate::append_event::append_event;
 use crate::engine_state::EngineState;
+use crate::room::MOST_EVENTS;
 use crate::scans::cell_at;
 use candidate_reads::Place;
 use phase_api::Control;
@@ -27,7 +28,7 @@ pub fn read_cells<K: Control, C: Chains>(
     requires few { count ≤ 16 }
     requires keys { first.key + count ≤ 2 ^ 32 }
     requires room { HasRoom K.spare C.spare state.old }
-    requires enough { 32 ≤ state.old.room }
+    requires enough { MOST_EVENTS ≤ state.old.room }
     ensures values { result ≡ (read_all (store_of state.old.setup) state.old.history.events t.0 (cells_from first count)).0 }
     ensures whole { StateIsWhole K.node_number K.stands C.lists state.new }
     ensures events { state.new.history.events ≡ (read_all (store_of state.old.setup) state.old.history.events t.0 (cells_from first count)).1 }

@@ -10,6 +10,7 @@ ghost use Rattle.engine_core.specs.Wholes.{StateIsWhole, HasRoom};
 use crate::carry_out::write;
 use crate::decision::Decision;
 use crate::engine_state::EngineState;
+use crate::room::MOST_EVENTS;
 use phase_api::Control;
 use short_reply::ShortReply;
 use teb_names::{Cell, Request, Session, Txn};
@@ -35,7 +36,7 @@ pub fn respond<K: Control, C: Chains>(
     requires whole { StateIsWhole K.node_number K.stands C.lists state.old }
     requires settled { Settled state.old.history.events }
     requires room { HasRoom K.spare C.spare state.old }
-    requires enough { 32 ≤ state.old.room }
+    requires enough { MOST_EVENTS ≤ state.old.room }
     ensures answer { IsResponse state.old state.new (answer (store_of state.old.setup) state.old.history.events session request.now) result }
     ensures whole { StateIsWhole K.node_number K.stands C.lists state.new }
     ensures setup { state.new.setup ≡ state.old.setup }

@@ -7,10 +7,11 @@ use crate::engine_state::EngineState;
 use crate::notes::reserve_each;
 use phase_api::Control;
 use std::alloc::AllocError;
+use teb_names::SESSIONS;
 use version_chain::Chains;
 
-/// The most events of one answer: an abort takes at most 31 others with it, and a scan reads 16 cells.
-const MOST_EVENTS: usize = 32;
+/// The most events of one answer: an abort takes one transaction of each other session with it at most, and a scan reads 16 cells.
+pub(crate) const MOST_EVENTS: usize = SESSIONS as usize;
 
 /// For how many events room is made at a time.
 const AHEAD: usize = 256;
@@ -24,7 +25,7 @@ pub fn make_room<K: Control, C: Chains>(state: &mut EngineState<K, C>) -> Result
     ensures events { state.new.history.events ≡ state.old.history.events }
     ensures setup { state.new.setup ≡ state.old.setup }
     ensures room { HasRoom K.spare C.spare state.new }
-    ensures enough { OnOk result (32 ≤ state.new.room) }
+    ensures enough { OnOk result (MOST_EVENTS ≤ state.new.room) }
 {
     if state.room >= MOST_EVENTS {
         return Ok(());
@@ -41,7 +42,7 @@ fn make_room_ahead<K: Control, C: Chains>(state: &mut EngineState<K, C>) -> Resu
     ensures events { state.new.history.events ≡ state.old.history.events }
     ensures setup { state.new.setup ≡ state.old.setup }
     ensures room { HasRoom K.spare C.spare state.new }
-    ensures enough { OnOk result (32 ≤ state.new.room) }
+    ensures enough { OnOk result (MOST_EVENTS ≤ state.new.room) }
 {
     state.room = 0;
     reserve(state, AHEAD)?;

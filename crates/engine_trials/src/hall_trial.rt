@@ -16,7 +16,7 @@ use session_server::{AskError, Entries, Hall, Pass};
 use std::alloc::Global;
 use std::fmt::Write;
 use std::sync::Wait;
-use teb_names::{Request, Txn};
+use teb_names::{Request, SESSIONS, Txn};
 use version_chain::Chains;
 
 /// How many events come before the last of the requests.
@@ -56,7 +56,7 @@ fn closed_after<R: Wait>(
     before: usize,
 ) -> Result<(Engine<Tried>, Entries), Trouble>
     requires new { All (IsNew hall) passes.items }
-    requires sessions { map number_of passes.items ≡ numbers 32 }
+    requires sessions { map number_of passes.items ≡ numbers SESSIONS }
 {
     let Some(mut reader) = passes.pop() else {
         return Err(Trouble::Changed);

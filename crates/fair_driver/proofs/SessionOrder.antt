@@ -2,6 +2,7 @@
 use Rattle.std.proofs.Common.{◌≡◌, ℕ, zero, suc, ◌+◌, ◌<◌, ◌≤◌, ◌==◌, Bool, true, false, not, cond, List, [], ◌∷◌, length, filter, map, refl, arith}
 use Rattle.std.specs.List.{range_with_len}
 use Rattle.std.proofs.lemmas.Bool.{eqb-true}
+use Rattle.teb_names.specs.declared.TheConstants.{SESSIONS}
 use Rattle.teb_names.specs.declared.Session.{Session}
 use Rattle.script_text.specs.declared.Line.{Line}
 use Rattle.script_text.specs.Scripts.{session, session_numbers, lines_for, scripts_of}
@@ -10,12 +11,12 @@ use Rattle.fair_driver.specs.Seats.{scripts_on}
 use Rattle.script_text.specs.Sessions.{AreOfSessions}
 
 -- a number that has a line is a session's
-of_session : (lines : List Line) (n : ℕ) → AreOfSessions lines → not (length (filter (λ (l : Line). l.session.0 == n) lines) == 0) ≡ true → (0 < n) × (n ≤ 32)
+of_session : (lines : List Line) (n : ℕ) → AreOfSessions lines → not (length (filter (λ (l : Line). l.session.0 == n) lines) == 0) ≡ true → (0 < n) × (n ≤ SESSIONS)
 of_session [] n a h = absurd (cc)
 of_session (l ∷ ls) n a h = go (l.session.0 == n) refl h (of_session ls n a.2)
   where
     go : (b : Bool) → (l.session.0 == n) ≡ b → not (length (cond b (l ∷ filter (λ (k : Line). k.session.0 == n) ls) (filter (λ (k : Line). k.session.0 == n) ls)) == 0) ≡ true →
-        (not (length (filter (λ (k : Line). k.session.0 == n) ls) == 0) ≡ true → (0 < n) × (n ≤ 32)) → (0 < n) × (n ≤ 32)
+        (not (length (filter (λ (k : Line). k.session.0 == n) ls) == 0) ≡ true → (0 < n) × (n ≤ SESSIONS)) → (0 < n) × (n ≤ SESSIONS)
     go true e k ih = let s = eqb-true l.session.0 n e in (omega (arith, a.0, s), omega (arith, a.1, s))
     go false e k ih = ih k
 

@@ -6,16 +6,16 @@ ghost use Rattle.turn_lock.specs.Views.{published, looked_at};
 ghost use Rattle.turn_lock.specs.Seats.{note_count, view_of, slot_of, IsOf, IsInside};
 
 use crate::answer::Poll;
-use teb_names::{Outcome, Txn};
+use teb_names::{MOST_TXNS, Outcome, Txn};
 use turn_lock::{Member, SeatOf, Turn};
 
 /// Publishes that a transaction finished so, as the word 1 for committed and 2 for aborted.
 ///
-/// The seat is in the turn, the value has the note with this word, and nobody published it before. `t` is 1 to 8,192,
+/// The seat is in the turn, the value has the note with this word, and nobody published it before. `t` is 1 to `MOST_TXNS`,
 /// and its note is below the number of the turn's notes.
 pub fn publish<T: Member>(turn: &Turn<T>, seat: &mut SeatOf<T>, value: &T, t: Txn, outcome: Outcome)
     requires seat { IsOf turn.now seat.old × IsInside seat.old }
-    requires txn { (1 ≤ t.0) × (t.0 ≤ 8192) × (t.0 - 1 < note_count turn.now) }
+    requires txn { (1 ≤ t.0) × (t.0 ≤ MOST_TXNS) × (t.0 - 1 < note_count turn.now) }
     requires note { T.note value.now (t.0 - 1) ≡ word_of outcome }
     requires fresh { slice_index (view_of seat.old).notes (t.0 - 1) ≡ 0 }
     ensures seat { IsOf turn.now seat.new × IsInside seat.new }
@@ -40,7 +40,7 @@ pub(crate) fn word(outcome: Outcome) -> u64
 /// A finish that the seat knows is answered, and one that is answered is known from then on.
 pub fn poll<T: Member>(turn: &Turn<T>, seat: &mut SeatOf<T>, t: Txn) -> Poll
     requires seat { IsOf turn.now seat.old }
-    requires txn { (1 ≤ t.0) × (t.0 ≤ 8192) × (t.0 - 1 < note_count turn.now) }
+    requires txn { (1 ≤ t.0) × (t.0 ≤ MOST_TXNS) × (t.0 - 1 < note_count turn.now) }
     ensures seat { IsOf turn.now seat.new × (slot_of seat.new ≡ slot_of seat.old) }
     ensures answer { result ≡ known_of t.0 (view_of seat.new) }
     ensures known { known_of t.0 (view_of seat.old) ≢ Unfinished → result ≡ known_of t.0 (view_of seat.old) }

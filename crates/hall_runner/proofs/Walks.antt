@@ -1,6 +1,7 @@
 -- The walks of the sessions of a hall that was closed, from what its passes have seen.
 use Rattle.std.proofs.Common.{◌≡◌, ◌≢◌, ℕ, zero, suc, ◌+◌, ◌<◌, ◌≤◌, ◌==◌, if◌then◌else◌, Bool, true, false, List, [], ◌∷◌, map, Some, All, slice_get, eqb, refl, sym, ◌∙◌, ap, subst, arith, inl, inr}
 use Rattle.std.proofs.lemmas.Bool.{eqb-true, cases_lt}
+use Rattle.teb_names.specs.declared.TheConstants.{SESSIONS}
 use Rattle.teb_names.specs.declared.Entry.{Entry}
 use Rattle.teb_names.specs.declared.Session.{Session}
 use Rattle.teb_history.specs.Phases.{numbers}
@@ -27,8 +28,8 @@ pick {A} f P (x ∷ xs) s has all = go (s == f x) refl has (λ h. pick f P xs s 
     go true e h more = (x, sym (eqb-true s (f x) e), all zero x (omega arith))
     go false e h more = more (let w : 0 < 0 + times s (map f xs) = h in let z : 0 < times s (map f xs) = omega (arith, w) in z)
 
--- the sessions of ascending scripts are 1 to 32
-session_in : (scripts : Scripted) (least : ℕ) → Ascending least (scripts_on scripts) → (i : ℕ) (s : Session) (lines : List Line) → slice_get scripts i ≡ Some (s, lines) → (1 ≤ s.0) × (s.0 ≤ 32)
+-- the sessions of ascending scripts are 1 to SESSIONS
+session_in : (scripts : Scripted) (least : ℕ) → Ascending least (scripts_on scripts) → (i : ℕ) (s : Session) (lines : List Line) → slice_get scripts i ≡ Some (s, lines) → (1 ≤ s.0) × (s.0 ≤ SESSIONS)
 session_in [] least a i s lines e = absurd (cc)
 session_in (x ∷ xs) least a zero s lines e = let z : x.0.0 ≡ s.0 = some_session x s lines e in (omega (arith, a.0, z), omega (arith, a.1, z))
   where
@@ -37,7 +38,7 @@ session_in (x ∷ xs) least a zero s lines e = let z : x.0.0 ≡ s.0 = some_sess
 session_in (x ∷ xs) least a (suc i) s lines e = session_in xs x.0.0 a.2 i s lines e
 
 -- no entry is of a session outside their range
-none_outside : (s : ℕ) (entries : List Entry) → All (λ (e : Entry). (1 ≤ e.session.0) × (e.session.0 ≤ 32)) entries → ((1 ≤ s) × (s ≤ 32) → ⊥) → entries_of s entries ≡ []
+none_outside : (s : ℕ) (entries : List Entry) → All (λ (e : Entry). (1 ≤ e.session.0) × (e.session.0 ≤ SESSIONS)) entries → ((1 ≤ s) × (s ≤ SESSIONS) → ⊥) → entries_of s entries ≡ []
 none_outside s [] within out = refl
 none_outside s (e ∷ es) within out = go (eqb e.session.0 s) refl (none_outside s es (λ k d low. within (suc k) d (omega (arith, low))) out)
   where
@@ -45,12 +46,12 @@ none_outside s (e ∷ es) within out = go (eqb e.session.0 s) refl (none_outside
     go true q more = let w = within zero e (omega arith) in let z = eqb-true e.session.0 s q in absurd (out (omega (arith, w.0, z), omega (arith, w.1, z)))
     go false q more = more
 
-module _ {C : Type 0} {g : Ghosts C} (h : Hall C g) (scripts : Scripted) (entries : List Entry) (passes : List (Pass C g)) (numbered : map number_of passes ≡ numbers 32)
+module _ {C : Type 0} {g : Ghosts C} (h : Hall C g) (scripts : Scripted) (entries : List Entry) (passes : List (Pass C g)) (numbered : map number_of passes ≡ numbers SESSIONS)
     (served : All (IsServed h scripts) passes) (within : All (IsWithin entries) passes) where
   abbrev Both : Pass C g → Type 0
   Both p = IsServed h scripts p × IsWithin entries p
 
-  pass_of : (s : Session) → 1 ≤ s.0 → s.0 ≤ 32 → (p : Pass C g) × (p.session ≡ s) × Both p
+  pass_of : (s : Session) → 1 ≤ s.0 → s.0 ≤ SESSIONS → (p : Pass C g) × (p.session ≡ s) × Both p
   pass_of s low high =
       let p = pick number_of Both passes s.0 (has_all (map number_of passes) numbered s.0 low high) (λ k d below. (served k d below, within k d below)) in
       (p.0, ap (λ (n : ℕ). record { 0 = n }) p.1, p.2)
@@ -62,10 +63,10 @@ module _ {C : Type 0} {g : Ghosts C} (h : Hall C g) (scripts : Scripted) (entrie
       let walk = p.2.0.walk i lines (subst (λ (t : Session). slice_get scripts i ≡ Some (t, lines)) (sym p.1) is) in
       subst (λ (t : Session). IsWalk (requests_on lines) (entries_of t.0 entries)) p.1 (subst (IsWalk (requests_on lines)) (sym p.2.1.mine) walk)
 
-  pub others_of : All (λ (e : Entry). (1 ≤ e.session.0) × (e.session.0 ≤ 32)) entries → (s : Session) → ((i : ℕ) (lines : List Line) → slice_get scripts i ≢ Some (s, lines)) → entries_of s.0 entries ≡ []
+  pub others_of : All (λ (e : Entry). (1 ≤ e.session.0) × (e.session.0 ≤ SESSIONS)) entries → (s : Session) → ((i : ℕ) (lines : List Line) → slice_get scripts i ≢ Some (s, lines)) → entries_of s.0 entries ≡ []
   others_of bounds s none = elim (cases_lt 0 s.0) [
     | inr l ↦ none_outside s.0 entries bounds (λ w. omega (arith, w.0, l))
-    | inl l ↦ elim (cases_lt 32 s.0) [
+    | inl l ↦ elim (cases_lt SESSIONS s.0) [
       | inl m ↦ none_outside s.0 entries bounds (λ w. omega (arith, w.1, m))
       | inr m ↦ (
           let p = pass_of s (omega (arith, l)) m in

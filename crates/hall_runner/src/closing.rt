@@ -14,6 +14,7 @@ use chain_pool::PooledChains;
 use script_text::Scripts;
 use session_server::{Hall, Pass};
 use std::alloc::{AllocError, Global};
+use teb_names::SESSIONS;
 
 /// Closes the hall, and prints the run that it was.
 pub fn closed(
@@ -23,7 +24,7 @@ pub fn closed(
     scripts: &Scripts,
 ) -> Result<Served, AllocError>
     requires setup { AreSetUp (base_of hall).store (base_of hall).names }
-    requires sessions { map number_of passes.items ≡ numbers 32 }
+    requires sessions { map number_of passes.items ≡ numbers SESSIONS }
     requires served { All (IsServed hall scripts.now) passes.items }
     requires ascending { Ascending 0 (scripts_on scripts.now) }
     ensures served { IfOk result (IsServedOver (base_of hall).store (base_of hall).names scripts.now) }

@@ -22,6 +22,7 @@ use session_tasks::{Gate, RunError};
 use std::alloc::{AllocError, Global};
 use std::sync::Wait;
 use std::thread::Threads;
+use teb_names::SESSIONS;
 use thread_runner::run_threads;
 use version_chain::Chains;
 
@@ -123,11 +124,11 @@ fn serve_sessions<C: Chains + Send, R: Threads + Wait + Sync, G: Gate + Sync>(
     workers: u8,
     gate: &G,
 ) -> Result<Vec<Pass<C>>, RunError<C>>
-    requires sessions { map number_of passes.items ≡ numbers 32 }
+    requires sessions { map number_of passes.items ≡ numbers SESSIONS }
     requires new { All (IsNew hall.now) passes.items }
     requires scripts { AreDistinct scripts.now }
     requires workers { 1 ≤ workers }
-    ensures sessions { IfOk result (λ v. map number_of v.items ≡ numbers 32) }
+    ensures sessions { IfOk result (λ v. map number_of v.items ≡ numbers SESSIONS) }
     ensures served { IfOk result (λ v. All (IsServed hall.now scripts.now) v.items) }
     ensures cause { IfErr result (IsCause hall.now scripts.now) }
 {
@@ -147,11 +148,11 @@ fn serve_from_queue<C: Chains + Send, R: Threads + Wait + Sync, G: Gate + Sync>(
     workers: u8,
     gate: &G,
 ) -> Result<Vec<Pass<C>>, RunError<C>>
-    requires sessions { map number_of passes.items ≡ numbers 32 }
+    requires sessions { map number_of passes.items ≡ numbers SESSIONS }
     requires new { All (IsNew hall.now) passes.items }
     requires scripts { AreDistinct scripts.now }
     requires workers { 1 ≤ workers }
-    ensures sessions { IfOk result (λ v. map number_of v.items ≡ numbers 32) }
+    ensures sessions { IfOk result (λ v. map number_of v.items ≡ numbers SESSIONS) }
     ensures served { IfOk result (λ v. All (IsServed hall.now scripts.now) v.items) }
     ensures cause { IfErr result (IsCause hall.now scripts.now) }
 {

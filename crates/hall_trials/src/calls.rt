@@ -10,7 +10,7 @@ use std::process::Abort;
 use std::sync::Wait;
 use std::test::Fail;
 use teb_history::{Event, History};
-use teb_names::{Kind, Node, Outcome, Reply, Request, Session, Txn};
+use teb_names::{Kind, MOST_TXNS, Node, Outcome, Reply, Request, SESSIONS, Session, Txn};
 use version_chain::Chains;
 
 fn expect_reply<C: Chains, R: Wait + Abort>(
@@ -31,7 +31,7 @@ fn expect_reply<C: Chains, R: Wait + Abort>(
 
 fn expect_poll<C: Chains, R: Abort>(rt: &R, hall: &Hall<C>, pass: &mut Pass<C>, t: Txn, poll: Poll)
     requires pass { IsPassOf hall.now pass.old }
-    requires txn { (1 ≤ t.0) × (t.0 ≤ 8192) }
+    requires txn { (1 ≤ t.0) × (t.0 ≤ MOST_TXNS) }
     ensures { IsPassOf hall.now pass.new × (pass.new.session ≡ pass.old.session) }
 {
     let seen = hall.poll(pass, t);
@@ -73,7 +73,7 @@ fn closed_after<C: Chains, R: Wait + Abort>(
     mut passes: Vec<Pass<C>>,
 ) -> (History, Entries)
     requires new { All (IsNew hall) passes.items }
-    requires sessions { map number_of passes.items ≡ numbers 32 }
+    requires sessions { map number_of passes.items ≡ numbers SESSIONS }
 {
     let mut reader = passes.pop().expect(rt, "session 32");
     let mut writer = passes.pop().expect(rt, "session 31");

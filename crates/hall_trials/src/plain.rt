@@ -10,7 +10,7 @@ use session_server::{Hall, Pass};
 use std::alloc::Global;
 use std::process::Abort;
 use std::test::Fail;
-use teb_names::{Cell, Kind, Spot, Table};
+use teb_names::{Cell, Kind, SESSIONS, Spot, Table};
 use tree_toml::read_tree;
 
 /// The type `any`.
@@ -25,13 +25,13 @@ pub(crate) const CELL: Cell = Cell {
     key: 1,
 };
 
-/// A hall that was asked nothing yet, and the passes of the sessions 1 to 32, in order.
+/// A hall that was asked nothing yet, and the passes of the sessions 1 to `SESSIONS`, in order.
 pub(crate) fn plain_hall<R: Abort>(
     rt: &R,
     alloc: Global,
 ) -> Result<(Hall<PooledChains>, Vec<Pass<PooledChains>>), Fail>
     ensures passes { IfOk result (λ r. All (IsNew r.0) r.1.items) }
-    ensures sessions { IfOk result (λ r. map number_of r.1.items ≡ numbers 32) }
+    ensures sessions { IfOk result (λ r. map number_of r.1.items ≡ numbers SESSIONS) }
 {
     let setup = read_tree(alloc, b"")?;
     let engine = Engine::new(alloc, setup, PooledChains::new(alloc))?;

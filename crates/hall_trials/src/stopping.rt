@@ -15,7 +15,7 @@ use std::sync::Wait;
 use std::sync::atomic::AtomicIn;
 use std::test::Fail;
 use teb_history::History;
-use teb_names::{Request, Session};
+use teb_names::{Request, SESSIONS, Session};
 use version_chain::Chains;
 
 fn line(number: u32, request: Request) -> Line {
@@ -57,7 +57,7 @@ fn history_after<C: Chains, R: Wait + Abort>(
     mut passes: Vec<Pass<C>>,
 ) -> History
     requires new { All (IsNew hall) passes.items }
-    requires sessions { map number_of passes.items ≡ numbers 32 }
+    requires sessions { map number_of passes.items ≡ numbers SESSIONS }
 {
     let mut pass = passes.pop().expect(rt, "session 32");
     stop_and_go_on(rt, &hall, &mut pass);

@@ -10,6 +10,7 @@ use Rattle.tree_toml.specs.declared.fault.TreeText.{TreeText}
 use Rattle.tree_toml.specs.declared.fault.TreeText.TheVariants as tree
 use Rattle.store_setup.specs.SetupView.{SetupView}
 use Rattle.tree_toml.specs.SetupText.{setup_of_text}
+use Rattle.script_text.specs.declared.input.TheConstants.{MOST_BYTES, MOST_LINES}
 use Rattle.input_reader.specs.declared.error.InputError.{InputError}
 use Rattle.input_reader.specs.declared.error.InputError.TheVariants.{TooLong, NoSeparator, BadTree, BadLine, OutOfMemory}
 use Rattle.store_setup.specs.Stores.{names_of}
@@ -34,11 +35,11 @@ abbrev pub task_under : Result SetupView TreeText → List ℕ → Result Task I
 task_under (Ok m) text = task_of m (script_of (names_of m) m.format text)
 task_under (Err e) text = Err (tree_error e)
 
--- at most 65,536 lines
+-- at most MOST_LINES lines
 abbrev pub task_in : Option (List ℕ × List ℕ) → Result Task InputError
 task_in None = Err NoSeparator
-task_in (Some p) = if nat_lt 65536 (length (lines_of p.1)) then Err TooLong else task_under (setup_of_text p.0) p.1
+task_in (Some p) = if nat_lt MOST_LINES (length (lines_of p.1)) then Err TooLong else task_under (setup_of_text p.0) p.1
 
--- at most 4,194,304 bytes
+-- at most MOST_BYTES bytes
 abbrev pub input_of : List ℕ → Result Task InputError
-input_of bytes = if nat_lt 4194304 (length bytes) then Err TooLong else task_in (parts_of bytes)
+input_of bytes = if nat_lt MOST_BYTES (length bytes) then Err TooLong else task_in (parts_of bytes)

@@ -4,6 +4,7 @@ use Rattle.std.specs.declared.alloc.Global.{Global}
 use Rattle.std.specs.Io.KnownBytes.{IsAtEnd}
 use Rattle.teb_io.specs.declared.source.ReadError.{ReadError}
 use Rattle.teb_io.specs.declared.source.ReadError.TheVariants as read
+use Rattle.script_text.specs.declared.input.TheConstants.{MOST_BYTES}
 use Rattle.input_reader.specs.declared.error.InputError.{InputError}
 use Rattle.input_reader.specs.declared.error.InputError.TheVariants.{ReadFault, OutOfMemory}
 use Rattle.input_reader.specs.Inputs.{input_of}
@@ -12,12 +13,12 @@ use Rattle.input_reader.specs.Tasks.{Task}
 -- the bytes that a source had: those that it told, where it told them; and it is at its end, where they are not too many
 pub record AreOf (before now : Option (List ℕ)) (bytes : List ℕ) : Type 0 where
   pub told : IfSome before (λ known. known ≡ bytes)
-  pub whole : length bytes ≤ 4194304 → IsAtEnd now
+  pub whole : length bytes ≤ MOST_BYTES → IsAtEnd now
 
 -- the bytes that a source had, where they are not too many; they are, where it is so answered
 abbrev pub AreReadFrom : Option (List ℕ) → Option (List ℕ) → Result (Vec ℕ Global) ReadError → Type 0
-AreReadFrom before now (Ok v) = AreOf before now v.items × (length v.items ≤ 4194304)
-AreReadFrom before now (Err read.TooLong) = (bytes : List ℕ) × AreOf before now bytes × (4194304 < length bytes)
+AreReadFrom before now (Ok v) = AreOf before now v.items × (length v.items ≤ MOST_BYTES)
+AreReadFrom before now (Err read.TooLong) = (bytes : List ℕ) × AreOf before now bytes × (MOST_BYTES < length bytes)
 AreReadFrom before now (Err _) = Unit {0}
 
 -- what bytes were read as, by what they are, unless memory ran out

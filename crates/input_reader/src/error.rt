@@ -10,7 +10,7 @@ use tree_toml::TreeText;
 pub enum InputError {
     #[error("the input could not be read")]
     ReadFault,
-    /// There are more than 4,194,304 bytes, or more than 65,536 lines in the script.
+    /// There are more than `MOST_BYTES` bytes, or more than `MOST_LINES` lines in the script.
     #[error("the input is too long")]
     TooLong,
     /// No line is `%%`.

@@ -10,7 +10,7 @@ use std::marker::Model;
 use store_setup::Setup;
 
 /// A setup, and the lines to be run over its store. The store can be set up, each node has a name, all
-/// names are as names may be, and the lines are of sessions 1 to 32.
+/// names are as names may be, and the lines are of sessions 1 to `SESSIONS`.
 #[derive(Drop)]
 pub struct Input {
     setup: Setup,

@@ -8,5 +8,5 @@ mod refused;
 
 pub use error::InputError;
 pub use input::Input;
-pub use reading::{MOST_LINES, parse_input, read_bytes, read_input};
+pub use reading::{parse_input, read_bytes, read_input};
 pub use refused::refusal;

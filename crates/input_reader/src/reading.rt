@@ -6,18 +6,12 @@ ghost use Rattle.input_reader.specs.Inputs.{input_of};
 ghost use Rattle.input_reader.specs.Readings.{AreReadFrom, IsRead, IsReadFrom};
 
 use crate::{Input, InputError};
-use script_text::{has_more_lines, parse_script, split_input};
+use script_text::{MOST_BYTES, MOST_LINES, has_more_lines, parse_script, split_input};
 use std::alloc::Global;
 use teb_io::{ReadError, Source, read_all};
 use tree_toml::read_tree;
 
-/// The most bytes of an input.
-const MOST_BYTES: usize = 4_194_304;
-
-/// The most lines of a script.
-pub const MOST_LINES: usize = 65_536;
-
-/// Reads a source to its end, where it has at most 4,194,304 bytes.
+/// Reads a source to its end, where it has at most `MOST_BYTES` bytes.
 pub fn read_bytes<S: Source>(alloc: Global, source: &mut S) -> Result<Vec<u8>, ReadError>
     ensures bytes { AreReadFrom (S.left source.old) (S.left source.new) result }
     ensures fault { IsErrOf result ReadError.ReadFault → Rose (S.faults source.old) (S.faults source.new) }
@@ -44,7 +38,7 @@ pub fn read_input<S: Source>(alloc: Global, source: &mut S) -> Result<Input, Inp
 /// # Errors
 /// The first of `NoSeparator`, `TooLong` by lines, `BadTree` and `BadLine`, or `OutOfMemory`.
 pub fn parse_input(alloc: Global, bytes: &[u8]) -> Result<Input, InputError>
-    requires { length bytes.now ≤ 4194304 }
+    requires { length bytes.now ≤ MOST_BYTES }
     ensures { IsRead result (input_of bytes.now) }
 {
     let Some((tree, script)) = split_input(bytes) else {

@@ -2,6 +2,7 @@
 use Rattle.std.proofs.Common.{◌≡◌, ◌≢◌, ◌⊎◌, ℕ, ◌<◌, ◌≤◌, Bool, true, false, cond, ◌&&◌, leb, List, [], ◌∷◌, map, filter, is_some, Option, Some, None, refl, sym, ◌∙◌, ap, subst, inl, inr, arith, eqb-true, le-leb}
 use Rattle.std.specs.Prelude.{unwrap_or}
 use Rattle.std.proofs.lemmas.Bool.{both_ways, cases_eq, false_from_ne_true, and_parts}
+use Rattle.teb_names.specs.declared.TheConstants.{SESSIONS}
 use Rattle.teb_names.specs.declared.Session.{Session}
 use Rattle.teb_names.specs.declared.Request.{Request}
 use Rattle.teb_names.specs.declared.Request.TheVariants.{End}
@@ -41,7 +42,7 @@ record HasLetGo (H K : List Event) (s : ℕ) : Type 0 where
   others : (r : ℕ) → IsFree H r → IsFree K r
 
 abbrev in_range : ℕ → Bool
-in_range s = leb 1 s && leb s 32
+in_range s = leb 1 s && leb s SESSIONS
 
 abbrev end : ℕ → Session × Request
 end s = (record { 0 = s }, End)
@@ -108,30 +109,30 @@ module _ (X : Store) (sound : IsSound X.setup) where
 
   module _ (H : List Event) (g : Good X.setup H) where
     -- a session that holds something is one of those that there are
-    holder : (s t : ℕ) → held H s ≡ Some t → (0 < s) × (s ≤ 32)
+    holder : (s t : ℕ) → held H s ≡ Some t → (0 < s) × (s ≤ SESSIONS)
     holder s t e =
         let h = held_holds H s t e in
         let range = session_range X.setup H t g.legal (held_began X.setup H s t g.legal h) in
         let same : session_of H t ≡ s = eqb-true _ _ (and_parts _ _ h).0 in
         (omega (arith, range.0, same), omega (arith, range.1, same))
 
-    among : (s : ℕ) (o : Option ℕ) → held H s ≡ o → IsFree H s ⊎ In s (filter (λ s. is_some (held H s)) (numbers 32))
+    among : (s : ℕ) (o : Option ℕ) → held H s ≡ o → IsFree H s ⊎ In s (filter (λ s. is_some (held H s)) (numbers SESSIONS))
     among s None e = inl (none_holds X.setup H s g.legal e)
-    among s (Some t) e = let r = holder s t e in inr (In-filter (λ s. is_some (held H s)) s (numbers 32) (In-numbers 32 s r.0 r.1) (ap (λ (o : Option ℕ). is_some o) e))
+    among s (Some t) e = let r = holder s t e in inr (In-filter (λ s. is_some (held H s)) s (numbers SESSIONS) (In-numbers SESSIONS s r.0 r.1) (ap (λ (o : Option ℕ). is_some o) e))
 
     free : (s : ℕ) → IsFree (history_after X H (ends_of H)) s
     unfolding ends_of
-    free s = all_ended (filter (λ s. is_some (held H s)) (numbers 32)) ranged H g s (among s (held H s) refl)
+    free s = all_ended (filter (λ s. is_some (held H s)) (numbers SESSIONS)) ranged H g s (among s (held H s) refl)
       where
         some_in_range : (n t : ℕ) → held H n ≡ Some t → in_range n ≡ true
-        some_in_range n t e = let r = holder n t e in rw (le-leb 1 n (omega (arith, r.0)), le-leb n 32 r.1) refl
+        some_in_range n t e = let r = holder n t e in rw (le-leb 1 n (omega (arith, r.0)), le-leb n SESSIONS r.1) refl
 
         held_in_range : (n : ℕ) (o : Option ℕ) → held H n ≡ o → is_some o ≡ true → in_range n ≡ true
         held_in_range n None e k = absurd (cc)
         held_in_range n (Some t) e k = some_in_range n t e
 
-        ranged : (n : ℕ) → In n (filter (λ s. is_some (held H s)) (numbers 32)) → in_range n ≡ true
-        ranged n i = held_in_range n (held H n) refl (filter-In (λ s. is_some (held H s)) n (numbers 32) i).1
+        ranged : (n : ℕ) → In n (filter (λ s. is_some (held H s)) (numbers SESSIONS)) → in_range n ≡ true
+        ranged n i = held_in_range n (held H n) refl (filter-In (λ s. is_some (held H s)) n (numbers SESSIONS) i).1
 
     drained : IsDrained (history_after X H (ends_of H))
     drained = record {

@@ -15,6 +15,7 @@ use Rattle.script_text.specs.Grammar as grammar
 use Rattle.store_setup.specs.SetupView.{SetupView}
 use Rattle.tree_toml.specs.SetupText.{setup_of_text}
 use Rattle.tree_switch.specs.Names.{same_names}
+use Rattle.script_text.specs.declared.input.TheConstants.{MOST_BYTES}
 use Rattle.input_reader.specs.declared.error.InputError.{InputError}
 use Rattle.input_reader.specs.declared.error.InputError.TheVariants as input
 use Rattle.input_reader.specs.Inputs.{script_error}
@@ -84,7 +85,7 @@ pairs_at parts i d e h =
     let second : drop (2 * i + 1) parts ≡ get_or parts (2 * i + 1) e ∷ drop (2 * (i + 1)) parts = drop_more parts (2 * i + 1) e h ∙ ap (λ (n : ℕ). get_or parts (2 * i + 1) e ∷ drop n parts) next in
     ap (λ (ps : List (Bor (List ℕ))). pairs_of (texts ps)) (first ∙ ap (λ (ps : List (Bor (List ℕ))). get_or parts (2 * i) d ∷ ps) second)
 
-pub small_at : (parts : List (Bor (List ℕ))) (j : ℕ) (d : Bor (List ℕ)) → All (λ (p : List ℕ). length p ≤ 4194304) (texts parts) → j < length parts → length (get_or parts j d).now ≤ 4194304
+pub small_at : (parts : List (Bor (List ℕ))) (j : ℕ) (d : Bor (List ℕ)) → All (λ (p : List ℕ). length p ≤ MOST_BYTES) (texts parts) → j < length parts → length (get_or parts j d).now ≤ MOST_BYTES
 small_at [] j d all h = absurd (omega (arith, h))
 small_at (p ∷ ps) zero d all h = all 0 [] (omega arith)
 small_at (p ∷ ps) (suc j) d all h = small_at ps j d (λ k e low. all (suc k) e (omega (arith, low))) (omega (arith, h))

@@ -9,6 +9,7 @@ use Rattle.std.proofs.lemmas.List.Splits.{join_with_byte-slice_split}
 use Rattle.script_text.specs.Lines.{is_feed}
 use Rattle.script_text.specs.Input.{is_separator, parts_from, parts_of}
 use Rattle.phase_runner.specs.Parts.{AreParts, texts}
+use Rattle.script_text.specs.declared.input.TheConstants.{MOST_BYTES}
 
 abbrev Split : Type 0
 Split = List ℕ × List ℕ
@@ -54,8 +55,8 @@ shorter bytes part rest e =
 -- what was cut off so far, before the parts of the rest
 pub record IsCut (bytes rest : List ℕ) (so_far : List (Bor (List ℕ))) : Type 0 where
   pub parts : (more : List (List ℕ)) → AreParts rest more → AreParts bytes (texts so_far ++ more)
-  pub small : All (λ (p : List ℕ). length p ≤ 4194304) (texts so_far)
-  pub within : length rest ≤ 4194304
+  pub small : All (λ (p : List ℕ). length p ≤ MOST_BYTES) (texts so_far)
+  pub within : length rest ≤ MOST_BYTES
 
 before_more : (rest part behind : List ℕ) → parts_of rest ≡ Some (part, behind) → (more : List (List ℕ)) → AreParts behind more → AreParts rest (part ∷ more)
 before_more rest part behind e [] a = absurd a
@@ -71,7 +72,7 @@ one_cut bytes rest behind so_far now p e n c =
     let s = shorter rest p.now behind e in
     record {
       parts = λ more a. subst (AreParts bytes) (sym (ap (λ (w : List (List ℕ)). w ++ more) t ∙ append_assoc (texts so_far) (p.now ∷ []) more)) (c.parts (p.now ∷ more) (before_more rest p.now behind e more a));
-      small = subst (All (λ (p : List ℕ). length p ≤ 4194304)) (sym t) (All-push (λ (p : List ℕ). length p ≤ 4194304) (texts so_far) p.now c.small (omega (arith, c.within, s)));
+      small = subst (All (λ (p : List ℕ). length p ≤ MOST_BYTES)) (sym t) (All-push (λ (p : List ℕ). length p ≤ MOST_BYTES) (texts so_far) p.now c.small (omega (arith, c.within, s)));
       within = omega (arith, c.within, s);
     }
 

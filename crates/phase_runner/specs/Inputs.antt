@@ -7,6 +7,7 @@ use Rattle.tree_toml.specs.declared.fault.TreeText.{TreeText}
 use Rattle.store_setup.specs.SetupView.{SetupView}
 use Rattle.tree_toml.specs.SetupText.{setup_of_text}
 use Rattle.tree_switch.specs.Names.{same_names}
+use Rattle.script_text.specs.declared.input.TheConstants.{MOST_LINES}
 use Rattle.input_reader.specs.declared.error.InputError.{InputError}
 use Rattle.input_reader.specs.declared.error.InputError.TheVariants.{TooLong}
 use Rattle.input_reader.specs.Inputs.{task_of, tree_error}
@@ -50,12 +51,12 @@ abbrev pub tasks_from : ℕ → Option Task → List Pair → Result (List Task)
 tasks_from k before [] = Ok []
 tasks_from k before (p ∷ more) = task_at k before p >>= (λ task. tasks_from (k + 1) (Some task) more >>= (λ later. Ok (task ∷ later)))
 
--- more than 65,536 lines behind the first separator
+-- more than MOST_LINES lines behind the first separator
 abbrev pub is_long : Option (List ℕ × List ℕ) → Bool
 is_long None = false
-is_long (Some p) = nat_lt 65536 (length (lines_of p.1))
+is_long (Some p) = nat_lt MOST_LINES (length (lines_of p.1))
 
--- at most 16 pairs, each of which has a script part, and at most 65,536 lines
+-- at most 16 pairs, each of which has a script part, and at most MOST_LINES lines
 abbrev pub phases_of : List ℕ → List (List ℕ) → Result (List Task) PhaseError
 phases_of bytes parts =
     if nat_lt 32 (length parts) then Err (BadPhase 17 Many)

@@ -10,8 +10,8 @@ ghost use Rattle.phase_runner.specs.Readings.{IsRead};
 
 use crate::error::{PhaseError, PhaseWhy};
 use crate::parts::parts;
-use input_reader::{Input, InputError, MOST_LINES};
-use script_text::{has_more_lines, parse_script, split_input};
+use input_reader::{Input, InputError};
+use script_text::{MOST_BYTES, MOST_LINES, has_more_lines, parse_script, split_input};
 use std::alloc::Global;
 use std::collections::VecDeque;
 use store_setup::Setup;
@@ -25,11 +25,11 @@ const MOST_PAIRS: usize = 16;
 ///
 /// # Errors
 /// `BadPhase` where there are more than 16 pairs, or the last one has no script part; else `BadInput` by `TooLong` where there
-/// are more than 65,536 lines behind the first `%%`. Else the first fault of the pairs, one after another, and in each of its
+/// are more than `MOST_LINES` lines behind the first `%%`. Else the first fault of the pairs, one after another, and in each of its
 /// tree part, of its tables and rows in `BadPhase`, and of its script part, whose lines are numbered from 1. `BadInput` by
 /// `OutOfMemory` may come in place of each.
 pub fn read_phases(alloc: Global, bytes: &[u8]) -> Result<VecDeque<Input>, PhaseError>
-    requires { length bytes.now ≤ 4194304 }
+    requires { length bytes.now ≤ MOST_BYTES }
     ensures { (parts : _) × AreParts bytes.now parts × IsRead (λ v. v.items) result (phases_of bytes.now parts) }
 {
     let parts = parts(alloc, bytes)?;
@@ -64,7 +64,7 @@ fn is_long(bytes: &[u8]) -> bool
 /// Reads one pair after another.
 fn read_pairs(alloc: Global, parts: &[&[u8]]) -> Result<VecDeque<Input>, PhaseError>
     requires few { length parts.now ≤ 32 }
-    requires small { All (λ p. length p ≤ 4194304) (texts parts.now) }
+    requires small { All (λ p. length p ≤ MOST_BYTES) (texts parts.now) }
     ensures { IsRead (λ v. v.items) result (tasks_from 1 None (pairs_of (texts parts.now))) }
 {
     let mut tasks = VecDeque::new(alloc);
@@ -90,7 +90,7 @@ struct Pair<'a> {
 }
 
 fn read_pair(alloc: Global, before: Option<&Input>, pair: Pair) -> Result<Input, PhaseError>
-    requires { length pair.script.now ≤ 4194304 }
+    requires { length pair.script.now ≤ MOST_BYTES }
     ensures { IsRead (λ task. task) result (task_at pair.entry.number (option_copied before.entry) (pair.entry.tree.now, pair.entry.script.now)) }
 {
     let setup = read_tree(alloc, pair.tree)?;

@@ -11,13 +11,14 @@ use chain_pool::PooledChains;
 use command_output::Output;
 use command_output::status::OK;
 use input_reader::Input;
+use script_text::MOST_BYTES;
 use std::alloc::{AllocError, Global};
 use std::collections::VecDeque;
 
 /// Runs the phases of an input, each over the tables that the one before it left, and reports each; or says what is wrong with the
 /// input, where no phase may run.
 pub fn run_phases(alloc: Global, bytes: &[u8]) -> Result<Output, AllocError>
-    requires { length bytes.now ≤ 4194304 }
+    requires { length bytes.now ≤ MOST_BYTES }
     ensures shown { IfOk result (λ o. ArePhases bytes.now o) }
     ensures history { IfOk result (λ o. o.history ≡ None) }
 {

@@ -1,6 +1,7 @@
 -- The sessions that hold a transaction, from one session on.
 use Rattle.std.proofs.Common.{ℕ, zero, suc, ◌≡◌, ◌+◌, ◌-◌, ◌<◌, ◌≤◌, Bool, true, false, cond, is_some, Option, Some, None, List, [], ◌∷◌, ◌++◌, map, filter, refl, ap, arith}
 use Rattle.std.specs.List.{range_with_len}
+use Rattle.teb_names.specs.declared.TheConstants.{SESSIONS}
 use Rattle.teb_names.specs.declared.Session.{Session}
 use Rattle.teb_names.specs.declared.Request.TheVariants.{End}
 use Rattle.teb_history.specs.declared.Event.{Event}
@@ -35,6 +36,6 @@ ends_in_range : (n s : ℕ) (H : List Event) → map end_of (holders_from n s H)
 ends_in_range zero s H = refl
 ends_in_range (suc n) s H = one_end (holds H s) s (holders_from n (s + 1) H) (filter (holds H) (range_with_len (s + 1) n)) (ends_in_range n (s + 1) H)
 
-pub ends_of_holders : (H : List Event) → map end_of (holders_from 32 1 H) ≡ ends_of H
+pub ends_of_holders : (H : List Event) → map end_of (holders_from SESSIONS 1 H) ≡ ends_of H
 unfolding ends_of numbers
-ends_of_holders H = ends_in_range 32 1 H
+ends_of_holders H = ends_in_range SESSIONS 1 H

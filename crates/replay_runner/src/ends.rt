@@ -11,11 +11,8 @@ use answer_log::Log;
 use engine_core::Engine;
 use std::alloc::{AllocError, Global};
 use teb_history::History;
-use teb_names::{Request, Session};
+use teb_names::{Request, SESSIONS, Session};
 use version_chain::Chains;
-
-/// How many sessions there are. They are numbered from 1.
-const SESSIONS: u8 = 32;
 
 /// Asks End for each session that holds a transaction, in ascending number, and logs the replies.
 #[tactic(auto, using(crate::proofs::Holders::ends_of_holders))]
@@ -53,7 +50,7 @@ fn ask_ends<C: Chains, L: Log>(
 
 /// The sessions that hold a transaction, in ascending number.
 pub fn holding_sessions(alloc: Global, history: &History) -> Result<Vec<Session>, AllocError>
-    ensures { IfOk result (λ v. v.items ≡ holders_from 32 1 history.now.events) }
+    ensures { IfOk result (λ v. v.items ≡ holders_from SESSIONS 1 history.now.events) }
 {
     let mut holders = Vec::new(alloc);
     for s in 1..SESSIONS + 1 {

@@ -1,10 +1,11 @@
--- The lines of a script that was read are of sessions 1 to 32.
+-- The lines of a script that was read are of sessions 1 to SESSIONS.
 use Rattle.std.proofs.Common.{◌≡◌, ℕ, ◌+◌, ◌<◌, ◌≤◌, ◌==◌, Bool, true, false, if◌then◌else◌, List, [], ◌∷◌, ◌++◌, length, suc, Option, Some, None, Result, Ok, Err, slice_index, refl, ◌∙◌, ap, subst, arith}
 use Rattle.std.specs.Prelude.{IfOk, Vec}
 use Rattle.std.specs.declared.alloc.Global.{Global}
 use Rattle.std.specs.Option.{ok_or, option_and_then, option_to_list}
 use Rattle.std.specs.Str.Parse.{digits_value}
 use Rattle.std.proofs.lemmas.Bool.{and_parts, leb-true, eqb-false}
+use Rattle.teb_names.specs.declared.TheConstants.{SESSIONS}
 use Rattle.teb_names.specs.declared.Session.{Session}
 use Rattle.teb_names.specs.declared.Request.{Request}
 use Rattle.teb_names.specs.declared.naming.NameBook.{NameBook}
@@ -19,7 +20,7 @@ use Rattle.script_text.specs.Grammar.{◌>>=◌, at_line, session_at, after_sess
 use Rattle.script_text.specs.Sessions.{AreOfSessions}
 
 abbrev IsSession : ℕ → Type 0
-IsSession n = (0 < n) × (n ≤ 32)
+IsSession n = (0 < n) × (n ≤ SESSIONS)
 
 bind_ok : {A B E : Type 0} (r : Result A E) (f : A → Result B E) (y : B) → (r >>= f) ≡ Ok y → (x : A) × (r ≡ Ok x) × (f x ≡ Ok y)
 bind_ok (Ok x) f y e = (x, refl, e)
@@ -47,11 +48,11 @@ from_one (Some k) m n e h = go (k == 0) refl e (h k refl)
 
 session_ok : (w : List ℕ) (s : Session) → session_at w ≡ Ok s → IsSession s.0
 unfolding number_from_one
-session_ok w s e = go (number_from_one 32 w) refl e
+session_ok w s e = go (number_from_one SESSIONS w) refl e
   where
-    go : (o : Option ℕ) → number_from_one 32 w ≡ o → (ok_or o why.Session >>= (λ (n : ℕ). Ok (record { 0 = n }))) ≡ Ok s → IsSession s.0
+    go : (o : Option ℕ) → number_from_one SESSIONS w ≡ o → (ok_or o why.Session >>= (λ (n : ℕ). Ok (record { 0 = n }))) ≡ Ok s → IsSession s.0
     go None q f = absurd (cc)
-    go (Some n) q f = let z : n ≡ s.0 = (let k : record { 0 = n } ≡ s = cc in ap (λ (x : Session). x.0) k) in let y = from_one (number_upto 32 w) 32 n q (λ k h. upto w 32 k h) in (omega arith, omega arith)
+    go (Some n) q f = let z : n ≡ s.0 = (let k : record { 0 = n } ≡ s = cc in ap (λ (x : Session). x.0) k) in let y = from_one (number_upto SESSIONS w) SESSIONS n q (λ k h. upto w SESSIONS k h) in (omega arith, omega arith)
 
 module _ (names : NameBook) (format : ℕ) where
   line_session : (n : ℕ) (ws : List (List ℕ)) (l : Line) → line_in names format n ws ≡ Ok (Some l) → IsSession l.session.0

@@ -3,6 +3,7 @@ use Rattle.std.specs.Prelude.{◌≡◌, ℕ, ◌+◌, ◌-◌, ◌^◌, ℤ, �
 use Rattle.std.specs.declared.alloc.Global.{Global}
 use Rattle.std.specs.Option.{ok_or, option_to_list}
 use Rattle.std.specs.Str.{bytes_eq}
+use Rattle.teb_names.specs.declared.TheConstants.{SESSIONS}
 use Rattle.teb_names.specs.Names.{number_of}
 use Rattle.teb_names.specs.declared.Cell.{Cell}
 use Rattle.teb_names.specs.declared.Session.{Session}
@@ -42,7 +43,7 @@ unfoldable pub cell_at : List (List ℕ) → List ℕ → List ℕ → Result Ce
 cell_at tables t k = name_at tables t >>= (λ t. number_at k >>= (λ k. Ok (record { table = record { 0 = t }; key = k })))
 
 abbrev pub session_at : List ℕ → Result Session LineWhy
-session_at w = ok_or (number_from_one 32 w) why.Session >>= (λ s. Ok (record { 0 = s }))
+session_at w = ok_or (number_from_one SESSIONS w) why.Session >>= (λ s. Ok (record { 0 = s }))
 
 -- what the words behind a verb say: their count is looked at first, and then each from left to right
 unfoldable pub nothing_in : List (List ℕ) → Result (Unit {0}) LineWhy

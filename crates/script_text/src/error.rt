@@ -8,7 +8,7 @@ use thiserror::Error;
 /// Why a line is bad.
 #[derive(Clone, Copy, Debug, PartialEq, Eq)]
 pub enum LineWhy {
-    /// The first word is no session, 1 to 32.
+    /// The first word is no session, 1 to `SESSIONS`.
     Session,
     /// The second word is none of the verbs, or there is none.
     Verb,

@@ -5,6 +5,12 @@ ghost use Rattle.script_text.specs.Input.{is_separator, parts_of};
 
 use super::script::lines::{after_line, line_len, without_return};
 
+/// How many bytes an input has at most. The audit reads no more of a printed run.
+pub const MOST_BYTES: usize = 4_194_304;
+
+/// How many lines an input has at most behind its first separator.
+pub const MOST_LINES: usize = 65_536;
+
 /// The bytes before the first line that is exactly `%%`, and the bytes after its line feed. `None` where there
 /// is no such line.
 pub fn split_input(bytes: &[u8]) -> Option<(&[u8], &[u8])>

@@ -9,7 +9,7 @@ mod scripts;
 mod text;
 
 pub use error::{LineWhy, ScriptError};
-pub use input::split_input;
+pub use input::{MOST_BYTES, MOST_LINES, split_input};
 pub use line_count::has_more_lines;
 pub use script::{number, parse_script};
 pub use scripts::{Scripts, scripts_of};

@@ -26,7 +26,7 @@ const USUAL_LEN: usize = 12;
 
 /// The lines of a script that ask something, in order. `format` is that of the tree: from 2 on `begin` may
 /// have an instance, from 3 on there are `delete` and `scan`. A name that the tree does not have becomes the
-/// number 255. The lines are of sessions 1 to 32. `BadLine` names the first bad line by its number, from 1, and the first of its faults in the
+/// number 255. The lines are of sessions 1 to `SESSIONS`. `BadLine` names the first bad line by its number, from 1, and the first of its faults in the
 /// order of `LineWhy`, name and number from left to right.
 pub fn parse_script(
     alloc: Global,

@@ -3,6 +3,7 @@ use Rattle.std.proofs.Common.{◌≡◌, ℕ, suc, ◌+◌, ◌-◌, ◌≤◌, 
 use Rattle.std.specs.Option.{is_some}
 use Rattle.std.proofs.lemmas.List.{map-append}
 use Rattle.std.proofs.lemmas.List.Elements.{All-push}
+use Rattle.teb_names.specs.declared.TheConstants.{SESSIONS}
 use Rattle.teb_names.specs.declared.Session.{Session}
 use Rattle.teb_history.specs.Phases.{numbers}
 use Rattle.turn_lock.specs.Counts.{total, count_from}
@@ -23,15 +24,15 @@ use Rattle.session_pool.proofs.Scripting.{one_more, one_waits, one_idles}
 module _ {C : Type 0} {g : Ghosts C} (h : Hall C g) (scripts : Scripted) where
   -- n passes are left
   pub record IsDivided (n : ℕ) (ps : List (Pass C g)) (ws : List (Waiting C g)) (ts : List (Task C g)) : Type 0 where
-    pub few : n ≤ 32
+    pub few : n ≤ SESSIONS
     pub sessions : map number_of ps ≡ numbers n
     pub new : All (IsNew h) ps
-    pub waits : map number_at ws ≡ scripted_of scripts (count_from (suc n) (32 - n))
+    pub waits : map number_at ws ≡ scripted_of scripts (count_from (suc n) (SESSIONS - n))
     pub fitting : All (IsWaiting h) ws
     pub tasks : All (IsTask h scripts) ts
-    pub all : (weight : ℕ → ℕ) → total weight (map number_in ts) + total weight (scripted_of scripts (count_from (suc n) (32 - n))) ≡ total weight (count_from (suc n) (32 - n))
+    pub all : (weight : ℕ → ℕ) → total weight (map number_in ts) + total weight (scripted_of scripts (count_from (suc n) (SESSIONS - n))) ≡ total weight (count_from (suc n) (SESSIONS - n))
 
-  pub divided_first : (n : ℕ) (ps : List (Pass C g)) (ws : List (Waiting C g)) (ts : List (Task C g)) → n ≡ 32 → map number_of ps ≡ numbers 32 → All (IsNew h) ps → ws ≡ [] → ts ≡ [] → IsDivided n ps ws ts
+  pub divided_first : (n : ℕ) (ps : List (Pass C g)) (ws : List (Waiting C g)) (ts : List (Task C g)) → n ≡ SESSIONS → map number_of ps ≡ numbers SESSIONS → All (IsNew h) ps → ws ≡ [] → ts ≡ [] → IsDivided n ps ws ts
   divided_first n ps ws ts e s a w t = subst (λ (k : ℕ). IsDivided k ps ws ts) (sym e) record {
     few = omega arith;
     sessions = s;
@@ -62,8 +63,8 @@ module _ {C : Type 0} {g : Ghosts C} (h : Hall C g) (scripts : Scripted) where
         waits = ap (map number_at) to ∙ ((λ i. number i ∷ d.waits i) ∙ sym next);
         fitting = subst (All (IsWaiting h)) (sym to) (All_cons (IsWaiting h) (record { session = s; pass = p }) ws record { new = l.last_new; session = sym same } d.fitting);
         tasks = d.tasks;
-        all = λ weight. (let a : total weight (scripted_of scripts (count_from (suc k) (32 - k))) ≡ weight (suc k) + total weight (scripted_of scripts (count_from (suc n) (32 - n))) = ap (total weight) next in
-            let b : total weight (count_from (suc k) (32 - k)) ≡ weight (suc k) + total weight (count_from (suc n) (32 - n)) = ap (total weight) more in
+        all = λ weight. (let a : total weight (scripted_of scripts (count_from (suc k) (SESSIONS - k))) ≡ weight (suc k) + total weight (scripted_of scripts (count_from (suc n) (SESSIONS - n))) = ap (total weight) next in
+            let b : total weight (count_from (suc k) (SESSIONS - k)) ≡ weight (suc k) + total weight (count_from (suc n) (SESSIONS - n)) = ap (total weight) more in
             let c = d.all weight in omega arith);
       }
 
@@ -80,8 +81,8 @@ module _ {C : Type 0} {g : Ghosts C} (h : Hall C g) (scripts : Scripted) where
         waits = d.waits ∙ sym next;
         fitting = d.fitting;
         tasks = subst (All (IsTask h scripts)) (sym to) (All-push (IsTask h scripts) ts t d.tasks task);
-        all = λ weight. (let a : total weight (scripted_of scripts (count_from (suc k) (32 - k))) ≡ total weight (scripted_of scripts (count_from (suc n) (32 - n))) = ap (total weight) next in
-            let b : total weight (count_from (suc k) (32 - k)) ≡ weight (suc k) + total weight (count_from (suc n) (32 - n)) = ap (total weight) more in
+        all = λ weight. (let a : total weight (scripted_of scripts (count_from (suc k) (SESSIONS - k))) ≡ total weight (scripted_of scripts (count_from (suc n) (SESSIONS - n))) = ap (total weight) next in
+            let b : total weight (count_from (suc k) (SESSIONS - k)) ≡ weight (suc k) + total weight (count_from (suc n) (SESSIONS - n)) = ap (total weight) more in
             let m : number_in t ≡ suc k = ap (λ (z : Session). z.0) own ∙ l.last in
             let f : total weight (map number_in us) ≡ total weight (map number_in ts ++ number_in t ∷ []) = ap (λ (vs : List (Task C g)). total weight (map number_in vs)) to ∙ ap (total weight) (map-append number_in ts (t ∷ [])) in
             let i = total_append weight (map number_in ts) (number_in t ∷ []) in
@@ -92,11 +93,11 @@ module _ {C : Type 0} {g : Ghosts C} (h : Hall C g) (scripts : Scripted) where
   -- no pass is left
   pub record AreDivided (ws : List (Waiting C g)) (ts : List (Task C g)) : Type 0 where
     pub waits : map number_at ws ≡ scripted scripts
-    pub all : (weight : ℕ → ℕ) → total weight (map number_in ts) + total weight (scripted scripts) ≡ total weight (numbers 32)
+    pub all : (weight : ℕ → ℕ) → total weight (map number_in ts) + total weight (scripted scripts) ≡ total weight (numbers SESSIONS)
 
   pub divided_last : (n : ℕ) (ps : List (Pass C g)) (ws : List (Waiting C g)) (ts : List (Task C g)) → n ≡ 0 → IsDivided n ps ws ts → AreDivided ws ts
   divided_last n ps ws ts e d =
-      let all : count_from (suc n) (32 - n) ≡ numbers 32 = ap (λ (k : ℕ). count_from (suc k) (32 - k)) e ∙ all_sessions in record {
+      let all : count_from (suc n) (SESSIONS - n) ≡ numbers SESSIONS = ap (λ (k : ℕ). count_from (suc k) (SESSIONS - k)) e ∙ all_sessions in record {
         waits = d.waits ∙ ap (scripted_of scripts) all;
         all = λ weight. subst (λ (ns : List ℕ). total weight (map number_in ts) + total weight (scripted_of scripts ns) ≡ total weight ns) all (d.all weight);
       }

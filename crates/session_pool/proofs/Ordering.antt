@@ -14,19 +14,20 @@ use Rattle.session_tasks.specs.declared.task.Task.{Task}
 use Rattle.session_pool.specs.Rising.{Rising}
 use Rattle.session_pool.proofs.Risings.{rising_same, sorted_rises}
 use Rattle.session_pool.proofs.Scripting.{numbers_once, numbers_rise}
+use Rattle.teb_names.specs.declared.TheConstants.{SESSIONS}
 
 total_sum : {A : Type 0} (f : A → ℕ) (xs : List A) → total f xs ≡ sum_by f xs
 total_sum f [] = refl
 total_sum f (x ∷ xs) = let h = total_sum f xs in let s = sum_by-cons f x xs in omega arith
 
 module _ {C : Type 0} {g : Ghosts C} (h : Hall C g) (scripts : Scripted) where
-  pub put_in_order : (us ts : List (Task C g)) → IsPermutation us ts → IsNonDecreasingBy number_in ts → All (IsTask h scripts) us → ((weight : ℕ → ℕ) → total weight (map number_in us) ≡ total weight (numbers 32)) → AreTasks h scripts (numbers 32) ts
+  pub put_in_order : (us ts : List (Task C g)) → IsPermutation us ts → IsNonDecreasingBy number_in ts → All (IsTask h scripts) us → ((weight : ℕ → ℕ) → total weight (map number_in us) ≡ total weight (numbers SESSIONS)) → AreTasks h scripts (numbers SESSIONS) ts
   put_in_order us ts moved sorted tasks all = record {
-    numbers = rising_same 0 (map number_in ts) (numbers 32) rises numbers_rise count;
+    numbers = rising_same 0 (map number_in ts) (numbers SESSIONS) rises numbers_rise count;
     each = All-permutation (IsTask h scripts) us ts moved tasks;
   }
     where
-      count : (s : ℕ) → times s (map number_in ts) ≡ times s (numbers 32)
+      count : (s : ℕ) → times s (map number_in ts) ≡ times s (numbers SESSIONS)
       count s =
           let p = sum_by-IsPermutation (same s) (map number_in us) (map number_in ts) (IsPermutation-map number_in us ts moved) in
           let a = total_sum (same s) (map number_in us) in

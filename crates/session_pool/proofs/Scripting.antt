@@ -13,6 +13,7 @@ use Rattle.session_pool.specs.Rising.{Rising}
 use Rattle.session_pool.specs.Taken.{HasScript}
 use Rattle.session_pool.specs.Waits.{scripted_of, scripted}
 use Rattle.session_pool.proofs.Risings.{rising_filter, rising_from, rising_lower}
+use Rattle.teb_names.specs.declared.TheConstants.{SESSIONS}
 
 module _ (test : ℕ → Bool) (s : ℕ) where
   pub times_kept : (xs : List ℕ) → test s ≡ true → times s (filter test xs) ≡ times s xs
@@ -39,23 +40,23 @@ module _ (test : ℕ → Bool) (s : ℕ) where
       go true h = omega arith
       go false h = omega arith
 
-pub numbers_once : (s : ℕ) → times s (numbers 32) ≤ 1
+pub numbers_once : (s : ℕ) → times s (numbers SESSIONS) ≤ 1
 numbers_once s =
-    let o = times-count_from 32 1 s in
-    let e : times s (count_from 1 32) ≡ times s (numbers 32) = ap (times s) all_sessions in
+    let o = times-count_from SESSIONS 1 s in
+    let e : times s (count_from 1 SESSIONS) ≡ times s (numbers SESSIONS) = ap (times s) all_sessions in
     dite (dec_le 1 s)
-    (λ (low : 1 ≤ s). dite (dec_le 33 s) (λ (out : 33 ≤ s). let z = o.2 out in omega arith) (λ n. let z = o.0 low (omega arith) in omega arith))
+    (λ (low : 1 ≤ s). dite (dec_le (suc SESSIONS) s) (λ (out : suc SESSIONS ≤ s). let z = o.2 out in omega arith) (λ n. let z = o.0 low (omega arith) in omega arith))
     (λ n. let z = o.1 (omega arith) in omega arith)
 
-numbers_within : (s : ℕ) → 1 ≤ s → s ≤ 32 → times s (numbers 32) ≡ 1
-numbers_within s low high = ap (times s) (sym all_sessions) ∙ (times-count_from 32 1 s).0 low (omega arith)
+numbers_within : (s : ℕ) → 1 ≤ s → s ≤ SESSIONS → times s (numbers SESSIONS) ≡ 1
+numbers_within s low high = ap (times s) (sym all_sessions) ∙ (times-count_from SESSIONS 1 s).0 low (omega arith)
 
-numbers_outside : (s : ℕ) → ((1 ≤ s) × (s ≤ 32) → ⊥) → times s (numbers 32) ≡ 0
+numbers_outside : (s : ℕ) → ((1 ≤ s) × (s ≤ SESSIONS) → ⊥) → times s (numbers SESSIONS) ≡ 0
 numbers_outside s out =
-    let o = times-count_from 32 1 s in
-    let e : times s (count_from 1 32) ≡ times s (numbers 32) = ap (times s) all_sessions in
+    let o = times-count_from SESSIONS 1 s in
+    let e : times s (count_from 1 SESSIONS) ≡ times s (numbers SESSIONS) = ap (times s) all_sessions in
     dite (dec_le 1 s)
-    (λ (low : 1 ≤ s). dite (dec_le 33 s) (λ (far : 33 ≤ s). let z = o.2 far in omega arith) (λ n. absurd (out (low, omega arith))))
+    (λ (low : 1 ≤ s). dite (dec_le (suc SESSIONS) s) (λ (far : suc SESSIONS ≤ s). let z = o.2 far in omega arith) (λ n. absurd (out (low, omega arith))))
     (λ n. let z = o.1 (omega arith) in omega arith)
 
 length_filter : (test : ℕ → Bool) (xs : List ℕ) → length (filter test xs) ≤ length xs
@@ -66,8 +67,8 @@ length_filter test (x ∷ xs) = go (test x) (length_filter test xs)
     go true h = omega arith
     go false h = omega arith
 
-pub numbers_rise : Rising 0 (numbers 32)
-numbers_rise = subst (Rising 0) all_sessions (rising_lower 1 0 (count_from 1 32) (omega arith) (rising_from 32 1))
+pub numbers_rise : Rising 0 (numbers SESSIONS)
+numbers_rise = subst (Rising 0) all_sessions (rising_lower 1 0 (count_from 1 SESSIONS) (omega arith) (rising_from SESSIONS 1))
 
 module _ (scripts : Scripted) where
   abbrev test : ℕ → Bool
@@ -77,40 +78,40 @@ module _ (scripts : Scripted) where
   yes_script s h None q = absurd (place_lacks scripts 0 s q h.place h.lines h.script)
   yes_script s h (Some i) q = refl
 
-  no_script : (s : ℕ) → (HasScript scripts s → ⊥) → 1 ≤ s → s ≤ 32 → (o : Option ℕ) → place_in scripts s ≡ o → is_some o ≡ false
+  no_script : (s : ℕ) → (HasScript scripts s → ⊥) → 1 ≤ s → s ≤ SESSIONS → (o : Option ℕ) → place_in scripts s ≡ o → is_some o ≡ false
   no_script s none low high None q = refl
   no_script s none low high (Some i) q = let f = place_script scripts s i q in absurd (none record { low = low; high = high; place = i; lines = f.0; script = f.1 })
 
   -- a session with a script stands once among those with a script, and no other stands there
   pub scripted_once : (s : ℕ) → HasScript scripts s → times s (scripted scripts) ≡ 1
-  scripted_once s h = times_kept test s (numbers 32) (yes_script s h (place_in scripts s) refl) ∙ numbers_within s h.low h.high
+  scripted_once s h = times_kept test s (numbers SESSIONS) (yes_script s h (place_in scripts s) refl) ∙ numbers_within s h.low h.high
 
   pub scripted_none : (s : ℕ) → (HasScript scripts s → ⊥) → times s (scripted scripts) ≡ 0
   scripted_none s none = dite (dec_le 1 s)
-      (λ (low : 1 ≤ s). dite (dec_le s 32)
-      (λ (high : s ≤ 32). times_dropped test s (numbers 32) (no_script s none low high (place_in scripts s) refl))
-      (λ n. let z = numbers_outside s (λ w. n w.1) in let l = times_less test s (numbers 32) in omega arith))
-      (λ n. let z = numbers_outside s (λ w. n w.0) in let l = times_less test s (numbers 32) in omega arith)
+      (λ (low : 1 ≤ s). dite (dec_le s SESSIONS)
+      (λ (high : s ≤ SESSIONS). times_dropped test s (numbers SESSIONS) (no_script s none low high (place_in scripts s) refl))
+      (λ n. let z = numbers_outside s (λ w. n w.1) in let l = times_less test s (numbers SESSIONS) in omega arith))
+      (λ n. let z = numbers_outside s (λ w. n w.0) in let l = times_less test s (numbers SESSIONS) in omega arith)
 
   pub scripted_rises : Rising 0 (scripted scripts)
-  scripted_rises = rising_filter test 0 (numbers 32) numbers_rise
+  scripted_rises = rising_filter test 0 (numbers SESSIONS) numbers_rise
 
-  pub scripted_few : length (scripted scripts) ≤ 32
+  pub scripted_few : length (scripted scripts) ≤ SESSIONS
   scripted_few =
-      let a = length_filter test (numbers 32) in
-      let b : length (count_from 1 32) ≡ length (numbers 32) = ap length all_sessions in
-      let c : length (count_from 1 32) ≡ 32 = refl in omega arith
+      let a = length_filter test (numbers SESSIONS) in
+      let b : length (count_from 1 SESSIONS) ≡ length (numbers SESSIONS) = ap length all_sessions in
+      let c : length (count_from 1 SESSIONS) ≡ SESSIONS = refl in omega arith
 
   -- the last session of those that are left is divided from the others
-  pub one_more : (n k : ℕ) → n ≡ suc k → n ≤ 32 → count_from (suc k) (32 - k) ≡ suc k ∷ count_from (suc n) (32 - n)
+  pub one_more : (n k : ℕ) → n ≡ suc k → n ≤ SESSIONS → count_from (suc k) (SESSIONS - k) ≡ suc k ∷ count_from (suc n) (SESSIONS - n)
   one_more n k e l =
-      sessions_from k (omega arith) ∙ ap (λ (p : ℕ × ℕ). suc k ∷ count_from p.0 p.1) (λ i. ((let a : suc (suc k) ≡ suc n = omega arith in a) i, (let b : 31 - k ≡ 32 - n = omega arith in b) i))
+      sessions_from k (omega arith) ∙ ap (λ (p : ℕ × ℕ). suc k ∷ count_from p.0 p.1) (λ i. ((let a : suc (suc k) ≡ suc n = omega arith in a) i, (let b : SESSIONS - suc k ≡ SESSIONS - n = omega arith in b) i))
 
   filtered : (k : ℕ) (rest : List ℕ) (b : Bool) → test k ≡ b → scripted_of scripts (k ∷ rest) ≡ cond b (k ∷ scripted_of scripts rest) (scripted_of scripts rest)
   filtered k rest b e = ap (λ t. cond t (k ∷ scripted_of scripts rest) (scripted_of scripts rest)) e
 
-  pub one_waits : (n k : ℕ) → n ≡ suc k → n ≤ 32 → test (suc k) ≡ true → scripted_of scripts (count_from (suc k) (32 - k)) ≡ suc k ∷ scripted_of scripts (count_from (suc n) (32 - n))
-  one_waits n k e l t = ap (scripted_of scripts) (one_more n k e l) ∙ filtered (suc k) (count_from (suc n) (32 - n)) true t
+  pub one_waits : (n k : ℕ) → n ≡ suc k → n ≤ SESSIONS → test (suc k) ≡ true → scripted_of scripts (count_from (suc k) (SESSIONS - k)) ≡ suc k ∷ scripted_of scripts (count_from (suc n) (SESSIONS - n))
+  one_waits n k e l t = ap (scripted_of scripts) (one_more n k e l) ∙ filtered (suc k) (count_from (suc n) (SESSIONS - n)) true t
 
-  pub one_idles : (n k : ℕ) → n ≡ suc k → n ≤ 32 → test (suc k) ≡ false → scripted_of scripts (count_from (suc k) (32 - k)) ≡ scripted_of scripts (count_from (suc n) (32 - n))
-  one_idles n k e l t = ap (scripted_of scripts) (one_more n k e l) ∙ filtered (suc k) (count_from (suc n) (32 - n)) false t
+  pub one_idles : (n k : ℕ) → n ≡ suc k → n ≤ SESSIONS → test (suc k) ≡ false → scripted_of scripts (count_from (suc k) (SESSIONS - k)) ≡ scripted_of scripts (count_from (suc n) (SESSIONS - n))
+  one_idles n k e l t = ap (scripted_of scripts) (one_more n k e l) ∙ filtered (suc k) (count_from (suc n) (SESSIONS - n)) false t

@@ -35,6 +35,7 @@ use Rattle.session_pool.proofs.Sums.{total_append, one, total_one}
 use Rattle.session_pool.proofs.Scripting.{scripted_few, scripted_rises}
 use Rattle.session_pool.proofs.Takings.{all_map}
 use Rattle.session_pool.proofs.Risings.{rising_snoc, rising_before, merged_total}
+use Rattle.teb_names.specs.declared.TheConstants.{SESSIONS}
 
 total_at_or : {A : Type 0} (f : A → ℕ) (l : List A) (i : ℕ) (d : A) → i < length l → f (get_or l i d) ≤ total f l
 total_at_or f [] i d l = absurd (omega arith)
@@ -48,7 +49,7 @@ total_set_or f (x ∷ xs) (suc i) b d l = let h = total_set_or f xs i b d (omega
 
 module _ {C : Type 0} {g : Ghosts C} {Q A : Type 0} (line : Slotted (Option (Waiting C g)) (Doing (Waiting C g) Tally) Q A) where
   -- a worker with an empty hand
-  pub hired : (p : Pass (Waiting C g) Tally) (v : Vec (Task C g) Global) → IsPassOf line p → view p ≡ tally 1 false 0 [] → v.items ≡ [] → vec_capacity v ≡ 32 → IsHired line (record { token = p; hand = v })
+  pub hired : (p : Pass (Waiting C g) Tally) (v : Vec (Task C g) Global) → IsPassOf line p → view p ≡ tally 1 false 0 [] → v.items ≡ [] → vec_capacity v ≡ SESSIONS → IsHired line (record { token = p; hand = v })
   hired p v of is none room = record {
     token = record { of = of; knows = is ∙ ap (λ (l : List (Task C g)). tally 1 false 0 (map number_in l)) (sym none) };
     empty = none;
@@ -111,17 +112,17 @@ module _ {C : Type 0} {g : Ghosts C} (h : Hall C g) (scripts : Scripted) where
       count = ap length is ∙ (length-map ws (λ (w : Worker C g). w.hand) ∙ count);
       tasks = subst (All (λ (u : Vec (Task C g) Global). All (IsTask h scripts) u.items)) (sym is) (all_map (λ (u : Vec (Task C g) Global). All (IsTask h scripts) u.items) (λ (w : Worker C g). w.hand) ws (λ k d l. (a k d l).tasks));
       rising = subst (All (λ (u : Vec (Task C g) Global). Rising 0 (taken_in u))) (sym is) (all_map (λ (u : Vec (Task C g) Global). Rising 0 (taken_in u)) (λ (w : Worker C g). w.hand) ws (λ k d l. (a k d l).rising));
-      room = subst (All (λ (u : Vec (Task C g) Global). vec_capacity u ≡ 32)) (sym is) (all_map (λ (u : Vec (Task C g) Global). vec_capacity u ≡ 32) (λ (w : Worker C g). w.hand) ws (λ k d l. (a k d l).room));
+      room = subst (All (λ (u : Vec (Task C g) Global). vec_capacity u ≡ SESSIONS)) (sym is) (all_map (λ (u : Vec (Task C g) Global). vec_capacity u ≡ SESSIONS) (λ (w : Worker C g). w.hand) ws (λ k d l. (a k d l).room));
       whole = whole;
       shared = shared;
     }
 
     -- the hand of a worker has room
-    pub at_work_room : (w : Worker C g) → IsAtWork line h scripts w → length (view w.token).taken < 32 → length w.hand.items < 32
+    pub at_work_room : (w : Worker C g) → IsAtWork line h scripts w → length (view w.token).taken < SESSIONS → length w.hand.items < SESSIONS
     at_work_room w a few = let e : length (view w.token).taken ≡ length (taken_in w.hand) = ap (λ (v : Tally). length v.taken) a.token.knows in let m = length-map w.hand.items number_in in omega arith
 
     -- it has taken one more
-    pub at_work_on : (w : Worker C g) (p : Pass (Waiting C g) Tally) (v : Vec (Task C g) Global) (t : Task C g) (n : ℕ) → IsAtWork line h scripts w → IsPassOf line p → view p ≡ after_pop (view w.token) n → IsTaken 32 (view w.token) (view p)
+    pub at_work_on : (w : Worker C g) (p : Pass (Waiting C g) Tally) (v : Vec (Task C g) Global) (t : Task C g) (n : ℕ) → IsAtWork line h scripts w → IsPassOf line p → view p ≡ after_pop (view w.token) n → IsTaken SESSIONS (view w.token) (view p)
         → IsTask h scripts t → number_in t ≡ n → v.items ≡ w.hand.items ++ t ∷ [] → vec_capacity v ≡ vec_capacity w.hand → IsAtWork line h scripts (record { token = p; hand = v })
     at_work_on w p v t n a of is taken task e items room = record {
       token = record { of = of; knows = knows };
@@ -162,7 +163,7 @@ module _ {C : Type 0} {g : Ghosts C} (h : Hall C g) (scripts : Scripted) where
       )
 
   -- the hand has room for what is left
-  pub rest_room : (u : Vec (Task C g) Global) (old : Tally) → ((weight : ℕ → ℕ) → total weight (taken_in u) ≤ total weight old.taken) → length old.taken < 32 → length u.items < 32
+  pub rest_room : (u : Vec (Task C g) Global) (old : Tally) → ((weight : ℕ → ℕ) → total weight (taken_in u) ≤ total weight old.taken) → length old.taken < SESSIONS → length u.items < SESSIONS
   rest_room u old within few = let a = within one in let b = total_one (taken_in u) in let c = total_one old.taken in let m = length-map u.items number_in in omega arith
 
   -- where nothing is left all was taken
@@ -181,7 +182,7 @@ module _ {C : Type 0} {g : Ghosts C} (h : Hall C g) (scripts : Scripted) where
     pub tasks : All (IsTask h scripts) u.items
     pub rising : Rising 0 (taken_in u)
     pub within : (weight : ℕ → ℕ) → total weight (taken_in u) ≤ total weight v.taken
-    pub room : vec_capacity u ≡ 32
+    pub room : vec_capacity u ≡ SESSIONS
 
   pub first_hand : (workers pushed : ℕ) (v : Tally) (hands : List (Vec (Task C g) Global)) (u : Vec (Task C g) Global) → AreCollected h scripts workers pushed v hands → 0 < length hands → u ≡ get_or hands 0 u → IsFirst u v
   first_hand workers pushed v hands u a some_ is = record {
@@ -209,7 +210,7 @@ module _ {C : Type 0} {g : Ghosts C} (h : Hall C g) (numbers : List ℕ) (told :
 module _ {C : Type 0} {g : Ghosts C} (h : Hall C g) (ws : List (Waiting C g)) where
   pub waiting_suit : (scripts : Scripted) → map number_at ws ≡ scripted scripts → Suits h (map number_at ws) (tells_of h)
   waiting_suit scripts is = record {
-    few = subst (λ (ns : List ℕ). length ns ≤ 32) (sym is) (scripted_few scripts);
+    few = subst (λ (ns : List ℕ). length ns ≤ SESSIONS) (sym is) (scripted_few scripts);
     rising = subst (Rising 0) (sym is) (scripted_rises scripts);
     tells = λ table base t. t;
   }

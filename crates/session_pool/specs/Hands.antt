@@ -10,6 +10,7 @@ use Rattle.session_tasks.specs.declared.task.Task.{Task}
 use Rattle.session_pool.specs.Rising.{Rising}
 use Rattle.session_pool.specs.Tallies.{IsWhole}
 use Rattle.session_pool.specs.declared.tally.Tally.{Tally}
+use Rattle.teb_names.specs.declared.TheConstants.{SESSIONS}
 
 module _ {C : Type 0} {g : Ghosts C} where
   -- the sessions in a hand
@@ -32,6 +33,6 @@ module _ {C : Type 0} {g : Ghosts C} where
     pub count : length hands ≡ workers
     pub tasks : All (λ hand. All (IsTask h scripts) hand.items) hands
     pub rising : All (λ hand. Rising 0 (taken_in hand)) hands
-    pub room : All (λ hand. vec_capacity hand ≡ 32) hands
+    pub room : All (λ hand. vec_capacity hand ≡ SESSIONS) hands
     pub whole : IsWhole pushed v
     pub shared : (weight : ℕ → ℕ) → weight_of weight hands ≡ total weight v.taken

@@ -6,9 +6,10 @@ use Rattle.session_server.specs.declared.hall.Hall.{Hall}
 use Rattle.session_server.specs.Outfits.{Fitted}
 use Rattle.session_pool.specs.Rising.{Rising}
 use Rattle.session_pool.specs.Waits.{tells_of}
+use Rattle.teb_names.specs.declared.TheConstants.{SESSIONS}
 
--- it has 32 sessions at most, in ascending order, and tells of this hall
+-- it has at most SESSIONS sessions, in ascending order, and tells of this hall
 pub record Suits {C : Type 0} {g : Ghosts C} (h : Hall C g) (numbers : List ℕ) (told : TableId → Option Fitted → Type 0) : Type 0 where
-  pub few : length numbers ≤ 32
+  pub few : length numbers ≤ SESSIONS
   pub rising : Rising 0 numbers
   pub tells : (table : TableId) (base : Option Fitted) → told table base → tells_of h table base

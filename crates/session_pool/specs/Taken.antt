@@ -2,15 +2,16 @@
 use Rattle.std.specs.Prelude.{◌≡◌, ℕ, ◌≤◌, List, Some, All, length, map, slice_get, Vec}
 use Rattle.std.specs.List.Sorted.{IsStrictlyIncreasing}
 use Rattle.std.specs.declared.alloc.Global.{Global}
+use Rattle.teb_names.specs.declared.TheConstants.{SESSIONS}
 use Rattle.teb_names.specs.declared.Session.{Session}
 use Rattle.script_text.specs.declared.Line.{Line}
 use Rattle.turn_lock.specs.Counts.{total, times}
 use Rattle.session_tasks.specs.Scripted.{Scripted}
 
--- s is one of the sessions 1 to 32, and has a script
+-- s is one of the sessions 1 to SESSIONS, and has a script
 pub record HasScript (scripts : Scripted) (s : ℕ) : Type 0 where
   pub low : 1 ≤ s
-  pub high : s ≤ 32
+  pub high : s ≤ SESSIONS
   pub place : ℕ
   pub lines : List Line
   pub script : slice_get scripts place ≡ Some (record { 0 = s }, lines)

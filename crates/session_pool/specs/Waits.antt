@@ -10,14 +10,15 @@ use Rattle.session_server.specs.Outfits.{Fitted}
 use Rattle.session_server.specs.Passes.{IsNew, base_of, seen}
 use Rattle.session_tasks.specs.Scripted.{Scripted, place_in}
 use Rattle.session_pool.specs.declared.waiting.Waiting.{Waiting}
+use Rattle.teb_names.specs.declared.TheConstants.{SESSIONS}
 
 -- those of some sessions that have a script
 abbrev pub scripted_of : Scripted → List ℕ → List ℕ
 scripted_of scripts sessions = filter (λ s. is_some (place_in scripts s)) sessions
 
--- the sessions from 1 to 32 that have a script
+-- the sessions from 1 to SESSIONS that have a script
 abbrev pub scripted : Scripted → List ℕ
-scripted scripts = scripted_of scripts (numbers 32)
+scripted scripts = scripted_of scripts (numbers SESSIONS)
 
 module _ {C : Type 0} {g : Ghosts C} where
   abbrev pub number_at : Waiting C g → ℕ

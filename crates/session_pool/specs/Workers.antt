@@ -13,6 +13,7 @@ use Rattle.session_pool.specs.Tallies.{tally}
 use Rattle.session_pool.specs.declared.tally.Tally.{Tally}
 use Rattle.session_pool.specs.declared.waiting.Waiting.{Waiting}
 use Rattle.session_pool.specs.declared.worker.Worker.{Worker}
+use Rattle.teb_names.specs.declared.TheConstants.{SESSIONS}
 
 module _ {C : Type 0} {g : Ghosts C} {Q A : Type 0} (line : Slotted (Option (Waiting C g)) (Doing (Waiting C g) Tally) Q A) where
   -- its token is of this queue, and knows just the sessions in its hand
@@ -24,11 +25,11 @@ module _ {C : Type 0} {g : Ghosts C} {Q A : Type 0} (line : Slotted (Option (Wai
   pub record IsHired (w : Worker C g) : Type 0 where
     pub token : HasToken w
     pub empty : w.hand.items ≡ []
-    pub room : vec_capacity w.hand ≡ 32
+    pub room : vec_capacity w.hand ≡ SESSIONS
 
   -- the sessions in its hand rise, and are of this hall
   pub record IsAtWork (h : Hall C g) (scripts : Scripted) (w : Worker C g) : Type 0 where
     pub token : HasToken w
     pub tasks : All (IsTask h scripts) w.hand.items
     pub rising : Rising 0 (taken_in w.hand)
-    pub room : vec_capacity w.hand ≡ 32
+    pub room : vec_capacity w.hand ≡ SESSIONS

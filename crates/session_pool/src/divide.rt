@@ -9,9 +9,10 @@ ghost use Rattle.session_pool.specs.Waits.{IsWaiting, number_at, scripted};
 
 use crate::waiting::Waiting;
 use session_server::Pass;
-use session_tasks::{Gate, Run, SESSIONS, Task, place_in};
+use session_tasks::{Gate, Run, Task, place_in};
 use std::alloc::{AllocError, Global};
 use std::collections::VecDeque;
+use teb_names::SESSIONS;
 use version_chain::Chains;
 
 /// The sessions of a run, divided.
@@ -29,12 +30,12 @@ pub(crate) fn divide<C: Chains, G: Gate>(
     alloc: Global,
     mut passes: Vec<Pass<C>>,
 ) -> Result<Divided<C>, AllocError>
-    requires sessions { map number_of passes.items ≡ numbers 32 }
+    requires sessions { map number_of passes.items ≡ numbers SESSIONS }
     requires new { All (IsNew run.now.hall.now) passes.items }
     ensures waiting { IfOk result (λ d. map number_at d.waiting.items ≡ scripted run.now.scripts.now) }
     ensures fitting { IfOk result (λ d. All (IsWaiting run.now.hall.now) d.waiting.items) }
     ensures idle { IfOk result (λ d. All (IsTask run.now.hall.now run.now.scripts.now) d.idle.items) }
-    ensures all { IfOk result (λ d. (weight : ℕ → ℕ) → total weight (map number_in d.idle.items) + total weight (scripted run.now.scripts.now) ≡ total weight (numbers 32)) }
+    ensures all { IfOk result (λ d. (weight : ℕ → ℕ) → total weight (map number_in d.idle.items) + total weight (scripted run.now.scripts.now) ≡ total weight (numbers SESSIONS)) }
 {
     let mut waiting = VecDeque::with_capacity(alloc, usize::from(SESSIONS))?;
     let mut idle = Vec::with_capacity(alloc, usize::from(SESSIONS))?;

@@ -12,7 +12,7 @@ ghost use Rattle.session_pool.specs.Taken.{numbers_in};
 use session_tasks::{Gate, Progress, Run, RunError, Task};
 use std::alloc::{AllocError, Global};
 use std::collections::VecDeque;
-use teb_names::Session;
+use teb_names::{SESSIONS, Session};
 use version_chain::Chains;
 
 /// The sessions in each hand.
@@ -60,8 +60,8 @@ pub(crate) fn in_order<C: Chains, G: Gate>(
     mut tasks: Vec<Task<C>>,
 ) -> Result<VecDeque<Task<C>>, RunError<C>>
     requires tasks { All (IsTask run.now.hall.now run.now.scripts.now) tasks.items }
-    requires all { (weight : ℕ → ℕ) → total weight (map number_in tasks.items) ≡ total weight (numbers 32) }
-    ensures ok { IfOk result (λ v. AreTasks run.now.hall.now run.now.scripts.now (numbers 32) v.items) }
+    requires all { (weight : ℕ → ℕ) → total weight (map number_in tasks.items) ≡ total weight (numbers SESSIONS) }
+    ensures ok { IfOk result (λ v. AreTasks run.now.hall.now run.now.scripts.now (numbers SESSIONS) v.items) }
     ensures cause { IfErr result (IsCause run.now.hall.now run.now.scripts.now) }
 {
     tasks.sort_unstable_by_key(|task| task.pass.session().0);

@@ -17,6 +17,7 @@ use session_tasks::{Gate, Run, Task};
 use std::alloc::{AllocError, Global};
 use std::collections::VecDeque;
 use std::sync::Wait;
+use teb_names::SESSIONS;
 use version_chain::Chains;
 
 /// The hands of the workers. Their tokens go into this one, which then is the only one, and knows what is in all hands.
@@ -56,7 +57,7 @@ pub(crate) fn take_rest<C: Chains, G: Gate, J: Roster, R: Wait>(
     requires tasks { All (IsTask run.now.hall.now run.now.scripts.now) hand.old.items }
     requires rising { Rising 0 (taken_in hand.old) }
     requires within { (weight : ℕ → ℕ) → total weight (taken_in hand.old) ≤ total weight (view token.old).taken }
-    requires room { vec_capacity hand.old ≡ 32 }
+    requires room { vec_capacity hand.old ≡ SESSIONS }
     ensures tasks { All (IsTask run.now.hall.now run.now.scripts.now) hand.new.items }
     ensures rising { Rising 0 (taken_in hand.new) }
     ensures rest { (weight : ℕ → ℕ) → total weight (taken_in hand.new) + total weight (view token.old).taken ≡ total weight (taken_in hand.old) + total weight J.numbers }

@@ -28,13 +28,13 @@ use std::collections::VecDeque;
 use std::marker::Brand;
 use std::sync::Wait;
 use std::thread::Threads;
-use teb_names::Session;
+use teb_names::{SESSIONS, Session};
 use version_chain::Chains;
 
 /// What a run by a queue leaves.
 #[derive(Drop)]
 pub struct Pooled<C: Chains> {
-    /// The passes of the sessions 1 to 32, in order.
+    /// The passes of the sessions 1 to `SESSIONS`, in order.
     pub passes: Vec<Pass<C>>,
     /// The sessions that each worker took, in order.
     pub taken: Vec<Vec<Session>>,
@@ -45,10 +45,10 @@ pub struct Pooled<C: Chains> {
 /// The sessions wait in a queue, in ascending order, and a worker takes the next when it is through with one. Where no
 /// thread can be made the workers go one after another. A worker whose session meets an error stops the others; where
 /// no session met one, the caller serves on those that were stopped, and then takes and serves, as the first worker, what
-/// is left in the queue. `Ok` hands back the passes of the sessions 1 to 32 in order, and whom each worker took.
+/// is left in the queue. `Ok` hands back the passes of the sessions 1 to `SESSIONS` in order, and whom each worker took.
 ///
 /// # Errors
-/// The error of the least session that met one. `PassSpent` hands back the pass that has asked 2^40 times. The other
+/// The error of the least session that met one. `PassSpent` hands back the pass that has asked `MOST_ASKS` times. The other
 /// passes are gone, so the hall cannot be closed.
 pub fn run_pool<C: Chains + Send, G: Gate + Sync, R: Threads + Wait + Sync>(
     rt: &R,
@@ -59,11 +59,11 @@ pub fn run_pool<C: Chains + Send, G: Gate + Sync, R: Threads + Wait + Sync>(
     workers: u8,
     gate: &G,
 ) -> Result<Pooled<C>, RunError<C>>
-    requires sessions { map number_of passes.items ≡ numbers 32 }
+    requires sessions { map number_of passes.items ≡ numbers SESSIONS }
     requires new { All (IsNew hall.now) passes.items }
     requires scripts { AreDistinct scripts.now }
     requires workers { 1 ≤ workers }
-    ensures sessions { IfOk result (λ p. map number_of p.passes.items ≡ numbers 32) }
+    ensures sessions { IfOk result (λ p. map number_of p.passes.items ≡ numbers SESSIONS) }
     ensures served { IfOk result (λ p. All (IsServed hall.now scripts.now) p.passes.items) }
     ensures taken { IfOk result (λ p. AreTaken scripts.now workers (numbers_in p.taken.items)) }
     ensures cause { IfErr result (IsCause hall.now scripts.now) }
@@ -89,12 +89,12 @@ fn serve_all<C: Chains + Send, G: Gate + Sync, R: Threads + Wait + Sync>(
     passes: Vec<Pass<C>>,
     workers: u8,
 ) -> Result<(Vec<Vec<Session>>, Vec<Task<C>>), AllocError>
-    requires sessions { map number_of passes.items ≡ numbers 32 }
+    requires sessions { map number_of passes.items ≡ numbers SESSIONS }
     requires new { All (IsNew run.now.hall.now) passes.items }
     requires workers { 1 ≤ workers }
     ensures taken { IfOk result (λ r. AreTaken run.now.scripts.now workers (numbers_in r.0.items)) }
     ensures tasks { IfOk result (λ r. All (IsTask run.now.hall.now run.now.scripts.now) r.1.items) }
-    ensures all { IfOk result (λ r. (weight : ℕ → ℕ) → total weight (map number_in r.1.items) ≡ total weight (numbers 32)) }
+    ensures all { IfOk result (λ r. (weight : ℕ → ℕ) → total weight (map number_in r.1.items) ≡ total weight (numbers SESSIONS)) }
 {
     let divided = divide(run, alloc, passes)?;
     let hands = fill_hands(rt, alloc, run, divided.waiting, workers)?;

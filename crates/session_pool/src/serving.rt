@@ -11,13 +11,14 @@ ghost use Rattle.session_pool.specs.Workers.{IsHired, IsAtWork};
 use crate::queue::{Roster, SessionQueue, Token};
 use crate::steps::{Part, Take};
 use crate::worker::Worker;
-use session_tasks::{Gate, Progress, Run, SESSIONS, Stops, Task};
+use session_tasks::{Gate, Progress, Run, Stops, Task};
 use std::alloc::{AllocError, Global};
 use std::sync::Wait;
 use std::sync::atomic::AtomicIn;
 use std::sync::atomic::Ordering::SeqCst;
 use std::thread;
 use std::thread::Threads;
+use teb_names::SESSIONS;
 use version_chain::Chains;
 
 /// So many workers with nothing in their hands. The token gives a part to each.
@@ -107,7 +108,7 @@ fn take<C: Chains, G: Gate, J: Roster, R: Wait>(
     requires token { IsPassOf line.now token.old × (0 < (view token.old).parts) }
     ensures token { IsPassOf line.now token.new }
     ensures task { IfSome result (IsTask run.now.hall.now run.now.scripts.now) }
-    ensures taken { IfSome result (λ t. (view token.new ≡ after_pop (view token.old) (number_in t)) × IsTaken 32 (view token.old) (view token.new)) }
+    ensures taken { IfSome result (λ t. (view token.new ≡ after_pop (view token.old) (number_in t)) × IsTaken SESSIONS (view token.old) (view token.new)) }
     ensures none { IfNone result (view token.new ≡ view token.old) }
 {
     match line.pop_as::<Take<J>, R>(rt, token) {

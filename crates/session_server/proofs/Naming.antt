@@ -1,5 +1,6 @@
 -- Whom an answer names.
 use Rattle.std.proofs.Common.{◌≡◌, ◌≤◌, List, sym, ◌∙◌, arith}
+use Rattle.teb_names.specs.declared.TheConstants.{MOST_TXNS}
 use Rattle.teb_names.specs.declared.Session.{Session}
 use Rattle.teb_names.specs.declared.Request.{Request}
 use Rattle.teb_names.specs.declared.Reply.{Reply}
@@ -14,5 +15,5 @@ use Rattle.teb_laws.proofs.Waits.{again_fair}
 use Rattle.session_server.specs.Waits.{WaitsAmong}
 
 -- an Again names one that has begun
-pub names_begun : (X : Store) (H : List Event) (s : Session) (q : Request) (r : Reply) → Lawful X.setup H → begun_count H ≤ 8192 → r ≡ (answer X H s q).0 → WaitsAmong 8192 r
+pub names_begun : (X : Store) (H : List Event) (s : Session) (q : Request) (r : Reply) → Lawful X.setup H → begun_count H ≤ MOST_TXNS → r ≡ (answer X H s q).0 → WaitsAmong MOST_TXNS r
 names_begun X H s q r l few is = λ u n e. let fair = again_fair X H s q u n (sym is ∙ e) in let b = begun_counted X.setup H u.0 l (unfinished_times H u.0 fair.running).0 in (omega arith, omega arith)

@@ -6,11 +6,11 @@ ghost use Rattle.session_server.specs.Waits.{WaitsAmong};
 ghost use Rattle.session_server.specs.declared.error.AskError.TheVariants.{PassSpent, OutOfMemory};
 
 use crate::error::AskError;
-use crate::hall::{Hall, MOST_ASKS};
-use crate::pass::Pass;
+use crate::hall::Hall;
+use crate::pass::{MOST_ASKS, Pass};
 use crate::taking::take_turn;
 use std::sync::Wait;
-use teb_names::{Reply, Request};
+use teb_names::{MOST_TXNS, Reply, Request};
 use version_chain::Chains;
 
 impl<C: Chains> Hall<C> {
@@ -20,7 +20,7 @@ impl<C: Chains> Hall<C> {
     /// the answer is published. Whom an Again names may be polled.
     ///
     /// # Errors
-    /// `PassSpent`, where the pass has asked 2^40 times. `OutOfMemory` leaves no entry.
+    /// `PassSpent`, where the pass has asked `MOST_ASKS` times. `OutOfMemory` leaves no entry.
     pub fn ask<R: Wait>(
         &self,
         rt: &R,
@@ -30,10 +30,10 @@ impl<C: Chains> Hall<C> {
         requires pass { IsPassOf self.now pass.old }
         ensures pass { IsPassOf self.now pass.new × (pass.new.session ≡ pass.old.session) }
         ensures ok { IfOk result (λ r. Turned (base_of self.now).store pass.old pass.new × Asked pass.old pass.new request r) }
-        ensures waits { IfOk result (WaitsAmong 8192) }
+        ensures waits { IfOk result (WaitsAmong MOST_TXNS) }
         ensures memory { result ≡ Err OutOfMemory → Turned (base_of self.now).store pass.old pass.new × Unasked pass.old pass.new }
         ensures spent { result ≡ Err PassSpent → pass.new ≡ pass.old }
-        ensures when { (result ≡ Err PassSpent) ↔ (pass.old.asks ≡ 1099511627776) }
+        ensures when { (result ≡ Err PassSpent) ↔ (pass.old.asks ≡ MOST_ASKS) }
     {
         if pass.asks == MOST_ASKS {
             return Err(AskError::PassSpent);

@@ -3,7 +3,7 @@
 /// Why a request was not asked.
 #[derive(Clone, Copy, Debug, PartialEq, Eq)]
 pub enum AskError {
-    /// The pass has asked 2^40 times.
+    /// The pass has asked `MOST_ASKS` times.
     PassSpent,
     OutOfMemory,
 }

@@ -1,6 +1,7 @@
 //! The value that goes from turn to turn: the engine, with the list of what it was asked and answered.
 
 ghost use Rattle.std.specs.Prelude.{◌≡◌, suc, ◌≤◌, [], ◌∷◌, ◌++◌, IfOk, OnErr, length};
+ghost use Rattle.teb_names.specs.declared.TheConstants.{MOST_TXNS};
 ghost use Rattle.teb_history.specs.Phases.{begun_count};
 ghost use Rattle.teb_rules.specs.Answer.{answer};
 ghost use Rattle.teb_rules.specs.Run.{IsLegal, history_of};
@@ -22,7 +23,7 @@ pub struct Hosted<C: Chains> {
     pub(crate) entries: Vec<Entry>,
     ghost legal: { IsLegal engine.store entries.items },
     ghost stands: { engine.events ≡ history_of engine.store entries.items },
-    ghost few: { begun_count engine.events ≤ 8192 },
+    ghost few: { begun_count engine.events ≤ MOST_TXNS },
 }
 
 impl<C: Chains> Member for Hosted<C> {

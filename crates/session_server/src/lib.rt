@@ -20,4 +20,4 @@ pub use finish_board::Poll;
 pub use hall::Hall;
 pub use hosted::Hosted;
 pub use outfit::Outfit;
-pub use pass::Pass;
+pub use pass::{MOST_ASKS, Pass};

@@ -9,7 +9,7 @@ use crate::hosted::Hosted;
 use crate::published::publish_since;
 use std::alloc::AllocError;
 use std::sync::Wait;
-use teb_names::{Reply, Request, Session};
+use teb_names::{MOST_TXNS, Reply, Request, Session};
 use turn_lock::{SeatOf, Turn};
 use version_chain::Chains;
 
@@ -21,14 +21,14 @@ pub(crate) fn take_turn<C: Chains, R: Wait>(
     session: Session,
     request: Request,
 ) -> Result<Reply, AllocError>
-    requires notes { note_count turn.now ≡ 8192 }
+    requires notes { note_count turn.now ≡ MOST_TXNS }
     requires seat { IsOf turn.now seat.old × IsOutside seat.old }
     requires turns { 0 < (view_of seat.old).turns }
     requires owner { (view_of seat.old).owners ≡ session.0 ∷ [] }
     ensures seat { IsOf turn.now seat.new × IsOutside seat.new }
     ensures turn { TakesTurn (view_of seat.old) (view_of seat.new) }
     ensures ok { IfOk result (λ r. SeesMore (view_of seat.old) (view_of seat.new) ((record { session = session; request = request; reply = r }) ∷ [])) }
-    ensures waits { IfOk result (WaitsAmong 8192) }
+    ensures waits { IfOk result (WaitsAmong MOST_TXNS) }
     ensures err { OnErr result (SeesMore (view_of seat.old) (view_of seat.new) []) }
 {
     let mut hosted = turn.enter(rt, seat);

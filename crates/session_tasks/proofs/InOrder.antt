@@ -14,6 +14,7 @@ use Rattle.session_server.specs.Passes.{IsNew, number_of}
 use Rattle.session_tasks.specs.Scripted.{Scripted}
 use Rattle.session_tasks.specs.Tasks.{AreTasks, IsTask, number_in}
 use Rattle.session_tasks.specs.declared.task.Task.{Task}
+use Rattle.teb_names.specs.declared.TheConstants.{SESSIONS}
 
 -- the last of two lists that are the same
 pub last_same : {A : Type 0} (xs ys : List A) (x y : A) → xs ++ x ∷ [] ≡ ys ++ y ∷ [] → (xs ≡ ys) × (x ≡ y)
@@ -72,10 +73,10 @@ module _ {C : Type 0} {g : Ghosts C} (h : Hall C g) (x : Scripted) where
   }
 
 -- the sessions from one on
-pub sessions_from : (k : ℕ) → k < 32 → count_from (suc k) (32 - k) ≡ suc k ∷ count_from (suc (suc k)) (31 - k)
-sessions_from k l = ap (count_from (suc k)) (let e : 32 - k ≡ suc (31 - k) = omega arith in e)
+pub sessions_from : (k : ℕ) → k < SESSIONS → count_from (suc k) (SESSIONS - k) ≡ suc k ∷ count_from (suc (suc k)) (SESSIONS - suc k)
+sessions_from k l = ap (count_from (suc k)) (let e : SESSIONS - k ≡ suc (SESSIONS - suc k) = omega arith in e)
 
-pub all_sessions : count_from 1 32 ≡ numbers 32
+pub all_sessions : count_from 1 SESSIONS ≡ numbers SESSIONS
 unfolding numbers
 all_sessions = refl
 
@@ -84,8 +85,8 @@ unfolding numbers
 numbers_next n = refl
 
 -- the sessions after the next
-pub from_next : (k : ℕ) → k < 32 → count_from (suc (suc k)) (31 - k) ≡ count_from (suc (k + 1)) (32 - (k + 1))
-from_next k l = ap (λ (p : ℕ × ℕ). count_from p.0 p.1) (λ i. ((let e : suc (suc k) ≡ suc (k + 1) = omega arith in e) i, (let e : 31 - k ≡ 32 - (k + 1) = omega arith in e) i))
+pub from_next : (k : ℕ) → k < SESSIONS → count_from (suc (suc k)) (SESSIONS - suc k) ≡ count_from (suc (k + 1)) (SESSIONS - (k + 1))
+from_next k l = ap (λ (p : ℕ × ℕ). count_from p.0 p.1) (λ i. ((let e : suc (suc k) ≡ suc (k + 1) = omega arith in e) i, (let e : SESSIONS - suc k ≡ SESSIONS - (k + 1) = omega arith in e) i))
 
 pub no_numbers : numbers 0 ≡ []
 unfolding numbers
@@ -97,18 +98,18 @@ module _ {C : Type 0} {g : Ghosts C} (h : Hall C g) (x : Scripted) where
   gathered_on k ts us t a task is to = subst (λ (ns : List ℕ). AreTasks h x ns us) (sym (numbers_next k) ∙ ap numbers (let z : suc k ≡ k + 1 = omega arith in z)) (tasks_push h x (numbers k) ts us t (suc k) a task is to)
 
   -- the first of the tasks that are left
-  pub finish_front : (k : ℕ) (us ts : List (Task C g)) (t : Task C g) → k ≤ 32 → AreTasks h x (count_from (suc k) (32 - k)) us → us ≡ t ∷ ts → k < 32
-  finish_front k us ts t b a is = elim (cases_lt k 32) [
+  pub finish_front : (k : ℕ) (us ts : List (Task C g)) (t : Task C g) → k ≤ SESSIONS → AreTasks h x (count_from (suc k) (SESSIONS - k)) us → us ≡ t ∷ ts → k < SESSIONS
+  finish_front k us ts t b a is = elim (cases_lt k SESSIONS) [
     | inl l ↦ l
-    | inr l ↦ (let e : 32 - k ≡ 0 = omega arith in
-        let z : length (map number_in us) ≡ length (count_from (suc k) (32 - k)) = ap length a.numbers in
-        let y : length (count_from (suc k) (32 - k)) ≡ 0 = ap (λ (n : ℕ). length (count_from (suc k) n)) e in
+    | inr l ↦ (let e : SESSIONS - k ≡ 0 = omega arith in
+        let z : length (map number_in us) ≡ length (count_from (suc k) (SESSIONS - k)) = ap length a.numbers in
+        let y : length (count_from (suc k) (SESSIONS - k)) ≡ 0 = ap (λ (n : ℕ). length (count_from (suc k) n)) e in
         let v : length (map number_in us) ≡ suc (length (map number_in ts)) = ap (λ (ys : List (Task C g)). length (map number_in ys)) is in absurd (omega arith))
   ]
 
-  pub finish_step : (k : ℕ) (us ts : List (Task C g)) (t : Task C g) → k < 32 → AreTasks h x (count_from (suc k) (32 - k)) us → us ≡ t ∷ ts → Popped h x (count_from (suc (k + 1)) (32 - (k + 1))) (suc k) ts t
+  pub finish_step : (k : ℕ) (us ts : List (Task C g)) (t : Task C g) → k < SESSIONS → AreTasks h x (count_from (suc k) (SESSIONS - k)) us → us ≡ t ∷ ts → Popped h x (count_from (suc (k + 1)) (SESSIONS - (k + 1))) (suc k) ts t
   finish_step k us ts t l a is =
-      let p = tasks_front h x (suc k) (count_from (suc (suc k)) (31 - k)) t us ts (subst (λ (ns : List ℕ). AreTasks h x ns us) (sessions_from k l) a) is in record {
+      let p = tasks_front h x (suc k) (count_from (suc (suc k)) (SESSIONS - suc k)) t us ts (subst (λ (ns : List ℕ). AreTasks h x ns us) (sessions_from k l) a) is in record {
         rest = subst (λ (ns : List ℕ). AreTasks h x ns ts) (from_next k l) p.rest;
         task = p.task;
         session = p.session;
@@ -116,9 +117,9 @@ module _ {C : Type 0} {g : Ghosts C} (h : Hall C g) (x : Scripted) where
 
 -- passes in order
 module _ {C : Type 0} {g : Ghosts C} (h : Hall C g) where
-  pub all_passes : (ps : List (Pass C g)) (n : ℕ) → length ps ≡ n → map number_of ps ≡ numbers 32 → n ≡ 32
+  pub all_passes : (ps : List (Pass C g)) (n : ℕ) → length ps ≡ n → map number_of ps ≡ numbers SESSIONS → n ≡ SESSIONS
   unfolding numbers
-  all_passes ps n l e = let k : length (map number_of ps) ≡ length ps = length-map ps number_of in let z : length (map number_of ps) ≡ length (numbers 32) = ap length e in omega arith
+  all_passes ps n l e = let k : length (map number_of ps) ≡ length ps = length-map ps number_of in let z : length (map number_of ps) ≡ length (numbers SESSIONS) = ap length e in omega arith
 
   -- the last pass is taken
   pub record LastOf (ps : List (Pass C g)) (p : Pass C g) (n : ℕ) : Type 0 where

@@ -4,6 +4,7 @@ use Rattle.teb_rules.specs.Scripts.{IsWay, IsWalk}
 use Rattle.script_text.specs.declared.Line.{Line}
 use Rattle.script_walk.specs.ScriptStates.{requests_on}
 use Rattle.version_chain.specs.declared.chains.Chains.{Ghosts}
+use Rattle.session_server.specs.declared.pass.TheConstants.{MOST_ASKS}
 use Rattle.session_server.specs.declared.hall.Hall.{Hall}
 use Rattle.session_server.specs.declared.pass.Pass.{Pass}
 use Rattle.session_tasks.specs.declared.error.RunError.{RunError}
@@ -18,10 +19,10 @@ module _ {C : Type 0} {g : Ghosts C} where
     pub walk : (i : ℕ) (lines : List Line) → slice_get scripts i ≡ Some (p.session, lines) → IsWalk (requests_on lines) (mine p)
     pub idle : ((i : ℕ) (lines : List Line) → slice_get scripts i ≢ Some (p.session, lines)) → IsNew h p
 
-  -- a pass of this hall that has asked 2^40 times, and has come some way along the script of its session
+  -- a pass of this hall that has asked MOST_ASKS times, and has come some way along the script of its session
   pub record IsSpent (h : Hall C g) (scripts : Scripted) (p : Pass C g) : Type 0 where
     pub hall : IsPassOf h p
-    pub asks : p.asks ≡ 1099511627776
+    pub asks : p.asks ≡ MOST_ASKS
     pub place : ℕ
     pub lines : List Line
     pub script : slice_get scripts place ≡ Some (p.session, lines)

@@ -3,6 +3,7 @@ use Rattle.std.specs.Prelude.{◌≡◌, ℕ, Bool, true, false, Result, Ok, Err
 use Rattle.teb_rules.specs.Scripts.{IsWalk}
 use Rattle.script_walk.specs.ScriptStates.{requests_on}
 use Rattle.version_chain.specs.declared.chains.Chains.{Ghosts}
+use Rattle.session_server.specs.declared.pass.TheConstants.{MOST_ASKS}
 use Rattle.session_server.specs.declared.hall.Hall.{Hall}
 use Rattle.session_server.specs.declared.error.AskError.{AskError}
 use Rattle.session_server.specs.declared.error.AskError.TheVariants.{PassSpent}
@@ -34,7 +35,7 @@ module _ {C : Type 0} {g : Ghosts C} where
     pub hall : IsPassOf h t.pass
     pub way : IsUnderWay (lines_at scripts t.place) (mine t.pass) t.walker
     pub through : t.progress ≡ Through → IsWalk (requests_on (lines_at scripts t.place)) (mine t.pass)
-    pub spent : t.progress ≡ Failed PassSpent → t.pass.asks ≡ 1099511627776
+    pub spent : t.progress ≡ Failed PassSpent → t.pass.asks ≡ MOST_ASKS
     pub idle : t.place ≡ None → IsNew h t.pass × (t.progress ≡ Through)
 
   -- the tasks of these sessions, one after the other

@@ -6,7 +6,7 @@ use version_chain::Chains;
 /// Why sessions were not served to their end.
 #[derive(Drop)]
 pub enum RunError<C: Chains> {
-    /// This pass has asked 2^40 times.
+    /// This pass has asked `MOST_ASKS` times.
     PassSpent(Pass<C>),
     OutOfMemory,
 }

@@ -10,13 +10,14 @@ ghost use Rattle.session_tasks.specs.declared.task.Progress.TheVariants.{Failed}
 
 use crate::error::RunError;
 use crate::gate::Gate;
-use crate::run::{Run, SESSIONS};
+use crate::run::Run;
 use crate::stop::Stops;
 use crate::task::{Progress, Task};
 use session_server::{AskError, Pass};
 use std::alloc::Global;
 use std::collections::VecDeque;
 use std::sync::Wait;
+use teb_names::SESSIONS;
 use version_chain::Chains;
 
 impl<C: Chains, G: Gate> Run<'_, C, G> {
@@ -27,9 +28,9 @@ impl<C: Chains, G: Gate> Run<'_, C, G> {
         alloc: Global,
         mut tasks: VecDeque<Task<C>>,
     ) -> Result<Vec<Pass<C>>, RunError<C>>
-        requires tasks { AreTasks self.now.hall.now self.now.scripts.now (numbers 32) tasks.items }
+        requires tasks { AreTasks self.now.hall.now self.now.scripts.now (numbers SESSIONS) tasks.items }
         requires scripts { AreDistinct self.now.scripts.now }
-        ensures sessions { IfOk result (λ v. map number_of v.items ≡ numbers 32) }
+        ensures sessions { IfOk result (λ v. map number_of v.items ≡ numbers SESSIONS) }
         ensures served { IfOk result (λ v. All (IsServed self.now.hall.now self.now.scripts.now) v.items) }
         ensures cause { IfErr result (IsCause self.now.hall.now self.now.scripts.now) }
     {

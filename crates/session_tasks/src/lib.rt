@@ -17,7 +17,7 @@ mod task;
 pub use error::RunError;
 pub use gate::Gate;
 pub use place::place_in;
-pub use run::{Run, SESSIONS};
+pub use run::Run;
 pub use serving::serve;
 pub use stop::Stops;
 pub use task::{Progress, Task};

@@ -4,9 +4,6 @@ use script_text::Scripts;
 use session_server::Hall;
 use version_chain::Chains;
 
-/// How many sessions there are.
-pub const SESSIONS: u8 = 32;
-
 /// What a run is over: the hall, the scripts of its sessions, and the gate that is called round each request.
 #[derive(Drop)]
 pub struct Run<'a, C: Chains, G> {

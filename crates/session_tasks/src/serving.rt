@@ -14,11 +14,11 @@ use crate::gate::Gate;
 use crate::stop::is_raised;
 use script_text::Line;
 use script_walk::Walker;
-use session_server::{AskError, Hall, Pass, Poll};
+use session_server::{AskError, Hall, MOST_ASKS, Pass, Poll};
 use std::sync::Wait;
 use std::sync::atomic::{AtomicIn, Rule};
 use std::thread;
-use teb_names::{Reply, Request, Txn};
+use teb_names::{MOST_TXNS, Reply, Request, Txn};
 use version_chain::Chains;
 
 /// How often a session looks at whom it waits for before it asks again.
@@ -48,7 +48,7 @@ pub fn serve<C: Chains, G: Gate, S: Rule, R: Wait>(
     ensures way { IsUnderWay lines.now (mine pass.new) walker.new }
     ensures walk { result ≡ Ok true → IsWalk (requests_on lines.now) (mine pass.new) }
     ensures stopped { result ≡ Ok false → IsSome stop.entry × FoundRaised S.invariant }
-    ensures spent { result ≡ Err PassSpent → pass.new.asks ≡ 1099511627776 }
+    ensures spent { result ≡ Err PassSpent → pass.new.asks ≡ MOST_ASKS }
 {
     for _ in rt.forever() {
         let Some(request) = walker.next(lines) else {
@@ -81,8 +81,8 @@ fn ask_next<C: Chains, G: Gate, R: Wait>(
     requires next { asks (state_of lines.now walker.old) ≡ Some request.now }
     ensures pass { IsPassOf hall.now pass.new × (pass.new.session ≡ pass.old.session) }
     ensures way { IsUnderWay lines.now (mine pass.new) walker.new }
-    ensures waits { IfOk result (WaitsAmong 8192) }
-    ensures spent { result ≡ Err PassSpent → pass.new.asks ≡ 1099511627776 }
+    ensures waits { IfOk result (WaitsAmong MOST_TXNS) }
+    ensures spent { result ≡ Err PassSpent → pass.new.asks ≡ MOST_ASKS }
 {
     let number = number_at(walker, lines);
     let session = pass.session();
@@ -112,7 +112,7 @@ fn number_at(walker: &Walker, lines: &[Line]) -> u32 {
 #[tactic(auto, using(crate::proofs::Walking::mine_same))]
 fn look_for<C: Chains>(hall: &Hall<C>, pass: &mut Pass<C>, who: Txn)
     requires pass { IsPassOf hall.now pass.old }
-    requires who { (1 ≤ who.0) × (who.0 ≤ 8192) }
+    requires who { (1 ≤ who.0) × (who.0 ≤ MOST_TXNS) }
     ensures pass { IsPassOf hall.now pass.new × (pass.new.session ≡ pass.old.session) × (pass.new.asks ≡ pass.old.asks) }
     ensures mine { mine pass.new ≡ mine pass.old }
 {

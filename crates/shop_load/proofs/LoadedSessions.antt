@@ -1,12 +1,13 @@
 -- The lines of a load are of sessions 1 to 8.
 use Rattle.std.proofs.Common.{ℕ, zero, suc, ◌+◌, ◌*◌, ◌%◌, ◌<◌, ◌≤◌, List, [], ◌∷◌, ◌++◌, arith}
 use Rattle.std.specs.List.{flat_map, range_with_len}
+use Rattle.teb_names.specs.declared.TheConstants.{SESSIONS}
 use Rattle.teb_names.specs.declared.Session.{Session}
 use Rattle.teb_names.specs.declared.Request.{Request}
 use Rattle.script_text.specs.Sessions.{AreOfSessions}
 use Rattle.shop_load.specs.Loads.{Asking, askings_at, asked_by, numbered, loaded_lines, requests_from, state}
 
-asked_sessions : (n : ℕ) (s : Session) (rs : List Request) (more : List Asking) → 0 < s.0 → s.0 ≤ 32 → ((m : ℕ) → AreOfSessions (numbered m more)) → AreOfSessions (numbered n (asked_by s rs ++ more))
+asked_sessions : (n : ℕ) (s : Session) (rs : List Request) (more : List Asking) → 0 < s.0 → s.0 ≤ SESSIONS → ((m : ℕ) → AreOfSessions (numbered m more)) → AreOfSessions (numbered n (asked_by s rs ++ more))
 asked_sessions n s [] more a b h = h n
 asked_sessions n s (r ∷ rs) more a b h = (a, b, asked_sessions (n + 1) s rs more a b h)
 

@@ -151,7 +151,7 @@ pub enum Cause {
 /// Why a request was refused.
 #[derive(Clone, Copy, Debug, PartialEq, Eq)]
 pub enum Refusal {
-    /// The session's number is not 1 to 32.
+    /// The session's number is not 1 to `SESSIONS`.
     BadSession,
     /// A Begin while the session holds a transaction.
     InTxn,

@@ -7,6 +7,7 @@ use Rattle.std.specs.Prelude.{Vec}
 use Rattle.std.specs.declared.alloc.Global.{Global}
 use Rattle.teb_io.specs.declared.source.ReadError.{ReadError}
 use Rattle.teb_io.specs.declared.source.ReadError.TheVariants as read
+use Rattle.script_text.specs.declared.input.TheConstants.{MOST_BYTES}
 use Rattle.input_reader.specs.Reads.{read_error}
 use Rattle.std.specs.declared.alloc.AllocError.{AllocError}
 use Rattle.teb_history.specs.declared.Event.{Event}
@@ -59,7 +60,7 @@ pool_refused workers e alone bytes why is = rw is (refl, alone)
 
 -- a text that is audited is one that `audit` answers yes to
 audited_yes : (text : List ℕ) → IsAudited text → IsAuditedYes text
-audited_yes text is few = rw (le-ltb 4194304 (length text) few) (sym (ap verdict is))
+audited_yes text is few = rw (le-ltb MOST_BYTES (length text) few) (sym (ap verdict is))
 
 module _ (left rest : Option (List ℕ)) (e : Ended) (before now : Option (List ℕ)) where
   -- a command whose input is refused
@@ -110,13 +111,13 @@ module _ (left rest : Option (List ℕ)) (e : Ended) (before now : Option (List 
 
     pub bytes_of : (text : Vec ℕ Global) → AreReadFrom left rest (Ok text) → (r : Result Shown AllocError) → IfOk r (R text.items) → IfOk r (λ o. o.history ≡ None)
         → MatchResult r (λ o. IsWritten o e.status e.history before now) (λ _. e.status ≡ 8) → e.status ≢ 8 → IsRight command left rest e before now
-    bytes_of text read (Ok o) is none written ne = shown_bytes o text.items read.0 (rw (le-ltb 4194304 (length text.items) read.1) is) none written
+    bytes_of text read (Ok o) is none written ne = shown_bytes o text.items read.0 (rw (le-ltb MOST_BYTES (length text.items) read.1) is) none written
     bytes_of text read (Err w) is none written ne = absurd (ne written)
 
     pub bytes_refused : (why : ReadError) → AreReadFrom left rest (Err why) → (x : InputError) → x ≡ read_error why → IsWritten (refusal x) e.status e.history before now → (x ≡ ReadFault → e.status ≡ 3) → (x ≡ OutOfMemory → e.status ≡ 8) → e.status ≢ 3 → e.status ≢ 8 → IsRight command left rest e before now
     bytes_refused read.ReadFault are x is written fault memory nf nm = absurd (nf (fault is))
     bytes_refused read.OutOfMemory are x is written fault memory nf nm = absurd (nm (memory is))
-    bytes_refused read.TooLong are x is written fault memory nf nm = shown_bytes (refusal TooLong) are.0 are.1 (rw (lt-ltb 4194304 (length are.0) are.2) refl) refl (subst (λ (y : InputError). IsWritten (refusal y) e.status e.history before now) is written)
+    bytes_refused read.TooLong are x is written fault memory nf nm = shown_bytes (refusal TooLong) are.0 are.1 (rw (lt-ltb MOST_BYTES (length are.0) are.2) refl) refl (subst (λ (y : InputError). IsWritten (refusal y) e.status e.history before now) is written)
 
   -- several threads
   module _ (command : Option Command) (ends : (bytes : List ℕ) (d : Shown) → ServesInput bytes e d → Ends command bytes e d) (sets_up : (bytes : List ℕ) (m : SetupView) → IsSetUp bytes m → SetsUp command bytes m) where

@@ -2,6 +2,7 @@
 use Rattle.std.specs.Prelude.{◌≡◌, ◌≤◌, ℕ, List, Option, Some, None, IfSome, MatchBool, MatchResult, nat_lt, length, codes}
 use Rattle.store_setup.specs.SetupView.{SetupView}
 use Rattle.command_output.specs.Shown.{Shown, line_alone}
+use Rattle.script_text.specs.declared.input.TheConstants.{MOST_BYTES}
 use Rattle.input_reader.specs.Refusals.{ShowsInput, IsSetUp, refusal}
 use Rattle.input_reader.specs.Inputs.{input_of}
 use Rattle.input_reader.specs.declared.error.InputError.TheVariants.{TooLong}
@@ -21,7 +22,7 @@ bad_words = line_alone 2 (codes "bad words")
 
 -- what bytes come to that are no input: that they are too many, or what R says of them
 abbrev pub ShowsBytes : (List ℕ → Type 0) → List ℕ → Shown → Type 0
-ShowsBytes R bytes d = MatchBool (nat_lt 4194304 (length bytes)) (d ≡ refusal TooLong) (R bytes)
+ShowsBytes R bytes d = MatchBool (nat_lt MOST_BYTES (length bytes)) (d ≡ refusal TooLong) (R bytes)
 
 -- what the words come to, by the bytes of the input; what several threads show stands in `Ends`, with their entries
 abbrev pub Shows : Option Command → List ℕ → Shown → Type 0
@@ -41,7 +42,7 @@ pub record IsAlone (e : Ended) : Type 0 where
 
 -- `audit` answers yes to a text, where it is not too long to be read
 abbrev pub IsAuditedYes : List ℕ → Type 0
-IsAuditedYes text = length text ≤ 4194304 → Shows (Some Audit) text (line_alone 0 (codes "audit yes"))
+IsAuditedYes text = length text ≤ MOST_BYTES → Shows (Some Audit) text (line_alone 0 (codes "audit yes"))
 
 -- what several threads make of an input: its fault, or what its scripts come to; `audit` answers yes to the text of a whole run that is not too long to be read
 abbrev pub ServesInput : List ℕ → Ended → Shown → Type 0

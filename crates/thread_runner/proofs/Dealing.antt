@@ -13,6 +13,7 @@ use Rattle.session_tasks.specs.Tasks.{AreTasks, IsTask, number_in}
 use Rattle.thread_runner.specs.Hands.{AreDealt, held, hand_of}
 use Rattle.session_tasks.specs.declared.task.Task.{Task}
 use Rattle.session_tasks.proofs.InOrder.{Popped, tasks_none, tasks_push, tasks_pop, tasks_some, sessions_from, from_next}
+use Rattle.teb_names.specs.declared.TheConstants.{SESSIONS}
 
 held_here : (f : ℕ → ℕ) (j s : ℕ) (rest : List ℕ) → f s ≡ j → held f j (s ∷ rest) ≡ held f j rest ++ s ∷ []
 held_here f j s rest e = ap (λ b. if b then held f j rest ++ s ∷ [] else held f j rest) (eq-eqb (f s) j e)
@@ -94,25 +95,25 @@ module _ {C : Type 0} {g : Ghosts C} (h : Hall C g) (x : Scripted) (w : ℕ) whe
 
 -- the steps of the deal and of the gathering
 module _ {C : Type 0} {g : Ghosts C} (h : Hall C g) (x : Scripted) (w : ℕ) where
-  pub deal_step : (n k i : ℕ) (t : Task C g) (hands hands2 : List (Vec (Task C g) Global)) (u v : Vec (Task C g) Global) → n ≡ suc k → n ≤ 32 → AreDealt h x w (count_from (suc n) (32 - n)) hands → i ≡ hand_of x w (suc k) → i < w → IsTask h x t → number_in t ≡ suc k → u ≡ get_or hands i u → v.items ≡ u.items ++ t ∷ [] → hands2 ≡ set hands i v → AreDealt h x w (count_from (suc k) (32 - k)) hands2
+  pub deal_step : (n k i : ℕ) (t : Task C g) (hands hands2 : List (Vec (Task C g) Global)) (u v : Vec (Task C g) Global) → n ≡ suc k → n ≤ SESSIONS → AreDealt h x w (count_from (suc n) (SESSIONS - n)) hands → i ≡ hand_of x w (suc k) → i < w → IsTask h x t → number_in t ≡ suc k → u ≡ get_or hands i u → v.items ≡ u.items ++ t ∷ [] → hands2 ≡ set hands i v → AreDealt h x w (count_from (suc k) (SESSIONS - k)) hands2
   deal_step n k i t hands hands2 u v e b a q l task is read items to =
       subst (λ (ns : List ℕ). AreDealt h x w ns hands2) (sym (sessions_from k (omega arith)))
-      (dealt_on h x w (count_from (suc (suc k)) (31 - k)) (suc k) i t hands hands2 u v
-      (subst (λ (ns : List ℕ). AreDealt h x w ns hands) (ap (λ (p : ℕ × ℕ). count_from p.0 p.1) (λ j. (suc (e j), (let z : 32 - n ≡ 31 - k = omega arith in z) j))) a)
+      (dealt_on h x w (count_from (suc (suc k)) (SESSIONS - suc k)) (suc k) i t hands hands2 u v
+      (subst (λ (ns : List ℕ). AreDealt h x w ns hands) (ap (λ (p : ℕ × ℕ). count_from p.0 p.1) (λ j. (suc (e j), (let z : SESSIONS - n ≡ SESSIONS - suc k = omega arith in z) j))) a)
       q l task is read items to)
 
-  as_first : (k : ℕ) (hands : List (Vec (Task C g) Global)) → k < 32 → AreDealt h x w (count_from (suc k) (32 - k)) hands → AreDealt h x w (suc k ∷ count_from (suc (suc k)) (31 - k)) hands
+  as_first : (k : ℕ) (hands : List (Vec (Task C g) Global)) → k < SESSIONS → AreDealt h x w (count_from (suc k) (SESSIONS - k)) hands → AreDealt h x w (suc k ∷ count_from (suc (suc k)) (SESSIONS - suc k)) hands
   as_first k hands l a = subst (λ (ns : List ℕ). AreDealt h x w ns hands) (sessions_from k l) a
 
   its_hand : (k i m n : ℕ) → i ≡ hand_of x n m → n ≡ w → m ≡ k + 1 → i ≡ hand_of x w (suc k)
   its_hand k i m n q e f = q ∙ ap (λ (p : ℕ × ℕ). hand_of x p.0 p.1) (λ j. (e j, (let z : m ≡ suc k = omega arith in z) j))
 
-  pub gather_some : (k i m n : ℕ) (hands : List (Vec (Task C g) Global)) (u : Vec (Task C g) Global) → k < 32 → AreDealt h x w (count_from (suc k) (32 - k)) hands → i ≡ hand_of x n m → n ≡ w → m ≡ k + 1 → i < n → u ≡ get_or hands i u → 0 < length u.items
-  gather_some k i m n hands u b a q e f l read = dealt_some h x w (count_from (suc (suc k)) (31 - k)) (suc k) i hands u (as_first k hands b a) (its_hand k i m n q e f) (omega arith) read
+  pub gather_some : (k i m n : ℕ) (hands : List (Vec (Task C g) Global)) (u : Vec (Task C g) Global) → k < SESSIONS → AreDealt h x w (count_from (suc k) (SESSIONS - k)) hands → i ≡ hand_of x n m → n ≡ w → m ≡ k + 1 → i < n → u ≡ get_or hands i u → 0 < length u.items
+  gather_some k i m n hands u b a q e f l read = dealt_some h x w (count_from (suc (suc k)) (SESSIONS - suc k)) (suc k) i hands u (as_first k hands b a) (its_hand k i m n q e f) (omega arith) read
 
-  pub gather_step : (k i m n : ℕ) (t : Task C g) (hands hands2 : List (Vec (Task C g) Global)) (u v : Vec (Task C g) Global) → k < 32 → AreDealt h x w (count_from (suc k) (32 - k)) hands → i ≡ hand_of x n m → n ≡ w → m ≡ k + 1 → i < n → u ≡ get_or hands i u → u.items ≡ v.items ++ t ∷ [] → hands2 ≡ set hands i v → TakenOut h x w (count_from (suc (k + 1)) (32 - (k + 1))) (suc k) t hands2
+  pub gather_step : (k i m n : ℕ) (t : Task C g) (hands hands2 : List (Vec (Task C g) Global)) (u v : Vec (Task C g) Global) → k < SESSIONS → AreDealt h x w (count_from (suc k) (SESSIONS - k)) hands → i ≡ hand_of x n m → n ≡ w → m ≡ k + 1 → i < n → u ≡ get_or hands i u → u.items ≡ v.items ++ t ∷ [] → hands2 ≡ set hands i v → TakenOut h x w (count_from (suc (k + 1)) (SESSIONS - (k + 1))) (suc k) t hands2
   gather_step k i m n t hands hands2 u v b a q e f l read items to =
-      let o = dealt_out h x w (count_from (suc (suc k)) (31 - k)) (suc k) i t hands hands2 u v (as_first k hands b a) (its_hand k i m n q e f) (omega arith) read items to in record {
+      let o = dealt_out h x w (count_from (suc (suc k)) (SESSIONS - suc k)) (suc k) i t hands hands2 u v (as_first k hands b a) (its_hand k i m n q e f) (omega arith) read items to in record {
         dealt = subst (λ (ns : List ℕ). AreDealt h x w ns hands2) (from_next k b) o.dealt;
         task = o.task;
         session = o.session;

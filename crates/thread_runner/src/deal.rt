@@ -9,6 +9,7 @@ use crate::hand::hand_of;
 use session_server::Pass;
 use session_tasks::{Gate, Run, Task};
 use std::alloc::{AllocError, Global};
+use teb_names::SESSIONS;
 use version_chain::Chains;
 
 /// Begins a task for each pass, and deals them into so many hands, the last session first.
@@ -19,9 +20,9 @@ pub(crate) fn deal<C: Chains, G: Gate>(
     workers: usize,
 ) -> Result<Vec<Vec<Task<C>>>, AllocError>
     requires workers { 0 < workers }
-    requires sessions { map number_of passes.items ≡ numbers 32 }
+    requires sessions { map number_of passes.items ≡ numbers SESSIONS }
     requires new { All (IsNew run.now.hall.now) passes.items }
-    ensures { IfOk result (λ v. AreDealt run.now.hall.now run.now.scripts.now workers (numbers 32) v.items) }
+    ensures { IfOk result (λ v. AreDealt run.now.hall.now run.now.scripts.now workers (numbers SESSIONS) v.items) }
 {
     let mut hands = empty_hands(alloc, workers)?;
     while let Some(pass) = passes.pop() {

@@ -7,10 +7,10 @@ ghost use Rattle.thread_runner.specs.Hands.{AreDealt};
 ghost use Rattle.session_tasks.specs.Served.{IsCause};
 
 use crate::hand::hand_of;
-use session_tasks::{Gate, Progress, Run, RunError, SESSIONS, Task};
+use session_tasks::{Gate, Progress, Run, RunError, Task};
 use std::alloc::Global;
 use std::collections::VecDeque;
-use teb_names::Session;
+use teb_names::{SESSIONS, Session};
 use version_chain::Chains;
 
 /// The tasks of all sessions, in order, or the error of the first that met one.
@@ -20,8 +20,8 @@ pub(crate) fn gather<C: Chains, G: Gate>(
     mut hands: Vec<Vec<Task<C>>>,
 ) -> Result<VecDeque<Task<C>>, RunError<C>>
     requires some { 0 < vec_len hands }
-    requires dealt { AreDealt run.now.hall.now run.now.scripts.now (vec_len hands) (numbers 32) hands.items }
-    ensures ok { IfOk result (λ v. AreTasks run.now.hall.now run.now.scripts.now (numbers 32) v.items) }
+    requires dealt { AreDealt run.now.hall.now run.now.scripts.now (vec_len hands) (numbers SESSIONS) hands.items }
+    ensures ok { IfOk result (λ v. AreTasks run.now.hall.now run.now.scripts.now (numbers SESSIONS) v.items) }
     ensures cause { IfErr result (IsCause run.now.hall.now run.now.scripts.now) }
 {
     let Ok(mut tasks) = VecDeque::with_capacity(alloc, usize::from(SESSIONS)) else {

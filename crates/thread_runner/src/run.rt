@@ -15,6 +15,7 @@ use session_tasks::{Gate, Run, RunError};
 use std::alloc::Global;
 use std::sync::Wait;
 use std::thread::Threads;
+use teb_names::SESSIONS;
 use version_chain::Chains;
 
 /// Serves each session that has a script along it, by so many workers, one at the least, each in a thread of its own.
@@ -22,10 +23,10 @@ use version_chain::Chains;
 /// The workers take the scripts in turn: the one at place i, from 0, is served by worker i mod `workers`. Where no
 /// thread can be made the workers go one after another. A worker whose session meets an error stops the others; where
 /// no session met one, those that are left are served on by the caller. `Ok` hands back the passes of the sessions 1 to
-/// 32 in order.
+/// `SESSIONS` in order.
 ///
 /// # Errors
-/// The error of the least session that met one. `PassSpent` hands back the pass that has asked 2^40 times. The other
+/// The error of the least session that met one. `PassSpent` hands back the pass that has asked `MOST_ASKS` times. The other
 /// passes are gone, so the hall cannot be closed.
 pub fn run_threads<C: Chains + Send, G: Gate + Sync, R: Threads + Wait + Sync>(
     rt: &R,
@@ -36,11 +37,11 @@ pub fn run_threads<C: Chains + Send, G: Gate + Sync, R: Threads + Wait + Sync>(
     workers: u8,
     gate: &G,
 ) -> Result<Vec<Pass<C>>, RunError<C>>
-    requires sessions { map number_of passes.items ≡ numbers 32 }
+    requires sessions { map number_of passes.items ≡ numbers SESSIONS }
     requires new { All (IsNew hall.now) passes.items }
     requires scripts { AreDistinct scripts.now }
     requires workers { 1 ≤ workers }
-    ensures sessions { IfOk result (λ v. map number_of v.items ≡ numbers 32) }
+    ensures sessions { IfOk result (λ v. map number_of v.items ≡ numbers SESSIONS) }
     ensures served { IfOk result (λ v. All (IsServed hall.now scripts.now) v.items) }
     ensures cause { IfErr result (IsCause hall.now scripts.now) }
 {

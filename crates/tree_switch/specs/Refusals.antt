@@ -6,6 +6,7 @@ use Rattle.engine_core.specs.EngineModel.{EngineModel}
 use Rattle.store_setup.specs.SetupView.{SetupView}
 use Rattle.tree_switch.specs.declared.error.SwitchError.{SwitchError}
 use Rattle.tree_switch.specs.declared.error.SwitchError.TheVariants.{Again, Untold, Tables, Rows, OutOfMemory}
+use Rattle.teb_names.specs.declared.TheConstants.{SESSIONS}
 
 -- n is the least number of which this is so
 abbrev pub IsLeast : (ℕ → Type 0) → ℕ → Type 0
@@ -31,12 +32,12 @@ pub record IsDrained (H : List Event) : Type 0 where
   pub finished : AllFinished H
   pub told : AllTold H
 
--- transactions are numbered from 1 to as many as have begun, and sessions from 1 to 32
+-- transactions are numbered from 1 to as many as have begun, and sessions from 1 to SESSIONS
 abbrev pub AreNumbered : List Event → Type 0
 AreNumbered H = (t : ℕ) → IsUnfinished H t → (0 < t) × (t ≤ begun_count H)
 
 abbrev pub AreOfSessions : List Event → Type 0
-AreOfSessions H = (s : ℕ) → IsUntold H s → (0 < s) × (s ≤ 32)
+AreOfSessions H = (s : ℕ) → IsUntold H s → (0 < s) × (s ≤ SESSIONS)
 
 -- the engine has come to its end, and the setup has its tables and no rows of its own
 pub record MaySwitch (e : EngineModel) (m : SetupView) : Type 0 where

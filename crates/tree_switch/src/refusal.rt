@@ -9,11 +9,8 @@ use crate::names::same_names;
 use engine_core::Engine;
 use store_setup::Setup;
 use teb_history::History;
-use teb_names::{Session, Txn};
+use teb_names::{SESSIONS, Session, Txn};
 use version_chain::Chains;
-
-/// How many sessions there are. They are numbered from 1.
-const SESSIONS: u8 = 32;
 
 /// Whether the store of an engine may go on under a setup. It costs a look at each transaction.
 pub fn check<C: Chains>(present: &Engine<C>, setup: &Setup) -> Result<(), SwitchError>

@@ -2,6 +2,7 @@
 use Rattle.std.proofs.Common.{◌≡◌, ℕ, ◌+◌, ◌<◌, ◌≤◌, ℤ, true, false, cond, if◌then◌else◌, List, [], ◌∷◌, length, codes, Option, Some, None, is_some, Ok, Err, refl, ap, arith}
 use Rattle.std.specs.List.{All, AllByRecursion}
 use Rattle.std.proofs.lemmas.List.Elements.{All-from_recursion}
+use Rattle.teb_names.specs.declared.rows.TheConstants.{MOST_ROWS}
 use Rattle.teb_names.specs.declared.Cell.{Cell}
 use Rattle.teb_names.specs.declared.Table.{Table}
 use Rattle.teb_names.specs.Cells.{is_before}
@@ -81,13 +82,13 @@ row_more tables i rows d new e =
 pub record AreStarts (n : ℕ) (rows : List (Cell × ℤ)) : Type 0 where
   pub ascending : IsAscending rows
   pub cells : All (λ r. r.0.table.0 < n) rows
-  pub few : length rows ≤ 16384
+  pub few : length rows ≤ MOST_ROWS
 
 pub rows_ok : (tables : List (List ℕ)) (ms : Members) (rows : List (Cell × ℤ)) → rows_of tables ms ≡ Ok rows → AreStarts (length tables) rows
 unfolding rows_in
 rows_ok tables ms rows e =
-    let ds = bind_ok (list_at list.Rows (codes "row") key.Rows 0 16384 ms) (rows_in tables) rows e in
-    let limits = list_ok list.Rows (codes "row") key.Rows 0 16384 ms ds.0 ds.1 in
+    let ds = bind_ok (list_at list.Rows (codes "row") key.Rows 0 MOST_ROWS ms) (rows_in tables) rows e in
+    let limits = list_ok list.Rows (codes "row") key.Rows 0 MOST_ROWS ms ds.0 ds.1 in
     let kept = each_keeps (AreCells (length tables)) (row_in tables) (row_kept tables) 0 [] ds.0 rows (record { ascending = refl; cells = tt }) ds.2 in
     let count = each_count length (row_in tables) (row_more tables) 0 [] ds.0 rows ds.2 in
     record {

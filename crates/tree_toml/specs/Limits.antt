@@ -1,5 +1,6 @@
 -- What a tree text can say.
 use Rattle.std.specs.Prelude.{◌≤◌, length}
+use Rattle.teb_names.specs.declared.rows.TheConstants.{MOST_ROWS}
 use Rattle.teb_names.specs.Rows.{IsAscending}
 use Rattle.store_setup.specs.SetupView.{SetupView}
 
@@ -7,6 +8,6 @@ use Rattle.store_setup.specs.SetupView.{SetupView}
 pub record IsOfText (m : SetupView) : Type 0 where
   pub few_types : length m.types ≤ 64
   pub few_nodes : length m.nodes ≤ 64
-  pub few_rows : length m.rows ≤ 16384
+  pub few_rows : length m.rows ≤ MOST_ROWS
   pub ascending : IsAscending m.rows
   pub format : (1 ≤ m.format) × (m.format ≤ 3)

@@ -1,5 +1,6 @@
 -- The starting rows of a tree text.
 use Rattle.std.specs.Prelude.{ℕ, ℤ, if◌then◌else◌, List, [], codes, Result, Ok, Err, is_some}
+use Rattle.teb_names.specs.declared.rows.TheConstants.{MOST_ROWS}
 use Rattle.teb_names.specs.declared.Cell.{Cell}
 use Rattle.teb_names.specs.declared.Table.{Table}
 use Rattle.teb_names.specs.Rows.{row_of, insert_row}
@@ -41,4 +42,4 @@ unfoldable pub rows_in : List (List ℕ) → List Data → Result (List (Cell ×
 rows_in tables ds = each (row_in tables) 0 [] ds
 
 abbrev pub rows_of : List (List ℕ) → Members → Result (List (Cell × ℤ)) TreeText
-rows_of tables ms = list_at list.Rows (codes "row") key.Rows 0 16384 ms >>= rows_in tables
+rows_of tables ms = list_at list.Rows (codes "row") key.Rows 0 MOST_ROWS ms >>= rows_in tables

@@ -10,11 +10,8 @@ use crate::fields::{integer_at, numbered, place, required, text_at, within};
 use crate::lists::{list_at, table_entry};
 use std::alloc::{AllocError, Global};
 use std::collections::BTreeMap;
-use teb_names::{Cell, Names, Rows, Table as TableNumber};
+use teb_names::{Cell, MOST_ROWS, Names, Rows, Table as TableNumber};
 use toml::{Table, Value};
-
-/// The most starting rows.
-const MOST_ROWS: usize = 16_384;
 
 /// The starting rows. They may come in any order: `n` of them cost `n log n`.
 pub fn read_rows(alloc: Global, tables: &Names, table: &Table) -> Result<Rows, TreeText>

@@ -14,7 +14,7 @@ use super::verbs::{
 };
 use super::words::first_words;
 use crate::{Line, LineWhy};
-use teb_names::{Cell, Kind, Request, Session, Spot, Table};
+use teb_names::{Cell, Kind, Request, SESSIONS, Session, Spot, Table};
 
 /// The words that may follow a session.
 #[derive(Clone, Copy)]
@@ -81,7 +81,7 @@ fn is_comment(word: &[u8]) -> bool
 fn session(word: &[u8]) -> Result<Session, LineWhy>
     ensures { result ≡ session_at word.now }
 {
-    match number_from_one(word, 32) {
+    match number_from_one(word, SESSIONS) {
         None => Err(LineWhy::Session),
         Some(n) => Ok(Session(n)),
     }

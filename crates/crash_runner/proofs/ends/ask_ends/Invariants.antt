@@ -1,4 +1,5 @@
 use Rattle.std.proofs.Common.{◌≤◌, map, take}
+use Rattle.script_text.specs.declared.input.TheConstants.{MOST_LINES}
 use Rattle.commit_journal.specs.Kept.{IsSameStore}
 use Rattle.replay_runner.specs.Holders.{end_of}
 use Rattle.crash_runner.specs.Underway.{IsUnderway, HasAsked, effects}
@@ -9,5 +10,5 @@ invariant-loop-session g l = record {
   store : IsSameStore l.fn.durable l.durable;
   underway : IsUnderway (g.D.Disk.tally l.fn.durable.disk).promise g.D.Disk.tally g.D.Disk.safe l.durable l.log.items;
   asked : HasAsked l.fn.durable.store (map end_of (take l.session-index l.holders)) l.fn.log.items l.fn.durable.events l.log.items l.durable.events;
-  few : effects l.durable.events ≤ 65536;
+  few : effects l.durable.events ≤ MOST_LINES;
 }

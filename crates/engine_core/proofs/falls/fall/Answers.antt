@@ -1,5 +1,6 @@
 use Rattle.std.proofs.Common.{◌≡◌, ◌<◌, ◌≤◌, ℕ, Some, slice_get, sym, ap, subst, ◌∙◌, arith, List, length}
 use Rattle.std.proofs.lemmas.List.{length-map}
+use Rattle.teb_names.specs.declared.TheConstants.{SESSIONS}
 use Rattle.teb_names.specs.declared.Txn.{Txn}
 use Rattle.teb_history.specs.Written.{Written}
 use Rattle.teb_rules.specs.Cascade.{cascade, blamed, txn}
@@ -18,13 +19,13 @@ cascade-fallen-requires-clause-recoverable g c = subst (λ (h : Written). IsReco
 
 pub cascade-fallen-requires-clause-few : goal.cascade-fallen-requires-clause-few
 cascade-fallen-requires-clause-few g c =
-    let few : length (cascade c.args.state.now.history.events c.args.t.0) ≤ 31 = cascade_few (store_of c.args.state.now.setup).setup (tree_facts _ c.requires.whole.sound) c.args.state.now.history.events c.args.t.0 (record { legal = c.requires.whole.lawful; settled = c.requires.settled }) c.requires.unfinished in
+    let few : length (cascade c.args.state.now.history.events c.args.t.0) < SESSIONS = cascade_few (store_of c.args.state.now.setup).setup (tree_facts _ c.requires.whole.sound) c.args.state.now.history.events c.args.t.0 (record { legal = c.requires.whole.lawful; settled = c.requires.settled }) c.requires.unfinished in
     let e : length (cascade c.facts_of.result.history.now.events c.args.t.0) ≡ length (cascade c.args.state.now.history.events c.args.t.0) = ap (λ (h : Written). length (cascade h.events c.args.t.0)) c.facts_of.ensures.history in
     omega arith
 
 pub loop-i-init : goal.loop-i-init
 loop-i-init g c =
-    let few : length (cascade c.args.state.now.history.events c.args.t.0) ≤ 31 = cascade_few (store_of c.args.state.now.setup).setup (tree_facts _ c.requires.whole.sound) c.args.state.now.history.events c.args.t.0 (record { legal = c.requires.whole.lawful; settled = c.requires.settled }) c.requires.unfinished in
+    let few : length (cascade c.args.state.now.history.events c.args.t.0) < SESSIONS = cascade_few (store_of c.args.state.now.setup).setup (tree_facts _ c.requires.whole.sound) c.args.state.now.history.events c.args.t.0 (record { legal = c.requires.whole.lawful; settled = c.requires.settled }) c.requires.unfinished in
     record {
       whole = c.append_event.ensures.whole;
       events = first_events c.args.state.now.history.events c.append_event.new.state.history.events c.args.t c.args.cause c.append_event.ensures.events;

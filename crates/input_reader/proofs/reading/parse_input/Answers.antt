@@ -2,10 +2,11 @@ use Rattle.std.proofs.Common.{◌≡◌, ◌≤◌, ℕ, Bool, false, nat_lt, sy
 use Rattle.std.proofs.lemmas.Bool.Decides.{nat_tests}
 use Rattle.std.proofs.lemmas.Result.{err_from_is_err_and}
 use Rattle.store_setup.specs.SetupView.{setup_view}
+use Rattle.script_text.specs.declared.input.TheConstants.{MOST_LINES}
 use Rattle.input_reader.proofs.Parsed.{is_input, is_bad}
 use Rattle.input_reader.proofs.reading.parse_input.Goals as goal
 
-few_lines : {n : ℕ} {b : Bool} → b ≡ nat_lt 65536 n → b ≡ false → n ≤ 65536
+few_lines : {n : ℕ} {b : Bool} → b ≡ nat_lt MOST_LINES n → b ≡ false → n ≤ MOST_LINES
 few_lines is few = grind (arith, nat_tests)
 
 pub returns-in_err-lines : goal.returns-in_err-lines

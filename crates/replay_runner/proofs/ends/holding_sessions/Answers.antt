@@ -1,10 +1,11 @@
-use Rattle.std.proofs.Common.{append_assoc}
+use Rattle.std.proofs.Common.{suc, append_assoc}
 use Rattle.std.proofs.lemmas.List.{append-nil}
 use Rattle.replay_runner.proofs.Holders.{holders_at, holders_done}
 use Rattle.replay_runner.proofs.ends.holding_sessions.Goals as goal
+use Rattle.teb_names.specs.declared.TheConstants.{SESSIONS}
 
 pub loop-s-preserved : goal.loop-s-preserved
-loop-s-preserved c = rw (c.in_ok-add_holder.ensures, append_assoc, ← holders_at 33 c.loop-s.s c.args.history.now.events c.loop-s-test.true) c.loop-s.invariant
+loop-s-preserved c = rw (c.in_ok-add_holder.ensures, append_assoc, ← holders_at (suc SESSIONS) c.loop-s.s c.args.history.now.events c.loop-s-test.true) c.loop-s.invariant
 
 pub returns : goal.returns
-returns c = rw (holders_done 33 c.loop-s.s c.args.history.now.events c.loop-s-test.false, append-nil) at c.loop-s.invariant
+returns c = rw (holders_done (suc SESSIONS) c.loop-s.s c.args.history.now.events c.loop-s-test.false, append-nil) at c.loop-s.invariant

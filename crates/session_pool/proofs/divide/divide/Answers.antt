@@ -4,12 +4,13 @@ use Rattle.std.specs.VecDeque.{deque_len}
 use Rattle.session_tasks.proofs.InOrder.{all_passes}
 use Rattle.session_pool.proofs.Dividing.{divided_first, last_new, waits_on, idles_on, divided_last}
 use Rattle.session_pool.proofs.divide.divide.Goals as goal
+use Rattle.teb_names.specs.declared.TheConstants.{SESSIONS}
 
 pub loop-pass-init : goal.loop-pass-init
 loop-pass-init g c =
     let h = c.args.run.now.hall.now in
     let n = vec_len c.args.passes in
-    let all : n ≡ 32 = all_passes h c.args.passes.items n (let z = c.args.passes.ok.0 in let e : length c.args.passes.items ≡ n = omega arith in e) c.requires.sessions in
+    let all : n ≡ SESSIONS = all_passes h c.args.passes.items n (let z = c.args.passes.ok.0 in let e : length c.args.passes.items ≡ n = omega arith in e) c.requires.sessions in
     let a : deque_len c.in_ok-waiting.waiting ≡ 0 = c.in_ok-waiting.ensures.len in
     let b : vec_len c.in_ok-idle.idle ≡ 0 = c.in_ok-idle.ensures.len in record {
       divided = divided_first h c.args.run.now.scripts.now n c.args.passes.items c.in_ok-waiting.waiting.items c.in_ok-idle.idle.items all c.requires.sessions c.requires.new c.in_ok-waiting.ensures.items c.in_ok-idle.ensures.items;

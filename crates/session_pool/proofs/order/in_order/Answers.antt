@@ -4,6 +4,7 @@ use Rattle.teb_history.specs.Phases.{numbers}
 use Rattle.session_tasks.specs.Tasks.{IsTask, AreTasks, number_in}
 use Rattle.session_pool.proofs.Ordering.{put_in_order}
 use Rattle.session_pool.proofs.order.in_order.Goals as goal
+use Rattle.teb_names.specs.declared.TheConstants.{SESSIONS}
 
 pub fail-requires-clause-task : goal.fail-requires-clause-task
 fail-requires-clause-task g c =
@@ -22,5 +23,5 @@ returns-clause-ok g c =
     let h = c.args.run.now.hall.now in
     let x = c.args.run.now.scripts.now in
     let sorted = c.sort_unstable_by_key.new.self in
-    subst (AreTasks h x (numbers 32)) (sym (c.from.ensures.0 ∙ c.loop-i.invariant))
+    subst (AreTasks h x (numbers SESSIONS)) (sym (c.from.ensures.0 ∙ c.loop-i.invariant))
     (put_in_order h x c.args.tasks.items sorted.items c.sort_unstable_by_key.ensures.permutation (IsNonDecreasingBy-from_sort_by_key number_in _ c.sort_unstable_by_key.ensures.sorted (λ a r q k. search rules)) c.requires.tasks c.requires.all)

@@ -1,4 +1,5 @@
 use Rattle.std.proofs.Common.{◌≡◌, ◌<◌, length, ap, ◌∙◌, arith}
+use Rattle.teb_names.specs.declared.TheConstants.{SESSIONS}
 use Rattle.teb_names.specs.declared.Session.{Session}
 use Rattle.crossbeam_queue.specs.Passes.{view}
 use Rattle.session_tasks.specs.Tasks.{number_in}
@@ -28,7 +29,7 @@ push_reserved-requires g c =
     let r = rw c.in-Some.is at c.pop_as.ensures.rule in
     let few = c.requires.suits.few in
     let less = r.2.0 in
-    let room = rest_room c.args.run.now.hall.now c.args.run.now.scripts.now c.loop-next.hand (view c.loop-next.token) c.loop-next.invariant.within (let z : length (view c.loop-next.token).taken < 32 = omega arith in z) in
+    let room = rest_room c.args.run.now.hall.now c.args.run.now.scripts.now c.loop-next.hand (view c.loop-next.token) c.loop-next.invariant.within (let z : length (view c.loop-next.token).taken < SESSIONS = omega arith in z) in
     let a = c.loop-next.invariant.room in
     let b = c.loop-next.hand.ok.0 in omega arith
 

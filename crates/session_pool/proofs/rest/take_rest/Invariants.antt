@@ -6,6 +6,7 @@ use Rattle.session_pool.specs.Hands.{taken_in}
 use Rattle.session_pool.specs.Rising.{Rising}
 use Rattle.session_pool.specs.Tallies.{IsWhole}
 use Rattle.session_pool.proofs.rest.take_rest.Given as goal
+use Rattle.teb_names.specs.declared.TheConstants.{SESSIONS}
 
 abbrev pub invariant-loop-next : goal.invariant-loop-next
 invariant-loop-next g l = record {
@@ -14,9 +15,9 @@ invariant-loop-next g l = record {
   tasks : All (IsTask l.run.hall.now l.run.scripts.now) l.hand.items;
   rising : Rising 0 (taken_in l.hand);
   within : (weight : ℕ → ℕ) → total weight (taken_in l.hand) ≤ total weight (view l.token).taken;
-  room : vec_capacity l.hand ≡ 32;
+  room : vec_capacity l.hand ≡ SESSIONS;
   kept : (weight : ℕ → ℕ) → total weight (taken_in l.hand) + total weight (view l.fn.token).taken ≡ total weight (taken_in l.fn.hand) + total weight (view l.token).taken;
 }
 
 abbrev pub decreases-loop-next : goal.decreases-loop-next
-decreases-loop-next g l = 32 - vec_len l.hand
+decreases-loop-next g l = SESSIONS - vec_len l.hand

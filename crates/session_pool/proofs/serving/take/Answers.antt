@@ -1,4 +1,5 @@
 use Rattle.std.proofs.Common.{◌≡◌, ◌<◌, length, sym, ap, ◌∙◌, arith}
+use Rattle.teb_names.specs.declared.TheConstants.{SESSIONS}
 use Rattle.teb_names.specs.declared.Session.{Session}
 use Rattle.crossbeam_queue.specs.Passes.{view}
 use Rattle.session_tasks.specs.Tasks.{number_in}
@@ -22,4 +23,4 @@ returns-in-Some-clause-taken g c =
     let few = c.requires.suits.few in
     let less = r.2.0 in
     let same : number_at c.in-Some.next ≡ number_in c.begin.result = ap (λ (s : Session). s.0) (sym r.1.session ∙ sym c.begin.ensures.session) in
-    (r.0 ∙ ap (after_pop (view c.args.token.now)) same, ((let z : length (view c.args.token.now).taken < 32 = omega arith in z), r.2.1))
+    (r.0 ∙ ap (after_pop (view c.args.token.now)) same, ((let z : length (view c.args.token.now).taken < SESSIONS = omega arith in z), r.2.1))

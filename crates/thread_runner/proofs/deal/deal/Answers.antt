@@ -1,5 +1,6 @@
 use Rattle.std.proofs.Common.{◌≡◌, ℕ, suc, ◌-◌, ◌++◌, ◌∙◌, length, vec_len, refl, sym, ap, subst, arith}
 use Rattle.std.specs.Option.{option_to_list}
+use Rattle.teb_names.specs.declared.TheConstants.{SESSIONS}
 use Rattle.teb_names.specs.declared.Session.{Session}
 use Rattle.teb_history.specs.Phases.{numbers}
 use Rattle.turn_lock.specs.Counts.{count_from}
@@ -14,12 +15,12 @@ loop-pass-init g c =
     let x = c.args.run.now.scripts.now in
     let n = vec_len c.args.passes in
     let hands = c.in_ok-hands.hands in
-    let all : n ≡ 32 = all_passes h c.args.passes.items n (let z = c.args.passes.ok.0 in let e : length c.args.passes.items ≡ n = omega arith in e) c.requires.sessions in
+    let all : n ≡ SESSIONS = all_passes h c.args.passes.items n (let z = c.args.passes.ok.0 in let e : length c.args.passes.items ≡ n = omega arith in e) c.requires.sessions in
     let many : length hands.items ≡ c.args.workers = (let z = hands.ok.0 in let y = c.in_ok-hands.ensures.len in omega arith) in record {
       few = omega arith;
       sessions = c.requires.sessions ∙ ap numbers (sym all);
       new = c.requires.new;
-      dealt = subst (λ (k : ℕ). AreDealt h x c.args.workers (count_from (suc k) (32 - k)) hands.items) (sym all) (dealt_none h x c.args.workers hands.items many c.in_ok-hands.ensures.empty);
+      dealt = subst (λ (k : ℕ). AreDealt h x c.args.workers (count_from (suc k) (SESSIONS - k)) hands.items) (sym all) (dealt_none h x c.args.workers hands.items many c.in_ok-hands.ensures.empty);
     }
 
 pub begin-requires : goal.begin-requires
@@ -52,4 +53,4 @@ returns g c =
     let h = c.args.run.now.hall.now in
     let x = c.args.run.now.scripts.now in
     let none : vec_len c.loop-pass.passes ≡ 0 = c.in_default.ensures.cases.0 in
-    subst (λ ns. AreDealt h x c.args.workers ns c.loop-pass.hands.items) (ap (λ (k : ℕ). count_from (suc k) (32 - k)) none ∙ all_sessions) c.loop-pass.invariant.dealt
+    subst (λ ns. AreDealt h x c.args.workers ns c.loop-pass.hands.items) (ap (λ (k : ℕ). count_from (suc k) (SESSIONS - k)) none ∙ all_sessions) c.loop-pass.invariant.dealt

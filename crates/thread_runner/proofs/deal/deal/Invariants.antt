@@ -4,13 +4,14 @@ use Rattle.turn_lock.specs.Counts.{count_from}
 use Rattle.session_server.specs.Passes.{IsNew, number_of}
 use Rattle.thread_runner.specs.Hands.{AreDealt}
 use Rattle.thread_runner.proofs.deal.deal.Given as goal
+use Rattle.teb_names.specs.declared.TheConstants.{SESSIONS}
 
 abbrev pub invariant-loop-pass : goal.invariant-loop-pass
 invariant-loop-pass g l = record {
-  few : vec_len l.passes ≤ 32;
+  few : vec_len l.passes ≤ SESSIONS;
   sessions : map number_of l.passes.items ≡ numbers (vec_len l.passes);
   new : All (IsNew l.run.hall.now) l.passes.items;
-  dealt : AreDealt l.run.hall.now l.run.scripts.now l.workers (count_from (suc (vec_len l.passes)) (32 - vec_len l.passes)) l.hands.items;
+  dealt : AreDealt l.run.hall.now l.run.scripts.now l.workers (count_from (suc (vec_len l.passes)) (SESSIONS - vec_len l.passes)) l.hands.items;
 }
 
 abbrev pub decreases-loop-pass : goal.decreases-loop-pass

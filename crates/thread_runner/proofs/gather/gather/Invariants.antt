@@ -5,12 +5,13 @@ use Rattle.turn_lock.specs.Counts.{count_from}
 use Rattle.session_tasks.specs.Tasks.{AreTasks}
 use Rattle.thread_runner.specs.Hands.{AreDealt}
 use Rattle.thread_runner.proofs.gather.gather.Given as goal
+use Rattle.teb_names.specs.declared.TheConstants.{SESSIONS}
 
 abbrev pub invariant-loop-passed : goal.invariant-loop-passed
 invariant-loop-passed g l = record {
   len : deque_len l.tasks ≡ l.passed;
-  room : deque_capacity l.tasks ≡ 32;
+  room : deque_capacity l.tasks ≡ SESSIONS;
   tasks : AreTasks l.run.hall.now l.run.scripts.now (numbers l.passed) l.tasks.items;
   count : vec_len l.hands ≡ vec_len l.fn.hands;
-  dealt : AreDealt l.run.hall.now l.run.scripts.now (vec_len l.fn.hands) (count_from (suc l.passed) (32 - l.passed)) l.hands.items;
+  dealt : AreDealt l.run.hall.now l.run.scripts.now (vec_len l.fn.hands) (count_from (suc l.passed) (SESSIONS - l.passed)) l.hands.items;
 }

@@ -1,6 +1,7 @@
 use Rattle.std.proofs.Common.{◌≡◌, ℕ, suc, ◌+◌, ◌-◌, ◌<◌, List, ◌∷◌, ◌++◌, ◌∙◌, All, vec_len, sym, ap, subst, arith}
 use Rattle.std.specs.Option.{option_to_list}
 use Rattle.std.proofs.lemmas.List.Elements.{All-push, All-nil}
+use Rattle.teb_names.specs.declared.TheConstants.{SESSIONS}
 use Rattle.teb_names.specs.declared.Session.{Session}
 use Rattle.teb_history.specs.Phases.{numbers}
 use Rattle.turn_lock.specs.Counts.{count_from}
@@ -18,7 +19,7 @@ loop-task-init g c =
       room = c.in-Ok.ensures.exact ∙ c.from.ensures;
       sessions = none_yet h c.in-Ok.passes.items (vec_len c.in-Ok.passes) c.in-Ok.ensures.items none;
       served = subst (All (IsServed h x)) (sym c.in-Ok.ensures.items) (All-nil (IsServed h x));
-      tasks = subst (λ (ns : List ℕ). AreTasks h x ns c.args.tasks.items) (sym (ap (λ (k : ℕ). count_from (suc k) (32 - k)) none ∙ all_sessions)) c.requires.tasks;
+      tasks = subst (λ (ns : List ℕ). AreTasks h x ns c.args.tasks.items) (sym (ap (λ (k : ℕ). count_from (suc k) (SESSIONS - k)) none ∙ all_sessions)) c.requires.tasks;
     }
 
 pub loop-task-preserved : goal.loop-task-preserved
@@ -33,7 +34,7 @@ loop-task-preserved g c =
     let ts = c.pop_front.new.self.items in
     let few = inv.few in
     let is : us ≡ t ∷ ts = c.pop_front.ensures.items ∙ ap (λ o. option_to_list o ++ ts) c.in-Some.is in
-    let below : k < 32 = finish_front h x k us ts t few inv.tasks is in
+    let below : k < SESSIONS = finish_front h x k us ts t few inv.tasks is in
     let front = finish_step h x k us ts t below inv.tasks is in
     let more : vec_len c.push_reserved.new.self ≡ k + 1 = c.push_reserved.ensures.len in
     let step : suc k ≡ vec_len c.push_reserved.new.self = omega arith in record {
@@ -41,5 +42,5 @@ loop-task-preserved g c =
       room = c.push_reserved.ensures.capacity ∙ inv.room;
       sessions = sessions_on h c.loop-task.passes.items c.push_reserved.new.self.items p k inv.sessions (ap (λ (s : Session). s.0) c.in_ok-finish_task.ensures.session ∙ front.session) c.push_reserved.ensures.items ∙ ap numbers step;
       served = subst (All (IsServed h x)) (sym c.push_reserved.ensures.items) (All-push (IsServed h x) c.loop-task.passes.items p inv.served c.in_ok-finish_task.ensures.served);
-      tasks = subst (λ (n : ℕ). AreTasks h x (count_from (suc n) (32 - n)) ts) (sym more) front.rest;
+      tasks = subst (λ (n : ℕ). AreTasks h x (count_from (suc n) (SESSIONS - n)) ts) (sym more) front.rest;
     }

@@ -6,14 +6,15 @@ use Rattle.session_server.specs.Passes.{number_of}
 use Rattle.session_tasks.specs.Tasks.{AreTasks}
 use Rattle.session_tasks.specs.Served.{IsServed}
 use Rattle.session_tasks.proofs.run.Run.finish.Given as goal
+use Rattle.teb_names.specs.declared.TheConstants.{SESSIONS}
 
 abbrev pub invariant-loop-task : goal.invariant-loop-task
 invariant-loop-task g l = record {
-  few : vec_len l.passes ≤ 32;
-  room : vec_capacity l.passes ≡ 32;
+  few : vec_len l.passes ≤ SESSIONS;
+  room : vec_capacity l.passes ≡ SESSIONS;
   sessions : map number_of l.passes.items ≡ numbers (vec_len l.passes);
   served : All (IsServed l.self.hall.now l.self.scripts.now) l.passes.items;
-  tasks : AreTasks l.self.hall.now l.self.scripts.now (count_from (suc (vec_len l.passes)) (32 - vec_len l.passes)) l.tasks.items;
+  tasks : AreTasks l.self.hall.now l.self.scripts.now (count_from (suc (vec_len l.passes)) (SESSIONS - vec_len l.passes)) l.tasks.items;
 }
 
 abbrev pub decreases-loop-task : goal.decreases-loop-task
