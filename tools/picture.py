@@ -142,13 +142,14 @@ class Run:
         self.cells, self.order, self.title = cells, order, title
         self.bars = bars_of(cells)
         self.lanes = {session: at for at, session in enumerate(sorted({cell.session for cell in cells}))}
-        columns = 1 + max((cell.column for cell in cells), default=0)
-        self.step = max([56] + [6.7 * len(line) + 18 for cell in cells for line in cell.lines])
-        width = max(LEFT + columns * self.step + 16, 420)
-        self.drawing = Drawing(round(width), TOP + len(self.lanes) * LANE + 46)
+        self.lefts = [LEFT]
+        for column in range(1 + max((cell.column for cell in cells), default=0)):
+            self.lefts.append(self.lefts[-1] + max([44] + [6.7 * len(line) + 18 for cell in cells if cell.column == column for line in cell.lines]))
+        self.drawing = Drawing(max(round(self.lefts[-1] + 16), 420), TOP + len(self.lanes) * LANE + 46)
 
     def x(self, column):
-        return LEFT + column * self.step
+        """The left edge of a column, each of which is as wide as its widest line."""
+        return self.lefts[column]
 
     def y(self, session):
         return TOP + self.lanes[session] * LANE
@@ -170,12 +171,12 @@ class Run:
 
     def draw_bar(self, bar):
         kind = {"commit": "pale-green", "abort": "pale-red", None: "pale-blue"}[bar.end]
-        self.drawing.box(self.x(bar.first) + 2, self.y(bar.session), (bar.last - bar.first + 1) * self.step - 4, BAR, kind, 5)
+        self.drawing.box(self.x(bar.first) + 2, self.y(bar.session), self.x(bar.last + 1) - self.x(bar.first) - 4, BAR, kind, 5)
 
     def draw_cell(self, cell):
         left, top = self.x(cell.column), self.y(cell.session)
         if cell.mark == "wait":
-            self.drawing.box(left + 3, top + 1, self.step - 6, BAR - 2, "pale-amber", 4)
+            self.drawing.box(left + 3, top + 1, self.x(cell.column + 1) - left - 6, BAR - 2, "pale-amber", 4)
         for at, line in enumerate(cell.lines):
             tone = " amber-text" if cell.mark == "wait" and at > 1 else " red-text" if cell.mark == "abort" and at > 1 else " muted" if at < 1 else ""
             if line:
@@ -186,7 +187,7 @@ class Run:
         bar = self.bars.get(cell.to)
         if bar is None or bar.session == cell.session or not bar.first <= cell.column <= bar.last:
             return
-        x = self.x(cell.column) + self.step - 10
+        x = self.x(cell.column + 1) - 10
         up = self.lanes[bar.session] < self.lanes[cell.session]
         start = self.y(cell.session) + (0 if up else BAR)
         end = self.y(bar.session) + (BAR if up else 0)

@@ -135,7 +135,7 @@ class Tpcc(Workload):
         number, customer = len(self.orders[district]), self.customer(district, buyer)
         self.orders[district].append(buyer)
         order, items = self.order(district, number), self.draws.some_of(self.ITEMS, 2 + self.draws.below(3))
-        lines = self.guard("warehouse", warehouse) + [f"read warehouse {warehouse}", *increase("district", district, 1), f"read customer {customer}"]
+        lines = [f"read warehouse {warehouse}", *self.guard("district", district), *increase("district", district, 1), f"read customer {customer}"]
         lines += [f"write orders {order} {buyer}", f"write new_order {order} 1", f"write last_order {customer} {number}"]
         for item in items:
             lines += [f"read item {item}", *increase("stock", warehouse * self.ITEMS + item, -1)]
@@ -146,7 +146,8 @@ class Tpcc(Workload):
         warehouse, district, amount = self.home(), self.some_district(), 1 + self.draws.below(50)
         away = (warehouse + self.draws.one_in(8)) % self.scale
         customer = self.customer(self.district(away, self.draws.below(self.DISTRICTS)), self.draws.below(self.CUSTOMERS))
-        lines = self.guard("warehouse", warehouse) + increase("warehouse", warehouse, amount) + increase("district", district, 10_000 * amount)
+        lines = self.guard("warehouse", warehouse) + increase("warehouse", warehouse, amount)
+        lines += self.guard("district", district) + increase("district", district, 10_000 * amount)
         return lines + increase("customer", customer, -amount) + [f"write history {number} {amount}"]
 
     def delivery(self, _):
@@ -166,7 +167,7 @@ class Tpcc(Workload):
         return [f"read customer {customer}", f"read last_order {customer}", f"read orders {order}", f"scan order_line {order * 16} 4"]
 
     def stock_level(self, _):
-        district, last = self.some_district(), 0
+        district = self.some_district()
         last = len(self.orders[district])
         lines = [f"read district {district}"] + [f"scan order_line {self.order(district, last - back) * 16} 4" for back in (3, 2, 1)]
         return lines + [f"read stock {self.home() * self.ITEMS + item}" for item in self.draws.some_of(self.ITEMS, 4)]
@@ -211,7 +212,7 @@ class Seats(Workload):
     def reserve(self, _):
         flight, customer = self.home(), self.draws.below(self.CUSTOMERS)
         if not self.free[flight]:
-            return self.find_flights(_)
+            return self.find_flights(_)  # (no seat is free)
         seat = self.free[flight].pop(self.draws.below(len(self.free[flight])))
         self.taken[flight].append((seat, customer))
         place = flight * self.SEATS + seat
