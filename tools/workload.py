@@ -197,6 +197,10 @@ class Seats(Workload):
                 yield "reservation", self.reservation(customer, flight), seat
         yield from (("customer", customer, 0) for customer in range(self.CUSTOMERS))
 
+    def looked_at(self, flight):
+        """What a type does if the flight is full, or empty: it looks at a seat."""
+        return [f"read seat {flight * self.SEATS + self.draws.below(self.SEATS)}"]
+
     def taken_out(self, flight):
         return self.taken[flight].pop(self.draws.below(len(self.taken[flight])))
 
@@ -212,7 +216,7 @@ class Seats(Workload):
     def reserve(self, _):
         flight, customer = self.home(), self.draws.below(self.CUSTOMERS)
         if not self.free[flight]:
-            return self.find_flights(_)  # (no seat is free)
+            return self.looked_at(flight)
         seat = self.free[flight].pop(self.draws.below(len(self.free[flight])))
         self.taken[flight].append((seat, customer))
         place = flight * self.SEATS + seat
@@ -221,6 +225,8 @@ class Seats(Workload):
 
     def change(self, _):
         flight = self.home()
+        if not self.free[flight] or not self.taken[flight]:
+            return self.looked_at(flight)
         seat, customer = self.taken_out(flight)
         other = self.free[flight].pop(self.draws.below(len(self.free[flight])))
         self.free[flight].append(seat)
@@ -230,6 +236,8 @@ class Seats(Workload):
 
     def cancel(self, _):
         flight = self.home()
+        if not self.taken[flight]:
+            return self.looked_at(flight)
         seat, customer = self.taken_out(flight)
         self.free[flight].append(seat)
         others = [f"read seat {flight * self.SEATS + seat}", f"delete seat {flight * self.SEATS + seat}", *increase("customer", customer, -1)]
