@@ -22,7 +22,7 @@ use teb_names::{Cell, Txn};
 const AHEAD: usize = 256;
 
 /// By cell, who has read it, who has put it, and who has put it and committed, each in ascending number; by transaction, what it has
-/// accessed. Whoever aborts is no reader and no writer.
+/// accessed. A transaction that aborts is no reader and no writer.
 pub struct AccessBook {
     // Each cell has the lists of its place.
     cells: CellIndex,

@@ -21,7 +21,7 @@ use teb_names::{NameBook, Reply, Session};
 #[derive(Drop)]
 pub struct ReplyText {
     text: Vec<u8>,
-    // The last answer, where memory was wanting for its line.
+    // The last reply, if its line has found no memory yet.
     waiting: Option<Answered>,
 }
 
@@ -92,7 +92,7 @@ impl Log for ReplyText {
     }
 }
 
-/// Appends the line of an answer, or, for want of memory, nothing.
+/// Appends the line of a reply. Out of memory, it appends nothing.
 fn put_line(
     out: &mut Vec<u8>,
     names: &NameBook,

@@ -42,7 +42,7 @@ pub enum TreeError {
     Shape { node: Node, why: ShapeWhy },
     /// The node stands where the rule forbids it.
     Misplaced { node: Node, rule: Rule },
-    /// Memory is wanting.
+    /// Out of memory.
     OutOfMemory,
 }
 

@@ -42,7 +42,7 @@ impl Tree {
     /// # Errors
     /// The first fault of the rows: `Shape` at the first node whose shape is wrong, or else at node 0 where a type has
     /// not a leaf for each of its parts; or else `Misplaced` at the first node that stands where a rule forbids it. Rows
-    /// without a fault make a tree, unless memory is wanting: then the error is `OutOfMemory`.
+    /// without a fault make a tree, unless there is no memory: then the error is `OutOfMemory`.
     pub fn build(alloc: Global, rows: Vec<NodeRow>, types: u8) -> Result<Tree, TreeError>
         requires some { 0 < length rows.items }
         requires few { length rows.items ≤ 64 }

@@ -21,7 +21,7 @@ pub const BAD_TREE: u8 = 6;
 /// A line of the script is outside the grammar.
 pub const BAD_SCRIPT: u8 = 7;
 
-/// Memory was wanting.
+/// Out of memory.
 pub const OUT_OF_MEMORY: u8 = 8;
 
 /// A session has asked as often as it may.

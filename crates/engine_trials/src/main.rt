@@ -21,7 +21,7 @@ use std::alloc::Global;
 use std::process::ExitCode;
 use std::sync::Wait;
 
-/// The status for want of memory.
+/// The status of out of memory.
 const OUT_OF_MEMORY: u8 = 8;
 
 fn main(rt: HostRuntime) -> ExitCode {

@@ -5,7 +5,7 @@ use std::alloc::AllocError;
 /// Why a trial came to nothing.
 #[derive(Drop)]
 pub enum Trouble {
-    /// Memory was wanting.
+    /// Out of memory.
     Memory,
     /// Something that a refusal must leave has changed.
     Changed,

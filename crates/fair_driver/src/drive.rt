@@ -61,7 +61,7 @@ fn lines_in(scripts: &Scripts) -> usize {
     lines
 }
 
-/// Asks the session whose turn it is, and logs the reply. False where all are through. An `Err` leaves the history
+/// Asks the session whose turn it is, and logs the reply. False if every session has finished. An `Err` leaves the history
 /// and what the log tells as they were.
 #[inline(always)]
 fn make_turn<C: Chains, G: Log>(

@@ -59,7 +59,7 @@ impl<'a> Ring<'a> {
         })
     }
 
-    /// Whose turn it is: the first session that may ask. `None` where all are through.
+    /// Whose turn it is: the first session that may ask. `None` if every session has finished.
     #[inline(always)]
     pub fn turn(&self, history: &History) -> Option<Asked<'a>>
         ensures { IsTurn history.now.events self.now.next (seats_in self.now.cursors.items) result }

@@ -1,4 +1,4 @@
-//! The control of a locks node: a read waits for whoever has put the cell, and a write for whoever has accessed it.
+//! The control of a locks node: a read waits for a transaction that has put the cell, and a write for one that has accessed it.
 
 ghost use Rattle.std.specs.Prelude.{◌≡◌, [], find};
 ghost use Rattle.teb_names.specs.declared.ControlKind.TheVariants.{Locks as IsLocks};

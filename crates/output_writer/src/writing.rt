@@ -42,7 +42,7 @@ pub fn write<K: Sink>(
     WrittenOutput { status, history }
 }
 
-/// Writes what a command puts out; nothing where memory is wanting.
+/// Writes what a command puts out; nothing if it is out of memory.
 pub fn put_out<K: Sink>(out: &mut K, output: Result<Output, AllocError>) -> WrittenOutput
     ensures written { MatchResult output (λ o. IsWritten o result.status result.history (K.written out.old) (K.written out.new)) (λ _. result.status ≡ 8) }
     ensures fault { result.status ≡ 4 → Rose (K.faults out.old) (K.faults out.new) }

@@ -1,4 +1,4 @@
-//! The control of a pipeline node: an access waits for whoever has accessed the cell and has not passed its rank, and a
+//! The control of a pipeline node: an access waits for a transaction that has accessed the cell and not passed its rank, and a
 //! transaction enters a step, and commits, behind those that are earlier.
 
 ghost use Rattle.std.specs.Prelude.{◌≡◌, ◌<◌, ◌≤◌, ◌&&◌, not, [], Option, Some, None, IfOk, IsTrue, find, ltb, slice_index_or, length};

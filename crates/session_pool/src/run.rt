@@ -42,7 +42,7 @@ pub struct Pooled<C: Chains> {
 
 /// Serves each session that has a script along it, by so many workers, one at the least, each in a thread of its own.
 ///
-/// The sessions wait in a queue, in ascending order, and a worker takes the next when it is through with one. Where no
+/// The sessions wait in a queue, in ascending order, and a worker takes the next when it has finished one. If no
 /// thread can be made the workers go one after another. A worker whose session meets an error stops the others; where
 /// no session met one, the caller serves on those that were stopped, and then takes and serves, as the first worker, what
 /// is left in the queue. `Ok` hands back the passes of the sessions 1 to `SESSIONS` in order, and whom each worker took.

@@ -35,7 +35,7 @@ pub enum ReadError {
     /// There are more bytes than the limit.
     #[error("the input is too long")]
     TooLong,
-    /// Memory was wanting.
+    /// Out of memory.
     #[error("out of memory")]
     OutOfMemory,
 }

@@ -135,7 +135,7 @@ pub fn phase_source<S: Source, K: Sink>(alloc: Global, input: &mut S, out: &mut 
     }
 }
 
-/// Writes why an input is refused; nothing where a read failed or memory is wanting.
+/// Writes why an input is refused; nothing if a read failed or there is no memory.
 fn refuse<K: Sink>(alloc: Global, out: &mut K, error: &InputError) -> Ended
     ensures written { result.status ≢ 3 → result.status ≢ 8 → IsWritten (refusal_shown error.now) result.status result.history (K.written out.old) (K.written out.new) }
     ensures history { result.history ≡ None }

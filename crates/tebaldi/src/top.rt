@@ -21,7 +21,7 @@ use std::thread::Threads;
 use teb_io::{Sink, Source};
 
 /// Does what the words say: reads the input, runs it, and writes the whole text at once. The words are looked at
-/// first; words of no command, and `load`, leave the input unread. Where a read fails or memory is wanting, nothing is
+/// first; words of no command, and `load`, leave the input unread. If a read fails or there is no memory, nothing is
 /// written and nothing is kept. Only `threads` and `pool` wait and start threads; the gate is called round each of their
 /// requests.
 pub fn run_tebaldi<R: Threads + Wait + Sync, S: Source, K: Sink, G: Gate + Sync>(

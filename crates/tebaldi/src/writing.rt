@@ -47,7 +47,7 @@ pub fn write<K: Sink>(out: &mut K, status: u8, text: &[u8], history: Option<Hist
     alone(output_writer::write(out, status, text, history))
 }
 
-/// Writes what a command puts out; nothing where memory is wanting.
+/// Writes what a command puts out; nothing if it is out of memory.
 pub fn put_out<K: Sink>(out: &mut K, output: Result<Output, AllocError>) -> Ended
     ensures written { MatchResult output (λ o. IsWritten o result.status result.history (K.written out.old) (K.written out.new)) (λ _. result.status ≡ 8) }
     ensures fault { result.status ≡ 4 → Rose (K.faults out.old) (K.faults out.new) }
@@ -58,7 +58,7 @@ pub fn put_out<K: Sink>(out: &mut K, output: Result<Output, AllocError>) -> Ende
     alone(output_writer::put_out(out, output))
 }
 
-/// Writes what several threads come to; nothing where a pass is spent or memory is wanting.
+/// Writes what several threads come to; nothing if a pass is spent or there is no memory.
 pub fn put_served<K: Sink>(out: &mut K, served: Result<Served, AllocError>) -> Ended
     ensures written { MatchResult served (λ s. IsServedAndWritten s result (K.written out.old) (K.written out.new)) (λ _. result.status ≡ 8) }
     ensures fault { result.status ≡ 4 → Rose (K.faults out.old) (K.faults out.new) }

@@ -15,7 +15,7 @@ pub enum Piece<'a> {
     Number(u32),
 }
 
-/// Appends the line of a fault, or, for want of memory, nothing. `OutOfMemory` has no line.
+/// Appends the line of a fault. Out of memory, it appends nothing. `OutOfMemory` has no line.
 pub fn put_fault(out: &mut Vec<u8>, fault: &TreeText) -> Result<(), AllocError>
     ensures { out.new.items ≡ (if is_ok result then out.old.items ++ fault_text fault.now else out.old.items) }
 {
@@ -78,7 +78,7 @@ fn put_field(out: &mut Vec<u8>, place: Place, why: FieldWhy) -> Result<(), Alloc
     }
 }
 
-// Appends the pieces, or, for want of memory, nothing.
+// Appends the pieces. Out of memory, it appends nothing.
 fn put_pieces(out: &mut Vec<u8>, pieces: &[Piece]) -> Result<(), AllocError>
     ensures { out.new.items ≡ (if is_ok result then out.old.items ++ pieces_text pieces.now else out.old.items) }
 {

@@ -13,7 +13,7 @@ use std::alloc::AllocError;
 use teb_history::Event;
 use teb_names::{NameBook, Txn};
 
-/// Appends the line of an event, or, for want of memory, nothing.
+/// Appends the line of an event. Out of memory, it appends nothing.
 #[tactic(auto, using(crate::proofs::Wholes::kept, crate::proofs::Wholes::taken_back))]
 pub fn put_event(out: &mut Vec<u8>, names: &NameBook, event: &Event) -> Result<(), AllocError>
     requires { EventNamed names.now event.now }

@@ -12,7 +12,7 @@ use short_reply::ShortReply;
 use std::alloc::AllocError;
 use teb_names::{Cause, NameBook, Node, Refusal, Reply, ScanList, Session, Txn};
 
-/// Appends the line of a reply, or, for want of memory, nothing.
+/// Appends the line of a reply. Out of memory, it appends nothing.
 pub fn put_reply(
     out: &mut Vec<u8>,
     names: &NameBook,
@@ -32,7 +32,7 @@ pub fn put_reply(
     }
 }
 
-// Appends the line of a reply to a scan, or, for want of memory, nothing.
+// Appends the line of a reply to a scan. Out of memory, it appends nothing.
 #[tactic(auto, using(crate::proofs::Wholes::kept, crate::proofs::Wholes::taken_back))]
 fn put_whole_scan(out: &mut Vec<u8>, session: Session, values: &ScanList) -> Result<(), AllocError>
     ensures ok { OnOk result (out.new.items ≡ out.old.items ++ line_text (decimal session.0 ∷ codes "values" ∷ map value_text values.now)) }
@@ -43,7 +43,7 @@ fn put_whole_scan(out: &mut Vec<u8>, session: Session, values: &ScanList) -> Res
     whole(out, start, written)
 }
 
-/// Appends the line of a reply without the values of a scan, or, for want of memory, nothing.
+/// Appends the line of a reply without the values of a scan. Out of memory, it appends nothing.
 #[tactic(auto, using(crate::proofs::Wholes::kept, crate::proofs::Wholes::taken_back))]
 pub fn put_short_reply(
     out: &mut Vec<u8>,
