@@ -1,5 +1,5 @@
 pub mod Placing
 pub mod InOrder
-pub mod Serving
+pub mod TaskStages
 pub mod Distinct
 pub mod Walking

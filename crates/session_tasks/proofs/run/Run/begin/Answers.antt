@@ -3,7 +3,7 @@ use Rattle.teb_names.specs.declared.Session.{Session}
 use Rattle.session_tasks.specs.Scripted.{place_in}
 use Rattle.session_tasks.specs.Tasks.{IsTask}
 use Rattle.session_tasks.specs.declared.task.Progress.{Progress}
-use Rattle.session_tasks.proofs.Serving.{begun}
+use Rattle.session_tasks.proofs.TaskStages.{begun}
 use Rattle.session_tasks.proofs.run.Run.begin.Goals as goal
 
 pub returns-clause-task : goal.returns-clause-task

@@ -1,6 +1,6 @@
 use Rattle.std.proofs.Common.{ap, ◌∙◌}
 use Rattle.session_tasks.specs.declared.task.Progress.TheVariants.{Failed}
-use Rattle.session_tasks.proofs.Serving.{task_spent}
+use Rattle.session_tasks.proofs.TaskStages.{task_spent}
 use Rattle.session_tasks.proofs.run.Run.fail.Goals as goal
 
 pub returns-in-PassSpent : goal.returns-in-PassSpent

@@ -1,4 +1,4 @@
-use Rattle.session_tasks.proofs.Serving.{task_served}
+use Rattle.session_tasks.proofs.TaskStages.{task_served}
 use Rattle.session_tasks.proofs.run.Run.finish_task.Goals as goal
 
 pub returns-in-Through-clause-served : goal.returns-in-Through-clause-served
