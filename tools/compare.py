@@ -39,7 +39,7 @@ class Measured:
     waits: int = 0
     lost: int = 0
     refused: int = 0
-    longest: int = 0  # how often the same request was answered `again`, one time after the other
+    longest: int = 0  # how often in a row the same request was answered `again`
     aborts: collections.Counter = dataclasses.field(default_factory=collections.Counter)  # by cause
     waits_at: collections.Counter = dataclasses.field(default_factory=collections.Counter)  # by node and type
 
@@ -99,7 +99,7 @@ def compared(program, trees, script):
 
 
 def with_batch(tree, size):
-    """A tree text in which every timestamp and snapshot node admits so many transactions to a batch."""
+    """The tree text, with `size` as the `batch` of every timestamp and snapshot node."""
     tree = re.sub(r"(?m)^batch *=.*\n", "", tree)
     return re.sub(r'(?m)^(control = "(?:timestamp|snapshot)".*\n)', rf"\1batch = {size}\n", tree)
 

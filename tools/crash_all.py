@@ -1,10 +1,10 @@
 #!/usr/bin/env python3
 """Runs `crash K` for every K on scripts of each kind of tree, and compares with what `replay` writes of the same scripts.
 
-    tools/crash_all.py [--program FILE] [FILE..]      these inputs, or one of each kind of tree where none is given
+    tools/crash_all.py [--program FILE] [FILE..]      these inputs, or if none is given, one for each kind of tree
 
-Two calls of the disk begin the journal, and each commit makes four. So for each K, the replies are those of `replay` up to the commit at
-whose call the disk fails, and the rows are the final ones of `replay` on the script cut before that commit.
+Creating the journal takes two calls of the disk, and each commit takes four. So for each K, the replies are those of `replay` up to the commit
+at whose call the disk fails, and the rows are the final ones of `replay` on the script cut before that commit.
 The last line is `crashes: N passed, M failed`.
 """
 import argparse
@@ -31,7 +31,7 @@ MOST_LINES = 200
 
 @functools.lru_cache(maxsize=None)
 def reported(program, data):
-    """The replies and the rows that `replay` writes; None where it refuses the input."""
+    """The replies and the rows that `replay` writes, or None if it refuses the input."""
     status, text = ended(program, ["replay"], data)
     if status:
         return None
@@ -46,7 +46,7 @@ def asking(script):
 
 
 def wanted(program, data, stop):
-    """The text of `crash stop`, by what `replay` writes."""
+    """The text of `crash stop`, worked out from what `replay` writes."""
     head, separator, script = data.partition(b"%%\n")
     replies, rows = reported(program, data)
     commits = [i for i, line in enumerate(replies) if line.endswith(b" committed\n")]

@@ -17,7 +17,7 @@ class Graph:
         return cls({name: [it for it in deps if it in listed] for name, deps in listed.items()})
 
     def lowest_first(self):
-        """Returns all crates, each after those that it stands on."""
+        """Returns all crates, each after those that it depends on."""
         order = {}
 
         def visit(name):
@@ -31,7 +31,7 @@ class Graph:
         return list(order)
 
     def all_below(self, names):
-        """Returns these crates and all that they stand on, directly or not."""
+        """Returns these crates and all that they depend on, directly or not."""
         found, left = set(), list(names)
         while left:
             name = left.pop()

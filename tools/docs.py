@@ -58,7 +58,7 @@ ANOMALIES = {
 
 
 class Made:
-    """The pictures and tables, by their names. What several of them need is run once."""
+    """The pictures and tables, by their names. A run that several of them need is made once."""
 
     def __init__(self, program):
         self.program = program

@@ -43,7 +43,7 @@ SHAPES = {
     "depth": "a tree has at most 8 levels",
     "mixed": "a node has children or types, not both",
     "empty": "a node without children needs types = [..], with at least one type",
-    "twice": "a type may be in one leaf, or in several with the same `of` and each a part of its own",
+    "twice": "a type may be in one leaf, or in several with the same `of`, each with a different `part`",
 }
 RULES = {
     "P1": "a snapshot node can only be the root",
@@ -71,7 +71,7 @@ REFUSALS = {
 
 
 class Input:
-    """An input in its lines, parted at its first line `%%`; an input of phases at each of them."""
+    """The lines of an input, divided at its first line `%%`, or in `phases` at every such line."""
 
     def __init__(self, data, is_of_phases):
         self.lines = [it.removesuffix("\r") for it in data.decode("utf-8", "replace").split("\n")]
@@ -275,7 +275,7 @@ def hints(status, data, output, words):
     if status == 8:
         return ["out of memory"]
     if status == 6:
-        # (of phases: the first tree that has this fault)
+        # (in `phases`: the first tree that has this fault)
         parts = range(0, len(given.marks) + 1, 2) if words[0] == "phases" else [0]
         return [next(filter(None, (try_hint(text.removeprefix("bad tree: "), given, it) for it in parts)), None)]
     found = re.fullmatch(r"(?:bad script: line|bad phase:|audit no line) (\d+) (\w+)", text)

@@ -2,12 +2,12 @@
 """Large inputs that the program accepts, always the same for the same words.
 
     tools/inputs.py NAME               writes one of the inputs of SET, which tools/measure.py takes
-    tools/inputs.py TREE [OPTION..]    one of other sizes; --help lists the options
+    tools/inputs.py TREE [OPTION..]    an input of other sizes; --help lists the options
 
-Shape `scripts` is for turns, threads and pool: a session's lines are whole transactions, each session's next line in its turn.
-Shape `mixed` is for replay: one interleaving of random sessions, drawn without the answers, so that a session that was aborted goes on with
-its next lines and meets refusals. With --old N the first N sessions begin first, ask now and then, and commit last, so that each batch and
-version since then stays alive. Shape `convoy`: session 1 writes one cell and then reads up to the limit of lines; all others wait for that cell.
+Shape `scripts` is for turns, threads and pool: a session's lines are whole transactions, and the sessions' lines alternate.
+Shape `mixed` is for replay: one interleaving of random sessions, drawn without the answers. So a session whose transaction was aborted
+goes on with its next lines, and these are refused. With --old N the first N sessions begin first, ask now and then, and commit last, so that
+each batch and version since then stays alive. Shape `convoy`: session 1 writes one cell and then reads up to the limit of lines; all others wait for that cell.
 """
 import argparse
 import dataclasses
@@ -21,7 +21,7 @@ SHOP = pathlib.Path(__file__).resolve().parent.parent / "runs/turns/a-shop-of-ei
 
 @dataclasses.dataclass
 class Kind:
-    """A type of transactions, the tables that it may use in the order of its steps, and how many of it there are among others."""
+    """A type of transactions, the tables that it may use in the order of its steps, and its share among the types."""
 
     name: str
     tables: list
@@ -173,7 +173,7 @@ def in_rounds(scripts):
 
 
 def mixed(plan, draw, kinds, scripts):
-    """One interleaving, in which the old sessions stay at work from the first line to the last."""
+    """One interleaving, in which the transactions of the old sessions are active from the first line to the last."""
     old = {}
     for session in range(1, plan.old + 1):
         one = kinds[session % len(kinds)]

@@ -1,12 +1,12 @@
 #!/usr/bin/env python3
-"""Runs the program on broken inputs, and says of each that ends otherwise than it may.
+"""Runs the program on broken inputs, and reports each run that ends in a way that is not allowed.
 
     tools/malformed.py [--program FILE] [--from N] [--count N] [--commands WORDS,..]
     tools/malformed.py --show N        writes the input of that number
 
 The inputs are numbered, and the same number always gives the same input: first a few of great size or of odd bytes, by name; then those
-of runs/ and examples/, each with one to six changes. Each run has to end with a status of README.md's table and a text that goes with it,
-by no signal, and within a second of processor time. The last line is `malformed: N passed, M failed`.
+of runs/ and examples/, each with one to six changes. Each run must end with a status of README.md's table and a text that goes with it,
+not by a signal, and within a second of processor time. The last line is `malformed: N passed, M failed`.
 """
 import argparse
 import concurrent.futures
@@ -117,7 +117,7 @@ def broken(number, inputs):
 
 
 def why(program, words, data):
-    """Why a run on these bytes did not end as it may; None where it did."""
+    """Why the end of a run on these bytes is not allowed, or None if it is."""
     with tempfile.TemporaryFile() as source, tempfile.TemporaryFile() as sink:
         source.write(data)
         source.seek(0)

@@ -1,13 +1,13 @@
 #!/usr/bin/env python3
-"""What the program takes for large inputs: instructions, by callgrind of valgrind, processor time and peak memory.
+"""Measures the program on large inputs: instructions, by callgrind of valgrind, processor time and peak memory.
 
     tools/measure.py [--program FILE] [--transactions N] [--quick] [NAME..]
     tools/measure.py --table [--program FILE] [NAME..]     the lines of the table in docs/PERFORMANCE.md
 
-The inputs are those of tools/inputs.py, all or those whose names have one of the words: those that are mixed by replay, all others by turns. Of each
-it measures one of N transactions and one of half as many, so that the last column, how often the instructions of the half go into those of the whole, tells
-how the cost grows: 2 where it is in proportion. --quick leaves out callgrind, and then that column is of the processor time.
-Each run has to end with status 0: where one does not, so does this.
+The inputs are those of tools/inputs.py, all or those whose names have one of the words. The mixed ones run by replay, all others by turns. Each is
+measured with N transactions and with half as many. The last column, the instructions of the whole divided by those of the half, tells how the cost
+grows: it is 2 if the cost is in proportion. --quick leaves out callgrind, and then that column is of the processor time.
+Each run must end with status 0; if one does not, neither does this tool.
 """
 import argparse
 import contextlib
@@ -24,8 +24,8 @@ from worked_runs import BUILT
 LOAD = ["load", "7", "2000"]
 
 
-# Runs a program on a file, and prints its status, its seconds of processor time and its kilobytes at the peak. The peak that the system tells of a
-# process is at least what its parent held when it began, so the parent is this small one.
+# Runs a program on a file, and prints its status, its seconds of processor time and its kilobytes at the peak. The peak that the system reports for a
+# process is at least what its parent held when the process began, so the parent is this small one.
 SMALL_PARENT = """
 import os, subprocess, sys
 with open(sys.argv[1], "rb") as source:
@@ -64,7 +64,7 @@ def stored(plan):
 
 
 def table(program, is_asked):
-    """Prints the lines of the table, and answers whether each run ended with status 0."""
+    """Prints the lines of the table, and returns whether each run ended with status 0."""
     are_well = True
     for name, told in TABLE.items():
         if not is_asked(name):
@@ -82,7 +82,7 @@ def table(program, is_asked):
 
 
 def growth(program, is_asked, transactions, quick):
-    """Prints what each input takes, beside one of half the size, and answers whether each run ended with status 0."""
+    """Prints what each input takes, beside one of half the size, and returns whether each run ended with status 0."""
     are_well = True
     print(f"{'input':30}{'words':8}{'lines':>7}{'status':>7}{'seconds':>9}{'MB':>7}{'millions':>10}{'growth':>8}")
     for name, plan in SET.items():

@@ -2,13 +2,13 @@
 """Draws a run or a tree as SVG, readable on a light and on a dark page.
 
     tools/picture.py run INPUT REPLIES       a run of `replay`: an input, and the text that it gave
-    tools/picture.py turns INPUT REPLIES     the same of `turns`: a column is a pass in which every session asks once
+    tools/picture.py turns INPUT REPLIES     the same for `turns`: a column is a pass in which every session asks once
     tools/picture.py printed RUN             what `threads` or `pool` printed
     tools/picture.py tree INPUT              the tree of a tree text or of an input
 
 Each session has a lane, and each transaction is a bar from its Begin to its end, green if it committed and red if it was aborted. An arrow goes
-from a request that waits to the transaction that it waits for, and a dashed arrow from one that is aborted to the transaction that its cause
-names, if that one is unfinished. The serial order is below. The picture is written to standard output, or with --out to a file.
+from a request that waits to the transaction that it waits for, and a dashed arrow goes from a request that is aborted to the transaction that
+the cause names, if that one is active. The serial order is below. The picture is written to standard output, or with --out to a file.
 """
 import argparse
 import dataclasses
@@ -42,7 +42,7 @@ class Bar:
 
 
 def cause_lines(cause):
-    """The two lines that tell the cause of an abort, and the transaction that it names."""
+    """The two lines that say the cause of an abort, and the transaction that it names."""
     word, rest = cause[0], cause[1:]
     if word == "pivot":
         a, b, c, d = rest[1:]
@@ -183,7 +183,7 @@ class Run:
                 self.drawing.text(left + 8, top + 14 + 14 * at, line, "mono" + tone)
 
     def draw_arrow(self, cell):
-        """An arrow to the lane of the transaction that is waited for, if that one is at work in this column."""
+        """An arrow to the lane of the transaction that is waited for, if that one is active in this column."""
         bar = self.bars.get(cell.to)
         if bar is None or bar.session == cell.session or not bar.first <= cell.column <= bar.last:
             return

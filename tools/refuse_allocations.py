@@ -3,9 +3,9 @@
 
     tools/refuse_allocations.py [--program FILE] [--first N] WORD.. < INPUT
 
-The words are those of the command. With --first N only the first N allocations are refused. A run with a refused allocation has to end with status 8
-and nothing written, or as the run without one. A small library, compiled by gcc for each call, stands before the allocator of the C library and answers
-one call by "no memory". The last line is `refused allocations: N passed, M failed`.
+The words are those of the command. With --first N only the first N allocations are refused. A run with a refused allocation must end with status 8
+and nothing written, or as the run without one. A small library, compiled by gcc for each call, replaces the allocator of the C library and answers one
+call by "out of memory". The last line is `refused allocations: N passed, M failed`.
 """
 import argparse
 import concurrent.futures
@@ -60,7 +60,7 @@ def compiled(room):
 
 
 def ended(command, data, library, number):
-    """The status and the text of a run with that allocation refused, and whether it came to that allocation."""
+    """The status and the text of a run with that allocation refused, and whether the run reached that allocation."""
     told, tell = os.pipe()
     names = {"LD_PRELOAD": library, "REFUSED_ALLOCATION": str(number), "REFUSED_TOLD": str(tell)}
     ran = subprocess.run(command, input=data, stdout=subprocess.PIPE, stderr=subprocess.DEVNULL, env={**os.environ, **names}, pass_fds=[tell])

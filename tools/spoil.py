@@ -1,12 +1,12 @@
 #!/usr/bin/env python3
-"""Spoils one line of a printed run, and compares what the command audit answers with what the rules say.
+"""Spoils one line of a printed run, and compares the answer of the command audit with what the rules say.
 
     tools/spoil.py [--program FILE] [--input FILE | --run FILE] [--from N] [--count N]
     tools/spoil.py --show N        writes the spoiled run of that number
 
 The printed run is that of the command `threads 1` on an input, or a file. The spoilings are numbered, and the same number always spoils the
 same run in the same way: a line is dropped, doubled, swapped with the next one, or one of its numbers is changed. The rules of docs/FORMATS.md,
-section Audit, stand here once more, by themselves; where a spoiled run still keeps them, it is to be answered by yes. The last line is
+section Audit, are implemented here independently. If a spoiled run still keeps them, audit must answer yes. The last line is
 `spoil: N passed, M failed`.
 """
 import argparse
@@ -39,7 +39,7 @@ LINE = re.compile(
 
 
 def in_range(words):
-    """Whether the numbers of a line that reads well are of their types."""
+    """Whether the numbers of a line of the right form fit their types."""
     txns = [int(word[1:]) for word in words if re.fullmatch(TXN, word)]
     if any(txn >= 2**32 for txn in txns):
         return False
@@ -60,7 +60,7 @@ def in_range(words):
 
 
 def read(text):
-    """The lines of a printed run as lists of words, or the number of the first that has no place there."""
+    """The lines of a printed run as lists of words, or the number of the first line that may not be there."""
     lines = text.split("\n")
     past, rows = -1, set()
     items = []
@@ -126,7 +126,7 @@ def wrong_order(items):
 
 
 def replay(items):
-    """The least line of a wrong read, and the last table, where the transactions run one after the other in the order."""
+    """The first line with a wrong read, and the last table, when the transactions run serially in the order."""
     table = {tuple(words[1:3]): words[3] for words in items if words[0] == "start"}
     order = next(words[1:] for words in items if words[0] == "order")
     wrong = []
@@ -152,7 +152,7 @@ def wrong_row(items, table):
 
 
 def audit(text):
-    """What the rules say of a text: nothing where it is right, else the first wrong line and why."""
+    """What the rules say of a text: nothing if it is right, else the first wrong line and why."""
     items, number = read(text)
     if items is None:
         return number, "form"
@@ -167,7 +167,7 @@ def audit(text):
 
 
 def changed(line, chance):
-    """The line with one of its numbers changed; the line itself where it has none."""
+    """The line with one of its numbers changed, or the line itself if it has none."""
     numbers = list(re.finditer(r"(?<![a-z_])-?\d+|(?<=\bt)\d+", line))
     if not numbers:
         return line
@@ -177,7 +177,7 @@ def changed(line, chance):
 
 
 def spoiled_once(lines, chance):
-    """The lines with one of them spoiled, where the chance has it so: a line without a number stays."""
+    """The lines with one of them spoiled. They stay the same if a number of a line without numbers was to change."""
     place = chance.randrange(len(lines))
     kind = chance.choice(["drop", "double", "swap", "change"])
     here = lines[place : place + 2]
@@ -203,7 +203,7 @@ def spoiled(text, number):
 
 
 def answer(text):
-    """What the command audit is to write, and its status."""
+    """What the command audit must write, and its status."""
     fault = audit(text)
     return ("audit yes\n", 0) if fault is None else (f"audit no line {fault[0]} {fault[1]}\n", 11)
 

@@ -1,4 +1,4 @@
-"""Drawings in SVG, readable on a light and on a dark page: a drawing has its own panel, and takes the colours that the reader's page asks for.
+"""Drawings in SVG, readable on a light and on a dark page: a drawing has its own panel, and its colours follow the colour scheme of the reader's page.
 `compare.py` and `picture.py` use it."""
 from xml.sax.saxutils import escape
 

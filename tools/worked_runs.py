@@ -1,24 +1,24 @@
 #!/usr/bin/env python3
 """Runs the program on its worked runs, and compares every byte and status.
 
-    tools/worked_runs.py [--program FILE] [WORD..]     the runs whose names have one of the words, all where none is given
+    tools/worked_runs.py [--program FILE] [WORD..]     the runs with one of the words in their names, or all if none is given
     tools/worked_runs.py --tried [WORD..]              the short ones, by rt try, which proves nothing: for work on a program that is not proved yet
 
 A run is a line of the table in runs/FOLDER/README.md. Its columns:
 
-    Run      its name. NAME.in is its input, NAME.out the text; NAME.in.py and NAME.out.py write them where they are long.
-             Where there is no such file, it is empty
+    Run      its name. NAME.in is its input, NAME.out the text; if they are long, NAME.in.py and NAME.out.py write them.
+             If there is no such file, it is empty
     Words    the words of the command
     Status   the status, or several of them
-    Text     the text, where it is one line: then there is no NAME.out. Or the word `form`: any text that such a status has. Or the word `audit`:
-             a text that the command audit answers by yes
-    Input    another file for the input, seen from the folder. A folder cannot be read. "prefixes of FILE": a run for each of them
+    Text     the text, if it is one line: then there is no NAME.out. Or the word `form`: any text that such a status has. Or the word `audit`:
+             a text to which the command audit answers yes
+    Input    another file for the input, relative to the folder. A folder cannot be read. "prefixes of FILE": a run for each of them
     Output   another file for the output
-    Fails    `read`: the read behind the last byte of the input fails, in place of finding the end
-    Room     how many bytes the output takes, and then each write fails; `less than the text`: a run for each such number
-    Formats  the formats that the run is made in: each takes the place of the input's own
+    Fails    `read`: the read after the last byte of the input fails, instead of finding the end
+    Room     how many bytes the output takes before each write fails; `less than the text`: a run for each such number
+    Formats  the formats in which the run is made: each replaces the format of the input
     Times    how often it is run
-    Line     the last line of the input, to be read beside the text
+    Line     the last line of the input, so that it can be read beside the text
 
 The commands of README.md are runs too: each line that begins with `$`, with the text below it.
 The last line is `runs: N passed, M failed`.
@@ -56,7 +56,7 @@ FORMS = {
 
 
 def has_form(status, text):
-    """Whether a run may end so: with a status of the table, and a text that goes with it."""
+    """Whether a run may end with this status, which is in the table, and this text, which goes with it."""
     return status in FORMS and re.fullmatch(FORMS[status], text) is not None
 
 
@@ -66,7 +66,7 @@ class Run:
     words: list
     statuses: list
     text: object  # the bytes, or "form" or "audit"
-    input: object  # the bytes, or the path of what cannot be read
+    input: object  # the bytes, or the path of a folder, which cannot be read
     output: pathlib.Path = None
     times: int = 1
     breaks: bool = False  # whether the input ends in a fault
@@ -113,7 +113,7 @@ def ended(program, words, data=b"", output=None, breaks=False, room=None):
 
 
 def ended_in(program, words, data, room):
-    """The same, where the output is a file that takes so many bytes, of a process that is not ended by a write beyond them."""
+    """The same with an output file that takes `room` bytes. A write beyond them does not end the process."""
     with tempfile.TemporaryFile() as sink:
         ran = subprocess.run(
             [program, *words], input=data, stdout=sink, stderr=subprocess.DEVNULL, timeout=SECONDS, restore_signals=False,
@@ -124,7 +124,7 @@ def ended_in(program, words, data, room):
 
 
 def broken_off(data):
-    """A descriptor that gives these few bytes, and then fails: a socket whose other end was closed with bytes unread."""
+    """A descriptor that gives these bytes, and then fails: a socket whose other end was closed with bytes unread."""
     near, far = socket.socketpair()
     near.send(b"unread")
     far.sendall(data)
@@ -161,7 +161,7 @@ def plain(cell):
 
 
 def made(folder, name, ending, used):
-    """What stands in NAME.in or NAME.out, or is written by NAME.in.py or NAME.out.py; None where there is neither."""
+    """The bytes of NAME.in or NAME.out, or what NAME.in.py or NAME.out.py writes; None if there is neither."""
     file, script = folder / f"{name}.{ending}", folder / f"{name}.{ending}.py"
     used.update({file, script})
     if script.exists():
@@ -182,7 +182,7 @@ def inputs_of(folder, row, used):
 
 
 def text_of(folder, row, used):
-    """The text that a line of a table wants."""
+    """The text that a line of a table expects."""
     cell, written = row.get("Text", ""), made(folder, row["Run"].strip("`"), "out", used)
     if cell.startswith("`"):
         return plain(cell) + b"\n"
@@ -199,7 +199,7 @@ def variants(row, name, data):
 
 
 def runs_of(folder):
-    """The runs of a folder. Each of its files is to belong to one."""
+    """The runs of a folder. Each of its files must belong to one."""
     used = {folder / "README.md"}
     for row in tables((folder / "README.md").read_text()):
         if "Run" not in row:
@@ -226,7 +226,7 @@ def runs_of(folder):
 
 
 def in_rooms(run, room):
-    """A run whose output takes so many bytes, or one for each number below the length of its text."""
+    """A run whose output takes `room` bytes, or a run for each number below the length of its text."""
     for room in range(len(run.text)) if room == "less than the text" else [int(room)]:
         yield dataclasses.replace(run, name=f"{run.name} with room for {room}", text=run.text[:room], room=room)
 
@@ -248,7 +248,7 @@ class Shown:
 
 
 def shown_in(readme):
-    """The commands of README.md that show a text, but those of rt."""
+    """The commands of README.md that show a text, except those of rt."""
     for block in re.findall(r"(?ms)^```\n(.*?)^```$", readme):
         for command, text in re.findall(r"(?m)^\$ (.*)\n((?:[^$\n].*\n|\n)*)", block):
             if not command.startswith("rt "):

@@ -10,17 +10,17 @@
     smallbank   accounts after SmallBank: six short types over three tables
     transfers   transfers between accounts, deposits, and audits that scan 16 accounts at once
 
-A row holds one number, and a script is fixed before it runs. So keys are drawn here, and no line depends on what another one reads:
-a new order's number is counted here, and the row that counts orders is read and added to all the same, so the conflicts are those of the benchmark.
+A row holds one number, and a script is fixed before it runs. So keys are drawn here, and no line depends on what another one reads.
+A new order's number is counted here. The row that counts orders is still read and added to, so the conflicts are those of the benchmark.
 
-Transaction i, from 0, is of session 1 + i mod N. Each begins with an instance: the warehouse, flight or branch that it mostly works on, which
-says in which part of a leaf it runs. With --guards a transaction that adds to a row that many want first writes a guard row beside it.
+Transaction i, from 0, belongs to session 1 + i mod N. Each begins with an instance: the warehouse, flight or branch that it mostly works on, which
+says in which part of a leaf it runs. With --guards, a transaction that adds to a row that many want first writes a guard row beside it.
 """
 import argparse
 import pathlib
 import sys
 
-GUARD = 1 << 20  # the guard of a row has its key and this
+GUARD = 1 << 20  # the key of a row's guard is the row's key plus this
 
 
 class Draws:
@@ -109,7 +109,7 @@ class Tpcc(Workload):
         return district * 4096 + number
 
     def last_order(self, district, customer):
-        """The number of a customer's last order, or of the district's first where there is none."""
+        """The number of a customer's last order, or of the district's first if there is none."""
         return max((number for number, one in enumerate(self.orders[district]) if one == customer), default=0)
 
     def some_district(self):
@@ -205,7 +205,7 @@ class Seats(Workload):
         return self.taken[flight].pop(self.draws.below(len(self.taken[flight])))
 
     def counted(self, flight, change, others):
-        """The lines that count a flight's seats, which all of a flight want, before or after the others."""
+        """The lines that count a flight's seats, a row that all transactions of the flight want, before or after the others."""
         count = self.guard("flight", flight) + increase("flight", flight, change)
         return count + others if self.is_first else others + count
 
@@ -283,7 +283,7 @@ class Smallbank(Workload):
         return [f"read account {customer}", *self.guard("savings", customer), *increase("savings", customer, 20)]
 
     def amalgamate(self, _):
-        """Moves all of one customer's money to another one: the sum is fixed here."""
+        """Moves all of one customer's money to another customer. The amount is fixed here."""
         one, other = self.two()
         lines = [f"read account {one}", f"read account {other}", *self.guard("savings", one), f"read savings {one}", f"write savings {one} 0"]
         return lines + self.guard("checking", one) + [f"read checking {one}", f"write checking {one} 0"] + self.guard("checking", other) + increase("checking", other, 50)
