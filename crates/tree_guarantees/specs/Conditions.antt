@@ -1,0 +1,26 @@
+-- What an answer on a tree says of the setups and stores that have it.
+use Rattle.std.specs.Prelude.{◌≡◌, ℕ, Bool, List, Some, IsTrue}
+use Rattle.teb_names.specs.declared.Cell.{Cell}
+use Rattle.teb_names.specs.declared.Session.{Session}
+use Rattle.teb_names.specs.declared.Spot.{Spot}
+use Rattle.teb_names.specs.declared.Request.{Request}
+use Rattle.teb_names.specs.declared.Request.TheVariants.{Read, Scan}
+use Rattle.teb_history.specs.declared.Event.{Event}
+use Rattle.teb_history.specs.Phases.{unfinished, held, spot_of}
+use Rattle.teb_rules.specs.Setup.{NodeRow, Setup, Store}
+use Rattle.teb_rules.specs.Accepted.{IsSound}
+use Rattle.teb_rules.specs.Alone.{is_served}
+use Rattle.teb_rules.specs.Answer.{answer}
+use Rattle.teb_laws.specs.Laws.{reached}
+
+-- the answer is the condition P of each setup with this tree
+abbrev pub IsCondition : (Setup → Bool) → List NodeRow → Bool → Type 0
+IsCondition P T answer = (S : Setup) → S.tree ≡ T → answer ≡ P S
+
+-- P holds of each sound store with this tree and the history of every run of it
+abbrev pub Guarantees : List NodeRow → (Store → List Event → Type 0) → Type 0
+Guarantees T P = (X : Store) → X.setup.tree ≡ T → IsSound X.setup → (asked : List (Session × Request)) → P X (reached X asked)
+
+-- each read and each scan of a running transaction of this type and instance is granted at once, unless it is refused
+abbrev pub ServesReads : Spot → Store → List Event → Type 0
+ServesReads s X H = (c : Session) (t : ℕ) → held H c.0 ≡ Some t → IsTrue (unfinished H t) → spot_of H t ≡ s → (x : Cell) → IsTrue (is_served (Read x) (answer X H c (Read x)).0) × ((n : ℕ) → IsTrue (is_served (Scan x n) (answer X H c (Scan x n)).0))

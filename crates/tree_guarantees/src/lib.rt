@@ -1,0 +1,91 @@
+//! What the shape of a tree guarantees: a question for each sentence of the guarantees that depends on it.
+//!
+//! Each answer is the condition of a law of the crate `guarantees`. If it is true, the guarantee of that law holds of every run over the tree.
+#![tactic(auto)]
+
+ghost use Rattle.std.specs.Prelude.{◌≡◌, ◌↔◌, ◌<◌, ℕ, List, length, IsTrue};
+ghost use Rattle.std.specs.List.{All, list_all};
+ghost use Rattle.cc_tree.specs.Grown.{node_numbers, row_of};
+ghost use Rattle.teb_history.specs.declared.Event.{Event};
+ghost use Rattle.teb_history.specs.Phases.{spot_of};
+ghost use Rattle.teb_rules.specs.Setup.{Setup, Store};
+ghost use Rattle.teb_rules.specs.Tree.{has_batches, row};
+ghost use Rattle.guarantees.specs.Cascades.{HasNoCascade};
+ghost use Rattle.guarantees.specs.Reading.{ReadsFreely};
+ghost use Rattle.guarantees.specs.Shapes.{HidesUncommitted, keeps_time, orders_by_commits};
+ghost use Rattle.guarantees.specs.Time.{FollowsCommits, KeepsRealTime};
+ghost use Rattle.tree_guarantees.specs.Conditions.{Guarantees, IsCondition, ServesReads};
+
+use cc_tree::{NodeRow, Tree};
+use teb_names::{ControlKind, Node, Spot};
+
+/// Returns whether the root is a locks or a pipeline node. Then the serial order is the order of the commits.
+pub fn commits_in_order(tree: &Tree) -> bool
+    ensures condition { IsCondition orders_by_commits tree.now.rows result }
+    ensures guarantee { IsTrue result → Guarantees tree.now.rows (λ X H. FollowsCommits X.setup H) }
+{
+    guarantees::serial_order_is_commit_order();
+    match root(tree).control {
+        ControlKind::Locks | ControlKind::Pipeline => true,
+        ControlKind::Timestamp | ControlKind::Snapshot => false,
+    }
+}
+
+/// Returns whether the root is a locks or a pipeline node, or a leaf, or admits one transaction a batch. Then the store is strictly serializable: a transaction that committed
+/// before another one began is before it in the serial order.
+pub fn is_strict(tree: &Tree) -> bool
+    ensures condition { IsCondition keeps_time tree.now.rows result }
+    ensures guarantee { IsTrue result → Guarantees tree.now.rows (λ X H. KeepsRealTime X.setup H) }
+{
+    guarantees::serial_order_keeps_time();
+    let root = root(tree);
+    commits_in_order(tree) || !root.types.is_empty() || root.batch <= 1
+}
+
+/// Returns whether every node is a locks or a snapshot node. Then an abort takes no other transaction with it.
+pub fn has_no_cascades(tree: &Tree) -> bool
+    ensures condition { (S : Setup) → S.tree ≡ tree.now.rows → (IsTrue result ↔ HidesUncommitted S) }
+    ensures guarantee { IsTrue result → Guarantees tree.now.rows HasNoCascade }
+{
+    guarantees::aborts_stay_alone();
+    for n in 0..tree.len() {
+        match tree.row(Node(n)).control {
+            ControlKind::Locks | ControlKind::Snapshot => {}
+            ControlKind::Pipeline | ControlKind::Timestamp => return false,
+        }
+    }
+    true
+}
+
+/// Returns whether every node on the path of a type and an instance is a timestamp or a snapshot node. Then each read and each scan of such a transaction is granted at once,
+/// unless it is refused.
+pub fn reads_never_wait(tree: &Tree, spot: Spot) -> bool
+    requires { spot.kind.0 < tree.now.types }
+    ensures condition { (X : Store) (H : List Event) (t : ℕ) → X.setup.tree ≡ tree.now.rows → spot_of H t ≡ spot → (IsTrue result ↔ ReadsFreely X H t) }
+    ensures guarantee { IsTrue result → Guarantees tree.now.rows (ServesReads spot) }
+{
+    guarantees::reads_go_on();
+    keep_batches(tree, tree.path(spot))
+}
+
+// Whether each of the nodes is a timestamp or a snapshot node.
+fn keep_batches(tree: &Tree, nodes: &[Node]) -> bool
+    requires { All (λ n. n.0 < length tree.now.rows) nodes.now }
+    ensures { result ≡ list_all (has_batches tree.now.rows) (node_numbers nodes.now) }
+{
+    let [n, below @ ..] = nodes else {
+        return true;
+    };
+    match tree.row(*n).control {
+        ControlKind::Timestamp | ControlKind::Snapshot => keep_batches(tree, below),
+        ControlKind::Locks | ControlKind::Pipeline => false,
+    }
+}
+
+// The root, which every tree has.
+fn root(tree: &Tree) -> &NodeRow
+    ensures { row_of result.now ≡ row tree.now.rows 0 }
+{
+    let _nodes = tree.len();
+    tree.row(Node(0))
+}
