@@ -1,0 +1,231 @@
+/* Tebaldi for C: a transactional key-value store of whole numbers, linked from libtebaldi.a.
+ *
+ * What each function returns and writes is proved, for callers that keep the rules below. Nothing checks that a caller keeps them.
+ *
+ * Rules for callers
+ * 1. No pointer is null, not even beside a length of 0. A pointer with a length points to that many elements, all of them written before
+ *    the call, also in a buffer that the call only writes: initialize buffers with zeros.
+ * 2. No two pointers of a call overlap, unless both are `const`.
+ * 3. A `struct tebaldi_store` begins as TEBALDI_CLOSED. Only these functions read and write its fields. It may be moved in memory between
+ *    calls. Of two copies of an open store, use one and forget the other.
+ * 4. One call at a time uses a store. It may go to another thread if a lock, a thread's start or a join orders the calls.
+ * 5. A `struct tebaldi_reply` that is passed in is zeros, or what a call has written. A `struct tebaldi_event` likewise.
+ * 6. No function is called from a signal handler, or in the forked child of a process with threads.
+ * 7. malloc, realloc and free come from one allocator, with blocks as the C standard describes them. A program that defines rattle_alloc,
+ *    rattle_realloc and rattle_dealloc of heap.c itself uses its own allocator.
+ */
+#ifndef TEBALDI_H
+#define TEBALDI_H
+
+#include <stdbool.h>
+#include <stddef.h>
+#include <stdint.h>
+
+#ifdef __cplusplus
+extern "C" {
+#endif
+
+/* The status that a call returns. If it is not TEBALDI_OK, the store is unchanged, and so is everything that the call may write, except the
+ * line of a tree's fault (TEBALDI_BAD_TREE) and the wrong line of a printed run (TEBALDI_BAD_RUN). */
+enum {
+    TEBALDI_OK = 0,
+    TEBALDI_NOT_OPEN = 1,      /* the store is not open */
+    TEBALDI_IS_OPEN = 2,       /* the store is already open */
+    TEBALDI_BAD_TREE = 3,      /* the tree text has a fault */
+    TEBALDI_BAD_VERB = 4,      /* the request's verb is none */
+    TEBALDI_NO_SUCH = 5,       /* no such name, number, event or reply */
+    TEBALDI_OUT_OF_MEMORY = 6,
+    TEBALDI_BAD_RUN = 7,       /* the printed run has a wrong line */
+    TEBALDI_TOO_LONG = 8       /* the text has 2^32 - 1 bytes or more */
+};
+
+struct tebaldi_store {
+    bool is_open;
+    struct { void *at; } held;
+};
+#define TEBALDI_CLOSED { false, { NULL } }
+
+/* What a session asks. A verb reads only the fields that are named beside it. */
+enum {
+    TEBALDI_BEGIN = 1,   /* type, instance */
+    TEBALDI_READ = 2,    /* table, key */
+    TEBALDI_WRITE = 3,   /* table, key, value */
+    TEBALDI_ADD = 4,     /* table, key, value */
+    TEBALDI_DELETE = 5,  /* table, key */
+    TEBALDI_SCAN = 6,    /* table, key, count */
+    TEBALDI_PREPARE = 7,
+    TEBALDI_COMMIT = 8,
+    TEBALDI_ABORT = 9,
+    TEBALDI_END = 10     /* aborts the session's transaction, if it has one */
+};
+
+struct tebaldi_request {
+    uint8_t verb;
+    uint8_t type;       /* the transaction's type, by its number */
+    uint8_t table;      /* by its number */
+    uint8_t count;      /* the number of rows to scan, 1 to 16 */
+    uint32_t instance;  /* which leaf of the type, if it is in several; else 0 */
+    uint32_t key;
+    int64_t value;
+};
+
+/* Why a transaction was aborted, and the fields that each cause has. Every other field is 0. */
+enum {
+    TEBALDI_LATE = 1,    /* node; txn: the reader; table, key */
+    TEBALDI_FIRST = 2,   /* node; txn: the writer; table, key */
+    TEBALDI_PIVOT = 3,   /* node; txn, second, third, fourth */
+    TEBALDI_NEWER = 4,   /* node; txn */
+    TEBALDI_AFTER = 5,   /* txn */
+    TEBALDI_ASKED = 6,
+    TEBALDI_ENDED = 7
+};
+
+struct tebaldi_cause {
+    uint8_t why;        /* 0 if nothing was aborted */
+    uint8_t node;
+    uint8_t table;
+    uint32_t key;
+    uint32_t txn;
+    uint32_t second;
+    uint32_t third;
+    uint32_t fourth;
+};
+
+/* At most sixteen values. A value that is not present is 0, and so is everything after the last. */
+struct tebaldi_values {
+    int64_t values[16];
+    bool present[16];
+    size_t len;
+};
+
+/* The kinds of reply, and the fields that each has. Every other field is 0. */
+enum {
+    TEBALDI_BEGUN = 1,      /* txn */
+    TEBALDI_VALUE = 2,      /* values: one, which is not present if there is no row */
+    TEBALDI_VALUES = 3,     /* values: those of a scan */
+    TEBALDI_DONE = 4,
+    TEBALDI_PREPARED = 5,
+    TEBALDI_COMMITTED = 6,
+    TEBALDI_AGAIN = 7,      /* txn: the transaction to wait for; node. Nothing has changed: ask again */
+    TEBALDI_ABORTED = 8,    /* cause */
+    TEBALDI_REFUSED = 9     /* refusal. Nothing has changed */
+};
+
+/* Why a request was refused. */
+enum {
+    TEBALDI_BAD_SESSION = 1,      /* the session is not 1 to 32 */
+    TEBALDI_IN_TXN = 2,           /* a begin while the session has a transaction */
+    TEBALDI_UNKNOWN_TYPE = 3,
+    TEBALDI_FULL = 4,             /* 8,192 transactions have begun */
+    TEBALDI_NO_TXN = 5,           /* the session has no transaction */
+    TEBALDI_UNKNOWN_TABLE = 6,
+    TEBALDI_IS_PREPARED = 7,      /* the transaction is prepared */
+    TEBALDI_NOT_IN_PROFILE = 8,   /* no remaining step of the type has the table */
+    TEBALDI_RANGE = 9,            /* a scan of no rows, of more than 16, or past the last key */
+    TEBALDI_NOT_READ = 10,        /* an add to a row that the transaction has neither written nor read */
+    TEBALDI_OVERFLOW = 11         /* the sum of an add does not fit */
+};
+
+struct tebaldi_reply {
+    uint8_t kind;
+    uint8_t refusal;
+    uint8_t node;
+    uint32_t txn;
+    struct tebaldi_cause cause;
+    struct tebaldi_values values;
+};
+
+/* What happened, and the fields that each event has beside `txn`. Every other field is 0. */
+enum {
+    TEBALDI_EVENT_BEGAN = 1,   /* session, type, instance */
+    TEBALDI_EVENT_GOT = 2,     /* table, key; from: the writer, or 0 for a starting row; present, value */
+    TEBALDI_EVENT_PUT = 3,     /* table, key, present, value: a put without a value deletes the row */
+    TEBALDI_EVENT_READY = 4,   /* it was prepared */
+    TEBALDI_EVENT_DONE = 5,    /* it committed */
+    TEBALDI_EVENT_GONE = 6,    /* cause: it was aborted */
+    TEBALDI_EVENT_TOLD = 7     /* its session was told of the abort */
+};
+
+struct tebaldi_event {
+    uint8_t happened;
+    uint8_t session;
+    uint8_t type;
+    uint8_t table;
+    bool present;
+    uint32_t txn;
+    uint32_t instance;
+    uint32_t key;
+    uint32_t from;
+    int64_t value;
+    struct tebaldi_cause cause;
+};
+
+struct tebaldi_row {
+    uint8_t table;
+    uint32_t key;
+    int64_t value;
+};
+
+struct tebaldi_version {
+    uint32_t major;
+    uint32_t minor;
+    uint32_t patch;
+};
+
+/* The lists of names. */
+enum { TEBALDI_TABLES = 0, TEBALDI_TYPES = 1, TEBALDI_NODES = 2 };
+
+/* Why a line of a printed run is wrong. */
+enum {
+    TEBALDI_WRONG_FORM = 1,
+    TEBALDI_WRONG_TXN = 2,
+    TEBALDI_WRONG_ORDER = 3,
+    TEBALDI_WRONG_AFTER = 4,
+    TEBALDI_WRONG_READ = 5,
+    TEBALDI_WRONG_ROW = 6
+};
+
+/* Tells the version of the library. Libraries with the same `major` have the same structs, functions and numbers. */
+void tebaldi_version(struct tebaldi_version *version);
+
+/* Opens the store of a tree text. TEBALDI_IS_OPEN, TEBALDI_BAD_TREE, TEBALDI_OUT_OF_MEMORY.
+ * At TEBALDI_BAD_TREE as much of the fault's line as fits is copied to `fault`, with its line feed and no 0 after it, and `*fault_len` is
+ * the length of the line. */
+uint32_t tebaldi_open(struct tebaldi_store *store, const uint8_t *tree, size_t tree_len, uint8_t *fault, size_t fault_room, size_t *fault_len);
+
+/* Closes a store, and frees its memory. A closed store stays closed. */
+void tebaldi_close(struct tebaldi_store *store);
+
+/* Answers a request of a session, 1 to 32. TEBALDI_NOT_OPEN, TEBALDI_BAD_VERB, TEBALDI_OUT_OF_MEMORY. */
+uint32_t tebaldi_ask(struct tebaldi_store *store, uint8_t session, const struct tebaldi_request *request, struct tebaldi_reply *reply);
+
+/* Finds the number of a name in a list. TEBALDI_NOT_OPEN, TEBALDI_NO_SUCH. */
+uint32_t tebaldi_number(struct tebaldi_store *store, uint8_t list, const uint8_t *name, size_t name_len, uint8_t *number);
+
+/* Copies as much of a name as fits to `out`; `*len` is its length, at most 32. TEBALDI_NOT_OPEN, TEBALDI_NO_SUCH. */
+uint32_t tebaldi_name(struct tebaldi_store *store, uint8_t list, uint8_t number, uint8_t *out, size_t room, size_t *len);
+
+/* Copies as much of the line of a reply to a session as fits to `out`, as `tebaldi replay` prints it, with its line feed; `*len` is the
+ * length of the line. TEBALDI_NOT_OPEN, TEBALDI_OUT_OF_MEMORY; TEBALDI_NO_SUCH if the reply has no kind, or a node or table without name. */
+uint32_t tebaldi_line(struct tebaldi_store *store, uint8_t session, const struct tebaldi_reply *reply, uint8_t *out, size_t room, size_t *len);
+
+/* Copies as many of the committed transactions, in the serial order, as fit to `out`; `*len` is how many there are.
+ * TEBALDI_NOT_OPEN, TEBALDI_OUT_OF_MEMORY. */
+uint32_t tebaldi_order(struct tebaldi_store *store, uint32_t *out, size_t room, size_t *len);
+
+/* Copies as many of the committed rows, in ascending order of table and key, as fit to `out`; `*len` is how many there are.
+ * TEBALDI_NOT_OPEN, TEBALDI_OUT_OF_MEMORY. */
+uint32_t tebaldi_rows(struct tebaldi_store *store, struct tebaldi_row *out, size_t room, size_t *len);
+
+/* Reads the event at a place of the history; place 0 is the oldest. TEBALDI_NOT_OPEN; TEBALDI_NO_SUCH past the last event. */
+uint32_t tebaldi_event(struct tebaldi_store *store, size_t place, struct tebaldi_event *event);
+
+/* Checks a printed run, as `tebaldi audit` does. TEBALDI_TOO_LONG, TEBALDI_OUT_OF_MEMORY.
+ * At TEBALDI_BAD_RUN `*line` is the number of the first wrong line, from 1, and `*why` says why. */
+uint32_t tebaldi_audit(const uint8_t *text, size_t text_len, uint32_t *line, uint8_t *why);
+
+#ifdef __cplusplus
+}
+#endif
+
+#endif

@@ -1,0 +1,62 @@
+"""What a call raises. Out of memory is Python's own MemoryError."""
+
+
+class TebaldiError(Exception):
+    """The base of this package's exceptions."""
+
+
+class BadTree(TebaldiError, ValueError):
+    """The tree text has a fault: its line."""
+
+
+class NoSuchName(TebaldiError, KeyError):
+    """The tree has no table, type or node of this name."""
+
+    def __str__(self) -> str:
+        return f"the tree has no {self.args[0]}"
+
+
+class Again(TebaldiError):
+    """A request has waited as long as it may for the transaction `txn` at the node `node`. Nothing has changed."""
+
+    def __init__(self, txn: int, node: str):
+        super().__init__(f"has to wait for transaction {txn} at node {node}")
+        self.txn = txn
+        self.node = node
+
+
+class Aborted(TebaldiError):
+    """The transaction was aborted, and is over.
+
+    `cause` is "late", "first", "pivot", "newer", "after", "asked" or "ended"; `line` is the store's reply in words.
+    """
+
+    def __init__(self, cause: str, line: str):
+        super().__init__(line)
+        self.cause = cause
+        self.line = line
+
+
+class Refused(TebaldiError):
+    """A request cannot be answered. Its transaction, if it has one, was aborted, and is over.
+
+    `why` is "bad-session", "in-txn", "unknown-type", "full", "no-txn", "unknown-table", "prepared", "not-in-profile", "range",
+    "not-read" or "overflow".
+    """
+
+    def __init__(self, why: str):
+        super().__init__(why)
+        self.why = why
+
+
+class TransactionOver(TebaldiError):
+    """The transaction is over, and answers no request."""
+
+
+class BadRun(TebaldiError, ValueError):
+    """The printed run is wrong at the line `line`, counted from 1; `why` is "form", "txn", "order", "after", "read" or "row"."""
+
+    def __init__(self, line: int, why: str):
+        super().__init__(f"line {line} is wrong: {why}")
+        self.line = line
+        self.why = why

@@ -1,0 +1,424 @@
+"""Stores and transactions."""
+
+from __future__ import annotations
+
+import threading
+import time
+from ctypes import byref, c_size_t, c_uint8, c_uint32
+from dataclasses import dataclass
+from types import TracebackType
+from typing import Any, Callable, Dict, Iterator, List, Optional, Tuple, Type, TypeVar, Union
+
+from . import _native as native
+from ._errors import Aborted, Again, BadRun, BadTree, NoSuchName, Refused, TransactionOver
+from ._native import LIBRARY
+
+T = TypeVar("T")
+_ask = LIBRARY.tebaldi_ask
+_BEGIN, _READ, _WRITE, _ADD, _DELETE, _SCAN, _PREPARE, _COMMIT, _ABORT = range(1, 10)
+_WHAT = ("table", "type", "node")
+
+
+@dataclass(frozen=True)
+class Reply:
+    """A reply of Store.ask.
+
+    `kind` is "begun", "value", "values", "done", "prepared", "committed", "again", "aborted" or "refused". `txn` is the transaction
+    that began, or the one to wait for; `values` are those that were read, None for a row that is absent; `why` is the cause of an
+    abort, or the reason of a refusal; `line` is the whole reply in words, as `tebaldi replay` prints it.
+    """
+
+    kind: str
+    txn: int
+    values: Tuple[Optional[int], ...]
+    why: str
+    line: str
+
+
+@dataclass(frozen=True)
+class Event:
+    """An event of the history.
+
+    `happened` is "began", "got", "put", "ready", "done", "gone" or "told". `session` and `type` are those of a transaction that
+    began; `table`, `key` and `value` are what it got or put, None for no value; `origin` is the transaction whose value it got, 0
+    for a starting row; `cause` says why it was aborted.
+    """
+
+    happened: str
+    txn: int
+    session: int = 0
+    type: str = ""
+    instance: int = 0
+    table: str = ""
+    key: int = 0
+    value: Optional[int] = None
+    origin: int = 0
+    cause: str = ""
+
+
+def _check(status: int) -> None:
+    if status == native.OUT_OF_MEMORY:
+        raise MemoryError
+    if status != native.OK:
+        raise ValueError("the store is closed")
+
+
+def _within(name: str, number: int, bits: int) -> int:
+    if not 0 <= number < 1 << bits:
+        raise OverflowError(f"{name} {number} is not within 0 and {(1 << bits) - 1}")
+    return number
+
+
+def _value(value: int) -> int:
+    if not -(1 << 63) <= value < 1 << 63:
+        raise OverflowError(f"value {value} is no number of 64 bits")
+    return value
+
+
+class Store:
+    """A store, opened from a tree text. The blank text is a table `t` and a type `any` under locks.
+
+    A store is closed by close(), at the end of a `with` block, or when it is forgotten.
+
+    Raises BadTree if the text has a fault.
+    """
+
+    def __init__(self, tree: Union[str, bytes] = b""):
+        text = tree.encode() if isinstance(tree, str) else bytes(tree)
+        self._raw = native.RawStore()
+        self._at = byref(self._raw)
+        # One call at a time, and a place to sleep until a call has changed something.
+        self._lock = threading.Lock()
+        self._changed = threading.Condition(self._lock)
+        self._changes = 0
+        self._waiters = 0
+        # The sessions that are free, each with its request and its reply.
+        self._free = [_Session(number) for number in range(32, 0, -1)]
+        self._numbers: List[Dict[str, int]] = [{}, {}, {}]
+        fault, length = (c_uint8 * 256)(), c_size_t()
+        status = LIBRARY.tebaldi_open(self._at, text, len(text), fault, 256, byref(length))
+        if status == native.BAD_TREE:
+            raise BadTree(bytes(fault[: min(length.value, 256)]).decode().rstrip("\n"))
+        _check(status)
+
+    def close(self) -> None:
+        """Closes the store, and frees its memory. A closed store raises ValueError at each call."""
+        with self._changed:
+            LIBRARY.tebaldi_close(self._at)
+            self._changes += 1
+            self._changed.notify_all()
+
+    def __enter__(self) -> Store:
+        return self
+
+    def __exit__(self, *_: Any) -> None:
+        self.close()
+
+    def __del__(self) -> None:
+        if hasattr(self, "_changed"):
+            self.close()
+
+    def transaction(self, type: str, instance: int = 0, *, timeout: float = 10.0) -> Transaction:
+        """Returns a transaction for a `with` block, which begins it, and commits it at its end.
+
+        A request that has to wait sleeps, for `timeout` seconds at most: then it raises Again. `instance` says in which leaf of the
+        type the transaction runs. Raises NoSuchName if there is no such type.
+        """
+        return Transaction(self, self._number(native.TYPES, type), _within("instance", instance, 32), timeout)
+
+    def run(self, type: str, body: Callable[[Transaction], T], *, instance: int = 0, attempts: int = 100, timeout: float = 10.0) -> T:
+        """Runs body(transaction) as a transaction, commits it, and returns what the body returns.
+
+        After an abort the body is called anew, in a new transaction, with at most `attempts` calls: then Aborted is raised.
+        """
+        for left in range(attempts - 1, -1, -1):
+            transaction = self.transaction(type, instance, timeout=timeout)
+            try:
+                with transaction:
+                    return body(transaction)
+            except Aborted:
+                if left == 0 or not transaction.was_aborted:
+                    raise
+        raise ValueError("attempts is at least 1")
+
+    def ask(self, session: int, verb: str, *, type: int = 0, instance: int = 0, table: int = 0, key: int = 0, value: int = 0,
+            count: int = 0) -> Reply:
+        """Answers one request of a session, 1 to 32, with the tables and types by number, and without waiting.
+
+        `verb` is "begin", "read", "write", "add", "delete", "scan", "prepare", "commit", "abort" or "end".
+        """
+        asked = native.RawRequest(native.VERBS.index(verb), _within("type", type, 8), _within("table", table, 8),
+                                  _within("count", count, 8), _within("instance", instance, 32), _within("key", key, 32), _value(value))
+        told = native.RawReply()
+        with self._changed:
+            _check(_ask(self._at, _within("session", session, 8), byref(asked), byref(told)))
+            if told.kind != native.AGAIN and told.kind != native.REFUSED:
+                self._changes += 1
+                self._changed.notify_all()
+            return self._reply(session, told)
+
+    def number(self, list: str, name: str) -> int:
+        """Returns the number of a name; `list` is "table", "type" or "node". Raises NoSuchName if it is not there."""
+        return self._number(_WHAT.index(list), name)
+
+    def name(self, list: str, number: int) -> str:
+        """Returns the name of a number; `list` is "table", "type" or "node". Raises NoSuchName if it is not there."""
+        with self._lock:
+            return self._name(_WHAT.index(list), _within(list, number, 8))
+
+    def order(self) -> List[int]:
+        """Returns the committed transactions, in the serial order."""
+        return self._filled(LIBRARY.tebaldi_order, c_uint32)
+
+    def rows(self) -> List[Tuple[str, int, int]]:
+        """Returns the committed rows, each with its table, its key and its value, in ascending order of tables and keys."""
+        rows = self._filled(LIBRARY.tebaldi_rows, native.RawRow)
+        tables = {number: self.name("table", number) for number in {row.table for row in rows}}
+        return [(tables[row.table], row.key, row.value) for row in rows]
+
+    def events(self) -> Iterator[Event]:
+        """Goes over the history, the oldest event first. Events that happen meanwhile are part of it."""
+        place, raw = 0, native.RawEvent()
+        while True:
+            with self._lock:
+                status = LIBRARY.tebaldi_event(self._at, place, byref(raw))
+                if status == native.NO_SUCH:
+                    return
+                _check(status)
+                event = self._event(raw)
+            yield event
+            place += 1
+
+    def _event(self, raw: native.RawEvent) -> Event:
+        happened = native.HAPPENED[raw.happened]
+        if happened == "began":
+            return Event(happened, raw.txn, session=raw.session, type=self._name(native.TYPES, raw.type), instance=raw.instance)
+        if happened in ("got", "put"):
+            value = raw.value if raw.present else None
+            return Event(happened, raw.txn, table=self._name(native.TABLES, raw.table), key=raw.key, value=value, origin=raw.origin)
+        return Event(happened, raw.txn, cause=native.CAUSES[raw.cause.why])
+
+    def _number(self, which: int, name: str) -> int:
+        known = self._numbers[which]
+        if name not in known:
+            text, found = name.encode(), c_uint8()
+            with self._lock:
+                status = LIBRARY.tebaldi_number(self._at, which, text, len(text), byref(found))
+            if status == native.NO_SUCH:
+                raise NoSuchName(f"{_WHAT[which]} {name}")
+            _check(status)
+            known[name] = found.value
+        return known[name]
+
+    def _name(self, which: int, number: int) -> str:
+        out, length = (c_uint8 * 32)(), c_size_t()
+        status = LIBRARY.tebaldi_name(self._at, which, number, out, 32, byref(length))
+        if status == native.NO_SUCH:
+            raise NoSuchName(f"{_WHAT[which]} {number}")
+        _check(status)
+        return bytes(out[: length.value]).decode()
+
+    def _reply(self, session: int, told: native.RawReply) -> Reply:
+        kind, why = native.KINDS[told.kind], ""
+        if told.kind == native.ABORTED:
+            why = native.CAUSES[told.cause.why]
+        elif told.kind == native.REFUSED:
+            why = native.REFUSALS[told.refusal]
+        values = tuple(told.values[i] if told.present[i] else None for i in range(told.len))
+        return Reply(kind, told.txn, values, why, self._line(session, told))
+
+    def _line(self, session: int, told: native.RawReply) -> str:
+        out, length = (c_uint8 * 512)(), c_size_t()
+        _check(LIBRARY.tebaldi_line(self._at, session, byref(told), out, 512, byref(length)))
+        return bytes(out[: length.value]).decode().rstrip("\n")
+
+    def _filled(self, call: Callable[..., int], form: Type[Any]) -> List[Any]:
+        length = c_size_t()
+        with self._lock:
+            _check(call(self._at, (form * 1)(), 0, byref(length)))
+            out = (form * max(length.value, 1))()
+            _check(call(self._at, out, length.value, byref(length)))
+        return out[: length.value]
+
+
+class _Session:
+    """A session's number, and the request and the reply of its calls."""
+
+    __slots__ = ("number", "request", "reply", "request_at", "reply_at")
+
+    def __init__(self, number: int):
+        self.number = number
+        self.request, self.reply = native.RawRequest(), native.RawReply()
+        self.request_at, self.reply_at = byref(self.request), byref(self.reply)
+
+
+class Transaction:
+    """A transaction of a `with` block. Tables are named as in the tree; a value is None if there is no row.
+
+    Each request raises Aborted if the transaction was aborted, Refused if it cannot be answered, and Again if it has waited as long
+    as it may. At the first two the transaction is over. At the last nothing has changed.
+
+    `number` is the transaction's number, and `was_aborted` says whether the store has aborted it.
+    """
+
+    __slots__ = ("_store", "_type", "_instance", "_timeout", "_session", "number", "was_aborted")
+
+    def __init__(self, store: Store, type: int, instance: int, timeout: float):
+        self._store, self._type, self._instance, self._timeout = store, type, instance, timeout
+        self._session: Optional[_Session] = None
+        self.number = 0
+        self.was_aborted = False
+
+    def __enter__(self) -> Transaction:
+        store = self._store
+        with store._changed:
+            if not store._free and not store._changed.wait_for(lambda: store._free, self._timeout):
+                raise Again(0, "every session")
+            self._session = store._free.pop()
+        request = self._session.request
+        request.type, request.instance = self._type, self._instance
+        try:
+            self.number = self._call(_BEGIN).txn
+        except BaseException:
+            self._end(False)
+            raise
+        return self
+
+    def __exit__(self, type: Optional[Type[BaseException]], error: Optional[BaseException], trace: Optional[TracebackType]) -> None:
+        if self._session is None:
+            return
+        committed = False
+        try:
+            if type is None:
+                self._call(_COMMIT)
+                committed = True
+        finally:
+            self._end(not committed)
+
+    def read(self, table: str, key: int) -> Optional[int]:
+        """Returns the value of a row."""
+        told = self._at(_READ, table, key)
+        return told.values[0] if told.present[0] else None
+
+    def write(self, table: str, key: int, value: int) -> None:
+        """Writes a value to a row, which need not exist."""
+        self._at(_WRITE, table, key, value)
+
+    def add(self, table: str, key: int, by: int) -> None:
+        """Adds to the value that the transaction last wrote or read there. An absent row counts as 0."""
+        self._at(_ADD, table, key, by)
+
+    def delete(self, table: str, key: int) -> None:
+        """Deletes a row, which need not exist."""
+        self._at(_DELETE, table, key)
+
+    def scan(self, table: str, key: int, count: int) -> List[Optional[int]]:
+        """Returns the values of `count` rows, 1 to 16, with consecutive keys from `key` on."""
+        self._open().request.count = _within("count", count, 8)
+        told = self._at(_SCAN, table, key)
+        return [told.values[i] if told.present[i] else None for i in range(told.len)]
+
+    def prepare(self) -> None:
+        """Makes sure that the transaction can commit. It can then read and write no more."""
+        self._call(_PREPARE)
+
+    def abort(self) -> None:
+        """Aborts the transaction. The `with` block then has nothing to commit."""
+        self._open()
+        self._end(True)
+
+    def _open(self) -> _Session:
+        if self._session is None:
+            raise TransactionOver("the transaction is over")
+        return self._session
+
+    def _at(self, verb: int, table: str, key: int, value: int = 0) -> native.RawReply:
+        session = self._session or self._open()
+        number = self._store._numbers[0].get(table)
+        request = session.request
+        request.table = self._store._number(native.TABLES, table) if number is None else number
+        request.key = key if 0 <= key <= 0xFFFFFFFF else _within("key", key, 32)
+        request.value = value if -0x8000000000000000 <= value <= 0x7FFFFFFFFFFFFFFF else _value(value)
+        return self._call(verb)
+
+    def _call(self, verb: int) -> native.RawReply:
+        """Asks, sleeps as long as the answer is to ask again, and returns the reply."""
+        session = self._session or self._open()
+        store, told = self._store, session.reply
+        session.request.verb = verb
+        with store._lock:
+            status = _ask(store._at, session.number, session.request_at, session.reply_at)
+            kind = told.kind
+            if status or kind >= native.AGAIN:
+                return self._other(session, status)
+            store._changes += 1
+            if store._waiters:
+                store._changed.notify_all()
+        return told
+
+    def _other(self, session: _Session, status: int) -> native.RawReply:
+        """What a reply comes to that is no success. The lock is held."""
+        store, told = self._store, session.reply
+        until = time.monotonic() + self._timeout
+        while not status and told.kind == native.AGAIN:
+            if not self._sleep(until):
+                raise Again(told.txn, store._name(native.NODES, told.node))
+            status = _ask(store._at, session.number, session.request_at, session.reply_at)
+        _check(status)
+        if told.kind == native.REFUSED:
+            why = native.REFUSALS[told.refusal]
+            self._end_locked(session, session.request.verb != _BEGIN)
+            raise Refused(why)
+        store._changes += 1
+        store._changed.notify_all()
+        if told.kind == native.ABORTED:
+            cause, line = native.CAUSES[told.cause.why], store._line(session.number, told)
+            self.was_aborted = True
+            self._end_locked(session, False)
+            raise Aborted(cause, line)
+        return told
+
+    def _sleep(self, until: float) -> bool:
+        """Sleeps until another call has changed something, and returns False once it is too late."""
+        store = self._store
+        seen = store._changes
+        store._waiters += 1
+        try:
+            return store._changed.wait_for(lambda: store._changes != seen, until - time.monotonic())
+        finally:
+            store._waiters -= 1
+
+    def _end(self, aborts: bool) -> None:
+        with self._store._lock:
+            if self._session is not None:
+                self._end_locked(self._session, aborts)
+
+    def _end_locked(self, session: _Session, aborts: bool) -> None:
+        """Gives the session back, behind an abort if the transaction is not over. The lock is held."""
+        store = self._store
+        if aborts:
+            session.request.verb = _ABORT
+            _ask(store._at, session.number, session.request_at, session.reply_at)
+            store._changes += 1
+        self._session = None
+        store._free.append(session)
+        store._changed.notify_all()
+
+
+def audit(text: Union[str, bytes]) -> None:
+    """Checks a printed run, as `tebaldi audit` does. Raises BadRun at the first line that is wrong."""
+    run = text.encode() if isinstance(text, str) else bytes(text)
+    line, why = c_uint32(), c_uint8()
+    status = LIBRARY.tebaldi_audit(run, len(run), byref(line), byref(why))
+    if status == native.BAD_RUN:
+        raise BadRun(line.value, native.RUN_FAULTS[why.value])
+    if status == native.TOO_LONG:
+        raise ValueError("the text is too long")
+    _check(status)
+
+
+def version() -> Tuple[int, int, int]:
+    """Returns the version of the library: major, minor and patch."""
+    version = native.RawVersion()
+    LIBRARY.tebaldi_version(byref(version))
+    return version.major, version.minor, version.patch

@@ -1,0 +1,154 @@
+"""What stores, transactions and exceptions do."""
+
+import ctypes
+import pydoc
+import threading
+import time
+import unittest
+
+import tebaldi
+from tebaldi import _native, Aborted, Again, BadRun, BadTree, NoSuchName, Refused, Store, TransactionOver
+
+ACCOUNTS = """
+format = 1
+tables = ["account"]
+[[type]]
+name = "transfer"
+[[node]]
+name = "root"
+control = "locks"
+types = ["transfer"]
+[[row]]
+table = "account"
+key = 1
+value = 100
+"""
+
+
+class StoreTest(unittest.TestCase):
+    def setUp(self) -> None:
+        self.store = Store(ACCOUNTS)
+        self.addCleanup(self.store.close)
+
+    def test_commits_at_the_end_of_the_block(self) -> None:
+        with self.store.transaction("transfer") as t:
+            self.assertEqual(t.read("account", 1), 100)
+            t.write("account", 1, 70)
+            t.write("account", 2, 30)
+        self.assertEqual(self.store.rows(), [("account", 1, 70), ("account", 2, 30)])
+        self.assertEqual(self.store.order(), [1])
+
+    def test_aborts_at_an_exception(self) -> None:
+        with self.assertRaises(KeyError), self.store.transaction("transfer") as t:
+            t.write("account", 1, 0)
+            raise KeyError
+        self.assertEqual(self.store.rows(), [("account", 1, 100)])
+        self.assertEqual([e.happened for e in self.store.events()], ["began", "put", "gone"])
+
+    def test_aborts_by_hand(self) -> None:
+        with self.store.transaction("transfer") as t:
+            t.write("account", 1, 0)
+            t.abort()
+            with self.assertRaises(TransactionOver):
+                t.read("account", 1)
+        self.assertEqual(self.store.order(), [])
+
+    def test_scans_adds_and_deletes(self) -> None:
+        with self.store.transaction("transfer") as t:
+            t.write("account", 2, 3)
+            t.add("account", 2, 4)
+            t.delete("account", 1)
+            self.assertEqual(t.scan("account", 0, 4), [None, None, 7, None])
+            t.prepare()
+        self.assertEqual(self.store.rows(), [("account", 2, 7)])
+
+    def test_a_refused_request_aborts_its_transaction(self) -> None:
+        with self.assertRaises(Refused) as caught, self.store.transaction("transfer") as t:
+            t.add("account", 9, 1)
+        self.assertEqual(caught.exception.why, "not-read")
+        self.assertEqual([e.cause for e in self.store.events() if e.happened == "gone"], ["asked"])
+
+    def test_waits_until_the_other_commits(self) -> None:
+        done = []
+
+        def newer() -> None:
+            with self.store.transaction("transfer") as t:
+                t.write("account", 1, 5)
+            done.append(True)
+
+        with self.store.transaction("transfer") as t:
+            t.read("account", 1)
+            thread = threading.Thread(target=newer)
+            thread.start()
+            time.sleep(0.05)
+            self.assertEqual(done, [])
+        thread.join()
+        self.assertEqual(self.store.rows(), [("account", 1, 5)])
+
+    def test_a_wait_ends_at_its_timeout(self) -> None:
+        with self.store.transaction("transfer") as older:
+            older.read("account", 1)
+            with self.assertRaises(Again) as caught, self.store.transaction("transfer", timeout=0.02) as newer:
+                newer.write("account", 1, 5)
+            self.assertEqual((caught.exception.txn, caught.exception.node), (older.number, "root"))
+
+    def test_a_run_starts_over_after_an_abort(self) -> None:
+        starts = []
+
+        def body(t: tebaldi.Transaction) -> int:
+            starts.append(t.number)
+            if len(starts) < 3:
+                with self.store.transaction("transfer") as newer:
+                    newer.write("account", 1, 9)
+                    t.write("account", 1, 5)
+            t.write("account", 1, 6)
+            return 4
+
+        self.assertEqual(self.store.run("transfer", body), 4)
+        self.assertEqual(len(starts), 3)
+        starts.clear()
+        with self.assertRaises(Aborted) as caught:
+            self.store.run("transfer", body, attempts=2)
+        self.assertEqual(caught.exception.cause, "newer")
+        self.assertIn("aborted newer root", str(caught.exception))
+
+    def test_names_and_numbers(self) -> None:
+        self.assertEqual(self.store.number("type", "transfer"), 0)
+        self.assertEqual(self.store.name("node", 0), "root")
+        with self.assertRaises(NoSuchName):
+            self.store.transaction("audit")
+        with self.assertRaises(NoSuchName):
+            self.store.name("table", 1)
+        with self.store.transaction("transfer") as t, self.assertRaises(OverflowError):
+            t.read("account", 1 << 32)
+
+    def test_bad_trees_and_closed_stores(self) -> None:
+        with self.assertRaises(BadTree) as caught:
+            Store("format = 9")
+        self.assertTrue(str(caught.exception).startswith("bad tree: "))
+        closed = Store()
+        closed.close()
+        with self.assertRaises(ValueError):
+            closed.rows()
+
+    def test_audits(self) -> None:
+        tebaldi.audit("order\nend\n")
+        with self.assertRaises(BadRun) as caught:
+            tebaldi.audit("order t1\nend\n")
+        self.assertEqual((caught.exception.line, caught.exception.why), (1, "order"))
+        self.assertEqual(tebaldi.version()[0], 1)
+
+    def test_structs_have_their_sizes(self) -> None:
+        forms = [_native.RawStore, _native.RawRequest, _native.RawCause, _native.RawReply, _native.RawEvent, _native.RawRow]
+        self.assertEqual([ctypes.sizeof(form) for form in forms], [16, 24, 24, 184, 56, 16])
+
+    def test_help_reads_well(self) -> None:
+        text = pydoc.plain(pydoc.render_doc(tebaldi))
+        for words in ["transaction(self, type: 'str'", "Aborted", "with store.transaction"]:
+            self.assertIn(words, text)
+        for name in tebaldi.__all__:
+            self.assertTrue(getattr(tebaldi, name).__doc__, name)
+
+
+if __name__ == "__main__":
+    unittest.main()

@@ -1,0 +1,74 @@
+//! Why a call failed.
+
+use crate::words::{Cause, Node, Refusal, TxnNumber};
+use std::fmt;
+
+/// Why a call failed.
+#[derive(Clone, Debug, PartialEq, Eq)]
+#[non_exhaustive]
+pub enum Error {
+    /// The tree text has a fault: its line.
+    BadTree(String),
+    /// The tree has no table, type or node of this name.
+    NoSuchName(String),
+    /// All 32 sessions of the store are taken.
+    NoSession,
+    /// The session is one of another store.
+    OtherStore,
+    /// The request has to wait for the transaction `who` at `node`, and nothing has changed: call again.
+    Again {
+        who: TxnNumber,
+        node: Node,
+    },
+    /// The transaction was aborted, and is over.
+    Aborted(Cause),
+    /// The request cannot be answered. Its transaction was aborted, and is over.
+    Refused(Refusal),
+    /// The transaction is over.
+    Over,
+    /// The printed run is wrong at this line, counted from 1.
+    BadRun {
+        line: u32,
+        why: RunFault,
+    },
+    /// The text has 2^32 - 1 bytes or more.
+    TooLong,
+    OutOfMemory,
+}
+
+/// What a line of a printed run breaks.
+#[derive(Clone, Copy, Debug, PartialEq, Eq)]
+pub enum RunFault {
+    Form,
+    Txn,
+    Order,
+    After,
+    Read,
+    Row,
+}
+
+impl fmt::Display for Error {
+    fn fmt(&self, f: &mut fmt::Formatter<'_>) -> fmt::Result {
+        match self {
+            Error::BadTree(line) => f.write_str(line),
+            Error::NoSuchName(name) => write!(f, "the tree has no {name}"),
+            Error::NoSession => f.write_str("all 32 sessions are taken"),
+            Error::OtherStore => f.write_str("the session is one of another store"),
+            Error::Again { who, node } => {
+                write!(
+                    f,
+                    "has to wait for transaction {} at node {}",
+                    who.0, node.0
+                )
+            }
+            Error::Aborted(cause) => write!(f, "aborted: {cause:?}"),
+            Error::Refused(why) => write!(f, "refused: {why:?}"),
+            Error::Over => f.write_str("the transaction is over"),
+            Error::BadRun { line, why } => write!(f, "line {line} is wrong: {why:?}"),
+            Error::TooLong => f.write_str("the text is too long"),
+            Error::OutOfMemory => f.write_str("out of memory"),
+        }
+    }
+}
+
+impl std::error::Error for Error {}

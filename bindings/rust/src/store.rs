@@ -1,0 +1,401 @@
+//! A store that threads share.
+
+use crate::error::{Error, RunFault};
+use crate::ffi::{self, RawEvent, RawReply, RawRow, RawStore, NO_SUCH, OK};
+use crate::session::{Session, Txn};
+use crate::words::{cell, Cell, Event, Kind, Node, Reply, Request, Table, TxnNumber};
+use std::sync::{Arc, Condvar, Mutex, MutexGuard, PoisonError};
+use std::time::Instant;
+
+/// A store. Clones share it, also between threads: a lock admits one call at a time.
+///
+/// ```
+/// let store = tebaldi::Store::open("")?; // the blank tree: a table `t` and a type `any`
+/// let (t, any) = (store.table("t")?, store.kind("any")?);
+/// let mut session = store.session()?;
+/// store.run(&mut session, any, |txn| {
+///     let old = txn.read(t, 7)?.unwrap_or(0);
+///     txn.write(t, 7, old + 4)
+/// })?;
+/// assert_eq!(store.rows()?, [(tebaldi::Cell { table: t, key: 7 }, 4)]);
+/// # Ok::<(), tebaldi::Error>(())
+/// ```
+#[derive(Clone)]
+pub struct Store {
+    pub(crate) shared: Arc<Shared>,
+}
+
+pub(crate) struct Shared {
+    state: Mutex<State>,
+    /// Notified when `State::changes` grows.
+    changed: Condvar,
+}
+
+struct State {
+    raw: RawStore,
+    taken: [bool; 32],
+    /// The number of calls so far that may let another session go on.
+    changes: u64,
+    waiters: u32,
+}
+
+impl Drop for State {
+    fn drop(&mut self) {
+        // SAFETY: the store is not used after this call.
+        unsafe { ffi::tebaldi_close(&mut self.raw) }
+    }
+}
+
+impl Store {
+    /// Opens the store of a tree text.
+    ///
+    /// # Errors
+    /// [`Error::BadTree`], [`Error::OutOfMemory`].
+    ///
+    /// ```
+    /// let fault = tebaldi::Store::open("format = 9").err();
+    /// assert!(matches!(fault, Some(tebaldi::Error::BadTree(line)) if line.starts_with("bad tree: ")));
+    /// ```
+    pub fn open(tree: impl AsRef<[u8]>) -> Result<Store, Error> {
+        let tree = tree.as_ref();
+        let mut state = State {
+            raw: RawStore::closed(),
+            taken: [false; 32],
+            changes: 0,
+            waiters: 0,
+        };
+        let mut fault = [0; 256];
+        let mut len = 0;
+        // SAFETY: the store is closed, and each pointer is beside its length.
+        let status = unsafe {
+            ffi::tebaldi_open(
+                &mut state.raw,
+                tree.as_ptr(),
+                tree.len(),
+                fault.as_mut_ptr(),
+                fault.len(),
+                &mut len,
+            )
+        };
+        match status {
+            OK => Ok(Store {
+                shared: Arc::new(Shared {
+                    state: Mutex::new(state),
+                    changed: Condvar::new(),
+                }),
+            }),
+            ffi::BAD_TREE => Err(Error::BadTree(text(&fault, len).trim_end().to_string())),
+            _ => Err(Error::OutOfMemory),
+        }
+    }
+
+    /// The table of a name.
+    ///
+    /// # Errors
+    /// [`Error::NoSuchName`].
+    pub fn table(&self, name: &str) -> Result<Table, Error> {
+        self.number(ffi::TABLES, "table", name).map(Table)
+    }
+
+    /// The type of transactions of a name.
+    ///
+    /// # Errors
+    /// [`Error::NoSuchName`].
+    pub fn kind(&self, name: &str) -> Result<Kind, Error> {
+        self.number(ffi::TYPES, "type", name).map(Kind)
+    }
+
+    /// The node of a name.
+    ///
+    /// # Errors
+    /// [`Error::NoSuchName`].
+    pub fn node(&self, name: &str) -> Result<Node, Error> {
+        self.number(ffi::NODES, "node", name).map(Node)
+    }
+
+    /// The name of a table, or `None` if there is no such table.
+    pub fn table_name(&self, table: Table) -> Option<String> {
+        self.name(ffi::TABLES, table.0)
+    }
+
+    /// The name of a type, or `None` if there is no such type.
+    pub fn kind_name(&self, kind: Kind) -> Option<String> {
+        self.name(ffi::TYPES, kind.0)
+    }
+
+    /// The name of a node, or `None` if there is no such node.
+    pub fn node_name(&self, node: Node) -> Option<String> {
+        self.name(ffi::NODES, node.0)
+    }
+
+    /// Takes a free session. It is given back when it is dropped.
+    ///
+    /// # Errors
+    /// [`Error::NoSession`] if all 32 are taken.
+    pub fn session(&self) -> Result<Session, Error> {
+        let mut state = self.shared.lock();
+        let free = state
+            .taken
+            .iter()
+            .position(|taken| !taken)
+            .ok_or(Error::NoSession)?;
+        state.taken[free] = true;
+        Ok(Session::new(self.clone(), free as u8 + 1))
+    }
+
+    /// Runs a transaction and commits it. See [`Session::run`].
+    ///
+    /// # Errors
+    /// [`Error::OtherStore`] if the session is one of another store; else those of [`Session::run`].
+    pub fn run<T, E: From<Error>>(
+        &self,
+        session: &mut Session,
+        kind: Kind,
+        body: impl FnMut(&mut Txn<'_>) -> Result<T, E>,
+    ) -> Result<T, E> {
+        if !Arc::ptr_eq(&self.shared, &session.store().shared) {
+            return Err(Error::OtherStore.into());
+        }
+        session.run(kind, body)
+    }
+
+    /// Asks for a session by its number, whether or not it is taken, and returns the reply as it is.
+    ///
+    /// # Errors
+    /// [`Error::OutOfMemory`].
+    pub fn ask(&self, session: u8, request: Request) -> Result<Reply, Error> {
+        self.shared.ask(session, request)
+    }
+
+    /// The line of a reply to a session, as `tebaldi replay` prints it, with its line feed. `None` if the reply has a node or a
+    /// table that the store does not have, or more than sixteen values.
+    ///
+    /// # Errors
+    /// [`Error::OutOfMemory`].
+    pub fn line(&self, session: u8, reply: &Reply) -> Result<Option<String>, Error> {
+        let raw = match reply.raw() {
+            Some(raw) => raw,
+            None => return Ok(None),
+        };
+        let mut out = [0; 512];
+        let mut len = 0;
+        let mut state = self.shared.lock();
+        // SAFETY: one call at a time, by the lock; each pointer is beside its length.
+        let status = unsafe {
+            ffi::tebaldi_line(
+                &mut state.raw,
+                session,
+                &raw,
+                out.as_mut_ptr(),
+                out.len(),
+                &mut len,
+            )
+        };
+        match status {
+            OK => Ok(Some(text(&out, len))),
+            NO_SUCH => Ok(None),
+            _ => Err(Error::OutOfMemory),
+        }
+    }
+
+    /// The committed transactions, in the serial order.
+    ///
+    /// # Errors
+    /// [`Error::OutOfMemory`].
+    pub fn order(&self) -> Result<Vec<TxnNumber>, Error> {
+        let mut state = self.shared.lock();
+        // SAFETY: one call at a time, by the lock; the room is that of the vector.
+        let numbers = filled(|out: *mut u32, room, len| unsafe {
+            ffi::tebaldi_order(&mut state.raw, out, room, len)
+        })?;
+        Ok(numbers.into_iter().map(TxnNumber).collect())
+    }
+
+    /// The committed rows, in ascending order of table and key.
+    ///
+    /// # Errors
+    /// [`Error::OutOfMemory`].
+    pub fn rows(&self) -> Result<Vec<(Cell, i64)>, Error> {
+        let mut state = self.shared.lock();
+        // SAFETY: as in `order`.
+        let rows = filled(|out: *mut RawRow, room, len| unsafe {
+            ffi::tebaldi_rows(&mut state.raw, out, room, len)
+        })?;
+        Ok(rows
+            .iter()
+            .map(|row| (cell(row.table, row.key), row.value))
+            .collect())
+    }
+
+    /// The event at a place of the history, or `None` past the last one. Place 0 is the oldest.
+    pub fn event(&self, place: usize) -> Option<Event> {
+        let mut raw = RawEvent::default();
+        let mut state = self.shared.lock();
+        // SAFETY: one call at a time, by the lock.
+        let status = unsafe { ffi::tebaldi_event(&mut state.raw, place, &mut raw) };
+        (status == OK).then(|| Event::of(&raw))
+    }
+
+    /// The history, the oldest event first. Events that happen while it is read are part of it.
+    pub fn events(&self) -> impl Iterator<Item = Event> + '_ {
+        (0..).map_while(|place| self.event(place))
+    }
+
+    fn number(&self, list: u8, what: &str, name: &str) -> Result<u8, Error> {
+        let mut number = 0;
+        let mut state = self.shared.lock();
+        // SAFETY: one call at a time, by the lock; the pointer is beside its length.
+        let status = unsafe {
+            ffi::tebaldi_number(&mut state.raw, list, name.as_ptr(), name.len(), &mut number)
+        };
+        match status {
+            OK => Ok(number),
+            _ => Err(Error::NoSuchName(format!("{what} {name}"))),
+        }
+    }
+
+    fn name(&self, list: u8, number: u8) -> Option<String> {
+        let mut out = [0; 32];
+        let mut len = 0;
+        let mut state = self.shared.lock();
+        // SAFETY: as in `number`.
+        let status = unsafe {
+            ffi::tebaldi_name(
+                &mut state.raw,
+                list,
+                number,
+                out.as_mut_ptr(),
+                out.len(),
+                &mut len,
+            )
+        };
+        (status == OK).then(|| text(&out, len))
+    }
+}
+
+impl Shared {
+    fn lock(&self) -> MutexGuard<'_, State> {
+        self.state.lock().unwrap_or_else(PoisonError::into_inner)
+    }
+
+    pub(crate) fn ask(&self, session: u8, request: Request) -> Result<Reply, Error> {
+        self.ask_locked(&mut self.lock(), session, request)
+    }
+
+    /// Asks, and sleeps as long as the reply is to ask again and `until` has not come. A reply can only become another once a
+    /// session has changed something, so nothing is asked in between.
+    pub(crate) fn ask_until(
+        &self,
+        session: u8,
+        request: Request,
+        until: Instant,
+    ) -> Result<Reply, Error> {
+        let mut state = self.lock();
+        loop {
+            let reply = self.ask_locked(&mut state, session, request)?;
+            if !matches!(reply, Reply::Again { .. }) {
+                return Ok(reply);
+            }
+            let seen = state.changes;
+            state.waiters += 1;
+            while state.changes == seen {
+                let left = until.saturating_duration_since(Instant::now());
+                if left.is_zero() {
+                    state.waiters -= 1;
+                    return Ok(reply);
+                }
+                let woken = self.changed.wait_timeout(state, left);
+                state = woken.unwrap_or_else(PoisonError::into_inner).0;
+            }
+            state.waiters -= 1;
+        }
+    }
+
+    fn ask_locked(&self, state: &mut State, session: u8, request: Request) -> Result<Reply, Error> {
+        let asked = request.raw();
+        let mut told = RawReply::default();
+        // SAFETY: one call at a time, by the lock.
+        let status = unsafe { ffi::tebaldi_ask(&mut state.raw, session, &asked, &mut told) };
+        if status != OK {
+            return Err(Error::OutOfMemory);
+        }
+        let reply = Reply::of(&told);
+        if !matches!(reply, Reply::Again { .. } | Reply::Refused(_)) {
+            state.changes += 1;
+            if state.waiters > 0 {
+                self.changed.notify_all();
+            }
+        }
+        Ok(reply)
+    }
+
+    pub(crate) fn give_back(&self, session: u8) {
+        self.lock().taken[usize::from(session) - 1] = false;
+    }
+}
+
+/// Checks a printed run, as `tebaldi audit` does.
+///
+/// # Errors
+/// [`Error::BadRun`] names the first wrong line; [`Error::TooLong`], [`Error::OutOfMemory`].
+///
+/// ```
+/// use tebaldi::{Error, RunFault, audit};
+/// assert_eq!(audit("order\nend\n"), Ok(()));
+/// assert_eq!(audit("order t1\nend\n"), Err(Error::BadRun { line: 1, why: RunFault::Order }));
+/// ```
+pub fn audit(text: impl AsRef<[u8]>) -> Result<(), Error> {
+    const WHYS: [RunFault; 6] = [
+        RunFault::Form,
+        RunFault::Txn,
+        RunFault::Order,
+        RunFault::After,
+        RunFault::Read,
+        RunFault::Row,
+    ];
+    let text = text.as_ref();
+    let (mut line, mut why) = (0, 0);
+    // SAFETY: the pointer is beside its length.
+    match unsafe { ffi::tebaldi_audit(text.as_ptr(), text.len(), &mut line, &mut why) } {
+        OK => Ok(()),
+        ffi::BAD_RUN => Err(Error::BadRun {
+            line,
+            why: WHYS[usize::from(why) - 1],
+        }),
+        ffi::OUT_OF_MEMORY => Err(Error::OutOfMemory),
+        _ => Err(Error::TooLong),
+    }
+}
+
+/// The version of the library: major, minor and patch.
+///
+/// ```
+/// assert_eq!(tebaldi::version().0, 1);
+/// ```
+pub fn version() -> (u32, u32, u32) {
+    let mut version = ffi::RawVersion::default();
+    // SAFETY: the pointer is to a version.
+    unsafe { ffi::tebaldi_version(&mut version) };
+    (version.major, version.minor, version.patch)
+}
+
+fn text(bytes: &[u8], len: usize) -> String {
+    String::from_utf8_lossy(&bytes[..len.min(bytes.len())]).into_owned()
+}
+
+/// Asks how long a list is, and then for all of it.
+fn filled<T: Default + Clone>(
+    mut call: impl FnMut(*mut T, usize, *mut usize) -> u32,
+) -> Result<Vec<T>, Error> {
+    let mut list: Vec<T> = Vec::new();
+    let mut len = 0;
+    loop {
+        if call(list.as_mut_ptr(), list.len(), &mut len) != OK {
+            return Err(Error::OutOfMemory);
+        }
+        if len == list.len() {
+            return Ok(list);
+        }
+        list.resize(len, T::default());
+    }
+}

@@ -1,0 +1,166 @@
+//! What transactions, sessions and errors do.
+
+use std::thread;
+use std::time::{Duration, Instant};
+use tebaldi::{Cause, Cell, Error, Event, Limits, Refusal, Reply, Request, Store};
+
+fn blank() -> (Store, tebaldi::Table, tebaldi::Kind) {
+    let store = Store::open("").unwrap();
+    let (table, kind) = (store.table("t").unwrap(), store.kind("any").unwrap());
+    (store, table, kind)
+}
+
+#[test]
+fn a_dropped_transaction_is_aborted() {
+    let (store, t, any) = blank();
+    let mut session = store.session().unwrap();
+    session.begin(any).unwrap().write(t, 1, 5).unwrap();
+    assert_eq!(store.rows().unwrap(), []);
+    let events: Vec<Event> = store.events().collect();
+    assert!(matches!(
+        events[2],
+        Event::Gone {
+            cause: Cause::Asked,
+            ..
+        }
+    ));
+    assert_eq!(store.event(events.len()), None);
+}
+
+#[test]
+fn a_refused_request_aborts_its_transaction() {
+    let (store, t, any) = blank();
+    let mut session = store.session().unwrap();
+    let mut txn = session.begin(any).unwrap();
+    txn.write(t, 1, 5).unwrap();
+    assert_eq!(txn.add(t, 2, 1), Err(Error::Refused(Refusal::NotRead)));
+    assert_eq!(txn.read(t, 1), Err(Error::Over));
+    drop(txn);
+    let sum = store.run(&mut session, any, |txn| txn.read(t, 1));
+    assert_eq!(sum, Ok(None));
+}
+
+#[test]
+fn a_session_that_waits_goes_on_when_the_other_commits() {
+    let (store, t, any) = blank();
+    let (mut first, mut second) = (store.session().unwrap(), store.session().unwrap());
+    let mut older = first.begin(any).unwrap();
+    older.read(t, 7).unwrap();
+    let newer = thread::spawn(move || second.run(any, |txn| txn.write(t, 7, 4)));
+    thread::sleep(Duration::from_millis(50));
+    older.commit().unwrap();
+    assert_eq!(newer.join().unwrap(), Ok(()));
+    assert_eq!(store.rows().unwrap(), [(Cell { table: t, key: 7 }, 4)]);
+}
+
+#[test]
+fn a_wait_ends_at_its_limit() {
+    let (store, t, any) = blank();
+    let (mut first, mut second) = (store.session().unwrap(), store.session().unwrap());
+    let mut older = first.begin(any).unwrap();
+    older.read(t, 7).unwrap();
+    second.set_limits(Limits {
+        attempts: 1,
+        wait: Duration::from_millis(30),
+    });
+    let start = Instant::now();
+    let waited = second.run(any, |txn| txn.write(t, 7, 4));
+    assert!(matches!(waited, Err(Error::Again { who, .. }) if who == older.number()));
+    assert!(start.elapsed() >= Duration::from_millis(30));
+}
+
+#[test]
+fn a_run_starts_over_after_an_abort_and_within_its_limit() {
+    let (store, t, any) = blank();
+    let (mut first, mut second) = (store.session().unwrap(), store.session().unwrap());
+    let mut newer = None;
+    let mut starts = 0;
+    // The first start waits for a newer transaction, and is aborted; the second goes on.
+    let done: Result<(), Error> = first.run(any, |txn| {
+        starts += 1;
+        if starts == 1 {
+            let mut other = second.begin(any)?;
+            other.write(t, 1, 9)?;
+            let stopped = txn.write(t, 1, 5);
+            newer = Some(other.commit());
+            return stopped;
+        }
+        txn.write(t, 1, 5)
+    });
+    assert_eq!((done, starts, newer), (Ok(()), 2, Some(Ok(()))));
+    let mut third = store.session().unwrap();
+    third.set_limits(Limits {
+        attempts: 3,
+        ..Limits::default()
+    });
+    let mut starts = 0;
+    let done: Result<(), Error> = third.run(any, |txn| {
+        starts += 1;
+        let mut other = second.begin(any)?;
+        other.write(t, 1, 9)?;
+        txn.write(t, 1, 5)
+    });
+    assert!(matches!(done, Err(Error::Aborted(Cause::Newer { .. }))));
+    assert_eq!(starts, 3);
+}
+
+#[test]
+fn sessions_are_given_back() {
+    let (store, _, any) = blank();
+    let mut sessions: Vec<_> = (0..32).map(|_| store.session().unwrap()).collect();
+    assert!(matches!(store.session(), Err(Error::NoSession)));
+    assert_eq!(sessions.remove(6).number(), 7);
+    assert_eq!(store.session().unwrap().number(), 7);
+    let other = Store::open("").unwrap();
+    let result: Result<(), Error> = other.run(&mut sessions[0], any, |_| Ok(()));
+    assert_eq!(result, Err(Error::OtherStore));
+}
+
+#[test]
+fn replies_have_lines_and_names_are_found() {
+    let (store, t, any) = blank();
+    let reply = store
+        .ask(
+            1,
+            Request::Begin {
+                kind: any,
+                instance: 0,
+            },
+        )
+        .unwrap();
+    assert_eq!(
+        store.line(1, &reply).unwrap().as_deref(),
+        Some("1 begun t1\n")
+    );
+    let values = Reply::Values(vec![None, Some(-3)]);
+    assert_eq!(
+        store.line(2, &values).unwrap().as_deref(),
+        Some("2 values none -3\n")
+    );
+    assert_eq!(store.line(2, &Reply::Values(vec![None; 17])).unwrap(), None);
+    assert_eq!(store.table_name(t).as_deref(), Some("t"));
+    assert_eq!(store.kind_name(any).as_deref(), Some("any"));
+    assert_eq!(
+        store.node_name(store.node("root").unwrap()).as_deref(),
+        Some("root")
+    );
+    assert_eq!(
+        store.table("u"),
+        Err(Error::NoSuchName("table u".to_string()))
+    );
+}
+
+#[test]
+fn scans_adds_and_deletes() {
+    let (store, t, any) = blank();
+    let mut session = store.session().unwrap();
+    let mut txn = session.begin(any).unwrap();
+    txn.write(t, 3, 1).unwrap();
+    txn.add(t, 3, 4).unwrap();
+    txn.write(t, 4, 2).unwrap();
+    txn.delete(t, 4).unwrap();
+    assert_eq!(txn.scan(t, 2, 3), Ok(vec![None, Some(5), None]));
+    txn.prepare().unwrap();
+    txn.commit().unwrap();
+    assert_eq!(txn.commit(), Err(Error::Over));
+}

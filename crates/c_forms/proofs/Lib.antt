@@ -1,0 +1,2 @@
+pub mod ReadBack
+mod Padding

@@ -1,0 +1,117 @@
+//! The values of a reply.
+
+ghost use Rattle.std.specs.Prelude.{◌≡◌, ◌<◌, ◌≤◌, ◌++◌, ◌∷◌, [], length, slice_get, Some};
+
+use std::marker::Model;
+use teb_names::ScanList;
+
+/// At most sixteen values as C has them, each of a row or of none. A value without a row is 0, and so is each after the last.
+/// Contracts see the list of optional values.
+#[repr(C)]
+#[derive(Clone, Copy)]
+pub struct ValueList {
+    values: [i64; 16],
+    present: [bool; 16],
+    len: usize,
+}
+
+impl Model for ValueList {
+    ghost use Rattle.std.specs.Prelude.{List, Option, ℤ, ◌≤◌, ◌≡◌, length};
+    ghost use Rattle.std.proofs.Common.{sym};
+    ghost use Rattle.teb_names.specs.Padding.{padded, held, numbers, flags};
+
+    ghost Value = { List (Option ℤ) };
+
+    ghost view = { λ s. held s.len s.present s.values };
+
+    // The fields are those that `inverse` gives back.
+    ghost invariant = { λ s. (s.len ≤ 16) × (length (held s.len s.present s.values) ≡ s.len)
+        × (s.values ≡ numbers (padded (held s.len s.present s.values)))
+        × (s.present ≡ flags (padded (held s.len s.present s.values))) };
+
+    ghost inverse = { λ xs. record { values = numbers (padded xs); present = flags (padded xs); len = length xs } };
+
+    ghost inverse_ok = { λ s h i. record { values = sym h.2 i; present = sym h.3 i; len = h.1 i } };
+}
+
+impl ValueList {
+    /// No values.
+    pub fn new() -> Self
+        ensures { result ≡ [] }
+    {
+        ValueList {
+            values: [0; 16],
+            present: [false; 16],
+            len: 0,
+        }
+    }
+
+    /// One value.
+    pub fn of(value: Option<i64>) -> Self
+        ensures { result ≡ value ∷ [] }
+    {
+        let mut list = ValueList::new();
+        list.push(value);
+        list
+    }
+
+    /// The values of a scan.
+    pub fn of_scan(values: &ScanList) -> Self
+        ensures { result ≡ values.now }
+    {
+        let mut list = ValueList::new();
+        for i in 0..values.len() {
+            list.push(values.at(i));
+        }
+        list
+    }
+
+    /// The number of values, at most sixteen.
+    pub fn len(&self) -> usize
+        ensures len { result ≡ length self.now }
+        ensures few { result ≤ 16 }
+    {
+        self.len
+    }
+
+    /// The value at a place, from 0.
+    #[tactic(auto, using(crate::proofs::Padding::read_joined))]
+    pub fn at(&self, i: usize) -> Option<i64>
+        requires { i < length self.now }
+        ensures { slice_get self.now i ≡ Some result }
+    {
+        self.present[i].then_some(self.values[i])
+    }
+
+    /// The first value, or `None` if there is none.
+    pub fn first(&self) -> Option<Option<i64>>
+        ensures { result ≡ slice_get self.now 0 }
+    {
+        if self.len() == 0 {
+            None
+        } else {
+            Some(self.at(0))
+        }
+    }
+
+    /// These values, as those of a scan.
+    pub fn scan(&self) -> ScanList
+        ensures { result ≡ self.now }
+    {
+        let mut list = ScanList::new();
+        for i in 0..self.len() {
+            list.push(self.at(i));
+        }
+        list
+    }
+
+    /// Appends a value.
+    pub fn push(&mut self, v: Option<i64>)
+        requires { length self.old < 16 }
+        ensures { self.new ≡ self.old ++ v ∷ [] }
+    {
+        self.present[self.len] = v.is_some();
+        self.values[self.len] = v.unwrap_or(0);
+        self.len += 1;
+    }
+}

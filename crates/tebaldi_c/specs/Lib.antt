@@ -1,0 +1,9 @@
+pub mod Asking
+pub mod Auditing
+pub mod Buffers
+pub mod Ended
+pub mod Events
+pub mod Holding
+pub mod Naming
+pub mod Opening
+pub mod SetUp

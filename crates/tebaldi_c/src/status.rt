@@ -1,0 +1,28 @@
+//! The status that a call returns.
+
+/// The call succeeded.
+pub const OK: u32 = 0;
+
+/// The store is not open.
+pub const NOT_OPEN: u32 = 1;
+
+/// The store is already open.
+pub const IS_OPEN: u32 = 2;
+
+/// The tree text has a fault.
+pub const BAD_TREE: u32 = 3;
+
+/// The request's verb is none.
+pub const BAD_VERB: u32 = 4;
+
+/// No such name, number, event or reply.
+pub const NO_SUCH: u32 = 5;
+
+/// Out of memory.
+pub const OUT_OF_MEMORY: u32 = 6;
+
+/// The printed run has a wrong line.
+pub const BAD_RUN: u32 = 7;
+
+/// The text is too long.
+pub const TOO_LONG: u32 = 8;

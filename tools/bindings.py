@@ -1,0 +1,229 @@
+#!/usr/bin/env python3
+"""Builds the store's bindings for C, Rust and Python, and tries them. The last line is `N passed, M failed`.
+
+    tools/bindings.py                   over the library that is proved; it is built if its sources have changed
+    tools/bindings.py --library FILE    over another libtebaldi_c.a, as it is
+    tools/bindings.py --skip-missing    what needs a program that is missing is skipped, and has not failed
+    tools/bindings.py --figures         the two figures count as well: they are to be within their bounds, on a machine that is idle
+
+It builds bindings/out/libtebaldi.a and libtebaldi.so, and then counts: the C tests and examples under the address and undefined behaviour
+sanitizers, the tests and examples in Rust and in Python, four threads over one store in each language, the programs of README.md, and each
+worked run of `replay` in each language. It prints two figures: what an ask costs from C, and a transfer from Python. If a program is missing, it is named with the apt package that has it, and what
+needs it has failed.
+"""
+
+import argparse
+import concurrent.futures
+import os
+import pathlib
+import re
+import shutil
+import subprocess
+import sys
+
+sys.dont_write_bytecode = True
+sys.path.insert(0, str(pathlib.Path(__file__).resolve().parent))
+import worked_runs  # noqa: E402
+
+TOP = pathlib.Path(__file__).resolve().parent.parent
+BINDINGS, CRATE = TOP / "bindings", TOP / "crates" / "tebaldi_c"
+C, RUST, PYTHON, OUT = BINDINGS / "c", BINDINGS / "rust", BINDINGS / "python", BINDINGS / "out"
+WARNINGS = ["-std=c11", "-Wall", "-Wextra", "-Wpedantic", "-Werror"]
+SANITIZED = [*WARNINGS, "-g", "-O1", "-fsanitize=address,undefined", "-fno-sanitize-recover=all"]
+PACKAGES = {"rt": None, "gcc": "gcc libc6-dev", "ar": "binutils", "cargo": "cargo", "rustc": "rustc", "valgrind": "valgrind"}
+COMMITTED = r"committed 200, sum 300\n"
+# The bounds of the figures: an ask from C beside the engine's own part of it, in instructions, and a transfer from Python, in microseconds.
+MOST_COST, MOST_MICROSECONDS = 1.2, 20.0
+
+
+class Tally:
+    def __init__(self, skips):
+        self.passed = self.failed = 0
+        self.skips = skips
+
+    def count(self, name, why):
+        """Counts what passed if there is no reason why it failed. Returns whether it passed."""
+        self.passed += not why
+        self.failed += bool(why)
+        if why:
+            print(f"bindings: FAILED {name}: {why}", flush=True)
+        return not why
+
+    def has(self, what, *programs):
+        """Whether these programs are there. If not, what needs them has failed, or is skipped."""
+        missing = [program for program in programs if not shutil.which(program)]
+        hints = [f"there is no {program}" + (f": apt install {PACKAGES[program]}" if PACKAGES[program] else "") for program in missing]
+        if missing and self.skips:
+            print(f"bindings: SKIPPED {what}: {'; '.join(hints)}", flush=True)
+        elif missing:
+            self.count(what, "; ".join(hints))
+        return not missing
+
+
+def run(*words, **how):
+    environment = {
+        **os.environ,
+        "TEBALDI_LIB_DIR": str(OUT),
+        "TEBALDI_SO": str(OUT / "libtebaldi.so"),
+        "CARGO_TARGET_DIR": str(OUT / "cargo"),
+        "PYTHONPATH": str(PYTHON),
+        "PYTHONDONTWRITEBYTECODE": "1",
+    }
+    return subprocess.run([str(word) for word in words], stdout=subprocess.PIPE, stderr=subprocess.PIPE, timeout=3000, env=environment, **how)
+
+
+def why_of(ran, wanted=None):
+    """Why a program failed, or None: it ends with status 0, and says what is wanted."""
+    text = ran.stdout.decode(errors="replace")
+    if ran.returncode == 0 and (wanted is None or re.fullmatch(wanted, text)):
+        return None
+    return f"status {ran.returncode}: {text[-1000:]}{ran.stderr.decode(errors='replace')[-2000:]}".strip()
+
+
+def make_library(given):
+    """Makes libtebaldi.a, which is the proved library and heap.c, and libtebaldi.so of it. Returns why that failed, or None."""
+    OUT.mkdir(parents=True, exist_ok=True)
+    archive, heap = OUT / "libtebaldi.a", OUT / "heap.o"
+    if not given:
+        quick = TOP / "tools" / "rt_quick"
+        why = why_of(run(quick if quick.exists() else "rt", "lib", cwd=CRATE))
+        if why:
+            return why
+    shutil.copyfile(given or CRATE / "out" / "libtebaldi_c.a", archive)
+    commands = [
+        ["gcc", *WARNINGS, "-O2", "-fPIC", "-c", C / "heap.c", "-o", heap],
+        ["ar", "rs", archive, heap],
+        ["gcc", "-shared", "-Wl,--whole-archive", archive, "-Wl,--no-whole-archive", "-o", OUT / "libtebaldi.so"],
+    ]
+    return next(filter(None, (why_of(run(*command)) for command in commands)), None)
+
+
+def compiled(tally, source, flags=SANITIZED, *more):
+    """The program of a C file, or None."""
+    program = OUT / f"c_{source.stem}"
+    why = why_of(run("gcc", *flags, "-I", C, source, OUT / "libtebaldi.a", *more, "-o", program))
+    return program if tally.count(f"gcc {source.name}", why) else None
+
+
+def try_c(tally):
+    """Tries the tests and the examples. Returns the command that replays a script, or None."""
+    for name, wanted in [
+        ("misuse", r"misuse: \d+ as wanted, 0 not\n"),
+        ("refused_memory", r"\d+ blocks refused in turn: [1-9]\d* calls asked again, 0 other answers\n"),
+        ("threads", COMMITTED),
+    ]:
+        program = compiled(tally, C / "tests" / f"{name}.c", SANITIZED, "-pthread")
+        if program:
+            tally.count(f"C {name}", why_of(run(program), wanted))
+    for source in sorted((C / "examples").glob("*.out")):
+        program = compiled(tally, source.with_suffix(".c"))
+        if program:
+            tally.count(f"C {source.stem}", why_of(run(program), re.escape(source.read_text())))
+    replay = compiled(tally, C / "examples" / "replay.c")
+    return replay and [replay]
+
+
+def try_rust(tally):
+    if not tally.has("Rust", "cargo", "rustc"):
+        return None
+    for words in (["cargo", "test", "--offline", "--quiet"], ["cargo", "build", "--offline", "--release", "--lib", "--examples"]):
+        if not tally.count(" ".join(words[:2]), why_of(run(*words, cwd=RUST))):
+            return None
+    examples = OUT / "cargo" / "release" / "examples"
+    tally.count("Rust transfers", why_of(run(examples / "transfers"), COMMITTED))
+    return [examples / "replay"]
+
+
+def try_python(tally):
+    tally.count("Python tests", why_of(run(sys.executable, "-m", "unittest", "discover", "-s", PYTHON / "tests")))
+    tally.count("Python transfers", why_of(run(sys.executable, PYTHON / "examples" / "transfers.py"), COMMITTED))
+    return [sys.executable, PYTHON / "examples" / "replay.py"]
+
+
+def try_readme(tally):
+    """Runs the programs that README.md shows, each with its output below it."""
+    text = (TOP / "README.md").read_text()
+    for language in ("c", "rust", "python"):
+        found = re.search(rf"(?ms)^```{language}\n(.*?)^```\n\n```\n(.*?)^```$", text)
+        if not tally.count(f"README {language}", None if found else "it shows no program with its output"):
+            continue
+        source = OUT / ("readme" + {"c": ".c", "rust": ".rs", "python": ".py"}[language])
+        source.write_text(found[1])
+        command = [sys.executable, source]
+        if language == "c":
+            command = [compiled(tally, source)]
+        elif language == "rust":
+            command = [OUT / "readme_rust"]
+            library = OUT / "cargo" / "release" / "libtebaldi.rlib"
+            built = run("rustc", "--edition", "2021", source, "--extern", f"tebaldi={library}", "-L", f"native={OUT}", "-o", command[0])
+            tally.count("rustc readme.rs", why_of(built))
+        if command[0]:
+            tally.count(f"README {language} runs", why_of(run(*command), re.escape(found[2])))
+
+
+def instructions(program, rounds, *names):
+    """The instructions that these functions, with all that they call, take in a program with so many rounds; None if it failed."""
+    profile = OUT / "callgrind.out"
+    ran = run("valgrind", "--tool=callgrind", f"--callgrind-out-file={profile}", program, rounds)
+    if ran.returncode:
+        return None
+    listed = run("callgrind_annotate", "--inclusive=yes", "--threshold=100", profile).stdout.decode()
+    lines = [(int(count.replace(",", "")), name) for count, name in re.findall(r"(?m)^ *([\d,]+) \(.*?\) +(.*)$", listed)]
+    return [max((count for count, line in lines if re.search(name, line)), default=0) for name in names]
+
+
+def try_figures(tally, judges):
+    """Prints what an ask from C costs, in instructions and beside the engine's part of it, and the microseconds of a transfer from Python."""
+    program = compiled(tally, C / "tests" / "asks.c", [*WARNINGS, "-O2"])
+    if program and tally.has("the cost of an ask", "valgrind"):
+        whole, part = instructions(program, 1000, r":tebaldi_ask\b", r"engine_core.*respond") or (0, 0)
+        cost = whole / part if part else 0.0
+        print(f"bindings: {whole / 6000:.0f} instructions an ask from C, {cost:.2f} times the engine's", flush=True)
+        tally.count("the cost of an ask", None if cost and (cost <= MOST_COST or not judges) else f"{cost} is not within {MOST_COST}")
+    ran = run(sys.executable, PYTHON / "tests" / "transfer_cost.py")
+    if tally.count("the time of a transfer", why_of(ran, r"[\d.]+\n")):
+        taken = float(ran.stdout)
+        print(f"bindings: {taken} microseconds a transfer from Python", flush=True)
+        if judges:
+            tally.count("the bound of a transfer", None if taken <= MOST_MICROSECONDS else f"{taken} is not within {MOST_MICROSECONDS}")
+
+
+def is_replayed(it):
+    """Whether a worked run replays an input of its own, in a tree that is right, or refused."""
+    is_plain = isinstance(it, worked_runs.Run) and it.words == [b"replay"] and it.statuses in ([0], [6])
+    return is_plain and isinstance(it.text, bytes) and isinstance(it.input, bytes) and not (it.output or it.breaks) and it.room is None
+
+
+def try_runs(tally, replayers):
+    """Replays the worked runs in each language."""
+    runs = [(it, language) for it in worked_runs.all_runs([]) if is_replayed(it) for language in replayers]
+
+    def differs(of):
+        it, language = of
+        ran = run(*replayers[language], input=it.input)
+        return it.wrong(ran.returncode, ran.stdout)
+
+    with concurrent.futures.ThreadPoolExecutor(len(os.sched_getaffinity(0))) as pool:
+        for (it, language), why in zip(runs, pool.map(differs, runs)):
+            tally.count(f"{language} {it.name}", why)
+    print(f"bindings: {len(runs) // max(len(replayers), 1)} worked runs in {', '.join(replayers)}", flush=True)
+
+
+def main():
+    options = argparse.ArgumentParser(description=__doc__, formatter_class=argparse.RawDescriptionHelpFormatter)
+    options.add_argument("--library", type=pathlib.Path)
+    options.add_argument("--skip-missing", action="store_true")
+    options.add_argument("--figures", action="store_true")
+    given = options.parse_args()
+    tally = Tally(given.skip_missing)
+    if tally.has("the library", *(["gcc", "ar"] if given.library else ["rt", "gcc", "ar"])) and tally.count("the library", make_library(given.library)):
+        replayers = {"C": try_c(tally), "Rust": try_rust(tally), "Python": try_python(tally)}
+        try_readme(tally)
+        try_figures(tally, given.figures)
+        try_runs(tally, {language: words for language, words in replayers.items() if words})
+    print(f"{tally.passed} passed, {tally.failed} failed")
+    return tally.failed != 0
+
+
+if __name__ == "__main__":
+    sys.exit(main())
