@@ -18,6 +18,17 @@ pub struct Counter {
 }
 
 impl Counter {
+    /// No call was made. The calls from `stop` on fail; 0 names no call.
+    pub fn from_stop(stop: u32) -> Counter
+        ensures { result ≡ record { made = 0; stop = stop; faults = 0 } }
+    {
+        Counter {
+            made: 0,
+            stop,
+            faults: 0,
+        }
+    }
+
     /// Counts one call more.
     ///
     /// # Errors
