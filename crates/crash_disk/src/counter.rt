@@ -1,6 +1,6 @@
 //! Which calls fail, and how many did.
 
-ghost use Rattle.std.specs.Prelude.{◌≡◌, ◌≤◌, IsOk, IsErr};
+ghost use Rattle.std.specs.Prelude.{◌≡◌, ◌≤◌, OnOk, IsOk, IsErr};
 ghost use Rattle.teb_io.specs.Faults.{HasCause, Rose, next};
 ghost use Rattle.crash_disk.specs.Calls.{IsBefore, IsFrom};
 
@@ -40,6 +40,7 @@ impl Counter {
         ensures sure { IsBefore self.old.stop (next self.old.made) → IsOk result }
         ensures stopped { IsFrom self.old.stop (next self.old.made) → IsErr result }
         ensures cause { HasCause self.old.faults self.new.faults result }
+        ensures no_fault { OnOk result (self.new.faults ≡ self.old.faults) }
     {
         self.made = self.made.saturating_add(1);
         if self.stop != 0 && self.made >= u64::from(self.stop) {

@@ -52,7 +52,8 @@ pub trait Disk {
         ensures safe { safe self.new ≡ safe self.old }
         ensures capacity { capacity self.new ≡ capacity self.old }
         ensures calls { AreCalls (tally self.old).promise.reads 1 0 (tally self.old) (tally self.new) result }
-        ensures cause { HasCause (faults self.old) (faults self.new) result };
+        ensures cause { HasCause (faults self.old) (faults self.new) result }
+        ensures no_fault { OnOk result (faults self.new ≡ faults self.old) };
 
     /// Reads the next bytes from a place on into the front of the buffer, as many as it likes, and answers how many. For a buffer
     /// that is not empty, 0 comes only at or past the end. It changes no byte of the device, and nothing that a crash may leave.
@@ -67,7 +68,8 @@ pub trait Disk {
         ensures safe { safe self.new ≡ safe self.old }
         ensures capacity { capacity self.new ≡ capacity self.old }
         ensures calls { AreCalls (tally self.old).promise.reads 1 0 (tally self.old) (tally self.new) result }
-        ensures cause { HasCause (faults self.old) (faults self.new) result };
+        ensures cause { HasCause (faults self.old) (faults self.new) result }
+        ensures no_fault { OnOk result (faults self.new ≡ faults self.old) };
 
     /// Writes over what is there, and past the end. Until a sync that succeeds, the range and what lies past the old end may hold
     /// any bytes after a crash. All other bytes stay.
@@ -83,7 +85,8 @@ pub trait Disk {
         ensures safe { safe self.new ≡ safe self.old }
         ensures capacity { capacity self.new ≡ capacity self.old }
         ensures calls { AreCalls (tally self.old).promise.writes 1 (length bytes.now) (tally self.old) (tally self.new) result }
-        ensures cause { HasCause (faults self.old) (faults self.new) result };
+        ensures cause { HasCause (faults self.old) (faults self.new) result }
+        ensures no_fault { OnOk result (faults self.new ≡ faults self.old) };
 
     /// Makes all bytes safe: a crash right after it leaves what a read gives. It changes no byte.
     ///
@@ -99,9 +102,12 @@ pub trait Disk {
         ensures capacity { capacity self.new ≡ capacity self.old }
         ensures not_safe { OnErr result (safe self.new ≡ safe self.old) }
         ensures calls { AreCalls (tally self.old).promise.writes 1 0 (tally self.old) (tally self.new) result }
-        ensures cause { HasCause (faults self.old) (faults self.new) result };
+        ensures cause { HasCause (faults self.old) (faults self.new) result }
+        ensures no_fault { OnOk result (faults self.new ≡ faults self.old) };
 
-    /// A disk has fewer bytes than 2^40.
+    /// A disk can hold a byte, and fewer than 2^40.
+    ghost some: { (disk : Self) → 0 < capacity disk };
+
     ghost small: { (disk : Self) → capacity disk < 2 ^ 40 };
 
     /// What a read gives is one of the images.

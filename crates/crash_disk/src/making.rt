@@ -35,7 +35,8 @@ impl MemDisk {
     /// An empty disk of so many bytes. Its memory grows with what is written; a write or a sync for which memory does not last is a
     /// fault. The disk fails at the call `stop` and at all later ones; 0 names no call.
     pub fn with_capacity(alloc: Global, capacity: u64, stop: u32) -> MemDisk
-        requires { capacity < 2 ^ 40 }
+        requires some { 0 < capacity }
+        requires small { capacity < 2 ^ 40 }
         ensures empty { result.log.steps ≡ [] }
         ensures room { result.log.room ≡ Growing }
         ensures capacity { result.capacity ≡ capacity }
@@ -56,6 +57,7 @@ impl MemDisk {
     /// `AllocError`: out of memory.
     pub fn of(alloc: Global, bytes: Vec<u8>, capacity: u64) -> Result<MemDisk, AllocError>
         requires within { length bytes.items ≤ capacity }
+        requires some { 0 < capacity }
         requires small { capacity < 2 ^ 40 }
         ensures seen { IfOk result (λ disk. contents disk.log.steps ≡ bytes.items) }
         ensures safe { IfOk result (λ disk. Only bytes.items (MayLeave disk.log.steps)) }

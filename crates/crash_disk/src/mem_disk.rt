@@ -40,6 +40,8 @@ impl Disk for MemDisk {
 
     ghost only_now = { λ m c left. log_only_now m.log.steps c left };
 
+    ghost some = { λ m. m.some };
+
     ghost small = { λ m. m.small };
 
     fn capacity(&self) -> u64 {

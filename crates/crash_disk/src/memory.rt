@@ -15,6 +15,7 @@ pub struct MemDisk {
     pub(crate) log: Log,
     pub(crate) counter: Counter,
     ghost within: { length image.items ≤ capacity },
+    ghost some: { 0 < capacity },
     ghost small: { capacity < 2 ^ 40 },
     ghost told: { contents log.steps ≡ image.items },
     ghost made: { log.room ≡ Reserved → length log.steps ≤ counter.made },

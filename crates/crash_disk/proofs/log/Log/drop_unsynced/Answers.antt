@@ -1,4 +1,4 @@
-use Rattle.std.proofs.Common.{List, refl, length, ◌∙◌, ap, subst, arith}
+use Rattle.std.proofs.Common.{refl, length, ◌∙◌, ap, subst, arith}
 use Rattle.crash_disk.specs.Log.{Logged, contents, MayLeave, byte_count}
 use Rattle.crash_disk.proofs.Logged.{less_safe, less_length, less_count, less_long, ended_contents, ended_only}
 use Rattle.crash_disk.proofs.log.Log.drop_unsynced.Goals as goal

@@ -1,4 +1,4 @@
-use Rattle.std.proofs.Common.{rules, ◌≡◌, ◌∷◌, [], List, ℕ, length, ◌-◌, refl, sym, ◌∙◌, ap, subst, arith, take, inl, Some}
+use Rattle.std.proofs.Common.{rules, ◌≡◌, [], List, ℕ, length, ◌-◌, refl, sym, ◌∙◌, ap, subst, arith, take, inl, Some}
 use Rattle.crash_disk.specs.Log.{Logged, steps, total, EndsSynced}
 use Rattle.crash_disk.proofs.Logged.{total-push, popped, got_some, got_none, ended, write_within, one_less_of}
 use Rattle.crash_disk.specs.declared.call.Call.{Call}

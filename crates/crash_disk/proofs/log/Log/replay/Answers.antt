@@ -1,4 +1,4 @@
-use Rattle.std.proofs.Common.{◌+◌, ◌∷◌, [], List, ℕ, length, sym, ◌∙◌, ap, subst, arith, drop, length-drop, Bor, Vec, Global, vec_capacity}
+use Rattle.std.proofs.Common.{◌+◌, ◌∷◌, [], List, ℕ, length, sym, ◌∙◌, ap, arith, drop, length-drop, Bor, Vec, Global, vec_capacity}
 use Rattle.crash_disk.specs.Log.{Logged, contents, steps, total, after_steps}
 use Rattle.crash_disk.proofs.Logged.{replayed, next_fits}
 use Rattle.crash_disk.specs.declared.call.Call.{Call}

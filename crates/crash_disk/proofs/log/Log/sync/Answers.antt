@@ -1,4 +1,4 @@
-use Rattle.std.proofs.Common.{rules, refl, ◌≡◌, ◌<◌, ◌≤◌, ◌++◌, ◌∷◌, [], List, length, sym, ◌∙◌, ap, subst, arith}
+use Rattle.std.proofs.Common.{rules, ◌≡◌, ◌++◌, ◌∷◌, [], List, length, ◌∙◌, ap, arith}
 use Rattle.crash_disk.specs.Log.{Logged, Step, Synced, total}
 use Rattle.crash_disk.proofs.Logged.{total-sync, joined_sync, sizes, has_room, room_used}
 use Rattle.crash_disk.proofs.log.Log.sync.Goals as goal

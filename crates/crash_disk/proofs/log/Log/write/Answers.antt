@@ -1,4 +1,4 @@
-use Rattle.std.proofs.Common.{rules, refl, true, false, ◌≡◌, ◌+◌, ◌<◌, ◌≤◌, ◌++◌, ◌∷◌, [], List, length, sym, ◌∙◌, ap, subst, arith, length-append}
+use Rattle.std.proofs.Common.{rules, ◌≡◌, ◌++◌, ◌∷◌, [], List, length, ◌∙◌, ap, arith, length-append}
 use Rattle.crash_disk.specs.Log.{Logged, Step, Wrote, total}
 use Rattle.crash_disk.proofs.Logged.{total-push, joined_write, sizes, has_room, room_used}
 use Rattle.crash_disk.proofs.log.Log.write.Goals as goal

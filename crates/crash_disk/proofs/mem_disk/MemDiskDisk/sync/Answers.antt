@@ -7,7 +7,7 @@ use Rattle.crash_disk.proofs.mem_disk.MemDiskDisk.sync.Goals as goal
 pub invariant_of-self : goal.invariant_of-self
 invariant_of-self c =
     let m = c.args.self.now in
-    record { within = m.within; small = m.small; told = m.told; made = λ is. omega (arith, m.made is, c.call.ensures.kept); reserved = m.reserved }
+    record { within = m.within; some = m.some; small = m.small; told = m.told; made = λ is. omega (arith, m.made is, c.call.ensures.kept); reserved = m.reserved }
 
 pub invariant_of-self-in-Ok : goal.invariant_of-self-in-Ok
 invariant_of-self-in-Ok c =
@@ -17,6 +17,7 @@ invariant_of-self-in-Ok c =
     let room = ap (λ (l : Logged). l.room) added in
     record {
       within = m.within;
+      some = m.some;
       small = m.small;
       told = sync_same m.log.steps c.sync.new.self.steps steps ∙ m.told;
       made = λ is. omega (arith, m.made (sym room ∙ is), c.call.ensures.made, c.in-Ok.ensures.within (sym room ∙ is), ap length steps, length-append m.log.steps (Synced ∷ []));
@@ -30,6 +31,7 @@ invariant_of-self-in-Err c =
     let room = ap (λ (l : Logged). l.room) same in
     record {
       within = m.within;
+      some = m.some;
       small = m.small;
       told = ap (λ (l : Logged). contents l.steps) same ∙ m.told;
       made = λ is. omega (arith, m.made (sym room ∙ is), c.call.ensures.kept, ap (λ (l : Logged). length l.steps) same, c.fault.ensures.made);

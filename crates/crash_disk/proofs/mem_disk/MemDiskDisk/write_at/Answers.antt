@@ -1,5 +1,5 @@
-use Rattle.std.proofs.Common.{◌+◌, ◌∷◌, [], ◌∙◌, sym, ap, arith, length, length-append}
-use Rattle.crash_disk.specs.Log.{Logged, Wrote, byte_count, written}
+use Rattle.std.proofs.Common.{◌∷◌, [], ◌∙◌, sym, ap, arith, length, length-append}
+use Rattle.crash_disk.specs.Log.{Logged, Wrote, byte_count}
 use Rattle.crash_disk.proofs.Logged.{elapses_to, safe_write, told_write, torn_write, holds_write, write_crash, length-written, count-push}
 use Rattle.crash_disk.proofs.Groups.{call_ok}
 use Rattle.crash_disk.proofs.mem_disk.MemDiskDisk.write_at.Goals as goal
@@ -14,6 +14,7 @@ invariant_of-self-in-Ok c =
     let image = c.in-Ok.ensures.image in
     record {
       within = omega (arith, ap length image, length-written at piece m.image.items, m.within, c.requires);
+      some = m.some;
       small = m.small;
       told = told_write m.log.steps c.write.new.log.steps at m.image.items c.write.new.image.items piece steps m.told image;
       made = λ is. omega (arith, m.made (sym room ∙ is), c.call.ensures.made, c.in-Ok.ensures.within (sym room ∙ is), ap length steps, length-append m.log.steps (Wrote at piece ∷ []));
