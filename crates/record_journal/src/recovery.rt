@@ -1,6 +1,6 @@
 //! What a disk stands for, after a crash too.
 
-ghost use Rattle.std.specs.Prelude.{◌≡◌, ◌+◌, ◌≤◌, List, ℕ, length, take, IfOk, OnOk, IsErrOf};
+ghost use Rattle.std.specs.Prelude.{◌≡◌, ◌+◌, ◌≤◌, List, ℕ, length, take, IfOk, IfErr, OnOk, IsErrOf};
 ghost use Rattle.teb_names.specs.declared.Cell.{Cell as TheCell};
 ghost use Rattle.teb_names.specs.Rows.{row_of, IsAscending};
 ghost use Rattle.crash_disk.specs.Calls.{AreSure};
@@ -31,8 +31,8 @@ pub struct Recovered {
 /// begins with a sync, and writes nothing.
 ///
 /// # Errors
-/// `DiskFault` where a call of the disk fails; `Damaged` where no record stands behind an open gate; `OutOfMemory`. The bytes of the
-/// disk stay as they were.
+/// `DiskFault`: a call of the disk failed. `Damaged`: no record follows an open gate. `OutOfMemory`. The bytes of the disk are
+/// unchanged, and a fault is counted only with `DiskFault`.
 pub fn read_rows<D: Disk>(
     alloc: Global,
     disk: &mut D,
@@ -58,6 +58,9 @@ pub fn read_rows<D: Disk>(
     ensures durable { OnOk result (Only (D.seen disk.old) (D.may_leave disk.new)) }
     ensures quiet { IsQuiet D.seen D.may_leave D.moment D.left_since D.faults D.capacity disk.old disk.new }
     ensures cause { IsErrOf result RecoverError.DiskFault → Rose (D.faults disk.old) (D.faults disk.new) }
+    // Where no call failed, no fault is counted.
+    ensures no_fault { OnOk result (D.faults disk.new ≡ D.faults disk.old) }
+    ensures no_other_fault { IfErr result (λ e. (e ≡ RecoverError.DiskFault → ⊥) → D.faults disk.new ≡ D.faults disk.old) }
     // It makes a sync, and then as many calls at most as there are bytes, and one.
     ensures sure { AreSure (D.tally disk.old).promise.writes 1 0 (D.tally disk.old) → AreSure (D.tally disk.old).promise.reads (default_capacity + 2) 0 (D.tally disk.old)
         → IsErrOf result RecoverError.DiskFault → ⊥ }
