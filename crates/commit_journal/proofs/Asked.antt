@@ -14,6 +14,7 @@ use Rattle.teb_rules.specs.Cascade.{txn}
 use Rattle.record_journal.specs.declared.journal.Journal.{Journal}
 use Rattle.crash_disk.specs.Calls.{Tally, IsUpTo}
 use Rattle.record_journal.specs.Format.{Record, body, records}
+use Rattle.crash_disk.specs.Sizes.{default_capacity}
 use Rattle.record_journal.specs.Journal.{IsBody}
 use Rattle.record_journal.specs.Kept.{Keeps}
 use Rattle.commit_laws.specs.Commits.{commit_count}
@@ -26,6 +27,7 @@ use Rattle.teb_rules.specs.Accepted.{IsSound}
 use Rattle.teb_laws.specs.Lawful.{Lawful, ReadsRows}
 use Rattle.teb_laws.proofs.RowReads.{run_rows}
 use Rattle.engine_core.specs.EngineModel.{IsReached}
+use Rattle.crash_disk.specs.Sizes.{default_capacity}
 use Rattle.record_journal.specs.Journal.{StandsFor, after_records}
 use Rattle.commit_laws.specs.Commits.{rows_after}
 use Rattle.commit_laws.proofs.Laws.{records_leave_the_rows}
@@ -120,7 +122,7 @@ no_calls k n a b same = subst (IsUpTo k n a) (sym same) (record { made = omega a
 pub fewer_bytes : (k m n : ℕ) (a b : Tally) → m ≤ n → IsUpTo k m a b → IsUpTo k n a b
 fewer_bytes k m n a b le calls = record { made = calls.made; written = omega (arith, le, calls.written); promise = calls.promise }
 
-pub none_first : (X : Store) (H : List Event) (least : ℕ) (image : List ℕ) → H ≡ [] → StandsFor least [] image → HasFirst X H 0 image
+pub none_first : (X : Store) (H : List Event) (least : ℕ) (image : List ℕ) → H ≡ [] → StandsFor default_capacity least [] image → HasFirst X H 0 image
 unfolding records_of
 none_first X H least image is s = subst (λ (P : List Event). HasFirst X P 0 image) (sym is) (record { k = s.k; no_fewer = omega arith; no_more = s.no_more; stands = s.stands })
 

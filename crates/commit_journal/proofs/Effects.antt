@@ -8,6 +8,7 @@ use Rattle.teb_names.specs.declared.Reply.{Reply}
 use Rattle.teb_names.specs.declared.Reply.TheVariants.{Committed}
 use Rattle.teb_rules.specs.Answer.{answer}
 use Rattle.crash_disk.specs.Calls.{Tally, AreSure, Fails, IsUpTo}
+use Rattle.crash_disk.specs.Sizes.{default_capacity}
 use Rattle.record_journal.specs.Format.{recovered, Whole}
 use Rattle.commit_laws.specs.Records.{records_of, puts_of}
 use Rattle.commit_journal.specs.declared.error.DurableError.{DurableError}
@@ -65,7 +66,7 @@ module _ {D : Type 0} {safe : D → List ℕ} {faults : D → ℕ} {tally : D �
   fault_at_commit (Err e) (committed c) events is = (c.answered, events, c.err.2, c.err.1)
 
   pub fault_adds_nothing : (result : Result Reply DurableError) → Effect safe faults tally old new s r result
-      → IsErrOf result errors.DiskFault → recovered (safe new.disk) ≡ Whole (records_of old.store.setup old.events)
+      → IsErrOf result errors.DiskFault → recovered default_capacity (safe new.disk) ≡ Whole (records_of old.store.setup old.events)
   fault_adds_nothing (Ok reply) effect is = absurd (cc)
   fault_adds_nothing (Err e) (told never same) is = absurd never
   fault_adds_nothing (Err e) (committed c) is = c.err.3

@@ -9,6 +9,7 @@ use Rattle.teb_history.specs.declared.Event.{Event}
 use Rattle.teb_rules.specs.Setup.{Store}
 use Rattle.teb_rules.specs.Answer.{answer}
 use Rattle.crash_disk.specs.Calls.{Tally, AreCalls}
+use Rattle.crash_disk.specs.Sizes.{default_capacity}
 use Rattle.crash_disk.specs.Disk.{LeavesOnly}
 use Rattle.record_journal.specs.Format.{recovered, Whole}
 use Rattle.record_journal.specs.Journal.{IsBody}
@@ -33,7 +34,7 @@ pub record IsCommit {D : Type 0} (safe : D → List ℕ) (faults : D → ℕ) (t
   pub few : size ≤ 6 + 14 * length (puts_of old.events txn)
   pub ok : IfOk result (λ reply. (reply ≡ Committed) × (new.stopped ≡ false) × (new.acknowledged ≡ old.acknowledged + 1) × (new.end + 1 ≡ old.end + size))
   pub err : IfErr result (λ e. (e ≡ DiskFault) × (new.stopped ≡ true) × (new.acknowledged ≡ old.acknowledged)
-      × (recovered (safe new.disk) ≡ Whole (records_of old.store.setup old.events)))
+      × (recovered default_capacity (safe new.disk) ≡ Whole (records_of old.store.setup old.events)))
   pub cause : HasCause (faults old.disk) (faults new.disk) result
   pub calls : AreCalls (tally old.disk).promise.writes 4 size (tally old.disk) (tally new.disk) result
 

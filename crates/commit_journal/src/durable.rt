@@ -8,7 +8,8 @@ ghost use Rattle.crash_disk.specs.Disk.{LeavesOnly};
 ghost use Rattle.commit_laws.specs.Commits.{commit_count};
 ghost use Rattle.commit_laws.specs.Laws.{IsOfSerialRun};
 ghost use Rattle.crash_disk.specs.Calls.{AreSure, Fails, IsUpTo};
-ghost use Rattle.record_journal.specs.Format.{records, recovered, Whole};
+ghost use Rattle.crash_disk.specs.Sizes.{default_capacity};
+ghost use Rattle.record_journal.specs.Format.{records, recovered, room_of, Whole};
 ghost use Rattle.commit_laws.specs.Records.{records_of, puts_of};
 ghost use Rattle.commit_journal.specs.Answered.{Answered, IsBodyFor};
 ghost use Rattle.commit_journal.specs.Kept.{IsFull, IsSameStore, committing, kept_of};
@@ -57,6 +58,7 @@ impl<C: Chains, D: Disk> Durable<C, D> {
         ensures sure { AreSure (D.tally disk).promise.writes 2 1 (D.tally disk) → IsOk result }
         ensures fails { Fails 2 (D.tally disk) → IsErr result }
         ensures counted { IfOk result (λ d. IsUpTo 2 1 (D.tally disk) (D.tally d.disk) × ((D.tally disk).made + 2 < 2 ^ 64 → (D.tally d.disk).made ≡ (D.tally disk).made + 2)) }
+        ensures capacity { IfOk result (λ d. D.capacity d.disk ≡ D.capacity disk) }
         ensures back { (back : D) → IsErrOf result (CreateError.DiskFault back) → IsUpTo 2 1 (D.tally disk) (D.tally back) }
         ensures not_safe { (back : D) → IsErrOf result (CreateError.DiskFault back) → D.safe back ≡ D.safe disk }
         ensures cause { (back : D) → IsErrOf result (CreateError.DiskFault back) → Rose (D.faults disk) (D.faults back) }
@@ -93,9 +95,12 @@ impl<C: Chains, D: Disk> Durable<C, D> {
         ensures goes_on { OnOk result (self.new.stopped ≡ false) }
         ensures stopped { IsErrOf result errors.Stopped → self.old.stopped ≡ true }
         ensures stays { self.old.stopped ≡ true → IsErrOf result errors.Stopped }
-        ensures full { IsErrOf result errors.Full → IsFull self.old.events (1048576 - self.old.end) session request }
-        ensures fits { OnOk result (IsFull self.old.events (1048576 - self.old.end) session request → ⊥) }
+        ensures full { IsErrOf result errors.Full → IsFull self.old.events (room_of (D.capacity self.old.disk) - self.old.end) session request }
+        ensures fits { OnOk result (IsFull self.old.events (room_of (D.capacity self.old.disk) - self.old.end) session request → ⊥) }
+        ensures not_full { IsErrOf result errors.DiskFault → IsFull self.old.events (room_of (D.capacity self.old.disk) - self.old.end) session request → ⊥ }
         ensures not_asked { IfErr result (λ e. (e ≡ errors.DiskFault → ⊥) → self.new ≡ self.old) }
+
+        ensures capacity { D.capacity self.new.disk ≡ D.capacity self.old.disk }
 
         // A fault comes only at a commit, which may stand on the disk or not.
         ensures fault { IsErrOf result errors.DiskFault → Rose (D.faults self.old.disk) (D.faults self.new.disk) }
@@ -103,7 +108,7 @@ impl<C: Chains, D: Disk> Durable<C, D> {
             × (self.new.events ≡ (answer self.old.store self.old.events session request).1)
             × (self.new.acknowledged ≡ self.old.acknowledged) × (self.new.stopped ≡ true) }
         // What was safe at the last good sync has the commits from before it alone.
-        ensures not_added { IsErrOf result errors.DiskFault → recovered (D.safe self.new.disk) ≡ Whole (records_of self.old.store.setup self.old.events) }
+        ensures not_added { IsErrOf result errors.DiskFault → recovered default_capacity (D.safe self.new.disk) ≡ Whole (records_of self.old.store.setup self.old.events) }
 
         // A commit makes four calls of the disk, up to the first that fails, and writes one byte more than the journal grows; nothing
         // else touches the disk.
@@ -155,8 +160,8 @@ fn prepared<C: Chains, D: Disk>(
     ensures same { kept_of engine.new journal.now ≡ kept_of engine.old journal.now }
     ensures ready { OnOk result (engine.new.ready ≡ true) }
     ensures body { IfOk result (λ body. IsBodyFor engine.old.store engine.old.events session request body.items) }
-    ensures fits { OnOk result (IsFull engine.old.events (1048576 - journal.now.progress.end) session request → ⊥) }
-    ensures full { IsErrOf result errors.Full → IsFull engine.old.events (1048576 - journal.now.progress.end) session request }
+    ensures fits { OnOk result (IsFull engine.old.events (room_of (D.capacity journal.now.disk) - journal.now.progress.end) session request → ⊥) }
+    ensures full { IsErrOf result errors.Full → IsFull engine.old.events (room_of (D.capacity journal.now.disk) - journal.now.progress.end) session request }
     ensures runs { OnOk result (journal.now.stopped ≡ false) }
     ensures stopped { IsErrOf result errors.Stopped → journal.now.stopped ≡ true }
     ensures stays { journal.now.stopped ≡ true → IsErrOf result errors.Stopped }
@@ -182,8 +187,9 @@ fn answered<C: Chains, D: Disk>(
     requires runs { journal.old.stopped ≡ false }
     requires keeps { KeepsAll D.seen D.may_leave engine.old.store engine.old.events journal.old }
     requires body { IsBodyFor engine.old.store engine.old.events session request body.now }
-    requires fits { IsFull engine.old.events (1048576 - journal.old.progress.end) session request → ⊥ }
+    requires fits { IsFull engine.old.events (room_of (D.capacity journal.old.disk) - journal.old.progress.end) session request → ⊥ }
     ensures keeps { KeepsAll D.seen D.may_leave engine.new.store engine.new.events journal.new }
+    ensures capacity { D.capacity journal.new.disk ≡ D.capacity journal.old.disk }
     ensures answered { Answered D.moment D.left_since D.safe D.faults D.tally (kept_of engine.old journal.old) (kept_of engine.new journal.new) session request result }
 {
     let reply = engine.ask(session, request);

@@ -1,6 +1,6 @@
 //! What a disk holds after a crash.
 
-ghost use Rattle.std.specs.Prelude.{◌≡◌, ◌≤◌, List, ℕ, length, IfOk, OnOk, IsErrOf};
+ghost use Rattle.std.specs.Prelude.{◌≡◌, ◌+◌, ◌≤◌, List, ℕ, length, IfOk, IfErr, OnOk, IsErrOf};
 ghost use Rattle.teb_io.specs.Faults.{Rose};
 ghost use Rattle.teb_names.specs.declared.Cell.{Cell as TheCell};
 ghost use Rattle.teb_names.specs.Rows.{row_of, IsAscending};
@@ -10,6 +10,7 @@ ghost use Rattle.teb_rules.specs.Accepted.{IsSound};
 ghost use Rattle.teb_laws.specs.Lawful.{Lawful};
 ghost use Rattle.crash_disk.specs.Calls.{AreSure};
 ghost use Rattle.crash_disk.specs.Disk.{IsQuiet, Only};
+ghost use Rattle.crash_disk.specs.Sizes.{default_capacity};
 ghost use Rattle.record_journal.specs.Format.{Record, recovered, Whole, Damaged};
 ghost use Rattle.record_journal.specs.Journal.{after_records};
 ghost use Rattle.commit_laws.specs.Commits.{commit_count, rows_after};
@@ -27,13 +28,13 @@ pub fn recover<D: Disk>(
     start: &Rows,
 ) -> Result<Recovered, RecoverError>
     // The rows are those after all records that the bytes have.
-    ensures found { IfOk result (λ found. (rs : List Record) × (recovered (D.seen disk.old) ≡ Whole rs) × (found.commits ≡ length rs)
+    ensures found { IfOk result (λ found. (rs : List Record) × (recovered default_capacity (D.seen disk.old) ≡ Whole rs) × (found.commits ≡ length rs)
         × ((x : TheCell) → row_of found.rows.items x ≡ after_records rs (row_of start.now) x)) }
 
     ensures ascending { IfOk result (λ found. IsAscending found.rows.items) }
 
     // Damage is told where the bytes have it.
-    ensures damaged { (at : ℕ) → IsErrOf result (RecoverError.Damaged at) → recovered (D.seen disk.old) ≡ Damaged at }
+    ensures damaged { (at : ℕ) → IsErrOf result (RecoverError.Damaged at) → recovered default_capacity (D.seen disk.old) ≡ Damaged at }
 
     // On an image that a crash leaves of a store on a disk the rows are those after the first k commits, for a k that is at
     // least what was acknowledged, and there is no damage.
@@ -44,10 +45,13 @@ pub fn recover<D: Disk>(
 
     // From then on a crash leaves what was read.
     ensures durable { OnOk result (Only (D.seen disk.old) (D.may_leave disk.new)) }
-    ensures quiet { IsQuiet D.seen D.may_leave D.moment D.left_since D.faults disk.old disk.new }
+    ensures quiet { IsQuiet D.seen D.may_leave D.moment D.left_since D.faults D.capacity disk.old disk.new }
     ensures cause { IsErrOf result RecoverError.DiskFault → Rose (D.faults disk.old) (D.faults disk.new) }
+    // Where no call failed, no fault is counted.
+    ensures no_fault { OnOk result (D.faults disk.new ≡ D.faults disk.old) }
+    ensures no_other_fault { IfErr result (λ e. (e ≡ RecoverError.DiskFault → ⊥) → D.faults disk.new ≡ D.faults disk.old) }
     // It makes a sync, and then as many calls at most as there are bytes, and one.
-    ensures sure { AreSure (D.tally disk.old).promise.writes 1 0 (D.tally disk.old) → AreSure (D.tally disk.old).promise.reads 1048578 0 (D.tally disk.old)
+    ensures sure { AreSure (D.tally disk.old).promise.writes 1 0 (D.tally disk.old) → AreSure (D.tally disk.old).promise.reads (default_capacity + 2) 0 (D.tally disk.old)
         → IsErrOf result RecoverError.DiskFault → ⊥ }
 {
     read_rows(alloc, disk, start.rows())

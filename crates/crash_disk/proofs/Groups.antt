@@ -2,6 +2,7 @@
 use Rattle.std.proofs.Common.{◌≡◌, ℕ, ◌+◌, ◌≤◌, refl, sym, ◌∙◌, ap, subst, inl, inr, arith, Result, Ok, Err}
 use Rattle.std.specs.Prelude.{IsOk, IsErr}
 use Rattle.teb_io.specs.Faults.{next}
+use Rattle.crash_disk.specs.declared.room.Room.{Room}
 use Rattle.crash_disk.specs.Calls.{Promise, Tally, IsBefore, IsFrom, AreSure, Fails, IsUpTo, AreCalls, memory_tally}
 
 before_fewer : (stop n m : ℕ) → IsBefore stop n → m ≤ n → IsBefore stop m
@@ -10,9 +11,9 @@ before_fewer stop n m (inr low) le = inr (omega arith)
 
 -- ---- a disk in memory
 
-pub call_ok : {T E : Type 0} (most made made' written written' stop stop' n : ℕ) (v : T) → made' ≡ next made → stop' ≡ stop → written' ≤ written + n → (IsFrom stop (next made) → ⊥) → AreCalls {E = E} most 1 n (memory_tally made written stop) (memory_tally made' written' stop') (Ok v)
-call_ok most made made' written written' stop stop' n v is same le never = record {
-  up_to = record { made = omega arith; written = le; promise = ap (λ (s : ℕ). (memory_tally 0 0 s).promise) same };
+pub call_ok : {T E : Type 0} (most made made' written written' stop stop' n : ℕ) (room room' : Room) (v : T) → room' ≡ room → made' ≡ next made → stop' ≡ stop → written' ≤ written + n → (IsFrom stop (next made) → ⊥) → AreCalls {E = E} most 1 n (memory_tally made written stop room) (memory_tally made' written' stop' room') (Ok v)
+call_ok most made made' written written' stop stop' n room room' v roomy is same le never = record {
+  up_to = record { made = omega arith; written = le; promise = ap (λ (s : ℕ). (memory_tally 0 0 s room').promise) same ∙ ap (λ (r : Room). (memory_tally 0 0 stop r).promise) roomy };
   all = λ small. omega arith;
   sure = λ s. refl;
   fails = λ f. let small = f.small in absurd (never (f.from.0, omega (arith, f.from.1)));

@@ -1,11 +1,15 @@
 -- What one more step does to a log.
-use Rattle.std.proofs.Common.{replicate, slice_get, zero, Some, None, ◌≡◌, ◌⊎◌, inl, inr, ℕ, ◌+◌, ◌-◌, ◌<◌, ◌≤◌, max, List, [], ◌∷◌, ◌++◌, length, get_or, take, drop, refl, sym, ◌∙◌, ap, subst, arith, length-append, length-drop, suc, take-append-drop}
-use Rattle.std.proofs.lemmas.List.{get_or-take, get_or-drop, get_or_append_left, get_or-append_right, length-take-le, take-append-le, drop-append-le, take_all, length-replicate}
+use Rattle.std.specs.Prelude.{IsTrue, ◌↔◌}
+use Rattle.std.proofs.Common.{Bool, true, false, replicate, slice_get, zero, Some, None, ◌≡◌, ◌⊎◌, inl, inr, ℕ, ◌+◌, ◌-◌, ◌<◌, ◌≤◌, max, List, [], ◌∷◌, ◌++◌, length, get_or, take, drop, refl, sym, ◌∙◌, ap, subst, arith, length-append, length-drop, suc, take-append-drop}
+use Rattle.std.proofs.lemmas.List.{get_or-take, get_or-drop, get_or_append_left, get_or-append_right, length-take-le, take-append-le, drop-append-le, take_all, drop_all, append-nil, length-replicate}
 use Rattle.std.proofs.lemmas.Bool.{cases_lt}
 use Rattle.crash_disk.specs.declared.call.Call.{Call}
 use Rattle.crash_disk.specs.declared.call.Call.TheVariants as call
-use Rattle.crash_disk.specs.Disk.{IsTorn, Elapses, Follows, NoMore}
-use Rattle.crash_disk.specs.Log.{Step, Wrote, Synced, steps, total, Image, bytes_of, after_step, after_steps, left_after, IsLeft, blank, contents, MayLeave, LeftSince, image_of, room, zeros, AllFit, byte_count, IsOneWriteLess, EndsSynced, synced_image, safe_contents}
+use Rattle.crash_disk.specs.declared.room.Room.{Room}
+use Rattle.crash_disk.specs.declared.room.Room.TheVariants.{Reserved}
+use Rattle.crash_disk.specs.Sizes.{MayHold, reserved_calls, reserved_bytes}
+use Rattle.crash_disk.specs.Disk.{IsTorn, Holds, Elapses, Follows, NoMore}
+use Rattle.crash_disk.specs.Log.{Step, Wrote, Synced, steps, total, padded, written, after_step, after_steps, left_after, IsLeft, contents, MayLeave, LeftSince, byte_count, IsOneWriteLess, EndsSynced, synced_bytes, safe_contents}
 use Rattle.crash_disk.specs.LogLaws.{read_is_left}
 
 -- ---- the log
@@ -35,11 +39,11 @@ total-sync [] = refl
 total-sync (call.Write at n ∷ cs) = ap (λ (k : ℕ). n + k) (total-sync cs)
 total-sync (call.Sync ∷ cs) = total-sync cs
 
-pub after_steps-push : (m : Image) (xs : List Step) (x : Step) → after_steps m (xs ++ x ∷ []) ≡ after_step (after_steps m xs) x
+pub after_steps-push : (m : List ℕ) (xs : List Step) (x : Step) → after_steps m (xs ++ x ∷ []) ≡ after_step (after_steps m xs) x
 after_steps-push m [] x = refl
 after_steps-push m (y ∷ xs) x = after_steps-push (after_step m y) xs x
 
-IsLeft-push : (m : Image) (left : List ℕ → Type 0) (xs : List Step) (x : Step) (c : List ℕ) → IsLeft m left (xs ++ x ∷ []) c → left_after (after_steps m xs) (IsLeft m left xs) x c
+IsLeft-push : (m : List ℕ) (left : List ℕ → Type 0) (xs : List Step) (x : Step) (c : List ℕ) → IsLeft m left (xs ++ x ∷ []) c → left_after (after_steps m xs) (IsLeft m left xs) x c
 IsLeft-push m left [] x c has = has
 IsLeft-push m left (y ∷ xs) x c has = IsLeft-push (after_step m y) (left_after m left y) xs x c has
 
@@ -60,96 +64,97 @@ elapses_to xs ys x is = subst (λ (l : List Step). Elapses (length xs) (length l
 
 -- ---- a write
 
-module _ (m : Image) (at : ℕ) (piece : List ℕ) (inside : m.len ≤ length m.all) (fits : at + length piece ≤ length m.all) where
-  n : ℕ
-  n = length piece
+module _ (at : ℕ) (piece m : List ℕ) where
+  abbrev wide : List ℕ
+  wide = padded (at + length piece) m
 
-  abbrev now : Image
-  now = after_step m (Wrote at piece)
+  abbrev now : List ℕ
+  now = written at piece m
 
-  length-front : length (take at m.all) ≡ at
-  length-front = length-take-le at m.all (omega arith)
+  length-wide : length wide ≡ max (length m) (at + length piece)
+  length-wide =
+      let none : ℕ = 0 in
+      omega (arith, length-append m (replicate (at + length piece - length m) none), length-replicate (at + length piece - length m) none)
 
-  pub length-all : length now.all ≡ length m.all
-  length-all = omega (arith, length-append (take at m.all) (piece ++ drop (at + length piece) m.all), length-append piece (drop (at + length piece) m.all), length-front, length-drop (at + length piece) m.all)
+  length-front : length (take at wide) ≡ at
+  length-front = length-take-le at wide (omega (arith, length-wide))
 
-  length-old : length (bytes_of m) ≡ m.len
-  length-old = length-take-le m.len m.all inside
+  pub length-written : length now ≡ max (length m) (at + length piece)
+  length-written = omega (arith, length-append (take at wide) (piece ++ drop (at + length piece) wide), length-append piece (drop (at + length piece) wide), length-front, length-drop (at + length piece) wide, length-wide)
 
-  length-now : length (bytes_of now) ≡ max m.len (at + length piece)
-  length-now = length-take-le (max m.len (at + length piece)) now.all (omega (arith, length-all))
+  low : (i : ℕ) → i < at → get_or now i 0 ≡ get_or wide i 0
+  low i lt = get_or_append_left (take at wide) (piece ++ drop (at + length piece) wide) 0 i (omega (arith, length-front)) ∙ get_or-take at wide i 0 lt
 
-  low : (i : ℕ) → i < at → get_or now.all i 0 ≡ get_or m.all i 0
-  low i lt = get_or_append_left (take at m.all) (piece ++ drop (at + length piece) m.all) 0 i (omega (arith, length-front)) ∙ get_or-take at m.all i 0 lt
+  middle : (i : ℕ) → i < length piece → get_or now (at + i) 0 ≡ get_or piece i 0
+  middle i lt =
+      let back : at + i - at ≡ i = omega arith in
+      get_or-append_right (take at wide) (piece ++ drop (at + length piece) wide) at (at + i) 0 length-front (omega arith)
+      ∙ get_or_append_left piece (drop (at + length piece) wide) 0 (at + i - at) (omega arith)
+      ∙ ap (λ (k : ℕ). get_or piece k 0) back
 
-  high : (i : ℕ) → at + length piece ≤ i → get_or now.all i 0 ≡ get_or m.all i 0
+  high : (i : ℕ) → at + length piece ≤ i → get_or now i 0 ≡ get_or wide i 0
   high i le =
       let back : i - at - length piece ≡ i - (at + length piece) = omega arith in
       let whole : at + length piece + (i - (at + length piece)) ≡ i = omega arith in
-      get_or-append_right (take at m.all) (piece ++ drop (at + length piece) m.all) at i 0 length-front (omega arith)
-      ∙ get_or-append_right piece (drop (at + length piece) m.all) (length piece) (i - at) 0 refl (omega arith)
-      ∙ ap (λ (k : ℕ). get_or (drop (at + length piece) m.all) k 0) back
-      ∙ get_or-drop (at + length piece) m.all (i - (at + length piece)) 0
-      ∙ ap (λ (k : ℕ). get_or m.all k 0) whole
+      get_or-append_right (take at wide) (piece ++ drop (at + length piece) wide) at i 0 length-front (omega arith)
+      ∙ get_or-append_right piece (drop (at + length piece) wide) (length piece) (i - at) 0 refl (omega arith)
+      ∙ ap (λ (k : ℕ). get_or (drop (at + length piece) wide) k 0) back
+      ∙ get_or-drop (at + length piece) wide (i - (at + length piece)) 0
+      ∙ ap (λ (k : ℕ). get_or wide k 0) whole
 
-  pub write_torn : IsTorn at (length piece) (bytes_of m) (bytes_of now)
+  pub write_torn : IsTorn at (length piece) m now
   write_torn = record {
     stays = stays;
-    no_shorter = omega (arith, length-old, length-now);
-    no_longer = omega (arith, length-old, length-now);
+    no_shorter = omega (arith, length-written);
+    no_longer = omega (arith, length-written);
   }
     where
-      both : (i : ℕ) → i < m.len → get_or now.all i 0 ≡ get_or m.all i 0 → get_or (bytes_of now) i 0 ≡ get_or (bytes_of m) i 0
-      both i lt same = get_or-take (max m.len (at + length piece)) now.all i 0 (omega arith) ∙ same ∙ sym (get_or-take m.len m.all i 0 lt)
+      old : (i : ℕ) → i < length m → get_or wide i 0 ≡ get_or m i 0
+      old i lt = get_or_append_left m (replicate (at + length piece - length m) 0) 0 i lt
 
-      stays : (i : ℕ) → i < length (bytes_of m) → (i < at) ⊎ (at + length piece ≤ i) → get_or (bytes_of now) i 0 ≡ get_or (bytes_of m) i 0
-      stays i lt (inl below) = both i (omega (arith, length-old)) (low i below)
-      stays i lt (inr above) = both i (omega (arith, length-old)) (high i above)
+      stays : (i : ℕ) → i < length m → (i < at) ⊎ (at + length piece ≤ i) → get_or now i 0 ≡ get_or m i 0
+      stays i lt (inl below) = low i below ∙ old i lt
+      stays i lt (inr above) = high i above ∙ old i lt
+
+  pub write_holds : Holds at piece now
+  write_holds = record { within = λ i lt. omega (arith, lt, length-written); each = middle }
 
 -- ---- what the calls of a disk promise, of a log
 
 module _ (xs ys : List Step) where
   pub write_crash : (at : ℕ) (piece : List ℕ) → ys ≡ xs ++ Wrote at piece ∷ [] → IsTorn at (length piece) (contents xs) (contents ys) → Follows (IsTorn at (length piece)) (MayLeave xs) (MayLeave ys)
-  write_crash at piece is torn c left = either (IsLeft-push blank (λ d. d ≡ []) xs (Wrote at piece) c (subst (λ (l : List Step). MayLeave l c) is left))
+  write_crash at piece is torn c left = either (IsLeft-push [] (λ d. d ≡ []) xs (Wrote at piece) c (subst (λ (l : List Step). MayLeave l c) is left))
     where
-      made : contents ys ≡ bytes_of (after_step (after_steps blank xs) (Wrote at piece))
-      made = ap contents is ∙ ap bytes_of (after_steps-push blank xs (Wrote at piece))
+      made : contents ys ≡ written at piece (contents xs)
+      made = ap contents is ∙ after_steps-push [] xs (Wrote at piece)
 
-      either : left_after (after_steps blank xs) (MayLeave xs) (Wrote at piece) c → (d : List ℕ) × MayLeave xs d × IsTorn at (length piece) d c
+      either : left_after (contents xs) (MayLeave xs) (Wrote at piece) c → (d : List ℕ) × MayLeave xs d × IsTorn at (length piece) d c
       either (inl cut) = cut
       either (inr whole) = (contents xs, read_is_left xs, subst (IsTorn at (length piece) (contents xs)) (made ∙ sym whole) torn)
 
   pub sync_only : ys ≡ xs ++ Synced ∷ [] → (c : List ℕ) → MayLeave ys c → c ≡ contents xs
-  sync_only is c left = IsLeft-push blank (λ d. d ≡ []) xs Synced c (subst (λ (l : List Step). MayLeave l c) is left)
+  sync_only is c left = IsLeft-push [] (λ d. d ≡ []) xs Synced c (subst (λ (l : List Step). MayLeave l c) is left)
 
   pub sync_same : ys ≡ xs ++ Synced ∷ [] → contents ys ≡ contents xs
-  sync_same is = ap contents is ∙ ap bytes_of (after_steps-push blank xs Synced)
+  sync_same is = ap contents is ∙ after_steps-push [] xs Synced
 
   pub sync_crash : ys ≡ xs ++ Synced ∷ [] → NoMore (MayLeave xs) (MayLeave ys)
   sync_crash is c left = subst (MayLeave xs) (sym (sync_only is c left)) (read_is_left xs)
 
 -- ---- a disk in memory, after a call
 
-pub told_sync : (xs ys : List Step) (m : Image) → ys ≡ xs ++ Synced ∷ [] → after_steps blank xs ≡ m → after_steps blank ys ≡ m
-told_sync xs ys m is told = ap (after_steps blank) is ∙ after_steps-push blank xs Synced ∙ told
+pub told_write : (xs ys : List Step) (at : ℕ) (all all' piece : List ℕ) → ys ≡ xs ++ Wrote at piece ∷ [] → contents xs ≡ all → all' ≡ written at piece all → contents ys ≡ all'
+told_write xs ys at all all' piece is told is-all = ap contents is ∙ after_steps-push [] xs (Wrote at piece) ∙ ap (written at piece) told ∙ sym is-all
 
-pub told_write : (xs ys : List Step) (len len' at : ℕ) (all all' piece : List ℕ) → ys ≡ xs ++ Wrote at piece ∷ [] → after_steps blank xs ≡ image_of len all → len' ≡ max len (at + length piece)
-    → all' ≡ take at all ++ (piece ++ drop (at + length piece) all) → after_steps blank ys ≡ image_of len' all'
-told_write xs ys len len' at all all' piece is told is-len is-all =
-    ap (after_steps blank) is
-    ∙ after_steps-push blank xs (Wrote at piece)
-    ∙ ap (λ (m : Image). after_step m (Wrote at piece)) told
-    ∙ ap (λ (k : ℕ). image_of k (take at all ++ (piece ++ drop (at + length piece) all))) (sym is-len)
-    ∙ ap (λ (l : List ℕ). image_of len' l) (sym is-all)
+-- the bytes after a write, of a log
+wrote_contents : (xs ys : List Step) (at : ℕ) (piece : List ℕ) → ys ≡ xs ++ Wrote at piece ∷ [] → contents ys ≡ written at piece (contents xs)
+wrote_contents xs ys at piece is = ap contents is ∙ after_steps-push [] xs (Wrote at piece)
 
-pub torn_write : (xs ys : List Step) (len at : ℕ) (all piece : List ℕ) → ys ≡ xs ++ Wrote at piece ∷ [] → after_steps blank xs ≡ image_of len all → len ≤ length all → at + length piece ≤ length all
-    → IsTorn at (length piece) (contents xs) (contents ys)
-torn_write xs ys len at all piece is told inside fits =
-    let old : bytes_of (image_of len all) ≡ contents xs = ap bytes_of (sym told) in
-    let new : bytes_of (after_step (image_of len all) (Wrote at piece)) ≡ contents ys =
-    sym (ap contents is ∙ ap bytes_of (after_steps-push blank xs (Wrote at piece)) ∙ ap (λ (m : Image). bytes_of (after_step m (Wrote at piece))) told) in
-    subst (λ (c : List ℕ). IsTorn at (length piece) c (contents ys)) old
-    (subst (λ (c : List ℕ). IsTorn at (length piece) (bytes_of (image_of len all)) c) new (write_torn (image_of len all) at piece inside fits))
+pub torn_write : (xs ys : List Step) (at : ℕ) (piece : List ℕ) → ys ≡ xs ++ Wrote at piece ∷ [] → IsTorn at (length piece) (contents xs) (contents ys)
+torn_write xs ys at piece is = subst (IsTorn at (length piece) (contents xs)) (sym (wrote_contents xs ys at piece is)) (write_torn at piece (contents xs))
+
+pub holds_write : (xs ys : List Step) (at : ℕ) (piece : List ℕ) → ys ≡ xs ++ Wrote at piece ∷ [] → Holds at piece (contents ys)
+holds_write xs ys at piece is = subst (Holds at piece) (sym (wrote_contents xs ys at piece is)) (write_holds at piece (contents xs))
 
 pub joined_write : (cs cs' : List Call) (bytes bytes' piece : List ℕ) (at : ℕ) → total cs ≡ length bytes → cs' ≡ cs ++ call.Write at (length piece) ∷ [] → bytes' ≡ bytes ++ piece → steps cs' bytes' ≡ steps cs bytes ++ Wrote at piece ∷ []
 joined_write cs cs' bytes bytes' piece at whole is-cs is-bytes =
@@ -158,31 +163,23 @@ joined_write cs cs' bytes bytes' piece at whole is-cs is-bytes =
 pub joined_sync : (cs cs' : List Call) (bytes : List ℕ) → cs' ≡ cs ++ call.Sync ∷ [] → steps cs' bytes ≡ steps cs bytes ++ Synced ∷ []
 joined_sync cs cs' bytes is = ap (λ (l : List Call). steps l bytes) is ∙ steps-sync cs bytes
 
-room_is : room ≡ 1048576
-unfolding room
-room_is = refl
-
-pub length-zeros : length zeros ≡ 1048576
-unfolding zeros
-length-zeros = length-replicate room 0 ∙ room_is
-
 -- ---- what is safe
 
-synced-push : (kept m : Image) (xs : List Step) → synced_image kept m (xs ++ Synced ∷ []) ≡ after_steps m xs
+synced-push : (kept m : List ℕ) (xs : List Step) → synced_bytes kept m (xs ++ Synced ∷ []) ≡ after_steps m xs
 synced-push kept m [] = refl
 synced-push kept m (Wrote at piece ∷ xs) = synced-push kept (after_step m (Wrote at piece)) xs
 synced-push kept m (Synced ∷ xs) = synced-push m m xs
 
-unsynced-push : (kept m : Image) (xs : List Step) (at : ℕ) (piece : List ℕ) → synced_image kept m (xs ++ Wrote at piece ∷ []) ≡ synced_image kept m xs
+unsynced-push : (kept m : List ℕ) (xs : List Step) (at : ℕ) (piece : List ℕ) → synced_bytes kept m (xs ++ Wrote at piece ∷ []) ≡ synced_bytes kept m xs
 unsynced-push kept m [] at piece = refl
 unsynced-push kept m (Wrote k q ∷ xs) at piece = unsynced-push kept (after_step m (Wrote k q)) xs at piece
 unsynced-push kept m (Synced ∷ xs) at piece = unsynced-push m m xs at piece
 
 pub safe_sync : (xs ys : List Step) → ys ≡ xs ++ Synced ∷ [] → safe_contents ys ≡ contents xs
-safe_sync xs ys is = ap safe_contents is ∙ ap bytes_of (synced-push blank blank xs)
+safe_sync xs ys is = ap safe_contents is ∙ synced-push [] [] xs
 
 pub safe_write : (xs ys : List Step) (at : ℕ) (piece : List ℕ) → ys ≡ xs ++ Wrote at piece ∷ [] → safe_contents ys ≡ safe_contents xs
-safe_write xs ys at piece is = ap safe_contents is ∙ ap bytes_of (unsynced-push blank blank xs at piece)
+safe_write xs ys at piece is = ap safe_contents is ∙ unsynced-push [] [] xs at piece
 
 -- ---- how long a log is
 
@@ -205,21 +202,6 @@ pub count-sync : (xs : List Step) → byte_count (xs ++ Synced ∷ []) ≡ byte_
 count-sync [] = refl
 count-sync (Wrote k q ∷ xs) = ap (λ (n : ℕ). length q + n) (count-sync xs)
 count-sync (Synced ∷ xs) = count-sync xs
-
-pub fit-write : (cs : List Call) (at n : ℕ) → AllFit cs → at + n ≤ 1048576 → AllFit (cs ++ call.Write at n ∷ [])
-fit-write [] at n all le = (le, tt)
-fit-write (call.Write k m ∷ cs) at n all le = (all.0, fit-write cs at n all.1 le)
-fit-write (call.Sync ∷ cs) at n all le = fit-write cs at n all le
-
-pub fit-sync : (cs : List Call) → AllFit cs → AllFit (cs ++ call.Sync ∷ [])
-fit-sync [] all = tt
-fit-sync (call.Write k m ∷ cs) all = (all.0, fit-sync cs all.1)
-fit-sync (call.Sync ∷ cs) all = fit-sync cs all
-
-pub fit-front : (cs ds : List Call) → AllFit (cs ++ ds) → AllFit cs
-fit-front [] ds all = tt
-fit-front (call.Write k m ∷ cs) ds all = (all.0, fit-front cs ds all.1)
-fit-front (call.Sync ∷ cs) ds all = fit-front cs ds all
 
 -- ---- one write less
 
@@ -300,17 +282,44 @@ one_less_of cs less bytes fewer at n old split is counted view =
     subst (λ (o : List Step). IsOneWriteLess o (steps less fewer)) (ap (λ (l : List Call). steps l bytes) (sym split) ∙ view)
     (subst (λ (b : List ℕ). IsOneWriteLess (steps (less ++ call.Write at n ∷ []) bytes) (steps less b)) (sym is) (one_less less bytes at n (ap total (sym split) ∙ counted)))
 
--- one write of a log, carried out again
-pub replayed : (len at size len' : ℕ) (image rest image' rest' piece : List ℕ) (ds : List Call) (target : Image) → after_steps (image_of len image) (steps (call.Write at size ∷ ds) rest) ≡ target → size ≤ length rest → piece ≡ take size rest → rest' ≡ drop size rest
-    → len' ≡ max len (at + size) → image' ≡ take at image ++ (piece ++ drop (at + length piece) image) → after_steps (image_of len' image') (steps ds rest') ≡ target
-replayed len at size len' image rest image' rest' piece ds target told le is-piece is-rest is-len is-image =
-    let long : length piece ≡ size = ap length is-piece ∙ length-take-le size rest le in
-    ap (λ (r : List ℕ). after_steps (image_of len' image') (steps ds r)) is-rest
-    ∙ ap (λ (a : List ℕ). after_steps (image_of len' a) (steps ds (drop size rest))) is-image
-    ∙ ap (λ (l : ℕ). after_steps (image_of l (take at image ++ (piece ++ drop (at + length piece) image))) (steps ds (drop size rest))) (is-len ∙ ap (λ (k : ℕ). max len (at + k)) (sym long))
-    ∙ ap (λ (p : List ℕ). after_steps (image_of (max len (at + length p)) (take at image ++ (p ++ drop (at + length p) image))) (steps ds (drop size rest))) is-piece
+-- a write of a log, carried out again
+pub replayed : (at size : ℕ) (image rest image' rest' piece : List ℕ) (ds : List Call) (target : List ℕ) → after_steps image (steps (call.Write at size ∷ ds) rest) ≡ target → piece ≡ take size rest → rest' ≡ drop size rest
+    → image' ≡ written at piece image → after_steps image' (steps ds rest') ≡ target
+replayed at size image rest image' rest' piece ds target told is-piece is-rest is-image =
+    ap (λ (r : List ℕ). after_steps image' (steps ds r)) is-rest
+    ∙ ap (λ (a : List ℕ). after_steps a (steps ds (drop size rest))) is-image
+    ∙ ap (λ (p : List ℕ). after_steps (written at p image) (steps ds (drop size rest))) is-piece
     ∙ told
 
-pub zeros_are : replicate 1048576 0 ≡ zeros
-unfolding zeros
-zeros_are = ap (λ (n : ℕ). replicate n 0) (sym room_is)
+-- the bytes never get fewer, and each write ends within those of the end
+pub no_shorter : (m : List ℕ) (xs : List Step) → length m ≤ length (after_steps m xs)
+no_shorter m [] = omega arith
+no_shorter m (Wrote at piece ∷ xs) = omega (arith, length-written at piece m, no_shorter (written at piece m) xs)
+no_shorter m (Synced ∷ xs) = no_shorter m xs
+
+pub next_fits : (at size : ℕ) (image rest piece : List ℕ) (ds : List Call) (target : List ℕ) → after_steps image (steps (call.Write at size ∷ ds) rest) ≡ target → piece ≡ take size rest → at + length piece ≤ length target
+next_fits at size image rest piece ds target told is-piece =
+    omega (arith, ap length told, ap length is-piece, length-written at (take size rest) image, no_shorter (written at (take size rest) image) (steps ds (drop size rest)))
+
+pub less_long : (old new : List Step) → IsOneWriteLess old new → length (contents new) ≤ length (contents old)
+less_long old new less = omega (arith, ap (λ (xs : List Step). length (contents xs)) less.is, ap length (after_steps-push [] new (Wrote less.at less.piece)), length-written less.at less.piece (contents new))
+
+none_left : (bytes : List ℕ) → length (padded (0 + length bytes) []) ≡ 0 + length bytes
+none_left bytes =
+    let none : ℕ = 0 in
+    let all : 0 + length bytes - 0 ≡ 0 + length bytes = omega arith in
+    length-replicate (0 + length bytes - 0) none ∙ all
+
+-- a disk with one write, of all of its bytes, and a sync
+pub filled : (bytes : List ℕ) → contents (Wrote 0 bytes ∷ Synced ∷ []) ≡ bytes
+filled bytes =
+    ap (λ (l : List ℕ). bytes ++ l) (drop_all (0 + length bytes) (padded (0 + length bytes) []) (omega (arith, none_left bytes)))
+    ∙ append-nil bytes
+
+-- ---- how much a log may hold
+
+pub has_room : (r : Room) (b : Bool) (calls bytes : ℕ) → (IsTrue b ↔ MayHold r calls bytes) → b ≡ false → r ≡ Reserved → calls ≤ reserved_calls → bytes ≤ reserved_bytes → ⊥
+has_room r b calls bytes holds refused is few few_bytes = absurd (cc (refused, holds.1 (subst (λ (q : Room). MayHold q calls bytes) (sym is) (few, few_bytes))))
+
+pub room_used : (r : Room) (b : Bool) (calls bytes : ℕ) → (IsTrue b ↔ MayHold r calls bytes) → b ≡ true → r ≡ Reserved → calls ≤ reserved_calls
+room_used r b calls bytes holds fits is = (subst (λ (q : Room). MayHold q calls bytes) is (holds.0 fits)).0

@@ -1,5 +1,7 @@
 -- The calls of a disk: how many were made, and which of them are sure to succeed or to fail.
 use Rattle.std.specs.Prelude.{◌≡◌, ◌⊎◌, ℕ, ◌+◌, ◌<◌, ◌≤◌, ◌^◌, Result, OnOk, IsOk, IsErr}
+use Rattle.crash_disk.specs.declared.room.Room.{Room}
+use Rattle.crash_disk.specs.Sizes.{promised_reads, promised_calls, promised_bytes}
 
 -- From call `stop` on all calls fail; 0 names no call. Before it a read succeeds that is one of the first `reads` calls, and a write
 -- or a sync that is one of the first `writes` calls, as long as no more than `bytes` bytes are written in all.
@@ -46,6 +48,7 @@ pub record AreCalls {T E : Type 0} (most k n : ℕ) (old new : Tally) (result : 
   pub sure : AreSure most k n old → IsOk result
   pub fails : Fails k old → IsErr result
 
--- a disk in memory promises all calls before its stop, for which it has room in its log
-abbrev pub memory_tally : ℕ → ℕ → ℕ → Tally
-memory_tally made written stop = record { made = made; written = written; promise = record { stop = stop; reads = 4294967295; writes = 262147; bytes = 2097152 } }
+-- A disk in memory promises the calls before its stop: those that read, and the writes and syncs for which memory is reserved.
+abbrev pub memory_tally : ℕ → ℕ → ℕ → Room → Tally
+memory_tally made written stop room =
+    record { made = made; written = written; promise = record { stop = stop; reads = promised_reads; writes = promised_calls room; bytes = promised_bytes room } }

@@ -48,9 +48,10 @@ pub record LeavesOnly {D : Type 0} (moment : D → ℕ) (left_since : D → ℕ 
   -- for a run that began earlier
   pub before : (t : ℕ) (c : List ℕ) → t ≤ moment old → left_since new t c → left_since old t c ⊎ P c
 
--- nothing was written: the bytes are the same, and a crash at any moment leaves what it could leave before
-pub record IsQuiet {D : Type 0} (seen : D → List ℕ) (may_leave : D → List ℕ → Type 0) (moment : D → ℕ) (left_since : D → ℕ → List ℕ → Type 0) (faults : D → ℕ) (old new : D) : Type 0 where
+-- nothing was written: the bytes are the same, a crash at any moment leaves what it could leave before, and the disk can hold as many bytes
+pub record IsQuiet {D : Type 0} (seen : D → List ℕ) (may_leave : D → List ℕ → Type 0) (moment : D → ℕ) (left_since : D → ℕ → List ℕ → Type 0) (faults capacity : D → ℕ) (old new : D) : Type 0 where
   pub same : seen new ≡ seen old
   pub crash : NoMore (may_leave old) (may_leave new)
   pub any_moment : LeavesOnly moment left_since old new (may_leave old)
   pub later : faults old ≤ faults new
+  pub stays : capacity new ≡ capacity old

@@ -5,9 +5,11 @@ use Rattle.crash_disk.specs.declared.memory.MemDisk.{MemDisk}
 
 -- its bytes are those that were safe, and a crash leaves nothing else; no call is sure to fail; as many calls were made
 pub record IsLeft (old left : MemDisk) : Type 0 where
-  pub contents : contents left.log ≡ safe_contents old.log
-  pub only : (c : List ℕ) → MayLeave left.log c → c ≡ safe_contents old.log
+  pub contents : contents left.log.steps ≡ safe_contents old.log.steps
+  pub only : (c : List ℕ) → MayLeave left.log.steps c → c ≡ safe_contents old.log.steps
+  pub capacity : left.capacity ≡ old.capacity
+  pub room : left.log.room ≡ old.log.room
   pub stop : left.counter.stop ≡ 0
   pub made : left.counter.made ≡ old.counter.made
   pub faults : left.counter.faults ≡ old.counter.faults
-  pub written : byte_count left.log ≤ byte_count old.log
+  pub written : byte_count left.log.steps ≤ byte_count old.log.steps

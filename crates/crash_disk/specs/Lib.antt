@@ -1,5 +1,6 @@
 pub mod Calls
 pub mod Disk
+pub mod Sizes
 pub mod Log
 pub mod LogLaws
 pub mod Left

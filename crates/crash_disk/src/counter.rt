@@ -1,6 +1,6 @@
 //! Which calls fail, and how many did.
 
-ghost use Rattle.std.specs.Prelude.{◌≡◌, ◌≤◌, IsOk, IsErr};
+ghost use Rattle.std.specs.Prelude.{◌≡◌, ◌≤◌, OnOk, IsOk, IsErr};
 ghost use Rattle.teb_io.specs.Faults.{HasCause, Rose, next};
 ghost use Rattle.crash_disk.specs.Calls.{IsBefore, IsFrom};
 
@@ -18,6 +18,17 @@ pub struct Counter {
 }
 
 impl Counter {
+    /// No call was made. The calls from `stop` on fail; 0 names no call.
+    pub fn from_stop(stop: u32) -> Counter
+        ensures { result ≡ record { made = 0; stop = stop; faults = 0 } }
+    {
+        Counter {
+            made: 0,
+            stop,
+            faults: 0,
+        }
+    }
+
     /// Counts one call more.
     ///
     /// # Errors
@@ -29,6 +40,7 @@ impl Counter {
         ensures sure { IsBefore self.old.stop (next self.old.made) → IsOk result }
         ensures stopped { IsFrom self.old.stop (next self.old.made) → IsErr result }
         ensures cause { HasCause self.old.faults self.new.faults result }
+        ensures no_fault { OnOk result (self.new.faults ≡ self.old.faults) }
     {
         self.made = self.made.saturating_add(1);
         if self.stop != 0 && self.made >= u64::from(self.stop) {

@@ -1,14 +1,14 @@
 //! A disk as a journal sees it: what a read gives, and what a crash may leave.
 
-ghost use Rattle.std.specs.Prelude.{◌≡◌, ◌+◌, ◌≤◌, List, ℕ, length, IfOk, OnOk, OnErr};
+ghost use Rattle.std.specs.Prelude.{◌≡◌, ◌+◌, ◌<◌, ◌≤◌, ◌^◌, List, ℕ, length, IfOk, OnOk, OnErr};
 ghost use Rattle.crash_disk.specs.Disk.{Only, Follows, NoMore, IsTorn, Holds, IsRead, Elapses};
 ghost use Rattle.crash_disk.specs.Calls.{Tally, AreCalls};
 ghost use Rattle.teb_io.specs.Faults.{HasCause};
 
 use teb_io::Failed;
 
-/// How many bytes of a device are used: each write ends there or before.
-pub const MOST_BYTES: u64 = 1_048_576;
+/// The capacity of a disk for which none is told, in bytes.
+pub const DEFAULT_CAPACITY: u64 = 1_048_576;
 
 /// A device of bytes, which may crash at any moment. Each call may fail, and a call that fails raises the count of faults.
 pub trait Disk {
@@ -33,6 +33,13 @@ pub trait Disk {
     /// How many calls were made, and which are sure to succeed or to fail.
     ghost tally: { Self → Tally };
 
+    /// How many bytes it can hold. It stays.
+    ghost capacity: { Self → ℕ };
+
+    /// Returns how many bytes the disk can hold: each write ends there or before. It is no call of the device.
+    fn capacity(&self) -> u64
+        ensures { result ≡ capacity self.now };
+
     /// How many bytes there are. It changes no byte, and nothing that a crash may leave.
     ///
     /// # Errors
@@ -43,8 +50,10 @@ pub trait Disk {
         ensures crash { NoMore (may_leave self.old) (may_leave self.new) }
         ensures time { Elapses (moment self.old) (moment self.new) (left_since self.old) (left_since self.new) (may_leave self.new) }
         ensures safe { safe self.new ≡ safe self.old }
+        ensures capacity { capacity self.new ≡ capacity self.old }
         ensures calls { AreCalls (tally self.old).promise.reads 1 0 (tally self.old) (tally self.new) result }
-        ensures cause { HasCause (faults self.old) (faults self.new) result };
+        ensures cause { HasCause (faults self.old) (faults self.new) result }
+        ensures no_fault { OnOk result (faults self.new ≡ faults self.old) };
 
     /// Reads the next bytes from a place on into the front of the buffer, as many as it likes, and answers how many. For a buffer
     /// that is not empty, 0 comes only at or past the end. It changes no byte of the device, and nothing that a crash may leave.
@@ -57,8 +66,10 @@ pub trait Disk {
         ensures crash { NoMore (may_leave self.old) (may_leave self.new) }
         ensures time { Elapses (moment self.old) (moment self.new) (left_since self.old) (left_since self.new) (may_leave self.new) }
         ensures safe { safe self.new ≡ safe self.old }
+        ensures capacity { capacity self.new ≡ capacity self.old }
         ensures calls { AreCalls (tally self.old).promise.reads 1 0 (tally self.old) (tally self.new) result }
-        ensures cause { HasCause (faults self.old) (faults self.new) result };
+        ensures cause { HasCause (faults self.old) (faults self.new) result }
+        ensures no_fault { OnOk result (faults self.new ≡ faults self.old) };
 
     /// Writes over what is there, and past the end. Until a sync that succeeds, the range and what lies past the old end may hold
     /// any bytes after a crash. All other bytes stay.
@@ -66,14 +77,16 @@ pub trait Disk {
     /// # Errors
     /// `Failed` where the device fails. A read too may then give any bytes in the range and past the old end.
     fn write_at(&mut self, at: u64, bytes: &[u8]) -> Result<(), Failed>
-        requires { at + length bytes.now ≤ 1048576 }
+        requires { at + length bytes.now ≤ capacity self.old }
         ensures written { OnOk result (Holds at bytes.now (seen self.new)) }
         ensures torn { IsTorn at (length bytes.now) (seen self.old) (seen self.new) }
         ensures crash { Follows (IsTorn at (length bytes.now)) (may_leave self.old) (may_leave self.new) }
         ensures time { Elapses (moment self.old) (moment self.new) (left_since self.old) (left_since self.new) (may_leave self.new) }
         ensures safe { safe self.new ≡ safe self.old }
+        ensures capacity { capacity self.new ≡ capacity self.old }
         ensures calls { AreCalls (tally self.old).promise.writes 1 (length bytes.now) (tally self.old) (tally self.new) result }
-        ensures cause { HasCause (faults self.old) (faults self.new) result };
+        ensures cause { HasCause (faults self.old) (faults self.new) result }
+        ensures no_fault { OnOk result (faults self.new ≡ faults self.old) };
 
     /// Makes all bytes safe: a crash right after it leaves what a read gives. It changes no byte.
     ///
@@ -86,9 +99,16 @@ pub trait Disk {
         ensures nothing_safe { OnErr result (NoMore (may_leave self.new) (may_leave self.old)) }
         ensures time { Elapses (moment self.old) (moment self.new) (left_since self.old) (left_since self.new) (may_leave self.new) }
         ensures safe { OnOk result (safe self.new ≡ seen self.old) }
+        ensures capacity { capacity self.new ≡ capacity self.old }
         ensures not_safe { OnErr result (safe self.new ≡ safe self.old) }
         ensures calls { AreCalls (tally self.old).promise.writes 1 0 (tally self.old) (tally self.new) result }
-        ensures cause { HasCause (faults self.old) (faults self.new) result };
+        ensures cause { HasCause (faults self.old) (faults self.new) result }
+        ensures no_fault { OnOk result (faults self.new ≡ faults self.old) };
+
+    /// A disk can hold a byte, and fewer than 2^40.
+    ghost some: { (disk : Self) → 0 < capacity disk };
+
+    ghost small: { (disk : Self) → capacity disk < 2 ^ 40 };
 
     /// What a read gives is one of the images.
     ghost read_is_left: { (disk : Self) → may_leave disk (seen disk) };

@@ -1,35 +1,43 @@
 //! The bytes of a disk in memory.
 
-ghost use Rattle.std.specs.Prelude.{◌≡◌, ◌+◌, ◌<◌, ◌≤◌, ◌++◌, length, take, drop, IfOk};
-ghost use Rattle.crash_disk.specs.Log.{room, zeros};
+ghost use Rattle.std.specs.Prelude.{◌≡◌, ◌+◌, ◌^◌, ◌<◌, ◌≤◌, ◌++◌, length, take, drop, vec_capacity, OnOk, OnErr, IsOk};
+ghost use Rattle.crash_disk.specs.Log.{written};
 
-use crate::MOST_BYTES;
-use std::alloc::{AllocError, Global};
+use std::alloc::AllocError;
 
-/// How many bytes a disk in memory can have.
-#[tactic(auto, unfolding(crate::specs::Log::room))]
-fn room_size() -> usize
-    ensures { result ≡ room }
+/// Reserves memory, so that the image may grow up to `end`. It changes no byte.
+///
+/// # Errors
+/// `AllocError`: out of memory.
+pub fn reserve(image: &mut Vec<u8>, end: usize) -> Result<(), AllocError>
+    ensures same { image.new.items ≡ image.old.items }
+    ensures reserved { OnOk result (end ≤ vec_capacity image.new) }
+    ensures capacity { vec_capacity image.old ≤ vec_capacity image.new }
+    ensures sure { end ≤ vec_capacity image.old → IsOk result }
 {
-    MOST_BYTES as usize
+    if end > image.len() {
+        image.reserve(end - image.len())?;
+    }
+    Ok(())
 }
 
-/// As many zeros as a disk can have bytes. An `Err` comes where memory is wanting.
-#[tactic(auto, unfolding(crate::specs::Log::zeros))]
-pub fn empty_room(alloc: Global) -> Result<Vec<u8>, AllocError>
-    ensures { IfOk result (λ image. image.items ≡ zeros) }
+/// Writes bytes from `at` on, over what is there and past the end, with zeros between.
+///
+/// # Errors
+/// `AllocError`: out of memory. The image is unchanged.
+pub fn put(image: &mut Vec<u8>, at: usize, bytes: &[u8]) -> Result<(), AllocError>
+    requires { at + length bytes.now < 2 ^ 64 }
+    ensures put { OnOk result (image.new.items ≡ written at bytes.now image.old.items) }
+    ensures same { OnErr result (image.new.items ≡ image.old.items) }
+    ensures capacity { vec_capacity image.old ≤ vec_capacity image.new }
+    ensures sure { at + length bytes.now ≤ vec_capacity image.old → IsOk result }
 {
-    let size = room_size();
-    let image = vec![in alloc; 0u8; size]?;
-    Ok(image)
-}
-
-/// Puts bytes in the place of as many others from `at` on. All other bytes stay.
-pub fn overwrite(image: &mut [u8], at: usize, bytes: &[u8])
-    requires { at + length bytes.now ≤ length image.old }
-    ensures { image.new ≡ take at image.old ++ (bytes.now ++ drop (at + length bytes.now) image.old) }
-{
-    image[at..at + bytes.len()].copy_from_slice(bytes);
+    let end = at + bytes.len();
+    if end > image.len() {
+        image.resize(end, 0)?;
+    }
+    image[at..end].copy_from_slice(bytes);
+    Ok(())
 }
 
 /// Copies the bytes from a place on into the front of a buffer, as many as there are and as it has room for, and answers how many.

@@ -6,11 +6,16 @@ mod counter;
 mod disk;
 mod image;
 mod log;
+mod making;
 mod mem_disk;
 mod memory;
+mod renew;
+mod room;
 
 pub use call::Call;
 pub use counter::Counter;
-pub use disk::{Disk, MOST_BYTES};
+pub use disk::{DEFAULT_CAPACITY, Disk};
 pub use log::Log;
 pub use memory::MemDisk;
+pub use renew::Renew;
+pub use room::{RESERVED_BYTES, RESERVED_CALLS, Room};

@@ -1,70 +1,94 @@
 //! What a disk in memory remembers of its writes and syncs.
 
-ghost use Rattle.std.specs.Prelude.{◌≡◌, ◌+◌, ◌<◌, ◌≤◌, ◌++◌, ◌∷◌, [], List, ℕ, length, OnOk, OnErr, IfOk, IsOk, IsTrue, IsFalse};
-ghost use Rattle.crash_disk.specs.Log.{Step, Wrote, Synced, after_steps, image_of, contents, safe_contents, MayLeave, byte_count, IsOneWriteLess, EndsSynced};
+ghost use Rattle.std.specs.Prelude.{◌≡◌, ◌+◌, ◌<◌, ◌≤◌, ◌++◌, ◌∷◌, [], List, ℕ, length, vec_capacity, OnOk, OnErr, IfOk, IsOk, IsTrue, IsFalse};
+ghost use Rattle.crash_disk.specs.declared.room.Room.TheVariants.{Reserved, Growing};
+ghost use Rattle.crash_disk.specs.Sizes.{reserved_calls, reserved_bytes};
+ghost use Rattle.crash_disk.specs.Log.{Step, Wrote, Synced, contents, safe_contents, MayLeave, byte_count, IsOneWriteLess, EndsSynced};
 
-use crate::Call;
-use crate::image::overwrite;
+use crate::image::put;
+use crate::{Call, RESERVED_BYTES, RESERVED_CALLS, Room};
 use std::alloc::{AllocError, Global};
 use std::marker::Model;
 
-/// How many calls a log has room for: two at the start, four for each of 65,536 lines, and one for the sync that a recovery
-/// begins with.
-const CALLS: usize = 262_147;
-
-/// How many bytes a log has room for, those of all writes together.
-const BYTES: usize = 2_097_152;
-
-/// The writes of a disk, with their bytes, and its syncs. Contracts see them as a list of steps, the first one first.
+/// The writes of a disk, with their bytes, and its syncs. Contracts see its steps, the first one first, and how much it may hold.
 #[derive(Drop)]
 pub struct Log {
     calls: Vec<Call>,
     // Those of all writes, one after the other.
     bytes: Vec<u8>,
+    room: Room,
 }
 
 impl Model for Log {
-    ghost use Rattle.std.specs.Prelude.{◌≡◌, ◌≤◌, List, length, vec_capacity};
-    ghost use Rattle.crash_disk.specs.Log.{Step, steps, total, AllFit};
+    ghost use Rattle.std.specs.Prelude.{◌≡◌, ◌≤◌, length, vec_capacity};
+    ghost use Rattle.crash_disk.specs.declared.room.Room.TheVariants.{Reserved};
+    ghost use Rattle.crash_disk.specs.Sizes.{reserved_calls, reserved_bytes};
+    ghost use Rattle.crash_disk.specs.Log.{Logged, steps, total};
 
-    ghost Value = { List Step };
+    ghost Value = { Logged };
 
-    ghost view = { λ l. steps l.calls.items l.bytes.items };
+    ghost view = { λ l. record { steps = steps l.calls.items l.bytes.items; room = l.room } };
 
     ghost invariant = { λ l. record {
       counted : total l.calls.items ≡ length l.bytes.items;
-      fit : AllFit l.calls.items;
-      room : 262147 ≤ vec_capacity l.calls;
-      bytes_room : 2097152 ≤ vec_capacity l.bytes;
+      reserved : l.room ≡ Reserved → reserved_calls ≤ vec_capacity l.calls;
+      reserved_bytes : l.room ≡ Reserved → reserved_bytes ≤ vec_capacity l.bytes;
     } };
 }
 
 impl Log {
-    /// An empty log, with room for 262,147 calls and 2,097,152 bytes. An `Err` comes where memory is wanting.
-    pub fn new(alloc: Global) -> Result<Log, AllocError>
-        ensures { IfOk result (λ log. log ≡ []) }
+    /// An empty log, for whose calls and bytes memory is reserved.
+    ///
+    /// # Errors
+    /// `AllocError`: out of memory.
+    pub fn reserved(alloc: Global) -> Result<Log, AllocError>
+        ensures { IfOk result (λ log. log ≡ record { steps = []; room = Reserved }) }
     {
         Ok(Log {
-            calls: Vec::with_capacity(alloc, CALLS)?,
-            bytes: Vec::with_capacity(alloc, BYTES)?,
+            calls: Vec::with_capacity(alloc, RESERVED_CALLS)?,
+            bytes: Vec::with_capacity(alloc, RESERVED_BYTES)?,
+            room: Room::Reserved,
         })
     }
 
-    /// Adds a write. An `Err`, which comes only where the room is used up, leaves the log as it was.
-    pub fn write(&mut self, at: u64, bytes: &[u8]) -> Result<(), AllocError>
-        requires { at + length bytes.now ≤ 1048576 }
-        ensures added { OnOk result (self.new ≡ self.old ++ Wrote at bytes.now ∷ []) }
-        ensures same { OnErr result (self.new ≡ self.old) }
-        ensures within { OnOk result (length self.old < 262147) }
-        ensures sure { length self.old < 262147 → byte_count self.old + length bytes.now ≤ 2097152 → IsOk result }
+    /// An empty log that grows as memory lasts.
+    pub fn growing(alloc: Global) -> Log
+        ensures { result ≡ record { steps = []; room = Growing } }
     {
-        if self.calls.len() >= CALLS {
-            return Err(AllocError);
+        Log {
+            calls: Vec::new(alloc),
+            bytes: Vec::new(alloc),
+            room: Room::Growing,
         }
-        if self.bytes.len() + bytes.len() > BYTES {
-            return Err(AllocError);
-        }
+    }
+
+    /// A log of one write, of these bytes at the front, and a sync. It grows as memory lasts.
+    ///
+    /// # Errors
+    /// `AllocError`: out of memory.
+    pub fn of(alloc: Global, bytes: &[u8]) -> Result<Log, AllocError>
+        ensures { IfOk result (λ log. log ≡ record { steps = Wrote 0 bytes.now ∷ Synced ∷ []; room = Growing }) }
+    {
+        let mut log = Log::growing(alloc);
+        log.write(0, bytes)?;
+        log.sync()?;
+        Ok(log)
+    }
+
+    /// Adds a write.
+    ///
+    /// # Errors
+    /// `AllocError`: the log may hold no more, or out of memory. The log is unchanged.
+    pub fn write(&mut self, at: u64, bytes: &[u8]) -> Result<(), AllocError>
+        ensures added { OnOk result (self.new ≡ record self.old { steps = self.old.steps ++ Wrote at bytes.now ∷ [] }) }
+        ensures same { OnErr result (self.new ≡ self.old) }
+        ensures within { OnOk result (self.old.room ≡ Reserved → length self.old.steps < reserved_calls) }
+        ensures sure { self.old.room ≡ Reserved → length self.old.steps < reserved_calls → byte_count self.old.steps + length bytes.now ≤ reserved_bytes → IsOk result }
+    {
         let before = self.bytes.len();
+        if !self.room.holds(self.calls.len() + 1, before + bytes.len()) {
+            return Err(AllocError);
+        }
         self.bytes.extend_from_slice(bytes)?;
         let call = Call::Write {
             at,
@@ -79,14 +103,17 @@ impl Log {
         }
     }
 
-    /// Adds a sync. An `Err`, which comes only where the room is used up, leaves the log as it was.
+    /// Adds a sync.
+    ///
+    /// # Errors
+    /// `AllocError`: the log may hold no more, or out of memory. The log is unchanged.
     pub fn sync(&mut self) -> Result<(), AllocError>
-        ensures added { OnOk result (self.new ≡ self.old ++ Synced ∷ []) }
+        ensures added { OnOk result (self.new ≡ record self.old { steps = self.old.steps ++ Synced ∷ [] }) }
         ensures same { OnErr result (self.new ≡ self.old) }
-        ensures within { OnOk result (length self.old < 262147) }
-        ensures sure { length self.old < 262147 → IsOk result }
+        ensures within { OnOk result (self.old.room ≡ Reserved → length self.old.steps < reserved_calls) }
+        ensures sure { self.old.room ≡ Reserved → length self.old.steps < reserved_calls → IsOk result }
     {
-        if self.calls.len() >= CALLS {
+        if !self.room.holds(self.calls.len() + 1, 0) {
             return Err(AllocError);
         }
         self.calls.push(Call::Sync)?;
@@ -95,18 +122,21 @@ impl Log {
 
     /// Drops the writes since the last sync. What was safe at that sync is what a read gives then, and all that a crash leaves.
     pub fn drop_unsynced(&mut self)
-        ensures contents { contents self.new ≡ safe_contents self.old }
-        ensures only { (c : List ℕ) → MayLeave self.new c → c ≡ safe_contents self.old }
-        ensures fewer { length self.new ≤ length self.old }
-        ensures fewer_bytes { byte_count self.new ≤ byte_count self.old }
+        ensures contents { contents self.new.steps ≡ safe_contents self.old.steps }
+        ensures only { (c : List ℕ) → MayLeave self.new.steps c → c ≡ safe_contents self.old.steps }
+        ensures room { self.new.room ≡ self.old.room }
+        ensures fewer { length self.new.steps ≤ length self.old.steps }
+        ensures fewer_bytes { byte_count self.new.steps ≤ byte_count self.old.steps }
+        ensures shorter { length (contents self.new.steps) ≤ length (contents self.old.steps) }
     {
         while self.drop_write() {}
     }
 
     /// Drops the last step where it is a write, and answers whether it is one.
     fn drop_write(&mut self) -> bool
-        ensures dropped { IsTrue result → IsOneWriteLess self.old self.new }
-        ensures kept { IsFalse result → (self.new ≡ self.old) × EndsSynced self.old }
+        ensures dropped { IsTrue result → IsOneWriteLess self.old.steps self.new.steps }
+        ensures room { self.new.room ≡ self.old.room }
+        ensures kept { IsFalse result → (self.new ≡ self.old) × EndsSynced self.old.steps }
     {
         match self.calls.last() {
             None => false,
@@ -120,27 +150,23 @@ impl Log {
         }
     }
 
-    /// Carries out all writes again, on the bytes of an empty disk, and answers how many bytes the disk then has. It costs the
-    /// bytes of all writes.
-    pub fn replay(&self, image: &mut [u8]) -> u64
-        requires { length image.old ≡ 1048576 }
-        ensures image { image_of result image.new ≡ after_steps (image_of 0 image.old) self.now }
-        ensures within { result ≤ 1048576 }
-        ensures whole { length image.new ≡ 1048576 }
+    /// Carries out all writes again, on an empty image with room for the bytes that the disk then has. It costs the bytes of all
+    /// writes.
+    pub fn replay(&self, image: &mut Vec<u8>)
+        requires empty { image.old.items ≡ [] }
+        requires room { length (contents self.now.steps) ≤ vec_capacity image.old }
+        ensures image { image.new.items ≡ contents self.now.steps }
+        ensures capacity { vec_capacity image.old ≤ vec_capacity image.new }
     {
-        let mut len: u64 = 0;
         let mut rest: &[u8] = &self.bytes;
         for call in &self.calls {
-            match call {
-                Call::Sync => {}
-                Call::Write { at, len: size } => {
-                    let (piece, behind) = rest.split_at(*size as usize);
-                    overwrite(image, *at as usize, piece);
-                    len = len.max(*at + *size);
-                    rest = behind;
-                }
+            if let Call::Write { at, len } = call {
+                let (piece, behind) = rest.split_at(*len as usize);
+                let Ok(()) = put(image, *at as usize, piece) else {
+                    unreachable!();
+                };
+                rest = behind;
             }
         }
-        len
     }
 }

@@ -1,59 +1,14 @@
-//! How a disk in memory is made, and that it meets what is asked of a disk.
+//! A disk in memory meets what is asked of a disk.
 
-ghost use Rattle.std.specs.Prelude.{◌≡◌, [], IfOk};
-ghost use Rattle.crash_disk.specs.Log.{contents, safe_contents, byte_count};
-ghost use Rattle.crash_disk.specs.Left.{IsLeft};
+ghost use Rattle.std.specs.Prelude.{◌≡◌, ◌+◌, ◌<◌, ◌≤◌, ◌^◌, ◌++◌, ◌∷◌, [], length, vec_capacity, OnOk, OnErr, IsOk};
+ghost use Rattle.crash_disk.specs.declared.room.Room.TheVariants.{Reserved};
+ghost use Rattle.crash_disk.specs.Sizes.{reserved_calls, reserved_bytes};
+ghost use Rattle.crash_disk.specs.Log.{Wrote, byte_count, written};
 
-use crate::image::{copy_from, empty_room, overwrite};
-use crate::{Counter, Disk, Log, MemDisk};
-use std::alloc::{AllocError, Global};
+use crate::image::{copy_from, put, reserve};
+use crate::{Disk, Log, MemDisk};
+use std::alloc::AllocError;
 use teb_io::Failed;
-
-impl MemDisk {
-    /// An empty disk with room for 1,048,576 bytes, 262,147 writes and syncs, and 2,097,152 bytes in all writes. It fails at the
-    /// call `stop` and at all later ones; 0 names no call. An `Err` comes where memory is wanting.
-    pub fn new(alloc: Global, stop: u32) -> Result<MemDisk, AllocError>
-        ensures empty { IfOk result (λ disk. disk.log ≡ []) }
-        ensures made { IfOk result (λ disk. disk.counter.made ≡ 0) }
-        ensures stop { IfOk result (λ disk. disk.counter.stop ≡ stop) }
-    {
-        let image = empty_room(alloc)?;
-        let log = Log::new(alloc)?;
-        let counter = Counter {
-            made: 0,
-            stop,
-            faults: 0,
-        };
-        Ok(MemDisk {
-            image,
-            len: 0,
-            log,
-            counter,
-        })
-    }
-
-    /// The disk with all writes since the last good sync dropped. It has no stop, and as many calls and faults as before. It costs
-    /// the disk's room, and the bytes of all writes that are left.
-    pub fn left(self) -> MemDisk
-        ensures { IsLeft self result }
-    {
-        let MemDisk {
-            mut image,
-            len: _,
-            mut log,
-            counter,
-        } = self;
-        log.drop_unsynced();
-        image.fill(0);
-        let len = log.replay(&mut image);
-        MemDisk {
-            image,
-            len,
-            log,
-            counter: Counter { stop: 0, ..counter },
-        }
-    }
-}
 
 impl Disk for MemDisk {
     ghost use Rattle.std.specs.Prelude.{length};
@@ -61,49 +16,55 @@ impl Disk for MemDisk {
     ghost use Rattle.crash_disk.specs.Calls.{memory_tally};
     ghost use Rattle.crash_disk.specs.LogLaws.{safe_is_left as log_safe_is_left, read_is_left as log_read_is_left, counts_now as log_counts_now, only_now as log_only_now};
 
-    ghost seen = { λ m. contents m.log };
+    ghost seen = { λ m. contents m.log.steps };
 
-    ghost may_leave = { λ m c. MayLeave m.log c };
+    ghost may_leave = { λ m c. MayLeave m.log.steps c };
 
-    ghost moment = { λ m. length m.log };
+    ghost moment = { λ m. length m.log.steps };
 
-    ghost left_since = { λ m t c. LeftSince m.log t c };
+    ghost left_since = { λ m t c. LeftSince m.log.steps t c };
 
-    ghost safe = { λ m. safe_contents m.log };
+    ghost safe = { λ m. safe_contents m.log.steps };
 
     ghost faults = { λ m. m.counter.faults };
 
-    ghost tally = { λ m. memory_tally m.counter.made (byte_count m.log) m.counter.stop };
+    ghost tally = { λ m. memory_tally m.counter.made (byte_count m.log.steps) m.counter.stop m.log.room };
 
-    ghost read_is_left = { λ m. log_read_is_left m.log };
+    ghost capacity = { λ m. m.capacity };
 
-    ghost safe_is_left = { λ m. log_safe_is_left m.log };
+    ghost read_is_left = { λ m. log_read_is_left m.log.steps };
 
-    ghost counts_now = { λ m t c le left. log_counts_now m.log t c le left };
+    ghost safe_is_left = { λ m. log_safe_is_left m.log.steps };
 
-    ghost only_now = { λ m c left. log_only_now m.log c left };
+    ghost counts_now = { λ m t c le left. log_counts_now m.log.steps t c le left };
+
+    ghost only_now = { λ m c left. log_only_now m.log.steps c left };
+
+    ghost some = { λ m. m.some };
+
+    ghost small = { λ m. m.small };
+
+    fn capacity(&self) -> u64 {
+        self.capacity
+    }
 
     fn len(&mut self) -> Result<u64, Failed> {
         self.counter.call()?;
-        Ok(self.len)
+        Ok(self.image.len() as u64)
     }
 
     fn read_at(&mut self, at: u64, buf: &mut [u8]) -> Result<usize, Failed> {
         self.counter.call()?;
-        if at >= self.len {
+        if at >= self.image.len() as u64 {
             return Ok(0);
         }
-        Ok(copy_from(&self.image[..self.len as usize], at as usize, buf))
+        Ok(copy_from(&self.image, at as usize, buf))
     }
 
     fn write_at(&mut self, at: u64, bytes: &[u8]) -> Result<(), Failed> {
         self.counter.call()?;
-        match self.log.write(at, bytes) {
-            Ok(()) => {
-                overwrite(&mut self.image, at as usize, bytes);
-                self.len = self.len.max(at + bytes.len() as u64);
-                Ok(())
-            }
+        match write(&mut self.image, &mut self.log, at, bytes) {
+            Ok(()) => Ok(()),
             Err(_) => {
                 self.counter.fault();
                 Err(Failed)
@@ -121,4 +82,23 @@ impl Disk for MemDisk {
             }
         }
     }
+}
+
+// Writes bytes into an image, and adds the write to its log. At an error, both are unchanged.
+fn write(image: &mut Vec<u8>, log: &mut Log, at: u64, bytes: &[u8]) -> Result<(), AllocError>
+    requires { at + length bytes.now < 2 ^ 40 }
+    ensures image { OnOk result (image.new.items ≡ written at bytes.now image.old.items) }
+    ensures log { OnOk result (log.new ≡ record log.old { steps = log.old.steps ++ Wrote at bytes.now ∷ [] }) }
+    ensures within { OnOk result (log.old.room ≡ Reserved → length log.old.steps < reserved_calls) }
+    ensures same { OnErr result ((image.new.items ≡ image.old.items) × (log.new ≡ log.old)) }
+    ensures capacity { vec_capacity image.old ≤ vec_capacity image.new }
+    ensures sure { log.old.room ≡ Reserved → at + length bytes.now ≤ vec_capacity image.old → length log.old.steps < reserved_calls
+        → byte_count log.old.steps + length bytes.now ≤ reserved_bytes → IsOk result }
+{
+    reserve(image, at as usize + bytes.len())?;
+    log.write(at, bytes)?;
+    let Ok(()) = put(image, at as usize, bytes) else {
+        unreachable!();
+    };
+    Ok(())
 }

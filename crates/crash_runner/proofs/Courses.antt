@@ -15,6 +15,7 @@ use Rattle.teb_rules.specs.Run.{history_after}
 use Rattle.teb_laws.proofs.Sound.{tree_facts}
 use Rattle.engine_core.specs.EngineModel.{IsReached}
 use Rattle.crash_disk.specs.Calls.{Promise, Tally, IsBefore}
+use Rattle.crash_disk.specs.Sizes.{default_capacity}
 use Rattle.record_journal.specs.Format.{Record, recovered, Whole}
 use Rattle.record_journal.specs.Journal.{after_records}
 use Rattle.commit_laws.specs.Commits.{commit_count}
@@ -83,7 +84,7 @@ went_through p tally safe k X lines log store u asked room =
       reached = subst (λ (Y : Store). IsReached Y k.events) store u.reached;
       course = Through (subst (λ (H : List Event). IsBefore p.stop (calls_of (commit_count H))) asked.events u.passed) asked.replies refl (sym count);
       first = sym (ap (λ (H : List Event). take (commit_count k.events) (records_of X.setup H)) (sym asked.events) ∙ take_all (commit_count k.events) (records_of X.setup k.events) (omega (arith, count_records)));
-      kept = subst (λ (Y : Store). recovered (safe k.disk) ≡ Whole (records_of Y.setup k.events)) store u.kept;
+      kept = subst (λ (Y : Store). recovered default_capacity (safe k.disk) ≡ Whole (records_of Y.setup k.events)) store u.kept;
       room = room;
     }
 
@@ -109,7 +110,7 @@ was_stopped p X lines given t safe s =
 none_reached : (X : Store) → IsReached X []
 none_reached X = ([], sym (history_none X []))
 
-pub never_began : (stop : ℕ) (X : Store) (lines : List Line) (t : Tally) (safe : List ℕ) → 0 < stop → stop ≤ 2 → recovered safe ≡ Whole [] → HasRoom t → IsRunOn stop X lines [] true t safe
+pub never_began : (stop : ℕ) (X : Store) (lines : List Line) (t : Tally) (safe : List ℕ) → 0 < stop → stop ≤ 2 → recovered default_capacity safe ≡ Whole [] → HasRoom t → IsRunOn stop X lines [] true t safe
 unfolding commit_count records_of
 never_began stop X lines t safe some low none room = record {
   before = [];

@@ -20,7 +20,8 @@ use Rattle.teb_laws.proofs.Reachable.{run_good, empty_good}
 use Rattle.engine_core.specs.EngineModel.{IsReached}
 use Rattle.engine_core.proofs.Reached.{reached_more}
 use Rattle.crash_disk.specs.Calls.{Promise, Tally, IsBefore, AreSure, Fails, IsUpTo}
-use Rattle.record_journal.specs.Format.{Record, records, reading, recovered, Whole}
+use Rattle.crash_disk.specs.Sizes.{default_capacity, reserved_calls, reserved_bytes}
+use Rattle.record_journal.specs.Format.{Record, records, reading, recovered, room_of, Whole}
 use Rattle.record_journal.specs.Journal.{StandsFor}
 use Rattle.commit_laws.specs.Commits.{commit_count, put_count}
 use Rattle.commit_laws.specs.Records.{records_of, puts_of}
@@ -44,7 +45,7 @@ lawful_of X H s r = subst (Lawful X.setup) (sym r.1) (run_good X (tree_facts X.s
 counts_same : (S : Setup) (H K : List Event) → records_of S K ≡ records_of S H → commit_count K ≡ commit_count H
 counts_same S H K same = sym (length-records S K) ∙ ap length same ∙ length-records S H
 
-kept_all : (rs : List Record) (file : List ℕ) (least : ℕ) → StandsFor least rs file → least ≡ length rs → recovered file ≡ Whole rs
+kept_all : (rs : List Record) (file : List ℕ) (least : ℕ) → StandsFor default_capacity least rs file → least ≡ length rs → recovered default_capacity file ≡ Whole rs
 kept_all rs file least s is = s.stands ∙ ap Whole (take_all s.k rs (omega (arith, s.no_fewer, is)))
 
 -- ---- replies
@@ -109,20 +110,20 @@ module _ {D : Type 0} (tally : D → Tally) (safe : D → List ℕ) (may_leave :
 
   -- what is safe has the records of all commits
   pub safe_now : (k : Kept D) → ((image : List ℕ) → may_leave k.disk image → HasFirst k.store k.events k.acknowledged image) → k.acknowledged ≡ commit_count k.events
-      → recovered (safe k.disk) ≡ Whole (records_of k.store.setup k.events)
+      → recovered default_capacity (safe k.disk) ≡ Whole (records_of k.store.setup k.events)
   safe_now k images all = kept_all (records_of k.store.setup k.events) (safe k.disk) k.acknowledged (images (safe k.disk) (safe_is_left k.disk)) (all ∙ sym (length-records k.store.setup k.events))
 
   -- there is room for a commit
   fits_more : (k : Kept D) (log : List Answered) (s : Session) (r : Request) (t : ℕ) → Goes k log → weight r + effects k.events ≤ 65536 → committing k.events s r ≡ Some t
-      → (k.end + (6 + 14 * length (puts_of k.events t)) ≤ 1048576) × ((tally k.disk).written + (6 + 14 * length (puts_of k.events t)) ≤ 2097152) × ((tally k.disk).made + 4 ≤ 262146)
+      → (k.end + (6 + 14 * length (puts_of k.events t)) ≤ default_capacity) × ((tally k.disk).written + (6 + 14 * length (puts_of k.events t)) ≤ reserved_bytes) × ((tally k.disk).made + 4 < reserved_calls)
   fits_more k log s r t u few asked =
       let room = journal_room k.store.setup k.events (lawful_of k.store k.events u.sound u.reached) t (committing_unfinished k.events s r t asked) in
       let one = weighs k.events s r t asked in
       let low : weight r + (commit_count k.events + put_count k.events) ≤ 65536 = few in
       (omega (arith, room, low, one, u.end), omega (arith, room, low, one, u.end, u.written), omega (arith, low, one, u.made))
 
-  pub never_full : (k : Kept D) (log : List Answered) (s : Session) (r : Request) → Goes k log → weight r + effects k.events ≤ 65536 → IsFull k.events (1048576 - k.end) s r → ⊥
-  never_full k log s r u few full = let fits = (fits_more k log s r full.txn u few full.commits).0 in omega (arith, fits, full.full)
+  pub never_full : (k : Kept D) (log : List Answered) (s : Session) (r : Request) → Goes k log → weight r + effects k.events ≤ 65536 → (capacity : ℕ) → default_capacity ≤ capacity → IsFull k.events (room_of capacity - k.end) s r → ⊥
+  never_full k log s r u few capacity wide full = let fits = (fits_more k log s r full.txn u few full.commits).0 in omega (arith, fits, full.full)
 
   module _ (old new : Kept D) (log : List Answered) (s : Session) (r : Request) (u : Goes old log) (few : weight r + effects old.events ≤ 65536) (same : IsSameStore old new) where
     -- an answer was given
@@ -198,7 +199,7 @@ module _ {D : Type 0} (tally : D → Tally) (safe : D → List ℕ) (may_leave :
       ]
 
     -- the disk failed
-    pub stops_here : (rest : Requests) → (answer old.store old.events s r).0 ≡ reply.Committed → recovered (safe new.disk) ≡ Whole (records_of old.store.setup old.events)
+    pub stops_here : (rest : Requests) → (answer old.store old.events s r).0 ≡ reply.Committed → recovered default_capacity (safe new.disk) ≡ Whole (records_of old.store.setup old.events)
         → ((t : ℕ) → committing old.events s r ≡ Some t → IsUpTo 4 (6 + 14 * length (puts_of old.events t)) (tally old.disk) (tally new.disk))
         → ((t : ℕ) → committing old.events s r ≡ Some t → AreSure (tally old.disk).promise.writes 4 (6 + 14 * length (puts_of old.events t)) (tally old.disk) → ⊥)
         → StopsAt p old.store (log ++ log_of old.store old.events ((s, r) ∷ rest)) (history_after old.store old.events ((s, r) ∷ rest)) log (tally new.disk) (safe new.disk)
@@ -292,9 +293,9 @@ module _ {D : Type 0} (tally : D → Tally) (safe : D → List ℕ) (may_leave :
   pub room_kept : (back : D) → IsUpTo 2 1 (tally disk) (tally back) → HasRoom (tally back)
   room_kept back calls = record { room = subst IsRoomy (sym calls.promise) room; made = omega (arith, calls.made, none); written = omega (arith, calls.written, empty) }
 
-pub nothing_recovered : (file : List ℕ) → file ≡ [] → recovered file ≡ Whole []
+pub nothing_recovered : (file : List ℕ) → file ≡ [] → recovered default_capacity file ≡ Whole []
 unfolding recovered reading
-nothing_recovered file is = ap recovered is ∙ ap (reading 0 0) (take_all 1048576 [] (omega arith))
+nothing_recovered file is = ap (recovered default_capacity) is ∙ ap (reading 0 0) (take_all default_capacity [] (omega arith))
 
 pub effects_none : (H : List Event) → H ≡ [] → effects H ≡ 0
 unfolding commit_count put_count

@@ -11,6 +11,7 @@ use Rattle.teb_rules.specs.Answer.{answer}
 use Rattle.teb_rules.specs.Run.{history_after}
 use Rattle.engine_core.specs.EngineModel.{IsReached}
 use Rattle.crash_disk.specs.Calls.{Promise, Tally, IsBefore}
+use Rattle.crash_disk.specs.Sizes.{default_capacity, reserved_calls, reserved_bytes}
 use Rattle.record_journal.specs.Format.{records, recovered, Whole}
 use Rattle.commit_laws.specs.Commits.{commit_count, put_count}
 use Rattle.commit_laws.specs.Records.{records_of}
@@ -23,8 +24,8 @@ use Rattle.crash_runner.specs.Crashes.{calls_of, committed_replies, Course}
 -- the device promises as many calls and bytes as any script takes
 pub record IsRoomy (p : Promise) : Type 0 where
   pub reads : 2 ^ 32 ≤ p.reads + 1
-  pub writes : 262147 ≤ p.writes
-  pub bytes : 2097152 ≤ p.bytes
+  pub writes : reserved_calls ≤ p.writes
+  pub bytes : reserved_bytes ≤ p.bytes
 
 -- how many of the events are commits or puts; each request but an End adds one at most
 abbrev pub effects : List Event → ℕ
@@ -46,7 +47,7 @@ pub record IsUnderway {D : Type 0} (promise : Promise) (tally : D → Tally) (sa
   pub made : (tally k.disk).made ≡ calls_of (commit_count k.events)
   pub written : (tally k.disk).written ≤ 1 + k.end + commit_count k.events
   pub passed : IsBefore promise.stop (calls_of (commit_count k.events))
-  pub kept : recovered (safe k.disk) ≡ Whole (records_of k.store.setup k.events)
+  pub kept : recovered default_capacity (safe k.disk) ≡ Whole (records_of k.store.setup k.events)
 
 -- these are the replies and the history after some requests that follow H
 pub record HasAsked (X : Store) (asked : Requests) (log : List Answered) (H : List Event) (log' : List Answered) (H' : List Event) : Type 0 where
@@ -56,8 +57,8 @@ pub record HasAsked (X : Store) (asked : Requests) (log : List Answered) (H : Li
 -- there is room for the calls that read a whole disk
 pub record HasRoom (t : Tally) : Type 0 where
   pub room : IsRoomy t.promise
-  pub made : t.made ≤ 262146
-  pub written : t.written ≤ 2097152
+  pub made : t.made < reserved_calls
+  pub written : t.written ≤ reserved_bytes
 
 -- of requests with this log and this history: the first replies were given, and the next request is a commit that the history before
 -- grants, at one of whose calls the disk failed; what was safe has the commits before it
@@ -72,7 +73,7 @@ pub record StopsAt (promise : Promise) (X : Store) (log : List Answered) (H : Li
   pub earlier : committed_replies given ≡ commit_count before
   pub late : calls_of (commit_count before) < promise.stop
   pub soon : promise.stop ≤ calls_of (suc (commit_count before))
-  pub kept : recovered safe ≡ Whole (records_of X.setup before)
+  pub kept : recovered default_capacity safe ≡ Whole (records_of X.setup before)
   pub room : HasRoom t
 
 -- what a replay on a disk comes to, which fails from its call `stop` on: the replies that were given, and whether it stopped; the
@@ -82,5 +83,5 @@ pub record IsRunOn (stop : ℕ) (X : Store) (lines : List Line) (given : List An
   pub reached : IsReached X before
   pub course : Course stop (log_of X [] (replayed X [] lines)) (commit_count (history_after X [] (replayed X [] lines))) given stopped (commit_count before)
   pub first : records_of X.setup before ≡ take (commit_count before) (records_of X.setup (history_after X [] (replayed X [] lines)))
-  pub kept : recovered safe ≡ Whole (records_of X.setup before)
+  pub kept : recovered default_capacity safe ≡ Whole (records_of X.setup before)
   pub room : HasRoom t

@@ -2,6 +2,7 @@
 
 ghost use Rattle.std.specs.Prelude.{◌≡◌, ◌+◌, ◌≤◌, ◌++◌, ◌∷◌, [], OnOk, IsErrOf};
 ghost use Rattle.teb_rules.specs.Run.{history_after};
+ghost use Rattle.crash_disk.specs.Sizes.{default_capacity};
 ghost use Rattle.commit_journal.specs.Kept.{IsSameStore};
 ghost use Rattle.replay_runner.specs.Logs.{Requests, log_of};
 ghost use Rattle.crash_runner.specs.Underway.{IsUnderway, HasAsked, StopsAt, effects, weight};
@@ -25,8 +26,10 @@ pub(crate) fn ask<C: Chains, D: Disk>(
     log: &mut Vec<Answered>,
 ) -> Result<(), Halt>
     requires underway { IsUnderway (D.tally durable.old.disk).promise D.tally D.safe durable.old log.old.items }
+    requires wide { default_capacity ≤ D.capacity durable.old.disk }
     requires few { weight request + effects durable.old.events ≤ MOST_LINES }
     ensures store { IsSameStore durable.old durable.new }
+    ensures capacity { D.capacity durable.new.disk ≡ D.capacity durable.old.disk }
     ensures underway { OnOk result (IsUnderway (D.tally durable.old.disk).promise D.tally D.safe durable.new log.new.items) }
     ensures asked { OnOk result (HasAsked durable.old.store ((session, request) ∷ []) log.old.items durable.old.events log.new.items durable.new.events) }
     ensures few { OnOk result (effects durable.new.events ≤ weight request + effects durable.old.events) }

@@ -1,7 +1,8 @@
 //! The Ends of the sessions that hold a transaction, asked on a disk.
 
-ghost use Rattle.std.specs.Prelude.{◌≤◌, ◌++◌, map, OnOk, IsErrOf};
+ghost use Rattle.std.specs.Prelude.{◌≡◌, ◌≤◌, ◌++◌, map, OnOk, IsErrOf};
 ghost use Rattle.teb_rules.specs.Run.{history_after};
+ghost use Rattle.crash_disk.specs.Sizes.{default_capacity};
 ghost use Rattle.commit_journal.specs.Kept.{IsSameStore};
 ghost use Rattle.replay_runner.specs.Holders.{end_of};
 ghost use Rattle.replay_runner.specs.Logs.{Requests, log_of};
@@ -25,8 +26,10 @@ pub(crate) fn ask_ends<C: Chains, D: Disk>(
     log: &mut Vec<Answered>,
 ) -> Result<(), Halt>
     requires underway { IsUnderway (D.tally durable.old.disk).promise D.tally D.safe durable.old log.old.items }
+    requires wide { default_capacity ≤ D.capacity durable.old.disk }
     requires few { effects durable.old.events ≤ MOST_LINES }
     ensures store { IsSameStore durable.old durable.new }
+    ensures capacity { D.capacity durable.new.disk ≡ D.capacity durable.old.disk }
     ensures underway { OnOk result (IsUnderway (D.tally durable.old.disk).promise D.tally D.safe durable.new log.new.items) }
     ensures asked { OnOk result (HasAsked durable.old.store (map end_of holders.now) log.old.items durable.old.events log.new.items durable.new.events) }
     ensures few { OnOk result (effects durable.new.events ≤ MOST_LINES) }

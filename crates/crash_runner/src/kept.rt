@@ -3,6 +3,7 @@
 ghost use Rattle.std.specs.Prelude.{◌≡◌, List, length, IfOk};
 ghost use Rattle.teb_names.specs.declared.Cell.{Cell};
 ghost use Rattle.teb_names.specs.Rows.{row_of, IsAscending};
+ghost use Rattle.crash_disk.specs.Sizes.{default_capacity};
 ghost use Rattle.record_journal.specs.Format.{Record, recovered, Whole};
 ghost use Rattle.record_journal.specs.Journal.{after_records};
 ghost use Rattle.crash_runner.specs.Underway.{HasRoom};
@@ -20,8 +21,8 @@ pub(crate) fn recover_left(
     start: &Rows,
 ) -> Result<Recovered, AllocError>
     requires room { HasRoom (⟦<MemDisk as Disk>⟧.tally disk) }
-    requires whole { (rs : List Record) × (recovered (⟦<MemDisk as Disk>⟧.safe disk) ≡ Whole rs) }
-    ensures found { IfOk result (λ found. (rs : List Record) → recovered (⟦<MemDisk as Disk>⟧.safe disk) ≡ Whole rs
+    requires whole { (rs : List Record) × (recovered default_capacity (⟦<MemDisk as Disk>⟧.safe disk) ≡ Whole rs) }
+    ensures found { IfOk result (λ found. (rs : List Record) → recovered default_capacity (⟦<MemDisk as Disk>⟧.safe disk) ≡ Whole rs
         → (found.commits ≡ length rs) × ((x : Cell) → row_of found.rows.items x ≡ after_records rs (row_of start.now) x)) }
     ensures ascending { IfOk result (λ found. IsAscending found.rows.items) }
 {

@@ -5,6 +5,7 @@ ghost use Rattle.teb_rules.specs.Run.{history_after};
 ghost use Rattle.store_setup.specs.SetupView.{setup_view};
 ghost use Rattle.store_setup.specs.Sound.{IsWhole};
 ghost use Rattle.store_setup.specs.Stores.{store_of_view};
+ghost use Rattle.crash_disk.specs.Sizes.{default_capacity};
 ghost use Rattle.commit_journal.specs.Kept.{IsSameStore};
 ghost use Rattle.replay_runner.specs.Logs.{log_of, replayed};
 ghost use Rattle.crash_runner.specs.Underway.{IsUnderway, HasAsked, StopsAt, IsRunOn, effects};
@@ -60,6 +61,7 @@ fn replay_durable<C: Chains, D: Disk + Drop>(
     durable: Durable<C, D>,
     lines: &[Line],
 ) -> Result<DiskRun<D>, AllocError>
+    requires wide { default_capacity ≤ D.capacity durable.disk }
     requires underway { IsUnderway (D.tally durable.disk).promise D.tally D.safe durable [] }
     requires new { durable.events ≡ [] }
     requires few { length lines.now ≤ MOST_LINES }
@@ -86,11 +88,13 @@ fn ask_all<C: Chains, D: Disk>(
     lines: &[Line],
     log: &mut Vec<Answered>,
 ) -> Result<(), Halt>
+    requires wide { default_capacity ≤ D.capacity durable.old.disk }
     requires underway { IsUnderway (D.tally durable.old.disk).promise D.tally D.safe durable.old log.old.items }
     requires new { durable.old.events ≡ [] }
     requires none { log.old.items ≡ [] }
     requires few { length lines.now ≤ MOST_LINES }
     ensures store { IsSameStore durable.old durable.new }
+    ensures capacity { D.capacity durable.new.disk ≡ D.capacity durable.old.disk }
     ensures underway { OnOk result (IsUnderway (D.tally durable.old.disk).promise D.tally D.safe durable.new log.new.items) }
     ensures few { OnOk result (effects durable.new.events ≤ MOST_LINES) }
     ensures asked { OnOk result (HasAsked durable.old.store (replayed durable.old.store [] lines.now) [] [] log.new.items durable.new.events) }

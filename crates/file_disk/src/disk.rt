@@ -14,8 +14,8 @@ use teb_io::Failed;
 /// From its first failure on the disk fails at each call, and the file is left alone: so no sync makes safe what a failed write or
 /// sync has left.
 ///
-/// The mirror has room for 262,147 writes and syncs, and for 2,097,152 bytes in all writes, those that the file had at its opening
-/// among them. A call for which there is no room fails.
+/// The mirror keeps the writes and syncs since the opening, or since the last `renew`. Its memory grows with them and with the bytes
+/// of the file. A write or a sync for which memory does not last fails.
 ///
 /// What rests on the operating system alone: after a crash the file holds one of the images that are told of the disk. For this
 /// it keeps what `sync_data` made safe, and nobody else writes the file while the disk is open.
@@ -32,27 +32,37 @@ impl Disk for FileDisk {
     ghost use Rattle.crash_disk.specs.LogLaws.{safe_is_left as log_safe_is_left, read_is_left as log_read_is_left, counts_now as log_counts_now, only_now as log_only_now};
     ghost use Rattle.file_disk.specs.Unsure.{unsure};
 
-    ghost seen = { λ d. contents d.mirror.log };
+    ghost seen = { λ d. contents d.mirror.log.steps };
 
-    ghost may_leave = { λ d c. MayLeave d.mirror.log c };
+    ghost may_leave = { λ d c. MayLeave d.mirror.log.steps c };
 
-    ghost moment = { λ d. length d.mirror.log };
+    ghost moment = { λ d. length d.mirror.log.steps };
 
-    ghost left_since = { λ d t c. LeftSince d.mirror.log t c };
+    ghost left_since = { λ d t c. LeftSince d.mirror.log.steps t c };
 
-    ghost safe = { λ d. safe_contents d.mirror.log };
+    ghost safe = { λ d. safe_contents d.mirror.log.steps };
 
     ghost faults = { λ d. d.faults.count };
 
-    ghost tally = { λ d. unsure d.mirror.counter.made (byte_count d.mirror.log) };
+    ghost tally = { λ d. unsure d.mirror.counter.made (byte_count d.mirror.log.steps) };
 
-    ghost read_is_left = { λ d. log_read_is_left d.mirror.log };
+    ghost capacity = { λ d. d.mirror.capacity };
 
-    ghost safe_is_left = { λ d. log_safe_is_left d.mirror.log };
+    ghost read_is_left = { λ d. log_read_is_left d.mirror.log.steps };
 
-    ghost counts_now = { λ d t c le left. log_counts_now d.mirror.log t c le left };
+    ghost safe_is_left = { λ d. log_safe_is_left d.mirror.log.steps };
 
-    ghost only_now = { λ d c left. log_only_now d.mirror.log c left };
+    ghost counts_now = { λ d t c le left. log_counts_now d.mirror.log.steps t c le left };
+
+    ghost only_now = { λ d c left. log_only_now d.mirror.log.steps c left };
+
+    ghost some = { λ d. d.mirror.some };
+
+    ghost small = { λ d. d.mirror.small };
+
+    fn capacity(&self) -> u64 {
+        self.mirror.capacity()
+    }
 
     fn len(&mut self) -> Result<u64, Failed> {
         if self.faults.any() {

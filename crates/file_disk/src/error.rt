@@ -7,16 +7,16 @@ use thiserror::Error;
 /// Why a file can't be opened as a disk.
 #[derive(Debug, Drop, Error)]
 pub enum OpenError {
-    /// The file has more than 1,048,576 bytes.
-    #[error("the file has more than 1048576 bytes")]
-    TooLong,
+    /// The file has more bytes than the disk can hold.
+    #[error("the file has more than {capacity} bytes")]
+    TooLong { capacity: u64 },
     /// The file is locked: it is open as a disk already.
     #[error("the file is in use")]
     Busy,
     /// The file can't be opened, locked, read or synced.
     #[error("the file can't be used: {0}")]
     Io(io::Error),
-    /// Memory was wanting.
+    /// Out of memory.
     #[error("out of memory")]
     OutOfMemory,
 }

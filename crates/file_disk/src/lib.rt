@@ -6,6 +6,7 @@ mod error;
 mod faults;
 mod opening;
 mod reads;
+mod renewing;
 
 pub use disk::FileDisk;
 pub use error::OpenError;

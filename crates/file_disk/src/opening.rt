@@ -1,30 +1,52 @@
 //! How a file is opened as a disk.
 
-ghost use Rattle.std.specs.Prelude.{◌≡◌, ◌≤◌, length, IfOk};
+ghost use Rattle.std.specs.Prelude.{◌≡◌, ◌≤◌, ◌<◌, ◌^◌, length, IfOk};
+ghost use Rattle.crash_disk.specs.Sizes.{default_capacity};
 ghost use Rattle.crash_disk.specs.Log.{contents, MayLeave};
 ghost use Rattle.crash_disk.specs.Disk.{Only};
 
 use crate::faults::Faults;
 use crate::reads::read_whole;
 use crate::{FileDisk, OpenError};
-use crash_disk::{Disk, MemDisk};
-use std::alloc::{AllocError, Global};
+use crash_disk::{DEFAULT_CAPACITY, MemDisk};
+use std::alloc::Global;
 use std::fs::{File, Files, OpenOptions, TryLockError};
 use std::io;
 use std::path::Path;
 
 impl FileDisk {
-    /// Opens a file as a disk, or makes an empty one, and locks it. What it holds is made safe, and its name in its folder too.
+    /// Opens a file as a disk of `DEFAULT_CAPACITY` bytes; see `open_with_capacity`.
     ///
     /// # Errors
-    /// `Busy` where the file is locked, `TooLong` where it has more than 1,048,576 bytes, `Io` where it can't be opened, locked,
-    /// read or synced, `OutOfMemory`. A file that was there is then as it was.
+    /// Those of `open_with_capacity`.
     pub fn open<R: Files<File = File>>(
         rt: &R,
         alloc: Global,
         path: &str,
     ) -> Result<FileDisk, OpenError>
-        ensures safe { IfOk result (λ disk. Only (contents disk.mirror.log) (MayLeave disk.mirror.log)) }
+        ensures safe { IfOk result (λ disk. Only (contents disk.mirror.log.steps) (MayLeave disk.mirror.log.steps)) }
+        ensures capacity { IfOk result (λ disk. disk.mirror.capacity ≡ default_capacity) }
+        ensures faults { IfOk result (λ disk. disk.faults.count ≡ 0) }
+    {
+        FileDisk::open_with_capacity(rt, alloc, path, DEFAULT_CAPACITY)
+    }
+
+    /// Opens a file as a disk that can hold `capacity` bytes, or makes an empty one, and locks it. What it holds is made safe, and
+    /// its name in its folder too. The file is as long as what was written; its bytes are kept in memory, too.
+    ///
+    /// # Errors
+    /// `Busy`: the file is locked. `TooLong`: it has more than `capacity` bytes. `Io`: it can't be opened, locked, read or synced.
+    /// `OutOfMemory`. A file that was there is then as it was.
+    pub fn open_with_capacity<R: Files<File = File>>(
+        rt: &R,
+        alloc: Global,
+        path: &str,
+        capacity: u64,
+    ) -> Result<FileDisk, OpenError>
+        requires some { 0 < capacity }
+        requires small { capacity < 2 ^ 40 }
+        ensures safe { IfOk result (λ disk. Only (contents disk.mirror.log.steps) (MayLeave disk.mirror.log.steps)) }
+        ensures capacity { IfOk result (λ disk. disk.mirror.capacity ≡ capacity) }
         ensures faults { IfOk result (λ disk. disk.faults.count ≡ 0) }
     {
         let file = OpenOptions::new()
@@ -33,10 +55,10 @@ impl FileDisk {
             .create(true)
             .open(rt, path)?;
         lock(&file)?;
-        let bytes = read_whole(alloc, &file)?;
+        let bytes = read_whole(alloc, &file, capacity)?;
         file.sync_all()?;
         sync_folder(rt, path)?;
-        let mirror = mirror_of(alloc, &bytes)?;
+        let mirror = MemDisk::of(alloc, bytes, capacity)?;
         Ok(FileDisk {
             file,
             mirror,
@@ -61,20 +83,4 @@ fn sync_folder<R: Files<File = File>>(rt: &R, path: &str) -> io::Result<()> {
         _ => Path::new("."),
     };
     File::open(rt, folder)?.sync_all()
-}
-
-/// A disk in memory with these bytes, all of them safe.
-fn mirror_of(alloc: Global, bytes: &[u8]) -> Result<MemDisk, AllocError>
-    requires { length bytes.now ≤ 1048576 }
-    ensures seen { IfOk result (λ mirror. contents mirror.log ≡ bytes.now) }
-    ensures safe { IfOk result (λ mirror. Only (contents mirror.log) (MayLeave mirror.log)) }
-{
-    let mut mirror = MemDisk::new(alloc, 0)?;
-    let Ok(()) = mirror.write_at(0, bytes) else {
-        unreachable!();
-    };
-    let Ok(()) = mirror.sync() else {
-        unreachable!();
-    };
-    Ok(mirror)
 }

@@ -1,9 +1,8 @@
 //! The bytes of a file.
 
-ghost use Rattle.std.specs.Prelude.{◌≤◌, length, IfOk};
+ghost use Rattle.std.specs.Prelude.{◌≡◌, ◌≤◌, ◌<◌, length, IfOk, OnErr};
 
 use crate::OpenError;
-use crash_disk::MOST_BYTES;
 use std::alloc::Global;
 use std::fs::File;
 use std::os::unix::fs::FileExt;
@@ -11,20 +10,31 @@ use std::os::unix::fs::FileExt;
 /// How many bytes are compared at once.
 const PIECE: usize = 4096;
 
-/// All bytes of a file.
+/// Returns all bytes of a file.
 ///
 /// # Errors
-/// `TooLong` where it has more than 1,048,576 bytes, `Io` where it can't be read, `OutOfMemory`. The file stays as it was.
-pub fn read_whole(alloc: Global, file: &File) -> Result<Vec<u8>, OpenError>
-    ensures { IfOk result (λ bytes. length bytes.items ≤ 1048576) }
+/// `TooLong`: it has more than `capacity` bytes. `Io`: it can't be read. `OutOfMemory`. The file stays as it was.
+pub fn read_whole(alloc: Global, file: &File, capacity: u64) -> Result<Vec<u8>, OpenError>
+    ensures { IfOk result (λ bytes. length bytes.items ≤ capacity) }
 {
-    let len = file.metadata()?.len();
-    if len > MOST_BYTES {
-        return Err(OpenError::TooLong);
-    }
-    let mut bytes = vec![in alloc; 0u8; len as usize]?;
+    let len = fitting(file.metadata()?.len(), capacity)?;
+    let mut bytes = vec![in alloc; 0u8; len]?;
     file.read_exact_at(&mut bytes, 0)?;
     Ok(bytes)
+}
+
+/// Returns the length of a file.
+///
+/// # Errors
+/// `TooLong`: it is above the capacity.
+fn fitting(len: u64, capacity: u64) -> Result<usize, OpenError>
+    ensures fits { IfOk result (λ n. (n ≡ len) × (len ≤ capacity)) }
+    ensures too_long { OnErr result (capacity < len) }
+{
+    if len > capacity {
+        return Err(OpenError::TooLong { capacity });
+    }
+    Ok(len as usize)
 }
 
 /// Whether a read of so many bytes from a place on gives these. A read that fails gives nothing.

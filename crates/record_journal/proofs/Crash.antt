@@ -12,7 +12,7 @@ pub record IsStaged (rs : List Record) (r : Record) (bytes : List ℕ) : Type 0 
   pub rest : List ℕ
   pub is : bytes ≡ records rs ++ 0 ∷ (body r ++ 0 ∷ rest)
 
-module _ (rs : List Record) (r : Record) (end : ℕ) (bytes old : List ℕ) (added : IsBody r bytes) (at_rest : IsAtRest rs end old) (room : end + 1 + length bytes ≤ 1048576) where
+module _ (limit : ℕ) (rs : List Record) (r : Record) (end : ℕ) (bytes old : List ℕ) (added : IsBody r bytes) (at_rest : IsAtRest limit rs end old) (room : end + 1 + length bytes ≤ limit) where
   abbrev front : List ℕ
   front = records rs ++ 0 ∷ []
 
@@ -31,15 +31,15 @@ module _ (rs : List Record) (r : Record) (end : ℕ) (bytes old : List ℕ) (add
   old_front : take (end + 1) old ≡ front
   old_front = ap (λ (l : List ℕ). take (end + 1) l) old_split ∙ take_at front at_rest.rest (end + 1) length-front
 
-  pub before : recovered old ≡ Whole rs
-  before = ap recovered at_rest.is ∙ recovered_closed rs 0 at_rest.rest at_rest.fit (omega (arith, at_rest.within, at_rest.size)) (omega arith)
+  pub before : recovered limit old ≡ Whole rs
+  before = ap (recovered limit) at_rest.is ∙ recovered_closed limit rs 0 at_rest.rest at_rest.fit (omega (arith, at_rest.within, at_rest.size)) (omega arith)
 
   -- the closed gate stands in each image of the first write
-  pub torn_behind : (c : List ℕ) → IsTorn (end + 1) (length bytes) old c → recovered c ≡ Whole rs
+  pub torn_behind : (c : List ℕ) → IsTorn (end + 1) (length bytes) old c → recovered limit c ≡ Whole rs
   torn_behind c torn =
       let is : c ≡ front ++ drop (end + 1) c = two_parts (end + 1) c front (torn_front (end + 1) (length bytes) old c torn length-old ∙ old_front) in
-      ap recovered (is ∙ append_assoc (records rs) (0 ∷ []) (drop (end + 1) c))
-      ∙ recovered_closed rs 0 (drop (end + 1) c) at_rest.fit (omega (arith, at_rest.within, at_rest.size)) (omega arith)
+      ap (recovered limit) (is ∙ append_assoc (records rs) (0 ∷ []) (drop (end + 1) c))
+      ∙ recovered_closed limit rs 0 (drop (end + 1) c) at_rest.fit (omega (arith, at_rest.within, at_rest.size)) (omega arith)
 
   pub written_behind : (c : List ℕ) → IsTorn (end + 1) (length bytes) old c → Holds (end + 1) bytes c → IsStaged rs r c
   written_behind c torn holds = record {
@@ -53,7 +53,7 @@ module _ (rs : List Record) (r : Record) (end : ℕ) (bytes old : List ℕ) (add
       regroup : (rest : List ℕ) → (front ++ (body r ++ 0 ∷ [])) ++ rest ≡ records rs ++ 0 ∷ (body r ++ 0 ∷ rest)
       regroup rest = append_assoc front (body r ++ 0 ∷ []) rest ∙ append_assoc (records rs) (0 ∷ []) ((body r ++ 0 ∷ []) ++ rest) ∙ ap (λ (l : List ℕ). records rs ++ (0 ∷ l)) (append_assoc (body r) (0 ∷ []) rest)
 
-  pub stage_crash : (left now : List ℕ → Type 0) → Only old left → Follows (IsTorn (end + 1) (length bytes)) left now → (c : List ℕ) → now c → recovered c ≡ Whole rs
+  pub stage_crash : (left now : List ℕ → Type 0) → Only old left → Follows (IsTorn (end + 1) (length bytes)) left now → (c : List ℕ) → now c → recovered limit c ≡ Whole rs
   stage_crash left now only follows c is =
       let from = follows c is in
       torn_behind c (subst (λ f. IsTorn (end + 1) (length bytes) f c) (only from.0 from.1) from.2)
@@ -71,17 +71,17 @@ module _ (rs : List Record) (r : Record) (end : ℕ) (bytes old : List ℕ) (add
     staged_back : drop (end + 1) staged ≡ body r ++ 0 ∷ is_staged.rest
     staged_back = ap (λ (l : List ℕ). drop (end + 1) l) staged_split ∙ drop_at front (body r ++ 0 ∷ is_staged.rest) (end + 1) length-front
 
-    gate_parts : (c : List ℕ) → IsTorn end 1 staged c → c ≡ records rs ++ get_or c end 0 ∷ (body r ++ 0 ∷ is_staged.rest)
+    pub gate_parts : (c : List ℕ) → IsTorn end 1 staged c → c ≡ records rs ++ get_or c end 0 ∷ (body r ++ 0 ∷ is_staged.rest)
     gate_parts c torn =
         two_parts end c (records rs) (torn_front end 1 staged c torn (omega (arith, length-staged)) ∙ staged_front)
         ∙ ap (λ (l : List ℕ). records rs ++ l) (drop_more c end 0 (omega (arith, length-staged, torn.no_shorter)) ∙ ap (λ (l : List ℕ). get_or c end 0 ∷ l) (torn_back end 1 staged c torn length-staged ∙ staged_back))
 
     -- the record stands whole in each image of the second write
-    pub torn_gate : (c : List ℕ) → IsTorn end 1 staged c → IsBeforeOrAfter rs r c
+    pub torn_gate : (c : List ℕ) → IsTorn end 1 staged c → IsBeforeOrAfter limit rs r c
     torn_gate c torn =
-        subst (IsBeforeOrAfter rs r) (sym (gate_parts c torn)) (recovered_gate rs r (get_or c end 0) is_staged.rest at_rest.fit added.fits (omega (arith, room, length-bytes, at_rest.size)))
+        subst (IsBeforeOrAfter limit rs r) (sym (gate_parts c torn)) (recovered_gate limit rs r (get_or c end 0) is_staged.rest at_rest.fit added.fits (omega (arith, room, length-bytes, at_rest.size)))
 
-    pub written_gate : (c : List ℕ) → IsTorn end 1 staged c → Holds end (1 ∷ []) c → IsAtRest (rs ++ r ∷ []) (end + length bytes) c
+    pub written_gate : (c : List ℕ) → IsTorn end 1 staged c → Holds end (1 ∷ []) c → IsAtRest limit (rs ++ r ∷ []) (end + length bytes) c
     written_gate c torn holds = record {
       fit = all_push RecordFits rs r at_rest.fit added.fits;
       size = omega (arith, length-records-push rs r, length-bytes, at_rest.size);
@@ -92,7 +92,7 @@ module _ (rs : List Record) (r : Record) (end : ℕ) (bytes old : List ℕ) (add
           gate_parts c torn ∙ ap (λ (g : ℕ). records rs ++ g ∷ (body r ++ 0 ∷ is_staged.rest)) gate ∙ sym (records-push rs r (0 ∷ is_staged.rest));
     }
 
-    pub gate_crash : (left now : List ℕ → Type 0) → Only staged left → Follows (IsTorn end 1) left now → (c : List ℕ) → now c → IsBeforeOrAfter rs r c
+    pub gate_crash : (left now : List ℕ → Type 0) → Only staged left → Follows (IsTorn end 1) left now → (c : List ℕ) → now c → IsBeforeOrAfter limit rs r c
     gate_crash left now only follows c is =
         let from = follows c is in
         torn_gate c (subst (λ f. IsTorn end 1 f c) (only from.0 from.1) from.2)

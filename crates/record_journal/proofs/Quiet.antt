@@ -5,14 +5,15 @@ use Rattle.crash_disk.specs.Disk.{NoMore, Elapses, IsQuiet, IsRead}
 use Rattle.record_journal.proofs.Moments.{goes_on}
 use Rattle.record_journal.proofs.Spelled.{take_past}
 
-module _ {D : Type 0} (seen : D → List ℕ) (may_leave : D → List ℕ → Type 0) (moment : D → ℕ) (left_since : D → ℕ → List ℕ → Type 0) (faults : D → ℕ) where
-  pub quieter : (old mid new : D) → IsQuiet seen may_leave moment left_since faults old mid → seen new ≡ seen mid → NoMore (may_leave mid) (may_leave new)
-      → Elapses (moment mid) (moment new) (left_since mid) (left_since new) (may_leave new) → faults mid ≤ faults new → IsQuiet seen may_leave moment left_since faults old new
-  quieter old mid new so_far same crash time later = record {
+module _ {D : Type 0} (seen : D → List ℕ) (may_leave : D → List ℕ → Type 0) (moment : D → ℕ) (left_since : D → ℕ → List ℕ → Type 0) (faults capacity : D → ℕ) where
+  pub quieter : (old mid new : D) → IsQuiet seen may_leave moment left_since faults capacity old mid → seen new ≡ seen mid → NoMore (may_leave mid) (may_leave new)
+      → Elapses (moment mid) (moment new) (left_since mid) (left_since new) (may_leave new) → faults mid ≤ faults new → capacity new ≡ capacity mid → IsQuiet seen may_leave moment left_since faults capacity old new
+  quieter old mid new so_far same crash time later stays = record {
     same = same ∙ so_far.same;
     crash = λ c left. so_far.crash c (crash c left);
     any_moment = goes_on moment left_since old mid new (may_leave old) (may_leave new) so_far.any_moment time (λ c left. so_far.crash c (crash c left));
     later = omega (arith, so_far.later, later);
+    stays = stays ∙ so_far.stays;
   }
 
 take_nil : (n : ℕ) → take {A = ℕ} n [] ≡ []
@@ -44,7 +45,7 @@ filled_part file bytes ys post filled n so_far le read =
 pub part_within : (bytes ys post : List ℕ) (filled n : ℕ) → filled ≤ length bytes → n ≤ length ys → filled + n ≤ length (take filled bytes ++ (ys ++ post))
 part_within bytes ys post filled n le fits = omega (arith, fits, length-append ys post, length-append (take filled bytes) (ys ++ post), length-take-le filled bytes le)
 
-pub whole_is : (file buf rest : List ℕ) (n len : ℕ) → buf ≡ take n file → n ≡ min (length file) 1048576 → len ≡ n → take len (buf ++ rest) ≡ take 1048576 file
-whole_is file buf rest n len is limit same =
-    let limit_too : n ≡ min 1048576 (length file) = omega arith in
-    take_at buf rest len (omega (arith, ap length is, length-take n file)) ∙ is ∙ ap (λ (k : ℕ). take k file) limit_too ∙ take_min 1048576 file
+pub whole_is : (limit : ℕ) (file buf rest : List ℕ) (n len : ℕ) → buf ≡ take n file → n ≡ min (length file) limit → len ≡ n → take len (buf ++ rest) ≡ take limit file
+whole_is limit file buf rest n len is least same =
+    let least_too : n ≡ min limit (length file) = omega arith in
+    take_at buf rest len (omega (arith, ap length is, length-take n file)) ∙ is ∙ ap (λ (k : ℕ). take k file) least_too ∙ take_min limit file

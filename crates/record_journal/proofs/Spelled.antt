@@ -95,11 +95,11 @@ take_past (x ∷ xs) ys zero n is = absurd (omega arith)
 take_past (x ∷ xs) ys (suc m) n is = ap (λ (l : List ℕ). x ∷ l) (take_past xs ys m n (omega arith))
 
 -- a closed gate ends them, whatever stands behind it
-pub recovered_closed : (rs : List Record) (gate : ℕ) (rest : List ℕ) → AllByRecursion RecordFits rs → length (records rs) < 1048576 → gate ≢ 1 → recovered (records rs ++ gate ∷ rest) ≡ Whole rs
+pub recovered_closed : (limit : ℕ) (rs : List Record) (gate : ℕ) (rest : List ℕ) → AllByRecursion RecordFits rs → length (records rs) < limit → gate ≢ 1 → recovered limit (records rs ++ gate ∷ rest) ≡ Whole rs
 unfolding recovered
-recovered_closed rs gate rest fit below shut =
-    let m = 1048576 - length (records rs) - 1 in
-    ap (reading 0 0) (take_past (records rs) (gate ∷ rest) 1048576 (suc m) (omega arith))
+recovered_closed limit rs gate rest fit below shut =
+    let m = limit - length (records rs) - 1 in
+    ap (reading 0 0) (take_past (records rs) (gate ∷ rest) limit (suc m) (omega arith))
     ∙ reading_records rs 0 (gate ∷ take m rest) fit
     ∙ ap (push_all rs) (reading_closed (0 + length (records rs)) gate (take m rest) shut)
     ∙ pushed rs []
@@ -119,10 +119,10 @@ all_push P [] x all one = (one, tt)
 all_push P (y ∷ xs) x all one = (all.0, all_push P xs x all.1 one)
 
 -- a whole record behind any gate counts or it does not
-pub recovered_gate : (rs : List Record) (r : Record) (gate : ℕ) (rest : List ℕ) → AllByRecursion RecordFits rs → RecordFits r → length (records rs) + size r + 2 ≤ 1048576
-    → IsBeforeOrAfter rs r (records rs ++ gate ∷ (body r ++ 0 ∷ rest))
-recovered_gate rs r gate rest fit fits room = elim (cases_eq gate 1) [
-  | inl is_open ↦ inr (ap (λ (g : ℕ). recovered (records rs ++ g ∷ (body r ++ 0 ∷ rest))) is_open ∙ ap recovered (sym (records-push rs r (0 ∷ rest)))
-      ∙ recovered_closed (rs ++ r ∷ []) 0 rest (all_push RecordFits rs r fit fits) (omega (arith, length-records-push rs r)) (omega arith))
-  | inr shut ↦ inl (recovered_closed rs gate (body r ++ 0 ∷ rest) fit (omega arith) shut)
+pub recovered_gate : (limit : ℕ) (rs : List Record) (r : Record) (gate : ℕ) (rest : List ℕ) → AllByRecursion RecordFits rs → RecordFits r → length (records rs) + size r + 2 ≤ limit
+    → IsBeforeOrAfter limit rs r (records rs ++ gate ∷ (body r ++ 0 ∷ rest))
+recovered_gate limit rs r gate rest fit fits room = elim (cases_eq gate 1) [
+  | inl is_open ↦ inr (ap (λ (g : ℕ). recovered limit (records rs ++ g ∷ (body r ++ 0 ∷ rest))) is_open ∙ ap (recovered limit) (sym (records-push rs r (0 ∷ rest)))
+      ∙ recovered_closed limit (rs ++ r ∷ []) 0 rest (all_push RecordFits rs r fit fits) (omega (arith, length-records-push rs r)) (omega arith))
+  | inr shut ↦ inl (recovered_closed limit rs gate (body r ++ 0 ∷ rest) fit (omega arith) shut)
 ]

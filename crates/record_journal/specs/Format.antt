@@ -1,7 +1,8 @@
 -- The bytes of a journal, and the records that any bytes stand for.
-use Rattle.std.specs.Prelude.{ℕ, zero, suc, ◌+◌, ◌*◌, ◌<◌, ◌^◌, ◌&&◌, cond, eqb, ltb, List, [], ◌∷◌, ◌++◌, length, take, drop, slice_index, Option, Some, None, ℤ, IfSome, FitsSigned}
+use Rattle.std.specs.Prelude.{ℕ, zero, suc, ◌+◌, ◌*◌, ◌<◌, ◌^◌, ◌&&◌, cond, eqb, ltb, min, List, [], ◌∷◌, ◌++◌, length, take, drop, slice_index, Option, Some, None, ℤ, IfSome, FitsSigned}
 use Rattle.std.specs.List.{AllByRecursion}
 use Rattle.std.specs.Int.{w32, w64, to_be_bytes, from_be_bytes, cast_unsigned, cast_signed}
+use Rattle.crash_disk.specs.Sizes.{default_capacity}
 use Rattle.teb_names.specs.declared.Cell.{Cell}
 use Rattle.record_journal.specs.declared.change.Change.{Change}
 
@@ -95,6 +96,10 @@ reading skip at [] = Whole []
 reading (suc skip) at (b ∷ bytes) = reading skip (suc at) bytes
 reading zero at (gate ∷ bytes) = cond (eqb gate 1) (after_gate at (record_of bytes) (λ n. reading n (suc at) bytes)) (Whole [])
 
--- what a disk's bytes stand for: those past the first 1,048,576 are not looked at
-unfoldable pub recovered : List ℕ → Reading
-recovered bytes = reading 0 0 (take 1048576 bytes)
+-- how many bytes of a disk the journal of a store may use: the default capacity at most
+abbrev pub room_of : ℕ → ℕ
+room_of capacity = min capacity default_capacity
+
+-- what a disk's bytes stand for: those past the first `room` are not looked at
+unfoldable pub recovered : ℕ → List ℕ → Reading
+recovered room bytes = reading 0 0 (take room bytes)

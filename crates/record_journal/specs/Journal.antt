@@ -4,11 +4,11 @@ use Rattle.std.specs.List.{AllByRecursion}
 use Rattle.teb_rules.specs.Replay.{Values, put_in}
 use Rattle.record_journal.specs.Format.{Record, RecordFits, body, records, recovered, Whole}
 
--- the file is these records and a closed gate, at `end`, and then anything
-pub record IsAtRest (rs : List Record) (end : ℕ) (bytes : List ℕ) : Type 0 where
+-- the file is these records and a closed gate, at `end` and so within the room, and then anything
+pub record IsAtRest (room : ℕ) (rs : List Record) (end : ℕ) (bytes : List ℕ) : Type 0 where
   pub fit : AllByRecursion RecordFits rs
   pub size : end ≡ length (records rs)
-  pub within : end < 1048576
+  pub within : end < room
   pub rest : List ℕ
   pub is : bytes ≡ records rs ++ 0 ∷ rest
 
@@ -18,15 +18,15 @@ pub record IsBody (r : Record) (bytes : List ℕ) : Type 0 where
   pub is : bytes ≡ body r ++ 0 ∷ []
 
 -- the file stands for these records, or for these and one more
-abbrev pub IsBeforeOrAfter : List Record → Record → List ℕ → Type 0
-IsBeforeOrAfter rs r file = (recovered file ≡ Whole rs) ⊎ (recovered file ≡ Whole (rs ++ r ∷ []))
+abbrev pub IsBeforeOrAfter : ℕ → List Record → Record → List ℕ → Type 0
+IsBeforeOrAfter room rs r file = (recovered room file ≡ Whole rs) ⊎ (recovered room file ≡ Whole (rs ++ r ∷ []))
 
 -- the file stands for the first k of the records, for a k that is at least `least`
-pub record StandsFor (least : ℕ) (rs : List Record) (file : List ℕ) : Type 0 where
+pub record StandsFor (room least : ℕ) (rs : List Record) (file : List ℕ) : Type 0 where
   pub k : ℕ
   pub no_fewer : least ≤ k
   pub no_more : k ≤ length rs
-  pub stands : recovered file ≡ Whole (take k rs)
+  pub stands : recovered room file ≡ Whole (take k rs)
 
 -- a table of values after the changes of a record, the first change first
 abbrev pub after_changes : Record → Values → Values

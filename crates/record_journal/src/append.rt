@@ -1,15 +1,16 @@
 //! How a journal begins, and how it grows.
 
-ghost use Rattle.std.specs.Prelude.{◌≡◌, ◌+◌, ◌<◌, ◌≤◌, ◌++◌, ◌∷◌, [], List, length, true, false, OnOk, OnErr, IfOk, IfErr, IsOk, IsErr, ◌^◌};
+ghost use Rattle.std.specs.Prelude.{◌≡◌, ◌+◌, ◌-◌, ◌<◌, ◌≤◌, ◌++◌, ◌∷◌, [], List, length, true, false, OnOk, OnErr, IfOk, IfErr, IsOk, IsErr, ◌^◌};
 ghost use Rattle.crash_disk.specs.Calls.{AreCalls, AreSure, Fails, IsUpTo};
 ghost use Rattle.crash_disk.specs.Disk.{LeavesOnly, Only};
+ghost use Rattle.crash_disk.specs.Sizes.{default_capacity};
 ghost use Rattle.teb_io.specs.Faults.{HasCause, Rose};
-ghost use Rattle.record_journal.specs.Format.{Record, recovered, Whole};
+ghost use Rattle.record_journal.specs.Format.{Record, recovered, room_of, Whole};
 ghost use Rattle.record_journal.specs.Journal.{IsAtRest, IsBody, StandsFor};
 ghost use Rattle.record_journal.specs.Kept.{Keeps};
 
 use crate::{Journal, Progress, write_record};
-use crash_disk::{Disk, MOST_BYTES};
+use crash_disk::{DEFAULT_CAPACITY, Disk};
 use teb_io::Failed;
 
 impl<D: Disk> Journal<D> {
@@ -20,6 +21,8 @@ impl<D: Disk> Journal<D> {
     pub fn create(disk: D) -> Result<Journal<D>, D>
         ensures empty { IfOk result (λ journal. Keeps D.seen D.may_leave [] journal × (journal.stopped ≡ false) × (journal.progress.acknowledged ≡ 0)) }
         ensures cause { IfErr result (λ back. Rose (D.faults disk) (D.faults back)) }
+        ensures capacity { IfOk result (λ journal. D.capacity journal.disk ≡ D.capacity disk) }
+        ensures back_capacity { IfErr result (λ back. D.capacity back ≡ D.capacity disk) }
         // It makes two calls, up to the first that fails, and writes one byte. After an `Err` no more is safe than before.
         ensures sure { AreSure (D.tally disk).promise.writes 2 1 (D.tally disk) → IsOk result }
         ensures fails { Fails 2 (D.tally disk) → IsErr result }
@@ -49,22 +52,23 @@ impl<D: Disk> Journal<D> {
     pub fn append(&mut self, body: &[u8]) -> Result<(), Failed>
         requires running { self.old.stopped ≡ false }
         requires some { 0 < length body.now }
-        requires room { self.old.progress.end + 1 + length body.now ≤ 1048576 }
+        requires room { self.old.progress.end + 1 + length body.now ≤ room_of (D.capacity self.old.disk) }
 
         // Between two calls a crash leaves the first records, at least those that are acknowledged.
         ensures kept { (asked : List Record) (r : Record) → IsBody r body.now → Keeps D.seen D.may_leave asked self.old → Keeps D.seen D.may_leave (asked ++ r ∷ []) self.new }
 
         // So does a crash at any moment of the call.
         ensures any_moment { (asked : List Record) (r : Record) → IsBody r body.now → Keeps D.seen D.may_leave asked self.old
-            → LeavesOnly D.moment D.left_since self.old.disk self.new.disk (StandsFor self.old.progress.acknowledged (asked ++ r ∷ [])) }
+            → LeavesOnly D.moment D.left_since self.old.disk self.new.disk (StandsFor default_capacity self.old.progress.acknowledged (asked ++ r ∷ [])) }
 
         ensures acknowledged { OnOk result ((self.new.stopped ≡ false) × (self.new.progress.acknowledged ≡ self.old.progress.acknowledged + 1)) }
         ensures end { OnOk result (self.new.progress.end ≡ self.old.progress.end + length body.now) }
         ensures not_acknowledged { OnErr result ((self.new.stopped ≡ true) × (self.new.progress.acknowledged ≡ self.old.progress.acknowledged)) }
         // After an `Err` what was safe at the last good sync has the acknowledged records alone.
-        ensures not_added { (asked : List Record) (r : Record) → IsBody r body.now → Keeps D.seen D.may_leave asked self.old → OnErr result (recovered (D.safe self.new.disk) ≡ Whole asked) }
+        ensures not_added { (asked : List Record) (r : Record) → IsBody r body.now → Keeps D.seen D.may_leave asked self.old → OnErr result (recovered default_capacity (D.safe self.new.disk) ≡ Whole asked) }
 
         ensures cause { HasCause (D.faults self.old.disk) (D.faults self.new.disk) result }
+        ensures capacity { D.capacity self.new.disk ≡ D.capacity self.old.disk }
 
         // It makes four calls, up to the first that fails, and writes one byte more than the body has.
         ensures calls { AreCalls (D.tally self.old.disk).promise.writes 4 (length body.now + 1) (D.tally self.old.disk) (D.tally self.new.disk) result }
@@ -98,9 +102,12 @@ impl<D: Disk> Journal<D> {
 
     /// How many bytes are left for records, from the closed gate on.
     pub fn left(&self) -> u64
-        ensures { result + self.now.progress.end ≡ 1048576 }
+        ensures { result ≡ room_of (D.capacity self.now.disk) - self.now.progress.end }
     {
-        MOST_BYTES - self.progress.end
+        self.disk
+            .capacity()
+            .min(DEFAULT_CAPACITY)
+            .saturating_sub(self.progress.end)
     }
 
     /// The disk, as it is.
@@ -113,8 +120,9 @@ impl<D: Disk> Journal<D> {
 
 // The first gate, closed and on the disk, whatever stands behind it.
 fn close_first_gate<D: Disk>(disk: &mut D) -> Result<(), Failed>
-    ensures empty { OnOk result (IsAtRest [] 0 (D.seen disk.new) × Only (D.seen disk.new) (D.may_leave disk.new)) }
+    ensures empty { OnOk result (IsAtRest default_capacity [] 0 (D.seen disk.new) × Only (D.seen disk.new) (D.may_leave disk.new)) }
     ensures cause { HasCause (D.faults disk.old) (D.faults disk.new) result }
+    ensures capacity { D.capacity disk.new ≡ D.capacity disk.old }
     ensures calls { AreCalls (D.tally disk.old).promise.writes 2 1 (D.tally disk.old) (D.tally disk.new) result }
     ensures not_safe { OnErr result (D.safe disk.new ≡ D.safe disk.old) }
 {

@@ -1,6 +1,7 @@
 //! A journal: records on a disk, each acknowledged once it is safe.
 
 ghost use Rattle.std.specs.Prelude.{◌<◌, ◌≤◌};
+ghost use Rattle.crash_disk.specs.Sizes.{default_capacity};
 
 use crash_disk::Disk;
 
@@ -20,6 +21,6 @@ pub struct Progress {
     pub end: u64,
     /// How many records are acknowledged.
     pub acknowledged: u32,
-    ghost within: { end < 1048576 },
+    ghost within: { end < default_capacity },
     ghost small: { acknowledged ≤ end },
 }

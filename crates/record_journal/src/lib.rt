@@ -19,4 +19,5 @@ pub use journal::{Journal, Progress};
 pub use read::read_records;
 pub use record::{encode, write_record};
 pub use recovery::{Recovered, read_rows};
-pub use whole::read_whole;
+pub use rows::rows_after;
+pub use whole::{read_front, read_whole};

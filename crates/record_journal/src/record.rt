@@ -1,6 +1,6 @@
 //! One record: its bytes, and how they come onto the disk in four calls.
 
-ghost use Rattle.std.specs.Prelude.{◌≡◌, ◌+◌, ◌*◌, ◌^◌, ◌<◌, ◌≤◌, ◌++◌, ◌∷◌, [], List, length, OnOk, OnErr, IfOk};
+ghost use Rattle.std.specs.Prelude.{◌≡◌, ◌+◌, ◌*◌, ◌^◌, ◌<◌, ◌≤◌, ◌++◌, ◌∷◌, [], List, ℕ, length, OnOk, OnErr, IfOk};
 ghost use Rattle.crash_disk.specs.Calls.{AreCalls};
 ghost use Rattle.crash_disk.specs.Disk.{Only, LeavesOnly};
 ghost use Rattle.teb_io.specs.Faults.{HasCause};
@@ -53,23 +53,24 @@ fn put_change(out: &mut Vec<u8>, change: Change) -> Result<(), AllocError>
 /// # Errors
 /// `Failed` where one of these four calls fails. The record may then stand on the disk or not.
 pub fn write_record<D: Disk>(disk: &mut D, end: u64, body: &[u8]) -> Result<(), Failed>
-    requires { end + 1 + length body.now ≤ 1048576 }
+    requires { end + 1 + length body.now ≤ D.capacity disk.old }
 
-    // On a disk at rest it adds the record that the body spells.
-    ensures added { (rs : List Record) (r : Record) → IsBody r body.now → IsAtRest rs end (D.seen disk.old)
+    // On a disk at rest it adds the record that the body spells. The room of the journal may be less than that of the disk.
+    ensures added { (room : ℕ) (rs : List Record) (r : Record) → end + 1 + length body.now ≤ room → IsBody r body.now → IsAtRest room rs end (D.seen disk.old)
         → Only (D.seen disk.old) (D.may_leave disk.old)
-        → OnOk result (IsAtRest (rs ++ r ∷ []) (end + length body.now) (D.seen disk.new) × Only (D.seen disk.new) (D.may_leave disk.new)) }
+        → OnOk result (IsAtRest room (rs ++ r ∷ []) (end + length body.now) (D.seen disk.new) × Only (D.seen disk.new) (D.may_leave disk.new)) }
 
     // A crash at any moment of the call leaves the records from before it, with the new one or without.
-    ensures any_moment { (rs : List Record) (r : Record) → IsBody r body.now → IsAtRest rs end (D.seen disk.old)
+    ensures any_moment { (room : ℕ) (rs : List Record) (r : Record) → end + 1 + length body.now ≤ room → IsBody r body.now → IsAtRest room rs end (D.seen disk.old)
         → Only (D.seen disk.old) (D.may_leave disk.old)
-        → LeavesOnly D.moment D.left_since disk.old disk.new (IsBeforeOrAfter rs r) }
+        → LeavesOnly D.moment D.left_since disk.old disk.new (IsBeforeOrAfter room rs r) }
 
     // Where it fails, what was safe at the last good sync has the records from before it alone.
-    ensures not_added { (rs : List Record) (r : Record) → IsBody r body.now → IsAtRest rs end (D.seen disk.old) → recovered (D.safe disk.old) ≡ Whole rs
-        → OnErr result (recovered (D.safe disk.new) ≡ Whole rs) }
+    ensures not_added { (room : ℕ) (rs : List Record) (r : Record) → end + 1 + length body.now ≤ room → IsBody r body.now → IsAtRest room rs end (D.seen disk.old) → recovered room (D.safe disk.old) ≡ Whole rs
+        → OnErr result (recovered room (D.safe disk.new) ≡ Whole rs) }
 
     ensures cause { HasCause (D.faults disk.old) (D.faults disk.new) result }
+    ensures capacity { D.capacity disk.new ≡ D.capacity disk.old }
     ensures calls { AreCalls (D.tally disk.old).promise.writes 4 (length body.now + 1) (D.tally disk.old) (D.tally disk.new) result }
 {
     disk.write_at(end + 1, body)?;

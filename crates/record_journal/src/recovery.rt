@@ -1,10 +1,11 @@
 //! What a disk stands for, after a crash too.
 
-ghost use Rattle.std.specs.Prelude.{◌≡◌, ◌≤◌, List, ℕ, length, take, IfOk, OnOk, IsErrOf};
+ghost use Rattle.std.specs.Prelude.{◌≡◌, ◌+◌, ◌≤◌, List, ℕ, length, take, IfOk, IfErr, OnOk, IsErrOf};
 ghost use Rattle.teb_names.specs.declared.Cell.{Cell as TheCell};
 ghost use Rattle.teb_names.specs.Rows.{row_of, IsAscending};
 ghost use Rattle.crash_disk.specs.Calls.{AreSure};
 ghost use Rattle.crash_disk.specs.Disk.{IsQuiet, Only};
+ghost use Rattle.crash_disk.specs.Sizes.{default_capacity};
 ghost use Rattle.teb_io.specs.Faults.{Rose};
 ghost use Rattle.record_journal.specs.Format.{Record, recovered, Whole, Damaged};
 ghost use Rattle.record_journal.specs.Journal.{StandsFor, after_records};
@@ -30,35 +31,38 @@ pub struct Recovered {
 /// begins with a sync, and writes nothing.
 ///
 /// # Errors
-/// `DiskFault` where a call of the disk fails; `Damaged` where no record stands behind an open gate; `OutOfMemory`. The bytes of the
-/// disk stay as they were.
+/// `DiskFault`: a call of the disk failed. `Damaged`: no record follows an open gate. `OutOfMemory`. The bytes of the disk are
+/// unchanged, and a fault is counted only with `DiskFault`.
 pub fn read_rows<D: Disk>(
     alloc: Global,
     disk: &mut D,
     start: &[(Cell, i64)],
 ) -> Result<Recovered, RecoverError>
     // The rows are those after all records that the bytes have.
-    ensures found { IfOk result (λ found. (rs : List Record) × (recovered (D.seen disk.old) ≡ Whole rs) × (found.commits ≡ length rs)
+    ensures found { IfOk result (λ found. (rs : List Record) × (recovered default_capacity (D.seen disk.old) ≡ Whole rs) × (found.commits ≡ length rs)
         × ((x : TheCell) → row_of found.rows.items x ≡ after_records rs (row_of start.now) x)) }
 
     ensures ascending { IfOk result (λ found. IsAscending found.rows.items) }
 
     // Damage is told where the bytes have it.
-    ensures damaged { (at : ℕ) → IsErrOf result (RecoverError.Damaged at) → recovered (D.seen disk.old) ≡ Damaged at }
+    ensures damaged { (at : ℕ) → IsErrOf result (RecoverError.Damaged at) → recovered default_capacity (D.seen disk.old) ≡ Damaged at }
 
     // On what a crash leaves of a journal that was asked to keep these records, the first k of them are found, for a k that is
     // at least what was acknowledged, and there is no damage.
-    ensures first { (least : ℕ) (asked : List Record) → StandsFor least asked (D.seen disk.old)
+    ensures first { (least : ℕ) (asked : List Record) → StandsFor default_capacity least asked (D.seen disk.old)
         → IfOk result (λ found. (least ≤ found.commits) × (found.commits ≤ length asked)
         × ((x : TheCell) → row_of found.rows.items x ≡ after_records (take found.commits asked) (row_of start.now) x)) }
-    ensures no_damage { (least : ℕ) (asked : List Record) → StandsFor least asked (D.seen disk.old) → (at : ℕ) → IsErrOf result (RecoverError.Damaged at) → ⊥ }
+    ensures no_damage { (least : ℕ) (asked : List Record) → StandsFor default_capacity least asked (D.seen disk.old) → (at : ℕ) → IsErrOf result (RecoverError.Damaged at) → ⊥ }
 
     // From then on a crash leaves what was read.
     ensures durable { OnOk result (Only (D.seen disk.old) (D.may_leave disk.new)) }
-    ensures quiet { IsQuiet D.seen D.may_leave D.moment D.left_since D.faults disk.old disk.new }
+    ensures quiet { IsQuiet D.seen D.may_leave D.moment D.left_since D.faults D.capacity disk.old disk.new }
     ensures cause { IsErrOf result RecoverError.DiskFault → Rose (D.faults disk.old) (D.faults disk.new) }
+    // Where no call failed, no fault is counted.
+    ensures no_fault { OnOk result (D.faults disk.new ≡ D.faults disk.old) }
+    ensures no_other_fault { IfErr result (λ e. (e ≡ RecoverError.DiskFault → ⊥) → D.faults disk.new ≡ D.faults disk.old) }
     // It makes a sync, and then as many calls at most as there are bytes, and one.
-    ensures sure { AreSure (D.tally disk.old).promise.writes 1 0 (D.tally disk.old) → AreSure (D.tally disk.old).promise.reads 1048578 0 (D.tally disk.old)
+    ensures sure { AreSure (D.tally disk.old).promise.writes 1 0 (D.tally disk.old) → AreSure (D.tally disk.old).promise.reads (default_capacity + 2) 0 (D.tally disk.old)
         → IsErrOf result RecoverError.DiskFault → ⊥ }
 {
     disk.sync()?;

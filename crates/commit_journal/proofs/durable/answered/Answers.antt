@@ -1,6 +1,7 @@
 use Rattle.std.proofs.Common.{◌≡◌, ◌+◌, List, length, refl, arith, rules}
 use Rattle.teb_names.specs.declared.Reply.TheVariants.{Committed}
 use Rattle.crash_disk.specs.Disk.{LeavesOnly}
+use Rattle.crash_disk.specs.Sizes.{default_capacity}
 use Rattle.record_journal.specs.Format.{Record, recovered, Whole}
 use Rattle.record_journal.specs.Journal.{StandsFor}
 use Rattle.record_journal.specs.Kept.{Keeps}
@@ -79,7 +80,7 @@ returns-in-Ok-clause-answered g c =
       events = asked.events;
       reply = asked.reply;
       any_moment = of_behind e.store e.events two.events c.args.session c.args.request c.args.body.now commit c.requires.body d.seen d.may_leave
-          two.store j (λ (rs : List Record). LeavesOnly d.moment d.left_since j.disk k.disk (StandsFor j.progress.acknowledged rs))
+          two.store j (λ (rs : List Record). LeavesOnly d.moment d.left_since j.disk k.disk (StandsFor default_capacity j.progress.acknowledged rs))
           asked.store c.append.ensures.any_moment c.requires.keeps;
       effect = committed (record {
         answered = commits_reply e.store e.events c.args.session c.args.request c.ask-reply.result asked.reply is;
@@ -117,14 +118,14 @@ returns-in-Err-clause-answered g c =
     let commit = commits e.store e.events two.events c.args.session c.args.request c.ask-reply.result asked.reply asked.events is in
     let calls = c.in-Err.ensures.calls in
     let safe = of_before e.store e.events two.events c.args.session c.args.request c.args.body.now commit c.requires.body d.seen d.may_leave
-    j (λ (rs : List Record). recovered (d.safe k.disk) ≡ Whole rs) c.in-Err.ensures.not_added c.requires.keeps in
+    j (λ (rs : List Record). recovered default_capacity (d.safe k.disk) ≡ Whole rs) c.in-Err.ensures.not_added c.requires.keeps in
     let size = length c.args.body.now in
     record {
       store = record { store = asked.store; names = asked.names };
       events = asked.events;
       reply = tt;
       any_moment = of_behind e.store e.events two.events c.args.session c.args.request c.args.body.now commit c.requires.body d.seen d.may_leave
-          two.store j (λ (rs : List Record). LeavesOnly d.moment d.left_since j.disk k.disk (StandsFor j.progress.acknowledged rs))
+          two.store j (λ (rs : List Record). LeavesOnly d.moment d.left_since j.disk k.disk (StandsFor default_capacity j.progress.acknowledged rs))
           asked.store c.append.ensures.any_moment c.requires.keeps;
       effect = committed (record {
         answered = commits_reply e.store e.events c.args.session c.args.request c.ask-reply.result asked.reply is;

@@ -42,7 +42,7 @@ pub halt_of-requires-clause-room : goal.halt_of-requires-clause-room
 halt_of-requires-clause-room g c is =
     let d = g.D.Disk in
     let old = c.args.durable.now in
-    never_full d.tally d.safe d.may_leave g.met.D.Disk.safe_is_left (d.tally old.disk).promise old c.args.log.now.items c.args.session c.args.request c.requires.underway c.requires.few (c.in-Err.ensures.full (as_error c.in-Err.error _ is))
+    never_full d.tally d.safe d.may_leave g.met.D.Disk.safe_is_left (d.tally old.disk).promise old c.args.log.now.items c.args.session c.args.request c.requires.underway c.requires.few (d.capacity old.disk) c.requires.wide (c.in-Err.ensures.full (as_error c.in-Err.error _ is))
 
 pub returns-in-Err-clause-stopped : goal.returns-in-Err-clause-stopped
 returns-in-Err-clause-stopped g c rest is =

@@ -10,6 +10,7 @@ use Rattle.crash_runner.proofs.ends.ask_ends.Goals as goal
 pub loop-session-init : goal.loop-session-init
 loop-session-init g c = record {
   store = record { store = refl; names = refl };
+  capacity = refl;
   underway = c.requires.underway;
   asked = asked_none c.args.durable.now.store c.args.log.now.items c.args.durable.now.events;
   few = c.requires.few;
@@ -36,6 +37,7 @@ loop-session-preserved g c =
     let none : effects c.ask.new.durable.events ≤ 0 + effects l.durable.events = c.in_ok-ask.ensures.few in
     record {
       store = record { store = c.in_ok-ask.ensures.store.store ∙ i.store.store; names = c.in_ok-ask.ensures.store.names ∙ i.store.names };
+      capacity = c.ask.ensures.capacity ∙ i.capacity;
       underway = subst (λ (p : Promise). IsUnderway p d.tally d.safe c.ask.new.durable c.ask.new.log.items) i.underway.promised c.in_ok-ask.ensures.underway;
       asked = one_more end_of c.args.holders.now l.session-index _ c.loop-session-test.true _ refl old.store l.durable.store i.store.store c.args.log.now.items l.log.items old.events l.durable.events i.asked
           c.ask.new.log.items c.ask.new.durable.events c.in_ok-ask.ensures.asked;

@@ -10,6 +10,7 @@ use Rattle.crash_runner.proofs.lines.ask_lines.Goals as goal
 pub loop-line-init : goal.loop-line-init
 loop-line-init g c = record {
   store = record { store = refl; names = refl };
+  capacity = refl;
   underway = c.requires.underway;
   asked = asked_none c.args.durable.now.store c.args.log.now.items c.args.durable.now.events;
   few = omega arith;
@@ -35,6 +36,7 @@ loop-line-preserved g c =
     let old = c.args.durable.now in
     record {
       store = record { store = c.in_ok-ask.ensures.store.store ∙ i.store.store; names = c.in_ok-ask.ensures.store.names ∙ i.store.names };
+      capacity = c.ask.ensures.capacity ∙ i.capacity;
       underway = subst (λ (p : Promise). IsUnderway p d.tally d.safe c.ask.new.durable c.ask.new.log.items) i.underway.promised c.in_ok-ask.ensures.underway;
       asked = one_more request_of c.args.lines.now l.line-index _ c.loop-line-test.true _ refl old.store l.durable.store i.store.store c.args.log.now.items l.log.items old.events l.durable.events i.asked
           c.ask.new.log.items c.ask.new.durable.events c.in_ok-ask.ensures.asked;

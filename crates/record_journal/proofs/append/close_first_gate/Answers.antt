@@ -7,7 +7,7 @@ use Rattle.record_journal.proofs.append.close_first_gate.Goals as goal
 
 pub returns-clause-empty : goal.returns-clause-empty
 returns-clause-empty g c = (
-  subst (IsAtRest _ 0) (sym c.sync.ensures.seen) (closed_first _ c.in_ok-write_at.ensures.written),
+  subst (IsAtRest _ _ 0) (sym c.sync.ensures.seen) (closed_first _ c.in_ok-write_at.ensures.written),
   λ image left. c.in_ok-sync.ensures.durable image left ∙ sym c.sync.ensures.seen,
 )
 

@@ -8,56 +8,56 @@ use Rattle.record_journal.proofs.Calls.{wrote, synced, staged, opened, ended, re
 use Rattle.record_journal.proofs.record.write_record.Goals as goal
 
 pub returns-in_err-write_at-clause-any_moment : goal.returns-in_err-write_at-clause-any_moment
-returns-in_err-write_at-clause-any_moment g c rs r added at_rest only =
+returns-in_err-write_at-clause-any_moment g c room rs r within added at_rest only =
     let d = g.D.Disk in
     let old = c.args.disk.now in
-    wrote d.seen d.may_leave d.moment d.left_since rs r c.args.end c.args.body.now old added at_rest c.requires only c.write_at.new.self (g.met.D.Disk.only_now old) c.write_at.ensures.crash c.write_at.ensures.time
+    wrote d.seen d.may_leave d.moment d.left_since room rs r c.args.end c.args.body.now old added at_rest within only c.write_at.new.self (g.met.D.Disk.only_now old) c.write_at.ensures.crash c.write_at.ensures.time
 
 pub returns-in_err-sync-clause-any_moment : goal.returns-in_err-sync-clause-any_moment
-returns-in_err-sync-clause-any_moment g c rs r added at_rest only =
+returns-in_err-sync-clause-any_moment g c room rs r within added at_rest only =
     let d = g.D.Disk in
     let old = c.args.disk.now in
-    let one = wrote d.seen d.may_leave d.moment d.left_since rs r c.args.end c.args.body.now old added at_rest c.requires only c.write_at.new.self (g.met.D.Disk.only_now old) c.write_at.ensures.crash c.write_at.ensures.time in
-    synced d.seen d.may_leave d.moment d.left_since rs r c.args.end c.args.body.now old added at_rest c.requires only c.write_at.new.self c.sync.new.self one c.write_at.ensures.crash c.sync.ensures.crash c.sync.ensures.time
+    let one = wrote d.seen d.may_leave d.moment d.left_since room rs r c.args.end c.args.body.now old added at_rest within only c.write_at.new.self (g.met.D.Disk.only_now old) c.write_at.ensures.crash c.write_at.ensures.time in
+    synced d.seen d.may_leave d.moment d.left_since room rs r c.args.end c.args.body.now old added at_rest within only c.write_at.new.self c.sync.new.self one c.write_at.ensures.crash c.sync.ensures.crash c.sync.ensures.time
 
 pub returns-in_err-write_at-2-clause-any_moment : goal.returns-in_err-write_at-2-clause-any_moment
-returns-in_err-write_at-2-clause-any_moment g c rs r added at_rest only =
+returns-in_err-write_at-2-clause-any_moment g c room rs r within added at_rest only =
     let d = g.D.Disk in
     let old = c.args.disk.now in
-    let one = wrote d.seen d.may_leave d.moment d.left_since rs r c.args.end c.args.body.now old added at_rest c.requires only c.write_at.new.self (g.met.D.Disk.only_now old) c.write_at.ensures.crash c.write_at.ensures.time in
-    let two = synced d.seen d.may_leave d.moment d.left_since rs r c.args.end c.args.body.now old added at_rest c.requires only c.write_at.new.self c.sync.new.self one c.write_at.ensures.crash c.sync.ensures.crash c.sync.ensures.time in
-    let behind = staged d.seen d.may_leave d.moment d.left_since rs r c.args.end c.args.body.now old added at_rest c.requires only c.write_at.new.self c.sync.new.self c.write_at.ensures.torn c.in_ok-write_at.ensures.written c.sync.ensures.seen in
+    let one = wrote d.seen d.may_leave d.moment d.left_since room rs r c.args.end c.args.body.now old added at_rest within only c.write_at.new.self (g.met.D.Disk.only_now old) c.write_at.ensures.crash c.write_at.ensures.time in
+    let two = synced d.seen d.may_leave d.moment d.left_since room rs r c.args.end c.args.body.now old added at_rest within only c.write_at.new.self c.sync.new.self one c.write_at.ensures.crash c.sync.ensures.crash c.sync.ensures.time in
+    let behind = staged d.seen d.may_leave d.moment d.left_since room rs r c.args.end c.args.body.now old added at_rest within only c.write_at.new.self c.sync.new.self c.write_at.ensures.torn c.in_ok-write_at.ensures.written c.sync.ensures.seen in
     let durable = subst (λ f. Only f (d.may_leave c.sync.new.self)) (sym c.sync.ensures.seen) c.in_ok-sync.ensures.durable in
-    opened d.seen d.may_leave d.moment d.left_since rs r c.args.end c.args.body.now old added at_rest c.requires only c.sync.new.self c.write_at-2.new.self two behind durable c.write_at-2.ensures.crash c.write_at-2.ensures.time
+    opened d.seen d.may_leave d.moment d.left_since room rs r c.args.end c.args.body.now old added at_rest within only c.sync.new.self c.write_at-2.new.self two behind durable c.write_at-2.ensures.crash c.write_at-2.ensures.time
 
 pub returns-in_err-sync-2-clause-any_moment : goal.returns-in_err-sync-2-clause-any_moment
-returns-in_err-sync-2-clause-any_moment g c rs r added at_rest only =
+returns-in_err-sync-2-clause-any_moment g c room rs r within added at_rest only =
     let d = g.D.Disk in
     let old = c.args.disk.now in
-    let one = wrote d.seen d.may_leave d.moment d.left_since rs r c.args.end c.args.body.now old added at_rest c.requires only c.write_at.new.self (g.met.D.Disk.only_now old) c.write_at.ensures.crash c.write_at.ensures.time in
-    let two = synced d.seen d.may_leave d.moment d.left_since rs r c.args.end c.args.body.now old added at_rest c.requires only c.write_at.new.self c.sync.new.self one c.write_at.ensures.crash c.sync.ensures.crash c.sync.ensures.time in
-    let behind = staged d.seen d.may_leave d.moment d.left_since rs r c.args.end c.args.body.now old added at_rest c.requires only c.write_at.new.self c.sync.new.self c.write_at.ensures.torn c.in_ok-write_at.ensures.written c.sync.ensures.seen in
+    let one = wrote d.seen d.may_leave d.moment d.left_since room rs r c.args.end c.args.body.now old added at_rest within only c.write_at.new.self (g.met.D.Disk.only_now old) c.write_at.ensures.crash c.write_at.ensures.time in
+    let two = synced d.seen d.may_leave d.moment d.left_since room rs r c.args.end c.args.body.now old added at_rest within only c.write_at.new.self c.sync.new.self one c.write_at.ensures.crash c.sync.ensures.crash c.sync.ensures.time in
+    let behind = staged d.seen d.may_leave d.moment d.left_since room rs r c.args.end c.args.body.now old added at_rest within only c.write_at.new.self c.sync.new.self c.write_at.ensures.torn c.in_ok-write_at.ensures.written c.sync.ensures.seen in
     let durable = subst (λ f. Only f (d.may_leave c.sync.new.self)) (sym c.sync.ensures.seen) c.in_ok-sync.ensures.durable in
-    let three = opened d.seen d.may_leave d.moment d.left_since rs r c.args.end c.args.body.now old added at_rest c.requires only c.sync.new.self c.write_at-2.new.self two behind durable c.write_at-2.ensures.crash c.write_at-2.ensures.time in
-    ended d.seen d.may_leave d.moment d.left_since rs r c.args.end c.args.body.now old added at_rest c.requires only c.sync.new.self c.write_at-2.new.self c.sync-2.new.self three behind durable c.write_at-2.ensures.crash c.sync-2.ensures.crash c.sync-2.ensures.time
+    let three = opened d.seen d.may_leave d.moment d.left_since room rs r c.args.end c.args.body.now old added at_rest within only c.sync.new.self c.write_at-2.new.self two behind durable c.write_at-2.ensures.crash c.write_at-2.ensures.time in
+    ended d.seen d.may_leave d.moment d.left_since room rs r c.args.end c.args.body.now old added at_rest within only c.sync.new.self c.write_at-2.new.self c.sync-2.new.self three behind durable c.write_at-2.ensures.crash c.sync-2.ensures.crash c.sync-2.ensures.time
 
 pub returns-clause-any_moment : goal.returns-clause-any_moment
-returns-clause-any_moment g c rs r added at_rest only =
+returns-clause-any_moment g c room rs r within added at_rest only =
     let d = g.D.Disk in
     let old = c.args.disk.now in
-    let one = wrote d.seen d.may_leave d.moment d.left_since rs r c.args.end c.args.body.now old added at_rest c.requires only c.write_at.new.self (g.met.D.Disk.only_now old) c.write_at.ensures.crash c.write_at.ensures.time in
-    let two = synced d.seen d.may_leave d.moment d.left_since rs r c.args.end c.args.body.now old added at_rest c.requires only c.write_at.new.self c.sync.new.self one c.write_at.ensures.crash c.sync.ensures.crash c.sync.ensures.time in
-    let behind = staged d.seen d.may_leave d.moment d.left_since rs r c.args.end c.args.body.now old added at_rest c.requires only c.write_at.new.self c.sync.new.self c.write_at.ensures.torn c.in_ok-write_at.ensures.written c.sync.ensures.seen in
+    let one = wrote d.seen d.may_leave d.moment d.left_since room rs r c.args.end c.args.body.now old added at_rest within only c.write_at.new.self (g.met.D.Disk.only_now old) c.write_at.ensures.crash c.write_at.ensures.time in
+    let two = synced d.seen d.may_leave d.moment d.left_since room rs r c.args.end c.args.body.now old added at_rest within only c.write_at.new.self c.sync.new.self one c.write_at.ensures.crash c.sync.ensures.crash c.sync.ensures.time in
+    let behind = staged d.seen d.may_leave d.moment d.left_since room rs r c.args.end c.args.body.now old added at_rest within only c.write_at.new.self c.sync.new.self c.write_at.ensures.torn c.in_ok-write_at.ensures.written c.sync.ensures.seen in
     let durable = subst (λ f. Only f (d.may_leave c.sync.new.self)) (sym c.sync.ensures.seen) c.in_ok-sync.ensures.durable in
-    let three = opened d.seen d.may_leave d.moment d.left_since rs r c.args.end c.args.body.now old added at_rest c.requires only c.sync.new.self c.write_at-2.new.self two behind durable c.write_at-2.ensures.crash c.write_at-2.ensures.time in
-    ended d.seen d.may_leave d.moment d.left_since rs r c.args.end c.args.body.now old added at_rest c.requires only c.sync.new.self c.write_at-2.new.self c.sync-2.new.self three behind durable c.write_at-2.ensures.crash c.sync-2.ensures.crash c.sync-2.ensures.time
+    let three = opened d.seen d.may_leave d.moment d.left_since room rs r c.args.end c.args.body.now old added at_rest within only c.sync.new.self c.write_at-2.new.self two behind durable c.write_at-2.ensures.crash c.write_at-2.ensures.time in
+    ended d.seen d.may_leave d.moment d.left_since room rs r c.args.end c.args.body.now old added at_rest within only c.sync.new.self c.write_at-2.new.self c.sync-2.new.self three behind durable c.write_at-2.ensures.crash c.sync-2.ensures.crash c.sync-2.ensures.time
 
 pub returns-clause-added : goal.returns-clause-added
-returns-clause-added g c rs r added at_rest only =
+returns-clause-added g c room rs r within added at_rest only =
     let d = g.D.Disk in
     let old = c.args.disk.now in
-    let behind = staged d.seen d.may_leave d.moment d.left_since rs r c.args.end c.args.body.now old added at_rest c.requires only c.write_at.new.self c.sync.new.self c.write_at.ensures.torn c.in_ok-write_at.ensures.written c.sync.ensures.seen in (
-      rests d.seen d.may_leave d.moment d.left_since rs r c.args.end c.args.body.now old added at_rest c.requires only c.sync.new.self c.write_at-2.new.self c.sync-2.new.self behind c.write_at-2.ensures.torn c.in_ok-write_at-2.ensures.written c.sync-2.ensures.seen,
+    let behind = staged d.seen d.may_leave d.moment d.left_since room rs r c.args.end c.args.body.now old added at_rest within only c.write_at.new.self c.sync.new.self c.write_at.ensures.torn c.in_ok-write_at.ensures.written c.sync.ensures.seen in (
+      rests d.seen d.may_leave d.moment d.left_since room rs r c.args.end c.args.body.now old added at_rest within only c.sync.new.self c.write_at-2.new.self c.sync-2.new.self behind c.write_at-2.ensures.torn c.in_ok-write_at-2.ensures.written c.sync-2.ensures.seen,
       λ image left. c.in_ok-sync-2.ensures.durable image left ∙ sym c.sync-2.ensures.seen,
     )
 
@@ -66,18 +66,18 @@ on_err (Ok x) p = tt
 on_err (Err e) p = p
 
 pub returns-in_err-write_at-2-clause-not_added : goal.returns-in_err-write_at-2-clause-not_added
-returns-in_err-write_at-2-clause-not_added g c rs r added at_rest was =
+returns-in_err-write_at-2-clause-not_added g c room rs r within added at_rest was =
     let d = g.D.Disk in
     on_err c.from_residual-in_err-write_at-2.result
-    (ap recovered (c.write_at-2.ensures.safe ∙ c.in_ok-sync.ensures.safe)
-    ∙ torn_behind rs r c.args.end c.args.body.now (d.seen c.args.disk.now) added at_rest c.requires (d.seen c.write_at.new.self) c.write_at.ensures.torn)
+    (ap (recovered room) (c.write_at-2.ensures.safe ∙ c.in_ok-sync.ensures.safe)
+    ∙ torn_behind room rs r c.args.end c.args.body.now (d.seen c.args.disk.now) added at_rest within (d.seen c.write_at.new.self) c.write_at.ensures.torn)
 
 pub returns-in_err-sync-2-clause-not_added : goal.returns-in_err-sync-2-clause-not_added
-returns-in_err-sync-2-clause-not_added g c rs r added at_rest was =
+returns-in_err-sync-2-clause-not_added g c room rs r within added at_rest was =
     let d = g.D.Disk in
     on_err c.from_residual-in_err-sync-2.result
-    (ap recovered (c.in_err-sync-2.ensures.not_safe ∙ c.write_at-2.ensures.safe ∙ c.in_ok-sync.ensures.safe)
-    ∙ torn_behind rs r c.args.end c.args.body.now (d.seen c.args.disk.now) added at_rest c.requires (d.seen c.write_at.new.self) c.write_at.ensures.torn)
+    (ap (recovered room) (c.in_err-sync-2.ensures.not_safe ∙ c.write_at-2.ensures.safe ∙ c.in_ok-sync.ensures.safe)
+    ∙ torn_behind room rs r c.args.end c.args.body.now (d.seen c.args.disk.now) added at_rest within (d.seen c.write_at.new.self) c.write_at.ensures.torn)
 
 pub returns-in_err-write_at-clause-calls : goal.returns-in_err-write_at-clause-calls
 returns-in_err-write_at-clause-calls g c =

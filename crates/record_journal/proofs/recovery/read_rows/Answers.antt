@@ -1,6 +1,7 @@
 use Rattle.std.proofs.Common.{rules, ◌≡◌, ◌∙◌, ap, sym, take, length, arith}
 use Rattle.std.proofs.lemmas.List.{length-map}
 use Rattle.teb_names.specs.Rows.{row_of}
+use Rattle.crash_disk.specs.Sizes.{default_capacity}
 use Rattle.record_journal.specs.Journal.{after_records}
 use Rattle.record_journal.specs.Views.{record_lists}
 use Rattle.record_journal.proofs.Found.{as_read, no_damage, first_found, few_records, retag}
@@ -8,7 +9,7 @@ use Rattle.record_journal.proofs.recovery.read_rows.Goals as goal
 
 pub returns-in-Err-clause-damaged : goal.returns-in-Err-clause-damaged
 returns-in-Err-clause-damaged g c at is =
-    let bytes = c.deref.ensures.value ∙ c.in_ok-bytes.ensures.bytes ∙ ap (take 1048576) c.sync.ensures.seen in
+    let bytes = c.deref.ensures.value ∙ c.in_ok-bytes.ensures.bytes ∙ ap (take default_capacity) c.sync.ensures.seen in
     as_read (g.D.Disk.seen c.args.disk.now) c.deref.result.now _ bytes (c.in-Err.ensures.damaged at (retag c.in-Err.error at is))
 
 pub returns-in-Err-clause-no_damage : goal.returns-in-Err-clause-no_damage
@@ -22,7 +23,7 @@ overflow_cast-commits g c =
 
 pub returns-clause-found : goal.returns-clause-found
 returns-clause-found g c =
-    let bytes = c.deref.ensures.value ∙ c.in_ok-bytes.ensures.bytes ∙ ap (take 1048576) c.sync.ensures.seen in
+    let bytes = c.deref.ensures.value ∙ c.in_ok-bytes.ensures.bytes ∙ ap (take default_capacity) c.sync.ensures.seen in
     let count : c.len-commits.result ≡ length c.in-Ok.records.items = search rules in (
       record_lists c.in-Ok.records.items,
       as_read (g.D.Disk.seen c.args.disk.now) c.deref.result.now _ bytes c.in-Ok.ensures.whole,

@@ -1,4 +1,4 @@
-use Rattle.std.proofs.Common.{◌<◌, arith, rules, subst}
+use Rattle.std.proofs.Common.{◌<◌, ◌∙◌, arith, rules, subst}
 use Rattle.crash_disk.specs.Disk.{IsRead}
 use Rattle.crash_disk.proofs.Groups.{up_to_then}
 use Rattle.record_journal.proofs.Quiet.{quieter, filled_part, part_within}
@@ -15,6 +15,7 @@ loop-filled-preserved g c =
     record {
       within = part_within l.buf c.read_at.new.buf _ l.filled c.in_ok-n.n i.within read.fits;
       front = filled_part (d.seen c.args.disk.now) l.buf c.read_at.new.buf _ l.filled c.in_ok-n.n i.front i.within read;
+      faults = c.in_ok-n.ensures.no_fault ∙ i.faults;
       calls = record { made = omega (arith, both.made, some); written = both.written; promise = both.promise };
-      quiet = quieter d.seen d.may_leave d.moment d.left_since d.faults _ l.disk c.read_at.new.self i.quiet c.read_at.ensures.seen c.read_at.ensures.crash c.read_at.ensures.time c.read_at.ensures.cause.later;
+      quiet = quieter d.seen d.may_leave d.moment d.left_since d.faults d.capacity _ l.disk c.read_at.new.self i.quiet c.read_at.ensures.seen c.read_at.ensures.crash c.read_at.ensures.time c.read_at.ensures.cause.later c.read_at.ensures.capacity;
     }

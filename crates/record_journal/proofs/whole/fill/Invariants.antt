@@ -7,7 +7,8 @@ abbrev pub invariant-loop-filled : goal.invariant-loop-filled
 invariant-loop-filled g l = record {
   within : l.filled ≤ length l.buf;
   front : take l.filled l.buf ≡ take l.filled (g.D.Disk.seen l.fn.disk);
-  quiet : IsQuiet g.D.Disk.seen g.D.Disk.may_leave g.D.Disk.moment g.D.Disk.left_since g.D.Disk.faults l.fn.disk l.disk;
+  quiet : IsQuiet g.D.Disk.seen g.D.Disk.may_leave g.D.Disk.moment g.D.Disk.left_since g.D.Disk.faults g.D.Disk.capacity l.fn.disk l.disk;
+  faults : g.D.Disk.faults l.disk ≡ g.D.Disk.faults l.fn.disk;
   calls : IsUpTo l.filled 0 (g.D.Disk.tally l.fn.disk) (g.D.Disk.tally l.disk);
 }
 

@@ -1,7 +1,8 @@
-use Rattle.std.proofs.Common.{◌∙◌, subst, sym, ap}
+use Rattle.std.proofs.Common.{◌∙◌, ◌-◌, subst, sym, ap}
+use Rattle.record_journal.specs.Format.{room_of}
 use Rattle.commit_journal.specs.declared.error.DurableError.TheVariants as errors
 use Rattle.commit_journal.specs.Answered.{Answered}
-use Rattle.commit_journal.specs.Kept.{Kept, kept_of}
+use Rattle.commit_journal.specs.Kept.{Kept, IsFull, kept_of}
 use Rattle.commit_journal.proofs.Asked.{all_acknowledged, ends_behind}
 use Rattle.commit_journal.proofs.Answered.{keeps_alike}
 use Rattle.commit_journal.proofs.Effects.{acknowledges, acknowledges_none, runs_on, is_fault, changes_at_fault, fault_rose, fault_at_commit}
@@ -101,3 +102,10 @@ returns-clause-stopped g c is = let fault = is_fault errors.Stopped c.answered.r
 
 pub returns-clause-full : goal.returns-clause-full
 returns-clause-full g c is = let fault = is_fault errors.Full c.answered.result (did g c).effect is in absurd (cc)
+
+pub returns-clause-capacity : goal.returns-clause-capacity
+returns-clause-capacity g c = c.answered.ensures.capacity ∙ ap (λ (o : Kept _). g.D.Disk.capacity o.disk) c.self.view_is
+
+pub returns-clause-not_full : goal.returns-clause-not_full
+returns-clause-not_full g c fault full =
+    c.in_ok-body.ensures.fits (subst (λ (o : Kept _). IsFull o.events (room_of (g.D.Disk.capacity o.disk) - o.end) c.args.session c.args.request) (sym c.self.view_is) full)

@@ -1,13 +1,14 @@
-use Rattle.std.proofs.Common.{rules, ◌<◌, ◌≤◌, ◌++◌, ◌∷◌, [], List, length, sym, ◌∙◌, ap, subst, arith}
-use Rattle.crash_disk.specs.Log.{Step, Synced, total, AllFit}
-use Rattle.crash_disk.proofs.Logged.{total-sync, joined_sync, fit-sync, sizes}
+use Rattle.std.proofs.Common.{rules, ◌≡◌, ◌++◌, ◌∷◌, [], List, length, ◌∙◌, ap, arith}
+use Rattle.crash_disk.specs.Log.{Logged, Step, Synced, total}
+use Rattle.crash_disk.proofs.Logged.{total-sync, joined_sync, sizes, has_room, room_used}
 use Rattle.crash_disk.proofs.log.Log.sync.Goals as goal
 
-pub returns-then-len-ge-CALLS-clause-sure : goal.returns-then-len-ge-CALLS-clause-sure
-returns-then-len-ge-CALLS-clause-sure c lt =
+pub returns-then-not-holds-clause-sure : goal.returns-then-not-holds-clause-sure
+returns-then-not-holds-clause-sure c room lt =
     let m = c.self.inside in
-    let full : 262147 ≤ length m.calls.items = search rules in
-    absurd (omega (arith, lt, full, (sizes m.calls.items m.bytes.items c.args.self.now c.self.view_is c.self.invariant.counted).0))
+    let size = sizes m.calls.items m.bytes.items c.args.self.now.steps (ap (λ (l : Logged). l.steps) c.self.view_is) c.self.invariant.counted in
+    let calls : c.len.result ≡ length m.calls.items = search rules in
+    absurd (has_room m.room c.holds.result _ _ c.holds.ensures c.if-not-holds.true (ap (λ (l : Logged). l.room) c.self.view_is ∙ room) (omega (arith, calls, lt, size.0)) (omega arith))
 
 pub invariant_of-self-2 : goal.invariant_of-self-2
 invariant_of-self-2 c =
@@ -16,18 +17,20 @@ invariant_of-self-2 c =
     let more = c.in_ok-push.ensures.items in
     record {
       counted = ap total more ∙ total-sync m.calls.items ∙ i.counted;
-      fit = subst AllFit (sym more) (fit-sync m.calls.items i.fit);
-      room = omega (arith, i.room, c.push.ensures.capacity);
-      bytes_room = i.bytes_room;
+      reserved = λ is. omega (arith, i.reserved is, c.push.ensures.capacity);
+      reserved_bytes = i.reserved_bytes;
     }
 
 pub returns-clause-added : goal.returns-clause-added
 returns-clause-added c =
     let m = c.self.inside in
-    joined_sync m.calls.items c.push.new.self.items m.bytes.items c.in_ok-push.ensures.items ∙ ap (λ (l : List Step). l ++ Synced ∷ []) c.self.view_is
+    let joined = joined_sync m.calls.items c.push.new.self.items m.bytes.items c.in_ok-push.ensures.items in
+    ap (λ (xs : List Step). record { steps = xs; room = m.room }) joined ∙ ap (λ (l : Logged). record l { steps = l.steps ++ Synced ∷ [] }) c.self.view_is
 
 pub returns-clause-within : goal.returns-clause-within
-returns-clause-within c =
+returns-clause-within c room =
     let m = c.self.inside in
-    let low : length m.calls.items < 262147 = search rules in
-    omega (arith, low, (sizes m.calls.items m.bytes.items c.args.self.now c.self.view_is c.self.invariant.counted).0)
+    let size = sizes m.calls.items m.bytes.items c.args.self.now.steps (ap (λ (l : Logged). l.steps) c.self.view_is) c.self.invariant.counted in
+    let calls : c.len.result ≡ length m.calls.items = search rules in
+    let low = room_used m.room c.holds.result _ _ c.holds.ensures c.if-not-holds.false (ap (λ (l : Logged). l.room) c.self.view_is ∙ room) in
+    omega (arith, calls, low, size.0)

@@ -4,4 +4,4 @@ use Rattle.crash_disk.proofs.mem_disk.MemDiskDisk.read_at.Goals as goal
 pub invariant_of-self : goal.invariant_of-self
 invariant_of-self c =
     let m = c.args.self.now in
-    record { whole = m.whole; within = m.within; told = m.told; made = omega (arith, m.made, c.call.ensures.kept) }
+    record { within = m.within; some = m.some; small = m.small; told = m.told; made = λ is. omega (arith, m.made is, c.call.ensures.kept); reserved = m.reserved }

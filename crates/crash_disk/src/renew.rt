@@ -1,0 +1,45 @@
+//! Disks that forget the calls behind them.
+
+ghost use Rattle.std.specs.Prelude.{◌≡◌, IfOk, IfErr};
+ghost use Rattle.crash_disk.specs.Disk.{Only};
+
+use crate::{Disk, Log, MemDisk};
+use std::alloc::Global;
+
+/// A disk whose memory grows with its calls, and which can forget them.
+pub trait Renew: Disk {
+    /// Forgets the calls behind it, and frees the memory that they take: the same bytes, all of them safe. It is no call of the
+    /// device, and the clock begins anew. It costs one pass over the bytes.
+    ///
+    /// # Errors
+    /// The disk, unchanged: out of memory.
+    fn renew(self, alloc: Global) -> Result<Self, Self>
+        requires { Only (Self.seen self) (Self.may_leave self) }
+        ensures seen { IfOk result (λ disk. Self.seen disk ≡ Self.seen self) }
+        ensures durable { IfOk result (λ disk. Only (Self.seen disk) (Self.may_leave disk)) }
+        ensures capacity { IfOk result (λ disk. Self.capacity disk ≡ Self.capacity self) }
+        ensures faults { IfOk result (λ disk. Self.faults disk ≡ Self.faults self) }
+        ensures back { IfErr result (λ disk. disk ≡ self) };
+}
+
+impl Renew for MemDisk {
+    fn renew(self, alloc: Global) -> Result<Self, Self> {
+        match Log::of(alloc, &self.image) {
+            Ok(log) => {
+                let MemDisk {
+                    image,
+                    capacity,
+                    log: _,
+                    counter,
+                } = self;
+                Ok(MemDisk {
+                    image,
+                    capacity,
+                    log,
+                    counter,
+                })
+            }
+            Err(_) => Err(self),
+        }
+    }
+}
