@@ -35,7 +35,7 @@ use Rattle.teb_laws.specs.TreeFacts.{TreeFacts}
 use Rattle.teb_laws.proofs.Answers.{aborted_kept}
 use Rattle.teb_laws.proofs.Cascades.{cascade-In, falls_parts}
 use Rattle.teb_laws.proofs.Holding.{held_holds, holds_cases, not_unfinished}
-use Rattle.guarantees.specs.Causes.{IsGrounded, writes}
+use Rattle.guarantees.specs.Causes.{IsGrounded, request_stop, writes}
 use Rattle.guarantees.proofs.Following.{held_runs}
 use Rattle.guarantees.proofs.Fallen.{Fallen, aborts_fall, cause_member, cause_other, fell_after}
 use Rattle.guarantees.proofs.Named.{StopNames, access_names, commit_names, prepare_names, scan_names}
@@ -75,13 +75,13 @@ module _ (X : Store) (tf : TreeFacts X.setup) (H : List Event) (l : Lawful X.set
   cond_tells r true x y f g = f
   cond_tells r false x y f g = g
 
-  or_stop_tells : (r : Request) (s : Stop) (granted : Answered) → StopNames X.setup H r t s → Tells X.setup H r t granted → Tells X.setup H r t (or_stop H t s granted)
-  or_stop_tells r Free granted n g = g
-  or_stop_tells r (Breaks m b) granted n g = aborted_tells r (cause_at m b) (n.breaks m b refl)
-  or_stop_tells r (Waits v m) granted n g = go (ltb t v.0) refl
+  or_stop_tells : (r : Request) (s : Stop) (granted : Answered) → request_stop X.setup H t r ≡ s → StopNames X.setup H r t s → Tells X.setup H r t granted → Tells X.setup H r t (or_stop H t s granted)
+  or_stop_tells r Free granted o n g = g
+  or_stop_tells r (Breaks m b) granted o n g = aborted_tells r (cause_at m b) (n.breaks m b refl)
+  or_stop_tells r (Waits v m) granted o n g = go (ltb t v.0) refl
     where
       go : (b : Bool) → ltb t v.0 ≡ b → Tells X.setup H r t (cond b (broken_off H t (Newer m v)) (Again v m, H))
-      go true e = let w = n.waits v m refl in aborted_tells r (Newer m v) (record { running = w.0; newer = ltb-true _ _ e; meet = w.1 })
+      go true e = let w = n.waits v m refl in aborted_tells r (Newer m v) (record { running = w.0; newer = ltb-true _ _ e; meet = w.1; waits = o })
       go false e = same_tells r (Again v m) refl
 
   refused_tells : (r : Request) (x : Cell) (granted : Answered) → Tells X.setup H r t granted → Tells X.setup H r t (or_refused X H t x granted)
@@ -91,26 +91,26 @@ module _ (X : Store) (tf : TreeFacts X.setup) (H : List Event) (l : Lawful X.set
       (cond_tells r (prepared H t) (refuse H IsPrepared) inner (same_tells r _ refl)
       (cond_tells r (is_none (least_step (profile X.setup (kind_of H t)) (cursor X.setup H t) x.table.0)) (refuse H NotInProfile) granted (same_tells r _ refl) f))
 
-  put_tells : (r : Request) (x : Cell) (v : Option ℤ) → writes x r ≡ true → Tells X.setup H r t (put_value X.setup H t x v)
-  put_tells r x v w = or_stop_tells r (access_stop X.setup H t x true) _ (access_names X.setup H r t x true (λ e. w)) (granted_tells r Written (Put (txn t) x v ∷ H) refl (λ z. aborted_kept (Put (txn t) x v) H z refl))
+  put_tells : (r : Request) (x : Cell) (v : Option ℤ) → request_stop X.setup H t r ≡ access_stop X.setup H t x true → writes x r ≡ true → Tells X.setup H r t (put_value X.setup H t x v)
+  put_tells r x v o w = or_stop_tells r (access_stop X.setup H t x true) _ o (access_names X.setup H r t x true (λ e. w)) (granted_tells r Written (Put (txn t) x v ∷ H) refl (λ z. aborted_kept (Put (txn t) x v) H z refl))
 
-  added_tells : (r : Request) (x : Cell) (v : ℤ) (o : Option ℤ) → writes x r ≡ true → Tells X.setup H r t (added X.setup H t x v o)
-  added_tells r x v None w = same_tells r _ refl
-  added_tells r x v (Some b) w = cond_tells r (fits (b +ℤ v)) (put_value X.setup H t x (Some (b +ℤ v))) (refuse H Overflow) (put_tells r x (Some (b +ℤ v)) w) (same_tells r _ refl)
+  added_tells : (r : Request) (x : Cell) (v : ℤ) (o : Option ℤ) → request_stop X.setup H t r ≡ access_stop X.setup H t x true → writes x r ≡ true → Tells X.setup H r t (added X.setup H t x v o)
+  added_tells r x v None k w = same_tells r _ refl
+  added_tells r x v (Some b) k w = cond_tells r (fits (b +ℤ v)) (put_value X.setup H t x (Some (b +ℤ v))) (refuse H Overflow) (put_tells r x (Some (b +ℤ v)) k w) (same_tells r _ refl)
 
   of_tells : (r : Request) → Tells X.setup H r t (answer_of X H t r)
   unfolding answer_of read
   of_tells (Begin s) = same_tells (Begin s) _ refl
-  of_tells (Read x) = refused_tells (Read x) x _ (or_stop_tells (Read x) (access_stop X.setup H t x false) _ (access_names X.setup H (Read x) t x false (λ e. absurd (cc))) (granted_tells (Read x) (Value _) (Got (txn t) x _ _ ∷ H) refl (λ v. aborted_kept (Got (txn t) x _ _) H v refl)))
-  of_tells (Write x v) = refused_tells (Write x v) x _ (put_tells (Write x v) x (Some v) (same_itself x))
-  of_tells (Add x v) = refused_tells (Add x v) x _ (added_tells (Add x v) x v _ (same_itself x))
-  of_tells (Delete x) = refused_tells (Delete x) x _ (put_tells (Delete x) x None (same_itself x))
+  of_tells (Read x) = refused_tells (Read x) x _ (or_stop_tells (Read x) (access_stop X.setup H t x false) _ refl (access_names X.setup H (Read x) t x false (λ e. absurd (cc))) (granted_tells (Read x) (Value _) (Got (txn t) x _ _ ∷ H) refl (λ v. aborted_kept (Got (txn t) x _ _) H v refl)))
+  of_tells (Write x v) = refused_tells (Write x v) x _ (put_tells (Write x v) x (Some v) refl (same_itself x))
+  of_tells (Add x v) = refused_tells (Add x v) x _ (added_tells (Add x v) x v _ refl (same_itself x))
+  of_tells (Delete x) = refused_tells (Delete x) x _ (put_tells (Delete x) x None refl (same_itself x))
   of_tells (Scan x n) = refused_tells (Scan x n) x _ (cond_tells (Scan x n) (is_scan x n) (scan_values X H t x n) (refuse H Range)
-      (or_stop_tells (Scan x n) (scan_stop X.setup H t (cells_from x n)) _ (scan_names X.setup H (Scan x n) t (cells_from x n)) (granted_tells (Scan x n) (Values _) _ refl (reads_abort_none X t (cells_from x n) H)))
+      (or_stop_tells (Scan x n) (scan_stop X.setup H t (cells_from x n)) _ refl (scan_names X.setup H (Scan x n) t (cells_from x n)) (granted_tells (Scan x n) (Values _) _ refl (reads_abort_none X t (cells_from x n) H)))
       (same_tells (Scan x n) _ refl))
   of_tells Prepare = cond_tells Prepare (prepared H t) (refuse H IsPrepared) (or_stop H t (prepare_stop X.setup H t) (Prepared, Ready (txn t) ∷ H)) (same_tells Prepare _ refl)
-      (or_stop_tells Prepare (prepare_stop X.setup H t) _ (prepare_names X.setup tf H t l) (granted_tells Prepare Prepared (Ready (txn t) ∷ H) refl (λ v. aborted_kept (Ready (txn t)) H v refl)))
-  of_tells Commit = or_stop_tells Commit (commit_stop X.setup H t) _ (commit_names X.setup tf H t l) (granted_tells Commit Committed (Done (txn t) ∷ H) refl (λ v. aborted_kept (Done (txn t)) H v refl))
+      (or_stop_tells Prepare (prepare_stop X.setup H t) _ refl (prepare_names X.setup tf H t l) (granted_tells Prepare Prepared (Ready (txn t) ∷ H) refl (λ v. aborted_kept (Ready (txn t)) H v refl)))
+  of_tells Commit = or_stop_tells Commit (commit_stop X.setup H t) _ refl (commit_names X.setup tf H t l) (granted_tells Commit Committed (Done (txn t) ∷ H) refl (λ v. aborted_kept (Done (txn t)) H v refl))
   of_tells Abort = aborted_tells Abort Asked (refl, u)
   of_tells End = aborted_tells End Ended (refl, u)
 

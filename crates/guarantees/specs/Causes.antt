@@ -1,7 +1,8 @@
 -- What each cause of an abort names.
-use Rattle.std.specs.Prelude.{◌≡◌, ◌≢◌, ◌⊎◌, ℕ, ◌<◌, ◌≤◌, Bool, false, List, [], ◌∷◌, Some, IsTrue, IsFalse}
+use Rattle.std.specs.Prelude.{◌≡◌, ◌≢◌, ◌⊎◌, ℕ, ◌<◌, ◌≤◌, Bool, true, false, List, [], ◌∷◌, Some, IsTrue, IsFalse}
 use Rattle.std.specs.List.{list_any}
 use Rattle.teb_names.specs.declared.Txn.{Txn}
+use Rattle.teb_names.specs.declared.Node.{Node}
 use Rattle.teb_names.specs.declared.Session.{Session}
 use Rattle.teb_names.specs.declared.Cell.{Cell}
 use Rattle.teb_names.specs.Cells.{same_cell}
@@ -9,7 +10,7 @@ use Rattle.teb_names.specs.declared.Cause.{Cause}
 use Rattle.teb_names.specs.declared.Cause.TheVariants.{Late, First, Pivot, Newer, After, Asked, Ended}
 use Rattle.teb_names.specs.declared.ControlKind.TheVariants.{Timestamp, Snapshot}
 use Rattle.teb_names.specs.declared.Request.{Request}
-use Rattle.teb_names.specs.declared.Request.TheVariants.{Write, Add, Delete, Prepare, Commit, Abort, End}
+use Rattle.teb_names.specs.declared.Request.TheVariants.{Read, Write, Add, Delete, Scan, Prepare, Commit, Abort, End}
 use Rattle.teb_names.specs.declared.Reply.TheVariants.{Aborted}
 use Rattle.teb_history.specs.declared.Event.{Event}
 use Rattle.teb_history.specs.Phases.{unfinished, prepared, committed, aborted, cause_of, held}
@@ -18,8 +19,11 @@ use Rattle.teb_rules.specs.Setup.{Setup, Store}
 use Rattle.teb_rules.specs.Tree.{row, meets}
 use Rattle.teb_rules.specs.Batches.{start, close, concurrent, one_batch}
 use Rattle.teb_rules.specs.Versions.{precedes}
+use Rattle.teb_rules.specs.declared.Stop.{Stop}
+use Rattle.teb_rules.specs.declared.Stop.TheVariants.{Go, Wait}
+use Rattle.teb_rules.specs.Stops.{access_stop, scan_stop, prepare_stop, commit_stop}
 use Rattle.teb_rules.specs.Serializes.{In}
-use Rattle.teb_rules.specs.Answer.{answer}
+use Rattle.teb_rules.specs.Answer.{answer, cells_from}
 use Rattle.teb_laws.specs.Laws.{is_read}
 
 -- t read x from w, which stands in the history
@@ -74,11 +78,23 @@ pub record IsPivot (S : Setup) (H : List Event) (r : Request) (t n a b c d : ℕ
   pub asker : In t (a ∷ b ∷ c ∷ d ∷ [])
   pub settled : (v : ℕ) → In v (a ∷ b ∷ c ∷ d ∷ []) → v ≢ t → IsTrue (prepared H v) ⊎ IsTrue (committed H v)
 
--- the unfinished u, of a greater number than t, is one for which t would have to wait at n
-pub record IsNewer (S : Setup) (H : List Event) (t n u : ℕ) : Type 0 where
-  pub running : IsTrue (unfinished H u)
-  pub newer : t < u
-  pub meet : IsTrue (meets S H n t u)
+-- the stop of the request r of t: that of the first node from the root of t's path that breaks or waits
+abbrev pub request_stop : Setup → List Event → ℕ → Request → Stop
+request_stop S H t (Read x) = access_stop S H t x false
+request_stop S H t (Write x v) = access_stop S H t x true
+request_stop S H t (Add x v) = access_stop S H t x true
+request_stop S H t (Delete x) = access_stop S H t x true
+request_stop S H t (Scan x n) = scan_stop S H t (cells_from x n)
+request_stop S H t Prepare = prepare_stop S H t
+request_stop S H t Commit = commit_stop S H t
+request_stop S H t _ = Go
+
+-- the unfinished u, of a greater number than t, meets t at n, and the stop of t's request is a wait for u at n
+pub record IsNewer (S : Setup) (H : List Event) (r : Request) (t : ℕ) (n : Node) (u : Txn) : Type 0 where
+  pub running : IsTrue (unfinished H u.0)
+  pub newer : t < u.0
+  pub meet : IsTrue (meets S H n.0 t u.0)
+  pub waits : request_stop S H t r ≡ Wait u n
 
 -- t got what u, which is aborted, had put; and t is aborted, with this cause
 pub record IsAfter (H : List Event) (t : ℕ) (u : Txn) : Type 0 where
@@ -94,7 +110,7 @@ abbrev pub IsGrounded : Setup → List Event → Request → ℕ → Cause → T
 IsGrounded S H r t (Late n u x) = IsTooLate S H r t n.0 u.0 x
 IsGrounded S H r t (First n u x) = IsSecond S H r t n.0 u.0 x
 IsGrounded S H r t (Pivot n a b c d) = IsPivot S H r t n.0 a.0 b.0 c.0 d.0
-IsGrounded S H r t (Newer n u) = IsNewer S H t n.0 u.0
+IsGrounded S H r t (Newer n u) = IsNewer S H r t n u
 IsGrounded S H r t (After u) = IsAfter H t u
 IsGrounded S H r t Asked = (r ≡ Abort) × IsTrue (unfinished H t)
 IsGrounded S H r t Ended = (r ≡ End) × IsTrue (unfinished H t)

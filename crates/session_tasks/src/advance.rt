@@ -3,6 +3,7 @@
 ghost use Rattle.std.specs.Prelude.{◌≡◌};
 ghost use Rattle.std.specs.Option.{IsSome};
 ghost use Rattle.session_server.specs.Passes.{IsNew};
+ghost use Rattle.session_tasks.specs.Stops.{FoundRaised};
 ghost use Rattle.session_tasks.specs.Tasks.{IsTask, progress_at, progress_after};
 ghost use Rattle.session_tasks.specs.declared.task.Progress.TheVariants.{Open};
 
@@ -39,6 +40,7 @@ impl<C: Chains, G: Gate> Run<'_, C, G> {
         ensures task { IsTask self.now.hall.now self.now.scripts.now task.new }
         ensures session { task.new.pass.session ≡ task.old.pass.session }
         ensures stopped { task.new.progress ≡ Open → IsSome stop.entry }
+        ensures found { task.new.progress ≡ Open → FoundRaised S.invariant }
     {
         if task.progress != Progress::Open {
             return;

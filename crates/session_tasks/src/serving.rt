@@ -1,12 +1,12 @@
 //! A session along its script.
 
-ghost use Rattle.std.specs.Prelude.{◌≡◌, ◌≤◌, Ok, Err, Some, true, false, IfOk};
+ghost use Rattle.std.specs.Prelude.{◌≡◌, ◌≢◌, ◌≤◌, Ok, Err, Some, true, false, IfOk};
 ghost use Rattle.std.specs.Option.{IsSome};
 ghost use Rattle.teb_rules.specs.Scripts.{IsWalk, asks};
 ghost use Rattle.script_walk.specs.ScriptStates.{requests_on, state_of};
 ghost use Rattle.session_server.specs.Passes.{IsPassOf, mine};
-ghost use Rattle.session_tasks.specs.Walks.{IsUnderWay};
-ghost use Rattle.session_tasks.specs.Stops.{FoundRaised};
+ghost use Rattle.session_tasks.specs.Walks.{IsUnderWay, number_at};
+ghost use Rattle.session_tasks.specs.Stops.{FoundRaised, FoundClear};
 ghost use Rattle.session_server.specs.Waits.{WaitsAmong};
 ghost use Rattle.session_server.specs.declared.error.AskError.TheVariants.{PassSpent};
 
@@ -26,9 +26,10 @@ const LOOKS: u32 = 64;
 
 /// Works through the lines of a session from where the walker stands. `Ok(true)` says that they are worked through.
 ///
-/// Where a stop word is given, it is looked at before each request, and `Ok(false)` says that such a look found that it
-/// is not 0. A call with another stop word, or with none, goes on from there. After an Again the session looks at the
-/// transaction that it waits for until that has finished, at most 64 times, and then asks again.
+/// Where a stop word is given, it is looked at before each request: `Ok(false)` says that such a look found that it is
+/// not 0, and nothing is asked unless one found 0. The rule of the word may be any, so only a look can tell. A call with
+/// another stop word, or with none, goes on from there. After an Again the session looks at the transaction that it
+/// waits for until that has finished, at most 64 times, and then asks again.
 ///
 /// # Errors
 /// The first error of [`Hall::ask`]. What was answered before it stands in the pass and in the walker.
@@ -48,6 +49,7 @@ pub fn serve<C: Chains, G: Gate, S: Rule, R: Wait>(
     ensures way { IsUnderWay lines.now (mine pass.new) walker.new }
     ensures walk { result ≡ Ok true → IsWalk (requests_on lines.now) (mine pass.new) }
     ensures stopped { result ≡ Ok false → IsSome stop.entry × FoundRaised S.invariant }
+    ensures looked { IsSome stop.entry → pass.new.asks ≢ pass.old.asks → FoundClear S.invariant }
     ensures spent { result ≡ Err PassSpent → pass.new.asks ≡ MOST_ASKS }
 {
     for _ in rt.forever() {
@@ -101,7 +103,9 @@ fn ask_next<C: Chains, G: Gate, R: Wait>(
 }
 
 /// The number of the line that a walker stands at, and 0 behind the last.
-fn number_at(walker: &Walker, lines: &[Line]) -> u32 {
+fn number_at(walker: &Walker, lines: &[Line]) -> u32
+    ensures { result ≡ number_at walker.now lines.now }
+{
     match lines.get(walker.at) {
         Some(line) => line.number,
         None => 0,

@@ -1,8 +1,8 @@
 //! The word that stops sessions.
 
-ghost use Rattle.std.specs.Prelude.{◌≡◌, ◌≤◌, true};
+ghost use Rattle.std.specs.Prelude.{◌≡◌, ◌≤◌, true, false};
 ghost use Rattle.std.specs.Option.{IsSome};
-ghost use Rattle.session_tasks.specs.Stops.{FoundRaised};
+ghost use Rattle.session_tasks.specs.Stops.{FoundRaised, FoundClear};
 
 use std::sync::atomic::Ordering::SeqCst;
 use std::sync::atomic::{AtomicIn, Rule};
@@ -16,7 +16,8 @@ impl Rule for Stops {
 
 /// Whether there is a word, and this look found that it is not 0.
 pub(crate) fn is_raised<S: Rule>(stop: Option<&AtomicIn<S>>) -> bool
-    ensures { result ≡ true → IsSome stop.entry × FoundRaised S.invariant }
+    ensures raised { result ≡ true → IsSome stop.entry × FoundRaised S.invariant }
+    ensures clear { result ≡ false → IsSome stop.entry → FoundClear S.invariant }
 {
     match stop {
         Some(word) => word.load(SeqCst) != 0,
