@@ -16,7 +16,7 @@ pub use change::Change;
 pub use error::RecoverError;
 pub use format::{CHANGE_BYTES, COUNT_BYTES, FRAME_BYTES};
 pub use journal::{Journal, Progress};
-pub use read::read_records;
+pub use read::{read_record, read_records};
 pub use record::{encode, write_record};
 pub use recovery::{Recovered, read_rows};
 pub use rows::rows_after;

@@ -68,9 +68,9 @@ fn read_changes(alloc: Global, count: u32, bytes: &[u8]) -> Result<Option<Vec<Ch
     Ok(Some(changes))
 }
 
-// The record behind an open gate.
+/// The record behind an open gate, if the bytes have one. An `Err` comes where memory is wanting.
 #[tactic(auto, unfolding(crate::specs::Format::record_of))]
-fn read_record(alloc: Global, bytes: &[u8]) -> Result<Option<Vec<Change>>, AllocError>
+pub fn read_record(alloc: Global, bytes: &[u8]) -> Result<Option<Vec<Change>>, AllocError>
     ensures record { IfOk result (λ found. MatchOption found (record_of bytes.now ≡ None) (λ v. record_of bytes.now ≡ Some v.items)) }
     ensures length { IfOk result (λ found. IfSome found (λ v. 4 + 14 * length v.items ≤ length bytes.now)) }
 {

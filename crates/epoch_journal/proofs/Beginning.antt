@@ -1,0 +1,59 @@
+-- The first epoch after a reading.
+use Rattle.std.proofs.Common.{◌≡◌, ⊎_elim, ℕ, ◌<◌, List, [], ◌∷◌, take, sym, subst, ◌∙◌, ap}
+use Rattle.std.proofs.lemmas.List.{append-nil, length-take-le}
+use Rattle.teb_names.specs.declared.Cell.{Cell}
+use Rattle.teb_names.specs.Rows.{row_of}
+use Rattle.teb_rules.specs.Replay.{Values}
+use Rattle.crash_disk.specs.Disk.{Only}
+use Rattle.record_journal.specs.Format.{Record}
+use Rattle.epoch_journal.specs.Layout.{half_size}
+use Rattle.epoch_journal.specs.Halves.{HasOneOf, IsAt, IsResting}
+use Rattle.epoch_journal.specs.Read.{IsCurrently, IsReadAs}
+use Rattle.epoch_journal.specs.State.{JournalState, RecoveredState}
+use Rattle.epoch_journal.specs.Telling.{Tells, checkpoint_of, table_of}
+use Rattle.epoch_journal.specs.Kept.{HasFound, Keeps}
+use Rattle.epoch_journal.proofs.ReadBack.{found_at, read_same}
+use Rattle.epoch_journal.proofs.Telling.{checkpoint_rows, runs}
+
+-- the old records, or the checkpoint of what they left
+pub tells_again : {D : Type 0} (seen : D → List ℕ) (may_leave : D → List ℕ → Type 0) (start : Values) (all : List Record) (least k : ℕ) (d : RecoveredState D) → (found : HasFound seen may_leave start all least k d) → (c : List ℕ)
+    → HasOneOf d.layout found.list (checkpoint_of d.rows ∷ []) c → Tells d.layout start all least c
+tells_again seen may_leave start all least k d found c has = record {
+  k = k;
+  no_fewer = found.no_fewer;
+  no_more = found.no_more;
+  stands = ⊎_elim
+      (λ old. record { list = found.list; has = old; table = found.table })
+      (λ new. record { list = checkpoint_of d.rows ∷ []; has = new; table = λ x. checkpoint_rows d.rows x ∙ found.rows x })
+      has;
+}
+
+pub begun_keeps : {D : Type 0} (seen : D → List ℕ) (may_leave : D → List ℕ → Type 0) (start : Values) (all : List Record) (least k : ℕ) (d : RecoveredState D) → (found : HasFound seen may_leave start all least k d)
+    → (j : JournalState D) → j.end < half_size j.layout.capacity → IsResting j.layout j.first (checkpoint_of d.rows ∷ []) j.end (seen j.disk) → Only (seen j.disk) (may_leave j.disk) → Keeps seen may_leave start (take k all) k j
+begun_keeps seen may_leave start all least k d found j below resting durable =
+    runs seen may_leave start (take k all) k j below (sym (length-take-le k all found.no_more)) (record {
+      past = take k all;
+      asked = [];
+      rows = d.rows;
+      split = sym (append-nil (take k all));
+      checkpoint = found.rows;
+      resting = resting;
+      durable = durable;
+    })
+
+-- a disk that tells records, and what was read of it
+pub found_of : {D : Type 0} (seen : D → List ℕ) (may_leave : D → List ℕ → Type 0) (start : Values) (all : List Record) (least : ℕ) (file : List ℕ) (d : RecoveredState D) → (t : Tells d.layout start all least file) → (rs : List Record)
+    → IsReadAs d.layout rs file → ((x : Cell) → row_of d.rows x ≡ table_of start rs x) → IsCurrently d.layout.capacity d.current file → seen d.disk ≡ file → Only (seen d.disk) (may_leave d.disk)
+    → HasFound seen may_leave start all least t.k d
+found_of seen may_leave start all least file d t rs read rows current same durable =
+    let list = t.stands.list in
+    let is = read_same d.layout list rs file t.stands.has read in
+    record {
+      no_fewer = t.no_fewer;
+      no_more = t.no_more;
+      rows = λ x. rows x ∙ ap (λ (l : List Record). table_of start l x) is ∙ t.stands.table x;
+      list = list;
+      table = t.stands.table;
+      at = subst (λ (f : List ℕ). IsAt d.layout list d.current f) (sym same) (found_at d.layout list d.current file current t.stands.has);
+      durable = durable;
+    }

@@ -1,0 +1,15 @@
+pub mod Sizes
+pub mod Moments
+pub mod Fronts
+pub mod Staging
+pub mod Adding
+pub mod Switching
+pub mod Settling
+pub mod Telling
+pub mod ReadBack
+pub mod Nexts
+pub mod Quiets
+pub mod Ranges
+pub mod Surveys
+pub mod Beginning
+pub mod Errors

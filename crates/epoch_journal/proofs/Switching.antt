@@ -1,0 +1,103 @@
+-- The other half in place of the current one.
+use Rattle.std.proofs.Common.{◌≡◌, inl, inr, ⊎_elim, ◌⊎◌, ℕ, ◌+◌, ◌-◌, ◌<◌, ◌≤◌, Bool, true, false, not, eqb, List, [], ◌∷◌, ◌++◌, length, drop, refl, sym, ◌∙◌, ap, subst, arith, append_assoc, length-append}
+use Rattle.crash_disk.specs.Disk.{IsTorn, IsOutside, Holds}
+use Rattle.record_journal.specs.Format.{Record, body, records}
+use Rattle.record_journal.proofs.Torn.{two_parts, holds_middle}
+use Rattle.epoch_journal.specs.Layout.{Layout, is_first, half_size, half_at, half, header}
+use Rattle.epoch_journal.specs.Halves.{HasRecords, HasOneOf, IsHalf, IsResting, IsSettled, IsPiece, IsEither}
+use Rattle.epoch_journal.proofs.Fronts.{behind_front, same_selector, same_front, same_fronted, turned_fronted, same_half, holds_half, far_half, half_front, rests_half}
+
+apart : (capacity : ℕ) (first : Bool) (p n m i : ℕ) → p ≡ half_at capacity (not first) → n ≤ half_size capacity → i < m → m ≤ half_size capacity → IsOutside p n (half_at capacity first + i)
+apart capacity true p n m i is few lt le = inl (omega (arith, is, few, lt, le))
+apart capacity false p n m i is few lt le = inr (omega (arith, is, few, lt, le))
+
+low : (capacity : ℕ) (first : Bool) → first ≡ false → half_at capacity (not first) ≡ 13
+low capacity true is = absurd (cc is)
+low capacity false is = refl
+
+pub two_values : (a b : Bool) → (a ≡ b) ⊎ (a ≡ not b)
+two_values true true = inl refl
+two_values true false = inr refl
+two_values false true = inr refl
+two_values false false = inl refl
+
+pub selected : (first : Bool) (v : ℕ) → ((first ≡ true) × (v ≡ 0)) ⊎ ((first ≡ false) × (v ≡ 1)) → eqb v 1 ≡ not first
+selected first v (inl is) = ap (λ (n : ℕ). eqb n 1) is.1 ∙ ap not (sym is.0)
+selected first v (inr is) = ap (λ (n : ℕ). eqb n 1) is.1 ∙ ap not (sym is.0)
+
+pub settled_has : (l : Layout) (first : Bool) (rs : List Record) (c : List ℕ) → IsSettled l first rs c → HasRecords l rs c
+settled_has l first rs c settled = ⊎_elim
+    (λ whole. inl (record { fronted = settled.fronted; has = subst (λ (b : Bool). IsHalf l rs (half l b c)) (sym settled.selects) whole }))
+    (λ none. inr (none.1, inl (record { fronted = settled.fronted; second = settled.selects ∙ none.0; short = none.2 })))
+    settled.has
+
+pub either_has : (l : Layout) (first : Bool) (rs : List Record) (r : Record) (c : List ℕ) → IsEither l first rs r c → HasOneOf l rs (r ∷ []) c
+either_has l first rs r c (inl old) = inl (settled_has l first rs c old)
+either_has l first rs r c (inr new) = inr (settled_has l (not first) (r ∷ []) c new)
+
+-- a write of the first byte after which this half is current
+turned : (l : Layout) (first : Bool) (rs : List Record) (f c : List ℕ) → IsTorn 0 1 f c → is_first c ≡ first → IsSettled l first rs f → IsSettled l first rs c
+turned l first rs f c turn is settled = record {
+  fronted = turned_fronted l.capacity f c turn settled.fronted;
+  selects = is;
+  has = ⊎_elim
+      (λ whole. inl (subst (IsHalf l rs) (sym (same_half l first f c turn (omega (arith, settled.fronted.long)))) whole))
+      (λ none. inr (none.0, none.1, omega (arith, turn.no_longer, none.2, settled.fronted.long)))
+      settled.has;
+}
+
+module _ (l : Layout) (first : Bool) (rs : List Record) (r : Record) (piece f : List ℕ) (is_piece : IsPiece l r piece) (settled : IsSettled l first rs f) (room : length piece ≤ half_size l.capacity) where
+  -- while the other half is written
+  elsewhere : (p : ℕ) (c : List ℕ) → p ≡ half_at l.capacity (not first) → IsTorn p (length piece) f c → IsSettled l first rs c
+  elsewhere p c is torn = record {
+    fronted = same_fronted l.capacity p (length piece) f c torn (omega (arith, is, behind_front l.capacity (not first))) settled.fronted;
+    selects = same_selector p (length piece) f c torn (omega (arith, is, behind_front l.capacity (not first))) (omega (arith, settled.fronted.long)) ∙ settled.selects;
+    has = ⊎_elim (λ whole. inl (still whole)) (λ none. inr (none.0, none.1, omega (arith, torn.no_longer, none.2, is, low l.capacity first none.0, room))) settled.has;
+  }
+    where
+      still : IsHalf l rs (half l first f) → IsHalf l rs (half l first c)
+      still whole =
+          let m = length (header l.label) + length (records rs) + 1 in
+          half_front l rs m (half l first f) (half l first c) whole refl
+          (same_front m (half_at l.capacity first) p (length piece) f c torn (far_half l first rs f whole) (λ i lt. apart l.capacity first p (length piece) m i is room lt (omega (arith, whole.within))))
+
+  pub still_current : (p : ℕ) (c : List ℕ) → p ≡ half_at l.capacity (not first) → IsTorn p (length piece) f c → IsEither l first rs r c
+  still_current p c is torn = inl (elsewhere p c is torn)
+
+  length-piece : length piece ≡ length (header l.label) + length (records (r ∷ [])) + 1
+  length-piece = omega (arith, ap length is_piece.is, length-append (header l.label) (1 ∷ (body r ++ 0 ∷ [])), length-append (body r) (0 ∷ []), length-append (body r) [])
+
+  module _ (p : ℕ) (mid : List ℕ) (is : p ≡ half_at l.capacity (not first)) (torn : IsTorn p (length piece) f mid) (holds : Holds p piece mid) where
+    so : IsSettled l first rs mid
+    so = elsewhere p mid is torn
+
+    abbrev there : List ℕ
+    there = half l (not first) mid
+
+    begun : there ≡ header l.label ++ (records (r ∷ []) ++ 0 ∷ drop (length piece) there)
+    begun =
+        two_parts (length piece) there piece (holds_middle 0 piece there (holds_half (half_at l.capacity (not first)) 0 p piece mid (omega (arith, is)) holds) (omega (arith, length-piece)))
+        ∙ ap (λ (t : List ℕ). t ++ drop (length piece) there) is_piece.is
+        ∙ append_assoc (header l.label) (1 ∷ (body r ++ 0 ∷ [])) (drop (length piece) there)
+        ∙ ap (λ (t : List ℕ). header l.label ++ (1 ∷ t)) (append_assoc (body r) (0 ∷ []) (drop (length piece) there) ∙ sym (append_assoc (body r) [] (0 ∷ drop (length piece) there)))
+
+    rests : (c : List ℕ) → IsTorn 0 1 mid c → is_first c ≡ not first → IsResting l (not first) (r ∷ []) (length piece - 1) c
+    rests c turn selects = record {
+      fronted = turned_fronted l.capacity mid c turn so.fronted;
+      selects = selects;
+      fit = (is_piece.fits, tt);
+      size = omega (arith, length-piece);
+      rest = drop (length piece) there;
+      is = same_half l (not first) mid c turn (omega (arith, so.fronted.long)) ∙ begun;
+    }
+
+    pub either : (c : List ℕ) → IsTorn 0 1 mid c → IsEither l first rs r c
+    either c turn = ⊎_elim
+        (λ same. inl (turned l first rs mid c turn same so))
+        (λ other.
+        let resting = rests c turn other in
+        inr (record { fronted = resting.fronted; selects = other; has = inl (rests_half l (not first) (r ∷ []) (length piece - 1) c resting (omega (arith, room, length-piece))) }))
+        (two_values (is_first c) first)
+
+    pub switched : (v : ℕ) (c : List ℕ) → ((first ≡ true) × (v ≡ 0)) ⊎ ((first ≡ false) × (v ≡ 1)) → IsTorn 0 1 mid c → Holds 0 (v ∷ []) c → IsResting l (not first) (r ∷ []) (length piece - 1) c
+    switched v c chosen turn written = rests c turn (ap (λ (n : ℕ). eqb n 1) (written.each 0 (omega arith)) ∙ selected first v chosen)

@@ -1,0 +1,41 @@
+use Rattle.std.proofs.Common.{inl, ◌∷◌, [], arith}
+use Rattle.record_journal.proofs.Moments.{weaker}
+use Rattle.epoch_journal.specs.Layout.{layout}
+use Rattle.epoch_journal.specs.Halves.{HasRecords, HasOneOf, IsEither}
+use Rattle.epoch_journal.proofs.Moments.{and_then}
+use Rattle.epoch_journal.proofs.Sizes.{two_halves}
+use Rattle.epoch_journal.proofs.Switching.{either_has}
+use Rattle.epoch_journal.proofs.begin.replace.Goals as goal
+
+pub returns-in_err-first-clause-any_moment : goal.returns-in_err-first-clause-any_moment
+returns-in_err-first-clause-any_moment g c label rs r piece at only =
+    let d = g.D.Disk in
+    let l = layout c.args.capacity label in
+    weaker d.moment d.left_since c.args.disk.now c.settle.new.disk (HasRecords l rs) (HasOneOf l rs (r ∷ [])) (λ image so. inl so) (c.settle.ensures.any_moment label rs at only)
+
+pub returns-in_err-switch_halves-clause-any_moment : goal.returns-in_err-switch_halves-clause-any_moment
+returns-in_err-switch_halves-clause-any_moment g c label rs r piece at only =
+    let d = g.D.Disk in
+    let l = layout c.args.capacity label in
+    let settled = c.in_ok-first.ensures.settled label rs at only in
+    and_then d.moment d.left_since c.args.disk.now c.settle.new.disk c.switch_halves.new.disk (HasRecords l rs) (IsEither l c.in_ok-first.first rs r) (HasOneOf l rs (r ∷ []))
+    (c.settle.ensures.any_moment label rs at only) (c.switch_halves.ensures.any_moment label rs r piece settled.0 settled.1) (λ image so. inl so) (λ image so. either_has l c.in_ok-first.first rs r image so)
+
+pub returns-clause-any_moment : goal.returns-clause-any_moment
+returns-clause-any_moment g c label rs r piece at only =
+    let d = g.D.Disk in
+    let l = layout c.args.capacity label in
+    let settled = c.in_ok-first.ensures.settled label rs at only in
+    and_then d.moment d.left_since c.args.disk.now c.settle.new.disk c.switch_halves.new.disk (HasRecords l rs) (IsEither l c.in_ok-first.first rs r) (HasOneOf l rs (r ∷ []))
+    (c.settle.ensures.any_moment label rs at only) (c.switch_halves.ensures.any_moment label rs r piece settled.0 settled.1) (λ image so. inl so) (λ image so. either_has l c.in_ok-first.first rs r image so)
+
+pub returns-clause-switched : goal.returns-clause-switched
+returns-clause-switched g c label rs r piece at only =
+    let settled = c.in_ok-first.ensures.settled label rs at only in
+    c.in_ok-switch_halves.ensures.switched label rs r piece settled.0
+
+pub settle-requires-clause-small : goal.settle-requires-clause-small
+settle-requires-clause-small g c =
+    let some = c.requires.some in
+    let room = c.requires.room in
+    (omega (arith, two_halves c.args.capacity (omega arith)), c.requires.small)

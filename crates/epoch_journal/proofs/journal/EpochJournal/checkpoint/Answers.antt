@@ -1,0 +1,118 @@
+use Rattle.std.proofs.Common.{rules, ◌≡◌, ◌-◌, ◌<◌, ◌∷◌, [], not, false, length, sym, subst, ap, ◌∙◌, arith, ℕ}
+use Rattle.std.proofs.lemmas.List.{append-nil}
+use Rattle.crash_disk.specs.Disk.{LeavesOnly}
+use Rattle.record_journal.proofs.Moments.{started, weaker}
+use Rattle.epoch_journal.specs.Halves.{IsEither, IsResting}
+use Rattle.epoch_journal.specs.Layout.{layout, half_size}
+use Rattle.epoch_journal.specs.State.{JournalState}
+use Rattle.epoch_journal.specs.Telling.{TellsOn, checkpoint_of}
+use Rattle.epoch_journal.specs.Kept.{Keeps}
+use Rattle.epoch_journal.proofs.Telling.{begun, either_tells, runs, same_piece, settled_of}
+use Rattle.epoch_journal.proofs.journal.EpochJournal.checkpoint.Goals as goal
+
+pub returns-in-Ok-switch_halves-clause-any_moment : goal.returns-in-Ok-switch_halves-clause-any_moment
+returns-in-Ok-switch_halves-clause-any_moment g c start all least kept now =
+    let d = g.D.Disk in
+    let was = c.self.inside in
+    let keeps = subst (λ (s : JournalState _). Keeps d.seen d.may_leave start all least s) (sym c.self.view_is) kept in
+    let on : was.stopped ≡ false = ap (λ (s : JournalState _). s.stopped) c.self.view_is ∙ c.requires.running in
+    let run = keeps.running on in
+    let rs = checkpoint_of run.rows ∷ run.asked in
+    let r = checkpoint_of c.args.rows.now in
+    let l = layout was.capacity was.label.items in
+    let piece = same_piece was.capacity c.deref.result.now was.label.items r c.in-Ok.piece.items c.deref-2.result.now c.deref.ensures.value c.deref-2.ensures.value c.in-Ok.ensures.piece in
+    let settled = settled_of d.seen d.may_leave start all _ c.self.invariant.within run in
+    subst (λ (s : JournalState _). LeavesOnly d.moment d.left_since s.disk c.switch_halves.new.disk (TellsOn s.layout start all least)) c.self.view_is
+    (weaker d.moment d.left_since was.disk c.switch_halves.new.disk (IsEither l was.place.first rs r) (TellsOn l start all least)
+    (λ image either. either_tells l start run.past run.asked all run.rows c.args.rows.now least was.place.first image run.checkpoint run.split now keeps.few either)
+    (c.switch_halves.ensures.any_moment was.label.items rs r piece settled run.durable))
+
+pub returns-clause-any_moment : goal.returns-clause-any_moment
+returns-clause-any_moment g c start all least kept now =
+    let d = g.D.Disk in
+    let was = c.self.inside in
+    let keeps = subst (λ (s : JournalState _). Keeps d.seen d.may_leave start all least s) (sym c.self.view_is) kept in
+    let on : was.stopped ≡ false = ap (λ (s : JournalState _). s.stopped) c.self.view_is ∙ c.requires.running in
+    let run = keeps.running on in
+    let rs = checkpoint_of run.rows ∷ run.asked in
+    let r = checkpoint_of c.args.rows.now in
+    let l = layout was.capacity was.label.items in
+    let piece = same_piece was.capacity c.deref.result.now was.label.items r c.in-Ok.piece.items c.deref-2.result.now c.deref.ensures.value c.deref-2.ensures.value c.in-Ok.ensures.piece in
+    let settled = settled_of d.seen d.may_leave start all _ c.self.invariant.within run in
+    subst (λ (s : JournalState _). LeavesOnly d.moment d.left_since s.disk c.switch_halves.new.disk (TellsOn s.layout start all least)) c.self.view_is
+    (weaker d.moment d.left_since was.disk c.switch_halves.new.disk (IsEither l was.place.first rs r) (TellsOn l start all least)
+    (λ image either. either_tells l start run.past run.asked all run.rows c.args.rows.now least was.place.first image run.checkpoint run.split now keeps.few either)
+    (c.switch_halves.ensures.any_moment was.label.items rs r piece settled run.durable))
+
+pub returns-clause-kept : goal.returns-clause-kept
+returns-clause-kept g c start all least kept now =
+    let d = g.D.Disk in
+    let was = c.self.inside in
+    let keeps = subst (λ (s : JournalState _). Keeps d.seen d.may_leave start all least s) (sym c.self.view_is) kept in
+    let on : was.stopped ≡ false = ap (λ (s : JournalState _). s.stopped) c.self.view_is ∙ c.requires.running in
+    let run = keeps.running on in
+    let rs = checkpoint_of run.rows ∷ run.asked in
+    let r = checkpoint_of c.args.rows.now in
+    let l = layout was.capacity was.label.items in
+    let piece = same_piece was.capacity c.deref.result.now was.label.items r c.in-Ok.piece.items c.deref-2.result.now c.deref.ensures.value c.deref-2.ensures.value c.in-Ok.ensures.piece in
+    let settled = settled_of d.seen d.may_leave start all _ c.self.invariant.within run in
+    let only = (weaker d.moment d.left_since was.disk c.switch_halves.new.disk (IsEither l was.place.first rs r) (TellsOn l start all least)
+    (λ image either. either_tells l start run.past run.asked all run.rows c.args.rows.now least was.place.first image run.checkpoint run.split now keeps.few either)
+    (c.switch_halves.ensures.any_moment was.label.items rs r piece settled run.durable)) in
+    record {
+      few = keeps.few;
+      each = λ image left. only.each image (g.met.D.Disk.counts_now c.switch_halves.new.disk (d.moment was.disk) image only.later left);
+      running = λ is. absurd (cc is);
+      all_safe = λ is. absurd (cc is);
+    }
+
+pub returns-in-Ok-switch_halves-clause-begins : goal.returns-in-Ok-switch_halves-clause-begins
+returns-in-Ok-switch_halves-clause-begins g c start all least kept =
+    let d = g.D.Disk in
+    let was = c.self.inside in
+    let keeps = subst (λ (s : JournalState _). Keeps d.seen d.may_leave start all least s) (sym c.self.view_is) kept in
+    let on : was.stopped ≡ false = ap (λ (s : JournalState _). s.stopped) c.self.view_is ∙ c.requires.running in
+    let run = keeps.running on in
+    let rs = checkpoint_of run.rows ∷ run.asked in
+    let r = checkpoint_of c.args.rows.now in
+    let l = layout was.capacity was.label.items in
+    let piece = same_piece was.capacity c.deref.result.now was.label.items r c.in-Ok.piece.items c.deref-2.result.now c.deref.ensures.value c.deref-2.ensures.value c.in-Ok.ensures.piece in
+    let settled = settled_of d.seen d.may_leave start all _ c.self.invariant.within run in
+    let after = c.in-Ok-switch_halves.ensures.switched was.label.items rs r piece settled in
+    let same : length c.deref-2.result.now - 1 ≡ c.len.result - 1 = search rules in
+    let below : c.len.result - 1 < half_size was.capacity = omega (arith, c.in-Ok.ensures.fits, c.in-Ok.ensures.length, ap length c.deref-2.ensures.value, ap length c.deref.ensures.value, same) in
+    let resting = subst (λ (n : ℕ). IsResting l (not was.place.first) (r ∷ []) n (d.seen c.switch_halves.new.disk)) same after.0 in
+    begun d.seen d.may_leave c.args.rows.now _ below resting after.1
+
+pub returns-in-Ok-switch_halves-clause-kept : goal.returns-in-Ok-switch_halves-clause-kept
+returns-in-Ok-switch_halves-clause-kept g c start all least kept now =
+    let d = g.D.Disk in
+    let was = c.self.inside in
+    let keeps = subst (λ (s : JournalState _). Keeps d.seen d.may_leave start all least s) (sym c.self.view_is) kept in
+    let on : was.stopped ≡ false = ap (λ (s : JournalState _). s.stopped) c.self.view_is ∙ c.requires.running in
+    let run = keeps.running on in
+    let rs = checkpoint_of run.rows ∷ run.asked in
+    let r = checkpoint_of c.args.rows.now in
+    let l = layout was.capacity was.label.items in
+    let piece = same_piece was.capacity c.deref.result.now was.label.items r c.in-Ok.piece.items c.deref-2.result.now c.deref.ensures.value c.deref-2.ensures.value c.in-Ok.ensures.piece in
+    let settled = settled_of d.seen d.may_leave start all _ c.self.invariant.within run in
+    let after = c.in-Ok-switch_halves.ensures.switched was.label.items rs r piece settled in
+    let same : length c.deref-2.result.now - 1 ≡ c.len.result - 1 = search rules in
+    let below : c.len.result - 1 < half_size was.capacity = omega (arith, c.in-Ok.ensures.fits, c.in-Ok.ensures.length, ap length c.deref-2.ensures.value, ap length c.deref.ensures.value, same) in
+    let resting = subst (λ (n : ℕ). IsResting l (not was.place.first) (r ∷ []) n (d.seen c.switch_halves.new.disk)) same after.0 in
+    runs d.seen d.may_leave start all least _ below (keeps.all_safe on)
+    (record {
+      past = all;
+      asked = [];
+      rows = c.args.rows.now;
+      split = sym (append-nil all);
+      checkpoint = now;
+      resting = resting;
+      durable = after.1;
+    })
+
+pub returns-in-Err-clause-any_moment : goal.returns-in-Err-clause-any_moment
+returns-in-Err-clause-any_moment g c start all least kept now =
+    let d = g.D.Disk in
+    let j = c.args.self.now in
+    started d.moment d.left_since j.disk (TellsOn j.layout start all least) (λ image left. kept.each image (g.met.D.Disk.only_now j.disk image left))

@@ -1,0 +1,22 @@
+use Rattle.std.proofs.Common.{◌∙◌, sym, subst, List, ℕ}
+use Rattle.teb_names.specs.Rows.{row_of}
+use Rattle.crash_disk.specs.Disk.{Only}
+use Rattle.epoch_journal.specs.Layout.{layout}
+use Rattle.epoch_journal.specs.Read.{IsReadAs}
+use Rattle.epoch_journal.specs.Telling.{Tells}
+use Rattle.epoch_journal.proofs.Beginning.{found_of}
+use Rattle.epoch_journal.proofs.recovered.RecoveredDisk.recover.Goals as goal
+
+pub returns-in-Ok-read_disk-clause-found : goal.returns-in-Ok-read_disk-clause-found
+returns-in-Ok-read_disk-clause-found g c all least before =
+    let d = g.D.Disk in
+    let disk = c.args.disk in
+    let new = c.read_disk.new.disk in
+    let file = d.seen disk in
+    let start = row_of c.args.start.now in
+    let t = subst (λ (x : ℕ × List ℕ). Tells (layout x.0 x.1) start all least file) (λ i. (sym c.capacity-capacity.ensures i, sym c.in-Ok.ensures.items i)) (before file (g.met.D.Disk.read_is_left disk)) in
+    let read = c.in-Ok-read_disk.ensures.read in
+    let same = c.read_disk.ensures.quiet.same in
+    let labelled = subst (λ (t : List ℕ). IsReadAs (layout c.capacity-capacity.result t) read.0 file) c.deref.ensures.value read.1 in
+    let durable : Only (d.seen new) (d.may_leave new) = λ image left. c.in-Ok-read_disk.ensures.safe image left ∙ sym same in
+    (t.k, found_of d.seen d.may_leave start all least file _ t read.0 labelled read.2 c.in-Ok-read_disk.ensures.current same durable)

@@ -1,0 +1,64 @@
+use Rattle.std.proofs.Common.{◌≡◌, ◌⊎◌, inl, inr, true, false, not, length, arith}
+use Rattle.crash_disk.specs.Disk.{IsTorn}
+use Rattle.record_journal.proofs.Moments.{weaker}
+use Rattle.epoch_journal.specs.Layout.{layout}
+use Rattle.epoch_journal.specs.Halves.{IsEither}
+use Rattle.epoch_journal.proofs.Moments.{and_then}
+use Rattle.epoch_journal.proofs.Sizes.{both_fit}
+use Rattle.epoch_journal.proofs.Switching.{still_current, either, switched}
+use Rattle.epoch_journal.proofs.steps.switch_halves.Goals as goal
+use Rattle.epoch_journal.proofs.steps.switch_halves.Goals.{then-first, else-first}
+
+pub returns-in_err-write_safely-clause-any_moment : goal.returns-in_err-write_safely-clause-any_moment
+returns-in_err-write_safely-clause-any_moment g c label rs r piece settled only =
+    let d = g.D.Disk in
+    let l = layout c.args.capacity label in
+    let f = d.seen c.args.disk.now in
+    let n = length c.args.piece.now in
+    weaker d.moment d.left_since c.args.disk.now c.write_safely.new.disk (IsTorn c.base.result n f) (IsEither l c.args.first rs r)
+    (λ image torn. still_current l c.args.first rs r c.args.piece.now f piece settled c.requires.room c.base.result image c.base.ensures.value torn)
+    (c.write_safely.ensures.any_moment only)
+
+pub returns-in_err-write_safely-2-clause-any_moment : goal.returns-in_err-write_safely-2-clause-any_moment
+returns-in_err-write_safely-2-clause-any_moment g c label rs r piece settled only =
+    let d = g.D.Disk in
+    let l = layout c.args.capacity label in
+    let f = d.seen c.args.disk.now in
+    let mid = d.seen c.write_safely.new.disk in
+    let n = length c.args.piece.now in
+    and_then d.moment d.left_since c.args.disk.now c.write_safely.new.disk c.write_safely-2.new.disk (IsTorn c.base.result n f) (IsTorn 0 1 mid) (IsEither l c.args.first rs r)
+    (c.write_safely.ensures.any_moment only)
+    (c.write_safely-2.ensures.any_moment c.in_ok-write_safely.ensures.durable)
+    (λ image torn. still_current l c.args.first rs r c.args.piece.now f piece settled c.requires.room c.base.result image c.base.ensures.value torn)
+    (λ image torn. either l c.args.first rs r c.args.piece.now f piece settled c.requires.room c.base.result mid c.base.ensures.value c.write_safely.ensures.torn c.in_ok-write_safely.ensures.written image torn)
+
+pub returns-clause-any_moment : goal.returns-clause-any_moment
+returns-clause-any_moment g c label rs r piece settled only =
+    let d = g.D.Disk in
+    let l = layout c.args.capacity label in
+    let f = d.seen c.args.disk.now in
+    let mid = d.seen c.write_safely.new.disk in
+    let n = length c.args.piece.now in
+    and_then d.moment d.left_since c.args.disk.now c.write_safely.new.disk c.write_safely-2.new.disk (IsTorn c.base.result n f) (IsTorn 0 1 mid) (IsEither l c.args.first rs r)
+    (c.write_safely.ensures.any_moment only)
+    (c.write_safely-2.ensures.any_moment c.in_ok-write_safely.ensures.durable)
+    (λ image torn. still_current l c.args.first rs r c.args.piece.now f piece settled c.requires.room c.base.result image c.base.ensures.value torn)
+    (λ image torn. either l c.args.first rs r c.args.piece.now f piece settled c.requires.room c.base.result mid c.base.ensures.value c.write_safely.ensures.torn c.in_ok-write_safely.ensures.written image torn)
+
+pub returns-clause-switched : goal.returns-clause-switched
+returns-clause-switched g c label rs r piece settled =
+    let d = g.D.Disk in
+    let l = layout c.args.capacity label in
+    let f = d.seen c.args.disk.now in
+    let mid = d.seen c.write_safely.new.disk in
+    let chosen : ((c.args.first ≡ true) × (c.if-first.selector ≡ 0)) ⊎ ((c.args.first ≡ false) × (c.if-first.selector ≡ 1)) =
+    elim c.if-first.branch [ then-first w ↦ inl (w.if-first.true, w.selector-is) | else-first w ↦ inr (w.if-first.false, w.selector-is) ] in (
+      switched l c.args.first rs r c.args.piece.now f piece settled c.requires.room c.base.result mid c.base.ensures.value c.write_safely.ensures.torn c.in_ok-write_safely.ensures.written c.if-first.selector (d.seen c.write_safely-2.new.disk) chosen c.write_safely-2.ensures.torn c.in_ok-write_safely-2.ensures.written,
+      c.in_ok-write_safely-2.ensures.durable,
+    )
+
+pub write_safely-requires : goal.write_safely-requires
+write_safely-requires g c = omega (arith, both_fit c.args.capacity (not c.args.first) (length c.args.piece.now) c.requires.some c.requires.room, c.base.ensures.value, c.requires.small)
+
+pub write_safely-requires-2 : goal.write_safely-requires-2
+write_safely-requires-2 g c = omega (arith, both_fit c.args.capacity (not c.args.first) (length c.args.piece.now) c.requires.some c.requires.room, c.base.ensures.value, c.requires.small, c.write_safely.ensures.stays)

@@ -1,0 +1,9 @@
+pub mod Layout
+pub mod Halves
+pub mod Telling
+pub mod State
+pub mod Kept
+pub mod Laws
+pub mod Read
+pub mod Errors
+pub mod Next

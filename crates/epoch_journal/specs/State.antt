@@ -1,0 +1,23 @@
+-- What contracts see of a journal in epochs, and of a disk that was read.
+use Rattle.std.specs.Prelude.{ℕ, Bool, List, ℤ}
+use Rattle.teb_names.specs.declared.Cell.{Cell}
+use Rattle.epoch_journal.specs.declared.current.Current.{Current}
+use Rattle.epoch_journal.specs.Layout.{Layout}
+
+pub record JournalState (D : Type 0) : Type 0 where
+  pub disk : D
+  pub layout : Layout
+  -- whether the first half is current
+  pub first : Bool
+  -- the place of the end mark in that half
+  pub end : ℕ
+  -- how many records of this epoch are acknowledged
+  pub acknowledged : ℕ
+  -- whether a call of the disk has failed
+  pub stopped : Bool
+
+pub record RecoveredState (D : Type 0) : Type 0 where
+  pub disk : D
+  pub layout : Layout
+  pub current : Current
+  pub rows : List (Cell × ℤ)

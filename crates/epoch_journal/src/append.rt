@@ -1,0 +1,92 @@
+//! How a journal in epochs grows.
+
+ghost use Rattle.std.specs.Prelude.{◌≡◌, ◌+◌, ◌<◌, ◌≤◌, ◌++◌, ◌∷◌, [], List, ℕ, length, true, false, OnOk, OnErr};
+ghost use Rattle.teb_io.specs.Faults.{HasCause};
+ghost use Rattle.teb_rules.specs.Replay.{Values};
+ghost use Rattle.crash_disk.specs.Calls.{AreCalls};
+ghost use Rattle.crash_disk.specs.Disk.{LeavesOnly};
+ghost use Rattle.record_journal.specs.Format.{Record};
+ghost use Rattle.record_journal.specs.Journal.{IsBody};
+ghost use Rattle.epoch_journal.specs.Layout.{half_size};
+ghost use Rattle.epoch_journal.specs.Telling.{TellsOn};
+ghost use Rattle.epoch_journal.specs.Kept.{Keeps};
+
+use crate::journal::{EpochJournal, Place};
+use crate::layout::half_bytes;
+use crate::steps::add_record;
+use crash_disk::Disk;
+use teb_io::Failed;
+
+impl<D: Disk> EpochJournal<D> {
+    /// Adds the record that the body spells. After `Ok` it is acknowledged: from then on each crash leaves it. It makes four calls of
+    /// the disk.
+    ///
+    /// # Errors
+    /// `Failed` if a call of the disk fails. The journal is then stopped, and this record may be on the disk or not.
+    pub fn append(&mut self, body: &[u8]) -> Result<(), Failed>
+        requires running { self.old.stopped ≡ false }
+        requires some { 0 < length body.now }
+        requires room { self.old.end + 1 + length body.now ≤ half_size self.old.layout.capacity }
+
+        // A crash leaves the table after the first of all records, and after `Ok` of all of them.
+        ensures kept { (start : Values) (all : List Record) (least : ℕ) (r : Record) → IsBody r body.now → Keeps D.seen D.may_leave start all least self.old
+            → OnOk result (Keeps D.seen D.may_leave start (all ++ r ∷ []) (least + 1) self.new) }
+        ensures not_added { (start : Values) (all : List Record) (least : ℕ) (r : Record) → IsBody r body.now → Keeps D.seen D.may_leave start all least self.old
+            → OnErr result (Keeps D.seen D.may_leave start (all ++ r ∷ []) least self.new) }
+
+        // So does a crash at any moment of the call.
+        ensures any_moment { (start : Values) (all : List Record) (least : ℕ) (r : Record) → IsBody r body.now → Keeps D.seen D.may_leave start all least self.old
+            → LeavesOnly D.moment D.left_since self.old.disk self.new.disk (TellsOn self.old.layout start (all ++ r ∷ []) least) }
+
+        ensures layout { self.new.layout ≡ self.old.layout }
+        ensures first { self.new.first ≡ self.old.first }
+        ensures acknowledged { OnOk result ((self.new.stopped ≡ false) × (self.new.acknowledged ≡ self.old.acknowledged + 1)) }
+        ensures end { OnOk result (self.new.end ≡ self.old.end + length body.now) }
+        ensures stopped { OnErr result ((self.new.stopped ≡ true) × (self.new.end ≡ self.old.end) × (self.new.acknowledged ≡ self.old.acknowledged)) }
+        ensures cause { HasCause (D.faults self.old.disk) (D.faults self.new.disk) result }
+        ensures calls { AreCalls (D.tally self.old.disk).promise.writes 4 (length body.now + 1) (D.tally self.old.disk) (D.tally self.new.disk) result }
+    {
+        let Place { first, end, .. } = self.place;
+        let added = add_record(&mut self.disk, self.capacity, first, end, body);
+        match added {
+            Ok(()) => {
+                self.place = Place {
+                    first,
+                    end: end + body.len() as u64,
+                    acknowledged: self.place.acknowledged + 1,
+                };
+            }
+            Err(Failed) => self.stopped = true,
+        }
+        added
+    }
+
+    /// How many records of this epoch are acknowledged.
+    pub fn acknowledged(&self) -> u64
+        ensures { result ≡ self.now.acknowledged }
+    {
+        self.place.acknowledged
+    }
+
+    /// Whether a call of the disk has failed. No record may be added then.
+    pub fn is_stopped(&self) -> bool
+        ensures { result ≡ self.now.stopped }
+    {
+        self.stopped
+    }
+
+    /// How many bytes are left for records of this epoch, from the end mark on.
+    pub fn left(&self) -> u64
+        ensures left { result + self.now.end ≡ half_size self.now.layout.capacity }
+        ensures some { 0 < result }
+    {
+        half_bytes(self.capacity) - self.place.end
+    }
+
+    /// The disk, as it is.
+    pub fn into_disk(self) -> D
+        ensures { result ≡ self.disk }
+    {
+        self.disk
+    }
+}

@@ -1,0 +1,76 @@
+//! How the next epoch begins.
+
+ghost use Rattle.std.specs.Prelude.{◌≡◌, ◌+◌, ◌*◌, ◌<◌, ◌≤◌, [], List, ℕ, length, true, false, not, OnOk, OnErr, IfErr, IsErrOf};
+ghost use Rattle.teb_io.specs.Faults.{Rose};
+ghost use Rattle.teb_names.specs.declared.Cell.{Cell as TheCell};
+ghost use Rattle.teb_names.specs.Rows.{row_of};
+ghost use Rattle.teb_rules.specs.Replay.{Values};
+ghost use Rattle.crash_disk.specs.Calls.{IsUpTo};
+ghost use Rattle.crash_disk.specs.Disk.{LeavesOnly};
+ghost use Rattle.record_journal.specs.Format.{Record};
+ghost use Rattle.record_journal.specs.Journal.{after_records};
+ghost use Rattle.epoch_journal.specs.Layout.{half_size};
+ghost use Rattle.epoch_journal.specs.Telling.{TellsOn};
+ghost use Rattle.epoch_journal.specs.Kept.{Keeps};
+ghost use Rattle.epoch_journal.specs.declared.error.CheckpointError.TheVariants as errors;
+
+use crate::error::CheckpointError;
+use crate::journal::{EpochJournal, Place};
+use crate::piece::piece_of;
+use crate::steps::switch_halves;
+use crash_disk::Disk;
+use std::alloc::Global;
+use teb_io::Failed;
+use teb_names::Cell;
+
+impl<D: Disk> EpochJournal<D> {
+    /// Ends the present epoch and begins the next one, with the rows that all records have left. Its records have the other half of the
+    /// disk for themselves. It makes four calls of the disk, and costs the bytes of the rows.
+    ///
+    /// # Errors
+    /// `Full` if the label and the rows do not fit a half, and `OutOfMemory`: then nothing has changed, and no call was made.
+    /// `DiskFault` if a call of the disk fails; the journal is then stopped.
+    pub fn checkpoint(&mut self, alloc: Global, rows: &[(Cell, i64)]) -> Result<(), CheckpointError>
+        requires running { self.old.stopped ≡ false }
+
+        // After `Ok` and after an `Err`, a crash leaves what it left before.
+        ensures kept { (start : Values) (all : List Record) (least : ℕ) → Keeps D.seen D.may_leave start all least self.old
+            → ((x : TheCell) → row_of rows.now x ≡ after_records all start x) → Keeps D.seen D.may_leave start all least self.new }
+
+        // The next epoch begins with these rows, and has no record.
+        ensures begins { (start : Values) (all : List Record) (least : ℕ) → Keeps D.seen D.may_leave start all least self.old → OnOk result (Keeps D.seen D.may_leave (row_of rows.now) [] 0 self.new) }
+
+        // A crash at any moment of the call leaves what it left before.
+        ensures any_moment { (start : Values) (all : List Record) (least : ℕ) → Keeps D.seen D.may_leave start all least self.old
+            → ((x : TheCell) → row_of rows.now x ≡ after_records all start x)
+            → LeavesOnly D.moment D.left_since self.old.disk self.new.disk (TellsOn self.old.layout start all least) }
+
+        ensures layout { self.new.layout ≡ self.old.layout }
+        ensures begun { OnOk result ((self.new.stopped ≡ false) × (self.new.first ≡ not self.old.first) × (self.new.end ≡ 9 + length self.old.layout.label + 14 * length rows.now) × (self.new.acknowledged ≡ 0)) }
+        ensures fits { OnOk result (10 + length self.old.layout.label + 14 * length rows.now ≤ half_size self.old.layout.capacity) }
+        ensures full { IsErrOf result errors.Full → half_size self.old.layout.capacity < 10 + length self.old.layout.label + 14 * length rows.now }
+        ensures unchanged { IfErr result (λ e. (e ≡ errors.DiskFault → ⊥) → self.new ≡ self.old) }
+        ensures place { OnErr result ((self.new.first ≡ self.old.first) × (self.new.end ≡ self.old.end) × (self.new.acknowledged ≡ self.old.acknowledged)) }
+        ensures fault { IsErrOf result errors.DiskFault → (self.new.stopped ≡ true) × Rose (D.faults self.old.disk) (D.faults self.new.disk) }
+        ensures calls { IsUpTo 4 (11 + length self.old.layout.label + 14 * length rows.now) (D.tally self.old.disk) (D.tally self.new.disk) }
+    {
+        let piece = match piece_of(alloc, self.capacity, &self.label, rows) {
+            Ok(piece) => piece,
+            Err(error) => return Err(error),
+        };
+        match switch_halves(&mut self.disk, self.capacity, self.place.first, &piece) {
+            Ok(()) => {
+                self.place = Place {
+                    first: !self.place.first,
+                    end: piece.len() as u64 - 1,
+                    acknowledged: 0,
+                };
+                Ok(())
+            }
+            Err(Failed) => {
+                self.stopped = true;
+                Err(CheckpointError::DiskFault)
+            }
+        }
+    }
+}

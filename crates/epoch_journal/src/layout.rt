@@ -1,0 +1,68 @@
+//! Where everything is on a disk.
+
+ghost use Rattle.std.specs.Prelude.{◌≡◌, ◌+◌, ◌*◌, ◌<◌, ◌≤◌, ◌^◌, length, IfOk};
+ghost use Rattle.epoch_journal.specs.Layout.{front, half_at, half_size, header};
+
+use std::alloc::{AllocError, Global};
+
+/// The byte before a record.
+pub(crate) const COMMIT_MARK: u8 = 1;
+
+/// The first bytes of the front, "TEB1".
+pub(crate) const SIGNATURE: [u8; 4] = [84, 69, 66, 49];
+
+/// The place at which the halves begin, behind the byte that tells which one is current and the front.
+pub(crate) const FRONT_END: u64 = 13;
+
+/// How many bytes a half has at most.
+const MOST_HALF: u64 = 4_294_967_295;
+
+/// The number of bytes of a label's length.
+pub(crate) const LENGTH_BYTES: usize = 4;
+
+/// How many bytes each half of a disk has.
+#[tactic(auto, unfolding(crate::specs::Layout::half_size))]
+pub(crate) fn half_bytes(capacity: u64) -> u64
+    ensures value { result ≡ half_size capacity }
+    ensures few { result < 2 ^ 32 }
+    ensures both { 0 < result → 13 + 2 * result ≤ capacity }
+{
+    (capacity.saturating_sub(FRONT_END) / 2).min(MOST_HALF)
+}
+
+/// The place at which a half begins.
+pub(crate) fn base(capacity: u64, first: bool) -> u64
+    ensures value { result ≡ half_at capacity first }
+    ensures small { result < 2 ^ 33 }
+{
+    if first {
+        FRONT_END
+    } else {
+        FRONT_END + half_bytes(capacity)
+    }
+}
+
+/// The bytes from place 1 to the halves: the signature, and the capacity.
+#[tactic(auto, unfolding(crate::specs::Layout::front))]
+pub(crate) fn front_of(alloc: Global, capacity: u64) -> Result<Vec<u8>, AllocError>
+    ensures front { IfOk result (λ bytes. bytes.items ≡ front capacity) }
+    ensures length { IfOk result (λ bytes. length bytes.items ≡ 12) }
+{
+    let mut bytes = Vec::new(alloc);
+    bytes.extend_from_slice(&SIGNATURE)?;
+    bytes.extend_from_slice(&capacity.to_be_bytes())?;
+    Ok(bytes)
+}
+
+/// The first bytes of a half: the length of the label, and the label.
+#[tactic(auto, unfolding(crate::specs::Layout::header))]
+pub(crate) fn header_of(alloc: Global, label: &[u8]) -> Result<Vec<u8>, AllocError>
+    requires { length label.now < 2 ^ 32 }
+    ensures header { IfOk result (λ bytes. bytes.items ≡ header label.now) }
+    ensures length { IfOk result (λ bytes. length bytes.items ≡ 4 + length label.now) }
+{
+    let mut bytes = Vec::new(alloc);
+    bytes.extend_from_slice(&(label.len() as u32).to_be_bytes())?;
+    bytes.extend_from_slice(label)?;
+    Ok(bytes)
+}

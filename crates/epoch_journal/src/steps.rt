@@ -1,0 +1,76 @@
+//! What is done to a disk in halves: a record more, and the other half in place of this one.
+
+ghost use Rattle.std.specs.Prelude.{◌≡◌, ◌+◌, ◌-◌, ◌<◌, ◌≤◌, ◌++◌, ◌∷◌, [], List, ℕ, not, length, OnOk};
+ghost use Rattle.crash_disk.specs.Calls.{AreCalls};
+ghost use Rattle.crash_disk.specs.Disk.{LeavesOnly, Only};
+ghost use Rattle.teb_io.specs.Faults.{HasCause};
+ghost use Rattle.record_journal.specs.Format.{Record};
+ghost use Rattle.record_journal.specs.Journal.{IsBody};
+ghost use Rattle.epoch_journal.specs.Layout.{half_size, layout};
+ghost use Rattle.epoch_journal.specs.Halves.{IsEither, IsOneOf, IsPiece, IsResting, IsSettled};
+
+use crate::layout::{COMMIT_MARK, base};
+use crate::safely::write_safely;
+use crash_disk::Disk;
+use teb_io::Failed;
+
+/// Adds a record behind the end mark at `end` of a half: its body with the next end mark, and then its commit mark, each made safe. It
+/// makes four calls of the disk.
+///
+/// # Errors
+/// `Failed` if one of them fails. The record may then be on the disk or not.
+pub(crate) fn add_record<D: Disk>(
+    disk: &mut D,
+    capacity: u64,
+    first: bool,
+    end: u64,
+    body: &[u8],
+) -> Result<(), Failed>
+    requires small { capacity ≤ D.capacity disk.old }
+    requires room { end + 1 + length body.now ≤ half_size capacity }
+    ensures added { (label : List ℕ) (rs : List Record) (r : Record) → IsBody r body.now → IsResting (layout capacity label) first rs end (D.seen disk.old)
+        → Only (D.seen disk.old) (D.may_leave disk.old)
+        → OnOk result (IsResting (layout capacity label) first (rs ++ r ∷ []) (end + length body.now) (D.seen disk.new) × Only (D.seen disk.new) (D.may_leave disk.new)) }
+    ensures any_moment { (label : List ℕ) (rs : List Record) (r : Record) → IsBody r body.now → IsResting (layout capacity label) first rs end (D.seen disk.old)
+        → Only (D.seen disk.old) (D.may_leave disk.old)
+        → LeavesOnly D.moment D.left_since disk.old disk.new (IsOneOf (layout capacity label) first rs r) }
+    ensures durable { OnOk result (Only (D.seen disk.new) (D.may_leave disk.new)) }
+    ensures stays { D.capacity disk.new ≡ D.capacity disk.old }
+    ensures cause { HasCause (D.faults disk.old) (D.faults disk.new) result }
+    ensures calls { AreCalls (D.tally disk.old).promise.writes 4 (length body.now + 1) (D.tally disk.old) (D.tally disk.new) result }
+{
+    let mark = base(capacity, first) + end;
+    write_safely(disk, mark + 1, body)?;
+    write_safely(disk, mark, &[COMMIT_MARK])?;
+    Ok(())
+}
+
+/// Writes the bytes of a half over the half that is not current, and then makes it current, each made safe. It makes four calls of the
+/// disk.
+///
+/// # Errors
+/// `Failed` if one of them fails. Either half may then be current.
+pub(crate) fn switch_halves<D: Disk>(
+    disk: &mut D,
+    capacity: u64,
+    first: bool,
+    piece: &[u8],
+) -> Result<(), Failed>
+    requires small { capacity ≤ D.capacity disk.old }
+    requires some { 0 < length piece.now }
+    requires room { length piece.now ≤ half_size capacity }
+    ensures switched { (label : List ℕ) (rs : List Record) (r : Record) → IsPiece (layout capacity label) r piece.now → IsSettled (layout capacity label) first rs (D.seen disk.old)
+        → OnOk result (IsResting (layout capacity label) (not first) (r ∷ []) (length piece.now - 1) (D.seen disk.new) × Only (D.seen disk.new) (D.may_leave disk.new)) }
+    ensures any_moment { (label : List ℕ) (rs : List Record) (r : Record) → IsPiece (layout capacity label) r piece.now → IsSettled (layout capacity label) first rs (D.seen disk.old)
+        → Only (D.seen disk.old) (D.may_leave disk.old)
+        → LeavesOnly D.moment D.left_since disk.old disk.new (IsEither (layout capacity label) first rs r) }
+    ensures durable { OnOk result (Only (D.seen disk.new) (D.may_leave disk.new)) }
+    ensures stays { D.capacity disk.new ≡ D.capacity disk.old }
+    ensures cause { HasCause (D.faults disk.old) (D.faults disk.new) result }
+    ensures calls { AreCalls (D.tally disk.old).promise.writes 4 (length piece.now + 1) (D.tally disk.old) (D.tally disk.new) result }
+{
+    write_safely(disk, base(capacity, !first), piece)?;
+    let selector = if first { 0 } else { 1 };
+    write_safely(disk, 0, &[selector])?;
+    Ok(())
+}
