@@ -1,3 +1,4 @@
 pub mod Answered
+pub mod Errors
 pub mod Kept
 pub mod Whole

@@ -1,6 +1,6 @@
 //! The record of a commit: what it leaves in the cells that it has put.
 
-ghost use Rattle.std.specs.Prelude.{◌≡◌, ◌≤◌, length, IsTrue, IfOk, OnOk, IsErrOf, if◌then◌else◌, ◌++◌, ◌∷◌, []};
+ghost use Rattle.std.specs.Prelude.{◌≡◌, ◌≤◌, ◌^◌, length, None, IsTrue, IfOk, OnOk, IsErrOf, if◌then◌else◌, ◌++◌, ◌∷◌, []};
 ghost use Rattle.teb_history.specs.Accesses.{wrote};
 ghost use Rattle.teb_history.specs.Phases.{unfinished};
 ghost use Rattle.teb_history.specs.Written.{txn_of};
@@ -8,9 +8,9 @@ ghost use Rattle.commit_laws.specs.Records.{puts_of as all_puts, is_newest as ne
 ghost use Rattle.commit_journal.specs.Answered.{IsBodyFor};
 ghost use Rattle.commit_journal.specs.Kept.{committing as committed_by, counts, with_event, AreCells, IsFull};
 ghost use Rattle.version_chain.specs.Lists.{last_place, writers_of};
-ghost use Rattle.commit_journal.specs.declared.error.DurableError.TheVariants as errors;
+ghost use Rattle.commit_journal.specs.declared.error.BodyError.TheVariants as errors;
 
-use crate::DurableError;
+use crate::BodyError;
 use engine_core::Engine;
 use record_journal::{Change, encode};
 use std::alloc::{AllocError, Global};
@@ -19,24 +19,23 @@ use teb_history::{Event, History};
 use teb_names::{Cell, Request, Session, Txn};
 use version_chain::Chains;
 
-/// The bytes of the record that a request would commit; none where it would commit nothing. `left` is how many bytes
-/// of the disk are left.
+/// Returns the body of the record that a request would commit; no bytes if it would commit nothing. `left` is the number of bytes that
+/// are left for the record and its gate. It costs a look at the versions of each cell that was put.
 ///
 /// # Errors
-/// `Full` where fewer bytes are left than a record of all cells that were put takes; `OutOfMemory`.
+/// `Full` if fewer bytes are left than a record of all cells that were put takes; `OutOfMemory`. The engine is only read.
 pub fn body_of<C: Chains>(
     alloc: Global,
     engine: &Engine<C>,
     left: u64,
     session: Session,
     request: Request,
-) -> Result<Vec<u8>, DurableError>
-    requires { left ≤ 1048576 }
+) -> Result<Vec<u8>, BodyError>
+    requires { left ≤ 2 ^ 32 }
     ensures body { IfOk result (λ bytes. IsBodyFor engine.now.store engine.now.events session request bytes.items) }
+    ensures none { IfOk result (λ bytes. committed_by engine.now.events session request ≡ None → bytes.items ≡ []) }
     ensures fits { OnOk result (IsFull engine.now.events left session request → ⊥) }
     ensures full { IsErrOf result errors.Full → IsFull engine.now.events left session request }
-    ensures not_stopped { IsErrOf result errors.Stopped → ⊥ }
-    ensures no_fault { IsErrOf result errors.DiskFault → ⊥ }
 {
     let t = match committing(engine.history(), session, request) {
         None => return Ok(Vec::new(alloc)),
@@ -44,7 +43,7 @@ pub fn body_of<C: Chains>(
     };
     let puts = puts_of(alloc, engine.history(), t)?;
     if left < 6 + 14 * puts.len() as u64 {
-        return Err(DurableError::Full);
+        return Err(BodyError::Full);
     }
     let changes = record_of(alloc, engine, &puts, t)?;
     let bytes = encode(alloc, &changes)?;

@@ -11,6 +11,25 @@ pub enum CreateError<D> {
     OutOfMemory,
 }
 
+/// Why there is no record for a request.
+#[derive(Clone, Copy, Debug, PartialEq, Eq)]
+pub enum BodyError {
+    /// Fewer bytes are left than the record may take.
+    Full,
+    OutOfMemory,
+}
+
+impl From<AllocError> for BodyError {
+    ghost use Rattle.std.specs.Prelude.{◌≡◌};
+    ghost use Rattle.commit_journal.specs.declared.error.BodyError.TheVariants.{OutOfMemory};
+
+    ghost from_gives = { λ _ e. e ≡ OutOfMemory };
+
+    fn from(_: AllocError) -> Self {
+        BodyError::OutOfMemory
+    }
+}
+
 /// Why a request was not answered.
 #[derive(Clone, Copy, Debug, PartialEq, Eq)]
 pub enum DurableError {
@@ -32,5 +51,19 @@ impl From<AllocError> for DurableError {
 
     fn from(_: AllocError) -> Self {
         DurableError::OutOfMemory
+    }
+}
+
+impl From<BodyError> for DurableError {
+    ghost use Rattle.std.specs.Prelude.{◌≡◌};
+    ghost use Rattle.commit_journal.specs.Errors.{as_durable};
+
+    ghost from_gives = { λ b e. e ≡ as_durable b };
+
+    fn from(error: BodyError) -> Self {
+        match error {
+            BodyError::Full => DurableError::Full,
+            BodyError::OutOfMemory => DurableError::OutOfMemory,
+        }
     }
 }

@@ -6,6 +6,7 @@ mod durable;
 mod error;
 mod recovery;
 
+pub use commit::body_of;
 pub use durable::Durable;
-pub use error::{CreateError, DurableError};
+pub use error::{BodyError, CreateError, DurableError};
 pub use recovery::recover;
