@@ -3,3 +3,4 @@ pub mod WholeOrder
 pub mod Starting
 pub mod Refusing
 pub mod SameNames
+pub mod Draining

@@ -14,22 +14,22 @@ use Rattle.tree_switch.specs.Courses.{Course, phases, first, start_of, end_of, S
 use Rattle.tree_switch.specs.Serial.{Order, order_of, whole_order, table_along, ReadsRight, IsSerial}
 
 -- of the transactions of one history
-along_one : (H : List Event) (ts : List ℕ) (T : Values) → table_along (map (λ t. (H, t)) ts) T ≡ table_after H ts T
+pub along_one : (H : List Event) (ts : List ℕ) (T : Values) → table_along (map (λ t. (H, t)) ts) T ≡ table_after H ts T
 unfolding table_after
 along_one H [] T = refl
 along_one H (t ∷ ts) T = along_one H ts (after_puts H t T)
 
-reads_one : (H : List Event) (ts : List ℕ) (T : Values) → ReplaysRight H ts T → ReadsRight (map (λ t. (H, t)) ts) T
+pub reads_one : (H : List Event) (ts : List ℕ) (T : Values) → ReplaysRight H ts T → ReadsRight (map (λ t. (H, t)) ts) T
 unfolding ReplaysRight
 reads_one H [] T r = tt
 reads_one H (t ∷ ts) T r = (r.0, reads_one H ts (after_puts H t T) r.1)
 
 -- of two orders, one after the other
-along_both : (xs ys : Order) (T : Values) → table_along (xs ++ ys) T ≡ table_along ys (table_along xs T)
+pub along_both : (xs ys : Order) (T : Values) → table_along (xs ++ ys) T ≡ table_along ys (table_along xs T)
 along_both [] ys T = refl
 along_both (r ∷ xs) ys T = along_both xs ys (after_puts r.0 r.1 T)
 
-reads_both : (xs ys : Order) (T : Values) → ReadsRight xs T → ReadsRight ys (table_along xs T) → ReadsRight (xs ++ ys) T
+pub reads_both : (xs ys : Order) (T : Values) → ReadsRight xs T → ReadsRight ys (table_along xs T) → ReadsRight (xs ++ ys) T
 reads_both [] ys T a b = b
 reads_both (r ∷ xs) ys T a b = (a.0, reads_both xs ys (after_puts r.0 r.1 T) a.1 b)
 
@@ -40,7 +40,7 @@ serializes : (e : EngineModel) → IsOfEngine e → IsRight e
 serializes e i = law_of (λ X H. Serializes X H (serial_order X.setup H)) every_run_serializes e.store e.events i.sound i.reached
 
 -- two tables with the same values are the same
-same_table : (T U : Values) → ((x : Cell) → T x ≡ U x) → T ≡ U
+pub same_table : (T U : Values) → ((x : Cell) → T x ≡ U x) → T ≡ U
 same_table T U h = λ i x. h x i
 
 -- one phase leads from the table with which it starts to the one that it leaves

@@ -1,25 +1,23 @@
 //! The phases of a store.
 
-ghost use Rattle.std.specs.Prelude.{◌≡◌, ◌++◌, ◌∷◌, ◌<◌, [], length, IsTrue, true, false, IfOk, OnOk, OnErr, Some, slice_get};
+ghost use Rattle.std.specs.Prelude.{◌≡◌, ◌++◌, ◌∷◌, ◌<◌, [], length, IsTrue, true, false, OnOk, OnErr, Some, slice_get};
 ghost use Rattle.teb_names.specs.declared.Cell.{Cell};
-ghost use Rattle.teb_names.specs.Rows.{IsAscending};
 ghost use Rattle.teb_rules.specs.Answer.{answer};
 ghost use Rattle.tree_toml.specs.Seen.{setup_view};
 ghost use Rattle.tree_toml.specs.Sound.{IsWhole};
-ghost use Rattle.engine_core.specs.EngineModel.{IsOfEngine};
 ghost use Rattle.tree_switch.specs.Courses.{IsCourse};
 ghost use Rattle.tree_switch.specs.Refusals.{IsRefusedBy};
 ghost use Rattle.tree_switch.specs.Serial.{IsSerial};
 ghost use Rattle.tree_switch.specs.Starts.{IsStarted};
 
 use crate::error::SwitchError;
+use crate::next_phase::start;
 use crate::refusal::check;
 use engine_core::Engine;
-use serial_order::tables;
 use std::alloc::{AllocError, Global};
 use std::marker::Model;
 use std::mem;
-use teb_names::{Cell, Reply, Request, Rows, Session};
+use teb_names::{Reply, Request, Session};
 use tree_toml::Setup;
 use version_chain::Chains;
 
@@ -145,36 +143,6 @@ impl<C: Chains> Phases<C> {
         move_on(&mut self.past, &mut self.present, next)?;
         Ok(())
     }
-}
-
-/// An engine under a setup, with the tables that another one leaves.
-fn start<C: Chains>(
-    alloc: Global,
-    before: &Engine<C>,
-    setup: Setup,
-    chains: C,
-) -> Result<Engine<C>, AllocError>
-    requires engine { IsOfEngine before.now }
-    requires setup { IsWhole (setup_view setup) }
-    requires tables { setup.names.tables ≡ before.now.names.tables }
-    requires chains { (x : Cell) → C.lists chains x ≡ [] }
-    ensures { IfOk result (λ e. IsStarted setup before.now e) }
-{
-    prove!(before.setup().names.tables.len() == setup.names.tables.len());
-    let rows = tables(alloc, before)?;
-    Engine::new(alloc, with_rows(setup, rows), chains)
-}
-
-/// A setup with these rows in place of its own.
-fn with_rows(mut setup: Setup, rows: Vec<(Cell, i64)>) -> Setup
-    requires { IsAscending rows.items }
-    ensures rows { result.rows ≡ rows.items }
-    ensures names { result.names ≡ setup.names }
-    ensures profiles { result.profiles ≡ setup.profiles }
-    ensures tree { result.tree ≡ setup.tree }
-{
-    setup.rows = Rows::from_sorted(rows);
-    setup
 }
 
 /// Puts the present engine behind the past ones, and the next one in its place. An `Err` leaves all as it was.

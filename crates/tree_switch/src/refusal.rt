@@ -2,7 +2,7 @@
 
 ghost use Rattle.std.specs.Prelude.{◌↔◌, MatchOption, IsTrue};
 ghost use Rattle.tree_toml.specs.Seen.{setup_view};
-ghost use Rattle.tree_switch.specs.Refusals.{IsLeast, IsUnfinished, IsUntold, AllFinished, AllTold, AreNumbered, AreOfSessions, IsRefusedBy};
+ghost use Rattle.tree_switch.specs.Refusals.{IsLeast, IsUnfinished, IsUntold, AllFinished, AllTold, AreNumbered, AreOfSessions, IsDrained, IsRefusedBy};
 
 use crate::error::SwitchError;
 use crate::names::same_names;
@@ -33,6 +33,13 @@ pub fn check<C: Chains>(present: &Engine<C>, setup: &Setup) -> Result<(), Switch
         return Err(SwitchError::Rows);
     }
     Ok(())
+}
+
+/// True if no transaction of an engine is unfinished, and each session was told of its abort. It costs one look.
+pub fn is_drained<C: Chains>(engine: &Engine<C>) -> bool
+    ensures { IsTrue result ↔ IsDrained engine.now.events }
+{
+    engine.history().live().is_empty()
 }
 
 /// The least unfinished transaction.

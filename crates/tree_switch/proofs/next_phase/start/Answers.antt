@@ -2,7 +2,7 @@ use Rattle.std.proofs.Common.{◌<◌, ℤ, List, length, sym, subst, ap}
 use Rattle.std.specs.List.{All}
 use Rattle.teb_names.specs.declared.Cell.{Cell}
 use Rattle.tree_switch.proofs.Starting.{left_within, whole_with}
-use Rattle.tree_switch.proofs.phases.start.Goals as goal
+use Rattle.tree_switch.proofs.next_phase.start.Goals as goal
 
 pub new-requires-clause-setup : goal.new-requires-clause-setup
 new-requires-clause-setup g c =
