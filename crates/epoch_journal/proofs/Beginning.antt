@@ -1,5 +1,5 @@
 -- The first epoch after a reading.
-use Rattle.std.proofs.Common.{◌≡◌, ⊎_elim, ℕ, ◌<◌, List, [], ◌∷◌, take, sym, subst, ◌∙◌, ap}
+use Rattle.std.proofs.Common.{◌≡◌, inl, inr, ⊎_elim, ℕ, ◌<◌, List, [], ◌∷◌, take, sym, subst, ◌∙◌, ap}
 use Rattle.std.proofs.lemmas.List.{append-nil, length-take-le}
 use Rattle.teb_names.specs.declared.Cell.{Cell}
 use Rattle.teb_names.specs.Rows.{row_of}
@@ -10,7 +10,7 @@ use Rattle.epoch_journal.specs.Layout.{half_size}
 use Rattle.epoch_journal.specs.Halves.{HasOneOf, IsAt, IsResting}
 use Rattle.epoch_journal.specs.Read.{IsCurrently, IsReadAs}
 use Rattle.epoch_journal.specs.State.{JournalState, RecoveredState}
-use Rattle.epoch_journal.specs.Telling.{Tells, checkpoint_of, table_of}
+use Rattle.epoch_journal.specs.Telling.{IsBegun, Tells, TellsOn, checkpoint_of, table_of}
 use Rattle.epoch_journal.specs.Kept.{HasFound, Keeps}
 use Rattle.epoch_journal.proofs.ReadBack.{found_at, read_same}
 use Rattle.epoch_journal.proofs.Telling.{checkpoint_rows, runs}
@@ -27,6 +27,28 @@ tells_again seen may_leave start all least k d found c has = record {
       (λ new. record { list = checkpoint_of d.rows ∷ []; has = new; table = λ x. checkpoint_rows d.rows x ∙ found.rows x })
       has;
 }
+
+pub tells_on_again : {D : Type 0} (seen : D → List ℕ) (may_leave : D → List ℕ → Type 0) (start : Values) (all : List Record) (least k : ℕ) (d : RecoveredState D) → (found : HasFound seen may_leave start all least k d) → IsBegun found.list
+    → (c : List ℕ) → HasOneOf d.layout found.list (checkpoint_of d.rows ∷ []) c → TellsOn d.layout start all least c
+tells_on_again seen may_leave start all least k d found begun c (inl old) = record {
+  tells = record { k = k; no_fewer = found.no_fewer; no_more = found.no_more; stands = record { list = found.list; has = old; table = found.table } };
+  begun = begun;
+}
+tells_on_again seen may_leave start all least k d found begun c (inr new) = record {
+  tells = record {
+    k = k;
+    no_fewer = found.no_fewer;
+    no_more = found.no_more;
+    stands = record { list = checkpoint_of d.rows ∷ []; has = new; table = λ x. checkpoint_rows d.rows x ∙ found.rows x };
+  };
+  begun = tt;
+}
+
+-- what was found of a disk with a checkpoint, of the same disk under another name
+pub begun_found : {D : Type 0} (seen : D → List ℕ) (may_leave : D → List ℕ → Type 0) (start : Values) (all : List Record) (least k : ℕ) (d e : RecoveredState D) → d ≡ e → (found : HasFound seen may_leave start all least k e) → IsBegun found.list
+    → (same : HasFound seen may_leave start all least k d) × IsBegun same.list
+begun_found {D} seen may_leave start all least k d e same found begun =
+    subst (λ (s : RecoveredState D). (h : HasFound seen may_leave start all least k s) × IsBegun h.list) (sym same) (found, begun)
 
 pub begun_keeps : {D : Type 0} (seen : D → List ℕ) (may_leave : D → List ℕ → Type 0) (start : Values) (all : List Record) (least k : ℕ) (d : RecoveredState D) → (found : HasFound seen may_leave start all least k d)
     → (j : JournalState D) → j.end < half_size j.layout.capacity → IsResting j.layout j.first (checkpoint_of d.rows ∷ []) j.end (seen j.disk) → Only (seen j.disk) (may_leave j.disk) → Keeps seen may_leave start (take k all) k j

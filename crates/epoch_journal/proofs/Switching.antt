@@ -4,7 +4,7 @@ use Rattle.crash_disk.specs.Disk.{IsTorn, IsOutside, Holds}
 use Rattle.record_journal.specs.Format.{Record, body, records}
 use Rattle.record_journal.proofs.Torn.{two_parts, holds_middle}
 use Rattle.epoch_journal.specs.Layout.{Layout, is_first, half_size, half_at, half, header}
-use Rattle.epoch_journal.specs.Halves.{HasRecords, HasOneOf, IsHalf, IsResting, IsSettled, IsPiece, IsEither}
+use Rattle.epoch_journal.specs.Halves.{HasRecords, HasOneOf, IsFronted, IsHalf, IsResting, IsSettled, IsPiece, IsEither}
 use Rattle.epoch_journal.proofs.Fronts.{behind_front, same_selector, same_front, same_fronted, turned_fronted, same_half, holds_half, far_half, half_front, rests_half}
 
 apart : (capacity : ℕ) (first : Bool) (p n m i : ℕ) → p ≡ half_at capacity (not first) → n ≤ half_size capacity → i < m → m ≤ half_size capacity → IsOutside p n (half_at capacity first + i)
@@ -101,3 +101,32 @@ module _ (l : Layout) (first : Bool) (rs : List Record) (r : Record) (piece f : 
 
     pub switched : (v : ℕ) (c : List ℕ) → ((first ≡ true) × (v ≡ 0)) ⊎ ((first ≡ false) × (v ≡ 1)) → IsTorn 0 1 mid c → Holds 0 (v ∷ []) c → IsResting l (not first) (r ∷ []) (length piece - 1) c
     switched v c chosen turn written = rests c turn (ap (λ (n : ℕ). eqb n 1) (written.each 0 (omega arith)) ∙ selected first v chosen)
+
+-- the final state alone, whatever the disk had besides its front
+module _ (l : Layout) (first : Bool) (r : Record) (piece f : List ℕ) (is_piece : IsPiece l r piece) (fronted : IsFronted l.capacity f)
+    (p : ℕ) (mid : List ℕ) (is : p ≡ half_at l.capacity (not first)) (torn : IsTorn p (length piece) f mid) (holds : Holds p piece mid) where
+  mid_fronted : IsFronted l.capacity mid
+  mid_fronted = same_fronted l.capacity p (length piece) f mid torn (omega (arith, is, behind_front l.capacity (not first))) fronted
+
+  abbrev written : List ℕ
+  written = half l (not first) mid
+
+  piece_length : length piece ≡ length (header l.label) + length (records (r ∷ [])) + 1
+  piece_length = omega (arith, ap length is_piece.is, length-append (header l.label) (1 ∷ (body r ++ 0 ∷ [])), length-append (body r) (0 ∷ []), length-append (body r) [])
+
+  piece_written : written ≡ header l.label ++ (records (r ∷ []) ++ 0 ∷ drop (length piece) written)
+  piece_written =
+      two_parts (length piece) written piece (holds_middle 0 piece written (holds_half (half_at l.capacity (not first)) 0 p piece mid (omega (arith, is)) holds) (omega (arith, piece_length)))
+      ∙ ap (λ (t : List ℕ). t ++ drop (length piece) written) is_piece.is
+      ∙ append_assoc (header l.label) (1 ∷ (body r ++ 0 ∷ [])) (drop (length piece) written)
+      ∙ ap (λ (t : List ℕ). header l.label ++ (1 ∷ t)) (append_assoc (body r) (0 ∷ []) (drop (length piece) written) ∙ sym (append_assoc (body r) [] (0 ∷ drop (length piece) written)))
+
+  pub rests_fronted : (v : ℕ) (c : List ℕ) → ((first ≡ true) × (v ≡ 0)) ⊎ ((first ≡ false) × (v ≡ 1)) → IsTorn 0 1 mid c → Holds 0 (v ∷ []) c → IsResting l (not first) (r ∷ []) (length piece - 1) c
+  rests_fronted v c chosen turn held = record {
+    fronted = turned_fronted l.capacity mid c turn mid_fronted;
+    selects = ap (λ (n : ℕ). eqb n 1) (held.each 0 (omega arith)) ∙ selected first v chosen;
+    fit = (is_piece.fits, tt);
+    size = omega (arith, piece_length);
+    rest = drop (length piece) written;
+    is = same_half l (not first) mid c turn (omega (arith, mid_fronted.long)) ∙ piece_written;
+  }

@@ -8,9 +8,10 @@ ghost use Rattle.crash_disk.specs.Calls.{IsUpTo};
 ghost use Rattle.crash_disk.specs.Disk.{IsQuiet, LeavesOnly, Only};
 ghost use Rattle.record_journal.specs.Format.{Record};
 ghost use Rattle.epoch_journal.specs.Layout.{front, half_size, layout};
-ghost use Rattle.epoch_journal.specs.Halves.{HasOneOf, HasRecords, IsAt, IsPiece, IsResting, IsSettled};
-ghost use Rattle.epoch_journal.specs.Telling.{Tells, checkpoint_of};
+ghost use Rattle.epoch_journal.specs.Halves.{HasOneOf, HasRecords, IsAt, IsFronted, IsPiece, IsResting, IsSettled};
+ghost use Rattle.epoch_journal.specs.Telling.{IsBegun, Tells, TellsOn, checkpoint_of};
 ghost use Rattle.epoch_journal.specs.Kept.{HasFound, Keeps};
+ghost use Rattle.epoch_journal.specs.Read.{IsCurrently};
 ghost use Rattle.epoch_journal.specs.declared.error.OpenError.TheVariants as errors;
 
 use crate::current::Current;
@@ -39,7 +40,7 @@ impl<D: Disk> RecoveredDisk<D> {
             → IfOk result (λ o. Keeps D.seen D.may_leave start (take k all) k o.0) }
 
         // The epoch begins with the rows, and has no record.
-        ensures begins { (start : Values) (all : List Record) (least k : ℕ) → HasFound D.seen D.may_leave start all least k self
+        ensures begins { IsCurrently self.layout.capacity self.current (D.seen self.disk) → Only (D.seen self.disk) (D.may_leave self.disk)
             → IfOk result (λ o. Keeps D.seen D.may_leave (row_of o.1.items) [] 0 o.0) }
         ensures running { IfOk result (λ o. (o.0.stopped ≡ false) × (o.0.acknowledged ≡ 0) × (o.0.layout ≡ self.layout) × (o.1.items ≡ self.rows)) }
 
@@ -48,6 +49,12 @@ impl<D: Disk> RecoveredDisk<D> {
             → IfOk result (λ o. LeavesOnly D.moment D.left_since self.disk o.0.disk (Tells self.layout start all least)) }
         ensures any_moment_back { (start : Values) (all : List Record) (least k : ℕ) → HasFound D.seen D.may_leave start all least k self
             → IfErr result (λ back. LeavesOnly D.moment D.left_since self.disk back.disk (Tells self.layout start all least)) }
+
+        // Of a disk that has a checkpoint, it leaves one.
+        ensures any_moment_on { (start : Values) (all : List Record) (least k : ℕ) → (found : HasFound D.seen D.may_leave start all least k self) → IsBegun found.list
+            → IfOk result (λ o. LeavesOnly D.moment D.left_since self.disk o.0.disk (TellsOn self.layout start all least)) }
+        ensures any_moment_on_back { (start : Values) (all : List Record) (least k : ℕ) → (found : HasFound D.seen D.may_leave start all least k self) → IsBegun found.list
+            → IfErr result (λ back. LeavesOnly D.moment D.left_since self.disk back.disk (TellsOn self.layout start all least)) }
 
         ensures errors { IfErr result (λ back. (back.why ≡ errors.DiskFault × Rose (D.faults self.disk) (D.faults back.disk))
             ⊎ ((back.disk ≡ self.disk) × ((back.why ≡ errors.OutOfMemory) ⊎ (back.why ≡ errors.Full × (half_size self.layout.capacity < 10 + length self.layout.label + 14 * length self.rows))))) }
@@ -88,6 +95,8 @@ fn begin_with<D: Disk>(
 ) -> Result<Place, OpenError>
     requires small { capacity ≤ D.capacity disk.old }
     requires label { length label.now < 2 ^ 32 }
+    ensures resting { IsCurrently capacity current (D.seen disk.old) → Only (D.seen disk.old) (D.may_leave disk.old)
+        → IfOk result (λ place. IsResting (layout capacity label.now) place.first (checkpoint_of rows.now ∷ []) place.end (D.seen disk.new)) }
     ensures begun { (rs : List Record) → IsAt (layout capacity label.now) rs current (D.seen disk.old) → Only (D.seen disk.old) (D.may_leave disk.old)
         → IfOk result (λ place. IsResting (layout capacity label.now) place.first (checkpoint_of rows.now ∷ []) place.end (D.seen disk.new) × Only (D.seen disk.new) (D.may_leave disk.new)) }
     ensures place { IfOk result (λ place. (place.end < half_size capacity) × (place.acknowledged ≡ 0)) }
@@ -120,6 +129,8 @@ fn replace<D: Disk>(
     requires some { 0 < length piece.now }
     requires room { length piece.now ≤ half_size capacity }
     ensures place { IfOk result (λ place. (place.end < half_size capacity) × (place.acknowledged ≡ 0)) }
+    ensures resting { (label : List ℕ) (r : Record) → IsPiece (layout capacity label) r piece.now → IsCurrently capacity current (D.seen disk.old) → Only (D.seen disk.old) (D.may_leave disk.old)
+        → IfOk result (λ place. IsResting (layout capacity label) place.first (r ∷ []) place.end (D.seen disk.new)) }
     ensures switched { (label : List ℕ) (rs : List Record) (r : Record) → IsPiece (layout capacity label) r piece.now → IsAt (layout capacity label) rs current (D.seen disk.old) → Only (D.seen disk.old) (D.may_leave disk.old)
         → IfOk result (λ place. IsResting (layout capacity label) place.first (r ∷ []) place.end (D.seen disk.new) × Only (D.seen disk.new) (D.may_leave disk.new)) }
     ensures any_moment { (label : List ℕ) (rs : List Record) (r : Record) → IsPiece (layout capacity label) r piece.now → IsAt (layout capacity label) rs current (D.seen disk.old) → Only (D.seen disk.old) (D.may_leave disk.old)
@@ -147,6 +158,7 @@ fn settle<D: Disk>(
 ) -> Result<bool, Failed>
     requires small { (13 ≤ capacity) × (capacity ≤ D.capacity disk.old) }
     requires front { front_bytes.now ≡ front capacity }
+    ensures fronted { IsCurrently capacity current (D.seen disk.old) → Only (D.seen disk.old) (D.may_leave disk.old) → OnOk result (IsFronted capacity (D.seen disk.new)) }
     ensures settled { (label : List ℕ) (rs : List Record) → IsAt (layout capacity label) rs current (D.seen disk.old) → Only (D.seen disk.old) (D.may_leave disk.old)
         → IfOk result (λ first. IsSettled (layout capacity label) first rs (D.seen disk.new) × Only (D.seen disk.new) (D.may_leave disk.new)) }
     ensures any_moment { (label : List ℕ) (rs : List Record) → IsAt (layout capacity label) rs current (D.seen disk.old) → Only (D.seen disk.old) (D.may_leave disk.old)

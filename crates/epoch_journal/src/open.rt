@@ -40,8 +40,7 @@ impl<D: Disk> EpochJournal<D> {
             × ((x : TheCell) → row_of o.1.items x ≡ after_records (take k all) (row_of start.now) x)
             × Keeps D.seen D.may_leave (row_of start.now) (take k all) k o.0) }
         // Its first epoch begins with these rows, and has no record.
-        ensures begins { (all : List Record) (least : ℕ) → ((c : List ℕ) → D.may_leave disk c → Tells (layout (D.capacity disk) label.now) (row_of start.now) all least c)
-            → IfOk result (λ o. Keeps D.seen D.may_leave (row_of o.1.items) [] 0 o.0) }
+        ensures begins { IfOk result (λ o. Keeps D.seen D.may_leave (row_of o.1.items) [] 0 o.0) }
         ensures read { IfOk result (λ o. (rs : List Record) × IsReadAs (layout (D.capacity disk) label.now) rs (D.seen disk)
             × ((x : TheCell) → row_of o.1.items x ≡ table_of (row_of start.now) rs x)) }
         ensures ascending { IfOk result (λ o. IsAscending o.1.items) }

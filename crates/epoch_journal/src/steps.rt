@@ -7,7 +7,7 @@ ghost use Rattle.teb_io.specs.Faults.{HasCause};
 ghost use Rattle.record_journal.specs.Format.{Record};
 ghost use Rattle.record_journal.specs.Journal.{IsBody};
 ghost use Rattle.epoch_journal.specs.Layout.{half_size, layout};
-ghost use Rattle.epoch_journal.specs.Halves.{IsEither, IsOneOf, IsPiece, IsResting, IsSettled};
+ghost use Rattle.epoch_journal.specs.Halves.{IsEither, IsFronted, IsOneOf, IsPiece, IsResting, IsSettled};
 
 use crate::layout::{COMMIT_MARK, base};
 use crate::safely::write_safely;
@@ -59,6 +59,8 @@ pub(crate) fn switch_halves<D: Disk>(
     requires small { capacity ≤ D.capacity disk.old }
     requires some { 0 < length piece.now }
     requires room { length piece.now ≤ half_size capacity }
+    ensures resting { (label : List ℕ) (r : Record) → IsPiece (layout capacity label) r piece.now → IsFronted capacity (D.seen disk.old)
+        → OnOk result (IsResting (layout capacity label) (not first) (r ∷ []) (length piece.now - 1) (D.seen disk.new)) }
     ensures switched { (label : List ℕ) (rs : List Record) (r : Record) → IsPiece (layout capacity label) r piece.now → IsSettled (layout capacity label) first rs (D.seen disk.old)
         → OnOk result (IsResting (layout capacity label) (not first) (r ∷ []) (length piece.now - 1) (D.seen disk.new) × Only (D.seen disk.new) (D.may_leave disk.new)) }
     ensures any_moment { (label : List ℕ) (rs : List Record) (r : Record) → IsPiece (layout capacity label) r piece.now → IsSettled (layout capacity label) first rs (D.seen disk.old)

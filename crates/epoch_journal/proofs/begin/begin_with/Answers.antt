@@ -43,3 +43,9 @@ returns-clause-begun g c rs at only =
     let ck = checkpoint_of c.args.rows.now in
     let piece = same_piece c.args.capacity c.args.label.now c.args.label.now ck c.in_ok-piece.piece.items c.deref-2.result.now refl c.deref-2.ensures.value c.in_ok-piece.ensures.piece in
     c.in_ok-place.ensures.switched c.args.label.now rs ck piece at only
+
+pub returns-clause-resting : goal.returns-clause-resting
+returns-clause-resting g c is only =
+    let ck = checkpoint_of c.args.rows.now in
+    let piece = same_piece c.args.capacity c.args.label.now c.args.label.now ck c.in_ok-piece.piece.items c.deref-2.result.now refl c.deref-2.ensures.value c.in_ok-piece.ensures.piece in
+    c.in_ok-place.ensures.resting c.args.label.now ck piece is only

@@ -39,3 +39,6 @@ settle-requires-clause-small g c =
     let some = c.requires.some in
     let room = c.requires.room in
     (omega (arith, two_halves c.args.capacity (omega arith)), c.requires.small)
+
+pub returns-clause-resting : goal.returns-clause-resting
+returns-clause-resting g c label r piece is only = c.in_ok-switch_halves.ensures.resting label r piece (c.in_ok-first.ensures.fronted is only)

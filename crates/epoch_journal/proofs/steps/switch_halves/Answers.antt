@@ -5,7 +5,7 @@ use Rattle.epoch_journal.specs.Layout.{layout}
 use Rattle.epoch_journal.specs.Halves.{IsEither}
 use Rattle.epoch_journal.proofs.Moments.{and_then}
 use Rattle.epoch_journal.proofs.Sizes.{both_fit}
-use Rattle.epoch_journal.proofs.Switching.{still_current, either, switched}
+use Rattle.epoch_journal.proofs.Switching.{still_current, either, rests_fronted, switched}
 use Rattle.epoch_journal.proofs.steps.switch_halves.Goals as goal
 use Rattle.epoch_journal.proofs.steps.switch_halves.Goals.{then-first, else-first}
 
@@ -62,3 +62,13 @@ write_safely-requires g c = omega (arith, both_fit c.args.capacity (not c.args.f
 
 pub write_safely-requires-2 : goal.write_safely-requires-2
 write_safely-requires-2 g c = omega (arith, both_fit c.args.capacity (not c.args.first) (length c.args.piece.now) c.requires.some c.requires.room, c.base.ensures.value, c.requires.small, c.write_safely.ensures.stays)
+
+pub returns-clause-resting : goal.returns-clause-resting
+returns-clause-resting g c label r piece fronted =
+    let d = g.D.Disk in
+    let l = layout c.args.capacity label in
+    let f = d.seen c.args.disk.now in
+    let mid = d.seen c.write_safely.new.disk in
+    let chosen : ((c.args.first ≡ true) × (c.if-first.selector ≡ 0)) ⊎ ((c.args.first ≡ false) × (c.if-first.selector ≡ 1)) =
+    elim c.if-first.branch [ then-first w ↦ inl (w.if-first.true, w.selector-is) | else-first w ↦ inr (w.if-first.false, w.selector-is) ] in
+    rests_fronted l c.args.first r c.args.piece.now f piece fronted c.base.result mid c.base.ensures.value c.write_safely.ensures.torn c.in_ok-write_safely.ensures.written c.if-first.selector (d.seen c.write_safely-2.new.disk) chosen c.write_safely-2.ensures.torn c.in_ok-write_safely-2.ensures.written

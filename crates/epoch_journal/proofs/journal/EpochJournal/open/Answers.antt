@@ -1,4 +1,4 @@
-use Rattle.std.proofs.Common.{◌≡◌, ◌≤◌, List, ℕ, false, length, take, ap, subst, ◌∙◌}
+use Rattle.std.proofs.Common.{◌≡◌, ◌≤◌, List, ℕ, false, length, take, ap, subst, sym, ◌∙◌}
 use Rattle.teb_names.specs.declared.Cell.{Cell}
 use Rattle.teb_names.specs.Rows.{row_of}
 use Rattle.crash_disk.specs.Disk.{LeavesOnly}
@@ -7,7 +7,7 @@ use Rattle.record_journal.specs.Journal.{after_records}
 use Rattle.epoch_journal.specs.Layout.{Layout, layout}
 use Rattle.epoch_journal.specs.Telling.{Tells, table_of}
 use Rattle.epoch_journal.specs.Kept.{Keeps}
-use Rattle.epoch_journal.specs.Read.{IsReadAs}
+use Rattle.epoch_journal.specs.Read.{IsCurrently, IsReadAs}
 use Rattle.epoch_journal.proofs.Moments.{and_then}
 use Rattle.epoch_journal.proofs.Telling.{if_err, if_ok, if_ok_one}
 use Rattle.epoch_journal.proofs.journal.EpochJournal.open.Goals as goal
@@ -28,9 +28,12 @@ returns-clause-found g c all least before =
     c.begin.ensures.running
 
 pub returns-clause-begins : goal.returns-clause-begins
-returns-clause-begins g c all least before =
-    let found = c.in-Ok.ensures.found all least before in
-    c.begin.ensures.begins (row_of c.args.start.now) all least found.0 found.1
+returns-clause-begins g c =
+    let d = g.D.Disk in
+    let mid = c.in-Ok.recovered in
+    let quiet = c.in-Ok.ensures.quiet in
+    let current = subst (λ (x : ℕ × List ℕ). IsCurrently x.0 mid.current x.1) (λ i. (sym (ap (λ (l : Layout). l.capacity) c.in-Ok.ensures.layout) i, sym quiet.0.same i)) c.in-Ok.ensures.current in
+    c.begin.ensures.begins current (λ image left. quiet.1 image left ∙ sym quiet.0.same)
 
 pub returns-clause-read : goal.returns-clause-read
 returns-clause-read g c =

@@ -1,0 +1,47 @@
+-- What an answer makes of what a journal keeps.
+use Rattle.std.proofs.Common.{◌≡◌, ◌+◌, ℕ, List, Result, Ok, Err, refl, sym, ap, subst}
+use Rattle.std.specs.Prelude.{OnOk, OnErr}
+use Rattle.teb_names.specs.declared.Reply.{Reply}
+use Rattle.teb_names.specs.declared.Reply.TheVariants.{Begun, Value, Values, Done, Prepared, Committed, Again, Aborted, Refused}
+use Rattle.teb_names.specs.Rows.{row_of}
+use Rattle.teb_rules.specs.Setup.{Store}
+use Rattle.record_journal.specs.Format.{Record}
+use Rattle.epoch_journal.specs.State.{JournalState}
+use Rattle.teb_rules.specs.Replay.{Values as Table}
+use Rattle.crash_disk.specs.Disk.{LeavesOnly}
+use Rattle.record_journal.proofs.Moments.{started}
+use Rattle.epoch_journal.specs.Telling.{TellsOn}
+use Rattle.epoch_journal.specs.Kept.{Keeps}
+use Rattle.epoch_store.specs.Told.{acknowledged_after}
+
+pub others_none : (n : ℕ) (r : Reply) → (r ≡ Committed → ⊥) → acknowledged_after n (Ok r) ≡ n
+others_none n (Begun t) never = refl
+others_none n (Value v) never = refl
+others_none n (Values v) never = refl
+others_none n Done never = refl
+others_none n Prepared never = refl
+others_none n Committed never = absurd (never refl)
+others_none n (Again u k) never = refl
+others_none n (Aborted c) never = refl
+others_none n (Refused c) never = refl
+
+pub committed_one : (n : ℕ) (r : Reply) → r ≡ Committed → acknowledged_after n (Ok r) ≡ n + 1
+committed_one n r is = ap (λ (q : Reply). acknowledged_after n (Ok q)) is
+
+pub get_ok : {T E P : Type 0} (r : Result T E) (v : T) → r ≡ Ok v → OnOk r P → P
+get_ok {T} {E} {P} r v is p = let Q : Result T E → Type 0 = λ x. OnOk x P in subst Q is p
+
+pub get_err : {T E P : Type 0} (r : Result T E) (e : E) → r ≡ Err e → OnErr r P → P
+get_err {T} {E} {P} r e is p = let Q : Result T E → Type 0 = λ x. OnErr x P in subst Q is p
+
+module _ {D : Type 0} (seen : D → List ℕ) (may_leave : D → List ℕ → Type 0) where
+  -- the same records, over the same rows
+  pub keeps_same : (X Z : Store) (rs qs : List Record) (n m : ℕ) (j : JournalState D) → Z ≡ X → qs ≡ rs → m ≡ n → Keeps seen may_leave (row_of X.rows) rs n j → Keeps seen may_leave (row_of Z.rows) qs m j
+  keeps_same X Z rs qs n m j store same count keeps =
+      subst (λ (x : Store × List Record × ℕ). Keeps seen may_leave (row_of x.0.rows) x.1 x.2 j) (λ i. (sym store i, sym same i, sym count i)) keeps
+
+-- nothing is done
+module _ {D : Type 0} (seen : D → List ℕ) (may_leave : D → List ℕ → Type 0) (moment : D → ℕ) (left_since : D → ℕ → List ℕ → Type 0) where
+  pub still : (start : Table) (rs : List Record) (n : ℕ) (j : JournalState D) → ((c : List ℕ) → left_since j.disk (moment j.disk) c → may_leave j.disk c) → Keeps seen may_leave start rs n j
+      → LeavesOnly moment left_since j.disk j.disk (TellsOn j.layout start rs n)
+  still start rs n j only_now keeps = started moment left_since j.disk (TellsOn j.layout start rs n) (λ c left. keeps.each c (only_now c left))

@@ -1,0 +1,42 @@
+use Rattle.std.proofs.Common.{List, ℕ, refl, subst}
+use Rattle.teb_names.specs.Rows.{row_of}
+use Rattle.crash_disk.specs.Disk.{LeavesOnly}
+use Rattle.epoch_journal.specs.Telling.{TellsOn}
+use Rattle.epoch_store.specs.Stored.{Stored}
+use Rattle.epoch_store.proofs.Answering.{keeps_same, still}
+use Rattle.epoch_store.proofs.store.EpochStore.ask.Goals as goal
+
+pub returns-then-is_stopped-clause-any_moment : goal.returns-then-is_stopped-clause-any_moment
+returns-then-is_stopped-clause-any_moment g c =
+    let d = g.D.Disk in
+    let e = g.E.Recorder in
+    let was = c.self.inside in
+    subst (λ (s : Stored _ _). LeavesOnly d.moment d.left_since s.journal.disk s.journal.disk (TellsOn s.journal.layout (row_of (e.store s.engine).rows) (e.records s.engine) s.journal.acknowledged)) c.self.view_is
+    (still d.seen d.may_leave d.moment d.left_since (row_of (e.store was.engine).rows) (e.records was.engine) was.journal.acknowledged was.journal (g.met.D.Disk.only_now was.journal.disk) c.self.invariant)
+
+pub returns-in_err-body-clause-any_moment : goal.returns-in_err-body-clause-any_moment
+returns-in_err-body-clause-any_moment g c =
+    let d = g.D.Disk in
+    let e = g.E.Recorder in
+    let was = c.self.inside in
+    let new = c.prepare.new.self in
+    let n = was.journal.acknowledged in
+    subst (λ (s : Stored _ _). LeavesOnly d.moment d.left_since s.journal.disk was.journal.disk (TellsOn s.journal.layout (row_of (e.store new).rows) (e.records new) s.journal.acknowledged)) c.self.view_is
+    (still d.seen d.may_leave d.moment d.left_since (row_of (e.store new).rows) (e.records new) n was.journal (g.met.D.Disk.only_now was.journal.disk)
+    (keeps_same d.seen d.may_leave (e.store was.engine) (e.store new) (e.records was.engine) (e.records new) n n was.journal c.prepare.ensures.store c.prepare.ensures.records refl c.self.invariant))
+
+pub returns-then-is_stopped-clause-images : goal.returns-then-is_stopped-clause-images
+returns-then-is_stopped-clause-images g c =
+    let d = g.D.Disk in
+    let e = g.E.Recorder in
+    subst (λ (s : Stored _ _). (image : List ℕ) → d.may_leave s.journal.disk image → TellsOn s.journal.layout (row_of (e.store s.engine).rows) (e.records s.engine) s.journal.acknowledged image) c.self.view_is
+    c.self.invariant.each
+
+pub returns-in_err-body-clause-images : goal.returns-in_err-body-clause-images
+returns-in_err-body-clause-images g c =
+    let d = g.D.Disk in
+    let e = g.E.Recorder in
+    let was = c.self.inside in
+    let new = c.prepare.new.self in
+    let n = was.journal.acknowledged in
+    (keeps_same d.seen d.may_leave (e.store was.engine) (e.store new) (e.records was.engine) (e.records new) n n was.journal c.prepare.ensures.store c.prepare.ensures.records refl c.self.invariant).each
