@@ -1,0 +1,122 @@
+//! What a client does with its pass.
+
+ghost use Rattle.std.specs.Prelude.{◌≡◌};
+ghost use Rattle.session_server.specs.Passes.{IsPassOf};
+
+use session_server::{AskError, Hall, Pass};
+use std::sync::Wait;
+use std::thread;
+use teb_names::{Cell, Kind, Refusal, Reply, Request, Spot, Table};
+use version_chain::Chains;
+
+/// The type of transaction that moves money, by its place in the tree text.
+const TRANSFER: Spot = Spot {
+    kind: Kind(0),
+    instance: 0,
+};
+
+/// How many accounts there are: one for each session.
+const ACCOUNTS: u32 = 32;
+
+/// How many transfers a client makes.
+const TRANSFERS: u32 = 5;
+
+/// How often a transfer that the store aborted starts over.
+const ATTEMPTS: u32 = 1000;
+
+/// Why a transaction goes no further.
+#[derive(Debug, Drop)]
+pub enum Stopped {
+    /// The store has aborted the transaction. It may start over.
+    Aborted,
+    /// The request makes no sense to the store, or the store is full.
+    Refused(Refusal),
+    /// The store was not asked.
+    NotAsked(AskError),
+}
+
+/// Makes the transfers of a session, from its own account to the next ones.
+///
+/// At an error it stops, and ends its transaction: other clients may wait for that.
+pub fn run_client<C: Chains, R: Wait>(rt: &R, hall: &Hall<C>, pass: &mut Pass<C>)
+    requires { IsPassOf hall.now pass.old }
+    ensures { IsPassOf hall.now pass.new × (pass.new.session ≡ pass.old.session) }
+{
+    let from = u32::from(pass.session().0) % ACCOUNTS;
+    for i in 1..=TRANSFERS {
+        if move_money(rt, hall, pass, from, (from + i) % ACCOUNTS).is_err() {
+            let _ended = ask(rt, hall, pass, Request::End);
+            return;
+        }
+    }
+}
+
+/// Moves 1 from an account to another, and starts over if the store aborts the transaction.
+fn move_money<C: Chains, R: Wait>(
+    rt: &R,
+    hall: &Hall<C>,
+    pass: &mut Pass<C>,
+    from: u32,
+    to: u32,
+) -> Result<(), Stopped>
+    requires { IsPassOf hall.now pass.old }
+    ensures { IsPassOf hall.now pass.new × (pass.new.session ≡ pass.old.session) }
+{
+    for _ in 0..ATTEMPTS {
+        match attempt(rt, hall, pass, from, to) {
+            Err(Stopped::Aborted) => thread::yield_now(),
+            done => return done,
+        }
+    }
+    Err(Stopped::Aborted)
+}
+
+/// One transaction. An `Err` other than `Aborted` leaves it open.
+fn attempt<C: Chains, R: Wait>(
+    rt: &R,
+    hall: &Hall<C>,
+    pass: &mut Pass<C>,
+    from: u32,
+    to: u32,
+) -> Result<(), Stopped>
+    requires { IsPassOf hall.now pass.old }
+    ensures { IsPassOf hall.now pass.new × (pass.new.session ≡ pass.old.session) }
+{
+    ask(rt, hall, pass, Request::Begin(TRANSFER))?;
+    ask(rt, hall, pass, Request::Read(account(from)))?;
+    ask(rt, hall, pass, Request::Add(account(from), -1))?;
+    ask(rt, hall, pass, Request::Read(account(to)))?;
+    ask(rt, hall, pass, Request::Add(account(to), 1))?;
+    ask(rt, hall, pass, Request::Commit)?;
+    Ok(())
+}
+
+/// Asks again until no older transaction is in the way.
+fn ask<C: Chains, R: Wait>(
+    rt: &R,
+    hall: &Hall<C>,
+    pass: &mut Pass<C>,
+    request: Request,
+) -> Result<Reply, Stopped>
+    requires { IsPassOf hall.now pass.old }
+    ensures { IsPassOf hall.now pass.new × (pass.new.session ≡ pass.old.session) }
+{
+    for _ in rt.forever() {
+        match hall.ask(rt, pass, request) {
+            Ok(Reply::Again { .. }) => thread::yield_now(),
+            Ok(Reply::Aborted(_)) => return Err(Stopped::Aborted),
+            Ok(Reply::Refused(why)) => return Err(Stopped::Refused(why)),
+            Ok(reply) => return Ok(reply),
+            Err(why) => return Err(Stopped::NotAsked(why)),
+        }
+    }
+    unreachable!()
+}
+
+/// The row of an account.
+fn account(key: u32) -> Cell {
+    Cell {
+        table: Table(0),
+        key,
+    }
+}

@@ -1,0 +1,69 @@
+//! A store shared by threads: each session has a thread, and moves money between accounts.
+//!
+//! `client` has what every thread needs: it asks again while an older transaction is in the way, and starts over if the
+//! store aborted its transaction.
+#![tactic(auto)]
+
+mod client;
+
+ghost use Rattle.std.specs.Prelude.{ℕ, ◌≡◌, ◌<◌, All, length, slice_index_or};
+ghost use Rattle.session_server.specs.Passes.{IsPassOf};
+
+use chain_pool::PooledChains;
+use client::run_client;
+use engine_core::Engine;
+use serial_order::{order, tables};
+use session_server::{Hall, Pass};
+use std::alloc::Global;
+use std::sync::Wait;
+use std::thread::{self, Threads};
+use teb_names::SESSIONS;
+use tree_toml::read_tree;
+use version_chain::Chains;
+
+const TREE: &[u8] = br#"
+format = 1
+tables = ["account"]
+[[type]]
+name = "transfer"
+[[node]]
+name = "root"
+control = "locks"
+types = ["transfer"]
+"#;
+
+fn main(rt: HostRuntime) -> anyhow::Result<()> {
+    let alloc = rt.alloc();
+    let engine = Engine::new(alloc, read_tree(alloc, TREE)?, PooledChains::new(alloc))?;
+    let Ok((hall, mut passes)) = Hall::make(alloc, engine) else {
+        println!(rt; "out of memory")?;
+        return Ok(());
+    };
+    run_clients(&rt, &hall, &mut passes);
+    let (engine, _) = hall.close(passes);
+    report(&rt, alloc, &engine)
+}
+
+/// Runs a client with each pass, each in a thread of its own.
+fn run_clients<C: Chains + Send, R: Threads + Wait + Sync>(
+    rt: &R,
+    hall: &Hall<C>,
+    passes: &mut [Pass<C>],
+)
+    requires { All (IsPassOf hall.now) passes.old }
+    ensures { (i : ℕ) (d : _) → i < length passes.old → IsPassOf hall.now (slice_index_or passes.new i d) × ((slice_index_or passes.new i d).session ≡ (slice_index_or passes.old i d).session) }
+{
+    let threads = usize::from(SESSIONS);
+    thread::for_each_mut(rt, passes, threads, &|_, pass| run_client(rt, hall, pass));
+}
+
+/// Whether a transfer has committed, and the sum of all balances, which no transfer changes.
+fn report(rt: &impl Print, alloc: Global, engine: &Engine<PooledChains>) -> anyhow::Result<()> {
+    let mut sum: i64 = 0;
+    for (_, balance) in &tables(alloc, engine)? {
+        sum = sum.wrapping_add(*balance);
+    }
+    println!(rt; "money was moved: {}", !order(alloc, engine)?.is_empty())?;
+    println!(rt; "sum {sum}")?;
+    Ok(())
+}
