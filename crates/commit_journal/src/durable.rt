@@ -47,8 +47,13 @@ impl<C: Chains, D: Disk> Model for Durable<C, D> {
 }
 
 impl<C: Chains, D: Disk> Durable<C, D> {
-    /// The store of an engine to which nothing has happened, on a disk that may hold anything. Where the disk fails it is
-    /// handed back, and the engine is dropped.
+    /// The store of an engine to which nothing has happened, with a new journal, which has no commit yet.
+    ///
+    /// It does not go on with a journal that is there: that journal's commits are lost, and the new one has only what is committed from
+    /// now on, not the rows that the engine began with. To keep a store over restarts, use `EngineStore` of `engine_store`.
+    ///
+    /// # Errors
+    /// `DiskFault` if a call of the disk fails. The disk is handed back, and the engine is dropped.
     pub fn create(engine: Engine<C>, disk: D) -> Result<Self, CreateError<D>>
         requires { engine.events ≡ [] }
         ensures store { IfOk result (λ d. (d.store ≡ engine.store) × (d.names ≡ engine.names) × (d.events ≡ [])) }
@@ -62,6 +67,7 @@ impl<C: Chains, D: Disk> Durable<C, D> {
         ensures back { (back : D) → IsErrOf result (CreateError.DiskFault back) → IsUpTo 2 1 (D.tally disk) (D.tally back) }
         ensures not_safe { (back : D) → IsErrOf result (CreateError.DiskFault back) → D.safe back ≡ D.safe disk }
         ensures cause { (back : D) → IsErrOf result (CreateError.DiskFault back) → Rose (D.faults disk) (D.faults back) }
+        ensures no_memory { IsErrOf result CreateError.OutOfMemory → ⊥ }
     {
         match Journal::create(disk) {
             Ok(journal) => Ok(Durable { engine, journal }),

@@ -5,9 +5,9 @@ use std::alloc::AllocError;
 /// Why there is no store on the disk.
 #[derive(Debug, Drop)]
 pub enum CreateError<D> {
-    /// The disk failed; it is handed back.
+    /// The disk failed. It is handed back.
     DiskFault(D),
-    /// Memory was wanting. It does not come: to make a store of an engine takes no memory.
+    /// Never returned: a store takes no memory beyond that of its engine.
     OutOfMemory,
 }
 
@@ -37,9 +37,9 @@ pub enum DurableError {
     Stopped,
     /// The disk has no room for the commit. Nothing was asked, and nothing changed.
     Full,
-    /// The disk failed. The commit may stand on it or not.
+    /// The disk failed at a commit, which it may keep or not.
     DiskFault,
-    /// Memory was wanting. Nothing was asked, and nothing changed.
+    /// Out of memory. Nothing was asked, and nothing changed.
     OutOfMemory,
 }
 

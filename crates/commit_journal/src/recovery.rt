@@ -22,6 +22,11 @@ use std::alloc::Global;
 use teb_names::Rows;
 
 /// The rows that a disk stands for, over the starting rows, and how many commits it has. It writes nothing.
+///
+/// A store that begins with these rows on the *same* disk loses them: its journal has only what is committed from then on.
+///
+/// # Errors
+/// `Damaged` if the bytes are not a journal, `DiskFault` if a call of the disk fails, `OutOfMemory`. The bytes of the disk are as they were.
 pub fn recover<D: Disk>(
     alloc: Global,
     disk: &mut D,
