@@ -1,0 +1,4 @@
+pub mod Label
+pub mod Telling
+pub mod Next
+pub mod Lives
