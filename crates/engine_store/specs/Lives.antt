@@ -1,5 +1,5 @@
 -- The life of a store over its openings: each epoch as far as a crash left it.
-use Rattle.std.specs.Prelude.{◌≡◌, ◌≤◌, ℕ, List, [], ◌∷◌, map}
+use Rattle.std.specs.Prelude.{◌≡◌, ◌≤◌, ℕ, List, [], ◌∷◌, ◌++◌, map}
 use Rattle.std.specs.List.{All, flat_map}
 use Rattle.teb_names.specs.declared.Cell.{Cell}
 use Rattle.teb_names.specs.Rows.{row_of}
@@ -10,7 +10,7 @@ use Rattle.teb_rules.specs.Ranks.{serial_order}
 use Rattle.teb_rules.specs.Replay.{Values}
 use Rattle.teb_rules.specs.Serializes.{Serializes}
 use Rattle.teb_laws.specs.Lawful.{Lawful, ReadsRows}
-use Rattle.engine_core.specs.EngineModel.{EngineModel}
+use Rattle.engine_core.specs.EngineModel.{EngineModel, IsOfEngine}
 use Rattle.tree_switch.specs.Serial.{Order, ReadsRight, table_along}
 use Rattle.commit_laws.specs.Commits.{commit_count, rows_after, up_to_commit}
 
@@ -39,9 +39,25 @@ abbrev pub LivesOn : Values → List Epoch → Type 0
 LivesOn T [] = Unit {0}
 LivesOn T (e ∷ later) = IsEpoch e × ((x : Cell) → row_of e.store.rows x ≡ T x) × LivesOn (left_by e) later
 
--- the epoch of an engine, all of whose commits are kept
+-- the epoch of an engine of which the first k commits were kept, and the one with all of them
+abbrev pub epoch_with : ℕ → EngineModel → Epoch
+epoch_with k e = record { store = e.store; events = e.events; kept = k }
+
 abbrev pub epoch_of : EngineModel → Epoch
-epoch_of e = record { store = e.store; events = e.events; kept = commit_count e.events }
+epoch_of e = epoch_with (commit_count e.events) e
+
+-- a life so far: the epochs that are past, the oldest first, and the engine of the present one
+pub record Life : Type 0 where
+  pub past : List Epoch
+  pub present : EngineModel
+
+abbrev pub epochs : Life → List Epoch
+epochs l = l.past ++ epoch_of l.present ∷ []
+
+-- the first of its epochs started with this table
+pub record IsLife (T : Values) (l : Life) : Type 0 where
+  pub engine : IsOfEngine l.present
+  pub on : LivesOn T (epochs l)
 
 -- the table that the last epoch left
 abbrev pub end_of_life : Values → List Epoch → Values

@@ -9,10 +9,12 @@
 #![tactic(auto)]
 
 mod error;
+mod laws;
 mod next_epoch;
 mod recorder;
 mod store;
 
 pub use error::NextError;
+pub use laws::lives_are_serial;
 pub use next_epoch::NotNext;
 pub use store::EngineStore;

@@ -4,6 +4,7 @@ ghost use Rattle.std.specs.Prelude.{◌≡◌, ◌++◌, ◌∷◌, [], true, fa
 ghost use Rattle.teb_io.specs.Faults.{Rose};
 ghost use Rattle.teb_names.specs.declared.Cell.{Cell as TheCell};
 ghost use Rattle.teb_names.specs.Rows.{row_of};
+ghost use Rattle.teb_rules.specs.Replay.{Values};
 ghost use Rattle.store_setup.specs.SetupView.{setup_view};
 ghost use Rattle.store_setup.specs.Sound.{IsWhole};
 ghost use Rattle.engine_core.specs.EngineModel.{EngineModel};
@@ -12,6 +13,7 @@ ghost use Rattle.tree_switch.specs.Starts.{IsStarted};
 ghost use Rattle.crash_disk.specs.Disk.{LeavesOnly};
 ghost use Rattle.record_journal.specs.Journal.{after_records};
 ghost use Rattle.commit_laws.specs.Records.{records_of};
+ghost use Rattle.engine_store.specs.Lives.{Epoch, IsLife, epoch_of};
 ghost use Rattle.engine_store.specs.Next.{IsCause, IsRefusal, MayFollow};
 ghost use Rattle.engine_store.specs.Telling.{LeavesOnlyUntilRenewed, TellsCommits};
 ghost use Rattle.engine_store.specs.declared.error.NextError.TheVariants as errors;
@@ -64,6 +66,8 @@ impl<C: Chains, D: Renew> EngineStore<C, D> {
         // Whatever epochs are past, the life goes on.
         ensures course { (past : List EngineModel) → IsCourse (record { past = past; present = self.engine })
             → IfOk result (λ o. IsCourse (record { past = past ++ self.engine ∷ []; present = o.0.engine })) }
+        ensures life { (T : Values) (past : List Epoch) → IsLife T (record { past = past; present = self.engine })
+            → IfOk result (λ o. IsLife T (record { past = past ++ epoch_of self.engine ∷ []; present = o.0.engine })) }
 
         // A crash at any moment of the call leaves the first commits of the epoch that ends.
         ensures any_moment { IfOk result (λ o. LeavesOnlyUntilRenewed D.seen D.faults D.moment D.left_since self.journal.disk o.0.journal.disk

@@ -5,8 +5,9 @@ ghost use Rattle.teb_io.specs.Faults.{Rose};
 ghost use Rattle.teb_names.specs.declared.Reply.TheVariants as replies;
 ghost use Rattle.teb_rules.specs.Answer.{answer};
 ghost use Rattle.teb_rules.specs.Ranks.{serial_order};
+ghost use Rattle.teb_rules.specs.Replay.{Values};
 ghost use Rattle.teb_rules.specs.Serializes.{Serializes};
-ghost use Rattle.engine_core.specs.EngineModel.{EngineModel, IsOfEngine};
+ghost use Rattle.engine_core.specs.EngineModel.{EngineModel};
 ghost use Rattle.tree_switch.specs.Courses.{IsCourse};
 ghost use Rattle.tree_switch.specs.Refusals.{IsDrained};
 ghost use Rattle.tree_switch.specs.Serial.{IsSerial};
@@ -17,6 +18,7 @@ ghost use Rattle.epoch_journal.specs.Layout.{half_size};
 ghost use Rattle.epoch_store.specs.Told.{IsToldBy, acknowledged_after, events_after, told};
 ghost use Rattle.epoch_store.specs.declared.error.AskError.TheVariants as errors;
 ghost use Rattle.engine_store.specs.Label.{label_of};
+ghost use Rattle.engine_store.specs.Lives.{Epoch, IsLife, IsSerialLife, epochs};
 ghost use Rattle.engine_store.specs.Telling.{TellsCommits};
 
 use crash_disk::Disk;
@@ -67,6 +69,7 @@ impl<C: Chains, D: Disk> EngineStore<C, D> {
 
         // Whatever epochs are past, the life goes on.
         ensures course { (past : List EngineModel) → IsCourse (record { past = past; present = self.old.engine }) → IsCourse (record { past = past; present = self.new.engine }) }
+        ensures life { (T : Values) (past : List Epoch) → IsLife T (record { past = past; present = self.old.engine }) → IsLife T (record { past = past; present = self.new.engine }) }
 
         // A crash at any moment of the call.
         ensures any_moment { LeavesOnly D.moment D.left_since self.old.journal.disk self.new.journal.disk
@@ -103,7 +106,8 @@ impl<C: Chains, D: Disk> EngineStore<C, D> {
 
         // The serial order of its commits, and the whole life as one serial run, whatever epochs are past.
         ensures serial { Serializes self.now.engine.store self.now.engine.events (serial_order self.now.engine.store.setup self.now.engine.events) }
-        ensures life { (past : List EngineModel) → IsCourse (record { past = past; present = self.now.engine }) → IsSerial (record { past = past; present = self.now.engine }) }
+        ensures course { (past : List EngineModel) → IsCourse (record { past = past; present = self.now.engine }) → IsSerial (record { past = past; present = self.now.engine }) }
+        ensures life { (T : Values) (past : List Epoch) → IsLife T (record { past = past; present = self.now.engine }) → IsSerialLife T (epochs (record { past = past; present = self.now.engine })) }
 
         // A crash leaves the rows after the first commits, however many, and these are those of a serial run.
         ensures images { (image : List ℕ) → D.may_leave self.now.journal.disk image

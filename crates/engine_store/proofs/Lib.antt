@@ -1,0 +1,5 @@
+pub mod Bodies
+pub mod GoingOn
+pub mod LifeGoesOn
+pub mod Starting
+pub mod WholeLife
