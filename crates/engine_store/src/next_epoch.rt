@@ -1,13 +1,13 @@
 //! How the next epoch begins.
 
-ghost use Rattle.std.specs.Prelude.{◌≡◌, ◌++◌, ◌∷◌, [], true, false, IfOk, IfErr, MatchResult, List, ℕ};
+ghost use Rattle.std.specs.Prelude.{◌≡◌, ◌++◌, ◌∷◌, [], true, false, IfOk, IfErr, OnErr, IsErrOf, MatchResult, List, ℕ};
 ghost use Rattle.teb_io.specs.Faults.{Rose};
 ghost use Rattle.teb_names.specs.declared.Cell.{Cell as TheCell};
 ghost use Rattle.teb_names.specs.Rows.{row_of};
 ghost use Rattle.teb_rules.specs.Replay.{Values};
 ghost use Rattle.store_setup.specs.SetupView.{setup_view};
 ghost use Rattle.store_setup.specs.Sound.{IsWhole};
-ghost use Rattle.engine_core.specs.EngineModel.{EngineModel};
+ghost use Rattle.engine_core.specs.EngineModel.{EngineModel, IsOfEngine};
 ghost use Rattle.tree_switch.specs.Courses.{IsCourse};
 ghost use Rattle.tree_switch.specs.Starts.{IsStarted};
 ghost use Rattle.crash_disk.specs.Disk.{LeavesOnly};
@@ -80,21 +80,49 @@ impl<C: Chains, D: Renew> EngineStore<C, D> {
         ensures images_back { IfErr result (λ refused. (image : List ℕ) → D.may_leave refused.store.journal.disk image
             → TellsCommits self.journal.layout self.engine.store self.engine.events self.journal.acknowledged image) }
     {
-        let next = match next_engine(alloc, self.store.engine(), setup, chains) {
-            Ok(next) => next,
-            Err(why) => return Err(NotNext { store: self, why }),
-        };
         let EngineStore { mut store } = self;
-        match store.next_epoch(alloc, next) {
+        match begin_next(alloc, &mut store, setup, chains) {
             Ok(past) => {
                 let store = renewed(alloc, store);
                 Ok((EngineStore { store }, past))
             }
-            Err(refused) => Err(NotNext {
+            Err(why) => Err(NotNext {
                 store: EngineStore { store },
-                why: NextError::from(refused.why),
+                why,
             }),
         }
+    }
+}
+
+/// Ends the epoch of a store, and begins the next one under a setup. It returns the engine of the epoch that has ended.
+///
+/// # Errors
+/// As those of `EngineStore::next_epoch`. The store is as it was, except for `DiskFault`, after which it is stopped.
+fn begin_next<C: Chains, D: Disk>(
+    alloc: Global,
+    store: &mut EpochStore<Engine<C>, D>,
+    setup: Setup,
+    chains: C,
+) -> Result<Engine<C>, NextError>
+    requires running { store.old.journal.stopped ≡ false }
+    requires setup { IsWhole (setup_view setup) }
+    requires chains { (x : TheCell) → C.lists chains x ≡ [] }
+    ensures refused { MatchResult result (λ _. MayFollow store.old.engine setup.names.tables) (IsCause store.old.journal.layout store.old.engine setup.names.tables) }
+    ensures begun { IfOk result (λ past. (past ≡ store.old.engine) × IsStarted setup store.old.engine store.new.engine × (store.new.journal.acknowledged ≡ 0) × (store.new.journal.stopped ≡ false)) }
+    ensures engine { IfOk result (λ _. IsOfEngine store.new.engine) }
+    ensures back { OnErr result ((store.new.engine ≡ store.old.engine) × (store.new.journal.acknowledged ≡ store.old.journal.acknowledged)) }
+    ensures kept { IfErr result (λ why. (why ≡ errors.DiskFault → ⊥) → store.new ≡ store.old) }
+    ensures fault { IsErrOf result errors.DiskFault → (store.new.journal.stopped ≡ true) × Rose (D.faults store.old.journal.disk) (D.faults store.new.journal.disk) }
+    ensures layout { store.new.journal.layout ≡ store.old.journal.layout }
+    ensures any_moment { LeavesOnly D.moment D.left_since store.old.journal.disk store.new.journal.disk
+        (TellsCommits store.old.journal.layout store.old.engine.store store.old.engine.events store.old.journal.acknowledged) }
+    ensures images { (image : List ℕ) → D.may_leave store.new.journal.disk image
+        → TellsCommits store.new.journal.layout store.new.engine.store store.new.engine.events store.new.journal.acknowledged image }
+{
+    let next = next_engine(alloc, store.engine(), setup, chains)?;
+    match store.next_epoch(alloc, next) {
+        Ok(past) => Ok(past),
+        Err(refused) => Err(refused.why.into()),
     }
 }
 
@@ -111,7 +139,7 @@ fn next_engine<C: Chains>(
     requires setup { IsWhole (setup_view setup) }
     requires chains { (x : TheCell) → C.lists chains x ≡ [] }
     ensures refused { MatchResult result (λ _. MayFollow engine.now setup.names.tables) (IsRefusal engine.now setup.names.tables) }
-    ensures started { IfOk result (λ next. IsStarted setup engine.now next) }
+    ensures started { IfOk result (λ next. IsStarted setup engine.now next × IsOfEngine next) }
     ensures rows { IfOk result (λ next. (x : TheCell) → row_of next.store.rows x ≡ after_records (records_of engine.now.store.setup engine.now.events) (row_of engine.now.store.rows) x) }
 {
     let _ = engine.history();
