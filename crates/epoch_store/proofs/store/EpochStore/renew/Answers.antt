@@ -1,11 +1,10 @@
 use Rattle.std.proofs.Common.{refl}
 use Rattle.teb_names.specs.Rows.{row_of}
 use Rattle.epoch_store.proofs.Answering.{keeps_same}
-use Rattle.epoch_store.proofs.renew.EpochStore.renew.Given.{Over}
-use Rattle.epoch_store.proofs.renew.EpochStore.renew.Goals as goal
+use Rattle.epoch_store.proofs.store.EpochStore.renew.Goals as goal
 
-pub invariant_of-result-in-Ok : goal.invariant_of-result-in-Ok
-invariant_of-result-in-Ok g c =
+pub invariant_of-result : goal.invariant_of-result
+invariant_of-result g c =
     let d = g.D.Disk in
     let e = g.E.Recorder in
     let was = c.self.inside in
