@@ -1,4 +1,5 @@
 pub mod Bodies
+pub mod Causes
 pub mod GoingOn
 pub mod LifeGoesOn
 pub mod Starting

@@ -16,5 +16,9 @@ TellsCommits l X H least image = TellsOn l (row_of X.rows) (records_of X.setup H
 pub record LeavesOnlyUntilRenewed {D : Type 0} (seen : D → List ℕ) (faults : D → ℕ) (moment : D → ℕ) (left_since : D → ℕ → List ℕ → Type 0) (old new : D) (P : List ℕ → Type 0) : Type 0 where
   pub last : D
   pub leaves : LeavesOnly moment left_since old last P
-  pub seen : seen new ≡ seen last
-  pub faults : faults new ≡ faults last
+  pub same_bytes : seen new ≡ seen last
+  pub same_faults : faults new ≡ faults last
+
+-- whatever a crash leaves of a disk tells this
+abbrev pub AllTellCommits : {D : Type 0} → (D → List ℕ → Type 0) → Layout → Store → List Event → ℕ → D → Type 0
+AllTellCommits may_leave l X H least disk = (image : List ℕ) → may_leave disk image → TellsCommits l X H least image

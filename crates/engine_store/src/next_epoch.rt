@@ -19,6 +19,7 @@ ghost use Rattle.engine_store.specs.Telling.{LeavesOnlyUntilRenewed, TellsCommit
 ghost use Rattle.engine_store.specs.declared.error.NextError.TheVariants as errors;
 
 use crate::error::NextError;
+use crate::recorder::RecordingEngine;
 use crate::store::EngineStore;
 use crash_disk::{Disk, Renew};
 use engine_core::Engine;
@@ -100,28 +101,31 @@ impl<C: Chains, D: Renew> EngineStore<C, D> {
 /// As those of `EngineStore::next_epoch`. The store is as it was, except for `DiskFault`, after which it is stopped.
 fn begin_next<C: Chains, D: Disk>(
     alloc: Global,
-    store: &mut EpochStore<Engine<C>, D>,
+    store: &mut EpochStore<RecordingEngine<C>, D>,
     setup: Setup,
     chains: C,
 ) -> Result<Engine<C>, NextError>
     requires running { store.old.journal.stopped ≡ false }
     requires setup { IsWhole (setup_view setup) }
     requires chains { (x : TheCell) → C.lists chains x ≡ [] }
-    ensures refused { MatchResult result (λ _. MayFollow store.old.engine setup.names.tables) (IsCause store.old.journal.layout store.old.engine setup.names.tables) }
-    ensures begun { IfOk result (λ past. (past ≡ store.old.engine) × IsStarted setup store.old.engine store.new.engine × (store.new.journal.acknowledged ≡ 0) × (store.new.journal.stopped ≡ false)) }
-    ensures engine { IfOk result (λ _. IsOfEngine store.new.engine) }
-    ensures back { OnErr result ((store.new.engine ≡ store.old.engine) × (store.new.journal.acknowledged ≡ store.old.journal.acknowledged)) }
+    ensures refused { MatchResult result (λ _. MayFollow store.old.engine.engine setup.names.tables) (IsCause store.old.journal.layout store.old.engine.engine setup.names.tables) }
+    ensures begun { IfOk result (λ past. (past ≡ store.old.engine.engine) × IsStarted setup store.old.engine.engine store.new.engine.engine × (store.new.journal.acknowledged ≡ 0) × (store.new.journal.stopped ≡ false)) }
+    ensures engine { IfOk result (λ _. IsOfEngine store.new.engine.engine) }
+    ensures back { OnErr result ((store.new.engine.engine ≡ store.old.engine.engine) × (store.new.journal.acknowledged ≡ store.old.journal.acknowledged)) }
     ensures kept { IfErr result (λ why. (why ≡ errors.DiskFault → ⊥) → store.new ≡ store.old) }
     ensures fault { IsErrOf result errors.DiskFault → (store.new.journal.stopped ≡ true) × Rose (D.faults store.old.journal.disk) (D.faults store.new.journal.disk) }
     ensures layout { store.new.journal.layout ≡ store.old.journal.layout }
     ensures any_moment { LeavesOnly D.moment D.left_since store.old.journal.disk store.new.journal.disk
-        (TellsCommits store.old.journal.layout store.old.engine.store store.old.engine.events store.old.journal.acknowledged) }
+        (TellsCommits store.old.journal.layout store.old.engine.engine.store store.old.engine.engine.events store.old.journal.acknowledged) }
     ensures images { (image : List ℕ) → D.may_leave store.new.journal.disk image
-        → TellsCommits store.new.journal.layout store.new.engine.store store.new.engine.events store.new.journal.acknowledged image }
+        → TellsCommits store.new.journal.layout store.new.engine.engine.store store.new.engine.engine.events store.new.journal.acknowledged image }
 {
-    let next = next_engine(alloc, store.engine(), setup, chains)?;
-    match store.next_epoch(alloc, next) {
-        Ok(past) => Ok(past),
+    let engine = match next_engine(alloc, &store.engine().engine, setup, chains) {
+        Ok(engine) => engine,
+        Err(why) => return Err(why),
+    };
+    match store.next_epoch(alloc, RecordingEngine { engine }) {
+        Ok(past) => Ok(past.engine),
         Err(refused) => Err(refused.why.into()),
     }
 }
@@ -166,8 +170,8 @@ fn may_follow<C: Chains>(engine: &Engine<C>, setup: &Setup) -> Result<(), NextEr
 /// Returns the store on a renewed disk, or as it is if that is out of memory.
 fn renewed<C: Chains, D: Renew>(
     alloc: Global,
-    store: EpochStore<Engine<C>, D>,
-) -> EpochStore<Engine<C>, D>
+    store: EpochStore<RecordingEngine<C>, D>,
+) -> EpochStore<RecordingEngine<C>, D>
     ensures engine { result.engine ≡ store.engine }
     ensures same { (result.journal.layout ≡ store.journal.layout) × (result.journal.acknowledged ≡ store.journal.acknowledged) × (result.journal.stopped ≡ store.journal.stopped) }
     ensures seen { D.seen result.journal.disk ≡ D.seen store.journal.disk }

@@ -12,20 +12,26 @@ use teb_history::History;
 use teb_names::{Cell, Reply, Request, Session};
 use version_chain::Chains;
 
-impl<C: Chains> Recorder for Engine<C> {
-    ghost store = { λ e. e.store };
+/// An engine that tells the record of a commit before it makes it.
+#[derive(Drop)]
+pub(crate) struct RecordingEngine<C: Chains> {
+    pub engine: Engine<C>,
+}
 
-    ghost names = { λ e. e.names };
+impl<C: Chains> Recorder for RecordingEngine<C> {
+    ghost store = { λ e. e.engine.store };
 
-    ghost events = { λ e. e.events };
+    ghost names = { λ e. e.engine.names };
 
-    ghost records = { λ e. records_of e.store.setup e.events };
+    ghost events = { λ e. e.engine.events };
 
-    ghost ready = { λ e. e.ready };
+    ghost records = { λ e. records_of e.engine.store.setup e.engine.events };
 
-    ghost prepared = { λ e s r bytes. IsBodyFor e.store e.events s r bytes };
+    ghost ready = { λ e. e.engine.ready };
 
-    ghost lacks = { λ e left s r. IsFull e.events left s r };
+    ghost prepared = { λ e s r bytes. IsBodyFor e.engine.store e.engine.events s r bytes };
+
+    ghost lacks = { λ e left s r. IsFull e.engine.events left s r };
 
     fn prepare(
         &mut self,
@@ -34,26 +40,26 @@ impl<C: Chains> Recorder for Engine<C> {
         session: Session,
         request: Request,
     ) -> Result<Vec<u8>, PrepareError> {
-        let body = match body_of(alloc, self, left, session, request) {
+        let body = match body_of(alloc, &self.engine, left, session, request) {
             Ok(body) => body,
             Err(BodyError::Full) => return Err(PrepareError::Full),
             Err(BodyError::OutOfMemory) => return Err(PrepareError::OutOfMemory),
         };
-        match self.ready() {
+        match self.engine.ready() {
             Ok(()) => Ok(body),
             Err(_) => Err(PrepareError::OutOfMemory),
         }
     }
 
     fn answer(&mut self, session: Session, request: Request) -> Reply {
-        self.ask(session, request)
+        self.engine.ask(session, request)
     }
 
     fn rows(&self) -> &[(Cell, i64)] {
-        self.setup().rows.rows()
+        self.engine.setup().rows.rows()
     }
 
     fn history(&self) -> &History {
-        self.history()
+        self.engine.history()
     }
 }

@@ -21,6 +21,7 @@ ghost use Rattle.engine_store.specs.Label.{label_of};
 ghost use Rattle.engine_store.specs.Lives.{Epoch, IsLife, IsSerialLife, epochs};
 ghost use Rattle.engine_store.specs.Telling.{TellsCommits};
 
+use crate::recorder::RecordingEngine;
 use crash_disk::Disk;
 use engine_core::Engine;
 use epoch_store::{AskError, EpochStore};
@@ -33,7 +34,7 @@ use version_chain::Chains;
 /// An engine whose commits are kept on a disk, in epochs. Contracts see the engine of the present epoch, and the journal.
 #[derive(Drop)]
 pub struct EngineStore<C: Chains, D: Disk> {
-    pub(crate) store: EpochStore<Engine<C>, D>,
+    pub(crate) store: EpochStore<RecordingEngine<C>, D>,
 }
 
 impl<C: Chains, D: Disk> Model for EngineStore<C, D> {
@@ -44,9 +45,9 @@ impl<C: Chains, D: Disk> Model for EngineStore<C, D> {
 
     ghost Value = { Stored EngineModel D };
 
-    ghost view = { λ s. s.store };
+    ghost view = { λ s. record { engine = s.store.engine.engine; journal = s.store.journal } };
 
-    ghost invariant = { λ s. s.store.journal.layout.label ≡ label_of s.store.engine.names.tables };
+    ghost invariant = { λ s. s.store.journal.layout.label ≡ label_of s.store.engine.engine.names.tables };
 }
 
 impl<C: Chains, D: Disk> EngineStore<C, D> {
@@ -114,16 +115,16 @@ impl<C: Chains, D: Disk> EngineStore<C, D> {
             → TellsCommits self.now.journal.layout self.now.engine.store self.now.engine.events self.now.journal.acknowledged image }
         ensures first { (k : ℕ) → IsOfSerialRun self.now.engine.store self.now.engine.events k }
     {
-        let engine = self.store.engine();
-        let _ = engine.history();
-        engine
+        let recording = self.store.engine();
+        let _ = recording.engine.history();
+        &recording.engine
     }
 
     /// True if no transaction is unfinished, and each session was told of its abort: the next epoch may begin. It costs one look.
     pub fn is_drained(&self) -> bool
         ensures { IsTrue result ↔ IsDrained self.now.engine.events }
     {
-        is_drained(self.store.engine())
+        is_drained(&self.store.engine().engine)
     }
 
     /// True if a call of the disk has failed. Nothing is asked then.
