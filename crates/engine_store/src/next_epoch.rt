@@ -172,6 +172,10 @@ fn renewed<C: Chains, D: Renew>(
     alloc: Global,
     store: EpochStore<RecordingEngine<C>, D>,
 ) -> EpochStore<RecordingEngine<C>, D>
+    requires images { (image : List ℕ) → D.may_leave store.journal.disk image
+        → TellsCommits store.journal.layout store.engine.engine.store store.engine.engine.events store.journal.acknowledged image }
+    ensures images { (image : List ℕ) → D.may_leave result.journal.disk image
+        → TellsCommits result.journal.layout result.engine.engine.store result.engine.engine.events result.journal.acknowledged image }
     ensures engine { result.engine ≡ store.engine }
     ensures same { (result.journal.layout ≡ store.journal.layout) × (result.journal.acknowledged ≡ store.journal.acknowledged) × (result.journal.stopped ≡ store.journal.stopped) }
     ensures seen { D.seen result.journal.disk ≡ D.seen store.journal.disk }
