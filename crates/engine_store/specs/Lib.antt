@@ -1,2 +1,4 @@
 pub mod Label
 pub mod Opening
+pub mod OpeningErrors
+pub mod OpeningSteps

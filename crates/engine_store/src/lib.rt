@@ -3,3 +3,7 @@
 
 mod found;
 mod label;
+mod open_error;
+mod opening;
+
+pub use open_error::{NotOpened, OpenError};
