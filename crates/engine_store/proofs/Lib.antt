@@ -1,2 +1,6 @@
 pub mod Labels
 pub mod Outside
+pub mod Errors
+pub mod Refused
+pub mod Opened
+pub mod Beginning

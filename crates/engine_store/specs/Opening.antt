@@ -29,7 +29,7 @@ AreOfTables tables rows = All (λ r. r.0.table.0 < tables) rows
 abbrev pub HasRowOutside : ℕ → Values → Type 0
 HasRowOutside tables T = (x : Cell) × IsSome (T x) × (tables ≤ x.table.0)
 
--- where everything is on a disk that has the rows of these tables
+-- where everything is on a disk with the rows of these tables
 abbrev pub layout_of : ℕ → Setup → Layout
 layout_of capacity s = layout capacity (label_of s.names.tables)
 
@@ -64,13 +64,12 @@ pub record IsBeginning (s : Setup) (e : EngineModel) : Type 0 where
   pub setup : e.store.setup ≡ (store_of s).setup
   pub tables : e.store.tables ≡ (store_of s).tables
 
-module _ {D : Type 0} (may_leave : D → List ℕ → Type 0) where
-  -- whatever a crash leaves of the disk tells this
-  abbrev pub AllTell : Layout → Values → List Record → ℕ → D → Type 0
-  AllTell l start all least disk = (c : List ℕ) → may_leave disk c → Tells l start all least c
+-- whatever a crash leaves of the disk tells this
+abbrev pub AllTell : {D : Type 0} → (D → List ℕ → Type 0) → Layout → Values → List Record → ℕ → D → Type 0
+AllTell may_leave l start all least disk = (c : List ℕ) → may_leave disk c → Tells l start all least c
 
-  abbrev pub AllTellOn : Layout → Values → List Record → ℕ → D → Type 0
-  AllTellOn l first all least disk = (c : List ℕ) → may_leave disk c → TellsOn l first all least c
+abbrev pub AllTellOn : {D : Type 0} → (D → List ℕ → Type 0) → Layout → Values → List Record → ℕ → D → Type 0
+AllTellOn may_leave l first all least disk = (c : List ℕ) → may_leave disk c → TellsOn l first all least c
 
 -- the rows are those after the first k of all records, for a k that is at least `least`, and the journal goes on from there
 pub record GoesOn {D : Type 0} (seen : D → List ℕ) (may_leave : D → List ℕ → Type 0) (first : Values) (all : List Record) (least : ℕ) (rows : List (Cell × ℤ)) (j : JournalState D) : Type 0 where
@@ -80,40 +79,35 @@ pub record GoesOn {D : Type 0} (seen : D → List ℕ) (may_leave : D → List �
   pub left : (x : Cell) → row_of rows x ≡ after_records (take k all) first x
   pub keeps : Keeps seen may_leave first (take k all) k j
 
-module _ {D : Type 0} (seen : D → List ℕ) (may_leave : D → List ℕ → Type 0) (moment : D → ℕ) (left_since : D → ℕ → List ℕ → Type 0) (faults capacity : D → ℕ) where
-  -- what is made of a disk: an engine with the rows that it has, or with those of the setup if it has none, and a journal
-  pub record IsOpened (disk : D) (s : Setup) (e : EngineModel) (j : JournalState D) : Type 0 where
-    pub engine : IsBeginning s e
-    pub has : HasTable (layout_of (capacity disk) s) (row_of s.rows) (row_of e.store.rows) (seen disk)
-    pub ascending : IsAscending e.store.rows
+-- what a store begins with: the rows that the disk has, or the starting rows if it has none, and a journal
+pub record IsOpened {D : Type 0} (seen : D → List ℕ) (may_leave : D → List ℕ → Type 0) (moment : D → ℕ) (left_since : D → ℕ → List ℕ → Type 0)
+    (l : Layout) (start : Values) (disk : D) (rows : List (Cell × ℤ)) (j : JournalState D) : Type 0 where
+  pub has : HasTable l start (row_of rows) (seen disk)
+  pub ascending : IsAscending rows
 
-    -- an epoch of the journal begins with these rows, and has no record
-    pub begins : Keeps seen may_leave (row_of e.store.rows) [] 0 j
-    pub running : j.stopped ≡ false
-    pub acknowledged : j.acknowledged ≡ 0
-    pub layout : j.layout ≡ layout_of (capacity disk) s
+  -- an epoch of the journal begins with these rows, and has no record
+  pub begins : Keeps seen may_leave (row_of rows) [] 0 j
+  pub running : j.stopped ≡ false
+  pub acknowledged : j.acknowledged ≡ 0
+  pub layout : j.layout ≡ l
 
-    -- of a disk that a crash has left, or a call that failed: over the rows of the setup, if it may be empty; over any rows, if not
-    pub found : (all : List Record) (least : ℕ) → AllTell may_leave (layout_of (capacity disk) s) (row_of s.rows) all least disk → GoesOn seen may_leave (row_of s.rows) all least e.store.rows j
-    pub found_on : (first : Values) (all : List Record) (least : ℕ) → AllTellOn may_leave (layout_of (capacity disk) s) first all least disk → GoesOn seen may_leave first all least e.store.rows j
+  -- of a disk that a crash has left, or a call that failed; if it surely has a checkpoint, over any first rows
+  pub found : (all : List Record) (least : ℕ) → AllTell may_leave l start all least disk → GoesOn seen may_leave start all least rows j
+  pub found_on : (first : Values) (all : List Record) (least : ℕ) → AllTellOn may_leave l first all least disk → GoesOn seen may_leave first all least rows j
 
-    -- a crash at any moment of the opening leaves what it left before
-    pub any_moment : (all : List Record) (least : ℕ) → AllTell may_leave (layout_of (capacity disk) s) (row_of s.rows) all least disk
-        → LeavesOnly moment left_since disk j.disk (Tells (layout_of (capacity disk) s) (row_of s.rows) all least)
-    pub any_moment_on : (first : Values) (all : List Record) (least : ℕ) → AllTellOn may_leave (layout_of (capacity disk) s) first all least disk
-        → LeavesOnly moment left_since disk j.disk (TellsOn (layout_of (capacity disk) s) first all least)
+  -- a crash at any moment of the opening leaves what it left before
+  pub any_moment : (all : List Record) (least : ℕ) → AllTell may_leave l start all least disk → LeavesOnly moment left_since disk j.disk (Tells l start all least)
+  pub any_moment_on : (first : Values) (all : List Record) (least : ℕ) → AllTellOn may_leave l first all least disk → LeavesOnly moment left_since disk j.disk (TellsOn l first all least)
 
-  -- what is so if a disk is handed back for this reason
-  pub record IsRefused (disk : D) (s : Setup) (back : D) (why : OpenError) : Type 0 where
-    pub damaged : (at : ℕ) → why ≡ errors.Damaged at
-        → IsDamaged (layout_of (capacity disk) s) at (seen disk) ⊎ HasForeignRow (layout_of (capacity disk) s) (row_of s.rows) (length s.names.tables) at (seen disk)
-    pub other_capacity : why ≡ errors.OtherCapacity → HasOtherCapacity (layout_of (capacity disk) s) (seen disk)
-    pub other_tables : why ≡ errors.OtherTables → HasOtherLabel (layout_of (capacity disk) s) (seen disk)
-    pub full : why ≡ errors.Full → (half_size (capacity disk) < 10 + length (label_of s.names.tables)) ⊎ HasTooMany (layout_of (capacity disk) s) (row_of s.rows) (seen disk)
-    pub not_full : (first : Values) (all : List Record) (least : ℕ) → AllTellOn may_leave (layout_of (capacity disk) s) first all least disk → why ≡ errors.Full → ⊥
-    pub fault : why ≡ errors.DiskFault → Rose (faults disk) (faults back)
-    pub unwritten : (why ≡ errors.DiskFault → ⊥) → IsQuiet seen may_leave moment left_since faults capacity disk back
-    pub any_moment : (all : List Record) (least : ℕ) → AllTell may_leave (layout_of (capacity disk) s) (row_of s.rows) all least disk
-        → LeavesOnly moment left_since disk back (Tells (layout_of (capacity disk) s) (row_of s.rows) all least)
-    pub any_moment_on : (first : Values) (all : List Record) (least : ℕ) → AllTellOn may_leave (layout_of (capacity disk) s) first all least disk
-        → LeavesOnly moment left_since disk back (TellsOn (layout_of (capacity disk) s) first all least)
+-- what is so if a disk is handed back for this reason
+pub record IsRefused {D : Type 0} (seen : D → List ℕ) (may_leave : D → List ℕ → Type 0) (moment : D → ℕ) (left_since : D → ℕ → List ℕ → Type 0) (faults capacity : D → ℕ)
+    (l : Layout) (start : Values) (tables : ℕ) (disk back : D) (why : OpenError) : Type 0 where
+  pub damaged : (at : ℕ) → why ≡ errors.Damaged at → IsDamaged l at (seen disk) ⊎ HasForeignRow l start tables at (seen disk)
+  pub other_capacity : why ≡ errors.OtherCapacity → HasOtherCapacity l (seen disk)
+  pub other_tables : why ≡ errors.OtherTables → HasOtherLabel l (seen disk)
+  pub full : why ≡ errors.Full → (half_size l.capacity < 10 + length l.label) ⊎ HasTooMany l start (seen disk)
+  pub not_full : (first : Values) (all : List Record) (least : ℕ) → AllTellOn may_leave l first all least disk → why ≡ errors.Full → ⊥
+  pub fault : why ≡ errors.DiskFault → Rose (faults disk) (faults back)
+  pub unwritten : (why ≡ errors.DiskFault → ⊥) → IsQuiet seen may_leave moment left_since faults capacity disk back
+  pub any_moment : (all : List Record) (least : ℕ) → AllTell may_leave l start all least disk → LeavesOnly moment left_since disk back (Tells l start all least)
+  pub any_moment_on : (first : Values) (all : List Record) (least : ℕ) → AllTellOn may_leave l first all least disk → LeavesOnly moment left_since disk back (TellsOn l first all least)

@@ -6,7 +6,7 @@ ghost use Rattle.teb_names.specs.Rows.{row_of, IsAscending};
 ghost use Rattle.store_setup.specs.SetupView.{setup_view};
 ghost use Rattle.store_setup.specs.Sound.{IsWhole};
 ghost use Rattle.epoch_journal.specs.Read.{half_found_at};
-ghost use Rattle.engine_store.specs.Opening.{AreOfTables, HasRowOutside, IsBeginning, IsOpened, IsRefused};
+ghost use Rattle.engine_store.specs.Opening.{AreOfTables, HasRowOutside, IsBeginning, IsOpened, IsRefused, layout_of};
 ghost use Rattle.engine_store.specs.OpeningSteps.{IsRecovered};
 ghost use Rattle.engine_store.specs.declared.open_error.OpenError.TheVariants as errors;
 
@@ -36,8 +36,10 @@ pub(crate) fn open_parts<C: Chains, D: Disk>(
 ) -> Result<(Engine<C>, EpochJournal<D>), NotOpened<D>>
     requires setup { IsWhole (setup_view setup) }
     requires chains { (x : TheCell) → C.lists chains x ≡ [] }
-    ensures opened { IfOk result (λ o. IsOpened D.seen D.may_leave D.moment D.left_since D.faults D.capacity disk setup o.0 o.1) }
-    ensures refused { IfErr result (λ back. IsRefused D.seen D.may_leave D.moment D.left_since D.faults D.capacity disk setup back.disk back.why) }
+    ensures engine { IfOk result (λ o. IsBeginning setup o.0) }
+    ensures opened { IfOk result (λ o. IsOpened D.seen D.may_leave D.moment D.left_since (layout_of (D.capacity disk) setup) (row_of setup.rows) disk o.0.store.rows o.1) }
+    ensures refused { IfErr result (λ back. IsRefused D.seen D.may_leave D.moment D.left_since D.faults D.capacity
+        (layout_of (D.capacity disk) setup) (row_of setup.rows) (length setup.names.tables) disk back.disk back.why) }
 {
     let recovered = match recover(alloc, disk, &setup) {
         Ok(recovered) => recovered,
@@ -68,8 +70,11 @@ fn recover<D: Disk>(
     disk: D,
     setup: &Setup,
 ) -> Result<RecoveredDisk<D>, NotOpened<D>>
-    ensures recovered { IfOk result (λ d. IsRecovered D.seen D.may_leave D.moment D.left_since D.faults D.capacity disk setup.now d) }
-    ensures refused { IfErr result (λ back. IsRefused D.seen D.may_leave D.moment D.left_since D.faults D.capacity disk setup.now back.disk back.why) }
+    ensures recovered { IfOk result (λ d. IsRecovered D.seen D.may_leave D.moment D.left_since D.faults D.capacity
+        (layout_of (D.capacity disk) setup.now) (row_of setup.now.rows) disk d) }
+    ensures inside { IfOk result (λ d. AreOfTables (length setup.now.names.tables) d.rows) }
+    ensures refused { IfErr result (λ back. IsRefused D.seen D.may_leave D.moment D.left_since D.faults D.capacity
+        (layout_of (D.capacity disk) setup.now) (row_of setup.now.rows) (length setup.now.names.tables) disk back.disk back.why) }
 {
     let label = match label_of(alloc, &setup.names.tables) {
         Ok(label) => label,
