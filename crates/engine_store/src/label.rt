@@ -1,7 +1,7 @@
-//! The label of a journal: whose rows it has.
+//! The label of a journal: the names of the tables whose rows it has.
 
 ghost use Rattle.std.specs.Prelude.{◌≡◌, IfOk};
-ghost use Rattle.engine_store.specs.Label.{label_of};
+ghost use Rattle.engine_store.specs.Label.{LabelTellsNames, label_of};
 
 use std::alloc::{AllocError, Global};
 use teb_names::Names;
@@ -20,3 +20,8 @@ pub(crate) fn label_of(alloc: Global, names: &Names) -> Result<Vec<u8>, AllocErr
     }
     Ok(label)
 }
+
+/// Lists of names with the same label are the same.
+pub fn label_tells_names()
+    ensures { LabelTellsNames }
+{}

@@ -6,4 +6,5 @@ mod label;
 mod open_error;
 mod opening;
 
+pub use label::label_tells_names;
 pub use open_error::{NotOpened, OpenError};
