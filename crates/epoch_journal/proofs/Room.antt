@@ -1,5 +1,5 @@
 -- The rows that records leave take no more bytes than the records: each row has a change of its own.
-use Rattle.std.proofs.Common.{◌≡◌, inl, inr, ℕ, ◌+◌, ◌*◌, ◌<◌, ◌≤◌, Bool, true, false, ◌||◌, cond, List, [], ◌∷◌, ◌++◌, length, map, Option, Some, None, ℤ, refl, sym, ◌∙◌, ap, arith, length-append}
+use Rattle.std.proofs.Common.{◌≡◌, inl, inr, ℕ, ◌+◌, ◌*◌, ◌<◌, ◌≤◌, Bool, true, false, ◌||◌, cond, List, [], ◌∷◌, ◌++◌, length, map, Some, None, ℤ, refl, sym, ◌∙◌, ap, arith, length-append}
 use Rattle.std.specs.List.{list_all}
 use Rattle.std.specs.Ordering.{is_eq}
 use Rattle.std.proofs.lemmas.Bool.{and_parts}
@@ -82,9 +82,9 @@ no_more_rows (r ∷ rows) cs up only =
         elim (same_cell r.0 x) as (λ b. same_cell r.0 x ≡ b → row_of rows x ≡ None) [
           | true ↦ λ same. ap (λ (z : Cell). row_of rows z) (sym (same_cell-true r.0 x same)) ∙ later_none rows r.0 all
           | false ↦ λ apart. elim (among x cs) as (λ b. among x cs ≡ b → row_of rows x ≡ None) [
-              | true ↦ λ is. (let so = still r.0 x cs apart is in absurd (cc (so, none)))
-              | false ↦ λ is. sym (ap (λ b. cond b (Some r.1) (row_of rows x)) apart) ∙ only x is
-            ] refl
+            | true ↦ λ is. (let so = still r.0 x cs apart is in absurd (cc (so, none)))
+            | false ↦ λ is. sym (ap (λ b. cond b (Some r.1) (row_of rows x)) apart) ∙ only x is
+          ] refl
         ] refl
 
 -- ---- rows and records

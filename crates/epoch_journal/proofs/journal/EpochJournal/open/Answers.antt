@@ -4,6 +4,7 @@ use Rattle.teb_names.specs.Rows.{row_of}
 use Rattle.crash_disk.specs.Disk.{LeavesOnly}
 use Rattle.record_journal.specs.Format.{Record}
 use Rattle.record_journal.specs.Journal.{after_records}
+use Rattle.record_journal.proofs.Moments.{weaker}
 use Rattle.epoch_journal.specs.Layout.{Layout, layout}
 use Rattle.epoch_journal.specs.Telling.{Tells, TellsOn, table_of}
 use Rattle.epoch_journal.specs.Kept.{Keeps}
@@ -123,3 +124,10 @@ pub returns-clause-not_full : goal.returns-clause-not_full
 returns-clause-not_full g c first all least before =
     let found = c.in-Ok.ensures.found_on first all least before in
     c.begin.ensures.not_full first all least found.0 found.1 found.2
+
+pub returns-in-Err-clause-any_moment_on_back : goal.returns-in-Err-clause-any_moment_on_back
+returns-in-Err-clause-any_moment_on_back g c first all least before =
+    let d = g.D.Disk in
+    let disk = c.args.disk in
+    let l = layout (d.capacity disk) c.args.label.now in
+    weaker d.moment d.left_since disk c.in-Err.back.disk (d.may_leave disk) (TellsOn l first all least) before c.in-Err.ensures.unwritten.any_moment

@@ -1,4 +1,4 @@
-use Rattle.std.proofs.Common.{◌∷◌, [], sym, subst, List, ℕ, ℤ}
+use Rattle.std.proofs.Common.{◌∷◌, [], ◌∙◌, Err, ap, arith, length, sym, subst, List, ℕ, ℤ}
 use Rattle.teb_names.specs.declared.Cell.{Cell}
 use Rattle.crash_disk.specs.Disk.{LeavesOnly, Only}
 use Rattle.record_journal.proofs.Moments.{weaker}
@@ -88,4 +88,5 @@ returns-in-Err-clause-not_full g c start all least k has begun is =
     let d = g.D.Disk in
     let found = begun_found d.seen d.may_leave start all least k _ _ c.self.view_is has begun in
     let fits = finds_room d.seen d.may_leave start all least k _ found.0 found.1 c.self.invariant.ascending in
-    ?
+    let full = c.begin_with.ensures.full (c.in-Err.is ∙ ap Err is) in
+    omega (arith, fits, full, ap length c.deref.ensures.value, ap length c.deref-2.ensures.value)

@@ -1,7 +1,7 @@
-use Rattle.std.proofs.Common.{◌∙◌, sym, subst, List, ℕ}
+use Rattle.std.proofs.Common.{◌∙◌, Err, ap, arith, length, sym, subst, List, ℕ}
 use Rattle.teb_names.specs.Rows.{row_of}
 use Rattle.crash_disk.specs.Disk.{Only}
-use Rattle.epoch_journal.specs.Layout.{layout}
+use Rattle.epoch_journal.specs.Layout.{half_size, layout}
 use Rattle.epoch_journal.specs.Read.{IsReadAs}
 use Rattle.epoch_journal.specs.Telling.{Tells, TellsOn}
 use Rattle.epoch_journal.proofs.Beginning.{found_of, found_on_of}
@@ -40,4 +40,5 @@ returns-in-Err-read_disk-clause-not_full g c first all least before is =
     let disk = c.args.disk in
     let on = before (g.D.Disk.seen disk) (g.met.D.Disk.read_is_left disk) in
     let fits = label_fits (layout (g.D.Disk.capacity disk) c.args.label.now) on.tells.stands.list (g.D.Disk.seen disk) on.tells.stands.has on.begun in
-    ?
+    let full = c.read_disk.ensures.full (c.in-Err-read_disk.is ∙ ap Err is) in
+    omega (arith, fits, full, ap half_size c.capacity-capacity.ensures, ap length (c.deref.ensures.value ∙ c.in-Ok.ensures.items))
