@@ -1,10 +1,9 @@
 -- The engine of a setup with other rows.
-use Rattle.std.proofs.Common.{◌≡◌, ℕ, false, List, [], length, Result, Ok, Err, sym, ◌∙◌, ap, subst}
+use Rattle.std.proofs.Common.{◌≡◌, false, [], length, Result, Ok, Err, sym, ◌∙◌, ap, subst}
 use Rattle.std.specs.Prelude.{IfOk}
 use Rattle.teb_names.specs.declared.naming.NameBook.{NameBook}
-use Rattle.teb_rules.specs.Setup.{Setup as Rules, Store}
+use Rattle.teb_rules.specs.Setup.{Store}
 use Rattle.teb_rules.specs.Accepted.{IsSound}
-use Rattle.cc_tree.specs.Grown.{Grown}
 use Rattle.store_setup.specs.declared.Setup.{Setup}
 use Rattle.store_setup.specs.SetupView.{setup_view}
 use Rattle.store_setup.specs.Sound.{IsWhole}

@@ -1,7 +1,6 @@
 -- A disk that is handed back.
-use Rattle.std.proofs.Common.{◌≡◌, ◌⊎◌, inl, inr, ⊎_elim, ℕ, ◌+◌, ◌*◌, ◌-◌, ◌^◌, ◌<◌, ◌≤◌, min, List, length, ℤ, refl, sym, ◌∙◌, ap, subst, arith}
-use Rattle.teb_names.specs.declared.Cell.{Cell}
-use Rattle.teb_names.specs.Rows.{row_of, IsAscending}
+use Rattle.std.proofs.Common.{◌≡◌, ◌⊎◌, inl, inr, ⊎_elim, ℕ, ◌+◌, ◌*◌, ◌<◌, ◌≤◌, List, length, refl, sym, ◌∙◌, ap, subst, arith}
+use Rattle.teb_names.specs.Rows.{row_of}
 use Rattle.teb_rules.specs.Replay.{Values}
 use Rattle.teb_io.specs.Faults.{Rose}
 use Rattle.crash_disk.specs.Disk.{IsQuiet, LeavesOnly}
@@ -17,10 +16,10 @@ use Rattle.epoch_journal.specs.Read.{HasOtherCapacity, HasOtherLabel, IsDamaged,
 use Rattle.epoch_journal.proofs.Moments.{and_then}
 use Rattle.engine_store.specs.declared.open_error.OpenError.{OpenError}
 use Rattle.engine_store.specs.declared.open_error.OpenError.TheVariants as store
-use Rattle.engine_store.specs.Opening.{AllTell, AllTellOn, HasRowOutside, HasTooMany, IsRefused}
+use Rattle.engine_store.specs.Opening.{AllTellOn, HasRowOutside, IsRefused}
 use Rattle.engine_store.specs.OpeningErrors.{as_open}
 use Rattle.engine_store.specs.OpeningSteps.{IsRecovered}
-use Rattle.engine_store.proofs.Errors.{was_damaged, was_capacity, was_label, was_full, was_fault, is_fault}
+use Rattle.engine_store.proofs.Errors.{was_damaged, was_capacity, was_label, was_full, was_fault}
 
 rose_later : (a b c : ℕ) → a ≤ b → Rose b c → Rose a c
 rose_later a b c later rose = omega (arith, later, rose)

@@ -84,17 +84,14 @@ pub record IsOpened {D : Type 0} (seen : D → List ℕ) (may_leave : D → List
     (l : Layout) (start : Values) (disk : D) (rows : List (Cell × ℤ)) (j : JournalState D) : Type 0 where
   pub has : HasTable l start (row_of rows) (seen disk)
   pub ascending : IsAscending rows
-
   -- an epoch of the journal begins with these rows, and has no record
   pub begins : Keeps seen may_leave (row_of rows) [] 0 j
   pub running : j.stopped ≡ false
   pub acknowledged : j.acknowledged ≡ 0
   pub layout : j.layout ≡ l
-
   -- of a disk that a crash has left, or a call that failed; if it surely has a checkpoint, over any first rows
   pub found : (all : List Record) (least : ℕ) → AllTell may_leave l start all least disk → GoesOn seen may_leave start all least rows j
   pub found_on : (first : Values) (all : List Record) (least : ℕ) → AllTellOn may_leave l first all least disk → GoesOn seen may_leave first all least rows j
-
   -- a crash at any moment of the opening leaves what it left before
   pub any_moment : (all : List Record) (least : ℕ) → AllTell may_leave l start all least disk → LeavesOnly moment left_since disk j.disk (Tells l start all least)
   pub any_moment_on : (first : Values) (all : List Record) (least : ℕ) → AllTellOn may_leave l first all least disk → LeavesOnly moment left_since disk j.disk (TellsOn l first all least)

@@ -65,11 +65,7 @@ pub(crate) fn open_parts<C: Chains, D: Disk>(
 
 /// Reads the rows that a disk has under the tables of a setup, over the rows of the setup. Each is of one of the tables. Nothing is
 /// written.
-fn recover<D: Disk>(
-    alloc: Global,
-    disk: D,
-    setup: &Setup,
-) -> Result<RecoveredDisk<D>, NotOpened<D>>
+fn recover<D: Disk>(alloc: Global, disk: D, setup: &Setup) -> Result<RecoveredDisk<D>, NotOpened<D>>
     ensures recovered { IfOk result (λ d. IsRecovered D.seen D.may_leave D.moment D.left_since D.faults D.capacity
         (layout_of (D.capacity disk) setup.now) (row_of setup.now.rows) disk d) }
     ensures inside { IfOk result (λ d. AreOfTables (length setup.now.names.tables) d.rows) }

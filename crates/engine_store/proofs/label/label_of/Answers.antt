@@ -1,5 +1,4 @@
-use Rattle.std.proofs.Common.{◌≡◌, ◌++◌, ◌∷◌, [], take, ap, sym, ◌∙◌, append_assoc}
-use Rattle.engine_store.specs.Label.{label_of}
+use Rattle.std.proofs.Common.{◌≡◌, ◌++◌, ◌∷◌, [], ap, sym, ◌∙◌, append_assoc}
 use Rattle.engine_store.proofs.Labels.{label_more}
 use Rattle.engine_store.proofs.label.label_of.Goals as goal
 

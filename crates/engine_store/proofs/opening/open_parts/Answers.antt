@@ -1,8 +1,7 @@
-use Rattle.std.proofs.Common.{◌≡◌, ℕ, List, length, sym, ◌∙◌, subst}
+use Rattle.std.proofs.Common.{length, sym, ◌∙◌, subst}
 use Rattle.teb_names.specs.Rows.{row_of}
 use Rattle.crash_disk.specs.Disk.{IsQuiet}
 use Rattle.engine_store.specs.Opening.{IsRefused, layout_of}
-use Rattle.engine_store.specs.OpeningErrors.{as_open}
 use Rattle.engine_store.specs.declared.open_error.OpenError.{OpenError}
 use Rattle.engine_store.proofs.Opened.{opened}
 use Rattle.engine_store.proofs.Refused.{no_memory, not_begun}

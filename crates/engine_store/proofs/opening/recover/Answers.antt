@@ -1,12 +1,10 @@
-use Rattle.std.proofs.Common.{◌≡◌, ℕ, ◌+◌, ◌<◌, List, length, ℤ, sym, ◌∙◌, subst}
+use Rattle.std.proofs.Common.{◌≡◌, ℕ, List, length, ℤ, sym, ◌∙◌, subst}
 use Rattle.teb_names.specs.declared.Cell.{Cell}
 use Rattle.teb_names.specs.Rows.{row_of}
 use Rattle.epoch_journal.specs.Layout.{layout}
 use Rattle.epoch_journal.specs.Read.{half_found_at}
 use Rattle.epoch_journal.proofs.Telling.{if_err, if_ok_one}
-use Rattle.engine_store.specs.Label.{label_of}
 use Rattle.engine_store.specs.Opening.{AreOfTables, HasRowOutside, IsRefused, layout_of}
-use Rattle.engine_store.specs.OpeningErrors.{as_open}
 use Rattle.engine_store.specs.OpeningSteps.{IsRecovered}
 use Rattle.engine_store.specs.declared.open_error.OpenError.{OpenError}
 use Rattle.engine_store.specs.declared.open_error.OpenError.TheVariants as store
