@@ -4,3 +4,4 @@ pub mod Errors
 pub mod Refused
 pub mod Opened
 pub mod Beginning
+pub mod Reopening
