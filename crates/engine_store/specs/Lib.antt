@@ -1,4 +1,7 @@
 pub mod Label
-pub mod Telling
-pub mod Next
 pub mod Lives
+pub mod Next
+pub mod Opening
+pub mod OpeningErrors
+pub mod OpeningSteps
+pub mod Telling
