@@ -1,12 +1,12 @@
 -- Why the next epoch does not begin.
-use Rattle.std.proofs.Common.{◌≡◌, ◌≢◌, ℕ, ◌+◌, ◌*◌, ◌<◌, List, [], length, refl, subst}
+use Rattle.std.proofs.Common.{◌≡◌, ℕ, ◌+◌, ◌*◌, ◌<◌, List, length, refl}
 use Rattle.store_setup.specs.declared.Setup.{Setup}
 use Rattle.engine_core.specs.EngineModel.{EngineModel}
 use Rattle.tree_switch.specs.Starts.{IsStarted}
 use Rattle.epoch_journal.specs.Layout.{Layout, half_size}
 use Rattle.epoch_journal.specs.declared.error.CheckpointError.{CheckpointError}
 use Rattle.epoch_journal.specs.declared.error.CheckpointError.TheVariants as checkpoint
-use Rattle.engine_store.specs.Next.{HasNoRoom, IsCause, IsRefusal, MayFollow, as_next}
+use Rattle.engine_store.specs.Next.{IsCause, IsRefusal, MayFollow, as_next}
 use Rattle.engine_store.specs.declared.error.NextError.{NextError}
 use Rattle.engine_store.specs.declared.error.NextError.TheVariants.{Again, Untold, OtherTables, Full, DiskFault, OutOfMemory}
 

@@ -1,5 +1,5 @@
 -- A life goes on: the present epoch comes further, or another one follows it.
-use Rattle.std.proofs.Common.{◌≡◌, ◌≤◌, ℕ, List, [], ◌∷◌, ◌++◌, Option, Some, None, refl, sym, ◌∙◌, ap, subst, arith, le_refl}
+use Rattle.std.proofs.Common.{◌≡◌, ◌≤◌, ℕ, List, [], ◌∷◌, ◌++◌, Option, Some, None, refl, sym, ◌∙◌, ap, subst, le_refl}
 use Rattle.teb_names.specs.declared.Cell.{Cell}
 use Rattle.teb_names.specs.declared.Session.{Session}
 use Rattle.teb_names.specs.declared.Request.{Request}
@@ -19,7 +19,7 @@ use Rattle.engine_core.proofs.Reached.{law_of, reached_more}
 use Rattle.commit_laws.specs.Commits.{commit_count, rows_after}
 use Rattle.commit_journal.proofs.Asked.{reads_reached}
 use Rattle.epoch_store.specs.Told.{events_after}
-use Rattle.engine_store.specs.Lives.{Epoch, IsEpoch, IsLife, Life, LivesOn, epoch_of, epoch_with, epochs, left_by}
+use Rattle.engine_store.specs.Lives.{Epoch, IsEpoch, IsLife, LivesOn, epoch_of, epoch_with, left_by}
 use Rattle.engine_store.proofs.WholeLife.{all_kept}
 
 pub lawful_of : (X : Store) (H : List Event) → IsSound X.setup → IsReached X H → Lawful X.setup H

@@ -1,5 +1,5 @@
 -- What is opened goes on with what a disk tells.
-use Rattle.std.proofs.Common.{◌≡◌, ◌≤◌, ℕ, List, [], ◌∷◌, ◌++◌, length, take, sym, ◌∙◌, ap, subst, arith, le_refl, ℤ}
+use Rattle.std.proofs.Common.{◌≡◌, ◌≤◌, ℕ, List, [], ◌∷◌, ◌++◌, ◌∙◌, ap, arith, le_refl, ℤ}
 use Rattle.std.proofs.lemmas.List.{take_all}
 use Rattle.teb_names.specs.declared.Cell.{Cell}
 use Rattle.teb_names.specs.Rows.{row_of}
@@ -16,7 +16,7 @@ use Rattle.commit_laws.specs.Records.{records_of}
 use Rattle.commit_laws.proofs.Laws.{records_leave_the_rows}
 use Rattle.commit_laws.proofs.Prefixes.{length-records}
 use Rattle.epoch_journal.specs.State.{JournalState}
-use Rattle.engine_store.specs.Lives.{Epoch, IsLife, epoch_of, epoch_with}
+use Rattle.engine_store.specs.Lives.{Epoch, IsLife, epoch_with}
 use Rattle.engine_store.specs.Opening.{GoesOn}
 use Rattle.engine_store.proofs.LifeGoesOn.{is_epoch, lawful_of, reopened}
 

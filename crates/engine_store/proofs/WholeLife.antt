@@ -1,5 +1,5 @@
 -- The life of a store is one serial run.
-use Rattle.std.proofs.Common.{◌≡◌, ◌≤◌, ℕ, List, [], ◌∷◌, ◌++◌, length, map, take, refl, sym, ◌∙◌, ap, subst, arith, le_refl}
+use Rattle.std.proofs.Common.{◌≡◌, List, [], ◌∷◌, map, refl, sym, ◌∙◌, ap, subst, arith, le_refl}
 use Rattle.std.specs.List.{All}
 use Rattle.std.proofs.lemmas.List.{take_all}
 use Rattle.std.proofs.lemmas.List.Elements.{All-nil, All-cons}
@@ -21,7 +21,7 @@ use Rattle.commit_laws.proofs.Laws.{first_commits_serialize, records_final, reco
 use Rattle.commit_laws.proofs.Prefixes.{length-records}
 use Rattle.tree_switch.specs.Serial.{Order, ReadsRight, table_along}
 use Rattle.tree_switch.proofs.WholeOrder.{along_one, along_both, reads_one, reads_both, same_table}
-use Rattle.engine_store.specs.Lives.{Epoch, IsEpoch, IsSerialLife, LivesAreSerial, LivesOn, end_of_life, kept_events, kept_order, left_by, order_of_life}
+use Rattle.engine_store.specs.Lives.{Epoch, IsEpoch, LivesAreSerial, LivesOn, end_of_life, kept_events, kept_order, left_by, order_of_life}
 
 abbrev IsRight : Epoch → Type 0
 IsRight e = Serializes e.store (kept_events e) (kept_order e)

@@ -1,4 +1,4 @@
-use Rattle.std.proofs.Common.{List, ℕ, ap, subst}
+use Rattle.std.proofs.Common.{ap, subst}
 use Rattle.record_journal.proofs.Moments.{started}
 use Rattle.engine_core.specs.EngineModel.{EngineModel}
 use Rattle.engine_store.specs.Next.{IsRefusal}

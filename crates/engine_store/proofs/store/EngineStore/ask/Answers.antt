@@ -1,4 +1,4 @@
-use Rattle.std.proofs.Common.{◌≡◌, ◌∙◌, false, subst}
+use Rattle.std.proofs.Common.{◌∙◌, subst}
 use Rattle.commit_laws.proofs.Prefixes.{length-records}
 use Rattle.crash_disk.specs.Disk.{LeavesOnly}
 use Rattle.engine_core.specs.EngineModel.{EngineModel}
