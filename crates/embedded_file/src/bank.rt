@@ -1,0 +1,154 @@
+//! A bank over a store in a file.
+
+use chain_pool::PooledChains;
+use engine_store::{AskError, EngineStore, NextError, OpenError};
+use file_disk::FileDisk;
+use std::alloc::{AllocError, Global};
+use store_setup::Setup;
+use teb_names::{Cell, Kind, Refusal, Reply, Request, Session, Spot, Table};
+use thiserror::Error;
+use tree_toml::read_tree;
+
+/// The accounts, and one row that counts the transfers.
+const TREE: &[u8] = br#"
+format = 1
+tables = ["account", "transfers"]
+[[type]]
+name = "transfer"
+[[node]]
+name = "root"
+control = "locks"
+types = ["transfer"]
+"#;
+
+const ACCOUNTS: Table = Table(0);
+
+/// The table with the row that counts the transfers.
+pub const TRANSFERS: Table = Table(1);
+
+/// How many accounts there are.
+const ACCOUNT_COUNT: i64 = 100;
+
+/// The type of transaction that moves money, by its place in the tree text.
+const TRANSFER: Spot = Spot {
+    kind: Kind(0),
+    instance: 0,
+};
+
+/// The one session of this program.
+const SESSION: Session = Session(1);
+
+/// The store of the bank.
+pub type Bank = EngineStore<PooledChains, FileDisk>;
+
+/// Why there is no bank, or no transfer.
+#[derive(Debug, Drop, Error)]
+pub enum Stopped {
+    #[error("there is no bank in the file: {0}")]
+    NotOpened(OpenError),
+    /// The engine, or its part of the file, is full until the next epoch.
+    #[error("the epoch is full")]
+    Full,
+    #[error("there is no next epoch: {0}")]
+    NoEpoch(NextError),
+    #[error("the store gives no answer: {0}")]
+    NoAnswer(AskError),
+    #[error("the store answers {0:?}")]
+    Unexpected(Reply),
+    #[error("the tree text is wrong")]
+    BadTree,
+    #[error("out of memory")]
+    OutOfMemory,
+}
+
+impl From<AllocError> for Stopped {
+    fn from(_error: AllocError) -> Stopped {
+        Stopped::OutOfMemory
+    }
+}
+
+/// What the tree text says. It is read anew for each epoch.
+fn setup(alloc: Global) -> Result<Setup, Stopped> {
+    match read_tree(alloc, TREE) {
+        Ok(setup) => Ok(setup),
+        Err(_) => Err(Stopped::BadTree),
+    }
+}
+
+/// Opens the bank that a disk has, or a new one on an empty disk.
+pub fn open_bank(alloc: Global, disk: FileDisk) -> Result<Bank, Stopped> {
+    match EngineStore::open(alloc, disk, setup(alloc)?, PooledChains::new(alloc)) {
+        Ok(bank) => Ok(bank),
+        Err(refused) => Err(Stopped::NotOpened(refused.why)),
+    }
+}
+
+/// Makes the next transfer, in the next epoch if this one is full, and returns its number. It is in the file then.
+pub fn move_money(alloc: Global, mut bank: Bank) -> Result<(Bank, i64), Stopped> {
+    match transfer(alloc, &mut bank) {
+        Ok(number) => return Ok((bank, number)),
+        Err(Stopped::Full) => {}
+        Err(stopped) => return Err(stopped),
+    }
+    let mut bank = next_epoch(alloc, bank)?;
+    let number = transfer(alloc, &mut bank)?;
+    Ok((bank, number))
+}
+
+/// The bank with a checkpoint of all rows, and room for further transactions.
+fn next_epoch(alloc: Global, bank: Bank) -> Result<Bank, Stopped> {
+    match bank.next_epoch(alloc, setup(alloc)?, PooledChains::new(alloc)) {
+        Ok((bank, _ended)) => Ok(bank),
+        Err(refused) => Err(Stopped::NoEpoch(refused.why)),
+    }
+}
+
+/// One transaction. After an `Err` none is open.
+fn transfer(alloc: Global, bank: &mut Bank) -> Result<i64, Stopped> {
+    let moved = steps(alloc, bank);
+    if moved.is_err() {
+        let _ended = bank.ask(alloc, SESSION, Request::End);
+    }
+    moved
+}
+
+/// The requests of a transfer: 1 from one account to another, and the number of the transfer.
+fn steps(alloc: Global, bank: &mut Bank) -> Result<i64, Stopped> {
+    ask(alloc, bank, Request::Begin(TRANSFER))?;
+    let count = Cell {
+        table: TRANSFERS,
+        key: 0,
+    };
+    let number = ask(alloc, bank, Request::Read(count))?.saturating_add(1);
+    ask(alloc, bank, Request::Write(count, number))?;
+    add(alloc, bank, account(number), -1)?;
+    add(alloc, bank, account(number.saturating_mul(7)), 1)?;
+    ask(alloc, bank, Request::Commit)?;
+    Ok(number)
+}
+
+/// Adds an amount to the balance of an account.
+fn add(alloc: Global, bank: &mut Bank, account: Cell, amount: i64) -> Result<(), Stopped> {
+    ask(alloc, bank, Request::Read(account))?;
+    ask(alloc, bank, Request::Add(account, amount))?;
+    Ok(())
+}
+
+/// Asks the store. The value of a row that was read, 0 if there is none, and 0 after other requests.
+fn ask(alloc: Global, bank: &mut Bank, request: Request) -> Result<i64, Stopped> {
+    match bank.ask(alloc, SESSION, request) {
+        Ok(Reply::Value(value)) => Ok(value.unwrap_or(0)),
+        Ok(Reply::Begun(_) | Reply::Done | Reply::Committed) => Ok(0),
+        Ok(Reply::Refused(Refusal::Full)) | Err(AskError::Full) => Err(Stopped::Full),
+        Ok(reply) => Err(Stopped::Unexpected(reply)),
+        Err(error) => Err(Stopped::NoAnswer(error)),
+    }
+}
+
+/// The account of a number, which is not negative.
+fn account(number: i64) -> Cell {
+    Cell {
+        table: ACCOUNTS,
+        key: (number % ACCOUNT_COUNT) as u32,
+    }
+}

@@ -1,0 +1,40 @@
+//! A bank whose accounts are in a file: the program says what it finds there, and then moves money, one transaction after another.
+//!
+//! It may be killed at any moment. Whatever transfer it has printed is in the file when it is started again.
+#![tactic(auto)]
+
+mod bank;
+
+use bank::{TRANSFERS, move_money, open_bank};
+use file_disk::FileDisk;
+use serial_order::tables;
+use std::env;
+
+/// The most bytes that the file may have.
+const CAPACITY: u64 = 67_108_864;
+
+fn main(rt: HostRuntime) -> anyhow::Result<()> {
+    let alloc = rt.alloc();
+    let mut words = env::args(&rt).skip(1);
+    let (Some(path), Some(count)) = (words.next(), words.next()) else {
+        println!(rt; "usage: embedded_file FILE TRANSFERS")?;
+        return Ok(());
+    };
+    let disk = FileDisk::open_with_capacity(&rt, alloc, path, CAPACITY)?;
+    let mut bank = open_bank(alloc, disk)?;
+    let (mut made, mut total) = (0, 0);
+    for (cell, value) in &tables(alloc, bank.engine())? {
+        if cell.table == TRANSFERS {
+            made = *value;
+        } else {
+            total += *value;
+        }
+    }
+    println!(rt; "found {made} transfers, and {total} in all accounts")?;
+    for _ in 0..count.parse::<u32>()? {
+        let number;
+        (bank, number) = move_money(alloc, bank)?;
+        println!(rt; "transfer {number}")?;
+    }
+    Ok(())
+}
