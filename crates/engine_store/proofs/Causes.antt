@@ -8,10 +8,11 @@ use Rattle.epoch_journal.specs.declared.error.CheckpointError.{CheckpointError}
 use Rattle.epoch_journal.specs.declared.error.CheckpointError.TheVariants as checkpoint
 use Rattle.engine_store.specs.Next.{IsCause, IsRefusal, MayFollow, as_next}
 use Rattle.engine_store.specs.declared.error.NextError.{NextError}
-use Rattle.engine_store.specs.declared.error.NextError.TheVariants.{Again, Untold, OtherTables, Full, DiskFault, OutOfMemory}
+use Rattle.engine_store.specs.declared.error.NextError.TheVariants.{Stopped, Again, Untold, OtherTables, Full, DiskFault, OutOfMemory}
 
 -- what stands against an engine stands against the next epoch
 pub engine_cause : (l : Layout) (e : EngineModel) (tables : List (List ℕ)) (why : NextError) → IsRefusal e tables why → IsCause l e tables why
+engine_cause l e tables Stopped r = absurd r
 engine_cause l e tables (Again t) r = r
 engine_cause l e tables (Untold s) r = r
 engine_cause l e tables OtherTables r = r

@@ -8,7 +8,7 @@ use Rattle.epoch_journal.specs.Layout.{Layout, half_size}
 use Rattle.epoch_journal.specs.declared.error.CheckpointError.{CheckpointError}
 use Rattle.epoch_journal.specs.declared.error.CheckpointError.TheVariants as checkpoint
 use Rattle.engine_store.specs.declared.error.NextError.{NextError}
-use Rattle.engine_store.specs.declared.error.NextError.TheVariants.{Again, Untold, OtherTables, Full, DiskFault, OutOfMemory}
+use Rattle.engine_store.specs.declared.error.NextError.TheVariants.{Stopped, Again, Untold, OtherTables, Full, DiskFault, OutOfMemory}
 
 -- the engine has come to its end, and these are its tables
 pub record MayFollow (e : EngineModel) (tables : List (List ℕ)) : Type 0 where
@@ -23,6 +23,7 @@ pub record HasNoRoom (l : Layout) (e : EngineModel) : Type 0 where
 
 -- what stands against an engine over these tables, before the disk is looked at
 abbrev pub IsRefusal : EngineModel → List (List ℕ) → NextError → Type 0
+IsRefusal e tables Stopped = ⊥
 IsRefusal e tables (Again t) = IsLeast (IsUnfinished e.events) t.0
 IsRefusal e tables (Untold s) = AllFinished e.events × IsLeast (IsUntold e.events) s.0
 IsRefusal e tables OtherTables = IsDrained e.events × (tables ≢ e.names.tables)
@@ -32,6 +33,7 @@ IsRefusal e tables DiskFault = ⊥
 
 -- what stands against the next epoch
 abbrev pub IsCause : Layout → EngineModel → List (List ℕ) → NextError → Type 0
+IsCause l e tables Stopped = Unit {0}
 IsCause l e tables (Again t) = IsRefusal e tables (Again t)
 IsCause l e tables (Untold s) = IsRefusal e tables (Untold s)
 IsCause l e tables OtherTables = IsRefusal e tables OtherTables

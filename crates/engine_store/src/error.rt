@@ -11,6 +11,9 @@ use thiserror::Error;
 /// Why the next epoch has not begun. The first cause in this order is returned.
 #[derive(Debug, Drop, Error)]
 pub enum NextError {
+    /// A call of the disk has failed earlier.
+    #[error("the disk has failed")]
+    Stopped,
     /// The least unfinished transaction.
     #[error("{0:?} is unfinished")]
     Again(Txn),

@@ -21,6 +21,7 @@ mod opening;
 mod recorder;
 mod store;
 
+pub use epoch_store::AskError;
 pub use error::NextError;
 pub use label::label_tells_names;
 pub use laws::lives_are_serial;

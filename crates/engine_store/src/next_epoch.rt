@@ -43,16 +43,15 @@ impl<C: Chains, D: Renew> EngineStore<C, D> {
     /// renewal that is out of memory is left out.
     ///
     /// # Errors
-    /// Each returns the store, as it was, except for `DiskFault`, after which it is stopped. `Again` if a transaction is unfinished; else
-    /// `Untold` if a session holds an aborted one; else `OtherTables` if the setup has other tables; `Full` if the rows do not fit the
-    /// disk; `DiskFault` if a call of the disk fails; `OutOfMemory`.
+    /// Each returns the store, as it was, except for `DiskFault`, after which it is stopped. `Stopped` if it was before; else `Again` if
+    /// a transaction is unfinished; else `Untold` if a session holds an aborted one; else `OtherTables` if the setup has other tables;
+    /// `Full` if the rows do not fit the disk; `DiskFault` if a call of the disk fails; `OutOfMemory`.
     pub fn next_epoch(
         self,
         alloc: Global,
         setup: Setup,
         chains: C,
     ) -> Result<(EngineStore<C, D>, Engine<C>), NotNext<C, D>>
-        requires running { self.journal.stopped ≡ false }
         requires setup { IsWhole (setup_view setup) }
         requires chains { (x : TheCell) → C.lists chains x ≡ [] }
         ensures refused { MatchResult result (λ _. MayFollow self.engine setup.names.tables) (λ refused. IsCause self.journal.layout self.engine setup.names.tables refused.why) }
@@ -61,6 +60,8 @@ impl<C: Chains, D: Renew> EngineStore<C, D> {
         ensures kept { IfErr result (λ refused. (refused.why ≡ errors.DiskFault → ⊥) → refused.store ≡ self) }
         ensures back { IfErr result (λ refused. (refused.store.engine ≡ self.engine) × (refused.store.journal.layout ≡ self.journal.layout)
             × (refused.store.journal.acknowledged ≡ self.journal.acknowledged)) }
+        ensures stopped { IfErr result (λ refused. refused.why ≡ errors.Stopped → self.journal.stopped ≡ true) }
+        ensures stays { self.journal.stopped ≡ true → IfOk result (λ _. ⊥) × IfErr result (λ refused. refused.why ≡ errors.Stopped) }
         ensures fault { IfErr result (λ refused. refused.why ≡ errors.DiskFault
             → (refused.store.journal.stopped ≡ true) × Rose (D.faults self.journal.disk) (D.faults refused.store.journal.disk)) }
 
@@ -105,7 +106,6 @@ fn begin_next<C: Chains, D: Disk>(
     setup: Setup,
     chains: C,
 ) -> Result<Engine<C>, NextError>
-    requires running { store.old.journal.stopped ≡ false }
     requires setup { IsWhole (setup_view setup) }
     requires chains { (x : TheCell) → C.lists chains x ≡ [] }
     ensures refused { MatchResult result (λ _. MayFollow store.old.engine.engine setup.names.tables) (IsCause store.old.journal.layout store.old.engine.engine setup.names.tables) }
@@ -113,6 +113,8 @@ fn begin_next<C: Chains, D: Disk>(
     ensures engine { IfOk result (λ _. IsOfEngine store.new.engine.engine) }
     ensures back { OnErr result ((store.new.engine.engine ≡ store.old.engine.engine) × (store.new.journal.acknowledged ≡ store.old.journal.acknowledged)) }
     ensures kept { IfErr result (λ why. (why ≡ errors.DiskFault → ⊥) → store.new ≡ store.old) }
+    ensures stopped { IsErrOf result errors.Stopped → store.old.journal.stopped ≡ true }
+    ensures stays { store.old.journal.stopped ≡ true → IsErrOf result errors.Stopped }
     ensures fault { IsErrOf result errors.DiskFault → (store.new.journal.stopped ≡ true) × Rose (D.faults store.old.journal.disk) (D.faults store.new.journal.disk) }
     ensures layout { store.new.journal.layout ≡ store.old.journal.layout }
     ensures any_moment { LeavesOnly D.moment D.left_since store.old.journal.disk store.new.journal.disk
@@ -120,6 +122,10 @@ fn begin_next<C: Chains, D: Disk>(
     ensures images { (image : List ℕ) → D.may_leave store.new.journal.disk image
         → TellsCommits store.new.journal.layout store.new.engine.engine.store store.new.engine.engine.events store.new.journal.acknowledged image }
 {
+    if store.is_stopped() {
+        let _ = store.engine();
+        return Err(NextError::Stopped);
+    }
     let engine = match next_engine(alloc, &store.engine().engine, setup, chains) {
         Ok(engine) => engine,
         Err(why) => return Err(why),

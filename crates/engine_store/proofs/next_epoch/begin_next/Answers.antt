@@ -15,10 +15,17 @@ returns-in-Err-clause-refused g c =
     let was = c.args.store.now in
     let tables = c.args.setup.names.tables in
     engine_cause was.journal.layout was.engine.engine tables c.in-Err.why
-    (subst (λ (e : EngineModel). IsRefusal e tables c.in-Err.why) (ap (λ (r : _). r.engine) c.engine.ensures.engine) c.in-Err.ensures.refused)
+    (subst (λ (e : EngineModel). IsRefusal e tables c.in-Err.why) (ap (λ (r : _). r.engine) c.engine-2.ensures.engine) c.in-Err.ensures.refused)
 
 pub returns-in-Err-clause-any_moment : goal.returns-in-Err-clause-any_moment
 returns-in-Err-clause-any_moment g c =
+    let d = g.D.Disk in
+    let was = c.args.store.now in
+    started d.moment d.left_since was.journal.disk (TellsCommits was.journal.layout was.engine.engine.store was.engine.engine.events was.journal.acknowledged)
+    (λ image left. c.engine-2.ensures.images image (g.met.D.Disk.only_now was.journal.disk image left))
+
+pub returns-then-is_stopped-clause-any_moment : goal.returns-then-is_stopped-clause-any_moment
+returns-then-is_stopped-clause-any_moment g c =
     let d = g.D.Disk in
     let was = c.args.store.now in
     started d.moment d.left_since was.journal.disk (TellsCommits was.journal.layout was.engine.engine.store was.engine.engine.events was.journal.acknowledged)
