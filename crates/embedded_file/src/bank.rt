@@ -1,5 +1,9 @@
 //! A bank over a store in a file.
 
+ghost use Rattle.std.specs.Prelude.{IfOk};
+ghost use Rattle.store_setup.specs.SetupView.{setup_view};
+ghost use Rattle.store_setup.specs.Sound.{IsWhole};
+
 use chain_pool::PooledChains;
 use engine_store::{AskError, EngineStore, NextError, OpenError};
 use file_disk::FileDisk;
@@ -53,8 +57,12 @@ pub enum Stopped {
     NoEpoch(NextError),
     #[error("the store gives no answer: {0}")]
     NoAnswer(AskError),
-    #[error("the store answers {0:?}")]
-    Unexpected(Reply),
+    /// The request makes no sense to the store: a fault of this program.
+    #[error("the store refuses the request: {0:?}")]
+    Refused(Refusal),
+    /// Another session is in the way: this program has only one.
+    #[error("the transaction goes no further")]
+    InTheWay,
     #[error("the tree text is wrong")]
     BadTree,
     #[error("out of memory")]
@@ -68,7 +76,9 @@ impl From<AllocError> for Stopped {
 }
 
 /// What the tree text says. It is read anew for each epoch.
-fn setup(alloc: Global) -> Result<Setup, Stopped> {
+fn setup(alloc: Global) -> Result<Setup, Stopped>
+    ensures { IfOk result (λ s. IsWhole (setup_view s)) }
+{
     match read_tree(alloc, TREE) {
         Ok(setup) => Ok(setup),
         Err(_) => Err(Stopped::BadTree),
@@ -138,17 +148,18 @@ fn add(alloc: Global, bank: &mut Bank, account: Cell, amount: i64) -> Result<(),
 fn ask(alloc: Global, bank: &mut Bank, request: Request) -> Result<i64, Stopped> {
     match bank.ask(alloc, SESSION, request) {
         Ok(Reply::Value(value)) => Ok(value.unwrap_or(0)),
-        Ok(Reply::Begun(_) | Reply::Done | Reply::Committed) => Ok(0),
         Ok(Reply::Refused(Refusal::Full)) | Err(AskError::Full) => Err(Stopped::Full),
-        Ok(reply) => Err(Stopped::Unexpected(reply)),
+        Ok(Reply::Refused(why)) => Err(Stopped::Refused(why)),
+        Ok(Reply::Again { .. } | Reply::Aborted(_)) => Err(Stopped::InTheWay),
+        Ok(_) => Ok(0),
         Err(error) => Err(Stopped::NoAnswer(error)),
     }
 }
 
-/// The account of a number, which is not negative.
+/// The account of a transfer.
 fn account(number: i64) -> Cell {
     Cell {
         table: ACCOUNTS,
-        key: (number % ACCOUNT_COUNT) as u32,
+        key: u32::try_from(number % ACCOUNT_COUNT).unwrap_or(0),
     }
 }

@@ -15,12 +15,12 @@ const CAPACITY: u64 = 67_108_864;
 
 fn main(rt: HostRuntime) -> anyhow::Result<()> {
     let alloc = rt.alloc();
-    let mut words = env::args(&rt).skip(1);
+    let mut words = env::args(&rt)?.skip(1);
     let (Some(path), Some(count)) = (words.next(), words.next()) else {
         println!(rt; "usage: embedded_file FILE TRANSFERS")?;
         return Ok(());
     };
-    let disk = FileDisk::open_with_capacity(&rt, alloc, path, CAPACITY)?;
+    let disk = FileDisk::open_with_capacity(&rt, alloc, &path, CAPACITY)?;
     let mut bank = open_bank(alloc, disk)?;
     let (mut made, mut total) = (0, 0);
     for (cell, value) in &tables(alloc, bank.engine())? {
