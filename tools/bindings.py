@@ -4,7 +4,7 @@
     tools/bindings.py                   over the library that is proved; it is built if its sources have changed
     tools/bindings.py --library FILE    over another libtebaldi_c.a, as it is
     tools/bindings.py --skip-missing    what needs a program that is missing is skipped, and has not failed
-    tools/bindings.py --if-built        tries nothing, and fails nothing, unless the proved library is built from the files as they are
+    tools/bindings.py --after-gate      takes what the gate, which has just passed, has proved below the library, and builds the library over it
     tools/bindings.py --figures         the two figures count as well: they are to be within their bounds, on a machine that is idle
 
 It builds bindings/out/libtebaldi.a and libtebaldi.so, and then counts: the C tests and examples under the address and undefined behaviour
@@ -24,8 +24,8 @@ import sys
 
 sys.dont_write_bytecode = True
 sys.path.insert(0, str(pathlib.Path(__file__).resolve().parent))
+import kit_rt  # noqa: E402
 import worked_runs  # noqa: E402
-from crate_graph import Graph  # noqa: E402
 
 TOP = pathlib.Path(__file__).resolve().parent.parent
 BINDINGS, CRATE = TOP / "bindings", TOP / "crates" / "tebaldi_c"
@@ -80,14 +80,6 @@ def why_of(ran, wanted=None):
     if ran.returncode == 0 and (wanted is None or re.fullmatch(wanted, text)):
         return None
     return f"status {ran.returncode}: {text[-1000:]}{ran.stderr.decode(errors='replace')[-2000:]}".strip()
-
-
-def is_built():
-    """Whether the proved library is newer than every file of the crates that it is made from."""
-    archive = CRATE / "out" / "libtebaldi_c.a"
-    crates = Graph.read(TOP / "crates.txt").all_below(["tebaldi_c"])
-    files = [it for name in crates for it in (TOP / "crates" / name / "src").rglob("*.rt")]
-    return archive.exists() and all(it.stat().st_mtime <= archive.stat().st_mtime for it in files)
 
 
 def make_library(given):
@@ -223,11 +215,11 @@ def main():
     options = argparse.ArgumentParser(description=__doc__, formatter_class=argparse.RawDescriptionHelpFormatter)
     options.add_argument("--library", type=pathlib.Path)
     options.add_argument("--skip-missing", action="store_true")
-    options.add_argument("--if-built", action="store_true")
+    options.add_argument("--after-gate", action="store_true")
     options.add_argument("--figures", action="store_true")
     given = options.parse_args()
-    if given.if_built and not is_built():
-        print("bindings: SKIPPED: the library is not built from these files: ./check bindings builds it, and tries it")
+    if given.after_gate and not kit_rt.note_libraries(kit_rt.load(), str(TOP), "tebaldi_c"):
+        print("bindings: SKIPPED: the gate has left no libraries to build over: ./check bindings proves them again")
         print("0 passed, 0 failed")
         return 0
     tally = Tally(given.skip_missing)

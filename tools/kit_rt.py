@@ -30,6 +30,21 @@ def load():
     return module
 
 
+def note_libraries(rt, top, name):
+    """Notes of each library below a crate that it is made of the present files, where `rt ci` has just made it and left no such note.
+
+    Call it after a gate that passed, with no edit since: other commands then build on these libraries, and do not prove them again.
+    Returns whether each library is there.
+    """
+    below = next(it for it in rt.rtlib.crates_below(top) if it.name == name).below()
+    for it in below:
+        note = os.path.join(os.path.dirname(it.rlib), "stamp")
+        if os.path.isdir(it.rlib) and not os.path.exists(note):
+            with open(note, "w", encoding="utf-8") as file:
+                file.write(it.stamp())
+    return all(it.is_built() for it in below)
+
+
 def make_quick(crate):
     """Has the class of a crate list what is below it once, and read each crate once for each sum."""
     stamp_of, below_of, sums = crate.stamp, crate.below, threading.local()
