@@ -22,12 +22,12 @@ fn main(rt: HostRuntime) -> anyhow::Result<()> {
     };
     let disk = FileDisk::open_with_capacity(&rt, alloc, &path, CAPACITY)?;
     let mut bank = open_bank(alloc, disk)?;
-    let (mut made, mut total) = (0, 0);
+    let (mut made, mut total) = (0_i64, 0_i64);
     for (cell, value) in &tables(alloc, bank.engine())? {
         if cell.table == TRANSFERS {
             made = *value;
         } else {
-            total += *value;
+            total = total.saturating_add(*value);
         }
     }
     println!(rt; "found {made} transfers, and {total} in all accounts")?;
