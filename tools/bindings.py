@@ -175,11 +175,12 @@ def instructions(program, rounds, *names):
 
 
 def try_figures(tally, judges):
-    """Prints what an ask from C costs, in instructions and beside the engine's part of it, and the microseconds of a transfer from Python."""
+    """Prints what an ask from C costs, in instructions and beside the engine's part of it, which is the answer and the room for it, and the
+    microseconds of a transfer from Python."""
     program = compiled(tally, C / "tests" / "asks.c", [*WARNINGS, "-O2"])
     if program and tally.has("the cost of an ask", "valgrind"):
-        whole, part = instructions(program, 1000, r":tebaldi_ask\b", r"engine_core.*respond") or (0, 0)
-        cost = whole / part if part else 0.0
+        whole, answer, room = instructions(program, 1000, r":tebaldi_ask\b", r"engine_core.*respond", r"engine_core.*make_room_ahead") or (0, 0, 0)
+        cost = whole / (answer + room) if answer else 0.0
         print(f"bindings: {whole / 6000:.0f} instructions an ask from C, {cost:.2f} times the engine's", flush=True)
         tally.count("the cost of an ask", None if cost and (cost <= MOST_COST or not judges) else f"{cost} is not within {MOST_COST}")
     ran = run(sys.executable, PYTHON / "tests" / "transfer_cost.py")

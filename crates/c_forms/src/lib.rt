@@ -8,6 +8,7 @@ mod lines;
 mod replies;
 mod requests;
 mod rows;
+mod short;
 mod values;
 
 pub use causes::{CauseForm, cause_form};
@@ -16,4 +17,5 @@ pub use lines::line_of;
 pub use replies::{ReplyForm, reply_form, reply_in};
 pub use requests::{RequestForm, request_in};
 pub use rows::{RowForm, row_form};
+pub use short::put_short_form;
 pub use values::ValueList;

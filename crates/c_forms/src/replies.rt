@@ -56,7 +56,9 @@ pub fn reply_form(reply: &Reply) -> ReplyForm
     }
 }
 
-fn blank(kind: u8) -> ReplyForm
+/// The form of a kind, with zeros beside it.
+#[inline(always)]
+pub fn blank(kind: u8) -> ReplyForm
     ensures { result ≡ blank kind }
 {
     ReplyForm {
@@ -99,7 +101,8 @@ pub fn reply_in(form: &ReplyForm) -> Option<Reply>
     }
 }
 
-fn refusal_number(why: Refusal) -> u8
+/// The number of a refusal.
+pub fn refusal_number(why: Refusal) -> u8
     ensures { result ≡ refusal_number why }
 {
     match why {

@@ -1,6 +1,7 @@
 //! A disk that is a file of the operating system.
 #![tactic(auto)]
 
+mod backing;
 mod disk;
 mod error;
 mod faults;
@@ -8,5 +9,6 @@ mod opening;
 mod reads;
 mod renewing;
 
+pub use backing::BackingFile;
 pub use disk::FileDisk;
 pub use error::OpenError;

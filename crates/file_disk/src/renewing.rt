@@ -1,10 +1,11 @@
 //! A file forgets the calls behind it.
 
 use crate::FileDisk;
+use crate::backing::BackingFile;
 use crash_disk::Renew;
 use std::alloc::Global;
 
-impl Renew for FileDisk {
+impl<F: BackingFile> Renew for FileDisk<F> {
     fn renew(self, alloc: Global) -> Result<Self, Self> {
         let FileDisk {
             file,

@@ -4,6 +4,8 @@
 #[cfg(test)]
 mod commits;
 #[cfg(test)]
+mod descriptor;
+#[cfg(test)]
 mod device;
 #[cfg(test)]
 mod record;

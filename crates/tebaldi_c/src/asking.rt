@@ -1,17 +1,18 @@
 //! How a session asks.
 
-ghost use Rattle.std.specs.Prelude.{◌≡◌, ◌≢◌, ◌↔◌, IsNone, IsSome, IfOk, OnErr};
+ghost use Rattle.std.specs.Prelude.{◌≡◌, ◌≢◌, ◌↔◌, IsNone, IsSome, IsTrue, OnOk, OnErr};
 ghost use Rattle.teb_rules.specs.Answer.{answer};
 ghost use Rattle.c_forms.specs.Requests.{request_in as read};
+ghost use Rattle.c_forms.specs.Replies.{reply_form as form};
 ghost use Rattle.tebaldi_c.specs.Asking.{IsAsked};
 
 use crate::status::{BAD_VERB, NOT_OPEN, OK, OUT_OF_MEMORY};
 use crate::store::StoreHandle;
-use c_forms::{ReplyForm, RequestForm, reply_form, request_in};
+use c_forms::{ReplyForm, RequestForm, put_short_form, reply_form, request_in};
 use chain_pool::PooledChains;
 use engine_core::Engine;
 use std::alloc::{AllocError, Global};
-use teb_names::{Reply, Request, Session};
+use teb_names::{Request, Session};
 
 /// Answers a request of a session. A session that is not 1 to 32 is answered with a refusal, and the status is `OK`.
 ///
@@ -36,11 +37,8 @@ pub extern "C" fn tebaldi_ask(
     };
     let status = match request_in(request) {
         None => BAD_VERB,
-        Some(request) => match ask(&mut shelf.engine, Session(session), request) {
-            Ok(answered) => {
-                *reply = reply_form(&answered);
-                OK
-            }
+        Some(request) => match ask(&mut shelf.engine, Session(session), &request, reply) {
+            Ok(()) => OK,
             Err(_) => OUT_OF_MEMORY,
         },
     };
@@ -48,18 +46,41 @@ pub extern "C" fn tebaldi_ask(
     status
 }
 
-/// Makes room for an answer, and asks.
+/// Makes room for an answer, asks, and writes the form of the reply.
+#[inline(always)]
 fn ask(
     engine: &mut Engine<PooledChains>,
     session: Session,
-    request: Request,
-) -> Result<Reply, AllocError>
-    ensures reply { IfOk result (λ reply. reply ≡ (answer engine.old.store engine.old.events session request).0) }
-    ensures events { IfOk result (λ _. engine.new.events ≡ (answer engine.old.store engine.old.events session request).1) }
+    request: &Request,
+    reply: &mut ReplyForm,
+) -> Result<(), AllocError>
+    ensures reply { OnOk result (reply.new ≡ form (answer engine.old.store engine.old.events session request.now).0) }
+    ensures events { OnOk result (engine.new.events ≡ (answer engine.old.store engine.old.events session request.now).1) }
     ensures store { engine.new.store ≡ engine.old.store }
     ensures names { engine.new.names ≡ engine.old.names }
-    ensures err { OnErr result (engine.new ≡ engine.old) }
+    ensures err { OnErr result ((engine.new ≡ engine.old) × (reply.new ≡ reply.old)) }
 {
     engine.ready()?;
-    Ok(engine.ask(session, request))
+    match request {
+        Request::Scan { .. } => ask_scan(engine, session, *request, reply),
+        _ => put_short_form(reply, &engine.ask_short(session, request)),
+    }
+    Ok(())
+}
+
+/// Asks a scan, and writes the form of the reply: out of line, since scans are rare and their reply is long.
+#[inline(never)]
+fn ask_scan(
+    engine: &mut Engine<PooledChains>,
+    session: Session,
+    request: Request,
+    reply: &mut ReplyForm,
+)
+    requires { IsTrue engine.old.ready }
+    ensures reply { reply.new ≡ form (answer engine.old.store engine.old.events session request).0 }
+    ensures events { engine.new.events ≡ (answer engine.old.store engine.old.events session request).1 }
+    ensures store { engine.new.store ≡ engine.old.store }
+    ensures names { engine.new.names ≡ engine.old.names }
+{
+    *reply = reply_form(&engine.ask(session, request));
 }
