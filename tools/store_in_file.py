@@ -13,7 +13,6 @@ import os
 import pathlib
 import random
 import re
-import shutil
 import struct
 import subprocess
 import sys
@@ -60,8 +59,8 @@ def last_printed(lines):
     return int(whole[-1].split()[1]) if whole else 0
 
 
-def try_kills(trials, folder, kills):
-    """Kills the program at random moments of its life, and looks each time what the file has."""
+def try_kills(trials, folder, kills, least):
+    """Kills the program at random moments of its life, and looks each time what the file has; at the end at least so many transfers."""
     path, acknowledged, choice = f"{folder}/kills", 0, random.Random(7)
     for n in range(kills):
         with tempfile.TemporaryFile("w+") as out:
@@ -74,7 +73,7 @@ def try_kills(trials, folder, kills):
         right = found is not None and acknowledged <= found[0] <= acknowledged + 1 and found[1] == 0
         trials.expect(f"kill {n}", right, f"{found} after {acknowledged}")
         acknowledged = found[0] if found else acknowledged
-    trials.expect("kills in several epochs", acknowledged > 8192 or kills < 100, acknowledged)
+    trials.expect("how far it came", acknowledged >= least, acknowledged)
 
 
 def try_twice(trials, folder):
@@ -99,7 +98,7 @@ def try_full_disk(trials, folder):
         return
     try:
         acknowledged, path = 0, f"{disk}/bank"
-        for size in ("128k", "700k", "2m", "64m"):
+        for size in ("128k", "400k", "2m"):
             status, lines, complaint = run(path, 100_000)
             acknowledged = max(acknowledged, last_printed(lines))
             trials.expect(f"below {size}", status != 0 and "disk" in complaint, (status, complaint))
@@ -107,6 +106,8 @@ def try_full_disk(trials, folder):
             found = found_in(path)
             trials.expect(f"with {size}", found is not None and acknowledged <= found[0] <= acknowledged + 1 and found[1] == 0, f"{found} after {acknowledged}")
             acknowledged = found[0] if found else acknowledged
+        status, lines, complaint = run(path, 20_000)
+        trials.expect("with room again", status == 0 and last_printed(lines) == acknowledged + 20_000, complaint)
     finally:
         subprocess.run(["umount", disk], check=False)
 
@@ -140,17 +141,13 @@ def timed(path, count):
     return time.time() - start, used.ru_maxrss / 1024
 
 
-def measure(folder):
+def measure(folder, memory):
     """Prints the figures of docs/PERFORMANCE.md."""
     seconds, _ = timed(f"{folder}/commits", 5000)
     print(f"commits a second on a file: {5000 / seconds:.0f}; pairs of bare fdatasync calls on it: {bare_syncs(f'{folder}/bare', 5):.0f}")
-    memory = tempfile.mkdtemp(dir="/dev/shm")
-    try:
-        for count in (20_000, 1_000_000):
-            seconds, peak = timed(f"{memory}/{count}", count)
-            print(f"{count} transactions, in memory: {seconds:.1f} seconds, peak {peak:.1f} MiB")
-    finally:
-        shutil.rmtree(memory)
+    for count in (20_000, 1_000_000):
+        seconds, peak = timed(f"{memory}/{count}", count)
+        print(f"{count} transactions, in memory: {seconds:.1f} seconds, peak {peak:.1f} MiB")
     write_rows(f"{folder}/rows", 1_000_000)
     seconds, peak = timed(f"{folder}/rows", 0)
     print(f"a file with 1000000 rows opens in {seconds:.2f} seconds, peak {peak:.1f} MiB")
@@ -167,12 +164,14 @@ def main():
     if not PROGRAM.exists():
         print(f"{PROGRAM} is not built: ./check build builds it", file=sys.stderr)
         return 2
-    with tempfile.TemporaryDirectory(dir=os.environ.get("TMPDIR", "/var/tmp")) as folder:
+    with tempfile.TemporaryDirectory(dir=os.environ.get("TMPDIR", "/var/tmp")) as folder, tempfile.TemporaryDirectory(dir="/dev/shm") as memory:
         if given.what == "speed":
-            measure(folder)
+            measure(folder, memory)
             return 0
         trials = Trials()
-        try_kills(trials, folder, given.kills)
+        try_kills(trials, folder, given.kills, 1)
+        # (a file in memory is so quick that kills come amid checkpoints, too)
+        try_kills(trials, memory, given.kills, 10_000)
         try_twice(trials, folder)
         try_full_disk(trials, folder)
     print(f"{trials.passed} passed, {trials.failed} failed")
