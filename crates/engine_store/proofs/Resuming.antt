@@ -1,5 +1,5 @@
 -- What is opened goes on with what a disk tells.
-use Rattle.std.proofs.Common.{◌≡◌, ◌≤◌, ℕ, List, [], ◌∷◌, ◌++◌, ◌∙◌, ap, arith, le_refl, ℤ}
+use Rattle.std.proofs.Common.{◌≡◌, ◌≤◌, ℕ, List, [], ◌∷◌, ◌++◌, ◌∙◌, ap, arith, inr, refl, le_refl, ℤ}
 use Rattle.std.proofs.lemmas.List.{take_all}
 use Rattle.teb_names.specs.declared.Cell.{Cell}
 use Rattle.teb_names.specs.Rows.{row_of}
@@ -18,6 +18,7 @@ use Rattle.commit_laws.proofs.Prefixes.{length-records}
 use Rattle.epoch_journal.specs.State.{JournalState}
 use Rattle.engine_store.specs.Lives.{Epoch, IsLife, epoch_with}
 use Rattle.engine_store.specs.Opening.{GoesOn}
+use Rattle.engine_store.specs.Telling.{EmptyDisksTell}
 use Rattle.engine_store.proofs.LifeGoesOn.{is_epoch, lawful_of, reopened}
 
 module _ {D : Type 0} (seen : D → List ℕ) (may_leave : D → List ℕ → Type 0) (j : JournalState D) (rows : List (Cell × ℤ)) (least : ℕ) where
@@ -43,3 +44,12 @@ life_reopened seen may_leave j least T past e f is life on =
 -- a life begins
 pub life_begun : (T : Values) (e : EngineModel) → IsOfEngine e → ((x : Cell) → row_of e.store.rows x ≡ T x) → IsLife T (record { past = []; present = e })
 life_begun T e i rows = record { engine = i; on = (is_epoch (commit_count e.events) e i (le_refl _), rows, tt) }
+
+-- on an empty disk
+pub empty_disks_tell : EmptyDisksTell
+empty_disks_tell l start file short = record {
+  k = 0;
+  no_fewer = omega arith;
+  no_more = omega arith;
+  stands = record { list = []; has = inr (refl, inr short); table = λ x. refl };
+}

@@ -1,12 +1,13 @@
 -- What a disk has of an epoch.
-use Rattle.std.specs.Prelude.{◌≡◌, ℕ, List}
+use Rattle.std.specs.Prelude.{◌≡◌, ℕ, ◌≤◌, List, [], length}
 use Rattle.teb_names.specs.Rows.{row_of}
 use Rattle.teb_history.specs.declared.Event.{Event}
+use Rattle.teb_rules.specs.Replay.{Values}
 use Rattle.teb_rules.specs.Setup.{Store}
 use Rattle.crash_disk.specs.Disk.{LeavesOnly}
 use Rattle.commit_laws.specs.Records.{records_of}
-use Rattle.epoch_journal.specs.Layout.{Layout}
-use Rattle.epoch_journal.specs.Telling.{TellsOn}
+use Rattle.epoch_journal.specs.Layout.{Layout, front_end}
+use Rattle.epoch_journal.specs.Telling.{Tells, TellsOn}
 
 -- the rows after the first k commits of history H over the rows of store X, for a k that is at least `least`
 abbrev pub TellsCommits : Layout → Store → List Event → ℕ → List ℕ → Type 0
@@ -22,3 +23,7 @@ pub record LeavesOnlyUntilRenewed {D : Type 0} (seen : D → List ℕ) (faults :
 -- whatever a crash leaves of a disk tells this
 abbrev pub AllTellCommits : {D : Type 0} → (D → List ℕ → Type 0) → Layout → Store → List Event → ℕ → D → Type 0
 AllTellCommits may_leave l X H least disk = (image : List ℕ) → may_leave disk image → TellsCommits l X H least image
+
+-- a file that ends before the halves has no row yet: it tells those with which a life begins
+abbrev pub EmptyDisksTell : Type 0
+EmptyDisksTell = (l : Layout) (start : Values) (file : List ℕ) → length file ≤ front_end → Tells l start [] 0 file

@@ -24,7 +24,7 @@ mod store;
 pub use epoch_store::AskError;
 pub use error::NextError;
 pub use label::label_tells_names;
-pub use laws::lives_are_serial;
+pub use laws::{empty_disks_tell, lives_are_serial};
 pub use next_epoch::NotNext;
 pub use open_error::{NotOpened, OpenError};
 pub use store::EngineStore;

@@ -1,6 +1,6 @@
 //! The life of a store: two commits, the next epoch, and one more.
 
-use crash_disk::Renew;
+use crash_disk::MemDisk;
 use engine_store::EngineStore;
 use epoch_store::AskError;
 use std::alloc::Global;
@@ -8,6 +8,9 @@ use std::test::Fail;
 use teb_names::{Cell, Kind, Reply, Request, Session, Spot, Table};
 use tree_toml::read_tree;
 use version_chain::PlainChains;
+
+/// A store on a disk in memory.
+pub type TrialStore = EngineStore<PlainChains, MemDisk>;
 
 /// How many commits a life has.
 pub const COMMITS: i64 = 3;
@@ -18,16 +21,14 @@ const CELL: Cell = Cell {
 };
 
 /// What a life has left: the disk, and how many commits were answered.
-pub struct Lived<D> {
-    pub disk: D,
+#[derive(Drop)]
+pub struct Lived {
+    pub disk: MemDisk,
     pub answered: i64,
 }
 
 /// Opens the store of the plain tree on a disk, or hands the disk back.
-pub fn open<D: Renew>(
-    alloc: Global,
-    disk: D,
-) -> Result<Result<EngineStore<PlainChains, D>, D>, Fail> {
+pub fn open(alloc: Global, disk: MemDisk) -> Result<Result<TrialStore, MemDisk>, Fail> {
     let setup = read_tree(alloc, &[])?;
     Ok(
         match EngineStore::open(alloc, disk, setup, PlainChains::new(alloc)) {
@@ -38,11 +39,7 @@ pub fn open<D: Renew>(
 }
 
 /// Asks for a transaction that makes one request, and answers the reply to this one.
-fn ask_alone<D: Renew>(
-    alloc: Global,
-    store: &mut EngineStore<PlainChains, D>,
-    request: Request,
-) -> Result<Reply, AskError> {
+fn ask_alone(alloc: Global, store: &mut TrialStore, request: Request) -> Result<Reply, AskError> {
     let begin = Request::Begin(Spot {
         kind: Kind(0),
         instance: 0,
@@ -54,10 +51,7 @@ fn ask_alone<D: Renew>(
 }
 
 /// The committed value.
-pub fn value<D: Renew>(
-    alloc: Global,
-    store: &mut EngineStore<PlainChains, D>,
-) -> Result<Option<i64>, AskError> {
+pub fn value(alloc: Global, store: &mut TrialStore) -> Result<Option<i64>, AskError> {
     match ask_alone(alloc, store, Request::Read(CELL))? {
         Reply::Value(value) => Ok(value),
         _ => Ok(None),
@@ -65,16 +59,17 @@ pub fn value<D: Renew>(
 }
 
 /// Commits the values 1, 2 and 3, the last one in the next epoch, until a call fails.
-pub fn live<D: Renew>(alloc: Global, disk: D) -> Result<Lived<D>, Fail> {
+pub fn live(alloc: Global, disk: MemDisk) -> Result<Lived, Fail> {
     let mut store = match open(alloc, disk)? {
         Ok(store) => store,
         Err(disk) => return Ok(Lived { disk, answered: 0 }),
     };
-    for value in 1..COMMITS {
-        if ask_alone(alloc, &mut store, Request::Write(CELL, value)).is_err() {
+    for answered in 0..COMMITS - 1 {
+        let write = Request::Write(CELL, answered + 1);
+        if ask_alone(alloc, &mut store, write).is_err() {
             return Ok(Lived {
                 disk: store.into_disk(),
-                answered: value - 1,
+                answered,
             });
         }
     }
@@ -82,7 +77,7 @@ pub fn live<D: Renew>(alloc: Global, disk: D) -> Result<Lived<D>, Fail> {
 }
 
 /// Commits the last value in the next epoch, unless a call fails.
-fn live_on<D: Renew>(alloc: Global, store: EngineStore<PlainChains, D>) -> Result<Lived<D>, Fail> {
+fn live_on(alloc: Global, store: TrialStore) -> Result<Lived, Fail> {
     if store.is_stopped() {
         return Err(Fail::from("stopped"));
     }

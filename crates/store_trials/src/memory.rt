@@ -1,6 +1,6 @@
 //! A store on a disk in memory that fails at each of its calls, and is opened again.
 
-use crate::life::{COMMITS, live, open, value};
+use crate::life::{COMMITS, Lived, live, open, value};
 use crash_disk::MemDisk;
 use std::test::Fail;
 
@@ -8,26 +8,26 @@ use std::test::Fail;
 const CAPACITY: u64 = 313;
 
 /// How many calls a life makes.
-const CALLS: u32 = 23;
+const CALLS: u32 = 26;
 
 #[test]
 fn a_store_that_fails_at_any_call_is_opened_again(rt: HostRuntime) -> Result<(), Fail> {
     let alloc = rt.alloc();
     for stop in 1..=CALLS + 1 {
-        let lived = live(alloc, MemDisk::with_capacity(alloc, CAPACITY, stop))?;
+        let Lived { disk, answered } = live(alloc, MemDisk::with_capacity(alloc, CAPACITY, stop))?;
         assert!(rt;
-            (lived.answered == COMMITS) == (stop > CALLS),
+            (answered == COMMITS) == (stop > CALLS),
             "call {stop}: {}",
-            lived.answered
+            answered
         );
-        let Ok(mut store) = open(alloc, lived.disk.left())? else {
+        let Ok(mut store) = open(alloc, disk.left())? else {
             return Err(Fail::from("not opened"));
         };
         let found = value(alloc, &mut store)?.unwrap_or(0);
+        let further = found.saturating_sub(answered);
         assert!(rt;
-            found == lived.answered || found == lived.answered + 1,
-            "call {stop}: {found} for {}",
-            lived.answered
+            further == 0 || further == 1,
+            "call {stop}: {found} for {answered}"
         );
     }
     Ok(())
