@@ -25,6 +25,6 @@ pub use epoch_store::AskError;
 pub use error::NextError;
 pub use label::label_tells_names;
 pub use laws::{empty_disks_tell, lives_are_serial};
-pub use next_epoch::NotNext;
+pub use next_epoch::{NotNext, next_engine};
 pub use open_error::{NotOpened, OpenError};
 pub use store::EngineStore;

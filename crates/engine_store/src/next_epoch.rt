@@ -140,7 +140,7 @@ fn begin_next<C: Chains, D: Disk>(
 ///
 /// # Errors
 /// The first of the causes that stands against it; the engine is only read.
-fn next_engine<C: Chains>(
+pub fn next_engine<C: Chains>(
     alloc: Global,
     engine: &Engine<C>,
     setup: Setup,
