@@ -1,16 +1,16 @@
 //! A file meets what is asked of a disk.
 
-use crate::backing::BackingFile;
 use crate::faults::Faults;
 use crate::reads::gives;
 use crash_disk::{Disk, MemDisk};
 use std::fs::File;
+use std::os::unix::fs::FileExt;
 use teb_io::Failed;
 
 /// A disk that is a file. A disk in memory mirrors it: the file is to have the bytes of the mirror, and the images that a crash
 /// may leave are those of the mirror.
 ///
-/// A read gives what the mirror has, once the file was read and has the same; else it fails. `sync` makes the file's bytes safe.
+/// A read gives what the mirror has, once the file was read and has the same; else it fails. `sync` is `sync_data` of the file.
 /// From its first failure on the disk fails at each call, and the file is left alone: so no sync makes safe what a failed write or
 /// sync has left.
 ///
@@ -18,15 +18,15 @@ use teb_io::Failed;
 /// of the file. A write or a sync for which memory does not last fails.
 ///
 /// What rests on the operating system alone: after a crash the file holds one of the images that are told of the disk. For this
-/// it keeps what a sync of the file made safe, and nobody else writes the file while the disk is open.
+/// it keeps what `sync_data` made safe, and nobody else writes the file while the disk is open.
 #[derive(Drop)]
-pub struct FileDisk<F: BackingFile = File> {
-    pub(crate) file: F,
+pub struct FileDisk {
+    pub(crate) file: File,
     pub(crate) mirror: MemDisk,
     pub(crate) faults: Faults,
 }
 
-impl<F: BackingFile> Disk for FileDisk<F> {
+impl Disk for FileDisk {
     ghost use Rattle.std.specs.Prelude.{length};
     ghost use Rattle.crash_disk.specs.Log.{contents, safe_contents, MayLeave, LeftSince, byte_count};
     ghost use Rattle.crash_disk.specs.LogLaws.{safe_is_left as log_safe_is_left, read_is_left as log_read_is_left, counts_now as log_counts_now, only_now as log_only_now};
@@ -71,8 +71,8 @@ impl<F: BackingFile> Disk for FileDisk<F> {
         let Ok(len) = self.mirror.len() else {
             return Err(self.faults.add());
         };
-        match self.file.size() {
-            Ok(found) if found == len => Ok(len),
+        match self.file.metadata() {
+            Ok(found) if found.len() == len => Ok(len),
             _ => Err(self.faults.add()),
         }
     }
@@ -104,7 +104,7 @@ impl<F: BackingFile> Disk for FileDisk<F> {
         if self.faults.any() {
             return Err(self.faults.add());
         }
-        if self.file.make_safe().is_err() {
+        if self.file.sync_data().is_err() {
             return Err(self.faults.add());
         }
         match self.mirror.sync() {

@@ -1,7 +1,6 @@
 //! A disk that is a file of the operating system.
 #![tactic(auto)]
 
-mod backing;
 mod disk;
 mod error;
 mod faults;
@@ -9,6 +8,5 @@ mod opening;
 mod reads;
 mod renewing;
 
-pub use backing::BackingFile;
 pub use disk::FileDisk;
 pub use error::OpenError;

@@ -5,7 +5,6 @@ ghost use Rattle.crash_disk.specs.Sizes.{default_capacity};
 ghost use Rattle.crash_disk.specs.Log.{contents, MayLeave};
 ghost use Rattle.crash_disk.specs.Disk.{Only};
 
-use crate::backing::BackingFile;
 use crate::faults::Faults;
 use crate::reads::read_whole;
 use crate::{FileDisk, OpenError};
@@ -15,30 +14,7 @@ use std::fs::{File, Files, OpenOptions, TryLockError};
 use std::io;
 use std::path::Path;
 
-impl<F: BackingFile> FileDisk<F> {
-    /// A disk over an open file, that can hold `capacity` bytes. What the file holds is made safe; its bytes are kept in memory, too.
-    ///
-    /// # Errors
-    /// `TooLong`: the file has more than `capacity` bytes. `Io`: it can't be read or synced. `OutOfMemory`. The file stays as it was.
-    pub fn over(alloc: Global, file: F, capacity: u64) -> Result<FileDisk<F>, OpenError>
-        requires some { 0 < capacity }
-        requires small { capacity < 2 ^ 40 }
-        ensures safe { IfOk result (λ disk. Only (contents disk.mirror.log.steps) (MayLeave disk.mirror.log.steps)) }
-        ensures capacity { IfOk result (λ disk. disk.mirror.capacity ≡ capacity) }
-        ensures faults { IfOk result (λ disk. disk.faults.count ≡ 0) }
-    {
-        let bytes = read_whole(alloc, &file, capacity)?;
-        file.make_all_safe()?;
-        let mirror = MemDisk::of(alloc, bytes, capacity)?;
-        Ok(FileDisk {
-            file,
-            mirror,
-            faults: Faults::none(),
-        })
-    }
-}
-
-impl FileDisk<File> {
+impl FileDisk {
     /// Opens a file as a disk of `DEFAULT_CAPACITY` bytes; see `open_with_capacity`.
     ///
     /// # Errors
@@ -79,9 +55,15 @@ impl FileDisk<File> {
             .create(true)
             .open(rt, path)?;
         lock(&file)?;
-        let disk = FileDisk::over(alloc, file, capacity)?;
+        let bytes = read_whole(alloc, &file, capacity)?;
+        file.sync_all()?;
         sync_folder(rt, path)?;
-        Ok(disk)
+        let mirror = MemDisk::of(alloc, bytes, capacity)?;
+        Ok(FileDisk {
+            file,
+            mirror,
+            faults: Faults::none(),
+        })
     }
 }
 

@@ -3,8 +3,9 @@
 ghost use Rattle.std.specs.Prelude.{◌≡◌, ◌≤◌, ◌<◌, length, IfOk, OnErr};
 
 use crate::OpenError;
-use crate::backing::BackingFile;
 use std::alloc::Global;
+use std::fs::File;
+use std::os::unix::fs::FileExt;
 
 /// How many bytes are compared at once.
 const PIECE: usize = 4096;
@@ -13,14 +14,10 @@ const PIECE: usize = 4096;
 ///
 /// # Errors
 /// `TooLong`: it has more than `capacity` bytes. `Io`: it can't be read. `OutOfMemory`. The file stays as it was.
-pub fn read_whole<F: BackingFile>(
-    alloc: Global,
-    file: &F,
-    capacity: u64,
-) -> Result<Vec<u8>, OpenError>
+pub fn read_whole(alloc: Global, file: &File, capacity: u64) -> Result<Vec<u8>, OpenError>
     ensures { IfOk result (λ bytes. length bytes.items ≤ capacity) }
 {
-    let len = fitting(file.size()?, capacity)?;
+    let len = fitting(file.metadata()?.len(), capacity)?;
     let mut bytes = vec![in alloc; 0u8; len]?;
     file.read_exact_at(&mut bytes, 0)?;
     Ok(bytes)
@@ -41,13 +38,13 @@ fn fitting(len: u64, capacity: u64) -> Result<usize, OpenError>
 }
 
 /// Whether a read of so many bytes from a place on gives these. A read that fails gives nothing.
-pub fn gives<F: BackingFile>(file: &F, at: u64, count: usize, bytes: &[u8]) -> bool {
+pub fn gives(file: &File, at: u64, count: usize, bytes: &[u8]) -> bool {
     has(file, at, bytes)
         && (bytes.len() == count || ends_at(file, at.saturating_add(bytes.len() as u64)))
 }
 
 /// Whether the file has these bytes at a place.
-fn has<F: BackingFile>(file: &F, at: u64, bytes: &[u8]) -> bool {
+fn has(file: &File, at: u64, bytes: &[u8]) -> bool {
     let mut buf = [0u8; PIECE];
     let mut place = at;
     for piece in bytes.chunks(PIECE) {
@@ -61,6 +58,6 @@ fn has<F: BackingFile>(file: &F, at: u64, bytes: &[u8]) -> bool {
 }
 
 /// Whether the file has no byte from a place on.
-fn ends_at<F: BackingFile>(file: &F, at: u64) -> bool {
+fn ends_at(file: &File, at: u64) -> bool {
     i64::try_from(at).is_err() || matches!(file.read_at(&mut [0u8], at), Ok(0))
 }

@@ -1,11 +1,10 @@
 //! A file forgets the calls behind it.
 
 use crate::FileDisk;
-use crate::backing::BackingFile;
 use crash_disk::Renew;
 use std::alloc::Global;
 
-impl<F: BackingFile> Renew for FileDisk<F> {
+impl Renew for FileDisk {
     fn renew(self, alloc: Global) -> Result<Self, Self> {
         let FileDisk {
             file,

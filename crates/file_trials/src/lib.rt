@@ -4,8 +4,6 @@
 #[cfg(test)]
 mod commits;
 #[cfg(test)]
-mod descriptor;
-#[cfg(test)]
 mod device;
 #[cfg(test)]
 mod record;
