@@ -5,7 +5,9 @@ use Rattle.teb_names.specs.declared.naming.NameBook.{NameBook}
 use Rattle.teb_rules.specs.Setup.{Store}
 use Rattle.serial_order.specs.Tables.{IsFinalRows}
 use Rattle.engine_core.specs.EngineModel.{EngineModel}
+use Rattle.tree_switch.specs.Courses.{Course, IsCourse, phases}
 use Rattle.tree_switch.specs.Refusals.{IsDrained, MaySwitch}
+use Rattle.tree_switch.proofs.WholeOrder.{is_serial}
 use Rattle.input_reader.specs.Tasks.{Task}
 use Rattle.phase_runner.specs.Runs.{RunFrom, RunInTurn, Table}
 use Rattle.phase_runner.specs.Steps.{AllFollow, AreFollowing, HasRun}
@@ -14,58 +16,75 @@ use Rattle.phase_runner.specs.Steps.{AllFollow, AreFollowing, HasRun}
 abbrev pub Leaves : EngineModel → Table → Type 0
 Leaves e rows = IsFinalRows e.store e.events rows
 
--- the present engine has come to its end, and has left some rows; from them these tasks may go on, and whatever they write belongs behind the text so far
-pub record MayGoOn (all later : List Task) (e : EngineModel) (text : List ℕ) : Type 0 where
-  pub drained : IsDrained e.events
-  pub follow : AllFollow e.names.tables later
-  pub rows : Table
-  pub left : Leaves e rows
-  pub goes : (R : Table) → Leaves e R → (back : List ℕ) → RunFrom R later back → RunInTurn all (text ++ back)
+-- the first one starts with its own rows
+abbrev pub RunAll : List Task → List EngineModel → List ℕ → Type 0
+RunAll [] es text = text ≡ []
+RunAll (task ∷ later) es text = RunFrom task.setup.rows (task ∷ later) es text
 
-module _ (rows : Table) (task : Task) (later : List Task) (e : EngineModel) (old new : List ℕ) (h : HasRun rows task e old new) where
+-- the present engine has come to its end, and has left some rows; from them these tasks may go on, and whatever they write belongs behind the text so far
+pub record MayGoOn (all later : List Task) (p : Course) (text : List ℕ) : Type 0 where
+  pub course : IsCourse p
+  pub drained : IsDrained p.present.events
+  pub follow : AllFollow p.present.names.tables later
+  pub rows : Table
+  pub left : Leaves p.present rows
+  pub goes : (R : Table) → Leaves p.present R → (es : List EngineModel) (back : List ℕ) → RunFrom R later es back → RunAll all (phases p ++ es) (text ++ back)
+
+module _ (rows : Table) (task : Task) (later : List Task) (p : Course) (old new : List ℕ) (h : HasRun rows task p.present old new) where
   -- what the tasks behind it write, behind its report
-  with_later : (R : Table) → Leaves e R → (back : List ℕ) → RunFrom R later back → RunFrom rows (task ∷ later) (h.front ++ back)
-  with_later R leaves back run = record {
-    history = e.events;
+  with_later : (R : Table) → Leaves p.present R → (es : List EngineModel) (back : List ℕ) → RunFrom R later es back → RunFrom rows (task ∷ later) (p.present ∷ es) (h.front ++ back)
+  with_later R leaves es back run = record {
     left = R;
     front = h.front;
     back = back;
+    store = h.store;
     phase = h.phase;
-    final = subst (λ (X : Store). IsFinalRows X e.events R) h.store leaves;
+    final = subst (λ (X : Store). IsFinalRows X p.present.events R) h.store leaves;
     follows = run;
     joined = refl;
   }
 
-  behind_report : (all : List Task) → ((text : List ℕ) → RunFrom rows (task ∷ later) text → RunInTurn all (old ++ text)) → (R : Table) → Leaves e R → (back : List ℕ) → RunFrom R later back → RunInTurn all (new ++ back)
-  behind_report all goes R leaves back run =
-      subst (RunInTurn all) (sym (ap (λ (w : List ℕ). w ++ back) h.joined ∙ append_assoc old h.front back)) (goes (h.front ++ back) (with_later R leaves back run))
+  -- these are the phases before it
+  module _ (before : List EngineModel) (past : p.past ≡ before) (all : List Task) (goes : (es : List EngineModel) (text : List ℕ) → RunFrom rows (task ∷ later) es text → RunAll all (before ++ es) (old ++ text)) where
+    behind_report : (R : Table) → Leaves p.present R → (es : List EngineModel) (back : List ℕ) → RunFrom R later es back → RunAll all (phases p ++ es) (new ++ back)
+    behind_report R leaves es back run =
+        let text : new ++ back ≡ old ++ (h.front ++ back) = ap (λ (w : List ℕ). w ++ back) h.joined ∙ append_assoc old h.front back in
+        let engines : phases p ++ es ≡ before ++ (p.present ∷ es) = append_assoc p.past (p.present ∷ []) es ∙ ap (λ (ds : List EngineModel). ds ++ (p.present ∷ es)) past in
+        subst (λ (ds : List EngineModel). RunAll all ds (new ++ back)) (sym engines)
+        (subst (RunAll all (before ++ (p.present ∷ es))) (sym text) (goes (p.present ∷ es) (h.front ++ back) (with_later R leaves es back run)))
 
-  after_run : (all : List Task) → AllFollow task.setup.tables later → ((text : List ℕ) → RunFrom rows (task ∷ later) text → RunInTurn all (old ++ text)) → MayGoOn all later e new
-  after_run all follow goes = record {
-    drained = h.drained;
-    follow = subst (λ (b : NameBook). AllFollow b.tables later) (sym h.names) follow;
-    rows = h.phase.told.rows;
-    left = subst (λ (X : Store). IsFinalRows X e.events h.phase.told.rows) (sym h.store) h.phase.told.final;
-    goes = behind_report all goes;
-  }
+    after_run : IsCourse p → AllFollow task.setup.tables later → MayGoOn all later p new
+    after_run course follow = record {
+      course = course;
+      drained = h.drained;
+      follow = subst (λ (b : NameBook). AllFollow b.tables later) (sym h.names) follow;
+      rows = h.phase.told.rows;
+      left = subst (λ (X : Store). IsFinalRows X p.present.events h.phase.told.rows) (sym h.store) h.phase.told.final;
+      goes = behind_report;
+    }
 
 -- the first task has run
-pub first_run : (task : Task) (later : List Task) (e : EngineModel) (old new : List ℕ) → old ≡ [] → AreFollowing (task ∷ later) → HasRun task.setup.rows task e old new → MayGoOn (task ∷ later) later e new
-first_run task later e old new o follow h =
-    after_run task.setup.rows task later e old new h (task ∷ later) follow (λ text run. subst (λ (w : List ℕ). RunInTurn (task ∷ later) (w ++ text)) (sym o) run)
+pub first_run : (task : Task) (later : List Task) (p : Course) (old new : List ℕ) → IsCourse p → p.past ≡ [] → old ≡ [] → AreFollowing (task ∷ later) → HasRun task.setup.rows task p.present old new → MayGoOn (task ∷ later) later p new
+first_run task later p old new course past o follow h =
+    after_run task.setup.rows task later p old new h [] past (task ∷ later) (λ es text run. subst (λ (w : List ℕ). RunAll (task ∷ later) es (w ++ text)) (sym o) run) course follow
 
 -- the next one may run
-pub may_switch : (all : List Task) (task : Task) (later : List Task) (e : EngineModel) (text : List ℕ) → MayGoOn all (task ∷ later) e text → MaySwitch e task.setup
-may_switch all task later e text g = record { drained = g.drained; tables = g.follow.0; rows = g.follow.1 }
+pub may_switch : (all : List Task) (task : Task) (later : List Task) (p : Course) (text : List ℕ) → MayGoOn all (task ∷ later) p text → MaySwitch p.present task.setup
+may_switch all task later p text g = record { drained = g.drained; tables = g.follow.0; rows = g.follow.1 }
 
 -- and has run
-pub next_run : (all : List Task) (task : Task) (later : List Task) (e f : EngineModel) (text new : List ℕ) → MayGoOn all (task ∷ later) e text → (rows : Table) → Leaves e rows → HasRun rows task f text new → MayGoOn all later f new
-next_run all task later e f text new g rows leaves h =
-    after_run rows task later f text new h all (subst (λ (names : List (List ℕ)). AllFollow names later) (sym g.follow.0) g.follow.2) (λ back run. g.goes rows leaves back run)
+pub next_run : (all : List Task) (task : Task) (later : List Task) (p q : Course) (text new : List ℕ) → MayGoOn all (task ∷ later) p text → IsCourse q → q.past ≡ phases p → (rows : Table) → Leaves p.present rows → HasRun rows task q.present text new → MayGoOn all later q new
+next_run all task later p q text new g course past rows leaves h =
+    after_run rows task later q text new h (phases p) past all (λ es back run. g.goes rows leaves es back run)
+    course (subst (λ (names : List (List ℕ)). AllFollow names later) (sym g.follow.0) g.follow.2)
 
 -- nobody is left
-pub all_run : (all : List Task) (e : EngineModel) (text : List ℕ) → MayGoOn all [] e text → RunInTurn all text
-all_run all e text g = subst (RunInTurn all) (append-nil text) (g.goes g.rows g.left [] refl)
+pub all_run : (all : List Task) (p : Course) (text : List ℕ) → MayGoOn all [] p text → RunInTurn all text
+all_run all p text g = go all (subst (λ (es : List EngineModel). RunAll all es text) (append-nil (phases p)) (subst (RunAll all (phases p ++ [])) (append-nil text) (g.goes g.rows g.left [] [] (refl, refl))))
+  where
+    go : (tasks : List Task) → RunAll tasks (phases p) text → RunInTurn tasks text
+    go [] run = run
+    go (task ∷ later) run = record { course = p; ran = run; serial = is_serial p g.course }
 
 -- nothing was there to be taken
 pub all_taken : (xs ys : List Task) → xs ≡ ys → ys ≡ drop 1 xs → xs ≡ []

@@ -138,3 +138,12 @@ only_memory e m (Untold s) may cause = absurd (may.drained.told s.0 cause.1.0)
 only_memory e m Tables may cause = absurd (cause.1 may.tables)
 only_memory e m Rows may cause = absurd (cause.2 may.rows)
 only_memory e m OutOfMemory may cause = refl
+
+-- a course is that of its parts
+pub course_of : (q : Course) (past : List EngineModel) (f : EngineModel) → q.past ≡ past → q.present ≡ f → IsCourse (record { past = past; present = f }) → IsCourse q
+course_of q past f p e = subst IsCourse (sym (ap₂ (λ (ps : List EngineModel) (d : EngineModel). let c : Course = record { past = ps; present = d } in c) p e))
+
+-- the phases that are past, of what was handed back
+pub past_of : (r : Result Course AllocError) (xs ys : List EngineModel) → IfOk r (λ p. p.past ≡ xs) → xs ≡ ys → IfOk r (λ p. p.past ≡ ys)
+past_of (Ok p) xs ys e f = e ∙ f
+past_of (Err w) xs ys e f = tt

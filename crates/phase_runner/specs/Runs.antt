@@ -4,7 +4,10 @@ use Rattle.teb_names.specs.declared.Cell.{Cell}
 use Rattle.teb_names.specs.declared.naming.NameBook.{NameBook}
 use Rattle.teb_history.specs.declared.Event.{Event}
 use Rattle.teb_rules.specs.Setup.{Store}
+use Rattle.engine_core.specs.EngineModel.{EngineModel}
 use Rattle.serial_order.specs.Tables.{IsFinalRows}
+use Rattle.tree_switch.specs.Courses.{Course, phases}
+use Rattle.tree_switch.specs.Serial.{IsSerial}
 use Rattle.script_text.specs.declared.Line.{Line}
 use Rattle.script_text.specs.declared.Answered.{Answered}
 use Rattle.store_setup.specs.SetupView.{SetupView}
@@ -29,26 +32,33 @@ pub record IsPhase (X : Store) (names : NameBook) (lines : List Line) (H : List 
   pub ran : IsReplay X lines log H
   pub told : IsReport X names H log text
 
--- a task that starts with these rows, and what follows from the rows that it leaves
-pub record IsFollowed (rows : Table) (task : Task) (Follows : Table → List ℕ → Type 0) (text : List ℕ) : Type 0 where
-  pub history : List Event
+-- a task that starts with these rows has run in this engine, and what follows from the rows that it leaves
+pub record IsFollowed (rows : Table) (task : Task) (e : EngineModel) (Follows : Table → List ℕ → Type 0) (text : List ℕ) : Type 0 where
   pub left : Table
   pub front : List ℕ
   pub back : List ℕ
-  pub phase : IsPhase (store_of_view (starting_with rows task.setup)) (names_of task.setup) task.lines history front
-  pub final : IsFinalRows (store_of_view (starting_with rows task.setup)) history left
+  pub store : e.store ≡ store_of_view (starting_with rows task.setup)
+  pub phase : IsPhase (store_of_view (starting_with rows task.setup)) (names_of task.setup) task.lines e.events front
+  pub final : IsFinalRows (store_of_view (starting_with rows task.setup)) e.events left
   pub follows : Follows left back
   pub joined : text ≡ front ++ back
 
--- the tasks run one after another, the first one from these rows and each later one from those that the one before it leaves
-abbrev pub RunFrom : Table → List Task → List ℕ → Type 0
-RunFrom rows [] text = text ≡ []
-RunFrom rows (task ∷ later) text = IsFollowed rows task (λ left back. RunFrom left later back) text
+-- the tasks have run one after another, each in an engine of its own, the first one from these rows and each later one from those that the one before it left
+abbrev pub RunFrom : Table → List Task → List EngineModel → List ℕ → Type 0
+RunFrom rows [] es text = (es ≡ []) × (text ≡ [])
+RunFrom rows (task ∷ later) [] text = ⊥
+RunFrom rows (task ∷ later) (e ∷ es) text = IsFollowed rows task e (λ left back. RunFrom left later es back) text
+
+-- they have run in the phases of a store, and all phases together are one serial run
+pub record RunAsOne (rows : Table) (tasks : List Task) (text : List ℕ) : Type 0 where
+  pub course : Course
+  pub ran : RunFrom rows tasks (phases course) text
+  pub serial : IsSerial course
 
 -- the first one starts with its own rows
 abbrev pub RunInTurn : List Task → List ℕ → Type 0
 RunInTurn [] text = text ≡ []
-RunInTurn (task ∷ later) text = RunFrom task.setup.rows (task ∷ later) text
+RunInTurn (task ∷ later) text = RunAsOne task.setup.rows (task ∷ later) text
 
 -- the reports of all tasks
 pub record AreReports (tasks : List Task) (d : Shown) : Type 0 where

@@ -1,10 +1,11 @@
 //! One phase of a store.
 
-ghost use Rattle.std.specs.Prelude.{◌≡◌, ◌++◌, [], length, IfOk, OnOk};
+ghost use Rattle.std.specs.Prelude.{◌≡◌, ◌++◌, ◌∷◌, [], length, IfOk, OnOk};
 ghost use Rattle.teb_names.specs.declared.Cell.{Cell};
 ghost use Rattle.serial_order.specs.Tables.{IsFinalRows};
 ghost use Rattle.store_setup.specs.SetupView.{setup_view};
 ghost use Rattle.store_setup.specs.Sound.{IsWhole};
+ghost use Rattle.tree_switch.specs.Courses.{IsCourse};
 ghost use Rattle.tree_switch.specs.Refusals.{IsDrained, MaySwitch};
 ghost use Rattle.tree_switch.specs.Starts.{IsStarted};
 ghost use Rattle.phase_runner.specs.Runs.{IsPhase};
@@ -29,7 +30,9 @@ pub fn first_phase<C: Chains>(
     text: &mut Vec<u8>,
 ) -> Result<Phases<C>, AllocError>
     requires { (x : Cell) → C.lists chains x ≡ [] }
-    ensures { IfOk result (λ p. HasRun task.setup.rows task p.present text.old.items text.new.items) }
+    ensures course { IfOk result IsCourse }
+    ensures past { IfOk result (λ p. p.past ≡ []) }
+    ensures run { IfOk result (λ p. HasRun task.setup.rows task p.present text.old.items text.new.items) }
 {
     let (setup, lines) = task.into_parts();
     let engine = Engine::new(alloc, setup, chains)?;
@@ -46,7 +49,9 @@ pub fn next_phase<C: Chains>(
 ) -> Result<Phases<C>, AllocError>
     requires chains { (x : Cell) → C.lists chains x ≡ [] }
     requires may { MaySwitch phases.present task.setup }
-    ensures { IfOk result (λ p. (rows : _) × IsFinalRows phases.present.store phases.present.events rows × HasRun rows task p.present text.old.items text.new.items) }
+    ensures course { IfOk result IsCourse }
+    ensures past { IfOk result (λ p. p.past ≡ phases.past ++ phases.present ∷ []) }
+    ensures run { IfOk result (λ p. (rows : _) × IsFinalRows phases.present.store phases.present.events rows × HasRun rows task p.present text.old.items text.new.items) }
 {
     let (setup, lines) = task.into_parts();
     switch(alloc, &mut phases, setup, chains)?;
@@ -63,7 +68,8 @@ fn switch<C: Chains>(
     requires setup { IsWhole (setup_view setup) }
     requires chains { (x : Cell) → C.lists chains x ≡ [] }
     requires may { MaySwitch phases.old.present (setup_view setup) }
-    ensures { OnOk result (IsStarted setup phases.old.present phases.new.present) }
+    ensures past { OnOk result (phases.new.past ≡ phases.old.past ++ phases.old.present ∷ []) }
+    ensures present { OnOk result (IsStarted setup phases.old.present phases.new.present) }
 {
     match phases.switch(alloc, setup, chains) {
         Ok(()) => Ok(()),
@@ -90,6 +96,8 @@ fn run_present<C: Chains>(
 ) -> Result<Phases<C>, AllocError>
     requires new { phases.present.events ≡ [] }
     requires named { length phases.present.store.setup.tree ≡ length phases.present.names.nodes }
+    ensures course { IfOk result IsCourse }
+    ensures past { IfOk result (λ p. p.past ≡ phases.past) }
     ensures store { IfOk result (λ p. p.present.store ≡ phases.present.store) }
     ensures names { IfOk result (λ p. p.present.names ≡ phases.present.names) }
     ensures drained { IfOk result (λ p. IsDrained p.present.events) }

@@ -1,9 +1,10 @@
 //! The tasks of all hands, in the order of their sessions.
 
 ghost use Rattle.std.specs.Prelude.{◌≡◌, ℕ, ◌++◌, All, map, IfOk, IfErr};
-ghost use Rattle.std.specs.List.{flat_map};
+ghost use Rattle.std.specs.List.{Contains, flat_map};
 ghost use Rattle.teb_history.specs.Phases.{numbers};
 ghost use Rattle.turn_lock.specs.Counts.{total};
+ghost use Rattle.session_tasks.specs.Errors.{IsFirstError};
 ghost use Rattle.session_tasks.specs.Served.{IsCause};
 ghost use Rattle.session_tasks.specs.Tasks.{IsTask, AreTasks, number_in};
 ghost use Rattle.session_pool.specs.Hands.{taken_in};
@@ -63,6 +64,7 @@ pub(crate) fn in_order<C: Chains, G: Gate>(
     requires all { (weight : ℕ → ℕ) → total weight (map number_in tasks.items) ≡ total weight (numbers SESSIONS) }
     ensures ok { IfOk result (λ v. AreTasks run.now.hall.now run.now.scripts.now (numbers SESSIONS) v.items) }
     ensures cause { IfErr result (IsCause run.now.hall.now run.now.scripts.now) }
+    ensures first { IfErr result (IsFirstError (λ t. IsTask run.now.hall.now run.now.scripts.now t × Contains tasks.items t)) }
 {
     tasks.sort_unstable_by_key(|task| task.pass.session().0);
     for i in 0..tasks.len() {

@@ -1,12 +1,14 @@
 //! The run of all sessions.
 
-ghost use Rattle.std.specs.Prelude.{◌≡◌, ℕ, ◌<◌, ◌≤◌, [], All, map, length, IfOk, IfErr};
+ghost use Rattle.std.specs.Prelude.{◌≡◌, ◌≢◌, ℕ, ◌<◌, ◌≤◌, [], All, map, length, IfOk, IfErr};
 ghost use Rattle.std.specs.VecDeque.{deque_len};
 ghost use Rattle.teb_history.specs.Phases.{numbers};
 ghost use Rattle.turn_lock.specs.Counts.{total};
 ghost use Rattle.session_server.specs.Passes.{IsNew, number_of};
 ghost use Rattle.session_tasks.specs.Scripted.{AreDistinct};
+ghost use Rattle.session_tasks.specs.Errors.{IsFirstError};
 ghost use Rattle.session_tasks.specs.Served.{IsServed, IsCause};
+ghost use Rattle.session_tasks.specs.declared.error.RunError.TheVariants.{OutOfMemory};
 ghost use Rattle.session_tasks.specs.Tasks.{IsTask, number_in};
 ghost use Rattle.session_pool.specs.Hands.{AreHands};
 ghost use Rattle.session_pool.specs.Suits.{Suits};
@@ -48,7 +50,7 @@ pub struct Pooled<C: Chains> {
 /// is left in the queue. `Ok` hands back the passes of the sessions 1 to `SESSIONS` in order, and whom each worker took.
 ///
 /// # Errors
-/// The error of the least session that met one. `PassSpent` hands back the pass that has asked `MOST_ASKS` times. The other
+/// The error of the least session that met one; `OutOfMemory` may also come in its place. `PassSpent` hands back the pass that has asked `MOST_ASKS` times. The other
 /// passes are gone, so the hall cannot be closed.
 pub fn run_pool<C: Chains + Send, G: Gate + Sync, R: Threads + Wait + Sync>(
     rt: &R,
@@ -67,6 +69,7 @@ pub fn run_pool<C: Chains + Send, G: Gate + Sync, R: Threads + Wait + Sync>(
     ensures served { IfOk result (λ p. All (IsServed hall.now scripts.now) p.passes.items) }
     ensures taken { IfOk result (λ p. AreTaken scripts.now workers (numbers_in p.taken.items)) }
     ensures cause { IfErr result (IsCause hall.now scripts.now) }
+    ensures first { IfErr result (λ e. e ≢ OutOfMemory → IsFirstError (IsTask hall.now scripts.now) e) }
 {
     let run = Run {
         hall,

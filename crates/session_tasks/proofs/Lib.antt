@@ -3,3 +3,4 @@ pub mod InOrder
 pub mod TaskStages
 pub mod Distinct
 pub mod Walking
+pub mod FirstErrors

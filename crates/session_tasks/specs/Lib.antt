@@ -1,3 +1,5 @@
+pub mod Errors
+pub mod Looks
 pub mod Scripted
 pub mod Served
 pub mod Stops

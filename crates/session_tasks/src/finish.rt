@@ -1,12 +1,14 @@
 //! How the sessions that were stopped are served to their end.
 
-ghost use Rattle.std.specs.Prelude.{◌≡◌, All, map, IfOk, IfErr};
+ghost use Rattle.std.specs.Prelude.{◌≡◌, ◌≢◌, All, map, IfOk, IfErr};
 ghost use Rattle.teb_history.specs.Phases.{numbers};
 ghost use Rattle.session_server.specs.Passes.{number_of};
 ghost use Rattle.session_tasks.specs.Scripted.{AreDistinct};
 ghost use Rattle.session_tasks.specs.Tasks.{IsTask, AreTasks};
 ghost use Rattle.session_tasks.specs.Served.{IsServed, IsCause};
-ghost use Rattle.session_tasks.specs.declared.task.Progress.TheVariants.{Failed};
+ghost use Rattle.session_tasks.specs.Errors.{error_of, HasFailed, IsFirstError};
+ghost use Rattle.session_tasks.specs.declared.error.RunError.TheVariants.{OutOfMemory};
+ghost use Rattle.session_tasks.specs.declared.task.Progress.TheVariants.{Failed, Through};
 
 use crate::error::RunError;
 use crate::gate::Gate;
@@ -22,6 +24,10 @@ use version_chain::Chains;
 
 impl<C: Chains, G: Gate> Run<'_, C, G> {
     /// Serves each session to its end, in order, and hands back their passes.
+    ///
+    /// # Errors
+    /// The error of the first session that meets one; those before it are served to their ends. `OutOfMemory` may also come
+    /// before the first is served.
     pub fn finish<R: Wait>(
         &self,
         rt: &R,
@@ -33,6 +39,7 @@ impl<C: Chains, G: Gate> Run<'_, C, G> {
         ensures sessions { IfOk result (λ v. map number_of v.items ≡ numbers SESSIONS) }
         ensures served { IfOk result (λ v. All (IsServed self.now.hall.now self.now.scripts.now) v.items) }
         ensures cause { IfErr result (IsCause self.now.hall.now self.now.scripts.now) }
+        ensures first { IfErr result (λ e. e ≢ OutOfMemory → IsFirstError (IsTask self.now.hall.now self.now.scripts.now) e) }
     {
         let Ok(mut passes) = Vec::with_capacity(alloc, usize::from(SESSIONS)) else {
             return Err(RunError::OutOfMemory);
@@ -49,7 +56,9 @@ impl<C: Chains, G: Gate> Run<'_, C, G> {
         requires scripts { AreDistinct self.now.scripts.now }
         ensures session { IfOk result (λ p. p.session ≡ task.pass.session) }
         ensures served { IfOk result (IsServed self.now.hall.now self.now.scripts.now) }
+        ensures through { IfOk result (λ p. (t : _) × IsTask self.now.hall.now self.now.scripts.now t × (t.progress ≡ Through) × (t.pass ≡ p)) }
         ensures cause { IfErr result (IsCause self.now.hall.now self.now.scripts.now) }
+        ensures failed { IfErr result (HasFailed (IsTask self.now.hall.now self.now.scripts.now) task.pass.session.0) }
     {
         self.advance::<Stops, R>(rt, &mut task, None);
         match task.progress {
@@ -59,11 +68,12 @@ impl<C: Chains, G: Gate> Run<'_, C, G> {
         }
     }
 
-    /// The error of a run in which a session met one.
+    /// The error of a run in which a session met one: `PassSpent` with the pass, or `OutOfMemory`, whichever it met.
     pub fn fail(&self, task: Task<C>, error: AskError) -> RunError<C>
         requires task { IsTask self.now.hall.now self.now.scripts.now task }
         requires failed { task.progress ≡ Failed error }
-        ensures { IsCause self.now.hall.now self.now.scripts.now result }
+        ensures error { result ≡ error_of task.pass error }
+        ensures cause { IsCause self.now.hall.now self.now.scripts.now result }
     {
         match error {
             AskError::PassSpent => RunError::PassSpent(task.pass),

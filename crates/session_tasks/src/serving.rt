@@ -1,14 +1,17 @@
 //! A session along its script.
 
-ghost use Rattle.std.specs.Prelude.{◌≡◌, ◌≢◌, ◌≤◌, Ok, Err, Some, true, false, IfOk};
+ghost use Rattle.std.specs.Prelude.{◌≡◌, ◌≢◌, ◌+◌, ◌<◌, ◌≤◌, Ok, Err, Some, true, false, IfOk};
 ghost use Rattle.std.specs.Option.{IsSome};
 ghost use Rattle.teb_rules.specs.Scripts.{IsWalk, asks};
 ghost use Rattle.script_walk.specs.ScriptStates.{requests_on, state_of};
-ghost use Rattle.session_server.specs.Passes.{IsPassOf, mine};
+ghost use Rattle.finish_board.specs.declared.answer.Poll.TheVariants.{Unfinished};
+ghost use Rattle.session_server.specs.Passes.{IsPassOf, known, looked, mine};
+ghost use Rattle.session_tasks.specs.Looks.{LookedInVain};
+ghost use Rattle.session_tasks.specs.declared.serving.TheConstants.{LOOKS};
 ghost use Rattle.session_tasks.specs.Walks.{IsUnderWay, number_at};
 ghost use Rattle.session_tasks.specs.Stops.{FoundRaised, FoundClear};
 ghost use Rattle.session_server.specs.Waits.{WaitsAmong};
-ghost use Rattle.session_server.specs.declared.error.AskError.TheVariants.{PassSpent};
+ghost use Rattle.session_server.specs.declared.error.AskError.TheVariants.{PassSpent, OutOfMemory};
 
 use crate::gate::Gate;
 use crate::stop::is_raised;
@@ -32,7 +35,8 @@ const LOOKS: u32 = 64;
 /// waits for until that has finished, at most 64 times, and then asks again.
 ///
 /// # Errors
-/// The first error of [`Hall::ask`]. What was answered before it stands in the pass and in the walker.
+/// The first error of [`Hall::ask`]: `PassSpent` where the pass has asked `MOST_ASKS` times, `OutOfMemory` only where it has
+/// asked at this call. What was answered before it stands in the pass and in the walker.
 #[tactic(auto, using(crate::proofs::Walking::walk_ends, crate::proofs::Walking::walk_same))]
 pub fn serve<C: Chains, G: Gate, S: Rule, R: Wait>(
     rt: &R,
@@ -51,6 +55,7 @@ pub fn serve<C: Chains, G: Gate, S: Rule, R: Wait>(
     ensures stopped { result ≡ Ok false → IsSome stop.entry × FoundRaised S.invariant }
     ensures looked { IsSome stop.entry → pass.new.asks ≢ pass.old.asks → FoundClear S.invariant }
     ensures spent { result ≡ Err PassSpent → pass.new.asks ≡ MOST_ASKS }
+    ensures memory { result ≡ Err OutOfMemory → pass.old.asks < pass.new.asks }
 {
     for _ in rt.forever() {
         let Some(request) = walker.next(lines) else {
@@ -84,7 +89,9 @@ fn ask_next<C: Chains, G: Gate, R: Wait>(
     ensures pass { IsPassOf hall.now pass.new × (pass.new.session ≡ pass.old.session) }
     ensures way { IsUnderWay lines.now (mine pass.new) walker.new }
     ensures waits { IfOk result (WaitsAmong MOST_TXNS) }
+    ensures asks { pass.old.asks ≤ pass.new.asks }
     ensures spent { result ≡ Err PassSpent → pass.new.asks ≡ MOST_ASKS }
+    ensures memory { result ≡ Err OutOfMemory → pass.new.asks ≡ pass.old.asks + 1 }
 {
     let number = number_at(walker, lines);
     let session = pass.session();
@@ -112,13 +119,15 @@ fn number_at(walker: &Walker, lines: &[Line]) -> u32
     }
 }
 
-/// Looks at a transaction until it has finished, at most 64 times.
+/// Looks at a transaction until it has finished, at most 64 times. Where the pass does not know then that it has, each of the
+/// 64 looks found that it had not.
 #[tactic(auto, using(crate::proofs::Walking::mine_same))]
 fn look_for<C: Chains>(hall: &Hall<C>, pass: &mut Pass<C>, who: Txn)
     requires pass { IsPassOf hall.now pass.old }
     requires who { (1 ≤ who.0) × (who.0 ≤ MOST_TXNS) }
     ensures pass { IsPassOf hall.now pass.new × (pass.new.session ≡ pass.old.session) × (pass.new.asks ≡ pass.old.asks) }
     ensures mine { mine pass.new ≡ mine pass.old }
+    ensures looks { known pass.new who.0 ≡ Unfinished → LookedInVain who.0 LOOKS (looked pass.old) (looked pass.new) }
 {
     for _ in 0..LOOKS {
         if let Poll::Finished(_) = hall.poll(pass, who) {

@@ -1,10 +1,13 @@
 //! The run of all sessions.
 
-ghost use Rattle.std.specs.Prelude.{◌≡◌, ◌≤◌, All, map, IfOk, IfErr};
+ghost use Rattle.std.specs.Prelude.{◌≡◌, ◌≢◌, ◌≤◌, All, map, IfOk, IfErr};
 ghost use Rattle.teb_history.specs.Phases.{numbers};
 ghost use Rattle.session_server.specs.Passes.{IsNew, number_of};
 ghost use Rattle.session_tasks.specs.Scripted.{AreDistinct};
+ghost use Rattle.session_tasks.specs.Errors.{IsFirstError};
 ghost use Rattle.session_tasks.specs.Served.{IsServed, IsCause};
+ghost use Rattle.session_tasks.specs.Tasks.{IsTask};
+ghost use Rattle.session_tasks.specs.declared.error.RunError.TheVariants.{OutOfMemory};
 
 use crate::deal::deal;
 use crate::gather::gather;
@@ -13,6 +16,7 @@ use script_text::Scripts;
 use session_server::{Hall, Pass};
 use session_tasks::{Gate, Run, RunError};
 use std::alloc::Global;
+use std::collections::VecDeque;
 use std::sync::Wait;
 use std::thread::Threads;
 use teb_names::SESSIONS;
@@ -26,7 +30,7 @@ use version_chain::Chains;
 /// `SESSIONS` in order.
 ///
 /// # Errors
-/// The error of the least session that met one. `PassSpent` hands back the pass that has asked `MOST_ASKS` times. The other
+/// The error of the least session that met one; `OutOfMemory` may also come in its place. `PassSpent` hands back the pass that has asked `MOST_ASKS` times. The other
 /// passes are gone, so the hall cannot be closed.
 pub fn run_threads<C: Chains + Send, G: Gate + Sync, R: Threads + Wait + Sync>(
     rt: &R,
@@ -44,6 +48,7 @@ pub fn run_threads<C: Chains + Send, G: Gate + Sync, R: Threads + Wait + Sync>(
     ensures sessions { IfOk result (λ v. map number_of v.items ≡ numbers SESSIONS) }
     ensures served { IfOk result (λ v. All (IsServed hall.now scripts.now) v.items) }
     ensures cause { IfErr result (IsCause hall.now scripts.now) }
+    ensures first { IfErr result (λ e. e ≢ OutOfMemory → IsFirstError (IsTask hall.now scripts.now) e) }
 {
     let run = Run {
         hall,
@@ -53,7 +58,10 @@ pub fn run_threads<C: Chains + Send, G: Gate + Sync, R: Threads + Wait + Sync>(
     let Ok(mut hands) = deal(&run, alloc, passes, usize::from(workers)) else {
         return Err(RunError::OutOfMemory);
     };
+    let Ok(room) = VecDeque::with_capacity(alloc, usize::from(SESSIONS)) else {
+        return Err(RunError::OutOfMemory);
+    };
     work(&run, rt, &mut hands);
-    let tasks = gather(&run, alloc, hands)?;
+    let tasks = gather(&run, room, hands)?;
     run.finish(rt, alloc, tasks)
 }

@@ -6,7 +6,7 @@ use Rattle.tree_switch.specs.Refusals.{IsDrained}
 use Rattle.answer_log.specs.Telling.{HasLines}
 use Rattle.replay_runner.specs.Logs.{log_of, replayed}
 use Rattle.input_runner.specs.Runs.{IsRunOver}
-use Rattle.phase_runner.proofs.Running.{course_after, drained_after, over_after, reported_after}
+use Rattle.phase_runner.proofs.Running.{course_after, course_of, drained_after, over_after, reported_after}
 use Rattle.phase_runner.proofs.phase.run_present.Goals as goal
 
 pub report_of-requires : goal.report_of-requires
@@ -28,6 +28,15 @@ from_parts-requires g c =
     let e = c.into_parts-past.result.1 in
     let made = c.into_parts-past.ensures in
     course_after c.args.phases past e c.replay.new.engine c.args.lines.now [] (log_of e.store e.events (replayed e.store e.events c.args.lines.now)) made.course made.past made.present c.requires.new c.replay.ensures.store c.replay.ensures.names refl refl c.in_ok-replay.ensures.events
+
+pub returns-clause-course : goal.returns-clause-course
+returns-clause-course g c =
+    let past = c.into_parts-past.result.0.items in
+    let e = c.into_parts-past.result.1 in
+    let f = c.replay.new.engine in
+    let made = c.into_parts-past.ensures in
+    course_of c.from_parts.result past f c.from_parts.ensures.past c.from_parts.ensures.present
+    (course_after c.args.phases past e f c.args.lines.now [] (log_of e.store e.events (replayed e.store e.events c.args.lines.now)) made.course made.past made.present c.requires.new c.replay.ensures.store c.replay.ensures.names refl refl c.in_ok-replay.ensures.events)
 
 pub returns-clause-drained : goal.returns-clause-drained
 returns-clause-drained g c =

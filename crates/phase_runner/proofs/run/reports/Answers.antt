@@ -7,31 +7,31 @@ use Rattle.phase_runner.proofs.run.reports.Goals as goal
 pub loop-task-init : goal.loop-task-init
 loop-task-init c =
     let later = c.pop_front.new.self.items in
-    let e = c.in_ok-phases.phases.present in
+    let p = c.in_ok-phases.phases in
     let text = c.first_phase.new.text.items in
     let all = c.in-Some.ensures.items in
-    subst (λ (tasks : List Task). MayGoOn tasks later e text) (sym all)
-    (first_run c.in-Some.first later e c.new-text.result.items text c.new-text.ensures.items (subst AreFollowing all c.requires) c.in_ok-phases.ensures)
+    subst (λ (tasks : List Task). MayGoOn tasks later p text) (sym all)
+    (first_run c.in-Some.first later p c.new-text.result.items text c.in_ok-phases.ensures.course c.in_ok-phases.ensures.past c.new-text.ensures.items (subst AreFollowing all c.requires) c.in_ok-phases.ensures.run)
 
 pub next_phase-requires-clause-may : goal.next_phase-requires-clause-may
 next_phase-requires-clause-may c =
     let later = c.pop_front-in-loop-task.new.self.items in
-    let e = c.loop-task.phases.present in
+    let p = c.loop-task.phases in
     let text = c.loop-task.text.items in
-    may_switch c.args.tasks.items c.in-Some-pop_front.task later e text (subst (λ (tasks : List Task). MayGoOn c.args.tasks.items tasks e text) c.in-Some-pop_front.ensures.items c.loop-task.invariant)
+    may_switch c.args.tasks.items c.in-Some-pop_front.task later p text (subst (λ (tasks : List Task). MayGoOn c.args.tasks.items tasks p text) c.in-Some-pop_front.ensures.items c.loop-task.invariant)
 
 pub loop-task-preserved : goal.loop-task-preserved
 loop-task-preserved c =
     let later = c.pop_front-in-loop-task.new.self.items in
-    let e = c.loop-task.phases.present in
+    let p = c.loop-task.phases in
     let text = c.loop-task.text.items in
     let ran = c.in_ok-phases-2.ensures in
-    next_run c.args.tasks.items c.in-Some-pop_front.task later e c.in_ok-phases-2.phases.present text c.next_phase.new.text.items
-    (subst (λ (tasks : List Task). MayGoOn c.args.tasks.items tasks e text) c.in-Some-pop_front.ensures.items c.loop-task.invariant) ran.0 ran.1 ran.2
+    next_run c.args.tasks.items c.in-Some-pop_front.task later p c.in_ok-phases-2.phases text c.next_phase.new.text.items
+    (subst (λ (tasks : List Task). MayGoOn c.args.tasks.items tasks p text) c.in-Some-pop_front.ensures.items c.loop-task.invariant) ran.course ran.past ran.run.0 ran.run.1 ran.run.2
 
 pub returns : goal.returns
 returns c =
-    let e = c.loop-task.phases.present in
+    let p = c.loop-task.phases in
     let text = c.loop-task.text.items in
     let none = all_taken c.loop-task.tasks.items c.pop_front-in-loop-task.new.self.items c.in_default-pop_front.ensures.items c.in_default-pop_front.ensures.rest in
-    all_run c.args.tasks.items e text (subst (λ (tasks : List Task). MayGoOn c.args.tasks.items tasks e text) none c.loop-task.invariant)
+    all_run c.args.tasks.items p text (subst (λ (tasks : List Task). MayGoOn c.args.tasks.items tasks p text) none c.loop-task.invariant)

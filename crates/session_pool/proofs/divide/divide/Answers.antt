@@ -1,4 +1,4 @@
-use Rattle.std.proofs.Common.{◌≡◌, suc, ◌+◌, ◌++◌, length, vec_len, sym, ap, ◌∙◌, arith}
+use Rattle.std.proofs.Common.{◌≡◌, suc, ◌++◌, length, vec_len, sym, ap, ◌∙◌, arith}
 use Rattle.std.specs.Option.{is_some, option_to_list}
 use Rattle.std.specs.VecDeque.{deque_len}
 use Rattle.session_tasks.proofs.InOrder.{all_passes}

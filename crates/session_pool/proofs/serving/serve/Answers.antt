@@ -1,4 +1,4 @@
-use Rattle.std.proofs.Common.{◌-◌, ap, arith}
+use Rattle.std.proofs.Common.{ap, arith}
 use Rattle.teb_names.specs.declared.Session.{Session}
 use Rattle.session_tasks.specs.Tasks.{number_in}
 use Rattle.session_pool.proofs.Working.{at_work_on, at_work_room}

@@ -1,0 +1,2 @@
+mod Amending
+mod Seeing
