@@ -2,3 +2,4 @@ mod Audited
 mod Closed
 mod Walks
 mod Written
+mod Spending

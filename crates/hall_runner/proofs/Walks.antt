@@ -14,7 +14,7 @@ use Rattle.script_walk.specs.ScriptStates.{requests_on}
 use Rattle.fair_driver.specs.Seats.{scripts_on}
 use Rattle.session_server.specs.declared.hall.Hall.{Hall}
 use Rattle.session_server.specs.declared.pass.Pass.{Pass}
-use Rattle.session_server.specs.Passes.{IsWithin, number_of, seen, mine}
+use Rattle.session_server.specs.Passes.{IsWithin, number_of}
 use Rattle.session_server.proofs.Numbers.{has_all}
 use Rattle.session_tasks.specs.Scripted.{Scripted}
 use Rattle.session_tasks.specs.Served.{IsServed}

@@ -24,7 +24,7 @@ use Rattle.hall_runner.specs.declared.served.Served.TheVariants.{Through, Spent}
 -- of these scripts, over a store
 abbrev pub IsServedOver : Store → NameBook → List (Session × List Line) → Served → Type 0
 IsServedOver X names scripts (Through output entries) = AreServed X names scripts entries output
-IsServedOver X names scripts (Spent p) = IsSpentOn scripts p
+IsServedOver X names scripts (Spent p) = IsSpentOn X scripts p
 
 abbrev pub IsServedBy : Task → Served → Type 0
 IsServedBy task s = IsServedOver (store_of_view task.setup) (names_of task.setup) (scripts_of task.lines) s
@@ -32,7 +32,7 @@ IsServedBy task s = IsServedOver (store_of_view task.setup) (names_of task.setup
 -- all scripts were worked through, and the entries are kept; or a pass is spent, and nothing is shown
 abbrev pub IsServedAs : {C : Type 0} {g : Ghosts C} → Task → Option (List Entry) → Option (Pass C g) → Shown → Type 0
 IsServedAs task (Some entries) None d = AreServed (store_of_view task.setup) (names_of task.setup) (scripts_of task.lines) entries d
-IsServedAs task None (Some p) d = IsSpentOn (scripts_of task.lines) p × (d ≡ record { status = 10; text = []; history = None })
+IsServedAs task None (Some p) d = IsSpentOn (store_of_view task.setup) (scripts_of task.lines) p × (d ≡ record { status = 10; text = []; history = None })
 IsServedAs task _ _ d = ⊥
 
 abbrev pub history_in : Served → Option (List Event)

@@ -1,16 +1,19 @@
 -- What a run by several threads comes to.
 use Rattle.std.specs.Prelude.{◌≡◌, ℕ, List, Some, slice_get}
 use Rattle.teb_names.specs.declared.Session.{Session}
+use Rattle.teb_rules.specs.Setup.{Store}
+use Rattle.teb_rules.specs.Run.{IsLegal}
 use Rattle.teb_rules.specs.Scripts.{IsWay}
 use Rattle.version_chain.specs.declared.chains.Chains.{Ghosts}
 use Rattle.script_text.specs.declared.Line.{Line}
 use Rattle.script_walk.specs.ScriptStates.{requests_on}
 use Rattle.session_server.specs.declared.pass.TheConstants.{MOST_ASKS}
 use Rattle.session_server.specs.declared.pass.Pass.{Pass}
-use Rattle.session_server.specs.Passes.{mine}
+use Rattle.session_server.specs.Passes.{mine, seen}
 
--- the pass has asked MOST_ASKS times, and its entries are a way along the script of its session
-pub record IsSpentOn {C : Type 0} {g : Ghosts C} (scripts : List (Session × List Line)) (p : Pass C g) : Type 0 where
+-- the pass has asked MOST_ASKS times. What it has seen is a legal run of the store, and its own entries are a way along the script of its session
+pub record IsSpentOn {C : Type 0} {g : Ghosts C} (X : Store) (scripts : List (Session × List Line)) (p : Pass C g) : Type 0 where
+  pub legal : IsLegal X (seen p)
   pub asks : p.asks ≡ MOST_ASKS
   pub place : ℕ
   pub lines : List Line

@@ -1,0 +1,22 @@
+-- What a pass of a hall has seen is a run of the store that the hall was made over.
+use Rattle.std.proofs.Common.{◌≡◌, List, subst}
+use Rattle.teb_names.specs.declared.Session.{Session}
+use Rattle.teb_rules.specs.Setup.{Store}
+use Rattle.teb_rules.specs.Run.{IsLegal}
+use Rattle.version_chain.specs.declared.chains.Chains.{Ghosts}
+use Rattle.script_text.specs.declared.Line.{Line}
+use Rattle.session_server.specs.declared.hall.Hall.{Hall}
+use Rattle.session_server.specs.declared.pass.Pass.{Pass}
+use Rattle.session_server.specs.Passes.{base_of, seen}
+use Rattle.session_tasks.specs.Served.{IsSpent}
+use Rattle.hall_runner.specs.Spent.{IsSpentOn}
+
+pub spent_on : {C : Type 0} {g : Ghosts C} (X : Store) (h : Hall C g) (scripts : List (Session × List Line)) (p : Pass C g) → (base_of h).store ≡ X → IsSpent h scripts p → IsSpentOn X scripts p
+spent_on X h scripts p store s = record {
+  legal = subst (λ (Y : Store). IsLegal Y (seen p)) store (p.knows.legal (base_of h) s.hall.1);
+  asks = s.asks;
+  place = s.place;
+  lines = s.lines;
+  script = s.script;
+  way = s.way;
+}
