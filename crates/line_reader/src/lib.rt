@@ -1,7 +1,7 @@
 //! The lines of a source, read one at a time: a line is answered before the next one is read.
 #![tactic(auto)]
 
-ghost use Rattle.std.specs.Prelude.{◌≡◌, ◌≢◌, [], ◌∷◌, ◌++◌, IfOk, IsErrOf, MatchOption, OnOk};
+ghost use Rattle.std.specs.Prelude.{◌≡◌, ◌≢◌, [], ◌∷◌, ◌++◌, ◌≤◌, IfOk, IfSome, IsErrOf, length, MatchOption, OnOk};
 ghost use Rattle.std.specs.Io.KnownBytes.{Consumes, IsAtEnd};
 ghost use Rattle.teb_io.specs.Faults.{Rose};
 ghost use Rattle.line_reader.specs.Lines.{ahead, IsFirstFeed, IsLine, TakesNext};
@@ -56,9 +56,11 @@ impl LineReader {
         source: &mut S,
     ) -> Result<Option<Vec<u8>>, ReadError>
         ensures taken { IfOk result (TakesNext (ahead self.old (S.left source.old)) (ahead self.new (S.left source.new))) }
+        ensures short { IfOk result (λ o. IfSome o (λ line. length line.items ≤ MOST_LINE_BYTES)) }
         ensures fault { IsErrOf result ReadError.ReadFault → Rose (S.faults source.old) (S.faults source.new) }
     {
         let line = match self.read_line(alloc, source)? {
+            Some(len) if len > MOST_LINE_BYTES => return Err(ReadError::TooLong),
             Some(len) => Some(self.take_line(alloc, len)?),
             None => self.take_rest(alloc)?,
         };
@@ -72,7 +74,7 @@ impl LineReader {
         source: &mut S,
     ) -> Result<Option<usize>, ReadError>
         ensures kept { OnOk result (Consumes (ahead self.old (S.left source.old)) (ahead self.new (S.left source.new)) []) }
-        ensures found { IfOk result (λ o. MatchOption o (IsLine self.new × IsAtEnd (S.left source.new)) (IsFirstFeed self.new)) }
+        ensures found { IfOk result (λ o. MatchOption o (IsLine self.new × IsAtEnd (S.left source.new) × (length self.new ≤ MOST_LINE_BYTES)) (IsFirstFeed self.new)) }
         ensures fault { IsErrOf result ReadError.ReadFault → Rose (S.faults source.old) (S.faults source.new) }
     {
         let mut piece = [0; PIECE];
@@ -112,7 +114,7 @@ impl LineReader {
     /// Takes the first line, of this length, and its line feed.
     fn take_line(&mut self, alloc: Global, len: usize) -> Result<Vec<u8>, AllocError>
         requires { IsFirstFeed self.old len }
-        ensures { IfOk result (λ line. IsLine line.items × (self.old ≡ line.items ++ 10 ∷ self.new)) }
+        ensures { IfOk result (λ line. IsLine line.items × (length line.items ≡ len) × (self.old ≡ line.items ++ 10 ∷ self.new)) }
     {
         let line = self.rest()[..len].to_vec(alloc)?;
         self.at += len + 1;
