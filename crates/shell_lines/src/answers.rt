@@ -1,7 +1,8 @@
 //! The texts of answers.
 
-ghost use Rattle.std.specs.Prelude.{◌≡◌, ◌++◌, OnOk, codes};
-ghost use Rattle.script_text.specs.Texts.{line_text};
+ghost use Rattle.std.specs.Prelude.{◌≡◌, ◌++◌, OnOk, codes, map};
+ghost use Rattle.script_text.specs.Puts.{spaced};
+ghost use Rattle.script_text.specs.Texts.{txn_text};
 ghost use Rattle.shell_lines.specs.Answers.{bad_text, checkpoint_text, epoch_text, help_text, names_text, order_text, why_text};
 
 use crate::Checkpoint;
@@ -16,7 +17,7 @@ pub fn put_bad(out: &mut Vec<u8>, number: u64, why: LineWhy) -> Result<(), Alloc
 {
     put_line(
         out,
-        Word::Text("bad"),
+        &Word::Text("bad"),
         &[
             Word::Text("line"),
             Word::Natural(number),
@@ -43,7 +44,7 @@ pub fn put_epoch(out: &mut Vec<u8>, epoch: u64, commits: u64, left: u64) -> Resu
 {
     put_line(
         out,
-        Word::Text("epoch"),
+        &Word::Text("epoch"),
         &[
             Word::Natural(epoch),
             Word::Text("commits"),
@@ -59,14 +60,14 @@ pub fn put_checkpoint(out: &mut Vec<u8>, checkpoint: Checkpoint) -> Result<(), A
     ensures { OnOk result (out.new.items ≡ out.old.items ++ checkpoint_text checkpoint) }
 {
     match checkpoint {
-        Checkpoint::Begun(epoch) => put_line(out, Word::Text("epoch"), &[Word::Natural(epoch)]),
-        Checkpoint::Unfinished(txn) => put_line(out, Word::Text("unfinished"), &[Word::Txn(txn)]),
+        Checkpoint::Begun(epoch) => put_line(out, &Word::Text("epoch"), &[Word::Natural(epoch)]),
+        Checkpoint::Unfinished(txn) => put_line(out, &Word::Text("unfinished"), &[Word::Txn(txn)]),
         Checkpoint::Untold(session) => put_line(
             out,
-            Word::Text("untold"),
+            &Word::Text("untold"),
             &[Word::Natural(u64::from(session.0))],
         ),
-        Checkpoint::Full => put_line(out, Word::Text("full"), &[]),
+        Checkpoint::Full => put_line(out, &Word::Text("full"), &[]),
     }
 }
 
@@ -76,10 +77,18 @@ pub fn put_order(out: &mut Vec<u8>, order: &[Txn]) -> Result<(), AllocError>
     ensures { OnOk result (out.new.items ≡ out.old.items ++ order_text order.now) }
 {
     out.extend_from_slice(b"order")?;
-    for txn in order {
+    put_txns(out, order)?;
+    out.push(b'\n')?;
+    Ok(())
+}
+
+/// Appends transactions, each after a space.
+fn put_txns(out: &mut Vec<u8>, txns: &[Txn]) -> Result<(), AllocError>
+    ensures { OnOk result (out.new.items ≡ out.old.items ++ spaced (map txn_text txns.now)) }
+{
+    for txn in txns {
         put_next(out, &Word::Txn(*txn))?;
     }
-    out.push(b'\n')?;
     Ok(())
 }
 
@@ -102,9 +111,9 @@ fn put_names(out: &mut Vec<u8>, word: &str, names: &Names) -> Result<(), AllocEr
     ensures { OnOk result (out.new.items ≡ out.old.items ++ names_text word.now names.now) }
 {
     for i in 0..names.len() {
-        put_line(out, Word::Text(word), &[Word::Text(names.name(i))])?;
+        put_line(out, &Word::Text(word), &[Word::Text(names.name(i))])?;
     }
-    put_line(out, Word::Text("end"), &[])
+    put_line(out, &Word::Text("end"), &[])
 }
 
 /// Appends the lines that there are.

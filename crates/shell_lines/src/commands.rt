@@ -159,7 +159,7 @@ fn place_of(names: &Names, word: &[u8]) -> Option<u8>
     None
 }
 
-#[tactic(auto, unfolding(Rattle::script_text::specs::Grammar::number_at))]
+#[tactic(auto, unfolding(script_text::specs::Grammar::number_at))]
 fn number_at(word: &[u8]) -> Result<u32, LineWhy>
     ensures { result ≡ number_at word.now }
 {

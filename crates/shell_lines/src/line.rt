@@ -4,7 +4,7 @@ use script_text::LineWhy;
 use teb_names::{Request, Session, Table, Txn};
 
 /// What a line of the shell asks.
-#[derive(Clone, Copy, Debug, PartialEq, Eq)]
+#[derive(Clone, Copy)]
 pub enum ShellLine {
     /// Nothing: the line is blank, or a comment.
     Nothing,
@@ -31,7 +31,7 @@ pub enum ShellLine {
 }
 
 /// Which rows are asked for.
-#[derive(Clone, Copy, Debug, PartialEq, Eq)]
+#[derive(Clone, Copy)]
 pub struct RowRange {
     /// Those of this table, or of all.
     pub table: Option<Table>,
@@ -42,7 +42,7 @@ pub struct RowRange {
 }
 
 /// What becomes of a checkpoint.
-#[derive(Clone, Copy, Debug, PartialEq, Eq)]
+#[derive(Clone, Copy)]
 pub enum Checkpoint {
     /// This epoch has begun, counted from 1.
     Begun(u64),

@@ -1,6 +1,7 @@
 //! The parser of one line.
 
-ghost use Rattle.std.specs.Prelude.{◌≡◌, ◌<◌, ◌^◌, IfOk, length, slice_index, ◌==◌};
+ghost use Rattle.std.specs.Prelude.{◌≡◌, ◌<◌, ◌^◌, ◌==◌, IfOk, filter, length, not};
+ghost use Rattle.std.specs.List.{slice_split};
 ghost use Rattle.std.specs.Str.Lines.{strip_carriage_return};
 ghost use Rattle.script_text.specs.Lines.{lines_of};
 ghost use Rattle.script_text.specs.Words.{is_blank, nows, words_of};
@@ -12,7 +13,7 @@ use script_text::{LineWhy, ScriptError, parse_script};
 use std::alloc::{AllocError, Global};
 use teb_names::NameBook;
 
-/// What a line asks, without its line feed. `format` is that of the tree, as in scripts.
+/// Returns what a line asks, without its line feed. `format` is that of the tree, as in scripts.
 pub fn parse_line(
     alloc: Global,
     names: &NameBook,
@@ -53,18 +54,38 @@ fn asked(
 }
 
 /// The words of a line.
+#[tactic(auto, unfolding(script_text::specs::Words::words_of))]
 fn words_in(alloc: Global, line: &[u8]) -> Result<Vec<&[u8]>, AllocError>
     ensures { IfOk result (λ words. nows words.items ≡ words_of line.now) }
 {
-    line.split(|b| is_blank(*b))
-        .filter(|word| !word.is_empty())
-        .collect(alloc)
+    let parts = parts_of(alloc, line)?;
+    filled(alloc, &parts)
+}
+
+/// What is between spaces and tabs.
+fn parts_of(alloc: Global, line: &[u8]) -> Result<Vec<&[u8]>, AllocError>
+    ensures { IfOk result (λ parts. nows parts.items ≡ slice_split is_blank line.now) }
+{
+    line.split(|b| is_blank(*b)).collect(alloc)
 }
 
 fn is_blank(b: u8) -> bool
     ensures { result ≡ is_blank b }
 {
     b == b' ' || b == b'\t'
+}
+
+/// Those of these parts that are not empty.
+fn filled<'a>(alloc: Global, parts: &[&'a [u8]]) -> Result<Vec<&'a [u8]>, AllocError>
+    ensures { IfOk result (λ words. nows words.items ≡ filter (λ w. not (length w == 0)) (nows parts.now)) }
+{
+    let mut words = Vec::new(alloc);
+    for part in parts {
+        if !part.is_empty() {
+            words.push(*part)?;
+        }
+    }
+    Ok(words)
 }
 
 /// True if the first of the words begins with a dot.

@@ -8,7 +8,7 @@ use std::alloc::AllocError;
 use teb_names::{NameBook, Reply, Session};
 
 /// What a session is answered.
-#[derive(Clone, Copy, Debug, PartialEq, Eq)]
+#[derive(Clone, Copy)]
 pub enum StoreReply {
     /// The reply of the rules.
     Reply(Reply),
@@ -43,7 +43,7 @@ fn put_short(out: &mut Vec<u8>, session: Session, word: &str) -> Result<(), Allo
 {
     put_line(
         out,
-        Word::Natural(u64::from(session.0)),
+        &Word::Natural(u64::from(session.0)),
         &[Word::Text(word)],
     )
 }

@@ -23,7 +23,7 @@ pub fn put_rows(
 {
     let asked = asked_for(alloc, range, rows)?;
     put_each(out, names, first_of(&asked, range.count))?;
-    put_line(out, Word::Text("end"), &[])
+    put_line(out, &Word::Text("end"), &[])
 }
 
 /// The rows that are asked for, whatever their number.
@@ -87,5 +87,5 @@ fn put_row(out: &mut Vec<u8>, names: &NameBook, row: (Cell, i64)) -> Result<(), 
     let (cell, value) = row;
     let table = Word::Text(names.tables.name(cell.table.0));
     let key = Word::Natural(u64::from(cell.key));
-    put_line(out, Word::Text("row"), &[table, key, Word::Value(value)])
+    put_line(out, &Word::Text("row"), &[table, key, Word::Value(value)])
 }

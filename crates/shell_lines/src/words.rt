@@ -20,10 +20,10 @@ pub(crate) enum Word<'a> {
 
 /// Appends a line of words.
 #[tactic(auto, using(crate::proofs::Joined::one_line))]
-pub(crate) fn put_line(out: &mut Vec<u8>, first: Word, rest: &[Word]) -> Result<(), AllocError>
-    ensures { OnOk result (out.new.items ≡ out.old.items ++ line_text (word_text first ∷ map word_text rest.now)) }
+pub(crate) fn put_line(out: &mut Vec<u8>, first: &Word, rest: &[Word]) -> Result<(), AllocError>
+    ensures { OnOk result (out.new.items ≡ out.old.items ++ line_text (word_text first.now ∷ map word_text rest.now)) }
 {
-    put_word(out, &first)?;
+    put_word(out, first)?;
     put_spaced(out, rest)?;
     out.push(b'\n')?;
     Ok(())
