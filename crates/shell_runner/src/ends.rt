@@ -1,5 +1,15 @@
 //! The end of the sessions that hold a transaction.
 
+ghost use Rattle.std.specs.Prelude.{◌≡◌, ◌≢◌, ◌≤◌, IfErr, IfOk, IsTrue, List, MatchResult, Option, is_some, ℕ};
+ghost use Rattle.teb_io.specs.Faults.{Rose};
+ghost use Rattle.teb_names.specs.declared.Request.TheVariants as requests;
+ghost use Rattle.teb_history.specs.Phases.{held};
+ghost use Rattle.shell_lines.specs.declared.line.ShellLine.TheVariants as lines;
+ghost use Rattle.shell_runner.specs.States.{IsReady};
+ghost use Rattle.shell_runner.specs.Runs.{Answers, HasEnded, HasRun, IsSafely, StopsAt, state_of};
+ghost use Rattle.shell_runner.specs.declared.shell.Shell.{Shell as TheShell};
+ghost use Rattle.shell_runner.specs.declared.step.After.TheVariants as afters;
+
 use crate::ended::Ended;
 use crate::requests::ask_store;
 use crate::status::DISK_FAULT;
@@ -18,28 +28,60 @@ pub(crate) fn end_sessions<T: ShellStore, K: Sink>(
     status: u8,
     out: &mut K,
 ) -> Ended<T>
+    requires ready { IsReady tree.now (T.stored shell.store) }
+    requires status { (status ≢ 3) × (status ≢ 4) × (status ≢ 8) }
+    ensures ended { (first : TheShell T) (left before rest : Option (List ℕ)) (n : ℕ) → HasRun T.stored T.safe first left before n shell rest (K.written out.old)
+        → HasEnded T.stored T.safe first left before result.status result.shell (K.written out.new) }
+    ensures read { result.status ≢ 3 }
+    ensures write_fault { result.status ≡ 4 → Rose (K.faults out.old) (K.faults out.new) }
 {
-    let mut shell = shell;
+    let mut last = shell;
     for number in 1..SESSIONS + 1 {
-        let session = Session(number);
-        if shell.store.history().held(session).is_none() {
-            continue;
-        }
-        let (next, after) = end_session(alloc, shell, tree, session, out);
-        shell = next;
+        let (next, after) = end_if_held(alloc, last, tree, Session(number), out);
+        last = next;
         match after {
             Ok(After::Stopped) => return Ended {
-                shell,
+                shell: last,
                 status: DISK_FAULT,
             },
             Ok(_) => {}
-            Err(status) => return Ended { shell, status },
+            Err(status) => return Ended {
+                shell: last,
+                status,
+            },
         }
     }
-    Ended { shell, status }
+    Ended {
+        shell: last,
+        status,
+    }
+}
+
+/// Ends a session, if it holds a transaction, and writes the answer.
+fn end_if_held<T: ShellStore, K: Sink>(
+    alloc: Global,
+    shell: Shell<T>,
+    tree: &[u8],
+    session: Session,
+    out: &mut K,
+) -> (Shell<T>, Result<After, u8>)
+    requires ready { IsReady tree.now (T.stored shell.store) }
+    ensures ended { (first : TheShell T) (left before rest : Option (List ℕ)) (n : ℕ) → HasRun T.stored T.safe first left before n shell rest (K.written out.old)
+        → MatchResult result.1 (λ after. (k : ℕ) × HasRun T.stored T.safe first left before k result.0 rest (K.written out.new))
+            (λ status. HasEnded T.stored T.safe first left before status result.0 (K.written out.new)) }
+    ensures ready { IfOk result.1 (λ after. (after ≡ afters.Stopped → ⊥) → IsReady tree.now (T.stored result.0.store)) }
+    ensures read { IfErr result.1 (λ status. status ≢ 3) }
+    ensures write_fault { IfErr result.1 (λ status. status ≡ 4 → Rose (K.faults out.old) (K.faults out.new)) }
+    ensures writes { K.faults out.old ≤ K.faults out.new }
+{
+    if shell.store.history().held(session).is_none() {
+        return (shell, Ok(After::Next));
+    }
+    end_session(alloc, shell, tree, session, out)
 }
 
 /// Ends a session, and writes the answer.
+#[tactic(auto, using(crate::proofs::Going::once))]
 fn end_session<T: ShellStore, K: Sink>(
     alloc: Global,
     shell: Shell<T>,
@@ -47,6 +89,16 @@ fn end_session<T: ShellStore, K: Sink>(
     session: Session,
     out: &mut K,
 ) -> (Shell<T>, Result<After, u8>)
+    requires ready { IsReady tree.now (T.stored shell.store) }
+    ensures step { (n : ℕ) → MatchResult result.1
+        (λ after. Answers n (state_of T.stored shell) (lines.Ask session requests.End) after (state_of T.stored result.0) (K.written out.old) (K.written out.new))
+        (λ status. StopsAt n (state_of T.stored shell) (lines.Ask session requests.End) status (state_of T.stored result.0) (K.written out.old) (K.written out.new)) }
+    ensures ready { IfOk result.1 (λ after. (after ≡ afters.Stopped → ⊥) → IsReady tree.now (T.stored result.0.store)) }
+    ensures safe { IsSafely T.safe shell result.0 }
+    ensures format { result.0.format ≡ shell.format }
+    ensures write_fault { IfErr result.1 (λ status. status ≡ 4 → Rose (K.faults out.old) (K.faults out.new)) }
+    ensures read { IfErr result.1 (λ status. status ≢ 3) }
+    ensures writes { K.faults out.old ≤ K.faults out.new }
 {
     let mut text = Vec::new(alloc);
     let (shell, after) = ask_store(alloc, shell, tree, session, Request::End, &mut text);

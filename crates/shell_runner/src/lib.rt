@@ -8,7 +8,7 @@
 mod ended;
 mod ends;
 mod requests;
-mod run;
+mod running;
 mod shell;
 pub mod status;
 mod step;
@@ -16,6 +16,6 @@ mod store;
 mod writing;
 
 pub use ended::Ended;
-pub use run::run;
+pub use running::run;
 pub use shell::Shell;
 pub use store::{ShellStore, TurnError};

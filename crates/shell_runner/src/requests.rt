@@ -6,7 +6,7 @@ ghost use Rattle.store_setup.specs.Sound.{IsNamed, IsWhole};
 ghost use Rattle.tree_toml.specs.SetupText.{setup_of_text};
 ghost use Rattle.shell_runner.specs.States.{IsReady, IsTurnRefused};
 ghost use Rattle.shell_runner.specs.Answers.{HasTurned, IsAsked, IsBegin, IsCheckpoint, ShowsReply, after_reply, HasFailed};
-ghost use Rattle.shell_runner.specs.Runs.{IsSameOrSafe, state_of};
+ghost use Rattle.shell_runner.specs.Runs.{IsSafely, IsSameOrSafe, state_of};
 ghost use Rattle.shell_runner.specs.declared.step.After.TheVariants as afters;
 ghost use Rattle.shell_runner.specs.declared.store.TurnError.TheVariants as errors;
 
@@ -34,7 +34,7 @@ pub(crate) fn ask<T: ShellStore>(
     requires blank { out.old.items ≡ [] }
     ensures asked { IfOk result.1 (λ after. IsAsked (state_of T.stored shell) session request out.new.items after (state_of T.stored result.0) ⊎ HasFailed out.new.items after) }
     ensures ready { IfOk result.1 (λ after. (after ≡ afters.Stopped → ⊥) → IsReady tree.now (T.stored result.0.store)) }
-    ensures safe { IsSameOrSafe T.safe shell result.0 }
+    ensures safe { IsSafely T.safe shell result.0 }
     ensures format { result.0.format ≡ shell.format }
 {
     if !has_to_turn(&shell.store, session, request) {

@@ -5,7 +5,7 @@ ghost use Rattle.script_text.specs.Lines.{lines_of};
 ghost use Rattle.shell_lines.specs.Lines.{shell_line};
 ghost use Rattle.shell_runner.specs.States.{IsReady};
 ghost use Rattle.shell_runner.specs.Answers.{IsAnswered, IsUnchanging, Shows};
-ghost use Rattle.shell_runner.specs.Runs.{IsSameOrSafe, state_of};
+ghost use Rattle.shell_runner.specs.Runs.{IsSafely, state_of};
 ghost use Rattle.shell_runner.specs.declared.step.After.TheVariants as afters;
 
 use crate::requests::{ask, checkpoint};
@@ -45,7 +45,7 @@ pub(crate) fn answer_line<T: ShellStore>(
     requires blank { out.old.items ≡ [] }
     ensures answered { IfOk result.1 (λ after. IsAnswered number (state_of T.stored shell) (shell_line (T.stored shell.store).names shell.format text.now) out.new.items after (state_of T.stored result.0)) }
     ensures ready { IfOk result.1 (λ after. (after ≡ afters.Stopped → ⊥) → IsReady tree.now (T.stored result.0.store)) }
-    ensures safe { IsSameOrSafe T.safe shell result.0 }
+    ensures safe { IsSafely T.safe shell result.0 }
     ensures format { result.0.format ≡ shell.format }
 {
     let format = shell.format;

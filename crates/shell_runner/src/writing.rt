@@ -1,6 +1,6 @@
 //! The writing of an answer.
 
-ghost use Rattle.std.specs.Prelude.{◌≡◌, ◌≤◌, ◌⊎◌, Err, IfErr, IfOk, MatchResult, Ok};
+ghost use Rattle.std.specs.Prelude.{◌≡◌, ◌≤◌, ◌⊎◌, IfErr, IfOk, IsErr, IsOk, Ok};
 ghost use Rattle.std.specs.Io.KnownBytes.{Appends, Keeps};
 ghost use Rattle.teb_io.specs.Bytes.{AppendsFront};
 ghost use Rattle.teb_io.specs.Faults.{Rose};
@@ -17,7 +17,7 @@ pub(crate) fn write_step<K: Sink>(
     text: &[u8],
 ) -> Result<After, u8>
     ensures written { IfOk result (λ a. (after ≡ Ok a) × Appends (K.written out.old) (K.written out.new) text.now) }
-    ensures not_written { IfErr result (λ status. ((status ≡ 8) × IsErr after × (out.new ≡ out.old)) ⊎ ((status ≡ 4) × IsOk after × AppendsFront (K.written out.old) (K.written out.new) text.now)) }
+    ensures not_written { IfErr result (λ status. ((status ≡ 8) × IsErr after × Keeps (K.written out.old) (K.written out.new)) ⊎ ((status ≡ 4) × IsOk after × AppendsFront (K.written out.old) (K.written out.new) text.now)) }
     ensures fault { IfErr result (λ status. status ≡ 4 → Rose (K.faults out.old) (K.faults out.new)) }
     ensures later { K.faults out.old ≤ K.faults out.new }
 {

@@ -1,14 +1,16 @@
 //! The loop over the lines.
 
-ghost use Rattle.std.specs.Prelude.{◌≡◌, ◌≢◌, ◌+◌, ◌<◌, ◌^◌, [], IfErr, IfOk, List, MatchResult, Option, ℕ, length};
+ghost use Rattle.std.specs.Prelude.{◌≡◌, ◌≢◌, ◌+◌, ◌<◌, ◌≤◌, ◌^◌, ◌⊎◌, Err, IfErr, IfOk, List, MatchResult, Ok, Option, ℕ, length};
 ghost use Rattle.script_text.specs.Lines.{lines_of};
 ghost use Rattle.teb_io.specs.Faults.{Rose};
 ghost use Rattle.line_reader.specs.Lines.{ahead};
 ghost use Rattle.shell_lines.specs.Lines.{shell_line};
 ghost use Rattle.shell_runner.specs.States.{IsReady};
-ghost use Rattle.shell_runner.specs.Runs.{Answers, HasEnded, HasRun, IsSameOrSafe, StopsAt, state_of};
+ghost use Rattle.shell_runner.specs.Runs.{Answers, GoesOn, HasEnded, HasRun, IsSafely, StopsAt, state_of};
 ghost use Rattle.shell_runner.specs.declared.shell.Shell.{Shell as TheShell};
+ghost use Rattle.shell_runner.specs.Flows.{after_of};
 ghost use Rattle.shell_runner.specs.declared.step.After.TheVariants as afters;
+ghost use Rattle.teb_io.specs.declared.source.ReadError.TheVariants as reads;
 
 use crate::ended::Ended;
 use crate::ends::end_sessions;
@@ -52,27 +54,27 @@ fn run_lines<T: ShellStore, S: Source, K: Sink>(
 ) -> (Shell<T>, Result<u8, u8>)
     requires ready { IsReady tree.now (T.stored shell.store) }
     ensures run { IfOk result.1 (λ status. (n : ℕ) × (rest : Option (List ℕ)) × HasRun T.stored T.safe shell (S.left input.old) (K.written out.old) n result.0 rest (K.written out.new)) }
-    ensures status { IfOk result.1 (λ status. (status ≢ 3) × (status ≢ 4)) }
+    ensures status { IfOk result.1 (λ status. (status ≢ 3) × (status ≢ 4) × (status ≢ 8)) }
     ensures ready { IfOk result.1 (λ status. IsReady tree.now (T.stored result.0.store)) }
     ensures ended { IfErr result.1 (λ status. HasEnded T.stored T.safe shell (S.left input.old) (K.written out.old) status result.0 (K.written out.new)) }
     ensures read_fault { IfErr result.1 (λ status. status ≡ 3 → Rose (S.faults input.old) (S.faults input.new)) }
     ensures write_fault { IfErr result.1 (λ status. status ≡ 4 → Rose (K.faults out.old) (K.faults out.new)) }
     ensures later { K.faults out.old ≤ K.faults out.new }
 {
-    let mut shell = shell;
+    let mut last = shell;
     let mut reader = LineReader::new(alloc);
     let mut status = OK;
     for number in 1..u64::MAX {
-        let (next, step) = next_step(alloc, shell, tree, number, &mut reader, input, out);
-        shell = next;
+        let (next, step) = next_step(alloc, last, tree, number, &mut reader, input, out);
+        last = next;
         match step {
             Ok(Flow::Next) => {}
             Ok(Flow::Bad) => status = BAD_LINE,
-            Ok(Flow::End) => break,
-            Err(status) => return (shell, Err(status)),
+            Ok(Flow::End) => return (last, Ok(status)),
+            Err(status) => return (last, Err(status)),
         }
     }
-    (shell, Ok(status))
+    (last, Ok(status))
 }
 
 /// Whether a line follows.
@@ -97,7 +99,7 @@ fn next_step<T: ShellStore, S: Source, K: Sink>(
     requires ready { IsReady tree.now (T.stored shell.store) }
     ensures next { (first : TheShell T) (left before : Option (List ℕ)) (n : ℕ) → number ≡ n + 1
         → HasRun T.stored T.safe first left before n shell (ahead reader.old (S.left input.old)) (K.written out.old)
-        → MatchResult result.1 (λ flow. (k : ℕ) × ((flow ≡ flows.End → ⊥) → k ≡ number) × HasRun T.stored T.safe first left before k result.0 (ahead reader.new (S.left input.new)) (K.written out.new))
+        → MatchResult result.1 (λ flow. GoesOn T.stored T.safe first left before number flow result.0 (ahead reader.new (S.left input.new)) (K.written out.new))
             (λ status. HasEnded T.stored T.safe first left before status result.0 (K.written out.new)) }
     ensures ready { IfOk result.1 (λ flow. IsReady tree.now (T.stored result.0.store)) }
     ensures read_fault { IfErr result.1 (λ status. status ≡ 3 → Rose (S.faults input.old) (S.faults input.new)) }
@@ -129,7 +131,7 @@ fn take_line<T: ShellStore, K: Sink>(
         (λ after. Answers number (state_of T.stored shell) (shell_line (T.stored shell.store).names shell.format line.now) after (state_of T.stored result.0) (K.written out.old) (K.written out.new))
         (λ status. StopsAt number (state_of T.stored shell) (shell_line (T.stored shell.store).names shell.format line.now) status (state_of T.stored result.0) (K.written out.old) (K.written out.new)) }
     ensures ready { IfOk result.1 (λ after. (after ≡ afters.Stopped → ⊥) → IsReady tree.now (T.stored result.0.store)) }
-    ensures safe { IsSameOrSafe T.safe shell result.0 }
+    ensures safe { IsSafely T.safe shell result.0 }
     ensures write_fault { IfErr result.1 (λ status. status ≡ 4 → Rose (K.faults out.old) (K.faults out.new)) }
     ensures writes { K.faults out.old ≤ K.faults out.new }
 {
@@ -152,7 +154,7 @@ fn flow_of(after: Result<After, u8>) -> Result<Flow, u8>
 }
 
 fn read_status(error: ReadError) -> u8
-    ensures fault { result ≡ 3 → error ≡ ReadError.ReadFault }
+    ensures fault { result ≡ 3 → error ≡ reads.ReadFault }
     ensures others { (result ≢ 4) × (result ≢ 15) }
 {
     match error {

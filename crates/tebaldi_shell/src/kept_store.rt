@@ -1,0 +1,84 @@
+//! The store on a disk, as the shell asks it.
+
+use chain_pool::PooledChains;
+use crash_disk::Renew;
+use engine_store::{EngineStore, NextError, NotNext};
+use epoch_store::AskError;
+use serial_order::{order, tables};
+use shell_lines::StoreReply;
+use shell_runner::{ShellStore, TurnError};
+use std::alloc::{AllocError, Global};
+use store_setup::Setup;
+use teb_history::History;
+use teb_names::{Cell, NameBook, Request, Session, Txn};
+
+/// A store on a disk.
+#[derive(Drop)]
+pub struct KeptStore<D: Renew + Drop> {
+    pub store: EngineStore<PooledChains, D>,
+}
+
+impl<D: Renew + Drop> ShellStore for KeptStore<D> {
+    ghost use Rattle.tebaldi_shell.specs.Kept.{IsSafe, stored_of};
+
+    ghost stored = { λ s. stored_of s.store };
+
+    ghost safe = { λ s t. IsSafe D.seen D.faults D.moment D.left_since s.store t.store };
+
+    fn names(&self) -> &NameBook {
+        &self.store.engine().setup().names
+    }
+
+    fn history(&self) -> &History {
+        self.store.engine().history()
+    }
+
+    fn commits(&self) -> u64 {
+        self.store.acknowledged()
+    }
+
+    fn left(&self) -> u64 {
+        self.store.left()
+    }
+
+    fn rows(&self, alloc: Global) -> Result<Vec<(Cell, i64)>, AllocError> {
+        tables(alloc, self.store.engine())
+    }
+
+    fn order(&self, alloc: Global) -> Result<Vec<Txn>, AllocError> {
+        order(alloc, self.store.engine())
+    }
+
+    fn ask(
+        &mut self,
+        alloc: Global,
+        session: Session,
+        request: Request,
+    ) -> Result<StoreReply, AllocError> {
+        let _ = self.store.engine().history();
+        match self.store.ask(alloc, session, request) {
+            Ok(reply) => Ok(StoreReply::Reply(reply)),
+            Err(AskError::Full) => Ok(StoreReply::Full),
+            Err(AskError::Unsure) => Ok(StoreReply::Unsure),
+            Err(AskError::OutOfMemory) => Err(AllocError),
+            Err(AskError::Stopped) => unreachable!(),
+        }
+    }
+
+    fn next_epoch(self, alloc: Global, setup: Setup) -> (Self, Result<(), TurnError>) {
+        match self.store.next_epoch(alloc, setup, PooledChains::new(alloc)) {
+            Ok((store, _past)) => (KeptStore { store }, Ok(())),
+            Err(NotNext { store, why }) => (KeptStore { store }, Err(turn_error(why))),
+        }
+    }
+}
+
+fn turn_error(why: NextError) -> TurnError {
+    match why {
+        NextError::Again(txn) => TurnError::Unfinished(txn),
+        NextError::Untold(session) => TurnError::Untold(session),
+        NextError::Full => TurnError::Full,
+        NextError::DiskFault => TurnError::DiskFault,
+        NextError::OtherTables | NextError::OutOfMemory => TurnError::OutOfMemory,
+    }
+}
