@@ -1,8 +1,8 @@
 -- The first epoch after a reading.
-use Rattle.std.proofs.Common.{◌≡◌, inl, inr, ⊎_elim, ℕ, ◌<◌, List, [], ◌∷◌, take, sym, subst, ◌∙◌, ap}
+use Rattle.std.proofs.Common.{◌≡◌, inl, inr, ⊎_elim, ℕ, ◌+◌, ◌*◌, ◌<◌, ◌≤◌, List, [], ◌∷◌, length, take, sym, subst, ◌∙◌, ap}
 use Rattle.std.proofs.lemmas.List.{append-nil, length-take-le}
 use Rattle.teb_names.specs.declared.Cell.{Cell}
-use Rattle.teb_names.specs.Rows.{row_of}
+use Rattle.teb_names.specs.Rows.{row_of, IsAscending}
 use Rattle.teb_rules.specs.Replay.{Values}
 use Rattle.crash_disk.specs.Disk.{Only}
 use Rattle.record_journal.specs.Format.{Record}
@@ -13,7 +13,9 @@ use Rattle.epoch_journal.specs.State.{JournalState, RecoveredState}
 use Rattle.epoch_journal.specs.Telling.{IsBegun, Tells, TellsOn, checkpoint_of, table_of}
 use Rattle.epoch_journal.specs.Kept.{HasFound, Keeps}
 use Rattle.epoch_journal.proofs.ReadBack.{found_at, read_same}
-use Rattle.epoch_journal.proofs.Telling.{checkpoint_rows, runs}
+use Rattle.epoch_journal.proofs.Telling.{checkpoint_rows, runs, same_list}
+use Rattle.epoch_journal.proofs.Settling.{at_has}
+use Rattle.epoch_journal.proofs.Room.{rows_fit}
 
 -- the old records, or the checkpoint of what they left
 pub tells_again : {D : Type 0} (seen : D → List ℕ) (may_leave : D → List ℕ → Type 0) (start : Values) (all : List Record) (least k : ℕ) (d : RecoveredState D) → (found : HasFound seen may_leave start all least k d) → (c : List ℕ)
@@ -79,3 +81,19 @@ found_of seen may_leave start all least file d t rs read rows current same durab
       at = subst (λ (f : List ℕ). IsAt d.layout list d.current f) (sym same) (found_at d.layout list d.current file current t.stands.has);
       durable = durable;
     }
+
+-- so too a disk with a checkpoint, whatever rows it was read with
+pub found_on_of : {D : Type 0} (seen : D → List ℕ) (may_leave : D → List ℕ → Type 0) (first start : Values) (all : List Record) (least : ℕ) (file : List ℕ) (d : RecoveredState D) → TellsOn d.layout first all least file → (rs : List Record)
+    → IsReadAs d.layout rs file → ((x : Cell) → row_of d.rows x ≡ table_of start rs x) → IsCurrently d.layout.capacity d.current file → seen d.disk ≡ file → Only (seen d.disk) (may_leave d.disk)
+    → (k : ℕ) × (found : HasFound seen may_leave first all least k d) × IsBegun found.list
+unfolding found_of
+found_on_of seen may_leave first start all least file d on rs read rows current same durable =
+    let t = on.tells in
+    let begun = subst IsBegun (sym (read_same d.layout t.stands.list rs file t.stands.has read)) on.begun in
+    (t.k, found_of seen may_leave first all least file d t rs read (λ x. rows x ∙ same_list start first rs x begun) current same durable, on.begun)
+
+-- and its rows fit the other half
+pub finds_room : {D : Type 0} (seen : D → List ℕ) (may_leave : D → List ℕ → Type 0) (start : Values) (all : List Record) (least k : ℕ) (d : RecoveredState D) → (found : HasFound seen may_leave start all least k d) → IsBegun found.list
+    → IsAscending d.rows → 10 + length d.layout.label + 14 * length d.rows ≤ half_size d.layout.capacity
+finds_room seen may_leave start all least k d found begun up =
+    rows_fit d.layout start found.list d.rows (seen d.disk) (at_has d.layout found.list d.current (seen d.disk) found.at) begun up (λ x. found.rows x ∙ sym (found.table x))

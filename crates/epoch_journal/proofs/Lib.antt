@@ -11,5 +11,6 @@ pub mod Nexts
 pub mod Quiets
 pub mod Ranges
 pub mod Surveys
+pub mod Room
 pub mod Beginning
 pub mod Errors

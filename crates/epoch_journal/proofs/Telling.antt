@@ -124,7 +124,8 @@ pub begun : {D : Type 0} (seen : D → List ℕ) (may_leave : D → List ℕ →
 begun seen may_leave rows j below resting durable =
     runs seen may_leave (row_of rows) [] 0 j below refl (record { past = []; asked = []; rows = rows; split = refl; checkpoint = λ x. refl; resting = resting; durable = durable })
 
-same_list : (first start : Values) (list : List Record) (x : Cell) → IsBegun list → table_of first list x ≡ table_of start list x
+-- with a checkpoint the starting table does not count
+pub same_list : (first start : Values) (list : List Record) (x : Cell) → IsBegun list → table_of first list x ≡ table_of start list x
 same_list first start [] x is = absurd is
 same_list first start (r ∷ rs) x is = refl
 

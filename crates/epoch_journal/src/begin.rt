@@ -58,6 +58,9 @@ impl<D: Disk> RecoveredDisk<D> {
 
         ensures errors { IfErr result (λ back. (back.why ≡ errors.DiskFault × Rose (D.faults self.disk) (D.faults back.disk))
             ⊎ ((back.disk ≡ self.disk) × ((back.why ≡ errors.OutOfMemory) ⊎ (back.why ≡ errors.Full × (half_size self.layout.capacity < 10 + length self.layout.label + 14 * length self.rows))))) }
+        // The rows of a disk that has a checkpoint fit the other half.
+        ensures not_full { (start : Values) (all : List Record) (least k : ℕ) → (found : HasFound D.seen D.may_leave start all least k self) → IsBegun found.list → IfErr result (λ back. back.why ≡ errors.Full → ⊥) }
+
         ensures calls { IfOk result (λ o. IsUpTo 8 (24 + length self.layout.label + 14 * length self.rows) (D.tally self.disk) (D.tally o.0.disk)) }
         ensures calls_back { IfErr result (λ back. IsUpTo 8 (24 + length self.layout.label + 14 * length self.rows) (D.tally self.disk) (D.tally back.disk)) }
     {

@@ -4,12 +4,13 @@ ghost use Rattle.std.specs.Prelude.{◌≡◌, ◌+◌, ◌*◌, ◌<◌, ◌≤
 ghost use Rattle.teb_io.specs.Faults.{Rose};
 ghost use Rattle.teb_names.specs.declared.Cell.{Cell as TheCell};
 ghost use Rattle.teb_names.specs.Rows.{row_of, IsAscending};
+ghost use Rattle.teb_rules.specs.Replay.{Values};
 ghost use Rattle.crash_disk.specs.Calls.{IsUpTo};
 ghost use Rattle.crash_disk.specs.Disk.{IsQuiet, LeavesOnly};
 ghost use Rattle.record_journal.specs.Format.{Record};
 ghost use Rattle.record_journal.specs.Journal.{after_records};
 ghost use Rattle.epoch_journal.specs.Layout.{half_size, layout};
-ghost use Rattle.epoch_journal.specs.Telling.{Tells, table_of};
+ghost use Rattle.epoch_journal.specs.Telling.{Tells, TellsOn, table_of};
 ghost use Rattle.epoch_journal.specs.Kept.{Keeps};
 ghost use Rattle.epoch_journal.specs.Read.{HasOtherCapacity, HasOtherLabel, IsDamaged, IsReadAs};
 ghost use Rattle.epoch_journal.specs.declared.error.OpenError.TheVariants as errors;
@@ -39,6 +40,13 @@ impl<D: Disk> EpochJournal<D> {
             → IfOk result (λ o. (k : ℕ) × (least ≤ k) × (k ≤ length all)
             × ((x : TheCell) → row_of o.1.items x ≡ after_records (take k all) (row_of start.now) x)
             × Keeps D.seen D.may_leave (row_of start.now) (take k all) k o.0) }
+
+        // Of a disk that has a checkpoint they do not depend on the starting rows.
+        ensures found_on { (first : Values) (all : List Record) (least : ℕ) → ((c : List ℕ) → D.may_leave disk c → TellsOn (layout (D.capacity disk) label.now) first all least c)
+            → IfOk result (λ o. (k : ℕ) × (least ≤ k) × (k ≤ length all)
+            × ((x : TheCell) → row_of o.1.items x ≡ after_records (take k all) first x)
+            × Keeps D.seen D.may_leave first (take k all) k o.0) }
+
         // Its first epoch begins with these rows, and has no record.
         ensures begins { IfOk result (λ o. Keeps D.seen D.may_leave (row_of o.1.items) [] 0 o.0) }
         ensures read { IfOk result (λ o. (rs : List Record) × IsReadAs (layout (D.capacity disk) label.now) rs (D.seen disk)
@@ -52,10 +60,18 @@ impl<D: Disk> EpochJournal<D> {
         ensures any_moment_back { (all : List Record) (least : ℕ) → ((c : List ℕ) → D.may_leave disk c → Tells (layout (D.capacity disk) label.now) (row_of start.now) all least c)
             → IfErr result (λ back. LeavesOnly D.moment D.left_since disk back.disk (Tells (layout (D.capacity disk) label.now) (row_of start.now) all least)) }
 
+        // Of a disk that has a checkpoint, it leaves one.
+        ensures any_moment_on { (first : Values) (all : List Record) (least : ℕ) → ((c : List ℕ) → D.may_leave disk c → TellsOn (layout (D.capacity disk) label.now) first all least c)
+            → IfOk result (λ o. LeavesOnly D.moment D.left_since disk o.0.disk (TellsOn (layout (D.capacity disk) label.now) first all least)) }
+        ensures any_moment_on_back { (first : Values) (all : List Record) (least : ℕ) → ((c : List ℕ) → D.may_leave disk c → TellsOn (layout (D.capacity disk) label.now) first all least c)
+            → IfErr result (λ back. LeavesOnly D.moment D.left_since disk back.disk (TellsOn (layout (D.capacity disk) label.now) first all least)) }
+
         // When each error is returned. Nothing is written, unless the disk fails.
         ensures damaged { (at : ℕ) → IfErr result (λ back. back.why ≡ errors.Damaged at → IsDamaged (layout (D.capacity disk) label.now) at (D.seen disk)) }
         ensures other_capacity { IfErr result (λ back. back.why ≡ errors.OtherCapacity → HasOtherCapacity (layout (D.capacity disk) label.now) (D.seen disk)) }
         ensures other_label { IfErr result (λ back. back.why ≡ errors.OtherLabel → HasOtherLabel (layout (D.capacity disk) label.now) (D.seen disk)) }
+        ensures not_full { (first : Values) (all : List Record) (least : ℕ) → ((c : List ℕ) → D.may_leave disk c → TellsOn (layout (D.capacity disk) label.now) first all least c)
+            → IfErr result (λ back. back.why ≡ errors.Full → ⊥) }
         ensures cause { IfErr result (λ back. back.why ≡ errors.DiskFault → Rose (D.faults disk) (D.faults back.disk)) }
         ensures unwritten { IfErr result (λ back. (back.why ≡ errors.DiskFault → ⊥) → IsQuiet D.seen D.may_leave D.moment D.left_since D.faults D.capacity disk back.disk) }
     {

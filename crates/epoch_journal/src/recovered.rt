@@ -23,6 +23,7 @@ pub struct RecoveredDisk<D: Disk> {
 
 impl<D: Disk> Model for RecoveredDisk<D> {
     ghost use Rattle.std.specs.Prelude.{◌≡◌, ◌+◌, ◌<◌, ◌≤◌, ◌^◌, length};
+    ghost use Rattle.teb_names.specs.Rows.{IsAscending};
     ghost use Rattle.epoch_journal.specs.Layout.{half_size, layout};
     ghost use Rattle.epoch_journal.specs.State.{RecoveredState};
 
@@ -38,6 +39,7 @@ impl<D: Disk> Model for RecoveredDisk<D> {
     ghost invariant = { λ d. record {
       capacity : d.capacity ≡ D.capacity d.disk;
       label : length d.label.items < 2 ^ 32;
+      ascending : IsAscending d.rows.items;
     } };
 }
 

@@ -4,11 +4,12 @@ ghost use Rattle.std.specs.Prelude.{◌≡◌, ◌+◌, ◌*◌, ◌<◌, ◌≤
 ghost use Rattle.teb_io.specs.Faults.{HasCause, Rose};
 ghost use Rattle.teb_names.specs.declared.Cell.{Cell as TheCell};
 ghost use Rattle.teb_names.specs.Rows.{row_of, IsAscending};
+ghost use Rattle.teb_rules.specs.Replay.{Values};
 ghost use Rattle.crash_disk.specs.Calls.{IsUpTo};
 ghost use Rattle.crash_disk.specs.Disk.{IsQuiet, Only};
 ghost use Rattle.record_journal.specs.Format.{Record};
 ghost use Rattle.epoch_journal.specs.Layout.{half_size, layout};
-ghost use Rattle.epoch_journal.specs.Telling.{Tells, table_of};
+ghost use Rattle.epoch_journal.specs.Telling.{IsBegun, Tells, TellsOn, table_of};
 ghost use Rattle.epoch_journal.specs.Kept.{HasFound};
 ghost use Rattle.epoch_journal.specs.Read.{HasOtherCapacity, HasOtherLabel, IsCurrently, IsDamaged, IsReadAs};
 ghost use Rattle.epoch_journal.specs.declared.error.OpenError.TheVariants as errors;
@@ -44,6 +45,10 @@ impl<D: Disk> RecoveredDisk<D> {
         ensures found { (all : List Record) (least : ℕ) → ((c : List ℕ) → D.may_leave disk c → Tells (layout (D.capacity disk) label.now) (row_of start.now) all least c)
             → IfOk result (λ d. (k : ℕ) × HasFound D.seen D.may_leave (row_of start.now) all least k d) }
 
+        // Of a disk that has a checkpoint they do not depend on the starting rows.
+        ensures found_on { (first : Values) (all : List Record) (least : ℕ) → ((c : List ℕ) → D.may_leave disk c → TellsOn (layout (D.capacity disk) label.now) first all least c)
+            → IfOk result (λ d. (k : ℕ) × (found : HasFound D.seen D.may_leave first all least k d) × IsBegun found.list) }
+
         // The rows of any disk are those that its records leave.
         ensures read { IfOk result (λ d. (rs : List Record) × IsReadAs (layout (D.capacity disk) label.now) rs (D.seen disk)
             × ((x : TheCell) → row_of d.rows x ≡ table_of (row_of start.now) rs x)) }
@@ -56,6 +61,8 @@ impl<D: Disk> RecoveredDisk<D> {
         ensures other_capacity { IfErr result (λ back. back.why ≡ errors.OtherCapacity → HasOtherCapacity (layout (D.capacity disk) label.now) (D.seen disk)) }
         ensures other_label { IfErr result (λ back. back.why ≡ errors.OtherLabel → HasOtherLabel (layout (D.capacity disk) label.now) (D.seen disk)) }
         ensures full { IfErr result (λ back. back.why ≡ errors.Full → half_size (D.capacity disk) < 10 + length label.now) }
+        ensures not_full { (first : Values) (all : List Record) (least : ℕ) → ((c : List ℕ) → D.may_leave disk c → TellsOn (layout (D.capacity disk) label.now) first all least c)
+            → IfErr result (λ back. back.why ≡ errors.Full → ⊥) }
         ensures cause { IfErr result (λ back. back.why ≡ errors.DiskFault → Rose (D.faults disk) (D.faults back.disk)) }
 
         // Nothing is written.

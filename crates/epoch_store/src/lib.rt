@@ -4,6 +4,7 @@
 
 mod error;
 mod recorder;
+mod renew;
 mod store;
 
 pub use error::{AskError, NotBegun};

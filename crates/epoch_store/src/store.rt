@@ -1,6 +1,6 @@
 //! A store whose commits are kept on a disk.
 
-ghost use Rattle.std.specs.Prelude.{◌≡◌, ◌+◌, ◌<◌, ◌≤◌, ◌^◌, [], length, Some, true, false, IsTrue, IfOk, IfErr, OnOk, OnErr, IsErrOf, List, ℕ};
+ghost use Rattle.std.specs.Prelude.{◌≡◌, ◌+◌, ◌*◌, ◌<◌, ◌≤◌, ◌^◌, [], length, Some, true, false, IsTrue, IfOk, IfErr, OnOk, OnErr, IsErrOf, List, ℕ};
 ghost use Rattle.teb_io.specs.Faults.{Rose};
 ghost use Rattle.teb_names.specs.declared.Cell.{Cell as TheCell};
 ghost use Rattle.teb_names.specs.declared.Reply.TheVariants as replies;
@@ -34,8 +34,8 @@ const MOST_LEFT: u64 = 4_294_967_295;
 /// the commits of this epoch, applied to the rows that the epoch began with; k is no less than the number of commits that were answered.
 #[derive(Drop)]
 pub struct EpochStore<E: Recorder, D: Disk> {
-    engine: E,
-    journal: EpochJournal<D>,
+    pub(crate) engine: E,
+    pub(crate) journal: EpochJournal<D>,
 }
 
 impl<E: Recorder, D: Disk> Model for EpochStore<E, D> {
@@ -142,7 +142,9 @@ impl<E: Recorder, D: Disk> EpochStore<E, D> {
 
     /// The engine and the journal.
     pub fn into_parts(self) -> (E, EpochJournal<D>)
-        ensures { (result.0 ≡ self.engine) × (result.1 ≡ self.journal) }
+        ensures parts { (result.0 ≡ self.engine) × (result.1 ≡ self.journal) }
+        ensures images { (image : List ℕ) → D.may_leave self.journal.disk image
+            → TellsOn self.journal.layout (row_of (E.store self.engine).rows) (E.records self.engine) self.journal.acknowledged image }
     {
         (self.engine, self.journal)
     }
@@ -161,6 +163,8 @@ impl<E: Recorder, D: Disk> EpochStore<E, D> {
         ensures back { IfErr result (λ refused. (refused.next ≡ next) × (self.new.engine ≡ self.old.engine) × (self.new.journal.acknowledged ≡ self.old.journal.acknowledged)) }
         ensures unchanged { IfErr result (λ refused. (refused.why ≡ epochs.DiskFault → ⊥) → self.new ≡ self.old) }
         ensures layout { self.new.journal.layout ≡ self.old.journal.layout }
+        ensures full { IfErr result (λ refused. refused.why ≡ epochs.Full
+            → half_size self.old.journal.layout.capacity < 10 + length self.old.journal.layout.label + 14 * length (E.store next).rows) }
         ensures fault { IfErr result (λ refused. refused.why ≡ epochs.DiskFault
             → (self.new.journal.stopped ≡ true) × Rose (D.faults self.old.journal.disk) (D.faults self.new.journal.disk)) }
 
@@ -196,6 +200,7 @@ fn begin_with<E: Recorder, D: Disk>(
     ensures ok { OnOk result ((journal.new.stopped ≡ false) × (journal.new.acknowledged ≡ 0)) }
     ensures place { OnErr result (journal.new.acknowledged ≡ journal.old.acknowledged) }
     ensures layout { journal.new.layout ≡ journal.old.layout }
+    ensures full { IsErrOf result epochs.Full → half_size journal.old.layout.capacity < 10 + length journal.old.layout.label + 14 * length (E.store next.now).rows }
     ensures unchanged { IfErr result (λ e. (e ≡ epochs.DiskFault → ⊥) → journal.new ≡ journal.old) }
     ensures fault { IsErrOf result epochs.DiskFault → (journal.new.stopped ≡ true) × Rose (D.faults journal.old.disk) (D.faults journal.new.disk) }
 {

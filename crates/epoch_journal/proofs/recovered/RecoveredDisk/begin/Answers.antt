@@ -1,4 +1,4 @@
-use Rattle.std.proofs.Common.{◌∷◌, [], sym, subst, List, ℕ, ℤ}
+use Rattle.std.proofs.Common.{◌∷◌, [], ◌∙◌, Err, ap, arith, length, sym, subst, List, ℕ, ℤ}
 use Rattle.teb_names.specs.declared.Cell.{Cell}
 use Rattle.crash_disk.specs.Disk.{LeavesOnly, Only}
 use Rattle.record_journal.proofs.Moments.{weaker}
@@ -8,7 +8,7 @@ use Rattle.epoch_journal.specs.State.{RecoveredState}
 use Rattle.epoch_journal.specs.Read.{IsCurrently}
 use Rattle.epoch_journal.specs.Telling.{Tells, TellsOn, checkpoint_of}
 use Rattle.epoch_journal.specs.Kept.{HasFound}
-use Rattle.epoch_journal.proofs.Beginning.{begun_found, begun_keeps, tells_again, tells_on_again}
+use Rattle.epoch_journal.proofs.Beginning.{begun_found, begun_keeps, finds_room, tells_again, tells_on_again}
 use Rattle.epoch_journal.proofs.Telling.{begun}
 use Rattle.epoch_journal.proofs.recovered.RecoveredDisk.begin.Goals as goal
 
@@ -82,3 +82,11 @@ returns-in-Err-clause-any_moment_on_back g c start all least k has begun =
     (c.begin_with.ensures.any_moment found.0.list at found.0.durable) in
     subst (λ (s : RecoveredState _). LeavesOnly d.moment d.left_since s.disk c.begin_with.new.disk (TellsOn s.layout start all least)) c.self.view_is
     (weaker d.moment d.left_since was.disk c.begin_with.new.disk (HasOneOf l found.0.list (ck ∷ [])) (TellsOn l start all least) (tells_on_again d.seen d.may_leave start all least k _ found.0 found.1) only)
+
+pub returns-in-Err-clause-not_full : goal.returns-in-Err-clause-not_full
+returns-in-Err-clause-not_full g c start all least k has begun is =
+    let d = g.D.Disk in
+    let found = begun_found d.seen d.may_leave start all least k _ _ c.self.view_is has begun in
+    let fits = finds_room d.seen d.may_leave start all least k _ found.0 found.1 c.self.invariant.ascending in
+    let full = c.begin_with.ensures.full (c.in-Err.is ∙ ap Err is) in
+    omega (arith, fits, full, ap length c.deref.ensures.value, ap length c.deref-2.ensures.value)

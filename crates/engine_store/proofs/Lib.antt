@@ -1,0 +1,14 @@
+pub mod Beginning
+pub mod Bodies
+pub mod Causes
+pub mod Errors
+pub mod GoingOn
+pub mod Labels
+pub mod LifeGoesOn
+pub mod Opened
+pub mod Outside
+pub mod Refused
+pub mod Reopening
+pub mod Resuming
+pub mod Starting
+pub mod WholeLife

@@ -1,0 +1,24 @@
+-- What a disk has of an epoch.
+use Rattle.std.specs.Prelude.{◌≡◌, ℕ, List}
+use Rattle.teb_names.specs.Rows.{row_of}
+use Rattle.teb_history.specs.declared.Event.{Event}
+use Rattle.teb_rules.specs.Setup.{Store}
+use Rattle.crash_disk.specs.Disk.{LeavesOnly}
+use Rattle.commit_laws.specs.Records.{records_of}
+use Rattle.epoch_journal.specs.Layout.{Layout}
+use Rattle.epoch_journal.specs.Telling.{TellsOn}
+
+-- the rows after the first k commits of history H over the rows of store X, for a k that is at least `least`
+abbrev pub TellsCommits : Layout → Store → List Event → ℕ → List ℕ → Type 0
+TellsCommits l X H least image = TellsOn l (row_of X.rows) (records_of X.setup H) least image
+
+-- a crash at any moment since old, until the disk was renewed, leaves a file that has P; new has the same bytes and faults
+pub record LeavesOnlyUntilRenewed {D : Type 0} (seen : D → List ℕ) (faults : D → ℕ) (moment : D → ℕ) (left_since : D → ℕ → List ℕ → Type 0) (old new : D) (P : List ℕ → Type 0) : Type 0 where
+  pub last : D
+  pub leaves : LeavesOnly moment left_since old last P
+  pub same_bytes : seen new ≡ seen last
+  pub same_faults : faults new ≡ faults last
+
+-- whatever a crash leaves of a disk tells this
+abbrev pub AllTellCommits : {D : Type 0} → (D → List ℕ → Type 0) → Layout → Store → List Event → ℕ → D → Type 0
+AllTellCommits may_leave l X H least disk = (image : List ℕ) → may_leave disk image → TellsCommits l X H least image

@@ -1,0 +1,35 @@
+//! How a store forgets the calls of its disk.
+
+ghost use Rattle.std.specs.Prelude.{◌≡◌, List, ℕ, IfOk, IfErr};
+ghost use Rattle.teb_names.specs.Rows.{row_of};
+ghost use Rattle.epoch_journal.specs.Telling.{TellsOn};
+
+use crate::recorder::Recorder;
+use crate::store::EpochStore;
+use crash_disk::Renew;
+use std::alloc::Global;
+
+impl<E: Recorder, D: Renew> EpochStore<E, D> {
+    /// The same store on a renewed disk, which has freed the memory that its past calls took. It makes no call of the device, and is
+    /// meant to follow `next_epoch`.
+    ///
+    /// # Errors
+    /// The store, unchanged: it is stopped, or out of memory.
+    pub fn renew(self, alloc: Global) -> Result<EpochStore<E, D>, EpochStore<E, D>>
+        ensures engine { IfOk result (λ s. s.engine ≡ self.engine) }
+        ensures same { IfOk result (λ s. (s.journal.layout ≡ self.journal.layout) × (s.journal.first ≡ self.journal.first) × (s.journal.end ≡ self.journal.end)
+            × (s.journal.acknowledged ≡ self.journal.acknowledged) × (s.journal.stopped ≡ self.journal.stopped)) }
+        ensures seen { IfOk result (λ s. D.seen s.journal.disk ≡ D.seen self.journal.disk) }
+        ensures faults { IfOk result (λ s. D.faults s.journal.disk ≡ D.faults self.journal.disk) }
+        // A crash after it.
+        ensures images { IfOk result (λ s. (image : List ℕ) → D.may_leave s.journal.disk image
+            → TellsOn s.journal.layout (row_of (E.store s.engine).rows) (E.records s.engine) s.journal.acknowledged image) }
+        ensures back { IfErr result (λ s. s ≡ self) }
+    {
+        let EpochStore { engine, journal } = self;
+        match journal.renew(alloc) {
+            Ok(journal) => Ok(EpochStore { engine, journal }),
+            Err(journal) => Err(EpochStore { engine, journal }),
+        }
+    }
+}
