@@ -11,11 +11,11 @@ onto_first_few x (p ∷ ps) = omega arith
 
 split_few : (xs : List ℕ) → length (slice_split is_feed xs) ≤ length xs + 1
 split_few [] = omega arith
-split_few (x ∷ xs) = go (is_feed x)
+split_few (x ∷ xs) = go (is_feed x) (split_few xs)
   where
-    go : (b : Bool) → length (cond b ([] ∷ slice_split is_feed xs) (onto_first x (slice_split is_feed xs))) ≤ length (x ∷ xs) + 1
-    go true = omega (arith, split_few xs)
-    go false = omega (arith, split_few xs, onto_first_few x (slice_split is_feed xs))
+    go : (b : Bool) → length (slice_split is_feed xs) ≤ length xs + 1 → length (cond b ([] ∷ slice_split is_feed xs) (onto_first x (slice_split is_feed xs))) ≤ length (x ∷ xs) + 1
+    go true h = omega (arith, h)
+    go false h = omega (arith, h, onto_first_few x (slice_split is_feed xs))
 
 counted_few : (xs : List (List ℕ)) → length (counted xs) ≤ length xs
 counted_few [] = omega arith
@@ -30,4 +30,4 @@ counted_few (x ∷ y ∷ more) = omega (arith, counted_few (y ∷ more))
 pub few_lines : (text : List ℕ) → length text ≤ 65536 → length (lines_of text) < 2 ^ 32
 unfolding lines_of
 few_lines text short =
-    omega (arith, short, split_few text, counted_few (map strip_carriage_return (slice_split is_feed text)), length-map strip_carriage_return (slice_split is_feed text))
+    omega (arith, short, split_few text, counted_few (map strip_carriage_return (slice_split is_feed text)), length-map (slice_split is_feed text) strip_carriage_return)

@@ -1,5 +1,5 @@
 -- A run goes on by a step, or ends.
-use Rattle.std.proofs.Common.{◌≡◌, ◌≢◌, ℕ, ◌+◌, ◌<◌, List, [], ◌∷◌, ◌++◌, length, take, Option, Some, None, Result, Ok, Err, inl, inr, refl, sym, ap, ◌∙◌, subst, arith, length-append}
+use Rattle.std.proofs.Common.{◌≡◌, ◌≢◌, ℕ, ◌+◌, ◌<◌, List, [], ◌∷◌, ◌++◌, length, take, Option, Some, None, Result, Ok, Err, IsTrue, is_some, inl, inr, refl, sym, ap, ◌∙◌, subst, arith, length-append}
 use Rattle.std.specs.Prelude.{◌⊎◌, IfErr, IfOk, IsErr, IsOk, MatchResult}
 use Rattle.std.proofs.lemmas.Result.{MatchResult-at_err, MatchResult-at_ok}
 use Rattle.std.specs.Io.KnownBytes.{Appends, Consumes, Keeps}
@@ -9,18 +9,26 @@ use Rattle.teb_io.specs.Bytes.{AppendsFront}
 use Rattle.line_reader.specs.Lines.{TakesLine, ahead}
 use Rattle.shell_lines.specs.Lines.{shell_line}
 use Rattle.teb_names.specs.declared.Request.{Request}
+use Rattle.teb_names.specs.declared.Request.TheVariants as request
+use Rattle.teb_names.specs.declared.Txn.{Txn}
+use Rattle.teb_names.specs.declared.naming.NameBook.{NameBook}
+use Rattle.teb_history.specs.declared.Event.{Event}
+use Rattle.teb_history.specs.Phases.{held}
+use Rattle.teb_history.specs.Written.{held_txn, txn_of}
 use Rattle.teb_names.specs.declared.Session.{Session}
 use Rattle.shell_lines.specs.declared.line.ShellLine.{ShellLine}
+use Rattle.shell_lines.specs.Answers.{reply_line}
 use Rattle.shell_lines.specs.declared.line.ShellLine.TheVariants.{Ask}
+use Rattle.shell_lines.specs.declared.reply.StoreReply.TheVariants.{Later}
 use Rattle.shell_runner.specs.States.{Stored}
-use Rattle.shell_runner.specs.Answers.{IsAnswered, ShowsReply, State}
+use Rattle.shell_runner.specs.Answers.{HasFailed, IsAnswered, IsAsked, IsBegin, ShowsReply, State}
 use Rattle.shell_runner.specs.Flows.{after_of}
 use Rattle.shell_runner.specs.Runs.{Answers, AnswersInPart, Asks, GoesOn, HasEnded, HasRun, IsRun, IsSafely, IsSameOrSafe, IsStep, IsTaken, Step, StopsAt, TakenBy, said, state_of}
 use Rattle.shell_runner.specs.declared.shell.Shell.{Shell}
 use Rattle.shell_runner.specs.declared.running.Flow.{Flow}
 use Rattle.shell_runner.specs.declared.running.Flow.TheVariants as flow
 use Rattle.shell_runner.specs.declared.step.After.{After}
-use Rattle.shell_runner.specs.declared.step.After.TheVariants.{Stopped}
+use Rattle.shell_runner.specs.declared.step.After.TheVariants.{Next, Stopped}
 
 -- a prefix of one text more
 pub appends_front : (a b c : Option (List ℕ)) (text more : List ℕ) → Appends a b text → AppendsFront b c more → AppendsFront a c (text ++ more)
@@ -30,11 +38,34 @@ appends_front a b c text more whole front =
 
 -- the store went on once
 pub once : {T : Type 0} (safe : T → T → Type 0) (s t : Shell T) → IsSameOrSafe safe s t → IsSafely safe s t
-once safe s t h = (t, h, inl refl)
+once safe s t h = record { mid = t; first = h; second = inl refl }
+
+-- nothing was asked
+pub unmoved : {T : Type 0} (safe : T → T → Type 0) (s : Shell T) → IsSafely safe s s
+unmoved safe s = record { mid = s; first = inl refl; second = inl refl }
 
 -- a request that is asked at once
 pub asked_at_once : (n : ℕ) (s t : State) (session : Session) (request : Request) (text : List ℕ) (after : After) → ShowsReply s session request text after t → IsAnswered n s (Ask session request) text after t
 asked_at_once n s t session request text after h = inl (record { mid = s; turned = inl refl; replied = h })
+
+pub ends_answered : {E : Type 0} (n : ℕ) (s t : State) (session : Session) (request : Request) (items text : List ℕ) (answered : Result After E) → text ≡ items
+    → IfOk answered (λ (after : After). ShowsReply s session request items after t) → IfOk answered (λ (after : After). IsAnswered n s (Ask session request) text after t)
+ends_answered n s t session request items text (Ok a) e h = subst (λ (x : List ℕ). IsAnswered n s (Ask session request) x a t) (sym e) (asked_at_once n s t session request items a h)
+ends_answered n s t session request items text (Err x) e h = tt
+
+-- the same text by another name
+pub answered_by : {E : Type 0} (n : ℕ) (s t : State) (l : ShellLine) (items text : List ℕ) (answered : Result After E) → text ≡ items → IfOk answered (λ (after : After). IsAnswered n s l items after t)
+    → IfOk answered (λ (after : After). IsAnswered n s l text after t)
+answered_by n s t l items text answered e h = subst (λ (x : List ℕ). IfOk answered (λ (after : After). IsAnswered n s l x after t)) (sym e) h
+
+-- a session that is to ask again later
+pub asked_later : (s t : State) (session : Session) (request : Request) (text : List ℕ) (after : After) → IsBegin request → t ≡ s → text ≡ reply_line s.stored.names session Later → after ≡ Next → IsAsked s session request text after t
+asked_later s t session request text after begins same said goes = record { mid = s; turned = inl refl; replied = record { answer = Later; told = (begins, same); shown = said; goes_on = goes } }
+
+pub later_asked : {E : Type 0} (s t : State) (session : Session) (request : Request) (names : NameBook) (text : List ℕ) (answered : Result After E) → IsBegin request → t ≡ s → names ≡ s.stored.names
+    → IfOk answered (λ (after : After). (after ≡ Next) × (text ≡ reply_line names session Later)) → IfOk answered (λ (after : After). IsAsked s session request text after t ⊎ HasFailed text after)
+later_asked s t session request names text (Ok a) begins same called h = inl (asked_later s t session request text a begins same (h.1 ∙ ap (λ (n : NameBook). reply_line n session Later) called) h.0)
+later_asked s t session request names text (Err e) begins same called h = tt
 
 -- an answer that is written, whole or in part, or not for want of memory
 pub writes : {E : Type 0} (n : ℕ) (s t : State) (asks : ShellLine) (text : List ℕ) (answered : Result After E) (r : Result After ℕ) (now later : Option (List ℕ)) → IfOk answered (λ (after : After). IsAnswered n s asks text after t)
@@ -72,7 +103,7 @@ module _ {T : Type 0} (stored : T → Stored) (safe : T → T → Type 0) (first
     taken = r.taken;
     written = inl (other, r.written);
     same = λ _. refl;
-    safely = (s, inl refl, inl refl);
+    safely = unmoved safe s;
   }
 
   -- a run ends at a step whose text was not written whole, or for want of memory
@@ -87,7 +118,7 @@ module _ {T : Type 0} (stored : T → Stored) (safe : T → T → Type 0) (first
     taken = (mid, r.taken, takes);
     written = inr (e, appends_front before now later (said r.steps) a.text r.written a.written);
     same = λ _. refl;
-    safely = (t, inl refl, inl refl);
+    safely = unmoved safe t;
   }
   stopped n s t mid rest now later line asks status r is takes (inr (e, kept)) between = record {
     steps = r.steps;
@@ -122,6 +153,29 @@ module _ {T : Type 0} (stored : T → Stored) (safe : T → T → Type 0) (first
       let asks = shell_line (stored s.store).names s.format line in
       let step = MatchResult-at_ok (λ (after : After). Answers number (state_of stored s) asks after (state_of stored t) now later) (λ (status : ℕ). StopsAt number (state_of stored s) asks status (state_of stored t) now later) Stopped g.0 m in
       ended (n + 1) t rest later status (λ p. absurd (omega (arith, g.1, p))) (stepped n s t mid rest now later (Some line) asks Stopped r refl takes (subst (λ (k : ℕ). Answers k (state_of stored s) asks Stopped (state_of stored t) now later) e step) between)
+
+module _ {T : Type 0} (stored : T → Stored) (safe : T → T → Type 0) (first : Shell T) (left before : Option (List ℕ)) where
+  -- a session was ended: the run goes on, or ends
+  pub end_flowed : (n : ℕ) (s t : Shell T) (rest now later : Option (List ℕ)) (session : Session) (a : Result After ℕ) → HasRun stored safe first left before n s rest now → IsTrue (is_some (held (stored s.store).events session.0))
+      → ((k : ℕ) → MatchResult a (λ (after : After). Answers k (state_of stored s) (Ask session request.End) after (state_of stored t) now later) (λ (status : ℕ). StopsAt k (state_of stored s) (Ask session request.End) status (state_of stored t) now later))
+      → IsSafely safe s t → MatchResult a (λ (after : After). (x : ℕ) × HasRun stored safe first left before x t rest later) (λ (status : ℕ). HasEnded stored safe first left before status t later)
+  end_flowed n s t rest now later session (Ok after) r holds m between = (n + 1, stepped stored safe first left before n s t rest rest now later None (Ask session request.End) after r (session, refl, holds) refl (m (n + 1)) between)
+  end_flowed n s t rest now later session (Err status) r holds m between = stopped stored safe first left before n s t rest rest now later None (Ask session request.End) status r (session, refl, holds) refl (m (n + 1)) between
+
+  -- what was answered ends the run, or lets it go on
+  pub ends_ok : (t : Shell T) (rest later : Option (List ℕ)) (a : Result After ℕ) (after : After) (status : ℕ) → a ≡ Ok after → status ≢ 4
+      → MatchResult a (λ (after : After). (x : ℕ) × HasRun stored safe first left before x t rest later) (λ (status : ℕ). HasEnded stored safe first left before status t later) → HasEnded stored safe first left before status t later
+  ends_ok t rest later a after status e other m =
+      let r = MatchResult-at_ok (λ (after : After). (x : ℕ) × HasRun stored safe first left before x t rest later) (λ (status : ℕ). HasEnded stored safe first left before status t later) after e m in
+      ended stored safe first left before r.0 t rest later status other r.1
+
+-- a session holds a transaction
+pub held_some : (H K : List Event) (s : Session) (t : Txn) → K ≡ H → Some t ≡ held_txn K s → IsTrue (is_some (held H s.0))
+held_some H K s t same is = subst (λ (J : List Event). IsTrue (is_some (held J s.0))) same (go (held K s.0) refl)
+  where
+    go : (o : Option ℕ) → held K s.0 ≡ o → IsTrue (is_some (held K s.0))
+    go None e = absurd (let f : Some t ≡ txn_of None = is ∙ ap txn_of e in cc)
+    go (Some n) e = rw e refl
 
 -- no step yet
 pub begun : {T : Type 0} (stored : T → Stored) (safe : T → T → Type 0) (s : Shell T) (left now : Option (List ℕ)) → HasRun stored safe s left now 0 s (ahead [] left) now

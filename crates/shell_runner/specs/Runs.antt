@@ -35,8 +35,10 @@ abbrev pub IsSameOrSafe : {T : Type 0} → (T → T → Type 0) → Shell T → 
 IsSameOrSafe safe s t = (t ≡ s) ⊎ safe s.store t.store
 
 -- a line makes the store go on at most twice
-abbrev pub IsSafely : {T : Type 0} → (T → T → Type 0) → Shell T → Shell T → Type 0
-IsSafely {T = T} safe s t = (mid : Shell T) × IsSameOrSafe safe s mid × IsSameOrSafe safe mid t
+pub record IsSafely {T : Type 0} (safe : T → T → Type 0) (s t : Shell T) : Type 0 where
+  pub mid : Shell T
+  pub first : IsSameOrSafe safe s mid
+  pub second : IsSameOrSafe safe mid t
 
 -- step n is answered
 pub record IsStep {T : Type 0} (stored : T → Stored) (safe : T → T → Type 0) (n : ℕ) (s : Shell T) (step : Step) (t : Shell T) : Type 0 where

@@ -74,14 +74,13 @@ fn end_if_held<T: ShellStore, K: Sink>(
     ensures write_fault { IfErr result.1 (λ status. status ≡ 4 → Rose (K.faults out.old) (K.faults out.new)) }
     ensures writes { K.faults out.old ≤ K.faults out.new }
 {
-    if shell.store.history().held(session).is_none() {
-        return (shell, Ok(After::Next));
+    match shell.store.history().held(session) {
+        Some(_) => end_session(alloc, shell, tree, session, out),
+        None => (shell, Ok(After::Next)),
     }
-    end_session(alloc, shell, tree, session, out)
 }
 
 /// Ends a session, and writes the answer.
-#[tactic(auto, using(crate::proofs::Going::once))]
 fn end_session<T: ShellStore, K: Sink>(
     alloc: Global,
     shell: Shell<T>,

@@ -4,6 +4,8 @@ ghost use Rattle.std.specs.Prelude.{◌≡◌, ◌↔◌, [], IfErr, IfOk, OnErr
 ghost use Rattle.store_setup.specs.SetupView.{SetupView, setup_view};
 ghost use Rattle.store_setup.specs.Sound.{IsNamed, IsWhole};
 ghost use Rattle.tree_toml.specs.SetupText.{setup_of_text};
+ghost use Rattle.shell_lines.specs.Answers.{reply_line};
+ghost use Rattle.shell_lines.specs.declared.reply.StoreReply.TheVariants as replies;
 ghost use Rattle.shell_runner.specs.States.{IsReady, IsTurnRefused};
 ghost use Rattle.shell_runner.specs.Answers.{HasTurned, IsAsked, IsBegin, IsCheckpoint, ShowsReply, after_reply, HasFailed};
 ghost use Rattle.shell_runner.specs.Runs.{IsSafely, IsSameOrSafe, state_of};
@@ -15,7 +17,7 @@ use crate::{Shell, ShellStore, TurnError};
 use shell_lines::{Checkpoint, StoreReply, put_checkpoint, put_reply};
 use std::alloc::{AllocError, Global};
 use store_setup::Setup;
-use teb_names::{MOST_TXNS, Request, Session};
+use teb_names::{MOST_TXNS, NameBook, Request, Session};
 use tree_toml::read_tree;
 
 /// An epoch with commits ends if fewer bytes are left for it.
@@ -43,13 +45,26 @@ pub(crate) fn ask<T: ShellStore>(
     let (shell, turned) = turn(alloc, shell, tree);
     match turned {
         Ok(()) | Err(TurnError::Full) => ask_store(alloc, shell, tree, session, request, out),
-        Err(TurnError::Unfinished(_)) | Err(TurnError::Untold(_)) => {
-            let put = put_reply(out, shell.store.names(), session, &StoreReply::Later);
-            (shell, next_if(put))
-        }
         Err(TurnError::DiskFault) => (shell, Ok(After::Stopped)),
         Err(TurnError::OutOfMemory) => (shell, Err(AllocError)),
+        Err(_) => {
+            let put = put_later(out, shell.store.names(), session);
+            (shell, put)
+        }
     }
+}
+
+/// Appends that a session is to ask again later.
+fn put_later(
+    out: &mut Vec<u8>,
+    names: &NameBook,
+    session: Session,
+) -> Result<After, AllocError>
+    requires { out.old.items ≡ [] }
+    ensures { IfOk result (λ after. (after ≡ afters.Next) × (out.new.items ≡ reply_line names.now session replies.Later)) }
+{
+    put_reply(out, names, session, &StoreReply::Later)?;
+    Ok(After::Next)
 }
 
 /// True if a request would begin a transaction in an epoch that has to end.
@@ -120,7 +135,7 @@ pub(crate) fn checkpoint<T: ShellStore>(
     requires blank { out.old.items ≡ [] }
     ensures checked { IfOk result.1 (λ after. IsCheckpoint (state_of T.stored shell) out.new.items after (state_of T.stored result.0) ⊎ HasFailed out.new.items after) }
     ensures ready { IfOk result.1 (λ after. (after ≡ afters.Stopped → ⊥) → IsReady tree.now (T.stored result.0.store)) }
-    ensures safe { IsSameOrSafe T.safe shell result.0 }
+    ensures safe { IsSafely T.safe shell result.0 }
     ensures format { result.0.format ≡ shell.format }
 {
     let (shell, turned) = turn(alloc, shell, tree);

@@ -87,6 +87,7 @@ pub(crate) enum Flow {
 }
 
 /// Reads, answers and writes the next line. An `Err` is the status of a run that ends at once.
+#[tactic(auto, using(crate::proofs::FewLines::few_lines))]
 fn next_step<T: ShellStore, S: Source, K: Sink>(
     alloc: Global,
     shell: Shell<T>,

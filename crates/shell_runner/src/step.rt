@@ -4,7 +4,7 @@ ghost use Rattle.std.specs.Prelude.{◌≡◌, ◌<◌, ◌^◌, [], IfOk, lengt
 ghost use Rattle.script_text.specs.Lines.{lines_of};
 ghost use Rattle.shell_lines.specs.Lines.{shell_line};
 ghost use Rattle.shell_runner.specs.States.{IsReady};
-ghost use Rattle.shell_runner.specs.Answers.{IsAnswered, IsUnchanging, Shows};
+ghost use Rattle.shell_runner.specs.Answers.{IsAnswered, IsUnchanging};
 ghost use Rattle.shell_runner.specs.Runs.{IsSafely, state_of};
 ghost use Rattle.shell_runner.specs.declared.step.After.TheVariants as afters;
 
@@ -48,10 +48,28 @@ pub(crate) fn answer_line<T: ShellStore>(
     ensures safe { IsSafely T.safe shell result.0 }
     ensures format { result.0.format ≡ shell.format }
 {
-    let format = shell.format;
-    let Ok(line) = parse_line(alloc, shell.store.names(), format, text) else {
-        return (shell, Err(AllocError));
-    };
+    match parse_line(alloc, shell.store.names(), shell.format, text) {
+        Ok(line) => answer(alloc, shell, tree, number, line, out),
+        Err(error) => (shell, Err(error)),
+    }
+}
+
+/// Answers what a line asks.
+fn answer<T: ShellStore>(
+    alloc: Global,
+    shell: Shell<T>,
+    tree: &[u8],
+    number: u64,
+    line: ShellLine,
+    out: &mut Vec<u8>,
+) -> (Shell<T>, Result<After, AllocError>)
+    requires ready { IsReady tree.now (T.stored shell.store) }
+    requires blank { out.old.items ≡ [] }
+    ensures answered { IfOk result.1 (λ after. IsAnswered number (state_of T.stored shell) line out.new.items after (state_of T.stored result.0)) }
+    ensures ready { IfOk result.1 (λ after. (after ≡ afters.Stopped → ⊥) → IsReady tree.now (T.stored result.0.store)) }
+    ensures safe { IsSafely T.safe shell result.0 }
+    ensures format { result.0.format ≡ shell.format }
+{
     match line {
         ShellLine::Ask { session, request } => ask(alloc, shell, tree, session, request, out),
         ShellLine::Checkpoint => checkpoint(alloc, shell, tree, out),
@@ -72,7 +90,7 @@ fn show<T: ShellStore>(
 ) -> Result<After, AllocError>
     requires unchanging { IsUnchanging line }
     requires blank { out.old.items ≡ [] }
-    ensures shown { IfOk result (λ after. Shows number (state_of T.stored shell.now) line out.new.items after) }
+    ensures shown { IfOk result (λ after. IsAnswered number (state_of T.stored shell.now) line out.new.items after (state_of T.stored shell.now)) }
     ensures goes_on { IfOk result (λ after. after ≡ afters.Stopped → ⊥) }
 {
     let store = &shell.store;

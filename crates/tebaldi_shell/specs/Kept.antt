@@ -6,7 +6,11 @@ use Rattle.engine_core.specs.EngineModel.{EngineModel}
 use Rattle.epoch_journal.specs.Layout.{half_size}
 use Rattle.epoch_store.specs.Stored as Kept
 use Rattle.engine_store.specs.Telling.{LeavesOnlyUntilRenewed, TellsCommits}
+use Rattle.engine_store.specs.declared.error.NextError.{NextError}
+use Rattle.engine_store.specs.declared.error.NextError.TheVariants as next
 use Rattle.shell_runner.specs.States.{Stored}
+use Rattle.shell_runner.specs.declared.store.TurnError.{TurnError}
+use Rattle.shell_runner.specs.declared.store.TurnError.TheVariants as turn
 
 abbrev pub KeptModel : Type 0 → Type 0
 KeptModel D = Kept.Stored EngineModel D
@@ -29,3 +33,12 @@ module _ {D : Type 0} (seen : D → List ℕ) (faults : D → ℕ) (moment : D �
   -- the history is that of t, which s leads to; or that of s, whose epoch ends
   abbrev pub IsSafe : KeptModel D → KeptModel D → Type 0
   IsSafe s t = LeavesCommits s t t.engine.store t.engine.events ⊎ LeavesCommits s t s.engine.store s.engine.events
+
+-- why no next epoch begins, as the shell has it; the tables are always the same
+abbrev pub IsTurnError : NextError → TurnError → Type 0
+IsTurnError (next.Again t) w = w ≡ turn.Unfinished t
+IsTurnError (next.Untold s) w = w ≡ turn.Untold s
+IsTurnError next.OtherTables w = w ≡ turn.OutOfMemory
+IsTurnError next.Full w = w ≡ turn.Full
+IsTurnError next.DiskFault w = w ≡ turn.DiskFault
+IsTurnError next.OutOfMemory w = w ≡ turn.OutOfMemory

@@ -1,5 +1,7 @@
 //! The store on a disk, as the shell asks it.
 
+ghost use Rattle.tebaldi_shell.specs.Kept.{IsTurnError};
+
 use chain_pool::PooledChains;
 use crash_disk::Renew;
 use engine_store::{EngineStore, NextError, NotNext};
@@ -42,7 +44,9 @@ impl<D: Renew + Drop> ShellStore for KeptStore<D> {
     }
 
     fn rows(&self, alloc: Global) -> Result<Vec<(Cell, i64)>, AllocError> {
-        tables(alloc, self.store.engine())
+        let engine = self.store.engine();
+        let (_history, _setup) = (engine.history(), engine.setup());
+        tables(alloc, engine)
     }
 
     fn order(&self, alloc: Global) -> Result<Vec<Txn>, AllocError> {
@@ -55,7 +59,8 @@ impl<D: Renew + Drop> ShellStore for KeptStore<D> {
         session: Session,
         request: Request,
     ) -> Result<StoreReply, AllocError> {
-        let _ = self.store.engine().history();
+        let engine = self.store.engine();
+        let (_history, _setup) = (engine.history(), engine.setup());
         match self.store.ask(alloc, session, request) {
             Ok(reply) => Ok(StoreReply::Reply(reply)),
             Err(AskError::Full) => Ok(StoreReply::Full),
@@ -73,7 +78,9 @@ impl<D: Renew + Drop> ShellStore for KeptStore<D> {
     }
 }
 
-fn turn_error(why: NextError) -> TurnError {
+fn turn_error(why: NextError) -> TurnError
+    ensures { IsTurnError why result }
+{
     match why {
         NextError::Again(txn) => TurnError::Unfinished(txn),
         NextError::Untold(session) => TurnError::Untold(session),

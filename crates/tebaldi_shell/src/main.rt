@@ -7,7 +7,7 @@ mod serving;
 
 use command_words::words_of;
 use file_disk::{FileDisk, OpenError};
-use messages::{BAD_TREE, BAD_WORDS, CANNOT_OPEN, say, tree_fault};
+use messages::{BAD_WORDS, CANNOT_OPEN, say, tree_fault};
 use output_writer::exit_code;
 use script_text::MOST_BYTES;
 use serving::{StartError, serve};
@@ -17,6 +17,7 @@ use std::env;
 use std::fs::File;
 use std::process::ExitCode;
 use teb_io::{ReadError, StdSink, StdSource, read_all};
+use tree_toml::{TreeText, read_tree};
 
 /// The status if the file is damaged.
 const DAMAGED: u8 = 14;
@@ -49,7 +50,16 @@ fn read_tree_text(rt: &HostRuntime, alloc: Global, path: &str) -> Result<Vec<u8>
     }
 }
 
+/// Runs the shell on a file under a tree text. A file is not touched if the text is refused.
 fn run_on(rt: &HostRuntime, alloc: Global, file: &str, tree: &[u8]) -> u8 {
+    match read_tree(alloc, tree) {
+        Ok(_setup) => run_under(rt, alloc, file, tree),
+        Err(TreeText::OutOfMemory) => OUT_OF_MEMORY,
+        Err(fault) => tree_fault(rt, alloc, &fault),
+    }
+}
+
+fn run_under(rt: &HostRuntime, alloc: Global, file: &str, tree: &[u8]) -> u8 {
     let disk = match FileDisk::open(rt, alloc, file) {
         Ok(disk) => disk,
         Err(OpenError::Busy) => return say(rt, CANNOT_OPEN, "the file is in use"),
