@@ -1,6 +1,6 @@
 //! A store on a disk, in epochs.
 
-ghost use Rattle.std.specs.Prelude.{◌≡◌, ◌↔◌, ◌+◌, ◌<◌, ◌^◌, length, true, false, IsTrue, IfOk, IfErr, OnOk, IsErrOf, List, ℕ};
+ghost use Rattle.std.specs.Prelude.{◌≡◌, ◌↔◌, ◌+◌, ◌-◌, ◌<◌, ◌^◌, None, length, true, false, IsTrue, IfOk, IfErr, OnOk, IsErrOf, List, ℕ};
 ghost use Rattle.teb_io.specs.Faults.{Rose};
 ghost use Rattle.teb_names.specs.declared.Reply.TheVariants as replies;
 ghost use Rattle.teb_rules.specs.Answer.{answer};
@@ -13,6 +13,7 @@ ghost use Rattle.tree_switch.specs.Refusals.{IsDrained};
 ghost use Rattle.tree_switch.specs.Serial.{IsSerial};
 ghost use Rattle.crash_disk.specs.Disk.{LeavesOnly};
 ghost use Rattle.commit_laws.specs.Commits.{commit_count};
+ghost use Rattle.commit_journal.specs.Kept.{IsFull};
 ghost use Rattle.commit_laws.specs.Laws.{IsOfSerialRun};
 ghost use Rattle.epoch_journal.specs.Layout.{half_size};
 ghost use Rattle.epoch_store.specs.Told.{IsToldBy, acknowledged_after, events_after, told};
@@ -88,6 +89,8 @@ impl<C: Chains, D: Disk> EngineStore<C, D> {
 
         ensures stopped { IsErrOf result errors.Stopped → self.old.journal.stopped ≡ true }
         ensures stays { self.old.journal.stopped ≡ true → IsErrOf result errors.Stopped }
+        ensures full { IsErrOf result errors.Full → IsFull self.old.engine.events (half_size self.old.journal.layout.capacity - self.old.journal.end) session request }
+        ensures room { IsFull self.old.engine.events (half_size self.old.journal.layout.capacity - self.old.journal.end) session request → told result ≡ None }
         ensures not_asked { IfErr result (λ e. (e ≡ errors.Unsure → ⊥) → self.new ≡ self.old) }
         ensures unsure { IsErrOf result errors.Unsure → ((answer self.old.engine.store self.old.engine.events session request).0 ≡ replies.Committed)
             × (self.new.journal.stopped ≡ true) × Rose (D.faults self.old.journal.disk) (D.faults self.new.journal.disk) }
@@ -148,9 +151,11 @@ impl<C: Chains, D: Disk> EngineStore<C, D> {
         self.store.left()
     }
 
-    /// The disk, as it is. The engine is dropped.
+    /// The disk, as it is. The engine is dropped. The disk may be opened again, also after a fault.
     pub fn into_disk(self) -> D
         ensures disk { result ≡ self.journal.disk }
+        ensures capacity { D.capacity result ≡ self.journal.layout.capacity }
+        ensures label { self.journal.layout.label ≡ label_of self.engine.names.tables }
         ensures images { (image : List ℕ) → D.may_leave result image
             → TellsCommits self.journal.layout self.engine.store self.engine.events self.journal.acknowledged image }
     {

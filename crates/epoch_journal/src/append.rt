@@ -85,7 +85,8 @@ impl<D: Disk> EpochJournal<D> {
 
     /// The disk, as it is.
     pub fn into_disk(self) -> D
-        ensures { result ≡ self.disk }
+        ensures disk { result ≡ self.disk }
+        ensures capacity { D.capacity result ≡ self.layout.capacity }
     {
         self.disk
     }

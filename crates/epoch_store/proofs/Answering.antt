@@ -1,6 +1,6 @@
 -- What an answer makes of what a journal keeps.
 use Rattle.std.proofs.Common.{◌≡◌, ◌+◌, ℕ, List, Result, Ok, Err, refl, sym, ap, subst}
-use Rattle.std.specs.Prelude.{OnOk, OnErr}
+use Rattle.std.specs.Prelude.{OnOk, OnErr, IsErrOf}
 use Rattle.teb_names.specs.declared.Reply.{Reply}
 use Rattle.teb_names.specs.declared.Reply.TheVariants.{Begun, Value, Values, Done, Prepared, Committed, Again, Aborted, Refused}
 use Rattle.teb_names.specs.Rows.{row_of}
@@ -12,7 +12,11 @@ use Rattle.crash_disk.specs.Disk.{LeavesOnly}
 use Rattle.record_journal.proofs.Moments.{started}
 use Rattle.epoch_journal.specs.Telling.{TellsOn}
 use Rattle.epoch_journal.specs.Kept.{Keeps}
-use Rattle.epoch_store.specs.Told.{acknowledged_after}
+use Rattle.epoch_store.specs.Told.{acknowledged_after, as_ask}
+use Rattle.epoch_store.specs.declared.error.AskError.{AskError}
+use Rattle.epoch_store.specs.declared.error.AskError.TheVariants as asking
+use Rattle.epoch_store.specs.declared.recorder.PrepareError.{PrepareError}
+use Rattle.epoch_store.specs.declared.recorder.PrepareError.TheVariants as preparing
 
 pub others_none : (n : ℕ) (r : Reply) → (r ≡ Committed → ⊥) → acknowledged_after n (Ok r) ≡ n
 others_none n (Begun t) never = refl
@@ -27,6 +31,11 @@ others_none n (Refused c) never = refl
 
 pub committed_one : (n : ℕ) (r : Reply) → r ≡ Committed → acknowledged_after n (Ok r) ≡ n + 1
 committed_one n r is = ap (λ (q : Reply). acknowledged_after n (Ok q)) is
+
+-- a request for which the record does not fit
+pub as_ask_full : {T U : Type 0} (p : PrepareError) (e : AskError) → e ≡ as_ask p → IsErrOf {T = T} (Err e) asking.Full → IsErrOf {T = U} (Err p) preparing.Full
+as_ask_full preparing.Full e from is = refl
+as_ask_full preparing.OutOfMemory e from is = absurd (cc)
 
 pub get_ok : {T E P : Type 0} (r : Result T E) (v : T) → r ≡ Ok v → OnOk r P → P
 get_ok {T} {E} {P} r v is p = let Q : Result T E → Type 0 = λ x. OnOk x P in subst Q is p

@@ -1,6 +1,6 @@
 //! A store whose commits are kept on a disk.
 
-ghost use Rattle.std.specs.Prelude.{◌≡◌, ◌+◌, ◌*◌, ◌<◌, ◌≤◌, ◌^◌, [], length, Some, true, false, IsTrue, IfOk, IfErr, OnOk, OnErr, IsErrOf, List, ℕ};
+ghost use Rattle.std.specs.Prelude.{◌≡◌, ◌+◌, ◌-◌, ◌*◌, ◌<◌, ◌≤◌, ◌^◌, [], length, Some, None, true, false, IsTrue, IfOk, IfErr, OnOk, OnErr, IsErrOf, List, ℕ};
 ghost use Rattle.teb_io.specs.Faults.{Rose};
 ghost use Rattle.teb_names.specs.declared.Cell.{Cell as TheCell};
 ghost use Rattle.teb_names.specs.declared.Reply.TheVariants as replies;
@@ -93,6 +93,8 @@ impl<E: Recorder, D: Disk> EpochStore<E, D> {
 
         ensures stopped { IsErrOf result errors.Stopped → self.old.journal.stopped ≡ true }
         ensures stays { self.old.journal.stopped ≡ true → IsErrOf result errors.Stopped }
+        ensures full { IsErrOf result errors.Full → E.lacks self.old.engine (half_size self.old.journal.layout.capacity - self.old.journal.end) session request }
+        ensures room { E.lacks self.old.engine (half_size self.old.journal.layout.capacity - self.old.journal.end) session request → told result ≡ None }
         ensures not_asked { IfErr result (λ e. (e ≡ errors.Unsure → ⊥) → self.new ≡ self.old) }
         ensures unsure { IsErrOf result errors.Unsure → ((answer (E.store self.old.engine) (E.events self.old.engine) session request).0 ≡ replies.Committed)
             × (self.new.journal.stopped ≡ true) × Rose (D.faults self.old.journal.disk) (D.faults self.new.journal.disk) }
@@ -106,7 +108,10 @@ impl<E: Recorder, D: Disk> EpochStore<E, D> {
             return Err(AskError::Stopped);
         }
         let left = self.journal.left().min(MOST_LEFT);
-        let body = self.engine.prepare(alloc, left, session, request)?;
+        let body = match self.engine.prepare(alloc, left, session, request) {
+            Ok(body) => body,
+            Err(error) => return Err(AskError::from(error)),
+        };
         answered(&mut self.engine, &mut self.journal, session, request, &body)
     }
 

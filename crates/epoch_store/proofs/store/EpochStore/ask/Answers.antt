@@ -1,9 +1,11 @@
-use Rattle.std.proofs.Common.{List, ℕ, refl, subst}
+use Rattle.std.proofs.Common.{◌≡◌, ◌-◌, List, ℕ, None, refl, sym, subst, arith, ◌∙◌}
 use Rattle.teb_names.specs.Rows.{row_of}
 use Rattle.crash_disk.specs.Disk.{LeavesOnly}
+use Rattle.epoch_journal.specs.Layout.{half_size}
 use Rattle.epoch_journal.specs.Telling.{TellsOn}
+use Rattle.epoch_journal.proofs.Sizes.{small_half}
 use Rattle.epoch_store.specs.Stored.{Stored}
-use Rattle.epoch_store.proofs.Answering.{keeps_same, still}
+use Rattle.epoch_store.proofs.Answering.{as_ask_full, keeps_same, still}
 use Rattle.epoch_store.proofs.store.EpochStore.ask.Goals as goal
 
 pub returns-then-is_stopped-clause-any_moment : goal.returns-then-is_stopped-clause-any_moment
@@ -14,8 +16,8 @@ returns-then-is_stopped-clause-any_moment g c =
     subst (λ (s : Stored _ _). LeavesOnly d.moment d.left_since s.journal.disk s.journal.disk (TellsOn s.journal.layout (row_of (e.store s.engine).rows) (e.records s.engine) s.journal.acknowledged)) c.self.view_is
     (still d.seen d.may_leave d.moment d.left_since (row_of (e.store was.engine).rows) (e.records was.engine) was.journal.acknowledged was.journal (g.met.D.Disk.only_now was.journal.disk) c.self.invariant)
 
-pub returns-in_err-body-clause-any_moment : goal.returns-in_err-body-clause-any_moment
-returns-in_err-body-clause-any_moment g c =
+pub returns-in-Err-clause-any_moment : goal.returns-in-Err-clause-any_moment
+returns-in-Err-clause-any_moment g c =
     let d = g.D.Disk in
     let e = g.E.Recorder in
     let was = c.self.inside in
@@ -32,11 +34,28 @@ returns-then-is_stopped-clause-images g c =
     subst (λ (s : Stored _ _). (image : List ℕ) → d.may_leave s.journal.disk image → TellsOn s.journal.layout (row_of (e.store s.engine).rows) (e.records s.engine) s.journal.acknowledged image) c.self.view_is
     c.self.invariant.each
 
-pub returns-in_err-body-clause-images : goal.returns-in_err-body-clause-images
-returns-in_err-body-clause-images g c =
+pub returns-in-Err-clause-images : goal.returns-in-Err-clause-images
+returns-in-Err-clause-images g c =
     let d = g.D.Disk in
     let e = g.E.Recorder in
     let was = c.self.inside in
     let new = c.prepare.new.self in
     let n = was.journal.acknowledged in
     (keeps_same d.seen d.may_leave (e.store was.engine) (e.store new) (e.records was.engine) (e.records new) n n was.journal c.prepare.ensures.store c.prepare.ensures.records refl c.self.invariant).each
+
+pub returns-in-Err-clause-full : goal.returns-in-Err-clause-full
+returns-in-Err-clause-full g c is =
+    let e = g.E.Recorder in
+    let was = c.self.inside in
+    let left : c.min-left.result ≡ half_size was.journal.layout.capacity - was.journal.end = omega (arith, c.min-left.ensures, c.left.ensures.left, small_half was.journal.layout.capacity) in
+    subst (λ (s : Stored _ _). e.lacks s.engine (half_size s.journal.layout.capacity - s.journal.end) c.args.session c.args.request) c.self.view_is
+    (subst (λ (n : ℕ). e.lacks was.engine n c.args.session c.args.request) left (c.in-Err.ensures.full (as_ask_full c.in-Err.error c.from.result c.from.ensures is)))
+
+pub returns-clause-room : goal.returns-clause-room
+returns-clause-room g c lacks =
+    let e = g.E.Recorder in
+    let was = c.self.inside in
+    let left : c.min-left.result ≡ half_size was.journal.layout.capacity - was.journal.end = omega (arith, c.min-left.ensures, c.left.ensures.left, small_half was.journal.layout.capacity) in
+    absurd (c.in-Ok.ensures.room
+    (subst (λ (n : ℕ). e.lacks was.engine n c.args.session c.args.request) (sym left)
+    (subst (λ (s : Stored _ _). e.lacks s.engine (half_size s.journal.layout.capacity - s.journal.end) c.args.session c.args.request) (sym c.self.view_is) lacks)))

@@ -1,0 +1,7 @@
+//! Tests of the store that goes on: what no contract says.
+#![tactic(auto)]
+
+#[cfg(test)]
+mod life;
+#[cfg(test)]
+mod memory;
