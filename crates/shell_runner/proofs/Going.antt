@@ -162,12 +162,16 @@ module _ {T : Type 0} (stored : T → Stored) (safe : T → T → Type 0) (first
   end_flowed n s t rest now later session (Ok after) r holds m between = (n + 1, stepped stored safe first left before n s t rest rest now later None (Ask session request.End) after r (session, refl, holds) refl (m (n + 1)) between)
   end_flowed n s t rest now later session (Err status) r holds m between = stopped stored safe first left before n s t rest rest now later None (Ask session request.End) status r (session, refl, holds) refl (m (n + 1)) between
 
-  -- what was answered ends the run, or lets it go on
-  pub ends_ok : (t : Shell T) (rest later : Option (List ℕ)) (a : Result After ℕ) (after : After) (status : ℕ) → a ≡ Ok after → status ≢ 4
-      → MatchResult a (λ (after : After). (x : ℕ) × HasRun stored safe first left before x t rest later) (λ (status : ℕ). HasEnded stored safe first left before status t later) → HasEnded stored safe first left before status t later
-  ends_ok t rest later a after status e other m =
-      let r = MatchResult-at_ok (λ (after : After). (x : ℕ) × HasRun stored safe first left before x t rest later) (λ (status : ℕ). HasEnded stored safe first left before status t later) after e m in
-      ended stored safe first left before r.0 t rest later status other r.1
+  -- the same, where the disk has failed too
+  pub ends_or_goes_on : (t : Shell T) (rest later : Option (List ℕ)) (a : Result After ℕ) (d : Result (Unit {0}) ℕ)
+      → MatchResult a (λ (after : After). (x : ℕ) × HasRun stored safe first left before x t rest later) (λ (status : ℕ). HasEnded stored safe first left before status t later)
+      → MatchResult d (λ (u : Unit {0}). (b : After) × (a ≡ Ok b) × (b ≡ Stopped → ⊥)) (λ (status : ℕ). (a ≡ Err status) ⊎ ((a ≡ Ok Stopped) × (status ≡ 15)))
+      → MatchResult d (λ (u : Unit {0}). (x : ℕ) × HasRun stored safe first left before x t rest later) (λ (status : ℕ). HasEnded stored safe first left before status t later)
+  ends_or_goes_on t rest later a (Ok u) m g = MatchResult-at_ok (λ (after : After). (x : ℕ) × HasRun stored safe first left before x t rest later) (λ (status : ℕ). HasEnded stored safe first left before status t later) g.0 g.1 m
+  ends_or_goes_on t rest later a (Err status) m (inl g) = MatchResult-at_err (λ (after : After). (x : ℕ) × HasRun stored safe first left before x t rest later) (λ (status : ℕ). HasEnded stored safe first left before status t later) status g m
+  ends_or_goes_on t rest later a (Err status) m (inr g) =
+      let r = MatchResult-at_ok (λ (after : After). (x : ℕ) × HasRun stored safe first left before x t rest later) (λ (status : ℕ). HasEnded stored safe first left before status t later) Stopped g.0 m in
+      ended stored safe first left before r.0 t rest later status (λ p. absurd (omega (arith, g.1, p))) r.1
 
 -- a session holds a transaction
 pub held_some : (H K : List Event) (s : Session) (t : Txn) → K ≡ H → Some t ≡ held_txn K s → IsTrue (is_some (held H s.0))

@@ -47,14 +47,25 @@ pub(crate) fn ask<T: ShellStore>(
         Ok(()) | Err(TurnError::Full) => ask_store(alloc, shell, tree, session, request, out),
         Err(TurnError::DiskFault) => (shell, Ok(After::Stopped)),
         Err(TurnError::OutOfMemory) => (shell, Err(AllocError)),
-        Err(_) => {
-            let put = put_later(out, shell.store.names(), session);
-            (shell, put)
-        }
+        Err(TurnError::Unfinished(_)) => answer_later(shell, session, out),
+        Err(TurnError::Untold(_)) => answer_later(shell, session, out),
     }
 }
 
 /// Appends that a session is to ask again later.
+fn answer_later<T: ShellStore>(
+    shell: Shell<T>,
+    session: Session,
+    out: &mut Vec<u8>,
+) -> (Shell<T>, Result<After, AllocError>)
+    requires { out.old.items ≡ [] }
+    ensures same { result.0 ≡ shell }
+    ensures said { IfOk result.1 (λ after. (after ≡ afters.Next) × (out.new.items ≡ reply_line (T.stored shell.store).names session replies.Later)) }
+{
+    let put = put_later(out, shell.store.names(), session);
+    (shell, put)
+}
+
 fn put_later(
     out: &mut Vec<u8>,
     names: &NameBook,
