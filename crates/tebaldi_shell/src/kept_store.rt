@@ -1,5 +1,6 @@
 //! The store on a disk, as the shell asks it.
 
+ghost use Rattle.std.specs.Prelude.{◌≡◌};
 ghost use Rattle.tebaldi_shell.specs.Kept.{IsTurnError};
 
 use chain_pool::PooledChains;
@@ -10,22 +11,40 @@ use serial_order::{order, tables};
 use shell_lines::StoreReply;
 use shell_runner::{ShellStore, TurnError};
 use std::alloc::{AllocError, Global};
+use std::marker::Model;
 use store_setup::Setup;
 use teb_history::History;
 use teb_names::{Cell, NameBook, Request, Session, Txn};
 
-/// A store on a disk.
+/// A store on a disk. Contracts see what they see of an `EngineStore`.
 #[derive(Drop)]
 pub struct KeptStore<D: Renew + Drop> {
-    pub store: EngineStore<PooledChains, D>,
+    store: EngineStore<PooledChains, D>,
+}
+
+impl<D: Renew + Drop> Model for KeptStore<D> {
+    ghost use Rattle.tebaldi_shell.specs.Kept.{KeptModel};
+
+    ghost Value = { KeptModel D };
+
+    ghost view = { λ s. s.store };
+}
+
+impl<D: Renew + Drop> KeptStore<D> {
+    /// Wraps a store.
+    pub fn new(store: EngineStore<PooledChains, D>) -> KeptStore<D>
+        ensures { result ≡ store }
+    {
+        KeptStore { store }
+    }
 }
 
 impl<D: Renew + Drop> ShellStore for KeptStore<D> {
     ghost use Rattle.tebaldi_shell.specs.Kept.{IsSafe, stored_of};
 
-    ghost stored = { λ s. stored_of s.store };
+    ghost stored = { stored_of };
 
-    ghost safe = { λ s t. IsSafe D.seen D.faults D.moment D.left_since s.store t.store };
+    ghost safe = { IsSafe D.seen D.faults D.moment D.left_since };
 
     fn names(&self) -> &NameBook {
         &self.store.engine().setup().names
