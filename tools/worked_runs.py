@@ -19,6 +19,9 @@ A run is a line of the table in runs/FOLDER/README.md. Its columns:
     Formats  the formats in which the run is made: each replaces the format of the input
     Times    how often it is run
     Line     the last line of the input, so that it can be read beside the text
+    File     the run is one of ./tebaldi_shell, on a file of this name; the runs of a folder with the same name are made in order, on one file, which is kept
+             from run to run. It is empty before the first
+    Tree     the tree text of such a run, relative to the folder
 
 The commands of README.md are runs too: each line that begins with `$`, with the text below it.
 The last line is `runs: N passed, M failed`.
@@ -38,6 +41,7 @@ import tempfile
 
 TOP = pathlib.Path(__file__).resolve().parent.parent
 BUILT = TOP / "crates/tebaldi/out/tebaldi"
+SHELL = TOP / "crates/tebaldi_shell/out/tebaldi_shell"
 SECONDS = 120
 SHORT = 50_000  # bytes of an input that rt try is given
 LINE = rb"[^\n]+\n"
@@ -89,6 +93,23 @@ class Run:
             answer = ended(program, ["audit"], text)
             return None if answer == (0, b"audit yes\n") else f"audit answers {shown(answer[1])}"
         return None if text == self.text else difference(self.text, text)
+
+
+@dataclasses.dataclass
+class OnFile:
+    """Runs of the shell, one after another, on one file."""
+
+    name: str
+    runs: list = dataclasses.field(default_factory=list)
+
+    def differs(self, program):
+        """Makes the runs, and returns why the first that failed did, or None."""
+        with tempfile.TemporaryDirectory() as room:
+            for run in self.runs:
+                why = run.wrong(*ended(SHELL, [f"{room}/store", *run.words], run.input))
+                if why:
+                    return f"{run.name}: {why}"
+        return None
 
 
 def ended(program, words, data=b"", output=None, breaks=False, room=None):
@@ -200,9 +221,13 @@ def variants(row, name, data):
 
 def runs_of(folder):
     """The runs of a folder. Each of its files must belong to one."""
-    used = {folder / "README.md"}
+    used, files = {folder / "README.md"}, {}
     for row in tables((folder / "README.md").read_text()):
         if "Run" not in row:
+            continue
+        if "File" in row:
+            file = f"{folder.name}/{row['File'].strip('`')}"
+            files.setdefault(file, OnFile(file)).runs.append(run_on_file(folder, row, used))
             continue
         name = f"{folder.name}/{row['Run'].strip('`')}"
         common = {
@@ -221,8 +246,17 @@ def runs_of(folder):
                 yield broken(f"{name}: the last line of its input is another one than the table says")
             of = f"{name} cut at {len(data)}" if row.get("Input", "").startswith("prefixes") else name
             yield from (Run(named, input=changed, **common) for named, changed in variants(row, of, data))
+    yield from files.values()
     for file in sorted(set(folder.iterdir()) - used):
         yield broken(f"{folder.name}/{file.name} belongs to no run")
+
+
+def run_on_file(folder, row, used):
+    """A run of the shell, without the name of its file."""
+    tree = [folder / row["Tree"].strip("`")] if row.get("Tree") else []
+    used.update(tree)
+    name, statuses = row["Run"].strip("`"), [int(it) for it in re.findall(r"\d+", row["Status"])]
+    return Run(f"{folder.name}/{name}", tree, statuses, text_of(folder, row, used), inputs_of(folder, row, used)[0])
 
 
 def in_rooms(run, room):
@@ -242,7 +276,8 @@ class Shown:
         self.name, self.command, self.text = f"README.md: {command}", command, text
 
     def differs(self, program):
-        command = self.command.replace("./tebaldi", shlex.quote(str(program)))
+        command = self.command.replace("./tebaldi_shell", shlex.quote(str(SHELL)))
+        command = re.sub(r"\./tebaldi\b", lambda _: shlex.quote(str(program)), command)
         ran = subprocess.run(["bash", "-c", command], cwd=TOP, stdin=subprocess.DEVNULL, stdout=subprocess.PIPE, timeout=SECONDS)
         return None if ran.stdout == self.text else difference(self.text, ran.stdout)
 
@@ -290,9 +325,13 @@ def tried(runs):
 def main():
     options = argparse.ArgumentParser(description=__doc__, formatter_class=argparse.RawDescriptionHelpFormatter)
     options.add_argument("--program", type=pathlib.Path, default=BUILT)
+    options.add_argument("--shell", type=pathlib.Path, help="the program of the runs on a file, if it is not the one that is built")
     options.add_argument("--tried", action="store_true")
     options.add_argument("words", nargs="*")
     given = options.parse_args()
+    if given.shell:
+        global SHELL
+        SHELL = given.shell.resolve()
     runs = all_runs(given.words)
     if not given.tried and not os.access(given.program, os.X_OK):
         print(f"runs: there is no program {os.path.relpath(given.program)}: ./check build proves and builds it", file=sys.stderr)

@@ -1,0 +1,38 @@
+use Rattle.std.proofs.Common.{◌≡◌, ap, inl, ◌∙◌, rules}
+use Rattle.shell_runner.specs.Runs.{state_of}
+use Rattle.shell_runner.proofs.Going.{later_asked, once}
+use Rattle.shell_runner.proofs.requests.ask.Goals as goal
+
+pub returns-then-not-has_to_turn-clause-safe : goal.returns-then-not-has_to_turn-clause-safe
+returns-then-not-has_to_turn-clause-safe g c = once g.T.ShellStore.safe c.args.shell c.ask_store.result.0 c.ask_store.ensures.safe
+
+pub returns-in-Ok-clause-safe : goal.returns-in-Ok-clause-safe
+returns-in-Ok-clause-safe g c = record { mid = c.turn-shell.result.0; first = c.turn-shell.ensures.safe; second = c.ask_store-in-Ok.ensures.safe }
+
+pub returns-in-Err-DiskFault-clause-safe : goal.returns-in-Err-DiskFault-clause-safe
+returns-in-Err-DiskFault-clause-safe g c = once g.T.ShellStore.safe c.args.shell c.turn-shell.result.0 c.turn-shell.ensures.safe
+
+pub returns-in-Err-OutOfMemory-clause-safe : goal.returns-in-Err-OutOfMemory-clause-safe
+returns-in-Err-OutOfMemory-clause-safe g c = once g.T.ShellStore.safe c.args.shell c.turn-shell.result.0 c.turn-shell.ensures.safe
+
+pub returns-in-Err-Unfinished-clause-safe : goal.returns-in-Err-Unfinished-clause-safe
+returns-in-Err-Unfinished-clause-safe g c =
+    let kept : c.turn-shell.result.0 ≡ c.args.shell = search rules in
+    once g.T.ShellStore.safe c.args.shell c.answer_later.result.0 (inl (c.answer_later.ensures.same ∙ kept))
+
+pub returns-in-Err-Unfinished-clause-asked : goal.returns-in-Err-Unfinished-clause-asked
+returns-in-Err-Unfinished-clause-asked g c =
+    let kept : c.turn-shell.result.0 ≡ c.args.shell = search rules in
+    later_asked (state_of g.T.ShellStore.stored c.args.shell) (state_of g.T.ShellStore.stored c.answer_later.result.0) c.args.session c.args.request (g.T.ShellStore.stored c.turn-shell.result.0.store).names c.answer_later.new.out.items c.answer_later.result.1 (c.has_to_turn.ensures (search rules))
+    (ap (state_of g.T.ShellStore.stored) (c.answer_later.ensures.same ∙ kept)) (ap (λ s. (g.T.ShellStore.stored s.store).names) kept) c.answer_later.ensures.said
+
+pub returns-in-Err-Untold-clause-safe : goal.returns-in-Err-Untold-clause-safe
+returns-in-Err-Untold-clause-safe g c =
+    let kept : c.turn-shell.result.0 ≡ c.args.shell = search rules in
+    once g.T.ShellStore.safe c.args.shell c.answer_later-in-Err-Untold.result.0 (inl (c.answer_later-in-Err-Untold.ensures.same ∙ kept))
+
+pub returns-in-Err-Untold-clause-asked : goal.returns-in-Err-Untold-clause-asked
+returns-in-Err-Untold-clause-asked g c =
+    let kept : c.turn-shell.result.0 ≡ c.args.shell = search rules in
+    later_asked (state_of g.T.ShellStore.stored c.args.shell) (state_of g.T.ShellStore.stored c.answer_later-in-Err-Untold.result.0) c.args.session c.args.request (g.T.ShellStore.stored c.turn-shell.result.0.store).names c.answer_later-in-Err-Untold.new.out.items c.answer_later-in-Err-Untold.result.1 (c.has_to_turn.ensures (search rules))
+    (ap (state_of g.T.ShellStore.stored) (c.answer_later-in-Err-Untold.ensures.same ∙ kept)) (ap (λ s. (g.T.ShellStore.stored s.store).names) kept) c.answer_later-in-Err-Untold.ensures.said

@@ -1,0 +1,16 @@
+use Rattle.std.proofs.Common.{subst, sym}
+use Rattle.line_reader.specs.Lines.{TakesLine, ahead}
+use Rattle.shell_runner.proofs.Going.{ended, flowed}
+use Rattle.shell_runner.proofs.running.next_step.Goals as goal
+
+pub returns-in-Err-clause-next : goal.returns-in-Err-clause-next
+returns-in-Err-clause-next g c = λ first left before n e r. ended g.T.ShellStore.stored g.T.ShellStore.safe first left before n c.args.shell _ _ c.read_status.result c.read_status.ensures.others.0 r
+
+pub returns-clause-next : goal.returns-clause-next
+returns-clause-next g c = λ first left before n e r.
+    let mid = ahead c.args.reader.now (g.S.Source.left c.args.input.now) in
+    let rest = ahead c.next_line.new.self (g.S.Source.left c.next_line.new.source) in
+    flowed g.T.ShellStore.stored g.T.ShellStore.safe first left before c.args.number n c.args.shell c.take_line-shell.result.0 mid rest (g.K.Sink.written c.args.out.now) (g.K.Sink.written c.take_line-shell.new.out)
+    c.deref.result.now c.take_line-shell.result.1 c.flow_of.result e r
+    (subst (TakesLine mid rest) (sym c.deref.ensures.value) (rw c.in-Ok-Some.field-0-is at c.in-Ok-Some.ensures.taken))
+    c.take_line-shell.ensures.step c.take_line-shell.ensures.safe c.flow_of.ensures

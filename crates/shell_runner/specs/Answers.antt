@@ -1,0 +1,122 @@
+-- How a line is answered.
+use Rattle.std.specs.Prelude.{◌≡◌, ◌⊎◌, ℕ, ◌+◌, ◌-◌, ◌^◌, ℤ, codes, min, List, [], map, IsTrue}
+use Rattle.teb_names.specs.declared.Cell.{Cell}
+use Rattle.teb_names.specs.declared.Session.{Session}
+use Rattle.teb_names.specs.declared.Request.{Request}
+use Rattle.teb_names.specs.declared.Request.TheVariants.{Begin}
+use Rattle.teb_names.specs.declared.Txn.{Txn}
+use Rattle.teb_rules.specs.Ranks.{serial_order}
+use Rattle.shell_lines.specs.Answers.{bad_text, checkpoint_text, epoch_text, help_text, names_text, order_text, reply_line, shown_rows}
+use Rattle.shell_lines.specs.declared.line.Checkpoint.{Checkpoint}
+use Rattle.shell_lines.specs.declared.line.Checkpoint.TheVariants as checkpoint
+use Rattle.shell_lines.specs.declared.line.RowRange.{RowRange}
+use Rattle.shell_lines.specs.declared.line.ShellLine.{ShellLine}
+use Rattle.shell_lines.specs.declared.line.ShellLine.TheVariants as line
+use Rattle.shell_lines.specs.declared.reply.StoreReply.{StoreReply}
+use Rattle.shell_lines.specs.declared.reply.StoreReply.TheVariants as reply
+use Rattle.shell_runner.specs.States.{Stored, AreFinalRows, IsReplied, IsUntold}
+use Rattle.teb_history.specs.Phases.{unfinished}
+use Rattle.shell_runner.specs.declared.step.After.{After}
+use Rattle.shell_runner.specs.declared.step.After.TheVariants.{Next, Bad, Quit, Stopped}
+
+-- what the shell knows between two lines: of its store, and the number of the epoch
+pub record State : Type 0 where
+  pub stored : Stored
+  pub epoch : ℕ
+
+abbrev pub next_number : ℕ → ℕ
+next_number n = min (n + 1) (2 ^ 64 - 1)
+
+-- the next epoch began under the same tree: nothing has happened in it, and it has the rows that the commits of the last one have left
+pub record HasTurned (s t : State) : Type 0 where
+  pub setup : t.stored.store.setup ≡ s.stored.store.setup
+  pub tables : t.stored.store.tables ≡ s.stored.store.tables
+  pub names : t.stored.names ≡ s.stored.names
+  pub rows : AreFinalRows s.stored.store s.stored.events t.stored.store.rows
+  pub events : t.stored.events ≡ []
+  pub commits : t.stored.commits ≡ 0
+  pub epoch : t.epoch ≡ next_number s.epoch
+
+abbrev pub IsBegin : Request → Type 0
+IsBegin (Begin spot) = Unit {0}
+IsBegin _ = ⊥
+
+-- before a Begin the next epoch may begin
+abbrev pub MayTurn : Request → State → State → Type 0
+MayTurn request s t = (t ≡ s) ⊎ (IsBegin request × HasTurned s t)
+
+-- a session is answered so: later, where it would begin while the epoch ends, or as the store replies
+abbrev pub IsTold : State → Session → Request → StoreReply → State → Type 0
+IsTold s session request reply.Later t = IsBegin request × (t ≡ s)
+IsTold s session request r t = IsReplied s.stored session request r t.stored × (t.epoch ≡ s.epoch)
+
+abbrev pub after_reply : StoreReply → After
+after_reply reply.Unsure = Stopped
+after_reply _ = Next
+
+-- the disk failed as the next epoch was to begin, and nothing is shown
+pub record HasFailed (text : List ℕ) (after : After) : Type 0 where
+  pub silent : text ≡ []
+  pub stopped : after ≡ Stopped
+
+-- a session is told what becomes of its request
+pub record ShowsReply (s : State) (session : Session) (request : Request) (text : List ℕ) (after : After) (t : State) : Type 0 where
+  pub answer : StoreReply
+  pub told : IsTold s session request answer t
+  pub shown : text ≡ reply_line s.stored.names session answer
+  pub goes_on : after ≡ after_reply answer
+
+pub record IsAsked (s : State) (session : Session) (request : Request) (text : List ℕ) (after : After) (t : State) : Type 0 where
+  pub mid : State
+  pub turned : MayTurn request s mid
+  pub replied : ShowsReply mid session request text after t
+
+-- what becomes of a checkpoint
+abbrev pub IsCheckpointed : State → Checkpoint → State → Type 0
+IsCheckpointed s (checkpoint.Begun n) t = HasTurned s t × (n ≡ t.epoch)
+IsCheckpointed s (checkpoint.Unfinished u) t = (t ≡ s) × IsTrue (unfinished s.stored.events u.0)
+IsCheckpointed s (checkpoint.Untold u) t = (t ≡ s) × IsUntold s.stored.events u
+IsCheckpointed s checkpoint.Full t = t ≡ s
+
+pub record IsCheckpoint (s : State) (text : List ℕ) (after : After) (t : State) : Type 0 where
+  pub checkpoint : Checkpoint
+  pub is : IsCheckpointed s checkpoint t
+  pub shown : text ≡ checkpoint_text checkpoint
+  pub goes_on : after ≡ Next
+
+-- the committed rows, and the serial order
+pub record ShowsRows (s : State) (range : RowRange) (text : List ℕ) : Type 0 where
+  pub rows : List (Cell × ℤ)
+  pub final : AreFinalRows s.stored.store s.stored.events rows
+  pub shown : text ≡ shown_rows s.stored.names range rows
+
+pub record ShowsOrder (s : State) (text : List ℕ) : Type 0 where
+  pub order : List Txn
+  pub serial : map (λ t. t.0) order ≡ serial_order s.stored.store.setup s.stored.events
+  pub shown : text ≡ order_text order
+
+-- line n of the input, which changes nothing, shows this text
+abbrev pub Shows : ℕ → State → ShellLine → List ℕ → After → Type 0
+Shows n s line.Nothing text after = (text ≡ []) × (after ≡ Next)
+Shows n s (line.Rows range) text after = ShowsRows s range text × (after ≡ Next)
+Shows n s line.Order text after = ShowsOrder s text × (after ≡ Next)
+Shows n s line.Epoch text after = (text ≡ epoch_text s.epoch s.stored.commits s.stored.left) × (after ≡ Next)
+Shows n s line.Tables text after = (text ≡ names_text (codes "table") s.stored.names.tables) × (after ≡ Next)
+Shows n s line.Types text after = (text ≡ names_text (codes "type") s.stored.names.types) × (after ≡ Next)
+Shows n s line.Help text after = (text ≡ help_text) × (after ≡ Next)
+Shows n s line.Quit text after = (text ≡ []) × (after ≡ Quit)
+Shows n s (line.Bad why) text after = (text ≡ bad_text n why) × (after ≡ Bad)
+Shows n s (line.Ask session request) text after = ⊥
+Shows n s line.Checkpoint text after = ⊥
+
+-- a line that changes nothing
+abbrev pub IsUnchanging : ShellLine → Type 0
+IsUnchanging (line.Ask session request) = ⊥
+IsUnchanging line.Checkpoint = ⊥
+IsUnchanging _ = Unit {0}
+
+-- line n of the input is answered by this text, and leaves this state
+abbrev pub IsAnswered : ℕ → State → ShellLine → List ℕ → After → State → Type 0
+IsAnswered n s (line.Ask session request) text after t = IsAsked s session request text after t ⊎ HasFailed text after
+IsAnswered n s line.Checkpoint text after t = IsCheckpoint s text after t ⊎ HasFailed text after
+IsAnswered n s l text after t = Shows n s l text after × (t ≡ s)

@@ -1,0 +1,4 @@
+pub mod States
+pub mod Answers
+pub mod Runs
+pub mod Flows

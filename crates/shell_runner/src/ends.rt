@@ -1,0 +1,117 @@
+//! The end of the sessions that hold a transaction.
+
+ghost use Rattle.std.specs.Prelude.{◌≡◌, ◌≢◌, ◌≤◌, ◌⊎◌, Err, IfErr, IfOk, List, MatchResult, Ok, Option, ℕ};
+ghost use Rattle.teb_io.specs.Faults.{Rose};
+ghost use Rattle.teb_names.specs.declared.Request.TheVariants as requests;
+ghost use Rattle.shell_lines.specs.declared.line.ShellLine.TheVariants as lines;
+ghost use Rattle.shell_runner.specs.States.{IsReady};
+ghost use Rattle.shell_runner.specs.Runs.{Answers, HasEnded, HasRun, IsSafely, StopsAt, state_of};
+ghost use Rattle.shell_runner.specs.declared.shell.Shell.{Shell as TheShell};
+ghost use Rattle.shell_runner.specs.declared.step.After.{After as TheAfter};
+ghost use Rattle.shell_runner.specs.declared.step.After.TheVariants as afters;
+
+use crate::ended::Ended;
+use crate::requests::ask_store;
+use crate::status::DISK_FAULT;
+use crate::step::After;
+use crate::writing::write_step;
+use crate::{Shell, ShellStore};
+use std::alloc::Global;
+use teb_io::Sink;
+use teb_names::{Request, SESSIONS, Session};
+
+/// Ends each session that holds a transaction, in ascending number, and writes the answers.
+pub(crate) fn end_sessions<T: ShellStore, K: Sink>(
+    alloc: Global,
+    shell: Shell<T>,
+    tree: &[u8],
+    status: u8,
+    out: &mut K,
+) -> Ended<T>
+    requires ready { IsReady tree.now (T.stored shell.store) }
+    requires status { (status ≢ 3) × (status ≢ 4) × (status ≢ 8) }
+    ensures ended { (first : TheShell T) (left before rest : Option (List ℕ)) (n : ℕ) → HasRun T.stored T.safe first left before n shell rest (K.written out.old)
+        → HasEnded T.stored T.safe first left before result.status result.shell (K.written out.new) }
+    ensures read { result.status ≢ 3 }
+    ensures write_fault { result.status ≡ 4 → Rose (K.faults out.old) (K.faults out.new) }
+{
+    let mut last = shell;
+    for number in 1..SESSIONS + 1 {
+        let (next, ended) = end_if_held(alloc, last, tree, Session(number), out);
+        last = next;
+        match ended {
+            Ok(()) => {}
+            Err(status) => return Ended {
+                shell: last,
+                status,
+            },
+        }
+    }
+    Ended {
+        shell: last,
+        status,
+    }
+}
+
+/// Ends a session, if it holds a transaction, and writes the answer. An `Err` is the status of a run that ends at once.
+fn end_if_held<T: ShellStore, K: Sink>(
+    alloc: Global,
+    shell: Shell<T>,
+    tree: &[u8],
+    session: Session,
+    out: &mut K,
+) -> (Shell<T>, Result<(), u8>)
+    requires ready { IsReady tree.now (T.stored shell.store) }
+    ensures ended { (first : TheShell T) (left before rest : Option (List ℕ)) (n : ℕ) → HasRun T.stored T.safe first left before n shell rest (K.written out.old)
+        → MatchResult result.1 (λ _. (k : ℕ) × HasRun T.stored T.safe first left before k result.0 rest (K.written out.new))
+            (λ status. HasEnded T.stored T.safe first left before status result.0 (K.written out.new)) }
+    ensures ready { IfOk result.1 (λ _. IsReady tree.now (T.stored result.0.store)) }
+    ensures read { IfErr result.1 (λ status. status ≢ 3) }
+    ensures write_fault { IfErr result.1 (λ status. status ≡ 4 → Rose (K.faults out.old) (K.faults out.new)) }
+    ensures writes { K.faults out.old ≤ K.faults out.new }
+{
+    match shell.store.history().held(session) {
+        Some(_) => {
+            let (shell, after) = end_session(alloc, shell, tree, session, out);
+            (shell, goes_on(after))
+        }
+        None => (shell, Ok(())),
+    }
+}
+
+/// An `Err` if the run ends at once.
+fn goes_on(after: Result<After, u8>) -> Result<(), u8>
+    ensures { MatchResult result (λ _. (a : TheAfter) × (after ≡ Ok a) × (a ≡ afters.Stopped → ⊥)) (λ status. (after ≡ Err status) ⊎ ((after ≡ Ok afters.Stopped) × (status ≡ 15))) }
+{
+    match after {
+        Ok(After::Stopped) => Err(DISK_FAULT),
+        Ok(After::Next) => Ok(()),
+        Ok(After::Bad) => Ok(()),
+        Ok(After::Quit) => Ok(()),
+        Err(status) => Err(status),
+    }
+}
+
+/// Ends a session, and writes the answer.
+fn end_session<T: ShellStore, K: Sink>(
+    alloc: Global,
+    shell: Shell<T>,
+    tree: &[u8],
+    session: Session,
+    out: &mut K,
+) -> (Shell<T>, Result<After, u8>)
+    requires ready { IsReady tree.now (T.stored shell.store) }
+    ensures step { (n : ℕ) → MatchResult result.1
+        (λ after. Answers n (state_of T.stored shell) (lines.Ask session requests.End) after (state_of T.stored result.0) (K.written out.old) (K.written out.new))
+        (λ status. StopsAt n (state_of T.stored shell) (lines.Ask session requests.End) status (state_of T.stored result.0) (K.written out.old) (K.written out.new)) }
+    ensures ready { IfOk result.1 (λ after. (after ≡ afters.Stopped → ⊥) → IsReady tree.now (T.stored result.0.store)) }
+    ensures safe { IsSafely T.safe shell result.0 }
+    ensures format { result.0.format ≡ shell.format }
+    ensures write_fault { IfErr result.1 (λ status. status ≡ 4 → Rose (K.faults out.old) (K.faults out.new)) }
+    ensures read { IfErr result.1 (λ status. status ≢ 3) }
+    ensures writes { K.faults out.old ≤ K.faults out.new }
+{
+    let mut text = Vec::new(alloc);
+    let (shell, after) = ask_store(alloc, shell, tree, session, Request::End, &mut text);
+    (shell, write_step(out, after, &text))
+}

@@ -1,0 +1,98 @@
+//! What the shell asks of the store that it stands on.
+
+ghost use Rattle.std.specs.Prelude.{◌≡◌, IfErr, IfOk, OnErr, OnOk, false, map};
+ghost use Rattle.teb_rules.specs.Ranks.{serial_order};
+ghost use Rattle.script_text.specs.Named.{RowsNamed};
+ghost use Rattle.shell_lines.specs.Answers.{StoreReplyNamed};
+ghost use Rattle.shell_lines.specs.declared.reply.StoreReply.TheVariants as replies;
+ghost use Rattle.store_setup.specs.SetupView.{setup_view};
+ghost use Rattle.store_setup.specs.Sound.{IsWhole};
+ghost use Rattle.shell_runner.specs.States.{AreFinalRows, HasNodeNames, IsNext, IsReplied, IsTurnRefused, Stored};
+ghost use Rattle.shell_runner.specs.declared.store.TurnError.TheVariants as turn;
+
+use shell_lines::StoreReply;
+use std::alloc::{AllocError, Global};
+use store_setup::Setup;
+use teb_history::History;
+use teb_names::{Cell, NameBook, Request, Session, Txn};
+
+/// Why an epoch is not followed by the next.
+#[derive(Clone, Copy)]
+pub enum TurnError {
+    /// This transaction is unfinished.
+    Unfinished(Txn),
+    /// This session holds an aborted transaction, and was not told of it.
+    Untold(Session),
+    /// The rows do not fit.
+    Full,
+    /// A call of the disk failed.
+    DiskFault,
+    OutOfMemory,
+}
+
+/// A store whose commits are kept, in epochs.
+pub trait ShellStore: Drop {
+    ghost stored: { Self → Stored };
+
+    /// Whatever a crash leaves from the first of these states on, up to the second, has all commits that the first has answered, and
+    /// none but those of the second.
+    ghost safe: { Self → Self → Type 0 };
+
+    /// The names of the tree.
+    fn names(&self) -> &NameBook
+        ensures { result.now ≡ (stored self.now).names };
+
+    /// What has happened in this epoch.
+    fn history(&self) -> &History
+        ensures { result.now.events ≡ (stored self.now).events };
+
+    /// How many commits of this epoch were answered.
+    fn commits(&self) -> u64
+        ensures { result ≡ (stored self.now).commits };
+
+    /// How many bytes are left for the commits of this epoch.
+    fn left(&self) -> u64
+        ensures { result ≡ (stored self.now).left };
+
+    /// The committed rows, in ascending order of cells.
+    fn rows(&self, alloc: Global) -> Result<Vec<(Cell, i64)>, AllocError>
+        ensures rows { IfOk result (λ v. AreFinalRows (stored self.now).store (stored self.now).events v.items) }
+        ensures named { IfOk result (λ v. RowsNamed (stored self.now).names v.items) };
+
+    /// The committed transactions in the serial order.
+    fn order(&self, alloc: Global) -> Result<Vec<Txn>, AllocError>
+        ensures { IfOk result (λ v. map (λ t. t.0) v.items ≡ serial_order (stored self.now).store.setup (stored self.now).events) };
+
+    /// Asks a request. A commit is kept before it is answered. It never answers `Later`.
+    ///
+    /// # Errors
+    /// Out of memory: nothing is asked, and nothing changes.
+    fn ask(
+        &mut self,
+        alloc: Global,
+        session: Session,
+        request: Request,
+    ) -> Result<StoreReply, AllocError>
+        requires running { (stored self.old).stopped ≡ false }
+        requires nodes { HasNodeNames (stored self.old) }
+        ensures reply { IfOk result (λ r. IsReplied (stored self.old) session request r (stored self.new)) }
+        ensures named { IfOk result (StoreReplyNamed (stored self.old).names) }
+        ensures goes_on { IfOk result (λ r. (r ≡ replies.Unsure → ⊥) → (stored self.new).stopped ≡ false) }
+        ensures kept { OnErr result (self.new ≡ self.old) }
+        ensures safe { OnOk result (safe self.old self.new) };
+
+    /// Ends the epoch, and begins the next one under a setup of the same tables, with the committed rows. Transactions count from 1
+    /// again.
+    ///
+    /// # Errors
+    /// With each the store is as it was, except for `DiskFault`.
+    fn next_epoch(self, alloc: Global, setup: Setup) -> (Self, Result<(), TurnError>)
+        requires running { (Self.stored self).stopped ≡ false }
+        requires whole { IsWhole (setup_view setup) }
+        requires tables { setup.names.tables ≡ (Self.stored self).names.tables }
+        ensures next { OnOk result.1 (IsNext (setup_view setup) (Self.stored self) (Self.stored result.0)) }
+        ensures running { OnOk result.1 ((Self.stored result.0).stopped ≡ false) }
+        ensures refused { IfErr result.1 (IsTurnRefused (Self.stored self).events) }
+        ensures kept { IfErr result.1 (λ why. (why ≡ turn.DiskFault → ⊥) → result.0 ≡ self) }
+        ensures safe { Self.safe self result.0 };
+}

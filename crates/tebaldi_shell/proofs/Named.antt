@@ -1,0 +1,73 @@
+-- What an engine's replies and final rows name has a name.
+use Rattle.std.proofs.Common.{◌≡◌, ℕ, ◌<◌, List, length, Some, sym, ap, ◌∙◌, subst, ℤ}
+use Rattle.std.specs.Prelude.{All}
+use Rattle.teb_names.specs.declared.Cell.{Cell}
+use Rattle.teb_names.specs.declared.Node.{Node}
+use Rattle.teb_names.specs.declared.Cause.{Cause}
+use Rattle.teb_names.specs.declared.Cause.TheVariants as cause
+use Rattle.teb_names.specs.declared.Reply.{Reply}
+use Rattle.teb_names.specs.declared.Reply.TheVariants as reply
+use Rattle.teb_names.specs.declared.Request.{Request}
+use Rattle.teb_names.specs.declared.Session.{Session}
+use Rattle.teb_names.specs.declared.naming.NameBook.{NameBook}
+use Rattle.teb_names.specs.Rows.{row_of}
+use Rattle.teb_history.specs.declared.Event.{Event}
+use Rattle.teb_rules.specs.Setup.{Store}
+use Rattle.teb_rules.specs.Answer.{answer}
+use Rattle.teb_laws.specs.Within.{CellWithin, CauseWithin, NodeWithin, ReplyWithin, StaysWithin}
+use Rattle.teb_laws.proofs.Within.{stays_within}
+use Rattle.store_setup.specs.declared.Setup.{Setup}
+use Rattle.store_setup.specs.SetupView.{setup_view}
+use Rattle.store_setup.specs.Sound.{IsWhole}
+use Rattle.store_setup.specs.Stores.{store_of}
+use Rattle.script_text.specs.Named.{CauseNamed, CellNamed, NodeNamed, ReplyNamed, RowsNamed}
+use Rattle.engine_core.specs.EngineModel.{EngineModel, IsOfEngine}
+use Rattle.serial_order.specs.Tables.{IsFinalRows}
+use Rattle.serial_order.proofs.Within.{row_within, rows_within}
+
+-- as many names as nodes and as tables
+module _ (X : Store) (names : NameBook) (nodes : length X.setup.tree ≡ length names.nodes) (tables : X.tables ≡ length names.tables) where
+  node_named : (n : Node) → NodeWithin X n → NodeNamed names n
+  node_named n h = subst (λ (k : ℕ). n.0 < k) nodes h
+
+  cell_named : (x : Cell) → CellWithin X x → CellNamed names x
+  cell_named x h = subst (λ (k : ℕ). x.table.0 < k) tables h
+
+  cause_named : (c : Cause) → CauseWithin X c → CauseNamed names c
+  cause_named (cause.Late n r x) h = (node_named n h.0, cell_named x h.1)
+  cause_named (cause.First n w x) h = (node_named n h.0, cell_named x h.1)
+  cause_named (cause.Pivot n a b c d) h = node_named n h
+  cause_named (cause.Newer n u) h = node_named n h
+  cause_named (cause.After u) h = h
+  cause_named cause.Asked h = h
+  cause_named cause.Ended h = h
+
+  reply_named : (r : Reply) → ReplyWithin X r → ReplyNamed names r
+  reply_named (reply.Begun t) h = h
+  reply_named (reply.Value v) h = h
+  reply_named (reply.Values vs) h = h
+  reply_named reply.Done h = h
+  reply_named reply.Prepared h = h
+  reply_named reply.Committed h = h
+  reply_named (reply.Again u n) h = node_named n h
+  reply_named (reply.Aborted c) h = cause_named c h
+  reply_named (reply.Refused w) h = h
+
+within : (e : EngineModel) → IsOfEngine e → StaysWithin e.store e.events
+within e of = subst (StaysWithin e.store) (sym of.reached.1) (stays_within e.store of.sound of.reached.0)
+
+-- the answer to a request, where each node has a name
+pub answer_named : (e : EngineModel) (session : Session) (request : Request) (r : Reply) → IsOfEngine e → length e.store.setup.tree ≡ length e.names.nodes → e.store.tables ≡ length e.names.tables
+    → r ≡ (answer e.store e.events session request).0 → ReplyNamed e.names r
+answer_named e session request r of nodes tables is = reply_named e.store e.names nodes tables r (subst (ReplyWithin e.store) (sym is) ((within e of).replies session request))
+
+-- as many tables as names of tables
+pub same_tables : (e : EngineModel) (s : Setup) → store_of s ≡ e.store → s.names ≡ e.names → e.store.tables ≡ length e.names.tables
+same_tables e s store names = sym (ap (λ (X : Store). X.tables) store) ∙ ap (λ (n : NameBook). length n.tables) names
+
+-- the final rows
+pub final_named : (e : EngineModel) (s : Setup) (rows : List (Cell × ℤ)) → store_of s ≡ e.store → s.names ≡ e.names → IsWhole (setup_view s) → IsOfEngine e → IsFinalRows e.store e.events rows → RowsNamed e.names rows
+final_named e s rows store names whole of final =
+    let starts : (x : Cell) (v : ℤ) → row_of e.store.rows x ≡ Some v → CellWithin e.store x =
+        subst (λ (X : Store). (x : Cell) (v : ℤ) → row_of X.rows x ≡ Some v → CellWithin X x) store (λ x v. row_within (length s.names.tables) s.rows x v whole.cells) in
+    subst (λ (k : ℕ). All (λ (r : Cell × ℤ). r.0.table.0 < k) rows) (same_tables e s store names) (rows_within e.store e.events rows starts (within e of).events final)

@@ -1,0 +1,100 @@
+//! The shell over a disk.
+
+ghost use Rattle.std.specs.Prelude.{◌≡◌, IfErr, IfOk, List, Ok, ℕ};
+ghost use Rattle.teb_io.specs.Faults.{Rose};
+ghost use Rattle.store_setup.specs.SetupView.{setup_view};
+ghost use Rattle.store_setup.specs.Sound.{IsNamed, IsWhole};
+ghost use Rattle.tree_toml.specs.SetupText.{setup_of_text};
+ghost use Rattle.tebaldi_shell.specs.Serving.{HasOpened, HasServed};
+ghost use Rattle.tebaldi_shell.specs.Starts.{IsRefusedTree};
+
+use crate::kept_store::KeptStore;
+use chain_pool::PooledChains;
+use crash_disk::Renew;
+use engine_store::{EngineStore, OpenError};
+use shell_runner::{Ended, Shell, run};
+use std::alloc::Global;
+use store_setup::Setup;
+use teb_io::{Sink, Source};
+use tree_toml::{TreeText, read_tree};
+
+/// Why the shell does not start.
+#[derive(Drop)]
+pub enum StartError {
+    /// The tree text is refused.
+    BadTree(TreeText),
+    /// The file has other tables than the tree.
+    OtherTables,
+    /// The file was made for another capacity.
+    OtherCapacity,
+    /// The starting rows do not fit the file.
+    Full,
+    /// The bytes of the file are none that a store leaves.
+    Damaged,
+    /// A call of the disk failed.
+    DiskFault,
+    OutOfMemory,
+}
+
+/// Opens the store of a disk under a tree text, and runs the shell on it.
+///
+/// # Errors
+/// `BadTree` if the text is none of a tree, before the disk is looked at; else why the store can't be opened.
+pub fn serve<D: Renew + Drop, S: Source, K: Sink>(
+    alloc: Global,
+    disk: D,
+    tree: &[u8],
+    input: &mut S,
+    out: &mut K,
+) -> Result<Ended<KeptStore<D>>, StartError>
+    // The text is what the definitions say of the lines and of the rows that were found, and at any moment the disk has what the text has
+    // acknowledged.
+    ensures served { IfOk result (λ ended. HasServed D.seen D.may_leave D.faults D.moment D.left_since (D.capacity disk) tree.now disk
+        (S.left input.old) (K.written out.old) ended.status ended.shell (K.written out.new)) }
+    ensures read_fault { IfOk result (λ ended. ended.status ≡ 3 → Rose (S.faults input.old) (S.faults input.new)) }
+    ensures write_fault { IfOk result (λ ended. ended.status ≡ 4 → Rose (K.faults out.old) (K.faults out.new)) }
+    ensures refused { IfErr result (IsRefusedTree tree.now) }
+{
+    let setup = match read_tree(alloc, tree) {
+        Ok(setup) => setup,
+        Err(TreeText::OutOfMemory) => return Err(StartError::OutOfMemory),
+        Err(fault) => return Err(StartError::BadTree(fault)),
+    };
+    let format = setup.format;
+    match opened(alloc, disk, tree, setup) {
+        Ok(store) => Ok(run(alloc, Shell::new(store, format), tree, input, out)),
+        Err(why) => Err(why),
+    }
+}
+
+/// Opens the store of a disk under the setup that a tree text is.
+fn opened<D: Renew + Drop>(
+    alloc: Global,
+    disk: D,
+    tree: &[u8],
+    setup: Setup,
+) -> Result<KeptStore<D>, StartError>
+    requires read { setup_of_text tree.now ≡ Ok (setup_view setup) }
+    requires whole { IsWhole (setup_view setup) }
+    requires named { IsNamed (setup_view setup) }
+    ensures opened { IfOk result (HasOpened D.seen D.may_leave D.faults D.moment D.left_since (D.capacity disk) tree.now disk (setup_view setup)) }
+    ensures refused { IfErr result (IsRefusedTree tree.now) }
+{
+    match EngineStore::open(alloc, disk, setup, PooledChains::new(alloc)) {
+        Ok(store) => Ok(KeptStore::new(store)),
+        Err(back) => Err(start_error(back.why)),
+    }
+}
+
+fn start_error(why: OpenError) -> StartError
+    ensures { (tree : List ℕ) → IsRefusedTree tree result }
+{
+    match why {
+        OpenError::Full => StartError::Full,
+        OpenError::DiskFault => StartError::DiskFault,
+        OpenError::Damaged { at: _ } => StartError::Damaged,
+        OpenError::OtherCapacity => StartError::OtherCapacity,
+        OpenError::OtherTables => StartError::OtherTables,
+        OpenError::OutOfMemory => StartError::OutOfMemory,
+    }
+}
