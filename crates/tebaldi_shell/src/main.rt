@@ -22,6 +22,9 @@ use tree_toml::{TreeText, read_tree};
 /// The status if the file is damaged.
 const DAMAGED: u8 = 14;
 
+/// How many bytes the file can hold: two halves with some 2.4 million rows each.
+const CAPACITY: u64 = 67_108_864;
+
 fn main(rt: HostRuntime) -> ExitCode {
     let status = match words_of(rt.alloc(), env::args(&rt)) {
         Ok(words) => start(&rt, rt.alloc(), &words),
@@ -60,7 +63,7 @@ fn run_on(rt: &HostRuntime, alloc: Global, file: &str, tree: &[u8]) -> u8 {
 }
 
 fn run_under(rt: &HostRuntime, alloc: Global, file: &str, tree: &[u8]) -> u8 {
-    let disk = match FileDisk::open(rt, alloc, file) {
+    let disk = match FileDisk::open_with_capacity(rt, alloc, file, CAPACITY) {
         Ok(disk) => disk,
         Err(OpenError::Busy) => return say(rt, CANNOT_OPEN, "the file is in use"),
         Err(OpenError::TooLong { .. }) => return say(rt, CANNOT_OPEN, "the file is too long"),
