@@ -1,5 +1,5 @@
 -- The words of a line, one after another.
-use Rattle.std.proofs.Common.{◌≡◌, ℕ, List, [], ◌∷◌, ◌++◌, codes, refl, sym, ap, ◌∙◌, append_assoc}
+use Rattle.std.proofs.Common.{◌≡◌, ℕ, List, ◌∷◌, ◌++◌, codes, ap, ◌∙◌}
 use Rattle.script_text.specs.Texts.{line_text}
 use Rattle.script_text.specs.Puts.{spaced}
 use Rattle.script_text.proofs.Wholes.{line_behind}

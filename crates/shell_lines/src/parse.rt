@@ -31,12 +31,7 @@ pub fn parse_line(
 }
 
 /// What a line of a script asks.
-fn asked(
-    alloc: Global,
-    names: &NameBook,
-    format: u8,
-    text: &[u8],
-) -> Result<ShellLine, AllocError>
+fn asked(alloc: Global, names: &NameBook, format: u8, text: &[u8]) -> Result<ShellLine, AllocError>
     requires { length (lines_of text.now) < 2 ^ 32 }
     ensures { IfOk result (λ line. line ≡ asked names.now format text.now) }
 {

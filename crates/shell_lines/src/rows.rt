@@ -66,11 +66,7 @@ fn first_of(rows: &[(Cell, i64)], count: Option<u32>) -> &[(Cell, i64)]
     }
 }
 
-fn put_each(
-    out: &mut Vec<u8>,
-    names: &NameBook,
-    rows: &[(Cell, i64)],
-) -> Result<(), AllocError>
+fn put_each(out: &mut Vec<u8>, names: &NameBook, rows: &[(Cell, i64)]) -> Result<(), AllocError>
     requires { RowsNamed names.now rows.now }
     ensures { OnOk result (out.new.items ≡ out.old.items ++ rows_text names.now row_word rows.now) }
 {

@@ -1,5 +1,5 @@
 -- A run goes on by a step, or ends.
-use Rattle.std.proofs.Common.{◌≡◌, ◌≢◌, ℕ, ◌+◌, ◌<◌, List, [], ◌∷◌, ◌++◌, length, take, Option, Some, None, Result, Ok, Err, IsTrue, is_some, inl, inr, refl, sym, ap, ◌∙◌, subst, arith, length-append}
+use Rattle.std.proofs.Common.{◌≡◌, ◌≢◌, ℕ, ◌+◌, List, [], ◌∷◌, ◌++◌, length, take, Option, Some, None, Result, Ok, Err, IsTrue, is_some, inl, inr, refl, sym, ap, ◌∙◌, subst, arith, length-append}
 use Rattle.std.specs.Prelude.{◌⊎◌, IfErr, IfOk, IsErr, IsOk, MatchResult}
 use Rattle.std.proofs.lemmas.Result.{MatchResult-at_err, MatchResult-at_ok}
 use Rattle.std.specs.Io.KnownBytes.{Appends, Consumes, Keeps}
@@ -23,10 +23,9 @@ use Rattle.shell_lines.specs.declared.reply.StoreReply.TheVariants.{Later}
 use Rattle.shell_runner.specs.States.{Stored}
 use Rattle.shell_runner.specs.Answers.{HasFailed, IsAnswered, IsAsked, IsBegin, ShowsReply, State}
 use Rattle.shell_runner.specs.Flows.{after_of}
-use Rattle.shell_runner.specs.Runs.{Answers, AnswersInPart, Asks, GoesOn, HasEnded, HasRun, IsRun, IsSafely, IsSameOrSafe, IsStep, IsTaken, Step, StopsAt, TakenBy, said, state_of}
+use Rattle.shell_runner.specs.Runs.{Answers, Asks, GoesOn, HasEnded, HasRun, IsSafely, IsSameOrSafe, StopsAt, TakenBy, said, state_of}
 use Rattle.shell_runner.specs.declared.shell.Shell.{Shell}
 use Rattle.shell_runner.specs.declared.running.Flow.{Flow}
-use Rattle.shell_runner.specs.declared.running.Flow.TheVariants as flow
 use Rattle.shell_runner.specs.declared.step.After.{After}
 use Rattle.shell_runner.specs.declared.step.After.TheVariants.{Next, Stopped}
 

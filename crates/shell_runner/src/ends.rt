@@ -64,7 +64,7 @@ fn end_if_held<T: ShellStore, K: Sink>(
     requires ready { IsReady tree.now (T.stored shell.store) }
     ensures ended { (first : TheShell T) (left before rest : Option (List ℕ)) (n : ℕ) → HasRun T.stored T.safe first left before n shell rest (K.written out.old)
         → MatchResult result.1 (λ _. (k : ℕ) × HasRun T.stored T.safe first left before k result.0 rest (K.written out.new))
-            (λ status. HasEnded T.stored T.safe first left before status result.0 (K.written out.new)) }
+        (λ status. HasEnded T.stored T.safe first left before status result.0 (K.written out.new)) }
     ensures ready { IfOk result.1 (λ _. IsReady tree.now (T.stored result.0.store)) }
     ensures read { IfErr result.1 (λ status. status ≢ 3) }
     ensures write_fault { IfErr result.1 (λ status. status ≡ 4 → Rose (K.faults out.old) (K.faults out.new)) }

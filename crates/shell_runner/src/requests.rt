@@ -66,11 +66,7 @@ fn answer_later<T: ShellStore>(
     (shell, put)
 }
 
-fn put_later(
-    out: &mut Vec<u8>,
-    names: &NameBook,
-    session: Session,
-) -> Result<After, AllocError>
+fn put_later(out: &mut Vec<u8>, names: &NameBook, session: Session) -> Result<After, AllocError>
     requires { out.old.items ≡ [] }
     ensures { IfOk result (λ after. (after ≡ afters.Next) × (out.new.items ≡ reply_line names.now session replies.Later)) }
 {
@@ -86,7 +82,8 @@ fn has_to_turn<T: ShellStore>(store: &T, session: Session, request: Request) -> 
         Request::Begin(_) => {
             let history = store.history();
             history.held(session).is_none()
-                && (history.begun() >= MOST_TXNS || store.left() < LEAST_LEFT && store.commits() > 0)
+                && (history.begun() >= MOST_TXNS
+                    || store.left() < LEAST_LEFT && store.commits() > 0)
         }
         _ => false,
     }

@@ -101,7 +101,7 @@ fn next_step<T: ShellStore, S: Source, K: Sink>(
     ensures next { (first : TheShell T) (left before : Option (List ℕ)) (n : ℕ) → number ≡ n + 1
         → HasRun T.stored T.safe first left before n shell (ahead reader.old (S.left input.old)) (K.written out.old)
         → MatchResult result.1 (λ flow. GoesOn T.stored T.safe first left before number flow result.0 (ahead reader.new (S.left input.new)) (K.written out.new))
-            (λ status. HasEnded T.stored T.safe first left before status result.0 (K.written out.new)) }
+        (λ status. HasEnded T.stored T.safe first left before status result.0 (K.written out.new)) }
     ensures ready { IfOk result.1 (λ flow. IsReady tree.now (T.stored result.0.store)) }
     ensures read_fault { IfErr result.1 (λ status. status ≡ 3 → Rose (S.faults input.old) (S.faults input.new)) }
     ensures write_fault { IfErr result.1 (λ status. status ≡ 4 → Rose (K.faults out.old) (K.faults out.new)) }

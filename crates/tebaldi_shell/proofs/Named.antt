@@ -69,5 +69,5 @@ same_tables e s store names = sym (ap (λ (X : Store). X.tables) store) ∙ ap (
 pub final_named : (e : EngineModel) (s : Setup) (rows : List (Cell × ℤ)) → store_of s ≡ e.store → s.names ≡ e.names → IsWhole (setup_view s) → IsOfEngine e → IsFinalRows e.store e.events rows → RowsNamed e.names rows
 final_named e s rows store names whole of final =
     let starts : (x : Cell) (v : ℤ) → row_of e.store.rows x ≡ Some v → CellWithin e.store x =
-        subst (λ (X : Store). (x : Cell) (v : ℤ) → row_of X.rows x ≡ Some v → CellWithin X x) store (λ x v. row_within (length s.names.tables) s.rows x v whole.cells) in
+    subst (λ (X : Store). (x : Cell) (v : ℤ) → row_of X.rows x ≡ Some v → CellWithin X x) store (λ x v. row_within (length s.names.tables) s.rows x v whole.cells) in
     subst (λ (k : ℕ). All (λ (r : Cell × ℤ). r.0.table.0 < k) rows) (same_tables e s store names) (rows_within e.store e.events rows starts (within e of).events final)

@@ -90,7 +90,10 @@ impl<D: Renew + Drop> ShellStore for KeptStore<D> {
     }
 
     fn next_epoch(self, alloc: Global, setup: Setup) -> (Self, Result<(), TurnError>) {
-        match self.store.next_epoch(alloc, setup, PooledChains::new(alloc)) {
+        match self
+            .store
+            .next_epoch(alloc, setup, PooledChains::new(alloc))
+        {
             Ok((store, _past)) => (KeptStore { store }, Ok(())),
             Err(NotNext { store, why }) => (KeptStore { store }, Err(turn_error(why))),
         }

@@ -1,5 +1,5 @@
 -- What was ahead is still ahead, and no fault is told that did not come.
-use Rattle.std.proofs.Common.{[], ◌+◌, ◌-◌, ◌≤◌, length}
+use Rattle.std.proofs.Common.{[], ◌-◌, ◌≤◌, length}
 use Rattle.std.specs.Io.KnownBytes.{Consumes}
 use Rattle.line_reader.specs.Lines.{ahead}
 use Rattle.line_reader.proofs.LineReader.read_line.Given as goal
