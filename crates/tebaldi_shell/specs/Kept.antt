@@ -36,6 +36,7 @@ module _ {D : Type 0} (seen : D → List ℕ) (faults : D → ℕ) (moment : D �
 
 -- why no next epoch begins, as the shell has it; the tables are always the same
 abbrev pub IsTurnError : NextError → TurnError → Type 0
+IsTurnError next.Stopped w = w ≡ turn.DiskFault
 IsTurnError (next.Again t) w = w ≡ turn.Unfinished t
 IsTurnError (next.Untold s) w = w ≡ turn.Untold s
 IsTurnError next.OtherTables w = w ≡ turn.OutOfMemory

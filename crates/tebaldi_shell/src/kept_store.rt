@@ -107,7 +107,7 @@ fn turn_error(why: NextError) -> TurnError
         NextError::Again(txn) => TurnError::Unfinished(txn),
         NextError::Untold(session) => TurnError::Untold(session),
         NextError::Full => TurnError::Full,
-        NextError::DiskFault => TurnError::DiskFault,
+        NextError::Stopped | NextError::DiskFault => TurnError::DiskFault,
         NextError::OtherTables | NextError::OutOfMemory => TurnError::OutOfMemory,
     }
 }
