@@ -26,7 +26,8 @@ extern "C" {
 #endif
 
 /* The status that a call returns. If it is not TEBALDI_OK, the store is unchanged, and so is everything that the call may write, except the
- * line of a tree's fault (TEBALDI_BAD_TREE) and the wrong line of a printed run (TEBALDI_BAD_RUN). */
+ * line of a tree's fault (TEBALDI_BAD_TREE), the wrong line of a printed run (TEBALDI_BAD_RUN), and who hinders the next epoch
+ * (TEBALDI_UNFINISHED, TEBALDI_UNTOLD). */
 enum {
     TEBALDI_OK = 0,
     TEBALDI_NOT_OPEN = 1,      /* the store is not open */
@@ -36,7 +37,10 @@ enum {
     TEBALDI_NO_SUCH = 5,       /* no such name, number, event or reply */
     TEBALDI_OUT_OF_MEMORY = 6,
     TEBALDI_BAD_RUN = 7,       /* the printed run has a wrong line */
-    TEBALDI_TOO_LONG = 8       /* the text has 2^32 - 1 bytes or more */
+    TEBALDI_TOO_LONG = 8,      /* the text has 2^32 - 1 bytes or more */
+    TEBALDI_OTHER_TABLES = 9,  /* the tables of the tree are not those of the store */
+    TEBALDI_UNFINISHED = 10,   /* a transaction is unfinished */
+    TEBALDI_UNTOLD = 11        /* a session was not told that its transaction was aborted: it asks once more */
 };
 
 struct tebaldi_store {
@@ -192,6 +196,13 @@ void tebaldi_version(struct tebaldi_version *version);
  * At TEBALDI_BAD_TREE as much of the fault's line as fits is copied to `fault`, with its line feed and no 0 after it, and `*fault_len` is
  * the length of the line. */
 uint32_t tebaldi_open(struct tebaldi_store *store, const uint8_t *tree, size_t tree_len, uint8_t *fault, size_t fault_room, size_t *fault_len);
+
+/* Ends the present epoch of a store, and begins the next one with the rows that it leaves, under a tree text with the same tables; the rows of
+ * the text are not used. The history begins anew, and transactions count from 1 again. An epoch ends at the latest with TEBALDI_FULL: 8,192
+ * transactions have begun. TEBALDI_NOT_OPEN, TEBALDI_BAD_TREE (as tebaldi_open), TEBALDI_OTHER_TABLES, TEBALDI_OUT_OF_MEMORY;
+ * TEBALDI_UNFINISHED, and then `*who` is the first unfinished transaction; TEBALDI_UNTOLD, and then `*who` is the first such session. */
+uint32_t tebaldi_next_epoch(struct tebaldi_store *store, const uint8_t *tree, size_t tree_len, uint8_t *fault, size_t fault_room, size_t *fault_len,
+                            uint32_t *who);
 
 /* Closes a store, and frees its memory. A closed store stays closed. */
 void tebaldi_close(struct tebaldi_store *store);

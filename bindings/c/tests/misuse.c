@@ -46,6 +46,7 @@ static void closed_store(void)
     EXPECT(tebaldi_order(&store, order, 2, &len), TEBALDI_NOT_OPEN);
     EXPECT(tebaldi_rows(&store, rows, 1, &len), TEBALDI_NOT_OPEN);
     EXPECT(tebaldi_event(&store, 0, &event), TEBALDI_NOT_OPEN);
+    EXPECT(tebaldi_next_epoch(&store, text, 0, text + 1, sizeof text - 1, &len, order), TEBALDI_NOT_OPEN);
     EXPECT(len, 77);
     EXPECT(number, 7);
     EXPECT(order[0], 5);
@@ -126,6 +127,37 @@ static void bad_runs(void)
     EXPECT(why, TEBALDI_WRONG_FORM);
 }
 
+static uint32_t next_epoch(const char *tree, uint32_t *who)
+{
+    return tebaldi_next_epoch(&store, (const uint8_t *)tree, strlen(tree), text, sizeof text, &len, who);
+}
+
+static void epochs(void)
+{
+    static const char other[] = "format = 1\ntables = [\"u\"]\n[[type]]\nname = \"x\"\n[[node]]\nname = \"r\"\ncontrol = \"locks\"\ntypes = [\"x\"]\n";
+    uint32_t who = 77;
+    request = (struct tebaldi_request){.verb = TEBALDI_BEGIN};
+    EXPECT(tebaldi_ask(&store, 2, &request, &reply), TEBALDI_OK);
+    EXPECT(reply.kind, TEBALDI_BEGUN);
+    EXPECT(next_epoch("", &who), TEBALDI_UNFINISHED);
+    EXPECT(who, reply.txn);
+    request = (struct tebaldi_request){.verb = TEBALDI_WRITE, .key = 7, .value = 4};
+    EXPECT(tebaldi_ask(&store, 2, &request, &reply), TEBALDI_OK);
+    request.verb = TEBALDI_COMMIT;
+    EXPECT(tebaldi_ask(&store, 2, &request, &reply), TEBALDI_OK);
+    who = 77;
+    EXPECT(next_epoch("format = 9", &who), TEBALDI_BAD_TREE);
+    EXPECT(next_epoch(other, &who), TEBALDI_OTHER_TABLES);
+    EXPECT(tebaldi_event(&store, 0, &event), TEBALDI_OK);
+    EXPECT(next_epoch("", &who), TEBALDI_OK);
+    EXPECT(who, 77);
+    EXPECT(tebaldi_event(&store, 0, &event), TEBALDI_NO_SUCH);
+    EXPECT(tebaldi_rows(&store, rows, 1, &len), TEBALDI_OK);
+    EXPECT(len, 1);
+    EXPECT(rows[0].key, 7);
+    EXPECT((uint32_t)rows[0].value, 4);
+}
+
 int main(void)
 {
     struct tebaldi_version version = {0};
@@ -139,6 +171,7 @@ int main(void)
     bad_names();
     bad_replies();
     bad_runs();
+    epochs();
     tebaldi_close(&store);
     tebaldi_close(&store);
     EXPECT(tebaldi_ask(&store, 1, &request, &reply), TEBALDI_NOT_OPEN);

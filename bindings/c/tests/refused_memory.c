@@ -92,6 +92,14 @@ static void run(void)
     TWICE(tebaldi_rows(&store, rows, 240, &len));
     for (size_t i = 0; i < len; i++)
         tell(&rows[i].table, 1), tell(&rows[i].key, 4), tell(&rows[i].value, 8);
+    for (uint8_t session = 1; session <= 4; session++) {
+        struct tebaldi_request request = {.verb = TEBALDI_END};
+        TWICE(tebaldi_ask(&store, session, &request, &reply));
+    }
+    uint32_t who = 0;
+    TWICE(tebaldi_next_epoch(&store, (const uint8_t *)tree, sizeof tree - 1, fault, sizeof fault, &len, &who));
+    TWICE(tebaldi_rows(&store, rows, 240, &len));
+    tell(&len, sizeof len);
     tebaldi_close(&store);
     uint32_t line = 0;
     uint8_t why = 0;

@@ -12,11 +12,13 @@ A Store is opened from a tree text, which says how each type of transaction is c
 The transaction commits at the end of the block. It is aborted if the block raises an exception. A request that has to wait for
 another transaction sleeps until that one has gone on. An aborted transaction raises Aborted; Store.run starts it anew.
 
+An epoch of a store has room for 8,192 transactions; Store.next_epoch goes on with its rows.
+
 Threads share a store: a lock admits one call at a time. What the store answers is proved in its own language; this package is not
 proved, and keeps the rules of the library (tebaldi.h) for its callers.
 """
 
-from ._errors import Aborted, Again, BadRun, BadTree, NoSuchName, Refused, TebaldiError, TransactionOver
+from ._errors import Aborted, Again, BadRun, BadTree, NoSuchName, OtherTables, Refused, TebaldiError, TransactionOver, Unfinished
 from ._store import Event, Reply, Store, Transaction, audit, version
 
 __all__ = [
@@ -26,12 +28,14 @@ __all__ = [
     "BadTree",
     "Event",
     "NoSuchName",
+    "OtherTables",
     "Refused",
     "Reply",
     "Store",
     "TebaldiError",
     "Transaction",
     "TransactionOver",
+    "Unfinished",
     "audit",
     "version",
 ]

@@ -60,3 +60,16 @@ class BadRun(TebaldiError, ValueError):
         super().__init__(f"line {line} is wrong: {why}")
         self.line = line
         self.why = why
+
+
+class OtherTables(TebaldiError, ValueError):
+    """The tables of the tree are not those of the store."""
+
+
+class Unfinished(TebaldiError):
+    """A transaction is unfinished: `txn`. If its session was not told that it was aborted, `txn` is 0, and `session` is its number."""
+
+    def __init__(self, txn: int, session: int):
+        super().__init__(f"transaction {txn} is unfinished" if txn else f"session {session} was not told of its abort")
+        self.txn = txn
+        self.session = session

@@ -6,6 +6,7 @@ import pathlib
 from ctypes import POINTER, Structure, c_bool, c_char_p, c_int64, c_size_t, c_uint8, c_uint32, c_void_p
 
 OK, BAD_TREE, BAD_VERB, NO_SUCH, OUT_OF_MEMORY, BAD_RUN, TOO_LONG = 0, 3, 4, 5, 6, 7, 8
+OTHER_TABLES, UNFINISHED, UNTOLD = 9, 10, 11
 TABLES, TYPES, NODES = 0, 1, 2
 
 VERBS = ("", "begin", "read", "write", "add", "delete", "scan", "prepare", "commit", "abort", "end")
@@ -69,6 +70,7 @@ def load() -> ctypes.CDLL:
     for name, arguments, result in [
         ("version", [POINTER(RawVersion)], None),
         ("open", [store, c_char_p, c_size_t, byte, c_size_t, size], c_uint32),
+        ("next_epoch", [store, c_char_p, c_size_t, byte, c_size_t, size, POINTER(c_uint32)], c_uint32),
         ("close", [store], None),
         ("ask", [store, c_uint8, POINTER(RawRequest), POINTER(RawReply)], c_uint32),
         ("number", [store, c_uint8, c_char_p, c_size_t, byte], c_uint32),

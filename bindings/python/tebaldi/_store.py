@@ -10,7 +10,7 @@ from types import TracebackType
 from typing import Any, Callable, Dict, Iterator, List, Optional, Tuple, Type, TypeVar, Union
 
 from . import _native as native
-from ._errors import Aborted, Again, BadRun, BadTree, NoSuchName, Refused, TransactionOver
+from ._errors import Aborted, Again, BadRun, BadTree, NoSuchName, OtherTables, Refused, TransactionOver, Unfinished
 from ._native import LIBRARY
 
 T = TypeVar("T")
@@ -63,6 +63,15 @@ def _check(status: int) -> None:
         raise ValueError("the store is closed")
 
 
+def _check_tree(status: int, fault: Any, length: c_size_t) -> None:
+    if status == native.BAD_TREE:
+        raise BadTree(bytes(fault[: min(length.value, 256)]).decode().rstrip("\n"))
+
+
+def _bytes(text: Union[str, bytes]) -> bytes:
+    return text.encode() if isinstance(text, str) else bytes(text)
+
+
 def _within(name: str, number: int, bits: int) -> int:
     if not 0 <= number < 1 << bits:
         raise OverflowError(f"{name} {number} is not within 0 and {(1 << bits) - 1}")
@@ -84,7 +93,7 @@ class Store:
     """
 
     def __init__(self, tree: Union[str, bytes] = b""):
-        text = tree.encode() if isinstance(tree, str) else bytes(tree)
+        self._tree = text = _bytes(tree)
         self._raw = native.RawStore()
         self._at = byref(self._raw)
         # One call at a time, and a place to sleep until a call has changed something.
@@ -97,9 +106,31 @@ class Store:
         self._numbers: List[Dict[str, int]] = [{}, {}, {}]
         fault, length = (c_uint8 * 256)(), c_size_t()
         status = LIBRARY.tebaldi_open(self._at, text, len(text), fault, 256, byref(length))
-        if status == native.BAD_TREE:
-            raise BadTree(bytes(fault[: min(length.value, 256)]).decode().rstrip("\n"))
+        _check_tree(status, fault, length)
         _check(status)
+
+    def next_epoch(self, tree: Union[str, bytes, None] = None) -> None:
+        """Ends the present epoch, and begins the next one with the rows that it leaves. An epoch has room for 8,192 transactions.
+
+        The history begins anew, and transactions count from 1 again. `tree` has the same tables, and its rows are not used; by default
+        it is the one that the store has.
+
+        Raises Unfinished as long as a transaction is, BadTree and OtherTables. The store is then as it was.
+        """
+        text = self._tree if tree is None else _bytes(tree)
+        fault, length, who = (c_uint8 * 256)(), c_size_t(), c_uint32()
+        with self._changed:
+            status = LIBRARY.tebaldi_next_epoch(self._at, text, len(text), fault, 256, byref(length), byref(who))
+            _check_tree(status, fault, length)
+            if status == native.OTHER_TABLES:
+                raise OtherTables("the tree has other tables than the store")
+            if status == native.UNFINISHED or status == native.UNTOLD:
+                raise Unfinished(who.value, 0) if status == native.UNFINISHED else Unfinished(0, who.value)
+            _check(status)
+            self._tree = text
+            self._numbers = [{}, {}, {}]
+            self._changes += 1
+            self._changed.notify_all()
 
     def close(self) -> None:
         """Closes the store, and frees its memory. A closed store raises ValueError at each call."""
@@ -407,7 +438,7 @@ class Transaction:
 
 def audit(text: Union[str, bytes]) -> None:
     """Checks a printed run, as `tebaldi audit` does. Raises BadRun at the first line that is wrong."""
-    run = text.encode() if isinstance(text, str) else bytes(text)
+    run = _bytes(text)
     line, why = c_uint32(), c_uint8()
     status = LIBRARY.tebaldi_audit(run, len(run), byref(line), byref(why))
     if status == native.BAD_RUN:

@@ -7,7 +7,7 @@ import time
 import unittest
 
 import tebaldi
-from tebaldi import _native, Aborted, Again, BadRun, BadTree, NoSuchName, Refused, Store, TransactionOver
+from tebaldi import _native, Aborted, Again, BadRun, BadTree, NoSuchName, OtherTables, Refused, Store, TransactionOver, Unfinished
 
 ACCOUNTS = """
 format = 1
@@ -130,6 +130,19 @@ class StoreTest(unittest.TestCase):
         closed.close()
         with self.assertRaises(ValueError):
             closed.rows()
+
+    def test_epochs_follow_one_another(self) -> None:
+        with self.store.transaction("transfer") as t:
+            t.write("account", 1, 5)
+            with self.assertRaises(Unfinished) as caught:
+                self.store.next_epoch()
+            self.assertEqual(caught.exception.txn, t.number)
+        self.store.next_epoch()
+        self.assertEqual((list(self.store.events()), self.store.rows()), ([], [("account", 1, 5)]))
+        with self.assertRaises(OtherTables):
+            self.store.next_epoch("")
+        with self.store.transaction("transfer") as t:
+            self.assertEqual((t.number, t.read("account", 1)), (1, 5))
 
     def test_audits(self) -> None:
         tebaldi.audit("order\nend\n")

@@ -33,6 +33,12 @@ pub enum Error {
     },
     /// The text has 2^32 - 1 bytes or more.
     TooLong,
+    /// The tables of the tree are not those of the store.
+    OtherTables,
+    /// A transaction is unfinished.
+    Unfinished(TxnNumber),
+    /// A session, by its number, was not told that its transaction was aborted.
+    Untold(u8),
     OutOfMemory,
 }
 
@@ -66,6 +72,9 @@ impl fmt::Display for Error {
             Error::Over => f.write_str("the transaction is over"),
             Error::BadRun { line, why } => write!(f, "line {line} is wrong: {why:?}"),
             Error::TooLong => f.write_str("the text is too long"),
+            Error::OtherTables => f.write_str("the tree has other tables than the store"),
+            Error::Unfinished(txn) => write!(f, "transaction {} is unfinished", txn.0),
+            Error::Untold(session) => write!(f, "session {session} was not told of its abort"),
             Error::OutOfMemory => f.write_str("out of memory"),
         }
     }

@@ -108,6 +108,9 @@ pub const BAD_TREE: u32 = 3;
 pub const NO_SUCH: u32 = 5;
 pub const OUT_OF_MEMORY: u32 = 6;
 pub const BAD_RUN: u32 = 7;
+pub const OTHER_TABLES: u32 = 9;
+pub const UNFINISHED: u32 = 10;
+pub const UNTOLD: u32 = 11;
 
 pub const TABLES: u8 = 0;
 pub const TYPES: u8 = 1;
@@ -122,6 +125,15 @@ extern "C" {
         fault: *mut u8,
         fault_room: usize,
         fault_len: *mut usize,
+    ) -> u32;
+    pub fn tebaldi_next_epoch(
+        store: *mut RawStore,
+        tree: *const u8,
+        tree_len: usize,
+        fault: *mut u8,
+        fault_room: usize,
+        fault_len: *mut usize,
+        who: *mut u32,
     ) -> u32;
     pub fn tebaldi_close(store: *mut RawStore);
     pub fn tebaldi_ask(

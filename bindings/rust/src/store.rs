@@ -89,6 +89,53 @@ impl Store {
         }
     }
 
+    /// Ends the present epoch, and begins the next one with the rows that it leaves, under a tree text with the same tables, whose
+    /// rows are not used. The history begins anew, and transactions count from 1 again. An epoch has room for 8,192 transactions.
+    ///
+    /// # Errors
+    /// [`Error::BadTree`], [`Error::Unfinished`], [`Error::Untold`], [`Error::OtherTables`], [`Error::OutOfMemory`]. The store is
+    /// unchanged.
+    ///
+    /// ```
+    /// let store = tebaldi::Store::open("")?;
+    /// let (t, any) = (store.table("t")?, store.kind("any")?);
+    /// let mut session = store.session()?;
+    /// store.run(&mut session, any, |txn| txn.write(t, 7, 4))?;
+    /// store.next_epoch("")?;
+    /// assert_eq!(store.run(&mut session, any, |txn| txn.read(t, 7))?, Some(4));
+    /// assert_eq!(store.order()?, [tebaldi::TxnNumber(1)]);
+    /// # Ok::<(), tebaldi::Error>(())
+    /// ```
+    pub fn next_epoch(&self, tree: impl AsRef<[u8]>) -> Result<(), Error> {
+        let tree = tree.as_ref();
+        let (mut fault, mut len, mut who) = ([0; 256], 0, 0);
+        let mut state = self.shared.lock();
+        // SAFETY: one call at a time, by the lock; each pointer is beside its length.
+        let status = unsafe {
+            ffi::tebaldi_next_epoch(
+                &mut state.raw,
+                tree.as_ptr(),
+                tree.len(),
+                fault.as_mut_ptr(),
+                fault.len(),
+                &mut len,
+                &mut who,
+            )
+        };
+        match status {
+            OK => {
+                state.changes += 1;
+                self.shared.changed.notify_all();
+                Ok(())
+            }
+            ffi::BAD_TREE => Err(Error::BadTree(text(&fault, len).trim_end().to_string())),
+            ffi::OTHER_TABLES => Err(Error::OtherTables),
+            ffi::UNFINISHED => Err(Error::Unfinished(TxnNumber(who))),
+            ffi::UNTOLD => Err(Error::Untold(who as u8)),
+            _ => Err(Error::OutOfMemory),
+        }
+    }
+
     /// The table of a name.
     ///
     /// # Errors

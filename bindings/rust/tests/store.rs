@@ -164,3 +164,19 @@ fn scans_adds_and_deletes() {
     txn.commit().unwrap();
     assert_eq!(txn.commit(), Err(Error::Over));
 }
+
+#[test]
+fn an_epoch_waits_for_its_transactions() {
+    let (store, t, any) = blank();
+    let mut session = store.session().unwrap();
+    let mut txn = session.begin(any).unwrap();
+    txn.write(t, 1, 5).unwrap();
+    assert_eq!(store.next_epoch(""), Err(Error::Unfinished(txn.number())));
+    txn.commit().unwrap();
+    drop(txn);
+    let fault = store.next_epoch("format = 9");
+    assert!(matches!(fault, Err(Error::BadTree(_))));
+    assert_eq!(store.next_epoch(""), Ok(()));
+    assert_eq!(store.events().count(), 0);
+    assert_eq!(store.rows().unwrap(), [(Cell { table: t, key: 1 }, 5)]);
+}

@@ -2,6 +2,7 @@ pub mod Asking
 pub mod Auditing
 pub mod Buffers
 pub mod Ended
+pub mod Epochs
 pub mod Events
 pub mod Holding
 pub mod Naming

@@ -4,6 +4,7 @@
 mod asking;
 mod auditing;
 mod buffers;
+mod epochs;
 mod events;
 mod held;
 mod lines;

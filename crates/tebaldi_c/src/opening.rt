@@ -68,8 +68,8 @@ fn shelf_of(alloc: Global, tree: &[u8]) -> Result<Box<Shelf>, TreeText>
     Ok(shelf)
 }
 
-/// Tells a fault.
-fn tell(alloc: Global, why: &TreeText, fault: &mut [u8], fault_len: &mut usize) -> u32
+/// Copies as much of the line of a fault as fits, and returns the status.
+pub fn tell(alloc: Global, why: &TreeText, fault: &mut [u8], fault_len: &mut usize) -> u32
     ensures told { result ≡ BAD_TREE → (why.now ≢ faults.OutOfMemory) × IsTold (fault_line (Err why.now)) fault.old fault.new fault_len.new }
     ensures other { result ≢ BAD_TREE → (result ≡ OUT_OF_MEMORY) × (fault.new ≡ fault.old) × (fault_len.new ≡ fault_len.old) }
 {

@@ -26,3 +26,12 @@ pub const BAD_RUN: u32 = 7;
 
 /// The text is too long.
 pub const TOO_LONG: u32 = 8;
+
+/// The tables of the tree are not those of the store.
+pub const OTHER_TABLES: u32 = 9;
+
+/// A transaction is unfinished.
+pub const UNFINISHED: u32 = 10;
+
+/// A session was not told of the abort of its transaction.
+pub const UNTOLD: u32 = 11;

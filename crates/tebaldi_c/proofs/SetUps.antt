@@ -1,0 +1,30 @@
+-- The engine of the next epoch has the setup of its tree text, and why there is none.
+use Rattle.std.proofs.Common.{◌≡◌, []}
+use Rattle.store_setup.specs.declared.Setup.{Setup}
+use Rattle.store_setup.specs.SetupView.{SetupView, setup_view}
+use Rattle.store_setup.specs.Sound.{IsWhole, IsNamed, HasNames}
+use Rattle.engine_core.specs.EngineModel.{EngineModel}
+use Rattle.tree_switch.specs.Refusals.{IsCause}
+use Rattle.tree_switch.specs.Starts.{IsStarted}
+use Rattle.tree_switch.specs.declared.error.SwitchError.{SwitchError}
+use Rattle.tree_switch.specs.declared.error.SwitchError.TheVariants.{Again, Untold, Tables, Rows, OutOfMemory}
+use Rattle.tebaldi_c.specs.Epochs.{IsHindrance}
+use Rattle.tebaldi_c.specs.SetUp.{IsSetUp}
+
+pub set_up_next : (s : Setup) (before e : EngineModel) → IsWhole (setup_view s) → IsNamed (setup_view s) → HasNames (setup_view s) → IsStarted s before e → IsSetUp e.store e.names
+set_up_next s before e whole nodes names started = record {
+  setup = setup_view s;
+  whole = whole;
+  nodes = nodes;
+  has_names = names;
+  rules = started.setup;
+  tables = started.tables;
+  named = started.names;
+}
+
+pub hindered : (e : EngineModel) (m : SetupView) (why : SwitchError) → m.rows ≡ [] → IsCause e m why → IsHindrance e why
+hindered e m (Again t) none cause = cause
+hindered e m (Untold s) none cause = cause.1
+hindered e m Tables none cause = tt
+hindered e m Rows none cause = absurd (cause.2 none)
+hindered e m OutOfMemory none cause = tt

@@ -1,0 +1,9 @@
+use Rattle.std.proofs.Common.{subst, sym}
+use Rattle.tree_switch.specs.Refusals.{IsLeast, IsUntold}
+use Rattle.tebaldi_c.specs.Epochs.{IsFirstUntold, IsHindrance}
+use Rattle.tebaldi_c.proofs.epochs.end_epoch.Goals as goal
+
+pub returns-in-Err-Untold-clause-untold : goal.returns-in-Err-Untold-clause-untold
+unfolding IsFirstUntold
+returns-in-Err-Untold-clause-untold c = λ _.
+    subst (IsLeast (IsUntold c.args.engine.now.events)) (sym c.from.ensures) (subst (IsHindrance c.args.engine.now) c.in-Err-Untold.field-0-is c.in-Err-Untold.ensures.refused)

@@ -1,0 +1,52 @@
+-- How a store goes on with the next epoch.
+use Rattle.std.specs.Prelude.{◌≡◌, ◌⊎◌, ℕ, [], Option, Some, None, Result, Ok, Err}
+use Rattle.store_setup.specs.SetupView.{SetupView}
+use Rattle.store_setup.specs.Stores.{store_of_view, names_of}
+use Rattle.serial_order.specs.Tables.{IsFinalRows}
+use Rattle.tree_switch.specs.Refusals.{IsLeast, IsUnfinished, IsUntold}
+use Rattle.tree_switch.specs.declared.error.SwitchError.{SwitchError}
+use Rattle.tree_switch.specs.declared.error.SwitchError.TheVariants.{Again, Untold, Tables, Rows, OutOfMemory}
+use Rattle.tree_toml.specs.declared.fault.TreeText.{TreeText}
+use Rattle.engine_core.specs.EngineModel.{EngineModel}
+use Rattle.tebaldi_c.specs.declared.status.TheConstants.{OK, NOT_OPEN, BAD_TREE, OUT_OF_MEMORY, OTHER_TABLES, UNFINISHED, UNTOLD}
+
+-- an engine of this setup in which nothing has happened, with the rows that the one before it left
+pub record IsNext (m : SetupView) (before e : EngineModel) : Type 0 where
+  pub setup : e.store.setup ≡ (store_of_view m).setup
+  pub tables : e.store.tables ≡ (store_of_view m).tables
+  pub names : e.names ≡ names_of m
+  pub events : e.events ≡ []
+  pub rows : IsFinalRows before.store before.events e.store.rows
+
+-- a setup was read, and the store goes on under it
+abbrev pub IsNextOf : Result SetupView TreeText → EngineModel → EngineModel → Type 0
+IsNextOf (Ok m) before e = IsNext m before e
+IsNextOf (Err why) before e = ⊥
+
+-- this is the least unfinished transaction, or the least session that was not told of the abort of its transaction
+unfoldable pub IsFirstUnfinished : EngineModel → ℕ → Type 0
+IsFirstUnfinished e t = IsLeast (IsUnfinished e.events) t
+
+unfoldable pub IsFirstUntold : EngineModel → ℕ → Type 0
+IsFirstUntold e s = IsLeast (IsUntold e.events) s
+
+-- what is told of a refusal: the setup has no rows of its own
+abbrev pub IsHindrance : EngineModel → SwitchError → Type 0
+IsHindrance e (Again t) = IsLeast (IsUnfinished e.events) t.0
+IsHindrance e (Untold s) = IsLeast (IsUntold e.events) s.0
+IsHindrance e Tables = Unit {0}
+IsHindrance e Rows = ⊥
+IsHindrance e OutOfMemory = Unit {0}
+
+-- there is a store before and after a call
+abbrev pub IfBoth : Option EngineModel → Option EngineModel → (EngineModel → EngineModel → Type 0) → Type 0
+IfBoth (Some old) (Some new) P = P old new
+IfBoth _ _ P = ⊥
+
+-- why an epoch has not begun
+abbrev pub IsOfNext : ℕ → Type 0
+IsOfNext n = (n ≡ OUT_OF_MEMORY) ⊎ (n ≡ OTHER_TABLES) ⊎ (n ≡ UNFINISHED) ⊎ (n ≡ UNTOLD)
+
+-- what the next epoch may return
+abbrev pub IsOfEpoch : ℕ → Type 0
+IsOfEpoch n = (n ≡ OK) ⊎ (n ≡ NOT_OPEN) ⊎ (n ≡ BAD_TREE) ⊎ IsOfNext n
