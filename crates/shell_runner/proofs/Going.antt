@@ -19,15 +19,18 @@ use Rattle.teb_names.specs.declared.Session.{Session}
 use Rattle.shell_lines.specs.declared.line.ShellLine.{ShellLine}
 use Rattle.shell_lines.specs.Answers.{reply_line}
 use Rattle.shell_lines.specs.declared.line.ShellLine.TheVariants.{Ask}
+use Rattle.shell_lines.specs.declared.line.ShellLine.TheVariants as line
+use Rattle.shell_lines.specs.declared.reply.StoreReply.{StoreReply}
+use Rattle.shell_lines.specs.declared.reply.StoreReply.TheVariants as reply
 use Rattle.shell_lines.specs.declared.reply.StoreReply.TheVariants.{Later}
 use Rattle.shell_runner.specs.States.{Stored}
-use Rattle.shell_runner.specs.Answers.{HasFailed, IsAnswered, IsAsked, IsBegin, ShowsReply, State}
+use Rattle.shell_runner.specs.Answers.{HasFailed, IsAnswered, IsAsked, IsBegin, ShowsReply, State, after_reply}
 use Rattle.shell_runner.specs.Flows.{after_of}
-use Rattle.shell_runner.specs.Runs.{Answers, Asks, GoesOn, HasEnded, HasRun, IsSafely, IsSameOrSafe, StopsAt, TakenBy, said, state_of}
+use Rattle.shell_runner.specs.Runs.{Answers, Asks, GoesOn, HasEnded, HasRun, IsDone, IsThrough, IsSafely, IsSameOrSafe, StopsAt, TakenBy, said, state_of, Step}
 use Rattle.shell_runner.specs.declared.shell.Shell.{Shell}
 use Rattle.shell_runner.specs.declared.running.Flow.{Flow}
 use Rattle.shell_runner.specs.declared.step.After.{After}
-use Rattle.shell_runner.specs.declared.step.After.TheVariants.{Next, Stopped}
+use Rattle.shell_runner.specs.declared.step.After.TheVariants.{Next, Quit, Stopped}
 
 -- a prefix of one text more
 pub appends_front : (a b c : Option (List ℕ)) (text more : List ℕ) → Appends a b text → AppendsFront b c more → AppendsFront a c (text ++ more)
@@ -66,6 +69,37 @@ pub later_asked : {E : Type 0} (s t : State) (session : Session) (request : Requ
 later_asked s t session request names text (Ok a) begins same called h = inl (asked_later s t session request text a begins same (h.1 ∙ ap (λ (n : NameBook). reply_line n session Later) called) h.0)
 later_asked s t session request names text (Err e) begins same called h = tt
 
+-- only `.quit` asks for the end
+pub quits : (n : ℕ) (s : State) (l : ShellLine) (text : List ℕ) (t : State) → IsAnswered n s l text Quit t → l ≡ line.Quit
+quits n s line.Nothing text t h = absurd (let p = h.0.1 in cc)
+quits n s (line.Rows range) text t h = absurd (let p = h.0.1 in cc)
+quits n s line.Order text t h = absurd (let p = h.0.1 in cc)
+quits n s line.Epoch text t h = absurd (let p = h.0.1 in cc)
+quits n s line.Tables text t h = absurd (let p = h.0.1 in cc)
+quits n s line.Types text t h = absurd (let p = h.0.1 in cc)
+quits n s line.Help text t h = absurd (let p = h.0.1 in cc)
+quits n s line.Quit text t h = refl
+quits n s (line.Bad why) text t h = absurd (let p = h.0.1 in cc)
+quits n s (line.Ask session request) text t (inl a) = absurd (go a.replied.answer a.replied.goes_on)
+  where
+    go : (r : StoreReply) → Quit ≡ after_reply r → ⊥
+    go (reply.Reply r) p = absurd (cc)
+    go reply.Later p = absurd (cc)
+    go reply.Full p = absurd (cc)
+    go reply.Unsure p = absurd (cc)
+quits n s (line.Ask session request) text t (inr f) = absurd (let p = f.stopped in cc)
+quits n s line.Checkpoint text t (inl c) = absurd (let p = c.goes_on in cc)
+quits n s line.Checkpoint text t (inr f) = absurd (let p = f.stopped in cc)
+
+pub one_more_through : (rest : Option (List ℕ)) (steps : List Step) (step : Step) → IsThrough rest steps → IsThrough rest (step ∷ steps)
+one_more_through rest steps step (inl e) = inl e
+one_more_through rest steps step (inr (inl q)) = inr (inl (inr q))
+one_more_through rest steps step (inr (inr n)) = inr (inr (omega (arith, n)))
+
+not_done : (status k : ℕ) → status ≡ k → k ≢ 0 → k ≢ 7 → IsDone status → ⊥
+not_done status k e zero seven (inl p) = zero (sym e ∙ p)
+not_done status k e zero seven (inr p) = seven (sym e ∙ p)
+
 -- an answer that is written, whole or in part, or not for want of memory
 pub writes : {E : Type 0} (n : ℕ) (s t : State) (asks : ShellLine) (text : List ℕ) (answered : Result After E) (r : Result After ℕ) (now later : Option (List ℕ)) → IfOk answered (λ (after : After). IsAnswered n s asks text after t)
     → IfOk r (λ (a : After). (answered ≡ Ok a) × Appends now later text)
@@ -93,14 +127,15 @@ module _ {T : Type 0} (stored : T → Stored) (safe : T → T → Type 0) (first
   }
 
   -- a run ends whose text is written whole
-  pub ended : (n : ℕ) (s : Shell T) (rest now : Option (List ℕ)) (status : ℕ) → status ≢ 4 → HasRun stored safe first left before n s rest now → HasEnded stored safe first left before status s now
-  ended n s rest now status other r = record {
+  pub ended : (n : ℕ) (s : Shell T) (rest now : Option (List ℕ)) (status : ℕ) → status ≢ 4 → (r : HasRun stored safe first left before n s rest now) → (IsDone status → IsThrough rest r.steps) → HasEnded stored safe first left before status s now
+  ended n s rest now status other r through = record {
     steps = r.steps;
     last = s;
     rest = rest;
     run = r.run;
     taken = r.taken;
     written = inl (other, r.written);
+    through = through;
     same = λ _. refl;
     safely = unmoved safe s;
   }
@@ -116,6 +151,7 @@ module _ {T : Type 0} (stored : T → Stored) (safe : T → T → Type 0) (first
     run = (s, r.run, record { after = a.after; asks = is; answered = subst (λ (k : ℕ). IsAnswered (k + 1) (state_of stored s) asks a.text a.after (state_of stored t)) r.count a.answered; safely = between });
     taken = (mid, r.taken, takes);
     written = inr (e, appends_front before now later (said r.steps) a.text r.written a.written);
+    through = λ d. absurd (not_done status 4 e (omega arith) (omega arith) d);
     same = λ _. refl;
     safely = unmoved safe t;
   }
@@ -126,6 +162,7 @@ module _ {T : Type 0} (stored : T → Stored) (safe : T → T → Type 0) (first
     run = r.run;
     taken = r.taken;
     written = inl ((λ p. absurd (omega (arith, e, p))), Appends-kept before now later (said r.steps) r.written kept);
+    through = λ d. absurd (not_done status 8 e (omega arith) (omega arith) d);
     same = λ p. absurd (p e);
     safely = between;
   }
@@ -135,6 +172,7 @@ module _ {T : Type 0} (stored : T → Stored) (safe : T → T → Type 0) (first
       → MatchResult a (λ (after : After). Answers number (state_of stored s) (shell_line (stored s.store).names s.format line) after (state_of stored t) now later) (λ (status : ℕ). StopsAt number (state_of stored s) (shell_line (stored s.store).names s.format line) status (state_of stored t) now later)
       → IsSafely safe s t → MatchResult f (λ (flow : Flow). a ≡ Ok (after_of flow)) (λ (status : ℕ). (a ≡ Err status) ⊎ ((a ≡ Ok Stopped) × (status ≡ 15)))
       → MatchResult f (λ (flow : Flow). GoesOn stored safe first left before number flow t rest later) (λ (status : ℕ). HasEnded stored safe first left before status t later)
+  unfolding stepped
   flowed number n s t mid rest now later line a (Ok flow) e r takes m between g =
       let asks = shell_line (stored s.store).names s.format line in
       let step = MatchResult-at_ok (λ (after : After). Answers number (state_of stored s) asks after (state_of stored t) now later) (λ (status : ℕ). StopsAt number (state_of stored s) asks status (state_of stored t) now later) (after_of flow) g m in
@@ -143,6 +181,7 @@ module _ {T : Type 0} (stored : T → Stored) (safe : T → T → Type 0) (first
         rest = rest;
         has = stepped n s t mid rest now later (Some line) asks (after_of flow) r refl takes (subst (λ (k : ℕ). Answers k (state_of stored s) asks (after_of flow) (state_of stored t) now later) e step) between;
         on = λ _. (sym e, refl);
+        stops = λ ends. inr (inl (quits number (state_of stored s) asks step.text (state_of stored t) (subst (λ (a : After). IsAnswered number (state_of stored s) asks step.text a (state_of stored t)) (ap after_of ends) step.answered)));
       }
   flowed number n s t mid rest now later line a (Err status) e r takes m between (inl g) =
       let asks = shell_line (stored s.store).names s.format line in
@@ -152,25 +191,28 @@ module _ {T : Type 0} (stored : T → Stored) (safe : T → T → Type 0) (first
       let asks = shell_line (stored s.store).names s.format line in
       let step = MatchResult-at_ok (λ (after : After). Answers number (state_of stored s) asks after (state_of stored t) now later) (λ (status : ℕ). StopsAt number (state_of stored s) asks status (state_of stored t) now later) Stopped g.0 m in
       ended (n + 1) t rest later status (λ p. absurd (omega (arith, g.1, p))) (stepped n s t mid rest now later (Some line) asks Stopped r refl takes (subst (λ (k : ℕ). Answers k (state_of stored s) asks Stopped (state_of stored t) now later) e step) between)
+      (λ d. absurd (not_done status 15 g.1 (omega arith) (omega arith) d))
 
 module _ {T : Type 0} (stored : T → Stored) (safe : T → T → Type 0) (first : Shell T) (left before : Option (List ℕ)) where
   -- a session was ended: the run goes on, or ends
-  pub end_flowed : (n : ℕ) (s t : Shell T) (rest now later : Option (List ℕ)) (session : Session) (a : Result After ℕ) → HasRun stored safe first left before n s rest now → IsTrue (is_some (held (stored s.store).events session.0))
+  pub end_flowed : (n : ℕ) (s t : Shell T) (rest now later : Option (List ℕ)) (session : Session) (a : Result After ℕ) → (r : HasRun stored safe first left before n s rest now) → IsThrough rest r.steps → IsTrue (is_some (held (stored s.store).events session.0))
       → ((k : ℕ) → MatchResult a (λ (after : After). Answers k (state_of stored s) (Ask session request.End) after (state_of stored t) now later) (λ (status : ℕ). StopsAt k (state_of stored s) (Ask session request.End) status (state_of stored t) now later))
-      → IsSafely safe s t → MatchResult a (λ (after : After). (x : ℕ) × HasRun stored safe first left before x t rest later) (λ (status : ℕ). HasEnded stored safe first left before status t later)
-  end_flowed n s t rest now later session (Ok after) r holds m between = (n + 1, stepped stored safe first left before n s t rest rest now later None (Ask session request.End) after r (session, refl, holds) refl (m (n + 1)) between)
-  end_flowed n s t rest now later session (Err status) r holds m between = stopped stored safe first left before n s t rest rest now later None (Ask session request.End) status r (session, refl, holds) refl (m (n + 1)) between
+      → IsSafely safe s t → MatchResult a (λ (after : After). (x : ℕ) × (h : HasRun stored safe first left before x t rest later) × IsThrough rest h.steps) (λ (status : ℕ). HasEnded stored safe first left before status t later)
+  unfolding stepped
+  end_flowed n s t rest now later session (Ok after) r through holds m between =
+      (n + 1, stepped stored safe first left before n s t rest rest now later None (Ask session request.End) after r (session, refl, holds) refl (m (n + 1)) between, one_more_through rest r.steps (record { line = None; asks = Ask session request.End; text = (m (n + 1)).text }) through)
+  end_flowed n s t rest now later session (Err status) r through holds m between = stopped stored safe first left before n s t rest rest now later None (Ask session request.End) status r (session, refl, holds) refl (m (n + 1)) between
 
   -- the same, where the disk has failed too
   pub ends_or_goes_on : (t : Shell T) (rest later : Option (List ℕ)) (a : Result After ℕ) (d : Result (Unit {0}) ℕ)
-      → MatchResult a (λ (after : After). (x : ℕ) × HasRun stored safe first left before x t rest later) (λ (status : ℕ). HasEnded stored safe first left before status t later)
+      → MatchResult a (λ (after : After). (x : ℕ) × (h : HasRun stored safe first left before x t rest later) × IsThrough rest h.steps) (λ (status : ℕ). HasEnded stored safe first left before status t later)
       → MatchResult d (λ (u : Unit {0}). (b : After) × (a ≡ Ok b) × (b ≡ Stopped → ⊥)) (λ (status : ℕ). (a ≡ Err status) ⊎ ((a ≡ Ok Stopped) × (status ≡ 15)))
-      → MatchResult d (λ (u : Unit {0}). (x : ℕ) × HasRun stored safe first left before x t rest later) (λ (status : ℕ). HasEnded stored safe first left before status t later)
-  ends_or_goes_on t rest later a (Ok u) m g = MatchResult-at_ok (λ (after : After). (x : ℕ) × HasRun stored safe first left before x t rest later) (λ (status : ℕ). HasEnded stored safe first left before status t later) g.0 g.1 m
-  ends_or_goes_on t rest later a (Err status) m (inl g) = MatchResult-at_err (λ (after : After). (x : ℕ) × HasRun stored safe first left before x t rest later) (λ (status : ℕ). HasEnded stored safe first left before status t later) status g m
+      → MatchResult d (λ (u : Unit {0}). (x : ℕ) × (h : HasRun stored safe first left before x t rest later) × IsThrough rest h.steps) (λ (status : ℕ). HasEnded stored safe first left before status t later)
+  ends_or_goes_on t rest later a (Ok u) m g = MatchResult-at_ok (λ (after : After). (x : ℕ) × (h : HasRun stored safe first left before x t rest later) × IsThrough rest h.steps) (λ (status : ℕ). HasEnded stored safe first left before status t later) g.0 g.1 m
+  ends_or_goes_on t rest later a (Err status) m (inl g) = MatchResult-at_err (λ (after : After). (x : ℕ) × (h : HasRun stored safe first left before x t rest later) × IsThrough rest h.steps) (λ (status : ℕ). HasEnded stored safe first left before status t later) status g m
   ends_or_goes_on t rest later a (Err status) m (inr g) =
-      let r = MatchResult-at_ok (λ (after : After). (x : ℕ) × HasRun stored safe first left before x t rest later) (λ (status : ℕ). HasEnded stored safe first left before status t later) Stopped g.0 m in
-      ended stored safe first left before r.0 t rest later status (λ p. absurd (omega (arith, g.1, p))) r.1
+      let r = MatchResult-at_ok (λ (after : After). (x : ℕ) × (h : HasRun stored safe first left before x t rest later) × IsThrough rest h.steps) (λ (status : ℕ). HasEnded stored safe first left before status t later) Stopped g.0 m in
+      ended stored safe first left before r.0 t rest later status (λ p. absurd (omega (arith, g.1, p))) r.1 (λ _. r.2)
 
 -- a session holds a transaction
 pub held_some : (H K : List Event) (s : Session) (t : Txn) → K ≡ H → Some t ≡ held_txn K s → IsTrue (is_some (held H s.0))

@@ -1,6 +1,6 @@
 -- A run: lines, each answered before the next one is read, and then the ends of the sessions that hold a transaction.
-use Rattle.std.specs.Prelude.{◌≡◌, ◌≢◌, ◌⊎◌, ℕ, ◌+◌, List, [], ◌∷◌, ◌++◌, length, Option, Some, None, IsTrue, is_some}
-use Rattle.std.specs.Io.KnownBytes.{Appends, Consumes, Keeps}
+use Rattle.std.specs.Prelude.{◌≡◌, ◌≢◌, ◌⊎◌, ℕ, ◌+◌, ◌^◌, ◌≤◌, List, [], ◌∷◌, ◌++◌, length, Option, Some, None, IsTrue, is_some}
+use Rattle.std.specs.Io.KnownBytes.{Appends, Consumes, IsAtEnd, Keeps}
 use Rattle.teb_io.specs.Bytes.{AppendsFront}
 use Rattle.teb_names.specs.declared.Session.{Session}
 use Rattle.teb_names.specs.declared.Request.TheVariants as request
@@ -8,7 +8,7 @@ use Rattle.teb_history.specs.Phases.{held}
 use Rattle.line_reader.specs.Lines.{TakesLine}
 use Rattle.shell_lines.specs.Lines.{shell_line}
 use Rattle.shell_lines.specs.declared.line.ShellLine.{ShellLine}
-use Rattle.shell_lines.specs.declared.line.ShellLine.TheVariants.{Ask}
+use Rattle.shell_lines.specs.declared.line.ShellLine.TheVariants.{Ask, Quit}
 use Rattle.shell_runner.specs.States.{Stored}
 use Rattle.shell_runner.specs.Answers.{State, IsAnswered}
 use Rattle.shell_runner.specs.declared.shell.Shell.{Shell}
@@ -67,6 +67,19 @@ abbrev pub IsTaken : Option (List ℕ) → Option (List ℕ) → List Step → T
 IsTaken left rest [] = Consumes left rest []
 IsTaken left rest (step ∷ older) = (mid : Option (List ℕ)) × IsTaken left mid older × TakenBy step.line mid rest
 
+-- a step asked for the end
+abbrev pub HasQuit : List Step → Type 0
+HasQuit [] = ⊥
+HasQuit (step ∷ older) = (step.asks ≡ Quit) ⊎ HasQuit older
+
+-- no line is left, or a step asked for the end, or there were 2^64 - 2 of them
+abbrev pub IsThrough : Option (List ℕ) → List Step → Type 0
+IsThrough rest steps = IsAtEnd rest ⊎ (HasQuit steps ⊎ (2 ^ 64 ≤ length steps + 2))
+
+-- each line was answered, and some of them may have been bad
+abbrev pub IsDone : ℕ → Type 0
+IsDone status = (status ≡ 0) ⊎ (status ≡ 7)
+
 -- a run so far: its n steps have led to this shell, and their text is written
 pub record HasRun {T : Type 0} (stored : T → Stored) (safe : T → T → Type 0) (first : Shell T) (left before : Option (List ℕ)) (n : ℕ) (last : Shell T) (rest now : Option (List ℕ)) : Type 0 where
   pub steps : List Step
@@ -81,8 +94,9 @@ pub record GoesOn {T : Type 0} (stored : T → Stored) (safe : T → T → Type 
   pub rest : Option (List ℕ)
   pub has : HasRun stored safe first left before n last rest now
   pub on : (flow ≡ End → ⊥) → (n ≡ number) × (rest ≡ ahead)
+  pub stops : flow ≡ End → IsAtEnd rest ⊎ HasQuit has.steps
 
--- a run at its end: the text of all its steps is written, or a prefix of it and the status is 4; where memory ran out (8), the shell may have asked one line
+-- a run at its end: with status 0 or 7 no line is left, or one asked for the end. The text of all its steps is written, or a prefix of it and the status is 4; where memory ran out (8), the shell may have asked one line
 -- more, and a crash leaves what it may
 pub record HasEnded {T : Type 0} (stored : T → Stored) (safe : T → T → Type 0) (first : Shell T) (left before : Option (List ℕ)) (status : ℕ) (end : Shell T) (now : Option (List ℕ)) : Type 0 where
   pub steps : List Step
@@ -91,6 +105,7 @@ pub record HasEnded {T : Type 0} (stored : T → Stored) (safe : T → T → Typ
   pub run : IsRun stored safe first steps last
   pub taken : IsTaken left rest steps
   pub written : ((status ≢ 4) × Appends before now (said steps)) ⊎ ((status ≡ 4) × AppendsFront before now (said steps))
+  pub through : IsDone status → IsThrough rest steps
   pub same : status ≢ 8 → end ≡ last
   pub safely : IsSafely safe last end
 

@@ -5,7 +5,7 @@ ghost use Rattle.teb_io.specs.Faults.{Rose};
 ghost use Rattle.teb_names.specs.declared.Request.TheVariants as requests;
 ghost use Rattle.shell_lines.specs.declared.line.ShellLine.TheVariants as lines;
 ghost use Rattle.shell_runner.specs.States.{IsReady};
-ghost use Rattle.shell_runner.specs.Runs.{Answers, HasEnded, HasRun, IsSafely, StopsAt, state_of};
+ghost use Rattle.shell_runner.specs.Runs.{Answers, HasEnded, HasRun, IsSafely, IsThrough, StopsAt, state_of};
 ghost use Rattle.shell_runner.specs.declared.shell.Shell.{Shell as TheShell};
 ghost use Rattle.shell_runner.specs.declared.step.After.{After as TheAfter};
 ghost use Rattle.shell_runner.specs.declared.step.After.TheVariants as afters;
@@ -30,7 +30,7 @@ pub(crate) fn end_sessions<T: ShellStore, K: Sink>(
 ) -> Ended<T>
     requires ready { IsReady tree.now (T.stored shell.store) }
     requires status { (status ≢ 3) × (status ≢ 4) × (status ≢ 8) }
-    ensures ended { (first : TheShell T) (left before rest : Option (List ℕ)) (n : ℕ) → HasRun T.stored T.safe first left before n shell rest (K.written out.old)
+    ensures ended { (first : TheShell T) (left before rest : Option (List ℕ)) (n : ℕ) → (h : HasRun T.stored T.safe first left before n shell rest (K.written out.old)) → IsThrough rest h.steps
         → HasEnded T.stored T.safe first left before result.status result.shell (K.written out.new) }
     ensures read { result.status ≢ 3 }
     ensures write_fault { result.status ≡ 4 → Rose (K.faults out.old) (K.faults out.new) }
@@ -62,8 +62,8 @@ fn end_if_held<T: ShellStore, K: Sink>(
     out: &mut K,
 ) -> (Shell<T>, Result<(), u8>)
     requires ready { IsReady tree.now (T.stored shell.store) }
-    ensures ended { (first : TheShell T) (left before rest : Option (List ℕ)) (n : ℕ) → HasRun T.stored T.safe first left before n shell rest (K.written out.old)
-        → MatchResult result.1 (λ _. (k : ℕ) × HasRun T.stored T.safe first left before k result.0 rest (K.written out.new))
+    ensures ended { (first : TheShell T) (left before rest : Option (List ℕ)) (n : ℕ) → (h : HasRun T.stored T.safe first left before n shell rest (K.written out.old)) → IsThrough rest h.steps
+        → MatchResult result.1 (λ _. (k : ℕ) × (j : HasRun T.stored T.safe first left before k result.0 rest (K.written out.new)) × IsThrough rest j.steps)
         (λ status. HasEnded T.stored T.safe first left before status result.0 (K.written out.new)) }
     ensures ready { IfOk result.1 (λ _. IsReady tree.now (T.stored result.0.store)) }
     ensures read { IfErr result.1 (λ status. status ≢ 3) }

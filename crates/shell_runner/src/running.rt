@@ -6,7 +6,7 @@ ghost use Rattle.teb_io.specs.Faults.{Rose};
 ghost use Rattle.line_reader.specs.Lines.{ahead};
 ghost use Rattle.shell_lines.specs.Lines.{shell_line};
 ghost use Rattle.shell_runner.specs.States.{IsReady};
-ghost use Rattle.shell_runner.specs.Runs.{Answers, GoesOn, HasEnded, HasRun, IsSafely, StopsAt, state_of};
+ghost use Rattle.shell_runner.specs.Runs.{Answers, GoesOn, HasEnded, HasRun, IsDone, IsSafely, IsThrough, StopsAt, state_of};
 ghost use Rattle.shell_runner.specs.declared.shell.Shell.{Shell as TheShell};
 ghost use Rattle.shell_runner.specs.Flows.{after_of};
 ghost use Rattle.shell_runner.specs.declared.step.After.TheVariants as afters;
@@ -53,7 +53,7 @@ fn run_lines<T: ShellStore, S: Source, K: Sink>(
     out: &mut K,
 ) -> (Shell<T>, Result<u8, u8>)
     requires ready { IsReady tree.now (T.stored shell.store) }
-    ensures run { IfOk result.1 (λ status. (n : ℕ) × (rest : Option (List ℕ)) × HasRun T.stored T.safe shell (S.left input.old) (K.written out.old) n result.0 rest (K.written out.new)) }
+    ensures run { IfOk result.1 (λ status. (n : ℕ) × (rest : Option (List ℕ)) × (h : HasRun T.stored T.safe shell (S.left input.old) (K.written out.old) n result.0 rest (K.written out.new)) × IsThrough rest h.steps) }
     ensures status { IfOk result.1 (λ status. (status ≢ 3) × (status ≢ 4) × (status ≢ 8)) }
     ensures ready { IfOk result.1 (λ status. IsReady tree.now (T.stored result.0.store)) }
     ensures ended { IfErr result.1 (λ status. HasEnded T.stored T.safe shell (S.left input.old) (K.written out.old) status result.0 (K.written out.new)) }
@@ -156,7 +156,7 @@ fn flow_of(after: Result<After, u8>) -> Result<Flow, u8>
 
 fn read_status(error: ReadError) -> u8
     ensures fault { result ≡ 3 → error ≡ reads.ReadFault }
-    ensures others { (result ≢ 4) × (result ≢ 15) }
+    ensures others { (result ≢ 4) × (IsDone result → ⊥) }
 {
     match error {
         ReadError::ReadFault => READ_FAULT,

@@ -1,10 +1,10 @@
-use Rattle.std.proofs.Common.{subst, sym}
+use Rattle.std.proofs.Common.{inl, refl, subst, sym}
 use Rattle.line_reader.specs.Lines.{TakesLine, ahead}
 use Rattle.shell_runner.proofs.Going.{ended, flowed}
 use Rattle.shell_runner.proofs.running.next_step.Goals as goal
 
 pub returns-in-Err-clause-next : goal.returns-in-Err-clause-next
-returns-in-Err-clause-next g c = λ first left before n e r. ended g.T.ShellStore.stored g.T.ShellStore.safe first left before n c.args.shell _ _ c.read_status.result c.read_status.ensures.others.0 r
+returns-in-Err-clause-next g c = λ first left before n e r. ended g.T.ShellStore.stored g.T.ShellStore.safe first left before n c.args.shell _ _ c.read_status.result c.read_status.ensures.others.0 r (λ d. absurd (c.read_status.ensures.others.1 d))
 
 pub returns-clause-next : goal.returns-clause-next
 returns-clause-next g c = λ first left before n e r.
@@ -14,3 +14,12 @@ returns-clause-next g c = λ first left before n e r.
     c.deref.result.now c.take_line-shell.result.1 c.flow_of.result e r
     (subst (TakesLine mid rest) (sym c.deref.ensures.value) (rw c.in-Ok-Some.field-0-is at c.in-Ok-Some.ensures.taken))
     c.take_line-shell.ensures.step c.take_line-shell.ensures.safe c.flow_of.ensures
+
+pub returns-in-Ok-None-clause-next : goal.returns-in-Ok-None-clause-next
+returns-in-Ok-None-clause-next g c = λ first left before n e r. record {
+  n = n;
+  rest = ahead c.args.reader.now (g.S.Source.left c.args.input.now);
+  has = r;
+  on = λ p. absurd (p refl);
+  stops = λ _. inl (rw c.in-Ok-None.field-0-is at c.in-Ok-None.ensures.taken).0;
+}
