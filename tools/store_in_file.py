@@ -1,18 +1,20 @@
 #!/usr/bin/env python3
 """Tries and measures the store in a file, by the example program embedded_file, on real files.
 
-    tools/store_in_file.py trials [--kills N]     the program is killed, runs out of disk, and is started twice; the last line is `N passed, M failed`
+    tools/store_in_file.py trials [--kills N]     the program is killed, runs out of disk, and is started twice, and its calls of the system are listed; the last
+                                                  line is `N passed, M failed`
     tools/store_in_file.py speed                  commits a second, memory, and how long a file with 1,000,000 rows takes to open
 
 The program makes transfers between accounts, each in a transaction of its own, and prints the number of each once it is committed. When it starts it
 prints how many transfers it finds, and the sum of all accounts, which is 0. So after a kill it must find the last one that was printed, and at most one more.
-A full disk is a small file system in memory; only root can make one, and without it that trial is skipped.
+A full disk is a small file system in memory; only root can make one, and without it that trial is skipped. So is the list of calls, without strace.
 """
 import argparse
 import os
 import pathlib
 import random
 import re
+import shutil
 import struct
 import subprocess
 import sys
@@ -112,6 +114,21 @@ def try_full_disk(trials, folder):
         subprocess.run(["umount", disk], check=False)
 
 
+def try_calls(trials, folder):
+    """Lists what the program asks of the system: at the opening a lock and then what is written, each write made safe; for each commit two writes, each made safe before it is printed."""
+    if not shutil.which("strace"):
+        print("skipped: the calls of the system (apt install strace)")
+        return
+    log, count = f"{folder}/calls.log", 20
+    traced = "flock,fsync,fdatasync,pwrite64,write"
+    subprocess.run(["strace", "-f", "-e", f"trace={traced}", "-o", log, PROGRAM, f"{folder}/calls", str(count)], stdout=subprocess.DEVNULL, check=True, timeout=SECONDS)
+    calls = re.findall(r"(?m)^\d+ +(\w+)\(.* = \d+$", pathlib.Path(log).read_text())
+    commit = ["pwrite64", "fdatasync"] * 2 + ["write"]
+    opening = ["flock", "fsync", "fsync", "fdatasync"] + ["pwrite64", "fdatasync"] * 4 + ["write"]
+    trials.expect("the calls of an opening", calls[: len(opening)] == opening, calls[: len(opening)])
+    trials.expect("the calls of each commit", calls[len(opening) :] == commit * count, calls[len(opening) :][:12])
+
+
 def write_rows(path, rows):
     """Writes a file as docs/FORMATS.md describes it, with this many rows in the checkpoint of its first half."""
     label = b"account\ntransfers\n"
@@ -173,6 +190,7 @@ def main():
         # (a file in memory is so quick that kills come amid checkpoints, too)
         try_kills(trials, memory, given.kills, 10_000)
         try_twice(trials, folder)
+        try_calls(trials, folder)
         try_full_disk(trials, folder)
     print(f"{trials.passed} passed, {trials.failed} failed")
     return int(trials.failed != 0)
