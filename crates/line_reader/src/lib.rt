@@ -1,7 +1,7 @@
 //! The lines of a source, read one at a time: a line is answered before the next one is read.
 #![tactic(auto)]
 
-ghost use Rattle.std.specs.Prelude.{◌≡◌, ◌≢◌, [], ◌∷◌, ◌++◌, ◌≤◌, IfOk, IfSome, IsErrOf, length, MatchOption, OnOk};
+ghost use Rattle.std.specs.Prelude.{◌≡◌, ◌≢◌, [], ◌∷◌, ◌++◌, ◌≤◌, IfOk, IfSome, IsErrOf, length, MatchOption, OnErr, OnOk};
 ghost use Rattle.std.specs.Io.KnownBytes.{Consumes, IsAtEnd};
 ghost use Rattle.teb_io.specs.Faults.{Rose};
 ghost use Rattle.line_reader.specs.Lines.{ahead, IsFirstFeed, IsLine, TakesNext};
@@ -22,6 +22,8 @@ const PIECE: usize = 4_096;
 pub struct LineReader {
     bytes: Vec<u8>,
     at: usize,
+    /// How many of the next bytes were put ahead.
+    ahead: usize,
 }
 
 impl Model for LineReader {
@@ -42,7 +44,26 @@ impl LineReader {
         LineReader {
             bytes: Vec::new(alloc),
             at: 0,
+            ahead: 0,
         }
+    }
+
+    /// Puts a text before the bytes that are not yet taken. Out of memory, they stay as they were.
+    pub fn put_ahead(&mut self, alloc: Global, text: &[u8]) -> Result<(), AllocError>
+        ensures ok { OnOk result (self.new ≡ text.now ++ self.old) }
+        ensures err { OnErr result (self.new ≡ self.old) }
+    {
+        let mut all = text.to_vec(alloc)?;
+        all.extend_from_slice(self.rest())?;
+        self.bytes = all;
+        self.at = 0;
+        self.ahead = text.len();
+        Ok(())
+    }
+
+    /// True if the next line begins in a text that was put ahead.
+    pub fn is_ahead(&self) -> bool {
+        self.ahead > 0
     }
 
     /// Takes the next line, without its line feed; `None` at the end. A last line without a line feed counts if it is not empty. It
@@ -120,6 +141,7 @@ impl LineReader {
     {
         let line = self.rest()[..len].to_vec(alloc)?;
         self.at += len + 1;
+        self.ahead = self.ahead.saturating_sub(len + 1);
         Ok(line)
     }
 
@@ -133,6 +155,7 @@ impl LineReader {
         }
         let line = self.rest().to_vec(alloc)?;
         self.at = self.bytes.len();
+        self.ahead = 0;
         Ok(Some(line))
     }
 }

@@ -5,8 +5,11 @@
 //! fails; and whatever a crash leaves, at any moment, has the commits that the text before it has acknowledged.
 #![tactic(auto)]
 
+mod asking;
 mod ended;
 mod ends;
+mod files;
+mod host;
 mod requests;
 mod running;
 mod shell;
@@ -16,6 +19,7 @@ mod store;
 mod writing;
 
 pub use ended::Ended;
+pub use host::{FileError, Host};
 pub use running::run;
 pub use shell::Shell;
 pub use store::{ShellStore, TurnError};

@@ -2,8 +2,8 @@
 use Rattle.std.specs.Prelude.{ℕ, List, decimal}
 use Rattle.std.specs.Fmt.{signed_decimal}
 use Rattle.script_text.specs.Texts.{txn_text}
-use Rattle.shell_lines.specs.declared.words.Word.{Word}
-use Rattle.shell_lines.specs.declared.words.Word.TheVariants as word
+use Rattle.line_words.specs.declared.Word.{Word}
+use Rattle.line_words.specs.declared.Word.TheVariants as word
 
 abbrev pub word_text : Word → List ℕ
 word_text (word.Text s) = s.now

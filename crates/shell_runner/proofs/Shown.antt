@@ -1,0 +1,23 @@
+-- A tree text that is shown, or not.
+use Rattle.std.proofs.Common.{◌≡◌, ℕ, ◌<◌, ◌≤◌, Bool, true, false, ℤ, List, length, ap, ◌∙◌, sym, refl, subst}
+use Rattle.std.specs.Prelude.{nat_le, if◌then◌else◌}
+use Rattle.std.proofs.lemmas.Bool.{le-leb, lt-leb}
+use Rattle.teb_names.specs.declared.Cell.{Cell}
+use Rattle.teb_names.specs.declared.rows.TheConstants.{MOST_ROWS}
+use Rattle.shell_lines.specs.Answers.{unable_text}
+use Rattle.shell_lines.specs.declared.line.Unable.TheVariants as unable
+use Rattle.tree_writer.specs.Written.{tree_text}
+use Rattle.shell_runner.specs.States.{AreFinalRows, Stored}
+use Rattle.shell_runner.specs.Answers.{ShowsDump, State, after_dump, dump_text}
+use Rattle.shell_runner.specs.declared.step.After.TheVariants.{Bad, Next}
+
+pub dumped : (n : ℕ) (s : State) (rows : List (Cell × ℤ)) (text : List ℕ) → AreFinalRows s.stored.store s.stored.events rows → length rows ≤ MOST_ROWS
+    → text ≡ tree_text s.format s.stored.names s.stored.store.setup.profiles s.stored.store.setup.tree rows → ShowsDump n s text Next
+dumped n s rows text final few shown =
+    let e : nat_le (length rows) MOST_ROWS ≡ true = le-leb (length rows) MOST_ROWS few in
+    record { rows = rows; final = final; shown = shown ∙ ap (λ (b : Bool). if b then tree_text s.format s.stored.names s.stored.store.setup.profiles s.stored.store.setup.tree rows else unable_text n unable.ManyRows) (sym e); goes_on = ap (λ (b : Bool). if b then Next else Bad) (sym e) }
+
+pub not_dumped : (n : ℕ) (s : State) (rows : List (Cell × ℤ)) (text : List ℕ) → AreFinalRows s.stored.store s.stored.events rows → MOST_ROWS < length rows → text ≡ unable_text n unable.ManyRows → ShowsDump n s text Bad
+not_dumped n s rows text final many shown =
+    let e : nat_le (length rows) MOST_ROWS ≡ false = lt-leb MOST_ROWS (length rows) many in
+    record { rows = rows; final = final; shown = shown ∙ ap (λ (b : Bool). if b then tree_text s.format s.stored.names s.stored.store.setup.profiles s.stored.store.setup.tree rows else unable_text n unable.ManyRows) (sym e); goes_on = ap (λ (b : Bool). if b then Next else Bad) (sym e) }
