@@ -24,6 +24,8 @@ pub struct LineReader {
     at: usize,
     /// How many of the next bytes were put ahead.
     ahead: usize,
+    /// Whether the last line that was taken was put ahead.
+    was_ahead: bool,
 }
 
 impl Model for LineReader {
@@ -45,6 +47,7 @@ impl LineReader {
             bytes: Vec::new(alloc),
             at: 0,
             ahead: 0,
+            was_ahead: false,
         }
     }
 
@@ -61,9 +64,9 @@ impl LineReader {
         Ok(())
     }
 
-    /// True if the next line begins in a text that was put ahead.
-    pub fn is_ahead(&self) -> bool {
-        self.ahead > 0
+    /// True if the last line that was taken was put ahead.
+    pub fn was_ahead(&self) -> bool {
+        self.was_ahead
     }
 
     /// Takes the next line, without its line feed; `None` at the end. A last line without a line feed counts if it is not empty. It
@@ -141,6 +144,7 @@ impl LineReader {
     {
         let line = self.rest()[..len].to_vec(alloc)?;
         self.at += len + 1;
+        self.was_ahead = self.ahead > 0;
         self.ahead = self.ahead.saturating_sub(len + 1);
         Ok(line)
     }
@@ -155,6 +159,7 @@ impl LineReader {
         }
         let line = self.rest().to_vec(alloc)?;
         self.at = self.bytes.len();
+        self.was_ahead = self.ahead > 0;
         self.ahead = 0;
         Ok(Some(line))
     }

@@ -36,7 +36,7 @@ fn read_named<H: Host>(
 ) -> Result<Option<Unable>, AllocError>
     ensures { IfOk result (λ _. (file : List ℕ) × (reader.new ≡ file ++ reader.old)) }
 {
-    if reader.is_ahead() {
+    if reader.was_ahead() {
         return Ok(Some(Unable::Nested));
     }
     let name = second_word(alloc, line)?;

@@ -1,7 +1,8 @@
 -- What an engine's replies and final rows name has a name.
 use Rattle.std.proofs.Common.{◌≡◌, ℕ, ◌<◌, List, [], ◌∷◌, length, reverse, Some, sym, ap, ◌∙◌, subst, ℤ}
 use Rattle.std.specs.Prelude.{All}
-use Rattle.std.proofs.lemmas.List.Elements.{All-reverse}
+use Rattle.std.proofs.lemmas.List.{reverse-append}
+use Rattle.std.proofs.lemmas.List.Elements.{All-append}
 use Rattle.teb_names.specs.declared.Cell.{Cell}
 use Rattle.teb_names.specs.declared.Node.{Node}
 use Rattle.teb_names.specs.declared.Cause.{Cause}
@@ -88,11 +89,12 @@ module _ (X : Store) (names : NameBook) (nodes : length X.setup.tree ≡ length 
   event_named (event.Gone t c) h = cause_named X names nodes tables c h
   event_named (event.Told t) h = h
 
-  all_named : (H : List Event) → AllWithin X H → All (EventNamed names) H
+  all_named : (H : List Event) → AllWithin X H → All (EventNamed names) (reverse H)
   all_named [] h = tt
-  all_named (ev ∷ P) h = (event_named ev h.0, all_named P h.1)
+  all_named (ev ∷ P) h =
+      subst (All (EventNamed names)) (sym (reverse-append (ev ∷ []) P)) (All-append (EventNamed names) (reverse P) (ev ∷ []) (all_named P h.1) (event_named ev h.0, tt))
 
 -- the events of a history, where each node has a name
 pub events_named : (e : EngineModel) (s : Setup) → store_of s ≡ e.store → s.names ≡ e.names → IsWhole (setup_view s) → IsOfEngine e → length e.store.setup.tree ≡ length e.names.nodes → All (EventNamed e.names) (reverse e.events)
 events_named e s store names whole of nodes =
-    All-reverse (EventNamed e.names) e.events (all_named e.store e.names nodes (same_tables e s store names) (same_types e s store names whole) e.events (within e of).events)
+    all_named e.store e.names nodes (same_tables e s store names) (same_types e s store names whole) e.events (within e of).events

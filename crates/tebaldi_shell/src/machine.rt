@@ -9,6 +9,7 @@ use std::str::from_utf8;
 use teb_io::{ReadError, StdSink, StdSource, read_all, write_whole};
 
 /// The machine that the shell runs on.
+#[derive(Drop)]
 pub struct Machine<'a> {
     rt: &'a HostRuntime,
     is_prompted: bool,

@@ -1,6 +1,6 @@
 -- A node is drawn after those before it.
-use Rattle.std.proofs.Common.{◌≡◌, ℕ, zero, suc, ◌+◌, ◌-◌, ◌<◌, ◌≤◌, Bool, ◌==◌, List, [], ◌∷◌, ◌++◌, length, get_or, drop, map, refl, sym, ap, ◌∙◌, subst, append_assoc, arith, length-map}
-use Rattle.std.proofs.lemmas.List.{append-nil, drop_more}
+use Rattle.std.proofs.Common.{◌≡◌, ℕ, zero, suc, ◌+◌, ◌-◌, ◌<◌, ◌≤◌, Bool, ◌==◌, List, [], ◌∷◌, ◌++◌, length, get_or, drop, map, refl, sym, ap, ◌∙◌, subst, append_assoc, arith}
+use Rattle.std.proofs.lemmas.List.{append-nil, drop_more, length-map}
 use Rattle.teb_names.specs.declared.Node.{Node}
 use Rattle.teb_names.specs.declared.naming.NameBook.{NameBook}
 use Rattle.cc_tree.specs.Grown.{node_numbers}
@@ -29,6 +29,12 @@ module _ (names : NameBook) (T : List NodeRow) (inner : List ℕ → ℕ → Lis
       ∙ ap (λ (l : List ℕ). l ++ tail) (new_is ∙ append_assoc out line (inner (prefix ++ stem is_last) n.0))
       ∙ append_assoc out (line ++ inner (prefix ++ stem is_last) n.0) tail
       ∙ whole_is ∙ ap (λ (l : List ℕ). out ++ branches names T inner prefix l) (sym left) ∙ so_far
+
+-- no level is drawn
+pub none_drawn : (names : NameBook) (T : List NodeRow) (levels : ℕ) (prefix : List ℕ) (p : ℕ) (out : List ℕ) → levels ≡ 0 → out ≡ out ++ drawn names T levels prefix p
+unfolding drawn
+none_drawn names T zero prefix p out e = sym (append-nil out)
+none_drawn names T (suc d) prefix p out e = absurd (omega (arith, e))
 
 -- all that is below a node is drawn
 pub all_drawn : (names : NameBook) (T : List NodeRow) (levels : ℕ) (prefix : List ℕ) (p : ℕ) (ns : List ℕ) (i : ℕ) (old out : List ℕ) → 0 < levels → ns ≡ children T p → length ns ≤ i

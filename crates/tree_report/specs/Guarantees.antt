@@ -6,7 +6,7 @@ use Rattle.teb_rules.specs.Tree.{below}
 use Rattle.script_text.specs.Texts.{Words, line_text, name_of}
 use Rattle.guarantees.specs.Shapes.{HidesUncommitted, keeps_time, orders_by_commits}
 use Rattle.tree_guarantees.specs.Conditions.{IsCondition, type_has_batches}
-use Rattle.tree_report.specs.declared.guarantees.TheConstants.{ALWAYS, ALONE, ORDERED, STRICT}
+use Rattle.tree_report.specs.declared.sentences.TheConstants.{ALWAYS, ALONE, ORDERED, STRICT}
 
 abbrev pub verdict : Bool → List ℕ
 verdict holds = if holds then codes "guaranteed:" else codes "not guaranteed:"

@@ -2,8 +2,8 @@
 #![tactic(auto)]
 
 mod drawing;
-mod guarantees;
 mod node_line;
+mod sentences;
 
 pub use drawing::put_tree;
-pub use guarantees::put_guarantees;
+pub use sentences::put_guarantees;

@@ -17,6 +17,10 @@ setting key value = key ++ codes " = " ++ value ++ codes "\n"
 abbrev pub quoted : List ℕ → List ℕ
 quoted s = codes "\"" ++ s ++ codes "\""
 
+-- what begins an entry of a list
+abbrev pub header : List ℕ → List ℕ
+header word = codes "\n[[" ++ word ++ codes "]]\n"
+
 abbrev pub separator : Bool → List ℕ
 separator is_first = if is_first then [] else codes ", "
 
@@ -38,9 +42,17 @@ tables_array tables = array (map quoted tables)
 abbrev pub steps_array : Words → List (List ℕ) → List ℕ
 steps_array tables steps = array (map (names_array tables) steps)
 
+abbrev pub table_field : List ℕ → List ℕ
+table_field table = codes "    { table = " ++ quoted table
+
+abbrev pub key_field : ℕ → List ℕ
+key_field key = codes ", key = " ++ decimal key
+
+abbrev pub value_field : ℤ → List ℕ
+value_field value = codes ", value = " ++ signed_decimal value ++ codes " },\n"
+
 abbrev pub row_item : Words → Cell × ℤ → List ℕ
-row_item tables r =
-    codes "    { table = " ++ quoted (name_of tables r.0.table.0) ++ codes ", key = " ++ decimal r.0.key ++ codes ", value = " ++ signed_decimal r.1 ++ codes " },\n"
+row_item tables r = table_field (name_of tables r.0.table.0) ++ key_field r.0.key ++ value_field r.1
 
 -- the rows, a line for each
 abbrev pub rows_setting : Words → List (Cell × ℤ) → List ℕ
@@ -67,27 +79,27 @@ has_batches c = is_timestamp c || is_snapshot c
 abbrev pub batch_setting : NodeRow → List ℕ
 batch_setting r = if has_batches r.control then setting (codes "batch") (decimal r.batch) else []
 
-abbrev pub order_setting : NodeRow → List ℕ
-order_setting r = if r.ordered then setting (codes "commit") (quoted (codes "ordered")) else []
+abbrev pub order_setting : Bool → List ℕ
+order_setting ordered = if ordered then setting (codes "commit") (quoted (codes "ordered")) else []
 
 abbrev pub part_settings : ℕ → ℕ → List ℕ
 part_settings part parts = if parts == 1 then [] else setting (codes "of") (decimal parts) ++ setting (codes "part") (decimal part)
 
 abbrev pub parameter_settings : NodeRow → List ℕ
-parameter_settings r = batch_setting r ++ order_setting r ++ part_settings r.part r.parts
+parameter_settings r = batch_setting r ++ order_setting r.ordered ++ part_settings r.part r.parts
 
 module _ (names : NameBook) where
   abbrev pub node_settings : NodeRow → List ℕ
   node_settings r = setting (codes "control") (quoted (control_word r.control)) ++ parent_setting names.nodes r.parent ++ types_setting names.types r.types ++ parameter_settings r
 
   abbrev pub node_text : List NodeRow → ℕ → List ℕ
-  node_text T n = codes "\n[[node]]\n" ++ setting (codes "name") (quoted (name_of names.nodes n)) ++ node_settings (row T n)
+  node_text T n = header (codes "node") ++ setting (codes "name") (quoted (name_of names.nodes n)) ++ node_settings (row T n)
 
   abbrev pub nodes_text : List NodeRow → List ℕ
   nodes_text T = flat_map (node_text T) (below (length T))
 
   abbrev pub type_text : List (List (List ℕ)) → ℕ → List ℕ
-  type_text profiles k = codes "\n[[type]]\n" ++ setting (codes "name") (quoted (name_of names.types k)) ++ setting (codes "steps") (steps_array names.tables (get_or profiles k []))
+  type_text profiles k = header (codes "type") ++ setting (codes "name") (quoted (name_of names.types k)) ++ setting (codes "steps") (steps_array names.tables (get_or profiles k []))
 
   abbrev pub types_text : List (List (List ℕ)) → List ℕ
   types_text profiles = flat_map (type_text profiles) (below (length names.types))

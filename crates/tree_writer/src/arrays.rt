@@ -1,11 +1,11 @@
 //! Arrays: of tables, of steps and of rows.
 
-ghost use Rattle.std.specs.Prelude.{◌≡◌, ◌++◌, OnOk, codes, map};
+ghost use Rattle.std.specs.Prelude.{◌≡◌, ◌++◌, OnOk, codes, map, true};
 ghost use Rattle.std.specs.List.{flat_map};
 ghost use Rattle.cc_tree.specs.Grown.{kind_numbers};
 ghost use Rattle.script_text.specs.Texts.{name_of};
 ghost use Rattle.txn_profile.specs.Steps.{numbers_of};
-ghost use Rattle.tree_writer.specs.Written.{items_text, names_array, quoted, row_item, rows_setting, separator, setting, steps_array, tables_array, types_setting};
+ghost use Rattle.tree_writer.specs.Written.{items_text, key_field, names_array, quoted, row_item, rows_setting, separator, setting, steps_array, table_field, tables_array, types_setting, value_field};
 
 use crate::settings::{put_key, put_quoted};
 use itoa::Buffer;
@@ -157,10 +157,28 @@ fn put_row(out: &mut Vec<u8>, tables: &Names, row: (Cell, i64)) -> Result<(), Al
     ensures { OnOk result (out.new.items ≡ out.old.items ++ row_item tables.now row) }
 {
     let (cell, value) = row;
+    put_table_field(out, name_at(tables, cell.table.0))?;
+    put_key_field(out, cell.key)?;
+    put_value_field(out, value)
+}
+
+fn put_table_field(out: &mut Vec<u8>, table: &str) -> Result<(), AllocError>
+    ensures { OnOk result (out.new.items ≡ out.old.items ++ table_field table.now) }
+{
     out.extend_from_slice(b"    { table = ")?;
-    put_quoted(out, name_at(tables, cell.table.0))?;
+    put_quoted(out, table)
+}
+
+fn put_key_field(out: &mut Vec<u8>, key: u32) -> Result<(), AllocError>
+    ensures { OnOk result (out.new.items ≡ out.old.items ++ key_field key) }
+{
     out.extend_from_slice(b", key = ")?;
-    out.extend_from_slice(Buffer::new().format(cell.key).as_bytes())?;
+    out.extend_from_slice(Buffer::new().format(key).as_bytes())
+}
+
+fn put_value_field(out: &mut Vec<u8>, value: i64) -> Result<(), AllocError>
+    ensures { OnOk result (out.new.items ≡ out.old.items ++ value_field value) }
+{
     out.extend_from_slice(b", value = ")?;
     out.extend_from_slice(Buffer::new().format(value).as_bytes())?;
     out.extend_from_slice(b" },\n")

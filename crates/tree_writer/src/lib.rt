@@ -10,7 +10,7 @@ ghost use Rattle.tree_writer.specs.Written.{head_text, tree_text, type_text, typ
 
 use arrays::{put_rows, put_steps, put_tables};
 use nodes::put_nodes;
-use settings::{put_name, put_number};
+use settings::{put_header, put_name, put_number};
 use std::alloc::AllocError;
 use store_setup::Setup;
 use teb_names::{Cell, NameBook, Names};
@@ -65,7 +65,7 @@ fn put_type(
     requires { k < length profiles.now }
     ensures { OnOk result (out.new.items ≡ out.old.items ++ type_text names.now profiles.now k) }
 {
-    out.extend_from_slice(b"\n[[type]]\n")?;
+    put_header(out, "type")?;
     put_name(out, "name", &names.types, k)?;
     put_steps(out, &names.tables, &profiles[usize::from(k)])
 }

@@ -4,10 +4,10 @@ ghost use Rattle.std.specs.Prelude.{◌≡◌, ◌++◌, ◌<◌, OnOk, length};
 ghost use Rattle.std.specs.List.{flat_map};
 ghost use Rattle.cc_tree.specs.Grown.{parent_number, row_of};
 ghost use Rattle.teb_rules.specs.Tree.{below};
-ghost use Rattle.tree_writer.specs.Written.{control_word, has_batches, node_settings, node_text, parameter_settings, parent_setting, part_settings};
+ghost use Rattle.tree_writer.specs.Written.{batch_setting, control_word, has_batches, node_settings, node_text, order_setting, parameter_settings, parent_setting, part_settings};
 
 use crate::arrays::put_members;
-use crate::settings::{put_name, put_number, put_text};
+use crate::settings::{put_header, put_name, put_number, put_text};
 use cc_tree::{NodeRow, Tree};
 use std::alloc::AllocError;
 use teb_names::{ControlKind, NameBook, Names, Node};
@@ -26,7 +26,7 @@ fn put_node(out: &mut Vec<u8>, names: &NameBook, tree: &Tree, node: Node) -> Res
     requires { node.0 < length tree.now.rows }
     ensures { OnOk result (out.new.items ≡ out.old.items ++ node_text names.now tree.now.rows node.0) }
 {
-    out.extend_from_slice(b"\n[[node]]\n")?;
+    put_header(out, "node")?;
     put_name(out, "name", &names.nodes, node.0)?;
     put_settings(out, names, tree.row(node))
 }
@@ -53,13 +53,29 @@ fn put_parent(out: &mut Vec<u8>, nodes: &Names, parent: Option<Node>) -> Result<
 fn put_parameters(out: &mut Vec<u8>, row: &NodeRow) -> Result<(), AllocError>
     ensures { OnOk result (out.new.items ≡ out.old.items ++ parameter_settings (row_of row.now)) }
 {
-    if has_batches(row.control) {
-        put_number(out, "batch", u64::from(row.batch))?;
-    }
-    if row.ordered {
-        put_text(out, "commit", "ordered")?;
-    }
+    put_batch(out, row)?;
+    put_order(out, row.ordered)?;
     put_part(out, row.part, row.of)
+}
+
+fn put_batch(out: &mut Vec<u8>, row: &NodeRow) -> Result<(), AllocError>
+    ensures { OnOk result (out.new.items ≡ out.old.items ++ batch_setting (row_of row.now)) }
+{
+    if has_batches(row.control) {
+        put_number(out, "batch", u64::from(row.batch))
+    } else {
+        Ok(())
+    }
+}
+
+fn put_order(out: &mut Vec<u8>, ordered: bool) -> Result<(), AllocError>
+    ensures { OnOk result (out.new.items ≡ out.old.items ++ order_setting ordered) }
+{
+    if ordered {
+        put_text(out, "commit", "ordered")
+    } else {
+        Ok(())
+    }
 }
 
 fn put_part(out: &mut Vec<u8>, part: u8, of: u8) -> Result<(), AllocError>

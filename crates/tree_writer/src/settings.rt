@@ -2,12 +2,21 @@
 
 ghost use Rattle.std.specs.Prelude.{◌≡◌, ◌++◌, OnOk, codes, decimal};
 ghost use Rattle.script_text.specs.Texts.{name_of};
-ghost use Rattle.tree_writer.specs.Written.{quoted, setting};
+ghost use Rattle.tree_writer.specs.Written.{header, quoted, setting};
 
 use itoa::Buffer;
 use line_words::name_at;
 use std::alloc::AllocError;
 use teb_names::Names;
+
+/// Appends what begins an entry of a list.
+pub(crate) fn put_header(out: &mut Vec<u8>, word: &str) -> Result<(), AllocError>
+    ensures { OnOk result (out.new.items ≡ out.old.items ++ header word.now) }
+{
+    out.extend_from_slice(b"\n[[")?;
+    out.extend_from_slice(word.as_bytes())?;
+    out.extend_from_slice(b"]]\n")
+}
 
 /// Appends a key and a number.
 pub(crate) fn put_number(out: &mut Vec<u8>, key: &str, number: u64) -> Result<(), AllocError>

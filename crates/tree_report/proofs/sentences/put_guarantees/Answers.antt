@@ -1,5 +1,5 @@
 use Rattle.tree_report.proofs.Told.{told}
-use Rattle.tree_report.proofs.guarantees.put_guarantees.Goals as goal
+use Rattle.tree_report.proofs.sentences.put_guarantees.Goals as goal
 
 pub returns : goal.returns
 returns c = told c.args.types.now c.args.tree.now.rows c.is_strict.result c.commits_in_order.result c.has_no_cascades.result c.args.out.now.items c.put_always.new.out.items c.put_shape.new.out.items c.put_types.new.out.items c.put_line.new.out.items c.put_line.result

@@ -1,7 +1,7 @@
 use Rattle.std.proofs.Common.{arith}
 use Rattle.line_words.proofs.Counted.{counted_all, counted_more, counted_none}
 use Rattle.tree_report.specs.Guarantees.{type_line}
-use Rattle.tree_report.proofs.guarantees.put_types.Goals as goal
+use Rattle.tree_report.proofs.sentences.put_types.Goals as goal
 
 pub loop-k-init : goal.loop-k-init
 loop-k-init c = counted_none (type_line c.args.types.now c.args.tree.now.rows) c.args.out.now.items
