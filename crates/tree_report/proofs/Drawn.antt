@@ -1,34 +1,38 @@
 -- A node is drawn after those before it.
-use Rattle.std.proofs.Common.{◌≡◌, ℕ, zero, suc, ◌+◌, ◌-◌, ◌<◌, ◌≤◌, Bool, ◌==◌, List, [], ◌∷◌, ◌++◌, length, get_or, drop, map, refl, sym, ap, ◌∙◌, subst, append_assoc, arith}
-use Rattle.std.proofs.lemmas.List.{append-nil, drop_more, length-map}
+use Rattle.std.proofs.Common.{◌≡◌, ℕ, zero, suc, ◌+◌, ◌-◌, ◌<◌, ◌≤◌, Bool, ◌==◌, List, [], ◌∷◌, ◌++◌, length, drop, take, refl, sym, ap, ◌∙◌, subst, append_assoc, arith}
+use Rattle.std.proofs.lemmas.List.{append-nil, drop-map, length-drop, take_all}
 use Rattle.teb_names.specs.declared.Node.{Node}
 use Rattle.teb_names.specs.declared.naming.NameBook.{NameBook}
 use Rattle.cc_tree.specs.Grown.{node_numbers}
 use Rattle.teb_rules.specs.Setup.{NodeRow}
-use Rattle.tree_report.specs.Drawing.{branch, branches, children, drawn, node_line, stem}
+use Rattle.tree_report.specs.Drawing.{IsBranch, branch, branches, children, drawn, node_line, stem}
+
+drop_next : (ns : List ℕ) (i n : ℕ) (rest : List ℕ) → drop i ns ≡ n ∷ rest → drop (i + 1) ns ≡ rest
+drop_next [] zero n rest e = absurd (cc)
+drop_next [] (suc i) n rest e = absurd (cc)
+drop_next (m ∷ ns) zero n rest e = ap (drop 1) e
+drop_next (m ∷ ns) (suc i) n rest e = ap (λ (k : ℕ). drop k (m ∷ ns)) (let z : suc i + 1 ≡ suc (i + 1) = omega arith in z) ∙ drop_next ns i n rest e
 
 drop_nodes : (ns : List Node) (i : ℕ) → drop i (node_numbers ns) ≡ node_numbers (drop i ns)
-drop_nodes ns zero = refl
-drop_nodes [] (suc i) = refl
-drop_nodes (n ∷ ns) (suc i) = drop_nodes ns i
+drop_nodes ns i = drop-map (λ (m : Node). m.0) i ns
 
 module _ (names : NameBook) (T : List NodeRow) (inner : List ℕ → ℕ → List ℕ) (prefix : List ℕ) where
-  pub one_more : (ns : List Node) (i : ℕ) (n : Node) (rest : List Node) (is_last : Bool) (stemmed out mid new whole : List ℕ) → i < length ns → n ≡ get_or ns i n → rest ≡ drop (i + 1) ns → is_last ≡ (length rest == 0)
-      → stemmed ≡ prefix ++ stem is_last → mid ≡ out ++ ((prefix ++ branch is_last) ++ node_line names T n.0) → new ≡ mid ++ inner stemmed n.0
+  pub one_more : (ns : List Node) (i : ℕ) (left : List Node) (n : ℕ) (stemmed below out mid new whole : List ℕ) → left ≡ drop i ns → IsBranch names T (node_numbers left) prefix out mid n stemmed → below ≡ stemmed → new ≡ mid ++ inner below n
       → out ++ branches names T inner prefix (drop i (node_numbers ns)) ≡ whole → new ++ branches names T inner prefix (drop (i + 1) (node_numbers ns)) ≡ whole
-  one_more ns i n rest is_last stemmed out mid new whole low here others last stemmed_is put below so_far =
-      let left : drop i (node_numbers ns) ≡ n.0 ∷ node_numbers rest =
-      drop_nodes ns i ∙ ap (λ (l : List Node). node_numbers l) (drop_more ns i n low ∙ ap (λ (k : Node). k ∷ drop (i + 1) ns) (sym here) ∙ ap (λ (l : List Node). n ∷ l) (sym others)) in
-      let last_is : is_last ≡ (length (node_numbers rest) == 0) = last ∙ ap (λ (k : ℕ). k == 0) (sym (length-map rest (λ m. m.0))) in
-      let line : List ℕ = (prefix ++ branch is_last) ++ node_line names T n.0 in
-      let tail : List ℕ = branches names T inner prefix (node_numbers rest) in
-      let new_is : new ≡ (out ++ line) ++ inner (prefix ++ stem is_last) n.0 = below ∙ ap (λ (l : List ℕ). l ++ inner stemmed n.0) put ∙ ap (λ (s : List ℕ). (out ++ line) ++ inner s n.0) stemmed_is in
-      let whole_is : out ++ ((line ++ inner (prefix ++ stem is_last) n.0) ++ tail) ≡ out ++ branches names T inner prefix (n.0 ∷ node_numbers rest) =
-      ap (λ (b : Bool). out ++ ((((prefix ++ branch b) ++ node_line names T n.0) ++ inner (prefix ++ stem b) n.0) ++ tail)) last_is in
-      ap (λ (l : List ℕ). new ++ branches names T inner prefix l) (drop_nodes ns (i + 1) ∙ ap (λ (l : List Node). node_numbers l) (sym others))
-      ∙ ap (λ (l : List ℕ). l ++ tail) (new_is ∙ append_assoc out line (inner (prefix ++ stem is_last) n.0))
-      ∙ append_assoc out (line ++ inner (prefix ++ stem is_last) n.0) tail
-      ∙ whole_is ∙ ap (λ (l : List ℕ). out ++ branches names T inner prefix l) (sym left) ∙ so_far
+  one_more ns i left n stemmed below out mid new whole left_is b same grown so_far =
+      let here : drop i (node_numbers ns) ≡ n ∷ b.rest = drop_nodes ns i ∙ ap (λ (l : List Node). node_numbers l) (sym left_is) ∙ b.first in
+      let next : drop (i + 1) (node_numbers ns) ≡ b.rest = drop_next (node_numbers ns) i n b.rest here in
+      let is_last : Bool = length b.rest == 0 in
+      let line : List ℕ = (prefix ++ branch is_last) ++ node_line names T n in
+      let under : List ℕ = inner (prefix ++ stem is_last) n in
+      let tail : List ℕ = branches names T inner prefix b.rest in
+      let new_is : new ≡ (out ++ line) ++ under = grown ∙ ap (λ (l : List ℕ). l ++ inner below n) b.drawn ∙ ap (λ (s : List ℕ). (out ++ line) ++ inner s n) (same ∙ b.stemmed_is) in
+      ap (λ (l : List ℕ). new ++ branches names T inner prefix l) next ∙ ap (λ (l : List ℕ). l ++ tail) (new_is ∙ append_assoc out line under) ∙ append_assoc out (line ++ under) tail
+      ∙ ap (λ (l : List ℕ). out ++ branches names T inner prefix l) (sym here) ∙ so_far
+
+-- the nodes from a place on
+pub from_on : (s items : List Node) (i : ℕ) → s ≡ items → take (length s - i) (drop i s) ≡ drop i items
+from_on s items i e = take_all (length s - i) (drop i s) (omega (arith, length-drop i s)) ∙ ap (drop i) e
 
 -- no level is drawn
 pub none_drawn : (names : NameBook) (T : List NodeRow) (levels : ℕ) (prefix : List ℕ) (p : ℕ) (out : List ℕ) → levels ≡ 0 → out ≡ out ++ drawn names T levels prefix p

@@ -1,5 +1,5 @@
 -- A tree drawn as text: a line for each node, below its parent, behind lines and corners.
-use Rattle.std.specs.Prelude.{ℕ, zero, suc, Bool, true, false, if◌then◌else◌, ◌&&◌, ◌||◌, ◌==◌, not, List, [], ◌∷◌, ◌++◌, length, map, codes, decimal}
+use Rattle.std.specs.Prelude.{◌≡◌, ℕ, zero, suc, Bool, true, false, if◌then◌else◌, ◌&&◌, ◌||◌, ◌==◌, not, List, [], ◌∷◌, ◌++◌, length, map, codes, decimal}
 use Rattle.std.specs.List.{flat_map}
 use Rattle.teb_names.specs.declared.ControlKind.{ControlKind}
 use Rattle.teb_names.specs.declared.ControlKind.TheVariants.{Locks, Pipeline, Timestamp, Snapshot}
@@ -58,6 +58,13 @@ module _ (names : NameBook) where
   module _ (T : List NodeRow) where
     abbrev pub node_line : ℕ → List ℕ
     node_line n = line_text (node_words n (row T n))
+
+    -- the first of some nodes with the same parent is drawn; the stem goes before the lines below it
+    pub record IsBranch (nodes prefix old new : List ℕ) (n : ℕ) (stemmed : List ℕ) : Type 0 where
+      pub rest : List ℕ
+      pub first : nodes ≡ n ∷ rest
+      pub drawn : new ≡ old ++ ((prefix ++ branch (length rest == 0)) ++ node_line n)
+      pub stemmed_is : stemmed ≡ prefix ++ stem (length rest == 0)
 
     -- nodes with the same parent, each with what is below it; `inner` draws that
     abbrev pub branches : (List ℕ → ℕ → List ℕ) → List ℕ → List ℕ → List ℕ

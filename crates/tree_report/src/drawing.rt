@@ -4,7 +4,7 @@ ghost use Rattle.std.specs.Prelude.{◌≡◌, ◌++◌, ◌<◌, IfOk, OnOk, le
 ghost use Rattle.std.specs.List.{All};
 ghost use Rattle.cc_tree.specs.Grown.{node_numbers, row_of};
 ghost use Rattle.teb_rules.specs.Accepted.{is_child_of};
-ghost use Rattle.tree_report.specs.Drawing.{branch, children, one_child, drawing, drawn, node_line, stem};
+ghost use Rattle.tree_report.specs.Drawing.{IsBranch, branch, children, one_child, drawing, drawn, node_line, stem};
 
 use crate::node_line::put_node;
 use cc_tree::{NodeRow, Tree};
@@ -54,29 +54,59 @@ fn put_below(
     }
     let nodes = children(alloc, tree, node)?;
     for i in 0..nodes.len() {
-        let is_last = nodes[i + 1..].is_empty();
-        put_branch(out, names, tree, nodes[i], prefix, is_last)?;
-        let stem = joined(alloc, prefix, stem(is_last))?;
-        put_below(alloc, out, names, tree, nodes[i], &stem, levels - 1)?;
+        let drawn = put_branch(alloc, out, names, tree, &nodes[i..], prefix)?;
+        put_below(alloc, out, names, tree, drawn.node, &drawn.stem, levels - 1)?;
     }
     Ok(())
 }
 
-/// Appends the line of a node after a prefix and its branch.
+/// A node whose line is drawn, and what goes before the lines below it.
+#[derive(Drop)]
+struct DrawnNode {
+    node: Node,
+    stem: Vec<u8>,
+}
+
+/// Appends the line of the first of some nodes with the same parent.
 fn put_branch(
+    alloc: Global,
+    out: &mut Vec<u8>,
+    names: &NameBook,
+    tree: &Tree,
+    nodes: &[Node],
+    prefix: &[u8],
+) -> Result<DrawnNode, AllocError>
+    requires some { 0 < length nodes.now }
+    requires within { All (λ n. n.0 < length tree.now.rows) nodes.now }
+    ensures { IfOk result (λ b. IsBranch names.now tree.now.rows (node_numbers nodes.now) prefix.now out.old.items out.new.items b.node.0 b.stem.items) }
+{
+    match nodes {
+        [node, rest @ ..] => {
+            let stem = put_one(alloc, out, names, tree, *node, rest.is_empty(), prefix)?;
+            Ok(DrawnNode { node: *node, stem })
+        }
+        [] => unreachable!(),
+    }
+}
+
+/// Appends the line of a node after a prefix and its branch. Returns what goes before the lines below it.
+fn put_one(
+    alloc: Global,
     out: &mut Vec<u8>,
     names: &NameBook,
     tree: &Tree,
     node: Node,
-    prefix: &[u8],
     is_last: bool,
-) -> Result<(), AllocError>
+    prefix: &[u8],
+) -> Result<Vec<u8>, AllocError>
     requires { node.0 < length tree.now.rows }
-    ensures { OnOk result (out.new.items ≡ out.old.items ++ ((prefix.now ++ branch is_last) ++ node_line names.now tree.now.rows node.0)) }
+    ensures drawn { OnOk result (out.new.items ≡ out.old.items ++ ((prefix.now ++ branch is_last) ++ node_line names.now tree.now.rows node.0)) }
+    ensures stem { IfOk result (λ v. v.items ≡ prefix.now ++ stem is_last) }
 {
     out.extend_from_slice(prefix)?;
     out.extend_from_slice(branch(is_last).as_bytes())?;
-    put_node(out, names, tree, node)
+    put_node(out, names, tree, node)?;
+    joined(alloc, prefix, stem(is_last))
 }
 
 /// The nodes below a node, in ascending number.

@@ -11,7 +11,7 @@ pub loop-n-init : goal.loop-n-init
 unfolding below
 loop-n-init c = record {
   nodes = ap (λ (l : List Node). node_numbers l) c.new-nodes.ensures.items;
-  within = subst (All (λ (m : Node). m.0 < length c.args.tree.now.rows)) (sym c.new-nodes.ensures.items) tt;
+  within = subst (All (λ (m : Node). m.0 < length c.args.tree.now.rows)) (sym c.new-nodes.ensures.items) (λ k d low. absurd (omega (arith, low)));
 }
 
 pub loop-n-preserved : goal.loop-n-preserved
