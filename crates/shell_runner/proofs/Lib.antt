@@ -1,5 +1,5 @@
 pub mod Replied
 pub mod Going
 pub mod FewLines
-pub mod Asking
+pub mod Brought
 pub mod Shown

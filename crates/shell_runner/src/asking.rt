@@ -64,14 +64,14 @@ fn read_asked<H: Host>(
     ensures brings { IfOk result (λ asked. (file : List ℕ) × Brings asked.asks file × (reader.new ≡ file ++ reader.old)) }
     ensures memory { IfErr result (λ status. status ≡ 8) }
 {
-    match asked(alloc, host, names, format, reader, line) {
+    match parsed(alloc, host, names, format, reader, line) {
         Ok(asked) => Ok(asked),
         Err(_) => Err(OUT_OF_MEMORY),
     }
 }
 
 /// What a line asks, and the file that it names.
-fn asked<H: Host>(
+fn parsed<H: Host>(
     alloc: Global,
     host: &mut H,
     names: &NameBook,

@@ -1,6 +1,6 @@
 use Rattle.std.proofs.Common.{sym, subst}
 use Rattle.line_reader.specs.Lines.{TakesLine, ahead}
-use Rattle.shell_runner.proofs.Asking.{asks_next}
+use Rattle.shell_runner.proofs.Brought.{asks_next}
 use Rattle.shell_runner.proofs.asking.next_asked.Goals as goal
 
 pub returns-clause-next : goal.returns-clause-next

@@ -1,5 +1,5 @@
 use Rattle.std.proofs.Common.{refl}
-use Rattle.shell_runner.proofs.Asking.{file_read, no_file}
+use Rattle.shell_runner.proofs.Brought.{file_read, no_file}
 use Rattle.shell_runner.proofs.files.bring_file.Goals as goal
 
 pub returns-in-Read : goal.returns-in-Read

@@ -1,4 +1,4 @@
-use Rattle.shell_runner.proofs.Asking.{lines_put}
+use Rattle.shell_runner.proofs.Brought.{lines_put}
 use Rattle.shell_runner.proofs.files.put_lines.Goals as goal
 
 pub returns : goal.returns
