@@ -1,5 +1,5 @@
 -- What an engine's replies and final rows name has a name.
-use Rattle.std.proofs.Common.{◌≡◌, ℕ, ◌<◌, List, [], ◌∷◌, length, reverse, Some, sym, ap, ◌∙◌, subst, ℤ}
+use Rattle.std.proofs.Common.{◌≡◌, ℕ, zero, suc, ◌<◌, arith, get_or, List, [], ◌∷◌, length, reverse, Some, sym, ap, ◌∙◌, subst, ℤ}
 use Rattle.std.specs.Prelude.{All}
 use Rattle.std.proofs.lemmas.List.{reverse-append}
 use Rattle.std.proofs.lemmas.List.Elements.{All-append}
@@ -89,10 +89,14 @@ module _ (X : Store) (names : NameBook) (nodes : length X.setup.tree ≡ length 
   event_named (event.Gone t c) h = cause_named X names nodes tables c h
   event_named (event.Told t) h = h
 
+  one_named : (ev : Event) → EventNamed names ev → (k : ℕ) (d : Event) → k < length (ev ∷ []) → EventNamed names (get_or (ev ∷ []) k d)
+  one_named ev h zero d low = h
+  one_named ev h (suc k) d low = absurd (omega (arith, low))
+
   all_named : (H : List Event) → AllWithin X H → All (EventNamed names) (reverse H)
-  all_named [] h = tt
+  all_named [] h = λ k d low. absurd (omega (arith, low))
   all_named (ev ∷ P) h =
-      subst (All (EventNamed names)) (sym (reverse-append (ev ∷ []) P)) (All-append (EventNamed names) (reverse P) (ev ∷ []) (all_named P h.1) (event_named ev h.0, tt))
+      subst (All (EventNamed names)) (sym (reverse-append (ev ∷ []) P)) (All-append (EventNamed names) (reverse P) (ev ∷ []) (all_named P h.1) (one_named ev (event_named ev h.0)))
 
 -- the events of a history, where each node has a name
 pub events_named : (e : EngineModel) (s : Setup) → store_of s ≡ e.store → s.names ≡ e.names → IsWhole (setup_view s) → IsOfEngine e → length e.store.setup.tree ≡ length e.names.nodes → All (EventNamed e.names) (reverse e.events)
