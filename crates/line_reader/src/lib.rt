@@ -1,7 +1,7 @@
 //! The lines of a source, read one at a time: a line is answered before the next one is read.
 #![tactic(auto)]
 
-ghost use Rattle.std.specs.Prelude.{◌≡◌, ◌≢◌, [], ◌∷◌, ◌++◌, ◌≤◌, IfOk, IfSome, IsErrOf, length, MatchOption, OnOk};
+ghost use Rattle.std.specs.Prelude.{◌≡◌, ◌≢◌, [], ◌∷◌, ◌++◌, ◌≤◌, IfErr, IfOk, IfSome, IsErrOf, length, MatchOption, OnOk};
 ghost use Rattle.std.specs.Io.KnownBytes.{Consumes, IsAtEnd};
 ghost use Rattle.teb_io.specs.Faults.{Rose};
 ghost use Rattle.line_reader.specs.Lines.{ahead, IsFirstFeed, IsLine, TakesNext};
@@ -58,6 +58,8 @@ impl LineReader {
         ensures taken { IfOk result (TakesNext (ahead self.old (S.left source.old)) (ahead self.new (S.left source.new))) }
         ensures short { IfOk result (λ o. IfSome o (λ line. length line.items ≤ MOST_LINE_BYTES)) }
         ensures fault { IsErrOf result ReadError.ReadFault → Rose (S.faults source.old) (S.faults source.new) }
+        ensures no_fault { OnOk result (S.faults source.new ≡ S.faults source.old) }
+        ensures no_other_fault { IfErr result (λ e. (e ≡ ReadError.ReadFault → ⊥) → S.faults source.new ≡ S.faults source.old) }
         ensures later { S.faults source.old ≤ S.faults source.new }
     {
         let line = match self.read_line(alloc, source)? {
@@ -77,6 +79,8 @@ impl LineReader {
         ensures kept { OnOk result (Consumes (ahead self.old (S.left source.old)) (ahead self.new (S.left source.new)) []) }
         ensures found { IfOk result (λ o. MatchOption o (IsLine self.new × IsAtEnd (S.left source.new) × (length self.new ≤ MOST_LINE_BYTES)) (IsFirstFeed self.new)) }
         ensures fault { IsErrOf result ReadError.ReadFault → Rose (S.faults source.old) (S.faults source.new) }
+        ensures no_fault { OnOk result (S.faults source.new ≡ S.faults source.old) }
+        ensures no_other_fault { IfErr result (λ e. (e ≡ ReadError.ReadFault → ⊥) → S.faults source.new ≡ S.faults source.old) }
         ensures later { S.faults source.old ≤ S.faults source.new }
     {
         let mut piece = [0; PIECE];
