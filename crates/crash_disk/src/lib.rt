@@ -11,6 +11,7 @@ mod mem_disk;
 mod memory;
 mod renew;
 mod room;
+mod spare;
 
 pub use call::Call;
 pub use counter::Counter;
@@ -19,3 +20,4 @@ pub use log::Log;
 pub use memory::MemDisk;
 pub use renew::Renew;
 pub use room::{RESERVED_BYTES, RESERVED_CALLS, Room};
+pub use spare::Memory;
