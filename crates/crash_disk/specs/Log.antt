@@ -10,10 +10,12 @@ pub data Step : Type 0 where
   Wrote : ℕ → List ℕ → Step
   Synced : Step
 
--- what contracts see of a log: its steps, the first one first, and how much it may hold
+-- what contracts see of a log: its steps, the first one first, how much it may hold, and for how many steps and bytes in all it surely has memory
 pub record Logged : Type 0 where
   pub steps : List Step
   pub room : Room
+  pub sure_calls : ℕ
+  pub sure_bytes : ℕ
 
 -- the bytes of the writes stand one after the other
 abbrev pub steps : List Call → List ℕ → List Step

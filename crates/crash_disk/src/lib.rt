@@ -36,6 +36,7 @@ mod mem_disk;
 mod memory;
 mod renew;
 mod room;
+mod spare;
 
 pub use call::Call;
 pub use counter::Counter;
@@ -44,3 +45,4 @@ pub use log::Log;
 pub use memory::MemDisk;
 pub use renew::Renew;
 pub use room::{RESERVED_BYTES, RESERVED_CALLS, Room};
+pub use spare::Memory;
