@@ -1,6 +1,7 @@
 //! Disks that may crash: what a device promises of its bytes, and a disk in memory that tells each image that a crash may leave.
 #![tactic(auto)]
 
+mod asked;
 mod call;
 mod counter;
 mod disk;
