@@ -23,6 +23,11 @@ steps [] data_ = []
 steps (call.Write at n ∷ cs) data_ = Wrote at (take n data_) ∷ steps cs (drop n data_)
 steps (call.Sync ∷ cs) data_ = Synced ∷ steps cs data_
 
+-- a call with the bytes that it wrote
+abbrev pub step_of : Call → List ℕ → Step
+step_of (call.Write at n) bytes = Wrote at bytes
+step_of call.Sync bytes = Synced
+
 -- how many bytes the writes have
 abbrev pub byte_count : List Step → ℕ
 byte_count [] = 0

@@ -26,6 +26,7 @@
 //! device fails.
 #![tactic(auto)]
 
+mod asked;
 mod call;
 mod counter;
 mod disk;

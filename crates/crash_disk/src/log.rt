@@ -1,10 +1,10 @@
 //! What a disk in memory remembers of its writes and syncs.
 
-ghost use Rattle.std.specs.Prelude.{◌≡◌, ◌+◌, ◌-◌, ◌<◌, ◌≤◌, ◌++◌, ◌∷◌, [], List, ℕ, length, vec_capacity, OnOk, OnErr, IfOk, IsOk, IsTrue, IsFalse};
+ghost use Rattle.std.specs.Prelude.{◌≡◌, ◌+◌, ◌-◌, ◌<◌, ◌≤◌, ◌++◌, ◌∷◌, [], List, ℕ, length, vec_capacity, OnOk, OnErr, IfOk, IsOk, IsTrue, IsFalse, MatchOption, Some, slice_get};
 ghost use Rattle.crash_disk.specs.declared.room.Room.TheVariants.{Reserved, Growing};
 ghost use Rattle.crash_disk.specs.Sizes.{reserved_calls, reserved_bytes};
 ghost use Rattle.crash_disk.specs.Spare.{raised};
-ghost use Rattle.crash_disk.specs.Log.{Step, Wrote, Synced, contents, safe_contents, MayLeave, byte_count, IsOneWriteLess, EndsSynced};
+ghost use Rattle.crash_disk.specs.Log.{Step, Wrote, Synced, contents, safe_contents, MayLeave, byte_count, IsOneWriteLess, EndsSynced, step_of, steps, total};
 
 use crate::image::put;
 use crate::spare::{more_than, widen};
@@ -221,4 +221,54 @@ impl Log {
             }
         }
     }
+
+    /// The number of its calls.
+    pub fn call_count(&self) -> usize
+        ensures { result ≡ length self.now.steps }
+    {
+        self.calls.len()
+    }
+
+    /// The call at a place, with the bytes that it wrote; a sync has none. `None` if there are no more calls than that. It costs a look
+    /// at each later call.
+    pub fn call(&self, place: usize) -> Option<(Call, &[u8])>
+        ensures { MatchOption result (length self.now.steps ≤ place) (λ r. slice_get self.now.steps place ≡ Some (step_of r.0 r.1.now)) }
+    {
+        if place >= self.calls.len() {
+            return None;
+        }
+        let call = self.calls[place];
+        Some((call, bytes_of(call, &self.calls, &self.bytes, place)))
+    }
+}
+
+/// The bytes of the call at a place, of those of all writes; a sync has none.
+fn bytes_of<'a>(call: Call, calls: &[Call], bytes: &'a [u8], place: usize) -> &'a [u8]
+    requires is { slice_get calls.now place ≡ Some call }
+    requires within { place < length calls.now }
+    requires counted { total calls.now ≡ length bytes.now }
+    ensures { slice_get (steps calls.now bytes.now) place ≡ Some (step_of call result.now) }
+{
+    match call {
+        Call::Sync => &[],
+        Call::Write { len, .. } => {
+            let (_, rest) = bytes.split_at(start_of(&calls[place..], bytes.len()));
+            let (piece, _) = rest.split_at(len as usize);
+            piece
+        }
+    }
+}
+
+/// The place of the first byte of some calls whose bytes end at `end`.
+fn start_of(calls: &[Call], end: usize) -> usize
+    requires { total calls.now ≤ end }
+    ensures { result + total calls.now ≡ end }
+{
+    let mut start = end;
+    for call in calls {
+        if let Call::Write { len, .. } = call {
+            start -= *len as usize;
+        }
+    }
+    start
 }
