@@ -45,8 +45,8 @@ returns-then-not-holds-clause-covered c lt =
     let calls : c.len.result ≡ length m.calls.items = search rules in
     let sure = ap (λ (l : Logged). l.sure_calls) c.self.view_is in
     absurd (holds_all m.room c.holds.result _ _ c.holds.ensures c.if-not-holds.true (λ is.
-        let r = i.reserved is in
-        (omega (arith, calls, lt, size.0, r.0, sure), omega arith)))
+    let r = i.reserved is in
+    (omega (arith, calls, lt, size.0, r.0, sure), omega arith)))
 
 pub returns-in_err-push-clause-covered : goal.returns-in_err-push-clause-covered
 returns-in_err-push-clause-covered c lt =

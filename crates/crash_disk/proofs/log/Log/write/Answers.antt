@@ -53,8 +53,8 @@ returns-then-not-holds-clause-covered c lt fits =
     let sure = ap (λ (l : Logged). l.sure_calls) c.self.view_is in
     let sure_bytes = ap (λ (l : Logged). l.sure_bytes) c.self.view_is in
     absurd (holds_all m.room c.holds.result _ _ c.holds.ensures c.if-not-holds.true (λ is.
-        let r = i.reserved is in
-        (omega (arith, calls, lt, size.0, r.0, sure), omega (arith, bytes, fits, size.1, r.1, r.2, sure_bytes))))
+    let r = i.reserved is in
+    (omega (arith, calls, lt, size.0, r.0, sure), omega (arith, bytes, fits, size.1, r.1, r.2, sure_bytes))))
 
 pub returns-in_err-extend_from_slice-clause-covered : goal.returns-in_err-extend_from_slice-clause-covered
 returns-in_err-extend_from_slice-clause-covered c lt fits =
