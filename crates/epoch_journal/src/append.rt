@@ -102,6 +102,13 @@ impl<D: Disk> EpochJournal<D> {
         half_bytes(self.capacity) - self.place.end
     }
 
+    /// The disk.
+    pub fn disk(&self) -> &D
+        ensures { result.now ≡ self.now.disk }
+    {
+        &self.disk
+    }
+
     /// The disk, as it is.
     pub fn into_disk(self) -> D
         ensures disk { result ≡ self.disk }

@@ -122,9 +122,10 @@ impl<E: Recorder, D: Disk> EpochStore<E, D> {
         self.journal.is_stopped()
     }
 
-    /// The number of commits of this epoch that were answered.
+    /// The number of commits of this epoch that were answered: all of them, as long as the disk has not failed.
     pub fn acknowledged(&self) -> u64
-        ensures { result ≡ self.now.journal.acknowledged }
+        ensures count { result ≡ self.now.journal.acknowledged }
+        ensures all { self.now.journal.stopped ≡ false → self.now.journal.acknowledged ≡ length (E.records self.now.engine) }
     {
         self.journal.acknowledged()
     }
@@ -143,6 +144,13 @@ impl<E: Recorder, D: Disk> EpochStore<E, D> {
         ensures { result + self.now.journal.end ≡ half_size self.now.journal.layout.capacity }
     {
         self.journal.left()
+    }
+
+    /// The disk.
+    pub fn disk(&self) -> &D
+        ensures { result.now ≡ self.now.journal.disk }
+    {
+        self.journal.disk()
     }
 
     /// The engine and the journal.
