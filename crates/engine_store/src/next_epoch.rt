@@ -65,6 +65,9 @@ impl<C: Chains, D: Renew> EngineStore<C, D> {
         ensures fault { IfErr result (λ refused. refused.why ≡ errors.DiskFault
             → (refused.store.journal.stopped ≡ true) × Rose (D.faults self.journal.disk) (D.faults refused.store.journal.disk)) }
 
+        // No call of the disk fails for want of memory.
+        ensures memory { MatchResult result (λ o. D.refusals o.0.journal.disk ≡ D.refusals self.journal.disk) (λ refused. D.refusals refused.store.journal.disk ≡ D.refusals self.journal.disk) }
+
         // Whatever epochs are past, the life goes on.
         ensures course { (past : List EngineModel) → IsCourse (record { past = past; present = self.engine })
             → IfOk result (λ o. IsCourse (record { past = past ++ self.engine ∷ []; present = o.0.engine })) }
@@ -117,6 +120,7 @@ fn begin_next<C: Chains, D: Disk>(
     ensures stays { store.old.journal.stopped ≡ true → IsErrOf result errors.Stopped }
     ensures fault { IsErrOf result errors.DiskFault → (store.new.journal.stopped ≡ true) × Rose (D.faults store.old.journal.disk) (D.faults store.new.journal.disk) }
     ensures layout { store.new.journal.layout ≡ store.old.journal.layout }
+    ensures memory { D.refusals store.new.journal.disk ≡ D.refusals store.old.journal.disk }
     ensures any_moment { LeavesOnly D.moment D.left_since store.old.journal.disk store.new.journal.disk
         (TellsCommits store.old.journal.layout store.old.engine.engine.store store.old.engine.engine.events store.old.journal.acknowledged) }
     ensures images { (image : List ℕ) → D.may_leave store.new.journal.disk image
@@ -186,6 +190,7 @@ fn renewed<C: Chains, D: Renew>(
     ensures same { (result.journal.layout ≡ store.journal.layout) × (result.journal.acknowledged ≡ store.journal.acknowledged) × (result.journal.stopped ≡ store.journal.stopped) }
     ensures seen { D.seen result.journal.disk ≡ D.seen store.journal.disk }
     ensures faults { D.faults result.journal.disk ≡ D.faults store.journal.disk }
+    ensures refusals { D.refusals result.journal.disk ≡ D.refusals store.journal.disk }
 {
     match store.renew(alloc) {
         Ok(store) => store,

@@ -95,6 +95,9 @@ impl<C: Chains, D: Disk> EngineStore<C, D> {
         ensures unsure { IsErrOf result errors.Unsure → ((answer self.old.engine.store self.old.engine.events session request).0 ≡ replies.Committed)
             × (self.new.journal.stopped ≡ true) × Rose (D.faults self.old.journal.disk) (D.faults self.new.journal.disk) }
 
+        // No call of the disk fails for want of memory.
+        ensures memory { D.refusals self.new.journal.disk ≡ D.refusals self.old.journal.disk }
+
         // Only a commit touches the disk.
         ensures untouched { IfOk result (λ reply. (reply ≡ replies.Committed → ⊥) → self.new.journal ≡ self.old.journal) }
         ensures four_calls { IfOk result (λ reply. reply ≡ replies.Committed → (D.tally self.old.journal.disk).made + 4 < 2 ^ 64
