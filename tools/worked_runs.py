@@ -22,6 +22,7 @@ A run is a line of the table in runs/FOLDER/README.md. Its columns:
     File     the run is one of ./tebaldi_shell, on a file of this name; the runs of a folder with the same name are made in order, on one file, which is kept
              from run to run. It is empty before the first
     Tree     the tree text of such a run, relative to the folder
+    Reads    the files of the folder that its lines read; they name them from the top of the repository
 
 The commands of README.md are runs too: each line that begins with `$`, with the text below it.
 The last line is `runs: N passed, M failed`.
@@ -122,7 +123,7 @@ def ended(program, words, data=b"", output=None, breaks=False, room=None):
         source = {"input": data} if isinstance(data, bytes) else {"stdin": os.open(data, os.O_RDONLY)}
     sink = open(output, "wb") if output else subprocess.PIPE
     try:
-        ran = subprocess.run([program, *words], stdout=sink, stderr=subprocess.DEVNULL, timeout=SECONDS, **source)
+        ran = subprocess.run([program, *words], cwd=TOP, stdout=sink, stderr=subprocess.DEVNULL, timeout=SECONDS, **source)
         return ran.returncode, ran.stdout or b""
     except subprocess.TimeoutExpired:
         return f"none after {SECONDS} seconds", b""
@@ -255,6 +256,7 @@ def run_on_file(folder, row, used):
     """A run of the shell, without the name of its file."""
     tree = [folder / row["Tree"].strip("`")] if row.get("Tree") else []
     used.update(tree)
+    used.update(folder / it for it in re.findall(r"`([^`]+)`", row.get("Reads", "")))
     name, statuses = row["Run"].strip("`"), [int(it) for it in re.findall(r"\d+", row["Status"])]
     return Run(f"{folder.name}/{name}", tree, statuses, text_of(folder, row, used), inputs_of(folder, row, used)[0])
 

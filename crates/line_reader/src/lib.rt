@@ -19,7 +19,7 @@
 //! **Not claimed**: that a read returns, or when.
 #![tactic(auto)]
 
-ghost use Rattle.std.specs.Prelude.{◌≡◌, ◌≢◌, [], ◌∷◌, ◌++◌, ◌≤◌, IfErr, IfOk, IfSome, IsErrOf, length, MatchOption, OnOk};
+ghost use Rattle.std.specs.Prelude.{◌≡◌, ◌≢◌, [], ◌∷◌, ◌++◌, ◌≤◌, IfErr, IfOk, IfSome, IsErrOf, length, MatchOption, OnErr, OnOk};
 ghost use Rattle.std.specs.Io.KnownBytes.{Consumes, IsAtEnd};
 ghost use Rattle.teb_io.specs.Faults.{Rose};
 ghost use Rattle.line_reader.specs.Lines.{ahead, IsFirstFeed, IsLine, TakesNext};
@@ -40,6 +40,10 @@ const PIECE: usize = 4_096;
 pub struct LineReader {
     bytes: Vec<u8>,
     at: usize,
+    /// How many of the next bytes were put ahead.
+    ahead: usize,
+    /// Whether the last line that was taken was put ahead.
+    was_ahead: bool,
 }
 
 impl Model for LineReader {
@@ -60,7 +64,27 @@ impl LineReader {
         LineReader {
             bytes: Vec::new(alloc),
             at: 0,
+            ahead: 0,
+            was_ahead: false,
         }
+    }
+
+    /// Puts a text before the bytes that are not yet taken. Out of memory, they stay as they were.
+    pub fn put_ahead(&mut self, alloc: Global, text: &[u8]) -> Result<(), AllocError>
+        ensures ok { OnOk result (self.new ≡ text.now ++ self.old) }
+        ensures err { OnErr result (self.new ≡ self.old) }
+    {
+        let mut all = text.to_vec(alloc)?;
+        all.extend_from_slice(self.rest())?;
+        self.bytes = all;
+        self.at = 0;
+        self.ahead = text.len();
+        Ok(())
+    }
+
+    /// True if the last line that was taken was put ahead.
+    pub fn was_ahead(&self) -> bool {
+        self.was_ahead
     }
 
     /// Takes the next line, without its line feed; `None` at the end. A last line without a line feed counts if it is not empty. It
@@ -142,6 +166,8 @@ impl LineReader {
     {
         let line = self.rest()[..len].to_vec(alloc)?;
         self.at += len + 1;
+        self.was_ahead = self.ahead > 0;
+        self.ahead = self.ahead.saturating_sub(len + 1);
         Ok(line)
     }
 
@@ -155,6 +181,8 @@ impl LineReader {
         }
         let line = self.rest().to_vec(alloc)?;
         self.at = self.bytes.len();
+        self.was_ahead = self.ahead > 0;
+        self.ahead = 0;
         Ok(Some(line))
     }
 }

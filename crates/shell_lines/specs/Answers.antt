@@ -13,6 +13,8 @@ use Rattle.script_text.specs.Texts.{line_text, reply_text, rows_text, txn_text}
 use Rattle.shell_lines.specs.declared.line.Checkpoint.{Checkpoint}
 use Rattle.shell_lines.specs.declared.line.Checkpoint.TheVariants as checkpoint
 use Rattle.shell_lines.specs.declared.line.RowRange.{RowRange}
+use Rattle.shell_lines.specs.declared.line.Unable.{Unable}
+use Rattle.shell_lines.specs.declared.line.Unable.TheVariants as unable
 use Rattle.shell_lines.specs.declared.reply.StoreReply.{StoreReply}
 use Rattle.shell_lines.specs.declared.reply.StoreReply.TheVariants.{Reply, Later, Full, Unsure}
 use Rattle.shell_lines.specs.declared.answers.TheConstants.{HELP}
@@ -27,6 +29,16 @@ why_text why.Number = codes "number"
 -- line n of the input is bad
 abbrev pub bad_text : ℕ → LineWhy → List ℕ
 bad_text n w = line_text (codes "bad" ∷ codes "line" ∷ decimal n ∷ why_text w ∷ [])
+
+-- line n of the input can't be obeyed
+abbrev pub unable_word : Unable → List ℕ
+unable_word unable.Unreadable = codes "unreadable"
+unable_word unable.TooLong = codes "too-long"
+unable_word unable.Nested = codes "nested"
+unable_word unable.ManyRows = codes "many-rows"
+
+abbrev pub unable_text : ℕ → Unable → List ℕ
+unable_text n w = line_text (codes "bad" ∷ codes "line" ∷ decimal n ∷ unable_word w ∷ [])
 
 abbrev pub epoch_text : ℕ → ℕ → ℕ → List ℕ
 epoch_text epoch commits left = line_text (codes "epoch" ∷ decimal epoch ∷ codes "commits" ∷ decimal commits ∷ codes "left" ∷ decimal left ∷ [])

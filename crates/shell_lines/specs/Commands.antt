@@ -22,6 +22,11 @@ dot_of w =
     else if bytes_eq w (codes ".checkpoint") then Some dot.Checkpoint
     else if bytes_eq w (codes ".tables") then Some dot.Tables
     else if bytes_eq w (codes ".types") then Some dot.Types
+    else if bytes_eq w (codes ".tree") then Some dot.Tree
+    else if bytes_eq w (codes ".guarantees") then Some dot.Guarantees
+    else if bytes_eq w (codes ".sessions") then Some dot.Sessions
+    else if bytes_eq w (codes ".dump") then Some dot.Dump
+    else if bytes_eq w (codes ".read") then Some dot.Read
     else if bytes_eq w (codes ".help") then Some dot.Help
     else if bytes_eq w (codes ".quit") then Some dot.Quit
     else None
@@ -47,6 +52,11 @@ abbrev pub lone : ShellLine → List (List ℕ) → ShellLine
 lone l [] = l
 lone l _ = line.Bad why.Count
 
+-- one word follows
+abbrev pub with_file : List (List ℕ) → ShellLine
+with_file (w ∷ []) = line.Read
+with_file _ = line.Bad why.Count
+
 abbrev pub arguments_of : NameBook → Dot → List (List ℕ) → ShellLine
 arguments_of names dot.Rows ws = of_range (range_of names.tables ws)
 arguments_of names dot.Order ws = lone line.Order ws
@@ -54,6 +64,11 @@ arguments_of names dot.Epoch ws = lone line.Epoch ws
 arguments_of names dot.Checkpoint ws = lone line.Checkpoint ws
 arguments_of names dot.Tables ws = lone line.Tables ws
 arguments_of names dot.Types ws = lone line.Types ws
+arguments_of names dot.Tree ws = lone line.Tree ws
+arguments_of names dot.Guarantees ws = lone line.Guarantees ws
+arguments_of names dot.Sessions ws = lone line.Sessions ws
+arguments_of names dot.Dump ws = lone line.Dump ws
+arguments_of names dot.Read ws = with_file ws
 arguments_of names dot.Help ws = lone line.Help ws
 arguments_of names dot.Quit ws = lone line.Quit ws
 

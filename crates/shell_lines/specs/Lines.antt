@@ -19,6 +19,11 @@ abbrev pub first_byte : List (List ℕ) → ℕ
 first_byte [] = 0
 first_byte (w ∷ ws) = slice_index w 0
 
+-- the word that names a file
+abbrev pub second_word : List (List ℕ) → List ℕ
+second_word (v ∷ w ∷ ws) = w
+second_word _ = []
+
 -- what the lines of a script ask that is one line
 abbrev pub of_script : Result (List Line) ScriptError → ShellLine
 of_script (Ok []) = line.Nothing

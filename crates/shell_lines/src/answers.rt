@@ -3,10 +3,10 @@
 ghost use Rattle.std.specs.Prelude.{◌≡◌, ◌++◌, OnOk, codes, map};
 ghost use Rattle.script_text.specs.Puts.{spaced};
 ghost use Rattle.script_text.specs.Texts.{txn_text};
-ghost use Rattle.shell_lines.specs.Answers.{bad_text, checkpoint_text, epoch_text, help_text, names_text, order_text, why_text};
+ghost use Rattle.shell_lines.specs.Answers.{bad_text, checkpoint_text, epoch_text, help_text, names_text, order_text, unable_text, unable_word, why_text};
 
-use crate::Checkpoint;
-use crate::words::{Word, put_line, put_next};
+use crate::{Checkpoint, Unable};
+use line_words::{Word, put_line, put_next};
 use script_text::LineWhy;
 use std::alloc::AllocError;
 use teb_names::{Names, Txn};
@@ -24,6 +24,32 @@ pub fn put_bad(out: &mut Vec<u8>, number: u64, why: LineWhy) -> Result<(), Alloc
             Word::Text(why_text(why)),
         ],
     )
+}
+
+/// Appends that a line can't be obeyed, and why.
+pub fn put_unable(out: &mut Vec<u8>, number: u64, why: Unable) -> Result<(), AllocError>
+    ensures { OnOk result (out.new.items ≡ out.old.items ++ unable_text number why) }
+{
+    put_line(
+        out,
+        &Word::Text("bad"),
+        &[
+            Word::Text("line"),
+            Word::Natural(number),
+            Word::Text(unable_word(why)),
+        ],
+    )
+}
+
+fn unable_word(why: Unable) -> &'static str
+    ensures { result.now ≡ unable_word why }
+{
+    match why {
+        Unable::Unreadable => "unreadable",
+        Unable::TooLong => "too-long",
+        Unable::Nested => "nested",
+        Unable::ManyRows => "many-rows",
+    }
 }
 
 fn why_text(why: LineWhy) -> &'static str
@@ -72,7 +98,7 @@ pub fn put_checkpoint(out: &mut Vec<u8>, checkpoint: Checkpoint) -> Result<(), A
 }
 
 /// Appends the serial order.
-#[tactic(auto, using(crate::proofs::Joined::one_line))]
+#[tactic(auto, using(line_words::proofs::Joined::one_line))]
 pub fn put_order(out: &mut Vec<u8>, order: &[Txn]) -> Result<(), AllocError>
     ensures { OnOk result (out.new.items ≡ out.old.items ++ order_text order.now) }
 {
@@ -138,6 +164,11 @@ S prepare | commit | abort   ends the transaction, or makes sure that it can com
 .checkpoint                  begins the next epoch
 .tables                      shows the tables
 .types                       shows the types of transactions
+.tree                        draws the tree
+.guarantees                  shows what the tree guarantees
+.sessions                    shows the open transactions, and who waits for whom
+.dump                        shows a tree text that opens as this store
+.read FILE                   reads the lines of a file
 .help                        shows this
 .quit                        ends
 ";

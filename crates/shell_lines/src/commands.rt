@@ -5,7 +5,7 @@ ghost use Rattle.std.specs.Str.{bytes_eq};
 ghost use Rattle.script_text.specs.Grammar.{number_at};
 ghost use Rattle.script_text.specs.Words.{nows};
 ghost use Rattle.teb_names.specs.Names.{number_of};
-ghost use Rattle.shell_lines.specs.Commands.{arguments_of, command_of, dot_of, lone, range_of, table_at};
+ghost use Rattle.shell_lines.specs.Commands.{arguments_of, command_of, dot_of, lone, range_of, table_at, with_file};
 
 use crate::{RowRange, ShellLine};
 use script_text::{LineWhy, number};
@@ -20,6 +20,11 @@ pub(crate) enum Dot {
     Checkpoint,
     Tables,
     Types,
+    Tree,
+    Guarantees,
+    Sessions,
+    Dump,
+    Read,
     Help,
     Quit,
 }
@@ -53,6 +58,16 @@ fn dot_of(word: &[u8]) -> Option<Dot>
         Some(Dot::Tables)
     } else if is_word(word, b".types") {
         Some(Dot::Types)
+    } else if is_word(word, b".tree") {
+        Some(Dot::Tree)
+    } else if is_word(word, b".guarantees") {
+        Some(Dot::Guarantees)
+    } else if is_word(word, b".sessions") {
+        Some(Dot::Sessions)
+    } else if is_word(word, b".dump") {
+        Some(Dot::Dump)
+    } else if is_word(word, b".read") {
+        Some(Dot::Read)
     } else if is_word(word, b".help") {
         Some(Dot::Help)
     } else if is_word(word, b".quit") {
@@ -81,6 +96,11 @@ fn arguments_of(names: &NameBook, dot: Dot, words: &[&[u8]]) -> ShellLine
         Dot::Checkpoint => lone(ShellLine::Checkpoint, words),
         Dot::Tables => lone(ShellLine::Tables, words),
         Dot::Types => lone(ShellLine::Types, words),
+        Dot::Tree => lone(ShellLine::Tree, words),
+        Dot::Guarantees => lone(ShellLine::Guarantees, words),
+        Dot::Sessions => lone(ShellLine::Sessions, words),
+        Dot::Dump => lone(ShellLine::Dump, words),
+        Dot::Read => with_file(words),
         Dot::Help => lone(ShellLine::Help, words),
         Dot::Quit => lone(ShellLine::Quit, words),
     }
@@ -92,6 +112,16 @@ fn lone(line: ShellLine, words: &[&[u8]]) -> ShellLine
 {
     match words {
         [] => line,
+        _ => ShellLine::Bad(LineWhy::Count),
+    }
+}
+
+/// A line that reads a file, if one word follows.
+fn with_file(words: &[&[u8]]) -> ShellLine
+    ensures { result ≡ with_file (nows words.now) }
+{
+    match words {
+        [_] => ShellLine::Read,
         _ => ShellLine::Bad(LineWhy::Count),
     }
 }

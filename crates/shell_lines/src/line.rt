@@ -22,6 +22,16 @@ pub enum ShellLine {
     Tables,
     /// The names of the types.
     Types,
+    /// The tree, drawn as text.
+    Tree,
+    /// What the tree guarantees.
+    Guarantees,
+    /// The sessions that hold a transaction.
+    Sessions,
+    /// A tree text that opens as this store.
+    Dump,
+    /// The lines of a file, in the place of this one. The line's second word names it.
+    Read,
     /// The lines that there are.
     Help,
     /// The end of the run.
@@ -52,4 +62,17 @@ pub enum Checkpoint {
     Untold(Session),
     /// The rows do not fit the file.
     Full,
+}
+
+/// Why a line that is well formed can't be obeyed.
+#[derive(Clone, Copy)]
+pub enum Unable {
+    /// The file can't be read.
+    Unreadable,
+    /// The file is too long.
+    TooLong,
+    /// The line is itself one of a file that is read.
+    Nested,
+    /// The store has more rows than a tree text may have.
+    ManyRows,
 }

@@ -5,7 +5,7 @@ ghost use Rattle.std.specs.List.{slice_split};
 ghost use Rattle.std.specs.Str.Lines.{strip_carriage_return};
 ghost use Rattle.script_text.specs.Lines.{lines_of};
 ghost use Rattle.script_text.specs.Words.{is_blank, nows, words_of};
-ghost use Rattle.shell_lines.specs.Lines.{asked, first_byte, line_words, shell_line};
+ghost use Rattle.shell_lines.specs.Lines.{asked, first_byte, line_words, second_word, shell_line};
 
 use crate::ShellLine;
 use crate::commands::command_of;
@@ -28,6 +28,24 @@ pub fn parse_line(
         return Ok(command_of(names, &words));
     }
     asked(alloc, names, format, text)
+}
+
+/// Returns the second word of a line, without its line feed; nothing if it has none.
+pub fn second_word(alloc: Global, text: &[u8]) -> Result<Vec<u8>, AllocError>
+    ensures { IfOk result (λ word. word.items ≡ second_word (line_words text.now)) }
+{
+    let words = words_in(alloc, without_return(text))?;
+    second_of(&words).to_vec(alloc)
+}
+
+/// The second of the words; nothing if there is none.
+fn second_of<'a>(words: &[&'a [u8]]) -> &'a [u8]
+    ensures { result.now ≡ second_word (nows words.now) }
+{
+    match words {
+        [_, second, ..] => second,
+        _ => b"",
+    }
 }
 
 /// What a line of a script asks.

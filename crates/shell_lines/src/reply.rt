@@ -3,7 +3,7 @@
 ghost use Rattle.std.specs.Prelude.{◌≡◌, ◌++◌, OnOk, codes};
 ghost use Rattle.shell_lines.specs.Answers.{StoreReplyNamed, reply_line, short_line};
 
-use crate::words::{Word, put_line};
+use line_words::{Word, put_line};
 use std::alloc::AllocError;
 use teb_names::{NameBook, Reply, Session};
 

@@ -6,7 +6,7 @@ ghost use Rattle.script_text.specs.Texts.{row_text, rows_text};
 ghost use Rattle.shell_lines.specs.Answers.{at_most, is_of_table, is_selected, row_word, shown_rows};
 
 use crate::RowRange;
-use crate::words::{Word, put_line};
+use line_words::{Word, put_line};
 use std::alloc::{AllocError, Global};
 use teb_names::{Cell, NameBook, Table};
 

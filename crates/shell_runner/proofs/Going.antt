@@ -1,12 +1,12 @@
 -- A run goes on by a step, or ends.
 use Rattle.std.proofs.Common.{◌≡◌, ◌≢◌, ℕ, ◌+◌, List, [], ◌∷◌, ◌++◌, length, take, Option, Some, None, Result, Ok, Err, IsTrue, is_some, inl, inr, refl, sym, ap, ◌∙◌, subst, arith, length-append}
-use Rattle.std.specs.Prelude.{◌⊎◌, IfErr, IfOk, IsErr, IsOk, MatchResult}
+use Rattle.std.specs.Prelude.{◌⊎◌, Bool, true, false, if◌then◌else◌, nat_le, IfErr, IfOk, IsErr, IsOk, MatchResult}
 use Rattle.std.proofs.lemmas.Result.{MatchResult-at_err, MatchResult-at_ok}
 use Rattle.std.specs.Io.KnownBytes.{Appends, Consumes, Keeps}
 use Rattle.std.proofs.KnownBytes.{Appends-kept, Appends-nil, Appends-trans, Consumes-nil, prepend_known-nil}
 use Rattle.std.proofs.Math.Seq.{take-append-add}
 use Rattle.teb_io.specs.Bytes.{AppendsFront}
-use Rattle.line_reader.specs.Lines.{TakesLine, ahead}
+use Rattle.line_reader.specs.Lines.{ahead}
 use Rattle.shell_lines.specs.Lines.{shell_line}
 use Rattle.teb_names.specs.declared.Request.{Request}
 use Rattle.teb_names.specs.declared.Request.TheVariants as request
@@ -18,19 +18,21 @@ use Rattle.teb_history.specs.Written.{held_txn, txn_of}
 use Rattle.teb_names.specs.declared.Session.{Session}
 use Rattle.shell_lines.specs.declared.line.ShellLine.{ShellLine}
 use Rattle.shell_lines.specs.Answers.{reply_line}
+use Rattle.shell_lines.specs.declared.line.Unable.{Unable}
 use Rattle.shell_lines.specs.declared.line.ShellLine.TheVariants.{Ask}
 use Rattle.shell_lines.specs.declared.line.ShellLine.TheVariants as line
 use Rattle.shell_lines.specs.declared.reply.StoreReply.{StoreReply}
 use Rattle.shell_lines.specs.declared.reply.StoreReply.TheVariants as reply
 use Rattle.shell_lines.specs.declared.reply.StoreReply.TheVariants.{Later}
 use Rattle.shell_runner.specs.States.{Stored}
-use Rattle.shell_runner.specs.Answers.{HasFailed, IsAnswered, IsAsked, IsBegin, ShowsReply, State, after_reply}
+use Rattle.shell_runner.specs.Answers.{HasFailed, IsAnswered, IsAsked, IsBegin, ShowsReply, State, after_read, after_reply}
 use Rattle.shell_runner.specs.Flows.{after_of}
-use Rattle.shell_runner.specs.Runs.{Answers, Asks, GoesOn, HasEnded, HasRun, IsDone, IsThrough, IsSafely, IsSameOrSafe, StopsAt, TakenBy, said, state_of, Step}
+use Rattle.shell_runner.specs.Runs.{Answers, Asks, AsksNext, Brings, GoesOn, HasEnded, HasRun, IsDone, IsThrough, IsSafely, IsSameOrSafe, StopsAt, TakenBy, said, state_of, Step}
 use Rattle.shell_runner.specs.declared.shell.Shell.{Shell}
 use Rattle.shell_runner.specs.declared.running.Flow.{Flow}
 use Rattle.shell_runner.specs.declared.step.After.{After}
-use Rattle.shell_runner.specs.declared.step.After.TheVariants.{Next, Quit, Stopped}
+use Rattle.shell_runner.specs.declared.step.After.TheVariants.{Bad, Next, Quit, Stopped}
+use Rattle.teb_names.specs.declared.rows.TheConstants.{MOST_ROWS}
 
 -- a prefix of one text more
 pub appends_front : (a b c : Option (List ℕ)) (text more : List ℕ) → Appends a b text → AppendsFront b c more → AppendsFront a c (text ++ more)
@@ -77,6 +79,19 @@ quits n s line.Order text t h = absurd (let p = h.0.1 in cc)
 quits n s line.Epoch text t h = absurd (let p = h.0.1 in cc)
 quits n s line.Tables text t h = absurd (let p = h.0.1 in cc)
 quits n s line.Types text t h = absurd (let p = h.0.1 in cc)
+quits n s line.Tree text t h = absurd (let p = h.0.1 in cc)
+quits n s line.Guarantees text t h = absurd (let p = h.0.1 in cc)
+quits n s line.Sessions text t h = absurd (let p = h.0.1 in cc)
+quits n s line.Dump text t h = absurd (go (nat_le (length h.0.rows) MOST_ROWS) h.0.goes_on)
+  where
+    go : (b : Bool) → Quit ≡ (if b then Next else Bad) → ⊥
+    go true p = absurd (cc)
+    go false p = absurd (cc)
+quits n s line.Read text t h = absurd (go h.0.0 h.0.2)
+  where
+    go : (o : Option Unable) → Quit ≡ after_read o → ⊥
+    go None p = absurd (cc)
+    go (Some why) p = absurd (cc)
 quits n s line.Help text t h = absurd (let p = h.0.1 in cc)
 quits n s line.Quit text t h = refl
 quits n s (line.Bad why) text t h = absurd (let p = h.0.1 in cc)
@@ -115,13 +130,13 @@ writes n s t asks text (Err e) (Err status) now later h w (inr p) = absurd (not_
 
 module _ {T : Type 0} (stored : T → Stored) (safe : T → T → Type 0) (first : Shell T) (left before : Option (List ℕ)) where
   -- one more step was answered, and its text is written
-  pub stepped : (n : ℕ) (s t : Shell T) (mid rest now later : Option (List ℕ)) (line : Option (List ℕ)) (asks : ShellLine) (after : After) → HasRun stored safe first left before n s mid now
-      → Asks (stored s.store) s.format line asks → TakenBy line mid rest → Answers (n + 1) (state_of stored s) asks after (state_of stored t) now later → IsSafely safe s t
+  pub stepped : (n : ℕ) (s t : Shell T) (mid rest now later : Option (List ℕ)) (line : Option (List ℕ)) (asks : ShellLine) (file : List ℕ) (after : After) → HasRun stored safe first left before n s mid now
+      → Asks (stored s.store) s.format line asks → Brings asks file → TakenBy line file mid rest → Answers (n + 1) (state_of stored s) asks after (state_of stored t) now later → IsSafely safe s t
       → HasRun stored safe first left before (n + 1) t rest later
-  stepped n s t mid rest now later line asks after r is takes a between = record {
-    steps = record { line = line; asks = asks; text = a.text } ∷ r.steps;
+  stepped n s t mid rest now later line asks file after r is brings takes a between = record {
+    steps = record { line = line; asks = asks; file = file; text = a.text } ∷ r.steps;
     count = omega (arith, r.count);
-    run = (s, r.run, record { after = after; asks = is; answered = subst (λ (k : ℕ). IsAnswered (k + 1) (state_of stored s) asks a.text after (state_of stored t)) r.count a.answered; safely = between });
+    run = (s, r.run, record { after = after; asks = is; brings = brings; answered = subst (λ (k : ℕ). IsAnswered (k + 1) (state_of stored s) asks a.text after (state_of stored t)) r.count a.answered; safely = between });
     taken = (mid, r.taken, takes);
     written = Appends-trans before now later (said r.steps) a.text r.written a.written;
   }
@@ -141,21 +156,21 @@ module _ {T : Type 0} (stored : T → Stored) (safe : T → T → Type 0) (first
   }
 
   -- a run ends at a step whose text was not written whole, or for want of memory
-  pub stopped : (n : ℕ) (s t : Shell T) (mid rest now later : Option (List ℕ)) (line : Option (List ℕ)) (asks : ShellLine) (status : ℕ) → HasRun stored safe first left before n s mid now
-      → Asks (stored s.store) s.format line asks → TakenBy line mid rest → StopsAt (n + 1) (state_of stored s) asks status (state_of stored t) now later → IsSafely safe s t
+  pub stopped : (n : ℕ) (s t : Shell T) (mid rest now later : Option (List ℕ)) (line : Option (List ℕ)) (asks : ShellLine) (file : List ℕ) (status : ℕ) → HasRun stored safe first left before n s mid now
+      → Asks (stored s.store) s.format line asks → Brings asks file → TakenBy line file mid rest → StopsAt (n + 1) (state_of stored s) asks status (state_of stored t) now later → IsSafely safe s t
       → HasEnded stored safe first left before status t later
-  stopped n s t mid rest now later line asks status r is takes (inl (e, a)) between = record {
-    steps = record { line = line; asks = asks; text = a.text } ∷ r.steps;
+  stopped n s t mid rest now later line asks file status r is brings takes (inl (e, a)) between = record {
+    steps = record { line = line; asks = asks; file = file; text = a.text } ∷ r.steps;
     last = t;
     rest = rest;
-    run = (s, r.run, record { after = a.after; asks = is; answered = subst (λ (k : ℕ). IsAnswered (k + 1) (state_of stored s) asks a.text a.after (state_of stored t)) r.count a.answered; safely = between });
+    run = (s, r.run, record { after = a.after; asks = is; brings = brings; answered = subst (λ (k : ℕ). IsAnswered (k + 1) (state_of stored s) asks a.text a.after (state_of stored t)) r.count a.answered; safely = between });
     taken = (mid, r.taken, takes);
     written = inr (e, appends_front before now later (said r.steps) a.text r.written a.written);
     through = λ d. absurd (not_done status 4 e (omega arith) (omega arith) d);
     same = λ _. refl;
     safely = unmoved safe t;
   }
-  stopped n s t mid rest now later line asks status r is takes (inr (e, kept)) between = record {
+  stopped n s t mid rest now later line asks file status r is brings takes (inr (e, kept)) between = record {
     steps = r.steps;
     last = s;
     rest = mid;
@@ -168,29 +183,31 @@ module _ {T : Type 0} (stored : T → Stored) (safe : T → T → Type 0) (first
   }
 
   -- a line was read, answered and written: the run goes on, or ends
-  pub flowed : (number n : ℕ) (s t : Shell T) (mid rest now later : Option (List ℕ)) (line : List ℕ) (a : Result After ℕ) (f : Result Flow ℕ) → number ≡ n + 1 → HasRun stored safe first left before n s mid now → TakesLine mid rest line
-      → MatchResult a (λ (after : After). Answers number (state_of stored s) (shell_line (stored s.store).names s.format line) after (state_of stored t) now later) (λ (status : ℕ). StopsAt number (state_of stored s) (shell_line (stored s.store).names s.format line) status (state_of stored t) now later)
+  pub flowed : (number n : ℕ) (s t : Shell T) (names : NameBook) (asks : ShellLine) (mid rest now later : Option (List ℕ)) (a : Result After ℕ) (f : Result Flow ℕ) → number ≡ n + 1 → HasRun stored safe first left before n s mid now
+      → names ≡ (stored s.store).names → AsksNext names s.format asks mid rest
+      → MatchResult a (λ (after : After). Answers number (state_of stored s) asks after (state_of stored t) now later) (λ (status : ℕ). StopsAt number (state_of stored s) asks status (state_of stored t) now later)
       → IsSafely safe s t → MatchResult f (λ (flow : Flow). a ≡ Ok (after_of flow)) (λ (status : ℕ). (a ≡ Err status) ⊎ ((a ≡ Ok Stopped) × (status ≡ 15)))
       → MatchResult f (λ (flow : Flow). GoesOn stored safe first left before number flow t rest later) (λ (status : ℕ). HasEnded stored safe first left before status t later)
   unfolding stepped
-  flowed number n s t mid rest now later line a (Ok flow) e r takes m between g =
-      let asks = shell_line (stored s.store).names s.format line in
+  flowed number n s t names asks mid rest now later a (Ok flow) e r called next m between g =
       let step = MatchResult-at_ok (λ (after : After). Answers number (state_of stored s) asks after (state_of stored t) now later) (λ (status : ℕ). StopsAt number (state_of stored s) asks status (state_of stored t) now later) (after_of flow) g m in
+      let is = next.is ∙ ap (λ (b : NameBook). shell_line b s.format next.line) called in
       record {
         n = n + 1;
         rest = rest;
-        has = stepped n s t mid rest now later (Some line) asks (after_of flow) r refl takes (subst (λ (k : ℕ). Answers k (state_of stored s) asks (after_of flow) (state_of stored t) now later) e step) between;
+        has = stepped n s t mid rest now later (Some next.line) asks next.file (after_of flow) r is next.brings next.takes (subst (λ (k : ℕ). Answers k (state_of stored s) asks (after_of flow) (state_of stored t) now later) e step) between;
         on = λ _. (sym e, refl);
         stops = λ ends. inr (inl (quits number (state_of stored s) asks step.text (state_of stored t) (subst (λ (a : After). IsAnswered number (state_of stored s) asks step.text a (state_of stored t)) (ap after_of ends) step.answered)));
       }
-  flowed number n s t mid rest now later line a (Err status) e r takes m between (inl g) =
-      let asks = shell_line (stored s.store).names s.format line in
+  flowed number n s t names asks mid rest now later a (Err status) e r called next m between (inl g) =
       let step = MatchResult-at_err (λ (after : After). Answers number (state_of stored s) asks after (state_of stored t) now later) (λ (status : ℕ). StopsAt number (state_of stored s) asks status (state_of stored t) now later) status g m in
-      stopped n s t mid rest now later (Some line) asks status r refl takes (subst (λ (k : ℕ). StopsAt k (state_of stored s) asks status (state_of stored t) now later) e step) between
-  flowed number n s t mid rest now later line a (Err status) e r takes m between (inr g) =
-      let asks = shell_line (stored s.store).names s.format line in
+      let is = next.is ∙ ap (λ (b : NameBook). shell_line b s.format next.line) called in
+      stopped n s t mid rest now later (Some next.line) asks next.file status r is next.brings next.takes (subst (λ (k : ℕ). StopsAt k (state_of stored s) asks status (state_of stored t) now later) e step) between
+  flowed number n s t names asks mid rest now later a (Err status) e r called next m between (inr g) =
       let step = MatchResult-at_ok (λ (after : After). Answers number (state_of stored s) asks after (state_of stored t) now later) (λ (status : ℕ). StopsAt number (state_of stored s) asks status (state_of stored t) now later) Stopped g.0 m in
-      ended (n + 1) t rest later status (λ p. absurd (omega (arith, g.1, p))) (stepped n s t mid rest now later (Some line) asks Stopped r refl takes (subst (λ (k : ℕ). Answers k (state_of stored s) asks Stopped (state_of stored t) now later) e step) between)
+      let is = next.is ∙ ap (λ (b : NameBook). shell_line b s.format next.line) called in
+      ended (n + 1) t rest later status (λ p. absurd (omega (arith, g.1, p)))
+      (stepped n s t mid rest now later (Some next.line) asks next.file Stopped r is next.brings next.takes (subst (λ (k : ℕ). Answers k (state_of stored s) asks Stopped (state_of stored t) now later) e step) between)
       (λ d. absurd (not_done status 15 g.1 (omega arith) (omega arith) d))
 
 module _ {T : Type 0} (stored : T → Stored) (safe : T → T → Type 0) (first : Shell T) (left before : Option (List ℕ)) where
@@ -200,8 +217,8 @@ module _ {T : Type 0} (stored : T → Stored) (safe : T → T → Type 0) (first
       → IsSafely safe s t → MatchResult a (λ (after : After). (x : ℕ) × (h : HasRun stored safe first left before x t rest later) × IsThrough rest h.steps) (λ (status : ℕ). HasEnded stored safe first left before status t later)
   unfolding stepped
   end_flowed n s t rest now later session (Ok after) r through holds m between =
-      (n + 1, stepped stored safe first left before n s t rest rest now later None (Ask session request.End) after r (session, refl, holds) refl (m (n + 1)) between, one_more_through rest r.steps (record { line = None; asks = Ask session request.End; text = (m (n + 1)).text }) through)
-  end_flowed n s t rest now later session (Err status) r through holds m between = stopped stored safe first left before n s t rest rest now later None (Ask session request.End) status r (session, refl, holds) refl (m (n + 1)) between
+      (n + 1, stepped stored safe first left before n s t rest rest now later None (Ask session request.End) [] after r (session, refl, holds) (inr refl) refl (m (n + 1)) between, one_more_through rest r.steps (record { line = None; asks = Ask session request.End; file = []; text = (m (n + 1)).text }) through)
+  end_flowed n s t rest now later session (Err status) r through holds m between = stopped stored safe first left before n s t rest rest now later None (Ask session request.End) [] status r (session, refl, holds) (inr refl) refl (m (n + 1)) between
 
   -- the same, where the disk has failed too
   pub ends_or_goes_on : (t : Shell T) (rest later : Option (List ℕ)) (a : Result After ℕ) (d : Result (Unit {0}) ℕ)

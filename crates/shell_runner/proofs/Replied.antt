@@ -1,5 +1,5 @@
 -- What stays of a store that is asked, and of one whose next epoch begins.
-use Rattle.std.proofs.Common.{◌≡◌, ℕ, List, Ok, length, sym, ap, ◌∙◌, subst}
+use Rattle.std.proofs.Common.{◌≡◌, ℕ, List, Ok, length, refl, sym, ap, ◌∙◌, subst}
 use Rattle.teb_names.specs.declared.Session.{Session}
 use Rattle.teb_names.specs.declared.Request.{Request}
 use Rattle.teb_names.specs.declared.naming.NameBook.{NameBook}
@@ -9,6 +9,8 @@ use Rattle.store_setup.specs.Sound.{IsNamed}
 use Rattle.store_setup.specs.Stores.{names_of, store_of_view}
 use Rattle.shell_lines.specs.declared.reply.StoreReply.{StoreReply}
 use Rattle.shell_lines.specs.declared.reply.StoreReply.TheVariants.{Reply, Later, Full, Unsure}
+use Rattle.shell_lines.specs.Sessions.{noted}
+use Rattle.shell_lines.specs.declared.waits.Waits.{Waits}
 use Rattle.shell_runner.specs.States.{Stored, HasNodeNames, IsNext, IsOfTree, IsReplied}
 use Rattle.shell_runner.specs.Answers.{HasTurned, IsTold, State, next_number}
 
@@ -39,16 +41,16 @@ replied_of_tree tree s session request a t of h = of_tree_along tree s t (same_t
 pub node_names : (tree : List ℕ) (s : Stored) → IsOfTree tree s → HasNodeNames s
 node_names tree s of = ap (λ (S : Setup). length S.tree) of.setup ∙ of.nodes ∙ sym (ap (λ (n : NameBook). length n.nodes) of.names)
 
-pub told : (s t : State) (session : Session) (request : Request) (a : StoreReply) → IsReplied s.stored session request a t.stored → t.epoch ≡ s.epoch → IsTold s session request a t
-told s t session request (Reply r) h e = (h, e)
-told s t session request Later h e = absurd h
-told s t session request Full h e = (h, e)
-told s t session request Unsure h e = (h, e)
+pub told : (s t : State) (session : Session) (request : Request) (a : StoreReply) → IsReplied s.stored session request a t.stored → t.epoch ≡ s.epoch → t.format ≡ s.format → t.waits ≡ noted s.waits session a → IsTold s session request a t
+told s t session request (Reply r) h e f w = (h, e, f, w)
+told s t session request Later h e f w = absurd h
+told s t session request Full h e f w = (h, e, f, w)
+told s t session request Unsure h e f w = (h, e, f, w)
 
 -- the next epoch has begun under the same tree
 module _ (tree : List ℕ) (s t : Stored) (m : SetupView) (of : IsOfTree tree s) (same : of.view ≡ m) (n : IsNext m s t) where
-  pub turned : (e f : ℕ) → f ≡ next_number e → HasTurned (record { stored = s; epoch = e }) (record { stored = t; epoch = f })
-  turned e f next = record {
+  pub turned : (e f : ℕ) (format : ℕ) (waits : Waits) → f ≡ next_number e → HasTurned (record { stored = s; epoch = e; format = format; waits = waits }) (record { stored = t; epoch = f; format = format; waits = waits })
+  turned e f format waits next = record {
     setup = n.setup ∙ ap (λ (v : SetupView). (store_of_view v).setup) (sym same) ∙ sym of.setup;
     tables = n.tables ∙ ap (λ (v : SetupView). (store_of_view v).tables) (sym same) ∙ sym of.tables;
     names = n.names ∙ ap names_of (sym same) ∙ sym of.names;
@@ -56,6 +58,8 @@ module _ (tree : List ℕ) (s t : Stored) (m : SetupView) (of : IsOfTree tree s)
     events = n.events;
     commits = n.commits;
     epoch = next;
+    format = refl;
+    waits = refl;
   }
 
   pub turned_of_tree : IsOfTree tree t

@@ -1,12 +1,20 @@
 -- How a line is answered.
-use Rattle.std.specs.Prelude.{◌≡◌, ◌⊎◌, ℕ, ◌+◌, ◌-◌, ◌^◌, ℤ, codes, min, List, [], map, IsTrue}
+use Rattle.std.specs.Prelude.{◌≡◌, ◌⊎◌, ℕ, ◌+◌, ◌-◌, ◌^◌, ℤ, codes, min, nat_le, if◌then◌else◌, List, [], length, map, Option, Some, None, IsTrue}
 use Rattle.teb_names.specs.declared.Cell.{Cell}
 use Rattle.teb_names.specs.declared.Session.{Session}
 use Rattle.teb_names.specs.declared.Request.{Request}
 use Rattle.teb_names.specs.declared.Request.TheVariants.{Begin}
 use Rattle.teb_names.specs.declared.Txn.{Txn}
 use Rattle.teb_rules.specs.Ranks.{serial_order}
-use Rattle.shell_lines.specs.Answers.{bad_text, checkpoint_text, epoch_text, help_text, names_text, order_text, reply_line, shown_rows}
+use Rattle.shell_lines.specs.Answers.{bad_text, checkpoint_text, epoch_text, help_text, names_text, order_text, reply_line, shown_rows, unable_text}
+use Rattle.shell_lines.specs.Sessions.{noted, sessions_text}
+use Rattle.shell_lines.specs.declared.waits.Waits.{Waits}
+use Rattle.shell_lines.specs.declared.line.Unable.{Unable}
+use Rattle.shell_lines.specs.declared.line.Unable.TheVariants as unable
+use Rattle.tree_report.specs.Drawing.{drawing}
+use Rattle.tree_report.specs.Guarantees.{AreGuarantees}
+use Rattle.tree_writer.specs.Written.{tree_text}
+use Rattle.teb_names.specs.declared.rows.TheConstants.{MOST_ROWS}
 use Rattle.shell_lines.specs.declared.line.Checkpoint.{Checkpoint}
 use Rattle.shell_lines.specs.declared.line.Checkpoint.TheVariants as checkpoint
 use Rattle.shell_lines.specs.declared.line.RowRange.{RowRange}
@@ -19,10 +27,12 @@ use Rattle.teb_history.specs.Phases.{unfinished}
 use Rattle.shell_runner.specs.declared.step.After.{After}
 use Rattle.shell_runner.specs.declared.step.After.TheVariants.{Next, Bad, Quit, Stopped}
 
--- what the shell knows between two lines: of its store, and the number of the epoch
+-- what the shell knows between two lines: of its store, the number of the epoch, the format of the tree text, and for whom the sessions wait
 pub record State : Type 0 where
   pub stored : Stored
   pub epoch : ℕ
+  pub format : ℕ
+  pub waits : Waits
 
 abbrev pub next_number : ℕ → ℕ
 next_number n = min (n + 1) (2 ^ 64 - 1)
@@ -36,6 +46,8 @@ pub record HasTurned (s t : State) : Type 0 where
   pub events : t.stored.events ≡ []
   pub commits : t.stored.commits ≡ 0
   pub epoch : t.epoch ≡ next_number s.epoch
+  pub format : t.format ≡ s.format
+  pub waits : t.waits ≡ s.waits
 
 abbrev pub IsBegin : Request → Type 0
 IsBegin (Begin spot) = Unit {0}
@@ -48,7 +60,7 @@ MayTurn request s t = (t ≡ s) ⊎ (IsBegin request × HasTurned s t)
 -- a session is answered so: later, where it would begin while the epoch ends, or as the store replies
 abbrev pub IsTold : State → Session → Request → StoreReply → State → Type 0
 IsTold s session request reply.Later t = IsBegin request × (t ≡ s)
-IsTold s session request r t = IsReplied s.stored session request r t.stored × (t.epoch ≡ s.epoch)
+IsTold s session request r t = IsReplied s.stored session request r t.stored × (t.epoch ≡ s.epoch) × (t.format ≡ s.format) × (t.waits ≡ noted s.waits session r)
 
 abbrev pub after_reply : StoreReply → After
 after_reply reply.Unsure = Stopped
@@ -95,6 +107,31 @@ pub record ShowsOrder (s : State) (text : List ℕ) : Type 0 where
   pub serial : map (λ t. t.0) order ≡ serial_order s.stored.store.setup s.stored.events
   pub shown : text ≡ order_text order
 
+-- the tree text with the committed rows, unless they are more than a tree text may have
+abbrev pub dump_text : ℕ → State → List (Cell × ℤ) → List ℕ
+dump_text n s rows = if nat_le (length rows) MOST_ROWS then tree_text s.format s.stored.names s.stored.store.setup.profiles s.stored.store.setup.tree rows else unable_text n unable.ManyRows
+
+abbrev pub after_dump : List (Cell × ℤ) → After
+after_dump rows = if nat_le (length rows) MOST_ROWS then Next else Bad
+
+pub record ShowsDump (n : ℕ) (s : State) (text : List ℕ) (after : After) : Type 0 where
+  pub rows : List (Cell × ℤ)
+  pub final : AreFinalRows s.stored.store s.stored.events rows
+  pub shown : text ≡ dump_text n s rows
+  pub goes_on : after ≡ after_dump rows
+
+-- a file is read, or why it is not
+abbrev pub read_text : ℕ → Option Unable → List ℕ
+read_text n None = []
+read_text n (Some why) = unable_text n why
+
+abbrev pub after_read : Option Unable → After
+after_read None = Next
+after_read (Some why) = Bad
+
+abbrev pub ShowsRead : ℕ → List ℕ → After → Type 0
+ShowsRead n text after = (unread : Option Unable) × (text ≡ read_text n unread) × (after ≡ after_read unread)
+
 -- line n of the input, which changes nothing, shows this text
 abbrev pub Shows : ℕ → State → ShellLine → List ℕ → After → Type 0
 Shows n s line.Nothing text after = (text ≡ []) × (after ≡ Next)
@@ -103,6 +140,11 @@ Shows n s line.Order text after = ShowsOrder s text × (after ≡ Next)
 Shows n s line.Epoch text after = (text ≡ epoch_text s.epoch s.stored.commits s.stored.left) × (after ≡ Next)
 Shows n s line.Tables text after = (text ≡ names_text (codes "table") s.stored.names.tables) × (after ≡ Next)
 Shows n s line.Types text after = (text ≡ names_text (codes "type") s.stored.names.types) × (after ≡ Next)
+Shows n s line.Tree text after = (text ≡ drawing s.stored.names s.stored.store.setup.tree) × (after ≡ Next)
+Shows n s line.Guarantees text after = AreGuarantees s.stored.names.types s.stored.store.setup.tree text × (after ≡ Next)
+Shows n s line.Sessions text after = (text ≡ sessions_text s.stored.events s.stored.names s.waits) × (after ≡ Next)
+Shows n s line.Dump text after = ShowsDump n s text after
+Shows n s line.Read text after = ShowsRead n text after
 Shows n s line.Help text after = (text ≡ help_text) × (after ≡ Next)
 Shows n s line.Quit text after = (text ≡ []) × (after ≡ Quit)
 Shows n s (line.Bad why) text after = (text ≡ bad_text n why) × (after ≡ Bad)

@@ -1,14 +1,15 @@
 -- A run: lines, each answered before the next one is read, and then the ends of the sessions that hold a transaction.
 use Rattle.std.specs.Prelude.{◌≡◌, ◌≢◌, ◌⊎◌, ℕ, ◌+◌, ◌^◌, ◌≤◌, List, [], ◌∷◌, ◌++◌, length, Option, Some, None, IsTrue, is_some}
-use Rattle.std.specs.Io.KnownBytes.{Appends, Consumes, IsAtEnd, Keeps}
+use Rattle.std.specs.Io.KnownBytes.{Appends, Consumes, IsAtEnd, Keeps, prepend_known}
 use Rattle.teb_io.specs.Bytes.{AppendsFront}
 use Rattle.teb_names.specs.declared.Session.{Session}
+use Rattle.teb_names.specs.declared.naming.NameBook.{NameBook}
 use Rattle.teb_names.specs.declared.Request.TheVariants as request
 use Rattle.teb_history.specs.Phases.{held}
 use Rattle.line_reader.specs.Lines.{TakesLine}
 use Rattle.shell_lines.specs.Lines.{shell_line}
 use Rattle.shell_lines.specs.declared.line.ShellLine.{ShellLine}
-use Rattle.shell_lines.specs.declared.line.ShellLine.TheVariants.{Ask, Quit}
+use Rattle.shell_lines.specs.declared.line.ShellLine.TheVariants.{Ask, Quit, Read}
 use Rattle.shell_runner.specs.States.{Stored}
 use Rattle.shell_runner.specs.Answers.{State, IsAnswered}
 use Rattle.shell_runner.specs.declared.shell.Shell.{Shell}
@@ -16,19 +17,24 @@ use Rattle.shell_runner.specs.declared.running.Flow.{Flow}
 use Rattle.shell_runner.specs.declared.running.Flow.TheVariants.{End}
 use Rattle.shell_runner.specs.declared.step.After.{After}
 
--- a line of the input, or none at the end of a session; what it asks; and the text that answers it
+-- a line of the input, or none at the end of a session; what it asks; the text of a file that it brought in its place; and the text that answers it
 pub record Step : Type 0 where
   pub line : Option (List ℕ)
   pub asks : ShellLine
+  pub file : List ℕ
   pub text : List ℕ
 
 abbrev pub state_of : {T : Type 0} → (T → Stored) → Shell T → State
-state_of stored shell = record { stored = stored shell.store; epoch = shell.epoch }
+state_of stored shell = record { stored = stored shell.store; epoch = shell.epoch; format = shell.format; waits = shell.waits }
 
 -- a line asks what its text says; a session that ends holds a transaction
 abbrev pub Asks : Stored → ℕ → Option (List ℕ) → ShellLine → Type 0
 Asks s format (Some line) asks = asks ≡ shell_line s.names format line
 Asks s format None asks = (session : Session) × (asks ≡ Ask session request.End) × IsTrue (is_some (held s.events session.0))
+
+-- only a line that reads a file brings one
+abbrev pub Brings : ShellLine → List ℕ → Type 0
+Brings asks file = (asks ≡ Read) ⊎ (file ≡ [])
 
 -- the shell is as it was, or a crash on the way from the first to the second leaves what it may
 abbrev pub IsSameOrSafe : {T : Type 0} → (T → T → Type 0) → Shell T → Shell T → Type 0
@@ -44,6 +50,7 @@ pub record IsSafely {T : Type 0} (safe : T → T → Type 0) (s t : Shell T) : T
 pub record IsStep {T : Type 0} (stored : T → Stored) (safe : T → T → Type 0) (n : ℕ) (s : Shell T) (step : Step) (t : Shell T) : Type 0 where
   pub after : After
   pub asks : Asks (stored s.store) s.format step.line step.asks
+  pub brings : Brings step.asks step.file
   pub answered : IsAnswered n (state_of stored s) step.asks step.text after (state_of stored t)
   pub safely : IsSafely safe s t
 
@@ -57,15 +64,29 @@ abbrev pub said : List Step → List ℕ
 said [] = []
 said (step ∷ older) = said older ++ step.text
 
--- a step's line is the next one of the known bytes
-abbrev pub TakenBy : Option (List ℕ) → Option (List ℕ) → Option (List ℕ) → Type 0
-TakenBy (Some line) mid rest = TakesLine mid rest line
-TakenBy None mid rest = mid ≡ rest
+-- a line is the next one of the known bytes, and the text of a file that it brings goes before the others
+pub record TakesStep (line file : List ℕ) (mid rest : Option (List ℕ)) : Type 0 where
+  pub after : Option (List ℕ)
+  pub takes : TakesLine mid after line
+  pub brought : rest ≡ prepend_known file after
 
--- their lines are the next ones
+-- the next line asks this, and may bring a file
+pub record AsksNext (names : NameBook) (format : ℕ) (asks : ShellLine) (mid rest : Option (List ℕ)) : Type 0 where
+  pub line : List ℕ
+  pub file : List ℕ
+  pub is : asks ≡ shell_line names format line
+  pub brings : Brings asks file
+  pub takes : TakesStep line file mid rest
+
+-- a step's line, if it has one
+abbrev pub TakenBy : Option (List ℕ) → List ℕ → Option (List ℕ) → Option (List ℕ) → Type 0
+TakenBy (Some line) file mid rest = TakesStep line file mid rest
+TakenBy None file mid rest = mid ≡ rest
+
+-- their lines are the next ones, those of the files that they bring among them
 abbrev pub IsTaken : Option (List ℕ) → Option (List ℕ) → List Step → Type 0
 IsTaken left rest [] = Consumes left rest []
-IsTaken left rest (step ∷ older) = (mid : Option (List ℕ)) × IsTaken left mid older × TakenBy step.line mid rest
+IsTaken left rest (step ∷ older) = (mid : Option (List ℕ)) × IsTaken left mid older × TakenBy step.line step.file mid rest
 
 -- a step asked for the end
 abbrev pub HasQuit : List Step → Type 0

@@ -26,8 +26,11 @@
 //! **Not claimed**: that an input ends. After status 8 the shell may have asked the last line without an answer.
 #![tactic(auto)]
 
+mod asking;
 mod ended;
 mod ends;
+mod files;
+mod host;
 mod requests;
 mod running;
 mod shell;
@@ -37,6 +40,7 @@ mod store;
 mod writing;
 
 pub use ended::Ended;
+pub use host::{FileError, Host};
 pub use running::run;
 pub use shell::Shell;
 pub use store::{ShellStore, TurnError};

@@ -108,6 +108,7 @@ pub(crate) fn ask_store<T: ShellStore>(
     let mut shell = shell;
     match shell.store.ask(alloc, session, request) {
         Ok(reply) => {
+            shell.waits.note(session, &reply);
             let put = put_reply(out, shell.store.names(), session, &reply);
             (shell, after_reply(&reply, put))
         }
@@ -180,6 +181,7 @@ fn turn<T: ShellStore>(
         store,
         epoch,
         format,
+        waits,
     } = shell;
     let (store, turned) = store.next_epoch(alloc, setup);
     let epoch = match turned {
@@ -190,6 +192,7 @@ fn turn<T: ShellStore>(
         store,
         epoch,
         format,
+        waits,
     };
     (shell, turned)
 }

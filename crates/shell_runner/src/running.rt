@@ -1,34 +1,34 @@
 //! The loop over the lines.
 
-ghost use Rattle.std.specs.Prelude.{◌≡◌, ◌≢◌, ◌+◌, ◌<◌, ◌≤◌, ◌^◌, ◌⊎◌, Err, IfErr, IfOk, List, MatchResult, Ok, Option, ℕ, length};
-ghost use Rattle.script_text.specs.Lines.{lines_of};
+ghost use Rattle.std.specs.Prelude.{◌≡◌, ◌≢◌, ◌+◌, ◌≤◌, ◌⊎◌, Err, IfErr, IfOk, List, MatchResult, Ok, Option, ℕ};
 ghost use Rattle.teb_io.specs.Faults.{Rose};
 ghost use Rattle.line_reader.specs.Lines.{ahead};
-ghost use Rattle.shell_lines.specs.Lines.{shell_line};
 ghost use Rattle.shell_runner.specs.States.{IsReady};
-ghost use Rattle.shell_runner.specs.Runs.{Answers, GoesOn, HasEnded, HasRun, IsDone, IsSafely, IsThrough, StopsAt, state_of};
+ghost use Rattle.shell_runner.specs.Runs.{Answers, GoesOn, HasEnded, HasRun, IsSafely, IsThrough, StopsAt, state_of};
 ghost use Rattle.shell_runner.specs.declared.shell.Shell.{Shell as TheShell};
 ghost use Rattle.shell_runner.specs.Flows.{after_of};
 ghost use Rattle.shell_runner.specs.declared.step.After.TheVariants as afters;
-ghost use Rattle.teb_io.specs.declared.source.ReadError.TheVariants as reads;
 
+use crate::asking::{Asked, next_asked};
 use crate::ended::Ended;
 use crate::ends::end_sessions;
-use crate::status::{BAD_LINE, DISK_FAULT, OK, OUT_OF_MEMORY, READ_FAULT, TOO_LONG};
-use crate::step::{After, answer_line};
+use crate::files::show_prompt;
+use crate::status::{BAD_LINE, DISK_FAULT, OK};
+use crate::step::{After, answer};
 use crate::writing::write_step;
-use crate::{Shell, ShellStore};
+use crate::{Host, Shell, ShellStore};
 use line_reader::LineReader;
 use std::alloc::Global;
-use teb_io::{ReadError, Sink, Source};
+use teb_io::{Sink, Source};
 
 /// Reads, answers and writes each line before the next one, until the end of the input or `.quit`; then ends the sessions that hold a
 /// transaction, in ascending number. The status is 0; 3 if a read failed, 4 if a write failed, 5 if a line is too long, 7 if some line was bad and all else
 /// was answered, 8 if memory ran out, 15 if the disk failed.
-pub fn run<T: ShellStore, S: Source, K: Sink>(
+pub fn run<T: ShellStore, H: Host, S: Source, K: Sink>(
     alloc: Global,
     shell: Shell<T>,
     tree: &[u8],
+    host: &mut H,
     input: &mut S,
     out: &mut K,
 ) -> Ended<T>
@@ -37,7 +37,7 @@ pub fn run<T: ShellStore, S: Source, K: Sink>(
     ensures read_fault { result.status ≡ 3 → Rose (S.faults input.old) (S.faults input.new) }
     ensures write_fault { result.status ≡ 4 → Rose (K.faults out.old) (K.faults out.new) }
 {
-    let (shell, lines) = run_lines(alloc, shell, tree, input, out);
+    let (shell, lines) = run_lines(alloc, shell, tree, host, input, out);
     match lines {
         Ok(status) => end_sessions(alloc, shell, tree, status, out),
         Err(status) => Ended { shell, status },
@@ -45,10 +45,11 @@ pub fn run<T: ShellStore, S: Source, K: Sink>(
 }
 
 /// Reads, answers and writes each line, until the end of the input or `.quit`. An `Err` is the status of a run that ends at once.
-fn run_lines<T: ShellStore, S: Source, K: Sink>(
+fn run_lines<T: ShellStore, H: Host, S: Source, K: Sink>(
     alloc: Global,
     shell: Shell<T>,
     tree: &[u8],
+    host: &mut H,
     input: &mut S,
     out: &mut K,
 ) -> (Shell<T>, Result<u8, u8>)
@@ -65,7 +66,7 @@ fn run_lines<T: ShellStore, S: Source, K: Sink>(
     let mut reader = LineReader::new(alloc);
     let mut status = OK;
     for number in 1..u64::MAX {
-        let (next, step) = next_step(alloc, last, tree, number, &mut reader, input, out);
+        let (next, step) = next_step(alloc, last, tree, number, host, &mut reader, input, out);
         last = next;
         match step {
             Ok(Flow::Next) => {}
@@ -87,12 +88,12 @@ pub(crate) enum Flow {
 }
 
 /// Reads, answers and writes the next line. An `Err` is the status of a run that ends at once.
-#[tactic(auto, using(crate::proofs::FewLines::few_lines))]
-fn next_step<T: ShellStore, S: Source, K: Sink>(
+fn next_step<T: ShellStore, H: Host, S: Source, K: Sink>(
     alloc: Global,
     shell: Shell<T>,
     tree: &[u8],
     number: u64,
+    host: &mut H,
     reader: &mut LineReader,
     input: &mut S,
     out: &mut K,
@@ -108,12 +109,20 @@ fn next_step<T: ShellStore, S: Source, K: Sink>(
     ensures reads { S.faults input.old ≤ S.faults input.new }
     ensures writes { K.faults out.old ≤ K.faults out.new }
 {
-    let line = match reader.next_line(alloc, input) {
-        Ok(Some(line)) => line,
+    show_prompt(alloc, host, shell.store.history());
+    let asked = match next_asked(
+        alloc,
+        host,
+        shell.store.names(),
+        shell.format,
+        reader,
+        input,
+    ) {
+        Ok(Some(asked)) => asked,
         Ok(None) => return (shell, Ok(Flow::End)),
-        Err(error) => return (shell, Err(read_status(error))),
+        Err(status) => return (shell, Err(status)),
     };
-    let (shell, after) = take_line(alloc, shell, tree, number, &line, out);
+    let (shell, after) = take_line(alloc, shell, tree, number, asked, out);
     (shell, flow_of(after))
 }
 
@@ -123,21 +132,20 @@ fn take_line<T: ShellStore, K: Sink>(
     shell: Shell<T>,
     tree: &[u8],
     number: u64,
-    line: &[u8],
+    asked: Asked,
     out: &mut K,
 ) -> (Shell<T>, Result<After, u8>)
-    requires ready { IsReady tree.now (T.stored shell.store) }
-    requires line { length (lines_of line.now) < 2 ^ 32 }
+    requires { IsReady tree.now (T.stored shell.store) }
     ensures step { MatchResult result.1
-        (λ after. Answers number (state_of T.stored shell) (shell_line (T.stored shell.store).names shell.format line.now) after (state_of T.stored result.0) (K.written out.old) (K.written out.new))
-        (λ status. StopsAt number (state_of T.stored shell) (shell_line (T.stored shell.store).names shell.format line.now) status (state_of T.stored result.0) (K.written out.old) (K.written out.new)) }
+        (λ after. Answers number (state_of T.stored shell) asked.asks after (state_of T.stored result.0) (K.written out.old) (K.written out.new))
+        (λ status. StopsAt number (state_of T.stored shell) asked.asks status (state_of T.stored result.0) (K.written out.old) (K.written out.new)) }
     ensures ready { IfOk result.1 (λ after. (after ≡ afters.Stopped → ⊥) → IsReady tree.now (T.stored result.0.store)) }
     ensures safe { IsSafely T.safe shell result.0 }
     ensures write_fault { IfErr result.1 (λ status. status ≡ 4 → Rose (K.faults out.old) (K.faults out.new)) }
     ensures writes { K.faults out.old ≤ K.faults out.new }
 {
     let mut text = Vec::new(alloc);
-    let (shell, after) = answer_line(alloc, shell, tree, number, line, &mut text);
+    let (shell, after) = answer(alloc, shell, tree, number, asked, &mut text);
     (shell, write_step(out, after, &text))
 }
 
@@ -151,16 +159,5 @@ fn flow_of(after: Result<After, u8>) -> Result<Flow, u8>
         Ok(After::Quit) => Ok(Flow::End),
         Ok(After::Stopped) => Err(DISK_FAULT),
         Err(status) => Err(status),
-    }
-}
-
-fn read_status(error: ReadError) -> u8
-    ensures fault { result ≡ 3 → error ≡ reads.ReadFault }
-    ensures others { (result ≢ 4) × (IsDone result → ⊥) }
-{
-    match error {
-        ReadError::ReadFault => READ_FAULT,
-        ReadError::TooLong => TOO_LONG,
-        ReadError::OutOfMemory => OUT_OF_MEMORY,
     }
 }

@@ -1,6 +1,9 @@
 //! The shell between two lines.
 
 ghost use Rattle.std.specs.Prelude.{◌≡◌};
+ghost use Rattle.shell_lines.specs.Sessions.{no_waits};
+
+use shell_lines::Waits;
 
 /// The shell between two lines.
 #[derive(Drop)]
@@ -10,17 +13,23 @@ pub struct Shell<T> {
     pub epoch: u64,
     /// The format of the tree text.
     pub format: u8,
+    /// For whom the sessions wait.
+    pub waits: Waits,
 }
 
 impl<T> Shell<T> {
     /// The shell over a store that was opened just now.
     pub fn new(store: T, format: u8) -> Shell<T>
-        ensures { result ≡ record { store = store; epoch = 1; format = format } }
+        ensures store { result.store ≡ store }
+        ensures epoch { result.epoch ≡ 1 }
+        ensures format { result.format ≡ format }
+        ensures waits { result.waits ≡ no_waits }
     {
         Shell {
             store,
             epoch: 1,
             format,
+            waits: Waits::new(),
         }
     }
 }

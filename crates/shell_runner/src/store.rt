@@ -1,8 +1,8 @@
 //! What the shell asks of the store that it stands on.
 
-ghost use Rattle.std.specs.Prelude.{◌≡◌, IfErr, IfOk, OnErr, OnOk, false, map};
+ghost use Rattle.std.specs.Prelude.{◌≡◌, All, IfErr, IfOk, OnErr, OnOk, false, length, map, reverse};
 ghost use Rattle.teb_rules.specs.Ranks.{serial_order};
-ghost use Rattle.script_text.specs.Named.{RowsNamed};
+ghost use Rattle.script_text.specs.Named.{EventNamed, RowsNamed};
 ghost use Rattle.shell_lines.specs.Answers.{StoreReplyNamed};
 ghost use Rattle.shell_lines.specs.declared.reply.StoreReply.TheVariants as replies;
 ghost use Rattle.store_setup.specs.SetupView.{setup_view};
@@ -44,7 +44,15 @@ pub trait ShellStore: Drop {
 
     /// What has happened in this epoch.
     fn history(&self) -> &History
-        ensures { result.now.events ≡ (stored self.now).events };
+        ensures events { result.now.events ≡ (stored self.now).events }
+        ensures named { HasNodeNames (stored self.now) → All (EventNamed (stored self.now).names) (reverse (stored self.now).events) };
+
+    /// What the store is set up with.
+    fn setup(&self) -> &Setup
+        ensures names { result.now.names ≡ (stored self.now).names }
+        ensures profiles { result.now.profiles.items ≡ (stored self.now).store.setup.profiles }
+        ensures tree { result.now.tree.rows ≡ (stored self.now).store.setup.tree }
+        ensures types { length result.now.profiles.items ≡ length result.now.names.types };
 
     /// How many commits of this epoch were answered.
     fn commits(&self) -> u64

@@ -1,6 +1,8 @@
 -- What an engine's replies and final rows name has a name.
-use Rattle.std.proofs.Common.{◌≡◌, ℕ, ◌<◌, List, length, Some, sym, ap, ◌∙◌, subst, ℤ}
+use Rattle.std.proofs.Common.{◌≡◌, ℕ, zero, suc, ◌<◌, arith, get_or, List, [], ◌∷◌, length, reverse, Some, sym, ap, ◌∙◌, subst, ℤ}
 use Rattle.std.specs.Prelude.{All}
+use Rattle.std.proofs.lemmas.List.{reverse-append}
+use Rattle.std.proofs.lemmas.List.Elements.{All-append}
 use Rattle.teb_names.specs.declared.Cell.{Cell}
 use Rattle.teb_names.specs.declared.Node.{Node}
 use Rattle.teb_names.specs.declared.Cause.{Cause}
@@ -12,15 +14,16 @@ use Rattle.teb_names.specs.declared.Session.{Session}
 use Rattle.teb_names.specs.declared.naming.NameBook.{NameBook}
 use Rattle.teb_names.specs.Rows.{row_of}
 use Rattle.teb_history.specs.declared.Event.{Event}
+use Rattle.teb_history.specs.declared.Event.TheVariants as event
 use Rattle.teb_rules.specs.Setup.{Store}
 use Rattle.teb_rules.specs.Answer.{answer}
-use Rattle.teb_laws.specs.Within.{CellWithin, CauseWithin, NodeWithin, ReplyWithin, StaysWithin}
+use Rattle.teb_laws.specs.Within.{AllWithin, CellWithin, CauseWithin, EventWithin, NodeWithin, ReplyWithin, StaysWithin}
 use Rattle.teb_laws.proofs.Within.{stays_within}
 use Rattle.store_setup.specs.declared.Setup.{Setup}
 use Rattle.store_setup.specs.SetupView.{setup_view}
 use Rattle.store_setup.specs.Sound.{IsWhole}
 use Rattle.store_setup.specs.Stores.{store_of}
-use Rattle.script_text.specs.Named.{CauseNamed, CellNamed, NodeNamed, ReplyNamed, RowsNamed}
+use Rattle.script_text.specs.Named.{CauseNamed, CellNamed, EventNamed, NodeNamed, ReplyNamed, RowsNamed}
 use Rattle.engine_core.specs.EngineModel.{EngineModel, IsOfEngine}
 use Rattle.serial_order.specs.Tables.{IsFinalRows}
 use Rattle.serial_order.proofs.Within.{row_within, rows_within}
@@ -71,3 +74,31 @@ final_named e s rows store names whole of final =
     let starts : (x : Cell) (v : ℤ) → row_of e.store.rows x ≡ Some v → CellWithin e.store x =
     subst (λ (X : Store). (x : Cell) (v : ℤ) → row_of X.rows x ≡ Some v → CellWithin X x) store (λ x v. row_within (length s.names.tables) s.rows x v whole.cells) in
     subst (λ (k : ℕ). All (λ (r : Cell × ℤ). r.0.table.0 < k) rows) (same_tables e s store names) (rows_within e.store e.events rows starts (within e of).events final)
+
+-- as many types as names of types
+same_types : (e : EngineModel) (s : Setup) → store_of s ≡ e.store → s.names ≡ e.names → IsWhole (setup_view s) → e.store.setup.types ≡ length e.names.types
+same_types e s store names whole = sym (ap (λ (X : Store). X.setup.types) store) ∙ whole.types ∙ ap (λ (n : NameBook). length n.types) names
+
+module _ (X : Store) (names : NameBook) (nodes : length X.setup.tree ≡ length names.nodes) (tables : X.tables ≡ length names.tables) (types : X.setup.types ≡ length names.types) where
+  event_named : (ev : Event) → EventWithin X ev → EventNamed names ev
+  event_named (event.Began t s k i) h = subst (λ (n : ℕ). k.0 < n) types h
+  event_named (event.Got t x w v) h = cell_named X names nodes tables x h
+  event_named (event.Put t x v) h = cell_named X names nodes tables x h
+  event_named (event.Ready t) h = h
+  event_named (event.Done t) h = h
+  event_named (event.Gone t c) h = cause_named X names nodes tables c h
+  event_named (event.Told t) h = h
+
+  one_named : (ev : Event) → EventNamed names ev → (k : ℕ) (d : Event) → k < length (ev ∷ []) → EventNamed names (get_or (ev ∷ []) k d)
+  one_named ev h zero d low = h
+  one_named ev h (suc k) d low = absurd (omega (arith, low))
+
+  all_named : (H : List Event) → AllWithin X H → All (EventNamed names) (reverse H)
+  all_named [] h = λ k d low. absurd (omega (arith, low))
+  all_named (ev ∷ P) h =
+      subst (All (EventNamed names)) (sym (reverse-append (ev ∷ []) P)) (All-append (EventNamed names) (reverse P) (ev ∷ []) (all_named P h.1) (one_named ev (event_named ev h.0)))
+
+-- the events of a history, where each node has a name
+pub events_named : (e : EngineModel) (s : Setup) → store_of s ≡ e.store → s.names ≡ e.names → IsWhole (setup_view s) → IsOfEngine e → length e.store.setup.tree ≡ length e.names.nodes → All (EventNamed e.names) (reverse e.events)
+events_named e s store names whole of nodes =
+    all_named e.store e.names nodes (same_tables e s store names) (same_types e s store names whole) e.events (within e of).events

@@ -14,6 +14,7 @@ use Rattle.epoch_journal.specs.Layout.{Layout, layout}
 use Rattle.engine_store.specs.Label.{label_of}
 use Rattle.engine_store.specs.Opening.{HasTable}
 use Rattle.engine_store.specs.Telling.{AllTellCommits, TellsCommits}
+use Rattle.shell_lines.specs.Sessions.{no_waits}
 use Rattle.shell_runner.specs.States.{IsReady}
 use Rattle.shell_runner.specs.Runs.{HasEnded}
 use Rattle.shell_runner.specs.declared.shell.Shell.{Shell}
@@ -40,5 +41,6 @@ module _ {D : Type 0} (seen : D → List ℕ) (may_leave : D → List ℕ → Ty
     pub first : Shell (KeptModel D)
     pub epoch : first.epoch ≡ 1
     pub format : first.format ≡ view.format
+    pub waits : first.waits ≡ no_waits
     pub opened : HasOpened capacity tree disk view first.store
     pub ended : HasEnded stored_of (IsSafe seen faults moment left_since) first left before status end now

@@ -51,7 +51,13 @@ impl<D: Renew + Drop> ShellStore for KeptStore<D> {
     }
 
     fn history(&self) -> &History {
-        self.store.engine().history()
+        let engine = self.store.engine();
+        let _setup = engine.setup();
+        engine.history()
+    }
+
+    fn setup(&self) -> &Setup {
+        self.store.engine().setup()
     }
 
     fn commits(&self) -> u64 {

@@ -23,11 +23,13 @@
 #![tactic(auto)]
 
 mod kept_store;
+mod machine;
 mod messages;
 mod serving;
 
 use command_words::words_of;
 use file_disk::{FileDisk, OpenError};
+use machine::Machine;
 use messages::{BAD_WORDS, CANNOT_OPEN, say, tree_fault};
 use output_writer::exit_code;
 use script_text::MOST_BYTES;
@@ -91,9 +93,10 @@ fn run_under(rt: &HostRuntime, alloc: Global, file: &str, tree: &[u8]) -> u8 {
         Err(OpenError::Io(_)) => return say(rt, CANNOT_OPEN, "the file can't be opened"),
         Err(OpenError::OutOfMemory) => return OUT_OF_MEMORY,
     };
+    let mut machine = Machine::new(rt);
     let mut input = StdSource::new(rt.stdin());
     let mut out = StdSink::new(rt.stdout());
-    match serve(alloc, disk, tree, &mut input, &mut out) {
+    match serve(alloc, disk, tree, &mut machine, &mut input, &mut out) {
         Ok(ended) => ended.status,
         Err(why) => refuse(rt, alloc, &why),
     }

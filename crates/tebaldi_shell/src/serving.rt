@@ -12,7 +12,7 @@ use crate::kept_store::KeptStore;
 use chain_pool::PooledChains;
 use crash_disk::Renew;
 use engine_store::{EngineStore, OpenError};
-use shell_runner::{Ended, Shell, run};
+use shell_runner::{Ended, Host, Shell, run};
 use std::alloc::Global;
 use store_setup::Setup;
 use teb_io::{Sink, Source};
@@ -40,10 +40,11 @@ pub enum StartError {
 ///
 /// # Errors
 /// `BadTree` if the text is none of a tree, before the disk is looked at; else why the store can't be opened.
-pub fn serve<D: Renew + Drop, S: Source, K: Sink>(
+pub fn serve<D: Renew + Drop, H: Host, S: Source, K: Sink>(
     alloc: Global,
     disk: D,
     tree: &[u8],
+    host: &mut H,
     input: &mut S,
     out: &mut K,
 ) -> Result<Ended<KeptStore<D>>, StartError>
@@ -62,7 +63,7 @@ pub fn serve<D: Renew + Drop, S: Source, K: Sink>(
     };
     let format = setup.format;
     match opened(alloc, disk, tree, setup) {
-        Ok(store) => Ok(run(alloc, Shell::new(store, format), tree, input, out)),
+        Ok(store) => Ok(run(alloc, Shell::new(store, format), tree, host, input, out)),
         Err(why) => Err(why),
     }
 }

@@ -3,6 +3,8 @@
 //! Each answer is the condition of a law of the crate `guarantees`. If it is true, the guarantee of that law holds of every run over the tree.
 #![tactic(auto)]
 
+mod types;
+
 ghost use Rattle.std.specs.Prelude.{◌≡◌, ◌↔◌, ◌<◌, ℕ, List, length, IsTrue};
 ghost use Rattle.std.specs.List.{All, list_all};
 ghost use Rattle.cc_tree.specs.Grown.{node_numbers, row_of};
@@ -18,6 +20,7 @@ ghost use Rattle.tree_guarantees.specs.Conditions.{Guarantees, IsCondition, Serv
 
 use cc_tree::{NodeRow, Tree};
 use teb_names::{ControlKind, Node, Spot};
+pub use types::type_reads_never_wait;
 
 /// Returns whether the root is a locks or a pipeline node. Then the serial order is the order of the commits.
 pub fn commits_in_order(tree: &Tree) -> bool

@@ -1,0 +1,78 @@
+//! Lines of words, as every text of the shell has them: a space is between two words, and a line feed after the last one.
+#![tactic(auto)]
+
+ghost use Rattle.std.specs.Prelude.{◌≡◌, ◌++◌, ◌∷◌, OnOk, codes, map};
+ghost use Rattle.script_text.specs.Texts.{line_text, name_of};
+ghost use Rattle.script_text.specs.Puts.{spaced};
+ghost use Rattle.line_words.specs.Words.{word_text};
+
+use itoa::Buffer;
+use std::alloc::AllocError;
+use teb_names::{Names, Txn};
+
+/// A word of a line.
+#[derive(Clone, Copy)]
+pub enum Word<'a> {
+    Text(&'a str),
+    /// In decimal.
+    Natural(u64),
+    /// `t` and the number.
+    Txn(Txn),
+    /// In decimal, with its sign if it is negative.
+    Value(i64),
+}
+
+/// Appends a line of words.
+#[tactic(auto, using(crate::proofs::Joined::one_line))]
+pub fn put_line(out: &mut Vec<u8>, first: &Word, rest: &[Word]) -> Result<(), AllocError>
+    ensures { OnOk result (out.new.items ≡ out.old.items ++ line_text (word_text first.now ∷ map word_text rest.now)) }
+{
+    put_word(out, first)?;
+    put_spaced(out, rest)?;
+    out.push(b'\n')?;
+    Ok(())
+}
+
+/// Appends words, each after a space.
+pub fn put_spaced(out: &mut Vec<u8>, words: &[Word]) -> Result<(), AllocError>
+    ensures { OnOk result (out.new.items ≡ out.old.items ++ spaced (map word_text words.now)) }
+{
+    for word in words {
+        put_next(out, word)?;
+    }
+    Ok(())
+}
+
+/// Appends a space and a word.
+pub fn put_next(out: &mut Vec<u8>, word: &Word) -> Result<(), AllocError>
+    ensures { OnOk result (out.new.items ≡ out.old.items ++ (codes " " ++ word_text word.now)) }
+{
+    out.push(b' ')?;
+    put_word(out, word)
+}
+
+/// Appends a word.
+pub fn put_word(out: &mut Vec<u8>, word: &Word) -> Result<(), AllocError>
+    ensures { OnOk result (out.new.items ≡ out.old.items ++ word_text word.now) }
+{
+    match word {
+        Word::Text(text) => out.extend_from_slice(text.as_bytes()),
+        Word::Natural(n) => out.extend_from_slice(Buffer::new().format(*n).as_bytes()),
+        Word::Txn(txn) => {
+            out.push(b't')?;
+            out.extend_from_slice(Buffer::new().format(txn.0).as_bytes())
+        }
+        Word::Value(value) => out.extend_from_slice(Buffer::new().format(*value).as_bytes()),
+    }
+}
+
+/// Returns the name with this number; an empty text if there is none.
+pub fn name_at(names: &Names, number: u8) -> &str
+    ensures { result.now ≡ name_of names.now number }
+{
+    if number < names.len() {
+        names.name(number)
+    } else {
+        ""
+    }
+}

@@ -1,0 +1,100 @@
+//! What the next line asks.
+
+ghost use Rattle.std.specs.Prelude.{◌≡◌, ◌≢◌, ◌<◌, ◌≤◌, ◌^◌, ◌++◌, IfErr, IfOk, List, MatchOption, length, ℕ};
+ghost use Rattle.std.specs.Io.KnownBytes.{IsAtEnd};
+ghost use Rattle.script_text.specs.Lines.{lines_of};
+ghost use Rattle.teb_io.specs.Faults.{Rose};
+ghost use Rattle.teb_io.specs.declared.source.ReadError.TheVariants as reads;
+ghost use Rattle.line_reader.specs.Lines.{ahead};
+ghost use Rattle.shell_lines.specs.Lines.{shell_line};
+ghost use Rattle.shell_runner.specs.Runs.{AsksNext, Brings, IsDone};
+
+use crate::Host;
+use crate::files::bring_file;
+use crate::status::{OUT_OF_MEMORY, READ_FAULT, TOO_LONG};
+use line_reader::LineReader;
+use shell_lines::{ShellLine, Unable, parse_line};
+use std::alloc::{AllocError, Global};
+use teb_io::{ReadError, Source};
+use teb_names::NameBook;
+
+/// What a line asks, and why the file that it names was not read, if so.
+#[derive(Clone, Copy)]
+pub(crate) struct Asked {
+    pub asks: ShellLine,
+    pub unread: Option<Unable>,
+}
+
+/// Reads the next line, and the file that it names. An `Err` is the status of a run that ends at once.
+#[tactic(auto, using(crate::proofs::FewLines::few_lines))]
+pub(crate) fn next_asked<H: Host, S: Source>(
+    alloc: Global,
+    host: &mut H,
+    names: &NameBook,
+    format: u8,
+    reader: &mut LineReader,
+    input: &mut S,
+) -> Result<Option<Asked>, u8>
+    ensures next { IfOk result (λ o. MatchOption o (IsAtEnd (ahead reader.old (S.left input.old)))
+        (λ asked. AsksNext names.now format asked.asks (ahead reader.old (S.left input.old)) (ahead reader.new (S.left input.new)))) }
+    ensures others { IfErr result (λ status. (status ≢ 4) × (IsDone status → ⊥)) }
+    ensures fault { IfErr result (λ status. status ≡ 3 → Rose (S.faults input.old) (S.faults input.new)) }
+    ensures later { S.faults input.old ≤ S.faults input.new }
+{
+    let line = match reader.next_line(alloc, input) {
+        Ok(Some(line)) => line,
+        Ok(None) => return Ok(None),
+        Err(error) => return Err(read_status(error)),
+    };
+    let asked = read_asked(alloc, host, names, format, reader, &line)?;
+    Ok(Some(asked))
+}
+
+/// What a line asks, and the file that it names. An `Err` is the status of a run that ends at once.
+fn read_asked<H: Host>(
+    alloc: Global,
+    host: &mut H,
+    names: &NameBook,
+    format: u8,
+    reader: &mut LineReader,
+    line: &[u8],
+) -> Result<Asked, u8>
+    requires { length (lines_of line.now) < 2 ^ 32 }
+    ensures asks { IfOk result (λ asked. asked.asks ≡ shell_line names.now format line.now) }
+    ensures brings { IfOk result (λ asked. (file : List ℕ) × Brings asked.asks file × (reader.new ≡ file ++ reader.old)) }
+    ensures memory { IfErr result (λ status. status ≡ 8) }
+{
+    match parsed(alloc, host, names, format, reader, line) {
+        Ok(asked) => Ok(asked),
+        Err(_) => Err(OUT_OF_MEMORY),
+    }
+}
+
+/// What a line asks, and the file that it names.
+fn parsed<H: Host>(
+    alloc: Global,
+    host: &mut H,
+    names: &NameBook,
+    format: u8,
+    reader: &mut LineReader,
+    line: &[u8],
+) -> Result<Asked, AllocError>
+    requires { length (lines_of line.now) < 2 ^ 32 }
+    ensures asks { IfOk result (λ asked. asked.asks ≡ shell_line names.now format line.now) }
+    ensures brings { IfOk result (λ asked. (file : List ℕ) × Brings asked.asks file × (reader.new ≡ file ++ reader.old)) }
+{
+    let asks = parse_line(alloc, names, format, line)?;
+    let unread = bring_file(alloc, host, reader, asks, line)?;
+    Ok(Asked { asks, unread })
+}
+
+fn read_status(error: ReadError) -> u8
+    ensures fault { result ≡ 3 → error ≡ reads.ReadFault }
+    ensures others { (result ≢ 4) × (IsDone result → ⊥) }
+{
+    match error {
+        ReadError::ReadFault => READ_FAULT,
+        ReadError::TooLong => TOO_LONG,
+        ReadError::OutOfMemory => OUT_OF_MEMORY,
+    }
+}
