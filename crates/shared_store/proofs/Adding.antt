@@ -1,5 +1,5 @@
 -- What a turn adds to the list.
-use Rattle.std.proofs.Common.{◌≡◌, ◌≢◌, Result, Ok, Err, ℕ, suc, ◌<◌, ◌+◌, List, [], ◌∷◌, ◌++◌, length, All, Bool, false, append-nil, append_assoc, refl, sym, ◌∙◌, ap, subst, arith}
+use Rattle.std.proofs.Common.{◌≡◌, ◌≢◌, Result, Ok, Err, ℕ, suc, List, [], ◌∷◌, ◌++◌, All, append-nil, append_assoc, refl, sym, ◌∙◌, ap, arith}
 use Rattle.teb_names.specs.declared.Reply.{Reply as TheReply}
 use Rattle.teb_names.specs.declared.Reply.TheVariants.{Committed}
 use Rattle.teb_names.specs.declared.Request.{Request}

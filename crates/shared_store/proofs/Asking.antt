@@ -1,5 +1,5 @@
 -- What a call makes of a session.
-use Rattle.std.proofs.Common.{◌≡◌, ◌≢◌, Result, Ok, Err, ℕ, ◌+◌, List, [], ◌∷◌, ◌++◌, Some, append_assoc, refl, sym, ◌∙◌, ap, subst}
+use Rattle.std.proofs.Common.{◌≡◌, ◌≢◌, Result, Ok, Err, ◌+◌, List, ◌++◌, Some, append_assoc, refl, ◌∙◌, ap, subst}
 use Rattle.teb_names.specs.declared.Reply.{Reply as TheReply}
 use Rattle.teb_names.specs.declared.Reply.TheVariants.{Committed}
 use Rattle.teb_names.specs.declared.Request.{Request}
@@ -18,7 +18,7 @@ use Rattle.shared_store.specs.Stages.{Stage}
 use Rattle.shared_store.specs.Lives.{calls_of}
 use Rattle.shared_store.specs.Sharing.{GoesOn, IsAnswered, IsUnasked, seen}
 use Rattle.shared_store.specs.Turning.{Adds, AddsCall, AddsMarks, Finds, TakesTurn}
-use Rattle.shared_store.proofs.Passing.{SeesCall, SeesMarks, sees_call, sees_marks}
+use Rattle.shared_store.proofs.Passing.{sees_call, sees_marks}
 
 -- what a seat finds, by the answer
 module _ (b : Stage) (s : Session) (q : Request) (v w : View LifeEntry Stage) where

@@ -12,7 +12,7 @@ use Rattle.shared_store.specs.declared.error.Failure.{Failure}
 use Rattle.shared_store.specs.declared.error.Failure.TheVariants as failures
 use Rattle.shared_store.specs.declared.server.NoEpoch.{NoEpoch}
 use Rattle.shared_store.specs.Stages.{Stage, IsNextEpoch, asked_at}
-use Rattle.shared_store.specs.Lives.{IsLegalLife, IsShortOf, LeadsTo, Runs, Step, unsure_in}
+use Rattle.shared_store.specs.Lives.{IsLegalLife, IsShortOf, LeadsTo, Runs, unsure_in}
 use Rattle.shared_store.specs.Served.{IsAfterTry, IsAnswered, IsBegun, IsSame, IsServed, IsUnsure, Standing, stage_of}
 use Rattle.shared_store.specs.Holding.{IsLifeOf}
 

@@ -1,5 +1,5 @@
 -- What a session has seen, after a turn.
-use Rattle.std.proofs.Common.{◌≡◌, ℕ, ◌+◌, ◌≤◌, List, [], ◌∷◌, ◌++◌, Option, Some, All, append-nil, append_assoc, refl, sym, ◌∙◌, ap, subst, arith}
+use Rattle.std.proofs.Common.{◌≡◌, ℕ, ◌≤◌, List, [], ◌∷◌, ◌++◌, Option, append-nil, append_assoc, sym, ◌∙◌, ap, subst, arith}
 use Rattle.teb_names.specs.declared.Reply.{Reply}
 use Rattle.teb_names.specs.declared.Request.{Request}
 use Rattle.teb_names.specs.declared.Session.{Session}
@@ -11,7 +11,7 @@ use Rattle.shared_store.specs.declared.session.TheConstants.{MOST_ASKS}
 use Rattle.shared_store.specs.Stages.{Stage, reply_at}
 use Rattle.shared_store.specs.Lives.{IsShortOf, LeadsTo, calls_of}
 use Rattle.shared_store.specs.Known.{Knows, IsFresh}
-use Rattle.shared_store.specs.Turning.{AddsCall, AddsMarks, Finds, TakesTurn}
+use Rattle.shared_store.specs.Turning.{AddsCall, AddsMarks, Finds}
 use Rattle.shared_store.proofs.Calls.{calls_append, marks_none, one_call, others_none}
 use Rattle.shared_store.proofs.Living.{nothing_legal}
 

@@ -1,5 +1,5 @@
 -- What the seat of a session knows.
-use Rattle.std.specs.Prelude.{◌≡◌, ℕ, ◌+◌, ◌≤◌, List, [], ◌∷◌, Some}
+use Rattle.std.specs.Prelude.{◌≡◌, ℕ, ◌+◌, ◌≤◌, [], ◌∷◌, Some}
 use Rattle.turn_lock.specs.declared.view.View.{View}
 use Rattle.shared_store.specs.declared.entry.LifeEntry.{LifeEntry}
 use Rattle.shared_store.specs.declared.session.TheConstants.{MOST_ASKS}

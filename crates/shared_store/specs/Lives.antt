@@ -1,5 +1,5 @@
 -- The one list of a store's whole life, and when it is legal.
-use Rattle.std.specs.Prelude.{◌≡◌, ℕ, suc, ◌==◌, ◌&&◌, Bool, true, false, List, [], ◌∷◌, Option, Some, None, filter}
+use Rattle.std.specs.Prelude.{◌≡◌, ℕ, suc, ◌==◌, ◌&&◌, Bool, false, List, [], ◌∷◌, Option, Some, None, filter}
 use Rattle.teb_names.specs.declared.Reply.{Reply}
 use Rattle.teb_names.specs.declared.Request.{Request}
 use Rattle.teb_names.specs.declared.Session.{Session}

@@ -1,5 +1,5 @@
 -- What a server makes of a request, and of the end of an epoch.
-use Rattle.std.specs.Prelude.{◌≡◌, ℕ, suc, ◌≤◌, Bool, true, false, List, [], Result, Ok, Err}
+use Rattle.std.specs.Prelude.{◌≡◌, ℕ, suc, ◌≤◌, Bool, true, false, List, Result, Ok, Err}
 use Rattle.teb_names.specs.declared.Reply.{Reply}
 use Rattle.teb_names.specs.declared.Reply.TheVariants as replies
 use Rattle.teb_names.specs.declared.Request.{Request}

@@ -1,5 +1,5 @@
 -- What contracts see of a shared store and its sessions, and what a call adds.
-use Rattle.std.specs.Prelude.{◌≡◌, ℕ, ◌+◌, List, [], ◌∷◌, ◌++◌, Option, Some, All}
+use Rattle.std.specs.Prelude.{◌≡◌, ℕ, ◌+◌, List, [], ◌∷◌, ◌++◌, Option, Some}
 use Rattle.teb_names.specs.declared.Reply.{Reply}
 use Rattle.teb_names.specs.declared.Request.{Request}
 use Rattle.short_reply.specs.declared.ShortReply.{ShortReply}

@@ -1,5 +1,5 @@
 -- Where a store stands, and how an epoch follows another.
-use Rattle.std.specs.Prelude.{◌≡◌, ℕ, ℤ, suc, Bool, false, List, [], Some, IsTrue}
+use Rattle.std.specs.Prelude.{◌≡◌, ℕ, ℤ, List, [], Some, IsTrue}
 use Rattle.teb_names.specs.declared.Cell.{Cell}
 use Rattle.teb_names.specs.declared.Reply.{Reply}
 use Rattle.teb_names.specs.declared.Request.{Request}

@@ -47,7 +47,14 @@ impl<S: Server> StoreSession<S> {
             return Err(StoreError::Spent);
         }
         let inside = store.door.lock(rt);
-        let answer = take_turn(rt, alloc, &store.turn, &mut self.seat, self.session, request);
+        let answer = take_turn(
+            rt,
+            alloc,
+            &store.turn,
+            &mut self.seat,
+            self.session,
+            request,
+        );
         drop(inside);
         self.asks += 1;
         match answer {

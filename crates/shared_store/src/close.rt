@@ -32,7 +32,9 @@ impl<S: Server> Store<S> {
         }
         sessions.destroy_empty();
         let Hosted {
-            server, entries, ..
+            server,
+            entries,
+            ..
         } = turn.end(seat);
         (server, Life { entries })
     }

@@ -25,10 +25,7 @@ pub struct StoreSession<S: Server> {
 }
 
 impl<S: Server> StoreSession<S> {
-    pub(crate) fn new(
-        session: Session,
-        seat: Seat<Hosted<S>, LifeEntry, Origin>,
-    ) -> StoreSession<S>
+    pub(crate) fn new(session: Session, seat: Seat<Hosted<S>, LifeEntry, Origin>) -> StoreSession<S>
         requires outside { IsOutside seat }
         requires fresh { IsFresh session.0 (view_of seat) }
         ensures { (result.seat ≡ seat) × (result.session ≡ session) × (result.asks ≡ 0) }

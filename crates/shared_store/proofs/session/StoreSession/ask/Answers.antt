@@ -11,7 +11,7 @@ returns-in-Ok-clause-answered g c =
     let b = base_of c.args.store.now in
     let t = c.take_turn-answer.ensures in
     λ r e. answered b old _ refl refl c.requires.session.1 t.turn c.args.request r
-        (finds_reply b old.session c.args.request old.seat.seat.me.0 c.take_turn-answer.new.seat.seat.me.0 c.take_turn-answer.result c.in-Ok.reply r c.in-Ok.is e t.finds)
+    (finds_reply b old.session c.args.request old.seat.seat.me.0 c.take_turn-answer.new.seat.seat.me.0 c.take_turn-answer.result c.in-Ok.reply r c.in-Ok.is e t.finds)
 
 pub returns-in-Ok-clause-put_off : goal.returns-in-Ok-clause-put_off
 returns-in-Ok-clause-put_off g c =
@@ -19,7 +19,7 @@ returns-in-Ok-clause-put_off g c =
     let b = base_of c.args.store.now in
     let t = c.take_turn-answer.ensures in
     λ n. unasked b old _ refl refl c.requires.session.1 t.turn
-        (finds_put_off b old.session c.args.request old.seat.seat.me.0 c.take_turn-answer.new.seat.seat.me.0 c.take_turn-answer.result c.in-Ok.reply c.in-Ok.is n t.finds)
+    (finds_put_off b old.session c.args.request old.seat.seat.me.0 c.take_turn-answer.new.seat.seat.me.0 c.take_turn-answer.result c.in-Ok.reply c.in-Ok.is n t.finds)
 
 pub returns-in-Unsure-clause-unsure : goal.returns-in-Unsure-clause-unsure
 returns-in-Unsure-clause-unsure g c =
@@ -27,7 +27,7 @@ returns-in-Unsure-clause-unsure g c =
     let b = base_of c.args.store.now in
     let t = c.take_turn-answer.ensures in
     λ _. answered b old _ refl refl c.requires.session.1 t.turn c.args.request Committed
-        (finds_unsure b old.session c.args.request old.seat.seat.me.0 c.take_turn-answer.new.seat.seat.me.0 c.take_turn-answer.result (c.in-Err.is ∙ ap (λ (f : Failure). Err f) c.in-Unsure.is) t.finds)
+    (finds_unsure b old.session c.args.request old.seat.seat.me.0 c.take_turn-answer.new.seat.seat.me.0 c.take_turn-answer.result (c.in-Err.is ∙ ap (λ (f : Failure). Err f) c.in-Unsure.is) t.finds)
 
 pub returns-in-Unasked-clause-unasked : goal.returns-in-Unasked-clause-unasked
 returns-in-Unasked-clause-unasked g c =
@@ -35,4 +35,4 @@ returns-in-Unasked-clause-unasked g c =
     let b = base_of c.args.store.now in
     let t = c.take_turn-answer.ensures in
     λ _ _. unasked b old _ refl refl c.requires.session.1 t.turn
-        (finds_unasked b old.session c.args.request old.seat.seat.me.0 c.take_turn-answer.new.seat.seat.me.0 c.take_turn-answer.result c.in-Unasked.fault (c.in-Err.is ∙ ap (λ (f : Failure). Err f) c.in-Unasked.is) t.finds)
+    (finds_unasked b old.session c.args.request old.seat.seat.me.0 c.take_turn-answer.new.seat.seat.me.0 c.take_turn-answer.result c.in-Unasked.fault (c.in-Err.is ∙ ap (λ (f : Failure). Err f) c.in-Unasked.is) t.finds)
