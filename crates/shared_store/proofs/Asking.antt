@@ -12,7 +12,7 @@ use Rattle.shared_store.specs.declared.error.Failure.TheVariants.{Unasked, Unsur
 use Rattle.shared_store.specs.declared.error.Fault.{Fault}
 use Rattle.shared_store.specs.declared.reply.StoreReply.{StoreReply}
 use Rattle.shared_store.specs.declared.reply.StoreReply.TheVariants.{Reply, Later, Ended}
-use Rattle.shared_store.specs.declared.server.Server.{Ghosts}
+use Rattle.shared_store.specs.declared.server.EpochServer.{Ghosts}
 use Rattle.shared_store.specs.declared.session.StoreSession.{StoreSession}
 use Rattle.shared_store.specs.Stages.{Stage}
 use Rattle.shared_store.specs.Lives.{calls_of}

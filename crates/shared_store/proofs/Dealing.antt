@@ -4,7 +4,7 @@ use mathlib.Core.List.{map-append}
 use Rattle.teb_names.specs.declared.TheConstants.{SESSIONS}
 use Rattle.shared_store.specs.declared.entry.LifeEntry.{LifeEntry}
 use Rattle.teb_history.specs.Phases.{numbers}
-use Rattle.shared_store.specs.declared.server.Server.{Ghosts}
+use Rattle.shared_store.specs.declared.server.EpochServer.{Ghosts}
 use Rattle.turn_lock.specs.declared.view.View.{View}
 use Rattle.turn_lock.specs.declared.turn.Turn.{Turn}
 use Rattle.turn_lock.specs.declared.turn.Seat.{Seat}

@@ -5,7 +5,7 @@ use mathlib.Core.List.{map-append}
 use Rattle.teb_names.specs.declared.TheConstants.{SESSIONS}
 use Rattle.shared_store.specs.declared.entry.LifeEntry.{LifeEntry}
 use Rattle.shared_store.specs.Lives.{calls_of, owner_of}
-use Rattle.shared_store.specs.declared.server.Server.{Ghosts}
+use Rattle.shared_store.specs.declared.server.EpochServer.{Ghosts}
 use Rattle.turn_lock.specs.declared.turn.Turn.{Turn}
 use Rattle.turn_lock.specs.declared.turn.Seat.{Seat}
 use Rattle.turn_lock.specs.declared.member.Member as member

@@ -7,7 +7,7 @@ use Rattle.turn_lock.specs.Calls.{Follows, Enters, Adds}
 use Rattle.turn_lock.proofs.Counts.{same_yes}
 use Rattle.turn_lock.proofs.Lists.{All_map, Some_is}
 use Rattle.shared_store.specs.declared.entry.LifeEntry.{LifeEntry}
-use Rattle.shared_store.specs.declared.server.Server.{Ghosts}
+use Rattle.shared_store.specs.declared.server.EpochServer.{Ghosts}
 use Rattle.shared_store.specs.declared.hosted.Hosted.{Hosted}
 use Rattle.shared_store.specs.Stages.{Stage}
 use Rattle.shared_store.specs.Served.{stage_of}

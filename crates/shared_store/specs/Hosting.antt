@@ -1,7 +1,7 @@
 -- What a turn sees of the server behind it.
 use Rattle.std.specs.Prelude.{ℕ, List}
 use Rattle.shared_store.specs.declared.entry.LifeEntry.{LifeEntry}
-use Rattle.shared_store.specs.declared.server.Server.{Ghosts}
+use Rattle.shared_store.specs.declared.server.EpochServer.{Ghosts}
 use Rattle.shared_store.specs.declared.hosted.Hosted.{Hosted}
 use Rattle.shared_store.specs.Stages.{Stage}
 use Rattle.shared_store.specs.Served.{stage_of}

@@ -7,7 +7,7 @@ use Rattle.turn_lock.specs.Seats.{base_in, view_of, IsOf}
 use Rattle.turn_lock.specs.declared.turn.Turn.{Turn}
 use Rattle.shared_store.specs.declared.entry.LifeEntry.{LifeEntry}
 use Rattle.shared_store.specs.declared.entry.LifeEntry.TheVariants.{Asked}
-use Rattle.shared_store.specs.declared.server.Server.{Ghosts}
+use Rattle.shared_store.specs.declared.server.EpochServer.{Ghosts}
 use Rattle.shared_store.specs.declared.hosted.Hosted.{Hosted}
 use Rattle.shared_store.specs.declared.store.Store.{Store}
 use Rattle.shared_store.specs.declared.session.StoreSession.{StoreSession}

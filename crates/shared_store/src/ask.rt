@@ -10,7 +10,7 @@ ghost use Rattle.shared_store.specs.Sharing.{base_of, IsAnswered, IsSessionOf, I
 
 use crate::error::{Failure, Fault, StoreError};
 use crate::reply::StoreReply;
-use crate::server::Server;
+use crate::server::EpochServer;
 use crate::session::{MOST_ASKS, StoreSession};
 use crate::store::Store;
 use crate::taking::{take_turn, take_turn_to_end};
@@ -18,7 +18,7 @@ use std::alloc::Global;
 use std::sync::Wait;
 use teb_names::{Request, Session};
 
-impl<S: Server> StoreSession<S> {
+impl<S: EpochServer> StoreSession<S> {
     /// Asks the store, at the turn of this session, for which it waits. If the epoch is to end and all transactions have finished, it ends
     /// first, and the request is asked in the next one.
     ///

@@ -9,11 +9,11 @@ ghost use Rattle.shared_store.specs.Sharing.{base_of, IsSessionOf, IsWithin, num
 
 use crate::hosted::Hosted;
 use crate::life::Life;
-use crate::server::Server;
+use crate::server::EpochServer;
 use crate::session::StoreSession;
 use crate::store::Store;
 
-impl<S: Server> Store<S> {
+impl<S: EpochServer> Store<S> {
     /// The server, and the life of the store. It takes back all sessions. Transactions that are unfinished stay so.
     ///
     /// The life leads from the first stage to where the server stands. It begins with what each session has seen, and has no further calls

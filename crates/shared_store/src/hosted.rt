@@ -10,7 +10,7 @@ use crate::entry::LifeEntry;
 use crate::error::{Failure, Fault};
 use crate::origin::Origin;
 use crate::reply::StoreReply;
-use crate::server::{NoEpoch, Server};
+use crate::server::{NoEpoch, EpochServer};
 use short_reply::ShortReply;
 use std::alloc::Global;
 use std::snapshot::Snapshot;
@@ -19,7 +19,7 @@ use turn_lock::Member;
 
 /// A server with its life: an entry for each request that its history has and for each end of an epoch, in order.
 #[derive(Drop)]
-pub struct Hosted<S: Server> {
+pub struct Hosted<S: EpochServer> {
     pub(crate) server: S,
     pub(crate) entries: Vec<LifeEntry>,
     /// The server as it was at first.
@@ -29,7 +29,7 @@ pub struct Hosted<S: Server> {
     ghost life: { IsLifeOf (stage_of 0 (S.standing first.value)) (S.standing server) entries.items },
 }
 
-impl<S: Server> Member for Hosted<S> {
+impl<S: EpochServer> Member for Hosted<S> {
     type Entry = LifeEntry;
 
     type Base = Origin;
@@ -43,7 +43,7 @@ impl<S: Server> Member for Hosted<S> {
     ghost base = { λ h. stage_of 0 (S.standing h.first.value) };
 }
 
-impl<S: Server> Hosted<S> {
+impl<S: EpochServer> Hosted<S> {
     /// A server with an empty list.
     ///
     /// # Errors

@@ -1,6 +1,6 @@
 //! One store for sessions in threads, over epochs without end.
 //!
-//! A [`Store`] has a [`Server`], which answers requests as the rules do, each commit kept before it is answered, in epochs of at most 8,192
+//! A [`Store`] has an [`EpochServer`], which answers requests as the rules do, each commit kept before it is answered, in epochs of at most 8,192
 //! transactions. Its [`StoreSession`]s ask it from threads, one at a time. When the epoch comes to its end, a Begin is answered
 //! [`StoreReply::Later`]; once all transactions have finished, the next session that asks ends the epoch, and asks in the next one.
 //!
@@ -33,6 +33,6 @@ pub use hosted::Hosted;
 pub use life::Life;
 pub use origin::Origin;
 pub use reply::StoreReply;
-pub use server::{NoEpoch, Server};
+pub use server::{NoEpoch, EpochServer};
 pub use session::{MOST_ASKS, StoreSession};
 pub use store::Store;

@@ -9,7 +9,7 @@ ghost use Rattle.shared_store.specs.Served.{stage_of};
 ghost use Rattle.shared_store.specs.Sharing.{base_of, IsNewIn, IsNew, number_of};
 
 use crate::hosted::Hosted;
-use crate::server::Server;
+use crate::server::EpochServer;
 use crate::session::{MOST_ASKS, StoreSession};
 use crate::store::Store;
 use std::alloc::Global;
@@ -17,7 +17,7 @@ use std::sync::Mutex;
 use teb_names::{SESSIONS, Session};
 use turn_lock::{SeatOf, Turn};
 
-impl<S: Server> Store<S> {
+impl<S: EpochServer> Store<S> {
     /// A store over a server, and the sessions 1 to `SESSIONS`, in order. The life of the store begins where the server stands. The server
     /// has no commit that a crash may lose, as one that was just opened.
     ///
@@ -45,7 +45,7 @@ impl<S: Server> Store<S> {
 }
 
 /// Makes a session of each number out of the first seat.
-fn deal_sessions<S: Server>(
+fn deal_sessions<S: EpochServer>(
     turn: &Turn<Hosted<S>>,
     mut seat: SeatOf<Hosted<S>>,
     sessions: &mut Vec<StoreSession<S>>,

@@ -18,7 +18,7 @@ pub enum NoEpoch {
 }
 
 /// What answers requests one after another as the rules do, and keeps each commit before it answers it. It goes on in epochs.
-pub trait Server: Sized {
+pub trait EpochServer: Sized {
     ghost standing: { Self → Standing };
 
     /// Answers a request.

@@ -7,7 +7,7 @@ ghost use Rattle.shared_store.specs.Known.{Knows, IsFresh};
 use crate::entry::LifeEntry;
 use crate::hosted::Hosted;
 use crate::origin::Origin;
-use crate::server::Server;
+use crate::server::EpochServer;
 use teb_names::Session;
 use turn_lock::Seat;
 
@@ -16,7 +16,7 @@ pub const MOST_ASKS: u64 = 1 << 40;
 
 /// The right of one session to ask a store. It knows what it has seen of the store's life, all of its own calls among it.
 #[derive(Drop)]
-pub struct StoreSession<S: Server> {
+pub struct StoreSession<S: EpochServer> {
     pub(crate) seat: Seat<Hosted<S>, LifeEntry, Origin>,
     pub(crate) session: Session,
     pub(crate) asks: u64,
@@ -24,7 +24,7 @@ pub struct StoreSession<S: Server> {
     ghost knows: { Knows session.0 asks (view_of seat) },
 }
 
-impl<S: Server> StoreSession<S> {
+impl<S: EpochServer> StoreSession<S> {
     pub(crate) fn new(session: Session, seat: Seat<Hosted<S>, LifeEntry, Origin>) -> StoreSession<S>
         requires outside { IsOutside seat }
         requires fresh { IsFresh session.0 (view_of seat) }

@@ -8,14 +8,14 @@ ghost use Rattle.shared_store.specs.Turning.{Adds, AddsMarks, Finds, TakesTurn};
 use crate::error::{Failure, Fault};
 use crate::hosted::Hosted;
 use crate::reply::StoreReply;
-use crate::server::Server;
+use crate::server::EpochServer;
 use std::alloc::Global;
 use std::sync::Wait;
 use teb_names::{Request, Session};
 use turn_lock::{SeatOf, Turn};
 
 /// Enters, asks, and leaves.
-pub(crate) fn take_turn<S: Server, R: Wait>(
+pub(crate) fn take_turn<S: EpochServer, R: Wait>(
     rt: &R,
     alloc: Global,
     turn: &Turn<Hosted<S>>,
@@ -38,7 +38,7 @@ pub(crate) fn take_turn<S: Server, R: Wait>(
 }
 
 /// Enters, ends the transaction of another session, and leaves.
-pub(crate) fn take_turn_to_end<S: Server, R: Wait>(
+pub(crate) fn take_turn_to_end<S: EpochServer, R: Wait>(
     rt: &R,
     alloc: Global,
     turn: &Turn<Hosted<S>>,

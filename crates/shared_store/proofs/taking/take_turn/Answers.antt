@@ -11,7 +11,7 @@ leave-requires-clause-adds g c =
       owner = c.requires.owner;
       follows = c.enter-hosted.ensures.follows;
       enters = c.enter-hosted.ensures.enters;
-      grows = adds_grow (stage_of 0 (g.S.Server.standing x.first.value)) c.args.session c.args.request c.ask-hosted.result.1 x.entries.items y.entries.items c.ask-hosted.ensures.adds;
+      grows = adds_grow (stage_of 0 (g.S.EpochServer.standing x.first.value)) c.args.session c.args.request c.ask-hosted.result.1 x.entries.items y.entries.items c.ask-hosted.ensures.adds;
       first = c.ask-hosted.ensures.first;
     }
 
@@ -23,6 +23,6 @@ returns-clause-turn g c =
       owner = c.requires.owner;
       follows = c.enter-hosted.ensures.follows;
       enters = c.enter-hosted.ensures.enters;
-      grows = adds_grow (stage_of 0 (g.S.Server.standing x.first.value)) c.args.session c.args.request c.ask-hosted.result.1 x.entries.items y.entries.items c.ask-hosted.ensures.adds;
+      grows = adds_grow (stage_of 0 (g.S.EpochServer.standing x.first.value)) c.args.session c.args.request c.ask-hosted.result.1 x.entries.items y.entries.items c.ask-hosted.ensures.adds;
       first = c.ask-hosted.ensures.first;
     } c.leave.ensures.view
