@@ -15,7 +15,7 @@ use client::run_client;
 use engine_store::EngineStore;
 use file_disk::FileDisk;
 use serial_order::tables;
-use shared_store::{Life, LifeEntry, EpochServer, Store, StoreSession};
+use shared_store::{EpochServer, Life, LifeEntry, Store, StoreSession};
 use std::alloc::Global;
 use std::env;
 use std::sync::Wait;
@@ -78,7 +78,12 @@ fn run_clients<S: EpochServer + Send, R: Threads + Wait + Clock + Sync>(
     ensures { (i : ℕ) (d : _) → i < length sessions.old → IsSessionOf store.now (slice_index_or sessions.new i d) × ((slice_index_or sessions.new i d).session ≡ (slice_index_or sessions.old i d).session) }
 {
     let threads = sessions.len();
-    thread::for_each_mut(rt, sessions, threads, &|_, session| run_client(rt, alloc, store, session, count));
+    thread::for_each_mut(
+        rt,
+        sessions,
+        threads,
+        &|_, session| run_client(rt, alloc, store, session, count),
+    );
 }
 
 /// Whether there was more than one epoch, and the sum of all balances, which no transfer changes.

@@ -1,5 +1,5 @@
 -- How a store goes on to the next epoch.
-use Rattle.std.proofs.Common.{◌≡◌, Result, Ok, Err, IfErr, IfOk, ℕ, zero, suc, ◌-◌, Bool, true, false, List, [], Some, refl, sym, ◌∙◌, ap, subst, arith}
+use Rattle.std.proofs.Common.{◌≡◌, Result, Ok, Err, ℕ, ◌-◌, true, false, List, [], refl, sym, ◌∙◌, ap, arith}
 use Rattle.teb_history.specs.declared.Event.{Event}
 use Rattle.teb_rules.specs.Setup.{Store}
 use Rattle.store_setup.specs.declared.Setup.{Setup}
@@ -13,7 +13,7 @@ use Rattle.tree_switch.specs.Refusals as refusals
 use Rattle.commit_laws.specs.Commits.{commit_count}
 use Rattle.epoch_store.specs.Stored.{Stored}
 use Rattle.engine_store.specs.Next.{MayFollow}
-use Rattle.shared_store.specs.Stages.{IsDrained, IsNextEpoch}
+use Rattle.shared_store.specs.Stages.{IsDrained}
 use Rattle.shared_store.specs.Served.{IsBegun, IsSame}
 use Rattle.store_server.specs.Standings.{standing_of}
 use Rattle.store_server.specs.Trees.{IsTreeOf}

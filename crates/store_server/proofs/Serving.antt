@@ -1,5 +1,5 @@
 -- What a request makes of where a store stands.
-use Rattle.std.proofs.Common.{◌≡◌, Result, Ok, Err, IfErr, OnOk, IsErrOf, ℕ, suc, ◌-◌, ◌≤◌, Bool, true, false, true≢false, List, ◌∷◌, refl, sym, ◌∙◌, ap, subst, arith}
+use Rattle.std.proofs.Common.{◌≡◌, Result, Ok, Err, IfErr, OnOk, IsErrOf, suc, ◌-◌, ◌≤◌, Bool, true, false, true≢false, List, ◌∷◌, refl, sym, ◌∙◌, ap, subst, arith}
 use Rattle.teb_names.specs.declared.Reply.{Reply}
 use Rattle.teb_names.specs.declared.Reply.TheVariants.{Committed}
 use Rattle.teb_names.specs.declared.Request.{Request}
@@ -7,7 +7,6 @@ use Rattle.teb_names.specs.declared.Session.{Session}
 use Rattle.teb_history.specs.declared.Event.{Event}
 use Rattle.teb_history.specs.declared.Event.TheVariants.{Done}
 use Rattle.teb_rules.specs.Answer.{answer}
-use Rattle.teb_rules.specs.Setup.{Store}
 use Rattle.engine_core.specs.EngineModel.{EngineModel}
 use Rattle.commit_laws.specs.Commits.{commit_count}
 use Rattle.commit_journal.proofs.Answered.{commits}

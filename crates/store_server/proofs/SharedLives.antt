@@ -2,22 +2,20 @@
 use Rattle.std.proofs.Common.{◌≡◌, ◌∙◌, ◌++◌, ◌∷◌, [], Some, List, sym, ap, refl, subst, append-nil, append_assoc}
 use mathlib.Core.Logic.{∥∥₁_map}
 use Rattle.teb_names.specs.declared.Cell.{Cell}
-use Rattle.teb_names.specs.declared.Request.{Request}
-use Rattle.teb_names.specs.declared.Session.{Session}
 use Rattle.teb_rules.specs.Accepted.{IsSound}
 use Rattle.teb_rules.specs.Answer.{answer}
 use Rattle.teb_rules.specs.Replay.{Values}
 use Rattle.teb_rules.specs.Serializes.{final_table}
 use Rattle.engine_core.specs.EngineModel.{EngineModel, IsOfEngine}
 use Rattle.engine_core.proofs.Reached.{reached_none}
-use Rattle.engine_store.specs.Lives.{Epoch, IsLife, IsSerialLife, epoch_of, epochs}
+use Rattle.engine_store.specs.Lives.{Epoch, IsLife, epoch_of, epochs}
 use Rattle.engine_store.proofs.LifeGoesOn.{followed, lives_further}
 use Rattle.engine_store.proofs.WholeLife.{lives_are_serial}
 use Rattle.shared_store.specs.declared.entry.LifeEntry.{LifeEntry}
 use Rattle.shared_store.specs.declared.entry.LifeEntry.TheVariants.{Asked, Turned, Unsure}
 use Rattle.shared_store.specs.Lives.{Runs}
-use Rattle.shared_store.specs.Stages.{IsNextEpoch, Stage, asked_at}
-use Rattle.store_server.specs.Serial.{IsSerialTo, SharedLivesAreSerial, stage_at}
+use Rattle.shared_store.specs.Stages.{IsNextEpoch, Stage}
+use Rattle.store_server.specs.Serial.{SharedLivesAreSerial, stage_at}
 
 module _ (T : Values) where
   -- further epochs, the last of which stands at this stage

@@ -1,5 +1,5 @@
 -- The life of a shared store as one serial run.
-use Rattle.std.specs.Prelude.{◌≡◌, ℕ, List, ◌++◌}
+use Rattle.std.specs.Prelude.{◌≡◌, List, ◌++◌}
 use Rattle.teb_rules.specs.Replay.{Values}
 use Rattle.engine_core.specs.EngineModel.{EngineModel}
 use Rattle.engine_store.specs.Lives.{Epoch, IsLife, IsSerialLife, epochs}

@@ -11,7 +11,7 @@ ghost use Rattle.shared_store.specs.Served.{IsAfterTry, IsServed};
 use chain_pool::PooledChains;
 use crash_disk::Renew;
 use engine_store::{AskError, EngineStore, NextError, NotNext};
-use shared_store::{Failure, Fault, NoEpoch, EpochServer};
+use shared_store::{EpochServer, Failure, Fault, NoEpoch};
 use std::alloc::{AllocError, Global};
 use store_setup::Setup;
 use teb_names::{MOST_TXNS, Reply, Request, Session};
@@ -93,7 +93,12 @@ impl<D: Renew> StoreServer<D> {
 impl<D: Renew> EpochServer for StoreServer<D> {
     ghost standing = { λ s. standing_of s.store };
 
-    fn serve(&mut self, alloc: Global, session: Session, request: Request) -> Result<Reply, Failure> {
+    fn serve(
+        &mut self,
+        alloc: Global,
+        session: Session,
+        request: Request,
+    ) -> Result<Reply, Failure> {
         match self.store.ask(alloc, session, request) {
             Ok(reply) => Ok(reply),
             Err(error) => {
