@@ -12,7 +12,11 @@ const MANY: usize = 40;
 #[test]
 fn a_begin_is_put_off_until_the_open_transaction_has_finished(rt: HostRuntime) -> Result<(), Fail> {
     let alloc = rt.alloc();
-    let Shared { store, mut first, mut second } = open(alloc)?;
+    let Shared {
+        store,
+        mut first,
+        mut second,
+    } = open(alloc)?;
     let begun = second.ask(&store, &rt, alloc, begin())?;
     assert_eq!(rt; begun, StoreReply::Reply(Reply::Begun(Txn(1))));
     let mut put_off = false;
@@ -31,7 +35,11 @@ fn a_begin_is_put_off_until_the_open_transaction_has_finished(rt: HostRuntime) -
 #[test]
 fn transactions_go_on_over_epochs(rt: HostRuntime) -> Result<(), Fail> {
     let alloc = rt.alloc();
-    let Shared { store, mut first, second: _second } = open(alloc)?;
+    let Shared {
+        store,
+        mut first,
+        second: _second,
+    } = open(alloc)?;
     for _ in 0..MANY {
         let reply = write_alone(&rt, alloc, &store, &mut first, 1)?;
         assert!(rt; matches!(reply, StoreReply::Reply(Reply::Begun(_))));
@@ -42,7 +50,11 @@ fn transactions_go_on_over_epochs(rt: HostRuntime) -> Result<(), Fail> {
 #[test]
 fn a_session_that_was_ended_is_told_once(rt: HostRuntime) -> Result<(), Fail> {
     let alloc = rt.alloc();
-    let Shared { store, mut first, mut second } = open(alloc)?;
+    let Shared {
+        store,
+        mut first,
+        mut second,
+    } = open(alloc)?;
     let _begun = second.ask(&store, &rt, alloc, begin())?;
     let silent = second.session();
     if silent.0 != first.session().0 {

@@ -1,7 +1,7 @@
 //! A store on a disk in memory, with two of its sessions.
 
-ghost use Rattle.std.specs.Prelude.{◌≡◌, IfOk};
-ghost use Rattle.shared_store.specs.Sharing.{IsSessionOf};
+ghost use Rattle.std.specs.Prelude.{◌≡◌, All, IfOk, OnOk};
+ghost use Rattle.shared_store.specs.Sharing.{IsNew, IsSessionOf};
 
 use crash_disk::MemDisk;
 use shared_store::{Store, StoreError, StoreReply, StoreSession};
@@ -39,14 +39,28 @@ pub fn open(alloc: Global) -> Result<Shared, Fail>
     let Ok((store, mut sessions)) = Store::new(alloc, server) else {
         return Err(Fail::from("out of memory"));
     };
-    let (Some(second), Some(first)) = (sessions.pop(), sessions.pop()) else {
-        return Err(Fail::from("no sessions"));
-    };
+    let second = take_session(&store, &mut sessions)?;
+    let first = take_session(&store, &mut sessions)?;
     Ok(Shared {
         store,
         first,
         second,
     })
+}
+
+/// The last of the sessions.
+fn take_session(
+    store: &Store<TrialServer>,
+    sessions: &mut Vec<StoreSession<TrialServer>>,
+) -> Result<StoreSession<TrialServer>, Fail>
+    requires { All (IsNew store.now) sessions.old.items }
+    ensures session { IfOk result (λ s. IsSessionOf store.now s) }
+    ensures rest { OnOk result (All (IsNew store.now) sessions.new.items) }
+{
+    match sessions.pop() {
+        Some(session) => Ok(session),
+        None => Err(Fail::from("no session")),
+    }
 }
 
 /// The start of a transaction.
