@@ -1,0 +1,9 @@
+//! What a hall of sessions asks of what it serves: an engine, or a store that keeps the commits of an engine.
+#![tactic(auto)]
+
+mod engine;
+mod failure;
+mod server;
+
+pub use failure::{Failure, Fault};
+pub use server::Server;
