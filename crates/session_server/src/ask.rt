@@ -1,14 +1,13 @@
-//! A request of a session.
+//! A request of a session at an engine.
 
 ghost use Rattle.std.specs.Prelude.{◌≡◌, ◌↔◌, Ok, Err, IfOk};
 ghost use Rattle.session_server.specs.Passes.{base_of, IsPassOf, Turned, Asked, Unasked};
 ghost use Rattle.session_server.specs.Waits.{WaitsAmong};
 ghost use Rattle.session_server.specs.declared.error.AskError.TheVariants.{PassSpent, OutOfMemory};
 
-use crate::error::AskError;
+use crate::error::{AskError, ServeError};
 use crate::hall::Hall;
 use crate::pass::{MOST_ASKS, Pass};
-use crate::taking::take_turn;
 use std::sync::Wait;
 use teb_names::{MOST_TXNS, Reply, Request};
 use version_chain::Chains;
@@ -35,16 +34,12 @@ impl<C: Chains> Hall<C> {
         ensures spent { result ≡ Err PassSpent → pass.new ≡ pass.old }
         ensures when { (result ≡ Err PassSpent) ↔ (pass.old.asks ≡ MOST_ASKS) }
     {
-        if pass.asks == MOST_ASKS {
-            return Err(AskError::PassSpent);
-        }
-        let inside = self.door.lock(rt);
-        let answer = take_turn(rt, &self.turn, &mut pass.seat, pass.session, request);
-        drop(inside);
-        pass.asks += 1;
-        match answer {
+        match self.serve(rt, pass, request) {
             Ok(reply) => Ok(reply),
-            Err(_) => Err(AskError::OutOfMemory),
+            Err(ServeError::PassSpent) => Err(AskError::PassSpent),
+            Err(ServeError::Unasked(_)) => Err(AskError::OutOfMemory),
+            // An engine is never unsure.
+            Err(ServeError::Unsure(_)) => unreachable!(),
         }
     }
 }
