@@ -8,6 +8,8 @@ ghost use Rattle.session_tasks.specs.Tasks.{IsTask, number_in};
 ghost use Rattle.session_pool.specs.Waits.{IsWaiting, number_at, scripted};
 
 use crate::waiting::Waiting;
+use engine_core::Engine;
+use hall_server::Server;
 use session_server::Pass;
 use session_tasks::{Gate, Run, Task, place_in};
 use std::alloc::{AllocError, Global};
@@ -17,7 +19,10 @@ use version_chain::Chains;
 
 /// The sessions of a run, divided.
 #[derive(Drop)]
-pub(crate) struct Divided<C: Chains> {
+pub(crate) struct Divided<C: Chains>
+where
+    Engine<C>: Server,
+{
     /// Those that have a script, in ascending order.
     pub waiting: VecDeque<Waiting<C>>,
     /// The others, each begun.

@@ -22,6 +22,8 @@ use crate::queue::{Roster, SessionQueue};
 use crate::rest::{dismiss, take_rest};
 use crate::serving::{hire, work};
 use crate::waiting::Waiting;
+use engine_core::Engine;
+use hall_server::Server;
 use script_text::Scripts;
 use session_server::{Hall, Pass};
 use session_tasks::{Gate, Run, RunError, Task};
@@ -35,7 +37,10 @@ use version_chain::Chains;
 
 /// What a run by a queue leaves.
 #[derive(Drop)]
-pub struct Pooled<C: Chains> {
+pub struct Pooled<C: Chains>
+where
+    Engine<C>: Server,
+{
     /// The passes of the sessions 1 to `SESSIONS`, in order.
     pub passes: Vec<Pass<C>>,
     /// The sessions that each worker took, in order.

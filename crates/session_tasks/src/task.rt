@@ -1,5 +1,7 @@
 //! A session on its way along its script.
 
+use engine_core::Engine;
+use hall_server::Server;
 use script_walk::Walker;
 use session_server::{AskError, Pass};
 use version_chain::Chains;
@@ -16,7 +18,10 @@ pub enum Progress {
 
 /// A session: its pass, the place of its script among all, and where it stands in it.
 #[derive(Drop)]
-pub struct Task<C: Chains> {
+pub struct Task<C: Chains>
+where
+    Engine<C>: Server,
+{
     pub place: Option<usize>,
     pub pass: Pass<C>,
     pub walker: Walker,
