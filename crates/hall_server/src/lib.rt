@@ -1,7 +1,6 @@
 //! What a hall of sessions asks of what it serves: an engine, or a store that keeps the commits of an engine.
 #![tactic(auto)]
 
-mod engine;
 mod failure;
 mod server;
 

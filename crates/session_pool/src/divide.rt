@@ -8,9 +8,7 @@ ghost use Rattle.session_tasks.specs.Tasks.{IsTask, number_in};
 ghost use Rattle.session_pool.specs.Waits.{IsWaiting, number_at, scripted};
 
 use crate::waiting::Waiting;
-use engine_core::Engine;
-use hall_server::Server;
-use session_server::Pass;
+use session_server::{EngineServer, Pass, Server};
 use session_tasks::{Gate, Run, Task, place_in};
 use std::alloc::{AllocError, Global};
 use std::collections::VecDeque;
@@ -21,7 +19,7 @@ use version_chain::Chains;
 #[derive(Drop)]
 pub(crate) struct Divided<C: Chains>
 where
-    Engine<C>: Server,
+    EngineServer<C>: Server,
 {
     /// Those that have a script, in ascending order.
     pub waiting: VecDeque<Waiting<C>>,

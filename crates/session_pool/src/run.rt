@@ -22,10 +22,8 @@ use crate::queue::{Roster, SessionQueue};
 use crate::rest::{dismiss, take_rest};
 use crate::serving::{hire, work};
 use crate::waiting::Waiting;
-use engine_core::Engine;
-use hall_server::Server;
 use script_text::Scripts;
-use session_server::{Hall, Pass};
+use session_server::{EngineServer, Hall, Pass, Server};
 use session_tasks::{Gate, Run, RunError, Task};
 use std::alloc::{AllocError, Global};
 use std::collections::VecDeque;
@@ -39,7 +37,7 @@ use version_chain::Chains;
 #[derive(Drop)]
 pub struct Pooled<C: Chains>
 where
-    Engine<C>: Server,
+    EngineServer<C>: Server,
 {
     /// The passes of the sessions 1 to `SESSIONS`, in order.
     pub passes: Vec<Pass<C>>,

@@ -1,8 +1,6 @@
 //! A session in the queue.
 
-use engine_core::Engine;
-use hall_server::Server;
-use session_server::Pass;
+use session_server::{EngineServer, Pass, Server};
 use teb_names::Session;
 use version_chain::Chains;
 
@@ -10,7 +8,7 @@ use version_chain::Chains;
 #[derive(Drop)]
 pub struct Waiting<C: Chains>
 where
-    Engine<C>: Server,
+    EngineServer<C>: Server,
 {
     pub session: Session,
     pub pass: Pass<C>,

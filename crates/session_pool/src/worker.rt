@@ -1,8 +1,7 @@
 //! A worker of a pool.
 
 use crate::queue::Token;
-use engine_core::Engine;
-use hall_server::Server;
+use session_server::{EngineServer, Server};
 use session_tasks::Task;
 use version_chain::Chains;
 
@@ -10,7 +9,7 @@ use version_chain::Chains;
 #[derive(Drop)]
 pub struct Worker<C: Chains>
 where
-    Engine<C>: Server,
+    EngineServer<C>: Server,
 {
     pub token: Token<C>,
     pub hand: Vec<Task<C>>,

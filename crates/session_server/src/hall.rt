@@ -4,8 +4,8 @@ ghost use Rattle.std.specs.Prelude.{◌≡◌};
 ghost use Rattle.teb_names.specs.declared.TheConstants.{MOST_TXNS, SESSIONS};
 ghost use Rattle.turn_lock.specs.Seats.{note_count, owner_count};
 
+use crate::engine::EngineServer;
 use crate::hosted::Hosted;
-use engine_core::Engine;
 use hall_server::Server;
 use std::sync::Mutex;
 use turn_lock::Turn;
@@ -23,4 +23,4 @@ pub struct HallOf<S: Server> {
 }
 
 /// A hall over an engine.
-pub type Hall<C> = HallOf<Engine<C>>;
+pub type Hall<C> = HallOf<EngineServer<C>>;

@@ -1,9 +1,7 @@
 //! A session on its way along its script.
 
-use engine_core::Engine;
-use hall_server::Server;
 use script_walk::Walker;
-use session_server::{AskError, Pass};
+use session_server::{AskError, EngineServer, Pass, Server};
 use version_chain::Chains;
 
 /// How far a session has come.
@@ -20,7 +18,7 @@ pub enum Progress {
 #[derive(Drop)]
 pub struct Task<C: Chains>
 where
-    Engine<C>: Server,
+    EngineServer<C>: Server,
 {
     pub place: Option<usize>,
     pub pass: Pass<C>,

@@ -1,19 +1,24 @@
 //! An engine as a server: it never fails but for memory.
 
-use crate::failure::{Failure, Fault};
-use crate::server::Server;
 use engine_core::Engine;
+use hall_server::{Failure, Fault, Server};
 use std::alloc::Global;
 use teb_history::History;
 use teb_names::{Reply, Request, Session};
 use version_chain::Chains;
 
-impl<C: Chains> Server for Engine<C> {
-    ghost store = { λ e. e.store };
+/// An engine as what a hall serves.
+#[derive(Drop)]
+pub struct EngineServer<C: Chains> {
+    pub engine: Engine<C>,
+}
 
-    ghost names = { λ e. e.names };
+impl<C: Chains> Server for EngineServer<C> {
+    ghost store = { λ s. s.engine.store };
 
-    ghost events = { λ e. e.events };
+    ghost names = { λ s. s.engine.names };
+
+    ghost events = { λ s. s.engine.events };
 
     ghost unsure = { λ _. ⊥ };
 
@@ -23,13 +28,13 @@ impl<C: Chains> Server for Engine<C> {
         session: Session,
         request: Request,
     ) -> Result<Reply, Failure> {
-        match self.ready() {
-            Ok(()) => Ok(self.ask(session, request)),
+        match self.engine.ready() {
+            Ok(()) => Ok(self.engine.ask(session, request)),
             Err(_) => Err(Failure::Unasked(Fault::OutOfMemory)),
         }
     }
 
     fn history(&self) -> &History {
-        self.history()
+        self.engine.history()
     }
 }
