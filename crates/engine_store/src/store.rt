@@ -151,6 +151,16 @@ impl<C: Chains, D: Disk> EngineStore<C, D> {
         self.store.left()
     }
 
+    /// The disk. A crash leaves the rows after the first commits of it, at least those that were answered.
+    pub fn disk(&self) -> &D
+        ensures disk { result.now ≡ self.now.journal.disk }
+        ensures images { (image : List ℕ) → D.may_leave self.now.journal.disk image
+            → TellsCommits self.now.journal.layout self.now.engine.store self.now.engine.events self.now.journal.acknowledged image }
+    {
+        let _ = self.store.engine();
+        self.store.disk()
+    }
+
     /// The disk, as it is. The engine is dropped. The disk may be opened again, also after a fault.
     pub fn into_disk(self) -> D
         ensures disk { result ≡ self.journal.disk }
