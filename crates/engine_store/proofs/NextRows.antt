@@ -1,5 +1,5 @@
 -- What a crash leaves while the next epoch begins, as the rows that it begins with.
-use Rattle.std.proofs.Common.{◌≡◌, ◌≤◌, ℕ, List, [], ◌∷◌, length, take, refl, sym, ◌∙◌, ap, subst, arith}
+use Rattle.std.proofs.Common.{◌≡◌, ◌≤◌, ℕ, Bool, true, false, Result, Ok, Err, List, [], ◌∷◌, length, take, refl, sym, ◌∙◌, ap, subst, arith}
 use Rattle.std.proofs.lemmas.List.{take_all}
 use Rattle.teb_names.specs.declared.Cell.{Cell}
 use Rattle.teb_names.specs.Rows.{row_of}
@@ -45,3 +45,7 @@ next_rows l m before e least c same whole none rows t =
     subst (λ (k : Layout). TellsOn k (row_of e.store.rows) (records_of e.store.setup e.events) 0 c) (sym same)
     (subst (λ (rs : List Record). TellsOn l (row_of e.store.rows) rs 0 c) (sym (starts_with_none e none))
     (begins_again l (row_of before.store.rows) (row_of e.store.rows) (records_of before.store.setup before.events) least c whole rows t))
+
+pub runs : {T E : Type 0} (b : Bool) (x : T) (e : E) (r : Result T E) → r ≡ Ok x → (b ≡ true → r ≡ Err e) → b ≡ false
+runs true x e r is = λ fails. let no : r ≡ Err e = fails refl in absurd (cc)
+runs false x e r is = λ _. refl
