@@ -33,9 +33,14 @@
 mod asking;
 mod auditing;
 mod buffers;
+mod calling;
+mod contents;
 mod epochs;
 mod events;
+mod filed;
+mod form;
 mod held;
+mod images;
 mod lines;
 mod naming;
 mod opening;
