@@ -31,12 +31,7 @@ pub trait Server {
     /// # Errors
     /// `Unasked` leaves the store, the names and the history as they were. `Unsure` has the reply that is not certain to be kept: the
     /// history has the request.
-    fn serve(
-        &mut self,
-        alloc: Global,
-        session: Session,
-        request: Request,
-    ) -> Result<Reply, Failure>
+    fn serve(&mut self, alloc: Global, session: Session, request: Request) -> Result<Reply, Failure>
         ensures reply { IsToldBy (told result) (answer (store self.old) (events self.old) session request).0 }
         ensures events { events self.new ≡ events_after (told result) (events self.old) (answer (store self.old) (events self.old) session request).1 }
         ensures store { store self.new ≡ store self.old }

@@ -10,7 +10,7 @@ use crate::entry::LifeEntry;
 use crate::error::{Failure, Fault};
 use crate::origin::Origin;
 use crate::reply::StoreReply;
-use crate::server::{NoEpoch, EpochServer};
+use crate::server::{EpochServer, NoEpoch};
 use short_reply::ShortReply;
 use std::alloc::Global;
 use std::snapshot::Snapshot;

@@ -33,6 +33,6 @@ pub use hosted::Hosted;
 pub use life::Life;
 pub use origin::Origin;
 pub use reply::StoreReply;
-pub use server::{NoEpoch, EpochServer};
+pub use server::{EpochServer, NoEpoch};
 pub use session::{MOST_ASKS, StoreSession};
 pub use store::Store;
