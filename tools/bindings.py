@@ -8,8 +8,8 @@
     tools/bindings.py --figures         the two figures count as well: they are to be within their bounds, on a machine that is idle
 
 It builds bindings/out/libtebaldi.a and libtebaldi.so, and then counts: the C tests and examples under the address and undefined behaviour
-sanitizers, the tests and examples in Rust and in Python, four threads over one store in each language, the programs of README.md, and each
-worked run of `replay` in each language. It prints two figures: what an ask costs from C, and a transfer from Python. If a program is missing, it is named with the apt package that has it, and what
+sanitizers, the tests and examples in Rust and in Python, four threads over one store in each language, a program over a file in each language
+that is killed again and again, the programs of README.md, and each worked run of `replay` in each language. It prints two figures: what an ask costs from C, and a transfer from Python. If a program is missing, it is named with the apt package that has it, and what
 needs it has failed.
 """
 
@@ -17,10 +17,13 @@ import argparse
 import concurrent.futures
 import os
 import pathlib
+import random
 import re
 import shutil
 import subprocess
 import sys
+import tempfile
+import time
 
 sys.dont_write_bytecode = True
 sys.path.insert(0, str(pathlib.Path(__file__).resolve().parent))
@@ -36,6 +39,8 @@ PACKAGES = {"rt": None, "gcc": "gcc libc6-dev", "ar": "binutils", "cargo": "carg
 COMMITTED = r"committed 200, sum 300\n"
 # The bounds of the figures: an ask from C beside the engine's own part of it, in instructions, and a transfer from Python, in microseconds.
 MOST_COST, MOST_MICROSECONDS = 1.2, 20.0
+# How often the program over a file is killed in each language.
+KILLS = {"C": 50, "Rust": 10, "Python": 10}
 
 
 class Tally:
@@ -83,9 +88,9 @@ def why_of(ran, wanted=None):
 
 
 def make_library(given):
-    """Makes libtebaldi.a, which is the proved library and heap.c, and libtebaldi.so of it. Returns why that failed, or None."""
+    """Makes libtebaldi.a, which is the proved library, heap.c and tebaldi_file.c, and libtebaldi.so of it. Returns why that failed, or None."""
     OUT.mkdir(parents=True, exist_ok=True)
-    archive, heap = OUT / "libtebaldi.a", OUT / "heap.o"
+    archive, parts = OUT / "libtebaldi.a", ["heap", "tebaldi_file"]
     if not given:
         quick = TOP / "tools" / "rt_quick"
         why = why_of(run(quick if quick.exists() else "rt", "lib", cwd=CRATE))
@@ -93,8 +98,8 @@ def make_library(given):
             return why
     shutil.copyfile(given or CRATE / "out" / "libtebaldi_c.a", archive)
     commands = [
-        ["gcc", *WARNINGS, "-O2", "-fPIC", "-c", C / "heap.c", "-o", heap],
-        ["ar", "rs", archive, heap],
+        *(["gcc", *WARNINGS, "-O2", "-fPIC", "-c", C / f"{part}.c", "-o", OUT / f"{part}.o"] for part in parts),
+        ["ar", "rs", archive, *(OUT / f"{part}.o" for part in parts)],
         ["gcc", "-shared", "-Wl,--whole-archive", archive, "-Wl,--no-whole-archive", "-o", OUT / "libtebaldi.so"],
     ]
     return next(filter(None, (why_of(run(*command)) for command in commands)), None)
@@ -117,12 +122,47 @@ def try_c(tally):
         program = compiled(tally, C / "tests" / f"{name}.c", SANITIZED, "-pthread")
         if program:
             tally.count(f"C {name}", why_of(run(program), wanted))
+    program = compiled(tally, C / "tests" / "file.c")
+    if program:
+        with tempfile.TemporaryDirectory() as folder:
+            tally.count("C file", why_of(run(program, folder), r"file: \d+ as wanted, 0 not\n"))
+    try_kills(tally, "C", [compiled(tally, C / "examples" / "bank.c", [*WARNINGS, "-O2"])])
     for source in sorted((C / "examples").glob("*.out")):
         program = compiled(tally, source.with_suffix(".c"))
         if program:
             tally.count(f"C {source.stem}", why_of(run(program), re.escape(source.read_text())))
     replay = compiled(tally, C / "examples" / "replay.c")
     return replay and [replay]
+
+
+def killed(command, path, seconds):
+    """Kills a run of the bank a while after it has begun to tell transfers. Returns what it has found and the last that it told, or None."""
+    environment = {**os.environ, "TEBALDI_SO": str(OUT / "libtebaldi.so"), "PYTHONPATH": str(PYTHON), "PYTHONDONTWRITEBYTECODE": "1"}
+    process = subprocess.Popen([str(word) for word in [*command, path, 1000000]], stdout=subprocess.PIPE, env=environment)
+    lines = [process.stdout.readline()]
+    time.sleep(seconds)
+    process.kill()
+    lines += process.stdout.read().splitlines(keepends=True)
+    process.wait()
+    found = re.fullmatch(rb"found (\d+) of 1000000\n", lines[0])
+    told = [int(line.split()[1]) for line in lines[1:] if re.fullmatch(rb"told \d+\n", line)]
+    return found and (int(found[1]), told[-1] if told else int(found[1]))
+
+
+def try_kills(tally, language, command):
+    """Kills the bank amid its transfers, and runs it again: each transfer that it told is there, and at most one more."""
+    if not all(command):
+        return
+    chance, most, why = random.Random(KILLS[language]), 0, None
+    with tempfile.TemporaryDirectory() as folder:
+        for time_of in range(KILLS[language]):
+            said = killed(command, pathlib.Path(folder) / "bank", chance.uniform(0.0, 0.2))
+            if not said or not most <= said[0] <= most + 1:
+                why = f"run {time_of}: {most} were told, and then {said} found and told"
+                break
+            most = said[1]
+    print(f"bindings: {language} killed {KILLS[language]} times, {most} transfers told", flush=True)
+    tally.count(f"{language} kills", why or (None if most else "no transfer was told"))
 
 
 def try_rust(tally):
@@ -133,12 +173,14 @@ def try_rust(tally):
             return None
     examples = OUT / "cargo" / "release" / "examples"
     tally.count("Rust transfers", why_of(run(examples / "transfers"), COMMITTED))
+    try_kills(tally, "Rust", [examples / "bank"])
     return [examples / "replay"]
 
 
 def try_python(tally):
     tally.count("Python tests", why_of(run(sys.executable, "-m", "unittest", "discover", "-s", PYTHON / "tests")))
     tally.count("Python transfers", why_of(run(sys.executable, PYTHON / "examples" / "transfers.py"), COMMITTED))
+    try_kills(tally, "Python", [sys.executable, PYTHON / "examples" / "bank.py"])
     return [sys.executable, PYTHON / "examples" / "replay.py"]
 
 

@@ -59,14 +59,20 @@ def compiled(room):
     return library
 
 
-def ended(command, data, library, number):
-    """The status and the text of a run with that allocation refused, and whether the run reached that allocation."""
+def refused(command, data, library, number):
+    """A run with that allocation refused, and whether the run reached that allocation."""
     told, tell = os.pipe()
     names = {"LD_PRELOAD": library, "REFUSED_ALLOCATION": str(number), "REFUSED_TOLD": str(tell)}
-    ran = subprocess.run(command, input=data, stdout=subprocess.PIPE, stderr=subprocess.DEVNULL, env={**os.environ, **names}, pass_fds=[tell])
+    ran = subprocess.run(command, input=data, capture_output=True, env={**os.environ, **names}, pass_fds=[tell], check=False)
     os.close(tell)
     with os.fdopen(told, "rb") as it:
-        return ran.returncode, ran.stdout, it.read() == b"x"
+        return ran, it.read() == b"x"
+
+
+def ended(command, data, library, number):
+    """The status and the text of a run with that allocation refused, and whether the run reached that allocation."""
+    ran, met = refused(command, data, library, number)
+    return ran.returncode, ran.stdout, met
 
 
 def main():

@@ -1,8 +1,8 @@
 #!/usr/bin/env python3
 """Tries and measures the store in a file, by the example program embedded_file, on real files.
 
-    tools/store_in_file.py trials [--kills N]     the program is killed, runs out of disk, and is started twice, and its calls of the system are listed; the last
-                                                  line is `N passed, M failed`
+    tools/store_in_file.py trials [--kills N]     the program is killed, runs out of disk and of memory, and is started twice, and its calls of the system are
+                                                  listed; the last line is `N passed, M failed`
     tools/store_in_file.py speed                  commits a second, memory, and how long a file with 1,000,000 rows takes to open
 
 The program makes transfers between accounts, each in a transaction of its own, and prints the number of each once it is committed. When it starts it
@@ -10,6 +10,7 @@ prints how many transfers it finds, and the sum of all accounts, which is 0. So 
 A full disk is a small file system in memory; only root can make one, and without it that trial is skipped. So is the list of calls, without strace.
 """
 import argparse
+import itertools
 import os
 import pathlib
 import random
@@ -21,8 +22,11 @@ import sys
 import tempfile
 import time
 
+from refuse_allocations import compiled, refused
+
 TOP = pathlib.Path(__file__).resolve().parent.parent
 PROGRAM = TOP / "crates/embedded_file/out/embedded_file"
+SHELL = TOP / "crates/tebaldi_shell/out/tebaldi_shell"
 FOUND = re.compile(r"found (\d+) transfers, and (-?\d+) in all accounts\n")
 CAPACITY = 67_108_864
 SECONDS = 120
@@ -114,6 +118,48 @@ def try_full_disk(trials, folder):
         subprocess.run(["umount", disk], check=False)
 
 
+def try_refusals(trials, folder):
+    """Refuses each allocation of a life in turn, on a new file and on one that has transfers: what was printed is there, and no more. Once the file is open, the only complaint is of memory."""
+    library, count, stopped = compiled(folder), 3, 0
+    new, old, path = f"{folder}/new", f"{folder}/old", f"{folder}/refused"
+    pathlib.Path(new).touch()
+    run(old, 40)
+    for start, before in ((new, 0), (old, 40)):
+        for number in itertools.count(1):
+            shutil.copyfile(start, path)
+            ran, met = refused([PROGRAM, path, str(count)], b"", library, number)
+            if not met:
+                break
+            lines = ran.stdout.decode().splitlines(True)
+            printed, complaint = max(before, last_printed(lines)), ran.stderr.decode()
+            trials.expect(f"refusal {number} after {before}: what is there", found_in(path) == (printed, 0), f"{found_in(path)} after {printed}")
+            if ran.returncode and lines:
+                trials.expect(f"refusal {number} after {before}: the complaint", "out of memory" in complaint, complaint)
+                stopped += 1
+    trials.expect("refusals amid transfers", stopped > 0, stopped)
+
+
+def try_shell_refusals(trials, folder):
+    """Refuses each allocation of a run of the shell in turn, an epoch with a checkpoint among it: what it answered is there, or one commit more whose answer found no memory, and once it has answered, it ends for want of memory alone."""
+    if not SHELL.exists():
+        print("skipped: refusals in the shell (./check build builds it)")
+        return
+    library, path = compiled(folder), f"{folder}/shell"
+    data = b"1 begin any\n1 write t 1 5\n1 commit\n.checkpoint\n1 begin any\n1 write t 2 6\n1 commit\n"
+    for number in itertools.count(1):
+        pathlib.Path(path).unlink(missing_ok=True)
+        ran, met = refused([SHELL, path], data, library, number)
+        if not met:
+            break
+        committed = ran.stdout.count(b" committed\n")
+        rows = subprocess.run([SHELL, path], input=b".rows\n", capture_output=True, timeout=SECONDS, check=False).stdout
+        all_rows = [b"row t 1 5\n", b"row t 2 6\n"]
+        there = [b"".join(all_rows[:count]) + b"end\n" for count in (committed, committed + 1)]
+        trials.expect(f"refusal {number} in the shell: what is there", rows == there[0] or (ran.returncode == 8 and rows == there[1]), (rows, committed))
+        if ran.stdout:
+            trials.expect(f"refusal {number} in the shell: the status", ran.returncode in (0, 8), ran.returncode)
+
+
 def try_calls(trials, folder):
     """Lists what the program asks of the system: at the opening a lock and then what is written, each write made safe; for each commit two writes, each made safe before it is printed."""
     if not shutil.which("strace"):
@@ -191,6 +237,8 @@ def main():
         try_kills(trials, memory, given.kills, 10_000)
         try_twice(trials, folder)
         try_calls(trials, folder)
+        try_refusals(trials, memory)
+        try_shell_refusals(trials, memory)
         try_full_disk(trials, folder)
     print(f"{trials.passed} passed, {trials.failed} failed")
     return int(trials.failed != 0)

@@ -1,6 +1,7 @@
 /* Tebaldi for C: a transactional key-value store of whole numbers, linked from libtebaldi.a.
  *
  * What each function returns and writes is proved, for callers that keep the rules below. Nothing checks that a caller keeps them.
+ * The four functions tebaldi_file_* are C (tebaldi_file.c) and not proved: they carry out on a file what the proved ones ask for.
  *
  * Rules for callers
  * 1. No pointer is null, not even beside a length of 0. A pointer with a length points to that many elements, all of them written before
@@ -26,8 +27,9 @@ extern "C" {
 #endif
 
 /* The status that a call returns. If it is not TEBALDI_OK, the store is unchanged, and so is everything that the call may write, except the
- * line of a tree's fault (TEBALDI_BAD_TREE), the wrong line of a printed run (TEBALDI_BAD_RUN), and who hinders the next epoch
- * (TEBALDI_UNFINISHED, TEBALDI_UNTOLD). */
+ * line of a tree's fault (TEBALDI_BAD_TREE), the wrong line of a printed run (TEBALDI_BAD_RUN), who hinders the next epoch
+ * (TEBALDI_UNFINISHED, TEBALDI_UNTOLD), and where a file is damaged (TEBALDI_DAMAGED). At TEBALDI_UNSURE and TEBALDI_STOPPED the store, if
+ * it was not stopped before, is stopped now. */
 enum {
     TEBALDI_OK = 0,
     TEBALDI_NOT_OPEN = 1,      /* the store is not open */
@@ -40,7 +42,17 @@ enum {
     TEBALDI_TOO_LONG = 8,      /* the text has 2^32 - 1 bytes or more */
     TEBALDI_OTHER_TABLES = 9,  /* the tables of the tree are not those of the store */
     TEBALDI_UNFINISHED = 10,   /* a transaction is unfinished */
-    TEBALDI_UNTOLD = 11        /* a session was not told that its transaction was aborted: it asks once more */
+    TEBALDI_UNTOLD = 11,       /* a session was not told that its transaction was aborted: it asks once more */
+
+    /* Of a store in a file. */
+    TEBALDI_STOPPED = 12,        /* a call on the file has failed, or a commit ran out of memory: nothing is answered; open the file anew */
+    TEBALDI_UNSURE = 13,         /* the file may have this commit, or this epoch, or not; the store is stopped */
+    TEBALDI_NO_ROOM = 14,        /* the commit or the rows do not fit the file: begin the next epoch */
+    TEBALDI_WAITING = 15,        /* calls on the file wait to be performed */
+    TEBALDI_DAMAGED = 16,        /* the file is no store, or a damaged one */
+    TEBALDI_OTHER_CAPACITY = 17, /* the file has a store of another capacity */
+    TEBALDI_BUSY = 18,           /* the file is open as a store already */
+    TEBALDI_IO = 19              /* the file cannot be opened, read or written: errno says why */
 };
 
 struct tebaldi_store {
@@ -234,6 +246,81 @@ uint32_t tebaldi_event(struct tebaldi_store *store, size_t place, struct tebaldi
 /* Checks a printed run, as `tebaldi audit` does. TEBALDI_TOO_LONG, TEBALDI_OUT_OF_MEMORY.
  * At TEBALDI_BAD_RUN `*line` is the number of the first wrong line, from 1, and `*why` says why. */
 uint32_t tebaldi_audit(const uint8_t *text, size_t text_len, uint32_t *line, uint8_t *why);
+
+/* ---- A store in a file
+ *
+ * The proved library makes no call of the system. Over the bytes of a file, tebaldi_open_image gives a store that notes the writes and syncs
+ * that its commits need; its caller performs each on the file, in their order, and tells of it. As long as the file has the bytes that these
+ * calls give it, and a sync that succeeds makes them safe, each crash leaves the rows after the first commits, at least the
+ * `kept` ones of struct tebaldi_file_state.
+ *
+ * The functions tebaldi_file_* do that: a commit is in the file before it is told. Most programs call only these, and for all that reads
+ * (numbers, names, lines, order, rows, events) the functions above with `&file.store`. */
+
+/* A store and its file. */
+struct tebaldi_file {
+    struct tebaldi_store store;
+    int fd;
+};
+#define TEBALDI_FILE_CLOSED { TEBALDI_CLOSED, -1 }
+
+/* How many bytes a file can have. A half of it holds the names of the tables, the rows at 14 bytes each, and the commits of one epoch. */
+#define TEBALDI_FILE_CAPACITY 67108864
+
+/* Opens a file as the store of a tree text, or makes it, and locks it. The rows of the tree count only if the file is new. A file can be opened
+ * with another tree over the same tables.
+ * TEBALDI_IS_OPEN, TEBALDI_BAD_TREE (as tebaldi_open), TEBALDI_OUT_OF_MEMORY; TEBALDI_BUSY; TEBALDI_IO; TEBALDI_TOO_LONG;
+ * TEBALDI_DAMAGED, and then `*place` is where; TEBALDI_OTHER_CAPACITY, TEBALDI_OTHER_TABLES, TEBALDI_NO_ROOM. At each of them `file` is as it
+ * was; and the bytes of the file too, except at TEBALDI_IO, where it stands for the same rows. */
+uint32_t tebaldi_file_open(struct tebaldi_file *file, const char *path, const uint8_t *tree, size_t tree_len, uint8_t *fault, size_t fault_room,
+                           size_t *fault_len, uint64_t *place);
+
+/* Answers a request as tebaldi_ask does. A commit that is told is in the file. Also TEBALDI_STOPPED, TEBALDI_NO_ROOM; TEBALDI_UNSURE if a call on
+ * the file fails at a commit, and errno says why. */
+uint32_t tebaldi_file_ask(struct tebaldi_file *file, uint8_t session, const struct tebaldi_request *request, struct tebaldi_reply *reply);
+
+/* Begins the next epoch as tebaldi_next_epoch does. Its rows are in the file before it returns. Also TEBALDI_STOPPED, TEBALDI_NO_ROOM;
+ * TEBALDI_UNSURE if a call on the file fails: the file has the same rows, in the old epoch or in the new one. */
+uint32_t tebaldi_file_next_epoch(struct tebaldi_file *file, const uint8_t *tree, size_t tree_len, uint8_t *fault, size_t fault_room,
+                                 size_t *fault_len, uint32_t *who);
+
+/* Closes a store and its file. */
+void tebaldi_file_close(struct tebaldi_file *file);
+
+/* A call on a file: `len` bytes are written from the place `at` on, or all that was written is made safe. */
+enum { TEBALDI_FILE_WRITE = 1, TEBALDI_SYNC = 2 };
+
+struct tebaldi_call {
+    uint8_t kind;
+    uint64_t at;
+    size_t len;
+};
+
+/* What is known of a store's file. */
+struct tebaldi_file_state {
+    uint64_t kept;   /* how many commits of this epoch are in the file */
+    uint64_t left;   /* how many bytes are left for the commits of this epoch */
+    size_t waiting;  /* how many calls wait */
+    bool stopped;    /* nothing is answered any more */
+};
+
+/* Opens the store that the bytes of a file are, under a tree text with its tables, or begins one if there are no bytes. The calls of the opening
+ * wait then. Errors are those of tebaldi_file_open, without TEBALDI_BUSY and TEBALDI_IO. */
+uint32_t tebaldi_open_image(struct tebaldi_store *store, const uint8_t *image, size_t image_len, const uint8_t *tree, size_t tree_len, uint8_t *fault,
+                            size_t fault_room, size_t *fault_len, uint64_t *place);
+
+/* Reads the first call that waits. Of a write, as many of its bytes from `from` on as fit are copied to `out`. Until none waits, tebaldi_ask and
+ * tebaldi_next_epoch return TEBALDI_WAITING. TEBALDI_NOT_OPEN; TEBALDI_NO_SUCH if none waits, or the store has no file. */
+uint32_t tebaldi_next_call(struct tebaldi_store *store, size_t from, struct tebaldi_call *call, uint8_t *out, size_t room);
+
+/* Tells that the first call that waits was performed. TEBALDI_NOT_OPEN, TEBALDI_NO_SUCH. */
+uint32_t tebaldi_performed(struct tebaldi_store *store);
+
+/* Tells that a call on the file has failed: from then on tebaldi_ask and tebaldi_next_epoch answer nothing. TEBALDI_NOT_OPEN, TEBALDI_NO_SUCH. */
+uint32_t tebaldi_failed(struct tebaldi_store *store);
+
+/* Tells what is known of a store's file. TEBALDI_NOT_OPEN; TEBALDI_NO_SUCH if the store has no file. */
+uint32_t tebaldi_file_state(struct tebaldi_store *store, struct tebaldi_file_state *state);
 
 #ifdef __cplusplus
 }

@@ -1,4 +1,6 @@
-"""What a call raises. Out of memory is Python's own MemoryError."""
+"""What a call raises. Out of memory is Python's own MemoryError, and a file that cannot be used is an OSError."""
+
+from typing import Optional
 
 
 class TebaldiError(Exception):
@@ -73,3 +75,27 @@ class Unfinished(TebaldiError):
         super().__init__(f"transaction {txn} is unfinished" if txn else f"session {session} was not told of its abort")
         self.txn = txn
         self.session = session
+
+
+class Busy(TebaldiError):
+    """The file is open as a store already, in this process or another."""
+
+
+class BadFile(TebaldiError):
+    """The file is no store, a damaged one (at the byte `place`), one of another capacity, or too long."""
+
+    def __init__(self, why: str, place: Optional[int] = None):
+        super().__init__(why if place is None else f"{why} at byte {place}")
+        self.place = place
+
+
+class NoRoom(TebaldiError):
+    """The commit or the rows do not fit the file. Nothing has changed; Store.next_epoch makes room."""
+
+
+class Unsure(TebaldiError):
+    """A call on the file failed: the file may have this commit, or the new epoch, or not. The store is stopped."""
+
+
+class Stopped(TebaldiError):
+    """A call on the file has failed earlier. Opened anew, the file has every commit that was told."""

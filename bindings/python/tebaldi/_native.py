@@ -3,10 +3,11 @@
 import ctypes
 import os
 import pathlib
-from ctypes import POINTER, Structure, c_bool, c_char_p, c_int64, c_size_t, c_uint8, c_uint32, c_void_p
+from ctypes import POINTER, Structure, c_bool, c_char_p, c_int, c_int64, c_size_t, c_uint8, c_uint32, c_uint64, c_void_p
 
 OK, BAD_TREE, BAD_VERB, NO_SUCH, OUT_OF_MEMORY, BAD_RUN, TOO_LONG = 0, 3, 4, 5, 6, 7, 8
 OTHER_TABLES, UNFINISHED, UNTOLD = 9, 10, 11
+STOPPED, UNSURE, NO_ROOM, WAITING, DAMAGED, OTHER_CAPACITY, BUSY, IO = range(12, 20)
 TABLES, TYPES, NODES = 0, 1, 2
 
 VERBS = ("", "begin", "read", "write", "add", "delete", "scan", "prepare", "commit", "abort", "end")
@@ -21,6 +22,14 @@ RUN_FAULTS = ("", "form", "txn", "order", "after", "read", "row")
 
 class RawStore(Structure):
     _fields_ = [("is_open", c_bool), ("at", c_void_p)]
+
+
+class RawFile(Structure):
+    _fields_ = [("store", RawStore), ("fd", c_int)]
+
+
+class RawFileState(Structure):
+    _fields_ = [("kept", c_uint64), ("left", c_uint64), ("waiting", c_size_t), ("stopped", c_bool)]
 
 
 class RawRequest(Structure):
@@ -65,13 +74,11 @@ def library_path() -> str:
 
 
 def load() -> ctypes.CDLL:
-    library = ctypes.CDLL(library_path())
-    store, size, byte = POINTER(RawStore), POINTER(c_size_t), POINTER(c_uint8)
+    library = ctypes.CDLL(library_path(), use_errno=True)
+    store, file, size, byte = POINTER(RawStore), POINTER(RawFile), POINTER(c_size_t), POINTER(c_uint8)
     for name, arguments, result in [
         ("version", [POINTER(RawVersion)], None),
         ("open", [store, c_char_p, c_size_t, byte, c_size_t, size], c_uint32),
-        ("next_epoch", [store, c_char_p, c_size_t, byte, c_size_t, size, POINTER(c_uint32)], c_uint32),
-        ("close", [store], None),
         ("ask", [store, c_uint8, POINTER(RawRequest), POINTER(RawReply)], c_uint32),
         ("number", [store, c_uint8, c_char_p, c_size_t, byte], c_uint32),
         ("name", [store, c_uint8, c_uint8, byte, c_size_t, size], c_uint32),
@@ -79,6 +86,11 @@ def load() -> ctypes.CDLL:
         ("order", [store, POINTER(c_uint32), c_size_t, size], c_uint32),
         ("rows", [store, POINTER(RawRow), c_size_t, size], c_uint32),
         ("event", [store, c_size_t, POINTER(RawEvent)], c_uint32),
+        ("file_open", [file, c_char_p, c_char_p, c_size_t, byte, c_size_t, size, POINTER(c_uint64)], c_uint32),
+        ("file_ask", [file, c_uint8, POINTER(RawRequest), POINTER(RawReply)], c_uint32),
+        ("file_next_epoch", [file, c_char_p, c_size_t, byte, c_size_t, size, POINTER(c_uint32)], c_uint32),
+        ("file_close", [file], None),
+        ("file_state", [store, POINTER(RawFileState)], c_uint32),
         ("audit", [c_char_p, c_size_t, POINTER(c_uint32), byte], c_uint32),
     ]:
         call = getattr(library, "tebaldi_" + name)

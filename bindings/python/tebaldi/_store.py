@@ -2,19 +2,20 @@
 
 from __future__ import annotations
 
+import os
 import threading
 import time
-from ctypes import byref, c_size_t, c_uint8, c_uint32
+from ctypes import byref, c_size_t, c_uint8, c_uint32, c_uint64, get_errno
 from dataclasses import dataclass
 from types import TracebackType
 from typing import Any, Callable, Dict, Iterator, List, Optional, Tuple, Type, TypeVar, Union
 
 from . import _native as native
-from ._errors import Aborted, Again, BadRun, BadTree, NoSuchName, OtherTables, Refused, TransactionOver, Unfinished
+from ._errors import (Aborted, Again, BadFile, BadRun, BadTree, Busy, NoRoom, NoSuchName, OtherTables, Refused, Stopped, TransactionOver,
+                      Unfinished, Unsure)
 from ._native import LIBRARY
 
 T = TypeVar("T")
-_ask = LIBRARY.tebaldi_ask
 _BEGIN, _READ, _WRITE, _ADD, _DELETE, _SCAN, _PREPARE, _COMMIT, _ABORT = range(1, 10)
 _WHAT = ("table", "type", "node")
 
@@ -56,9 +57,23 @@ class Event:
     cause: str = ""
 
 
+_WHY = {
+    native.NO_ROOM: (NoRoom, "it does not fit the file"),
+    native.UNSURE: (Unsure, "a call on the file failed: it may have this or not"),
+    native.STOPPED: (Stopped, "a call on the file has failed"),
+    native.OTHER_TABLES: (OtherTables, "the tree has other tables than the store"),
+    native.BUSY: (Busy, "the file is open as a store already"),
+    native.OTHER_CAPACITY: (BadFile, "the file has a store of another capacity"),
+    native.TOO_LONG: (BadFile, "the file is too long"),
+}
+
+
 def _check(status: int) -> None:
     if status == native.OUT_OF_MEMORY:
         raise MemoryError
+    if status in _WHY:
+        error, why = _WHY[status]
+        raise error(why)
     if status != native.OK:
         raise ValueError("the store is closed")
 
@@ -93,9 +108,44 @@ class Store:
     """
 
     def __init__(self, tree: Union[str, bytes] = b""):
+        fault, length = (c_uint8 * 256)(), c_size_t()
+        text = self._begin(tree)
+        status = LIBRARY.tebaldi_open(self._at, text, len(text), fault, 256, byref(length))
+        _check_tree(status, fault, length)
+        _check(status)
+
+    @classmethod
+    def open_file(cls, path: Union[str, "os.PathLike[str]"], tree: Union[str, bytes] = b"") -> Store:
+        """Opens the store that a file has, or makes the file, and locks it until the store is closed.
+
+        A commit is in the file before its block ends: it is there after a crash of the program or the system. The tree has the tables
+        that the file has, and its rows count only if the file is new.
+
+        Raises Busy if the file is open as a store already, OSError if it cannot be used, BadFile if it is no store or a damaged one,
+        OtherTables, NoRoom and BadTree.
+        """
+        store = cls.__new__(cls)
+        name, text = os.fsencode(path), store._begin(tree)
+        fault, length, place = (c_uint8 * 256)(), c_size_t(), c_uint64()
+        status = LIBRARY.tebaldi_file_open(store._file, name, text, len(text), fault, 256, byref(length), byref(place))
+        if status == native.IO:
+            number = get_errno()
+            raise OSError(number, os.strerror(number), os.fsdecode(name))
+        if status == native.DAMAGED:
+            raise BadFile("the file is damaged", place.value)
+        _check_tree(status, fault, length)
+        _check(status)
+        store._ask = LIBRARY.tebaldi_file_ask
+        store._asked = store._file
+        return store
+
+    def _begin(self, tree: Union[str, bytes]) -> bytes:
+        """Sets the fields of a store that is not open yet."""
         self._tree = text = _bytes(tree)
-        self._raw = native.RawStore()
-        self._at = byref(self._raw)
+        self._raw = native.RawFile(native.RawStore(), -1)
+        self._file, self._at = byref(self._raw), byref(self._raw.store)
+        # How a session asks: of the store, or of the store and its file.
+        self._ask, self._asked = LIBRARY.tebaldi_ask, self._at
         # One call at a time, and a place to sleep until a call has changed something.
         self._lock = threading.Lock()
         self._changed = threading.Condition(self._lock)
@@ -104,10 +154,7 @@ class Store:
         # The sessions that are free, each with its request and its reply.
         self._free = [_Session(number) for number in range(32, 0, -1)]
         self._numbers: List[Dict[str, int]] = [{}, {}, {}]
-        fault, length = (c_uint8 * 256)(), c_size_t()
-        status = LIBRARY.tebaldi_open(self._at, text, len(text), fault, 256, byref(length))
-        _check_tree(status, fault, length)
-        _check(status)
+        return text
 
     def next_epoch(self, tree: Union[str, bytes, None] = None) -> None:
         """Ends the present epoch, and begins the next one with the rows that it leaves. An epoch has room for 8,192 transactions.
@@ -115,15 +162,14 @@ class Store:
         The history begins anew, and transactions count from 1 again. `tree` has the same tables, and its rows are not used; by default
         it is the one that the store has.
 
-        Raises Unfinished as long as a transaction is, BadTree and OtherTables. The store is then as it was.
+        Raises Unfinished as long as a transaction is, BadTree, OtherTables and NoRoom: the store is then as it was. A store in a file also
+        raises Unsure and Stopped: it is stopped then, and its file has the rows.
         """
         text = self._tree if tree is None else _bytes(tree)
         fault, length, who = (c_uint8 * 256)(), c_size_t(), c_uint32()
         with self._changed:
-            status = LIBRARY.tebaldi_next_epoch(self._at, text, len(text), fault, 256, byref(length), byref(who))
+            status = LIBRARY.tebaldi_file_next_epoch(self._file, text, len(text), fault, 256, byref(length), byref(who))
             _check_tree(status, fault, length)
-            if status == native.OTHER_TABLES:
-                raise OtherTables("the tree has other tables than the store")
             if status == native.UNFINISHED or status == native.UNTOLD:
                 raise Unfinished(who.value, 0) if status == native.UNFINISHED else Unfinished(0, who.value)
             _check(status)
@@ -135,9 +181,30 @@ class Store:
     def close(self) -> None:
         """Closes the store, and frees its memory. A closed store raises ValueError at each call."""
         with self._changed:
-            LIBRARY.tebaldi_close(self._at)
+            LIBRARY.tebaldi_file_close(self._file)
             self._changes += 1
             self._changed.notify_all()
+
+    @property
+    def kept(self) -> Optional[int]:
+        """The number of commits of this epoch that are in the file; None if the store has no file."""
+        state = self._state()
+        return state and state.kept
+
+    @property
+    def left(self) -> Optional[int]:
+        """The number of bytes that are left in the file for the commits of this epoch; None if the store has no file."""
+        state = self._state()
+        return state and state.left
+
+    def _state(self) -> Optional[native.RawFileState]:
+        state = native.RawFileState()
+        with self._lock:
+            status = LIBRARY.tebaldi_file_state(self._at, byref(state))
+        if status == native.NO_SUCH:
+            return None
+        _check(status)
+        return state
 
     def __enter__(self) -> Store:
         return self
@@ -182,7 +249,7 @@ class Store:
                                   _within("count", count, 8), _within("instance", instance, 32), _within("key", key, 32), _value(value))
         told = native.RawReply()
         with self._changed:
-            _check(_ask(self._at, _within("session", session, 8), byref(asked), byref(told)))
+            _check(self._ask(self._asked, _within("session", session, 8), byref(asked), byref(told)))
             if told.kind != native.AGAIN and told.kind != native.REFUSED:
                 self._changes += 1
                 self._changed.notify_all()
@@ -378,7 +445,7 @@ class Transaction:
         store, told = self._store, session.reply
         session.request.verb = verb
         with store._lock:
-            status = _ask(store._at, session.number, session.request_at, session.reply_at)
+            status = store._ask(store._asked, session.number, session.request_at, session.reply_at)
             kind = told.kind
             if status or kind >= native.AGAIN:
                 return self._other(session, status)
@@ -394,7 +461,7 @@ class Transaction:
         while not status and told.kind == native.AGAIN:
             if not self._sleep(until):
                 raise Again(told.txn, store._name(native.NODES, told.node))
-            status = _ask(store._at, session.number, session.request_at, session.reply_at)
+            status = store._ask(store._asked, session.number, session.request_at, session.reply_at)
         _check(status)
         if told.kind == native.REFUSED:
             why = native.REFUSALS[told.refusal]
@@ -429,11 +496,16 @@ class Transaction:
         store = self._store
         if aborts:
             session.request.verb = _ABORT
-            _ask(store._at, session.number, session.request_at, session.reply_at)
+            store._ask(store._asked, session.number, session.request_at, session.reply_at)
             store._changes += 1
         self._session = None
         store._free.append(session)
         store._changed.notify_all()
+
+
+def open_file(path: Union[str, "os.PathLike[str]"], tree: Union[str, bytes] = b"") -> Store:
+    """Opens the store that a file has, or makes the file. See Store.open_file."""
+    return Store.open_file(path, tree)
 
 
 def audit(text: Union[str, bytes]) -> None:

@@ -1,13 +1,15 @@
 """What stores, transactions and exceptions do."""
 
 import ctypes
+import pathlib
 import pydoc
+import tempfile
 import threading
 import time
 import unittest
 
 import tebaldi
-from tebaldi import _native, Aborted, Again, BadRun, BadTree, NoSuchName, OtherTables, Refused, Store, TransactionOver, Unfinished
+from tebaldi import _native, Aborted, Again, BadFile, BadRun, BadTree, Busy, NoSuchName, OtherTables, Refused, Store, TransactionOver, Unfinished
 
 ACCOUNTS = """
 format = 1
@@ -161,6 +163,36 @@ class StoreTest(unittest.TestCase):
             self.assertIn(words, text)
         for name in tebaldi.__all__:
             self.assertTrue(getattr(tebaldi, name).__doc__, name)
+
+
+class FileTest(unittest.TestCase):
+    def setUp(self) -> None:
+        folder = tempfile.TemporaryDirectory()
+        self.addCleanup(folder.cleanup)
+        self.path = pathlib.Path(folder.name) / "store"
+
+    def test_keeps_its_commits(self) -> None:
+        for told in range(1, 4):
+            with tebaldi.open_file(self.path, ACCOUNTS) as store:
+                with store.transaction("transfer") as t:
+                    t.write("account", 2, (t.read("account", 2) or 0) + 1)
+                self.assertEqual(store.kept, 1)
+                store.next_epoch()
+                self.assertEqual(store.kept, 0)
+                self.assertEqual(store.rows(), [("account", 1, 100), ("account", 2, told)])
+
+    def test_refuses(self) -> None:
+        with tebaldi.open_file(self.path, ACCOUNTS), self.assertRaises(Busy):
+            tebaldi.open_file(self.path, ACCOUNTS)
+        with self.assertRaises(OtherTables):
+            tebaldi.open_file(self.path)
+        self.path.write_text("hello, this is no store")
+        with self.assertRaises(BadFile) as damaged:
+            tebaldi.open_file(self.path)
+        self.assertEqual(damaged.exception.place, 1)
+        with self.assertRaises(FileNotFoundError):
+            tebaldi.open_file(self.path.parent / "no" / "such")
+        self.assertIsNone(Store().kept)
 
 
 if __name__ == "__main__":

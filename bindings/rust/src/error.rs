@@ -31,7 +31,7 @@ pub enum Error {
         line: u32,
         why: RunFault,
     },
-    /// The text has 2^32 - 1 bytes or more.
+    /// The text has 2^32 - 1 bytes or more, or the file more than 67,108,864.
     TooLong,
     /// The tables of the tree are not those of the store.
     OtherTables,
@@ -40,6 +40,22 @@ pub enum Error {
     /// A session, by its number, was not told that its transaction was aborted.
     Untold(u8),
     OutOfMemory,
+    /// The file is open as a store already, in this process or another.
+    Busy,
+    /// The file cannot be opened, read or written: the number of the system's error.
+    Io(i32),
+    /// The file is no store, or a damaged one, at this byte.
+    Damaged {
+        place: u64,
+    },
+    /// The file has a store of another capacity.
+    OtherCapacity,
+    /// The commit or the rows do not fit the file. Nothing has changed; the next epoch has room.
+    NoRoom,
+    /// A call on the file failed. The file may have this commit, or the new epoch, or not, and the store is stopped.
+    Unsure,
+    /// A call on the file has failed earlier. Open the file anew: it has every commit that was told.
+    Stopped,
 }
 
 /// What a line of a printed run breaks.
@@ -76,6 +92,13 @@ impl fmt::Display for Error {
             Error::Unfinished(txn) => write!(f, "transaction {} is unfinished", txn.0),
             Error::Untold(session) => write!(f, "session {session} was not told of its abort"),
             Error::OutOfMemory => f.write_str("out of memory"),
+            Error::Busy => f.write_str("the file is open as a store already"),
+            Error::Io(number) => write!(f, "{}", std::io::Error::from_raw_os_error(*number)),
+            Error::Damaged { place } => write!(f, "the file is damaged at byte {place}"),
+            Error::OtherCapacity => f.write_str("the file has a store of another capacity"),
+            Error::NoRoom => f.write_str("it does not fit the file"),
+            Error::Unsure => f.write_str("a call on the file failed: it may have this or not"),
+            Error::Stopped => f.write_str("a call on the file has failed"),
         }
     }
 }

@@ -1,6 +1,6 @@
 //! The structs and functions of `tebaldi.h`.
 
-use std::ffi::c_void;
+use std::ffi::{c_char, c_int, c_void};
 use std::ptr::null_mut;
 
 #[repr(C)]
@@ -16,6 +16,31 @@ impl RawStore {
             at: null_mut(),
         }
     }
+}
+
+/// A store, and the descriptor of its file, or -1.
+#[repr(C)]
+pub struct RawFile {
+    pub store: RawStore,
+    pub fd: c_int,
+}
+
+impl RawFile {
+    pub const fn closed() -> RawFile {
+        RawFile {
+            store: RawStore::closed(),
+            fd: -1,
+        }
+    }
+}
+
+#[repr(C)]
+#[derive(Default)]
+pub struct RawFileState {
+    pub kept: u64,
+    pub left: u64,
+    pub waiting: usize,
+    pub stopped: bool,
 }
 
 // SAFETY: the library proves that what the pointer owns may go to another thread.
@@ -100,6 +125,8 @@ pub struct RawVersion {
 const _: () =
     assert!(std::mem::size_of::<RawStore>() == 16 && std::mem::size_of::<RawRequest>() == 24);
 const _: () =
+    assert!(std::mem::size_of::<RawFile>() == 24 && std::mem::size_of::<RawFileState>() == 32);
+const _: () =
     assert!(std::mem::size_of::<RawReply>() == 184 && std::mem::size_of::<RawEvent>() == 56);
 const _: () = assert!(std::mem::size_of::<RawCause>() == 24 && std::mem::size_of::<RawRow>() == 16);
 
@@ -111,6 +138,14 @@ pub const BAD_RUN: u32 = 7;
 pub const OTHER_TABLES: u32 = 9;
 pub const UNFINISHED: u32 = 10;
 pub const UNTOLD: u32 = 11;
+pub const TOO_LONG: u32 = 8;
+pub const STOPPED: u32 = 12;
+pub const UNSURE: u32 = 13;
+pub const NO_ROOM: u32 = 14;
+pub const DAMAGED: u32 = 16;
+pub const OTHER_CAPACITY: u32 = 17;
+pub const BUSY: u32 = 18;
+pub const IO: u32 = 19;
 
 pub const TABLES: u8 = 0;
 pub const TYPES: u8 = 1;
@@ -126,8 +161,18 @@ extern "C" {
         fault_room: usize,
         fault_len: *mut usize,
     ) -> u32;
-    pub fn tebaldi_next_epoch(
-        store: *mut RawStore,
+    pub fn tebaldi_file_open(
+        file: *mut RawFile,
+        path: *const c_char,
+        tree: *const u8,
+        tree_len: usize,
+        fault: *mut u8,
+        fault_room: usize,
+        fault_len: *mut usize,
+        place: *mut u64,
+    ) -> u32;
+    pub fn tebaldi_file_next_epoch(
+        file: *mut RawFile,
         tree: *const u8,
         tree_len: usize,
         fault: *mut u8,
@@ -135,7 +180,14 @@ extern "C" {
         fault_len: *mut usize,
         who: *mut u32,
     ) -> u32;
-    pub fn tebaldi_close(store: *mut RawStore);
+    pub fn tebaldi_file_ask(
+        file: *mut RawFile,
+        session: u8,
+        request: *const RawRequest,
+        reply: *mut RawReply,
+    ) -> u32;
+    pub fn tebaldi_file_close(file: *mut RawFile);
+    pub fn tebaldi_file_state(store: *mut RawStore, state: *mut RawFileState) -> u32;
     pub fn tebaldi_ask(
         store: *mut RawStore,
         session: u8,

@@ -1,11 +1,18 @@
 //! A store that threads share.
 
 use crate::error::{Error, RunFault};
-use crate::ffi::{self, RawEvent, RawReply, RawRow, RawStore, NO_SUCH, OK};
+use crate::ffi::{self, RawEvent, RawFile, RawFileState, RawReply, RawRow, NO_SUCH, OK};
 use crate::session::{Session, Txn};
 use crate::words::{cell, Cell, Event, Kind, Node, Reply, Request, Table, TxnNumber};
+use std::ffi::CString;
+use std::io;
+use std::os::unix::ffi::OsStrExt;
+use std::path::Path;
 use std::sync::{Arc, Condvar, Mutex, MutexGuard, PoisonError};
 use std::time::Instant;
+
+/// The number of the system for an argument that is none, here a path with a 0 in it.
+const EINVAL: i32 = 22;
 
 /// A store. Clones share it, also between threads: a lock admits one call at a time.
 ///
@@ -32,7 +39,7 @@ pub(crate) struct Shared {
 }
 
 struct State {
-    raw: RawStore,
+    raw: RawFile,
     taken: [bool; 32],
     /// The number of calls so far that may let another session go on.
     changes: u64,
@@ -42,7 +49,7 @@ struct State {
 impl Drop for State {
     fn drop(&mut self) {
         // SAFETY: the store is not used after this call.
-        unsafe { ffi::tebaldi_close(&mut self.raw) }
+        unsafe { ffi::tebaldi_file_close(&mut self.raw) }
     }
 }
 
@@ -58,18 +65,13 @@ impl Store {
     /// ```
     pub fn open(tree: impl AsRef<[u8]>) -> Result<Store, Error> {
         let tree = tree.as_ref();
-        let mut state = State {
-            raw: RawStore::closed(),
-            taken: [false; 32],
-            changes: 0,
-            waiters: 0,
-        };
+        let mut raw = RawFile::closed();
         let mut fault = [0; 256];
         let mut len = 0;
         // SAFETY: the store is closed, and each pointer is beside its length.
         let status = unsafe {
             ffi::tebaldi_open(
-                &mut state.raw,
+                &mut raw.store,
                 tree.as_ptr(),
                 tree.len(),
                 fault.as_mut_ptr(),
@@ -78,23 +80,101 @@ impl Store {
             )
         };
         match status {
-            OK => Ok(Store {
-                shared: Arc::new(Shared {
-                    state: Mutex::new(state),
-                    changed: Condvar::new(),
-                }),
-            }),
+            OK => Ok(Store::of(raw)),
             ffi::BAD_TREE => Err(Error::BadTree(text(&fault, len).trim_end().to_string())),
             _ => Err(Error::OutOfMemory),
         }
+    }
+
+    /// Opens the store that a file has, or makes the file. A commit is in the file before it is told: it is there after a crash of the
+    /// program or the system. The file is locked until the last clone of the store is dropped.
+    ///
+    /// The tree has the tables that the file has, and its rows count only if the file is new. Its controls may differ from the last ones.
+    ///
+    /// # Errors
+    /// [`Error::BadTree`], [`Error::Busy`], [`Error::Io`], [`Error::TooLong`], [`Error::Damaged`], [`Error::OtherCapacity`],
+    /// [`Error::OtherTables`], [`Error::NoRoom`], [`Error::OutOfMemory`].
+    ///
+    /// ```
+    /// let path = std::env::temp_dir().join(format!("tebaldi-doc-{}", std::process::id()));
+    /// # let _ = std::fs::remove_file(&path);
+    /// let store = tebaldi::Store::open_file(&path, "")?;
+    /// let (t, any) = (store.table("t")?, store.kind("any")?);
+    /// store.run(&mut store.session()?, any, |txn| txn.write(t, 7, 4))?;
+    /// assert_eq!(tebaldi::Store::open_file(&path, "").err(), Some(tebaldi::Error::Busy));
+    /// drop(store);
+    /// let again = tebaldi::Store::open_file(&path, "")?;
+    /// assert_eq!(again.rows()?, [(tebaldi::Cell { table: t, key: 7 }, 4)]);
+    /// # std::fs::remove_file(&path).unwrap();
+    /// # Ok::<(), tebaldi::Error>(())
+    /// ```
+    pub fn open_file(path: impl AsRef<Path>, tree: impl AsRef<[u8]>) -> Result<Store, Error> {
+        let path =
+            CString::new(path.as_ref().as_os_str().as_bytes()).map_err(|_| Error::Io(EINVAL))?;
+        let tree = tree.as_ref();
+        let mut raw = RawFile::closed();
+        let (mut fault, mut len, mut place) = ([0; 256], 0, 0);
+        // SAFETY: the store is closed, the path ends with a 0, and each other pointer is beside its length.
+        let status = unsafe {
+            ffi::tebaldi_file_open(
+                &mut raw,
+                path.as_ptr(),
+                tree.as_ptr(),
+                tree.len(),
+                fault.as_mut_ptr(),
+                fault.len(),
+                &mut len,
+                &mut place,
+            )
+        };
+        match status {
+            OK => Ok(Store::of(raw)),
+            ffi::BAD_TREE => Err(Error::BadTree(text(&fault, len).trim_end().to_string())),
+            ffi::DAMAGED => Err(Error::Damaged { place }),
+            _ => Err(error_of(status)),
+        }
+    }
+
+    fn of(raw: RawFile) -> Store {
+        let state = State {
+            raw,
+            taken: [false; 32],
+            changes: 0,
+            waiters: 0,
+        };
+        Store {
+            shared: Arc::new(Shared {
+                state: Mutex::new(state),
+                changed: Condvar::new(),
+            }),
+        }
+    }
+
+    /// The number of commits of this epoch that are in the file, or `None` if the store has no file.
+    pub fn kept(&self) -> Option<u64> {
+        self.file_state().map(|file| file.kept)
+    }
+
+    /// The number of bytes that are left in the file for the commits of this epoch, or `None` if the store has no file. A commit that does
+    /// not fit is answered [`Error::NoRoom`]: begin the next epoch.
+    pub fn left(&self) -> Option<u64> {
+        self.file_state().map(|file| file.left)
+    }
+
+    fn file_state(&self) -> Option<RawFileState> {
+        let mut file = RawFileState::default();
+        let mut state = self.shared.lock();
+        // SAFETY: one call at a time, by the lock.
+        let status = unsafe { ffi::tebaldi_file_state(&mut state.raw.store, &mut file) };
+        (status == OK).then_some(file)
     }
 
     /// Ends the present epoch, and begins the next one with the rows that it leaves, under a tree text with the same tables, whose
     /// rows are not used. The history begins anew, and transactions count from 1 again. An epoch has room for 8,192 transactions.
     ///
     /// # Errors
-    /// [`Error::BadTree`], [`Error::Unfinished`], [`Error::Untold`], [`Error::OtherTables`], [`Error::OutOfMemory`]. The store is
-    /// unchanged.
+    /// [`Error::BadTree`], [`Error::Unfinished`], [`Error::Untold`], [`Error::OtherTables`], [`Error::NoRoom`], [`Error::OutOfMemory`]. The
+    /// store is unchanged. [`Error::Unsure`] and [`Error::Stopped`] of a store in a file: it is stopped, and the file has its rows.
     ///
     /// ```
     /// let store = tebaldi::Store::open("")?;
@@ -112,7 +192,7 @@ impl Store {
         let mut state = self.shared.lock();
         // SAFETY: one call at a time, by the lock; each pointer is beside its length.
         let status = unsafe {
-            ffi::tebaldi_next_epoch(
+            ffi::tebaldi_file_next_epoch(
                 &mut state.raw,
                 tree.as_ptr(),
                 tree.len(),
@@ -132,7 +212,7 @@ impl Store {
             ffi::OTHER_TABLES => Err(Error::OtherTables),
             ffi::UNFINISHED => Err(Error::Unfinished(TxnNumber(who))),
             ffi::UNTOLD => Err(Error::Untold(who as u8)),
-            _ => Err(Error::OutOfMemory),
+            _ => Err(error_of(status)),
         }
     }
 
@@ -209,7 +289,7 @@ impl Store {
     /// Asks for a session by its number, whether or not it is taken, and returns the reply as it is.
     ///
     /// # Errors
-    /// [`Error::OutOfMemory`].
+    /// [`Error::OutOfMemory`]; of a store in a file also [`Error::NoRoom`], [`Error::Unsure`] and [`Error::Stopped`].
     pub fn ask(&self, session: u8, request: Request) -> Result<Reply, Error> {
         self.shared.ask(session, request)
     }
@@ -230,7 +310,7 @@ impl Store {
         // SAFETY: one call at a time, by the lock; each pointer is beside its length.
         let status = unsafe {
             ffi::tebaldi_line(
-                &mut state.raw,
+                &mut state.raw.store,
                 session,
                 &raw,
                 out.as_mut_ptr(),
@@ -253,7 +333,7 @@ impl Store {
         let mut state = self.shared.lock();
         // SAFETY: one call at a time, by the lock; the room is that of the vector.
         let numbers = filled(|out: *mut u32, room, len| unsafe {
-            ffi::tebaldi_order(&mut state.raw, out, room, len)
+            ffi::tebaldi_order(&mut state.raw.store, out, room, len)
         })?;
         Ok(numbers.into_iter().map(TxnNumber).collect())
     }
@@ -266,7 +346,7 @@ impl Store {
         let mut state = self.shared.lock();
         // SAFETY: as in `order`.
         let rows = filled(|out: *mut RawRow, room, len| unsafe {
-            ffi::tebaldi_rows(&mut state.raw, out, room, len)
+            ffi::tebaldi_rows(&mut state.raw.store, out, room, len)
         })?;
         Ok(rows
             .iter()
@@ -279,7 +359,7 @@ impl Store {
         let mut raw = RawEvent::default();
         let mut state = self.shared.lock();
         // SAFETY: one call at a time, by the lock.
-        let status = unsafe { ffi::tebaldi_event(&mut state.raw, place, &mut raw) };
+        let status = unsafe { ffi::tebaldi_event(&mut state.raw.store, place, &mut raw) };
         (status == OK).then(|| Event::of(&raw))
     }
 
@@ -293,7 +373,13 @@ impl Store {
         let mut state = self.shared.lock();
         // SAFETY: one call at a time, by the lock; the pointer is beside its length.
         let status = unsafe {
-            ffi::tebaldi_number(&mut state.raw, list, name.as_ptr(), name.len(), &mut number)
+            ffi::tebaldi_number(
+                &mut state.raw.store,
+                list,
+                name.as_ptr(),
+                name.len(),
+                &mut number,
+            )
         };
         match status {
             OK => Ok(number),
@@ -308,7 +394,7 @@ impl Store {
         // SAFETY: as in `number`.
         let status = unsafe {
             ffi::tebaldi_name(
-                &mut state.raw,
+                &mut state.raw.store,
                 list,
                 number,
                 out.as_mut_ptr(),
@@ -362,9 +448,15 @@ impl Shared {
         let asked = request.raw();
         let mut told = RawReply::default();
         // SAFETY: one call at a time, by the lock.
-        let status = unsafe { ffi::tebaldi_ask(&mut state.raw, session, &asked, &mut told) };
+        let status = unsafe {
+            if state.raw.fd < 0 {
+                ffi::tebaldi_ask(&mut state.raw.store, session, &asked, &mut told)
+            } else {
+                ffi::tebaldi_file_ask(&mut state.raw, session, &asked, &mut told)
+            }
+        };
         if status != OK {
-            return Err(Error::OutOfMemory);
+            return Err(error_of(status));
         }
         let reply = Reply::of(&told);
         if !matches!(reply, Reply::Again { .. } | Reply::Refused(_)) {
@@ -424,6 +516,21 @@ pub fn version() -> (u32, u32, u32) {
     // SAFETY: the pointer is to a version.
     unsafe { ffi::tebaldi_version(&mut version) };
     (version.major, version.minor, version.patch)
+}
+
+/// The error of a status that no other call has.
+fn error_of(status: u32) -> Error {
+    match status {
+        ffi::TOO_LONG => Error::TooLong,
+        ffi::OTHER_TABLES => Error::OtherTables,
+        ffi::STOPPED => Error::Stopped,
+        ffi::UNSURE => Error::Unsure,
+        ffi::NO_ROOM => Error::NoRoom,
+        ffi::OTHER_CAPACITY => Error::OtherCapacity,
+        ffi::BUSY => Error::Busy,
+        ffi::IO => Error::Io(io::Error::last_os_error().raw_os_error().unwrap_or(0)),
+        _ => Error::OutOfMemory,
+    }
 }
 
 fn text(bytes: &[u8], len: usize) -> String {

@@ -180,3 +180,62 @@ fn an_epoch_waits_for_its_transactions() {
     assert_eq!(store.events().count(), 0);
     assert_eq!(store.rows().unwrap(), [(Cell { table: t, key: 1 }, 5)]);
 }
+
+/// A path for a new file, which is removed in the end.
+struct Place(std::path::PathBuf);
+
+impl Place {
+    fn new(name: &str) -> Place {
+        let place = std::env::temp_dir().join(format!("tebaldi-{name}-{}", std::process::id()));
+        let _ = std::fs::remove_file(&place);
+        Place(place)
+    }
+}
+
+impl Drop for Place {
+    fn drop(&mut self) {
+        let _ = std::fs::remove_file(&self.0);
+    }
+}
+
+#[test]
+fn a_file_keeps_its_commits() {
+    let place = Place::new("keeps");
+    for told in 1..=3 {
+        let store = Store::open_file(&place.0, "").unwrap();
+        let (t, any) = (store.table("t").unwrap(), store.kind("any").unwrap());
+        let mut session = store.session().unwrap();
+        let add = |txn: &mut tebaldi::Txn<'_>| {
+            let old = txn.read(t, 7)?.unwrap_or(0);
+            txn.write(t, 7, old + 1)
+        };
+        assert_eq!(store.run(&mut session, any, add), Ok(()));
+        assert_eq!(store.kept(), Some(1));
+        store.next_epoch("").unwrap();
+        assert_eq!(store.kept(), Some(0));
+        assert_eq!(store.rows().unwrap(), [(Cell { table: t, key: 7 }, told)]);
+    }
+}
+
+#[test]
+fn a_file_is_refused() {
+    let place = Place::new("refused");
+    let store = Store::open_file(&place.0, "").unwrap();
+    assert_eq!(Store::open_file(&place.0, "").err(), Some(Error::Busy));
+    drop(store);
+    let other = "format = 1\ntables = [\"u\"]\n[[type]]\nname = \"any\"\n[[node]]\nname = \"root\"\ncontrol = \"locks\"\ntypes = [\"any\"]\n";
+    assert_eq!(
+        Store::open_file(&place.0, other).err(),
+        Some(Error::OtherTables)
+    );
+    std::fs::write(&place.0, "hello, this is no store").unwrap();
+    assert_eq!(
+        Store::open_file(&place.0, "").err(),
+        Some(Error::Damaged { place: 1 })
+    );
+    assert!(matches!(
+        Store::open_file("no/such/folder/file", ""),
+        Err(Error::Io(2))
+    ));
+    assert_eq!(blank().0.kept(), None);
+}

@@ -5,6 +5,7 @@ ghost use Rattle.teb_io.specs.Faults.{Rose};
 ghost use Rattle.teb_names.specs.declared.Reply.TheVariants as replies;
 ghost use Rattle.teb_rules.specs.Answer.{answer};
 ghost use Rattle.crash_disk.specs.Disk.{LeavesOnly};
+ghost use Rattle.crash_disk.specs.Spare.{Covers};
 ghost use Rattle.commit_laws.specs.Commits.{commit_count};
 ghost use Rattle.commit_laws.specs.Laws.{IsOfSerialRun};
 ghost use Rattle.crash_disk.specs.Calls.{AreSure, Fails, IsUpTo};
@@ -18,7 +19,7 @@ ghost use Rattle.commit_journal.specs.declared.error.DurableError.TheVariants as
 
 use crate::commit::body_of;
 use crate::{CreateError, DurableError};
-use crash_disk::Disk;
+use crash_disk::{Disk, Memory};
 use engine_core::Engine;
 use record_journal::Journal;
 use std::alloc::Global;
@@ -108,6 +109,9 @@ impl<C: Chains, D: Disk> Durable<C, D> {
 
         ensures capacity { D.capacity self.new.disk ≡ D.capacity self.old.disk }
 
+        // No call of the disk fails for want of memory.
+        ensures memory { D.refusals self.new.disk ≡ D.refusals self.old.disk }
+
         // A fault comes only at a commit, which may stand on the disk or not.
         ensures fault { IsErrOf result errors.DiskFault → Rose (D.faults self.old.disk) (D.faults self.new.disk) }
         ensures at_commit { IsErrOf result errors.DiskFault → ((answer self.old.store self.old.events session request).0 ≡ replies.Committed)
@@ -126,8 +130,15 @@ impl<C: Chains, D: Disk> Durable<C, D> {
             → AreSure (D.tally self.old.disk).promise.writes 4 (6 + 14 * length (puts_of self.old.events t)) (D.tally self.old.disk) → IsErrOf result errors.DiskFault → ⊥ }
         ensures fails { Fails 4 (D.tally self.old.disk) → IfOk result (λ reply. reply ≡ replies.Committed → ⊥) }
     {
-        let body = prepared(alloc, &mut self.engine, &self.journal, session, request)?;
-        answered(&mut self.engine, &mut self.journal, session, request, &body)
+        let (body, memory) = prepared(alloc, &mut self.engine, &self.journal, session, request)?;
+        answered(
+            &mut self.engine,
+            &mut self.journal,
+            session,
+            request,
+            memory,
+            &body,
+        )
     }
 
     /// How many commits were answered.
@@ -155,17 +166,19 @@ impl<C: Chains, D: Disk> Durable<C, D> {
     }
 }
 
-// Makes room for the answer to a request, and the bytes of the record that it would commit. Contracts see no change of the store.
+// Makes room for the answer to a request: the bytes of the record that it would commit, and memory to write them. Contracts see no change
+// of the store.
 fn prepared<C: Chains, D: Disk>(
     alloc: Global,
     engine: &mut Engine<C>,
     journal: &Journal<D>,
     session: Session,
     request: Request,
-) -> Result<Vec<u8>, DurableError>
+) -> Result<(Vec<u8>, Memory), DurableError>
     ensures same { kept_of engine.new journal.now ≡ kept_of engine.old journal.now }
     ensures ready { OnOk result (engine.new.ready ≡ true) }
-    ensures body { IfOk result (λ body. IsBodyFor engine.old.store engine.old.events session request body.items) }
+    ensures body { IfOk result (λ p. IsBodyFor engine.old.store engine.old.events session request p.0.items) }
+    ensures memory { IfOk result (λ p. Covers (D.spare_with journal.now.disk p.1) 4 (length p.0.items + 1) (journal.now.progress.end + 1 + length p.0.items)) }
     ensures fits { OnOk result (IsFull engine.old.events (room_of (D.capacity journal.now.disk) - journal.now.progress.end) session request → ⊥) }
     ensures full { IsErrOf result errors.Full → IsFull engine.old.events (room_of (D.capacity journal.now.disk) - journal.now.progress.end) session request }
     ensures runs { OnOk result (journal.now.stopped ≡ false) }
@@ -177,8 +190,9 @@ fn prepared<C: Chains, D: Disk>(
         return Err(DurableError::Stopped);
     }
     let body = body_of(alloc, engine, journal.left(), session, request)?;
+    let memory = journal.reserve(alloc, body.len())?;
     engine.ready()?;
-    Ok(body)
+    Ok((body, memory))
 }
 
 // Answers a request from what was prepared for it. A commit is on the disk before it is answered.
@@ -187,22 +201,25 @@ fn answered<C: Chains, D: Disk>(
     journal: &mut Journal<D>,
     session: Session,
     request: Request,
+    memory: Memory,
     body: &[u8],
 ) -> Result<Reply, DurableError>
     requires ready { IsTrue engine.old.ready }
     requires runs { journal.old.stopped ≡ false }
     requires keeps { KeepsAll D.seen D.may_leave engine.old.store engine.old.events journal.old }
     requires body { IsBodyFor engine.old.store engine.old.events session request body.now }
+    requires memory { Covers (D.spare_with journal.old.disk memory) 4 (length body.now + 1) (journal.old.progress.end + 1 + length body.now) }
     requires fits { IsFull engine.old.events (room_of (D.capacity journal.old.disk) - journal.old.progress.end) session request → ⊥ }
     ensures keeps { KeepsAll D.seen D.may_leave engine.new.store engine.new.events journal.new }
     ensures capacity { D.capacity journal.new.disk ≡ D.capacity journal.old.disk }
+    ensures memory { D.refusals journal.new.disk ≡ D.refusals journal.old.disk }
     ensures answered { Answered D.moment D.left_since D.safe D.faults D.tally (kept_of engine.old journal.old) (kept_of engine.new journal.new) session request result }
 {
     let reply = engine.ask(session, request);
     if reply != Reply::Committed {
         return Ok(reply);
     }
-    match journal.append(body) {
+    match journal.append(memory, body) {
         Ok(()) => Ok(reply),
         Err(Failed) => Err(DurableError::DiskFault),
     }

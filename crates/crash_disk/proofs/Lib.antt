@@ -1,2 +1,4 @@
 pub mod Logged
 pub mod Groups
+pub mod Spares
+pub mod Places

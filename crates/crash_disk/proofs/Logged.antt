@@ -6,7 +6,7 @@ use Rattle.std.proofs.lemmas.Bool.{cases_lt}
 use Rattle.crash_disk.specs.declared.call.Call.{Call}
 use Rattle.crash_disk.specs.declared.call.Call.TheVariants as call
 use Rattle.crash_disk.specs.declared.room.Room.{Room}
-use Rattle.crash_disk.specs.declared.room.Room.TheVariants.{Reserved}
+use Rattle.crash_disk.specs.declared.room.Room.TheVariants.{Reserved, Growing}
 use Rattle.crash_disk.specs.Sizes.{MayHold, reserved_calls, reserved_bytes}
 use Rattle.crash_disk.specs.Disk.{IsTorn, Holds, Elapses, Follows, NoMore}
 use Rattle.crash_disk.specs.Log.{Step, Wrote, Synced, steps, total, padded, written, after_step, after_steps, left_after, IsLeft, contents, MayLeave, LeftSince, byte_count, IsOneWriteLess, EndsSynced, synced_bytes, safe_contents}
@@ -320,6 +320,13 @@ filled bytes =
 
 pub has_room : (r : Room) (b : Bool) (calls bytes : ℕ) → (IsTrue b ↔ MayHold r calls bytes) → b ≡ false → r ≡ Reserved → calls ≤ reserved_calls → bytes ≤ reserved_bytes → ⊥
 has_room r b calls bytes holds refused is few few_bytes = absurd (cc (refused, holds.1 (subst (λ (q : Room). MayHold q calls bytes) (sym is) (few, few_bytes))))
+
+pub holds_all : (r : Room) (b : Bool) (calls bytes : ℕ) → (IsTrue b ↔ MayHold r calls bytes) → b ≡ false → (r ≡ Reserved → (calls ≤ reserved_calls) × (bytes ≤ reserved_bytes)) → ⊥
+holds_all Reserved b calls bytes holds refused fits = absurd (cc (refused, holds.1 (fits refl)))
+holds_all Growing b calls bytes holds refused fits = absurd (cc (refused, holds.1 tt))
+
+pub both_used : (r : Room) (b : Bool) (calls bytes : ℕ) → (IsTrue b ↔ MayHold r calls bytes) → b ≡ true → r ≡ Reserved → (calls ≤ reserved_calls) × (bytes ≤ reserved_bytes)
+both_used r b calls bytes holds fits is = subst (λ (q : Room). MayHold q calls bytes) is (holds.0 fits)
 
 pub room_used : (r : Room) (b : Bool) (calls bytes : ℕ) → (IsTrue b ↔ MayHold r calls bytes) → b ≡ true → r ≡ Reserved → calls ≤ reserved_calls
 room_used r b calls bytes holds fits is = (subst (λ (q : Room). MayHold q calls bytes) is (holds.0 fits)).0

@@ -4,3 +4,5 @@ pub mod Sizes
 pub mod Log
 pub mod LogLaws
 pub mod Left
+pub mod Spare
+pub mod Spares

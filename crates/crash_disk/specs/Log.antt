@@ -10,16 +10,23 @@ pub data Step : Type 0 where
   Wrote : ℕ → List ℕ → Step
   Synced : Step
 
--- what contracts see of a log: its steps, the first one first, and how much it may hold
+-- what contracts see of a log: its steps, the first one first, how much it may hold, and for how many steps and bytes in all it surely has memory
 pub record Logged : Type 0 where
   pub steps : List Step
   pub room : Room
+  pub sure_calls : ℕ
+  pub sure_bytes : ℕ
 
 -- the bytes of the writes stand one after the other
 abbrev pub steps : List Call → List ℕ → List Step
 steps [] data_ = []
 steps (call.Write at n ∷ cs) data_ = Wrote at (take n data_) ∷ steps cs (drop n data_)
 steps (call.Sync ∷ cs) data_ = Synced ∷ steps cs data_
+
+-- a call with the bytes that it wrote
+abbrev pub step_of : Call → List ℕ → Step
+step_of (call.Write at n) bytes = Wrote at bytes
+step_of call.Sync bytes = Synced
 
 -- how many bytes the writes have
 abbrev pub byte_count : List Step → ℕ

@@ -6,7 +6,8 @@ ghost use Rattle.crash_disk.specs.Calls.{IsBefore, IsFrom};
 
 use teb_io::Failed;
 
-/// How many calls were made, from which of them on they fail, and how many faults there were. Neither count goes past 2^64 - 1.
+/// How many calls were made, from which of them on they fail, how many faults there were, and how many of these for want of memory. No count
+/// goes past 2^64 - 1.
 #[derive(Clone, Copy, Debug, PartialEq, Eq)]
 pub struct Counter {
     /// How many calls were made.
@@ -15,17 +16,20 @@ pub struct Counter {
     pub stop: u32,
     /// How many faults there were.
     pub faults: u64,
+    /// How many of them for want of memory.
+    pub refusals: u64,
 }
 
 impl Counter {
     /// No call was made. The calls from `stop` on fail; 0 names no call.
     pub fn from_stop(stop: u32) -> Counter
-        ensures { result ≡ record { made = 0; stop = stop; faults = 0 } }
+        ensures { result ≡ record { made = 0; stop = stop; faults = 0; refusals = 0 } }
     {
         Counter {
             made: 0,
             stop,
             faults: 0,
+            refusals: 0,
         }
     }
 
@@ -41,6 +45,7 @@ impl Counter {
         ensures stopped { IsFrom self.old.stop (next self.old.made) → IsErr result }
         ensures cause { HasCause self.old.faults self.new.faults result }
         ensures no_fault { OnOk result (self.new.faults ≡ self.old.faults) }
+        ensures no_refusal { self.new.refusals ≡ self.old.refusals }
     {
         self.made = self.made.saturating_add(1);
         if self.stop != 0 && self.made >= u64::from(self.stop) {
@@ -51,12 +56,25 @@ impl Counter {
     }
 
     /// Counts one fault more. The calls stay as they were.
-    pub fn fault(&mut self)
+    fn fault(&mut self)
         ensures rose { Rose self.old.faults self.new.faults }
         ensures later { self.old.faults ≤ self.new.faults }
         ensures made { self.new.made ≡ self.old.made }
         ensures stop { self.new.stop ≡ self.old.stop }
+        ensures no_refusal { self.new.refusals ≡ self.old.refusals }
     {
         self.faults = self.faults.saturating_add(1);
+    }
+
+    /// Counts one fault more, for want of memory. The calls stay as they were.
+    pub fn refuse(&mut self)
+        ensures rose { Rose self.old.faults self.new.faults }
+        ensures later { self.old.faults ≤ self.new.faults }
+        ensures refused { Rose self.old.refusals self.new.refusals }
+        ensures made { self.new.made ≡ self.old.made }
+        ensures stop { self.new.stop ≡ self.old.stop }
+    {
+        self.fault();
+        self.refusals = self.refusals.saturating_add(1);
     }
 }

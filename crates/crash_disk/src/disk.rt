@@ -1,10 +1,13 @@
 //! A disk as a journal sees it: what a read gives, and what a crash may leave.
 
-ghost use Rattle.std.specs.Prelude.{◌≡◌, ◌+◌, ◌<◌, ◌≤◌, ◌^◌, List, ℕ, length, IfOk, OnOk, OnErr};
+ghost use Rattle.std.specs.Prelude.{◌≡◌, ◌+◌, ◌<◌, ◌≤◌, ◌^◌, List, ℕ, length, IfOk, OnOk, OnErr, IsErr};
 ghost use Rattle.crash_disk.specs.Disk.{Only, Follows, NoMore, IsTorn, Holds, IsRead, Elapses};
 ghost use Rattle.crash_disk.specs.Calls.{Tally, AreCalls};
+ghost use Rattle.crash_disk.specs.Spare.{Spare, Covers, IsNoLess, UsesUp};
 ghost use Rattle.teb_io.specs.Faults.{HasCause};
 
+use crate::Memory;
+use std::alloc::{AllocError, Global};
 use teb_io::Failed;
 
 /// The capacity of a disk for which none is told, in bytes.
@@ -12,6 +15,8 @@ pub const DEFAULT_CAPACITY: u64 = 1_048_576;
 
 /// A device of bytes, which may crash at any moment. Each call may fail, and a call that fails raises the count of faults.
 pub trait Disk {
+    ghost use Rattle.crash_disk.specs.declared.spare.Memory.{Memory};
+
     /// The bytes that a read gives.
     ghost seen: { Self → List ℕ };
 
@@ -36,9 +41,48 @@ pub trait Disk {
     /// How many bytes it can hold. It stays.
     ghost capacity: { Self → ℕ };
 
+    /// Each call to come fails.
+    ghost broken: { Self → Type 0 };
+
+    /// How often a call has failed for want of memory.
+    ghost refusals: { Self → ℕ };
+
+    /// For how many calls to come it has memory.
+    ghost spare: { Self → Spare };
+
+    /// And once it has taken this memory.
+    ghost spare_with: { Self → Memory → Spare };
+
     /// Returns how many bytes the disk can hold: each write ends there or before. It is no call of the device.
     fn capacity(&self) -> u64
         ensures { result ≡ capacity self.now };
+
+    /// Returns memory for `calls` writes and syncs more, which write `bytes` bytes in all, none of them past the place `end`. The disk takes it
+    /// by `adopt`. It is no call of the device.
+    ///
+    /// # Errors
+    /// `AllocError`: out of memory.
+    fn reserve(
+        &self,
+        alloc: Global,
+        calls: usize,
+        end: u64,
+        bytes: usize,
+    ) -> Result<Memory, AllocError>
+        ensures { IfOk result (λ memory. Covers (spare_with self.now memory) calls bytes end) };
+
+    /// Takes memory that was reserved for it. It is no call of the device: all else stays.
+    fn adopt(&mut self, memory: Memory)
+        ensures spare { IsNoLess (spare_with self.old memory) (spare self.new) }
+        ensures refusals { refusals self.new ≡ refusals self.old }
+        ensures seen { seen self.new ≡ seen self.old }
+        ensures crash { NoMore (may_leave self.old) (may_leave self.new) }
+        ensures clock { moment self.new ≡ moment self.old }
+        ensures time { (t : ℕ) (c : List ℕ) → left_since self.new t c → left_since self.old t c }
+        ensures safe { safe self.new ≡ safe self.old }
+        ensures capacity { capacity self.new ≡ capacity self.old }
+        ensures calls { tally self.new ≡ tally self.old }
+        ensures faults { faults self.new ≡ faults self.old };
 
     /// How many bytes there are. It changes no byte, and nothing that a crash may leave.
     ///
@@ -53,7 +97,9 @@ pub trait Disk {
         ensures capacity { capacity self.new ≡ capacity self.old }
         ensures calls { AreCalls (tally self.old).promise.reads 1 0 (tally self.old) (tally self.new) result }
         ensures cause { HasCause (faults self.old) (faults self.new) result }
-        ensures no_fault { OnOk result (faults self.new ≡ faults self.old) };
+        ensures no_fault { OnOk result (faults self.new ≡ faults self.old) }
+        ensures broken { broken self.old → IsErr result }
+        ensures memory { UsesUp 0 0 0 (spare self.old) (spare self.new) (refusals self.old) (refusals self.new) };
 
     /// Reads the next bytes from a place on into the front of the buffer, as many as it likes, and answers how many. For a buffer
     /// that is not empty, 0 comes only at or past the end. It changes no byte of the device, and nothing that a crash may leave.
@@ -69,7 +115,9 @@ pub trait Disk {
         ensures capacity { capacity self.new ≡ capacity self.old }
         ensures calls { AreCalls (tally self.old).promise.reads 1 0 (tally self.old) (tally self.new) result }
         ensures cause { HasCause (faults self.old) (faults self.new) result }
-        ensures no_fault { OnOk result (faults self.new ≡ faults self.old) };
+        ensures no_fault { OnOk result (faults self.new ≡ faults self.old) }
+        ensures broken { broken self.old → IsErr result }
+        ensures memory { UsesUp 0 0 0 (spare self.old) (spare self.new) (refusals self.old) (refusals self.new) };
 
     /// Writes over what is there, and past the end. Until a sync that succeeds, the range and what lies past the old end may hold
     /// any bytes after a crash. All other bytes stay.
@@ -86,7 +134,9 @@ pub trait Disk {
         ensures capacity { capacity self.new ≡ capacity self.old }
         ensures calls { AreCalls (tally self.old).promise.writes 1 (length bytes.now) (tally self.old) (tally self.new) result }
         ensures cause { HasCause (faults self.old) (faults self.new) result }
-        ensures no_fault { OnOk result (faults self.new ≡ faults self.old) };
+        ensures no_fault { OnOk result (faults self.new ≡ faults self.old) }
+        ensures broken { broken self.old → IsErr result }
+        ensures memory { UsesUp 1 (length bytes.now) (at + length bytes.now) (spare self.old) (spare self.new) (refusals self.old) (refusals self.new) };
 
     /// Makes all bytes safe: a crash right after it leaves what a read gives. It changes no byte.
     ///
@@ -103,7 +153,9 @@ pub trait Disk {
         ensures not_safe { OnErr result (safe self.new ≡ safe self.old) }
         ensures calls { AreCalls (tally self.old).promise.writes 1 0 (tally self.old) (tally self.new) result }
         ensures cause { HasCause (faults self.old) (faults self.new) result }
-        ensures no_fault { OnOk result (faults self.new ≡ faults self.old) };
+        ensures no_fault { OnOk result (faults self.new ≡ faults self.old) }
+        ensures broken { broken self.old → IsErr result }
+        ensures memory { UsesUp 1 0 0 (spare self.old) (spare self.new) (refusals self.old) (refusals self.new) };
 
     /// A disk can hold a byte, and fewer than 2^40.
     ghost some: { (disk : Self) → 0 < capacity disk };

@@ -23,6 +23,7 @@ impl MemDisk {
         ensures capacity { IfOk result (λ disk. disk.capacity ≡ default_capacity) }
         ensures made { IfOk result (λ disk. disk.counter.made ≡ 0) }
         ensures stop { IfOk result (λ disk. disk.counter.stop ≡ stop) }
+        ensures faults { IfOk result (λ disk. disk.counter.faults ≡ 0) }
     {
         Ok(MemDisk {
             image: Vec::with_capacity(alloc, DEFAULT_CAPACITY as usize)?,
@@ -42,6 +43,7 @@ impl MemDisk {
         ensures capacity { result.capacity ≡ capacity }
         ensures made { result.counter.made ≡ 0 }
         ensures stop { result.counter.stop ≡ stop }
+        ensures faults { result.counter.faults ≡ 0 }
     {
         MemDisk {
             image: Vec::new(alloc),
@@ -61,7 +63,11 @@ impl MemDisk {
         requires small { capacity < 2 ^ 40 }
         ensures seen { IfOk result (λ disk. contents disk.log.steps ≡ bytes.items) }
         ensures safe { IfOk result (λ disk. Only bytes.items (MayLeave disk.log.steps)) }
+        ensures room { IfOk result (λ disk. disk.log.room ≡ Growing) }
         ensures capacity { IfOk result (λ disk. disk.capacity ≡ capacity) }
+        ensures made { IfOk result (λ disk. disk.counter.made ≡ 0) }
+        ensures stop { IfOk result (λ disk. disk.counter.stop ≡ 0) }
+        ensures faults { IfOk result (λ disk. disk.counter.faults ≡ 0) }
     {
         let log = Log::of(alloc, &bytes)?;
         Ok(MemDisk {

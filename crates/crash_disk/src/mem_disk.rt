@@ -1,19 +1,22 @@
 //! A disk in memory meets what is asked of a disk.
 
-ghost use Rattle.std.specs.Prelude.{◌≡◌, ◌+◌, ◌<◌, ◌≤◌, ◌^◌, ◌++◌, ◌∷◌, [], length, vec_capacity, OnOk, OnErr, IsOk};
+ghost use Rattle.std.specs.Prelude.{◌≡◌, ◌+◌, ◌-◌, ◌<◌, ◌≤◌, ◌^◌, ◌++◌, ◌∷◌, [], length, vec_capacity, OnOk, OnErr, IsOk};
 ghost use Rattle.crash_disk.specs.declared.room.Room.TheVariants.{Reserved};
 ghost use Rattle.crash_disk.specs.Sizes.{reserved_calls, reserved_bytes};
 ghost use Rattle.crash_disk.specs.Log.{Wrote, byte_count, written};
 
 use crate::image::{copy_from, put, reserve};
-use crate::{Disk, Log, MemDisk};
-use std::alloc::AllocError;
+use crate::spare::{more_than, widen};
+use crate::{Disk, Log, MemDisk, Memory};
+use std::alloc::{AllocError, Global};
 use teb_io::Failed;
 
 impl Disk for MemDisk {
     ghost use Rattle.std.specs.Prelude.{length};
     ghost use Rattle.crash_disk.specs.Log.{contents, safe_contents, MayLeave, LeftSince, byte_count};
-    ghost use Rattle.crash_disk.specs.Calls.{memory_tally};
+    ghost use Rattle.teb_io.specs.Faults.{next};
+    ghost use Rattle.crash_disk.specs.Calls.{memory_tally, IsFrom};
+    ghost use Rattle.crash_disk.specs.Spares.{spare_of, spare_with as mem_spare_with};
     ghost use Rattle.crash_disk.specs.LogLaws.{safe_is_left as log_safe_is_left, read_is_left as log_read_is_left, counts_now as log_counts_now, only_now as log_only_now};
 
     ghost seen = { λ m. contents m.log.steps };
@@ -32,6 +35,14 @@ impl Disk for MemDisk {
 
     ghost capacity = { λ m. m.capacity };
 
+    ghost broken = { λ m. IsFrom m.counter.stop (next m.counter.made) };
+
+    ghost refusals = { λ m. m.counter.refusals };
+
+    ghost spare = { λ m. spare_of m };
+
+    ghost spare_with = { λ m more. mem_spare_with m more };
+
     ghost read_is_left = { λ m. log_read_is_left m.log.steps };
 
     ghost safe_is_left = { λ m. log_safe_is_left m.log.steps };
@@ -46,6 +57,32 @@ impl Disk for MemDisk {
 
     fn capacity(&self) -> u64 {
         self.capacity
+    }
+
+    fn reserve(
+        &self,
+        alloc: Global,
+        calls: usize,
+        end: u64,
+        bytes: usize,
+    ) -> Result<Memory, AllocError> {
+        let (calls, bytes) = self.log.reserve(alloc, calls, bytes)?;
+        let image = more_than(alloc, self.image.capacity(), end as usize)?;
+        Ok(Memory {
+            image,
+            calls,
+            bytes,
+        })
+    }
+
+    fn adopt(&mut self, memory: Memory) {
+        let Memory {
+            image,
+            calls,
+            bytes,
+        } = memory;
+        widen(&mut self.image, image);
+        self.log.adopt(calls, bytes);
     }
 
     fn len(&mut self) -> Result<u64, Failed> {
@@ -66,7 +103,7 @@ impl Disk for MemDisk {
         match write(&mut self.image, &mut self.log, at, bytes) {
             Ok(()) => Ok(()),
             Err(_) => {
-                self.counter.fault();
+                self.counter.refuse();
                 Err(Failed)
             }
         }
@@ -77,7 +114,7 @@ impl Disk for MemDisk {
         match self.log.sync() {
             Ok(()) => Ok(()),
             Err(_) => {
-                self.counter.fault();
+                self.counter.refuse();
                 Err(Failed)
             }
         }
@@ -94,6 +131,8 @@ fn write(image: &mut Vec<u8>, log: &mut Log, at: u64, bytes: &[u8]) -> Result<()
     ensures capacity { vec_capacity image.old ≤ vec_capacity image.new }
     ensures sure { log.old.room ≡ Reserved → at + length bytes.now ≤ vec_capacity image.old → length log.old.steps < reserved_calls
         → byte_count log.old.steps + length bytes.now ≤ reserved_bytes → IsOk result }
+    ensures covered { at + length bytes.now ≤ vec_capacity image.old → length log.old.steps < log.old.sure_calls
+        → length bytes.now ≤ log.old.sure_bytes - byte_count log.old.steps → IsOk result }
 {
     reserve(image, at as usize + bytes.len())?;
     log.write(at, bytes)?;

@@ -19,6 +19,7 @@ pub trait Renew: Disk {
         ensures durable { IfOk result (λ disk. Only (Self.seen disk) (Self.may_leave disk)) }
         ensures capacity { IfOk result (λ disk. Self.capacity disk ≡ Self.capacity self) }
         ensures faults { IfOk result (λ disk. Self.faults disk ≡ Self.faults self) }
+        ensures refusals { IfOk result (λ disk. Self.refusals disk ≡ Self.refusals self) }
         ensures back { IfErr result (λ disk. disk ≡ self) };
 }
 

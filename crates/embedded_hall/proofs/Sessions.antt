@@ -1,9 +1,8 @@
 -- Passes that are still of their sessions.
 use Rattle.std.proofs.Common.{◌≡◌, ℕ, suc, ◌<◌, List, [], ◌∷◌, ◌++◌, map, length, get_or, take, drop, refl, ◌∙◌, ap, arith}
 use Rattle.std.proofs.Math.Seq.{take-append_seam}
-use Rattle.version_chain.specs.declared.chains.Chains.{Ghosts}
+use Rattle.session_server.specs.Halls.{Ghosts, Pass}
 use Rattle.session_server.specs.Passes.{number_of}
-use Rattle.session_server.specs.declared.pass.Pass.{Pass}
 
 module _ {C : Type 0} {g : Ghosts C} where
   same_numbers : (old new : List (Pass C g)) → length new ≡ length old → ((i : ℕ) (d : Pass C g) → i < length old → (get_or new i d).session ≡ (get_or old i d).session) → map number_of new ≡ map number_of old

@@ -5,6 +5,7 @@ pub mod Errors
 pub mod GoingOn
 pub mod Labels
 pub mod LifeGoesOn
+pub mod NextRows
 pub mod Opened
 pub mod Outside
 pub mod Refused

@@ -1,13 +1,29 @@
-//! The store that goes on: an engine whose commits are kept on a disk, in epochs that follow one another without end.
+//! The store that goes on: an engine whose commits are kept on a disk, over epochs, crashes and reopenings.
 //!
-//! An [`EngineStore`] answers requests as its engine does, and a commit is on the disk before it is answered. An epoch has one engine;
-//! `next_epoch` ends it with a checkpoint of all rows, and goes on with a new engine over these rows. `open` begins an epoch with the rows
-//! that a disk has.
+//! An [`EngineStore`] answers requests as its engine does, and a commit is on the disk before it is answered. The shell keeps its
+//! store in one, and `embedded_file` shows one in a program.
 //!
-//! **What is proved.** A crash at any moment of a call leaves the rows after the first k commits of the epoch, and k is at least the
-//! number of commits that were answered. The next opening finds these rows. The serial orders of the commits that were kept, over all
-//! epochs, one after the other, are one serial order of the whole life. The contracts say this for every past: a store keeps nothing of
-//! the epochs before the present one.
+//! | Call | |
+//! |---|---|
+//! | `EngineStore::open` | begins an epoch with the rows that a disk has, or with those of the setup if it has none |
+//! | `ask` | answers a request; a commit makes four calls of the disk, and all other requests none |
+//! | `is_drained` | whether no transaction is unfinished and each session was told of its abort, as `next_epoch` asks |
+//! | `next_epoch` | writes a checkpoint of all rows, and goes on with a new engine over them, under any tree with the same tables |
+//! | `into_disk` | the disk, which may be opened again, also after a failure |
+//!
+//! - An *epoch* is the time of one engine, from an opening or a `next_epoch` to the next. Its transactions count from 1.
+//! - A *life* is the epochs of a disk, one after the other, each up to the last commit that was kept (`specs/Lives.antt`).
+//! - The *label* of a disk is the names of its tables. `open` refuses a disk with other tables, and writes nothing.
+//! - A commit is *unsure* if the disk failed at it: the disk may keep it or not, and the store is *stopped* ([`AskError`]).
+//!
+//! **What is proved.** A crash at any moment of a call, or after it, leaves the rows after the first k commits of the epoch, and k
+//! is at least the number of commits that were answered (`ask`, clauses `any_moment` and `images`). The next opening finds these
+//! rows (`open`, clause `found`). The serial orders of the commits that were kept, over all epochs, one after the other, are one
+//! serial order of the whole life ([`lives_are_serial`], and the clauses `life`). The contracts say this for every past: a store
+//! keeps nothing of the epochs before the present one.
+//!
+//! **Not claimed**: anything of a disk that loses bytes that were safe. No epoch ends by itself: a commit that the rest of the
+//! half may not hold is refused (`Full`), until its owner calls `next_epoch`.
 #![tactic(auto)]
 
 mod error;

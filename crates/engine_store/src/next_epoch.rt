@@ -65,6 +65,9 @@ impl<C: Chains, D: Renew> EngineStore<C, D> {
         ensures fault { IfErr result (λ refused. refused.why ≡ errors.DiskFault
             → (refused.store.journal.stopped ≡ true) × Rose (D.faults self.journal.disk) (D.faults refused.store.journal.disk)) }
 
+        // No call of the disk fails for want of memory.
+        ensures memory { MatchResult result (λ o. D.refusals o.0.journal.disk ≡ D.refusals self.journal.disk) (λ refused. D.refusals refused.store.journal.disk ≡ D.refusals self.journal.disk) }
+
         // Whatever epochs are past, the life goes on.
         ensures course { (past : List EngineModel) → IsCourse (record { past = past; present = self.engine })
             → IfOk result (λ o. IsCourse (record { past = past ++ self.engine ∷ []; present = o.0.engine })) }
@@ -96,6 +99,47 @@ impl<C: Chains, D: Renew> EngineStore<C, D> {
     }
 }
 
+impl<C: Chains, D: Disk> EngineStore<C, D> {
+    /// Ends the present epoch, and begins the next one, as `next_epoch` does, on the same disk: it is not renewed, and keeps its calls. It
+    /// returns the engine of the epoch that has ended.
+    ///
+    /// # Errors
+    /// Those of `next_epoch`. The store is as it was, except for `DiskFault`, after which it is stopped.
+    pub fn begin_epoch(
+        &mut self,
+        alloc: Global,
+        setup: Setup,
+        chains: C,
+    ) -> Result<Engine<C>, NextError>
+        requires setup { IsWhole (setup_view setup) }
+        requires chains { (x : TheCell) → C.lists chains x ≡ [] }
+        ensures refused { MatchResult result (λ _. MayFollow self.old.engine setup.names.tables) (IsCause self.old.journal.layout self.old.engine setup.names.tables) }
+        ensures begun { IfOk result (λ past. (past ≡ self.old.engine) × IsStarted setup self.old.engine self.new.engine) }
+        ensures running { IfOk result (λ _. (self.new.journal.acknowledged ≡ 0) × (self.new.journal.stopped ≡ false)) }
+        ensures kept { IfErr result (λ why. (why ≡ errors.DiskFault → ⊥) → self.new ≡ self.old) }
+        ensures back { OnErr result ((self.new.engine ≡ self.old.engine) × (self.new.journal.acknowledged ≡ self.old.journal.acknowledged)) }
+        ensures stopped { IsErrOf result errors.Stopped → self.old.journal.stopped ≡ true }
+        ensures fault { IsErrOf result errors.DiskFault → self.new.journal.stopped ≡ true }
+        ensures layout { self.new.journal.layout ≡ self.old.journal.layout }
+
+        // A crash at any moment of the call leaves the first commits of the epoch that ends, and if the next one begins, the rows that it
+        // begins with.
+        ensures any_moment { LeavesOnly D.moment D.left_since self.old.journal.disk self.new.journal.disk
+            (TellsCommits self.old.journal.layout self.old.engine.store self.old.engine.events self.old.journal.acknowledged) }
+        ensures any_moment_next { IfOk result (λ _. LeavesOnly D.moment D.left_since self.old.journal.disk self.new.journal.disk
+            (TellsCommits self.new.journal.layout self.new.engine.store self.new.engine.events 0)) }
+        // A crash after it.
+        ensures images { (image : List ℕ) → D.may_leave self.new.journal.disk image
+            → TellsCommits self.new.journal.layout self.new.engine.store self.new.engine.events self.new.journal.acknowledged image }
+    {
+        let _ = self.store.acknowledged();
+        match begin_next(alloc, &mut self.store, setup, chains) {
+            Ok(past) => Ok(past),
+            Err(why) => Err(why),
+        }
+    }
+}
+
 /// Ends the epoch of a store, and begins the next one under a setup. It returns the engine of the epoch that has ended.
 ///
 /// # Errors
@@ -111,12 +155,15 @@ fn begin_next<C: Chains, D: Disk>(
     ensures refused { MatchResult result (λ _. MayFollow store.old.engine.engine setup.names.tables) (IsCause store.old.journal.layout store.old.engine.engine setup.names.tables) }
     ensures begun { IfOk result (λ past. (past ≡ store.old.engine.engine) × IsStarted setup store.old.engine.engine store.new.engine.engine × (store.new.journal.acknowledged ≡ 0) × (store.new.journal.stopped ≡ false)) }
     ensures engine { IfOk result (λ _. IsOfEngine store.new.engine.engine) }
+    ensures rows { IfOk result (λ _. (x : TheCell) → row_of store.new.engine.engine.store.rows x
+        ≡ after_records (records_of store.old.engine.engine.store.setup store.old.engine.engine.events) (row_of store.old.engine.engine.store.rows) x) }
     ensures back { OnErr result ((store.new.engine.engine ≡ store.old.engine.engine) × (store.new.journal.acknowledged ≡ store.old.journal.acknowledged)) }
     ensures kept { IfErr result (λ why. (why ≡ errors.DiskFault → ⊥) → store.new ≡ store.old) }
     ensures stopped { IsErrOf result errors.Stopped → store.old.journal.stopped ≡ true }
     ensures stays { store.old.journal.stopped ≡ true → IsErrOf result errors.Stopped }
     ensures fault { IsErrOf result errors.DiskFault → (store.new.journal.stopped ≡ true) × Rose (D.faults store.old.journal.disk) (D.faults store.new.journal.disk) }
     ensures layout { store.new.journal.layout ≡ store.old.journal.layout }
+    ensures memory { D.refusals store.new.journal.disk ≡ D.refusals store.old.journal.disk }
     ensures any_moment { LeavesOnly D.moment D.left_since store.old.journal.disk store.new.journal.disk
         (TellsCommits store.old.journal.layout store.old.engine.engine.store store.old.engine.engine.events store.old.journal.acknowledged) }
     ensures images { (image : List ℕ) → D.may_leave store.new.journal.disk image
@@ -186,6 +233,7 @@ fn renewed<C: Chains, D: Renew>(
     ensures same { (result.journal.layout ≡ store.journal.layout) × (result.journal.acknowledged ≡ store.journal.acknowledged) × (result.journal.stopped ≡ store.journal.stopped) }
     ensures seen { D.seen result.journal.disk ≡ D.seen store.journal.disk }
     ensures faults { D.faults result.journal.disk ≡ D.faults store.journal.disk }
+    ensures refusals { D.refusals result.journal.disk ≡ D.refusals store.journal.disk }
 {
     match store.renew(alloc) {
         Ok(store) => store,

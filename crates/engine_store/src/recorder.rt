@@ -7,7 +7,7 @@ ghost use Rattle.commit_journal.specs.Kept.{IsFull};
 use commit_journal::{BodyError, body_of};
 use engine_core::Engine;
 use epoch_store::{PrepareError, Recorder};
-use std::alloc::Global;
+use std::alloc::{AllocError, Global};
 use teb_history::History;
 use teb_names::{Cell, Reply, Request, Session};
 use version_chain::Chains;
@@ -33,22 +33,22 @@ impl<C: Chains> Recorder for RecordingEngine<C> {
 
     ghost lacks = { λ e left s r. IsFull e.engine.events left s r };
 
-    fn prepare(
-        &mut self,
+    fn body(
+        &self,
         alloc: Global,
         left: u64,
         session: Session,
         request: Request,
     ) -> Result<Vec<u8>, PrepareError> {
-        let body = match body_of(alloc, &self.engine, left, session, request) {
-            Ok(body) => body,
-            Err(BodyError::Full) => return Err(PrepareError::Full),
-            Err(BodyError::OutOfMemory) => return Err(PrepareError::OutOfMemory),
-        };
-        match self.engine.ready() {
-            Ok(()) => Ok(body),
-            Err(_) => Err(PrepareError::OutOfMemory),
+        match body_of(alloc, &self.engine, left, session, request) {
+            Ok(body) => Ok(body),
+            Err(BodyError::Full) => Err(PrepareError::Full),
+            Err(BodyError::OutOfMemory) => Err(PrepareError::OutOfMemory),
         }
+    }
+
+    fn make_ready(&mut self) -> Result<(), AllocError> {
+        self.engine.ready()
     }
 
     fn answer(&mut self, session: Session, request: Request) -> Reply {

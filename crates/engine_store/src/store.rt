@@ -95,6 +95,9 @@ impl<C: Chains, D: Disk> EngineStore<C, D> {
         ensures unsure { IsErrOf result errors.Unsure → ((answer self.old.engine.store self.old.engine.events session request).0 ≡ replies.Committed)
             × (self.new.journal.stopped ≡ true) × Rose (D.faults self.old.journal.disk) (D.faults self.new.journal.disk) }
 
+        // No call of the disk fails for want of memory.
+        ensures memory { D.refusals self.new.journal.disk ≡ D.refusals self.old.journal.disk }
+
         // Only a commit touches the disk.
         ensures untouched { IfOk result (λ reply. (reply ≡ replies.Committed → ⊥) → self.new.journal ≡ self.old.journal) }
         ensures four_calls { IfOk result (λ reply. reply ≡ replies.Committed → (D.tally self.old.journal.disk).made + 4 < 2 ^ 64
@@ -149,6 +152,16 @@ impl<C: Chains, D: Disk> EngineStore<C, D> {
         ensures { result + self.now.journal.end ≡ half_size self.now.journal.layout.capacity }
     {
         self.store.left()
+    }
+
+    /// The disk. A crash leaves the rows after the first commits of it, at least those that were answered.
+    pub fn disk(&self) -> &D
+        ensures disk { result.now ≡ self.now.journal.disk }
+        ensures images { (image : List ℕ) → D.may_leave self.now.journal.disk image
+            → TellsCommits self.now.journal.layout self.now.engine.store self.now.engine.events self.now.journal.acknowledged image }
+    {
+        let _ = self.store.engine();
+        self.store.disk()
     }
 
     /// The disk, as it is. The engine is dropped. The disk may be opened again, also after a fault.

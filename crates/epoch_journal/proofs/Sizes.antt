@@ -22,3 +22,7 @@ small_half capacity = omega arith
 pub both_fit : (capacity : ℕ) (first : Bool) (n : ℕ) → 0 < n → n ≤ half_size capacity → half_at capacity first + n ≤ capacity
 both_fit capacity true n some le = omega (arith, two_halves capacity (omega arith))
 both_fit capacity false n some le = omega (arith, two_halves capacity (omega arith))
+
+pub half_some : (capacity : ℕ) (first : Bool) → 13 ≤ half_at capacity first
+half_some capacity true = omega arith
+half_some capacity false = omega arith

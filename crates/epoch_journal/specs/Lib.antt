@@ -7,3 +7,4 @@ pub mod Laws
 pub mod Read
 pub mod Errors
 pub mod Next
+pub mod Memory

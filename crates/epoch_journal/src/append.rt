@@ -1,6 +1,6 @@
 //! How a journal in epochs grows.
 
-ghost use Rattle.std.specs.Prelude.{◌≡◌, ◌+◌, ◌<◌, ◌≤◌, ◌++◌, ◌∷◌, [], List, ℕ, length, true, false, OnOk, OnErr};
+ghost use Rattle.std.specs.Prelude.{◌≡◌, ◌+◌, ◌<◌, ◌≤◌, ◌++◌, ◌∷◌, [], List, ℕ, length, true, false, IfOk, OnOk, OnErr};
 ghost use Rattle.teb_io.specs.Faults.{HasCause};
 ghost use Rattle.teb_rules.specs.Replay.{Values};
 ghost use Rattle.crash_disk.specs.Calls.{AreCalls};
@@ -10,20 +10,36 @@ ghost use Rattle.record_journal.specs.Journal.{IsBody};
 ghost use Rattle.epoch_journal.specs.Layout.{half_size};
 ghost use Rattle.epoch_journal.specs.Telling.{TellsOn};
 ghost use Rattle.epoch_journal.specs.Kept.{Keeps};
+ghost use Rattle.epoch_journal.specs.Memory.{IsForRecord};
 
 use crate::journal::{EpochJournal, Place};
-use crate::layout::half_bytes;
+use crate::layout::{base, half_bytes};
 use crate::steps::add_record;
-use crash_disk::Disk;
+use crash_disk::{Disk, Memory};
+use std::alloc::{AllocError, Global};
 use teb_io::Failed;
 
 impl<D: Disk> EpochJournal<D> {
-    /// Adds the record that the body spells. After `Ok` it is acknowledged: from then on each crash leaves it. It makes four calls of
-    /// the disk.
+    /// Returns memory for a record whose body has so many bytes, which `append` takes. It makes no call of the disk.
+    ///
+    /// # Errors
+    /// `AllocError`: out of memory.
+    pub fn reserve(&self, alloc: Global, len: usize) -> Result<Memory, AllocError>
+        ensures { IfOk result (λ memory. IsForRecord D.spare_with len memory self.now) }
+    {
+        let Place { first, end, .. } = self.place;
+        let mark = base(self.capacity, first) + end;
+        let end = (mark + 1).checked_add(len as u64).ok_or(AllocError)?;
+        let bytes = len.checked_add(1).ok_or(AllocError)?;
+        self.disk.reserve(alloc, 4, end, bytes)
+    }
+
+    /// Adds the record that the body spells, in memory that `reserve` returned for it. After `Ok` it is acknowledged: from then on each
+    /// crash leaves it. It makes four calls of the disk, none of which fails for want of memory.
     ///
     /// # Errors
     /// `Failed` if a call of the disk fails. The journal is then stopped, and this record may be on the disk or not.
-    pub fn append(&mut self, body: &[u8]) -> Result<(), Failed>
+    pub fn append(&mut self, memory: Memory, body: &[u8]) -> Result<(), Failed>
         requires running { self.old.stopped ≡ false }
         requires some { 0 < length body.now }
         requires room { self.old.end + 1 + length body.now ≤ half_size self.old.layout.capacity }
@@ -43,10 +59,13 @@ impl<D: Disk> EpochJournal<D> {
         ensures acknowledged { OnOk result ((self.new.stopped ≡ false) × (self.new.acknowledged ≡ self.old.acknowledged + 1)) }
         ensures end { OnOk result (self.new.end ≡ self.old.end + length body.now) }
         ensures stopped { OnErr result ((self.new.stopped ≡ true) × (self.new.end ≡ self.old.end) × (self.new.acknowledged ≡ self.old.acknowledged)) }
+        // In memory that was reserved for it, it is refused none.
+        ensures memory { IsForRecord D.spare_with (length body.now) memory self.old → D.refusals self.new.disk ≡ D.refusals self.old.disk }
         ensures cause { HasCause (D.faults self.old.disk) (D.faults self.new.disk) result }
         ensures calls { AreCalls (D.tally self.old.disk).promise.writes 4 (length body.now + 1) (D.tally self.old.disk) (D.tally self.new.disk) result }
     {
         let Place { first, end, .. } = self.place;
+        self.disk.adopt(memory);
         let added = add_record(&mut self.disk, self.capacity, first, end, body);
         match added {
             Ok(()) => {
@@ -81,6 +100,13 @@ impl<D: Disk> EpochJournal<D> {
         ensures some { 0 < result }
     {
         half_bytes(self.capacity) - self.place.end
+    }
+
+    /// The disk.
+    pub fn disk(&self) -> &D
+        ensures { result.now ≡ self.now.disk }
+    {
+        &self.disk
     }
 
     /// The disk, as it is.

@@ -1,25 +1,27 @@
 //! How the next epoch begins.
 
-ghost use Rattle.std.specs.Prelude.{◌≡◌, ◌+◌, ◌*◌, ◌<◌, ◌≤◌, [], List, ℕ, length, true, false, not, OnOk, OnErr, IfErr, IsErrOf};
+ghost use Rattle.std.specs.Prelude.{◌≡◌, ◌+◌, ◌*◌, ◌<◌, ◌≤◌, [], List, ℕ, length, true, false, not, IfOk, OnOk, OnErr, IfErr, IsErrOf};
 ghost use Rattle.teb_io.specs.Faults.{Rose};
 ghost use Rattle.teb_names.specs.declared.Cell.{Cell as TheCell};
 ghost use Rattle.teb_names.specs.Rows.{row_of};
 ghost use Rattle.teb_rules.specs.Replay.{Values};
 ghost use Rattle.crash_disk.specs.Calls.{IsUpTo};
 ghost use Rattle.crash_disk.specs.Disk.{LeavesOnly};
+ghost use Rattle.crash_disk.specs.Spare.{Covers};
 ghost use Rattle.record_journal.specs.Format.{Record};
 ghost use Rattle.record_journal.specs.Journal.{after_records};
-ghost use Rattle.epoch_journal.specs.Layout.{half_size};
+ghost use Rattle.epoch_journal.specs.Layout.{half_at, half_size};
 ghost use Rattle.epoch_journal.specs.Telling.{TellsOn};
 ghost use Rattle.epoch_journal.specs.Kept.{Keeps};
 ghost use Rattle.epoch_journal.specs.declared.error.CheckpointError.TheVariants as errors;
 
 use crate::error::CheckpointError;
 use crate::journal::{EpochJournal, Place};
+use crate::layout::base;
 use crate::piece::piece_of;
 use crate::steps::switch_halves;
-use crash_disk::Disk;
-use std::alloc::Global;
+use crash_disk::{Disk, Memory};
+use std::alloc::{AllocError, Global};
 use teb_io::Failed;
 use teb_names::Cell;
 
@@ -50,6 +52,8 @@ impl<D: Disk> EpochJournal<D> {
         ensures fits { OnOk result (10 + length self.old.layout.label + 14 * length rows.now ≤ half_size self.old.layout.capacity) }
         ensures full { IsErrOf result errors.Full → half_size self.old.layout.capacity < 10 + length self.old.layout.label + 14 * length rows.now }
         ensures unchanged { IfErr result (λ e. (e ≡ errors.DiskFault → ⊥) → self.new ≡ self.old) }
+        // No call of the disk fails for want of memory.
+        ensures memory { D.refusals self.new.disk ≡ D.refusals self.old.disk }
         ensures place { OnErr result ((self.new.first ≡ self.old.first) × (self.new.end ≡ self.old.end) × (self.new.acknowledged ≡ self.old.acknowledged)) }
         ensures fault { IsErrOf result errors.DiskFault → (self.new.stopped ≡ true) × Rose (D.faults self.old.disk) (D.faults self.new.disk) }
         ensures calls { IsUpTo 4 (11 + length self.old.layout.label + 14 * length rows.now) (D.tally self.old.disk) (D.tally self.new.disk) }
@@ -58,10 +62,15 @@ impl<D: Disk> EpochJournal<D> {
             Ok(piece) => piece,
             Err(error) => return Err(error),
         };
-        match switch_halves(&mut self.disk, self.capacity, self.place.first, &piece) {
+        let Place { first, .. } = self.place;
+        let Ok(memory) = reserve_half(alloc, &self.disk, self.capacity, first, piece.len()) else {
+            return Err(CheckpointError::OutOfMemory);
+        };
+        self.disk.adopt(memory);
+        match switch_halves(&mut self.disk, self.capacity, first, &piece) {
             Ok(()) => {
                 self.place = Place {
-                    first: !self.place.first,
+                    first: !first,
                     end: piece.len() as u64 - 1,
                     acknowledged: 0,
                 };
@@ -73,4 +82,22 @@ impl<D: Disk> EpochJournal<D> {
             }
         }
     }
+}
+
+/// Returns memory for so many bytes of the half that is not current, and for the byte that makes it current.
+///
+/// # Errors
+/// `AllocError`: out of memory.
+fn reserve_half<D: Disk>(
+    alloc: Global,
+    disk: &D,
+    capacity: u64,
+    first: bool,
+    len: usize,
+) -> Result<Memory, AllocError>
+    requires room { len ≤ half_size capacity }
+    ensures { IfOk result (λ memory. Covers (D.spare_with disk.now memory) 4 (len + 1) (half_at capacity (not first) + len)) }
+{
+    let end = base(capacity, !first) + len as u64;
+    disk.reserve(alloc, 4, end, len + 1)
 }

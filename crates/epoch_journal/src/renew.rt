@@ -20,6 +20,7 @@ impl<D: Renew> EpochJournal<D> {
         ensures same { IfOk result (λ j. (j.layout ≡ self.layout) × (j.first ≡ self.first) × (j.end ≡ self.end) × (j.acknowledged ≡ self.acknowledged) × (j.stopped ≡ self.stopped)) }
         ensures seen { IfOk result (λ j. D.seen j.disk ≡ D.seen self.disk) }
         ensures faults { IfOk result (λ j. D.faults j.disk ≡ D.faults self.disk) }
+        ensures refusals { IfOk result (λ j. D.refusals j.disk ≡ D.refusals self.disk) }
         ensures back { IfErr result (λ j. j ≡ self) }
     {
         if self.stopped {

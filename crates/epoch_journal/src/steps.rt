@@ -3,10 +3,11 @@
 ghost use Rattle.std.specs.Prelude.{◌≡◌, ◌+◌, ◌-◌, ◌<◌, ◌≤◌, ◌++◌, ◌∷◌, [], List, ℕ, not, length, OnOk};
 ghost use Rattle.crash_disk.specs.Calls.{AreCalls};
 ghost use Rattle.crash_disk.specs.Disk.{LeavesOnly, Only};
+ghost use Rattle.crash_disk.specs.Spare.{UsesUp};
 ghost use Rattle.teb_io.specs.Faults.{HasCause};
 ghost use Rattle.record_journal.specs.Format.{Record};
 ghost use Rattle.record_journal.specs.Journal.{IsBody};
-ghost use Rattle.epoch_journal.specs.Layout.{half_size, layout};
+ghost use Rattle.epoch_journal.specs.Layout.{half_at, half_size, layout};
 ghost use Rattle.epoch_journal.specs.Halves.{IsEither, IsFronted, IsOneOf, IsPiece, IsResting, IsSettled};
 
 use crate::layout::{COMMIT_MARK, base};
@@ -38,6 +39,7 @@ pub(crate) fn add_record<D: Disk>(
     ensures stays { D.capacity disk.new ≡ D.capacity disk.old }
     ensures cause { HasCause (D.faults disk.old) (D.faults disk.new) result }
     ensures calls { AreCalls (D.tally disk.old).promise.writes 4 (length body.now + 1) (D.tally disk.old) (D.tally disk.new) result }
+    ensures memory { UsesUp 4 (length body.now + 1) (half_at capacity first + end + 1 + length body.now) (D.spare disk.old) (D.spare disk.new) (D.refusals disk.old) (D.refusals disk.new) }
 {
     let mark = base(capacity, first) + end;
     write_safely(disk, mark + 1, body)?;
@@ -70,6 +72,7 @@ pub(crate) fn switch_halves<D: Disk>(
     ensures stays { D.capacity disk.new ≡ D.capacity disk.old }
     ensures cause { HasCause (D.faults disk.old) (D.faults disk.new) result }
     ensures calls { AreCalls (D.tally disk.old).promise.writes 4 (length piece.now + 1) (D.tally disk.old) (D.tally disk.new) result }
+    ensures memory { UsesUp 4 (length piece.now + 1) (half_at capacity (not first) + length piece.now) (D.spare disk.old) (D.spare disk.new) (D.refusals disk.old) (D.refusals disk.new) }
 {
     write_safely(disk, base(capacity, !first), piece)?;
     let selector = if first { 0 } else { 1 };

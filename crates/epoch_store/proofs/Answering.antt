@@ -37,6 +37,13 @@ pub as_ask_full : {T U : Type 0} (p : PrepareError) (e : AskError) → e ≡ as_
 as_ask_full preparing.Full e from is = refl
 as_ask_full preparing.OutOfMemory e from is = absurd (cc)
 
+-- the same error, of another result
+pub still_full : {T U : Type 0} (e : AskError) → IsErrOf {T = T} (Err e) asking.Full → IsErrOf {T = U} (Err e) asking.Full
+still_full asking.Full is = refl
+still_full asking.Stopped is = absurd (cc)
+still_full asking.Unsure is = absurd (cc)
+still_full asking.OutOfMemory is = absurd (cc)
+
 pub get_ok : {T E P : Type 0} (r : Result T E) (v : T) → r ≡ Ok v → OnOk r P → P
 get_ok {T} {E} {P} r v is p = let Q : Result T E → Type 0 = λ x. OnOk x P in subst Q is p
 

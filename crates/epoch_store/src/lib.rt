@@ -1,5 +1,31 @@
-//! A store whose commits are kept on a disk in epochs: a crash at any call of the disk leaves the rows after the first of the commits,
-//! and all that were answered are among them.
+//! A store whose commits are kept on a disk, in epochs.
+//!
+//! An [`EpochStore`] is an engine and an `EpochJournal`. The engine is any [`Recorder`]: it answers as the rules do, and tells the
+//! record of a commit before it makes it. `engine_store` makes the engine of `engine_core` one, and opens such a store.
+//!
+//! ```text
+//!   ask ──► the record that the request would commit, and room for the answer ──► Full, OutOfMemory: nothing was asked
+//!                │
+//!                ▼
+//!           the engine's answer ──► no commit: the reply; the disk is not touched
+//!                │ Committed
+//!                ▼
+//!           append: write the record, sync, write its commit mark, sync ──► Committed, and the commit is acknowledged
+//!                                                                      └──► a call failed: Unsure, and the store is stopped
+//! ```
+//!
+//! - An *epoch* is the time of one engine. `next_epoch` ends it with a checkpoint of all rows, and goes on with another engine
+//!   that starts with these rows.
+//! - A commit is *acknowledged* once it is answered (`acknowledged`). It is *unsure* if the disk failed at it: the history has it,
+//!   and the disk may keep it or not.
+//! - A store is *stopped* if a call of its disk has failed. It answers `Stopped` from then on.
+//!
+//! **What is proved.** The reply and the events of `ask` are those of `answer` (clauses `reply`, `events`). A crash at any moment
+//! of `ask`, or after it, leaves the rows after the first k commits of the epoch, and k is at least the number of acknowledged
+//! commits (`any_moment`, `images`). Every error but `Unsure` leaves the store as it was (`not_asked`). A crash at any moment of
+//! `next_epoch` leaves the rows after all commits of the epoch that ends.
+//!
+//! **Not claimed**: anything of serial orders, or of epochs that are past: that is `engine_store`. No epoch ends by itself.
 #![tactic(auto)]
 
 mod error;

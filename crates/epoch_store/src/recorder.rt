@@ -12,11 +12,11 @@ ghost use Rattle.teb_laws.specs.Lawful.{Lawful};
 ghost use Rattle.record_journal.specs.Format.{Record};
 ghost use Rattle.record_journal.specs.Journal.{IsBody};
 
-use std::alloc::Global;
+use std::alloc::{AllocError, Global};
 use teb_history::History;
 use teb_names::{Cell, Reply, Request, Session};
 
-/// Why the record of a commit was not prepared.
+/// Why there is no record of a commit.
 #[derive(Clone, Copy, Debug, PartialEq, Eq)]
 pub enum PrepareError {
     /// The record may need more bytes than are left.
@@ -45,28 +45,34 @@ pub trait Recorder {
     /// The request may commit a record that so many bytes do not hold.
     ghost lacks: { Self → ℕ → TheSession → TheRequest → Type 0 };
 
-    /// Makes room for the answer to a request, and the body of the record that it would commit, which with the gate of the record
-    /// takes no more than `left` bytes.
+    /// Returns the body of the record that a request would commit, which with the gate of the record takes no more than `left` bytes.
     ///
     /// # Errors
-    /// `Full` if the record may need more than `left` bytes; `OutOfMemory`. Nothing changes.
-    fn prepare(
-        &mut self,
+    /// `Full` if the record may need more than `left` bytes; `OutOfMemory`.
+    fn body(
+        &self,
         alloc: Global,
         left: u64,
         session: Session,
         request: Request,
     ) -> Result<Vec<u8>, PrepareError>
         requires left { (1 ≤ left) × (left ≤ 2 ^ 32) }
+        ensures prepared { IfOk result (λ bytes. prepared self.now session request bytes.items) }
+        ensures fits { IfOk result (λ bytes. length bytes.items + 1 ≤ left) }
+        ensures room { OnOk result (lacks self.now left session request → ⊥) }
+        ensures full { IsErrOf result PrepareError.Full → lacks self.now left session request };
+
+    /// Makes room for the events of one answer.
+    ///
+    /// # Errors
+    /// `AllocError`: out of memory. Nothing changes.
+    fn make_ready(&mut self) -> Result<(), AllocError>
         ensures store { store self.new ≡ store self.old }
         ensures names { names self.new ≡ names self.old }
         ensures events { events self.new ≡ events self.old }
         ensures records { records self.new ≡ records self.old }
+        ensures prepared { (s : TheSession) (r : TheRequest) (bytes : List ℕ) → prepared self.old s r bytes → prepared self.new s r bytes }
         ensures ready { OnOk result (ready self.new ≡ true) }
-        ensures prepared { IfOk result (λ bytes. prepared self.new session request bytes.items) }
-        ensures fits { IfOk result (λ bytes. length bytes.items + 1 ≤ left) }
-        ensures room { OnOk result (lacks self.old left session request → ⊥) }
-        ensures full { IsErrOf result PrepareError.Full → lacks self.old left session request }
         ensures unchanged { OnErr result (self.new ≡ self.old) };
 
     /// Answers a request.

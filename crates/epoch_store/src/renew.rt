@@ -21,6 +21,7 @@ impl<E: Recorder, D: Renew> EpochStore<E, D> {
             × (s.journal.acknowledged ≡ self.journal.acknowledged) × (s.journal.stopped ≡ self.journal.stopped)) }
         ensures seen { IfOk result (λ s. D.seen s.journal.disk ≡ D.seen self.journal.disk) }
         ensures faults { IfOk result (λ s. D.faults s.journal.disk ≡ D.faults self.journal.disk) }
+        ensures refusals { IfOk result (λ s. D.refusals s.journal.disk ≡ D.refusals self.journal.disk) }
         // A crash after it.
         ensures images { IfOk result (λ s. (image : List ℕ) → D.may_leave s.journal.disk image
             → TellsOn s.journal.layout (row_of (E.store s.engine).rows) (E.records s.engine) s.journal.acknowledged image) }

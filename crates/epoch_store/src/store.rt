@@ -1,6 +1,6 @@
 //! A store whose commits are kept on a disk.
 
-ghost use Rattle.std.specs.Prelude.{◌≡◌, ◌+◌, ◌-◌, ◌*◌, ◌<◌, ◌≤◌, ◌^◌, [], length, Some, None, true, false, IsTrue, IfOk, IfErr, OnOk, OnErr, IsErrOf, List, ℕ};
+ghost use Rattle.std.specs.Prelude.{◌≡◌, ◌⊎◌, ◌+◌, ◌-◌, ◌*◌, ◌<◌, ◌≤◌, ◌^◌, [], length, Some, None, true, false, IsTrue, IfOk, IfErr, OnOk, OnErr, IsErrOf, List, ℕ};
 ghost use Rattle.teb_io.specs.Faults.{Rose};
 ghost use Rattle.teb_names.specs.declared.Cell.{Cell as TheCell};
 ghost use Rattle.teb_names.specs.declared.Reply.TheVariants as replies;
@@ -13,13 +13,14 @@ ghost use Rattle.record_journal.specs.Journal.{after_records};
 ghost use Rattle.epoch_journal.specs.Layout.{half_size};
 ghost use Rattle.epoch_journal.specs.Telling.{TellsOn};
 ghost use Rattle.epoch_journal.specs.Kept.{Keeps};
+ghost use Rattle.epoch_journal.specs.Memory.{IsForRecord};
 ghost use Rattle.epoch_journal.specs.declared.error.CheckpointError.TheVariants as epochs;
 ghost use Rattle.epoch_store.specs.Told.{IsToldBy, acknowledged_after, events_after, told};
 ghost use Rattle.epoch_store.specs.declared.error.AskError.TheVariants as errors;
 
 use crate::error::{AskError, NotBegun};
 use crate::recorder::Recorder;
-use crash_disk::Disk;
+use crash_disk::{Disk, Memory};
 use epoch_journal::{CheckpointError, EpochJournal};
 use std::alloc::Global;
 use std::marker::Model;
@@ -99,6 +100,9 @@ impl<E: Recorder, D: Disk> EpochStore<E, D> {
         ensures unsure { IsErrOf result errors.Unsure → ((answer (E.store self.old.engine) (E.events self.old.engine) session request).0 ≡ replies.Committed)
             × (self.new.journal.stopped ≡ true) × Rose (D.faults self.old.journal.disk) (D.faults self.new.journal.disk) }
 
+        // No call of the disk fails for want of memory.
+        ensures memory { D.refusals self.new.journal.disk ≡ D.refusals self.old.journal.disk }
+
         // Only a commit touches the disk.
         ensures untouched { IfOk result (λ reply. (reply ≡ replies.Committed → ⊥) → self.new.journal ≡ self.old.journal) }
         ensures four_calls { IfOk result (λ reply. reply ≡ replies.Committed → (D.tally self.old.journal.disk).made + 4 < 2 ^ 64
@@ -107,12 +111,19 @@ impl<E: Recorder, D: Disk> EpochStore<E, D> {
         if self.journal.is_stopped() {
             return Err(AskError::Stopped);
         }
-        let left = self.journal.left().min(MOST_LEFT);
-        let body = match self.engine.prepare(alloc, left, session, request) {
-            Ok(body) => body,
-            Err(error) => return Err(AskError::from(error)),
+        let prepared = prepared(alloc, &mut self.engine, &self.journal, session, request);
+        let (body, memory) = match prepared {
+            Ok(prepared) => prepared,
+            Err(error) => return Err(error),
         };
-        answered(&mut self.engine, &mut self.journal, session, request, &body)
+        answered(
+            &mut self.engine,
+            &mut self.journal,
+            session,
+            request,
+            memory,
+            &body,
+        )
     }
 
     /// True if a call of the disk has failed. Nothing is asked then.
@@ -122,9 +133,10 @@ impl<E: Recorder, D: Disk> EpochStore<E, D> {
         self.journal.is_stopped()
     }
 
-    /// The number of commits of this epoch that were answered.
+    /// The number of commits of this epoch that were answered: all of them, as long as the disk has not failed.
     pub fn acknowledged(&self) -> u64
-        ensures { result ≡ self.now.journal.acknowledged }
+        ensures count { result ≡ self.now.journal.acknowledged }
+        ensures all { self.now.journal.stopped ≡ false → self.now.journal.acknowledged ≡ length (E.records self.now.engine) }
     {
         self.journal.acknowledged()
     }
@@ -143,6 +155,13 @@ impl<E: Recorder, D: Disk> EpochStore<E, D> {
         ensures { result + self.now.journal.end ≡ half_size self.now.journal.layout.capacity }
     {
         self.journal.left()
+    }
+
+    /// The disk.
+    pub fn disk(&self) -> &D
+        ensures { result.now ≡ self.now.journal.disk }
+    {
+        self.journal.disk()
     }
 
     /// The engine and the journal.
@@ -168,6 +187,7 @@ impl<E: Recorder, D: Disk> EpochStore<E, D> {
         ensures back { IfErr result (λ refused. (refused.next ≡ next) × (self.new.engine ≡ self.old.engine) × (self.new.journal.acknowledged ≡ self.old.journal.acknowledged)) }
         ensures unchanged { IfErr result (λ refused. (refused.why ≡ epochs.DiskFault → ⊥) → self.new ≡ self.old) }
         ensures layout { self.new.journal.layout ≡ self.old.journal.layout }
+        ensures memory { D.refusals self.new.journal.disk ≡ D.refusals self.old.journal.disk }
         ensures full { IfErr result (λ refused. refused.why ≡ epochs.Full
             → half_size self.old.journal.layout.capacity < 10 + length self.old.journal.layout.label + 14 * length (E.store next).rows) }
         ensures fault { IfErr result (λ refused. refused.why ≡ epochs.DiskFault
@@ -205,11 +225,50 @@ fn begin_with<E: Recorder, D: Disk>(
     ensures ok { OnOk result ((journal.new.stopped ≡ false) × (journal.new.acknowledged ≡ 0)) }
     ensures place { OnErr result (journal.new.acknowledged ≡ journal.old.acknowledged) }
     ensures layout { journal.new.layout ≡ journal.old.layout }
+    ensures memory { D.refusals journal.new.disk ≡ D.refusals journal.old.disk }
     ensures full { IsErrOf result epochs.Full → half_size journal.old.layout.capacity < 10 + length journal.old.layout.label + 14 * length (E.store next.now).rows }
     ensures unchanged { IfErr result (λ e. (e ≡ epochs.DiskFault → ⊥) → journal.new ≡ journal.old) }
     ensures fault { IsErrOf result epochs.DiskFault → (journal.new.stopped ≡ true) × Rose (D.faults journal.old.disk) (D.faults journal.new.disk) }
 {
     journal.checkpoint(alloc, next.rows())
+}
+
+/// Makes room for the answer to a request. Returns the body of the record that it would commit, and memory to write it.
+///
+/// # Errors
+/// `Full` if the rest of the half may not hold the record; `OutOfMemory`. The engine is unchanged.
+fn prepared<E: Recorder, D: Disk>(
+    alloc: Global,
+    engine: &mut E,
+    journal: &EpochJournal<D>,
+    session: Session,
+    request: Request,
+) -> Result<(Vec<u8>, Memory), AskError>
+    ensures store { E.store engine.new ≡ E.store engine.old }
+    ensures names { E.names engine.new ≡ E.names engine.old }
+    ensures events { E.events engine.new ≡ E.events engine.old }
+    ensures records { E.records engine.new ≡ E.records engine.old }
+    ensures ready { OnOk result (E.ready engine.new ≡ true) }
+    ensures prepared { IfOk result (λ p. E.prepared engine.new session request p.0.items) }
+    ensures memory { IfOk result (λ p. IsForRecord D.spare_with (length p.0.items) p.1 journal.now) }
+    ensures fits { IfOk result (λ p. journal.now.end + (length p.0.items + 1) ≤ half_size journal.now.layout.capacity) }
+    ensures room { OnOk result (E.lacks engine.old (half_size journal.now.layout.capacity - journal.now.end) session request → ⊥) }
+    ensures full { IsErrOf result errors.Full → E.lacks engine.old (half_size journal.now.layout.capacity - journal.now.end) session request }
+    ensures only { IfErr result (λ e. (e ≡ errors.Full) ⊎ (e ≡ errors.OutOfMemory)) }
+    ensures unchanged { OnErr result (engine.new ≡ engine.old) }
+{
+    let left = journal.left().min(MOST_LEFT);
+    let body = match engine.body(alloc, left, session, request) {
+        Ok(body) => body,
+        Err(error) => return Err(AskError::from(error)),
+    };
+    let Ok(memory) = journal.reserve(alloc, body.len()) else {
+        return Err(AskError::OutOfMemory);
+    };
+    let Ok(()) = engine.make_ready() else {
+        return Err(AskError::OutOfMemory);
+    };
+    Ok((body, memory))
 }
 
 /// Answers a request from what was prepared for it. A commit is on the disk before it is answered.
@@ -218,11 +277,13 @@ fn answered<E: Recorder, D: Disk>(
     journal: &mut EpochJournal<D>,
     session: Session,
     request: Request,
+    memory: Memory,
     body: &[u8],
 ) -> Result<Reply, AskError>
     requires ready { IsTrue (E.ready engine.old) }
     requires runs { journal.old.stopped ≡ false }
     requires prepared { E.prepared engine.old session request body.now }
+    requires memory { IsForRecord D.spare_with (length body.now) memory journal.old }
     requires fits { journal.old.end + (length body.now + 1) ≤ half_size journal.old.layout.capacity }
     requires keeps { Keeps D.seen D.may_leave (row_of (E.store engine.old).rows) (E.records engine.old) journal.old.acknowledged journal.old }
     ensures keeps { Keeps D.seen D.may_leave (row_of (E.store engine.new).rows) (E.records engine.new) journal.new.acknowledged journal.new }
@@ -233,6 +294,7 @@ fn answered<E: Recorder, D: Disk>(
     ensures store { E.store engine.new ≡ E.store engine.old }
     ensures names { E.names engine.new ≡ E.names engine.old }
     ensures layout { journal.new.layout ≡ journal.old.layout }
+    ensures memory { D.refusals journal.new.disk ≡ D.refusals journal.old.disk }
     ensures acknowledged { journal.new.acknowledged ≡ acknowledged_after journal.old.acknowledged result }
     ensures goes_on { OnOk result (journal.new.stopped ≡ false) }
     ensures unsure { IfErr result (λ e. (e ≡ errors.Unsure) × ((answer (E.store engine.old) (E.events engine.old) session request).0 ≡ replies.Committed)
@@ -245,7 +307,7 @@ fn answered<E: Recorder, D: Disk>(
     if reply != Reply::Committed {
         return Ok(reply);
     }
-    match journal.append(body) {
+    match journal.append(memory, body) {
         Ok(()) => Ok(reply),
         Err(Failed) => Err(AskError::Unsure),
     }

@@ -104,7 +104,8 @@ fn append<D: Disk>(
     if journal.is_stopped() || body.is_empty() || journal.left() <= body.len() as u64 {
         return Ok(false);
     }
-    Ok(journal.append(&body).is_ok())
+    let memory = journal.reserve(alloc, body.len())?;
+    Ok(journal.append(memory, &body).is_ok())
 }
 
 /// Begins the next epoch with the rows after so many records, and answers whether it has begun.

@@ -2,7 +2,8 @@
 
 use crate::faults::Faults;
 use crate::reads::gives;
-use crash_disk::{Disk, MemDisk};
+use crash_disk::{Disk, MemDisk, Memory};
+use std::alloc::{AllocError, Global};
 use std::fs::File;
 use std::os::unix::fs::FileExt;
 use teb_io::Failed;
@@ -15,7 +16,7 @@ use teb_io::Failed;
 /// sync has left.
 ///
 /// The mirror keeps the writes and syncs since the opening, or since the last `renew`. Its memory grows with them and with the bytes
-/// of the file. A write or a sync for which memory does not last fails.
+/// of the file. `reserve` takes that memory ahead: a write or a sync that it covers never fails for want of memory, and another one may.
 ///
 /// What rests on the operating system alone: after a crash the file holds one of the images that are told of the disk. For this
 /// it keeps what `sync_data` made safe, and nobody else writes the file while the disk is open.
@@ -27,7 +28,8 @@ pub struct FileDisk {
 }
 
 impl Disk for FileDisk {
-    ghost use Rattle.std.specs.Prelude.{length};
+    ghost use Rattle.std.specs.Prelude.{length, ◌<◌};
+    ghost use Rattle.crash_disk.specs.Spares.{spare_of, spare_with as mirror_with};
     ghost use Rattle.crash_disk.specs.Log.{contents, safe_contents, MayLeave, LeftSince, byte_count};
     ghost use Rattle.crash_disk.specs.LogLaws.{safe_is_left as log_safe_is_left, read_is_left as log_read_is_left, counts_now as log_counts_now, only_now as log_only_now};
     ghost use Rattle.file_disk.specs.Unsure.{unsure};
@@ -48,6 +50,14 @@ impl Disk for FileDisk {
 
     ghost capacity = { λ d. d.mirror.capacity };
 
+    ghost broken = { λ d. 0 < d.faults.count };
+
+    ghost refusals = { λ d. d.mirror.counter.refusals };
+
+    ghost spare = { λ d. spare_of d.mirror };
+
+    ghost spare_with = { λ d more. mirror_with d.mirror more };
+
     ghost read_is_left = { λ d. log_read_is_left d.mirror.log.steps };
 
     ghost safe_is_left = { λ d. log_safe_is_left d.mirror.log.steps };
@@ -62,6 +72,20 @@ impl Disk for FileDisk {
 
     fn capacity(&self) -> u64 {
         self.mirror.capacity()
+    }
+
+    fn reserve(
+        &self,
+        alloc: Global,
+        calls: usize,
+        end: u64,
+        bytes: usize,
+    ) -> Result<Memory, AllocError> {
+        self.mirror.reserve(alloc, calls, end, bytes)
+    }
+
+    fn adopt(&mut self, memory: Memory) {
+        self.mirror.adopt(memory);
     }
 
     fn len(&mut self) -> Result<u64, Failed> {

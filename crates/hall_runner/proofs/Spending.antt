@@ -3,10 +3,8 @@ use Rattle.std.proofs.Common.{◌≡◌, List, subst}
 use Rattle.teb_names.specs.declared.Session.{Session}
 use Rattle.teb_rules.specs.Setup.{Store}
 use Rattle.teb_rules.specs.Run.{IsLegal}
-use Rattle.version_chain.specs.declared.chains.Chains.{Ghosts}
+use Rattle.session_server.specs.Halls.{Ghosts, Hall, Pass}
 use Rattle.script_text.specs.declared.Line.{Line}
-use Rattle.session_server.specs.declared.hall.Hall.{Hall}
-use Rattle.session_server.specs.declared.pass.Pass.{Pass}
 use Rattle.session_server.specs.Passes.{base_of, seen}
 use Rattle.session_tasks.specs.Served.{IsSpent}
 use Rattle.hall_runner.specs.Spent.{IsSpentOn}

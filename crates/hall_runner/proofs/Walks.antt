@@ -8,12 +8,10 @@ use Rattle.teb_history.specs.Phases.{numbers}
 use Rattle.teb_rules.specs.Driver.{Ascending}
 use Rattle.teb_rules.specs.Scripts.{IsWalk, entries_of}
 use Rattle.turn_lock.specs.Counts.{Has, times}
-use Rattle.version_chain.specs.declared.chains.Chains.{Ghosts}
+use Rattle.session_server.specs.Halls.{Ghosts, Hall, Pass}
 use Rattle.script_text.specs.declared.Line.{Line}
 use Rattle.script_walk.specs.ScriptStates.{requests_on}
 use Rattle.fair_driver.specs.Seats.{scripts_on}
-use Rattle.session_server.specs.declared.hall.Hall.{Hall}
-use Rattle.session_server.specs.declared.pass.Pass.{Pass}
 use Rattle.session_server.specs.Passes.{IsWithin, number_of}
 use Rattle.session_server.proofs.Numbers.{has_all}
 use Rattle.session_tasks.specs.Scripted.{Scripted}

@@ -7,10 +7,9 @@ use Rattle.teb_history.specs.declared.Event.{Event}
 use Rattle.teb_rules.specs.Setup.{Store}
 use Rattle.teb_rules.specs.Ranks.{serial_order}
 use Rattle.teb_rules.specs.Serializes.{Serializes}
-use Rattle.version_chain.specs.declared.chains.Chains.{Ghosts}
+use Rattle.session_server.specs.Halls.{Ghosts, Pass}
 use Rattle.script_text.specs.declared.Line.{Line}
 use Rattle.script_text.specs.Scripts.{scripts_of}
-use Rattle.session_server.specs.declared.pass.Pass.{Pass}
 use Rattle.store_setup.specs.SetupView.{SetupView}
 use Rattle.store_setup.specs.Sound.{IsWhole, IsNamed, HasNames}
 use Rattle.command_output.specs.Shown.{Shown}

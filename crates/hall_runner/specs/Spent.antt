@@ -4,11 +4,10 @@ use Rattle.teb_names.specs.declared.Session.{Session}
 use Rattle.teb_rules.specs.Setup.{Store}
 use Rattle.teb_rules.specs.Run.{IsLegal}
 use Rattle.teb_rules.specs.Scripts.{IsWay}
-use Rattle.version_chain.specs.declared.chains.Chains.{Ghosts}
+use Rattle.session_server.specs.Halls.{Ghosts, Pass}
 use Rattle.script_text.specs.declared.Line.{Line}
 use Rattle.script_walk.specs.ScriptStates.{requests_on}
 use Rattle.session_server.specs.declared.pass.TheConstants.{MOST_ASKS}
-use Rattle.session_server.specs.declared.pass.Pass.{Pass}
 use Rattle.session_server.specs.Passes.{mine, seen}
 
 -- the pass has asked MOST_ASKS times. What it has seen is a legal run of the store, and its own entries are a way along the script of its session

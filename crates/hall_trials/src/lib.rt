@@ -1,4 +1,20 @@
 //! Tests of sessions in threads: what no contract says, and no run of the program can show.
+//!
+//! No crate uses this one. `./check` runs its tests.
+//!
+//! | Test in | Shows |
+//! |---|---|
+//! | `calls` | a reader waits until the writer commits, as polls and asking again tell it; one thread makes all calls |
+//! | `stopping` | a session asks nothing while the stop word is raised, and without one it goes on to the end of its script |
+//! | `workers` | in `threads` and in `pool` one session is served while another is held; two threads commit all transactions of two scripts |
+//!
+//! - A session is *held* by a gate (`Hold`), which is called before its request and looks for the answer to another session's
+//!   line.
+//! - The *plain* hall is over the plain tree: the table `t`, the type `any`, one locks leaf, and no rows.
+//!
+//! **What is proved**: that these tests meet what a hall and its passes require of their callers.
+//!
+//! **Not claimed**: that what a test shows once is so on every machine and in every schedule.
 #![tactic(auto)]
 
 #[cfg(test)]

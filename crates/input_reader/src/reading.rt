@@ -1,6 +1,6 @@
 //! The reading of an input.
 
-ghost use Rattle.std.specs.Prelude.{◌≤◌, length, IsErrOf};
+ghost use Rattle.std.specs.Prelude.{◌≡◌, ◌≤◌, IfErr, IsErrOf, OnOk, length};
 ghost use Rattle.teb_io.specs.Faults.{Rose};
 ghost use Rattle.input_reader.specs.Inputs.{input_of};
 ghost use Rattle.input_reader.specs.Readings.{AreReadFrom, IsRead, IsReadFrom};
@@ -15,6 +15,8 @@ use tree_toml::read_tree;
 pub fn read_bytes<S: Source>(alloc: Global, source: &mut S) -> Result<Vec<u8>, ReadError>
     ensures bytes { AreReadFrom (S.left source.old) (S.left source.new) result }
     ensures fault { IsErrOf result ReadError.ReadFault → Rose (S.faults source.old) (S.faults source.new) }
+    ensures no_fault { OnOk result (S.faults source.new ≡ S.faults source.old) }
+    ensures no_other_fault { IfErr result (λ e. (e ≡ ReadError.ReadFault → ⊥) → S.faults source.new ≡ S.faults source.old) }
 {
     read_all(alloc, source, MOST_BYTES)
 }
@@ -27,6 +29,8 @@ pub fn read_bytes<S: Source>(alloc: Global, source: &mut S) -> Result<Vec<u8>, R
 pub fn read_input<S: Source>(alloc: Global, source: &mut S) -> Result<Input, InputError>
     ensures read { IsReadFrom (S.left source.old) (S.left source.new) result }
     ensures fault { IsErrOf result InputError.ReadFault → Rose (S.faults source.old) (S.faults source.new) }
+    ensures no_fault { OnOk result (S.faults source.new ≡ S.faults source.old) }
+    ensures no_other_fault { IfErr result (λ e. (e ≡ InputError.ReadFault → ⊥) → S.faults source.new ≡ S.faults source.old) }
 {
     let bytes = read_bytes(alloc, source)?;
     let input = parse_input(alloc, &bytes)?;

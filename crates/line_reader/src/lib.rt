@@ -1,7 +1,25 @@
-//! The lines of a source, read one at a time: a line is answered before the next one is read.
+//! The lines of a source, read one at a time.
+//!
+//! The shell reads its lines with a [`LineReader`], so that it can answer one before it reads the next. `next_line` returns the
+//! next line without its line feed, and `None` at the end.
+//!
+//! ```text
+//!   source ──reads of 4,096 bytes at most──► the bytes ahead ──first line feed──► the next line
+//! ```
+//!
+//! - A *line* is the bytes before a line feed. What follows the last line feed is a line too, if it is not empty. A carriage
+//!   return is a byte of its line.
+//! - The bytes *ahead* are those that were read and not yet taken, and then what is left of the source (`ahead`).
+//!
+//! **What is proved.** Each call takes the next line off the bytes ahead, and leaves none out; `None` is returned only if no byte
+//! is ahead (`next_line`, clause `taken`). A line has at most 65,536 bytes (`short`). `ReadFault` is returned only if the source's
+//! count of faults rose (`fault`). A call reads only while no whole line is ahead: that holds by inspection of the code, and no
+//! contract states it.
+//!
+//! **Not claimed**: that a read returns, or when.
 #![tactic(auto)]
 
-ghost use Rattle.std.specs.Prelude.{◌≡◌, ◌≢◌, [], ◌∷◌, ◌++◌, ◌≤◌, IfOk, IfSome, IsErrOf, length, MatchOption, OnErr, OnOk};
+ghost use Rattle.std.specs.Prelude.{◌≡◌, ◌≢◌, [], ◌∷◌, ◌++◌, ◌≤◌, IfErr, IfOk, IfSome, IsErrOf, length, MatchOption, OnErr, OnOk};
 ghost use Rattle.std.specs.Io.KnownBytes.{Consumes, IsAtEnd};
 ghost use Rattle.teb_io.specs.Faults.{Rose};
 ghost use Rattle.line_reader.specs.Lines.{ahead, IsFirstFeed, IsLine, TakesNext};
@@ -82,6 +100,8 @@ impl LineReader {
         ensures taken { IfOk result (TakesNext (ahead self.old (S.left source.old)) (ahead self.new (S.left source.new))) }
         ensures short { IfOk result (λ o. IfSome o (λ line. length line.items ≤ MOST_LINE_BYTES)) }
         ensures fault { IsErrOf result ReadError.ReadFault → Rose (S.faults source.old) (S.faults source.new) }
+        ensures no_fault { OnOk result (S.faults source.new ≡ S.faults source.old) }
+        ensures no_other_fault { IfErr result (λ e. (e ≡ ReadError.ReadFault → ⊥) → S.faults source.new ≡ S.faults source.old) }
         ensures later { S.faults source.old ≤ S.faults source.new }
     {
         let line = match self.read_line(alloc, source)? {
@@ -101,6 +121,8 @@ impl LineReader {
         ensures kept { OnOk result (Consumes (ahead self.old (S.left source.old)) (ahead self.new (S.left source.new)) []) }
         ensures found { IfOk result (λ o. MatchOption o (IsLine self.new × IsAtEnd (S.left source.new) × (length self.new ≤ MOST_LINE_BYTES)) (IsFirstFeed self.new)) }
         ensures fault { IsErrOf result ReadError.ReadFault → Rose (S.faults source.old) (S.faults source.new) }
+        ensures no_fault { OnOk result (S.faults source.new ≡ S.faults source.old) }
+        ensures no_other_fault { IfErr result (λ e. (e ≡ ReadError.ReadFault → ⊥) → S.faults source.new ≡ S.faults source.old) }
         ensures later { S.faults source.old ≤ S.faults source.new }
     {
         let mut piece = [0; PIECE];

@@ -24,6 +24,10 @@ stop {U = U} {F = F} K N k n a b r s le-k le-n one failed this =
     go (Ok w) e = absurd (cc)
     go (Err f) e = cut a.promise.writes k n (K - k) (N - n) a b r f one failed
 
+-- the calls were made of a disk whose tally was the same
+pub calls_since : {T E : Type 0} (k n : ℕ) (a b c : Tally) (r : Result T E) → b ≡ a → AreCalls b.promise.writes k n b c r → AreCalls a.promise.writes k n a c r
+calls_since k n a b c r is calls = subst (λ (t : Tally). AreCalls t.promise.writes k n t c r) is calls
+
 pub never_fails : {T E : Type 0} (r : Result T E) → IsOk r → IsErr r → ⊥
 never_fails (Ok v) a b = absurd (cc)
 never_fails (Err e) a b = absurd (cc)

@@ -1,6 +1,6 @@
 -- How a run of device calls goes on.
-use Rattle.std.proofs.Common.{inl, inr, ⊎_elim, ℕ, List, arith}
-use Rattle.crash_disk.specs.Disk.{Elapses, LeavesOnly}
+use Rattle.std.proofs.Common.{◌≡◌, inl, inr, ⊎_elim, sym, subst, ◌∙◌, ℕ, List, arith}
+use Rattle.crash_disk.specs.Disk.{Elapses, LeavesOnly, NoMore, Only}
 
 module _ {D : Type 0} (moment : D → ℕ) (left_since : D → ℕ → List ℕ → Type 0) where
   -- before the first call
@@ -23,3 +23,14 @@ module _ {D : Type 0} (moment : D → ℕ) (left_since : D → ℕ → List ℕ 
     each = λ c left. implies c (only.each c left);
     before = λ t c le left. ⊎_elim (λ was. inl was) (λ now. inr (implies c now)) (only.before t c le left);
   }
+
+  -- the calls begin with a disk that differs from an old one in its memory alone
+  pub since_before : (old mid new : D) (P : List ℕ → Type 0) → moment mid ≡ moment old → ((t : ℕ) (c : List ℕ) → left_since mid t c → left_since old t c) → LeavesOnly moment left_since mid new P → LeavesOnly moment left_since old new P
+  since_before old mid new P clock time only = record {
+    later = omega (arith, only.later, clock);
+    each = λ c left. only.each c (subst (λ (t : ℕ). left_since new t c) (sym clock) left);
+    before = λ t c le left. ⊎_elim (λ was. inl (time t c was)) (λ now. inr now) (only.before t c (omega (arith, le, clock)) left);
+  }
+
+pub still_only : (file file' : List ℕ) (may may' : List ℕ → Type 0) → file' ≡ file → NoMore may may' → Only file may → Only file' may'
+still_only file file' may may' same crash only c left = only c (crash c left) ∙ sym same

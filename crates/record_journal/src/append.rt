@@ -3,6 +3,7 @@
 ghost use Rattle.std.specs.Prelude.{◌≡◌, ◌+◌, ◌-◌, ◌<◌, ◌≤◌, ◌++◌, ◌∷◌, [], List, length, true, false, OnOk, OnErr, IfOk, IfErr, IsOk, IsErr, ◌^◌};
 ghost use Rattle.crash_disk.specs.Calls.{AreCalls, AreSure, Fails, IsUpTo};
 ghost use Rattle.crash_disk.specs.Disk.{LeavesOnly, Only};
+ghost use Rattle.crash_disk.specs.Spare.{Covers};
 ghost use Rattle.crash_disk.specs.Sizes.{default_capacity};
 ghost use Rattle.teb_io.specs.Faults.{HasCause, Rose};
 ghost use Rattle.record_journal.specs.Format.{Record, recovered, room_of, Whole};
@@ -10,7 +11,8 @@ ghost use Rattle.record_journal.specs.Journal.{IsAtRest, IsBody, StandsFor};
 ghost use Rattle.record_journal.specs.Kept.{Keeps};
 
 use crate::{Journal, Progress, write_record};
-use crash_disk::{DEFAULT_CAPACITY, Disk};
+use crash_disk::{DEFAULT_CAPACITY, Disk, Memory};
+use std::alloc::{AllocError, Global};
 use teb_io::Failed;
 
 impl<D: Disk> Journal<D> {
@@ -43,13 +45,26 @@ impl<D: Disk> Journal<D> {
         }
     }
 
-    /// Adds the record that the body spells. At `Ok` it is acknowledged: from then on each crash leaves it. It makes four calls of
-    /// the disk.
+    /// Returns memory for a record whose body has so many bytes, which `append` takes. It makes no call of the disk.
+    ///
+    /// # Errors
+    /// `AllocError`: out of memory.
+    pub fn reserve(&self, alloc: Global, len: usize) -> Result<Memory, AllocError>
+        ensures { IfOk result (λ memory. Covers (D.spare_with self.now.disk memory) 4 (len + 1) (self.now.progress.end + 1 + len)) }
+    {
+        let mark = self.progress.end;
+        let end = (mark + 1).checked_add(len as u64).ok_or(AllocError)?;
+        let bytes = len.checked_add(1).ok_or(AllocError)?;
+        self.disk.reserve(alloc, 4, end, bytes)
+    }
+
+    /// Adds the record that the body spells, in memory that `reserve` returned for it. At `Ok` it is acknowledged: from then on each crash
+    /// leaves it. It makes four calls of the disk, none of which fails for want of memory.
     ///
     /// # Errors
     /// `Failed` where a call of the disk fails. The journal is then stopped, no record more is acknowledged, and this one may stand
     /// on the disk or not.
-    pub fn append(&mut self, body: &[u8]) -> Result<(), Failed>
+    pub fn append(&mut self, memory: Memory, body: &[u8]) -> Result<(), Failed>
         requires running { self.old.stopped ≡ false }
         requires some { 0 < length body.now }
         requires room { self.old.progress.end + 1 + length body.now ≤ room_of (D.capacity self.old.disk) }
@@ -70,9 +85,13 @@ impl<D: Disk> Journal<D> {
         ensures cause { HasCause (D.faults self.old.disk) (D.faults self.new.disk) result }
         ensures capacity { D.capacity self.new.disk ≡ D.capacity self.old.disk }
 
+        // In memory that was reserved for it, it is refused none.
+        ensures memory { Covers (D.spare_with self.old.disk memory) 4 (length body.now + 1) (self.old.progress.end + 1 + length body.now) → D.refusals self.new.disk ≡ D.refusals self.old.disk }
+
         // It makes four calls, up to the first that fails, and writes one byte more than the body has.
         ensures calls { AreCalls (D.tally self.old.disk).promise.writes 4 (length body.now + 1) (D.tally self.old.disk) (D.tally self.new.disk) result }
     {
+        self.disk.adopt(memory);
         let added = write_record(&mut self.disk, self.progress.end, body);
         match added {
             Ok(()) => {

@@ -3,6 +3,7 @@
 ghost use Rattle.std.specs.Prelude.{◌≡◌, ◌+◌, ◌*◌, ◌^◌, ◌<◌, ◌≤◌, ◌++◌, ◌∷◌, [], List, ℕ, length, OnOk, OnErr, IfOk};
 ghost use Rattle.crash_disk.specs.Calls.{AreCalls};
 ghost use Rattle.crash_disk.specs.Disk.{Only, LeavesOnly};
+ghost use Rattle.crash_disk.specs.Spare.{UsesUp};
 ghost use Rattle.teb_io.specs.Faults.{HasCause};
 ghost use Rattle.record_journal.specs.Format.{Record, ChangeFits, entry, recovered, Whole};
 ghost use Rattle.record_journal.specs.Journal.{IsAtRest, IsBody, IsBeforeOrAfter};
@@ -72,6 +73,7 @@ pub fn write_record<D: Disk>(disk: &mut D, end: u64, body: &[u8]) -> Result<(), 
     ensures cause { HasCause (D.faults disk.old) (D.faults disk.new) result }
     ensures capacity { D.capacity disk.new ≡ D.capacity disk.old }
     ensures calls { AreCalls (D.tally disk.old).promise.writes 4 (length body.now + 1) (D.tally disk.old) (D.tally disk.new) result }
+    ensures memory { UsesUp 4 (length body.now + 1) (end + 1 + length body.now) (D.spare disk.old) (D.spare disk.new) (D.refusals disk.old) (D.refusals disk.new) }
 {
     disk.write_at(end + 1, body)?;
     disk.sync()?;

@@ -8,9 +8,7 @@ use Rattle.teb_names.specs.declared.Session.{Session}
 use Rattle.teb_history.specs.Phases.{numbers}
 use Rattle.turn_lock.specs.Counts.{total, count_from}
 use Rattle.turn_lock.proofs.Lists.{All_none, All_cons}
-use Rattle.version_chain.specs.declared.chains.Chains.{Ghosts}
-use Rattle.session_server.specs.declared.hall.Hall.{Hall}
-use Rattle.session_server.specs.declared.pass.Pass.{Pass}
+use Rattle.session_server.specs.Halls.{Ghosts, Hall, Pass}
 use Rattle.session_server.specs.Passes.{IsNew, number_of}
 use Rattle.session_tasks.specs.Scripted.{Scripted, place_in}
 use Rattle.session_tasks.specs.Tasks.{IsTask, number_in}

@@ -6,8 +6,7 @@ use Rattle.std.proofs.lemmas.List.{map-append, length-map}
 use Rattle.std.proofs.lemmas.List.Elements.{All-append}
 use Rattle.turn_lock.specs.Counts.{total, same}
 use Rattle.turn_lock.proofs.Lists.{All_none, All_cons}
-use Rattle.version_chain.specs.declared.chains.Chains.{Ghosts}
-use Rattle.session_server.specs.declared.hall.Hall.{Hall}
+use Rattle.session_server.specs.Halls.{Ghosts, Hall}
 use Rattle.session_tasks.specs.Scripted.{Scripted}
 use Rattle.session_tasks.specs.Tasks.{number_in}
 use Rattle.session_tasks.specs.declared.task.Task.{Task}

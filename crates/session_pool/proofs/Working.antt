@@ -14,8 +14,7 @@ use Rattle.atomic_table.specs.Seated.{TableId}
 use Rattle.turn_lock.specs.Seats.{view_of}
 use Rattle.turn_lock.specs.Counts.{total, same}
 use Rattle.turn_lock.proofs.Counts.{total_snoc}
-use Rattle.version_chain.specs.declared.chains.Chains.{Ghosts}
-use Rattle.session_server.specs.declared.hall.Hall.{Hall}
+use Rattle.session_server.specs.Halls.{Ghosts, Hall}
 use Rattle.session_server.specs.Outfits.{Fitted}
 use Rattle.session_server.specs.Passes.{IsNew}
 use Rattle.session_tasks.specs.Scripted.{Scripted}

@@ -1,8 +1,7 @@
 -- Which rosters suit a run.
 use Rattle.std.specs.Prelude.{ℕ, ◌≤◌, List, Option, length}
 use Rattle.atomic_table.specs.Seated.{TableId}
-use Rattle.version_chain.specs.declared.chains.Chains.{Ghosts}
-use Rattle.session_server.specs.declared.hall.Hall.{Hall}
+use Rattle.session_server.specs.Halls.{Ghosts, Hall}
 use Rattle.session_server.specs.Outfits.{Fitted}
 use Rattle.session_pool.specs.Rising.{Rising}
 use Rattle.session_pool.specs.Waits.{tells_of}

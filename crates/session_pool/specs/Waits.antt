@@ -4,8 +4,7 @@ use Rattle.std.specs.Option.{is_some}
 use Rattle.teb_history.specs.Phases.{numbers}
 use Rattle.atomic_table.specs.Seated.{TableId}
 use Rattle.turn_lock.specs.Seats.{view_of}
-use Rattle.version_chain.specs.declared.chains.Chains.{Ghosts}
-use Rattle.session_server.specs.declared.hall.Hall.{Hall}
+use Rattle.session_server.specs.Halls.{Ghosts, Hall}
 use Rattle.session_server.specs.Outfits.{Fitted}
 use Rattle.session_server.specs.Passes.{IsNew, base_of, seen}
 use Rattle.session_tasks.specs.Scripted.{Scripted, place_in}

@@ -3,8 +3,7 @@ use Rattle.std.specs.Prelude.{◌≡◌, [], Option, false, All, vec_capacity}
 use Rattle.crossbeam_queue.specs.declared.array_queue.Doing.{Doing}
 use Rattle.crossbeam_queue.specs.declared.array_queue.Slotted.{Slotted}
 use Rattle.crossbeam_queue.specs.Passes.{view, IsPassOf}
-use Rattle.version_chain.specs.declared.chains.Chains.{Ghosts}
-use Rattle.session_server.specs.declared.hall.Hall.{Hall}
+use Rattle.session_server.specs.Halls.{Ghosts, Hall}
 use Rattle.session_tasks.specs.Scripted.{Scripted}
 use Rattle.session_tasks.specs.Tasks.{IsTask}
 use Rattle.session_pool.specs.Hands.{taken_in}

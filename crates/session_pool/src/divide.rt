@@ -8,7 +8,7 @@ ghost use Rattle.session_tasks.specs.Tasks.{IsTask, number_in};
 ghost use Rattle.session_pool.specs.Waits.{IsWaiting, number_at, scripted};
 
 use crate::waiting::Waiting;
-use session_server::Pass;
+use session_server::{EngineServer, Pass, Server};
 use session_tasks::{Gate, Run, Task, place_in};
 use std::alloc::{AllocError, Global};
 use std::collections::VecDeque;
@@ -17,7 +17,10 @@ use version_chain::Chains;
 
 /// The sessions of a run, divided.
 #[derive(Drop)]
-pub(crate) struct Divided<C: Chains> {
+pub(crate) struct Divided<C: Chains>
+where
+    EngineServer<C>: Server,
+{
     /// Those that have a script, in ascending order.
     pub waiting: VecDeque<Waiting<C>>,
     /// The others, each begun.

@@ -23,7 +23,7 @@ use crate::rest::{dismiss, take_rest};
 use crate::serving::{hire, work};
 use crate::waiting::Waiting;
 use script_text::Scripts;
-use session_server::{Hall, Pass};
+use session_server::{EngineServer, Hall, Pass, Server};
 use session_tasks::{Gate, Run, RunError, Task};
 use std::alloc::{AllocError, Global};
 use std::collections::VecDeque;
@@ -35,7 +35,10 @@ use version_chain::Chains;
 
 /// What a run by a queue leaves.
 #[derive(Drop)]
-pub struct Pooled<C: Chains> {
+pub struct Pooled<C: Chains>
+where
+    EngineServer<C>: Server,
+{
     /// The passes of the sessions 1 to `SESSIONS`, in order.
     pub passes: Vec<Pass<C>>,
     /// The sessions that each worker took, in order.

@@ -1,12 +1,16 @@
 //! A worker of a pool.
 
 use crate::queue::Token;
+use session_server::{EngineServer, Server};
 use session_tasks::Task;
 use version_chain::Chains;
 
 /// A worker: its token of the queue, and the sessions that it took, in order.
 #[derive(Drop)]
-pub struct Worker<C: Chains> {
+pub struct Worker<C: Chains>
+where
+    EngineServer<C>: Server,
+{
     pub token: Token<C>,
     pub hand: Vec<Task<C>>,
 }

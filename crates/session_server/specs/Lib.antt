@@ -6,3 +6,4 @@ pub mod Turning
 pub mod Hosting
 pub mod Passes
 pub mod Waits
+pub mod Halls

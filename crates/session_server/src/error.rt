@@ -1,9 +1,23 @@
-//! Why a request came to nothing.
+//! Why a request came to nothing, or has no reply.
 
-/// Why a request was not asked.
+use hall_server::Fault;
+use teb_names::Reply;
+
+/// Why a request of a session at an engine was not asked.
 #[derive(Clone, Copy, Debug, PartialEq, Eq)]
 pub enum AskError {
     /// The pass has asked `MOST_ASKS` times.
     PassSpent,
     OutOfMemory,
+}
+
+/// Why a request of a session has no reply.
+#[derive(Clone, Copy, Debug, PartialEq, Eq)]
+pub enum ServeError {
+    /// The pass has asked `MOST_ASKS` times. Nothing was asked.
+    PassSpent,
+    /// Nothing was asked.
+    Unasked(Fault),
+    /// The history has the request, with this reply, but a device has failed: what was committed may be kept or not.
+    Unsure(Reply),
 }

@@ -1,32 +1,35 @@
-//! The value that goes from turn to turn: the engine, with the list of what it was asked and answered.
+//! The value that goes from turn to turn: the server, with the list of what it was asked and answered.
 
-ghost use Rattle.std.specs.Prelude.{◌≡◌, suc, ◌≤◌, [], ◌∷◌, ◌++◌, IfOk, OnErr, length};
+ghost use Rattle.std.specs.Prelude.{◌≡◌, suc, ◌≤◌, [], ◌++◌, IsErrOf, length};
 ghost use Rattle.teb_names.specs.declared.TheConstants.{MOST_TXNS};
+ghost use Rattle.teb_names.specs.declared.Reply.{Reply as TheReply};
 ghost use Rattle.teb_history.specs.Phases.{begun_count};
 ghost use Rattle.teb_rules.specs.Answer.{answer};
 ghost use Rattle.teb_rules.specs.Run.{IsLegal, history_of};
 ghost use Rattle.teb_history.specs.Positions.{upto};
+ghost use Rattle.hall_server.specs.Told.{IsToldBy, told};
+ghost use Rattle.hall_server.specs.declared.failure.Failure.TheVariants as failures;
 ghost use Rattle.session_server.specs.Finishes.{finish_word};
-ghost use Rattle.session_server.specs.Growth.{GrowsBy};
+ghost use Rattle.session_server.specs.Growth.{GrowsBy, own_of};
 
 use crate::outfit::Outfit;
-use engine_core::Engine;
-use std::alloc::{AllocError, Global};
+use hall_server::{Failure, Fault, Server};
+use std::alloc::Global;
 use teb_names::{Entry, Reply, Request, Session};
 use turn_lock::Member;
-use version_chain::Chains;
 
-/// An engine with its entries: one for each request, in the order in which they were answered.
+/// A server with its entries: one for each request that its history has, in the order in which they were answered.
 #[derive(Drop)]
-pub struct Hosted<C: Chains> {
-    pub(crate) engine: Engine<C>,
+pub struct Hosted<S: Server> {
+    pub(crate) server: S,
     pub(crate) entries: Vec<Entry>,
-    ghost legal: { IsLegal engine.store entries.items },
-    ghost stands: { engine.events ≡ history_of engine.store entries.items },
-    ghost few: { begun_count engine.events ≤ MOST_TXNS },
+    pub(crate) alloc: Global,
+    ghost legal: { IsLegal (S.store server) entries.items },
+    ghost stands: { S.events server ≡ history_of (S.store server) entries.items },
+    ghost few: { begun_count (S.events server) ≤ MOST_TXNS },
 }
 
-impl<C: Chains> Member for Hosted<C> {
+impl<S: Server> Member for Hosted<S> {
     type Entry = Entry;
 
     type Base = Outfit;
@@ -35,51 +38,65 @@ impl<C: Chains> Member for Hosted<C> {
 
     ghost owner = { λ e. e.session.0 };
 
-    ghost note = { λ h i. finish_word h.engine.events (suc i) };
+    ghost note = { λ h i. finish_word (S.events h.server) (suc i) };
 
-    ghost base = { λ h. record { store = h.engine.store; names = h.engine.names } };
+    ghost base = { λ h. record { store = S.store h.server; names = S.names h.server } };
 }
 
-impl<C: Chains> Hosted<C> {
-    /// An engine that was asked nothing yet.
-    pub(crate) fn new(alloc: Global, engine: Engine<C>) -> Hosted<C>
-        requires { engine.events ≡ [] }
-        ensures { (result.entries.items ≡ []) × (result.engine ≡ engine) }
+impl<S: Server> Hosted<S> {
+    /// A server that was asked nothing yet.
+    pub(crate) fn new(alloc: Global, server: S) -> Hosted<S>
+        requires { S.events server ≡ [] }
+        ensures { (result.entries.items ≡ []) × (result.server ≡ server) }
     {
         Hosted {
-            engine,
+            server,
             entries: Vec::new(alloc),
+            alloc,
         }
     }
 
-    /// The engine alone.
-    pub(crate) fn into_engine(self) -> Engine<C>
-        ensures { result ≡ self.engine }
+    /// The server alone.
+    pub(crate) fn into_server(self) -> S
+        ensures { result ≡ self.server }
     {
-        let Hosted { engine, entries: _ } = self;
-        engine
+        let Hosted { server, .. } = self;
+        server
     }
 
-    /// Asks, and keeps the entry. An `Err` leaves the entries and the history as they were.
-    pub(crate) fn ask(&mut self, session: Session, request: Request) -> Result<Reply, AllocError>
-        ensures ok { IfOk result (λ r. self.new.entries.items ≡ self.old.entries.items ++ (record { session = session; request = request; reply = r }) ∷ []) }
-        ensures answer { IfOk result (λ r. r ≡ (answer self.old.engine.store self.old.engine.events session request).0) }
-        ensures err { OnErr result ((self.new.entries.items ≡ self.old.entries.items) × (self.new.engine.events ≡ self.old.engine.events)) }
+    /// Asks, and keeps the entry of a request that the history has.
+    pub(crate) fn ask(&mut self, session: Session, request: Request) -> Result<Reply, Failure>
+        ensures entries { self.new.entries.items ≡ self.old.entries.items ++ own_of session request (told result) }
+        ensures answer { IsToldBy (told result) (answer (S.store self.old.server) (S.events self.old.server) session request).0 }
+        ensures unsure { (r : TheReply) → IsErrOf result (failures.Unsure r) → S.unsure r }
         ensures grows { GrowsBy session.0 self.old.entries.items self.new.entries.items }
-        ensures before { upto (length self.old.engine.events) self.new.engine.events ≡ self.old.engine.events }
-        ensures length { length self.old.engine.events ≤ length self.new.engine.events }
-        ensures same { (self.new.engine.store ≡ self.old.engine.store) × (self.new.engine.names ≡ self.old.engine.names) }
+        ensures before { upto (length (S.events self.old.server)) (S.events self.new.server) ≡ S.events self.old.server }
+        ensures length { length (S.events self.old.server) ≤ length (S.events self.new.server) }
+        ensures same { (S.store self.new.server ≡ S.store self.old.server) × (S.names self.new.server ≡ S.names self.old.server) }
     {
-        self.entries.reserve(1)?;
-        self.engine.ready()?;
-        let reply = self.engine.ask(session, request);
-        let entry = Entry {
-            session,
-            request,
-            reply: copy_of(&reply),
-        };
-        self.entries.push_reserved(entry);
-        Ok(reply)
+        if self.entries.reserve(1).is_err() {
+            return Err(Failure::Unasked(Fault::OutOfMemory));
+        }
+        let answer = self.server.serve(self.alloc, session, request);
+        if let Some(reply) = reply_in(&answer) {
+            let entry = Entry {
+                session,
+                request,
+                reply: copy_of(&reply),
+            };
+            self.entries.push_reserved(entry);
+        }
+        answer
+    }
+}
+
+/// The reply by which the history has a request.
+fn reply_in(answer: &Result<Reply, Failure>) -> Option<Reply>
+    ensures { result ≡ told answer.now }
+{
+    match answer {
+        Ok(reply) | Err(Failure::Unsure(reply)) => Some(*reply),
+        Err(Failure::Unasked(_)) => None,
     }
 }
 

@@ -1,40 +1,43 @@
-//! One turn at the engine.
+//! One turn at the server.
 
-ghost use Rattle.std.specs.Prelude.{◌≡◌, ◌<◌, [], ◌∷◌, IfOk, OnErr};
+ghost use Rattle.std.specs.Prelude.{◌≡◌, ◌<◌, ◌∷◌, [], Some, IsErrOf};
+ghost use Rattle.teb_names.specs.declared.Reply.{Reply as TheReply};
 ghost use Rattle.turn_lock.specs.Seats.{note_count, view_of, IsOf, IsOutside};
+ghost use Rattle.hall_server.specs.Told.{told};
+ghost use Rattle.hall_server.specs.declared.failure.Failure.TheVariants as failures;
+ghost use Rattle.session_server.specs.Growth.{own_of};
 ghost use Rattle.session_server.specs.Turning.{TakesTurn, SeesMore};
 ghost use Rattle.session_server.specs.Waits.{WaitsAmong};
 
 use crate::hosted::Hosted;
 use crate::published::publish_since;
-use std::alloc::AllocError;
+use hall_server::{Failure, Server};
 use std::sync::Wait;
 use teb_names::{MOST_TXNS, Reply, Request, Session};
 use turn_lock::{SeatOf, Turn};
-use version_chain::Chains;
 
-/// Enters, asks, publishes what finished, and leaves. An `Err` adds no entry.
-pub(crate) fn take_turn<C: Chains, R: Wait>(
+/// Enters, asks, publishes what finished, and leaves. It adds the entry of a request that the history has, and no other.
+pub(crate) fn take_turn<S: Server, R: Wait>(
     rt: &R,
-    turn: &Turn<Hosted<C>>,
-    seat: &mut SeatOf<Hosted<C>>,
+    turn: &Turn<Hosted<S>>,
+    seat: &mut SeatOf<Hosted<S>>,
     session: Session,
     request: Request,
-) -> Result<Reply, AllocError>
+) -> Result<Reply, Failure>
     requires notes { note_count turn.now ≡ MOST_TXNS }
     requires seat { IsOf turn.now seat.old × IsOutside seat.old }
     requires turns { 0 < (view_of seat.old).turns }
     requires owner { (view_of seat.old).owners ≡ session.0 ∷ [] }
     ensures seat { IsOf turn.now seat.new × IsOutside seat.new }
     ensures turn { TakesTurn (view_of seat.old) (view_of seat.new) }
-    ensures ok { IfOk result (λ r. SeesMore (view_of seat.old) (view_of seat.new) ((record { session = session; request = request; reply = r }) ∷ [])) }
-    ensures waits { IfOk result (WaitsAmong MOST_TXNS) }
-    ensures err { OnErr result (SeesMore (view_of seat.old) (view_of seat.new) []) }
+    ensures sees { SeesMore (view_of seat.old) (view_of seat.new) (own_of session request (told result)) }
+    ensures waits { (r : TheReply) → told result ≡ Some r → WaitsAmong MOST_TXNS r }
+    ensures unsure { (r : TheReply) → IsErrOf result (failures.Unsure r) → S.unsure r }
 {
     let mut hosted = turn.enter(rt, seat);
-    let before = hosted.engine.history().len();
+    let before = hosted.server.history().len();
     let answer = hosted.ask(session, request);
-    prove!(before <= hosted.engine.history().len());
+    prove!(before <= hosted.server.history().len());
     publish_since(turn, seat, &hosted, before);
     turn.leave(seat, hosted);
     answer

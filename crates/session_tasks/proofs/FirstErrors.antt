@@ -3,7 +3,7 @@ use Rattle.std.proofs.Common.{◌≡◌, ℕ, suc, ◌+◌, [], ◌∷◌, ◌++
 use Rattle.std.proofs.lemmas.List.{map-append}
 use Rattle.std.proofs.lemmas.List.Elements.{All-nil, All-push}
 use Rattle.teb_history.specs.Phases.{numbers}
-use Rattle.version_chain.specs.declared.chains.Chains.{Ghosts}
+use Rattle.session_server.specs.Halls.{Ghosts}
 use Rattle.session_tasks.specs.declared.error.RunError.{RunError}
 use Rattle.session_tasks.specs.declared.task.Task.{Task}
 use Rattle.session_tasks.specs.declared.task.Progress.TheVariants.{Through}

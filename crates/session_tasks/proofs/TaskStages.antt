@@ -8,9 +8,7 @@ use Rattle.teb_rules.specs.Scripts.{IsWay, IsWalk, WayFrom, at_first, next, stat
 use Rattle.script_text.specs.declared.Line.{Line}
 use Rattle.script_walk.specs.ScriptStates.{requests_on, state_of}
 use Rattle.script_walk.specs.declared.walker.Walker.{Walker}
-use Rattle.version_chain.specs.declared.chains.Chains.{Ghosts}
-use Rattle.session_server.specs.declared.hall.Hall.{Hall}
-use Rattle.session_server.specs.declared.pass.Pass.{Pass}
+use Rattle.session_server.specs.Halls.{Ghosts, Hall, Pass}
 use Rattle.session_server.specs.declared.error.AskError.TheVariants.{PassSpent}
 use Rattle.session_server.specs.Passes.{IsNew, mine}
 use Rattle.session_tasks.specs.Walks.{IsUnderWay}

@@ -3,9 +3,8 @@ use Rattle.std.proofs.Common.{◌≡◌, List, [], ◌∷◌, ◌++◌, Some, No
 use mathlib.Core.List.{map-append}
 use Rattle.teb_names.specs.declared.Entry.{Entry}
 use Rattle.teb_names.specs.declared.Session.{Session}
-use Rattle.version_chain.specs.declared.chains.Chains.{Ghosts}
+use Rattle.session_server.specs.Halls.{Ghosts, Pass}
 use Rattle.session_server.specs.Passes.{seen, mine}
-use Rattle.session_server.specs.declared.pass.Pass.{Pass}
 use Rattle.teb_names.specs.declared.Request.{Request}
 use Rattle.teb_rules.specs.Run.{replies_of}
 use Rattle.teb_rules.specs.Scripts.{ScriptState, IsWay, IsWalk, after_answer, asks, at_first, next, state_after, entries_of}

@@ -1,10 +1,9 @@
 -- Which error a run comes to.
 use Rattle.std.specs.Prelude.{◌≡◌, ◌≢◌, ℕ, suc, List, All, map}
 use Rattle.teb_history.specs.Phases.{numbers}
-use Rattle.version_chain.specs.declared.chains.Chains.{Ghosts}
+use Rattle.session_server.specs.Halls.{Ghosts, Pass}
 use Rattle.session_server.specs.declared.error.AskError.{AskError}
 use Rattle.session_server.specs.declared.error.AskError.TheVariants as ask
-use Rattle.session_server.specs.declared.pass.Pass.{Pass}
 use Rattle.session_tasks.specs.declared.error.RunError.{RunError}
 use Rattle.session_tasks.specs.declared.error.RunError.TheVariants.{PassSpent, OutOfMemory}
 use Rattle.session_tasks.specs.declared.task.Task.{Task}

@@ -3,10 +3,8 @@ use Rattle.std.specs.Prelude.{◌≡◌, ◌≢◌, ℕ, List, Some, slice_get}
 use Rattle.teb_rules.specs.Scripts.{IsWay, IsWalk}
 use Rattle.script_text.specs.declared.Line.{Line}
 use Rattle.script_walk.specs.ScriptStates.{requests_on}
-use Rattle.version_chain.specs.declared.chains.Chains.{Ghosts}
+use Rattle.session_server.specs.Halls.{Ghosts, Hall, Pass}
 use Rattle.session_server.specs.declared.pass.TheConstants.{MOST_ASKS}
-use Rattle.session_server.specs.declared.hall.Hall.{Hall}
-use Rattle.session_server.specs.declared.pass.Pass.{Pass}
 use Rattle.session_tasks.specs.declared.error.RunError.{RunError}
 use Rattle.session_tasks.specs.declared.error.RunError.TheVariants.{PassSpent, OutOfMemory}
 use Rattle.session_server.specs.Passes.{IsPassOf, IsNew, mine}

@@ -2,9 +2,8 @@
 use Rattle.std.specs.Prelude.{◌≡◌, ℕ, Bool, true, false, Result, Ok, Err, List, Option, Some, None, All, map}
 use Rattle.teb_rules.specs.Scripts.{IsWalk}
 use Rattle.script_walk.specs.ScriptStates.{requests_on}
-use Rattle.version_chain.specs.declared.chains.Chains.{Ghosts}
+use Rattle.session_server.specs.Halls.{Ghosts, Hall}
 use Rattle.session_server.specs.declared.pass.TheConstants.{MOST_ASKS}
-use Rattle.session_server.specs.declared.hall.Hall.{Hall}
 use Rattle.session_server.specs.declared.error.AskError.{AskError}
 use Rattle.session_server.specs.declared.error.AskError.TheVariants.{PassSpent}
 use Rattle.session_server.specs.Passes.{IsPassOf, IsNew, mine}

@@ -1,11 +1,14 @@
 //! Why a run came to nothing.
 
-use session_server::Pass;
+use session_server::{EngineServer, Pass, Server};
 use version_chain::Chains;
 
 /// Why sessions were not served to their end.
 #[derive(Drop)]
-pub enum RunError<C: Chains> {
+pub enum RunError<C: Chains>
+where
+    EngineServer<C>: Server,
+{
     /// This pass has asked `MOST_ASKS` times.
     PassSpent(Pass<C>),
     OutOfMemory,

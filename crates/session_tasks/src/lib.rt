@@ -1,7 +1,29 @@
-//! Sessions as tasks: each with its pass, and where it stands in its script.
+//! Sessions as tasks: each with its pass, and its place in its script.
 //!
-//! Whoever runs sessions in threads begins a task for each, has its workers serve them until one is stopped or meets an
-//! error, puts the tasks in the order of their sessions, and has those that are left served to their end.
+//! `thread_runner` and `session_pool` run sessions in threads. Both begin a task for each session, have workers advance the tasks,
+//! put them in the order of their sessions, and finish those that were stopped.
+//!
+//! | Call | |
+//! |---|---|
+//! | `Run::begin` | a task for a new pass, before its first request |
+//! | `Run::advance` | serves a session on along its script: to the end, to an error, or to a look that finds the stop word raised |
+//! | `Run::finish` | serves all sessions to their ends, in order, and returns their passes |
+//! | [`serve`] | the loop of `advance`: ask the next request, take the answer |
+//!
+//! - A [`Run`] is what tasks share: the hall, the scripts, and the gate.
+//! - A [`Task`] is a pass, the place of the session's script, a `Walker` at its next line, and its [`Progress`].
+//! - A *walk* along a script follows its lines by the answers, to the end (`IsWalk` in `teb_rules`). A task that is under way has
+//!   walked some of it.
+//! - The *stop word* is 0 until a worker raises it to 1 ([`Stops`]). It is looked at before each request.
+//! - A [`Gate`] is called before and after each request, outside the turn. The program's does nothing; a trial's holds a session.
+//! - After an Again the session polls the transaction that it waits for, at most 64 times, and then asks again.
+//!
+//! **What is proved.** The entries of a session that is through are a whole walk along its script ([`serve`], clause `walk`);
+//! those of any other are a way along it (`way`). A session is stopped only if a look found the stop word raised (`stopped`).
+//! `Run::finish` returns the passes of all sessions, each served (`served`), or the error of the first session that met one
+//! (`first`). A session without a script asks nothing (`IsServed`).
+//!
+//! **Not claimed**: that a session comes to its end, or that `serve` returns: an Again may come again and again.
 #![tactic(auto)]
 
 mod advance;

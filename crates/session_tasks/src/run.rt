@@ -1,12 +1,15 @@
 //! What a run is over.
 
 use script_text::Scripts;
-use session_server::Hall;
+use session_server::{EngineServer, Hall, Server};
 use version_chain::Chains;
 
 /// What a run is over: the hall, the scripts of its sessions, and the gate that is called round each request.
 #[derive(Drop)]
-pub struct Run<'a, C: Chains, G> {
+pub struct Run<'a, C: Chains, G>
+where
+    EngineServer<C>: Server,
+{
     pub hall: &'a Hall<C>,
     pub scripts: &'a Scripts,
     pub gate: &'a G,

@@ -1,7 +1,7 @@
 //! A session on its way along its script.
 
 use script_walk::Walker;
-use session_server::{AskError, Pass};
+use session_server::{AskError, EngineServer, Pass, Server};
 use version_chain::Chains;
 
 /// How far a session has come.
@@ -16,7 +16,10 @@ pub enum Progress {
 
 /// A session: its pass, the place of its script among all, and where it stands in it.
 #[derive(Drop)]
-pub struct Task<C: Chains> {
+pub struct Task<C: Chains>
+where
+    EngineServer<C>: Server,
+{
     pub place: Option<usize>,
     pub pass: Pass<C>,
     pub walker: Walker,

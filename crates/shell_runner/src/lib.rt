@@ -1,8 +1,29 @@
 //! The run of the shell: each line is read, answered and written before the next one is read.
 //!
-//! The shell stands on a [`ShellStore`], which keeps the commits; a run is generic over it, over the source of the lines and over the
-//! sink of the answers. What is proved of a run (`run`): the text is what the definitions say of these lines, a prefix of it if a write
-//! fails; and whatever a crash leaves, at any moment, has the commits that the text before it has acknowledged.
+//! `tebaldi_shell` calls [`run`] over its store. A run is generic over the store, the source of the lines and the sink of the
+//! answers.
+//!
+//! ```text
+//!   Source ──LineReader──► line ──parse_line──► ShellLine ──the store answers──► text ──write_whole──► Sink
+//!                            ▲                                                                          │
+//!                            └────────────── the next line is read when the text is written ────────────┘
+//! ```
+//!
+//! - A [`ShellStore`] keeps commits in epochs. The shell asks it for replies, rows, the serial order and the next epoch.
+//! - A [`Shell`] is the store between two lines, the number of the epoch, and the format of the tree text.
+//! - An *epoch* ends by a line that asks for it, or at a Begin, if 8,192 transactions have begun in it, or if it has commits and
+//!   fewer than 65,536 bytes are left for it. The next one begins under the same tree. A session that would begin while the epoch
+//!   cannot end yet is told `later`.
+//! - A run *ends* at the end of the input or at `.quit`, after each session that holds a transaction is ended; or at a failure.
+//!   Its status is one of [`status`].
+//!
+//! **What is proved.** The text is, line by line, what `IsAnswered` says of the line and of the store before it; a prefix of that
+//! text with status 4 ([`run`], clause `ended`: `HasEnded`). With status 0 or 7 no line is left, or `.quit` was asked, or 2^64 - 2
+//! lines were answered (`IsThrough`). Whatever a crash leaves between two states has the commits that the text before it
+//! acknowledges (`safe` of [`ShellStore`], in each `IsStep`). Status 3 and status 4 are left only if the source's or the sink's
+//! count of faults rose (`read_fault`, `write_fault`).
+//!
+//! **Not claimed**: that an input ends. After status 8 the shell may have asked the last line without an answer.
 #![tactic(auto)]
 
 mod asking;

@@ -1,6 +1,6 @@
 //! What bytes are read from, and the reading of all of them.
 
-ghost use Rattle.std.specs.Prelude.{◌≡◌, ◌≤◌, ◌<◌, ◌+◌, List, ℕ, Option, IfOk, IfSome, IsErr, IsErrOf, length};
+ghost use Rattle.std.specs.Prelude.{◌≡◌, ◌≤◌, ◌<◌, ◌+◌, List, ℕ, Option, IfErr, IfOk, IfSome, IsErr, IsErrOf, OnOk, length};
 ghost use Rattle.std.specs.Io.{ReadsAtMost};
 ghost use Rattle.std.specs.Io.KnownBytes.{ReadConsumes, IsAtEnd};
 ghost use Rattle.teb_io.specs.Bytes.{Takes, TakesUpTo};
@@ -19,11 +19,12 @@ pub trait Source {
     ghost faults: { Self → ℕ };
 
     /// Reads the next bytes to the front of `buf`, and answers how many. None are read only at the end, or into a `buf`
-    /// without room. A read that fails takes no byte.
+    /// without room. A read that fails takes no byte, and one that succeeds counts no fault.
     fn read(&mut self, buf: &mut [u8]) -> Result<usize, Failed>
         ensures bound { ReadsAtMost result buf.new }
         ensures bytes { ReadConsumes (left self.old) (left self.new) result buf.new }
-        ensures cause { HasCause (faults self.old) (faults self.new) result };
+        ensures cause { HasCause (faults self.old) (faults self.new) result }
+        ensures no_fault { OnOk result (faults self.new ≡ faults self.old) };
 }
 
 /// Why not all bytes were read.
@@ -67,8 +68,9 @@ const PIECE: usize = 16384;
 
 /// Reads all the bytes that are left, where these are at most `limit`.
 ///
-/// After `TooLong` the first `limit + 1` bytes are taken, after `ReadFault` at most `limit`, and after `OutOfMemory` at
-/// most `limit + 1`.
+/// # Errors
+/// `ReadFault` if and only if a read fails: at most `limit` bytes are taken then. After `TooLong` the first `limit + 1` bytes
+/// are taken, and after `OutOfMemory` at most `limit + 1`.
 pub fn read_all<S: Source>(alloc: Global, input: &mut S, limit: usize) -> Result<Vec<u8>, ReadError>
     ensures ok { IfOk result (λ v. IfSome (S.left input.old) (λ bytes. v.items ≡ bytes)
         × IsAtEnd (S.left input.new) × (length v.items ≤ limit)) }
@@ -80,6 +82,10 @@ pub fn read_all<S: Source>(alloc: Global, input: &mut S, limit: usize) -> Result
     ensures fault { IsErrOf result ReadError.ReadFault → Rose (S.faults input.old) (S.faults input.new)
         × TakesUpTo limit (S.left input.old) (S.left input.new) }
     ensures memory { IsErrOf result ReadError.OutOfMemory → TakesUpTo (limit + 1) (S.left input.old) (S.left input.new) }
+
+    // If no read failed, no fault is counted.
+    ensures no_fault { OnOk result (S.faults input.new ≡ S.faults input.old) }
+    ensures no_other_fault { IfErr result (λ e. (e ≡ ReadError.ReadFault → ⊥) → S.faults input.new ≡ S.faults input.old) }
     ensures later { S.faults input.old ≤ S.faults input.new }
 {
     let mut bytes = Vec::new(alloc);

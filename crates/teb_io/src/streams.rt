@@ -1,7 +1,7 @@
 //! Sources and sinks over std's readers and writers: each call is one call of the stream, and each of its errors is
 //! counted.
 
-ghost use Rattle.std.specs.Prelude.{◌≡◌, ◌<◌, IfOk, is_ok, length, if◌then◌else◌};
+ghost use Rattle.std.specs.Prelude.{◌≡◌, ◌<◌, IfOk, OnOk, is_ok, length, if◌then◌else◌};
 ghost use Rattle.std.specs.Io.{ReadsAtMost, WritesAtMost};
 ghost use Rattle.std.specs.Io.KnownBytes.{ReadConsumes, WriteAppends};
 ghost use Rattle.teb_io.specs.Faults.{HasCause, next};
@@ -45,6 +45,7 @@ impl<R: Read> Source for StdSource<R> {
         ensures bound { ReadsAtMost result buf.new }
         ensures bytes { ReadConsumes (R.remaining (reader_of self.old)) (R.remaining (reader_of self.new)) result buf.new }
         ensures cause { HasCause (source_faults self.old) (source_faults self.new) result }
+        ensures no_fault { OnOk result (source_faults self.new ≡ source_faults self.old) }
         ensures count { source_faults self.new ≡ (if is_ok result then source_faults self.old else next (source_faults self.old)) }
     {
         match self.inner.read(buf) {

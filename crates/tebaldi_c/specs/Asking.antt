@@ -1,10 +1,12 @@
--- What a call does to the engine behind a handle.
-use Rattle.std.specs.Prelude.{◌≡◌, ℕ, Option, Some, None}
+-- What a call does to the store behind a handle.
+use Rattle.std.specs.Prelude.{◌≡◌, ◌⊎◌, ◌<◌, ℕ, true, Option, Some, None}
 use Rattle.teb_names.specs.declared.Request.{Request}
 use Rattle.teb_rules.specs.Answer.{answer}
 use Rattle.engine_core.specs.EngineModel.{EngineModel}
 use Rattle.c_forms.specs.declared.replies.ReplyForm.{ReplyForm}
 use Rattle.c_forms.specs.Replies.{reply_form}
+use Rattle.tebaldi_c.specs.Shelves.{FileState, ShelfState}
+use Rattle.tebaldi_c.specs.declared.status.TheConstants.{OK, NOT_OPEN, BAD_VERB, OUT_OF_MEMORY, STOPPED, UNSURE, NO_ROOM, WAITING}
 
 -- the engine has answered a request of a session, and this is the form of its reply
 pub record IsAnswered (old new : EngineModel) (session : ℕ) (r : Request) (told : ReplyForm) : Type 0 where
@@ -13,12 +15,46 @@ pub record IsAnswered (old new : EngineModel) (session : ℕ) (r : Request) (tol
   pub store : new.store ≡ old.store
   pub names : new.names ≡ old.names
 
--- there is an engine and a request, and it has answered it
-abbrev pub IsAsked : Option EngineModel → Option EngineModel → ℕ → Option Request → ReplyForm → Type 0
-IsAsked (Some old) (Some new) s (Some r) told = IsAnswered old new s r told
+-- there is a store and a request, and its engine has answered it
+abbrev pub IsAsked : Option ShelfState → Option ShelfState → ℕ → Option Request → ReplyForm → Type 0
+IsAsked (Some old) (Some new) s (Some r) told = IsAnswered old.engine new.engine s r told
 IsAsked _ _ s _ told = ⊥
 
--- there is an engine, and this holds of it
-abbrev pub IfOpen : Option EngineModel → (EngineModel → Type 0) → Type 0
+-- there is a store, and this holds of it
+abbrev pub IfOpen : Option ShelfState → (ShelfState → Type 0) → Type 0
 IfOpen None P = ⊥
-IfOpen (Some e) P = P e
+IfOpen (Some s) P = P s
+
+-- this holds of the file, if there is one
+abbrev pub IfFile : Option FileState → (FileState → Type 0) → Type 0
+IfFile None P = Unit {0}
+IfFile (Some f) P = P f
+
+-- until no call waits, the same number of commits is in the file; and a call on it has failed if one had
+abbrev pub IsFileKept : Option FileState → Option FileState → Type 0
+IsFileKept None None = Unit {0}
+IsFileKept (Some f) (Some g) = (0 < g.waiting → g.kept ≡ f.kept) × (g.failed ≡ f.failed)
+IsFileKept _ _ = ⊥
+
+-- there was a store if and only if there is one, and its file is kept
+abbrev pub IsKept : Option ShelfState → Option ShelfState → Type 0
+IsKept None None = Unit {0}
+IsKept (Some s) (Some t) = IsFileKept s.file t.file
+IsKept _ _ = ⊥
+
+abbrev pub IsFailed : Option FileState → Type 0
+IsFailed None = ⊥
+IsFailed (Some f) = f.failed ≡ true
+
+-- there is a file, and a call on it has failed
+abbrev pub HasFailed : Option ShelfState → Type 0
+HasFailed None = ⊥
+HasFailed (Some s) = IsFailed s.file
+
+-- why an open store has no reply
+abbrev pub IsNoReply : ℕ → Type 0
+IsNoReply n = (n ≡ OUT_OF_MEMORY) ⊎ (n ≡ STOPPED) ⊎ (n ≡ UNSURE) ⊎ (n ≡ NO_ROOM) ⊎ (n ≡ WAITING)
+
+-- what an ask may return
+abbrev pub IsOfAsk : ℕ → Type 0
+IsOfAsk n = (n ≡ OK) ⊎ (n ≡ NOT_OPEN) ⊎ (n ≡ BAD_VERB) ⊎ IsNoReply n

@@ -8,7 +8,10 @@ use Rattle.tree_switch.specs.declared.error.SwitchError.{SwitchError}
 use Rattle.tree_switch.specs.declared.error.SwitchError.TheVariants.{Again, Untold, Tables, Rows, OutOfMemory}
 use Rattle.tree_toml.specs.declared.fault.TreeText.{TreeText}
 use Rattle.engine_core.specs.EngineModel.{EngineModel}
-use Rattle.tebaldi_c.specs.declared.status.TheConstants.{OK, NOT_OPEN, BAD_TREE, OUT_OF_MEMORY, OTHER_TABLES, UNFINISHED, UNTOLD}
+use Rattle.tebaldi_c.specs.Shelves.{FileState, ShelfState}
+use Rattle.engine_store.specs.declared.error.NextError.{NextError}
+use Rattle.engine_store.specs.declared.error.NextError.TheVariants as next
+use Rattle.tebaldi_c.specs.declared.status.TheConstants.{OK, NOT_OPEN, BAD_TREE, OUT_OF_MEMORY, OTHER_TABLES, UNFINISHED, UNTOLD, STOPPED, NO_ROOM, WAITING}
 
 -- an engine of this setup in which nothing has happened, with the rows that the one before it left
 pub record IsNext (m : SetupView) (before e : EngineModel) : Type 0 where
@@ -38,14 +41,20 @@ IsHindrance e Tables = Unit {0}
 IsHindrance e Rows = ⊥
 IsHindrance e OutOfMemory = Unit {0}
 
+-- what is told of a refusal by a store in a file
+abbrev pub IsFileHindrance : EngineModel → NextError → Type 0
+IsFileHindrance e (next.Again t) = IsLeast (IsUnfinished e.events) t.0
+IsFileHindrance e (next.Untold s) = IsLeast (IsUntold e.events) s.0
+IsFileHindrance e _ = Unit {0}
+
 -- there is a store before and after a call
-abbrev pub IfBoth : Option EngineModel → Option EngineModel → (EngineModel → EngineModel → Type 0) → Type 0
-IfBoth (Some old) (Some new) P = P old new
+abbrev pub IfBoth : Option ShelfState → Option ShelfState → (EngineModel → EngineModel → Type 0) → Type 0
+IfBoth (Some old) (Some new) P = P old.engine new.engine
 IfBoth _ _ P = ⊥
 
 -- why an epoch has not begun
 abbrev pub IsOfNext : ℕ → Type 0
-IsOfNext n = (n ≡ OUT_OF_MEMORY) ⊎ (n ≡ OTHER_TABLES) ⊎ (n ≡ UNFINISHED) ⊎ (n ≡ UNTOLD)
+IsOfNext n = (n ≡ OUT_OF_MEMORY) ⊎ (n ≡ OTHER_TABLES) ⊎ (n ≡ UNFINISHED) ⊎ (n ≡ UNTOLD) ⊎ (n ≡ STOPPED) ⊎ (n ≡ NO_ROOM) ⊎ (n ≡ WAITING)
 
 -- what the next epoch may return
 abbrev pub IsOfEpoch : ℕ → Type 0

@@ -1,10 +1,14 @@
 pub mod Asking
 pub mod Auditing
 pub mod Buffers
+pub mod Calls
+pub mod Contents
 pub mod Ended
 pub mod Epochs
 pub mod Events
 pub mod Holding
+pub mod Images
 pub mod Naming
 pub mod Opening
 pub mod SetUp
+pub mod Shelves

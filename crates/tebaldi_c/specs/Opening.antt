@@ -5,6 +5,7 @@ use Rattle.store_setup.specs.Stores.{store_of_view, names_of}
 use Rattle.tree_toml.specs.Texts.{fault_text}
 use Rattle.tree_toml.specs.declared.fault.TreeText.{TreeText}
 use Rattle.engine_core.specs.EngineModel.{EngineModel}
+use Rattle.tebaldi_c.specs.Shelves.{ShelfState}
 
 -- the engine is one of this setup, and nothing has happened yet
 pub record IsNew (m : SetupView) (e : EngineModel) : Type 0 where
@@ -12,10 +13,10 @@ pub record IsNew (m : SetupView) (e : EngineModel) : Type 0 where
   pub names : e.names ≡ names_of m
   pub events : e.events ≡ []
 
--- a setup was read, and the engine is one of it
-abbrev pub IsNewOf : Result SetupView TreeText → EngineModel → Type 0
-IsNewOf (Ok m) e = IsNew m e
-IsNewOf (Err why) e = ⊥
+-- a setup was read, and the store is one of it, in memory
+abbrev pub IsNewOf : Result SetupView TreeText → ShelfState → Type 0
+IsNewOf (Ok m) s = IsNew m s.engine × (s.file ≡ None)
+IsNewOf (Err why) s = ⊥
 
 -- the line of a fault
 abbrev pub fault_line : Result SetupView TreeText → Option (List ℕ)

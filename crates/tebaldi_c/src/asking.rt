@@ -1,23 +1,31 @@
 //! How a session asks.
 
-ghost use Rattle.std.specs.Prelude.{◌≡◌, ◌≢◌, ◌↔◌, IsNone, IsSome, IsTrue, OnOk, OnErr};
+ghost use Rattle.std.specs.Prelude.{◌≡◌, ◌≢◌, ◌↔◌, ◌⊎◌, ◌<◌, true, IsNone, IsSome, IsTrue, OnOk, OnErr};
 ghost use Rattle.teb_rules.specs.Answer.{answer};
 ghost use Rattle.c_forms.specs.Requests.{request_in as read};
 ghost use Rattle.c_forms.specs.Replies.{reply_form as form};
-ghost use Rattle.tebaldi_c.specs.Asking.{IsAsked};
+ghost use Rattle.tebaldi_c.specs.Asking.{IsAnswered, IsAsked, IsKept, IsFileKept, HasFailed, IsFailed, IsNoReply, IsOfAsk};
 
-use crate::status::{BAD_VERB, NOT_OPEN, OK, OUT_OF_MEMORY};
+use crate::contents::Contents;
+use crate::filed::FileStore;
+use crate::shelf::Shelf;
+use crate::status::{BAD_VERB, NO_ROOM, NOT_OPEN, OK, OUT_OF_MEMORY, STOPPED, UNSURE, WAITING};
 use crate::store::StoreHandle;
 use c_forms::{ReplyForm, RequestForm, put_short_form, reply_form, request_in};
 use chain_pool::PooledChains;
 use engine_core::Engine;
+use engine_store::AskError;
 use std::alloc::{AllocError, Global};
 use teb_names::{Request, Session};
 
-/// Answers a request of a session. A session that is not 1 to 32 is answered with a refusal, and the status is `OK`.
+/// Answers a request of a session. A session that is not 1 to 32 is answered with a refusal, and the status is `OK`. The calls that put a
+/// commit into a store's file wait then, and the caller performs them before it tells of the commit.
 ///
 /// # Errors
-/// `NOT_OPEN`, `BAD_VERB`, `OUT_OF_MEMORY`. At each of them the store and the reply are unchanged.
+/// `NOT_OPEN`, `BAD_VERB`, `OUT_OF_MEMORY`. Of a store in a file also `WAITING` if calls wait, `STOPPED` if a call on the file has failed,
+/// and `NO_ROOM` if the rest of this epoch's part of the file may not hold the commit. At each of them the store and the reply are
+/// unchanged. `UNSURE` if a commit of a store in a file runs out of memory: the file may have it or not, and the store is stopped; the
+/// reply is unchanged.
 #[unsafe(no_mangle)]
 pub extern "C" fn tebaldi_ask(
     alloc: Global,
@@ -27,23 +35,86 @@ pub extern "C" fn tebaldi_ask(
     reply: &mut ReplyForm,
 ) -> u32
     ensures ok { result ≡ OK → IsAsked store.old.held.value store.new.held.value session (read request.now) reply.new }
-    ensures stays { result ≢ OK → (store.new.held.value ≡ store.old.held.value) × (reply.new ≡ reply.old) }
+    ensures stays { result ≢ OK → result ≢ UNSURE → store.new.held.value ≡ store.old.held.value }
+    ensures not_told { result ≢ OK → reply.new ≡ reply.old }
+    ensures kept { IsKept store.old.held.value store.new.held.value }
+    ensures failed { HasFailed store.old.held.value → result ≢ OK }
     ensures not_open { result ≡ NOT_OPEN ↔ IsNone store.old.held.value }
     ensures bad_verb { result ≡ BAD_VERB ↔ IsSome store.old.held.value × IsNone (read request.now) }
-    ensures other { result ≢ OK → result ≢ NOT_OPEN → result ≢ BAD_VERB → result ≡ OUT_OF_MEMORY }
+    ensures other { IsOfAsk result }
 {
     let Some(mut shelf) = store.take(alloc) else {
         return NOT_OPEN;
     };
     let status = match request_in(request) {
         None => BAD_VERB,
-        Some(request) => match ask(&mut shelf.engine, Session(session), &request, reply) {
-            Ok(()) => OK,
-            Err(_) => OUT_OF_MEMORY,
-        },
+        Some(request) => shelf.ask(alloc, Session(session), &request, reply),
     };
     store.put(shelf);
     status
+}
+
+impl Shelf {
+    /// Answers a request, and writes the form of the reply. Returns the status.
+    #[inline(always)]
+    fn ask(
+        &mut self,
+        alloc: Global,
+        session: Session,
+        request: &Request,
+        reply: &mut ReplyForm,
+    ) -> u32
+        ensures ok { result ≡ OK → IsAnswered self.old.engine self.new.engine session.0 request.now reply.new }
+        ensures stays { result ≢ OK → result ≢ UNSURE → self.new ≡ self.old }
+        ensures not_told { result ≢ OK → reply.new ≡ reply.old }
+        ensures kept { IsFileKept self.old.file self.new.file }
+        ensures failed { IsFailed self.old.file → result ≢ OK }
+        ensures other { (result ≡ OK) ⊎ IsNoReply result }
+    {
+        match &mut self.contents {
+            Contents::Memory(engine) => match ask(engine, session, request, reply) {
+                Ok(()) => OK,
+                Err(_) => OUT_OF_MEMORY,
+            },
+            Contents::File(file) => ask_file(alloc, file, session, *request, reply),
+        }
+    }
+}
+
+/// Answers a request of a store in a file: out of line, since its commits write to the file. Returns the status.
+#[inline(never)]
+fn ask_file(
+    alloc: Global,
+    file: &mut FileStore,
+    session: Session,
+    request: Request,
+    reply: &mut ReplyForm,
+) -> u32
+    ensures ok { result ≡ OK → IsAnswered file.old.engine file.new.engine session.0 request reply.new }
+    ensures stays { result ≢ OK → result ≢ UNSURE → file.new ≡ file.old }
+    ensures not_told { result ≢ OK → reply.new ≡ reply.old }
+    ensures same { (file.new.engine.store ≡ file.old.engine.store) × (file.new.engine.names ≡ file.old.engine.names) }
+    ensures kept { 0 < file.new.file.waiting → file.new.file.kept ≡ file.old.file.kept }
+    ensures same_failure { file.new.file.failed ≡ file.old.file.failed }
+    ensures failed { file.old.file.failed ≡ true → result ≢ OK }
+    ensures other { (result ≡ OK) ⊎ IsNoReply result }
+{
+    if file.is_stopped() {
+        return STOPPED;
+    }
+    if file.waiting() > 0 {
+        return WAITING;
+    }
+    match file.ask(alloc, session, request) {
+        Ok(answer) => {
+            *reply = reply_form(&answer);
+            OK
+        }
+        Err(AskError::Stopped) => STOPPED,
+        Err(AskError::Full) => NO_ROOM,
+        Err(AskError::Unsure) => UNSURE,
+        Err(AskError::OutOfMemory) => OUT_OF_MEMORY,
+    }
 }
 
 /// Makes room for an answer, asks, and writes the form of the reply.

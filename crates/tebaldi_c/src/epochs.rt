@@ -1,32 +1,42 @@
 //! How a store goes on.
 
-ghost use Rattle.std.specs.Prelude.{◌≡◌, ◌≢◌, ◌↔◌, ◌⊎◌, IsNone, IfOk, IfErr};
+ghost use Rattle.std.specs.Prelude.{◌≡◌, ◌≢◌, ◌↔◌, ◌⊎◌, true, IsNone, IfOk, IfErr};
 ghost use Rattle.store_setup.specs.SetupView.{setup_view};
 ghost use Rattle.store_setup.specs.Sound.{IsWhole, IsNamed, HasNames};
 ghost use Rattle.tree_toml.specs.SetupText.{setup_of_text};
 ghost use Rattle.tree_switch.specs.Starts.{IsStarted};
-ghost use Rattle.tebaldi_c.specs.Asking.{IfOpen};
+ghost use Rattle.tebaldi_c.specs.Asking.{HasFailed, IfOpen, IsFailed};
 ghost use Rattle.tebaldi_c.specs.Buffers.{IsTold};
 ghost use Rattle.tebaldi_c.specs.Epochs.{IfBoth, IsFirstUnfinished, IsFirstUntold, IsHindrance, IsNext, IsNextOf, IsOfEpoch, IsOfNext};
 ghost use Rattle.tebaldi_c.specs.Opening.{fault_line};
 ghost use Rattle.tebaldi_c.specs.SetUp.{IsSetUp};
 
+use crate::contents::Contents;
+use crate::filed::FileStore;
 use crate::opening::tell;
-use crate::status::{BAD_TREE, NOT_OPEN, OK, OTHER_TABLES, OUT_OF_MEMORY, UNFINISHED, UNTOLD};
+use crate::shelf::Shelf;
+use crate::status::{
+    BAD_TREE, NO_ROOM, NOT_OPEN, OK, OTHER_TABLES, OUT_OF_MEMORY, STOPPED, UNFINISHED, UNTOLD,
+    WAITING,
+};
 use crate::store::StoreHandle;
 use chain_pool::PooledChains;
 use engine_core::Engine;
+use engine_store::NextError;
 use std::alloc::Global;
 use store_setup::Setup;
 use tree_switch::{SwitchError, check, start, with_rows};
 use tree_toml::read_tree;
 
 /// Ends the present epoch of a store, and begins the next one with the rows that it leaves, under a tree text with the same tables. The
-/// rows of the text are not used. The history begins anew, and transactions count from 1 again.
+/// rows of the text are not used. The history begins anew, and transactions count from 1 again. The calls that put the rows into a store's
+/// file wait then, and the caller performs them before it asks anything.
 ///
 /// # Errors
 /// `NOT_OPEN`. `BAD_TREE` as in `tebaldi_open`. `UNFINISHED` if a transaction is unfinished; else `UNTOLD` if a session was not told of
-/// the abort of its transaction: `who` is the first of them. `OTHER_TABLES`. `OUT_OF_MEMORY`. At each of them the store is unchanged.
+/// the abort of its transaction: `who` is the first of them. `OTHER_TABLES`. `OUT_OF_MEMORY`.
+/// Of a store in a file also `WAITING`, and `NO_ROOM` if the rows do not fit the file. At each of them the store is unchanged. `STOPPED` if a
+/// call on the file has failed, or if this call ran out of memory while it wrote: the store is stopped, and its file has the old epoch.
 #[unsafe(no_mangle)]
 pub extern "C" fn tebaldi_next_epoch(
     alloc: Global,
@@ -37,12 +47,13 @@ pub extern "C" fn tebaldi_next_epoch(
     who: &mut u32,
 ) -> u32
     ensures ok { result ≡ OK → IfBoth store.old.held.value store.new.held.value (IsNextOf (setup_of_text tree.now)) }
-    ensures stays { result ≢ OK → store.new.held.value ≡ store.old.held.value }
+    ensures stays { result ≢ OK → result ≢ STOPPED → store.new.held.value ≡ store.old.held.value }
+    ensures failed { HasFailed store.old.held.value → result ≢ OK }
     ensures not_open { result ≡ NOT_OPEN ↔ IsNone store.old.held.value }
     ensures bad_tree { result ≡ BAD_TREE → IsTold (fault_line (setup_of_text tree.now)) fault.old fault.new fault_len.new }
     ensures no_fault { result ≢ BAD_TREE → (fault.new ≡ fault.old) × (fault_len.new ≡ fault_len.old) }
-    ensures unfinished { result ≡ UNFINISHED → IfOpen store.old.held.value (λ e. IsFirstUnfinished e who.new) }
-    ensures untold { result ≡ UNTOLD → IfOpen store.old.held.value (λ e. IsFirstUntold e who.new) }
+    ensures unfinished { result ≡ UNFINISHED → IfOpen store.old.held.value (λ s. IsFirstUnfinished s.engine who.new) }
+    ensures untold { result ≡ UNTOLD → IfOpen store.old.held.value (λ s. IsFirstUntold s.engine who.new) }
     ensures nobody { result ≢ UNFINISHED → result ≢ UNTOLD → who.new ≡ who.old }
     ensures other { IsOfEpoch result }
 {
@@ -51,10 +62,70 @@ pub extern "C" fn tebaldi_next_epoch(
     };
     let status = match read_tree(alloc, tree) {
         Err(why) => tell(alloc, &why, fault, fault_len),
-        Ok(setup) => end_epoch(alloc, &mut shelf.engine, setup, who),
+        Ok(setup) => shelf.end_epoch(alloc, setup, who),
     };
     store.put(shelf);
     status
+}
+
+impl Shelf {
+    /// Begins the next epoch. Returns the status, and tells who hinders it.
+    #[tactic(auto, using(crate::proofs::SetUps::set_up_next))]
+    fn end_epoch(&mut self, alloc: Global, setup: Setup, who: &mut u32) -> u32
+        requires whole { IsWhole (setup_view setup) }
+        requires nodes { IsNamed (setup_view setup) }
+        requires names { HasNames (setup_view setup) }
+        ensures ok { result ≡ OK → IsNext (setup_view setup) self.old.engine self.new.engine }
+        ensures stays { result ≢ OK → result ≢ STOPPED → self.new ≡ self.old }
+        ensures failed { IsFailed self.old.file → result ≢ OK }
+        ensures unfinished { result ≡ UNFINISHED → IsFirstUnfinished self.old.engine who.new }
+        ensures untold { result ≡ UNTOLD → IsFirstUntold self.old.engine who.new }
+        ensures nobody { result ≢ UNFINISHED → result ≢ UNTOLD → who.new ≡ who.old }
+        ensures status { (result ≡ OK) ⊎ IsOfNext result }
+    {
+        match &mut self.contents {
+            Contents::Memory(engine) => end_epoch(alloc, engine, setup, who),
+            Contents::File(file) => end_file_epoch(alloc, file, setup, who),
+        }
+    }
+}
+
+/// Begins the next epoch of a store in a file. Returns the status, and tells who hinders it.
+#[tactic(auto, using(crate::proofs::SetUps::set_up_next), unfolding(crate::specs::Epochs::IsFirstUnfinished, crate::specs::Epochs::IsFirstUntold))]
+fn end_file_epoch(alloc: Global, file: &mut FileStore, setup: Setup, who: &mut u32) -> u32
+    requires whole { IsWhole (setup_view setup) }
+    requires nodes { IsNamed (setup_view setup) }
+    requires names { HasNames (setup_view setup) }
+    ensures ok { result ≡ OK → IsNext (setup_view setup) file.old.engine file.new.engine }
+    ensures stays { result ≢ OK → result ≢ STOPPED → file.new ≡ file.old }
+    ensures failed { file.old.file.failed ≡ true → result ≢ OK }
+    ensures unfinished { result ≡ UNFINISHED → IsFirstUnfinished file.old.engine who.new }
+    ensures untold { result ≡ UNTOLD → IsFirstUntold file.old.engine who.new }
+    ensures nobody { result ≢ UNFINISHED → result ≢ UNTOLD → who.new ≡ who.old }
+    ensures set_up { IsSetUp file.old.engine.store file.old.engine.names → IsSetUp file.new.engine.store file.new.engine.names }
+    ensures status { (result ≡ OK) ⊎ IsOfNext result }
+{
+    if file.is_stopped() {
+        return STOPPED;
+    }
+    if file.waiting() > 0 {
+        return WAITING;
+    }
+    match file.next_epoch(alloc, setup) {
+        Ok(()) => OK,
+        Err(NextError::Again(txn)) => {
+            *who = txn.0;
+            UNFINISHED
+        }
+        Err(NextError::Untold(session)) => {
+            *who = u32::from(session.0);
+            UNTOLD
+        }
+        Err(NextError::OtherTables) => OTHER_TABLES,
+        Err(NextError::Full) => NO_ROOM,
+        Err(NextError::Stopped | NextError::DiskFault) => STOPPED,
+        Err(NextError::OutOfMemory) => OUT_OF_MEMORY,
+    }
 }
 
 /// Puts the engine of the next epoch in the place of an engine. Returns the status, and tells who hinders it.

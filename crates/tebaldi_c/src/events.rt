@@ -20,8 +20,8 @@ pub extern "C" fn tebaldi_event(
     place: usize,
     event: &mut EventForm,
 ) -> u32
-    ensures ok { result ≡ OK → IfOpen store.old.held.value (λ e. IsEvent (slice_get (reverse e.events) place) event.new) }
-    ensures no_such { result ≡ NO_SUCH → IfOpen store.old.held.value (λ e. length e.events ≤ place) }
+    ensures ok { result ≡ OK → IfOpen store.old.held.value (λ s. IsEvent (slice_get (reverse s.engine.events) place) event.new) }
+    ensures no_such { result ≡ NO_SUCH → IfOpen store.old.held.value (λ s. length s.engine.events ≤ place) }
     ensures stays { store.new.held.value ≡ store.old.held.value }
     ensures not_open { result ≡ NOT_OPEN ↔ IsNone store.old.held.value }
     ensures not_told { result ≢ OK → event.new ≡ event.old }
@@ -30,7 +30,7 @@ pub extern "C" fn tebaldi_event(
     let Some(shelf) = store.take(alloc) else {
         return NOT_OPEN;
     };
-    let history = shelf.engine.history();
+    let history = shelf.engine().history();
     let status = if place < history.len() {
         *event = event_form(&history.at(place));
         OK

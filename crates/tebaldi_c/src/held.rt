@@ -1,7 +1,7 @@
 //! A shelf behind a pointer that C holds.
 
 ghost use Rattle.std.specs.Prelude.{◌≡◌, Option, Some, None, IsSome};
-ghost use Rattle.engine_core.specs.EngineModel.{EngineModel};
+ghost use Rattle.tebaldi_c.specs.Shelves.{ShelfState};
 ghost use Rattle.tebaldi_c.specs.Holding.{held_owns, shelf_coded};
 
 use crate::parts::Parts;
@@ -23,7 +23,7 @@ pub struct Inside {
 pub struct Held {
     at: *mut Inside,
     alloc: Global,
-    pub ghost value: { Option EngineModel } by { shelf_coded },
+    pub ghost value: { Option ShelfState } by { shelf_coded },
 }
 
 impl Model for Held {

@@ -26,8 +26,8 @@ pub extern "C" fn tebaldi_line(
     out: &mut [u8],
     len: &mut usize,
 ) -> u32
-    ensures ok { result ≡ OK → IfOpen store.old.held.value (λ e. IsTold (line_in e.names session reply.now) out.old out.new len.new) }
-    ensures no_such { result ≡ NO_SUCH → IfOpen store.old.held.value (λ e. line_in e.names session reply.now ≡ None) }
+    ensures ok { result ≡ OK → IfOpen store.old.held.value (λ s. IsTold (line_in s.engine.names session reply.now) out.old out.new len.new) }
+    ensures no_such { result ≡ NO_SUCH → IfOpen store.old.held.value (λ s. line_in s.engine.names session reply.now ≡ None) }
     ensures stays { store.new.held.value ≡ store.old.held.value }
     ensures not_open { result ≡ NOT_OPEN ↔ IsNone store.old.held.value }
     ensures not_told { result ≢ OK → (out.new ≡ out.old) × (len.new ≡ len.old) }
@@ -36,7 +36,7 @@ pub extern "C" fn tebaldi_line(
     let Some(shelf) = store.take(alloc) else {
         return NOT_OPEN;
     };
-    let status = match line_of(alloc, &shelf.engine.setup().names, session, reply) {
+    let status = match line_of(alloc, &shelf.engine().setup().names, session, reply) {
         Ok(Some(line)) => {
             *len = lay_over(out, &line);
             OK

@@ -25,7 +25,7 @@ pub extern "C" fn tebaldi_number(
     name: &[u8],
     number: &mut u8,
 ) -> u32
-    ensures ok { result ≡ OK → IfOpen store.old.held.value (λ e. number_of (names_in e.names list) name.now ≡ Some number.new) }
+    ensures ok { result ≡ OK → IfOpen store.old.held.value (λ s. number_of (names_in s.engine.names list) name.now ≡ Some number.new) }
     ensures stays { store.new.held.value ≡ store.old.held.value }
     ensures not_open { result ≡ NOT_OPEN ↔ IsNone store.old.held.value }
     ensures not_told { result ≢ OK → number.new ≡ number.old }
@@ -34,7 +34,7 @@ pub extern "C" fn tebaldi_number(
     let Some(shelf) = store.take(alloc) else {
         return NOT_OPEN;
     };
-    let status = match number_in(list_of(&shelf.engine.setup().names, list), name) {
+    let status = match number_in(list_of(&shelf.engine().setup().names, list), name) {
         Some(found) => {
             *number = found;
             OK
@@ -58,7 +58,7 @@ pub extern "C" fn tebaldi_name(
     out: &mut [u8],
     len: &mut usize,
 ) -> u32
-    ensures ok { result ≡ OK → IfOpen store.old.held.value (λ e. IsTold (slice_get (names_in e.names list) number) out.old out.new len.new) }
+    ensures ok { result ≡ OK → IfOpen store.old.held.value (λ s. IsTold (slice_get (names_in s.engine.names list) number) out.old out.new len.new) }
     ensures stays { store.new.held.value ≡ store.old.held.value }
     ensures not_open { result ≡ NOT_OPEN ↔ IsNone store.old.held.value }
     ensures not_told { result ≢ OK → (out.new ≡ out.old) × (len.new ≡ len.old) }
@@ -67,7 +67,7 @@ pub extern "C" fn tebaldi_name(
     let Some(shelf) = store.take(alloc) else {
         return NOT_OPEN;
     };
-    let names = list_of(&shelf.engine.setup().names, list);
+    let names = list_of(&shelf.engine().setup().names, list);
     let status = if number < names.len() {
         *len = lay_over(out, names.name(number).as_bytes());
         OK

@@ -8,6 +8,7 @@ ghost use Rattle.tebaldi_c.specs.Buffers.{IsTold};
 ghost use Rattle.tebaldi_c.specs.Opening.{IsNewOf, fault_line};
 
 use crate::buffers::lay_over;
+use crate::contents::Contents;
 use crate::shelf::Shelf;
 use crate::status::{BAD_TREE, IS_OPEN, OK, OUT_OF_MEMORY};
 use crate::store::StoreHandle;
@@ -64,7 +65,12 @@ fn shelf_of(alloc: Global, tree: &[u8]) -> Result<Box<Shelf>, TreeText>
 {
     let setup = read_tree(alloc, tree)?;
     let engine = Engine::new(alloc, setup, PooledChains::new(alloc))?;
-    let shelf = Box::new(alloc, Shelf { engine })?;
+    let shelf = Box::new(
+        alloc,
+        Shelf {
+            contents: Contents::Memory(engine),
+        },
+    )?;
     Ok(shelf)
 }
 

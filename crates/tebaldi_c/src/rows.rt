@@ -31,7 +31,7 @@ pub extern "C" fn tebaldi_order(
     out: &mut [u32],
     len: &mut usize,
 ) -> u32
-    ensures ok { result ≡ OK → IfOpen store.old.held.value (λ e. IsTold (Some (serial_order e.store.setup e.events)) out.old out.new len.new) }
+    ensures ok { result ≡ OK → IfOpen store.old.held.value (λ s. IsTold (Some (serial_order s.engine.store.setup s.engine.events)) out.old out.new len.new) }
     ensures stays { store.new.held.value ≡ store.old.held.value }
     ensures not_open { result ≡ NOT_OPEN ↔ IsNone store.old.held.value }
     ensures not_told { result ≢ OK → (out.new ≡ out.old) × (len.new ≡ len.old) }
@@ -40,7 +40,7 @@ pub extern "C" fn tebaldi_order(
     let Some(shelf) = store.take(alloc) else {
         return NOT_OPEN;
     };
-    let status = match numbers(alloc, &shelf.engine) {
+    let status = match numbers(alloc, shelf.engine()) {
         Ok(numbers) => {
             *len = lay_over(out, &numbers);
             OK
@@ -62,7 +62,7 @@ pub extern "C" fn tebaldi_rows(
     out: &mut [RowForm],
     len: &mut usize,
 ) -> u32
-    ensures ok { result ≡ OK → IfOpen store.old.held.value (λ e. AreFinal e out.old out.new len.new) }
+    ensures ok { result ≡ OK → IfOpen store.old.held.value (λ s. AreFinal s.engine out.old out.new len.new) }
     ensures stays { store.new.held.value ≡ store.old.held.value }
     ensures not_open { result ≡ NOT_OPEN ↔ IsNone store.old.held.value }
     ensures not_told { result ≢ OK → (out.new ≡ out.old) × (len.new ≡ len.old) }
@@ -71,7 +71,7 @@ pub extern "C" fn tebaldi_rows(
     let Some(shelf) = store.take(alloc) else {
         return NOT_OPEN;
     };
-    let status = match forms(alloc, &shelf.engine) {
+    let status = match forms(alloc, shelf.engine()) {
         Ok(forms) => {
             *len = lay_over(out, &forms);
             OK

@@ -35,3 +35,21 @@ pub const UNFINISHED: u32 = 10;
 
 /// A session was not told of the abort of its transaction.
 pub const UNTOLD: u32 = 11;
+
+/// A call on the file has failed earlier, or a commit ran out of memory.
+pub const STOPPED: u32 = 12;
+
+/// The file may have the commit or not.
+pub const UNSURE: u32 = 13;
+
+/// The commits of this epoch, or the rows, do not fit the file.
+pub const NO_ROOM: u32 = 14;
+
+/// Calls on the file wait to be performed.
+pub const WAITING: u32 = 15;
+
+/// The file is no store, or a damaged one.
+pub const DAMAGED: u32 = 16;
+
+/// The file has a store of another capacity.
+pub const OTHER_CAPACITY: u32 = 17;

@@ -1,4 +1,25 @@
-//! The store by hand: a shell over one file, which reads requests and answers each at once.
+//! The program `./tebaldi_shell`: a store in a file, used by hand.
+//!
+//! `tebaldi_shell FILE [TREE]` opens the store that FILE has, or makes the file, under the tree text in the file TREE or the plain
+//! tree. It reads lines from standard input, and answers each on standard output before it reads the next.
+//!
+//! ```text
+//!   words ──┬─► TREE ──read_tree──► setup ─────────────────┐
+//!           └─► FILE ──open_with_capacity──► FileDisk ──► EngineStore::open ──► KeptStore ──► shell_runner::run ──► status
+//! ```
+//!
+//! - A *kept store* is an `EngineStore` on a disk, as the shell asks it: it is the `ShellStore` of this program.
+//! - The file is not touched if the tree text is refused. It is locked while the shell runs.
+//! - Its *capacity* is 67,108,864 bytes, for two halves with some 2.4 million rows each. A file of another capacity is refused.
+//! - What keeps the shell from starting is said on standard error. docs/FORMATS.md has the lines and the statuses.
+//!
+//! **What is proved** of `serve`, over any disk, source and sink. The shell begins with the rows that the disk has, or with those
+//! of the text if the disk has none; of a disk that a crash left, these are the rows after the first k commits, and k is at least
+//! the number of commits that were answered (`HasOpened`). The text is what `shell_runner` proves. Whatever a crash leaves at any
+//! moment has all commits that the text before it acknowledges, and none but those of the history (`HasServed`, `IsSafe`).
+//!
+//! **Not claimed**: what `main` does around `serve`, which is read off the code: it opens the files, passes the streams, and says
+//! the reason on standard error. That the file keeps the bytes of the disk is trusted, as `file_disk` says.
 #![tactic(auto)]
 
 mod kept_store;

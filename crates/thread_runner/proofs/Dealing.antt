@@ -7,8 +7,7 @@ use Rattle.std.proofs.lemmas.List.Elements.{Contains-push, Contains-append_left}
 use mathlib.Core.Logic.{dite}
 use native.Mathlib.Decide.{ℕ_discrete}
 use Rattle.turn_lock.specs.Counts.{count_from}
-use Rattle.version_chain.specs.declared.chains.Chains.{Ghosts}
-use Rattle.session_server.specs.declared.hall.Hall.{Hall}
+use Rattle.session_server.specs.Halls.{Ghosts, Hall}
 use Rattle.session_tasks.specs.Scripted.{Scripted}
 use Rattle.session_tasks.specs.Tasks.{AreTasks, IsTask, number_in}
 use Rattle.thread_runner.specs.Hands.{AreDealt, IsInHands, held, hand_of}

@@ -1,8 +1,7 @@
 -- The tasks as they are dealt to the workers.
 use Rattle.std.specs.Prelude.{◌≡◌, ℕ, ◌<◌, ◌==◌, ◌%◌, if◌then◌else◌, List, [], ◌∷◌, ◌++◌, length, slice_index_or, Contains, Option, Some, None, Vec}
 use Rattle.std.specs.declared.alloc.Global.{Global}
-use Rattle.version_chain.specs.declared.chains.Chains.{Ghosts}
-use Rattle.session_server.specs.declared.hall.Hall.{Hall}
+use Rattle.session_server.specs.Halls.{Ghosts, Hall}
 use Rattle.session_tasks.specs.Scripted.{Scripted, place_in}
 use Rattle.session_tasks.specs.Tasks.{AreTasks}
 use Rattle.session_tasks.specs.declared.task.Task.{Task}

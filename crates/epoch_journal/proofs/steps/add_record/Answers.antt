@@ -3,6 +3,7 @@ use Rattle.crash_disk.specs.Disk.{IsTorn}
 use Rattle.record_journal.proofs.Moments.{weaker}
 use Rattle.epoch_journal.specs.Layout.{layout}
 use Rattle.epoch_journal.specs.Halves.{IsOneOf}
+use Rattle.crash_disk.proofs.Spares.{uses_then, uses_less}
 use Rattle.epoch_journal.proofs.Moments.{and_then}
 use Rattle.epoch_journal.proofs.Adding.{behind, at_mark, rests}
 use Rattle.epoch_journal.proofs.Sizes.{both_fit, small_half}
@@ -72,3 +73,21 @@ write_safely-requires g c = omega (arith, both_fit c.args.capacity c.args.first 
 
 pub write_safely-requires-2 : goal.write_safely-requires-2
 write_safely-requires-2 g c = omega (arith, both_fit c.args.capacity c.args.first (c.args.end + 1 + length c.args.body.now) (omega arith) c.requires.room, c.base.ensures.value, c.requires.small, c.write_safely.ensures.stays)
+
+pub returns-in_err-write_safely-clause-memory : goal.returns-in_err-write_safely-clause-memory
+returns-in_err-write_safely-clause-memory g c =
+    let n = length c.args.body.now in
+    let q = c.base.result + c.args.end in
+    uses_less 2 n (q + 1 + n) 4 (n + 1) _ _ _ _ _ (omega arith) (omega arith) (omega (arith, c.base.ensures.value)) c.write_safely.ensures.memory
+
+pub returns-in_err-write_safely-2-clause-memory : goal.returns-in_err-write_safely-2-clause-memory
+returns-in_err-write_safely-2-clause-memory g c =
+    let n = length c.args.body.now in
+    let q = c.base.result + c.args.end in
+    uses_then 2 n (q + 1 + n) 2 1 (q + 1) 4 (n + 1) _ _ _ _ _ _ _ (omega arith) (omega arith) (omega (arith, c.base.ensures.value)) (omega (arith, c.base.ensures.value)) c.write_safely.ensures.memory c.write_safely-2.ensures.memory
+
+pub returns-clause-memory : goal.returns-clause-memory
+returns-clause-memory g c =
+    let n = length c.args.body.now in
+    let q = c.base.result + c.args.end in
+    uses_then 2 n (q + 1 + n) 2 1 (q + 1) 4 (n + 1) _ _ _ _ _ _ _ (omega arith) (omega arith) (omega (arith, c.base.ensures.value)) (omega (arith, c.base.ensures.value)) c.write_safely.ensures.memory c.write_safely-2.ensures.memory

@@ -1,10 +1,11 @@
-use Rattle.std.proofs.Common.{◌≡◌, ◌⊎◌, inl, inr, true, false, not, length, arith}
+use Rattle.std.proofs.Common.{◌≡◌, ◌⊎◌, inl, inr, true, false, not, length, ◌+◌, arith}
 use Rattle.crash_disk.specs.Disk.{IsTorn}
 use Rattle.record_journal.proofs.Moments.{weaker}
 use Rattle.epoch_journal.specs.Layout.{layout}
 use Rattle.epoch_journal.specs.Halves.{IsEither}
+use Rattle.crash_disk.proofs.Spares.{uses_then, uses_less}
 use Rattle.epoch_journal.proofs.Moments.{and_then}
-use Rattle.epoch_journal.proofs.Sizes.{both_fit}
+use Rattle.epoch_journal.proofs.Sizes.{both_fit, half_some}
 use Rattle.epoch_journal.proofs.Switching.{still_current, either, rests_fronted, switched}
 use Rattle.epoch_journal.proofs.steps.switch_halves.Goals as goal
 use Rattle.epoch_journal.proofs.steps.switch_halves.Goals.{then-first, else-first}
@@ -72,3 +73,18 @@ returns-clause-resting g c label r piece fronted =
     let chosen : ((c.args.first ≡ true) × (c.if-first.selector ≡ 0)) ⊎ ((c.args.first ≡ false) × (c.if-first.selector ≡ 1)) =
     elim c.if-first.branch [ then-first w ↦ inl (w.if-first.true, w.selector-is) | else-first w ↦ inr (w.if-first.false, w.selector-is) ] in
     rests_fronted l c.args.first r c.args.piece.now f piece fronted c.base.result mid c.base.ensures.value c.write_safely.ensures.torn c.in_ok-write_safely.ensures.written c.if-first.selector (d.seen c.write_safely-2.new.disk) chosen c.write_safely-2.ensures.torn c.in_ok-write_safely-2.ensures.written
+
+pub returns-in_err-write_safely-clause-memory : goal.returns-in_err-write_safely-clause-memory
+returns-in_err-write_safely-clause-memory g c =
+    let n = length c.args.piece.now in
+    uses_less 2 n (c.base.result + n) 4 (n + 1) _ _ _ _ _ (omega arith) (omega arith) (omega (arith, c.base.ensures.value)) c.write_safely.ensures.memory
+
+pub returns-in_err-write_safely-2-clause-memory : goal.returns-in_err-write_safely-2-clause-memory
+returns-in_err-write_safely-2-clause-memory g c =
+    let n = length c.args.piece.now in
+    uses_then 2 n (c.base.result + n) 2 1 1 4 (n + 1) _ _ _ _ _ _ _ (omega arith) (omega arith) (omega (arith, c.base.ensures.value)) (omega (arith, half_some c.args.capacity (not c.args.first))) c.write_safely.ensures.memory c.write_safely-2.ensures.memory
+
+pub returns-clause-memory : goal.returns-clause-memory
+returns-clause-memory g c =
+    let n = length c.args.piece.now in
+    uses_then 2 n (c.base.result + n) 2 1 1 4 (n + 1) _ _ _ _ _ _ _ (omega arith) (omega arith) (omega (arith, c.base.ensures.value)) (omega (arith, half_some c.args.capacity (not c.args.first))) c.write_safely.ensures.memory c.write_safely-2.ensures.memory

@@ -1,12 +1,12 @@
 -- What was ahead is still ahead, and no fault is told that did not come.
-use Rattle.std.proofs.Common.{[], ◌-◌, ◌≤◌, length}
+use Rattle.std.proofs.Common.{[], ◌≡◌, ◌-◌, length}
 use Rattle.std.specs.Io.KnownBytes.{Consumes}
 use Rattle.line_reader.specs.Lines.{ahead}
 use Rattle.line_reader.proofs.LineReader.read_line.Given as goal
 
 abbrev pub invariant-reading : goal.invariant-reading
 invariant-reading g l = record {
-  later : g.S.Source.faults l.initial.source ≤ g.S.Source.faults l.source;
+  no_fault : g.S.Source.faults l.source ≡ g.S.Source.faults l.initial.source;
   kept : Consumes (ahead l.initial.self (g.S.Source.left l.initial.source)) (ahead l.self (g.S.Source.left l.source)) [];
 }
 

@@ -1,6 +1,7 @@
 use Rattle.std.proofs.Common.{rules, refl, arith, length, ◌+◌, sym, ◌∙◌, subst, ap, Result, Ok, Err}
 use Rattle.std.specs.Prelude.{OnErr, IsErr}
 use Rattle.record_journal.proofs.Counting.{more, stop}
+use Rattle.crash_disk.proofs.Spares.{uses_then, uses_less}
 use Rattle.record_journal.specs.Format.{recovered}
 use Rattle.record_journal.proofs.Crash.{torn_behind}
 use Rattle.crash_disk.specs.Disk.{Only}
@@ -121,3 +122,38 @@ returns-clause-calls g c =
     let three = more 3 (n + 1) 2 n 1 1 _ _ (tally c.write_at-2.new.self) _ _ refl (omega arith) two c.in_ok-write_at-2.ensures.calls in
     let four = more 4 (n + 1) 3 (n + 1) 1 0 _ _ (tally c.sync-2.new.self) _ _ refl (omega arith) three c.in_ok-sync-2.ensures.calls in
     four
+
+pub returns-in_err-write_at-clause-memory : goal.returns-in_err-write_at-clause-memory
+returns-in_err-write_at-clause-memory g c =
+    let n = length c.args.body.now in
+    let end = c.args.end + 1 + n in
+    uses_less 1 n end 4 (n + 1) end _ _ _ _ (omega arith) (omega arith) (omega arith) c.write_at.ensures.memory
+
+pub returns-in_err-sync-clause-memory : goal.returns-in_err-sync-clause-memory
+returns-in_err-sync-clause-memory g c =
+    let n = length c.args.body.now in
+    let end = c.args.end + 1 + n in
+    uses_then 1 n end 1 0 0 4 (n + 1) end _ _ _ _ _ _ (omega arith) (omega arith) (omega arith) (omega arith) c.write_at.ensures.memory c.sync.ensures.memory
+
+pub returns-in_err-write_at-2-clause-memory : goal.returns-in_err-write_at-2-clause-memory
+returns-in_err-write_at-2-clause-memory g c =
+    let n = length c.args.body.now in
+    let end = c.args.end + 1 + n in
+    let two = uses_then 1 n end 1 0 0 2 n end _ _ _ _ _ _ (omega arith) (omega arith) (omega arith) (omega arith) c.write_at.ensures.memory c.sync.ensures.memory in
+    uses_then 2 n end 1 1 (c.args.end + 1) 4 (n + 1) end _ _ _ _ _ _ (omega arith) (omega arith) (omega arith) (omega arith) two c.write_at-2.ensures.memory
+
+pub returns-in_err-sync-2-clause-memory : goal.returns-in_err-sync-2-clause-memory
+returns-in_err-sync-2-clause-memory g c =
+    let n = length c.args.body.now in
+    let end = c.args.end + 1 + n in
+    let two = uses_then 1 n end 1 0 0 2 n end _ _ _ _ _ _ (omega arith) (omega arith) (omega arith) (omega arith) c.write_at.ensures.memory c.sync.ensures.memory in
+    let three = uses_then 2 n end 1 1 (c.args.end + 1) 3 (n + 1) end _ _ _ _ _ _ (omega arith) (omega arith) (omega arith) (omega arith) two c.write_at-2.ensures.memory in
+    uses_then 3 (n + 1) end 1 0 0 4 (n + 1) end _ _ _ _ _ _ (omega arith) (omega arith) (omega arith) (omega arith) three c.sync-2.ensures.memory
+
+pub returns-clause-memory : goal.returns-clause-memory
+returns-clause-memory g c =
+    let n = length c.args.body.now in
+    let end = c.args.end + 1 + n in
+    let two = uses_then 1 n end 1 0 0 2 n end _ _ _ _ _ _ (omega arith) (omega arith) (omega arith) (omega arith) c.write_at.ensures.memory c.sync.ensures.memory in
+    let three = uses_then 2 n end 1 1 (c.args.end + 1) 3 (n + 1) end _ _ _ _ _ _ (omega arith) (omega arith) (omega arith) (omega arith) two c.write_at-2.ensures.memory in
+    uses_then 3 (n + 1) end 1 0 0 4 (n + 1) end _ _ _ _ _ _ (omega arith) (omega arith) (omega arith) (omega arith) three c.sync-2.ensures.memory

@@ -15,7 +15,7 @@ loop-next-init g c =
     let ns = g.J.Roster.numbers in
     let d = deque_len c.args.waiting in
     let z = c.args.waiting.ok.0 in
-    let a = length-map c.args.waiting.items (number_at {C = g.row.C.Denot} {g = g.C.Chains}) in
+    let a = length-map c.args.waiting.items (number_at {C = g.row.C.Denot}) in
     let b : length (map number_at c.args.waiting.items) ≡ length ns = ap length c.requires.numbers in
     let n : length ns - d ≡ 0 = omega arith in record {
       few = omega arith;

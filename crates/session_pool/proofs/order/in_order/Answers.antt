@@ -43,7 +43,7 @@ loop-i-preserved g c =
     let i = c.loop-i.i in
     let t = c.index.result.now in
     let inv = c.loop-i.invariant in
-    let is : t ≡ get_or ts i t = c.index.ensures ∙ ap (λ (ws : List (Task g.row.C.Denot g.C.Chains)). get_or ws i t) inv.same in
+    let is : t ≡ get_or ts i t = c.index.ensures ∙ ap (λ (ws : List (Task g.row.C.Denot _)). get_or ws i t) inv.same in
     let low : i < length ts = omega (arith, c.sort_unstable_by_key.new.self.ok.0, c.len-i-end.ensures, c.loop-i-test.true) in
     record {
       same = inv.same;
@@ -62,7 +62,7 @@ returns-in-Failed-clause-first g c =
     let t = c.index.result.now in
     let u = c.swap_remove.result in
     let inv = c.loop-i.invariant in
-    let is : t ≡ get_or ts i t = c.index.ensures ∙ ap (λ (ws : List (Task g.row.C.Denot g.C.Chains)). get_or ws i t) inv.same in
+    let is : t ≡ get_or ts i t = c.index.ensures ∙ ap (λ (ws : List (Task g.row.C.Denot _)). get_or ws i t) inv.same in
     let low : i < length ts = omega (arith, c.sort_unstable_by_key.new.self.ok.0, c.len-i-end.ensures, c.loop-i-test.true) in
     let there : i < length c.loop-i.tasks.items = omega (arith, low, ap length inv.same) in
     let taken : u ≡ t = c.swap_remove.ensures.value ∙ get_or_default c.loop-i.tasks.items i u t there ∙ sym c.index.ensures in
@@ -72,5 +72,5 @@ returns-in-Failed-clause-first g c =
       session = session_at h x us ts moved c.requires.tasks (put_in_order h x us ts moved (IsNonDecreasingBy-from_sort_by_key number_in _ c.sort_unstable_by_key.ensures.sorted (λ a r q k. search rules)) c.requires.tasks c.requires.all) i t low is;
       error = c.in-Failed.error;
       failed = c.in-Failed.is;
-      told = c.fail.ensures.error ∙ ap (λ (q : Task g.row.C.Denot g.C.Chains). error_of q.pass c.in-Failed.error) taken;
+      told = c.fail.ensures.error ∙ ap (λ (q : Task g.row.C.Denot _). error_of q.pass c.in-Failed.error) taken;
     })

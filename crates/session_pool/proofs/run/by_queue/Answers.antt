@@ -28,7 +28,7 @@ take_rest-requires g c =
     let hands = c.in_ok-hands.hands in
     let last = view c.dismiss.new.token in
     let collected = worked_hands h x c.in_ok-line.line ws c.args.workers (length g.J.Roster.numbers) last hands.items c.work.ensures (n ∙ count)
-    (c.in_ok-hands.ensures.hands ∙ ap (map (λ (w : Worker g.row.C.Denot g.C.Chains). w.hand)) (written_back ws (drop (length ws) c.in_ok-workers.workers.items) c.in_ok-workers.workers.len n))
+    (c.in_ok-hands.ensures.hands ∙ ap (map (λ (w : Worker g.row.C.Denot _). w.hand)) (written_back ws (drop (length ws) c.in_ok-workers.workers.items) c.in_ok-workers.workers.len n))
     c.in_ok-hands.ensures.whole c.in_ok-hands.ensures.shared in
     let many = collected.count in
     let below : 0 < length hands.items = omega arith in
@@ -52,7 +52,7 @@ returns g c =
     let hands = c.in_ok-hands.hands in
     let last = view c.dismiss.new.token in
     let collected = worked_hands h x c.in_ok-line.line ws c.args.workers (length g.J.Roster.numbers) last hands.items c.work.ensures (n ∙ count)
-    (c.in_ok-hands.ensures.hands ∙ ap (map (λ (w : Worker g.row.C.Denot g.C.Chains). w.hand)) (written_back ws (drop (length ws) c.in_ok-workers.workers.items) c.in_ok-workers.workers.len n))
+    (c.in_ok-hands.ensures.hands ∙ ap (map (λ (w : Worker g.row.C.Denot _). w.hand)) (written_back ws (drop (length ws) c.in_ok-workers.workers.items) c.in_ok-workers.workers.len n))
     c.in_ok-hands.ensures.whole c.in_ok-hands.ensures.shared in
     let many = collected.count in
     let below : 0 < length hands.items = omega arith in

@@ -1,6 +1,5 @@
-use Rattle.std.proofs.Common.{[], append-nil, sym, ◌∙◌}
 use Rattle.session_server.proofs.Finishing.{word_lasts}
-use Rattle.session_server.proofs.Turning.{adds, takes, sees, err_so, ok_so}
+use Rattle.session_server.proofs.Turning.{adds, takes, sees, told_is}
 use Rattle.session_server.proofs.Naming.{names_begun}
 use Rattle.session_server.proofs.taking.take_turn.Goals as goal
 
@@ -17,7 +16,7 @@ leave-requires-clause-adds g c =
       names = c.ask-answer.ensures.same.1;
       view = c.publish_since.ensures.view;
       tells = c.publish_since.ensures.known;
-      lasts = λ u. word_lasts y.engine.store.setup x.engine.events y.engine.events u c.history-2.ensures.lawful c.ask-answer.ensures.before c.ask-answer.ensures.length;
+      lasts = λ u. word_lasts (g.S.Server.store y.server).setup (g.S.Server.events x.server) (g.S.Server.events y.server) u c.history-2.ensures.lawful c.ask-answer.ensures.before c.ask-answer.ensures.length;
     }
 
 pub returns-clause-turn : goal.returns-clause-turn
@@ -33,14 +32,13 @@ returns-clause-turn g c =
       names = c.ask-answer.ensures.same.1;
       view = c.publish_since.ensures.view;
       tells = c.publish_since.ensures.known;
-      lasts = λ u. word_lasts y.engine.store.setup x.engine.events y.engine.events u c.history-2.ensures.lawful c.ask-answer.ensures.before c.ask-answer.ensures.length;
+      lasts = λ u. word_lasts (g.S.Server.store y.server).setup (g.S.Server.events x.server) (g.S.Server.events y.server) u c.history-2.ensures.lawful c.ask-answer.ensures.before c.ask-answer.ensures.length;
     } c.leave.ensures.view
 
-pub returns-clause-ok : goal.returns-clause-ok
-returns-clause-ok g c = ok_so c.ask-answer.result _ _ (λ r is. sees c.args.seat.now.seat.me.0 c.enter-hosted.result c.ask-answer.new.self c.publish_since.new.seat.seat.me.0 c.leave.new.seat.seat.me.0 _ c.enter-hosted.ensures.follows.goes c.leave.ensures.view is) c.ask-answer.ensures.ok
+pub returns-clause-sees : goal.returns-clause-sees
+returns-clause-sees g c = sees c.args.seat.now.seat.me.0 c.enter-hosted.result c.ask-answer.new.self c.publish_since.new.seat.seat.me.0 c.leave.new.seat.seat.me.0 _ c.enter-hosted.ensures.follows.goes c.leave.ensures.view c.ask-answer.ensures.entries
 
 pub returns-clause-waits : goal.returns-clause-waits
-returns-clause-waits g c = let x = c.enter-hosted.result in ok_so c.ask-answer.result _ _ (λ r is. names_begun x.engine.store x.engine.events c.args.session c.args.request r c.history.ensures.lawful x.few is) c.ask-answer.ensures.answer
-
-pub returns-clause-err : goal.returns-clause-err
-returns-clause-err g c = err_so c.ask-answer.result _ _ (λ is. sees c.args.seat.now.seat.me.0 c.enter-hosted.result c.ask-answer.new.self c.publish_since.new.seat.seat.me.0 c.leave.new.seat.seat.me.0 [] c.enter-hosted.ensures.follows.goes c.leave.ensures.view (is.0 ∙ sym (append-nil _))) c.ask-answer.ensures.err
+returns-clause-waits g c r is =
+    let x = c.enter-hosted.result in
+    names_begun (g.S.Server.store x.server) (g.S.Server.events x.server) c.args.session c.args.request r c.history.ensures.lawful x.few (told_is c.ask-answer.result r _ is c.ask-answer.ensures.answer)

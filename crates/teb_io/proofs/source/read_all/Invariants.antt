@@ -1,11 +1,11 @@
 -- The bytes so far are those that were taken.
-use Rattle.std.proofs.Common.{◌≤◌, ◌+◌, ◌-◌, length}
+use Rattle.std.proofs.Common.{◌≡◌, ◌≤◌, ◌+◌, ◌-◌, length}
 use Rattle.std.specs.Io.KnownBytes.{Consumes}
 use Rattle.teb_io.proofs.source.read_all.Given as goal
 
 abbrev pub invariant-loop-piece : goal.invariant-loop-piece
 invariant-loop-piece g l = record {
-  later : g.S.Source.faults l.initial.input ≤ g.S.Source.faults l.input;
+  no_fault : g.S.Source.faults l.input ≡ g.S.Source.faults l.initial.input;
   within : length l.bytes.items ≤ l.limit + 1;
   taken : Consumes (g.S.Source.left l.initial.input) (g.S.Source.left l.input) l.bytes.items;
 }

@@ -40,8 +40,9 @@ invariant_of-self c =
     let fewer : length c.truncate.new.self.items ≡ length m.bytes.items - n = search rules in
     record {
       counted = omega (arith, ap total split, total-push c.pop.new.self.items at n, i.counted, within, fewer);
-      reserved = λ is. omega (arith, i.reserved is, c.pop.ensures.capacity);
-      reserved_bytes = λ is. omega (arith, i.reserved_bytes is, c.truncate.ensures.capacity);
+      calls = omega (arith, i.calls, c.pop.ensures.capacity);
+      bytes = omega (arith, i.bytes, c.truncate.ensures.capacity);
+      reserved = λ is. let r = i.reserved is in (r.0, r.1, omega (arith, r.2, fewer));
     }
 
 pub returns-in-Some-Write-clause-dropped : goal.returns-in-Some-Write-clause-dropped

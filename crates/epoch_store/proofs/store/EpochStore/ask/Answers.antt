@@ -5,7 +5,7 @@ use Rattle.epoch_journal.specs.Layout.{half_size}
 use Rattle.epoch_journal.specs.Telling.{TellsOn}
 use Rattle.epoch_journal.proofs.Sizes.{small_half}
 use Rattle.epoch_store.specs.Stored.{Stored}
-use Rattle.epoch_store.proofs.Answering.{as_ask_full, keeps_same, still}
+use Rattle.epoch_store.proofs.Answering.{keeps_same, still, still_full}
 use Rattle.epoch_store.proofs.store.EpochStore.ask.Goals as goal
 
 pub returns-then-is_stopped-clause-any_moment : goal.returns-then-is_stopped-clause-any_moment
@@ -21,11 +21,11 @@ returns-in-Err-clause-any_moment g c =
     let d = g.D.Disk in
     let e = g.E.Recorder in
     let was = c.self.inside in
-    let new = c.prepare.new.self in
+    let new = c.prepared-prepared.new.engine in
     let n = was.journal.acknowledged in
     subst (λ (s : Stored _ _). LeavesOnly d.moment d.left_since s.journal.disk was.journal.disk (TellsOn s.journal.layout (row_of (e.store new).rows) (e.records new) s.journal.acknowledged)) c.self.view_is
     (still d.seen d.may_leave d.moment d.left_since (row_of (e.store new).rows) (e.records new) n was.journal (g.met.D.Disk.only_now was.journal.disk)
-    (keeps_same d.seen d.may_leave (e.store was.engine) (e.store new) (e.records was.engine) (e.records new) n n was.journal c.prepare.ensures.store c.prepare.ensures.records refl c.self.invariant))
+    (keeps_same d.seen d.may_leave (e.store was.engine) (e.store new) (e.records was.engine) (e.records new) n n was.journal c.prepared-prepared.ensures.store c.prepared-prepared.ensures.records refl c.self.invariant))
 
 pub returns-then-is_stopped-clause-images : goal.returns-then-is_stopped-clause-images
 returns-then-is_stopped-clause-images g c =
@@ -39,23 +39,17 @@ returns-in-Err-clause-images g c =
     let d = g.D.Disk in
     let e = g.E.Recorder in
     let was = c.self.inside in
-    let new = c.prepare.new.self in
+    let new = c.prepared-prepared.new.engine in
     let n = was.journal.acknowledged in
-    (keeps_same d.seen d.may_leave (e.store was.engine) (e.store new) (e.records was.engine) (e.records new) n n was.journal c.prepare.ensures.store c.prepare.ensures.records refl c.self.invariant).each
+    (keeps_same d.seen d.may_leave (e.store was.engine) (e.store new) (e.records was.engine) (e.records new) n n was.journal c.prepared-prepared.ensures.store c.prepared-prepared.ensures.records refl c.self.invariant).each
 
 pub returns-in-Err-clause-full : goal.returns-in-Err-clause-full
 returns-in-Err-clause-full g c is =
     let e = g.E.Recorder in
-    let was = c.self.inside in
-    let left : c.min-left.result ≡ half_size was.journal.layout.capacity - was.journal.end = omega (arith, c.min-left.ensures, c.left.ensures.left, small_half was.journal.layout.capacity) in
     subst (λ (s : Stored _ _). e.lacks s.engine (half_size s.journal.layout.capacity - s.journal.end) c.args.session c.args.request) c.self.view_is
-    (subst (λ (n : ℕ). e.lacks was.engine n c.args.session c.args.request) left (c.in-Err.ensures.full (as_ask_full c.in-Err.error c.from.result c.from.ensures is)))
+    (c.in-Err.ensures.full (still_full c.in-Err.error is))
 
 pub returns-clause-room : goal.returns-clause-room
 returns-clause-room g c lacks =
     let e = g.E.Recorder in
-    let was = c.self.inside in
-    let left : c.min-left.result ≡ half_size was.journal.layout.capacity - was.journal.end = omega (arith, c.min-left.ensures, c.left.ensures.left, small_half was.journal.layout.capacity) in
-    absurd (c.in-Ok.ensures.room
-    (subst (λ (n : ℕ). e.lacks was.engine n c.args.session c.args.request) (sym left)
-    (subst (λ (s : Stored _ _). e.lacks s.engine (half_size s.journal.layout.capacity - s.journal.end) c.args.session c.args.request) (sym c.self.view_is) lacks)))
+    absurd (c.in-Ok.ensures.room (subst (λ (s : Stored _ _). e.lacks s.engine (half_size s.journal.layout.capacity - s.journal.end) c.args.session c.args.request) (sym c.self.view_is) lacks))

@@ -1,0 +1,200 @@
+/* A store in a file: performs the writes and syncs that the library asks for, in their order, before a commit is told.
+ *
+ * This file is tested, and not proved. Its whole duty is in `perform`: each call of tebaldi_next_call is carried out on the file, and then
+ * told by tebaldi_performed. If one fails, tebaldi_failed stops the store, and no commit is told from then on. */
+#ifndef _GNU_SOURCE
+#define _GNU_SOURCE
+#endif
+#include "tebaldi.h"
+
+#include <errno.h>
+#include <fcntl.h>
+#include <stdlib.h>
+#include <string.h>
+#include <sys/file.h>
+#include <sys/stat.h>
+#include <unistd.h>
+
+/* How many bytes of a write are taken at once. */
+enum { PIECE = 16384 };
+
+/* Writes all of some bytes at a place. Returns 0, or -1 and sets errno. */
+static int write_whole(int fd, const uint8_t *bytes, size_t len, uint64_t at)
+{
+    while (len > 0) {
+        ssize_t n = pwrite(fd, bytes, len, (off_t)at);
+        if (n < 0 && errno == EINTR)
+            continue;
+        if (n <= 0) {
+            if (n == 0)
+                errno = EIO;
+            return -1;
+        }
+        bytes += n;
+        len -= (size_t)n;
+        at += (size_t)n;
+    }
+    return 0;
+}
+
+/* Carries out the call that waits, whose first bytes are in `bytes`. Returns 0, or -1 and sets errno. */
+static int carry_out(struct tebaldi_file *file, struct tebaldi_call call, uint8_t *bytes)
+{
+    if (call.kind == TEBALDI_SYNC)
+        return fdatasync(file->fd);
+    for (size_t done = 0; done < call.len; done += PIECE) {
+        size_t len = call.len - done < PIECE ? call.len - done : PIECE;
+        if (done > 0 && tebaldi_next_call(&file->store, done, &call, bytes, PIECE) != TEBALDI_OK) {
+            errno = EIO;
+            return -1;
+        }
+        if (write_whole(file->fd, bytes, len, call.at + done) != 0)
+            return -1;
+    }
+    return 0;
+}
+
+/* Performs all calls that wait. Returns 0; or -1 with errno, and the store is stopped. */
+static int perform(struct tebaldi_file *file)
+{
+    uint8_t bytes[PIECE] = {0};
+    struct tebaldi_call call = {0};
+    while (tebaldi_next_call(&file->store, 0, &call, bytes, PIECE) == TEBALDI_OK) {
+        if (carry_out(file, call, bytes) != 0) {
+            int why = errno;
+            tebaldi_failed(&file->store);
+            errno = why;
+            return -1;
+        }
+        tebaldi_performed(&file->store);
+    }
+    return 0;
+}
+
+/* Makes the name of a file in its folder safe. Returns 0, or -1 and sets errno. */
+static int sync_folder(const char *path)
+{
+    const char *slash = strrchr(path, '/');
+    char *folder = slash == NULL ? strdup(".") : strndup(path, slash == path ? 1 : (size_t)(slash - path));
+    if (folder == NULL)
+        return -1;
+    int fd = open(folder, O_RDONLY | O_DIRECTORY | O_CLOEXEC);
+    free(folder);
+    if (fd < 0)
+        return -1;
+    int failed = fsync(fd), why = errno;
+    close(fd);
+    errno = why;
+    return failed;
+}
+
+/* Reads a whole file. Returns 0, and the caller frees the bytes, which are not null; or -1 and sets errno. */
+static int read_whole(int fd, size_t size, uint8_t **bytes)
+{
+    *bytes = calloc(size > 0 ? size : 1, 1);
+    if (*bytes == NULL)
+        return -1;
+    for (size_t done = 0; done < size;) {
+        ssize_t n = pread(fd, *bytes + done, size - done, (off_t)done);
+        if (n < 0 && errno == EINTR)
+            continue;
+        if (n <= 0) {
+            int why = n == 0 ? EIO : errno;
+            free(*bytes);
+            errno = why;
+            return -1;
+        }
+        done += (size_t)n;
+    }
+    return 0;
+}
+
+/* Opens a file and locks it. Returns TEBALDI_OK, TEBALDI_BUSY, or TEBALDI_IO with errno. */
+static uint32_t open_locked(const char *path, int *fd)
+{
+    *fd = open(path, O_RDWR | O_CREAT | O_CLOEXEC, 0666);
+    if (*fd < 0)
+        return TEBALDI_IO;
+    if (flock(*fd, LOCK_EX | LOCK_NB) == 0)
+        return TEBALDI_OK;
+    int why = errno;
+    close(*fd);
+    errno = why;
+    return why == EWOULDBLOCK ? TEBALDI_BUSY : TEBALDI_IO;
+}
+
+/* Opens the store that a locked file has. */
+static uint32_t open_store(struct tebaldi_file *file, const char *path, const uint8_t *tree, size_t tree_len, uint8_t *fault, size_t fault_room,
+                           size_t *fault_len, uint64_t *place)
+{
+    struct stat about;
+    uint8_t *bytes = NULL;
+    if (fstat(file->fd, &about) != 0)
+        return TEBALDI_IO;
+    if (about.st_size > TEBALDI_FILE_CAPACITY)
+        return TEBALDI_TOO_LONG;
+    if (read_whole(file->fd, (size_t)about.st_size, &bytes) != 0)
+        return errno == ENOMEM ? TEBALDI_OUT_OF_MEMORY : TEBALDI_IO;
+    uint32_t status = TEBALDI_IO;
+    if (fsync(file->fd) == 0 && sync_folder(path) == 0)
+        status = tebaldi_open_image(&file->store, bytes, (size_t)about.st_size, tree, tree_len, fault, fault_room, fault_len, place);
+    int why = errno;
+    free(bytes);
+    errno = why;
+    if (status == TEBALDI_OK && perform(file) != 0) {
+        why = errno;
+        tebaldi_close(&file->store);
+        errno = why;
+        return TEBALDI_IO;
+    }
+    return status;
+}
+
+uint32_t tebaldi_file_open(struct tebaldi_file *file, const char *path, const uint8_t *tree, size_t tree_len, uint8_t *fault, size_t fault_room,
+                           size_t *fault_len, uint64_t *place)
+{
+    if (file->fd >= 0)
+        return TEBALDI_IS_OPEN;
+    int fd = -1;
+    uint32_t status = open_locked(path, &fd);
+    if (status != TEBALDI_OK)
+        return status;
+    file->fd = fd;
+    status = open_store(file, path, tree, tree_len, fault, fault_room, fault_len, place);
+    if (status != TEBALDI_OK) {
+        int why = errno;
+        close(fd);
+        file->fd = -1;
+        errno = why;
+    }
+    return status;
+}
+
+uint32_t tebaldi_file_ask(struct tebaldi_file *file, uint8_t session, const struct tebaldi_request *request, struct tebaldi_reply *reply)
+{
+    if (request->verb != TEBALDI_COMMIT)
+        return tebaldi_ask(&file->store, session, request, reply);
+    struct tebaldi_reply told = {0};
+    uint32_t status = tebaldi_ask(&file->store, session, request, &told);
+    if (status != TEBALDI_OK)
+        return status;
+    if (perform(file) != 0)
+        return TEBALDI_UNSURE;
+    *reply = told;
+    return TEBALDI_OK;
+}
+
+uint32_t tebaldi_file_next_epoch(struct tebaldi_file *file, const uint8_t *tree, size_t tree_len, uint8_t *fault, size_t fault_room,
+                                 size_t *fault_len, uint32_t *who)
+{
+    uint32_t status = tebaldi_next_epoch(&file->store, tree, tree_len, fault, fault_room, fault_len, who);
+    return status == TEBALDI_OK && perform(file) != 0 ? TEBALDI_UNSURE : status;
+}
+
+void tebaldi_file_close(struct tebaldi_file *file)
+{
+    tebaldi_close(&file->store);
+    if (file->fd >= 0)
+        close(file->fd);
+    file->fd = -1;
+}

@@ -1,0 +1,45 @@
+//! The trait of what a hall serves.
+
+ghost use Rattle.std.specs.Prelude.{◌≡◌, List, IsErrOf};
+ghost use Rattle.teb_names.specs.declared.Reply.{Reply as TheReply};
+ghost use Rattle.teb_names.specs.declared.naming.NameBook.{NameBook as TheNames};
+ghost use Rattle.teb_history.specs.declared.Event.{Event};
+ghost use Rattle.teb_rules.specs.Setup.{Store};
+ghost use Rattle.teb_rules.specs.Answer.{answer};
+ghost use Rattle.teb_laws.specs.Lawful.{Lawful};
+ghost use Rattle.hall_server.specs.Told.{events_after, told, IsToldBy};
+ghost use Rattle.hall_server.specs.declared.failure.Failure.TheVariants as failures;
+
+use crate::failure::Failure;
+use std::alloc::Global;
+use teb_history::History;
+use teb_names::{Reply, Request, Session};
+
+/// Answers requests one after another as the rules do, unless it fails.
+pub trait Server {
+    ghost store: { Self → Store };
+
+    ghost names: { Self → TheNames };
+
+    ghost events: { Self → List Event };
+
+    /// The replies of which it may be unsure.
+    ghost unsure: { TheReply → Type 0 };
+
+    /// Answers a request.
+    ///
+    /// # Errors
+    /// `Unasked` leaves the store, the names and the history as they were. `Unsure` has the reply that is not certain to be kept: the
+    /// history has the request.
+    fn serve(&mut self, alloc: Global, session: Session, request: Request) -> Result<Reply, Failure>
+        ensures reply { IsToldBy (told result) (answer (store self.old) (events self.old) session request).0 }
+        ensures events { events self.new ≡ events_after (told result) (events self.old) (answer (store self.old) (events self.old) session request).1 }
+        ensures store { store self.new ≡ store self.old }
+        ensures names { names self.new ≡ names self.old }
+        ensures unsure { (r : TheReply) → IsErrOf result (failures.Unsure r) → unsure r };
+
+    /// What has happened so far: a history that the rules lead to.
+    fn history(&self) -> &History
+        ensures events { result.now.events ≡ events self.now }
+        ensures lawful { Lawful (store self.now).setup (events self.now) };
+}

@@ -1,0 +1,40 @@
+//! An engine as a server: it never fails but for memory.
+
+use engine_core::Engine;
+use hall_server::{Failure, Fault, Server};
+use std::alloc::Global;
+use teb_history::History;
+use teb_names::{Reply, Request, Session};
+use version_chain::Chains;
+
+/// An engine as what a hall serves.
+#[derive(Drop)]
+pub struct EngineServer<C: Chains> {
+    pub engine: Engine<C>,
+}
+
+impl<C: Chains> Server for EngineServer<C> {
+    ghost store = { λ s. s.engine.store };
+
+    ghost names = { λ s. s.engine.names };
+
+    ghost events = { λ s. s.engine.events };
+
+    ghost unsure = { λ _. ⊥ };
+
+    fn serve(
+        &mut self,
+        _alloc: Global,
+        session: Session,
+        request: Request,
+    ) -> Result<Reply, Failure> {
+        match self.engine.ready() {
+            Ok(()) => Ok(self.engine.ask(session, request)),
+            Err(_) => Err(Failure::Unasked(Fault::OutOfMemory)),
+        }
+    }
+
+    fn history(&self) -> &History {
+        self.engine.history()
+    }
+}

@@ -1,0 +1,56 @@
+//! A request of a session at any server.
+
+ghost use Rattle.std.specs.Prelude.{◌≡◌, ◌↔◌, Err, IfOk, IsErrOf};
+ghost use Rattle.teb_names.specs.declared.Reply.{Reply as TheReply};
+ghost use Rattle.hall_server.specs.declared.failure.Fault.{Fault as TheFault};
+ghost use Rattle.session_server.specs.Passes.{base_of, IsPassOf, Turned, Asked, Unasked};
+ghost use Rattle.session_server.specs.Waits.{WaitsAmong};
+ghost use Rattle.session_server.specs.declared.error.ServeError.TheVariants as errors;
+
+use crate::error::ServeError;
+use crate::hall::HallOf;
+use crate::pass::{MOST_ASKS, PassOf};
+use crate::taking::take_turn;
+use hall_server::{Failure, Server};
+use std::sync::Wait;
+use teb_names::{MOST_TXNS, Reply, Request};
+
+impl<S: Server> HallOf<S> {
+    /// Asks the server at this session's turn. It waits for the turn.
+    ///
+    /// What the pass has seen goes on, and ends with the entry of this call. Before the turn moves on, each finish of
+    /// the answer is published. Whom an Again names may be polled.
+    ///
+    /// # Errors
+    /// `PassSpent`, where the pass has asked `MOST_ASKS` times. `Unasked` leaves no entry. `Unsure` leaves an entry with the reply
+    /// that is not certain to be kept.
+    pub fn serve<R: Wait>(
+        &self,
+        rt: &R,
+        pass: &mut PassOf<S>,
+        request: Request,
+    ) -> Result<Reply, ServeError>
+        requires pass { IsPassOf self.now pass.old }
+        ensures pass { IsPassOf self.now pass.new × (pass.new.session ≡ pass.old.session) }
+        ensures ok { IfOk result (λ r. Turned (base_of self.now).store pass.old pass.new × Asked pass.old pass.new request r) }
+        ensures waits { IfOk result (WaitsAmong MOST_TXNS) }
+        ensures unsure { (r : TheReply) → IsErrOf result (errors.Unsure r) → Turned (base_of self.now).store pass.old pass.new × Asked pass.old pass.new request r }
+        ensures doubted { (r : TheReply) → IsErrOf result (errors.Unsure r) → S.unsure r }
+        ensures unasked { (f : TheFault) → IsErrOf result (errors.Unasked f) → Turned (base_of self.now).store pass.old pass.new × Unasked pass.old pass.new }
+        ensures spent { IsErrOf result errors.PassSpent → pass.new ≡ pass.old }
+        ensures when { (result ≡ Err errors.PassSpent) ↔ (pass.old.asks ≡ MOST_ASKS) }
+    {
+        if pass.asks == MOST_ASKS {
+            return Err(ServeError::PassSpent);
+        }
+        let inside = self.door.lock(rt);
+        let answer = take_turn(rt, &self.turn, &mut pass.seat, pass.session, request);
+        drop(inside);
+        pass.asks += 1;
+        match answer {
+            Ok(reply) => Ok(reply),
+            Err(Failure::Unsure(reply)) => Err(ServeError::Unsure(reply)),
+            Err(Failure::Unasked(fault)) => Err(ServeError::Unasked(fault)),
+        }
+    }
+}

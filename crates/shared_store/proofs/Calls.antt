@@ -1,0 +1,56 @@
+-- The calls of a session in a list.
+use Rattle.std.proofs.Common.{◌≡◌, ◌≢◌, ℕ, suc, cond, if◌then◌else◌, Bool, true, false, ◌&&◌, ◌==◌, List, [], ◌∷◌, ◌++◌, Option, All, append-nil, refl, ◌∙◌, ap, subst, arith, eq-eqb, ne_eqb}
+use Rattle.std.proofs.lemmas.List.Elements.{filter-append}
+use Rattle.teb_names.specs.declared.Session.{Session}
+use Rattle.teb_names.specs.declared.Request.{Request}
+use Rattle.short_reply.specs.declared.ShortReply.{ShortReply}
+use Rattle.turn_lock.specs.Counts.{times, same}
+use Rattle.turn_lock.proofs.Lists.{All_map}
+use Rattle.shared_store.specs.declared.entry.LifeEntry.{LifeEntry}
+use Rattle.shared_store.specs.declared.entry.LifeEntry.TheVariants.{Asked, Turned, Unsure}
+use Rattle.shared_store.specs.Lives.{IsMarkOf, calls_of, is_call_of, owner_of}
+
+pub calls_append : (n : ℕ) (xs ys : List LifeEntry) → calls_of n (xs ++ ys) ≡ calls_of n xs ++ calls_of n ys
+calls_append n xs ys = filter-append (is_call_of n) xs ys
+
+pub calls_none : (n : ℕ) (es : List LifeEntry) → All (λ (e : LifeEntry). is_call_of n e ≡ false) es → calls_of n es ≡ []
+calls_none n [] a = refl
+calls_none n (e ∷ es) a = ap (λ b. cond b (e ∷ calls_of n es) (calls_of n es)) (a 0 e (omega arith)) ∙ calls_none n es (λ k d l. a (suc k) d (omega arith))
+
+-- marks are no calls
+pub marks_none : (n : ℕ) (es : List LifeEntry) → All (IsMarkOf n) es → calls_of n es ≡ []
+marks_none n es a = calls_none n es (All_map (IsMarkOf n) (λ (e : LifeEntry). is_call_of n e ≡ false) es (λ e m. m.1) a)
+
+is_other : (n o : ℕ) → times o (n ∷ []) ≡ 0 → o ≢ n
+is_other n o z is = let one : same o n ≡ 1 = ap (λ b. if b then 1 else 0) (eq-eqb o n is) in absurd (omega arith)
+
+no_call : (n : ℕ) (e : LifeEntry) → owner_of e ≢ n → is_call_of n e ≡ false
+no_call n (Asked by s q r) o = ap (λ (b : Bool). b && (s.0 == n)) (ne_eqb by.0 n o)
+no_call n (Turned by) o = refl
+no_call n (Unsure by) o = refl
+
+all_others : (n : ℕ) (es : List LifeEntry) → All (λ (e : LifeEntry). times (owner_of e) (n ∷ []) ≡ 0) es → All (λ (e : LifeEntry). is_call_of n e ≡ false) es
+all_others n es a = All_map (λ (e : LifeEntry). times (owner_of e) (n ∷ []) ≡ 0) (λ (e : LifeEntry). is_call_of n e ≡ false) es (λ e z. no_call n e (is_other n (owner_of e) z)) a
+
+-- nor are entries of others
+pub others_none : (n : ℕ) (os : List ℕ) (es more : List LifeEntry) → os ≡ n ∷ [] → All (λ (e : LifeEntry). times (owner_of e) os ≡ 0) more → calls_of n (es ++ more) ≡ calls_of n es
+others_none n os es more o a = calls_append n es more
+    ∙ (ap (λ (l : List LifeEntry). calls_of n es ++ l) (calls_none n more (all_others n more (subst (λ (ys : List ℕ). All (λ (e : LifeEntry). times (owner_of e) ys ≡ 0) more) o a)))
+    ∙ append-nil (calls_of n es))
+
+-- a call of the session is one
+pub own_call : (s : Session) (q : Request) (r : Option ShortReply) → is_call_of s.0 (Asked s s q r) ≡ true
+own_call s q r = ap (λ (b : Bool). b && b) (eq-eqb s.0 s.0 refl)
+
+and_no : (b : Bool) → b && false ≡ false
+and_no true = refl
+and_no false = refl
+
+-- what it asks for another is a mark
+pub for_other : (by s : Session) (q : Request) (r : Option ShortReply) → s.0 ≢ by.0 → IsMarkOf by.0 (Asked by s q r)
+for_other by s q r o = (refl, ap (λ (b : Bool). (by.0 == by.0) && b) (ne_eqb s.0 by.0 o) ∙ and_no (by.0 == by.0))
+
+-- of a call and what follows it, marks, the call alone
+pub one_call : (s : Session) (q : Request) (r : Option ShortReply) (after : List LifeEntry) → All (IsMarkOf s.0) after → calls_of s.0 (Asked s s q r ∷ after) ≡ Asked s s q r ∷ []
+one_call s q r after a = let e : LifeEntry = Asked s s q r in
+    ap (λ b. cond b (e ∷ calls_of s.0 after) (calls_of s.0 after)) (own_call s q r) ∙ ap (λ (l : List LifeEntry). e ∷ l) (marks_none s.0 after a)

@@ -1,0 +1,9 @@
+pub mod Calls
+pub mod Living
+pub mod Adding
+pub mod Turning
+pub mod Passing
+pub mod Asking
+pub mod Dealing
+pub mod Gathering
+pub mod Numbers

@@ -1,0 +1,4 @@
+pub mod Trees
+pub mod Standings
+pub mod Found
+pub mod Serial

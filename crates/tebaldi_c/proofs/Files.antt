@@ -1,0 +1,79 @@
+-- What a file keeps, after each step.
+use Rattle.std.proofs.Common.{◌≡◌, ◌-◌, ◌+◌, ◌<◌, ◌≤◌, ℕ, List, [], Bool, true, false, length, take, refl, sym, ◌∙◌, ap, subst, arith}
+use Rattle.std.proofs.lemmas.List.{take_all}
+use Rattle.teb_history.specs.declared.Event.{Event}
+use Rattle.teb_rules.specs.Setup.{Store}
+use Rattle.crash_disk.specs.Disk.{LeavesOnly}
+use Rattle.crash_disk.specs.Log.{Step, LeftSince, MayLeave}
+use Rattle.crash_disk.specs.LogLaws.{only_now}
+use Rattle.crash_disk.specs.declared.memory.MemDisk.{MemDisk}
+use Rattle.commit_laws.specs.Commits.{commit_count}
+use Rattle.engine_core.specs.EngineModel.{EngineModel}
+use Rattle.epoch_journal.specs.Layout.{Layout}
+use Rattle.engine_store.specs.Telling.{TellsCommits}
+use Rattle.tebaldi_c.specs.Shelves.{FileState, KeepsFile, calls, next_place}
+
+-- the clock of a disk in memory, and the images since a moment
+abbrev pub clock : MemDisk → ℕ
+clock m = length m.log.steps
+
+abbrev pub images : MemDisk → ℕ → List ℕ → Type 0
+images m t c = LeftSince m.log.steps t c
+
+-- no call waits: what a crash leaves now is what it left after the last call
+pub none_waits : (e : EngineModel) (f : FileState) → f.waiting ≡ 0 → f.opened ≡ true → f.kept ≡ f.journal.acknowledged
+    → ((image : List ℕ) → MayLeave (calls f) image → TellsCommits f.journal.layout e.store e.events f.journal.acknowledged image)
+    → (f.journal.stopped ≡ false → f.journal.acknowledged ≡ commit_count e.events) → KeepsFile e f
+none_waits e f none opened kept leaves all = record {
+  few = omega (arith, none);
+  each = λ _ image left.
+      let at : next_place f ≡ length (calls f) = omega (arith, none) in
+      subst (λ (n : ℕ). TellsCommits f.journal.layout e.store e.events n image) (sym kept)
+      (leaves image (only_now (calls f) image (subst (λ (t : ℕ). LeftSince (calls f) t image) at left)));
+  settled = λ _. (opened, kept);
+  all = all;
+}
+
+-- the calls since a moment wait: a crash leaves what it left from that moment on
+pub moved : (e : EngineModel) (f : FileState) (old : MemDisk) → f.waiting ≡ length (calls f) - length old.log.steps
+    → LeavesOnly clock images old f.journal.disk (TellsCommits f.journal.layout e.store e.events f.kept)
+    → (f.waiting ≡ 0 → (f.opened ≡ true) × (f.kept ≡ f.journal.acknowledged))
+    → (f.journal.stopped ≡ false → f.journal.acknowledged ≡ commit_count e.events) → KeepsFile e f
+moved e f old waiting leaves settled all = record {
+  few = omega (arith, waiting);
+  each = λ _ image left.
+      let at : next_place f ≡ length old.log.steps = omega (arith, waiting, leaves.later) in
+      leaves.each image (subst (λ (t : ℕ). LeftSince (calls f) t image) at left);
+  settled = settled;
+  all = all;
+}
+
+-- a store that was opened just now: its images are those of the store once no call waits
+pub begins : (e : EngineModel) (f : FileState) → f.waiting ≤ length (calls f) → (f.opened ≡ true → f.waiting ≡ 0) → (f.waiting ≡ 0 → f.opened ≡ true) → f.kept ≡ 0
+    → f.journal.acknowledged ≡ 0 → e.events ≡ [] → ((image : List ℕ) → MayLeave (calls f) image → TellsCommits f.journal.layout e.store e.events f.journal.acknowledged image) → KeepsFile e f
+begins e f few opened waits kept none empty leaves = record {
+  few = few;
+  each = λ is. (none_waits e f (opened is) is (kept ∙ sym none) leaves all).each is;
+  settled = λ zero. (waits zero, kept ∙ sym none);
+  all = all;
+}
+  where
+    all : f.journal.stopped ≡ false → f.journal.acknowledged ≡ commit_count e.events
+    all _ = none ∙ sym (ap commit_count empty)
+
+-- one call fewer waits
+pub one_fewer : (e : EngineModel) (f g : FileState) → KeepsFile e f → g.journal ≡ f.journal → g.opened ≡ f.opened → g.kept ≡ f.kept → g.waiting + 1 ≡ f.waiting → 0 < g.waiting → KeepsFile e g
+one_fewer e f g k journal opened kept fewer some = record {
+  few = omega (arith, fewer, k.few, same);
+  each = λ is image left.
+      subst (λ (n : ℕ). TellsCommits g.journal.layout e.store e.events n image) (sym kept)
+      (subst (λ (j : _). TellsCommits j.layout e.store e.events f.kept image) (sym journal)
+      (k.each (sym opened ∙ is) image
+      (let l = subst (λ (j : _). LeftSince j.disk.log.steps (next_place g) image) journal left in
+      (l.0, omega (arith, l.1, fewer, k.few, same), l.2, l.3))));
+  settled = λ none. absurd (omega (arith, none, some));
+  all = subst (λ (j : _). j.stopped ≡ false → j.acknowledged ≡ commit_count e.events) (sym journal) k.all;
+}
+  where
+    same : length (calls g) ≡ length (calls f)
+    same = ap (λ (j : _). length j.disk.log.steps) journal

@@ -1,0 +1,43 @@
+-- What contracts see of a handle's store.
+use Rattle.std.specs.Prelude.{◌≡◌, ℕ, ◌-◌, ◌≤◌, Bool, true, false, List, length, Option, Some, None}
+use Rattle.engine_core.specs.EngineModel.{EngineModel}
+use Rattle.commit_laws.specs.Commits.{commit_count}
+use Rattle.crash_disk.specs.Log.{Step, LeftSince}
+use Rattle.crash_disk.specs.declared.memory.MemDisk.{MemDisk}
+use Rattle.epoch_journal.specs.State.{JournalState}
+use Rattle.engine_store.specs.Telling.{TellsCommits}
+
+-- What is known of a store's file: the journal, on a disk in memory that has the calls for the file; how many of these calls, the last
+-- ones, wait to be performed; whether all were performed since the opening; how many commits of this epoch are in the file; and whether a
+-- call on the file has failed.
+pub record FileState : Type 0 where
+  pub journal : JournalState MemDisk
+  pub waiting : ℕ
+  pub opened : Bool
+  pub kept : ℕ
+  pub failed : Bool
+
+-- the engine of the present epoch, and the file if there is one
+pub record ShelfState : Type 0 where
+  pub engine : EngineModel
+  pub file : Option FileState
+
+-- the calls for the file, the first one first, and the place of the first that waits
+abbrev pub calls : FileState → List Step
+calls f = f.journal.disk.log.steps
+
+abbrev pub next_place : FileState → ℕ
+next_place f = length (calls f) - f.waiting
+
+-- Each image that a crash may leave of a file on which the calls before the waiting ones were performed, now or while those are performed,
+-- has the rows after the first commits, at least those that are kept.
+pub record KeepsFile (e : EngineModel) (f : FileState) : Type 0 where
+  pub few : f.waiting ≤ length (calls f)
+  pub each : f.opened ≡ true → (image : List ℕ) → LeftSince (calls f) (next_place f) image → TellsCommits f.journal.layout e.store e.events f.kept image
+  pub settled : f.waiting ≡ 0 → (f.opened ≡ true) × (f.kept ≡ f.journal.acknowledged)
+  pub all : f.journal.stopped ≡ false → f.journal.acknowledged ≡ commit_count e.events
+
+-- a store in a file
+pub record Filed : Type 0 where
+  pub engine : EngineModel
+  pub file : FileState

@@ -1,0 +1,196 @@
+//! A store in a file that its caller reads and writes.
+
+ghost use Rattle.std.specs.Prelude.{◌≡◌, ◌≢◌, ◌<◌, ◌+◌, ◌||◌, true, false, length, slice_get, Some, MatchOption, IfOk, IfErr, OnOk, OnErr};
+ghost use Rattle.teb_rules.specs.Answer.{answer};
+ghost use Rattle.crash_disk.specs.Log.{step_of};
+ghost use Rattle.epoch_journal.specs.Layout.{half_size};
+ghost use Rattle.epoch_store.specs.Told.{IsToldBy, events_after, told};
+ghost use Rattle.epoch_store.specs.declared.error.AskError.TheVariants as asked;
+ghost use Rattle.engine_store.specs.declared.error.NextError.TheVariants as next;
+ghost use Rattle.store_setup.specs.SetupView.{setup_view};
+ghost use Rattle.store_setup.specs.Sound.{IsWhole};
+ghost use Rattle.tree_switch.specs.Starts.{IsStarted};
+ghost use Rattle.tebaldi_c.specs.Epochs.{IsFileHindrance};
+ghost use Rattle.tebaldi_c.specs.Shelves.{calls, next_place};
+
+use chain_pool::PooledChains;
+use crash_disk::{Call, MemDisk};
+use engine_core::Engine;
+use engine_store::{AskError, EngineStore, NextError};
+use std::alloc::Global;
+use std::marker::Model;
+use store_setup::Setup;
+use teb_names::{Reply, Request, Session};
+
+/// A store in a file. It makes no call of the system: its disk in memory notes the writes and syncs, the caller performs them on the file
+/// in their order, and tells of each.
+#[derive(Drop)]
+pub struct FileStore {
+    pub(crate) store: EngineStore<PooledChains, MemDisk>,
+    pub(crate) waiting: usize,
+    pub(crate) opened: bool,
+    pub(crate) kept: u64,
+    pub(crate) failed: bool,
+}
+
+impl Model for FileStore {
+    ghost use Rattle.tebaldi_c.specs.Shelves.{Filed, KeepsFile};
+
+    ghost Value = { Filed };
+
+    ghost view = { λ f. record {
+      engine = f.store.engine;
+      file = record { journal = f.store.journal; waiting = f.waiting; opened = f.opened; kept = f.kept; failed = f.failed };
+    } };
+
+    ghost invariant = { λ f. KeepsFile f.store.engine (record { journal = f.store.journal; waiting = f.waiting; opened = f.opened; kept = f.kept; failed = f.failed }) };
+}
+
+impl FileStore {
+    /// The engine of the present epoch.
+    pub fn engine(&self) -> &Engine<PooledChains>
+        ensures { result.now ≡ self.now.engine }
+    {
+        self.store.engine()
+    }
+
+    /// The number of calls that wait to be performed on the file.
+    pub fn waiting(&self) -> usize
+        ensures { result ≡ self.now.file.waiting }
+    {
+        self.waiting
+    }
+
+    /// The number of commits of this epoch that are in the file: a crash now leaves the rows after at least so many of them.
+    pub fn kept(&self) -> u64
+        ensures { result ≡ self.now.file.kept }
+    {
+        self.kept
+    }
+
+    /// True if a call on the file has failed, or a commit ran out of memory. Nothing is asked then.
+    pub fn is_stopped(&self) -> bool
+        ensures { result ≡ self.now.file.failed || self.now.file.journal.stopped }
+    {
+        self.failed || self.store.is_stopped()
+    }
+
+    /// The number of bytes that are left for the commits of this epoch.
+    pub fn left(&self) -> u64
+        ensures { result + self.now.file.journal.end ≡ half_size self.now.file.journal.layout.capacity }
+    {
+        self.store.left()
+    }
+
+    /// The first call that waits, with the bytes to write; a sync has none. `None` if none waits.
+    pub fn call(&self) -> Option<(Call, &[u8])>
+        ensures { MatchOption result (self.now.file.waiting ≡ 0) (λ r. slice_get (calls self.now.file) (next_place self.now.file) ≡ Some (step_of r.0 r.1.now)) }
+    {
+        let disk = self.store.disk();
+        match disk.call(disk.call_count() - self.waiting) {
+            None => None,
+            Some(call) => Some(call),
+        }
+    }
+
+    /// Notes that the first call that waits was performed on the file. After the last one, all commits are in the file.
+    pub fn performed(&mut self)
+        requires { 0 < self.old.file.waiting }
+        ensures engine { self.new.engine ≡ self.old.engine }
+        ensures journal { self.new.file.journal ≡ self.old.file.journal }
+        ensures waiting { self.new.file.waiting + 1 ≡ self.old.file.waiting }
+        ensures kept { 0 < self.new.file.waiting → self.new.file.kept ≡ self.old.file.kept }
+        ensures failed { self.new.file.failed ≡ self.old.file.failed }
+    {
+        let _ = self.store.disk();
+        let kept = self.store.acknowledged();
+        let waiting = self.waiting - 1;
+        if waiting > 0 {
+            self.waiting = waiting;
+            return;
+        }
+        self.waiting = 0;
+        self.opened = true;
+        self.kept = kept;
+    }
+
+    /// Notes that a call on the file has failed. Nothing is asked from then on.
+    pub fn fail(&mut self)
+        ensures engine { self.new.engine ≡ self.old.engine }
+        ensures file { self.new.file ≡ record self.old.file { failed = true } }
+    {
+        self.failed = true;
+    }
+
+    /// Answers a request as the engine does. The calls that put a commit into the file wait then, and until they are performed the commit
+    /// is to be told to nobody.
+    ///
+    /// # Errors
+    /// Those of `EngineStore::ask`; `Stopped` also if a call on the file has failed.
+    pub fn ask(
+        &mut self,
+        alloc: Global,
+        session: Session,
+        request: Request,
+    ) -> Result<Reply, AskError>
+        requires settled { self.old.file.waiting ≡ 0 }
+        ensures reply { IsToldBy (told result) (answer self.old.engine.store self.old.engine.events session request).0 }
+        ensures events { self.new.engine.events ≡ events_after (told result) self.old.engine.events (answer self.old.engine.store self.old.engine.events session request).1 }
+        ensures store { self.new.engine.store ≡ self.old.engine.store }
+        ensures names { self.new.engine.names ≡ self.old.engine.names }
+        ensures kept { 0 < self.new.file.waiting → self.new.file.kept ≡ self.old.file.kept }
+        ensures not_asked { IfErr result (λ e. e ≢ asked.Unsure → self.new ≡ self.old) }
+        ensures failed { self.new.file.failed ≡ self.old.file.failed }
+        ensures stopped { self.old.file.failed ≡ true → IfOk result (λ _. ⊥) }
+    {
+        if self.failed {
+            return Err(AskError::Stopped);
+        }
+        let before = self.store.disk().call_count();
+        let answered = match self.store.ask(alloc, session, request) {
+            Ok(reply) => Ok(reply),
+            Err(AskError::Unsure) => Err(AskError::Unsure),
+            Err(why) => return Err(why),
+        };
+        let waiting = self.store.disk().call_count() - before;
+        if waiting > 0 {
+            self.waiting = waiting;
+            return answered;
+        }
+        self.kept = self.store.acknowledged();
+        answered
+    }
+
+    /// Ends the present epoch, and begins the next one. The calls that put its rows into the file wait then.
+    ///
+    /// # Errors
+    /// Those of `EngineStore::begin_epoch`; `Stopped` also if a call on the file has failed.
+    pub fn next_epoch(&mut self, alloc: Global, setup: Setup) -> Result<(), NextError>
+        requires settled { self.old.file.waiting ≡ 0 }
+        requires whole { IsWhole (setup_view setup) }
+        ensures begun { OnOk result (IsStarted setup self.old.engine self.new.engine) }
+        ensures refused { IfErr result (IsFileHindrance self.old.engine) }
+        ensures stays { IfErr result (λ e. e ≢ next.DiskFault → self.new ≡ self.old) }
+        ensures back { OnErr result (self.new.engine ≡ self.old.engine) }
+        ensures failed { self.new.file.failed ≡ self.old.file.failed }
+        ensures stopped { self.old.file.failed ≡ true → IfOk result (λ _. ⊥) }
+    {
+        if self.failed {
+            return Err(NextError::Stopped);
+        }
+        let before = self.store.disk().call_count();
+        let begun = match self
+            .store
+            .begin_epoch(alloc, setup, PooledChains::new(alloc))
+        {
+            Ok(_past) => Ok(()),
+            Err(NextError::DiskFault) => Err(NextError::DiskFault),
+            Err(why) => return Err(why),
+        };
+        let kept = self.store.acknowledged();
+        let waiting = self.store.disk().call_count() - before;
+        self.kept = kept;
+        self.waiting = waiting;
+        begun
+    }
+}
