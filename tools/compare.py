@@ -1,5 +1,5 @@
 #!/usr/bin/env python3
-"""Runs the same scripts under several trees with `turns`, and prints what each tree did.
+"""Runs the same scripts under several trees with `turns`, and prints what each tree did, and what it guarantees.
 
     tools/compare.py --workload NAME [OPTION..]              under every tree of examples/trees/NAME-*.toml
     tools/compare.py --workload NAME --trees FILE..          under these trees, to which the workload's rows are added
@@ -10,7 +10,8 @@
 Commits, aborts by cause, waits by node and type, requests and ticks for each commit, and the longest wait. A wait is a request that is answered
 `again`. A tick is one pass in which every session asks once: the ticks of a run are the requests of its busiest session. A request is
 *lost* if it was granted to a transaction that was aborted later, or told of its abort. Ticks measure how much the controls let run side by side, not time:
-the work of the program itself differs from control to control. This tool measures, and chooses nothing.
+the work of the program itself differs from control to control. The last column says what a tree guarantees beyond what every tree does, as the line
+`.guarantees` of the shell tells it; without the program of the shell it is left out. This tool measures, and chooses nothing.
 """
 import argparse
 import collections
@@ -23,9 +24,10 @@ import subprocess
 import sys
 
 import followed
+import guaranteed
 import workload
 from svg import Drawing
-from worked_runs import BUILT, TOP
+from worked_runs import BUILT, SHELL, TOP
 
 CAUSES = ("newer", "late", "first", "pivot", "after")
 
@@ -40,6 +42,7 @@ class Measured:
     lost: int = 0
     refused: int = 0
     longest: int = 0  # how often in a row the same request was answered `again`
+    guarantees: str = None  # what the tree guarantees, if a shell told it
     aborts: collections.Counter = dataclasses.field(default_factory=collections.Counter)  # by cause
     waits_at: collections.Counter = dataclasses.field(default_factory=collections.Counter)  # by node and type
 
@@ -86,13 +89,16 @@ def ran(program, tree, script):
     return done.stdout
 
 
-def compared(program, trees, script):
-    """Measures the scripts under each of the trees, which are pairs of a name and a text."""
+def compared(program, trees, script, shell=None):
+    """Measures the scripts under each of the trees, which are pairs of a name and a text. With a shell, tells what each tree guarantees."""
     asked = followed.asked_lines(script)
 
     def one(named):
-        replies, _, _ = followed.replies_and_report(ran(program, named[1], script))
-        return measured(named[0], followed.turns(asked, replies))
+        name, tree = named
+        replies, _, _ = followed.replies_and_report(ran(program, tree, script))
+        made = measured(name, followed.turns(asked, replies))
+        made.guarantees = guaranteed.told(shell, tree) if shell else None
+        return made
 
     with concurrent.futures.ThreadPoolExecutor(len(os.sched_getaffinity(0))) as pool:
         return list(pool.map(one, trees))
@@ -121,6 +127,13 @@ def cells(one):
     return [one.name, str(one.commits), f"{one.commits_in_100_ticks:.0f}", *per, aborts, str(one.longest)]
 
 
+def lines(found):
+    """The table of what each tree did for each commit, with its head, and what each guarantees, if a shell told it."""
+    rows = [list(HEAD), *map(cells, found)]
+    told = [one.guarantees for one in found]
+    return [[*row, word] for row, word in zip(rows, ["Guarantees", *told])] if all(told) else rows
+
+
 def waits_cells(one, nodes=5):
     """Where a tree's transactions waited: the node and the type, the most frequent first."""
     found = sorted(one.waits_at.items(), key=lambda it: (-it[1], it[0]))
@@ -141,10 +154,10 @@ def markdown(rows):
 
 
 def tables(found, form=aligned):
-    """The two tables: what each tree did for each commit, and where its transactions waited."""
+    """The two tables: what each tree did for each commit and guarantees, and where its transactions waited."""
     refused = sum(one.refused for one in found)
     told = f"{refused} requests were refused: the scripts and the trees do not fit.\n" if refused else ""
-    return told + form([list(HEAD), *map(cells, found)]) + "\n" + form([["Tree", "Waits"], *map(waits_cells, found)])
+    return told + form(lines(found)) + "\n" + form([["Tree", "Waits"], *map(waits_cells, found)])
 
 
 LEFT, WIDTH, BAR, GAP = 150, 860, 16, 10
@@ -197,13 +210,17 @@ def main():
     parser.add_argument("--markdown", action="store_true")
     parser.add_argument("--svg", type=pathlib.Path)
     parser.add_argument("--program", type=pathlib.Path, default=BUILT)
+    parser.add_argument("--shell", type=pathlib.Path, default=SHELL, help="the program of the shell, which tells what a tree guarantees")
     given = parser.parse_args()
     if not os.access(given.program, os.X_OK):
         raise SystemExit(f"compare: there is no program {os.path.relpath(given.program)}: ./check build proves and builds it")
+    shell = given.shell.resolve() if os.access(given.shell, os.X_OK) else None
+    if not shell:
+        print(f"compare: there is no program {os.path.relpath(given.shell)}: the column Guarantees is left out; ./check build proves and builds it", file=sys.stderr)
     trees, script = inputs_of(given)
     if given.batches:
         trees = [(f"{name}, {size} a batch", with_batch(text, size)) for name, text in trees for size in given.batches.split(",")]
-    found = compared(given.program, trees, script)
+    found = compared(given.program, trees, script, shell)
     if given.svg:
         given.svg.write_text(chart(found, given.workload or given.script.stem))
     sys.stdout.write(tables(found, markdown if given.markdown else aligned))

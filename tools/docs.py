@@ -1,11 +1,11 @@
 #!/usr/bin/env python3
 """Makes the pictures and tables of the docs anew, and compares them with what is committed.
 
-    tools/docs.py [--program FILE]            compares
-    tools/docs.py [--program FILE] --write    writes them
+    tools/docs.py [--program FILE] [--shell FILE]            compares
+    tools/docs.py [--program FILE] [--shell FILE] --write    writes them
 
 A table is between the lines `<!-- made: NAME -->` and `<!-- end -->` of a page; a picture is a file of docs/pictures. Each comes from a run of the
-program or from files of runs/ and examples/. The last line is `docs: N passed, M failed`.
+programs or from files of runs/ and examples/. The last line is `docs: N passed, M failed`.
 """
 import argparse
 import functools
@@ -18,7 +18,7 @@ import compare
 import followed
 import picture
 import workload
-from worked_runs import BUILT, TOP, tables
+from worked_runs import BUILT, SHELL, TOP, tables
 
 PAGES = ("docs/CHOOSING.md", "docs/ANOMALIES.md")
 PICTURES = TOP / "docs/pictures"
@@ -60,8 +60,8 @@ ANOMALIES = {
 class Made:
     """The pictures and tables, by their names. A run that several of them need is made once."""
 
-    def __init__(self, program):
-        self.program = program
+    def __init__(self, program, shell):
+        self.program, self.shell = program, shell
 
     @functools.lru_cache(maxsize=None)
     def set_of(self, name, words, trees=None):
@@ -70,7 +70,7 @@ class Made:
         given.workload = name
         rows = workload.rows_of(given)
         listed = [(named, text + rows) for named, text in trees or compare.trees_of(name)]
-        return compare.compared(self.program, listed, workload.script_of(given).splitlines())
+        return compare.compared(self.program, listed, workload.script_of(given).splitlines(), self.shell)
 
     def pictures(self):
         for name, words in SETS.items():
@@ -128,11 +128,11 @@ class Made:
         """One, two and four parts of an ordered timestamp leaf under locks."""
         head = compare.trees_of("transfers")[0][1].partition("[[node]]")[0]
         found = self.set_of("transfers", "--sessions 16 --scale 4", tuple((f"{count} part{'s' * (count > 1)}", head + in_parts(count)) for count in (1, 2, 4)))
-        return [list(compare.HEAD), *map(compare.cells, found)]
+        return compare.lines(found)
 
     def calm(self):
         """Few sessions over many rows."""
-        return [list(compare.HEAD), *map(compare.cells, self.set_of("smallbank", "--sessions 4 --scale 16"))]
+        return compare.lines(self.set_of("smallbank", "--sessions 4 --scale 16"))
 
 
 def short(one):
@@ -207,14 +207,16 @@ def linked():
 def main():
     parser = argparse.ArgumentParser(description=__doc__, formatter_class=argparse.RawDescriptionHelpFormatter)
     parser.add_argument("--program", type=pathlib.Path, default=BUILT)
+    parser.add_argument("--shell", type=pathlib.Path, default=SHELL)
     parser.add_argument("--write", action="store_true")
     given = parser.parse_args()
-    if not os.access(given.program, os.X_OK):
-        print(f"docs: there is no program {os.path.relpath(given.program)}: ./check build proves and builds it", file=sys.stderr)
+    missing = [os.path.relpath(it) for it in (given.program, given.shell) if not os.access(it, os.X_OK)]
+    if missing:
+        print(f"docs: there is no program {' and no '.join(missing)}: ./check build proves and builds both", file=sys.stderr)
         print("docs: 0 passed, 1 failed")
         return 1
     passed = failed = 0
-    for name, is_well in checked(Made(given.program), given.write):
+    for name, is_well in checked(Made(given.program.resolve(), given.shell.resolve()), given.write):
         passed, failed = passed + is_well, failed + (not is_well)
         if not is_well:
             print(f"{name} is not as it is made: tools/docs.py --write")

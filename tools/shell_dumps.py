@@ -6,6 +6,8 @@
 Each tree that a `replay` takes is tried, with its starting rows. Both dumps and the rows of both stores are compared. The last line is `dumps: N passed, M failed`.
 """
 import argparse
+import concurrent.futures
+import os
 import pathlib
 import re
 import sys
@@ -41,13 +43,18 @@ def why(program, tree):
         return difference(first, second) if first != second else None if rows[0] == rows[1] else difference(rows[0][1], rows[1][1])
 
 
+def compared(program, found):
+    """Tries them side by side, and yields the name of each with why its stores differ."""
+    with concurrent.futures.ThreadPoolExecutor(len(os.sched_getaffinity(0))) as pool:
+        yield from zip(found.values(), pool.map(lambda tree: why(program, tree), found))
+
+
 def main():
     options = argparse.ArgumentParser(description=__doc__, formatter_class=argparse.RawDescriptionHelpFormatter)
     options.add_argument("--program", type=pathlib.Path, default=SHELL)
     given = options.parse_args()
     passed = failed = 0
-    for tree, name in trees().items():
-        said = why(given.program, tree)
+    for name, said in compared(given.program, trees()):
         passed, failed = passed + (not said), failed + bool(said)
         if said:
             print(f"FAILED the tree of {name}: {said}")

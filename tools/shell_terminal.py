@@ -17,7 +17,7 @@ import time
 
 from worked_runs import SHELL
 
-SECONDS = 20
+SECONDS = 60
 
 
 class Terminal:
