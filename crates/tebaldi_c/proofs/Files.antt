@@ -1,5 +1,5 @@
 -- What a file keeps, after each step.
-use Rattle.std.proofs.Common.{◌≡◌, ◌-◌, ◌+◌, ◌<◌, ◌≤◌, ℕ, List, [], Bool, true, false, length, take, refl, sym, ◌∙◌, ap, subst, arith}
+use Rattle.std.proofs.Common.{◌≡◌, ◌-◌, ◌+◌, ◌<◌, ◌≤◌, ℕ, List, [], Bool, true, false, nat_eq, zero, suc, length, take, refl, sym, ◌∙◌, ap, subst, arith}
 use Rattle.std.proofs.lemmas.List.{take_all}
 use Rattle.teb_history.specs.declared.Event.{Event}
 use Rattle.teb_rules.specs.Setup.{Store}
@@ -48,6 +48,10 @@ moved e f old waiting leaves settled all = record {
   all = all;
 }
 
+no_commits : commit_count [] ≡ 0
+unfolding commit_count
+no_commits = refl
+
 -- a store that was opened just now: its images are those of the store once no call waits
 pub begins : (e : EngineModel) (f : FileState) → f.waiting ≤ length (calls f) → (f.opened ≡ true → f.waiting ≡ 0) → (f.waiting ≡ 0 → f.opened ≡ true) → f.kept ≡ 0
     → f.journal.acknowledged ≡ 0 → e.events ≡ [] → ((image : List ℕ) → MayLeave (calls f) image → TellsCommits f.journal.layout e.store e.events f.journal.acknowledged image) → KeepsFile e f
@@ -59,7 +63,7 @@ begins e f few opened waits kept none empty leaves = record {
 }
   where
     all : f.journal.stopped ≡ false → f.journal.acknowledged ≡ commit_count e.events
-    all _ = none ∙ sym (ap commit_count empty)
+    all _ = none ∙ sym (ap commit_count empty ∙ no_commits)
 
 -- one call fewer waits
 pub one_fewer : (e : EngineModel) (f g : FileState) → KeepsFile e f → g.journal ≡ f.journal → g.opened ≡ f.opened → g.kept ≡ f.kept → g.waiting + 1 ≡ f.waiting → 0 < g.waiting → KeepsFile e g
@@ -77,3 +81,7 @@ one_fewer e f g k journal opened kept fewer some = record {
   where
     same : length (calls g) ≡ length (calls f)
     same = ap (λ (j : _). length j.disk.log.steps) journal
+
+pub is_zero : (n : ℕ) → nat_eq n 0 ≡ true → n ≡ 0
+is_zero zero is = refl
+is_zero (suc n) is = absurd (cc)
