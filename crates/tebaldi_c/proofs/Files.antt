@@ -1,15 +1,14 @@
 -- What a file keeps, after each step.
-use Rattle.std.proofs.Common.{◌≡◌, ◌-◌, ◌+◌, ◌<◌, ◌≤◌, ℕ, List, [], Bool, true, false, nat_eq, zero, suc, length, take, refl, sym, ◌∙◌, ap, subst, arith}
-use Rattle.std.proofs.lemmas.List.{take_all}
-use Rattle.teb_history.specs.declared.Event.{Event}
-use Rattle.teb_rules.specs.Setup.{Store}
+use Rattle.std.proofs.Common.{◌≡◌, ◌-◌, ◌+◌, ◌<◌, ◌≤◌, ℕ, List, [], true, false, nat_eq, length, refl, sym, ◌∙◌, ap, subst, arith, true≢false, Result, Err, rules}
 use Rattle.crash_disk.specs.Disk.{LeavesOnly}
-use Rattle.crash_disk.specs.Log.{Step, LeftSince, MayLeave}
+use Rattle.crash_disk.specs.Log.{LeftSince, MayLeave}
 use Rattle.crash_disk.specs.LogLaws.{only_now}
 use Rattle.crash_disk.specs.declared.memory.MemDisk.{MemDisk}
 use Rattle.commit_laws.specs.Commits.{commit_count}
 use Rattle.engine_core.specs.EngineModel.{EngineModel}
-use Rattle.epoch_journal.specs.Layout.{Layout}
+use Rattle.epoch_store.specs.Stored.{Stored}
+use Rattle.engine_store.specs.declared.error.NextError.{NextError}
+use Rattle.engine_store.specs.declared.error.NextError.TheVariants.{DiskFault}
 use Rattle.engine_store.specs.Telling.{TellsCommits}
 use Rattle.tebaldi_c.specs.Shelves.{FileState, KeepsFile, calls, next_place}
 
@@ -48,7 +47,7 @@ moved e f old waiting leaves settled all = record {
   all = all;
 }
 
-no_commits : commit_count [] ≡ 0
+pub no_commits : commit_count [] ≡ 0
 unfolding commit_count
 no_commits = refl
 
@@ -83,5 +82,15 @@ one_fewer e f g k journal opened kept fewer some = record {
     same = ap (λ (j : _). length j.disk.log.steps) journal
 
 pub is_zero : (n : ℕ) → nat_eq n 0 ≡ true → n ≡ 0
-is_zero zero is = refl
-is_zero (suc n) is = absurd (cc)
+is_zero n is = search rules
+
+abbrev err : NextError → Result EngineModel NextError
+err e = Err e
+
+-- where the store has not failed, it is the same store
+pub still_all : (was new : Stored EngineModel MemDisk) (why : NextError) → (was.journal.stopped ≡ false → was.journal.acknowledged ≡ commit_count was.engine.events)
+    → ((why ≡ DiskFault → ⊥) → new ≡ was) → (err why ≡ err DiskFault → new.journal.stopped ≡ true)
+    → new.journal.stopped ≡ false → new.journal.acknowledged ≡ commit_count new.engine.events
+still_all was new why all same fails runs =
+    let stays = same (λ is. true≢false (sym (fails (ap err is)) ∙ runs)) in
+    subst (λ (s : Stored EngineModel MemDisk). s.journal.stopped ≡ false → s.journal.acknowledged ≡ commit_count s.engine.events) (sym stays) all runs

@@ -1,10 +1,4 @@
-use Rattle.std.proofs.Common.{rules, ◌≡◌, ◌-◌, ◌<◌, ◌≤◌, ℕ, List, Bool, true, false, nat_eq, length, refl, sym, ◌∙◌, ap, subst, arith}
-use Rattle.crash_disk.specs.Disk.{LeavesOnly}
-use Rattle.crash_disk.specs.declared.memory.MemDisk.{MemDisk}
-use Rattle.epoch_journal.specs.Layout.{Layout}
-use Rattle.engine_store.specs.Telling.{TellsCommits}
-use Rattle.tebaldi_c.specs.Shelves.{FileState, Filed, KeepsFile}
-use Rattle.tebaldi_c.proofs.Files.{clock, images, none_waits, moved, begins, one_fewer, is_zero}
+use Rattle.std.proofs.Common.{◌∙◌, arith}
 use Rattle.tebaldi_c.proofs.Reopened.{reopened}
 use Rattle.tebaldi_c.proofs.filed.FileStore.open.Goals as goal
 
