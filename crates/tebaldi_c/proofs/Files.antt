@@ -1,15 +1,14 @@
 -- What a file keeps, after each step.
-use Rattle.std.proofs.Common.{◌≡◌, ◌-◌, ◌+◌, ◌<◌, ◌≤◌, ℕ, List, [], Bool, true, false, length, take, refl, sym, ◌∙◌, ap, subst, arith}
-use Rattle.std.proofs.lemmas.List.{take_all}
-use Rattle.teb_history.specs.declared.Event.{Event}
-use Rattle.teb_rules.specs.Setup.{Store}
+use Rattle.std.proofs.Common.{◌≡◌, ◌-◌, ◌+◌, ◌<◌, ◌≤◌, ℕ, List, [], true, false, nat_eq, length, refl, sym, ◌∙◌, ap, subst, arith, true≢false, Result, Err, rules}
 use Rattle.crash_disk.specs.Disk.{LeavesOnly}
-use Rattle.crash_disk.specs.Log.{Step, LeftSince, MayLeave}
+use Rattle.crash_disk.specs.Log.{LeftSince, MayLeave}
 use Rattle.crash_disk.specs.LogLaws.{only_now}
 use Rattle.crash_disk.specs.declared.memory.MemDisk.{MemDisk}
 use Rattle.commit_laws.specs.Commits.{commit_count}
 use Rattle.engine_core.specs.EngineModel.{EngineModel}
-use Rattle.epoch_journal.specs.Layout.{Layout}
+use Rattle.epoch_store.specs.Stored.{Stored}
+use Rattle.engine_store.specs.declared.error.NextError.{NextError}
+use Rattle.engine_store.specs.declared.error.NextError.TheVariants.{DiskFault}
 use Rattle.engine_store.specs.Telling.{TellsCommits}
 use Rattle.tebaldi_c.specs.Shelves.{FileState, KeepsFile, calls, next_place}
 
@@ -48,6 +47,10 @@ moved e f old waiting leaves settled all = record {
   all = all;
 }
 
+pub no_commits : commit_count [] ≡ 0
+unfolding commit_count
+no_commits = refl
+
 -- a store that was opened just now: its images are those of the store once no call waits
 pub begins : (e : EngineModel) (f : FileState) → f.waiting ≤ length (calls f) → (f.opened ≡ true → f.waiting ≡ 0) → (f.waiting ≡ 0 → f.opened ≡ true) → f.kept ≡ 0
     → f.journal.acknowledged ≡ 0 → e.events ≡ [] → ((image : List ℕ) → MayLeave (calls f) image → TellsCommits f.journal.layout e.store e.events f.journal.acknowledged image) → KeepsFile e f
@@ -59,7 +62,7 @@ begins e f few opened waits kept none empty leaves = record {
 }
   where
     all : f.journal.stopped ≡ false → f.journal.acknowledged ≡ commit_count e.events
-    all _ = none ∙ sym (ap commit_count empty)
+    all _ = none ∙ sym (ap commit_count empty ∙ no_commits)
 
 -- one call fewer waits
 pub one_fewer : (e : EngineModel) (f g : FileState) → KeepsFile e f → g.journal ≡ f.journal → g.opened ≡ f.opened → g.kept ≡ f.kept → g.waiting + 1 ≡ f.waiting → 0 < g.waiting → KeepsFile e g
@@ -77,3 +80,17 @@ one_fewer e f g k journal opened kept fewer some = record {
   where
     same : length (calls g) ≡ length (calls f)
     same = ap (λ (j : _). length j.disk.log.steps) journal
+
+pub is_zero : (n : ℕ) → nat_eq n 0 ≡ true → n ≡ 0
+is_zero n is = search rules
+
+abbrev err : NextError → Result EngineModel NextError
+err e = Err e
+
+-- where the store has not failed, it is the same store
+pub still_all : (was new : Stored EngineModel MemDisk) (why : NextError) → (was.journal.stopped ≡ false → was.journal.acknowledged ≡ commit_count was.engine.events)
+    → ((why ≡ DiskFault → ⊥) → new ≡ was) → (err why ≡ err DiskFault → new.journal.stopped ≡ true)
+    → new.journal.stopped ≡ false → new.journal.acknowledged ≡ commit_count new.engine.events
+still_all was new why all same fails runs =
+    let stays = same (λ is. true≢false (sym (fails (ap err is)) ∙ runs)) in
+    subst (λ (s : Stored EngineModel MemDisk). s.journal.stopped ≡ false → s.journal.acknowledged ≡ commit_count s.engine.events) (sym stays) all runs

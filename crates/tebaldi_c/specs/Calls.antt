@@ -1,5 +1,5 @@
 -- A call on a store's file, as C has it.
-use Rattle.std.specs.Prelude.{◌≡◌, ◌-◌, ◌+◌, ◌<◌, ◌||◌, ℕ, true, List, [], length, drop, slice_get, Option, Some, None}
+use Rattle.std.specs.Prelude.{◌≡◌, ◌+◌, ◌<◌, ◌||◌, ℕ, true, List, [], length, drop, slice_get, Option, Some, None}
 use Rattle.crash_disk.specs.Log.{Step, Wrote, Synced}
 use Rattle.tebaldi_c.specs.Buffers.{laid_over}
 use Rattle.tebaldi_c.specs.Shelves.{FileState, ShelfState, calls, next_place}

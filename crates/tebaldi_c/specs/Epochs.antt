@@ -1,5 +1,5 @@
 -- How a store goes on with the next epoch.
-use Rattle.std.specs.Prelude.{◌≡◌, ◌⊎◌, ℕ, [], Option, Some, None, Result, Ok, Err}
+use Rattle.std.specs.Prelude.{◌≡◌, ◌⊎◌, ℕ, [], Option, Some, Result, Ok, Err}
 use Rattle.store_setup.specs.SetupView.{SetupView}
 use Rattle.store_setup.specs.Stores.{store_of_view, names_of}
 use Rattle.serial_order.specs.Tables.{IsFinalRows}
@@ -8,7 +8,7 @@ use Rattle.tree_switch.specs.declared.error.SwitchError.{SwitchError}
 use Rattle.tree_switch.specs.declared.error.SwitchError.TheVariants.{Again, Untold, Tables, Rows, OutOfMemory}
 use Rattle.tree_toml.specs.declared.fault.TreeText.{TreeText}
 use Rattle.engine_core.specs.EngineModel.{EngineModel}
-use Rattle.tebaldi_c.specs.Shelves.{FileState, ShelfState}
+use Rattle.tebaldi_c.specs.Shelves.{ShelfState}
 use Rattle.engine_store.specs.declared.error.NextError.{NextError}
 use Rattle.engine_store.specs.declared.error.NextError.TheVariants as next
 use Rattle.tebaldi_c.specs.declared.status.TheConstants.{OK, NOT_OPEN, BAD_TREE, OUT_OF_MEMORY, OTHER_TABLES, UNFINISHED, UNTOLD, STOPPED, NO_ROOM, WAITING}

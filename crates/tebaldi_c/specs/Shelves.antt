@@ -1,5 +1,5 @@
 -- What contracts see of a handle's store.
-use Rattle.std.specs.Prelude.{◌≡◌, ℕ, ◌-◌, ◌≤◌, Bool, true, false, List, length, Option, Some, None}
+use Rattle.std.specs.Prelude.{◌≡◌, ℕ, ◌-◌, ◌≤◌, Bool, true, false, List, length, Option}
 use Rattle.engine_core.specs.EngineModel.{EngineModel}
 use Rattle.commit_laws.specs.Commits.{commit_count}
 use Rattle.crash_disk.specs.Log.{Step, LeftSince}

@@ -179,18 +179,16 @@ impl FileStore {
             return Err(NextError::Stopped);
         }
         let before = self.store.disk().call_count();
-        let begun = match self
+        let begun = self
             .store
-            .begin_epoch(alloc, setup, PooledChains::new(alloc))
-        {
-            Ok(_past) => Ok(()),
-            Err(NextError::DiskFault) => Err(NextError::DiskFault),
-            Err(why) => return Err(why),
-        };
+            .begin_epoch(alloc, setup, PooledChains::new(alloc));
         let kept = self.store.acknowledged();
         let waiting = self.store.disk().call_count() - before;
         self.kept = kept;
         self.waiting = waiting;
-        begun
+        match begun {
+            Ok(_past) => Ok(()),
+            Err(why) => Err(why),
+        }
     }
 }

@@ -2,7 +2,7 @@
 
 ghost use Rattle.std.specs.Prelude.{◌≡◌, ◌≢◌, ◌↔◌, ◌⊎◌, ◌<◌, ◌≤◌, [], false, length, IsSome, IfOk};
 ghost use Rattle.store_setup.specs.SetupView.{setup_view};
-ghost use Rattle.store_setup.specs.Sound.{IsWhole};
+ghost use Rattle.store_setup.specs.Sound.{HasNames, IsNamed, IsWhole};
 ghost use Rattle.tree_toml.specs.SetupText.{setup_of_text};
 ghost use Rattle.tebaldi_c.specs.Asking.{IfOpen};
 ghost use Rattle.tebaldi_c.specs.Buffers.{IsTold};
@@ -91,8 +91,11 @@ fn tell_why(why: OpenError, place: &mut u64) -> u32
 }
 
 /// The store of some bytes under a setup.
+#[tactic(auto, using(crate::proofs::SetUps::set_up_reopened))]
 fn shelf_of(alloc: Global, image: &[u8], setup: Setup) -> Result<Box<Shelf>, OpenError>
     requires whole { IsWhole (setup_view setup) }
+    requires nodes { IsNamed (setup_view setup) }
+    requires names { HasNames (setup_view setup) }
     requires fits { length image.now ≤ file_capacity }
     ensures { IfOk result (λ b. IfFiled b.value (IsReopened (setup_view setup) image.now)) }
 {

@@ -1,0 +1,13 @@
+use Rattle.std.proofs.Common.{◌∙◌, arith}
+use Rattle.tebaldi_c.proofs.Reopened.{reopened}
+use Rattle.tebaldi_c.proofs.filed.FileStore.open.Goals as goal
+
+pub returns-in-Ok : goal.returns-in-Ok
+returns-in-Ok c =
+    let before = c.call_count-before.ensures in
+    reopened c.args.setup c.args.image.now c.in_ok-disk.disk c.in-Ok.store.engine c.in-Ok.store.journal c.begun.result
+    c.begun.ensures.engine c.begun.ensures.journal c.in_ok-disk.ensures.capacity
+    (λ le. c.begun.ensures.place (omega (arith, before, le)) ∙ before)
+    c.begun.ensures.running (c.in_ok-disk.ensures.seen ∙ c.in_ok-bytes.ensures.items)
+    (λ image left. c.in_ok-disk.ensures.safe image left ∙ c.in_ok-bytes.ensures.items)
+    c.in-Ok.ensures.begun c.in-Ok.ensures.read c.in-Ok.ensures.found c.in-Ok.ensures.any_moment
