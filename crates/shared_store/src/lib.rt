@@ -1,7 +1,7 @@
-//! One store for sessions in threads, over epochs without end.
+//! One store that sessions share, over epochs without end.
 //!
 //! A [`Store`] has an [`EpochServer`], which answers requests as the rules do, each commit kept before it is answered, in epochs of at most 8,192
-//! transactions. Its [`StoreSession`]s ask it from threads, one at a time. When the epoch comes to its end, a Begin is answered
+//! transactions. Its [`StoreSession`]s ask it, one at a time. When the epoch comes to its end, a Begin is answered
 //! [`StoreReply::Later`]; once all transactions have finished, the next session that asks ends the epoch, and asks in the next one.
 //!
 //! **What is proved.** All that is asked, and each end of an epoch, stands in one list, the life of the store. The answered calls of each
@@ -9,8 +9,8 @@
 //! transaction is unfinished and each session was told of its abort, and the next one begins with the rows that it left. A crash loses
 //! no commit that was answered Committed; after one that was answered Unsure, nothing is asked.
 //!
-//! **Not claimed**: that a session ever gets its turn, or that an epoch ends while a session keeps its transaction open. A silent session
-//! can be ended by another, with [`Store::expel`].
+//! **Not claimed**: that a session may be sent to another thread, which the compiler does not find by itself; that a session ever gets its
+//! turn, or that an epoch ends while a session keeps its transaction open. A silent session can be ended by another, with [`Store::expel`].
 #![tactic(auto)]
 
 mod ask;
