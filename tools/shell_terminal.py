@@ -10,6 +10,7 @@ import os
 import pathlib
 import pty
 import select
+import signal
 import subprocess
 import sys
 import tempfile
@@ -20,12 +21,18 @@ from worked_runs import SHELL
 SECONDS = 60
 
 
+def take_terminal():
+    """Makes standard input the terminal of the process, where Ctrl-C ends it, also if this tool runs in the background."""
+    signal.signal(signal.SIGINT, signal.SIG_DFL)
+    os.close(os.open(os.ttyname(0), os.O_RDWR))
+
+
 class Terminal:
     """The shell on a terminal of its own."""
 
     def __init__(self, program, file):
         self.master, slave = pty.openpty()
-        self.process = subprocess.Popen([program, file], stdin=slave, stdout=slave, stderr=slave, start_new_session=True, preexec_fn=lambda: os.close(os.open(os.ttyname(0), os.O_RDWR)))
+        self.process = subprocess.Popen([program, file], stdin=slave, stdout=slave, stderr=slave, start_new_session=True, preexec_fn=take_terminal)
         os.close(slave)
         self.shown = b""
 
