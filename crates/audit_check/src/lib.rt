@@ -1,4 +1,38 @@
-//! Checks a printed run: starting rows, events, serial order, final rows.
+//! Checks a printed run by its lines alone: does its serial order reproduce every read and the final rows?
+//!
+//! `threads` and `pool` print such a run. [`audit`] needs neither the tree nor the engine, so a printed run may come from
+//! anywhere.
+//!
+//! ```text
+//!   start t 1 5          starting rows: table, key, value
+//!   began t1 1 any       events, in the order in which they happened: t1 begins, of session 1 and type any
+//!   got t1 t 1 t0 5      t1 reads 5, which is a starting row (t0)
+//!   put t1 t 1 6         t1 writes 6
+//!   done t1              t1 commits; `gone` would be an abort
+//!   order t1             the serial order
+//!   row t 1 6            final rows
+//!   end
+//! ```
+//!
+//! The tests run in this order. The first that finds a wrong line names the first one, and why ([`AuditWhy`],
+//! `specs/Faults.antt`):
+//!
+//! | Why | A line is wrong if |
+//! |---|---|
+//! | `Form` | it is no line of a printed run, or out of its place, or it repeats the cell of a starting or of a final row |
+//! | `Txn` | its transaction cannot do this: they begin as 1, 2, 3 and so on, only an unfinished one acts, and only an aborted one is told |
+//! | `Order` | the order does not list each committed transaction once, and no other |
+//! | `After` | it commits a transaction that read from one which has not committed |
+//! | `Read` | it is a read of a listed transaction, and the table at that point of the serial run has another value |
+//! | `Row` | the last table has another value, or a row without a line (then the line `end` is wrong) |
+//!
+//! **What is proved.** [`audit`] returns the fault that `audit_of` (`specs/Audit.antt`) finds in the text, `Ok` if there is
+//! none, or out of memory. The definition runs the transactions serially on a plain table. `audit_law` proves that every run of
+//! an accepted tree passes.
+//!
+//! **Not claimed**: that the events obey the rules of a tree. The reads of transactions that did not commit are not compared.
+//! Of a read only the value is compared with the serial order: the writer that it names counts for `After` alone. Of a cause of
+//! an abort only the form is read.
 #![tactic(auto)]
 
 mod after;

@@ -1,4 +1,14 @@
-//! The command that checks a printed run.
+//! The command `audit`: a printed run is checked, and one line says what was found.
+//!
+//! | What [`run_audit`] returns | Text | Status |
+//! |---|---|---|
+//! | the text is audited | `audit yes` | 0 |
+//! | a line is wrong | `audit no line N WHY`, with N from 1, and WHY `form`, `txn`, `order`, `after`, `read` or `row` | 11 |
+//!
+//! **What is proved.** The output is that of `audit_of`, the definition of `audit_check` (clause `shown`: `audited` in
+//! `specs/Verdicts.antt`). No history is kept (`history`).
+//!
+//! **Not claimed**: anything of a text above 4,194,304 bytes. The caller, `tebaldi`, refuses it before.
 #![tactic(auto)]
 
 ghost use Rattle.std.specs.Prelude.{◌≡◌, ◌≤◌, length, None, IfOk};

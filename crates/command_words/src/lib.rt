@@ -1,4 +1,19 @@
 //! The words of the command line, and the command that they ask for.
+//!
+//! ```text
+//!   replay  turns  audit  phases     one word
+//!   threads N   pool N               N from 1 to 16
+//!   crash K                          K from 0 to 2^31 - 1; 0 names no call of the disk
+//!   load N S                         N from 0 to 2^31 - 1, S from 1 to 2,000
+//! ```
+//!
+//! `tebaldi` calls [`words_of`], and then [`command_of`]. The words of `tebaldi_shell` are read with [`words_of`] too.
+//!
+//! **What is proved.** [`command_of`] returns the command of the words, or `None` if there is none (`command_of` in
+//! `specs/Commands.antt`), and its numbers are within their limits (clause `within`). A number is one to ten digits.
+//! [`words_of`] returns the words after the program's name.
+//!
+//! **Not claimed**: why words are bad. If one of the words is no text, [`words_of`] returns none, as if there were none.
 #![tactic(auto)]
 
 mod command;

@@ -1,6 +1,18 @@
-//! A bank whose accounts are in a file: the program says what it finds there, and then moves money, one transaction after another.
+//! An example: a bank whose accounts are in a file. It says what it finds there, and then moves money, one transaction after
+//! another.
 //!
-//! It may be killed at any moment. Whatever transfer it has printed is in the file when it is started again.
+//! ```text
+//!   $ embedded_file FILE TRANSFERS
+//!   found 0 transfers, and 0 in all accounts
+//!   transfer 1
+//!   ..
+//! ```
+//!
+//! It may be killed at any moment. A transfer that was printed is in the file when the program is started again: its commit was
+//! answered, so a crash keeps it (`EngineStore::ask`, clause `images`). `bank` has what a program with a store in a file needs:
+//! the opening, a transaction, and the next epoch once this one is full.
+//!
+//! **Not claimed**: that a file keeps what was synced, which the system has to do. No contract says what the program prints.
 #![tactic(auto)]
 
 mod bank;

@@ -1,7 +1,17 @@
-//! A store shared by threads: each session has a thread, and moves money between accounts.
+//! An example: a store in memory that threads share. Each of 32 sessions has a thread, and moves money between accounts.
 //!
-//! `client` has what every thread needs: it asks again while an older transaction is in the way, and starts over if the
-//! store aborted its transaction.
+//! ```text
+//!   setup ──► Engine ──Hall::make──► hall, 32 passes ──a thread for each pass──► Hall::close ──► engine ──► order, final rows
+//! ```
+//!
+//! `client` has what every thread needs: it asks again while an older transaction is in the way, and starts over if the store
+//! aborted its transaction. At the end the program prints whether money was moved, and the sum of all balances, which no
+//! transfer changes.
+//!
+//! The contracts say that each pass stays a pass of its hall (`IsPassOf`), which `Hall::close` requires.
+//!
+//! **Not claimed**: that all transfers commit: a client stops once the store has aborted a transfer 1,000 times. No contract
+//! says what the program prints.
 #![tactic(auto)]
 
 mod client;

@@ -1,7 +1,16 @@
-//! A store within a program: sessions move money between accounts, and the program prints the order and the balances.
+//! An example: a store in memory within a program. Sessions move money between accounts, and the program prints the order and
+//! the balances.
 //!
-//! `money` has what every user of a store needs: a transaction that checks a balance, is aborted if it cannot be
-//! finished, and starts over if the store aborted it.
+//! | It prints | since |
+//! |---|---|
+//! | `rent: Ok(())` | the transfer committed |
+//! | `gift: Err(TooLittle)` | the balance was too small, and the program aborted the transaction |
+//! | `rent: Err(Waits)` | an older transaction has read the balance, and is still open |
+//!
+//! `money` has what every user of a store needs: a transaction that checks a balance, is aborted if it cannot be finished, and
+//! starts over if the store aborted it.
+//!
+//! **Not claimed**: no contract says what the program prints. Each reply of the store is that of `Engine::ask`.
 #![tactic(auto)]
 
 mod money;

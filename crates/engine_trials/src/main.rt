@@ -1,8 +1,15 @@
-//! An engine as an embedder has it: what its registers lend, and that nothing changes where a request finds no room.
+//! Trials of an engine as an embedder has it: what its registers lend, and that a request that finds no memory changes nothing.
 //!
-//! It prints the replies to a list of requests, what is lent in their midst and at their end, and the entries of a hall. Then
-//! it does all of it again behind a transaction that leaves room for some of the events, so that the versions refuse room in the
-//! midst, and says how often all was the same as where they do not.
+//! The program prints the replies to 24 requests, what the engine lends before the last two and at the end, and the entries of
+//! a hall. `stdout` has the expected text, worked out by hand. Then all of it runs again behind a transaction that leaves room
+//! for some of the events only, with versions that refuse room at one call. Each run must give the same text as one in which
+//! nothing is refused. The last line says how many were tried.
+//!
+//! *Lent* are views of the engine's state: the history, the versions of each cell, the book of dependencies, and what the
+//! control of each node keeps. That a failed `ready` leaves the engine as it was is also a contract (`Engine::ready`, clause
+//! `err`).
+//!
+//! **Not claimed**: anything of other requests or trees. There is one tree, with a node of each control.
 #![tactic(auto)]
 
 mod engine_trial;

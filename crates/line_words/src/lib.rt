@@ -1,4 +1,12 @@
-//! Lines of words, as every text of the shell has them: a space is between two words, and a line feed after the last one.
+//! Lines of words: one space between two words, and a line feed after the last one.
+//!
+//! `tree_report`, `tree_writer` and `shell_lines` write their texts with these calls. A [`Word`] is a text, a number, a
+//! transaction (`t7`), or a value with its sign.
+//!
+//! **What is proved.** Each call appends the text of its words (`word_text` in `specs/Words.antt`, `line_text` of
+//! `script_text`). [`name_at`] returns the name with a number, or an empty text.
+//!
+//! **Not claimed**: what is appended once memory runs out. It may be a part of the words.
 #![tactic(auto)]
 
 ghost use Rattle.std.specs.Prelude.{◌≡◌, ◌++◌, ◌∷◌, OnOk, codes, map};

@@ -1,4 +1,36 @@
-//! The text of scripts, replies, events and reports.
+//! The text of scripts, replies, events and reports: the grammar that is read, and the lines that are written.
+//!
+//! ```text
+//!   3 write account 1 -30      a line of a script: session, verb, words of the verb
+//!   3 done                     the reply, for session 3
+//!   put t7 account 1 -30       the event
+//!   order t5 t7                a report: the serial order,
+//!   row account 1 -30          the final rows,
+//!   end                        and the end
+//! ```
+//!
+//! | Reads | Returns |
+//! |---|---|
+//! | [`split_input`] | the parts of an input before and after its line `%%` |
+//! | [`parse_script`] | the lines that ask something, or the first bad line and why ([`ScriptError`]) |
+//! | [`scripts_of`] | the script of each session that has a line |
+//! | [`has_more_lines`], [`number`] | whether a script is too long; a number in decimal |
+//!
+//! | Writes | Appends |
+//! |---|---|
+//! | [`put_reply`], [`put_short_reply`] | the line of a reply |
+//! | [`put_event`] | the line of an event |
+//! | [`put_starts`], [`put_report`], [`put_recovered`] | starting rows; the report of a run; what was recovered |
+//!
+//! - A *line* is what is between two line feeds, without one carriage return at its end. A last line that is empty does not
+//!   count.
+//! - A line asks nothing if it is blank or begins with `#`.
+//! - Names become their numbers in the tree. A name that the tree does not have becomes 255, which the store refuses.
+//!
+//! **What is proved.** [`parse_script`] returns what `script_of` (`specs/Grammar.antt`) says of the text: all lines, or the
+//! first bad line with the first of its faults. Each `put_..` appends the text of its definition (`specs/Texts.antt`).
+//!
+//! **Not claimed**: what is appended once memory runs out, unless the contract says that nothing is.
 #![tactic(auto)]
 
 mod error;

@@ -1,4 +1,32 @@
-//! The tree text of a setup: what `tree_toml` reads as this setup.
+//! The tree text of a setup, for `tree_toml` to read.
+//!
+//! The shell's `.dump` writes its store with [`put_tree_text`], with the rows of the moment as starting rows.
+//!
+//! ```text
+//!   format = 3                                     put_head: format, tables, rows
+//!   tables = ["account"]
+//!   row = [
+//!       { table = "account", key = 1, value = 100 },
+//!   ]
+//!
+//!   [[type]]                                       put_types
+//!   name = "transfer"
+//!   steps = [["account"]]
+//!
+//!   [[node]]                                       put_nodes
+//!   name = "root"
+//!   control = "locks"
+//!   types = ["transfer"]
+//! ```
+//!
+//! Left out are: an empty list of rows or of types, the parent of the root, the batch of a node without batches, a free order
+//! of commits, and the part of a node that has the whole of its types.
+//!
+//! **What is proved.** The text is `tree_text` of the format, the names, the profiles, the nodes and the rows
+//! (`specs/Written.antt`).
+//!
+//! **Not claimed**: that `tree_toml` reads the text as the same setup. `tools/shell_dumps.py` tries that with the trees of the
+//! worked runs.
 #![tactic(auto)]
 
 mod arrays;
