@@ -7,7 +7,7 @@ use short_reply::ShortReply;
 use std::alloc::AllocError;
 use teb_names::{NameBook, Reply, Session};
 
-/// How many answers there are.
+/// The number of answers.
 #[derive(Drop)]
 pub struct AnswerCount {
     pub count: usize,
@@ -29,7 +29,7 @@ impl Log for AnswerCount {
 
     ghost has_room = { λ log. log.count + 1 < 2 ^ 64 };
 
-    /// An `Err` where no more can be counted.
+    /// Returns an error if no more can be counted.
     fn ready(&mut self, _: &NameBook) -> Result<(), AllocError> {
         if self.count == usize::MAX {
             return Err(AllocError);

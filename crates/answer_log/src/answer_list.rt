@@ -8,7 +8,7 @@ use short_reply::ShortReply;
 use std::alloc::{AllocError, Global};
 use teb_names::{NameBook, Reply, Session};
 
-/// The answers themselves, the first one first.
+/// The answers, the first one first.
 #[derive(Drop)]
 pub struct AnswerList {
     pub answers: Vec<Answered>,

@@ -1,4 +1,4 @@
-//! What a run asks of where its answers go.
+//! The trait of what takes the answers of a run.
 
 ghost use Rattle.std.specs.Prelude.{◌++◌, ◌∷◌, [], List, OnOk};
 ghost use Rattle.teb_names.specs.declared.naming.NameBook.{NameBook};
@@ -9,8 +9,7 @@ use short_reply::ShortReply;
 use std::alloc::AllocError;
 use teb_names::{NameBook, Reply, Session};
 
-/// Where the answers of a run go, the first one first. Nodes and tables go by the names of a book, which is the same at
-/// each call.
+/// Takes the answers of a run, the first one first. Nodes and tables have the names of a book, which is the same at each call.
 pub trait Log: Drop {
     /// The log tells these answers.
     ghost tells: { Self → NameBook → List Answered → Type 0 };
@@ -18,18 +17,18 @@ pub trait Log: Drop {
     /// There is room for one answer.
     ghost has_room: { Self → Type 0 };
 
-    /// Makes room for one answer. The log tells what it told, after an `Err` too.
+    /// Makes room for one answer. The log tells what it told before, also if this fails.
     fn ready(&mut self, names: &NameBook) -> Result<(), AllocError>
         ensures told { (answers : List Answered) → tells self.old names.now answers → tells self.new names.now answers }
         ensures room { OnOk result (has_room self.new) };
 
-    /// Adds the answer to a session behind the others. It uses up the room.
+    /// Appends the answer to a session. It uses up the room.
     fn add(&mut self, names: &NameBook, session: Session, reply: &Reply)
         requires { has_room self.old }
         ensures { (answers : List Answered) → tells self.old names.now answers
             → tells self.new names.now (answers ++ record { session = session; reply = reply.now } ∷ []) };
 
-    /// Adds the answer to a session behind the others: one without the values of a scan. It uses up the room.
+    /// Appends the answer to a session, one without the values of a scan. It uses up the room.
     fn add_short(&mut self, names: &NameBook, session: Session, reply: &ShortReply)
         requires { has_room self.old }
         ensures { (answers : List Answered) → tells self.old names.now answers

@@ -1,4 +1,4 @@
-//! Whether all that a reply names has a name.
+//! Whether everything that a reply names has a name.
 
 ghost use Rattle.std.specs.Prelude.{◌≡◌};
 ghost use Rattle.short_reply.specs.ShortReplies.{full_reply};

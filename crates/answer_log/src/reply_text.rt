@@ -17,11 +17,11 @@ use short_reply::ShortReply;
 use std::alloc::{AllocError, Global};
 use teb_names::{NameBook, Reply, Session};
 
-/// The text of answers, a line for each, written as it comes. An answer that names what has no name gets no line.
+/// The text of answers, a line for each, written at once. An answer that names a node or a table without a name gets no line.
 #[derive(Drop)]
 pub struct ReplyText {
     text: Vec<u8>,
-    // The last reply, if its line has found no memory yet.
+    // The last reply, if there was no memory for its line yet.
     waiting: Option<Answered>,
 }
 
@@ -36,8 +36,8 @@ impl ReplyText {
         }
     }
 
-    /// No answers. Their text takes the memory of these bytes, which are dropped: so no large block is given back, and
-    /// none is taken before the text is longer than they were.
+    /// No answers. Their text reuses the memory of these bytes, whose contents are dropped. So no large block is freed, and none
+    /// is allocated before the text is longer than they were.
     pub fn reusing(mut bytes: Vec<u8>) -> ReplyText
         ensures { (names : NameBook) → HasLines result names [] }
     {
@@ -48,7 +48,7 @@ impl ReplyText {
         }
     }
 
-    /// The text, whole.
+    /// Returns the whole text.
     pub fn into_text(mut self, names: &NameBook) -> Result<Vec<u8>, AllocError>
         ensures { (answers : List Answered) → HasLines self names.now answers → All (λ a. ReplyNamed names.now a.reply) answers
             → IfOk result (λ text. text.items ≡ flat_map (reply_text names.now) answers) }
@@ -66,7 +66,7 @@ impl Log for ReplyText {
 
     ghost has_room = { λ log. log.waiting ≡ None };
 
-    /// Writes the line that waits.
+    /// Writes the waiting line, if there is one.
     fn ready(&mut self, names: &NameBook) -> Result<(), AllocError> {
         if let Some(Answered { session, reply }) = &self.waiting {
             put_line(&mut self.text, names, *session, reply)?;
@@ -75,7 +75,7 @@ impl Log for ReplyText {
         Ok(())
     }
 
-    /// Writes a line, or lets it wait.
+    /// Writes a line. If there is no memory for it, the line waits.
     fn add(&mut self, names: &NameBook, session: Session, reply: &Reply) {
         if put_line(&mut self.text, names, session, reply).is_err() {
             let reply = *reply;
@@ -83,7 +83,7 @@ impl Log for ReplyText {
         }
     }
 
-    /// Writes a line, or lets it wait.
+    /// Writes a line. If there is no memory for it, the line waits.
     fn add_short(&mut self, names: &NameBook, session: Session, reply: &ShortReply) {
         if put_short_line(&mut self.text, names, session, reply).is_err() {
             let reply = reply.full();
@@ -108,7 +108,7 @@ fn put_line(
     }
 }
 
-/// The same for an answer without the values of a scan.
+/// Appends the line of an answer without the values of a scan. Out of memory, it appends nothing.
 fn put_short_line(
     out: &mut Vec<u8>,
     names: &NameBook,

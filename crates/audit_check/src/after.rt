@@ -1,4 +1,4 @@
-//! Who commits before one that it read from.
+//! Commits before a transaction that was read from.
 
 ghost use Rattle.std.specs.Prelude.{◌≡◌, ℕ, ◌<◌, ◌^◌, ◌||◌, ◌&&◌, ◌==◌, Bool, [], length, not, OnOk, List};
 ghost use Rattle.std.specs.List.{list_any};
@@ -16,7 +16,7 @@ use super::line::Line;
 use super::marks::{keep, list_at, marked};
 use std::alloc::{AllocError, Global};
 
-/// The first commit before that of a transaction which was read from.
+/// Finds the first line that commits a transaction before one that it read from.
 pub fn check_after(alloc: Global, lines: &[Line]) -> Result<(), AuditError>
     requires { length lines.now < 2 ^ 32 }
     ensures { Finds After wrong_after (views lines.now) result }
@@ -26,7 +26,7 @@ pub fn check_after(alloc: Global, lines: &[Line]) -> Result<(), AuditError>
     first_early(alloc, &mut done, &mut sources, lines)
 }
 
-/// The same, where nothing is marked or kept yet.
+/// The same, if nothing is marked or kept yet.
 fn first_early(
     alloc: Global,
     done: &mut Vec<bool>,
@@ -49,7 +49,7 @@ fn first_early(
     Ok(())
 }
 
-/// Whether the line commits a transaction before one that it read from.
+/// Returns whether the line commits a transaction before one that it read from.
 fn is_early(done: &[bool], sources: &[Vec<u32>], line: &Line) -> bool
     ensures { (past : List Item) → MarksCommits done.now past → KeepsSources sources.now past → result ≡ wrong_after past (line_view line.now) }
 {
@@ -59,14 +59,14 @@ fn is_early(done: &[bool], sources: &[Vec<u32>], line: &Line) -> bool
     }
 }
 
-/// Whether one of the transactions is not marked.
+/// Returns whether one of the transactions is not marked.
 fn any_open(done: &[bool], txns: &[u32]) -> bool
     ensures { result ≡ list_any (λ t. not (is_marked done.now t)) txns.now }
 {
     txns.iter().any(|txn| !marked(done, *txn))
 }
 
-/// Keeps the transaction that another one reads from by this line.
+/// Keeps the transaction that this line reads from, for the one that reads.
 fn keep_source(alloc: Global, sources: &mut Vec<Vec<u32>>, line: &Line) -> Result<(), AllocError>
     ensures { OnOk result ((p : ℕ → Bool) (t : ℕ) → list_any p (list_at sources.new.items t) ≡ (reads_from p t (line_view line.now) || list_any p (list_at sources.old.items t))) }
 {

@@ -1,4 +1,4 @@
-//! Which transactions have committed, and how an order lists them.
+//! Which transactions have committed, and whether an order lists them.
 
 ghost use Rattle.std.specs.Prelude.{◌≡◌, ℕ, ◌<◌, ◌^◌, ◌||◌, ◌&&◌, length, not, IfOk, OnOk, List};
 ghost use Rattle.std.specs.List.{list_all};
@@ -16,7 +16,7 @@ use super::line::Line;
 use super::marks::{mark, marked};
 use std::alloc::{AllocError, Global};
 
-/// The order line, where it does not list each committed transaction once and no other.
+/// Finds the order line, if it does not list each committed transaction once and no other.
 pub fn check_order(alloc: Global, lines: &[Line]) -> Result<(), AuditError>
     requires { length lines.now < 2 ^ 32 }
     ensures { Finds Order (wrong_order (views lines.now)) (views lines.now) result }
@@ -41,7 +41,7 @@ fn committed(alloc: Global, lines: &[Line]) -> Result<Vec<bool>, AllocError>
     Ok(done)
 }
 
-/// Marks the transaction of a line, where the line commits it.
+/// Marks the transaction of a line, if the line commits it.
 pub fn mark_commit(done: &mut Vec<bool>, line: &Line) -> Result<(), AllocError>
     ensures { OnOk result ((t : ℕ) → is_marked done.new.items t ≡ (is_done t (line_view line.now) || is_marked done.old.items t)) }
 {
@@ -51,7 +51,7 @@ pub fn mark_commit(done: &mut Vec<bool>, line: &Line) -> Result<(), AllocError>
     }
 }
 
-/// Whether the line is no order, or one that is right.
+/// Returns true unless the line is an order that is wrong.
 fn is_right(alloc: Global, lines: &[Line], done: &[bool], line: &Line) -> Result<bool, AllocError>
     requires { MarksCommits done.now (views lines.now) }
     ensures { IfOk result (λ ok. (past : List Item) → ok ≡ not (wrong_order (views lines.now) past (line_view line.now))) }
@@ -72,7 +72,7 @@ fn is_order(alloc: Global, lines: &[Line], done: &[bool], txns: &[u32]) -> Resul
     }
 }
 
-/// Marks the transactions, where they are distinct ones that commit.
+/// Marks the transactions of an order, or returns `None` if one is listed twice or does not commit.
 fn listed(alloc: Global, done: &[bool], txns: &[u32]) -> Result<Option<Vec<bool>>, AllocError>
     ensures { IfOk result (λ o. Lists (is_marked done.now) txns.now o) }
 {
@@ -86,7 +86,7 @@ fn listed(alloc: Global, done: &[bool], txns: &[u32]) -> Result<Option<Vec<bool>
     Ok(Some(listed))
 }
 
-/// Whether each transaction that commits is marked.
+/// Returns whether each transaction that commits is marked.
 #[tactic(auto, using(crate::proofs::OrderRules::commits_pass))]
 fn are_listed(lines: &[Line], listed: &[bool]) -> bool
     ensures { result ≡ list_all (is_marked listed.now) (commits (views lines.now)) }

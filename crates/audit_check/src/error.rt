@@ -6,10 +6,10 @@ ghost use Rattle.audit_check.specs.declared.error.AuditError.TheVariants.{No};
 use std::alloc::{AllocError, AllocFailed};
 use thiserror::Error;
 
-/// What the first line that is wrong breaks.
+/// What the first wrong line breaks.
 #[derive(Clone, Copy, Debug, PartialEq, Eq)]
 pub enum AuditWhy {
-    /// It is no line of a printed run, or stands out of order, or repeats a cell.
+    /// It is no line of a printed run, is out of order, or repeats a cell.
     Form,
     /// Its transaction cannot do this now.
     Txn,
@@ -17,7 +17,7 @@ pub enum AuditWhy {
     Order,
     /// It commits a transaction before one that it read from.
     After,
-    /// It reads what the order does not give.
+    /// It reads another value than the order gives.
     Read,
     /// It is not in the last table, or a row of the last table is missing.
     Row,
@@ -52,7 +52,7 @@ impl<T: Drop> From<AllocFailed<T>> for AuditError {
     }
 }
 
-/// That the line behind so many others is wrong.
+/// Returns the fault of the line that follows `before` lines.
 pub fn no(before: usize, why: AuditWhy) -> AuditError
     requires { before + 1 < 2 ^ 32 }
     ensures { result ≡ No (before + 1) why }

@@ -1,4 +1,4 @@
-//! The form of a printed run: its lines, in their order, no cell twice.
+//! The form of a printed run: its lines, in their order, with no cell twice.
 
 ghost use Rattle.std.specs.Prelude.{◌≡◌, ◌<◌, ◌^◌, ◌∷◌, [], ◌++◌, ◌+◌, length, not, IsTrue, IfOk, OnOk, IfErr, List};
 ghost use Rattle.audit_check.specs.Items.{Item};
@@ -13,14 +13,14 @@ use super::reading::read_line;
 use indexmap::IndexSet;
 use std::alloc::{AllocError, AllocFailed, Global};
 
-/// The cells of the starting rows so far, and of the final rows.
+/// The cells of the starting rows so far, and those of the final rows.
 #[derive(Drop)]
 struct Cells<'a> {
     starts: IndexSet<RowKey<'a>>,
     rows: IndexSet<RowKey<'a>>,
 }
 
-/// The lines of a text, or the first one that does not fit behind those before it.
+/// Returns the lines of a text, or the first one that does not fit after those before it.
 #[tactic(auto, using(crate::proofs::FormSteps::has_part, crate::proofs::FormSteps::as_many), unfolding(crate::specs::Lines::items_of))]
 pub fn read_lines<'a>(alloc: Global, text: &'a [u8]) -> Result<Vec<Line<'a>>, AuditError>
     requires { length (parts_of text.now) < 2 ^ 32 }
@@ -31,7 +31,7 @@ pub fn read_lines<'a>(alloc: Global, text: &'a [u8]) -> Result<Vec<Line<'a>>, Au
     lines_in(alloc, &parts)
 }
 
-/// The same of the parts of a text.
+/// The same for the parts of a text.
 #[tactic(auto, using(crate::proofs::FormSteps::not_read))]
 fn lines_in<'a>(alloc: Global, parts: &[&'a [u8]]) -> Result<Vec<Line<'a>>, AuditError>
     requires some { 0 < length parts.now }
@@ -44,7 +44,7 @@ fn lines_in<'a>(alloc: Global, parts: &[&'a [u8]]) -> Result<Vec<Line<'a>>, Audi
     Ok(lines)
 }
 
-/// Puts the lines of the parts into a list that has none.
+/// Adds the lines of the parts to an empty list.
 fn add_lines<'a>(
     alloc: Global,
     lines: &mut Vec<Line<'a>>,
@@ -63,7 +63,7 @@ fn add_lines<'a>(
     take_parts(alloc, lines, &mut cells, parts)
 }
 
-/// The same, where no cell is kept yet.
+/// The same, if no cell is kept yet.
 fn take_parts<'a>(
     alloc: Global,
     lines: &mut Vec<Line<'a>>,
@@ -102,7 +102,7 @@ fn is_over(lines: &[Line], rest: &[u8]) -> bool
     last_part(lines) == 4 && rest.is_empty()
 }
 
-/// Puts the line behind the others, where it fits; answers whether it did.
+/// Appends the line if it fits, and returns whether it does.
 #[tactic(auto, unfolding(crate::specs::Lines::fitting))]
 fn take_part<'a>(
     alloc: Global,
@@ -143,7 +143,7 @@ fn take_line<'a>(
     Ok(true)
 }
 
-/// Whether the line is no row of a cell that had one; then keeps its cell.
+/// Returns false if the line is a row of a cell that had one. Otherwise it keeps the cell.
 #[tactic(auto, using(crate::proofs::Cells::start_kept, crate::proofs::Cells::row_kept))]
 fn is_new<'a>(cells: &mut Cells<'a>, line: &Line<'a>) -> Result<bool, AllocFailed<RowKey<'a>>>
     ensures new { IfOk result (λ new. (past : List Item) → KeepsCells cells.old.starts.keys cells.old.rows.keys past → new ≡ not (repeats past (line_view line.now))) }
@@ -156,7 +156,7 @@ fn is_new<'a>(cells: &mut Cells<'a>, line: &Line<'a>) -> Result<bool, AllocFaile
     }
 }
 
-/// Keeps a row key; answers whether it is a new one.
+/// Keeps a row key, and returns whether it is new.
 fn add_row_key<'a>(
     set: &mut IndexSet<RowKey<'a>>,
     row_key: RowKey<'a>,
@@ -167,7 +167,7 @@ fn add_row_key<'a>(
     set.insert(row_key)
 }
 
-/// The part of a printed run that a line belongs to.
+/// Returns the number of the part of a printed run to which a line belongs.
 fn part(line: &Line) -> u8
     ensures { result ≡ part (line_view line.now) }
 {

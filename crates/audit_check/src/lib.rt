@@ -64,12 +64,13 @@ use rows::check_rows;
 use std::alloc::Global;
 use txns::check_txns;
 
-/// Checks a printed run: a text of fewer than 2^32 - 1 lines that has starting rows, events, the order and the final rows.
-/// `Ok` where no line is wrong, so that the transactions, run one after the other in the printed order from the starting rows,
-/// read what they read and leave the final rows, and nobody committed before one that it read from.
+/// Checks a printed run: a text of fewer than 2^32 - 1 lines with starting rows, events, the order and the final rows. Returns
+/// `Ok` if no line is wrong. Then running the transactions serially in the printed order, from the starting rows, reproduces
+/// every read of a committed transaction and the final rows, and no transaction committed before one that it read from.
 ///
-/// `AuditError::No` names the first wrong line, counted from 1, by the first reason in the order of `AuditWhy` for which there
-/// is one. `AuditError::OutOfMemory` where there is no memory.
+/// # Errors
+/// `AuditError::No` names the first wrong line, counted from 1, by the first reason in the order of `AuditWhy` that some line
+/// has. `AuditError::OutOfMemory`: out of memory.
 #[tactic(auto, using(crate::proofs::Faults::form_fault, crate::proofs::Faults::form_right))]
 pub fn audit(alloc: Global, text: &[u8]) -> Result<(), AuditError>
     requires { length (parts_of text.now) < 2 ^ 32 }
@@ -78,7 +79,7 @@ pub fn audit(alloc: Global, text: &[u8]) -> Result<(), AuditError>
     check_lines(alloc, &read_lines(alloc, text)?)
 }
 
-/// The same of lines that have their form.
+/// The same for lines that have the form of a printed run.
 #[tactic(auto, unfolding(crate::specs::Audit::fault_in))]
 fn check_lines(alloc: Global, lines: &[Line]) -> Result<(), AuditError>
     requires { length lines.now < 2 ^ 32 }

@@ -1,4 +1,4 @@
-//! What is kept by number: a mark, or a list of numbers.
+//! Marks and lists of numbers, by number.
 
 ghost use Rattle.std.specs.Prelude.{◌≡◌, ℕ, ◌==◌, ◌||◌, ◌++◌, ◌∷◌, [], OnOk, if◌then◌else◌};
 ghost use Rattle.audit_check.specs.Marks.{is_marked, list_at};
@@ -17,7 +17,7 @@ pub fn mark(marks: &mut Vec<bool>, number: u32) -> Result<(), AllocError>
     Ok(())
 }
 
-/// Whether a number is marked.
+/// Returns whether a number is marked.
 pub fn marked(marks: &[bool], number: u32) -> bool
     ensures { result ≡ is_marked marks.now number }
 {
@@ -25,7 +25,7 @@ pub fn marked(marks: &[bool], number: u32) -> bool
     at < marks.len() && marks[at]
 }
 
-/// Puts one more at the end of the list of a number.
+/// Appends a value to the list of a number.
 pub fn keep(
     alloc: Global,
     lists: &mut Vec<Vec<u32>>,
@@ -42,7 +42,7 @@ pub fn keep(
     Ok(())
 }
 
-/// The list of a number, empty where nothing was kept.
+/// Returns the list of a number, empty if nothing was kept.
 pub fn list_at(lists: &[Vec<u32>], number: u32) -> &[u32]
     ensures { result.now ≡ list_at lists.now number }
 {

@@ -1,4 +1,4 @@
-//! The transactions of a printed run, run one after the other.
+//! The transactions of a printed run, run serially.
 
 ghost use Rattle.std.specs.Prelude.{◌≡◌, ℕ, ◌<◌, ◌^◌, ◌++◌, ◌∷◌, [], true, length, IfOk, OnOk, if◌then◌else◌, slice_index_or, take};
 ghost use Rattle.audit_check.specs.Faults.{wrong_read, are_distinct};
@@ -16,13 +16,13 @@ use super::marks::{keep, list_at, marked};
 use super::table::{Table, put, starting_table, value_at};
 use std::alloc::{AllocError, Global};
 
-/// What the order gives: the last table, and for each line whether it is a read that is wrong.
+/// The result of the order: the last table, and for each line whether it is a wrong read.
 pub struct Replay<'a> {
     pub table: Table<'a>,
     wrong: Vec<bool>,
 }
 
-/// A call of its own, as for a table.
+/// Hand-written `Drop`, so that callers do not re-prove the drop glue.
 impl<'a> Drop for Replay<'a> {
     fn drop(self) {
         let Replay {
@@ -32,7 +32,7 @@ impl<'a> Drop for Replay<'a> {
     }
 }
 
-/// Looks for the first read that is wrong; answers what the order gives.
+/// Finds the first wrong read. If there is none, returns the result of the order.
 pub fn check_reads<'a>(alloc: Global, lines: &[Line<'a>]) -> Result<Replay<'a>, AuditError>
     requires few { length lines.now < 2 ^ 32 }
     requires once { are_distinct (order_in (views lines.now)) ≡ true }
@@ -44,7 +44,7 @@ pub fn check_reads<'a>(alloc: Global, lines: &[Line<'a>]) -> Result<Replay<'a>, 
     Ok(replay)
 }
 
-/// The first line that is marked.
+/// Finds the first marked line.
 fn first_wrong(lines: &[Line], wrong: &[bool]) -> Result<(), AuditError>
     requires few { length lines.now < 2 ^ 32 }
     requires told { (i : ℕ) → i < length lines.now → is_marked wrong.now i ≡ wrong_read (views lines.now) (views (take i lines.now)) (line_view (slice_index_or lines.now i End)) }
@@ -58,7 +58,7 @@ fn first_wrong(lines: &[Line], wrong: &[bool]) -> Result<(), AuditError>
     Ok(())
 }
 
-/// Runs the transactions of the order line one after the other from the starting rows.
+/// Runs the transactions of the order line serially from the starting rows.
 fn replayed<'a>(alloc: Global, lines: &[Line<'a>]) -> Result<Replay<'a>, AllocError>
     requires few { length lines.now < 2 ^ 32 }
     requires once { are_distinct (order_in (views lines.now)) ≡ true }
@@ -76,7 +76,7 @@ fn replayed<'a>(alloc: Global, lines: &[Line<'a>]) -> Result<Replay<'a>, AllocEr
     Ok(replay)
 }
 
-/// The transactions of the order line.
+/// Returns the transactions of the order line.
 fn order<'b>(lines: &'b [Line]) -> &'b [u32]
     ensures { result.now ≡ order_in (views lines.now) }
 {
@@ -88,7 +88,7 @@ fn order<'b>(lines: &'b [Line]) -> &'b [u32]
     &[]
 }
 
-/// For each transaction, the lines that it reads and writes by.
+/// Returns for each transaction the lines by which it reads and writes.
 fn own_lines(alloc: Global, lines: &[Line]) -> Result<Vec<Vec<u32>>, AllocError>
     requires { length lines.now < 2 ^ 32 }
     ensures { IfOk result (λ own. (t : ℕ) → list_at own.items t ≡ own_from t 0 lines.now) }
@@ -109,7 +109,7 @@ fn keep_own(alloc: Global, own: &mut Vec<Vec<u32>>, line: &Line, at: u32) -> Res
     }
 }
 
-/// Runs one transaction by its own lines.
+/// Runs one transaction, by its own lines.
 fn run<'a>(
     replay: &mut Replay<'a>,
     lines: &[Line<'a>],

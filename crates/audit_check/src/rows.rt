@@ -16,7 +16,7 @@ use super::table::{Table, value_at};
 use indexmap::IndexSet;
 use std::alloc::{AllocFailed, Global};
 
-/// The first row line that is not in the last table, or the end, where a row is missing.
+/// Finds the first row line that is not in the last table, or the end if a row of the table is missing.
 pub fn check_rows<'a>(
     alloc: Global,
     table: &Table<'a>,
@@ -30,7 +30,7 @@ pub fn check_rows<'a>(
     see_rows(&mut seen, table, lines)
 }
 
-/// The same, where no row has been seen.
+/// The same, if no row has been seen.
 fn see_rows<'a>(
     seen: &mut IndexSet<RowKey<'a>>,
     table: &Table<'a>,
@@ -71,7 +71,7 @@ fn see_row_key<'a>(
     Ok(())
 }
 
-/// Whether the line is no row that is wrong, and no end where one is missing.
+/// Returns true unless the line is a wrong row, or an end with a row missing.
 fn is_right(table: &Table, seen: &IndexSet<RowKey>, lines: &[Line], line: &Line) -> bool
     requires { HoldsTable table.now.values.entries (last_table (views lines.now)) }
     ensures { (past : List Item) → SeesRows seen.now.keys past → result ≡ not (wrong_row (views lines.now) past (line_view line.now)) }
@@ -83,7 +83,7 @@ fn is_right(table: &Table, seen: &IndexSet<RowKey>, lines: &[Line], line: &Line)
     }
 }
 
-/// Whether a row of the table has not been seen.
+/// Returns whether a row of the table has not been seen.
 fn any_missing(table: &Table, seen: &IndexSet<RowKey>, lines: &[Line]) -> bool
     requires { HoldsTable table.now.values.entries (last_table (views lines.now)) }
     ensures { (past : List Item) → SeesRows seen.now.keys past → result ≡ list_any (is_missing (views lines.now) past) (row_keys_in (views lines.now)) }
@@ -91,7 +91,7 @@ fn any_missing(table: &Table, seen: &IndexSet<RowKey>, lines: &[Line]) -> bool
     lines.iter().any(|line| misses(table, seen, line))
 }
 
-/// Whether the line is of a row key that has a row and has not been seen.
+/// Returns whether the line is of a row key that has a row and has not been seen.
 fn misses(table: &Table, seen: &IndexSet<RowKey>, line: &Line) -> bool
     ensures { (H : List Item) (past : List Item) → HoldsTable table.now.values.entries (last_table H) → SeesRows seen.now.keys past → result ≡ row_key_passes (is_missing H past) (line_view line.now) }
 {

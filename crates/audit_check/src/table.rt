@@ -10,19 +10,19 @@ use super::line::{Line, RowKey};
 use indexmap::IndexMap;
 use std::alloc::{AllocError, Global};
 
-/// The values of rows, by row key. A row key may be there without a row.
+/// The values of rows, by row key. A row key without a row may be in it.
 pub struct Table<'a> {
     values: IndexMap<RowKey<'a>, Option<i64>>,
 }
 
-/// A call of its own, so that no owner has to prove anew how a table is dropped.
+/// Hand-written `Drop`, so that callers do not re-prove the drop glue.
 impl<'a> Drop for Table<'a> {
     fn drop(self) {
         let Table { values: _values } = self;
     }
 }
 
-/// The starting rows.
+/// Returns the table of the starting rows.
 pub fn starting_table<'a>(alloc: Global, lines: &[Line<'a>]) -> Result<Table<'a>, AllocError>
     ensures { IfOk result (λ t. HoldsTable t.values.entries (starts_in (views lines.now))) }
 {
@@ -44,7 +44,7 @@ fn put_start<'a>(table: &mut Table<'a>, line: &Line<'a>) -> Result<(), AllocErro
     }
 }
 
-/// Sets the value at a row key; none removes the row.
+/// Sets the value at a row key. `None` removes the row.
 pub fn put<'a>(
     table: &mut Table<'a>,
     row_key: RowKey<'a>,
@@ -56,7 +56,7 @@ pub fn put<'a>(
     Ok(())
 }
 
-/// The value at a row key; none where there is no row.
+/// Returns the value at a row key, or `None` if there is no row.
 pub fn value_at(table: &Table, row_key: RowKey) -> Option<i64>
     ensures { result ≡ value_at table.now.values.entries row_key.entry }
 {

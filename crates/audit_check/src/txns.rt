@@ -1,4 +1,4 @@
-//! What transactions may do.
+//! What a transaction can do in its present state.
 
 ghost use Rattle.std.specs.Prelude.{◌≡◌, ◌<◌, ◌^◌, ◌&&◌, nat_lt, nat_le, length, false, not, OnOk, List, ◌∷◌};
 ghost use Rattle.audit_check.specs.Faults.{wrong_txn};
@@ -14,7 +14,7 @@ use super::line::Line;
 use super::marks::{mark, marked};
 use std::alloc::{AllocError, Global};
 
-/// How many transactions have begun, and which have committed and which aborted.
+/// How many transactions have begun, which have committed, and which have aborted.
 #[derive(Drop)]
 struct Standings {
     begun: u32,
@@ -22,7 +22,7 @@ struct Standings {
     gone: Vec<bool>,
 }
 
-/// The first line whose transaction cannot do what it says.
+/// Finds the first line whose transaction cannot do what it says.
 pub fn check_txns(alloc: Global, lines: &[Line]) -> Result<(), AuditError>
     requires { length lines.now < 2 ^ 32 }
     ensures { Finds Txn wrong_txn (views lines.now) result }
@@ -42,7 +42,7 @@ pub fn check_txns(alloc: Global, lines: &[Line]) -> Result<(), AuditError>
     Ok(())
 }
 
-/// Whether the transaction of the line may do this.
+/// Returns whether the transaction of the line can do this.
 #[tactic(auto, using(crate::proofs::TxnSteps::is_next, crate::proofs::TxnSteps::told_right, crate::proofs::TxnSteps::open_right))]
 fn is_right(standings: &Standings, line: &Line) -> bool
     ensures { (past : List Item) → KeepsStandings standings.now.begun standings.now.done.items standings.now.gone.items past → result ≡ not (wrong_txn past (line_view line.now)) }
@@ -59,7 +59,7 @@ fn is_right(standings: &Standings, line: &Line) -> bool
     }
 }
 
-/// Whether the transaction is unfinished.
+/// Returns whether the transaction is unfinished.
 fn is_open(standings: &Standings, txn: u32) -> bool
     ensures { (past : List Item) → KeepsStandings standings.now.begun standings.now.done.items standings.now.gone.items past → result ≡ unfinished past txn }
 {
@@ -81,7 +81,7 @@ fn has_begun(begun: u32, txn: u32) -> bool
     0 < txn && txn <= begun
 }
 
-/// Keeps where the transaction of a right line then stands.
+/// Updates the state of the transaction of a right line.
 fn take(standings: &mut Standings, line: &Line) -> Result<(), AllocError>
     ensures { OnOk result ((past : List Item) → wrong_txn past (line_view line.now) ≡ false → KeepsStandings standings.old.begun standings.old.done.items standings.old.gone.items past → KeepsStandings standings.new.begun standings.new.done.items standings.new.gone.items (line_view line.now ∷ past)) }
 {

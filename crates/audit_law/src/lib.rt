@@ -22,12 +22,13 @@
 
 ghost use Rattle.audit_law.specs.Law.{OrdersListTheCommitted, PrintedRunsAreAudited};
 
-/// Whatever is asked, the text of the starting rows, the events and the report is audited.
+/// For every list of requests of an accepted tree, the text of the starting rows, the events and the report is audited.
 pub fn printed_runs_are_audited()
     ensures { PrintedRunsAreAudited }
 {}
 
-/// Where a text has its form and its order is right, the order lists the transactions that commit: those whose reads are checked.
+/// If a text has the form of a printed run and its order is right, the order lists exactly the transactions that commit. These
+/// are the ones whose reads are checked.
 pub fn orders_list_the_committed()
     ensures { OrdersListTheCommitted }
 {}

@@ -20,8 +20,8 @@ use command_output::status::{AUDIT_NO, OK};
 use script_text::MOST_BYTES;
 use std::alloc::{AllocError, Global};
 
-/// Whether a text is a printed run whose order executes to its reads and its final rows: `audit yes`, or the first line
-/// that is wrong and why.
+/// Returns `audit yes` if the text is a printed run whose order reproduces its reads and its final rows. Otherwise returns the
+/// first wrong line and why.
 pub fn run_audit(alloc: Global, text: &[u8]) -> Result<Output, AllocError>
     requires { length text.now ≤ MOST_BYTES }
     ensures shown { IfOk result (λ o. o ≡ audited text.now) }

@@ -21,7 +21,7 @@ pub struct CauseForm {
 }
 
 impl CauseForm {
-    /// The form of no cause: zeros.
+    /// Returns the form of no cause: zeros.
     pub fn none() -> CauseForm
         ensures { result ≡ no_cause }
     {
@@ -38,7 +38,7 @@ impl CauseForm {
     }
 }
 
-/// The form of a cause.
+/// Returns the form of a cause.
 pub fn cause_form(cause: &Cause) -> CauseForm
     ensures { result ≡ form cause.now }
 {
@@ -89,7 +89,7 @@ fn at_cell(why: u8, node: Node, txn: Txn, cell: Cell) -> CauseForm
     }
 }
 
-/// The cause that a form is, or `None` if `why` is none of a cause.
+/// Returns the cause that a form stands for, or `None` if its `why` is that of no cause.
 pub fn cause_in(form: &CauseForm) -> Option<Cause>
     ensures { result ≡ read form.now }
 {

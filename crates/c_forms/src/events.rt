@@ -24,7 +24,7 @@ pub struct EventForm {
     pub cause: CauseForm,
 }
 
-/// The form of an event.
+/// Returns the form of an event.
 pub fn event_form(event: &Event) -> EventForm
     ensures { result ≡ form event.now }
 {

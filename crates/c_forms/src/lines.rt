@@ -10,7 +10,7 @@ use script_text::put_reply;
 use std::alloc::{AllocError, Global};
 use teb_names::{Cause, Cell, NameBook, Node, Reply, Session};
 
-/// The line of a reply to a session, or `None` if the form is none of a reply, or has a node or a table without a name.
+/// Returns the line of a reply to a session, or `None` if the form is that of no reply, or has a node or a table without a name.
 pub fn line_of(
     alloc: Global,
     names: &NameBook,

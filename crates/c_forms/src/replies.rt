@@ -20,7 +20,7 @@ pub struct ReplyForm {
     pub values: ValueList,
 }
 
-/// The form of a reply.
+/// Returns the form of a reply.
 pub fn reply_form(reply: &Reply) -> ReplyForm
     ensures { result ≡ form reply.now }
 {
@@ -56,7 +56,7 @@ pub fn reply_form(reply: &Reply) -> ReplyForm
     }
 }
 
-/// The form of a kind, with zeros beside it.
+/// Returns the form of a kind of reply, with zeros in all other fields.
 #[inline(always)]
 pub fn blank(kind: u8) -> ReplyForm
     ensures { result ≡ blank kind }
@@ -71,7 +71,7 @@ pub fn blank(kind: u8) -> ReplyForm
     }
 }
 
-/// The reply that a form is, or `None` if it is none. Only the fields that its kind has are read.
+/// Returns the reply that a form stands for, or `None` if there is none. Only the fields of its kind are read.
 pub fn reply_in(form: &ReplyForm) -> Option<Reply>
     ensures { result ≡ read form.now }
 {
@@ -101,7 +101,7 @@ pub fn reply_in(form: &ReplyForm) -> Option<Reply>
     }
 }
 
-/// The number of a refusal.
+/// Returns the number of a refusal.
 pub fn refusal_number(why: Refusal) -> u8
     ensures { result ≡ refusal_number why }
 {

@@ -19,7 +19,7 @@ pub struct RequestForm {
     pub value: i64,
 }
 
-/// The request that a form is, or `None` if its verb is none.
+/// Returns the request that a form stands for, or `None` if its verb is that of no request.
 pub fn request_in(form: &RequestForm) -> Option<Request>
     ensures { result ≡ read form.now }
 {

@@ -14,7 +14,7 @@ pub struct RowForm {
     pub value: i64,
 }
 
-/// The form of a row.
+/// Returns the form of a row.
 pub fn row_form(row: (Cell, i64)) -> RowForm
     ensures { result ≡ form row }
 {

@@ -8,7 +8,7 @@ use crate::causes::cause_form;
 use crate::replies::{ReplyForm, blank, refusal_number};
 use short_reply::ShortReply;
 
-/// Writes the form of a reply that has no values of a scan. It is written in place, since a form takes 184 bytes.
+/// Writes the form of a reply without the values of a scan. It is written in place, since a form takes 184 bytes.
 #[inline(always)]
 pub fn put_short_form(form: &mut ReplyForm, reply: &ShortReply)
     ensures { form.new ≡ reply_form (full_reply reply.now) }

@@ -5,7 +5,7 @@ ghost use Rattle.std.specs.Prelude.{◌≡◌, ◌<◌, ◌≤◌, ◌++◌, ◌
 use std::marker::Model;
 use teb_names::ScanList;
 
-/// At most sixteen values as C has them, each of a row or of none. A value without a row is 0, and so is each after the last.
+/// At most sixteen values as C has them, each of a row or of none. The value of no row is 0, and so is each one after the last.
 /// Contracts see the list of optional values.
 #[repr(C)]
 #[derive(Clone, Copy)]

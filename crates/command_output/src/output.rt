@@ -1,4 +1,4 @@
-//! A status, a text, and the history where there was a run.
+//! A status, a text, and the history of the run, if there was one.
 
 ghost use Rattle.std.specs.Prelude.{◌≡◌, ◌++◌, codes, decimal, IfOk};
 ghost use Rattle.command_output.specs.Shown.{line_alone, events_of, IsShowable};
@@ -8,7 +8,7 @@ use std::alloc::{AllocError, Global};
 use std::marker::Model;
 use teb_history::History;
 
-/// What a command puts out: a status, a text, and the history where there was a run.
+/// The output of a command: a status, a text, and the history of the run, if there was one.
 #[derive(Drop)]
 pub struct Output {
     status: u8,
@@ -27,7 +27,7 @@ impl Model for Output {
 }
 
 impl Output {
-    /// The output of these parts.
+    /// Returns the output with these parts.
     pub fn new(status: u8, text: Vec<u8>, history: Option<History>) -> Output
         requires { IsShowable status }
         ensures { result ≡ record { status = status; text = text.items; history = events_of history } }
@@ -39,7 +39,7 @@ impl Output {
         }
     }
 
-    /// A line alone, where there was no run.
+    /// Returns a line alone, without a run.
     pub fn line(alloc: Global, status: u8, line: &str) -> Result<Output, AllocError>
         requires { IsShowable status }
         ensures { IfOk result (λ o. o ≡ line_alone status line.now) }
@@ -49,7 +49,7 @@ impl Output {
         Ok(Output::new(status, text, None))
     }
 
-    /// A line alone: a front, a number, a space and a word.
+    /// Returns a line alone, without a run: a front, a number, a space and a word.
     pub fn numbered_line(
         alloc: Global,
         status: u8,
@@ -68,7 +68,7 @@ impl Output {
         Ok(Output::new(status, text, None))
     }
 
-    /// The status, the text and the history.
+    /// Returns the status, the text and the history.
     pub fn into_parts(self) -> (u8, Vec<u8>, Option<History>)
         ensures status { (result.0 ≡ self.status) × IsShowable result.0 }
         ensures text { result.1.items ≡ self.text }

@@ -5,10 +5,10 @@ ghost use Rattle.command_words.specs.Commands.{command_of, lone_command, counted
 
 use script_text::number;
 
-/// The most workers that serve sessions.
+/// The most workers.
 const MOST_WORKERS: u32 = 16;
 
-/// The greatest number of a load, and of a call of a disk.
+/// The greatest seed of a load, and the greatest number of a call of a disk.
 const MOST_NUMBER: u32 = 2_147_483_647;
 
 /// The most transactions of a load.
@@ -21,21 +21,21 @@ pub enum Command {
     Replay,
     /// Runs one script for each session, in turns.
     Turns,
-    /// Runs one script for each session, by so many workers.
+    /// Runs one script for each session, on this number of workers.
     Threads(u8),
-    /// Runs a generated input, from a number, of a size.
+    /// Runs a generated input with this seed and this number of transactions.
     Load { number: u32, size: u32 },
-    /// Checks the text of a run, as `threads` and `pool` write it.
+    /// Checks the text of a run, as written by `threads` and `pool`.
     Audit,
     /// Runs the script on a disk that fails at this call and at all later ones, counted from 1; 0 names no call.
     Crash(u32),
-    /// Runs several scripts, each under a tree of its own.
+    /// Runs several scripts, each under its own tree.
     Phases,
-    /// Runs one script for each session, by so many workers, who take the sessions from a queue.
+    /// Runs one script for each session, on this number of workers, which take the sessions from a queue.
     Pool(u8),
 }
 
-/// The command of these words; none where they have no command's shape.
+/// Returns the command of these words, or `None` if they do not have the shape of a command.
 pub fn command_of(words: &[String]) -> Option<Command>
     ensures command { result ≡ command_of (texts words.now) }
     ensures within { IfSome result IsWithin }
@@ -97,7 +97,7 @@ fn load_command(word: &str, number: &str, size: &str) -> Option<Command>
     Some(Command::Load { number, size })
 }
 
-/// The value of one to ten digits, where it is from `low` to `high`.
+/// Returns the value of one to ten digits, if it is from `low` to `high`.
 #[tactic(auto, unfolding(crate::specs::Commands::number_within))]
 fn number_within(digits: &str, low: u32, high: u32) -> Option<u32>
     ensures value { result ≡ number_within low high digits.now }

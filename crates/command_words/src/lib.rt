@@ -27,7 +27,7 @@ use std::alloc::{AllocError, Global};
 use std::env::Args;
 use std::io::{self, ErrorKind};
 
-/// The words behind the program's name; none where one of them is no text.
+/// Returns the words after the program's name, or none if one of them is not text.
 pub fn words_of(alloc: Global, args: io::Result<Args>) -> Result<Vec<String>, AllocError>
     ensures { IfOk result (λ words. words.items ≡ words_in args) }
 {
@@ -38,7 +38,7 @@ pub fn words_of(alloc: Global, args: io::Result<Args>) -> Result<Vec<String>, Al
     }
 }
 
-/// All but the first.
+/// Returns all but the first.
 fn behind_first(alloc: Global, args: Args) -> Result<Vec<String>, AllocError>
     ensures { IfOk result (λ words. words.items ≡ drop 1 (into_iter_items args)) }
 {

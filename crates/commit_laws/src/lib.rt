@@ -25,14 +25,14 @@
 
 ghost use Rattle.commit_laws.specs.Laws.{RecordsLeaveTheRows, FirstCommitsSerialize};
 
-/// The records of the first commits, put one after the other over the starting rows, give the final table where only
-/// those commits count.
+/// Applying the records of the first commits in order to the starting rows gives the final table in which only those commits
+/// count.
 pub fn records_leave_the_rows()
     ensures { RecordsLeaveTheRows }
 {}
 
-/// That table is the one of a whole serial execution: the history up to the last of those commits serializes, in the
-/// serial order of its own.
+/// That table is the result of a whole serial execution: the history up to the last of those commits serializes, in its own
+/// serial order.
 pub fn first_commits_serialize()
     ensures { FirstCommitsSerialize }
 {}

@@ -1,4 +1,4 @@
-//! A file that is copied at each call of its disk or cut, and opened again.
+//! A file that is copied at each call of its disk, or cut, and opened again.
 
 use crate::life::{CALLS, CAPACITY, RECORDS, find, live};
 use crate::memory::{is_prefix, live_until};
@@ -7,7 +7,7 @@ use std::alloc::Global;
 use std::fs;
 use std::test::Fail;
 
-/// Opens a file with these bytes, and answers after how many records its rows are those.
+/// Opens a file with these bytes. Returns after how many records its rows are those found.
 fn find_in(rt: &HostRuntime, alloc: Global, path: &str, bytes: &[u8]) -> Result<Option<u32>, Fail> {
     fs::write(rt, path, bytes)?;
     let disk = FileDisk::open_with_capacity(rt, alloc, path, CAPACITY)?;

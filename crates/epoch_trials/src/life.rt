@@ -20,7 +20,7 @@ pub const RECORDS: u32 = 7;
 /// the other openings.
 pub const CALLS: u32 = 78;
 
-/// The steps of a life behind its first opening.
+/// The steps of a life after its first opening.
 const LIFE: [Step; 13] = [
     Step::Append(0),
     Step::Append(1),
@@ -39,7 +39,7 @@ const LIFE: [Step; 13] = [
 
 #[derive(Clone, Copy)]
 enum Step {
-    /// Adds the record with this number, from 0 on.
+    /// Adds the record with this number, from 0.
     Append(u8),
     /// Begins the next epoch.
     Checkpoint,
@@ -64,12 +64,12 @@ fn cell(key: u32) -> Cell {
     }
 }
 
-/// The rows after so many records: one that each record has moved to the next cell, and one that stays.
+/// The rows after `count` records: one that each record has moved to the next cell, and one that stays.
 fn rows(count: u32) -> [(Cell, i64); 2] {
     [(cell(count), i64::from(count)), (cell(99), 1)]
 }
 
-/// After how many records these are the rows.
+/// Returns after how many records these are the rows.
 fn count_of(rows: &[(Cell, i64)]) -> Option<u32> {
     match rows {
         [(moved, value), (still, 1)]
@@ -94,7 +94,7 @@ fn record(number: u8) -> [Change; 2] {
     ]
 }
 
-/// Adds a record, and answers whether it is acknowledged.
+/// Adds a record. Returns whether it is acknowledged.
 fn append<D: Disk>(
     alloc: Global,
     journal: &mut EpochJournal<D>,
@@ -108,7 +108,7 @@ fn append<D: Disk>(
     Ok(journal.append(memory, &body).is_ok())
 }
 
-/// Begins the next epoch with the rows after so many records, and answers whether it has begun.
+/// Begins the next epoch with the rows after `count` records. Returns whether it has begun.
 fn checkpoint<D: Disk>(alloc: Global, journal: &mut EpochJournal<D>, count: u32) -> bool {
     !journal.is_stopped() && journal.checkpoint(alloc, &rows(count)).is_ok()
 }
@@ -165,7 +165,7 @@ pub fn live<D: Disk + Drop>(alloc: Global, disk: D) -> Result<Lived<D>, Fail> {
     })
 }
 
-/// Opens a disk, and answers after how many records its rows are those.
+/// Opens a disk. Returns after how many records its rows are those found.
 pub fn find<D: Disk + Drop>(alloc: Global, disk: D) -> Option<u32> {
     match EpochJournal::open(alloc, disk, &LABEL, &rows(0)) {
         Ok((_, found)) => count_of(&found),

@@ -5,7 +5,7 @@ use crash_disk::MemDisk;
 use std::alloc::Global;
 use std::test::Fail;
 
-/// What a life has left that a disk in memory stops at a call; 0 names no call.
+/// The result of a life on a disk in memory that fails from the call `stop` on; 0 names no call.
 pub fn live_until(alloc: Global, stop: u32) -> Result<Lived<MemDisk>, Fail> {
     live(alloc, MemDisk::with_capacity(alloc, CAPACITY, stop))
 }
@@ -18,7 +18,7 @@ fn disk_of(alloc: Global, bytes: Vec<u8>) -> Result<MemDisk, Fail> {
     Ok(MemDisk::of(alloc, bytes, CAPACITY)?)
 }
 
-/// Whether the rows that were found are those after the records that were acknowledged, or after one more.
+/// Returns whether the rows found are those after the acknowledged records, or after one more.
 pub fn is_prefix(found: Option<u32>, acknowledged: u32) -> bool {
     match found {
         Some(count) => acknowledged <= count && count - acknowledged <= 1,
@@ -45,7 +45,7 @@ fn a_disk_that_fails_at_any_call_is_opened_again(rt: HostRuntime) -> Result<(), 
     Ok(())
 }
 
-/// The bytes of a write of which the first `len` bytes of the disk were reached.
+/// The bytes after a write that reached only the first `len` bytes of the disk.
 fn torn(alloc: Global, before: &[u8], after: &[u8], len: usize) -> Result<Vec<u8>, Fail> {
     let mut bytes = Vec::new(alloc);
     bytes.extend_from_slice(&after[..len.min(after.len())])?;

@@ -1,4 +1,4 @@
-//! Where a session stands in its script.
+//! The place of a session in its script.
 
 ghost use Rattle.std.specs.Prelude.{◌≡◌, ◌≤◌, List, ◌∷◌, option_map};
 ghost use Rattle.teb_names.specs.declared.Request.{Request};
@@ -22,7 +22,7 @@ const MOST_ABORTS: u8 = 3;
 pub struct Cursor<'a> {
     pub session: Session,
     pub lines: &'a [Line],
-    /// Where it stands among its lines.
+    /// Its place among its lines.
     pub walker: Walker,
     /// How often the session was sent back since it last got through.
     pub aborts: u8,
@@ -41,7 +41,7 @@ impl<'a> Cursor<'a> {
         }
     }
 
-    /// What the session asks next: its line, or behind its last line End where it holds a transaction.
+    /// Returns what the session asks next: its line, or after its last line End if it holds a transaction.
     #[inline(always)]
     pub fn next(&self) -> Option<&'a Request>
         ensures { option_map (λ r. r.now) result ≡ asks (seat_of self.now).state }
@@ -49,7 +49,7 @@ impl<'a> Cursor<'a> {
         self.walker.next(self.lines)
     }
 
-    /// Whether the session is to run alone: it was sent back three times, and is not through.
+    /// Returns whether the session is to run alone: it was sent back three times, and is not done.
     #[inline(always)]
     pub fn is_due(&self) -> bool
         ensures { result ≡ due (seat_of self.now) }
@@ -57,7 +57,7 @@ impl<'a> Cursor<'a> {
         self.aborts == MOST_ABORTS && self.next().is_some()
     }
 
-    /// Takes the effect of an answer to what the session asked.
+    /// Takes the effect of a reply to what the session asked.
     #[inline(always)]
     pub fn take(&mut self, effect: Effect)
         requires { self.old.aborts ≤ 3 }
@@ -71,7 +71,8 @@ impl<'a> Cursor<'a> {
         }
     }
 
-    /// How often the session was sent back, after an answer to a line that has this effect. The count starts anew where it got through, and where no further transaction may begin.
+    /// Returns how often the session was sent back, after a reply to a line that has this effect. The count starts anew if it got
+    /// through, or if no further transaction may begin.
     #[inline(always)]
     fn aborts_after(&self, effect: Effect) -> u8
         requires { self.now.aborts ≤ 3 }

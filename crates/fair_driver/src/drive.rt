@@ -20,10 +20,13 @@ use std::sync::ledger::Ledger;
 use teb_names::{Cell, Request, Session};
 use version_chain::Chains;
 
-/// Asks the sessions in turn, each along its script, until every script is worked through. The replies are added to
-/// the log, each with its session, and `steps` counts the requests: at most 12 for each session and each line and
-/// one more. After an `Err` the sessions have made some of their turns, and the log has the replies to those.
-/// Room is made first for an event a line, so that the list of events seldom moves as they come.
+/// Asks the sessions in turn, each along its script, until every script is done. The replies are added to the log, each with its
+/// session, and `steps` counts the requests: at most 12 times the number of sessions times the number of lines plus one.
+///
+/// First it makes room for one event a line, so that the list of events seldom moves.
+///
+/// # Errors
+/// Out of memory. The sessions have made some of their turns, and the log has the replies to those.
 #[inline(never)]
 pub fn turns<C: Chains, G: Log, L: Ledger>(
     alloc: Global,
@@ -51,8 +54,8 @@ pub fn turns<C: Chains, G: Log, L: Ledger>(
     Ok(())
 }
 
-/// How many lines the scripts have: so many events have room ahead in the list of events. No clause speaks of it,
-/// since `Engine::ready` makes what room is missing.
+/// Returns how many lines the scripts have. Room for this number of events is made ahead in the list of events. No clause speaks
+/// of it, since `Engine::ready` makes any room that is missing.
 fn lines_in(scripts: &Scripts) -> usize {
     let mut lines: usize = 0;
     for i in 0..scripts.len() {
@@ -61,8 +64,8 @@ fn lines_in(scripts: &Scripts) -> usize {
     lines
 }
 
-/// Asks the session whose turn it is, and logs the reply. False if every session has finished. An `Err` leaves the history
-/// and what the log tells as they were.
+/// Asks the session whose turn it is, and logs the reply. Returns false if every session is done. An error leaves the history and
+/// what the log tells as they were.
 #[inline(always)]
 fn make_turn<C: Chains, G: Log>(
     engine: &mut Engine<C>,
@@ -97,8 +100,8 @@ fn make_turn<C: Chains, G: Log>(
     Ok(true)
 }
 
-/// Asks a scan for the session whose turn it is, and logs the reply: out of line, since scans are rare and their reply
-/// is long.
+/// Asks a scan for the session whose turn it is, and logs the reply. It is out of line, since scans are rare and their reply is
+/// long.
 #[inline(never)]
 fn ask_scan<C: Chains, G: Log>(
     engine: &mut Engine<C>,

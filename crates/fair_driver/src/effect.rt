@@ -1,4 +1,4 @@
-//! What an answer does to the session that asked it: how it goes on, and whether no further transaction may begin.
+//! What a reply does to the session that asked: how it goes on, and whether no further transaction may begin.
 
 ghost use Rattle.short_reply.specs.ShortReplies.{full_reply};
 ghost use Rattle.fair_driver.specs.Effects.{IsEffect};
@@ -7,17 +7,17 @@ use script_walk::{Advance, advance_after_short};
 use short_reply::ShortReply;
 use teb_names::{Refusal, Reply};
 
-/// What an answer does to the session that asked it.
+/// What a reply does to the session that asked.
 #[derive(Clone, Copy)]
 pub struct Effect {
     /// How it goes on along its script.
     pub advance: Advance,
-    /// Whether it was refused since no further transaction may begin.
+    /// True if it was refused because no further transaction may begin.
     pub is_full: bool,
 }
 
 impl Effect {
-    /// The effect of an answer without the values of a scan.
+    /// Returns the effect of a reply without the values of a scan.
     #[inline(always)]
     pub fn of(reply: &ShortReply) -> Effect
         ensures { IsEffect result (full_reply reply.now) }
@@ -28,7 +28,7 @@ impl Effect {
         }
     }
 
-    /// The effect of an answer. By the values of a scan the session goes on to its next line.
+    /// Returns the effect of a reply. After the values of a scan the session goes on to its next line.
     #[inline(always)]
     pub fn of_full(reply: &Reply) -> Effect
         ensures { IsEffect result reply.now }

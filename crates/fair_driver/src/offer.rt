@@ -1,4 +1,4 @@
-//! Who may ask.
+//! Which session may ask.
 
 ghost use Rattle.std.specs.Prelude.{◌≡◌, not, leb, ◌||◌, option_map};
 ghost use Rattle.std.specs.List.{list_any, list_all};
@@ -10,8 +10,8 @@ use crate::quiet::is_quiet;
 use teb_history::History;
 use teb_names::{Request, Session};
 
-/// What one of the sessions may ask now. `None` where it is through, or would begin a transaction while it may not. `has_due` says whether
-/// some session is to run alone; where none is, the others are not looked at.
+/// Returns what a session may ask now, or `None` if it is done, or would begin a transaction and may not. `has_due` says whether
+/// some session is to run alone; if not, the other sessions are not looked at.
 #[inline(always)]
 pub fn offer<'a>(
     history: &History,
@@ -40,7 +40,8 @@ fn is_begin(request: &Request) -> bool
     matches!(request, Request::Begin(_))
 }
 
-/// Whether a session may begin a transaction: nobody is to run alone, or it is the chosen one and nobody is at work.
+/// Returns whether a session may begin a transaction: no session is to run alone, or it is the chosen one and no transaction is
+/// unfinished.
 #[inline(always)]
 fn may_begin(history: &History, cursors: &[Cursor<'_>], has_due: bool, cursor: &Cursor<'_>) -> bool
     requires { has_due ≡ list_any (λ c. due (seat_of c)) cursors.now }
@@ -49,7 +50,7 @@ fn may_begin(history: &History, cursors: &[Cursor<'_>], has_due: bool, cursor: &
     !has_due || is_chosen(cursors, cursor) && is_quiet(history)
 }
 
-/// Whether some session is to run alone.
+/// Returns whether some session is to run alone.
 #[inline(never)]
 pub fn is_any_due(cursors: &[Cursor<'_>]) -> bool
     ensures { result ≡ list_any (λ c. due (seat_of c)) cursors.now }
@@ -57,7 +58,7 @@ pub fn is_any_due(cursors: &[Cursor<'_>]) -> bool
     cursors.iter().any(|c| c.is_due())
 }
 
-/// Whether a session is the least-numbered of those that are to run alone.
+/// Returns whether a session is the lowest-numbered of those that are to run alone.
 #[inline(never)]
 fn is_chosen(cursors: &[Cursor<'_>], cursor: &Cursor<'_>) -> bool
     ensures { result ≡ chosen (seats_in cursors.now) (seat_of cursor.now) }
@@ -65,7 +66,7 @@ fn is_chosen(cursors: &[Cursor<'_>], cursor: &Cursor<'_>) -> bool
     cursor.is_due() && is_least_due(cursors, cursor.session)
 }
 
-/// Whether no session of smaller number is to run alone.
+/// Returns whether no session with a lower number is to run alone.
 fn is_least_due(cursors: &[Cursor<'_>], session: Session) -> bool
     ensures { result ≡ list_all (λ c. not (due (seat_of c)) || leb session.0 c.session.0) cursors.now }
 {

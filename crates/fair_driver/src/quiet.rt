@@ -1,4 +1,4 @@
-//! Whether nobody is at work.
+//! Whether no transaction is unfinished.
 
 ghost use Rattle.std.specs.Prelude.{◌≡◌, ◌&&◌};
 ghost use Rattle.std.specs.List.{list_any};
@@ -9,7 +9,7 @@ ghost use Rattle.teb_rules.specs.Alone.{is_quiet};
 use teb_history::History;
 use teb_names::Txn;
 
-/// Whether no transaction is unfinished. It costs what the live transactions are.
+/// Returns whether no transaction is unfinished. Its cost grows with the number of live transactions.
 #[inline(never)]
 pub fn is_quiet(history: &History) -> bool
     ensures { result ≡ is_quiet history.now.events }
@@ -23,7 +23,7 @@ fn is_any_at_work(history: &History) -> bool
     history.live().iter().any(|t| is_at_work(history, *t))
 }
 
-/// Whether t is one of the numbers of those that have begun, and is unfinished.
+/// Returns whether t has begun and is unfinished.
 fn is_at_work(history: &History, t: Txn) -> bool
     ensures { result ≡ (is_numbered history.now.events t && unfinished history.now.events t.0) }
 {

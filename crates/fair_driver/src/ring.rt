@@ -13,13 +13,13 @@ use std::alloc::{AllocError, Global};
 use teb_history::History;
 use teb_names::{Request, Session};
 
-/// The sessions, in ascending number. The turn goes round.
+/// The sessions, in ascending number. The turn goes around.
 #[derive(Drop)]
 pub struct Ring<'a> {
     cursors: Vec<Cursor<'a>>,
     // The index of the session that is looked at next.
     next: usize,
-    // Whether some session is to run alone.
+    // True if some session is to run alone.
     has_due: bool,
     ghost within: { next ≤ vec_len cursors },
     ghost told: { has_due ≡ list_any (λ c. due (seat_of c)) cursors.items },
@@ -42,7 +42,7 @@ impl<'a> Ring<'a> {
     ghost use Rattle.fair_driver.specs.Effects.{IsEffect};
     ghost use Rattle.teb_names.specs.declared.Reply.{Reply};
 
-    /// Each session at the first line of its script. The least-numbered is looked at first.
+    /// Each session at the first line of its script. The lowest-numbered is looked at first.
     pub fn new(alloc: Global, scripts: &'a Scripts) -> Result<Ring<'a>, AllocError>
         ensures { IfOk result (λ r. round_of r ≡ seated (scripts_on scripts.now)) }
     {
@@ -59,7 +59,7 @@ impl<'a> Ring<'a> {
         })
     }
 
-    /// Whose turn it is: the first session that may ask. `None` if every session has finished.
+    /// Returns the first session that may ask. `None` if every session is done.
     #[inline(always)]
     pub fn turn(&self, history: &History) -> Option<Asked<'a>>
         ensures { IsTurn history.now.events self.now.next (seats_in self.now.cursors.items) result }
@@ -70,7 +70,7 @@ impl<'a> Ring<'a> {
         self.first(history, 0, self.next)
     }
 
-    /// The first from one place up to another that may ask.
+    /// Returns the first session that may ask, from one place up to another.
     #[inline(always)]
     fn first(&self, history: &History, from: usize, end: usize) -> Option<Asked<'a>>
         requires { end ≤ vec_len self.now.cursors }
@@ -90,8 +90,8 @@ impl<'a> Ring<'a> {
         None
     }
 
-    /// Takes the effect of an answer to what a session asked. The turn goes to the session behind it. The others are looked at only where that session is to
-    /// run alone from now on, or no longer.
+    /// Takes the effect of a reply to what a session asked. The turn goes to the next session. The others are looked at only if
+    /// whether this session is to run alone has changed.
     #[inline(always)]
     pub fn take(&mut self, index: usize, effect: Effect)
         requires within { index < vec_len self.old.cursors }

@@ -1,4 +1,4 @@
-//! What a file holds after commits, whole or cut.
+//! What a file has after commits, whole or cut.
 
 use commit_journal::{Durable, recover};
 use engine_core::Engine;
@@ -16,13 +16,13 @@ const CELL: Cell = Cell {
     key: 1,
 };
 
-/// How many bytes a record of one change has, with its gate.
+/// How many bytes a record of one change has, with its gate byte.
 const RECORD: usize = 19;
 
-/// How many bytes two of them have.
+/// How many bytes two such records have.
 const TWO_RECORDS: usize = 38;
 
-/// Writes each value in a transaction of its own.
+/// Writes each value in a separate transaction.
 fn write_values(alloc: Global, disk: FileDisk, values: &[i64]) -> Result<(), Fail> {
     let setup = read_tree(alloc, &[])?;
     let engine = Engine::new(alloc, setup, PlainChains::new(alloc))?;
@@ -41,7 +41,7 @@ fn write_values(alloc: Global, disk: FileDisk, values: &[i64]) -> Result<(), Fai
     Ok(())
 }
 
-/// How many commits a file has and which value they leave, or what is wrong with its bytes.
+/// Returns how many commits a file has and which value they leave, or what is wrong with its bytes.
 fn read_value(
     rt: &HostRuntime,
     alloc: Global,
@@ -63,7 +63,7 @@ fn a_cut_file_has_the_first_commits(rt: HostRuntime) -> Result<(), Fail> {
     write_values(alloc, FileDisk::open(&rt, alloc, path)?, &[5, 6])?;
     let mut bytes = fs::read(&rt, path)?;
     assert_eq!(rt; bytes.len(), TWO_RECORDS + 1);
-    // A record is read whole, or the cut in it is told.
+    // A record is read whole, or the cut in it is reported.
     for len in 0..=TWO_RECORDS + 1 {
         fs::write(&rt, path, &bytes[..len])?;
         let want = match len {
@@ -76,7 +76,7 @@ fn a_cut_file_has_the_first_commits(rt: HostRuntime) -> Result<(), Fail> {
         };
         assert_eq!(rt; read_value(&rt, alloc, path)?, want, "cut at {len}");
     }
-    // The second record is not there as long as its gate is closed.
+    // The second record does not count while its gate byte is closed.
     bytes[RECORD] = 0;
     for len in RECORD..=TWO_RECORDS + 1 {
         fs::write(&rt, path, &bytes[..len])?;

@@ -41,7 +41,7 @@ fn a_file_keeps_what_was_synced(rt: HostRuntime) -> Result<(), Fail> {
     Ok(())
 }
 
-/// Writes 300 pages in a row over each other, a megabyte from the front, and makes them safe.
+/// Writes 300 pages at the same place, a megabyte from the front, and syncs.
 fn write_pages(disk: &mut FileDisk, byte: u8) -> Result<(), Failed>
     requires room { 1052672 ≤ ⟦<FileDisk as Disk>⟧.capacity disk.old }
     ensures capacity { ⟦<FileDisk as Disk>⟧.capacity disk.new ≡ ⟦<FileDisk as Disk>⟧.capacity disk.old }

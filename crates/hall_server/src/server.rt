@@ -23,14 +23,14 @@ pub trait Server {
 
     ghost events: { Self → List Event };
 
-    /// The replies of which it may be unsure.
+    /// The replies of which the server may be unsure.
     ghost unsure: { TheReply → Type 0 };
 
     /// Answers a request.
     ///
     /// # Errors
-    /// `Unasked` leaves the store, the names and the history as they were. `Unsure` has the reply that is not certain to be kept: the
-    /// history has the request.
+    /// `Unasked` leaves the store, the names and the history unchanged. `Unsure` has a reply that may be lost: the history has
+    /// the request.
     fn serve(&mut self, alloc: Global, session: Session, request: Request) -> Result<Reply, Failure>
         ensures reply { IsToldBy (told result) (answer (store self.old) (events self.old) session request).0 }
         ensures events { events self.new ≡ events_after (told result) (events self.old) (answer (store self.old) (events self.old) session request).1 }
@@ -38,7 +38,7 @@ pub trait Server {
         ensures names { names self.new ≡ names self.old }
         ensures unsure { (r : TheReply) → IsErrOf result (failures.Unsure r) → unsure r };
 
-    /// What has happened so far: a history that the rules lead to.
+    /// Returns the history so far, to which the rules lead.
     fn history(&self) -> &History
         ensures events { result.now.events ≡ events self.now }
         ensures lawful { Lawful (store self.now).setup (events self.now) };

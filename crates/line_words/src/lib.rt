@@ -74,7 +74,7 @@ pub fn put_word(out: &mut Vec<u8>, word: &Word) -> Result<(), AllocError>
     }
 }
 
-/// Returns the name with this number; an empty text if there is none.
+/// Returns the name with this number, or an empty text if there is none.
 pub fn name_at(names: &Names, number: u8) -> &str
     ensures { result.now ≡ name_of names.now number }
 {

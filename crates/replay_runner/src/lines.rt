@@ -16,8 +16,8 @@ use version_chain::Chains;
 /// How many lines are copied together.
 const NEAR: usize = 64;
 
-/// Asks each line, and logs the replies. Room is made first for an event a line, so that the list of events need not move as they come. Scans
-/// come to more: `Engine::ready` makes what room is missing, and no clause speaks of it.
+/// Asks each line, and logs the replies. First it makes room for one event a line, so that the list of events need not move.
+/// Scans add more events than that: `Engine::ready` makes any room that is missing, and no clause speaks of it.
 pub fn ask_lines<C: Chains, L: Log>(
     engine: &mut Engine<C>,
     lines: &[Line],
@@ -40,8 +40,8 @@ pub fn ask_lines<C: Chains, L: Log>(
     Ok(())
 }
 
-/// Asks each of at most `NEAR` lines, and logs the replies. It copies them to `near` first: a request goes far through memory, so that
-/// between two requests the next line of a long list would have to be waited for.
+/// Asks each of at most `NEAR` lines, and logs the replies. It copies them to `near` first: serving a request evicts the next
+/// line of a long list from the cache.
 fn ask_piece<C: Chains, L: Log>(
     engine: &mut Engine<C>,
     near: &mut [Line; NEAR],
@@ -103,7 +103,7 @@ pub fn ask<C: Chains, L: Log>(
     Ok(())
 }
 
-/// Asks a scan, and logs the reply: out of line, since scans are rare and their reply is long.
+/// Asks a scan, and logs the reply. It is out of line, since scans are rare and their reply is long.
 #[inline(never)]
 fn ask_scan<C: Chains, L: Log>(
     engine: &mut Engine<C>,

@@ -13,8 +13,11 @@ use script_text::Line;
 use std::alloc::{AllocError, Global};
 use version_chain::Chains;
 
-/// Asks each line once, in order, and then End for each session that holds a transaction, in ascending number. The
-/// replies are added to the log, each with its session. After an `Err` some of the lines have been asked.
+/// Asks each line once, in order, and then End for each session that holds a transaction, in ascending number. The replies are
+/// added to the log, each with its session.
+///
+/// # Errors
+/// Out of memory. Some of the lines have been asked.
 #[tactic(auto, using(crate::proofs::Logged::history_append, crate::proofs::Logged::log_append))]
 pub fn replay<C: Chains, L: Log>(
     alloc: Global,

@@ -8,15 +8,15 @@ use thiserror::Error;
 /// Why a line is bad.
 #[derive(Clone, Copy, Debug, PartialEq, Eq)]
 pub enum LineWhy {
-    /// The first word is no session, 1 to `SESSIONS`.
+    /// The first word is not a session, 1 to `SESSIONS`.
     Session,
-    /// The second word is none of the verbs, or there is none.
+    /// The second word is not a verb, or there is none.
     Verb,
-    /// The verb has another number of words behind it.
+    /// The wrong number of words follows the verb.
     Count,
-    /// A word is no name.
+    /// A word is not a name.
     Name,
-    /// A word is no number in its range.
+    /// A word is not a number in its range.
     Number,
 }
 

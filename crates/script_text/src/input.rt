@@ -5,14 +5,14 @@ ghost use Rattle.script_text.specs.Input.{is_separator, parts_of};
 
 use super::script::lines::{after_line, line_len, without_return};
 
-/// How many bytes an input has at most. The audit reads no more of a printed run.
+/// The most bytes of an input, and of a printed run that `audit` reads.
 pub const MOST_BYTES: usize = 4_194_304;
 
-/// How many lines an input has at most behind its first separator.
+/// The most lines of an input after its first separator.
 pub const MOST_LINES: usize = 65_536;
 
-/// The bytes before the first line that is exactly `%%`, and the bytes after its line feed. `None` where there
-/// is no such line.
+/// Returns the bytes before the first line that is exactly `%%`, and the bytes after its line feed. `None` if there is no such
+/// line.
 pub fn split_input(bytes: &[u8]) -> Option<(&[u8], &[u8])>
     ensures { option_map (λ p. (p.0.now, p.1.now)) result ≡ parts_of bytes.now }
 {

@@ -51,7 +51,7 @@ pub use text::{put_event, put_recovered, put_reply, put_report, put_short_reply,
 /// A line that asks something.
 #[derive(Clone, Copy, Debug, PartialEq, Eq)]
 pub struct Line {
-    /// Its place among all lines of the script, from 1.
+    /// Its number among all lines of the script, from 1.
     pub number: u32,
     pub session: Session,
     pub request: Request,

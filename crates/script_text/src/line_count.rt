@@ -6,17 +6,17 @@ ghost use Rattle.script_text.specs.Lines.{is_feed, lines_of};
 
 use crate::script::lines::Lines;
 
-/// How many bytes are looked at together. The count of so many fits a byte, and bytes are added many at a time.
+/// How many bytes are looked at together. Their count fits a byte, and bytes are added many at a time.
 const PIECE: usize = 224;
 
-/// Whether a script has more than so many lines. They are looked at one by one only where there are so many line feeds.
+/// Returns whether a script has more than `most` lines. They are counted one by one only if it has that many line feeds.
 pub fn has_more_lines(script: &[u8], most: usize) -> bool
     ensures { result ≡ nat_lt most (length (lines_of script.now)) }
 {
     count_feeds(script) >= most && count_lines(script) > most
 }
 
-/// How many lines a script has. A last line without a line feed counts only where it is not empty.
+/// Returns how many lines a script has. A last line without a line feed is ignored if it is empty.
 fn count_lines(script: &[u8]) -> usize
     ensures { result ≡ length (lines_of script.now) }
 {

@@ -21,13 +21,16 @@ pub use numbers::number;
 use std::alloc::{AllocError, Global};
 use teb_names::NameBook;
 
-/// A usual length of a short line in bytes. Room is made at once for as many lines as fit a script at this length.
+/// A usual length of a short line in bytes. Room is made at once for the number of lines that fit a script at this length.
 const USUAL_LEN: usize = 12;
 
-/// The lines of a script that ask something, in order. `format` is that of the tree: from 2 on `begin` may
-/// have an instance, from 3 on there are `delete` and `scan`. A name that the tree does not have becomes the
-/// number 255. The lines are of sessions 1 to `SESSIONS`. `BadLine` names the first bad line by its number, from 1, and the first of its faults in the
-/// order of `LineWhy`, name and number from left to right.
+/// Returns the lines of a script that ask something, in order. `format` is that of the tree: from 2 on `begin` may have an
+/// instance, from 3 on there are `delete` and `scan`. A name that the tree does not have becomes the number 255. The lines are of
+/// sessions 1 to `SESSIONS`.
+///
+/// # Errors
+/// `BadLine` names the first bad line by its number, from 1, and the first of its faults in the order of `LineWhy`, with names
+/// and numbers from left to right.
 pub fn parse_script(
     alloc: Global,
     script: &[u8],

@@ -9,8 +9,8 @@ use std::alloc::{AllocError, Global};
 use std::marker::Model;
 use teb_names::Session;
 
-/// The script of each session that has one, in ascending number of the sessions. Contracts see a list of
-/// sessions, each with its lines.
+/// The script of each session that has one, in ascending order of the sessions. Contracts see a list of sessions, each with its
+/// lines.
 #[derive(Drop)]
 pub struct Scripts {
     sessions: Vec<Session>,
@@ -31,7 +31,7 @@ impl Model for Scripts {
 }
 
 impl Scripts {
-    /// How many sessions have a script.
+    /// Returns how many sessions have a script.
     pub fn len(&self) -> usize
         ensures { result ≡ length self.now }
     {
@@ -44,7 +44,7 @@ impl Scripts {
         self.sessions.is_empty()
     }
 
-    /// The session at a place, from 0.
+    /// Returns the session at a place, from 0.
     pub fn session(&self, i: usize) -> Session
         requires { i < length self.now }
         ensures { option_map (λ s. s.0) (slice_get self.now i) ≡ Some result }
@@ -52,7 +52,7 @@ impl Scripts {
         self.sessions[i]
     }
 
-    /// The script of the session at a place, from 0.
+    /// Returns the script of the session at a place, from 0.
     pub fn lines(&self, i: usize) -> &[Line]
         requires { i < length self.now }
         ensures { option_map (λ s. s.1) (slice_get self.now i) ≡ Some result.now }
@@ -61,7 +61,7 @@ impl Scripts {
     }
 }
 
-/// The script of each session that has a line, with its lines in order.
+/// Returns the script of each session that has a line, with its lines in order.
 pub fn scripts_of(alloc: Global, lines: &[Line]) -> Result<Scripts, AllocError>
     ensures { IfOk result (λ scripts. scripts ≡ scripts_of lines.now) }
 {
@@ -70,7 +70,7 @@ pub fn scripts_of(alloc: Global, lines: &[Line]) -> Result<Scripts, AllocError>
     Ok(Scripts { sessions, lists })
 }
 
-/// The lines of each session number. Each list is made with room for all its lines, so that none of them is moved.
+/// Returns the lines of each session number. Each list is made with room for all its lines, so it does not move.
 fn lists_of(alloc: Global, lines: &[Line]) -> Result<Vec<Vec<Line>>, AllocError>
     ensures lists { IfOk result (λ v. lists_in v.items ≡ map (lines_for lines.now) session_numbers) }
     ensures len { IfOk result (λ v. vec_len v ≡ 256) }
@@ -82,7 +82,7 @@ fn lists_of(alloc: Global, lines: &[Line]) -> Result<Vec<Vec<Line>>, AllocError>
     Ok(lists)
 }
 
-/// How many lines each session number has.
+/// Returns how many lines each session number has.
 fn counts_of(lines: &[Line]) -> [usize; 256] {
     let mut counts = [0; 256];
     for line in lines {
@@ -91,7 +91,7 @@ fn counts_of(lines: &[Line]) -> [usize; 256] {
     counts
 }
 
-/// An empty list for each session number, with room for as many lines as are counted.
+/// Returns an empty list for each session number, with room for the counted lines.
 fn empty_lists(alloc: Global, counts: &[usize; 256]) -> Result<Vec<Vec<Line>>, AllocError>
     ensures lists { IfOk result (λ v. lists_in v.items ≡ replicate 256 []) }
     ensures len { IfOk result (λ v. vec_len v ≡ 256) }
@@ -112,7 +112,7 @@ fn add_line(lists: &mut Vec<Vec<Line>>, line: Line) -> Result<(), AllocError>
     Ok(())
 }
 
-/// Where the list of a session stands.
+/// Returns the index of the list of a session.
 fn place(session: Session) -> usize
     ensures place { result ≡ session.0 }
     ensures within { result < 256 }
@@ -120,7 +120,7 @@ fn place(session: Session) -> usize
     usize::from(session.0)
 }
 
-/// The sessions whose list is not empty.
+/// Returns the sessions whose list is not empty.
 fn sessions_in(alloc: Global, lists: &[Vec<Line>]) -> Result<Vec<Session>, AllocError>
     requires { length lists.now ≡ 256 }
     ensures { IfOk result (λ v. v.items ≡ filter (has_list (lists_in lists.now)) (map session session_numbers)) }

@@ -1,4 +1,4 @@
-//! What an answer does to the session that asked.
+//! What a reply does to the session that asked.
 
 ghost use Rattle.std.specs.Prelude.{◌≡◌};
 ghost use Rattle.teb_rules.specs.Scripts.{move_of, move_by};
@@ -8,22 +8,22 @@ ghost use Rattle.script_walk.specs.Advances.{move_at};
 use short_reply::ShortReply;
 use teb_names::{Cause, Reply};
 
-/// How a session goes on along its script after an answer.
+/// How a session goes on along its script after a reply.
 #[derive(Clone, Copy)]
 pub enum Advance {
     /// It asks the same line again.
     Stay,
     /// It holds the transaction that its line began, and goes to the next line.
     Enter,
-    /// It holds nothing any more, and goes to the next line.
+    /// It holds no transaction any more, and goes to the next line.
     Leave,
-    /// It holds nothing any more, and goes back to the line that began its transaction.
+    /// It holds no transaction any more, and goes back to the line that began it.
     Return,
     /// It goes to the next line.
     Go,
 }
 
-/// How a session goes on after an answer to a line.
+/// Returns how a session goes on after a reply to a line.
 #[inline(always)]
 pub fn advance_after(reply: &Reply) -> Advance
     ensures { move_at result ≡ move_of reply.now }
@@ -34,7 +34,7 @@ pub fn advance_after(reply: &Reply) -> Advance
     }
 }
 
-/// How a session goes on after an answer that has no values of a scan.
+/// Returns how a session goes on after a reply without the values of a scan.
 #[inline(always)]
 pub fn advance_after_short(reply: &ShortReply) -> Advance
     ensures { move_at result ≡ move_of (full_reply reply.now) }
@@ -50,7 +50,7 @@ pub fn advance_after_short(reply: &ShortReply) -> Advance
     }
 }
 
-/// How a session goes on after an abort: one that the session asked for itself sends it nowhere.
+/// Returns how a session goes on after an abort. One that the session asked for does not send it back.
 #[inline(always)]
 fn advance_by(cause: &Cause) -> Advance
     ensures { move_at result ≡ move_by cause.now }

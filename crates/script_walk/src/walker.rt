@@ -1,4 +1,4 @@
-//! Where a session stands in its script.
+//! The place of a session in its script.
 
 ghost use Rattle.std.specs.Prelude.{◌≡◌, ◌+◌, ◌<◌, ◌^◌, List, length, option_map};
 ghost use Rattle.teb_rules.specs.Scripts.{asks, after_answer, at_first, moved};
@@ -10,24 +10,24 @@ use crate::advance::{Advance, advance_after};
 use script_text::Line;
 use teb_names::{Reply, Request};
 
-/// Where a session stands in its script.
+/// The place of a session in its script.
 #[derive(Clone, Copy, Debug, PartialEq, Eq)]
 pub struct Walker {
-    /// The place of its line, from 0, or the number of lines where it has passed the last.
+    /// The index of its line, or the number of lines if it has passed the last.
     pub at: usize,
-    /// The place of the line that was answered Begun for the transaction that it holds.
+    /// The index of the line that was answered Begun for the transaction that it holds.
     pub begun: Option<usize>,
 }
 
 impl Walker {
-    /// A session at its first line.
+    /// Returns a session at its first line.
     pub fn new() -> Walker
         ensures { (lines : List Line) → state_of lines result ≡ at_first (requests_on lines) }
     {
         Walker { at: 0, begun: None }
     }
 
-    /// What the session asks next: its line, or behind its last line End where it holds a transaction.
+    /// Returns what the session asks next: its line, or after its last line End if it holds a transaction.
     #[inline(always)]
     pub fn next<'a>(&self, lines: &'a [Line]) -> Option<&'a Request>
         ensures { option_map (λ r. r.now) result ≡ asks (state_of lines.now self.now) }
@@ -41,7 +41,7 @@ impl Walker {
         }
     }
 
-    /// Takes an answer to what the session asked.
+    /// Takes a reply to what the session asked.
     #[inline(always)]
     pub fn take(&mut self, lines: &[Line], reply: &Reply)
         ensures { state_of lines.now self.new ≡ after_answer (state_of lines.now self.old) reply.now }
@@ -53,7 +53,7 @@ impl Walker {
         self.go(advance_after(reply));
     }
 
-    /// Goes on from a line as an answer to it says.
+    /// Goes on from a line as a reply to it says.
     #[inline(always)]
     pub fn go(&mut self, advance: Advance)
         requires { self.old.at + 1 < 2 ^ 64 }

@@ -1,4 +1,4 @@
-//! The lines of a text, each as far as its words go.
+//! The lines of a text, each up to the end of its words.
 
 ghost use Rattle.std.specs.Prelude.{◌≡◌, ◌+◌, ◌<◌, ◌≤◌, IfSome, drop, length, map, take};
 ghost use Rattle.std.specs.Iterator.{item_count};
@@ -16,15 +16,15 @@ use std::simd::prelude::*;
 /// How many bytes are looked at together.
 const LANES: usize = 32;
 
-/// A line, as far as its words go.
+/// A line, up to the end of its words.
 #[derive(Clone, Copy)]
 pub struct Front<'a> {
     pub line: &'a [u8],
-    /// Where it has at most 32 bytes: which of them are neither spaces nor tabs, a bit for each, the lowest for the first.
+    /// If the line has at most 32 bytes: which of them are neither spaces nor tabs, a bit for each, the lowest for the first.
     pub inside: Option<u64>,
 }
 
-/// The lines of a text, each with all its words. A line that has only spaces behind its first 32 bytes is cut there.
+/// The lines of a text, each with all its words. A line with only spaces after its first 32 bytes is cut there.
 #[derive(Clone, Copy)]
 pub struct Fronts<'a>(pub &'a [u8]);
 
@@ -62,7 +62,7 @@ impl<'a> Iterator for Fronts<'a> {
     }
 }
 
-/// The front of the first line, and the length of the line, where it is short, or padded with spaces.
+/// Returns the front of the first line, and the length of the line, if it is short or padded with spaces.
 fn near_front(text: &[u8]) -> Option<(Front, usize)>
     ensures end { IfSome result (λ p. p.1 ≡ position_or_len is_feed text.now) }
     ensures within { IfSome result (λ p. p.1 < length text.now) }
@@ -84,7 +84,7 @@ fn near_front(text: &[u8]) -> Option<(Front, usize)>
     }
 }
 
-/// A line of at most 32 bytes that stands at the front of a text, with its mask.
+/// Returns a line of at most 32 bytes at the front of a text, with its mask.
 fn with_mask<'a>(text: &'a [u8], line: &'a [u8]) -> Front<'a>
     requires long { 32 ≤ length text.now }
     requires short { length line.now ≤ 32 }
@@ -99,7 +99,7 @@ fn with_mask<'a>(text: &'a [u8], line: &'a [u8]) -> Front<'a>
     }
 }
 
-/// The length of the first line, where it has a line feed, and spaces alone behind its first 32 bytes, one at least.
+/// Returns the length of the first line, if it has a line feed, and at least one space and nothing else after its first 32 bytes.
 fn padded_len(text: &[u8]) -> Option<usize>
     requires long { 32 ≤ length text.now }
     requires feeds { mask_l (map is_feed (take 32 text.now)) ≡ 0 }
@@ -116,7 +116,7 @@ fn padded_len(text: &[u8]) -> Option<usize>
     }
 }
 
-/// The place of the first byte that is no space, behind the first 32 bytes. `None` where it may be one of the last.
+/// Returns the place of the first byte after the first 32 that is not a space. `None` if it may be one of the last bytes.
 fn spaces_end(text: &[u8]) -> Option<usize>
     requires { 32 ≤ length text.now }
     ensures end { IfSome result (λ n. n ≡ 32 + position_or_len is_other (drop 32 text.now)) }
@@ -141,7 +141,7 @@ fn feeds_of(bytes: u8x32) -> u64
     bytes.simd_eq(u8x32::splat(b'\n')).to_bitmask()
 }
 
-/// Which of these bytes are no spaces.
+/// Which of these bytes are not spaces.
 #[inline(always)]
 fn others_of(bytes: u8x32) -> u64
     ensures { result ≡ mask_l (map is_other bytes) }

@@ -30,7 +30,7 @@ pub enum Verb {
     Scan,
 }
 
-/// What a line asks: nothing where it is blank or a comment. Its first words are left in `words`.
+/// Returns what a line asks: nothing if it is blank or a comment. Its first words are left in `words`.
 #[tactic(auto, using(crate::proofs::LineWords::line_of_first))]
 pub fn parse_line<'a>(
     names: &BookAtHand,

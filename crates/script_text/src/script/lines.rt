@@ -8,8 +8,8 @@ ghost use Rattle.script_text.specs.Lines.{is_feed, lines_of};
 
 use memchr::memchr;
 
-/// The lines of these bytes, each without its line feed and the one carriage return before it. A last
-/// line without a feed counts only where it is not empty.
+/// The lines of these bytes, each without its line feed and the one carriage return before it. A last line without a line feed is
+/// ignored if it is empty.
 #[derive(Clone, Copy)]
 pub struct Lines<'a>(pub &'a [u8]);
 
@@ -33,7 +33,7 @@ impl<'a> Iterator for Lines<'a> {
     }
 }
 
-/// The length of the first line, without its line feed.
+/// Returns the length of the first line, without its line feed.
 #[tactic(auto, using(crate::proofs::Places::unwrap_position, crate::proofs::Places::position_within))]
 pub fn line_len(text: &[u8]) -> usize
     ensures end { result ≡ position_or_len is_feed text.now }
@@ -49,7 +49,7 @@ fn first_feed(text: &[u8]) -> Option<usize>
     memchr(b'\n', text)
 }
 
-/// What follows the first line, of this length, and its line feed.
+/// Returns what follows the first line, of this length, and its line feed.
 pub fn after_line(text: &[u8], len: usize) -> &[u8]
     requires { len ≤ length text.now }
     ensures { result.now ≡ drop (len + 1) text.now }
@@ -61,7 +61,7 @@ pub fn after_line(text: &[u8], len: usize) -> &[u8]
     }
 }
 
-/// The line without the one carriage return at its end.
+/// Returns the line without the one carriage return at its end.
 pub fn without_return(line: &[u8]) -> &[u8]
     ensures { result.now ≡ strip_carriage_return line.now }
 {

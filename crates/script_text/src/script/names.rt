@@ -10,14 +10,14 @@ use crate::LineWhy;
 use std::marker::Model;
 use teb_names::{NameBook, Names, is_name};
 
-/// How many names of a list are at hand.
+/// How many names of a list are kept at hand.
 const FEW: usize = 4;
 
 /// The names of a list, the first of them at hand: most scripts name no others. Contracts see the names.
 #[derive(Drop)]
 pub struct NamesAtHand<'a> {
     all: &'a Names,
-    /// The first of them, up to one that no script can name, and then nothing.
+    /// The first of them, up to one that no script can name; the rest is empty.
     first: [&'a [u8]; 4],
 }
 
@@ -48,7 +48,7 @@ impl<'a> NamesAtHand<'a> {
         NamesAtHand { all, first }
     }
 
-    /// The number of a name, 255 where it is not there.
+    /// Returns the number of a name, or 255 if it is not in the list.
     #[inline(always)]
     #[tactic(auto, unfolding(crate::specs::Grammar::name_at))]
     pub fn number(&self, word: &[u8]) -> Result<u8, LineWhy>
@@ -64,7 +64,7 @@ impl<'a> NamesAtHand<'a> {
         self.later_number(word)
     }
 
-    /// The same, looked for among all names. A call of its own, so that one of the first names costs no more than it has to.
+    /// The same, searched among all names. It is a separate call, so that finding one of the first names stays cheap.
     #[inline(never)]
     #[tactic(auto, unfolding(crate::specs::Grammar::name_at))]
     fn later_number(&self, word: &[u8]) -> Result<u8, LineWhy>
@@ -111,7 +111,7 @@ impl<'a> BookAtHand<'a> {
     }
 }
 
-/// True only where two words are the same. They are short, so a loop costs less than a call.
+/// Returns whether two words are the same. They are short, so a loop costs less than a call.
 fn is_same(a: &[u8], b: &[u8]) -> bool
     ensures { IsTrue result → a.now ≡ b.now }
 {
@@ -126,7 +126,7 @@ fn is_same(a: &[u8], b: &[u8]) -> bool
     true
 }
 
-/// The word as a text, where it is a name.
+/// Returns the word as a text, if it is a name.
 fn name_text(word: &[u8]) -> Option<&str>
     ensures { MatchOption result (is_name word.now ≡ false) (λ s. (s.now ≡ word.now) × (is_name word.now ≡ true)) }
 {

@@ -6,7 +6,7 @@ ghost use Rattle.std.specs.Str.{all_ascii_digits};
 ghost use Rattle.std.specs.Str.Parse.{digits_value};
 ghost use Rattle.script_text.specs.Numbers.{number_upto, integer_of};
 
-/// The value of one to twenty digits, which is at most `most`.
+/// Returns the value of one to twenty digits, if it is at most `most`.
 #[inline(always)]
 #[tactic(auto, unfolding(crate::specs::Numbers::number_upto))]
 pub fn number(word: &[u8], most: u64) -> Option<u64>
@@ -24,7 +24,7 @@ pub fn number(word: &[u8], most: u64) -> Option<u64>
     }
 }
 
-/// The same of twenty bytes or more. A call of its own, since few words are so long.
+/// The same for twenty bytes or more. It is a separate call, since few words are that long.
 #[inline(never)]
 #[tactic(auto, unfolding(crate::specs::Numbers::number_upto))]
 fn long_number(word: &[u8], most: u64) -> Option<u64>
@@ -39,7 +39,7 @@ fn long_number(word: &[u8], most: u64) -> Option<u64>
     if value <= most { Some(value) } else { None }
 }
 
-/// The same in a byte, quick where there are one or two digits.
+/// The same for a byte, fast for one or two digits.
 #[tactic(auto, unfolding(crate::specs::Numbers::number_upto))]
 pub fn small_number(word: &[u8], most: u8) -> Option<u8>
     ensures { result ≡ number_upto most word.now }
@@ -53,7 +53,7 @@ pub fn small_number(word: &[u8], most: u8) -> Option<u8>
     }
 }
 
-/// The value of one or two digits. `None` where there is anything else.
+/// Returns the value of one or two digits. `None` for anything else.
 fn few_digits(word: &[u8]) -> Option<u8>
     ensures { IfSome result (λ n. IsTrue (all_ascii_digits word.now) × (n ≡ digits_value 10 word.now) × (0 < length word.now) × (length word.now ≤ 2)) }
 {
@@ -66,7 +66,7 @@ fn few_digits(word: &[u8]) -> Option<u8>
     }
 }
 
-/// The value of one to twenty digits with one `-` before them or none, in 64 bits.
+/// Returns the value of one to twenty digits, after at most one `-`, in 64 bits.
 #[inline(always)]
 #[tactic(auto, unfolding(crate::specs::Numbers::integer_of))]
 pub fn integer(word: &[u8]) -> Option<i64>
@@ -82,7 +82,7 @@ pub fn integer(word: &[u8]) -> Option<i64>
     }
 }
 
-/// What stands behind a `-`, below zero. A call of its own, since few numbers have one.
+/// Returns the negative value of the digits after a `-`. It is a separate call, since few numbers have one.
 #[inline(never)]
 fn negative_of(digits: &[u8]) -> Option<i64>
     ensures { result ≡ option_map (λ n. neg_ℤ (pos n)) (number_upto (2 ^ 63) digits.now) }
@@ -93,7 +93,7 @@ fn negative_of(digits: &[u8]) -> Option<i64>
     }
 }
 
-/// The value of fewer than twenty digits, which has 64 bits. `None` where there is anything else.
+/// Returns the value of fewer than twenty digits, which fits 64 bits. `None` for anything else.
 fn short_value_of(word: &[u8]) -> Option<u64>
     requires { length word.now < 20 }
     ensures { MatchOption result
@@ -107,7 +107,7 @@ fn short_value_of(word: &[u8]) -> Option<u64>
     Some(total)
 }
 
-/// The value of a digit.
+/// Returns the value of a digit.
 #[inline(always)]
 fn digit_of(b: u8) -> Option<u64>
     ensures { MatchOption result (is_ascii_digit b ≡ false) (λ d. IsTrue (is_ascii_digit b) × (d ≡ digit_value b) × (d ≤ 9)) }
@@ -116,7 +116,7 @@ fn digit_of(b: u8) -> Option<u64>
     if digit <= 9 { Some(digit) } else { None }
 }
 
-/// The value of these digits, where there are only digits and it has 64 bits.
+/// Returns the value of these bytes, if all are digits and the value fits 64 bits.
 fn long_value_of(word: &[u8]) -> Option<u64>
     ensures { MatchOption result
         (IsTrue (all_ascii_digits word.now) → 2 ^ 64 ≤ digits_value 10 word.now)

@@ -1,4 +1,4 @@
-//! The verbs of a script, each told from other words. Each has a function of its own, which keeps the proofs short.
+//! The verbs of a script. Each has a separate function, which keeps the proofs short.
 
 ghost use Rattle.std.specs.Prelude.{◌≡◌, codes};
 ghost use Rattle.std.specs.Str.{bytes_eq};

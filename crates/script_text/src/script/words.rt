@@ -13,7 +13,7 @@ use std::simd::prelude::*;
 /// How many bytes are looked at together.
 const LANES: usize = 16;
 
-/// The words of a line, which stand between spaces and tabs.
+/// The words of a line, which spaces and tabs separate.
 #[derive(Clone, Copy)]
 pub struct Words<'a>(pub &'a [u8]);
 
@@ -32,8 +32,8 @@ impl<'a> Iterator for Words<'a> {
     }
 }
 
-/// Writes the first six words of a line, and tells how many of the six there are. No line that asks something has more
-/// than five.
+/// Writes the first six words of a line, and returns how many of the six there are. No line that asks something has more than
+/// five.
 pub fn first_words<'a>(front: &Front<'a>, words: &mut [&'a [u8]; 6]) -> usize
     requires { HasMask front.now }
     ensures words { nows (take result words.new) ≡ take 6 (words_of front.now.line.now) }
@@ -45,7 +45,7 @@ pub fn first_words<'a>(front: &Front<'a>, words: &mut [&'a [u8]; 6]) -> usize
     }
 }
 
-/// The same of a line of at most 32 bytes, by the mask of those that are neither spaces nor tabs.
+/// The same for a line of at most 32 bytes, by the mask of the bytes that are neither spaces nor tabs.
 fn near_words<'a>(line: &'a [u8], inside: u64, words: &mut [&'a [u8]; 6]) -> usize
     requires short { length line.now ≤ 32 }
     requires mask { inside ≡ mask_l (map is_inside line.now) }
@@ -69,7 +69,7 @@ fn near_words<'a>(line: &'a [u8], inside: u64, words: &mut [&'a [u8]; 6]) -> usi
     len
 }
 
-/// The same of any line.
+/// The same for any line.
 #[inline(never)]
 fn far_words<'a>(line: &'a [u8], words: &mut [&'a [u8]; 6]) -> usize
     ensures words { nows (take result words.new) ≡ take 6 (words_of line.now) }
@@ -92,14 +92,14 @@ fn is_blank(b: u8) -> bool
     b == b' ' || b == b'\t'
 }
 
-/// What is left behind the spaces and tabs at the front.
+/// Returns the text after its leading spaces and tabs.
 fn without_blanks(text: &[u8]) -> &[u8]
     ensures { result.now ≡ without_blanks text.now }
 {
     &text[blank_len(text)..]
 }
 
-/// How many spaces and tabs stand at the front.
+/// Returns how many spaces and tabs the text begins with.
 #[tactic(auto, using(crate::proofs::Places::unwrap_position, crate::proofs::Places::position_within))]
 fn blank_len(text: &[u8]) -> usize
     ensures end { result ≡ position_or_len is_inside text.now }
@@ -117,7 +117,7 @@ fn blank_len(text: &[u8]) -> usize
         }
         at += LANES;
     }
-    // The last bytes, some of which may have been looked at.
+    // The last bytes. Some of them may have been looked at before.
     let inside = inside_of_half(u8x16::from_slice(&text[last..]));
     if inside != 0 {
         return last + inside.trailing_zeros() as usize;
@@ -125,7 +125,7 @@ fn blank_len(text: &[u8]) -> usize
     text.len()
 }
 
-/// Which of these bytes are neither spaces nor tabs: a bit for each, the lowest for the first.
+/// Returns which of these bytes are neither spaces nor tabs: a bit for each, the lowest for the first.
 #[inline(always)]
 pub fn inside_of(bytes: u8x32) -> u64
     ensures { result ≡ mask_l (map is_inside bytes) }
@@ -133,7 +133,7 @@ pub fn inside_of(bytes: u8x32) -> u64
     (bytes.simd_ne(u8x32::splat(b' ')) & bytes.simd_ne(u8x32::splat(b'\t'))).to_bitmask()
 }
 
-/// The same of half as many bytes.
+/// The same for half as many bytes.
 #[inline(always)]
 fn inside_of_half(bytes: u8x16) -> u64
     ensures { result ≡ mask_l (map is_inside bytes) }
@@ -147,7 +147,7 @@ fn first_inside(text: &[u8]) -> Option<usize>
     text.iter().position(|b| !is_blank(*b))
 }
 
-/// The length of the word at the front.
+/// Returns the length of the word at the front.
 #[tactic(auto, using(crate::proofs::Places::unwrap_position, crate::proofs::Places::position_within))]
 fn word_len(text: &[u8]) -> usize
     ensures end { result ≡ position_or_len is_blank text.now }

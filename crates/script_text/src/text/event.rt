@@ -76,7 +76,7 @@ fn put_event_words(out: &mut Vec<u8>, names: &NameBook, event: Event) -> Result<
     }
 }
 
-// Appends the first two words of a line: what happened, and whose event it is.
+// Appends the first two words of a line: what happened, and the transaction.
 fn put_first_words(out: &mut Vec<u8>, what: &str, txn: Txn) -> Result<(), AllocError>
     ensures { Puts out.old.items (what.now ++ spaced (txn_text txn ∷ [])) out.new.items result }
 {

@@ -77,7 +77,7 @@ fn put_answered(
     out.extend_from_slice(line.as_bytes())
 }
 
-// Puts the words of a reply, each behind a space, and a line feed. False where they may not fit.
+// Puts the words of a reply, each after a space, and a line feed. Returns false if they may not fit.
 fn put_short(line: &mut Tail<72>, names: &NameBook, reply: &ShortReply) -> bool
     requires empty { line.old ≡ [] }
     requires named { ReplyNamed names.now (full_reply reply.now) }
@@ -111,7 +111,7 @@ fn put_short(line: &mut Tail<72>, names: &NameBook, reply: &ShortReply) -> bool
     true
 }
 
-// The same for a reply to ask again, where the name of the node has at most 32 bytes.
+// The same for a reply to ask again, if the name of the node has at most 32 bytes.
 fn put_again(line: &mut Tail<72>, node: &str, who: Txn) -> bool
     requires { line.old ≡ [] }
     ensures text { IsTrue result → line.new ≡ spaced (codes "again" ∷ txn_text who ∷ codes "at" ∷ node.now ∷ []) ++ codes "\n" }
@@ -157,7 +157,7 @@ fn put_scan(out: &mut Vec<u8>, session: Session, values: &ScanList) -> Result<()
     out.extend_from_slice(line.as_bytes())
 }
 
-// Puts values in front, each behind a space. There are at most 16, and each has at most 21 bytes with its space.
+// Puts values in front, each after a space. There are at most 16, and each has at most 21 bytes with its space.
 #[tactic(auto, using(crate::proofs::Wholes::one_value))]
 fn put_values(line: &mut Tail<360>, values: &ScanList)
     requires { length line.old + 16 * 21 ≤ 360 }
@@ -171,7 +171,7 @@ fn put_values(line: &mut Tail<360>, values: &ScanList)
     }
 }
 
-// Puts a value in front, behind a space.
+// Puts a value in front, after a space.
 fn put_value(line: &mut Tail<360>, value: Option<i64>)
     requires { length line.old + 21 ≤ 360 }
     ensures text { line.new ≡ codes " " ++ value_text value ++ line.old }
@@ -228,7 +228,7 @@ fn put_session(out: &mut Vec<u8>, session: Session) -> Result<(), AllocError>
     out.extend_from_slice(number.as_bytes())
 }
 
-/// Appends the words of a cause, each behind a space.
+/// Appends the words of a cause, each after a space.
 pub fn put_cause(out: &mut Vec<u8>, names: &NameBook, cause: &Cause) -> Result<(), AllocError>
     requires { CauseNamed names.now cause.now }
     ensures { Puts out.old.items (spaced (cause_words names.now cause.now)) out.new.items result }
@@ -255,7 +255,7 @@ pub fn put_cause(out: &mut Vec<u8>, names: &NameBook, cause: &Cause) -> Result<(
     }
 }
 
-// Appends the word of a break, its node, and whom it names.
+// Appends the word of a break, its node, and the transaction that it names.
 fn put_break(
     out: &mut Vec<u8>,
     names: &NameBook,

@@ -142,7 +142,7 @@ fn put_row<'a>(
     out.extend_from_slice(line.as_bytes())
 }
 
-// Puts the line of a row, where both words are short. False where they may not fit.
+// Puts the line of a row, if both words are short. Returns false if they may not fit.
 fn put_short_row(line: &mut Tail<72>, word: &str, table: &str, key: u32, value: i64) -> bool
     requires { line.old ≡ [] }
     ensures { IsTrue result → line.new ≡ line_text (word.now ∷ table.now ∷ decimal key ∷ signed_decimal value ∷ []) }

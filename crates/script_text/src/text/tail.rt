@@ -1,4 +1,4 @@
-//! Short texts, put together from their ends.
+//! Short texts, put together from their end.
 
 ghost use Rattle.std.specs.Prelude.{◌≡◌, ◌+◌, ◌<◌, ◌≤◌, ◌++◌, ◌∷◌, [], length, decimal};
 ghost use Rattle.std.specs.Fmt.{signed_decimal};
@@ -6,11 +6,11 @@ ghost use Rattle.std.specs.Fmt.{signed_decimal};
 use itoa::write_digits;
 use std::marker::Model;
 
-/// The end of a text, at most `N` bytes. What stands before it is put in front of it. Contracts see its bytes.
+/// The end of a text, at most `N` bytes. What comes before it is put in front of it. Contracts see its bytes.
 #[derive(Drop)]
 pub struct Tail<const N: usize> {
     bytes: [u8; N],
-    // Where the text begins.
+    // The index at which the text begins.
     start: usize,
 }
 

@@ -19,7 +19,7 @@ pub enum Word<'a> {
     Value(Option<i64>),
 }
 
-/// The name of a node.
+/// Returns the name of a node.
 pub fn node<'a>(names: &'a NameBook, node: Node) -> Word<'a>
     requires { NodeNamed names.now node }
     ensures { word_text result ≡ name_of names.now.nodes node.0 }
@@ -27,7 +27,7 @@ pub fn node<'a>(names: &'a NameBook, node: Node) -> Word<'a>
     Word::Text(names.nodes.name(node.0))
 }
 
-/// The name of a table.
+/// Returns the name of a table.
 pub fn table<'a>(names: &'a NameBook, table: Table) -> Word<'a>
     requires { table.0 < length names.now.tables }
     ensures { word_text result ≡ name_of names.now.tables table.0 }
@@ -35,7 +35,7 @@ pub fn table<'a>(names: &'a NameBook, table: Table) -> Word<'a>
     Word::Text(names.tables.name(table.0))
 }
 
-/// The name of a type.
+/// Returns the name of a type.
 pub fn kind<'a>(names: &'a NameBook, kind: Kind) -> Word<'a>
     requires { kind.0 < length names.now.types }
     ensures { word_text result ≡ name_of names.now.types kind.0 }
@@ -43,7 +43,7 @@ pub fn kind<'a>(names: &'a NameBook, kind: Kind) -> Word<'a>
     Word::Text(names.types.name(kind.0))
 }
 
-/// Appends words, each behind a space.
+/// Appends words, each after a space.
 pub fn put_words(out: &mut Vec<u8>, words: &[Word]) -> Result<(), AllocError>
     ensures { Puts out.old.items (spaced_words words.now) out.new.items result }
 {
@@ -53,7 +53,7 @@ pub fn put_words(out: &mut Vec<u8>, words: &[Word]) -> Result<(), AllocError>
     Ok(())
 }
 
-/// Appends the words of a cell, each behind a space: the name of its table, and its key.
+/// Appends the words of a cell, each after a space: the name of its table, and its key.
 pub fn put_cell(out: &mut Vec<u8>, names: &NameBook, cell: Cell) -> Result<(), AllocError>
     requires { CellNamed names.now cell }
     ensures { Puts out.old.items (spaced (cell_words names.now cell)) out.new.items result }
@@ -61,7 +61,7 @@ pub fn put_cell(out: &mut Vec<u8>, names: &NameBook, cell: Cell) -> Result<(), A
     put_words(out, &[table(names, cell.table), Word::Natural(cell.key)])
 }
 
-/// Appends a line: a first word, and others behind it.
+/// Appends a line: a first word, and others after it.
 pub fn put_line<'a>(
     out: &mut Vec<u8>,
     first: &'a str,
@@ -112,7 +112,7 @@ pub fn put_text(out: &mut Vec<u8>, text: &str) -> Result<(), AllocError>
     out.extend_from_slice(text.as_bytes())
 }
 
-/// Passes on how a text was written that began at this length, and takes it back where memory ran out.
+/// Passes on the result of writing a text that began at this length, and removes what was written if memory ran out.
 pub fn whole(
     out: &mut Vec<u8>,
     start: usize,
