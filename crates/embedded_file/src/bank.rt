@@ -57,7 +57,7 @@ pub enum Stopped {
     NoEpoch(NextError),
     #[error("the store gives no answer: {0}")]
     NoAnswer(AskError),
-    /// The request makes no sense to the store: a fault of this program.
+    /// The store does not accept the request: a fault of this program.
     #[error("the store refuses the request: {0:?}")]
     Refused(Refusal),
     /// Another session is in the way: this program has only one.
@@ -75,7 +75,7 @@ impl From<AllocError> for Stopped {
     }
 }
 
-/// What the tree text says. It is read anew for each epoch.
+/// Returns the setup of the tree text. It is read again for each epoch.
 fn setup(alloc: Global) -> Result<Setup, Stopped>
     ensures { IfOk result (λ s. IsWhole (setup_view s)) }
 {
@@ -93,7 +93,7 @@ pub fn open_bank(alloc: Global, disk: FileDisk) -> Result<Bank, Stopped> {
     }
 }
 
-/// Makes the next transfer, in the next epoch if this one is full, and returns its number. It is in the file then.
+/// Makes the next transfer, in the next epoch if this one is full, and returns its number. The transfer is then in the file.
 pub fn move_money(alloc: Global, mut bank: Bank) -> Result<(Bank, i64), Stopped> {
     match transfer(alloc, &mut bank) {
         Ok(number) => return Ok((bank, number)),
@@ -113,7 +113,7 @@ fn next_epoch(alloc: Global, bank: Bank) -> Result<Bank, Stopped> {
     }
 }
 
-/// One transaction. After an `Err` none is open.
+/// Makes one transaction. After an error no transaction is open.
 fn transfer(alloc: Global, bank: &mut Bank) -> Result<i64, Stopped> {
     let moved = steps(alloc, bank);
     if moved.is_err() {
@@ -144,7 +144,7 @@ fn add(alloc: Global, bank: &mut Bank, account: Cell, amount: i64) -> Result<(),
     Ok(())
 }
 
-/// Asks the store. The value of a row that was read, 0 if there is none, and 0 after other requests.
+/// Asks the store. Returns the value of a row that was read, 0 if there is none, and 0 after other requests.
 fn ask(alloc: Global, bank: &mut Bank, request: Request) -> Result<i64, Stopped> {
     match bank.ask(alloc, SESSION, request) {
         Ok(Reply::Value(value)) => Ok(value.unwrap_or(0)),
@@ -156,7 +156,7 @@ fn ask(alloc: Global, bank: &mut Bank, request: Request) -> Result<i64, Stopped>
     }
 }
 
-/// The account of a transfer.
+/// Returns the account of a transfer.
 fn account(number: i64) -> Cell {
     Cell {
         table: ACCOUNTS,

@@ -21,23 +21,23 @@ const ACCOUNTS: u32 = 32;
 /// How many transfers a client makes.
 const TRANSFERS: u32 = 5;
 
-/// How often a transfer that the store aborted starts over.
+/// How often a transfer is tried if the store aborts it.
 const ATTEMPTS: u32 = 1000;
 
-/// Why a transaction goes no further.
+/// Why a transaction cannot go on.
 #[derive(Debug, Drop)]
 pub enum Stopped {
     /// The store has aborted the transaction. It may start over.
     Aborted,
-    /// The request makes no sense to the store, or the store is full.
+    /// The store does not accept the request, or is full.
     Refused(Refusal),
     /// The store was not asked.
     NotAsked(AskError),
 }
 
-/// Makes the transfers of a session, from its own account to the next ones.
+/// Makes the transfers of a session, from its account to the next ones.
 ///
-/// At an error it stops, and ends its transaction: other clients may wait for that.
+/// At an error it stops, and ends its transaction, since other clients may wait for it.
 pub fn run_client<C: Chains, R: Wait>(rt: &R, hall: &Hall<C>, pass: &mut Pass<C>)
     requires { IsPassOf hall.now pass.old }
     ensures { IsPassOf hall.now pass.new × (pass.new.session ≡ pass.old.session) }
@@ -51,7 +51,7 @@ pub fn run_client<C: Chains, R: Wait>(rt: &R, hall: &Hall<C>, pass: &mut Pass<C>
     }
 }
 
-/// Moves 1 from an account to another, and starts over if the store aborts the transaction.
+/// Moves 1 from one account to another, and starts over if the store aborts the transaction.
 fn move_money<C: Chains, R: Wait>(
     rt: &R,
     hall: &Hall<C>,
@@ -71,7 +71,7 @@ fn move_money<C: Chains, R: Wait>(
     Err(Stopped::Aborted)
 }
 
-/// One transaction. An `Err` other than `Aborted` leaves it open.
+/// Makes one transaction. An error other than `Aborted` leaves it open.
 fn attempt<C: Chains, R: Wait>(
     rt: &R,
     hall: &Hall<C>,
@@ -113,7 +113,7 @@ fn ask<C: Chains, R: Wait>(
     unreachable!()
 }
 
-/// The row of an account.
+/// Returns the row of an account.
 fn account(key: u32) -> Cell {
     Cell {
         table: Table(0),

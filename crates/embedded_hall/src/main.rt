@@ -54,7 +54,7 @@ fn main(rt: HostRuntime) -> anyhow::Result<()> {
     report(&rt, alloc, &engine)
 }
 
-/// Runs a client with each pass, each in a thread of its own.
+/// Runs a client with each pass, each in a thread.
 fn run_clients<C: Chains + Send, R: Threads + Wait + Sync>(
     rt: &R,
     hall: &Hall<C>,
@@ -67,7 +67,7 @@ fn run_clients<C: Chains + Send, R: Threads + Wait + Sync>(
     thread::for_each_mut(rt, passes, threads, &|_, pass| run_client(rt, hall, pass));
 }
 
-/// Whether a transfer has committed, and the sum of all balances, which no transfer changes.
+/// Prints whether a transfer has committed, and the sum of all balances, which no transfer changes.
 fn report(rt: &impl Print, alloc: Global, engine: &Engine<PooledChains>) -> anyhow::Result<()> {
     let mut sum: i64 = 0;
     for (_, balance) in &tables(alloc, engine)? {

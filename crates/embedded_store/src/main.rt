@@ -57,7 +57,7 @@ fn main(rt: HostRuntime) -> anyhow::Result<()> {
     run(&rt, alloc, &mut store)
 }
 
-/// Four transfers, the order in which they count, and the balances that they leave.
+/// Makes four transfers, and prints their serial order and the final balances.
 fn run(rt: &impl Print, alloc: Global, store: &mut Engine<PooledChains>) -> anyhow::Result<()> {
     let rent = Transfer {
         from: 1,
@@ -72,7 +72,7 @@ fn run(rt: &impl Print, alloc: Global, store: &mut Engine<PooledChains>) -> anyh
     println!(rt; "rent: {:?}", move_money(store, Session(1), &rent))?;
     println!(rt; "gift: {:?}", move_money(store, Session(2), &gift))?;
 
-    // Session 3 reads a balance in a transaction that stays open: who would change it has to wait.
+    // Session 3 reads a balance in a transaction that stays open. A session that changes the balance has to wait.
     ask(store, Session(3), Request::Begin(money::TRANSFER))?;
     ask(store, Session(3), Request::Read(account(1)))?;
     println!(rt; "rent: {:?}", move_money(store, Session(1), &rent))?;

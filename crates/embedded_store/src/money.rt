@@ -12,7 +12,7 @@ pub const TRANSFER: Spot = Spot {
     instance: 0,
 };
 
-/// How often a transfer that the store aborted starts over.
+/// How often a transfer is tried if the store aborts it.
 const ATTEMPTS: u32 = 8;
 
 /// An amount to be moved from one account to another.
@@ -23,7 +23,7 @@ pub struct Transfer {
     pub amount: i32,
 }
 
-/// Why a transaction goes no further.
+/// Why a transaction cannot go on.
 #[derive(Debug, Drop, Error)]
 pub enum Stopped {
     /// An older transaction is in the way. Ask again once other sessions have gone on.
@@ -35,7 +35,7 @@ pub enum Stopped {
     /// The account has less than the amount.
     #[error("the account has less than the amount")]
     TooLittle,
-    /// The request makes no sense to the store: a fault of this program.
+    /// The store does not accept the request: a fault of this program.
     #[error("the store refuses the request: {0:?}")]
     Refused(Refusal),
     #[error("out of memory")]
@@ -51,7 +51,7 @@ impl From<AllocError> for Stopped {
 /// Moves money in a transaction of this session, and starts over if the store aborts it.
 ///
 /// # Errors
-/// Why the transaction went no further. Nothing has changed then, and the session has no open transaction.
+/// Why the transaction did not commit. Then nothing has changed, and the session has no open transaction.
 pub fn move_money(
     store: &mut Engine<PooledChains>,
     session: Session,
@@ -70,7 +70,7 @@ pub fn move_money(
     Err(Stopped::Aborted)
 }
 
-/// One transaction. An `Err` other than `Aborted` leaves it open.
+/// Makes one transaction. An error other than `Aborted` leaves it open.
 fn attempt(
     store: &mut Engine<PooledChains>,
     session: Session,
@@ -89,10 +89,10 @@ fn attempt(
     Ok(())
 }
 
-/// Asks the store. The value of a row that was read, 0 if there is none, and 0 after other requests.
+/// Asks the store. Returns the value of a row that was read, 0 if there is none, and 0 after other requests.
 ///
 /// # Errors
-/// Why the transaction goes no further; `OutOfMemory` if nothing was asked.
+/// Why the transaction cannot go on; `OutOfMemory` if nothing was asked.
 pub fn ask(
     store: &mut Engine<PooledChains>,
     session: Session,
@@ -109,7 +109,7 @@ pub fn ask(
     }
 }
 
-/// The row of an account.
+/// Returns the row of an account.
 pub fn account(key: u32) -> Cell {
     Cell {
         table: Table(0),

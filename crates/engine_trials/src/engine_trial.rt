@@ -1,4 +1,4 @@
-//! An engine that is asked a list of requests.
+//! An engine that is asked the list of requests.
 
 ghost use Rattle.std.specs.Prelude.{◌≡◌, [], IfOk, IsTrue};
 
@@ -15,8 +15,8 @@ use teb_names::{Request, Session};
 use tree_toml::read_tree;
 use version_chain::Chains;
 
-/// The replies to the requests, and what is lent in their midst and at their end, behind a transaction of so many events, where
-/// the versions refuse room at the call behind so many that are served, or at none. Fails where it should be refused and is not.
+/// Returns the replies to the requests, and what is lent before the last two and at the end. The requests follow a transaction of
+/// `before` events. The versions refuse room once, after `served` calls, or never. Fails if room should be refused and is not.
 pub fn engine_text(alloc: Global, before: usize, served: Option<usize>) -> Result<String, Trouble> {
     let mut engine = trial_engine(alloc, served)?;
     read_before(&mut engine, before)?;
@@ -36,10 +36,10 @@ pub fn engine_text(alloc: Global, before: usize, served: Option<usize>) -> Resul
     }
 }
 
-/// More events than room is made for at a time.
+/// More events than there is room for at a time.
 const MOST_EVENTS: usize = 8192;
 
-/// An engine that was asked nothing yet.
+/// Returns an engine that was asked nothing yet.
 pub fn trial_engine(
     alloc: Global,
     served: Option<usize>,
@@ -53,7 +53,7 @@ pub fn trial_engine(
     Ok(Engine::new(alloc, setup, chains)?)
 }
 
-/// How many events an engine writes until it asks the versions for room a second time.
+/// Returns how many events an engine writes until it asks the versions for room a second time.
 pub fn events_of_room(alloc: Global) -> Result<usize, Trouble> {
     let mut engine = trial_engine(alloc, None)?;
     answer(&mut engine, Request::Begin(SALE))?;
@@ -66,7 +66,7 @@ pub fn events_of_room(alloc: Global) -> Result<usize, Trouble> {
     Err(Trouble::Changed)
 }
 
-/// A transaction of so many events that reads, and is aborted. None where there would be fewer than two.
+/// Makes a transaction of this many events that reads and is aborted; none for fewer than two.
 fn read_before<C: Chains>(engine: &mut Engine<C>, events: usize) -> Result<(), Trouble> {
     if events < 2 {
         return Ok(());
@@ -78,7 +78,7 @@ fn read_before<C: Chains>(engine: &mut Engine<C>, events: usize) -> Result<(), T
     answer(engine, Request::End)
 }
 
-/// Asks for a session that asks none of the requests.
+/// Asks for a session that makes none of the requests.
 fn answer<C: Chains>(engine: &mut Engine<C>, request: Request) -> Result<(), Trouble> {
     engine.ready()?;
     let _reply = engine.ask(READER, request);

@@ -19,13 +19,13 @@ use std::sync::Wait;
 use teb_names::{Request, SESSIONS, Txn};
 use version_chain::Chains;
 
-/// How many events come before the last of the requests.
+/// How many events precede the last of the requests.
 pub const HALL_EVENTS: usize = 5;
 
 type Tried = Refusing<PooledChains>;
 
-/// The entries of a hall that was closed, and what its engine lends, behind a transaction of so many events, where the versions
-/// refuse room at the call behind so many that are served, or at none. Fails where it should be refused and is not.
+/// Returns the entries of a closed hall, and what its engine lends. The requests follow a transaction of `before` events. The
+/// versions refuse room once, after `served` calls, or never. Fails if room should be refused and is not.
 pub fn hall_text<R: Wait>(
     rt: &R,
     alloc: Global,
@@ -48,7 +48,7 @@ pub fn hall_text<R: Wait>(
     }
 }
 
-/// The engine and the entries, once the sessions 31 and 32 have asked.
+/// Returns the engine and the entries, after the sessions 31 and 32 have asked.
 fn closed_after<R: Wait>(
     rt: &R,
     hall: Hall<Tried>,
@@ -71,7 +71,7 @@ fn closed_after<R: Wait>(
     Ok(hall.close(passes))
 }
 
-/// A transaction of so many events reads, and is aborted. There is none where there would be fewer than two.
+/// Makes a transaction of this many events that reads and is aborted; none for fewer than two.
 fn read_before<C: Chains, R: Wait>(
     rt: &R,
     hall: &Hall<C>,
@@ -91,7 +91,7 @@ fn read_before<C: Chains, R: Wait>(
     ask(rt, hall, pass, Request::End)
 }
 
-/// A sale is written beside a report, which does not see it.
+/// Writes a sale beside a report, which does not see it.
 fn write_and_read<C: Chains, R: Wait>(
     rt: &R,
     hall: &Hall<C>,
@@ -111,7 +111,7 @@ fn write_and_read<C: Chains, R: Wait>(
     ask(rt, hall, reader, Request::Commit)
 }
 
-/// Asks until there is room. Where there is none, what the pass knows of the first transaction stays.
+/// Asks until there is room. If there is none, what the pass knows of the first transaction must stay.
 fn ask<C: Chains, R: Wait>(
     rt: &R,
     hall: &Hall<C>,

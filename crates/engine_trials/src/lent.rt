@@ -29,7 +29,7 @@ const CELLS: [Cell; 4] = [SOLD, ORDERED, PLACED, REPORTED];
 /// The first report.
 const FIRST_REPORT: Txn = Txn(6);
 
-/// The history, the versions, the book, and what each control lends.
+/// Returns the history, the versions, the book, and what each control lends.
 pub fn lent<C: Chains>(alloc: Global, engine: &Engine<C>) -> Result<String, AllocError> {
     let mut text = String::new(alloc);
     for event in engine.history().events() {
@@ -59,7 +59,7 @@ fn write_versions<C: Chains>(text: &mut String, chains: &C) -> Result<(), AllocE
     Ok(())
 }
 
-/// By cell, who read it from whom, and who put it; who is unfinished, and whom each of these read from.
+/// Writes for each cell its readers with their sources, and its writers; then the unfinished transactions, each with its sources.
 fn write_book(text: &mut String, book: &Book) -> Result<(), AllocError> {
     for cell in CELLS {
         let readers = book.readers(cell);
@@ -76,7 +76,7 @@ fn write_book(text: &mut String, book: &Book) -> Result<(), AllocError> {
     Ok(())
 }
 
-/// What each control lends, in ascending number of the nodes.
+/// Writes what each control lends, in ascending number of the nodes.
 fn write_controls(
     text: &mut String,
     facts: &Facts,
@@ -101,7 +101,7 @@ fn write_control(text: &mut String, facts: &Facts, control: &AnyControl) -> Resu
     }
 }
 
-/// Who holds each cell at a locks node.
+/// Writes the holders of each cell at a locks node.
 fn write_locks(text: &mut String, facts: &Facts, locks: &Locks) -> Result<(), AllocError>
     requires { LocksStandFor locks.now (setup_of facts.now) (events_of facts.now) }
 {
@@ -117,7 +117,7 @@ fn write_locks(text: &mut String, facts: &Facts, locks: &Locks) -> Result<(), Al
     Ok(())
 }
 
-/// Who holds each cell at a pipeline, and who is ahead of each unfinished transaction.
+/// Writes the holders of each cell at a pipeline, and for each unfinished transaction those that are ahead of it.
 fn write_pipeline(text: &mut String, facts: &Facts, pipeline: &Pipeline) -> Result<(), AllocError>
     requires { PipelineStands pipeline.now (setup_of facts.now) (events_of facts.now) }
 {
@@ -138,7 +138,7 @@ fn write_pipeline(text: &mut String, facts: &Facts, pipeline: &Pipeline) -> Resu
     Ok(())
 }
 
-/// Who read each cell, and from whom, at a timestamp node.
+/// Writes the readers of each cell at a timestamp node, with their sources.
 fn write_stamps(text: &mut String, facts: &Facts, stamps: &Stamps) -> Result<(), AllocError>
     requires { StampsStandFor stamps.now (setup_of facts.now) (events_of facts.now) }
 {
@@ -154,7 +154,8 @@ fn write_stamps(text: &mut String, facts: &Facts, stamps: &Stamps) -> Result<(),
     Ok(())
 }
 
-/// The committed writers of each cell, and whether the first report sees what the first and the second sale have put, at a snapshot node.
+/// Writes the committed writers of each cell at a snapshot node, and whether the first report sees what the first and the second
+/// sale have put.
 fn write_snapshot(text: &mut String, facts: &Facts, snapshot: &Snapshot) -> Result<(), AllocError>
     requires { SnapshotStandsFor snapshot.now (setup_of facts.now) (events_of facts.now) }
 {
@@ -180,7 +181,7 @@ fn write_snapshot(text: &mut String, facts: &Facts, snapshot: &Snapshot) -> Resu
     Ok(())
 }
 
-/// Whether two transactions meet at a node and are not aborted, and the second has put a cell or is unfinished.
+/// Returns whether two transactions meet at a node and are not aborted, and the second has put a cell or is unfinished.
 fn may_ask(facts: &Facts, snapshot: &Snapshot, t: Txn, u: Txn, cell: Cell) -> bool
     requires { SnapshotStandsFor snapshot.now (setup_of facts.now) (events_of facts.now) }
     ensures pair { IsTrue result → IsPair facts.now (snapshot_node_number snapshot.now) t.0 u.0 }

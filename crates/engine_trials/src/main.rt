@@ -28,7 +28,7 @@ use std::alloc::Global;
 use std::process::ExitCode;
 use std::sync::Wait;
 
-/// The status of out of memory.
+/// The exit code for out of memory.
 const OUT_OF_MEMORY: u8 = 8;
 
 fn main(rt: HostRuntime) -> ExitCode {
@@ -42,7 +42,7 @@ fn main(rt: HostRuntime) -> ExitCode {
     }
 }
 
-/// The text of all trials.
+/// Returns the text of all trials.
 fn trials(rt: &impl Wait, alloc: Global) -> Result<String, Trouble> {
     let mut text = engine_text(alloc, 0, None)?;
     text.push_str(&hall_text(rt, alloc, 0, None)?)?;
@@ -56,8 +56,8 @@ fn trials(rt: &impl Wait, alloc: Global) -> Result<String, Trouble> {
     Ok(text)
 }
 
-/// How many engines are refused room, at the first request or where the room for so many events is used up amid the requests. Each
-/// says what one that is refused nothing says.
+/// Returns how many engines were refused room, at the first request or when the room for their events is used up. Each must give
+/// the text of an engine that is refused nothing.
 fn same_engines(alloc: Global, room: usize) -> Result<usize, Trouble> {
     if engine_text(alloc, 0, Some(0))? != engine_text(alloc, 0, None)? {
         return Err(Trouble::Changed);
@@ -71,7 +71,7 @@ fn same_engines(alloc: Global, room: usize) -> Result<usize, Trouble> {
     Ok(EVENTS + 2)
 }
 
-/// The same of halls.
+/// The same for halls.
 fn same_halls(rt: &impl Wait, alloc: Global, room: usize) -> Result<usize, Trouble> {
     if hall_text(rt, alloc, 0, Some(0))? != hall_text(rt, alloc, 0, None)? {
         return Err(Trouble::Changed);

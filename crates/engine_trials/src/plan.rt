@@ -1,4 +1,4 @@
-//! The tree of the trials, and what is asked of it.
+//! The tree of the trials, and the requests.
 
 use teb_names::{Cell, Kind, Request, Session, Spot, Table};
 
@@ -75,19 +75,19 @@ pub const REPORTED: Cell = Cell {
     key: 2,
 };
 
-/// A session that asks none of the requests.
+/// A session that makes none of the requests.
 pub const READER: Session = Session(8);
 
 /// How many requests there are.
 pub const REQUESTS: usize = 24;
 
-/// How many requests come before the registers are looked at for the first time.
+/// How many requests precede the first look at the registers.
 pub const MIDST: usize = 22;
 
-/// How many events come before the last of the requests.
+/// How many events precede the last of the requests.
 pub const EVENTS: usize = 21;
 
-/// What each session asks, in this order.
+/// Returns the requests of the sessions, in order.
 pub fn requests() -> [(Session, Request); REQUESTS] {
     [
         (Session(1), Request::Begin(SALE)),

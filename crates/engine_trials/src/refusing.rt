@@ -6,19 +6,19 @@ use std::alloc::AllocError;
 use teb_names::{Cell, Txn};
 use version_chain::Chains;
 
-/// Versions that are kept in other chains, and that refuse room at one call.
+/// Versions that are kept in other chains, and refuse room at one call.
 #[derive(Drop)]
 pub struct Refusing<C: Chains> {
     chains: C,
-    // How many calls come before the one that is refused; None where none is, and once that has come.
+    // How many calls precede the refused one; `None` if no call is refused, or it has been.
     before: Option<usize>,
     refused: bool,
-    // How often there was a call.
+    // How many calls were made.
     calls: usize,
 }
 
 impl<C: Chains> Refusing<C> {
-    /// Over chains that are kept so, room is refused at the call behind so many that are served, or at none.
+    /// Over these chains, room is refused once, after this many served calls, or never.
     pub fn after(served: Option<usize>, chains: C) -> Refusing<C>
         ensures { result.chains ≡ chains }
     {
@@ -30,17 +30,17 @@ impl<C: Chains> Refusing<C> {
         }
     }
 
-    /// How often room was asked for.
+    /// Returns how often room was asked for.
     pub fn calls(&self) -> usize {
         self.calls
     }
 
-    /// Whether room was refused.
+    /// Returns whether room was refused.
     pub fn has_refused(&self) -> bool {
         self.refused
     }
 
-    /// Whether room will be refused yet.
+    /// Returns whether room is still to be refused.
     pub fn will_refuse(&self) -> bool {
         self.before.is_some()
     }

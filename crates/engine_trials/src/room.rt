@@ -9,10 +9,10 @@ use engine_core::Engine;
 use std::alloc::Global;
 use version_chain::Chains;
 
-/// How often room is asked for at most: two calls may be refused, one by the chains and one by the system.
+/// The most calls that ask for room: two may be refused, one by the chains and one by the system.
 pub const ATTEMPTS: u8 = 3;
 
-/// Makes room for an answer. A call that is refused room leaves all that is lent as it was.
+/// Makes room for an answer. A refused call leaves everything that is lent unchanged.
 pub fn make_room<C: Chains>(alloc: Global, engine: &mut Engine<Refusing<C>>) -> Result<(), Trouble>
     ensures { OnOk result (IsTrue engine.new.ready) }
 {

@@ -1,13 +1,13 @@
-//! Why a trial came to nothing.
+//! Why a trial failed.
 
 use std::alloc::AllocError;
 
-/// Why a trial came to nothing.
+/// Why a trial failed.
 #[derive(Drop)]
 pub enum Trouble {
     /// Out of memory.
     Memory,
-    /// Something that a refusal must leave has changed.
+    /// Something has changed that a refusal must leave.
     Changed,
 }
 

@@ -1,7 +1,7 @@
-//! What a poll answers.
+//! The result of a poll.
 use teb_names::Outcome;
 
-/// Whether a transaction has finished, as far as one look says.
+/// Whether a transaction has finished, as one look shows.
 #[derive(Clone, Copy, Debug, PartialEq, Eq)]
 pub enum Poll {
     /// The word was 0 when this poll looked.

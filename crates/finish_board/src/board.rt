@@ -9,10 +9,10 @@ use crate::answer::Poll;
 use teb_names::{MOST_TXNS, Outcome, Txn};
 use turn_lock::{Member, SeatOf, Turn};
 
-/// Publishes that a transaction finished so, as the word 1 for committed and 2 for aborted.
+/// Publishes how a transaction finished, as the word 1 for committed and 2 for aborted.
 ///
-/// The seat is in the turn, the value has the note with this word, and nobody published it before. `t` is 1 to `MOST_TXNS`,
-/// and its note is below the number of the turn's notes.
+/// The seat is in the turn, the value has the note with this word, and it was not published before. `t` is 1 to `MOST_TXNS`, and
+/// its note is below the number of the turn's notes.
 pub fn publish<T: Member>(turn: &Turn<T>, seat: &mut SeatOf<T>, value: &T, t: Txn, outcome: Outcome)
     requires seat { IsOf turn.now seat.old × IsInside seat.old }
     requires txn { (1 ≤ t.0) × (t.0 ≤ MOST_TXNS) × (t.0 - 1 < note_count turn.now) }
@@ -35,9 +35,9 @@ pub(crate) fn word(outcome: Outcome) -> u64
     }
 }
 
-/// Whether a transaction has finished, and how. It waits for nobody and takes no memory.
+/// Returns whether a transaction has finished, and how. It never waits and takes no memory.
 ///
-/// A finish that the seat knows is answered, and one that is answered is known from then on.
+/// A finish that the seat knows is returned, and one that is returned is known from then on.
 pub fn poll<T: Member>(turn: &Turn<T>, seat: &mut SeatOf<T>, t: Txn) -> Poll
     requires seat { IsOf turn.now seat.old }
     requires txn { (1 ≤ t.0) × (t.0 ≤ MOST_TXNS) × (t.0 - 1 < note_count turn.now) }
@@ -45,7 +45,7 @@ pub fn poll<T: Member>(turn: &Turn<T>, seat: &mut SeatOf<T>, t: Txn) -> Poll
     ensures answer { result ≡ known_of t.0 (view_of seat.new) }
     ensures known { known_of t.0 (view_of seat.old) ≢ Unfinished → result ≡ known_of t.0 (view_of seat.old) }
 
-    // The word that this look found, which is 0 where the answer is Unfinished.
+    // The word that this look found, which is 0 if the answer is Unfinished.
     ensures view { view_of seat.new ≡ looked_at (t.0 - 1) (slice_index (view_of seat.new).notes (t.0 - 1)) (view_of seat.old) }
     ensures unfinished { result ≡ Unfinished → (view_of seat.new).looked ≡ (t.0 - 1, 0) ∷ (view_of seat.old).looked }
 {

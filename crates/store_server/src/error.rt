@@ -7,7 +7,7 @@ use tree_toml::TreeText;
 /// Why a store is not opened.
 #[derive(Debug, Drop, Error)]
 pub enum ServeError {
-    /// The tree text is wrong, or memory is out as it is read.
+    /// The tree text is refused, or memory ran out while it was read.
     #[error("the tree text is wrong: {0:?}")]
     BadTree(TreeText),
     #[error("{0}")]

@@ -1,4 +1,4 @@
-//! How a store is opened, to be shared.
+//! How a store is opened for sharing.
 
 ghost use Rattle.std.specs.Prelude.{◌≡◌, ◌≤◌, ◌++◌, ◌∷◌, [], false, List, ℕ, IfOk, IfErr, Ok};
 ghost use Rattle.teb_names.specs.declared.Cell.{Cell as TheCell};
@@ -24,14 +24,13 @@ use store_setup::Setup;
 use tree_toml::read_tree;
 
 impl<D: Renew> StoreServer<D> {
-    /// Opens the store that a disk has, under the tree that a text is. The tree may be another than the last one; its tables are those of
-    /// the store.
+    /// Opens the store that a disk has, under a tree text. The tree may differ from the last one, but has the same tables.
     ///
     /// # Errors
-    /// Each returns the disk, which may be opened again. `BadTree` if the text is refused, and nothing was written; else as those of
-    /// `EngineStore::open`.
+    /// Each error returns the disk, which may be opened again. `BadTree` if the text is refused; then nothing was written. The
+    /// others are those of `EngineStore::open`.
     pub fn open(alloc: Global, disk: D, tree: Vec<u8>) -> Result<StoreServer<D>, NotServed<D>>
-        // The rows that the disk has, and nothing has happened.
+        // The rows are those that the disk has, and nothing has happened.
         ensures found { IfOk result (λ s. IsFound D.seen D.may_leave (D.capacity disk) tree.items disk s.store) }
         ensures kept { IfOk result (λ s. (standing_of s.store).unkept ≡ 0) }
         ensures running { IfOk result (λ s. (standing_of s.store).stopped ≡ false) }
@@ -46,7 +45,7 @@ impl<D: Renew> StoreServer<D> {
     }
 }
 
-/// Opens the store that a disk has, under the setup that a tree text is.
+/// Opens the store that a disk has, under the setup of a tree text.
 fn open_under<D: Renew>(
     alloc: Global,
     disk: D,

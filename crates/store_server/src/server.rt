@@ -17,16 +17,16 @@ use store_setup::Setup;
 use teb_names::{MOST_TXNS, Reply, Request, Session};
 use tree_toml::read_tree;
 
-/// An epoch ends once less than this part of what its disk had left at its beginning is left.
+/// An epoch is to end once less than one part in this many is left of the bytes that it had at its beginning.
 const LEAST_PART: u64 = 8;
 
-/// A store in epochs, all under one tree. An epoch is to end once 8,192 transactions have begun, little of its half of the disk is left,
-/// or a commit did not fit.
+/// A store in epochs, all under one tree. An epoch is to end once 8,192 transactions have begun, little of its half of the disk
+/// is left, or a commit did not fit.
 #[derive(Drop)]
 pub struct StoreServer<D: Renew> {
     pub(crate) store: EngineStore<PooledChains, D>,
     pub(crate) tree: Vec<u8>,
-    /// The number of bytes that are left as the epoch is to end.
+    /// The epoch is to end once fewer than this many bytes are left.
     reserve: u64,
     /// True if a commit did not fit.
     is_full: bool,
@@ -34,7 +34,7 @@ pub struct StoreServer<D: Renew> {
 }
 
 impl<D: Renew> StoreServer<D> {
-    /// A store under its tree.
+    /// Returns a store with its tree text.
     pub(crate) fn new(store: EngineStore<PooledChains, D>, tree: Vec<u8>) -> StoreServer<D>
         requires tree { IsTreeOf tree.items store.engine.store }
         ensures { result.store ≡ store }
@@ -47,14 +47,14 @@ impl<D: Renew> StoreServer<D> {
         }
     }
 
-    /// The store.
+    /// Returns the store.
     pub fn store(&self) -> &EngineStore<PooledChains, D>
         ensures { result.now ≡ self.now.store }
     {
         &self.store
     }
 
-    /// The store, as it is.
+    /// Returns the store, unchanged.
     pub fn into_store(self) -> EngineStore<PooledChains, D>
         ensures { result ≡ self.store }
     {
@@ -62,7 +62,7 @@ impl<D: Renew> StoreServer<D> {
         store
     }
 
-    /// The store in the next epoch, or why there is none.
+    /// Returns the store in the next epoch, or unchanged with the reason why there is none.
     fn turned(self, alloc: Global) -> (StoreServer<D>, Result<(), NoEpoch>)
         ensures { IsAfterTry (standing_of self.store) (standing_of result.0.store) result.1 }
     {
@@ -125,10 +125,10 @@ impl<D: Renew> EpochServer for StoreServer<D> {
     }
 }
 
-/// The setup of a tree text that was read before: it is read again, since an epoch takes its setup.
+/// Returns the setup of a tree text that was read before. It is read again, since an epoch takes its setup.
 ///
 /// # Errors
-/// `AllocError` if memory is out.
+/// `AllocError`: out of memory.
 fn setup_of(alloc: Global, tree: &[u8]) -> Result<Setup, AllocError>
     ensures read { IfOk result (λ s. setup_of_text tree.now ≡ Ok (setup_view s)) }
     ensures whole { IfOk result (λ s. IsWhole (setup_view s)) }

@@ -20,14 +20,14 @@ const CELL: Cell = Cell {
     key: 1,
 };
 
-/// What a life has left: the disk, and how many commits were answered.
+/// The result of a life: the disk, and how many commits were answered.
 #[derive(Drop)]
 pub struct Lived {
     pub disk: MemDisk,
     pub answered: i64,
 }
 
-/// Opens the store of the plain tree on a disk, or hands the disk back.
+/// Opens the store of the plain tree on a disk, or returns the disk.
 pub fn open(alloc: Global, disk: MemDisk) -> Result<Result<TrialStore, MemDisk>, Fail> {
     let setup = read_tree(alloc, &[])?;
     Ok(
@@ -38,7 +38,7 @@ pub fn open(alloc: Global, disk: MemDisk) -> Result<Result<TrialStore, MemDisk>,
     )
 }
 
-/// Asks for a transaction that makes one request, and answers the reply to this one.
+/// Makes one request in a separate transaction, and returns the reply to it.
 fn ask_alone(alloc: Global, store: &mut TrialStore, request: Request) -> Result<Reply, AskError> {
     let begin = Request::Begin(Spot {
         kind: Kind(0),
@@ -50,7 +50,7 @@ fn ask_alone(alloc: Global, store: &mut TrialStore, request: Request) -> Result<
     Ok(reply)
 }
 
-/// The committed value.
+/// Returns the committed value.
 pub fn value(alloc: Global, store: &mut TrialStore) -> Result<Option<i64>, AskError> {
     match ask_alone(alloc, store, Request::Read(CELL))? {
         Reply::Value(value) => Ok(value),

@@ -11,16 +11,16 @@ use cc_tree::{NodeRow, Tree};
 use std::alloc::{AllocError, Global};
 use teb_names::{NameBook, Node};
 
-/// Goes before a node that others with the same parent follow.
+/// Precedes a node that has a later sibling.
 const BRANCH: &str = "├── ";
-/// Goes before the last node of a parent.
+/// Precedes the last node of a parent.
 const CORNER: &str = "└── ";
-/// Goes on past what is below a node that others follow.
+/// Precedes the lines below a node that has a later sibling.
 const LINE: &str = "│   ";
-/// The same below the last node.
+/// Precedes the lines below the last node of a parent.
 const SPACE: &str = "    ";
 
-/// How many levels a tree has at most.
+/// The most levels of a tree.
 const MOST_LEVELS: u8 = 8;
 
 /// Appends the drawing of a tree: a line for each node, with its name, its control, its parameters and the names of its types.
@@ -37,7 +37,7 @@ pub fn put_tree(
     put_below(alloc, out, names, tree, Node(0), b"", MOST_LEVELS)
 }
 
-/// Appends what is below a node, at most so many levels, each line after a prefix.
+/// Appends what is below a node, at most this many levels, each line after a prefix.
 fn put_below(
     alloc: Global,
     out: &mut Vec<u8>,
@@ -60,7 +60,7 @@ fn put_below(
     Ok(())
 }
 
-/// A node whose line is drawn, and what goes before the lines below it.
+/// A node whose line is drawn, and the prefix of the lines below it.
 #[derive(Drop)]
 struct DrawnNode {
     node: Node,
@@ -89,7 +89,7 @@ fn put_branch(
     }
 }
 
-/// Appends the line of a node after a prefix and its branch. Returns what goes before the lines below it.
+/// Appends the line of a node after a prefix and its branch. Returns the prefix of the lines below it.
 fn put_one(
     alloc: Global,
     out: &mut Vec<u8>,
@@ -109,7 +109,7 @@ fn put_one(
     joined(alloc, prefix, stem(is_last))
 }
 
-/// The nodes below a node, in ascending number.
+/// Returns the nodes below a node, in ascending number.
 fn children(alloc: Global, tree: &Tree, node: Node) -> Result<Vec<Node>, AllocError>
     ensures nodes { IfOk result (λ v. node_numbers v.items ≡ children tree.now.rows node.0) }
     ensures within { IfOk result (λ v. All (λ n. n.0 < length tree.now.rows) v.items) }
@@ -121,7 +121,7 @@ fn children(alloc: Global, tree: &Tree, node: Node) -> Result<Vec<Node>, AllocEr
     Ok(nodes)
 }
 
-/// Adds a node, if it is below a node.
+/// Adds a node, if its parent is this one.
 fn push_child(
     nodes: &mut Vec<Node>,
     tree: &Tree,
@@ -159,7 +159,7 @@ fn stem(is_last: bool) -> &'static str
     if is_last { SPACE } else { LINE }
 }
 
-/// A text and another one after it.
+/// Returns the first text followed by the second.
 fn joined(alloc: Global, first: &[u8], second: &str) -> Result<Vec<u8>, AllocError>
     ensures { IfOk result (λ v. v.items ≡ first.now ++ second.now) }
 {

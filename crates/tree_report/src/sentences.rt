@@ -9,7 +9,7 @@ use std::alloc::AllocError;
 use teb_names::{Kind, Names};
 use tree_guarantees::{commits_in_order, has_no_cascades, is_strict, type_reads_never_wait};
 
-/// What holds of every tree.
+/// The sentences that hold for every tree.
 const ALWAYS: &str = "\
 guaranteed: running the committed transactions serially in the serial order reproduces every read and the final tables
 guaranteed: no transaction commits before one that it read from
@@ -23,8 +23,8 @@ const ORDERED: &str = "the serial order is the order of the commits";
 
 const ALONE: &str = "an abort takes no other transaction with it";
 
-/// Writes what a tree guarantees, and what it does not, into an empty text: the sentences that hold of every tree, those that depend on the shape of the
-/// tree, one for each of the types, and the end.
+/// Writes what a tree guarantees, and what it does not, into an empty text: the sentences that hold for every tree, those that
+/// depend on its shape, one for each type, and the end.
 pub fn put_guarantees(out: &mut Vec<u8>, types: &Names, tree: &Tree) -> Result<(), AllocError>
     requires { out.old.items ≡ [] }
     ensures { OnOk result (AreGuarantees types.now tree.now.rows out.new.items) }
@@ -40,7 +40,7 @@ pub fn put_guarantees(out: &mut Vec<u8>, types: &Names, tree: &Tree) -> Result<(
     put_line(out, &Word::Text("end"), &[])
 }
 
-/// Appends the sentences that hold of every tree.
+/// Appends the sentences that hold for every tree.
 fn put_always(out: &mut Vec<u8>) -> Result<(), AllocError>
     ensures { OnOk result (out.new.items ≡ out.old.items ++ always_text) }
 {
@@ -62,7 +62,7 @@ fn put_sentence(out: &mut Vec<u8>, holds: bool, sentence: &str) -> Result<(), Al
     put_line(out, &Word::Text(verdict(holds)), &[Word::Text(sentence)])
 }
 
-/// Appends for each type whether its reads wait.
+/// Appends for each type a sentence on whether its reads wait.
 fn put_types(out: &mut Vec<u8>, types: &Names, tree: &Tree) -> Result<(), AllocError>
     ensures { OnOk result (out.new.items ≡ out.old.items ++ types_text types.now tree.now.rows) }
 {

@@ -57,11 +57,11 @@ pub struct Place {
 pub enum FieldWhy {
     /// The entry has a key that is not among its keys.
     Unknown,
-    /// The key is required and not there.
+    /// The key is required, and is missing.
     Missing,
     /// The value has another TOML type.
     Form,
-    /// A new name is no name.
+    /// A new name is not a valid name.
     Name,
     /// The name or the cell was given before.
     Repeated,
@@ -109,7 +109,7 @@ impl<T: Drop> From<AllocFailed<T>> for TreeText {
 }
 
 impl Place {
-    /// The fault at this place.
+    /// Returns this fault at the place.
     pub(crate) fn fault(self, why: FieldWhy) -> TreeText
         ensures { result ≡ fault_at self why }
     {
@@ -117,7 +117,7 @@ impl Place {
     }
 }
 
-/// What was read at a place: a fault is one there.
+/// Returns what was read at a place; a fault becomes one of that place.
 pub fn at<T>(place: Place, read: Result<T, FieldWhy>) -> Result<T, TreeText>
     ensures { result ≡ spec_at place read }
 {

@@ -1,4 +1,4 @@
-//! The keys of a table of TOML, and their values in the types that a tree text asks for.
+//! The keys of a table of TOML, and their values in the types that a tree text requires.
 
 ghost use Rattle.std.specs.Prelude.{◌≡◌, ◌≤◌, map, option_map, option_copied, IfOk};
 ghost use Rattle.toml.specs.Data.{get_member};
@@ -12,21 +12,21 @@ use crate::fault::{FieldWhy, Key, ListName, Place};
 use teb_names::Names;
 use toml::{Table, Value};
 
-/// The place of a key.
+/// Returns the place of a key.
 pub fn place(list: ListName, index: u32, key: Key) -> Place
     ensures { result ≡ spec_place list index key }
 {
     Place { list, index, key }
 }
 
-/// The value at a key.
+/// Returns the value at a key.
 pub fn found<'a>(table: &'a Table, key: &str) -> Option<&'a Value>
     ensures { option_map (λ v. view v.now) result ≡ get_member key.now (table_view table.now) }
 {
     table.get(key)
 }
 
-/// The text at a key; none where the key is not there.
+/// Returns the text at a key, or `None` if the key is missing.
 pub fn text_at<'a>(table: &'a Table, key: &str) -> Result<Option<&'a str>, FieldWhy>
     ensures { Gives option_copied result (spec_text_at key.now (table_view table.now)) }
 {
@@ -39,7 +39,7 @@ pub fn text_at<'a>(table: &'a Table, key: &str) -> Result<Option<&'a str>, Field
     }
 }
 
-/// The integer at a key; none where the key is not there.
+/// Returns the integer at a key, or `None` if the key is missing.
 pub fn integer_at(table: &Table, key: &str) -> Result<Option<i64>, FieldWhy>
     ensures { result ≡ spec_integer_at key.now (table_view table.now) }
 {
@@ -52,7 +52,7 @@ pub fn integer_at(table: &Table, key: &str) -> Result<Option<i64>, FieldWhy>
     }
 }
 
-/// The values of an array.
+/// Returns the values of an array.
 #[tactic(auto, using(crate::proofs::Views::as_list_view))]
 pub fn as_list(value: &Value) -> Option<&[Value]>
     ensures { option_map (λ a. map view a.now) result ≡ spec_as_list (view value.now) }
@@ -63,7 +63,7 @@ pub fn as_list(value: &Value) -> Option<&[Value]>
     }
 }
 
-/// The array at a key; none where the key is not there.
+/// Returns the array at a key, or `None` if the key is missing.
 pub fn array_at<'a>(table: &'a Table, key: &str) -> Result<Option<&'a [Value]>, FieldWhy>
     ensures { Gives (option_map (λ a. map view a.now)) result (spec_array_at key.now (table_view table.now)) }
 {
@@ -76,7 +76,7 @@ pub fn array_at<'a>(table: &'a Table, key: &str) -> Result<Option<&'a [Value]>, 
     }
 }
 
-/// What has to be given.
+/// Returns the value, or `Missing` if it is not given.
 pub fn required<T>(given: Option<T>) -> Result<T, FieldWhy>
     ensures { result ≡ spec_required given }
 {
@@ -86,7 +86,7 @@ pub fn required<T>(given: Option<T>) -> Result<T, FieldWhy>
     }
 }
 
-/// The integer, between two limits.
+/// Returns the integer, or `Range` if it is not between the two limits.
 pub fn within(low: u32, high: u32, value: i64) -> Result<u32, FieldWhy>
     ensures value { result ≡ spec_within low high value }
     ensures bound { IfOk result (λ n. n ≤ high) }
@@ -97,7 +97,7 @@ pub fn within(low: u32, high: u32, value: i64) -> Result<u32, FieldWhy>
     }
 }
 
-/// The number of a name.
+/// Returns the number of a name.
 pub fn numbered(names: &Names, name: &str) -> Result<u8, FieldWhy>
     ensures { result ≡ spec_numbered names.now name.now }
 {
@@ -107,7 +107,7 @@ pub fn numbered(names: &Names, name: &str) -> Result<u8, FieldWhy>
     }
 }
 
-/// Whether a list's entries have this key; whether the top has it.
+/// Returns whether the entries of a list may have this key, or the top may.
 #[tactic(auto, unfolding(crate::specs::Fields::keys_of))]
 fn is_known(list: ListName, format: u8, key: &str) -> bool
     ensures { result ≡ has (keys_of list format) key.now }
@@ -121,7 +121,7 @@ fn is_known(list: ListName, format: u8, key: &str) -> bool
     }
 }
 
-/// Whether all keys of a table are known.
+/// Returns whether all keys of a table are known.
 #[tactic(auto, using(crate::proofs::Views::known_keys))]
 pub fn all_known(list: ListName, format: u8, table: &Table) -> bool
     ensures { result ≡ spec_all_known list format (table_view table.now) }

@@ -10,11 +10,11 @@ use crate::fault::{FieldWhy, Key, ListName, Place, TreeText, at};
 use crate::fields::{all_known, array_at, place};
 use toml::{Table, Value};
 
-/// The most tables, types and nodes that a tree has.
+/// The most tables, types and nodes of a tree.
 pub const MOST: usize = 64;
 
-/// The entries of the list at this key of the top: `least` to `most` of them, each of the list's form. A list that may have
-/// none may be left out.
+/// Returns the entries of the list at this key of the top: `least` to `most` of them, each of the list's form. A list that may be
+/// empty may be left out.
 pub fn list_at<'a>(
     list: ListName,
     word: &str,
@@ -75,7 +75,7 @@ fn is_entry(list: ListName, value: &Value) -> bool
     }
 }
 
-/// An entry that is a table of TOML, all of whose keys are known.
+/// Returns an entry that is a table of TOML with known keys only.
 pub fn table_entry(
     list: ListName,
     format: u8,
@@ -92,7 +92,7 @@ pub fn table_entry(
     Ok(table)
 }
 
-/// An entry that is a table of TOML.
+/// Returns an entry that is a table of TOML.
 pub fn entry(place: Place, value: &Value) -> Result<&Table, TreeText>
     ensures { Gives (λ t. table_view t.now) result (spec_at place (formed (as_table (view value.now)))) }
 {

@@ -13,7 +13,7 @@ use std::alloc::Global;
 use teb_names::{Kind, Names};
 use toml::{Table, Value};
 
-/// The types of a node; none where they are not given.
+/// Returns the types of a node: none if they are not given.
 pub fn read_members(
     alloc: Global,
     place: Place,

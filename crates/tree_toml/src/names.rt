@@ -11,7 +11,7 @@ use crate::fields::{required, text_at};
 use teb_names::{Names, is_name};
 use toml::Table;
 
-/// Adds a new name behind the others.
+/// Appends a new name.
 #[tactic(auto, unfolding(crate::specs::Names::named))]
 pub fn add_name(names: &mut Names, place: Place, name: &str) -> Result<(), TreeText>
     requires { length names.old < 255 }
@@ -27,7 +27,7 @@ pub fn add_name(names: &mut Names, place: Place, name: &str) -> Result<(), TreeT
     Ok(())
 }
 
-/// Adds the name of an entry behind the others.
+/// Appends the name of an entry.
 #[tactic(auto, unfolding(crate::specs::Types::name_in))]
 pub fn add_entry_name(names: &mut Names, place: Place, entry: &Table) -> Result<(), TreeText>
     requires { length names.old < 255 }

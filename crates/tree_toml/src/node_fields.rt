@@ -11,10 +11,10 @@ use crate::fields::{found, integer_at, numbered, required, text_at, within};
 use teb_names::{ControlKind, Names, Node};
 use toml::Table;
 
-/// How many transactions a batch admits where it is not given.
+/// The size of a batch, if it is not given.
 const USUAL_BATCH: u16 = 64;
 
-/// How a node regulates.
+/// Returns the control of a node.
 pub fn read_control(entry: &Table) -> Result<ControlKind, FieldWhy>
     ensures { result ≡ control_of (table_view entry.now) }
 {
@@ -33,8 +33,7 @@ fn control_named(word: &str) -> Result<ControlKind, FieldWhy>
     }
 }
 
-/// Whether the keys are those of this control: `batch` only of timestamp and snapshot nodes, `commit` only of timestamp
-/// nodes.
+/// Refuses `batch` on all but timestamp and snapshot nodes, and `commit` on all but timestamp nodes.
 pub fn own_keys(control: ControlKind, entry: &Table) -> Result<(), FieldWhy>
     ensures { result ≡ spec_own_keys control (table_view entry.now) }
 {
@@ -56,14 +55,14 @@ fn is_foreign(control: ControlKind, entry: &Table) -> bool
     }
 }
 
-/// Whether a key is there.
+/// Returns whether a key is given.
 pub fn has_key(entry: &Table, key: &str) -> bool
     ensures { result ≡ spec_has_key key.now (table_view entry.now) }
 {
     found(entry, key).is_some()
 }
 
-/// The parent; none where it is not given.
+/// Returns the parent, or `None` if it is not given.
 pub fn read_parent(nodes: &Names, entry: &Table) -> Result<Option<Node>, FieldWhy>
     ensures { Gives parent_number result (parent_of nodes.now (table_view entry.now)) }
 {
@@ -73,7 +72,7 @@ pub fn read_parent(nodes: &Names, entry: &Table) -> Result<Option<Node>, FieldWh
     }
 }
 
-/// How many transactions a batch admits.
+/// Returns how many transactions a batch admits.
 pub fn read_batch(entry: &Table) -> Result<u16, FieldWhy>
     ensures { result ≡ batch_of (table_view entry.now) }
 {
@@ -83,7 +82,7 @@ pub fn read_batch(entry: &Table) -> Result<u16, FieldWhy>
     }
 }
 
-/// Whether commits are ordered.
+/// Returns whether commits are ordered.
 pub fn read_commit(entry: &Table) -> Result<bool, FieldWhy>
     ensures { result ≡ commit_of (table_view entry.now) }
 {

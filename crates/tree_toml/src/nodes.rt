@@ -1,4 +1,4 @@
-//! The nodes of a tree text. They are gone through twice, so that every name is known when a parent is read.
+//! The nodes of a tree text. They are read in two passes, so that every name is known when a parent is read.
 
 ghost use Rattle.std.specs.Prelude.{◌≡◌, ◌≤◌, ◌<◌, ◌+◌, [], length, map, OnOk};
 ghost use Rattle.toml.specs.View.{view, table_view};
@@ -26,7 +26,7 @@ pub struct Nodes {
     pub rows: Vec<NodeRow>,
 }
 
-/// The nodes.
+/// Returns the nodes.
 pub fn read_nodes(
     alloc: Global,
     format: u8,
@@ -145,7 +145,7 @@ fn read_row(
     read_leaf(alloc, types, index, control, parent, entry)
 }
 
-// The row, behind its control and its parent.
+// The rest of a row, once its control and its parent are read.
 #[tactic(auto, unfolding(crate::specs::Nodes::leaf_row))]
 fn read_leaf(
     alloc: Global,

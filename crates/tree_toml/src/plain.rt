@@ -15,7 +15,7 @@ use store_setup::Setup;
 use teb_names::{ControlKind, Kind, NameBook, Names, Rows, Table};
 use txn_profile::Profile;
 
-/// The plain setup.
+/// Returns the plain setup.
 pub fn plain(alloc: Global) -> Result<Setup, TreeText>
     ensures { Answers setup_view result (Ok spec_plain) }
 {

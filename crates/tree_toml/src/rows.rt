@@ -13,7 +13,7 @@ use std::collections::BTreeMap;
 use teb_names::{Cell, MOST_ROWS, Names, Rows, Table as TableNumber};
 use toml::{Table, Value};
 
-/// The starting rows. They may come in any order: `n` of them cost `n log n`.
+/// Returns the starting rows. They may be in any order: n of them cost n log n.
 pub fn read_rows(alloc: Global, tables: &Names, table: &Table) -> Result<Rows, TreeText>
     ensures { Answers (λ rows. rows) result (rows_of tables.now (table_view table.now)) }
 {

@@ -1,4 +1,4 @@
-//! The setup that a text is.
+//! The setup of a tree text.
 
 ghost use Rattle.std.specs.Prelude.{◌≡◌, IfOk};
 ghost use Rattle.toml.specs.View.{table_view};
@@ -21,13 +21,12 @@ use store_setup::Setup;
 use teb_names::NameBook;
 use toml::Table;
 
-/// The setup that a text is. A text of spaces, tabs, carriage returns and line feeds alone is the plain setup: the table
+/// Returns the setup of a tree text. A text of spaces, tabs, carriage returns and line feeds alone is the plain setup: the table
 /// `t`, the type `any`, one locks leaf `root`, and no rows.
 ///
 /// # Errors
-/// `NotToml` where the text is not UTF-8, or no TOML; else the first fault of its keys and values, `Field`; else the first
-/// fault of the nodes as a tree, `Shape` or `Misplaced`. At any text that is not refused before, memory may be wanting:
-/// then the error is `OutOfMemory`.
+/// `NotToml` if the text is not UTF-8, or not TOML; else `Field`, the first fault of its keys and values; else `Shape` or
+/// `Misplaced`, the first fault of the nodes as a tree. `OutOfMemory` may come in place of each result.
 pub fn read_tree(alloc: Global, text: &[u8]) -> Result<Setup, TreeText>
     ensures setup { Answers setup_view result (setup_of_text text.now) }
     ensures whole { IfOk result (λ s. IsWhole (setup_view s)) }

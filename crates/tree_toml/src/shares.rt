@@ -22,7 +22,7 @@ pub struct Share {
 
 const WHOLE: Share = Share { part: 0, parts: 1 };
 
-/// The share of a node: both of its keys are given, or neither.
+/// Returns the share of a node. Both of its keys are given, or neither.
 pub fn read_share(index: u32, entry: &Table) -> Result<Share, TreeText>
     ensures { Gives share_view result (share_of index (table_view entry.now)) }
 {
@@ -51,7 +51,7 @@ fn read_part(parts: u8, entry: &Table) -> Result<u8, FieldWhy>
     Ok(within(0, u32::from(parts).saturating_sub(1), part)? as u8)
 }
 
-/// The share that a node has: without types it is in no parts.
+/// Returns the share of a node with these types. A node without types is in no parts.
 pub fn share_for(types: &[Kind], share: Share) -> Share
     ensures { share_view result ≡ spec_share_for (kind_numbers types.now) (share_view share) }
 {

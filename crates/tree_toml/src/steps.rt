@@ -18,7 +18,7 @@ use txn_profile::Profile;
 
 const MOST_STEPS: usize = 16;
 
-/// The profile of a type: where no steps are given, it has one with all tables.
+/// Returns the profile of a type. If no steps are given, it has one with all tables.
 pub fn read_profile(
     alloc: Global,
     place: Place,
@@ -63,7 +63,7 @@ fn all_tables(alloc: Global, tables: &Names) -> Result<Vec<TableNumber>, AllocEr
     Ok(step)
 }
 
-// The steps, where they are given: 1 to 16 arrays of texts.
+// The steps, if they are given: 1 to 16 arrays of texts.
 fn steps_form(entry: &Table) -> Result<Option<&[Value]>, FieldWhy>
     ensures { Gives (option_map (λ a. map view a.now)) result (spec_steps_form (table_view entry.now)) }
 {
@@ -95,7 +95,7 @@ fn is_step(value: &Value) -> bool
     }
 }
 
-/// Whether each value is a text.
+/// Returns whether each value is a text.
 pub fn are_texts(array: &[Value]) -> bool
     ensures { result ≡ list_all spec_is_text (map view array.now) }
 {
@@ -189,7 +189,7 @@ fn add_table(
     Ok(())
 }
 
-// The next table of a step, which the step does not have yet.
+// The next table of a step. The step must not have it yet.
 fn next_table(tables: &Names, step: &[TableNumber], value: &Value) -> Result<TableNumber, FieldWhy>
     ensures { Gives (λ t. numbers_of step.now ++ t.0 ∷ []) result (step_table tables.now (numbers_of step.now) (view value.now)) }
 {

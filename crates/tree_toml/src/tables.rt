@@ -13,7 +13,7 @@ use std::alloc::Global;
 use teb_names::Names;
 use toml::{Table, Value};
 
-/// The format, 1 to 3.
+/// Returns the format, 1 to 3.
 pub fn read_format(table: &Table) -> Result<u8, FieldWhy>
     ensures { result ≡ format_of (table_view table.now) }
 {
@@ -21,7 +21,7 @@ pub fn read_format(table: &Table) -> Result<u8, FieldWhy>
     Ok(within(1, 3, format)? as u8)
 }
 
-/// The names of the tables.
+/// Returns the names of the tables.
 pub fn read_tables(alloc: Global, table: &Table) -> Result<Names, TreeText>
     ensures tables { Answers (λ names. names) result (tables_of (table_view table.now)) }
     ensures few { IfOk result (λ names. (0 < length names) × (length names ≤ 64)) }

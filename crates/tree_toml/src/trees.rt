@@ -10,7 +10,7 @@ use crate::fault::TreeText;
 use cc_tree::{NodeRow, Tree, TreeError};
 use std::alloc::Global;
 
-/// The tree of these rows, for so many types.
+/// Returns the tree of these rows, for this number of types.
 pub fn grow(alloc: Global, rows: Vec<NodeRow>, types: u8) -> Result<Tree, TreeText>
     requires rows { AreRows types (rows_of rows.items) }
     requires some { 0 < length rows.items }

@@ -23,7 +23,7 @@ pub struct Types {
     pub profiles: Vec<Profile>,
 }
 
-/// The types.
+/// Returns the types.
 pub fn read_types(alloc: Global, tables: &Names, table: &Table) -> Result<Types, TreeText>
     requires { 0 < length tables.now }
     ensures types { Answers types_view result (types_of tables.now (table_view table.now)) }

@@ -44,7 +44,7 @@ use store_setup::Setup;
 use teb_names::{Cell, NameBook, Names};
 use txn_profile::Profile;
 
-/// Appends the tree text of a setup in a format, with these starting rows in place of its own.
+/// Appends the tree text of a setup in a format, with the given rows as its starting rows.
 pub fn put_tree_text(
     out: &mut Vec<u8>,
     format: u8,

@@ -49,7 +49,7 @@ fn put_parent(out: &mut Vec<u8>, nodes: &Names, parent: Option<Node>) -> Result<
     }
 }
 
-/// Appends the size of the batches, the order of the commits and the part of the instances, as far as they are to be told.
+/// Appends the size of the batches, the order of the commits and the part of the instances, if the node has them.
 fn put_parameters(out: &mut Vec<u8>, row: &NodeRow) -> Result<(), AllocError>
     ensures { OnOk result (out.new.items ≡ out.old.items ++ parameter_settings (row_of row.now)) }
 {

@@ -9,7 +9,7 @@ use line_words::name_at;
 use std::alloc::AllocError;
 use teb_names::Names;
 
-/// Appends what begins an entry of a list.
+/// Appends the header of an entry of a list.
 pub(crate) fn put_header(out: &mut Vec<u8>, word: &str) -> Result<(), AllocError>
     ensures { OnOk result (out.new.items ≡ out.old.items ++ header word.now) }
 {
@@ -48,7 +48,7 @@ pub(crate) fn put_name(
     put_text(out, key, name_at(names, number))
 }
 
-/// Appends a key and the sign after it.
+/// Appends a key and the equals sign after it.
 pub(crate) fn put_key(out: &mut Vec<u8>, key: &str) -> Result<(), AllocError>
     ensures { OnOk result (out.new.items ≡ out.old.items ++ (key.now ++ codes " = ")) }
 {
