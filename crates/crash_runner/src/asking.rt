@@ -17,7 +17,7 @@ use std::alloc::Global;
 use teb_names::{Request, Session};
 use version_chain::Chains;
 
-/// Asks one request, and logs the reply. Where the disk fails, the request was a commit, and nothing is logged.
+/// Asks one request, and logs the reply. If the disk fails, the request was a commit, and nothing is logged.
 pub(crate) fn ask<C: Chains, D: Disk>(
     alloc: Global,
     durable: &mut Durable<C, D>,
@@ -34,7 +34,7 @@ pub(crate) fn ask<C: Chains, D: Disk>(
     ensures asked { OnOk result (HasAsked durable.old.store ((session, request) ∷ []) log.old.items durable.old.events log.new.items durable.new.events) }
     ensures few { OnOk result (effects durable.new.events ≤ weight request + effects durable.old.events) }
     ensures one { OnOk result (effects durable.new.events ≤ 1 + effects durable.old.events) }
-    // Whatever would have been asked behind it.
+    // For any further requests.
     ensures stopped { (rest : Requests) → IsErrOf result halts.Stopped
         → StopsAt (D.tally durable.old.disk).promise durable.old.store (log.old.items ++ log_of durable.old.store durable.old.events ((session, request) ∷ rest)) (history_after durable.old.store durable.old.events ((session, request) ∷ rest))
         log.new.items (D.tally durable.new.disk) (D.safe durable.new.disk) }

@@ -14,8 +14,8 @@ use input_reader::Input;
 use script_text::MOST_LINES;
 use std::alloc::{AllocError, Global};
 
-/// Replays an input on a disk in memory that fails from its call `stop` on, 0 for none; then recovers what is left, and shows the
-/// replies that were given and the rows.
+/// Replays an input on a disk in memory that fails from its call `stop` on, 0 for none. Then it recovers what is left, and shows
+/// the replies that were given and the rows.
 pub fn run_crash(alloc: Global, stop: u32, input: Input) -> Result<Output, AllocError>
     requires { length input.lines ≤ MOST_LINES }
     ensures shown { IfOk result (IsCrash stop input) }

@@ -1,4 +1,4 @@
-//! The Ends of the sessions that hold a transaction, asked on a disk.
+//! End, asked on a disk for the sessions that hold a transaction.
 
 ghost use Rattle.std.specs.Prelude.{◌≡◌, ◌≤◌, ◌++◌, map, OnOk, IsErrOf};
 ghost use Rattle.teb_rules.specs.Run.{history_after};
@@ -33,7 +33,7 @@ pub(crate) fn ask_ends<C: Chains, D: Disk>(
     ensures underway { OnOk result (IsUnderway (D.tally durable.old.disk).promise D.tally D.safe durable.new log.new.items) }
     ensures asked { OnOk result (HasAsked durable.old.store (map end_of holders.now) log.old.items durable.old.events log.new.items durable.new.events) }
     ensures few { OnOk result (effects durable.new.events ≤ MOST_LINES) }
-    // Whatever would have been asked behind them.
+    // For any further requests.
     ensures stopped { (rest : Requests) → IsErrOf result halts.Stopped
         → StopsAt (D.tally durable.old.disk).promise durable.old.store (log.old.items ++ log_of durable.old.store durable.old.events (map end_of holders.now ++ rest)) (history_after durable.old.store durable.old.events (map end_of holders.now ++ rest))
         log.new.items (D.tally durable.new.disk) (D.safe durable.new.disk) }

@@ -1,4 +1,4 @@
-//! What is recovered from a disk that a run has left.
+//! What is recovered from the disk after a run.
 
 ghost use Rattle.std.specs.Prelude.{◌≡◌, List, length, IfOk};
 ghost use Rattle.teb_names.specs.declared.Cell.{Cell};
@@ -14,7 +14,7 @@ use record_journal::{RecoverError, Recovered};
 use std::alloc::{AllocError, Global};
 use teb_names::Rows;
 
-/// The rows that the records of a disk leave over some starting rows, where all that was not safe is lost.
+/// Returns the rows that the records of a disk leave over some starting rows, after everything that was not safe is lost.
 pub(crate) fn recover_left(
     alloc: Global,
     disk: MemDisk,

@@ -31,7 +31,7 @@ pub(crate) fn ask_lines<C: Chains, D: Disk>(
     ensures underway { OnOk result (IsUnderway (D.tally durable.old.disk).promise D.tally D.safe durable.new log.new.items) }
     ensures asked { OnOk result (HasAsked durable.old.store (requests_of lines.now) log.old.items durable.old.events log.new.items durable.new.events) }
     ensures few { OnOk result (effects durable.new.events ≤ length lines.now + effects durable.old.events) }
-    // Whatever would have been asked behind them.
+    // For any further requests.
     ensures stopped { (rest : Requests) → IsErrOf result halts.Stopped
         → StopsAt (D.tally durable.old.disk).promise durable.old.store (log.old.items ++ log_of durable.old.store durable.old.events (requests_of lines.now ++ rest)) (history_after durable.old.store durable.old.events (requests_of lines.now ++ rest))
         log.new.items (D.tally durable.new.disk) (D.safe durable.new.disk) }

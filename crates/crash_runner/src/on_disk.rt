@@ -24,7 +24,7 @@ use std::alloc::{AllocError, Global};
 use store_setup::Setup;
 use version_chain::Chains;
 
-/// What a run on a disk has come to: the replies that were given, whether the disk has failed, and the disk.
+/// The result of a run on a disk: the replies that were given, whether the disk has failed, and the disk.
 #[derive(Drop)]
 pub(crate) struct DiskRun<D> {
     pub(crate) given: Vec<Answered>,
@@ -81,7 +81,7 @@ fn replay_durable<C: Chains, D: Disk + Drop>(
     })
 }
 
-// The lines, and then End for each session that holds a transaction.
+// Asks the lines, and then End for each session that holds a transaction.
 fn ask_all<C: Chains, D: Disk>(
     alloc: Global,
     durable: &mut Durable<C, D>,

@@ -1,4 +1,4 @@
-//! What stays of a setup when its store is gone.
+//! What is kept of a setup after its store is gone.
 
 ghost use Rattle.std.specs.Prelude.{◌≡◌, IfOk};
 

@@ -10,7 +10,7 @@ use script_text::{Answered, put_recovered};
 use std::alloc::{AllocError, Global};
 use teb_names::NameBook;
 
-/// The replies that were given, whether the run stopped, and what was recovered.
+/// Returns the replies that were given, whether the run stopped, and what was recovered.
 pub(crate) fn text_of(
     alloc: Global,
     names: &NameBook,

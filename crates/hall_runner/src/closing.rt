@@ -1,4 +1,4 @@
-//! The end of a hall whose scripts are worked through.
+//! The end of a hall whose scripts are done.
 
 ghost use Rattle.std.specs.Prelude.{◌≡◌, All, map, IfOk};
 ghost use Rattle.teb_history.specs.Phases.{numbers};
@@ -16,7 +16,7 @@ use session_server::{Hall, Pass};
 use std::alloc::{AllocError, Global};
 use teb_names::SESSIONS;
 
-/// Closes the hall, and prints the run that it was.
+/// Closes the hall, and prints its run.
 pub fn closed(
     alloc: Global,
     hall: Hall<PooledChains>,

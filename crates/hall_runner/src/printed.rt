@@ -25,7 +25,7 @@ use teb_history::Event;
 use teb_names::NameBook;
 use version_chain::Chains;
 
-/// The printed run of an engine, with status 0, and its history.
+/// Returns the printed run of an engine, with status 0, and its history.
 pub fn output_of(alloc: Global, engine: Engine<PooledChains>) -> Result<Output, AllocError>
     requires { (m : SetupView) × (log : List Answered) × HasNames m × IsRunOver m engine.store engine.names log engine.events }
     ensures run { IfOk result (λ o. (o.status ≡ 0) × (o.history ≡ Some engine.events)
@@ -36,7 +36,7 @@ pub fn output_of(alloc: Global, engine: Engine<PooledChains>) -> Result<Output, 
     Ok(Output::new(OK, text, Some(engine.into_history())))
 }
 
-/// The start lines, the event lines of the engine's history, and the report.
+/// Returns the start lines, the event lines of the engine's history, and the report.
 fn printed<C: Chains>(alloc: Global, engine: &Engine<C>) -> Result<Vec<u8>, AllocError>
     requires starts { RowsNamed engine.now.names engine.now.store.rows }
     requires events { All (EventNamed engine.now.names) (reverse engine.now.events) }

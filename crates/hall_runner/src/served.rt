@@ -1,13 +1,13 @@
-//! What a run by several threads comes to.
+//! The result of a run by several threads.
 
 use chain_pool::PooledChains;
 use command_output::Output;
 use session_server::{Entries, Pass};
 
-/// What a run by several threads comes to.
+/// The result of a run by several threads.
 #[derive(Drop)]
 pub enum Served {
-    /// All scripts were worked through: the output, and the entries in the order in which they were answered.
+    /// All scripts are done: the output, and the entries in the order in which they were answered.
     Through { output: Output, entries: Entries },
     /// The session of this pass has asked as often as it may.
     Spent(Pass<PooledChains>),

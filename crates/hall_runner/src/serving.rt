@@ -1,4 +1,4 @@
-//! How so many workers serve the scripts of an input.
+//! Workers that serve the scripts of an input.
 
 ghost use Rattle.std.specs.Prelude.{◌≡◌, ◌≤◌, [], All, map, IfOk, IfErr};
 ghost use Rattle.teb_history.specs.Phases.{numbers};
@@ -26,7 +26,7 @@ use teb_names::SESSIONS;
 use thread_runner::run_threads;
 use version_chain::Chains;
 
-/// How the sessions come to the workers.
+/// How the sessions get to the workers.
 #[derive(Clone, Copy, Debug, PartialEq, Eq)]
 enum Runner {
     /// They are dealt beforehand.
@@ -35,8 +35,8 @@ enum Runner {
     Pool,
 }
 
-/// Serves the script of each session by so many workers, to whom the sessions are dealt. The gate is called round each
-/// request.
+/// Serves the script of each session on this number of workers, among which the sessions are divided beforehand. The hook `gate`
+/// is called before and after each request.
 pub fn serve_by_threads<R: Threads + Wait + Sync, G: Gate + Sync>(
     rt: &R,
     alloc: Global,
@@ -51,8 +51,8 @@ pub fn serve_by_threads<R: Threads + Wait + Sync, G: Gate + Sync>(
     serve_input(rt, alloc, Runner::Threads, input, workers, gate)
 }
 
-/// Serves the script of each session by so many workers, who take the sessions from a queue. The gate is called round
-/// each request.
+/// Serves the script of each session on this number of workers, which take the sessions from a queue. The hook `gate` is called
+/// before and after each request.
 pub fn serve_by_pool<R: Threads + Wait + Sync, G: Gate + Sync>(
     rt: &R,
     alloc: Global,
@@ -86,7 +86,7 @@ fn serve_input<R: Threads + Wait + Sync, G: Gate + Sync>(
     serve_scripts(rt, alloc, runner, engine, &scripts, workers, gate)
 }
 
-/// Serves the scripts in a hall over an engine to which nothing has happened yet.
+/// Serves the scripts in a hall over an engine with an empty history.
 fn serve_scripts<R: Threads + Wait + Sync, G: Gate + Sync>(
     rt: &R,
     alloc: Global,
@@ -113,7 +113,7 @@ fn serve_scripts<R: Threads + Wait + Sync, G: Gate + Sync>(
     }
 }
 
-/// Serves the sessions, and hands back their passes in order.
+/// Serves the sessions, and returns their passes in order.
 fn serve_sessions<C: Chains + Send, R: Threads + Wait + Sync, G: Gate + Sync>(
     rt: &R,
     alloc: Global,
@@ -138,7 +138,7 @@ fn serve_sessions<C: Chains + Send, R: Threads + Wait + Sync, G: Gate + Sync>(
     }
 }
 
-/// Serves the sessions from a queue, and hands back their passes in order.
+/// Serves the sessions from a queue, and returns their passes in order.
 fn serve_from_queue<C: Chains + Send, R: Threads + Wait + Sync, G: Gate + Sync>(
     rt: &R,
     alloc: Global,

@@ -9,13 +9,13 @@ use script_text::Line;
 use std::marker::Model;
 use store_setup::Setup;
 
-/// A setup, and the lines to be run over its store. The store can be set up, each node has a name, all
-/// names are as names may be, and the lines are of sessions 1 to `SESSIONS`.
+/// A setup, and the lines to be run over its store. The store can be set up, each node has a name, all names are valid, and the
+/// lines are of sessions 1 to `SESSIONS`.
 #[derive(Drop)]
 pub struct Input {
     setup: Setup,
     lines: Vec<Line>,
-    // The bytes that it was read from, kept for their memory alone: no contract tells them.
+    // The bytes that it was read from, kept only for their memory: no contract tells them.
     text: Option<Vec<u8>>,
 }
 
@@ -33,7 +33,7 @@ impl Model for Input {
 }
 
 impl Input {
-    /// The input of these parts.
+    /// Returns the input with these parts.
     pub fn new(setup: Setup, lines: Vec<Line>) -> Input
         requires whole { IsWhole (setup_view setup) }
         requires named { IsNamed (setup_view setup) }
@@ -48,7 +48,7 @@ impl Input {
         }
     }
 
-    /// The same input, with the bytes that it was read from.
+    /// Returns the same input, with the bytes that it was read from.
     pub(crate) fn with_text(mut self, text: Vec<u8>) -> Input
         ensures { result ≡ self }
     {
@@ -56,22 +56,22 @@ impl Input {
         self
     }
 
-    /// The bytes that it was read from, which it gives away: none where it was made of parts, or has given them away
-    /// before. A run writes its text into their memory, and so gives no large block back. The setup and the lines stay.
+    /// Takes the bytes that it was read from; `None` if it was made of parts, or they were taken before. A run writes its text
+    /// into their memory, and so frees no large block. The setup and the lines stay.
     pub fn take_text(&mut self) -> Option<Vec<u8>>
         ensures { self.new ≡ self.old }
     {
         self.text.take()
     }
 
-    /// The setup that the tree text gives.
+    /// Returns the setup of the tree text.
     pub fn setup(&self) -> &Setup
         ensures { setup_view result.now ≡ self.now.setup }
     {
         &self.setup
     }
 
-    /// The setup and the lines.
+    /// Returns the setup and the lines.
     pub fn into_parts(self) -> (Setup, Vec<Line>)
         ensures setup { setup_view result.0 ≡ self.setup }
         ensures whole { IsWhole (setup_view result.0) }

@@ -11,7 +11,7 @@ use std::alloc::Global;
 use teb_io::{ReadError, Source, read_all};
 use tree_toml::read_tree;
 
-/// Reads a source to its end, where it has at most `MOST_BYTES` bytes.
+/// Reads a source to its end, if it has at most `MOST_BYTES` bytes.
 pub fn read_bytes<S: Source>(alloc: Global, source: &mut S) -> Result<Vec<u8>, ReadError>
     ensures bytes { AreReadFrom (S.left source.old) (S.left source.new) result }
     ensures fault { IsErrOf result ReadError.ReadFault → Rose (S.faults source.old) (S.faults source.new) }
@@ -21,11 +21,11 @@ pub fn read_bytes<S: Source>(alloc: Global, source: &mut S) -> Result<Vec<u8>, R
     read_all(alloc, source, MOST_BYTES)
 }
 
-/// Reads a source to its end, and what it reads as an input, which keeps the bytes (`Input::take_text`).
+/// Reads a source to its end, and parses it as an input, which keeps the bytes (`Input::take_text`).
 ///
 /// # Errors
-/// `ReadFault` where a read fails, else the first of `TooLong` by bytes, `NoSeparator`, `TooLong` by lines, `BadTree` and
-/// `BadLine`. `OutOfMemory` may come in place of each but `ReadFault`.
+/// `ReadFault` if a read fails; else the first of `TooLong` by bytes, `NoSeparator`, `TooLong` by lines, `BadTree` and `BadLine`.
+/// `OutOfMemory` may come in place of each but `ReadFault`.
 pub fn read_input<S: Source>(alloc: Global, source: &mut S) -> Result<Input, InputError>
     ensures read { IsReadFrom (S.left source.old) (S.left source.new) result }
     ensures fault { IsErrOf result InputError.ReadFault → Rose (S.faults source.old) (S.faults source.new) }
@@ -37,7 +37,7 @@ pub fn read_input<S: Source>(alloc: Global, source: &mut S) -> Result<Input, Inp
     Ok(input.with_text(bytes))
 }
 
-/// The input that these bytes are: the tree part, a line `%%`, and the script part.
+/// Returns the input in these bytes: the tree part, a line `%%`, and the script part.
 ///
 /// # Errors
 /// The first of `NoSeparator`, `TooLong` by lines, `BadTree` and `BadLine`, or `OutOfMemory`.

@@ -1,4 +1,4 @@
-//! What is put out for an input that is refused.
+//! The output for an input that is refused.
 
 ghost use Rattle.std.specs.Prelude.{◌≡◌, ◌≢◌, IfOk};
 ghost use Rattle.input_reader.specs.Refusals.{why_text, refusal};
@@ -10,7 +10,7 @@ use script_text::LineWhy;
 use std::alloc::{AllocError, Global};
 use tree_toml::{TreeText, put_fault};
 
-/// The status and the line of a fault. A read that failed has none.
+/// Returns the status and the line of a fault. A read that failed has no line.
 pub fn refusal(alloc: Global, error: &InputError) -> Result<Output, AllocError>
     requires { error.now ≢ InputError.ReadFault }
     ensures { IfOk result (λ o. o ≡ refusal error.now) }
@@ -31,7 +31,7 @@ pub fn refusal(alloc: Global, error: &InputError) -> Result<Output, AllocError>
     }
 }
 
-/// The line of a fault of the tree part.
+/// Returns the line of a fault of the tree part.
 fn bad_tree(alloc: Global, why: &TreeText) -> Result<Output, AllocError>
     ensures { IfOk result (λ o. o ≡ refusal (InputError.BadTree why.now)) }
 {

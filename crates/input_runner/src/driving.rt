@@ -17,8 +17,8 @@ use std::marker::Brand;
 use std::sync::ledger::{Blank, Ledger};
 use version_chain::Chains;
 
-/// Asks the sessions in turns, each along its script, until all are worked through. The log takes up the replies. The
-/// engine as it stands after it.
+/// Asks the sessions in turns, each along its script, until all are done. The replies go to the log. Returns the engine after the
+/// run.
 pub fn in_turns<G: Log>(
     alloc: Global,
     input: Input,
@@ -33,8 +33,7 @@ pub fn in_turns<G: Log>(
     Ok(engine)
 }
 
-/// Logs the replies of an engine to which nothing has happened yet. The driver counts its requests on the ledger that the
-/// blank opens.
+/// Logs the replies of an engine with an empty history. The driver counts its requests on the ledger that the blank opens.
 fn drive<C: Chains, G: Log, L: Ledger>(
     alloc: Global,
     engine: &mut Engine<C>,

@@ -11,8 +11,8 @@ use input_reader::Input;
 use replay_runner::replay;
 use std::alloc::{AllocError, Global};
 
-/// Asks each line once, in order, and then End for each session that holds a transaction. The log takes up the replies.
-/// The engine as it stands after it.
+/// Asks each line once, in order, and then End for each session that holds a transaction. The replies go to the log. Returns the
+/// engine after the run.
 pub fn in_order<L: Log>(
     alloc: Global,
     input: Input,

@@ -1,4 +1,4 @@
-//! What is put out of a run.
+//! The output of a run.
 
 ghost use Rattle.std.specs.Prelude.{◌≡◌, Some};
 
@@ -7,7 +7,7 @@ use command_output::Output;
 use command_output::status::OK;
 use engine_core::Engine;
 
-/// What is put out of a run, with this text: the engine as it stands after it gives its history.
+/// Returns the output of a run with this text. The engine after the run gives its history.
 pub fn output_of(engine: Engine<PooledChains>, text: Vec<u8>) -> Output
     ensures { result ≡ record { status = 0; text = text.items; history = Some engine.events } }
 {

@@ -18,7 +18,7 @@ use std::alloc::{AllocError, Global};
 use teb_names::NameBook;
 use version_chain::Chains;
 
-/// The replies, the serial order and the final tables. The text of the replies becomes that of the report.
+/// Returns the replies, the serial order and the final tables. The text of the replies becomes that of the report.
 pub fn report_of<C: Chains>(
     alloc: Global,
     engine: &Engine<C>,
@@ -34,7 +34,7 @@ pub fn report_of<C: Chains>(
     Ok(text)
 }
 
-/// Appends the serial order and the final tables. After an `Err` some of it is appended.
+/// Appends the serial order and the final tables. After an error some of it is appended.
 pub fn put_ending<C: Chains>(
     alloc: Global,
     out: &mut Vec<u8>,
@@ -48,7 +48,7 @@ pub fn put_ending<C: Chains>(
     put_report(out, &engine.setup().names, &order, &rows)
 }
 
-/// Appends the replies. After an `Err` some of them are appended.
+/// Appends the replies. After an error some of them are appended.
 pub fn put_replies(out: &mut Vec<u8>, names: &NameBook, log: &[Answered]) -> Result<(), AllocError>
     requires { All (λ a. ReplyNamed names.now a.reply) log.now }
     ensures { OnOk result (out.new.items ≡ out.old.items ++ flat_map (reply_text names.now) log.now) }

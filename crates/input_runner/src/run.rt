@@ -14,7 +14,7 @@ use command_output::Output;
 use input_reader::Input;
 use std::alloc::{AllocError, Global};
 
-/// Runs an input as one interleaving of its sessions, and reports.
+/// Runs an input as one interleaving of its sessions, and returns the report.
 pub fn run_replay(alloc: Global, mut input: Input) -> Result<Output, AllocError>
     ensures shown { IfOk result (IsRun IsReplay IsReport input) }
     ensures serialized { IfOk result (λ o. IsSerialized (λ m. input.setup ≡ m) o.history) }
@@ -25,7 +25,7 @@ pub fn run_replay(alloc: Global, mut input: Input) -> Result<Output, AllocError>
     Ok(output_of(engine, text))
 }
 
-/// Runs one script for each session, in turns, and reports.
+/// Runs one script for each session, in turns, and returns the report.
 pub fn run_turns(alloc: Global, mut input: Input) -> Result<Output, AllocError>
     ensures shown { IfOk result (IsRun AreTurns IsReport input) }
     ensures serialized { IfOk result (λ o. IsSerialized (λ m. input.setup ≡ m) o.history) }
@@ -36,8 +36,8 @@ pub fn run_turns(alloc: Global, mut input: Input) -> Result<Output, AllocError>
     Ok(output_of(engine, text))
 }
 
-/// The text of no replies yet, in the memory of the text that the input was read from, where the input keeps it. So a
-/// run gives no large block back before it is over.
+/// Returns the text of no replies yet, in the memory of the text that the input was read from, if the input keeps it. So a run
+/// frees no large block before it is over.
 fn no_replies(alloc: Global, input: &mut Input) -> ReplyText
     ensures same { input.new ≡ input.old }
     ensures blank { (names : NameBook) → HasLines result names [] }

@@ -1,4 +1,4 @@
-//! The writing of what a command puts out.
+//! The writing of a command's output.
 
 ghost use Rattle.std.specs.Prelude.{◌≡◌, ◌≢◌, MatchResult, None};
 ghost use Rattle.std.specs.Io.KnownBytes.{Keeps};
@@ -13,7 +13,7 @@ use std::alloc::AllocError;
 use teb_history::History;
 use teb_io::{Sink, write_whole};
 
-/// Ends with a status where there is nothing to write and nothing to keep.
+/// Ends with a status, with nothing to write and nothing to keep.
 pub fn silent(status: u8) -> WrittenOutput
     ensures { result ≡ record { status = status; history = None } }
 {
@@ -23,7 +23,7 @@ pub fn silent(status: u8) -> WrittenOutput
     }
 }
 
-/// Writes the text, and ends with the status, or, where the text can't be written whole, with that of a write fault.
+/// Writes the text, and ends with the status, or with that of a write fault if the text cannot be written whole.
 pub fn write<K: Sink>(
     out: &mut K,
     status: u8,
@@ -42,7 +42,7 @@ pub fn write<K: Sink>(
     WrittenOutput { status, history }
 }
 
-/// Writes what a command puts out; nothing if it is out of memory.
+/// Writes the output of a command; nothing if it ran out of memory.
 pub fn put_out<K: Sink>(out: &mut K, output: Result<Output, AllocError>) -> WrittenOutput
     ensures written { MatchResult output (λ o. IsWritten o result.status result.history (K.written out.old) (K.written out.new)) (λ _. result.status ≡ 8) }
     ensures fault { result.status ≡ 4 → Rose (K.faults out.old) (K.faults out.new) }

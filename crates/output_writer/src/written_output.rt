@@ -1,12 +1,12 @@
-//! What is left of an output that is written.
+//! What is kept of an output after it is written.
 
 use teb_history::History;
 
-/// What is left of a command's output once it is written.
+/// What is kept of a command's output after it is written.
 #[derive(Drop)]
 pub struct WrittenOutput {
-    /// The status to end with: the command's, or that of a fault in the writing.
+    /// The status to end with: that of the command, or that of a write fault.
     pub status: u8,
-    /// The history, where there was a run.
+    /// The history of the run, if there was one.
     pub history: Option<History>,
 }

@@ -6,26 +6,26 @@ use std::alloc::{AllocError, AllocFailed};
 use thiserror::Error;
 use tree_toml::TreeText;
 
-/// Why the pairs of a tree part and a script part can't be phases.
+/// Why the pairs of a tree part and a script part cannot be phases.
 #[derive(Clone, Copy, Debug, PartialEq, Eq)]
 pub enum PhaseWhy {
     /// There are more than 16 pairs.
     Many,
     /// The last pair has no script part.
     Script,
-    /// The names of the tables are not those of the pair before.
+    /// The names of the tables are not those of the previous pair.
     Tables,
-    /// The tree part of a later pair has rows of its own.
+    /// The tree part of a later pair has starting rows.
     Rows,
 }
 
 /// Why an input of phases is refused.
 #[derive(Clone, Copy, Debug, PartialEq, Eq, Drop, Error)]
 pub enum PhaseError {
-    /// The pair, by its number from 1, can't be a phase.
+    /// The pair, by its number from 1, cannot be a phase.
     #[error("phase {pair} is bad: {why:?}")]
     BadPhase { pair: u8, why: PhaseWhy },
-    /// What is refused of any input: it has too many lines, or a part of it has a fault.
+    /// What is refused in any input: too many lines, or a fault in a part of it.
     #[error("the input is refused: {0}")]
     BadInput(InputError),
 }

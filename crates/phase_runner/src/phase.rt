@@ -22,7 +22,7 @@ use store_setup::Setup;
 use tree_switch::{Phases, SwitchError};
 use version_chain::Chains;
 
-/// The first phase, after the task has run in it over chains with no version. Its report is appended.
+/// Returns the first phase, after the task has run in it over chains with no version. Its report is appended.
 pub fn first_phase<C: Chains>(
     alloc: Global,
     chains: C,
@@ -39,7 +39,8 @@ pub fn first_phase<C: Chains>(
     run_present(alloc, Phases::new(alloc, engine), &lines, text)
 }
 
-/// The phases with one more, after the task has run in it over the tables that the phase before left. Its report is appended.
+/// Returns the phases with one more, after the task has run in it over the tables that the previous phase left. Its report is
+/// appended.
 pub fn next_phase<C: Chains>(
     alloc: Global,
     chains: C,
@@ -58,7 +59,7 @@ pub fn next_phase<C: Chains>(
     run_present(alloc, phases, &lines, text)
 }
 
-/// Starts the next phase, where nothing stands against it.
+/// Starts the next phase, if no condition forbids it.
 fn switch<C: Chains>(
     alloc: Global,
     phases: &mut Phases<C>,
@@ -77,7 +78,7 @@ fn switch<C: Chains>(
     }
 }
 
-/// The one cause that is left where nothing stands against the switch.
+/// Out of memory: the only remaining cause, if no condition forbids the switch.
 fn want_of_memory(why: SwitchError) -> AllocError
     requires { why ≡ SwitchError.OutOfMemory }
 {
@@ -87,7 +88,7 @@ fn want_of_memory(why: SwitchError) -> AllocError
     }
 }
 
-/// Replays the lines in the present phase, in which nothing has happened yet, and appends the report.
+/// Replays the lines in the present phase, which has an empty history, and appends the report.
 fn run_present<C: Chains>(
     alloc: Global,
     phases: Phases<C>,

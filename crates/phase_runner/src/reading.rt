@@ -21,13 +21,13 @@ use tree_toml::read_tree;
 /// The most pairs of a tree part and a script part.
 const MOST_PAIRS: usize = 16;
 
-/// The phases that these bytes are: tree part, script part, tree part, script part, and so on, between lines `%%`.
+/// Returns the phases of these bytes: tree part, script part, tree part, script part, and so on, between lines `%%`.
 ///
 /// # Errors
-/// `BadPhase` where there are more than 16 pairs, or the last one has no script part; else `BadInput` by `TooLong` where there
-/// are more than `MOST_LINES` lines behind the first `%%`. Else the first fault of the pairs, one after another, and in each of its
-/// tree part, of its tables and rows in `BadPhase`, and of its script part, whose lines are numbered from 1. `BadInput` by
-/// `OutOfMemory` may come in place of each.
+/// `BadPhase` if there are more than 16 pairs, or the last one has no script part; else `BadInput` with `TooLong` if there are
+/// more than `MOST_LINES` lines after the first `%%`. Else the first fault of the pairs, one after another, and in each pair that
+/// of its tree part, of its tables and rows (`BadPhase`), and of its script part, whose lines are numbered from 1. `BadInput`
+/// with `OutOfMemory` may come in place of each.
 pub fn read_phases(alloc: Global, bytes: &[u8]) -> Result<VecDeque<Input>, PhaseError>
     requires { length bytes.now ≤ MOST_BYTES }
     ensures { (parts : _) × AreParts bytes.now parts × IsRead (λ v. v.items) result (phases_of bytes.now parts) }
@@ -51,7 +51,7 @@ fn bad_phase(pair: u8, why: PhaseWhy) -> PhaseError
     PhaseError::BadPhase { pair, why }
 }
 
-/// Whether there are more lines behind the first separator than a script may have.
+/// Returns whether more lines follow the first separator than a script may have.
 fn is_long(bytes: &[u8]) -> bool
     ensures { result ≡ spec_is_long (parts_of bytes.now) }
 {
@@ -80,10 +80,10 @@ fn read_pairs(alloc: Global, parts: &[&[u8]]) -> Result<VecDeque<Input>, PhaseEr
     Ok(tasks)
 }
 
-/// A tree part and the script part behind it.
+/// A tree part and the script part after it.
 #[derive(Clone, Copy)]
 struct Pair<'a> {
-    /// From 1.
+    /// Its number, from 1.
     number: u8,
     tree: &'a [u8],
     script: &'a [u8],
@@ -99,7 +99,7 @@ fn read_pair(alloc: Global, before: Option<&Input>, pair: Pair) -> Result<Input,
     Ok(Input::new(setup, lines))
 }
 
-/// Whether a setup may be that of a phase behind another one, or of the first.
+/// Checks whether a setup may be that of the first phase, or of a phase after another one.
 fn check_following(number: u8, before: Option<&Input>, setup: &Setup) -> Result<(), PhaseError>
     ensures { result ≡ following number (option_copied before.entry) (setup_view setup.now) }
 {
@@ -109,7 +109,7 @@ fn check_following(number: u8, before: Option<&Input>, setup: &Setup) -> Result<
     }
 }
 
-/// Whether a setup may be that of a phase behind one of another setup.
+/// Checks whether a setup may be that of the phase after one with another setup.
 fn check_behind(number: u8, before: &Setup, setup: &Setup) -> Result<(), PhaseError>
     ensures { result ≡ behind number (setup_view before.now) (setup_view setup.now) }
 {

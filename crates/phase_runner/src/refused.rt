@@ -1,4 +1,4 @@
-//! What is put out for an input of phases that is refused.
+//! The output for an input of phases that is refused.
 
 ghost use Rattle.std.specs.Prelude.{◌≡◌, ◌≢◌, IfOk};
 ghost use Rattle.phase_runner.specs.Refusals.{phase_refusal as spec_phase_refusal, why_text as spec_why_text};
@@ -9,7 +9,7 @@ use command_output::status::BAD_PHASE;
 use input_reader::{InputError, refusal};
 use std::alloc::{AllocError, Global};
 
-/// The status and the line of a fault.
+/// Returns the status and the line of a fault.
 pub fn phase_refusal(alloc: Global, error: &PhaseError) -> Result<Output, AllocError>
     requires { error.now ≢ PhaseError.BadInput InputError.ReadFault }
     ensures { IfOk result (λ o. o ≡ spec_phase_refusal error.now) }

@@ -15,8 +15,8 @@ use script_text::MOST_BYTES;
 use std::alloc::{AllocError, Global};
 use std::collections::VecDeque;
 
-/// Runs the phases of an input, each over the tables that the one before it left, and reports each; or says what is wrong with the
-/// input, where no phase may run.
+/// Runs the phases of an input, each over the tables that the previous one left, and returns their reports. If the input has a
+/// fault, no phase runs, and the fault is returned.
 pub fn run_phases(alloc: Global, bytes: &[u8]) -> Result<Output, AllocError>
     requires { length bytes.now ≤ MOST_BYTES }
     ensures shown { IfOk result (λ o. ArePhases bytes.now o) }
@@ -36,7 +36,7 @@ fn run_in_turn(alloc: Global, tasks: VecDeque<Input>) -> Result<Output, AllocErr
     Ok(Output::new(OK, text, None))
 }
 
-/// The reports of the tasks, one after another.
+/// Returns the reports of the tasks, one after another.
 fn reports(alloc: Global, mut tasks: VecDeque<Input>) -> Result<Vec<u8>, AllocError>
     requires { AreFollowing tasks.items }
     ensures { IfOk result (λ v. RunInTurn tasks.items v.items) }

@@ -1,4 +1,4 @@
-//! Which sessions wait and which have nothing to do.
+//! Which sessions wait, and which have nothing to do.
 
 ghost use Rattle.std.specs.Prelude.{◌≡◌, ℕ, ◌+◌, All, map, IfOk};
 ghost use Rattle.teb_history.specs.Phases.{numbers};
@@ -21,13 +21,13 @@ pub(crate) struct Divided<C: Chains>
 where
     EngineServer<C>: Server,
 {
-    /// Those that have a script, in ascending order.
+    /// The sessions with a script, in ascending order.
     pub waiting: VecDeque<Waiting<C>>,
     /// The others, each begun.
     pub idle: Vec<Task<C>>,
 }
 
-/// Divides the sessions into those that have a script and those that have none.
+/// Divides the sessions into those with a script and those without.
 pub(crate) fn divide<C: Chains, G: Gate>(
     run: &Run<'_, C, G>,
     alloc: Global,

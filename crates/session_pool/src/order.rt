@@ -16,7 +16,7 @@ use std::collections::VecDeque;
 use teb_names::{SESSIONS, Session};
 use version_chain::Chains;
 
-/// The sessions in each hand.
+/// Returns the sessions in each hand.
 pub(crate) fn sessions_in<C: Chains>(
     alloc: Global,
     hands: &[Vec<Task<C>>],
@@ -30,7 +30,7 @@ pub(crate) fn sessions_in<C: Chains>(
     Ok(lists)
 }
 
-/// The sessions of some tasks.
+/// Returns the sessions of some tasks.
 fn sessions_of<C: Chains>(alloc: Global, tasks: &[Task<C>]) -> Result<Vec<Session>, AllocError>
     ensures { IfOk result (λ v. map (λ s. s.0) v.items ≡ map number_in tasks.now) }
 {
@@ -41,7 +41,7 @@ fn sessions_of<C: Chains>(alloc: Global, tasks: &[Task<C>]) -> Result<Vec<Sessio
     Ok(sessions)
 }
 
-/// These tasks, and behind them those of each hand.
+/// Returns these tasks, followed by those of each hand.
 pub(crate) fn all_tasks<C: Chains>(
     mut tasks: Vec<Task<C>>,
     hands: Vec<Vec<Task<C>>>,
@@ -55,7 +55,7 @@ pub(crate) fn all_tasks<C: Chains>(
     Ok(tasks)
 }
 
-/// The tasks of all sessions in order, or the error of the first that met one.
+/// Returns the tasks of all sessions in order, or the error of the first session that met one.
 pub(crate) fn in_order<C: Chains, G: Gate>(
     run: &Run<'_, C, G>,
     mut tasks: Vec<Task<C>>,

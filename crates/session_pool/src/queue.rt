@@ -14,9 +14,9 @@ use crossbeam_queue::{Pass, RuledArrayQueue};
 use std::marker::{Brand, PhantomData};
 use version_chain::Chains;
 
-/// Which sessions a queue hands out, and of which hall. Each call picks it.
+/// Which sessions a queue hands out, and of which hall. Each call chooses it.
 pub trait Roster {
-    /// The sessions, which rise.
+    /// The sessions, in ascending order.
     ghost numbers: { List ℕ };
 
     /// Whether a table and a base are those of the hall.
@@ -43,5 +43,5 @@ impl<C: Chains, J: Roster> Protocol<Waiting<C>, Tally> for OnceEach<J> {
 /// A queue that hands out a roster.
 pub type SessionQueue<C, J> = RuledArrayQueue<Waiting<C>, Tally, OnceEach<J>>;
 
-/// The right to use such a queue. It has no bytes, and is no session's pass.
+/// The right to use such a queue. It has no bytes, and is not the pass of a session.
 pub type Token<C> = Pass<Waiting<C>, Tally>;

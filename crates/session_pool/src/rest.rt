@@ -1,4 +1,4 @@
-//! What the workers have taken, and what they left.
+//! What the workers have taken, and what is left.
 
 ghost use Rattle.std.specs.Prelude.{◌≡◌, ℕ, ◌+◌, ◌-◌, ◌<◌, ◌≤◌, [], true, All, map, length, IfOk, OnOk, vec_len, vec_capacity};
 ghost use Rattle.turn_lock.specs.Counts.{total};
@@ -20,7 +20,7 @@ use std::sync::Wait;
 use teb_names::SESSIONS;
 use version_chain::Chains;
 
-/// The hands of the workers. Their tokens go into this one, which then is the only one, and knows what is in all hands.
+/// Returns the hands of the workers. Their tokens go into this one, which is then the only one, and knows what is in all hands.
 pub(crate) fn dismiss<C: Chains, J: Roster>(
     alloc: Global,
     line: &SessionQueue<C, J>,
@@ -44,7 +44,7 @@ pub(crate) fn dismiss<C: Chains, J: Roster>(
     Ok(hands)
 }
 
-/// Takes what is left in the queue into a hand, and begins it. The token is the only one that is left.
+/// Takes what is left in the queue into a hand, and begins it. The token is the only one left.
 pub(crate) fn take_rest<C: Chains, G: Gate, J: Roster, R: Wait>(
     rt: &R,
     run: &Run<'_, C, G>,

@@ -33,7 +33,7 @@ use std::thread::Threads;
 use teb_names::{SESSIONS, Session};
 use version_chain::Chains;
 
-/// What a run by a queue leaves.
+/// The result of a run with a queue.
 #[derive(Drop)]
 pub struct Pooled<C: Chains>
 where
@@ -45,16 +45,16 @@ where
     pub taken: Vec<Vec<Session>>,
 }
 
-/// Serves each session that has a script along it, by so many workers, one at the least, each in a thread of its own.
+/// Serves each session that has a script along it, on `workers` workers, at least one, each in a thread.
 ///
-/// The sessions wait in a queue, in ascending order, and a worker takes the next when it has finished one. If no
-/// thread can be made the workers go one after another. A worker whose session meets an error stops the others; where
-/// no session met one, the caller serves on those that were stopped, and then takes and serves, as the first worker, what
-/// is left in the queue. `Ok` hands back the passes of the sessions 1 to `SESSIONS` in order, and whom each worker took.
+/// The sessions wait in a queue, in ascending order, and a worker takes the next one when it finishes one. If no thread can be
+/// made, the workers run one after another. A worker whose session meets an error stops the others. If no session met one, the
+/// caller goes on to serve the sessions that were stopped; then it takes and serves, as the first worker, what is left in the
+/// queue. `Ok` returns the passes of the sessions 1 to `SESSIONS` in order, and the sessions that each worker took.
 ///
 /// # Errors
-/// The error of the least session that met one; `OutOfMemory` may also come in its place. `PassSpent` hands back the pass that has asked `MOST_ASKS` times. The other
-/// passes are gone, so the hall cannot be closed.
+/// The error of the lowest-numbered session that met one; `OutOfMemory` may also come in its place. `PassSpent` returns the pass
+/// that has asked `MOST_ASKS` times. The other passes are gone, so the hall cannot be closed.
 pub fn run_pool<C: Chains + Send, G: Gate + Sync, R: Threads + Wait + Sync>(
     rt: &R,
     alloc: Global,
@@ -87,7 +87,7 @@ pub fn run_pool<C: Chains + Send, G: Gate + Sync, R: Threads + Wait + Sync>(
     Ok(Pooled { passes, taken })
 }
 
-/// Whom each worker took, and the tasks of all sessions.
+/// Returns the sessions that each worker took, and the tasks of all sessions.
 fn serve_all<C: Chains + Send, G: Gate + Sync, R: Threads + Wait + Sync>(
     rt: &R,
     alloc: Global,
@@ -109,7 +109,7 @@ fn serve_all<C: Chains + Send, G: Gate + Sync, R: Threads + Wait + Sync>(
     Ok((taken, tasks))
 }
 
-/// The hands of the workers, after all that waits was taken.
+/// Returns the hands of the workers, after all waiting sessions were taken.
 fn fill_hands<C: Chains + Send, G: Gate + Sync, R: Threads + Wait + Sync>(
     rt: &R,
     alloc: Global,
@@ -128,7 +128,7 @@ fn fill_hands<C: Chains + Send, G: Gate + Sync, R: Threads + Wait + Sync>(
     by_queue::<Brand, C, G, R>(rt, alloc, run, waiting, workers)
 }
 
-/// So many hands with nothing in them.
+/// Returns this number of empty hands.
 fn empty_hands<C: Chains>(alloc: Global, workers: u8) -> Result<Vec<Vec<Task<C>>>, AllocError>
     ensures count { IfOk result (λ v. length v.items ≡ workers) }
     ensures empty { IfOk result (λ v. All (λ hand. hand.items ≡ []) v.items) }
@@ -140,7 +140,7 @@ fn empty_hands<C: Chains>(alloc: Global, workers: u8) -> Result<Vec<Vec<Task<C>>
     Ok(hands)
 }
 
-/// The hands of the workers, after they took what waits from a queue.
+/// Returns the hands of the workers, after they took the waiting sessions from a queue.
 fn by_queue<J, C, G, R>(
     rt: &R,
     alloc: Global,

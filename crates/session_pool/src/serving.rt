@@ -21,7 +21,7 @@ use std::thread::Threads;
 use teb_names::SESSIONS;
 use version_chain::Chains;
 
-/// So many workers with nothing in their hands. The token gives a part to each.
+/// Returns workers with empty hands. The token gives a part to each.
 pub(crate) fn hire<C: Chains, J: Roster>(
     alloc: Global,
     line: &SessionQueue<C, J>,
@@ -43,7 +43,7 @@ pub(crate) fn hire<C: Chains, J: Roster>(
     Ok(hired)
 }
 
-/// Has each worker take sessions and serve them, in a thread of its own.
+/// Has each worker take sessions and serve them, in its thread.
 pub(crate) fn work<C, G, J, R>(
     rt: &R,
     run: &Run<'_, C, G>,

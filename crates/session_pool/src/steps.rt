@@ -1,4 +1,4 @@
-//! What each use of the queue does to the token and tells it.
+//! What each use of the queue does to the token, and what it says.
 
 ghost use Rattle.std.specs.Prelude.{◌≡◌, ◌≤◌, length};
 ghost use Rattle.session_pool.specs.HandedOut.{IsRest, IsTaken};
@@ -54,7 +54,7 @@ impl<C: Chains, J: Roster> Lesson<Waiting<C>, Tally> for Take<J> {
     ghost fact = { λ v items. Unit {0} };
 }
 
-/// One thing is taken by the only token that is left. Where there is none, all that was pushed was taken.
+/// One thing is taken by the only token left. If there is none, everything that was pushed was taken.
 pub struct TakeRest<J> {
     roster: PhantomData<J>,
 }

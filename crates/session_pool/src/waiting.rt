@@ -4,7 +4,7 @@ use session_server::{EngineServer, Pass, Server};
 use teb_names::Session;
 use version_chain::Chains;
 
-/// A session that waits to be served, with its pass.
+/// A session that waits in the queue, with its pass.
 #[derive(Drop)]
 pub struct Waiting<C: Chains>
 where

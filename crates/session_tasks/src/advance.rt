@@ -1,4 +1,4 @@
-//! How a session is begun and served on.
+//! How a session is begun, and how it goes on.
 
 ghost use Rattle.std.specs.Prelude.{◌≡◌};
 ghost use Rattle.std.specs.Option.{IsSome};
@@ -19,7 +19,7 @@ use std::sync::atomic::{AtomicIn, Rule};
 use version_chain::Chains;
 
 impl<C: Chains, G: Gate> Run<'_, C, G> {
-    /// A session before its first request.
+    /// Returns a session before its first request.
     pub fn begin(&self, pass: Pass<C>) -> Task<C>
         requires { IsNew self.now.hall.now pass }
         ensures task { IsTask self.now.hall.now self.now.scripts.now result }
@@ -34,7 +34,7 @@ impl<C: Chains, G: Gate> Run<'_, C, G> {
         }
     }
 
-    /// Serves a session from where it stands, unless that is over. It stays open only where there is a stop word.
+    /// Serves a session from its present line, unless it is done. It stays open only if there is a stop word.
     pub fn advance<S: Rule, R: Wait>(&self, rt: &R, task: &mut Task<C>, stop: Option<&AtomicIn<S>>)
         requires { IsTask self.now.hall.now self.now.scripts.now task.old }
         ensures task { IsTask self.now.hall.now self.now.scripts.now task.new }
@@ -59,7 +59,7 @@ impl<C: Chains, G: Gate> Run<'_, C, G> {
     }
 }
 
-/// How far a session has come before its first request: one without a script is through.
+/// Returns how far a session has come before its first request: one without a script is done.
 fn progress_at(place: Option<usize>) -> Progress
     ensures { result ≡ progress_at place }
 {
@@ -69,7 +69,7 @@ fn progress_at(place: Option<usize>) -> Progress
     }
 }
 
-/// How far a session has come, after it was served.
+/// Returns how far a session has come, after it was served.
 fn progress_after(answer: Result<bool, AskError>) -> Progress
     ensures { result ≡ progress_after answer }
 {

@@ -1,4 +1,4 @@
-//! Why a run came to nothing.
+//! Why a run failed.
 
 use session_server::{EngineServer, Pass, Server};
 use version_chain::Chains;

@@ -1,4 +1,4 @@
-//! How the sessions that were stopped are served to their end.
+//! Sessions that were stopped are served to their end.
 
 ghost use Rattle.std.specs.Prelude.{◌≡◌, ◌≢◌, All, map, IfOk, IfErr};
 ghost use Rattle.teb_history.specs.Phases.{numbers};
@@ -23,11 +23,11 @@ use teb_names::SESSIONS;
 use version_chain::Chains;
 
 impl<C: Chains, G: Gate> Run<'_, C, G> {
-    /// Serves each session to its end, in order, and hands back their passes.
+    /// Serves each session to its end, in order, and returns their passes.
     ///
     /// # Errors
-    /// The error of the first session that meets one; those before it are served to their ends. `OutOfMemory` may also come
-    /// before the first is served.
+    /// The error of the first session that meets one; the sessions before it are served to their ends. `OutOfMemory` may also
+    /// come before the first is served.
     pub fn finish<R: Wait>(
         &self,
         rt: &R,
@@ -50,7 +50,7 @@ impl<C: Chains, G: Gate> Run<'_, C, G> {
         Ok(passes)
     }
 
-    /// Serves a session to its end, and hands back its pass.
+    /// Serves a session to its end, and returns its pass.
     fn finish_task<R: Wait>(&self, rt: &R, mut task: Task<C>) -> Result<Pass<C>, RunError<C>>
         requires task { IsTask self.now.hall.now self.now.scripts.now task }
         requires scripts { AreDistinct self.now.scripts.now }
@@ -68,7 +68,7 @@ impl<C: Chains, G: Gate> Run<'_, C, G> {
         }
     }
 
-    /// The error of a run in which a session met one: `PassSpent` with the pass, or `OutOfMemory`, whichever it met.
+    /// Returns the error of a run in which a session met this one: `PassSpent` with the pass, or `OutOfMemory`.
     pub fn fail(&self, task: Task<C>, error: AskError) -> RunError<C>
         requires task { IsTask self.now.hall.now self.now.scripts.now task }
         requires failed { task.progress ≡ Failed error }

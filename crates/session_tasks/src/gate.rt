@@ -1,10 +1,10 @@
-//! What happens round each request, outside the turn.
+//! A hook around each request, outside the turn.
 
 use teb_names::Session;
 
-/// Is called round each request that [`serve`](crate::serve) asks, while its session has no turn.
+/// A hook that is called around each request of [`serve`](crate::serve), while its session does not have the turn.
 pub trait Gate {
-    /// Is called before the session draws its turn, with the number of its line, or 0 for the End behind its last line.
+    /// Is called before the session draws its ticket, with the number of its line, or 0 for the End after its last line.
     fn before(&self, session: Session, line: u32);
 
     /// Is called after the turn, with the same number, whether the request was answered or not.

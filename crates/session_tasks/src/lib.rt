@@ -10,12 +10,13 @@
 //! | `Run::finish` | serves all sessions to their ends, in order, and returns their passes |
 //! | [`serve`] | the loop of `advance`: ask the next request, take the answer |
 //!
-//! - A [`Run`] is what tasks share: the hall, the scripts, and the gate.
+//! - A [`Run`] is what tasks share: the hall, the scripts, and the hook ([`Gate`]).
 //! - A [`Task`] is a pass, the place of the session's script, a `Walker` at its next line, and its [`Progress`].
 //! - A *walk* along a script follows its lines by the answers, to the end (`IsWalk` in `teb_rules`). A task that is under way has
 //!   walked some of it.
 //! - The *stop word* is 0 until a worker raises it to 1 ([`Stops`]). It is looked at before each request.
-//! - A [`Gate`] is called before and after each request, outside the turn. The program's does nothing; a trial's holds a session.
+//! - A [`Gate`] is a hook, called before and after each request, outside the turn. The program's does nothing; a trial's holds a
+//!   session.
 //! - After an Again the session polls the transaction that it waits for, at most 64 times, and then asks again.
 //!
 //! **What is proved.** The entries of a session that is through are a whole walk along its script ([`serve`], clause `walk`);

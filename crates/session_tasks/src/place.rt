@@ -1,4 +1,4 @@
-//! Which script is a session's.
+//! Which script a session has.
 
 ghost use Rattle.std.specs.Prelude.{◌≡◌, ◌<◌, IfSome, length};
 ghost use Rattle.session_tasks.specs.Scripted.{place_in, lines_at};
@@ -6,7 +6,7 @@ ghost use Rattle.session_tasks.specs.Scripted.{place_in, lines_at};
 use script_text::{Line, Scripts};
 use teb_names::Session;
 
-/// The place of a session among those that have a script.
+/// Returns the place of a session among those with a script.
 pub fn place_in(scripts: &Scripts, session: Session) -> Option<usize>
     ensures { result ≡ place_in scripts.now session.0 }
 {
@@ -18,7 +18,7 @@ pub fn place_in(scripts: &Scripts, session: Session) -> Option<usize>
     None
 }
 
-/// The lines of the script at a place. Where there is no place there are none.
+/// Returns the lines of the script at a place, or none if there is no place.
 pub(crate) fn lines_at(scripts: &Scripts, place: Option<usize>) -> &[Line]
     requires { IfSome place (λ i. i < length scripts.now) }
     ensures { result.now ≡ lines_at scripts.now place }

@@ -1,10 +1,10 @@
-//! What a run is over.
+//! What a run works on.
 
 use script_text::Scripts;
 use session_server::{EngineServer, Hall, Server};
 use version_chain::Chains;
 
-/// What a run is over: the hall, the scripts of its sessions, and the gate that is called round each request.
+/// What a run works on: the hall, the scripts of its sessions, and the hook that is called around each request.
 #[derive(Drop)]
 pub struct Run<'a, C: Chains, G>
 where

@@ -24,19 +24,19 @@ use std::thread;
 use teb_names::{MOST_TXNS, Reply, Request, Txn};
 use version_chain::Chains;
 
-/// How often a session looks at whom it waits for before it asks again.
+/// How often a session looks at the transaction that it waits for before it asks again.
 const LOOKS: u32 = 64;
 
-/// Works through the lines of a session from where the walker stands. `Ok(true)` says that they are worked through.
+/// Serves a session from its walker's line on. `Ok(true)` says that all its lines are done.
 ///
-/// Where a stop word is given, it is looked at before each request: `Ok(false)` says that such a look found that it is
-/// not 0, and nothing is asked unless one found 0. The rule of the word may be any, so only a look can tell. A call with
-/// another stop word, or with none, goes on from there. After an Again the session looks at the transaction that it
-/// waits for until that has finished, at most 64 times, and then asks again.
+/// If there is a stop word, it is looked at before each request. `Ok(false)` says that such a look found that it is not 0;
+/// nothing is asked unless a look found 0. The word may have any rule, so only a look can tell. A call with another stop word, or
+/// with none, goes on from there. After an Again the session looks at the transaction that it waits for until that has finished,
+/// at most 64 times, and then asks again.
 ///
 /// # Errors
-/// The first error of [`Hall::ask`]: `PassSpent` where the pass has asked `MOST_ASKS` times, `OutOfMemory` only where it has
-/// asked at this call. What was answered before it stands in the pass and in the walker.
+/// The first error of [`Hall::ask`]: `PassSpent` if the pass has asked `MOST_ASKS` times; `OutOfMemory` only if it has asked at
+/// this call. The pass and the walker keep what was answered before.
 #[tactic(auto, using(crate::proofs::Walking::walk_ends, crate::proofs::Walking::walk_same))]
 pub fn serve<C: Chains, G: Gate, S: Rule, R: Wait>(
     rt: &R,
@@ -73,7 +73,7 @@ pub fn serve<C: Chains, G: Gate, S: Rule, R: Wait>(
     unreachable!()
 }
 
-/// Asks what the session asks next, and takes the answer.
+/// Asks what the session asks next, and takes the reply.
 fn ask_next<C: Chains, G: Gate, R: Wait>(
     rt: &R,
     hall: &Hall<C>,
@@ -109,7 +109,7 @@ fn ask_next<C: Chains, G: Gate, R: Wait>(
     }
 }
 
-/// The number of the line that a walker stands at, and 0 behind the last.
+/// Returns the number of the walker's line, or 0 after the last.
 fn number_at(walker: &Walker, lines: &[Line]) -> u32
     ensures { result ≡ number_at walker.now lines.now }
 {
@@ -119,8 +119,8 @@ fn number_at(walker: &Walker, lines: &[Line]) -> u32
     }
 }
 
-/// Looks at a transaction until it has finished, at most 64 times. Where the pass does not know then that it has, each of the
-/// 64 looks found that it had not.
+/// Looks at a transaction until it has finished, at most 64 times. If the pass does not know then that it has, each of the 64
+/// looks found that it had not.
 #[tactic(auto, using(crate::proofs::Walking::mine_same))]
 fn look_for<C: Chains>(hall: &Hall<C>, pass: &mut Pass<C>, who: Txn)
     requires pass { IsPassOf hall.now pass.old }

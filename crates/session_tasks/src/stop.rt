@@ -14,7 +14,7 @@ impl Rule for Stops {
     ghost invariant = { λ n. n ≤ 1 };
 }
 
-/// Whether there is a word, and this look found that it is not 0.
+/// Returns whether there is a word, and this look found that it is not 0.
 pub(crate) fn is_raised<S: Rule>(stop: Option<&AtomicIn<S>>) -> bool
     ensures raised { result ≡ true → IsSome stop.entry × FoundRaised S.invariant }
     ensures clear { result ≡ false → IsSome stop.entry → FoundClear S.invariant }

@@ -7,14 +7,14 @@ use version_chain::Chains;
 /// How far a session has come.
 #[derive(Clone, Copy, Debug, PartialEq, Eq)]
 pub enum Progress {
-    /// It was not begun, or was stopped on its way.
+    /// It was not begun, or was stopped before its end.
     Open,
-    /// It has worked through its script, or has none.
+    /// Its script is done, or it has none.
     Through,
     Failed(AskError),
 }
 
-/// A session: its pass, the place of its script among all, and where it stands in it.
+/// A session: its pass, the place of its script among all, and its walker.
 #[derive(Drop)]
 pub struct Task<C: Chains>
 where

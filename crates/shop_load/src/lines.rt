@@ -1,4 +1,4 @@
-//! The generated load: transactions of a shop, drawn from a number.
+//! The generated load: transactions of a shop, from a seed.
 
 ghost use Rattle.std.specs.Prelude.{◌≡◌, ◌+◌, ◌/◌, ◌%◌, ◌^◌, ◌<◌, ◌≤◌, ◌++◌, length, IfOk, OnOk, vec_len};
 ghost use Rattle.shop_load.specs.Loads.{next_state, begin, report, new_order, payment, delivery, requests_from, asked_by, numbered, loaded_lines};
@@ -19,10 +19,10 @@ const DELIVERY: Kind = Kind(3);
 /// The sessions, which take the transactions in turn.
 const SESSIONS: u32 = 8;
 
-/// The most lines of one transaction: room is made at once for as many of each.
+/// The most lines of one transaction. Room is made at once for this number of lines for each.
 const MOST_LINES: usize = 5;
 
-/// The lines of `size` transactions of eight sessions, drawn from a number: reports, new orders, payments and
+/// Returns the lines of `size` transactions of eight sessions, generated from a seed: reports, new orders, payments and
 /// deliveries on the tables stock 0, orders 1 and accounts 2, keys 1 to 16. The lines are numbered from 1.
 pub fn loaded_lines(alloc: Global, number: u32, size: u32) -> Result<Vec<Line>, AllocError>
     requires number { number < 2 ^ 31 }
@@ -37,7 +37,7 @@ pub fn loaded_lines(alloc: Global, number: u32, size: u32) -> Result<Vec<Line>, 
     Ok(lines)
 }
 
-/// Numbers that follow from one number.
+/// The sequence of numbers that a seed determines.
 #[derive(Drop)]
 struct Draws {
     state: u32,
@@ -45,7 +45,7 @@ struct Draws {
 }
 
 impl Draws {
-    /// The next, 0 to 32,767.
+    /// Returns the next number, 0 to 32,767.
     fn draw(&mut self) -> u32
         ensures state { self.new.state ≡ next_state self.old.state }
         ensures drawn { result ≡ next_state self.old.state / 65536 }
@@ -55,7 +55,7 @@ impl Draws {
         self.state / 65536
     }
 
-    /// A key, 1 to 16.
+    /// Returns a key, 1 to 16.
     fn key(&mut self) -> u32
         ensures state { self.new.state ≡ next_state self.old.state }
         ensures drawn { result ≡ 1 + next_state self.old.state / 65536 % 16 }

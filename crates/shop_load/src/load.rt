@@ -15,7 +15,7 @@ use input_reader::Input;
 use input_runner::{in_turns, output_of};
 use std::alloc::{AllocError, Global};
 
-/// Runs `size` transactions that are drawn from a number, and tells the summary.
+/// Runs `size` transactions that are generated from a seed, and returns the summary.
 pub fn run_load(alloc: Global, number: u32, size: u32) -> Result<Output, AllocError>
     requires number { number < 2 ^ 31 }
     requires size { size ≤ 2000 }
@@ -28,7 +28,7 @@ pub fn run_load(alloc: Global, number: u32, size: u32) -> Result<Output, AllocEr
     Ok(output_of(engine, text))
 }
 
-/// The shop, and the lines of `size` transactions that are drawn from a number.
+/// Returns the shop, and the lines of `size` transactions that are generated from a seed.
 #[tactic(auto, using(crate::proofs::LoadedSessions::loaded_sessions))]
 pub fn load_input(alloc: Global, number: u32, size: u32) -> Result<Input, AllocError>
     requires number { number < 2 ^ 31 }

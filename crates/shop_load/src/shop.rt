@@ -1,4 +1,4 @@
-//! The shop, on whose store the generated load runs.
+//! The shop, over whose store the generated load runs.
 
 ghost use Rattle.std.specs.Prelude.{◌≡◌, ◌++◌, ◌∷◌, [], IfOk, OnOk};
 ghost use Rattle.cc_tree.specs.Grown.{row_of, rows_of, parent_number, kind_numbers};
@@ -12,22 +12,22 @@ use store_setup::Setup;
 use teb_names::{Cell, ControlKind, Kind, NameBook, Names, Node, Rows, Table};
 use txn_profile::Profile;
 
-/// How much is in stock, by key.
+/// The pieces in stock, by key.
 pub(crate) const STOCK: Table = Table(0);
 
 /// The number of the last order, by key.
 pub(crate) const ORDERS: Table = Table(1);
 
-/// What is on an account, by key.
+/// The balance of an account, by key.
 pub(crate) const ACCOUNTS: Table = Table(2);
 
-/// The keys of each table are 1 to this.
+/// The keys of each table are 1 to this number.
 pub(crate) const KEYS: u32 = 16;
 
-/// How many transactions a batch admits, at the nodes below the root.
+/// How many transactions a batch of a node below the root admits.
 const BATCH: u16 = 64;
 
-/// The setup of the shop.
+/// Returns the setup of the shop.
 pub fn shop_setup(alloc: Global) -> Result<Setup, AllocError>
     ensures setup { IfOk result (λ s. setup_view s ≡ spec_shop) }
     ensures whole { IfOk result (λ s. IsWhole (setup_view s)) }
@@ -98,7 +98,7 @@ fn profiles(alloc: Global) -> Result<Vec<Profile>, AllocError>
     Ok(vec![in alloc; report, new_order, payment, delivery]?)
 }
 
-/// One step with all tables.
+/// Returns the profile of a report: one step with all tables.
 fn report(alloc: Global) -> Result<Profile, AllocError>
     ensures { IfOk result (λ p. p ≡ (0 ∷ 1 ∷ 2 ∷ []) ∷ []) }
 {
@@ -156,7 +156,7 @@ fn nodes(alloc: Global) -> Result<Vec<NodeRow>, AllocError>
     Ok(vec![in alloc; root, reports, updates, sales, shipping]?)
 }
 
-/// A node that takes all instances of its types.
+/// Returns a node that takes all instances of its types.
 fn node(
     alloc: Global,
     control: ControlKind,
@@ -187,7 +187,7 @@ fn rows(alloc: Global) -> Result<Rows, AllocError>
     Ok(Rows::from_sorted(rows))
 }
 
-/// Adds a row of the value for each key from 1 to 16.
+/// Adds a row with the value for each key from 1 to 16.
 fn fill(rows: &mut Vec<(Cell, i64)>, table: Table, value: i64) -> Result<(), AllocError>
     ensures { OnOk result (rows.new.items ≡ rows.old.items ++ filled table.0 value 16) }
 {

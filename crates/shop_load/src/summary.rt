@@ -15,7 +15,7 @@ use teb_history::History;
 use teb_names::{Cell, Table, Txn};
 use version_chain::Chains;
 
-/// What was asked for, the counts of transactions and requests, and the sums of the final tables. It costs a walk over
+/// Returns what was asked for, the counts of transactions and requests, and the sums of the final tables. It costs one pass over
 /// the history and over the final rows.
 pub fn summary_of<C: Chains>(
     alloc: Global,
@@ -63,7 +63,7 @@ fn counts_of(history: &History) -> Counts
     counts
 }
 
-/// The sum of a table's rows.
+/// Returns the sum of a table's rows.
 fn sum_in(rows: &[(Cell, i64)], table: Table) -> i128
     ensures { result ≡ sum_in table.0 rows.now }
 {
@@ -74,7 +74,7 @@ fn sum_in(rows: &[(Cell, i64)], table: Table) -> i128
     sum
 }
 
-/// What a row adds to the sum of a table.
+/// Returns what a row adds to the sum of a table.
 fn added(row: &(Cell, i64), table: Table) -> i64
     ensures { result ≡ added table.0 row.now }
 {

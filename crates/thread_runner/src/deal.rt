@@ -1,4 +1,4 @@
-//! How the sessions are dealt to the workers.
+//! How the sessions are divided among the workers.
 
 ghost use Rattle.std.specs.Prelude.{◌≡◌, ◌<◌, [], All, map, IfOk, vec_len};
 ghost use Rattle.teb_history.specs.Phases.{numbers};
@@ -12,7 +12,7 @@ use std::alloc::{AllocError, Global};
 use teb_names::SESSIONS;
 use version_chain::Chains;
 
-/// Begins a task for each pass, and deals them into so many hands, the last session first.
+/// Begins a task for each pass, and deals them into this number of hands, the last session first.
 pub(crate) fn deal<C: Chains, G: Gate>(
     run: &Run<'_, C, G>,
     alloc: Global,
@@ -32,7 +32,7 @@ pub(crate) fn deal<C: Chains, G: Gate>(
     Ok(hands)
 }
 
-/// So many hands with nothing in them.
+/// Returns this number of empty hands.
 fn empty_hands<C: Chains>(alloc: Global, workers: usize) -> Result<Vec<Vec<Task<C>>>, AllocError>
     ensures len { IfOk result (λ v. vec_len v ≡ workers) }
     ensures empty { IfOk result (λ v. All (λ hand. hand.items ≡ []) v.items) }

@@ -1,4 +1,4 @@
-//! How the sessions come back from the workers.
+//! How the sessions are collected from the workers.
 
 ghost use Rattle.std.specs.Prelude.{◌≡◌, ◌<◌, [], IfOk, IfErr, vec_len};
 ghost use Rattle.std.specs.VecDeque.{deque_capacity};
@@ -15,8 +15,8 @@ use std::collections::VecDeque;
 use teb_names::{SESSIONS, Session};
 use version_chain::Chains;
 
-/// The tasks of all sessions, in order, or the error of the first that met one. They are put into `tasks`, which is empty and has
-/// room for all.
+/// Returns the tasks of all sessions, in order, or the error of the first session that met one. They are put into `tasks`, which
+/// is empty and has room for all.
 pub(crate) fn gather<C: Chains, G: Gate>(
     run: &Run<'_, C, G>,
     mut tasks: VecDeque<Task<C>>,

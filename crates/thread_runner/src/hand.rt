@@ -1,4 +1,4 @@
-//! Whose hand a session is in.
+//! The hand that a session is in.
 
 ghost use Rattle.std.specs.Prelude.{◌≡◌, ◌<◌};
 ghost use Rattle.thread_runner.specs.Hands.{hand_of};
@@ -7,7 +7,7 @@ use script_text::Scripts;
 use session_tasks::place_in;
 use teb_names::Session;
 
-/// Whose hand a session is in. The workers take the scripts in turn.
+/// Returns the hand that a session is in. The workers take the scripts in turn.
 pub(crate) fn hand_of(scripts: &Scripts, session: Session, workers: usize) -> usize
     requires { 0 < workers }
     ensures hand { result ≡ hand_of scripts.now workers session.0 }

@@ -22,16 +22,15 @@ use std::thread::Threads;
 use teb_names::SESSIONS;
 use version_chain::Chains;
 
-/// Serves each session that has a script along it, by so many workers, one at the least, each in a thread of its own.
+/// Serves each session that has a script along it, on `workers` workers, at least one, each in a thread.
 ///
-/// The workers take the scripts in turn: the one at place i, from 0, is served by worker i mod `workers`. Where no
-/// thread can be made the workers go one after another. A worker whose session meets an error stops the others; where
-/// no session met one, those that are left are served on by the caller. `Ok` hands back the passes of the sessions 1 to
-/// `SESSIONS` in order.
+/// The workers take the scripts in turn: the one at place i, from 0, is served by worker i mod `workers`. If no thread can be
+/// made, the workers run one after another. A worker whose session meets an error stops the others. If no session met one, the
+/// caller goes on to serve the sessions that were stopped. `Ok` returns the passes of the sessions 1 to `SESSIONS` in order.
 ///
 /// # Errors
-/// The error of the least session that met one; `OutOfMemory` may also come in its place. `PassSpent` hands back the pass that has asked `MOST_ASKS` times. The other
-/// passes are gone, so the hall cannot be closed.
+/// The error of the lowest-numbered session that met one; `OutOfMemory` may also come in its place. `PassSpent` returns the pass
+/// that has asked `MOST_ASKS` times. The other passes are gone, so the hall cannot be closed.
 pub fn run_threads<C: Chains + Send, G: Gate + Sync, R: Threads + Wait + Sync>(
     rt: &R,
     alloc: Global,

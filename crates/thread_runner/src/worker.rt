@@ -11,7 +11,7 @@ use std::thread;
 use std::thread::Threads;
 use version_chain::Chains;
 
-/// Serves the tasks of each hand, each hand in a thread of its own.
+/// Serves the tasks of each hand, each hand in a thread.
 pub(crate) fn work<C: Chains + Send, G: Gate + Sync, R: Threads + Wait + Sync>(
     run: &Run<'_, C, G>,
     rt: &R,
