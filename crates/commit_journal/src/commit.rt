@@ -1,4 +1,4 @@
-//! The record of a commit: what it leaves in the cells that it has put.
+//! The record of a commit: its changes to the cells that it has put.
 
 ghost use Rattle.std.specs.Prelude.{◌≡◌, ◌≤◌, ◌^◌, length, None, IsTrue, IfOk, OnOk, IsErrOf, if◌then◌else◌, ◌++◌, ◌∷◌, []};
 ghost use Rattle.teb_history.specs.Accesses.{wrote};
@@ -19,11 +19,12 @@ use teb_history::{Event, History};
 use teb_names::{Cell, Request, Session, Txn};
 use version_chain::Chains;
 
-/// Returns the body of the record that a request would commit; no bytes if it would commit nothing. `left` is the number of bytes that
-/// are left for the record and its gate. It costs a look at the versions of each cell that was put.
+/// Returns the body of the record that a request would commit; no bytes if it would commit nothing. `left` is the number of bytes
+/// left for the record and its gate byte. It costs a look at the versions of each cell that was put.
 ///
 /// # Errors
-/// `Full` if fewer bytes are left than a record of all cells that were put takes; `OutOfMemory`. The engine is only read.
+/// `Full` if a record of all cells that were put would take more bytes than are left. `OutOfMemory`: out of memory. The engine is
+/// only read.
 pub fn body_of<C: Chains>(
     alloc: Global,
     engine: &Engine<C>,
@@ -78,7 +79,7 @@ fn puts_of(alloc: Global, history: &History, t: Txn) -> Result<Vec<Change>, Allo
     Ok(puts)
 }
 
-// A Put of a cell that is not there yet. The cells are those of the changes.
+// Adds a Put of a cell that is not there yet. The cells are those of the changes.
 fn add_event(
     puts: &mut Vec<Change>,
     cells: &mut BTreeSet<Cell>,
@@ -112,7 +113,7 @@ fn add_put(
     Ok(())
 }
 
-// Of the last Puts of a transaction that is about to commit, those that no committed version follows.
+// The last Puts of a transaction that is about to commit, if no committed version follows them.
 fn record_of<C: Chains>(
     alloc: Global,
     engine: &Engine<C>,
@@ -133,7 +134,8 @@ fn record_of<C: Chains>(
     Ok(changes)
 }
 
-// Whether no committed version of a cell follows that of a transaction which has put it. It costs the versions behind that one.
+// Returns whether no committed version of a cell follows that of a transaction which has put it. It costs the versions after that
+// one.
 fn is_newest<C: Chains>(engine: &Engine<C>, cell: Cell, t: Txn) -> bool
     requires put { IsTrue (wrote engine.now.events t.0 cell) }
     requires unfinished { IsTrue (unfinished engine.now.events t.0) }

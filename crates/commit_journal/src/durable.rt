@@ -28,8 +28,8 @@ use teb_io::Failed;
 use teb_names::{Reply, Request, Session};
 use version_chain::Chains;
 
-/// A store whose commits are kept on a disk. Contracts see the store, its names and events, the newest first; the disk, where
-/// the journal on it ends, how many commits were acknowledged, and whether the disk has failed.
+/// A store whose commits are kept on a disk. Contracts see the store, its names and events, the newest first; the disk, the end
+/// of its journal, how many commits were acknowledged, and whether the disk has failed.
 #[derive(Drop)]
 pub struct Durable<C: Chains, D: Disk> {
     engine: Engine<C>,
@@ -48,18 +48,19 @@ impl<C: Chains, D: Disk> Model for Durable<C, D> {
 }
 
 impl<C: Chains, D: Disk> Durable<C, D> {
-    /// The store of an engine to which nothing has happened, with a new journal, which has no commit yet.
+    /// Returns the store of an engine with an empty history, with a new journal, which has no commit yet.
     ///
-    /// It does not go on with a journal that is there: that journal's commits are lost, and the new one has only what is committed from
-    /// now on, not the rows that the engine began with. To keep a store over restarts, use `EngineStore` of `engine_store`.
+    /// It does not go on with a journal that is there: the commits of that journal are lost, and the new one has only what is
+    /// committed from now on, not the rows that the engine began with. To keep a store over restarts, use `EngineStore` of
+    /// `engine_store`.
     ///
     /// # Errors
-    /// `DiskFault` if a call of the disk fails. The disk is handed back, and the engine is dropped.
+    /// `DiskFault` if a call of the disk fails. The disk is returned, and the engine is dropped.
     pub fn create(engine: Engine<C>, disk: D) -> Result<Self, CreateError<D>>
         requires { engine.events ≡ [] }
         ensures store { IfOk result (λ d. (d.store ≡ engine.store) × (d.names ≡ engine.names) × (d.events ≡ [])) }
         ensures empty { IfOk result (λ d. (d.end ≡ 0) × (d.acknowledged ≡ 0) × (d.stopped ≡ false)) }
-        // Whatever image a crash leaves from now on has no record.
+        // Every image that a crash leaves from now on has no record.
         ensures images { IfOk result (λ d. (image : List ℕ) → D.may_leave d.disk image → HasFirst d.store d.events 0 image) }
         ensures sure { AreSure (D.tally disk).promise.writes 2 1 (D.tally disk) → IsOk result }
         ensures fails { Fails 2 (D.tally disk) → IsErr result }
@@ -76,7 +77,7 @@ impl<C: Chains, D: Disk> Durable<C, D> {
         }
     }
 
-    /// Answers a request as the engine does. A commit is on the disk before it is answered: from then on each crash leaves it.
+    /// Answers a request as the engine does. A commit is on the disk before it is answered: every crash from then on leaves it.
     pub fn ask(
         &mut self,
         alloc: Global,
@@ -87,15 +88,15 @@ impl<C: Chains, D: Disk> Durable<C, D> {
         ensures reply { IfOk result (λ reply. reply ≡ (answer self.old.store self.old.events session request).0) }
         ensures events { OnOk result (self.new.events ≡ (answer self.old.store self.old.events session request).1) }
 
-        // One more is acknowledged where a commit is answered. As long as the disk has not failed, these are all commits.
+        // The count rises by one if a commit is answered. As long as the disk has not failed, all commits are counted.
         ensures acknowledged { IfOk result (λ reply. reply ≡ replies.Committed → self.new.acknowledged ≡ self.old.acknowledged + 1) }
         ensures others { IfOk result (λ reply. (reply ≡ replies.Committed → ⊥) → self.new.acknowledged ≡ self.old.acknowledged) }
         ensures all { self.new.stopped ≡ false → self.new.acknowledged ≡ commit_count self.new.events }
-        // The journal ends behind their records.
+        // The journal ends after their records.
         ensures end { self.new.stopped ≡ false → self.new.end ≡ length (records (records_of self.new.store.setup self.new.events)) }
 
-        // Whatever image a crash leaves, at a moment of the call or behind it, has the records of the first commits: at
-        // least of those that were acknowledged before.
+        // Every image that a crash leaves, during the call or after it, has the records of the first commits, at least of those
+        // that were acknowledged before.
         ensures any_moment { LeavesOnly D.moment D.left_since self.old.disk self.new.disk (HasFirst self.new.store self.new.events self.old.acknowledged) }
         ensures images { (image : List ℕ) → D.may_leave self.new.disk image → HasFirst self.new.store self.new.events self.new.acknowledged image }
 
@@ -109,19 +110,19 @@ impl<C: Chains, D: Disk> Durable<C, D> {
 
         ensures capacity { D.capacity self.new.disk ≡ D.capacity self.old.disk }
 
-        // No call of the disk fails for want of memory.
+        // No call of the disk runs out of memory.
         ensures memory { D.refusals self.new.disk ≡ D.refusals self.old.disk }
 
-        // A fault comes only at a commit, which may stand on the disk or not.
+        // A fault occurs only at a commit, which the disk may have or not.
         ensures fault { IsErrOf result errors.DiskFault → Rose (D.faults self.old.disk) (D.faults self.new.disk) }
         ensures at_commit { IsErrOf result errors.DiskFault → ((answer self.old.store self.old.events session request).0 ≡ replies.Committed)
             × (self.new.events ≡ (answer self.old.store self.old.events session request).1)
             × (self.new.acknowledged ≡ self.old.acknowledged) × (self.new.stopped ≡ true) }
-        // What was safe at the last good sync has the commits from before it alone.
+        // What was safe at the last good sync has only the earlier commits.
         ensures not_added { IsErrOf result errors.DiskFault → recovered default_capacity (D.safe self.new.disk) ≡ Whole (records_of self.old.store.setup self.old.events) }
 
-        // A commit makes four calls of the disk, up to the first that fails, and writes one byte more than the journal grows; nothing
-        // else touches the disk.
+        // A commit makes four calls of the disk, up to the first that fails, and writes one byte more than the journal grows. No
+        // other request makes a call of the disk.
         ensures untouched { IfOk result (λ reply. (reply ≡ replies.Committed → ⊥) → self.new.disk ≡ self.old.disk) }
         ensures counted { IfOk result (λ reply. reply ≡ replies.Committed → (D.tally self.old.disk).made + 4 < 2 ^ 64 → (D.tally self.new.disk).made ≡ (D.tally self.old.disk).made + 4) }
         ensures written { IfOk result (λ reply. (D.tally self.new.disk).written + self.old.end ≤ (D.tally self.old.disk).written + self.new.end + 1) }
@@ -141,14 +142,14 @@ impl<C: Chains, D: Disk> Durable<C, D> {
         )
     }
 
-    /// How many commits were answered.
+    /// Returns how many commits were answered.
     pub fn acknowledged(&self) -> u32
         ensures { result ≡ self.now.acknowledged }
     {
         self.journal.acknowledged()
     }
 
-    /// The engine. The rows of its first commits, however many, are those of a whole serial execution.
+    /// Returns the engine. For every k, the rows after its first k commits are those of a whole serial execution.
     pub fn engine(&self) -> &Engine<C>
         ensures store { (result.now.store ≡ self.now.store) × (result.now.names ≡ self.now.names) }
         ensures events { result.now.events ≡ self.now.events }
@@ -158,7 +159,7 @@ impl<C: Chains, D: Disk> Durable<C, D> {
         &self.engine
     }
 
-    /// The disk alone.
+    /// Returns the disk alone.
     pub fn into_disk(self) -> D
         ensures { result ≡ self.disk }
     {
@@ -166,8 +167,8 @@ impl<C: Chains, D: Disk> Durable<C, D> {
     }
 }
 
-// Makes room for the answer to a request: the bytes of the record that it would commit, and memory to write them. Contracts see no change
-// of the store.
+// Makes room for the answer to a request: the bytes of the record that it would commit, and memory to write them. Contracts see
+// no change of the store.
 fn prepared<C: Chains, D: Disk>(
     alloc: Global,
     engine: &mut Engine<C>,
@@ -195,7 +196,7 @@ fn prepared<C: Chains, D: Disk>(
     Ok((body, memory))
 }
 
-// Answers a request from what was prepared for it. A commit is on the disk before it is answered.
+// Answers a request with what was prepared for it. A commit is on the disk before it is answered.
 fn answered<C: Chains, D: Disk>(
     engine: &mut Engine<C>,
     journal: &mut Journal<D>,

@@ -2,12 +2,12 @@
 
 use std::alloc::AllocError;
 
-/// Why there is no store on the disk.
+/// Why no store was created on the disk.
 #[derive(Debug, Drop)]
 pub enum CreateError<D> {
-    /// The disk failed. It is handed back.
+    /// The disk failed. It is returned.
     DiskFault(D),
-    /// Never returned: a store takes no memory beyond that of its engine.
+    /// Never returned: a store takes no memory in addition to that of its engine.
     OutOfMemory,
 }
 

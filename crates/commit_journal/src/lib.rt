@@ -8,7 +8,7 @@
 //!   Durable::ask      1  body_of        the record that the request would commit   Full, OutOfMemory: nothing is asked
 //!                     2  room           memory for the answer and its record       OutOfMemory: nothing is asked
 //!                     3  Engine::ask    the reply; if it is no commit, it is returned
-//!                     4  append         write the record and a closed gate, sync, open the record's gate, sync
+//!                     4  append         write the record and a closed gate byte, sync, open the record's gate byte, sync
 //!                                         Ok: Committed is returned; a call failed: DiskFault, and the store is stopped
 //!   recover           the rows after the commits that a disk has, and how many these are
 //! ```

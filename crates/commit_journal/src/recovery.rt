@@ -1,4 +1,4 @@
-//! What a disk holds after a crash.
+//! Recovery of a disk after a crash.
 
 ghost use Rattle.std.specs.Prelude.{◌≡◌, ◌+◌, ◌≤◌, List, ℕ, length, IfOk, IfErr, OnOk, IsErrOf};
 ghost use Rattle.teb_io.specs.Faults.{Rose};
@@ -21,12 +21,13 @@ use record_journal::{RecoverError, Recovered, read_rows};
 use std::alloc::Global;
 use teb_names::Rows;
 
-/// The rows that a disk stands for, over the starting rows, and how many commits it has. It writes nothing.
+/// Returns the rows after the commits of a disk, over the starting rows, and how many commits it has. It writes nothing.
 ///
 /// A store that begins with these rows on the *same* disk loses them: its journal has only what is committed from then on.
 ///
 /// # Errors
-/// `Damaged` if the bytes are not a journal, `DiskFault` if a call of the disk fails, `OutOfMemory`. The bytes of the disk are as they were.
+/// `Damaged` if the bytes are not a journal; `DiskFault` if a call of the disk fails; `OutOfMemory`. The bytes of the disk are
+/// unchanged.
 pub fn recover<D: Disk>(
     alloc: Global,
     disk: &mut D,
@@ -38,11 +39,11 @@ pub fn recover<D: Disk>(
 
     ensures ascending { IfOk result (λ found. IsAscending found.rows.items) }
 
-    // Damage is told where the bytes have it.
+    // The place of the damage is that of the bytes.
     ensures damaged { (at : ℕ) → IsErrOf result (RecoverError.Damaged at) → recovered default_capacity (D.seen disk.old) ≡ Damaged at }
 
-    // On an image that a crash leaves of a store on a disk the rows are those after the first k commits, for a k that is at
-    // least what was acknowledged, and there is no damage.
+    // On an image that a crash leaves of a store on a disk, the rows are those after the first k commits, and k is at least the
+    // number of acknowledged ones. There is no damage.
     ensures first { (X : Store) (H : List Event) (least : ℕ) → IsSound X.setup → Lawful X.setup H → X.rows ≡ start.now → HasFirst X H least (D.seen disk.old)
         → IfOk result (λ found. (least ≤ found.commits) × (found.commits ≤ commit_count H)
         × ((x : TheCell) → row_of found.rows.items x ≡ rows_after X H found.commits x)) }
@@ -52,10 +53,10 @@ pub fn recover<D: Disk>(
     ensures durable { OnOk result (Only (D.seen disk.old) (D.may_leave disk.new)) }
     ensures quiet { IsQuiet D.seen D.may_leave D.moment D.left_since D.faults D.capacity disk.old disk.new }
     ensures cause { IsErrOf result RecoverError.DiskFault → Rose (D.faults disk.old) (D.faults disk.new) }
-    // Where no call failed, no fault is counted.
+    // If no call failed, no fault is counted.
     ensures no_fault { OnOk result (D.faults disk.new ≡ D.faults disk.old) }
     ensures no_other_fault { IfErr result (λ e. (e ≡ RecoverError.DiskFault → ⊥) → D.faults disk.new ≡ D.faults disk.old) }
-    // It makes a sync, and then as many calls at most as there are bytes, and one.
+    // It makes a sync, and then at most one call more than there are bytes.
     ensures sure { AreSure (D.tally disk.old).promise.writes 1 0 (D.tally disk.old) → AreSure (D.tally disk.old).promise.reads (default_capacity + 2) 0 (D.tally disk.old)
         → IsErrOf result RecoverError.DiskFault → ⊥ }
 {

@@ -1,4 +1,4 @@
-//! A file meets what is asked of a disk.
+//! A file as a disk.
 
 use crate::faults::Faults;
 use crate::reads::gives;
@@ -11,15 +11,15 @@ use teb_io::Failed;
 /// A disk that is a file. A disk in memory mirrors it: the file is to have the bytes of the mirror, and the images that a crash
 /// may leave are those of the mirror.
 ///
-/// A read gives what the mirror has, once the file was read and has the same; else it fails. `sync` is `sync_data` of the file.
-/// From its first failure on the disk fails at each call, and the file is left alone: so no sync makes safe what a failed write or
-/// sync has left.
+/// A read returns what the mirror has, after it has read the same from the file; if the file differs, the read fails. `sync` is
+/// `sync_data` of the file. From its first failure on the disk fails at each call and leaves the file alone, so that no sync
+/// makes safe what a failed write or sync has left.
 ///
-/// The mirror keeps the writes and syncs since the opening, or since the last `renew`. Its memory grows with them and with the bytes
-/// of the file. `reserve` takes that memory ahead: a write or a sync that it covers never fails for want of memory, and another one may.
+/// The mirror keeps the writes and syncs since the opening, or since the last `renew`. Its memory grows with them and with the
+/// bytes of the file. `reserve` takes that memory ahead: a write or a sync that it covers never runs out of memory; others may.
 ///
-/// What rests on the operating system alone: after a crash the file holds one of the images that are told of the disk. For this
-/// it keeps what `sync_data` made safe, and nobody else writes the file while the disk is open.
+/// The operating system has to ensure that after a crash the file has one of the images that the contract of the disk allows. For
+/// this it keeps what `sync_data` made safe, and nothing else writes the file while the disk is open.
 #[derive(Drop)]
 pub struct FileDisk {
     pub(crate) file: File,

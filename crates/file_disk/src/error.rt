@@ -1,19 +1,19 @@
-//! Why a file can't be opened as a disk.
+//! Why a file cannot be opened as a disk.
 
 use std::alloc::AllocError;
 use std::io;
 use thiserror::Error;
 
-/// Why a file can't be opened as a disk.
+/// Why a file cannot be opened as a disk.
 #[derive(Debug, Drop, Error)]
 pub enum OpenError {
     /// The file has more bytes than the disk can hold.
     #[error("the file has more than {capacity} bytes")]
     TooLong { capacity: u64 },
-    /// The file is locked: it is open as a disk already.
+    /// The file is locked: it is already open as a disk.
     #[error("the file is in use")]
     Busy,
-    /// The file can't be opened, locked, read or synced.
+    /// The file cannot be opened, locked, read or synced.
     #[error("the file can't be used: {0}")]
     Io(io::Error),
     /// Out of memory.

@@ -1,4 +1,4 @@
-//! How a file is opened as a disk.
+//! Opening a file as a disk.
 
 ghost use Rattle.std.specs.Prelude.{◌≡◌, ◌≤◌, ◌<◌, ◌^◌, length, IfOk};
 ghost use Rattle.crash_disk.specs.Sizes.{default_capacity};
@@ -31,12 +31,12 @@ impl FileDisk {
         FileDisk::open_with_capacity(rt, alloc, path, DEFAULT_CAPACITY)
     }
 
-    /// Opens a file as a disk that can hold `capacity` bytes, or makes an empty one, and locks it. What it holds is made safe, and
-    /// its name in its folder too. The file is as long as what was written; its bytes are kept in memory, too.
+    /// Opens a file as a disk that can hold `capacity` bytes, or makes an empty one, and locks it. Its contents are made safe,
+    /// and its name in its folder too. The file is as long as what was written. Its bytes are also kept in memory.
     ///
     /// # Errors
-    /// `Busy`: the file is locked. `TooLong`: it has more than `capacity` bytes. `Io`: it can't be opened, locked, read or synced.
-    /// `OutOfMemory`. A file that was there is then as it was.
+    /// `Busy`: the file is locked. `TooLong`: it has more than `capacity` bytes. `Io`: it cannot be opened, locked, read or
+    /// synced. `OutOfMemory`: out of memory. A file that was there is unchanged.
     pub fn open_with_capacity<R: Files<File = File>>(
         rt: &R,
         alloc: Global,
@@ -67,7 +67,7 @@ impl FileDisk {
     }
 }
 
-/// Locks a file that is not locked yet. An `Err` is `Busy` where it is locked, and else `Io`.
+/// Locks a file that is not locked yet. The error is `Busy` if it is locked, and otherwise `Io`.
 fn lock(file: &File) -> Result<(), OpenError> {
     match file.try_lock() {
         Ok(()) => Ok(()),

@@ -13,7 +13,7 @@ const PIECE: usize = 4096;
 /// Returns all bytes of a file.
 ///
 /// # Errors
-/// `TooLong`: it has more than `capacity` bytes. `Io`: it can't be read. `OutOfMemory`. The file stays as it was.
+/// `TooLong`: it has more than `capacity` bytes. `Io`: it cannot be read. `OutOfMemory`: out of memory. The file is unchanged.
 pub fn read_whole(alloc: Global, file: &File, capacity: u64) -> Result<Vec<u8>, OpenError>
     ensures { IfOk result (λ bytes. length bytes.items ≤ capacity) }
 {
@@ -37,13 +37,13 @@ fn fitting(len: u64, capacity: u64) -> Result<usize, OpenError>
     Ok(len as usize)
 }
 
-/// Whether a read of so many bytes from a place on gives these. A read that fails gives nothing.
+/// Returns whether a read of `count` bytes at a place gives these. A read that fails does not.
 pub fn gives(file: &File, at: u64, count: usize, bytes: &[u8]) -> bool {
     has(file, at, bytes)
         && (bytes.len() == count || ends_at(file, at.saturating_add(bytes.len() as u64)))
 }
 
-/// Whether the file has these bytes at a place.
+/// Returns whether the file has these bytes at a place.
 fn has(file: &File, at: u64, bytes: &[u8]) -> bool {
     let mut buf = [0u8; PIECE];
     let mut place = at;
@@ -57,7 +57,7 @@ fn has(file: &File, at: u64, bytes: &[u8]) -> bool {
     true
 }
 
-/// Whether the file has no byte from a place on.
+/// Returns whether the file has no byte at a place or after it.
 fn ends_at(file: &File, at: u64) -> bool {
     i64::try_from(at).is_err() || matches!(file.read_at(&mut [0u8], at), Ok(0))
 }

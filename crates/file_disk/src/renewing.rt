@@ -1,4 +1,4 @@
-//! A file forgets the calls behind it.
+//! A file forgets its past calls.
 
 use crate::FileDisk;
 use crash_disk::Renew;

@@ -1,4 +1,4 @@
-//! How a journal begins, and how it grows.
+//! Creating a journal, and appending to it.
 
 ghost use Rattle.std.specs.Prelude.{◌≡◌, ◌+◌, ◌-◌, ◌<◌, ◌≤◌, ◌++◌, ◌∷◌, [], List, length, true, false, OnOk, OnErr, IfOk, IfErr, IsOk, IsErr, ◌^◌};
 ghost use Rattle.crash_disk.specs.Calls.{AreCalls, AreSure, Fails, IsUpTo};
@@ -16,16 +16,16 @@ use std::alloc::{AllocError, Global};
 use teb_io::Failed;
 
 impl<D: Disk> Journal<D> {
-    /// A journal without records, on a disk that may hold anything. It makes two calls of the disk.
+    /// Returns a journal without records, on a disk with any contents. It makes two calls of the disk.
     ///
     /// # Errors
-    /// The disk itself, where one of its calls fails. No more of it is safe than before.
+    /// The disk itself, if one of its calls fails. No more of it is safe than before.
     pub fn create(disk: D) -> Result<Journal<D>, D>
         ensures empty { IfOk result (λ journal. Keeps D.seen D.may_leave [] journal × (journal.stopped ≡ false) × (journal.progress.acknowledged ≡ 0)) }
         ensures cause { IfErr result (λ back. Rose (D.faults disk) (D.faults back)) }
         ensures capacity { IfOk result (λ journal. D.capacity journal.disk ≡ D.capacity disk) }
         ensures back_capacity { IfErr result (λ back. D.capacity back ≡ D.capacity disk) }
-        // It makes two calls, up to the first that fails, and writes one byte. After an `Err` no more is safe than before.
+        // It makes two calls, up to the first that fails, and writes one byte. After an error no more is safe than before.
         ensures sure { AreSure (D.tally disk).promise.writes 2 1 (D.tally disk) → IsOk result }
         ensures fails { Fails 2 (D.tally disk) → IsErr result }
         ensures counted { IfOk result (λ journal. IsUpTo 2 1 (D.tally disk) (D.tally journal.disk) × ((D.tally disk).made + 2 < 2 ^ 64 → (D.tally journal.disk).made ≡ (D.tally disk).made + 2)) }
@@ -45,7 +45,7 @@ impl<D: Disk> Journal<D> {
         }
     }
 
-    /// Returns memory for a record whose body has so many bytes, which `append` takes. It makes no call of the disk.
+    /// Returns memory for a record whose body has `len` bytes, for `append` to use. It makes no call of the disk.
     ///
     /// # Errors
     /// `AllocError`: out of memory.
@@ -58,18 +58,18 @@ impl<D: Disk> Journal<D> {
         self.disk.reserve(alloc, 4, end, bytes)
     }
 
-    /// Adds the record that the body spells, in memory that `reserve` returned for it. At `Ok` it is acknowledged: from then on each crash
-    /// leaves it. It makes four calls of the disk, none of which fails for want of memory.
+    /// Appends the record with this body, in memory that `reserve` returned for it. After `Ok` it is acknowledged: every crash
+    /// from then on leaves it. It makes four calls of the disk, none of which runs out of memory.
     ///
     /// # Errors
-    /// `Failed` where a call of the disk fails. The journal is then stopped, no record more is acknowledged, and this one may stand
-    /// on the disk or not.
+    /// `Failed` if a call of the disk fails. The journal is then stopped and acknowledges no more records. The disk may have this
+    /// record or not.
     pub fn append(&mut self, memory: Memory, body: &[u8]) -> Result<(), Failed>
         requires running { self.old.stopped ≡ false }
         requires some { 0 < length body.now }
         requires room { self.old.progress.end + 1 + length body.now ≤ room_of (D.capacity self.old.disk) }
 
-        // Between two calls a crash leaves the first records, at least those that are acknowledged.
+        // Between two calls a crash leaves the first records, at least the acknowledged ones.
         ensures kept { (asked : List Record) (r : Record) → IsBody r body.now → Keeps D.seen D.may_leave asked self.old → Keeps D.seen D.may_leave (asked ++ r ∷ []) self.new }
 
         // So does a crash at any moment of the call.
@@ -79,13 +79,13 @@ impl<D: Disk> Journal<D> {
         ensures acknowledged { OnOk result ((self.new.stopped ≡ false) × (self.new.progress.acknowledged ≡ self.old.progress.acknowledged + 1)) }
         ensures end { OnOk result (self.new.progress.end ≡ self.old.progress.end + length body.now) }
         ensures not_acknowledged { OnErr result ((self.new.stopped ≡ true) × (self.new.progress.acknowledged ≡ self.old.progress.acknowledged)) }
-        // After an `Err` what was safe at the last good sync has the acknowledged records alone.
+        // After an error, what was safe at the last good sync has only the acknowledged records.
         ensures not_added { (asked : List Record) (r : Record) → IsBody r body.now → Keeps D.seen D.may_leave asked self.old → OnErr result (recovered default_capacity (D.safe self.new.disk) ≡ Whole asked) }
 
         ensures cause { HasCause (D.faults self.old.disk) (D.faults self.new.disk) result }
         ensures capacity { D.capacity self.new.disk ≡ D.capacity self.old.disk }
 
-        // In memory that was reserved for it, it is refused none.
+        // In memory that was reserved for it, no call of the disk is refused memory.
         ensures memory { Covers (D.spare_with self.old.disk memory) 4 (length body.now + 1) (self.old.progress.end + 1 + length body.now) → D.refusals self.new.disk ≡ D.refusals self.old.disk }
 
         // It makes four calls, up to the first that fails, and writes one byte more than the body has.
@@ -105,21 +105,21 @@ impl<D: Disk> Journal<D> {
         added
     }
 
-    /// How many records are acknowledged: each crash leaves at least so many.
+    /// Returns how many records are acknowledged. Each crash leaves at least these.
     pub fn acknowledged(&self) -> u32
         ensures { result ≡ self.now.progress.acknowledged }
     {
         self.progress.acknowledged
     }
 
-    /// Whether the disk has failed while a record was added. No record may be added then.
+    /// Returns whether the disk has failed while a record was appended. Then no more records may be appended.
     pub fn is_stopped(&self) -> bool
         ensures { result ≡ self.now.stopped }
     {
         self.stopped
     }
 
-    /// How many bytes are left for records, from the closed gate on.
+    /// Returns how many bytes are left for records, from the closed gate byte on.
     pub fn left(&self) -> u64
         ensures { result ≡ room_of (D.capacity self.now.disk) - self.now.progress.end }
     {
@@ -129,7 +129,7 @@ impl<D: Disk> Journal<D> {
             .saturating_sub(self.progress.end)
     }
 
-    /// The disk, as it is.
+    /// Returns the disk, unchanged.
     pub fn into_disk(self) -> D
         ensures { result ≡ self.disk }
     {
@@ -137,7 +137,7 @@ impl<D: Disk> Journal<D> {
     }
 }
 
-// The first gate, closed and on the disk, whatever stands behind it.
+// Writes the first gate byte, closed, and makes it safe, whatever follows it.
 fn close_first_gate<D: Disk>(disk: &mut D) -> Result<(), Failed>
     ensures empty { OnOk result (IsAtRest default_capacity [] 0 (D.seen disk.new) × Only (D.seen disk.new) (D.may_leave disk.new)) }
     ensures cause { HasCause (D.faults disk.old) (D.faults disk.new) result }

@@ -11,9 +11,9 @@ use teb_io::Failed;
 pub enum RecoverError {
     /// A call of the disk failed.
     DiskFault,
-    /// The gate at this place is open, and no record stands behind it.
+    /// The gate byte at this place is open, and no record follows it.
     Damaged { at: u64 },
-    /// Memory was wanting.
+    /// Out of memory.
     OutOfMemory,
 }
 

@@ -5,8 +5,8 @@ ghost use Rattle.crash_disk.specs.Sizes.{default_capacity};
 
 use crash_disk::Disk;
 
-/// Records on a disk, one behind the other, and a closed gate behind the last. Each is acknowledged once it is safe, and from the
-/// first call of the disk that fails at a record the journal is stopped.
+/// Records on a disk, one after the other, and a closed gate byte after the last. Each is acknowledged once it is safe. The
+/// journal is stopped from the first call of the disk that fails while a record is appended.
 #[derive(Drop)]
 pub struct Journal<D: Disk> {
     pub(crate) disk: D,
@@ -14,10 +14,10 @@ pub struct Journal<D: Disk> {
     pub(crate) stopped: bool,
 }
 
-/// How far a journal has come.
+/// The progress of a journal.
 #[derive(Clone, Copy, Debug, PartialEq, Eq)]
 pub struct Progress {
-    /// The place of the closed gate.
+    /// The place of the closed gate byte.
     pub end: u64,
     /// How many records are acknowledged.
     pub acknowledged: u32,

@@ -12,22 +12,22 @@
 //!
 //! | Call | Calls of the disk |
 //! |---|---|
-//! | `Journal::create` | write a closed gate at place 0; sync |
-//! | `Journal::append` | write the record and a closed gate after the present closed gate; sync; open the present gate; sync |
+//! | `Journal::create` | write a closed gate byte at place 0; sync |
+//! | `Journal::append` | write the record and a closed gate byte after the present closed one; sync; open the present one; sync |
 //! | [`read_rows`] | sync; read. It writes nothing |
 //!
 //! - A *record* is the changes of one commit: a value or no row for each of some cells ([`Change`]).
-//! - The *gate* before a record is its commit mark: it is open if it is 1, and closed if it is any other byte.
+//! - The *gate byte* before a record (`gate` above) is its commit mark: it is open if it is 1, and closed otherwise.
 //! - A record is *acknowledged* once `append` has returned `Ok`. A journal is *stopped* once a call of the disk has failed at a
 //!   record.
-//! - Bytes are *damaged* if no record follows an open gate. [`RecoverError`] has the place of that gate.
+//! - Bytes are *damaged* if no record follows an open gate byte. [`RecoverError`] has the place of that byte.
 //!
 //! **What is proved.** A crash at any moment of `append`, or after it, leaves the first k records that were given to the journal,
 //! and k is at least the number of acknowledged records (clauses `any_moment` and `kept`). On such an image [`read_rows`] returns
 //! the rows after these k records, and reports no damage (`first`, `no_damage`). On any bytes it returns the rows after the
 //! records that the bytes have (`found`), or the place of the damage (`damaged`).
 //!
-//! **Why.** A gate is opened when its record is safe. A gate is one byte, so a torn write of it leaves it open or closed.
+//! **Why.** The gate byte is opened when its record is safe. It is one byte, so a torn write of it leaves it open or closed.
 //!
 //! **Not claimed**: that a journal which was read goes on; `create` begins an empty one over it. A journal uses the first
 //! 1,048,576 bytes of a disk and no others.

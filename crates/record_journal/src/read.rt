@@ -1,4 +1,4 @@
-//! The records that bytes stand for.
+//! Reading records from bytes.
 
 ghost use Rattle.std.specs.Prelude.{◌≡◌, ◌+◌, ◌*◌, ◌<◌, ◌≤◌, ◌∷◌, [], ℕ, length, None, Some, IfOk, IsErrOf, IfSome, MatchOption};
 ghost use Rattle.std.specs.Int.{w64, from_be_bytes};
@@ -9,7 +9,7 @@ use crate::{CHANGE_BYTES, COUNT_BYTES, Change, RecoverError};
 use std::alloc::{AllocError, Global};
 use teb_names::{Cell, Table};
 
-// Fourteen bytes as a change.
+// Reads fourteen bytes as a change.
 #[tactic(auto, unfolding(crate::specs::Format::value_of_tag))]
 fn read_change(bytes: &[u8]) -> Option<Change>
     requires { length bytes.now ≡ 14 }
@@ -46,7 +46,7 @@ fn value_of(tag: u8, number: u64) -> Option<Option<i64>>
     }
 }
 
-// So many changes at the front of the bytes.
+// Reads `count` changes from the front of the bytes.
 #[tactic(auto, unfolding(crate::specs::Format::changes_of))]
 fn read_changes(alloc: Global, count: u32, bytes: &[u8]) -> Result<Option<Vec<Change>>, AllocError>
     ensures changes { IfOk result (λ found. MatchOption found (changes_of count bytes.now ≡ None) (λ v. changes_of count bytes.now ≡ Some v.items)) }
@@ -68,7 +68,10 @@ fn read_changes(alloc: Global, count: u32, bytes: &[u8]) -> Result<Option<Vec<Ch
     Ok(Some(changes))
 }
 
-/// The record behind an open gate, if the bytes have one. An `Err` comes where memory is wanting.
+/// Returns the record after an open gate byte, if the bytes have one.
+///
+/// # Errors
+/// `AllocError`: out of memory.
 #[tactic(auto, unfolding(crate::specs::Format::record_of))]
 pub fn read_record(alloc: Global, bytes: &[u8]) -> Result<Option<Vec<Change>>, AllocError>
     ensures record { IfOk result (λ found. MatchOption found (record_of bytes.now ≡ None) (λ v. record_of bytes.now ≡ Some v.items)) }
@@ -82,7 +85,7 @@ pub fn read_record(alloc: Global, bytes: &[u8]) -> Result<Option<Vec<Change>>, A
     read_changes(alloc, count, rest)
 }
 
-// What stands behind the first gate, if it is open.
+// Returns what follows the first gate byte, if it is open.
 fn opened(bytes: &[u8]) -> Option<&[u8]>
     ensures behind { IfSome result (λ behind. bytes.now ≡ 1 ∷ behind.now) }
     ensures closed { result ≡ None → (at : ℕ) → reading 0 at bytes.now ≡ Whole [] }
@@ -97,11 +100,11 @@ fn opened(bytes: &[u8]) -> Option<&[u8]>
     Some(behind)
 }
 
-/// All records up to the first gate that is closed. It costs the bytes of these records.
+/// Returns all records up to the first closed gate byte. It costs time in the bytes of these records.
 ///
 /// # Errors
-/// `Damaged` where no record stands behind an open gate: it runs past the end, or one of its changes has another tag, or no row and
-/// a value that is not 0. `OutOfMemory`.
+/// `Damaged` if no record follows an open gate byte: it runs past the end, or one of its changes has another tag, or no row and a
+/// value that is not 0. `OutOfMemory`: out of memory.
 pub fn read_records(alloc: Global, bytes: &[u8]) -> Result<Vec<Vec<Change>>, RecoverError>
     ensures whole { IfOk result (λ records. reading 0 0 bytes.now ≡ Whole (record_lists records.items)) }
     ensures damaged { (at : ℕ) → IsErrOf result (RecoverError.Damaged at) → reading 0 0 bytes.now ≡ Damaged at }

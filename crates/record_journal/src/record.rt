@@ -1,4 +1,4 @@
-//! One record: its bytes, and how they come onto the disk in four calls.
+//! One record: its bytes, and the four calls that write it.
 
 ghost use Rattle.std.specs.Prelude.{◌≡◌, ◌+◌, ◌*◌, ◌^◌, ◌<◌, ◌≤◌, ◌++◌, ◌∷◌, [], List, ℕ, length, OnOk, OnErr, IfOk};
 ghost use Rattle.crash_disk.specs.Calls.{AreCalls};
@@ -13,8 +13,11 @@ use crash_disk::Disk;
 use std::alloc::{AllocError, Global};
 use teb_io::Failed;
 
-/// The bytes that add a record behind a closed gate: how many changes, each of them, and the next gate, closed. An `Err` comes
-/// where memory is wanting.
+/// Returns the bytes that add a record after a closed gate byte: the number of changes, each of them, and the next gate byte,
+/// closed.
+///
+/// # Errors
+/// `AllocError`: out of memory.
 pub fn encode(alloc: Global, changes: &[Change]) -> Result<Vec<u8>, AllocError>
     requires { length changes.now < 2 ^ 32 }
     ensures is_body { IfOk result (λ bytes. IsBody changes.now bytes.items) }
@@ -49,24 +52,25 @@ fn put_change(out: &mut Vec<u8>, change: Change) -> Result<(), AllocError>
     Ok(())
 }
 
-/// Writes a record behind the closed gate at `end`: its body with the next gate, and then its own gate, each made safe by a sync.
+/// Writes a record after the closed gate byte at `end`: first its body with the next gate byte, then its own gate byte. A sync
+/// makes each safe.
 ///
 /// # Errors
-/// `Failed` where one of these four calls fails. The record may then stand on the disk or not.
+/// `Failed` if one of these four calls fails. The disk may have the record or not.
 pub fn write_record<D: Disk>(disk: &mut D, end: u64, body: &[u8]) -> Result<(), Failed>
     requires { end + 1 + length body.now ≤ D.capacity disk.old }
 
-    // On a disk at rest it adds the record that the body spells. The room of the journal may be less than that of the disk.
+    // On a disk at rest it adds the record of the body. The room of the journal may be less than that of the disk.
     ensures added { (room : ℕ) (rs : List Record) (r : Record) → end + 1 + length body.now ≤ room → IsBody r body.now → IsAtRest room rs end (D.seen disk.old)
         → Only (D.seen disk.old) (D.may_leave disk.old)
         → OnOk result (IsAtRest room (rs ++ r ∷ []) (end + length body.now) (D.seen disk.new) × Only (D.seen disk.new) (D.may_leave disk.new)) }
 
-    // A crash at any moment of the call leaves the records from before it, with the new one or without.
+    // A crash at any moment of the call leaves the earlier records, with the new one or without it.
     ensures any_moment { (room : ℕ) (rs : List Record) (r : Record) → end + 1 + length body.now ≤ room → IsBody r body.now → IsAtRest room rs end (D.seen disk.old)
         → Only (D.seen disk.old) (D.may_leave disk.old)
         → LeavesOnly D.moment D.left_since disk.old disk.new (IsBeforeOrAfter room rs r) }
 
-    // Where it fails, what was safe at the last good sync has the records from before it alone.
+    // If it fails, what was safe at the last good sync has only the earlier records.
     ensures not_added { (room : ℕ) (rs : List Record) (r : Record) → end + 1 + length body.now ≤ room → IsBody r body.now → IsAtRest room rs end (D.seen disk.old) → recovered room (D.safe disk.old) ≡ Whole rs
         → OnErr result (recovered room (D.safe disk.new) ≡ Whole rs) }
 

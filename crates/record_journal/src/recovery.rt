@@ -1,4 +1,4 @@
-//! What a disk stands for, after a crash too.
+//! The rows on a disk, also after a crash.
 
 ghost use Rattle.std.specs.Prelude.{◌≡◌, ◌+◌, ◌≤◌, List, ℕ, length, take, IfOk, IfErr, OnOk, IsErrOf};
 ghost use Rattle.teb_names.specs.declared.Cell.{Cell as TheCell};
@@ -18,7 +18,7 @@ use crash_disk::Disk;
 use std::alloc::Global;
 use teb_names::Cell;
 
-/// What the records of a journal leave.
+/// The result of the records of a journal.
 #[derive(Debug, Drop)]
 pub struct Recovered {
     /// The rows after all records, in ascending order of their cells.
@@ -27,12 +27,12 @@ pub struct Recovered {
     pub commits: u32,
 }
 
-/// The rows that a disk stands for, over some starting rows, of which the first of a cell counts, and how many records it has. It
-/// begins with a sync, and writes nothing.
+/// Returns the rows after the records of a disk, over some starting rows, and how many records it has. Of two starting rows of
+/// one cell the first counts. It begins with a sync, and writes nothing.
 ///
 /// # Errors
-/// `DiskFault`: a call of the disk failed. `Damaged`: no record follows an open gate. `OutOfMemory`. The bytes of the disk are
-/// unchanged, and a fault is counted only with `DiskFault`.
+/// `DiskFault`: a call of the disk failed. `Damaged`: no record follows an open gate byte. `OutOfMemory`: out of memory. The
+/// bytes of the disk are unchanged, and a fault is counted only with `DiskFault`.
 pub fn read_rows<D: Disk>(
     alloc: Global,
     disk: &mut D,
@@ -44,11 +44,11 @@ pub fn read_rows<D: Disk>(
 
     ensures ascending { IfOk result (λ found. IsAscending found.rows.items) }
 
-    // Damage is told where the bytes have it.
+    // The place of the damage is that of the bytes.
     ensures damaged { (at : ℕ) → IsErrOf result (RecoverError.Damaged at) → recovered default_capacity (D.seen disk.old) ≡ Damaged at }
 
-    // On what a crash leaves of a journal that was asked to keep these records, the first k of them are found, for a k that is
-    // at least what was acknowledged, and there is no damage.
+    // On what a crash leaves of a journal of these records, the first k of them are found, and k is at least the number of
+    // acknowledged ones. There is no damage.
     ensures first { (least : ℕ) (asked : List Record) → StandsFor default_capacity least asked (D.seen disk.old)
         → IfOk result (λ found. (least ≤ found.commits) × (found.commits ≤ length asked)
         × ((x : TheCell) → row_of found.rows.items x ≡ after_records (take found.commits asked) (row_of start.now) x)) }
@@ -58,10 +58,10 @@ pub fn read_rows<D: Disk>(
     ensures durable { OnOk result (Only (D.seen disk.old) (D.may_leave disk.new)) }
     ensures quiet { IsQuiet D.seen D.may_leave D.moment D.left_since D.faults D.capacity disk.old disk.new }
     ensures cause { IsErrOf result RecoverError.DiskFault → Rose (D.faults disk.old) (D.faults disk.new) }
-    // Where no call failed, no fault is counted.
+    // If no call failed, no fault is counted.
     ensures no_fault { OnOk result (D.faults disk.new ≡ D.faults disk.old) }
     ensures no_other_fault { IfErr result (λ e. (e ≡ RecoverError.DiskFault → ⊥) → D.faults disk.new ≡ D.faults disk.old) }
-    // It makes a sync, and then as many calls at most as there are bytes, and one.
+    // It makes a sync, and then at most one call more than there are bytes.
     ensures sure { AreSure (D.tally disk.old).promise.writes 1 0 (D.tally disk.old) → AreSure (D.tally disk.old).promise.reads (default_capacity + 2) 0 (D.tally disk.old)
         → IsErrOf result RecoverError.DiskFault → ⊥ }
 {

@@ -13,7 +13,10 @@ use std::alloc::{AllocError, Global};
 use std::collections::BTreeMap;
 use teb_names::Cell;
 
-/// The rows after some records, in ascending order of their cells. An `Err` comes where memory is wanting.
+/// Returns the rows after some records, in ascending order of their cells.
+///
+/// # Errors
+/// `AllocError`: out of memory.
 pub fn rows_after(
     alloc: Global,
     start: &[(Cell, i64)],
@@ -29,7 +32,7 @@ pub fn rows_after(
     listed(alloc, &rows)
 }
 
-// One change: a value for a cell, or no row.
+// Applies one change: a value for a cell, or no row.
 fn put_row(rows: &mut BTreeMap<Cell, i64>, change: Change) -> Result<(), AllocError>
     ensures { OnOk result ((x : TheCell) → get ⟦<Cell as Ord>⟧.cmp rows.new x ≡ put_in change.cell change.value (get ⟦<Cell as Ord>⟧.cmp rows.old) x) }
 {
@@ -53,7 +56,7 @@ fn put_rows(rows: &mut BTreeMap<Cell, i64>, changes: &[Change]) -> Result<(), Al
     Ok(())
 }
 
-// The first of two rows of one cell counts.
+// Of two rows of one cell the first counts.
 fn first_rows(alloc: Global, start: &[(Cell, i64)]) -> Result<BTreeMap<Cell, i64>, AllocError>
     ensures { IfOk result (λ rows. (x : TheCell) → get ⟦<Cell as Ord>⟧.cmp rows x ≡ row_of start.now x) }
 {

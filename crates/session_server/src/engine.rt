@@ -1,4 +1,4 @@
-//! An engine as a server: it never fails but for memory.
+//! An engine as a server: it only fails if memory runs out.
 
 use engine_core::Engine;
 use hall_server::{Failure, Fault, Server};
@@ -7,7 +7,7 @@ use teb_history::History;
 use teb_names::{Reply, Request, Session};
 use version_chain::Chains;
 
-/// An engine as what a hall serves.
+/// An engine, as a hall serves it.
 #[derive(Drop)]
 pub struct EngineServer<C: Chains> {
     pub engine: Engine<C>,

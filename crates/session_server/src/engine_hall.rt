@@ -21,9 +21,10 @@ use teb_names::{MOST_TXNS, Reply, Request};
 use version_chain::Chains;
 
 impl<C: Chains> Hall<C> {
-    /// A hall over an engine that was asked nothing yet, and the passes of the sessions 1 to `SESSIONS`, in order.
+    /// Returns a hall over an engine that was asked nothing yet, and the passes of the sessions 1 to `SESSIONS`, in order.
     ///
-    /// At `Err` there was no memory, and the engine comes back.
+    /// # Errors
+    /// Out of memory. The engine is returned.
     pub fn make(alloc: Global, engine: Engine<C>) -> Result<(Hall<C>, Vec<Pass<C>>), Engine<C>>
         requires { engine.events ≡ [] }
         ensures base { IfOk result (λ r. base_of r.0 ≡ record { store = engine.store; names = engine.names }) }
@@ -39,11 +40,11 @@ impl<C: Chains> Hall<C> {
 
     /// Asks the engine at this session's turn. It waits for the turn.
     ///
-    /// What the pass has seen goes on, and ends with the entry of this call. Before the turn moves on, each finish of
-    /// the answer is published. Whom an Again names may be polled.
+    /// What the pass has seen grows, and ends with the entry of this call. Before the turn moves on, each finish of the answer is
+    /// published. The transaction that an Again names may be polled.
     ///
     /// # Errors
-    /// `PassSpent`, where the pass has asked `MOST_ASKS` times. `OutOfMemory` leaves no entry.
+    /// `PassSpent` if the pass has asked `MOST_ASKS` times. `OutOfMemory` leaves no entry.
     pub fn ask<R: Wait>(
         &self,
         rt: &R,
@@ -66,7 +67,7 @@ impl<C: Chains> Hall<C> {
             Err(ServeError::Unsure(_)) => unreachable!(),
         }
     }
-    /// The engine, and its entries. The passes are those of all sessions.
+    /// Returns the engine, and its entries. The passes must be those of all sessions.
     ///
     /// The list begins with what each pass has seen, and has no further entries of its session.
     pub fn close(self, passes: Vec<Pass<C>>) -> (Engine<C>, Entries)

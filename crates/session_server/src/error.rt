@@ -1,4 +1,4 @@
-//! Why a request came to nothing, or has no reply.
+//! Why a request was not asked, or has no reply.
 
 use hall_server::Fault;
 use teb_names::Reply;

@@ -12,9 +12,9 @@ use turn_lock::Turn;
 
 /// One server for all sessions, each with a pass. Each transaction has a note of how it finished.
 ///
-/// A session asks at its turn, and passes the door first. The turn alone keeps the server to one session at a time; its
-/// waiters yield in the order of their tickets, so each hand-over would wait until the next in line gets a processor.
-/// At the door sessions sleep, and a session that is awake goes first, so that one ticket is drawn at a time.
+/// A session asks at its turn, and passes the door first. The turn alone keeps the server to one session at a time; its waiters
+/// yield in the order of their tickets, so each hand-over would wait until the next in line gets a processor. At the door
+/// sessions sleep, and a session that is awake goes first, so that one ticket is drawn at a time.
 #[derive(Drop)]
 pub struct HallOf<S: Server> {
     pub(crate) turn: Turn<Hosted<S>>,

@@ -1,4 +1,4 @@
-//! The value that goes from turn to turn: the server, with the list of what it was asked and answered.
+//! The value of the turn: the server, with the list of its requests and replies.
 
 ghost use Rattle.std.specs.Prelude.{◌≡◌, suc, ◌≤◌, [], ◌++◌, IsErrOf, length};
 ghost use Rattle.teb_names.specs.declared.TheConstants.{MOST_TXNS};
@@ -44,7 +44,7 @@ impl<S: Server> Member for Hosted<S> {
 }
 
 impl<S: Server> Hosted<S> {
-    /// A server that was asked nothing yet.
+    /// Returns a server that was asked nothing yet.
     pub(crate) fn new(alloc: Global, server: S) -> Hosted<S>
         requires { S.events server ≡ [] }
         ensures { (result.entries.items ≡ []) × (result.server ≡ server) }
@@ -56,7 +56,7 @@ impl<S: Server> Hosted<S> {
         }
     }
 
-    /// The server alone.
+    /// Returns the server alone.
     pub(crate) fn into_server(self) -> S
         ensures { result ≡ self.server }
     {
@@ -64,7 +64,7 @@ impl<S: Server> Hosted<S> {
         server
     }
 
-    /// Asks, and keeps the entry of a request that the history has.
+    /// Asks, and keeps the entry of the request if the history has it.
     pub(crate) fn ask(&mut self, session: Session, request: Request) -> Result<Reply, Failure>
         ensures entries { self.new.entries.items ≡ self.old.entries.items ++ own_of session request (told result) }
         ensures answer { IsToldBy (told result) (answer (S.store self.old.server) (S.events self.old.server) session request).0 }
@@ -90,7 +90,7 @@ impl<S: Server> Hosted<S> {
     }
 }
 
-/// The reply by which the history has a request.
+/// Returns the reply with which the history has a request, if it has it.
 fn reply_in(answer: &Result<Reply, Failure>) -> Option<Reply>
     ensures { result ≡ told answer.now }
 {
@@ -100,7 +100,7 @@ fn reply_in(answer: &Result<Reply, Failure>) -> Option<Reply>
     }
 }
 
-/// The same reply once more.
+/// Returns a copy of the reply.
 fn copy_of(reply: &Reply) -> Reply
     ensures { result ≡ reply.now }
 {

@@ -18,12 +18,12 @@ use teb_names::{MOST_TXNS, Reply, Request};
 impl<S: Server> HallOf<S> {
     /// Asks the server at this session's turn. It waits for the turn.
     ///
-    /// What the pass has seen goes on, and ends with the entry of this call. Before the turn moves on, each finish of
-    /// the answer is published. Whom an Again names may be polled.
+    /// What the pass has seen grows, and ends with the entry of this call. Before the turn moves on, each finish of the answer is
+    /// published. The transaction that an Again names may be polled.
     ///
     /// # Errors
-    /// `PassSpent`, where the pass has asked `MOST_ASKS` times. `Unasked` leaves no entry. `Unsure` leaves an entry with the reply
-    /// that is not certain to be kept.
+    /// `PassSpent` if the pass has asked `MOST_ASKS` times. `Unasked` leaves no entry. `Unsure` leaves an entry with the reply,
+    /// which may be lost.
     pub fn serve<R: Wait>(
         &self,
         rt: &R,

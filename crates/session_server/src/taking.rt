@@ -16,7 +16,7 @@ use std::sync::Wait;
 use teb_names::{MOST_TXNS, Reply, Request, Session};
 use turn_lock::{SeatOf, Turn};
 
-/// Enters, asks, publishes what finished, and leaves. It adds the entry of a request that the history has, and no other.
+/// Enters, asks, publishes the finishes, and leaves. It adds the entry of the request if the history has it, and no other.
 pub(crate) fn take_turn<S: Server, R: Wait>(
     rt: &R,
     turn: &Turn<Hosted<S>>,
