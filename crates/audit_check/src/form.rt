@@ -143,7 +143,7 @@ fn take_line<'a>(
     Ok(true)
 }
 
-/// Returns false if the line is a row of a cell that had one. Otherwise it keeps the cell.
+/// Returns false if the line is a row of a cell that had one. Otherwise, if it is a row, its cell is kept.
 #[tactic(auto, using(crate::proofs::Cells::start_kept, crate::proofs::Cells::row_kept))]
 fn is_new<'a>(cells: &mut Cells<'a>, line: &Line<'a>) -> Result<bool, AllocFailed<RowKey<'a>>>
     ensures new { IfOk result (λ new. (past : List Item) → KeepsCells cells.old.starts.keys cells.old.rows.keys past → new ≡ not (repeats past (line_view line.now))) }

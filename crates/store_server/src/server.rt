@@ -62,7 +62,7 @@ impl<D: Renew> StoreServer<D> {
         store
     }
 
-    /// Returns the store in the next epoch, or unchanged with the reason why there is none.
+    /// Returns the store in the next epoch, or in this one, with the reason why there is no next one.
     fn turned(self, alloc: Global) -> (StoreServer<D>, Result<(), NoEpoch>)
         ensures { IsAfterTry (standing_of self.store) (standing_of result.0.store) result.1 }
     {

@@ -189,7 +189,7 @@ fn add_table(
     Ok(())
 }
 
-// The next table of a step. The step must not have it yet.
+// Returns the next table of a step, or `Repeated` if the step has it already.
 fn next_table(tables: &Names, step: &[TableNumber], value: &Value) -> Result<TableNumber, FieldWhy>
     ensures { Gives (λ t. numbers_of step.now ++ t.0 ∷ []) result (step_table tables.now (numbers_of step.now) (view value.now)) }
 {
