@@ -14,7 +14,7 @@ pub struct AnswerCount {
 }
 
 impl AnswerCount {
-    /// No answers.
+    /// Returns a count of no answers.
     pub fn new() -> AnswerCount
         ensures { result.count ≡ 0 }
     {

@@ -15,7 +15,7 @@ pub struct AnswerList {
 }
 
 impl AnswerList {
-    /// No answers. Takes no memory.
+    /// Returns a list of no answers. Takes no memory.
     pub fn new(alloc: Global) -> AnswerList
         ensures { result.answers.items ≡ [] }
     {

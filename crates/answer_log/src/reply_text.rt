@@ -26,7 +26,7 @@ pub struct ReplyText {
 }
 
 impl ReplyText {
-    /// No answers. Takes no memory.
+    /// Returns the text of no answers. Takes no memory.
     pub fn new(alloc: Global) -> ReplyText
         ensures { (names : NameBook) → HasLines result names [] }
     {
@@ -36,8 +36,8 @@ impl ReplyText {
         }
     }
 
-    /// No answers. Their text reuses the memory of these bytes, whose contents are dropped. So no large block is freed, and none
-    /// is allocated before the text is longer than they were.
+    /// Returns the text of no answers. It reuses the memory of these bytes, whose contents are dropped. So no large block is
+    /// freed, and none is allocated before the text is longer than they were.
     pub fn reusing(mut bytes: Vec<u8>) -> ReplyText
         ensures { (names : NameBook) → HasLines result names [] }
     {

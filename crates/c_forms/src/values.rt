@@ -35,7 +35,7 @@ impl Model for ValueList {
 }
 
 impl ValueList {
-    /// No values.
+    /// Returns no values.
     pub fn new() -> Self
         ensures { result ≡ [] }
     {
@@ -46,7 +46,7 @@ impl ValueList {
         }
     }
 
-    /// One value.
+    /// Returns one value.
     pub fn of(value: Option<i64>) -> Self
         ensures { result ≡ value ∷ [] }
     {
@@ -55,7 +55,7 @@ impl ValueList {
         list
     }
 
-    /// The values of a scan.
+    /// Returns the values of a scan.
     pub fn of_scan(values: &ScanList) -> Self
         ensures { result ≡ values.now }
     {
@@ -66,7 +66,7 @@ impl ValueList {
         list
     }
 
-    /// The number of values, at most sixteen.
+    /// Returns the number of values, at most sixteen.
     pub fn len(&self) -> usize
         ensures len { result ≡ length self.now }
         ensures few { result ≤ 16 }
@@ -74,7 +74,7 @@ impl ValueList {
         self.len
     }
 
-    /// The value at a place, from 0.
+    /// Returns the value at a place, from 0.
     #[tactic(auto, using(crate::proofs::Padding::read_joined))]
     pub fn at(&self, i: usize) -> Option<i64>
         requires { i < length self.now }
@@ -83,7 +83,7 @@ impl ValueList {
         self.present[i].then_some(self.values[i])
     }
 
-    /// The first value, or `None` if there is none.
+    /// Returns the first value, or `None` if there is none.
     pub fn first(&self) -> Option<Option<i64>>
         ensures { result ≡ slice_get self.now 0 }
     {
@@ -94,7 +94,7 @@ impl ValueList {
         }
     }
 
-    /// These values, as those of a scan.
+    /// Returns these values as those of a scan.
     pub fn scan(&self) -> ScanList
         ensures { result ≡ self.now }
     {

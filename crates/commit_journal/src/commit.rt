@@ -51,7 +51,7 @@ pub fn body_of<C: Chains>(
     Ok(bytes)
 }
 
-// The unfinished transaction that a session holds and asks to commit.
+// Returns the unfinished transaction that a session holds and asks to commit.
 #[tactic(auto, using(crate::proofs::Asked::not_commit, crate::proofs::Asked::committing_some, crate::proofs::Asked::committing_none))]
 fn committing(history: &History, session: Session, request: Request) -> Option<Txn>
     ensures { result ≡ txn_of (committed_by history.now.events session request) }
@@ -67,7 +67,7 @@ fn committing(history: &History, session: Session, request: Request) -> Option<T
     }
 }
 
-// A transaction's last Put of each cell that it has put, the newest first.
+// Returns a transaction's last Put of each cell that it has put, the newest first.
 fn puts_of(alloc: Global, history: &History, t: Txn) -> Result<Vec<Change>, AllocError>
     ensures { IfOk result (λ found. found.items ≡ all_puts history.now.events t.0) }
 {
@@ -113,7 +113,7 @@ fn add_put(
     Ok(())
 }
 
-// The last Puts of a transaction that is about to commit, if no committed version follows them.
+// Returns those of the last Puts of a transaction that is about to commit which no committed version follows.
 fn record_of<C: Chains>(
     alloc: Global,
     engine: &Engine<C>,
@@ -148,7 +148,7 @@ fn is_newest<C: Chains>(engine: &Engine<C>, cell: Cell, t: Txn) -> bool
     }
 }
 
-// The place of the last version of a cell whose writer is t or is committed.
+// Returns the place of the last version of a cell whose writer is t or is committed.
 fn last_counted<C: Chains>(history: &History, chains: &C, cell: Cell, t: Txn) -> Option<usize>
     ensures { result ≡ last_place (counts history.now.events t.0) (writers_of (C.lists chains.now cell)) }
 {

@@ -48,7 +48,7 @@ pub(crate) fn ask<C: Chains, D: Disk>(
     }
 }
 
-// A disk that has not failed before, and has room, can only fail now.
+// Returns why the run ends. A disk that has not failed before, and has room, can only fail now.
 fn halt_of(error: DurableError) -> Halt
     requires running { error ≡ errors.Stopped → ⊥ }
     requires room { error ≡ errors.Full → ⊥ }

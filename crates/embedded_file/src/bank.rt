@@ -122,7 +122,7 @@ fn transfer(alloc: Global, bank: &mut Bank) -> Result<i64, Stopped> {
     moved
 }
 
-/// The requests of a transfer: 1 from one account to another, and the number of the transfer.
+/// Makes the requests of a transfer: 1 from one account to another, and the number of the transfer.
 fn steps(alloc: Global, bank: &mut Bank) -> Result<i64, Stopped> {
     ask(alloc, bank, Request::Begin(TRANSFER))?;
     let count = Cell {

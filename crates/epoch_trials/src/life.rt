@@ -64,7 +64,7 @@ fn cell(key: u32) -> Cell {
     }
 }
 
-/// The rows after `count` records: one that each record has moved to the next cell, and one that stays.
+/// Returns the rows after `count` records: one that each record has moved to the next cell, and one that stays.
 fn rows(count: u32) -> [(Cell, i64); 2] {
     [(cell(count), i64::from(count)), (cell(99), 1)]
 }
@@ -79,7 +79,7 @@ fn count_of(rows: &[(Cell, i64)]) -> Option<u32> {
     }
 }
 
-/// The record with this number: it moves the row to the next cell.
+/// Returns the record with this number, which moves the row to the next cell.
 fn record(number: u8) -> [Change; 2] {
     let next = u32::from(number) + 1;
     [

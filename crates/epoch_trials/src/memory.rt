@@ -5,12 +5,12 @@ use crash_disk::MemDisk;
 use std::alloc::Global;
 use std::test::Fail;
 
-/// The result of a life on a disk in memory that fails from the call `stop` on; 0 names no call.
+/// Returns the result of a life on a disk in memory that fails from the call `stop` on; 0 names no call.
 pub fn live_until(alloc: Global, stop: u32) -> Result<Lived<MemDisk>, Fail> {
     live(alloc, MemDisk::with_capacity(alloc, CAPACITY, stop))
 }
 
-/// A disk with these bytes.
+/// Returns a disk with these bytes.
 fn disk_of(alloc: Global, bytes: Vec<u8>) -> Result<MemDisk, Fail> {
     if bytes.len() as u64 > CAPACITY {
         return Err(Fail::from("too long"));
@@ -45,7 +45,7 @@ fn a_disk_that_fails_at_any_call_is_opened_again(rt: HostRuntime) -> Result<(), 
     Ok(())
 }
 
-/// The bytes after a write that reached only the first `len` bytes of the disk.
+/// Returns the bytes after a write that reached only the first `len` bytes of the disk.
 fn torn(alloc: Global, before: &[u8], after: &[u8], len: usize) -> Result<Vec<u8>, Fail> {
     let mut bytes = Vec::new(alloc);
     bytes.extend_from_slice(&after[..len.min(after.len())])?;

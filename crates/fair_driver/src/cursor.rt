@@ -29,7 +29,7 @@ pub struct Cursor<'a> {
 }
 
 impl<'a> Cursor<'a> {
-    /// A session at the first line of its script.
+    /// Returns a session at the first line of its script.
     pub fn new(session: Session, lines: &'a [Line]) -> Cursor<'a>
         ensures { seat_of result ≡ record { session = session; state = at_first (requests_on lines.now); aborts = 0 } }
     {

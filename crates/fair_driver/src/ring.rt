@@ -42,7 +42,7 @@ impl<'a> Ring<'a> {
     ghost use Rattle.fair_driver.specs.Effects.{IsEffect};
     ghost use Rattle.teb_names.specs.declared.Reply.{Reply};
 
-    /// Each session at the first line of its script. The lowest-numbered is looked at first.
+    /// Returns a ring with each session at the first line of its script. The lowest-numbered is looked at first.
     pub fn new(alloc: Global, scripts: &'a Scripts) -> Result<Ring<'a>, AllocError>
         ensures { IfOk result (λ r. round_of r ≡ seated (scripts_on scripts.now)) }
     {

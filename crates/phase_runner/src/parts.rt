@@ -6,7 +6,7 @@ ghost use Rattle.phase_runner.specs.Parts.{AreParts, texts};
 use script_text::{MOST_BYTES, split_input};
 use std::alloc::{AllocError, Global};
 
-/// The bytes between the lines that are exactly `%%`, in order: one part more than there are such lines.
+/// Returns the bytes between the lines that are exactly `%%`, in order: one part more than there are such lines.
 pub fn parts(alloc: Global, bytes: &[u8]) -> Result<Vec<&[u8]>, AllocError>
     requires { length bytes.now ≤ MOST_BYTES }
     ensures parts { IfOk result (λ v. AreParts bytes.now (texts v.items)) }

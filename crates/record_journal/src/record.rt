@@ -32,7 +32,7 @@ pub fn encode(alloc: Global, changes: &[Change]) -> Result<Vec<u8>, AllocError>
     Ok(bytes)
 }
 
-// Fourteen bytes: table, key, tag, value.
+// Appends fourteen bytes: table, key, tag, value.
 fn put_change(out: &mut Vec<u8>, change: Change) -> Result<(), AllocError>
     ensures put { OnOk result (out.new.items ≡ out.old.items ++ entry change) }
     ensures fits { ChangeFits change }

@@ -56,7 +56,7 @@ fn put_rows(rows: &mut BTreeMap<Cell, i64>, changes: &[Change]) -> Result<(), Al
     Ok(())
 }
 
-// Of two rows of one cell the first counts.
+// Returns the starting rows. Of two rows of one cell the first counts.
 fn first_rows(alloc: Global, start: &[(Cell, i64)]) -> Result<BTreeMap<Cell, i64>, AllocError>
     ensures { IfOk result (λ rows. (x : TheCell) → get ⟦<Cell as Ord>⟧.cmp rows x ≡ row_of start.now x) }
 {

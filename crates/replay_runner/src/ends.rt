@@ -48,7 +48,7 @@ fn ask_ends<C: Chains, L: Log>(
     Ok(())
 }
 
-/// The sessions that hold a transaction, in ascending number.
+/// Returns the sessions that hold a transaction, in ascending number.
 pub fn holding_sessions(alloc: Global, history: &History) -> Result<Vec<Session>, AllocError>
     ensures { IfOk result (λ v. v.items ≡ holders_from SESSIONS 1 history.now.events) }
 {

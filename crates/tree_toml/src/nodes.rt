@@ -145,7 +145,7 @@ fn read_row(
     read_leaf(alloc, types, index, control, parent, entry)
 }
 
-// The rest of a row, once its control and its parent are read.
+// Reads the rest of a row, after its control and its parent.
 #[tactic(auto, unfolding(crate::specs::Nodes::leaf_row))]
 fn read_leaf(
     alloc: Global,

@@ -63,7 +63,7 @@ fn all_tables(alloc: Global, tables: &Names) -> Result<Vec<TableNumber>, AllocEr
     Ok(step)
 }
 
-// The steps, if they are given: 1 to 16 arrays of texts.
+// Returns the steps, if they are given: 1 to 16 arrays of texts.
 fn steps_form(entry: &Table) -> Result<Option<&[Value]>, FieldWhy>
     ensures { Gives (option_map (λ a. map view a.now)) result (spec_steps_form (table_view entry.now)) }
 {

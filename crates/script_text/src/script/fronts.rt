@@ -133,7 +133,7 @@ fn spaces_end(text: &[u8]) -> Option<usize>
     None
 }
 
-/// Which of these bytes are line feeds: a bit for each, the lowest for the first.
+/// Returns which of these bytes are line feeds: a bit for each, the lowest for the first.
 #[inline(always)]
 fn feeds_of(bytes: u8x32) -> u64
     ensures { result ≡ mask_l (map is_feed bytes) }
@@ -141,7 +141,7 @@ fn feeds_of(bytes: u8x32) -> u64
     bytes.simd_eq(u8x32::splat(b'\n')).to_bitmask()
 }
 
-/// Which of these bytes are not spaces.
+/// Returns which of these bytes are not spaces.
 #[inline(always)]
 fn others_of(bytes: u8x32) -> u64
     ensures { result ≡ mask_l (map is_other bytes) }

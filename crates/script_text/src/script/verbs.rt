@@ -3,35 +3,35 @@
 ghost use Rattle.std.specs.Prelude.{◌≡◌, codes};
 ghost use Rattle.std.specs.Str.{bytes_eq};
 
-/// Whether the word is `begin`.
+/// Returns whether the word is `begin`.
 pub fn is_begin(word: &[u8]) -> bool
     ensures { result ≡ bytes_eq word.now (codes "begin") }
 {
     matches!(word, b"begin")
 }
 
-/// Whether the word is `read`.
+/// Returns whether the word is `read`.
 pub fn is_read(word: &[u8]) -> bool
     ensures { result ≡ bytes_eq word.now (codes "read") }
 {
     matches!(word, b"read")
 }
 
-/// Whether the word is `write`.
+/// Returns whether the word is `write`.
 pub fn is_write(word: &[u8]) -> bool
     ensures { result ≡ bytes_eq word.now (codes "write") }
 {
     matches!(word, b"write")
 }
 
-/// Whether the word is `add`.
+/// Returns whether the word is `add`.
 pub fn is_add(word: &[u8]) -> bool
     ensures { result ≡ bytes_eq word.now (codes "add") }
 {
     matches!(word, b"add")
 }
 
-/// Whether the word is `prepare`.
+/// Returns whether the word is `prepare`.
 #[tactic(auto, using(crate::proofs::VerbWords::is_word))]
 pub fn is_prepare(word: &[u8]) -> bool
     ensures { result ≡ bytes_eq word.now (codes "prepare") }
@@ -39,7 +39,7 @@ pub fn is_prepare(word: &[u8]) -> bool
     matches!(word, b"prepare")
 }
 
-/// Whether the word is `commit`.
+/// Returns whether the word is `commit`.
 #[tactic(auto, using(crate::proofs::VerbWords::is_word))]
 pub fn is_commit(word: &[u8]) -> bool
     ensures { result ≡ bytes_eq word.now (codes "commit") }
@@ -47,14 +47,14 @@ pub fn is_commit(word: &[u8]) -> bool
     matches!(word, b"commit")
 }
 
-/// Whether the word is `abort`.
+/// Returns whether the word is `abort`.
 pub fn is_abort(word: &[u8]) -> bool
     ensures { result ≡ bytes_eq word.now (codes "abort") }
 {
     matches!(word, b"abort")
 }
 
-/// Whether the word is `delete`.
+/// Returns whether the word is `delete`.
 #[tactic(auto, using(crate::proofs::VerbWords::is_word))]
 pub fn is_delete(word: &[u8]) -> bool
     ensures { result ≡ bytes_eq word.now (codes "delete") }
@@ -62,7 +62,7 @@ pub fn is_delete(word: &[u8]) -> bool
     matches!(word, b"delete")
 }
 
-/// Whether the word is `scan`.
+/// Returns whether the word is `scan`.
 pub fn is_scan(word: &[u8]) -> bool
     ensures { result ≡ bytes_eq word.now (codes "scan") }
 {

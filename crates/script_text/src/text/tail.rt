@@ -25,7 +25,7 @@ impl<const N: usize> Model for Tail<N> {
 }
 
 impl<const N: usize> Tail<N> {
-    /// No text.
+    /// Returns an empty text.
     pub fn new() -> Self
         ensures { result ≡ [] }
     {
@@ -35,7 +35,7 @@ impl<const N: usize> Tail<N> {
         }
     }
 
-    /// The text.
+    /// Returns the text.
     pub fn as_bytes(&self) -> &[u8]
         ensures { result.now ≡ self.now }
     {
