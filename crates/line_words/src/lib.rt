@@ -1,7 +1,13 @@
 //! Lines of words: one space between two words, and a line feed after the last one.
 //!
 //! `tree_report`, `tree_writer` and `shell_lines` write their texts with these calls. A [`Word`] is a text, a number, a
-//! transaction (`t7`), or a value with its sign.
+//! transaction, or a value with its sign.
+//!
+//! ```text
+//!   put_line(out, &Word::Text("session"), &[Word::Natural(2), Word::Txn(Txn(1)), Word::Text("active")])
+//!
+//!   session 2 t1 active
+//! ```
 //!
 //! **What is proved.** Each call appends the text of its words (`word_text` in `specs/Words.antt`, `line_text` of
 //! `script_text`). [`name_at`] returns the name with a number, or an empty text.
