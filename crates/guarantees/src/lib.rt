@@ -1,5 +1,30 @@
-//! What each tree of controls guarantees, in the field's terms: a law for each, and stores in which a stronger sentence would be false.
-//! The laws are stated in `specs/`; each function here carries one as its contract. They hold of every sound setup and every list of requests.
+//! What each tree of controls guarantees, in the terms of the field.
+//!
+//! Each function has an empty body, and its contract is one law. A law holds of every sound store and every list of requests. If it
+//! needs a shape of the tree, the shape is its only premise (`specs/Shapes`).
+//!
+//! | Law | Guarantee | If |
+//! |---|---|---|
+//! | [`nobody_deadlocks`] | the wait-for graph has no cycle; the lowest-numbered active transaction is never told to wait | |
+//! | [`aborts_name_their_cause`] | what an abort names is true, and is what the history keeps | |
+//! | [`serial_order_keeps_time`] | strict serializability | the root is a locks or a pipeline node, or a leaf, or has batches of one |
+//! | [`serial_order_is_commit_order`] | the serial order is the order of the commits | the root is a locks or a pipeline node |
+//! | [`aborts_stay_alone`] | no cascading aborts | every node is a locks or a snapshot node |
+//! | [`reads_go_on`] | reads neither wait nor break | every node of the path is a timestamp or a snapshot node |
+//!
+//! Three more contracts show where a guarantee ends. Each names a sound store and a list of requests after which the stronger
+//! sentence is false (`Breaks` of `specs/Shapes`): [`greater_batches_lose_time`], [`early_reads_fall`], [`other_reads_wait`]. For the
+//! first, under a timestamp or a snapshot root with batches of two:
+//!
+//! ```text
+//!   session 1, side A   Begin                                           keeps a batch of side A open
+//!   session 2, side B            Begin  Write x  Commit
+//!   session 3, side A                                    Begin  Read x  Commit
+//!
+//!   3 begins after 2 has committed, joins the open batch of 1, and precedes 2 in the serial order: it does not read the write of 2
+//! ```
+//!
+//! **Not claimed**: serializability and recoverability, which hold of every tree and are laws of `teb_laws`; freedom from starvation.
 #![tactic(auto)]
 
 ghost use Rattle.teb_laws.specs.Laws.{OfEveryRun, OfEveryStore};

@@ -1,4 +1,12 @@
-//! Replies without the values of a scan.
+//! A reply without the values of a scan: 24 bytes in place of 160.
+//!
+//! A `Reply` has room for the sixteen values of a scan, so moving one costs as much as some answers. A [`ShortReply`] has no such
+//! room. The engine answers in this form every request that is no scan (`Engine::ask_short`), and the crates above pass it on.
+//!
+//! [`ShortReply::full`] returns the reply that the session gets (`full_reply` of `specs/ShortReplies`). [`ShortReply::of`] goes back,
+//! and returns `None` for the values of a scan alone. `IsNoScan` says of which requests the answer has a short form.
+//!
+//! **Not claimed**: the sizes. They are measured, and no contract speaks of them.
 #![tactic(auto)]
 
 ghost use Rattle.std.specs.Prelude.{◌≡◌, MatchOption};

@@ -1,4 +1,34 @@
-//! Numbers for transactions, sessions, tables, types and nodes, and the words between a session and the engine.
+//! The words that all crates share: numbers, names, rows, and what a session and the engine say to each other.
+//!
+//! | Type | In the field |
+//! |---|---|
+//! | [`Txn`] | a transaction, numbered from 1 in the order of their beginning; 0 is the writer of the starting rows |
+//! | [`Session`] | a client's connection, 1 to [`SESSIONS`]; it has at most one open transaction |
+//! | [`Table`], [`Cell`] | a table; a row, which is named by its table and its key |
+//! | [`Kind`], [`Spot`] | a transaction type; a type with an instance, which says in which partition the transaction runs |
+//! | [`Node`], [`ControlKind`] | a node of the tree of concurrency controls; the kind of its control |
+//! | [`Request`], [`Reply`] | one call of the store and its answer; an [`Entry`] is both, with the session |
+//! | [`Cause`], [`Refusal`] | why a transaction was aborted; why a request was refused |
+//!
+//! A session that adds 5 to a row, as requests and replies:
+//!
+//! ```text
+//!   Begin(spot)     Begun(Txn(1))
+//!   Add(cell, 5)    Refused(NotRead)      an Add needs a value that the transaction has read or put
+//!   Read(cell)      Value(Some(10))
+//!   Add(cell, 5)    Done
+//!   Commit          Committed             the row is 15 now
+//! ```
+//!
+//! The crate also has three small collections. Contracts see each as a list:
+//!
+//! - [`Names`]: at most 255 distinct names, numbered from 0 in the order in which they were added (`Names::add`, clause `added`).
+//! - [`Rows`]: cells with values, at most one of a cell, in ascending order of cells (`Rows::insert`, clauses `rows` and `ascending`;
+//!   `IsAscending` of `specs/Rows`).
+//! - [`ScanList`]: up to sixteen values, each of which may be missing. It takes no memory, so a reply with a scan cannot fail.
+//!
+//! **Not claimed**: which reply a request gets (`teb_rules` says that); that a number is one of a given tree; that [`Rows`] has at
+//! most [`MOST_ROWS`] rows (`tree_toml` refuses a text with more).
 #![tactic(auto)]
 
 mod name_form;
