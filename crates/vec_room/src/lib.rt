@@ -1,4 +1,15 @@
-//! Room in vectors, and edits at a place, for places that are mostly the end or near it.
+//! Edits of vectors whose room was reserved before: an edit takes no memory, so it cannot fail.
+//!
+//! Each register of the store makes room ahead (`reserve`, which may return out of memory), and then notes events in that room.
+//!
+//! | Call | |
+//! |---|---|
+//! | [`make_room`] | room for `n` more values, and for some beyond if it has to allocate |
+//! | [`make_wide_room`] | the same for a vector that grows with the history: 16,384 values beyond, or three times its length |
+//! | [`put_in`] | inserts a value, in room that was made |
+//! | [`take_out`] | removes a value, and copies those that follow one by one: cheaper than `Vec::remove` if they are few |
+//!
+//! Contracts state the items of the vector, and that its capacity never shrinks.
 #![tactic(auto)]
 
 ghost use Rattle.std.specs.Prelude.{◌≡◌, ◌<◌, ◌≤◌, ◌+◌, insert, remove, vec_len, vec_capacity, OnOk};
