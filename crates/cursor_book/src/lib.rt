@@ -1,4 +1,19 @@
-//! Where each transaction stands in its profile.
+//! The cursor of each transaction: the step of its profile at which it is.
+//!
+//! A transaction begins at step 0. An access of a table moves it to the first step, from there on, that has the table
+//! (`txn_profile`). A pipeline needs the cursor to tell which ranks a transaction has passed; the engine needs it to refuse accesses
+//! that the profile does not have.
+//!
+//! ```text
+//!   transaction   1   2   3
+//!   cursor        2   0   1      one byte each; the next transaction that begins is 4
+//! ```
+//!
+//! **What is proved.** Contracts see the list of cursors, that of transaction 1 first. [`Cursors::begin`] appends 0, and
+//! [`Cursors::access`] moves one cursor (`moved` of `specs/Cursors`). `CursorsOf` says that they are those of a history (`cursor` of
+//! `teb_rules`).
+//!
+//! Each call costs one look. [`Cursors::reserve`] makes room, so `begin` takes no memory.
 #![tactic(auto)]
 
 ghost use Rattle.std.specs.Prelude.{◌≡◌, ◌<◌, ◌≤◌, ◌+◌, ◌∷◌, ◌++◌, [], length, OnOk, OnErr};
