@@ -1,4 +1,21 @@
-//! The register of a node, which keeps who holds which cell there; and which of the holders are in the way of an access.
+//! What locks and pipeline nodes share: the register of holders, and which of them are in the way of an access.
+//!
+//! - [`HoldRegister`] is the lock table of a node (`hold_book`), told of each event. It skips transactions that do not pass the node.
+//! - [`is_in_the_way`]: a read conflicts with holders that have put the cell, and a write with all holders. A transaction does not
+//!   conflict with its own holds, or with holders on its own side of the node: they meet at a node below (*nexus* locks).
+//! - [`wait_for`] is the verdict that waits for the holder that was found, if any.
+//!
+//! ```text
+//!                   a holder of another side has
+//!                   read the cell     put the cell
+//!   a read asks     goes on           is in the way
+//!   a write asks    is in the way     is in the way
+//! ```
+//!
+//! **What is proved.** The register lends the holders by the history (`HoldRegister::holds`: `holds_in` of `hold_book`), and
+//! `Registered` of `specs/Registered` says which history it stands for. [`is_in_the_way`] is `in_the_way` of `specs/Blockers`.
+//!
+//! **Not claimed**: that a holder in the way is waited for. At a pipeline it is passed over once it has passed the rank of the table.
 #![tactic(auto)]
 
 ghost use Rattle.std.specs.Prelude.{◌≡◌};
