@@ -1,4 +1,4 @@
-//! The cascade: rounds over the unfinished transactions, until nobody is added.
+//! The cascade: rounds over the unfinished transactions, until a round adds none.
 
 ghost use Rattle.std.specs.Prelude.{◌≡◌, ◌≤◌, ◌||◌, eqb, find, length, IsTrue};
 ghost use Rattle.teb_history.specs.Phases.{unfinished};
@@ -13,7 +13,7 @@ use dependency_book::Book;
 use phase_api::Facts;
 use teb_names::Txn;
 
-/// Who falls with t, in ascending number and without t: each transaction that read from t or from one that falls, with the
+/// Returns the transactions that fall with t, in ascending number and without t: each that read from t or from one that falls, with the
 /// least one that it read from and that is t or falls.
 pub fn cascade(book: &Book, facts: &Facts, t: Txn) -> CascadeList
     requires book { BookOf book.now.lists (events_of facts.now) }

@@ -1,10 +1,10 @@
-//! The accesses of a transaction, each with whom it may conflict.
+//! The accesses of a transaction, each with the transactions that it may conflict with.
 
 use crate::book::AccessBook;
 use std::marker::Model;
 use teb_names::Txn;
 
-/// An access of a transaction, and who has accessed the same cell in the other way.
+/// An access of a transaction, and the transactions that have accessed the same cell in the other way.
 #[derive(Clone, Copy)]
 pub enum Access<'a> {
     /// The transaction has read a cell, and these have put it.

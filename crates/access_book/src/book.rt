@@ -21,8 +21,8 @@ use teb_names::{Cell, Txn};
 /// For how many events room is made at the least, so that not every `reserve` goes through all lists.
 const AHEAD: usize = 256;
 
-/// By cell, who has read it, who has put it, and who has put it and committed, each in ascending number; by transaction, what it has
-/// accessed. A transaction that aborts is no reader and no writer.
+/// By cell, its readers, its writers and its committed writers, each in ascending number; by transaction, what it has accessed. An aborted
+/// transaction is no reader and no writer.
 pub struct AccessBook {
     // Each cell has the lists of its place.
     cells: CellIndex,
@@ -31,13 +31,13 @@ pub struct AccessBook {
     committed: NumberedLists<Txn>,
     // Of each transaction that has begun, the oldest first.
     touches: NumberedLists<Touch>,
-    // How many Puts there are of transactions that may still commit: for so many committed writers room is kept.
+    // How many Puts there are of transactions that may still commit. Room for that many committed writers is kept.
     pending: usize,
     // For how many events there is room.
     spare: usize,
 }
 
-/// A call of its own, so that no owner has to prove anew how it is dropped.
+/// Hand-written `Drop`, so that callers do not re-prove the drop glue.
 impl Drop for AccessBook {
     fn drop(self) {
         let AccessBook {
@@ -100,7 +100,7 @@ impl AccessBook {
         Ok(())
     }
 
-    /// A transaction begins, numbered behind all that have begun. It takes one place of the room.
+    /// Notes that the next transaction begins. It takes one place of the room.
     pub fn begin(&mut self)
         requires { 0 < self.old.spare }
         ensures readers { AreKept (readers_of self.old) (readers_of self.new) }
@@ -208,8 +208,8 @@ impl AccessBook {
         self.pending -= take_out(&mut self.readers, &mut self.writers, touches, t);
     }
 
-    /// The accesses of a transaction, the newest first, each with who has accessed its cell in the other way. Each costs one step and no
-    /// look-up.
+    /// Returns the accesses of a transaction, the newest first, each with the transactions that have accessed its cell in the other way. Each
+    /// costs one step and no look-up.
     #[inline(always)]
     pub fn accesses(&self, t: Txn) -> Accesses<'_>
         requires { 0 < t.0 }
@@ -222,7 +222,7 @@ impl AccessBook {
         }
     }
 
-    // An access, with who has accessed its cell in the other way.
+    // Returns an access, with the transactions that have accessed its cell in the other way.
     #[inline(always)]
     pub(crate) fn access(&self, touch: Touch) -> Access<'_>
         requires { touch_place touch < length self.now.cells }
@@ -238,14 +238,14 @@ impl AccessBook {
         }
     }
 
-    /// Who has put a cell and not aborted.
+    /// Returns the transactions that have put a cell and are not aborted.
     pub fn writers(&self, cell: Cell) -> &[Txn]
         ensures { result.now ≡ writers_of self.now cell }
     {
         self.writers.list(self.cells.place(cell))
     }
 
-    /// Who has put a cell and committed.
+    /// Returns the committed transactions that have put a cell.
     pub fn committed(&self, cell: Cell) -> &[Txn]
         ensures { result.now ≡ committed_of self.now cell }
     {
@@ -253,7 +253,7 @@ impl AccessBook {
     }
 }
 
-/// The place of a cell, which gets lists of its own where it has none.
+/// Returns the place of a cell, which gets empty lists if it has none.
 #[inline(always)]
 fn place_for(
     cells: &mut CellIndex,

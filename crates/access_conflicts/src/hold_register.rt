@@ -15,7 +15,7 @@ use std::alloc::{AllocError, Global};
 use teb_history::Event;
 use teb_names::{Cell, Node, Txn};
 
-/// Who holds which cell at a node. It stands for a history, and is told of each event behind it.
+/// The lock table of a node. It stands for a history, and notes each later event.
 #[derive(Drop)]
 pub struct HoldRegister {
     node: Node,
@@ -45,7 +45,10 @@ impl HoldRegister {
         self.node
     }
 
-    /// Makes room for n events. It stands for what it stood for, also after an `Err`.
+    /// Makes room for n events. It stands for the same history as before.
+    ///
+    /// # Errors
+    /// Out of memory.
     pub fn reserve(&mut self, n: usize) -> Result<(), AllocError>
         ensures node { self.new.node ≡ self.old.node }
         ensures stands { (S : Setup) (H : List Event) → Registered self.old S H → Registered self.new S H }
@@ -96,7 +99,7 @@ impl HoldRegister {
         self.here.push_reserved(here);
     }
 
-    /// Who holds a cell: the unfinished transactions on whose path the node stands that have accessed it, in ascending number.
+    /// Returns the holders of a cell: the unfinished transactions with the node on their paths that have accessed it, in ascending number.
     #[inline(always)]
     pub fn holds(&self, facts: &Facts, cell: Cell) -> &[Hold]
         requires { Registered self.now (setup_of facts.now) (events_of facts.now) }

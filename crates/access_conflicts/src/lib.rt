@@ -41,8 +41,8 @@ pub fn wait_for(who: Option<Txn>) -> Verdict
     }
 }
 
-/// Whether a hold on a cell is in the way of t's access of the cell: at this node, t's read meets whoever has put it, and t's write whoever
-/// has accessed it. Its own hold never is.
+/// Returns whether a hold on a cell is in the way of t's access of the cell: at this node, t's read conflicts with each transaction that has
+/// put it, and t's write with each that has accessed it. Its own hold is never in its way.
 #[inline(always)]
 pub fn is_in_the_way(facts: &Facts, node: Node, t: Txn, hold: &Hold, write: bool) -> bool
     requires typed { IsTyped facts.now t.0 }

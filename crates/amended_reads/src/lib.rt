@@ -24,7 +24,7 @@ pub fn amended_is_last_seen()
     ensures { AmendedIsLastSeen }
 {}
 
-/// Who has no version of its own reads the version at that place, and the starting row where there is no place.
+/// A transaction without a version of its own reads the version at that place, or the starting row if there is no place.
 pub fn amended_is_read()
     ensures { AmendedIsRead }
 {}

@@ -1,4 +1,4 @@
--- Lists of values in one vector, each in a segment of its own.
+-- Lists of values in one vector, each in a segment.
 use Rattle.std.specs.Prelude.{◌≢◌, ◌⊎◌, ℕ, ◌+◌, ◌-◌, ◌*◌, ◌^◌, ◌<◌, ◌≤◌, List, length, take, drop, get_or, vec_len, vec_capacity}
 use Rattle.std.specs.List.{sum_by}
 use Rattle.arena_multimap.specs.declared.arena.Arena.{Arena}

@@ -14,7 +14,7 @@ pub(crate) const AHEAD: usize = 64;
 /// How many places each value pays for: the first ones of a list, or a part of the next move of its segment.
 const SHARE: usize = 4;
 
-/// Where a list lies: from `start`, `len` of `room` places.
+/// The segment of a list: from `start`, `len` of `room` places.
 #[derive(Clone, Copy)]
 pub(crate) struct Segment {
     start: u32,
@@ -31,7 +31,7 @@ impl Segment {
         self.start as usize
     }
 
-    /// The place behind its last value.
+    /// Returns the place after its last value.
     #[inline(always)]
     fn end(self) -> usize
         ensures { result ≡ self.start + self.len }
@@ -40,15 +40,15 @@ impl Segment {
     }
 }
 
-/// Where a list lies that has had no value: it has no place.
+/// The segment of a list that has had no value: it has no place.
 const UNPLACED: Segment = Segment {
     start: 0,
     len: 0,
     room: 0,
 };
 
-/// Lists of values, each in a segment of its own, which takes its first places with its first value. A full one moves to the end of the
-/// vector, to twice the room.
+/// Lists of values, each in a segment. A list gets its first places with its first value. A full segment moves to the end of the vector,
+/// to twice the room.
 #[derive(Drop)]
 pub(crate) struct Arena<V> {
     segments: Vec<Segment>,
@@ -71,8 +71,10 @@ impl<V: Copy> Arena<V> {
         }
     }
 
-    /// Makes room for n more values, each in any list or a new one, or lists that begin empty. The lists stay, also after an `Err`, which
-    /// comes where there is no memory, or where the places would be more than 2^32 - 1, with those that are put by and those of n values.
+    /// Makes room for n more values, each in any list or a new one, or lists that begin empty.
+    ///
+    /// # Errors
+    /// Out of memory, or there would be more than 2^32 - 1 places, with those that are put by and those of n values. The lists are unchanged.
     pub(crate) fn reserve(&mut self, n: usize) -> Result<(), AllocError>
         requires { IsArena self.old }
         ensures sound { IsArena self.new }
@@ -123,7 +125,7 @@ impl<V: Copy> Arena<V> {
         let _ = self.segments.push(UNPLACED);
     }
 
-    /// Puts a value behind those of a list, or into the next new one.
+    /// Appends a value to a list, or begins the next list with it.
     #[inline(always)]
     pub(crate) fn push(&mut self, i: usize, value: V)
         requires sound { IsArena self.old }
@@ -201,7 +203,7 @@ impl<V: Copy> Arena<V> {
         self.debt -= 2 * room;
     }
 
-    // Writes a value behind those of a list whose segment has room.
+    // Appends a value to a list whose segment has room.
     fn append(&mut self, i: usize, value: V)
         requires sound { IsArena self.old }
         requires within { i < lists self.old }

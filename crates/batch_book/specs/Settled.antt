@@ -4,7 +4,7 @@ use Rattle.batch_book.specs.declared.members.Member.{Member}
 use Rattle.batch_book.specs.declared.members.Batch.{Batch}
 use Rattle.batch_book.specs.Fields.{no_batch, batch_at, IsHeld}
 
--- what stands in the place of a member that is not there
+-- the member of a place that has none
 abbrev pub no_member : Member
 no_member = record { txn = record { 0 = 0 }; side = 0; batch = 0 }
 

@@ -18,8 +18,8 @@ pub(crate) struct Member {
     pub(crate) batch: usize,
 }
 
-/// A batch of a side: where it starts, where it closes, None while it is open, how many it has admitted, and how many of
-/// the first that have joined, at the least, were of batches closed before it started.
+/// A batch of a side: its start, its close (`None` while it is open), how many it has admitted, and a number n such that the
+/// first n that have joined were of batches that closed before it started.
 #[derive(Clone, Copy)]
 pub(crate) struct Batch {
     pub(crate) side: u32,
@@ -41,8 +41,8 @@ pub(crate) fn first_on(members: &[Member], side: u32) -> Option<Member>
     None
 }
 
-/// The member of a transaction, among members in ascending number. It costs one look where they are numbered from 1 without a
-/// gap, and else a binary search.
+/// Returns the member of a transaction, among members in ascending number. It costs one look if they are numbered from 1 without
+/// a gap, and otherwise a binary search.
 #[inline(always)]
 pub(crate) fn find_member(members: &[Member], t: Txn) -> Option<Member>
     requires { IsAscendingBy member_number members.now }
@@ -58,7 +58,7 @@ pub(crate) fn find_member(members: &[Member], t: Txn) -> Option<Member>
     }
 }
 
-// Where the member of a transaction stands among members in ascending number, or would stand, by a binary search.
+// Returns the place of the member of a transaction among members in ascending number, or the place where it would go, by a binary search.
 fn search_member(members: &[Member], t: Txn) -> Result<usize, usize>
     requires { IsAscendingBy member_number members.now }
     ensures { result ≡ place_of member_number members.now t.0 }
@@ -108,7 +108,7 @@ pub(crate) fn enter(
     }
 }
 
-/// Takes a transaction out of members in ascending number, where it is one of them, and answers its member.
+/// Removes a transaction from members in ascending number, if it is one of them, and returns its member.
 pub(crate) fn take_out(members: &mut Vec<Member>, t: Txn) -> Option<Member>
     requires { IsAscendingBy member_number members.old.items }
     ensures member { result ≡ find (λ m. eqb m.txn.0 t.0) members.old.items }

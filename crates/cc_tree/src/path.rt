@@ -44,7 +44,7 @@ impl Model for Path {
 }
 
 impl Path {
-    /// The path of these nodes, in a tree of so many.
+    /// Returns the path of these nodes, in a tree of `count` nodes.
     pub(crate) fn new(alloc: Global, nodes: Vec<Node>, count: usize) -> Result<Path, AllocError>
         requires { count ≤ 64 }
         ensures { IfOk result (λ p. p ≡ nodes.items) }
@@ -82,8 +82,8 @@ impl Path {
         }
     }
 
-    /// The number of the side of n for a transaction with the number `own`: that of the node behind n, or `own` where n is the last. None
-    /// where n is not on the path.
+    /// Returns the number of the side of n for a transaction with the number `own`: that of the next node, or `own` if n is the last. `None`
+    /// if n is not on the path.
     #[inline(always)]
     pub(crate) fn side(&self, n: Node, own: u32) -> Option<u32>
         ensures { result ≡ side_found n.0 own (node_numbers self.now) }
@@ -109,7 +109,7 @@ impl Path {
     }
 }
 
-// What follows each node of a tree of so many.
+// Returns what follows each node of a tree of `count` nodes.
 fn followers_on(alloc: Global, nodes: &[Node], count: u8) -> Result<Vec<Follower>, AllocError>
     ensures { IfOk result (λ v. AreFollowers v.items nodes.now) }
 {
@@ -133,7 +133,7 @@ fn follower_on(nodes: &[Node], n: Node) -> Follower
     }
 }
 
-/// The last node that both paths share from their beginning on, and `above` where their first nodes differ.
+/// Returns the last node that both paths share from their beginning on, or `above` if their first nodes differ.
 pub(crate) fn last_shared(a: &[Node], b: &[Node], above: Node) -> Node
     ensures { result.0 ≡ last_shared above.0 (node_numbers a.now) (node_numbers b.now) }
 {

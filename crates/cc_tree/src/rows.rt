@@ -9,7 +9,7 @@ pub struct NodeRow {
     pub control: ControlKind,
     /// The node above it; none at the root.
     pub parent: Option<Node>,
-    /// The types of its transactions; none where it has children.
+    /// The types of its transactions; none if it has children.
     pub types: Vec<Kind>,
     /// How many transactions a batch of one child admits, 1 to 1,024. Without effect at a leaf.
     pub batch: u16,

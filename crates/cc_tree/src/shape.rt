@@ -115,7 +115,7 @@ fn is_twice(rows: &[NodeRow], n: Node) -> bool
     repeats(&row.types) || some_clash(&rows[..n], row)
 }
 
-// Whether a type stands twice in a list.
+// Returns whether a type is listed twice.
 fn repeats(types: &[Kind]) -> bool
     ensures { result ≡ repeats (kind_numbers types.now) }
 {
@@ -142,7 +142,7 @@ fn some_clash(earlier: &[NodeRow], row: &NodeRow) -> bool
     }
 }
 
-// Whether a type stands in both rows, for the same part or with different numbers of parts.
+// Returns whether a type is in both rows, for the same part or with different numbers of parts.
 fn clash(earlier: &NodeRow, row: &NodeRow) -> bool
     ensures { result ≡ clash (row_of earlier.now) (row_of row.now) }
 {

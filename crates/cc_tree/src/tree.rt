@@ -37,12 +37,12 @@ impl Model for Tree {
 }
 
 impl Tree {
-    /// The tree of these rows, for so many types.
+    /// Returns the tree of these rows, for `types` types.
     ///
     /// # Errors
-    /// The first fault of the rows: `Shape` at the first node whose shape is wrong, or else at node 0 where a type has
-    /// not a leaf for each of its parts; or else `Misplaced` at the first node that stands where a rule forbids it. Rows
-    /// without a fault make a tree, unless there is no memory: then the error is `OutOfMemory`.
+    /// The first fault of the rows: `Shape` at the first node whose shape is wrong; else `Shape` at node 0 if a type does not have
+    /// a leaf for each of its parts; else `Misplaced` at the first node that is at a place which a rule forbids. Rows without a
+    /// fault make a tree, or `OutOfMemory`.
     pub fn build(alloc: Global, rows: Vec<NodeRow>, types: u8) -> Result<Tree, TreeError>
         requires some { 0 < length rows.items }
         requires few { length rows.items ≤ 64 }
@@ -122,8 +122,8 @@ impl Tree {
         self.stored(s).next(n)
     }
 
-    /// The number of the side of a node on which a transaction is that has this spot and the number `own`: the child's above
-    /// its leaf, and its own at the leaf. None exactly where the node is not on its path.
+    /// Returns the number of the side of a node on which a transaction with this spot and the number `own` is: the child's above
+    /// its leaf, and `own` at the leaf. `None` if and only if the node is not on its path.
     #[tactic(auto, unfolding(teb_rules::specs::Tree::on_path, teb_rules::specs::Tree::side_at))]
     pub fn side_on(&self, n: Node, s: Spot, own: u32) -> Option<u32>
         requires { s.kind.0 < self.now.types }

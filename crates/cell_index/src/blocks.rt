@@ -14,7 +14,7 @@ const KEYS_TO_A_BLOCK: u32 = 128;
 /// How many slots there are for blocks.
 const SLOTS: usize = 512;
 
-/// A block that has a slot, and where its page begins.
+/// A block that has a slot, and the beginning of its page.
 #[derive(Clone, Copy)]
 pub(crate) struct Owner {
     table: Table,
@@ -37,7 +37,7 @@ impl Owner {
 pub(crate) struct Blocks {
     // For each slot the block that has it.
     owners: Vec<Option<Owner>>,
-    // Page after page, for each key of a block the number of its cell; 0 where it has none.
+    // Page after page, for each key of a block the number of its cell; 0 if it has none.
     numbers: Vec<u32>,
 }
 
@@ -105,7 +105,7 @@ impl Blocks {
         self.numbers[owner.page as usize + (cell.key % KEYS_TO_A_BLOCK) as usize] = number;
     }
 
-    /// Which block has the slot of a cell. The block of the cell gets it where nobody has it, with a page that has no number.
+    /// Returns which block has the slot of a cell. If none has it, the block of the cell gets it, with an empty page.
     pub(crate) fn owner_or_claim(&mut self, cell: Cell) -> Owner
         requires paged { IsPaged self.old }
         requires slots { slots ≤ length self.old.owners.items }
@@ -113,7 +113,7 @@ impl Blocks {
         ensures owner { owner_of self.new cell ≡ Some result }
         ensures owners { (x : Cell) → owner_of self.new x ≡ None → owner_of self.old x ≡ None }
         ensures slots { length self.new.owners.items ≡ length self.old.owners.items }
-        // Where nobody had the slot, there was no number.
+        // If no block had the slot, there was no number.
         ensures numbers { (x : Cell) (n : ℕ) → (owner_of self.old x ≡ None → n ≡ 0) → number_or self.new x n ≡ number_or self.old x n }
     {
         let slot = slot_of(cell);

@@ -20,7 +20,7 @@ pub record CellHeads : Type 0 where
   pub entries : List (Cell × Chain)
   pub spare : ℕ
 
--- the chains, with one more where a place is the next one
+-- the chains, with one more if a place is the next one
 abbrev pub with_next : List Chain → ℕ → List Chain
 with_next chains at = if at == length chains then chains ++ no_chain ∷ [] else chains
 
@@ -35,7 +35,7 @@ last_without last place previous = if last == place then previous else last
 abbrev pub same_txn : Txn → Txn → Bool
 same_txn t u = eqb t.0 u.0
 
--- the chain of a cell, empty where the cell has no entry; its head, and its last place
+-- the chain of a cell, empty if the cell has no entry; its head, and its last place
 abbrev pub chain_at : List (Cell × Chain) → Cell → Chain
 chain_at cells x = unwrap_or (lookup (same_cell x) cells) no_chain
 
@@ -45,7 +45,7 @@ chain_head cells x = (chain_at cells x).head
 abbrev pub last_of : List (Cell × Chain) → Cell → ℕ
 last_of cells x = (chain_at cells x).last
 
--- the head of a writer's list; empty where the writer has no entry
+-- the head of a writer's list; empty if the writer has no entry
 abbrev pub writer_head : List (Txn × Head) → Txn → Head
 writer_head writers t = unwrap_or (lookup (same_txn t) writers) empty
 

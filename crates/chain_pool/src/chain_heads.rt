@@ -1,4 +1,4 @@
-//! Cells' chains: where each begins and ends.
+//! The chain of each cell: its first and its last place.
 
 ghost use Rattle.std.specs.Prelude.{◌≡◌, ◌==◌, ◌<◌, ◌≤◌, ◌+◌, ◌^◌, [], vec_len, vec_capacity, OnOk, if◌then◌else◌};
 ghost use Rattle.teb_names.specs.declared.Cell.{Cell};
@@ -38,7 +38,7 @@ fn chosen(first: bool, one: u32, other: u32) -> u32
     if first { one } else { other }
 }
 
-/// Adds a chain of no places where a place is the next one.
+/// Adds an empty chain if `at` is the next place.
 #[inline(always)]
 fn add_next(chains: &mut Vec<Chain>, at: usize)
     requires { vec_len chains.old < vec_capacity chains.old }
@@ -62,8 +62,10 @@ impl ChainHeads {
         }
     }
 
-    /// Makes room for n more cells. The chains stay, also after an `Err`, which comes where there is no
-    /// memory, or where there would be more than 2^32 - 1 cells.
+    /// Makes room for n more cells.
+    ///
+    /// # Errors
+    /// Out of memory, or there would be more than 2^32 - 1 cells. The chains are unchanged.
     pub(crate) fn reserve(&mut self, n: usize) -> Result<(), AllocError>
         ensures entries { self.new.entries ≡ self.old.entries }
         ensures room { OnOk result (n ≤ self.new.spare) }
@@ -109,8 +111,8 @@ impl ChainHeads {
         was.head
     }
 
-    /// Takes a place out of a cell's chain, whose next place takes its part where it was the first, and whose previous one
-    /// where it was the last.
+    /// Removes a place from a cell's chain. If it was the first, the next place becomes the first; if it was the last, the previous
+    /// one becomes the last.
     pub(crate) fn shorten(&mut self, cell: Cell, place: u32, previous: u32, next: u32)
         requires { 0 < (chain_head self.old.entries cell).len }
         ensures heads { (x : Cell) → chain_head self.new.entries x ≡ (if same_cell cell x then without_place (chain_head self.old.entries cell) place next else chain_head self.old.entries x) }

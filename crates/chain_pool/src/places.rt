@@ -15,7 +15,7 @@ pub(crate) struct Version {
     pub(crate) value: Option<i64>,
 }
 
-/// What a place holds: nothing where it is free, a version that deletes the row, or one with a value.
+/// What a place holds: nothing if it is free, a version that deletes the row, or one with a value.
 #[derive(Clone, Copy)]
 pub(crate) enum Content {
     Free,
@@ -36,7 +36,7 @@ impl Content {
     }
 }
 
-/// A place, in 40 bytes: the cell and the writer of its version, the place behind it in its writer's list, or in the list of free places,
+/// A place, in 40 bytes: the cell and the writer of its version, the next place in its writer's list or in the list of free places,
 /// its neighbours in its cell's chain, and what it holds. A chain is a ring: its last place leads to its first.
 #[derive(Clone, Copy)]
 pub(crate) struct Place {
@@ -62,7 +62,7 @@ pub(crate) const BLANK: Place = Place {
 };
 
 impl Place {
-    /// The version at the place; None where it is free.
+    /// Returns the version at the place, or `None` if it is free.
     #[inline(always)]
     pub(crate) fn version(&self) -> Option<Version>
         ensures { result ≡ (slot_of self.now).version }
@@ -80,7 +80,7 @@ impl Place {
     }
 }
 
-/// Where a list of places begins, and how long it is.
+/// The first place of a list, and its length.
 #[derive(Clone, Copy)]
 pub(crate) struct Head {
     pub(crate) first: u32,
@@ -90,7 +90,7 @@ pub(crate) struct Head {
 /// The head of no list.
 pub(crate) const EMPTY: Head = Head { first: 0, len: 0 };
 
-/// A cell's chain: its head, and its last place, where a read begins.
+/// A cell's chain: its head, and its last place, at which a read begins.
 #[derive(Clone, Copy)]
 pub(crate) struct Chain {
     pub(crate) head: Head,
@@ -112,7 +112,7 @@ pub(crate) fn at(places: &[Place], place: u32) -> &Place
     &places[place as usize]
 }
 
-/// Puts a version into a place, between two neighbours; alone in its ring it is its own neighbour. The sibling is the place behind it
+/// Puts a version into a place, between two neighbours; alone in its ring it is its own neighbour. The sibling is the next place
 /// in its writer's list.
 #[inline(always)]
 pub(crate) fn link(
@@ -142,7 +142,7 @@ pub(crate) fn link(
     places[after as usize].previous = place;
 }
 
-/// Frees a place, and joins its two neighbours. The sibling is the free place behind it.
+/// Frees a place, and joins its two neighbours. The sibling is the next free place.
 pub(crate) fn unlink(places: &mut [Place], place: u32, sibling: u32, before: u32, after: u32)
     requires place_within { place < length places.old }
     requires before_within { before < length places.old }

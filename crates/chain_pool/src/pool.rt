@@ -93,7 +93,10 @@ impl Pool {
         }
     }
 
-    /// Makes room for n versions more. An `Err` comes where there is no memory, or where there would be more places than 2^32 - 1.
+    /// Makes room for n more versions.
+    ///
+    /// # Errors
+    /// Out of memory, or there would be more than 2^32 - 1 places.
     pub(crate) fn reserve(&mut self, n: usize) -> Result<(), AllocError>
         requires { IsSound self.old }
         ensures sound { IsSound self.new }
@@ -137,7 +140,7 @@ impl Pool {
         walks::pair_at(&self.places, place)
     }
 
-    /// The last version of a chain whose writer f accepts, where it is `from` or above.
+    /// Returns the last version of a chain, from `from` on, whose writer f accepts.
     #[inline(always)]
     fn last_in<F: Fn(Txn) -> bool>(&self, chain: Chain, from: usize, f: &F) -> Option<Found>
         requires sound { IsSound self.now }
@@ -152,7 +155,7 @@ impl Pool {
         walks::last_accepted(&self.places, chain, from, f)
     }
 
-    /// The last version of a cell whose writer f accepts, where it is `from` or above.
+    /// Returns the last version of a cell, from `from` on, whose writer f accepts.
     pub(crate) fn last_where_from<F: Fn(Txn) -> bool>(
         &self,
         cell: Cell,
@@ -188,8 +191,8 @@ impl Pool {
         place_of(self.find_in(cell, chain, t))
     }
 
-    /// The version of a writer in a chain, which is that of the cell. Where the chain is not short and the writer's list is
-    /// shorter, that list says first whether there is one.
+    /// Returns the version of a writer in a chain, which is that of the cell. If the chain is not short and the writer's list is
+    /// shorter, that list tells first whether there is one.
     fn find_in(&self, cell: Cell, chain: Chain, t: Txn) -> Option<Found>
         requires sound { IsSound self.now }
         requires head { chain.head ≡ chain_head self.now.cells.entries cell }
@@ -243,7 +246,7 @@ impl Pool {
         }
     }
 
-    /// Makes a free place where there is none.
+    /// Makes a free place if there is none.
     fn add_free(&mut self)
         requires sound { IsSound self.old }
         requires room { vec_len self.old.places < vec_capacity self.old.places }
@@ -301,7 +304,7 @@ impl Pool {
         places::rewrite(&mut self.places, place, value);
     }
 
-    /// Frees the first place of a list, which is that of a writer who has no entry any more. Gives the rest of the list.
+    /// Frees the first place of a list, whose writer has no entry any more. Returns the rest of the list.
     fn take_first(&mut self, t: Txn, own: Head) -> Head
         requires linked { Linked self.old.places.items (chain_head self.old.cells.entries) (with_head t own (writer_head self.old.writers.entries)) self.old.unused }
         requires lasts { HasLasts self.old.places.items (chain_head self.old.cells.entries) (last_of self.old.cells.entries) }
@@ -334,7 +337,7 @@ impl Pool {
         }
     }
 
-    /// Frees each place of a list, which is that of a writer who has no entry any more.
+    /// Frees each place of a list, whose writer has no entry any more.
     fn take_all(&mut self, t: Txn, own: Head)
         requires linked { Linked self.old.places.items (chain_head self.old.cells.entries) (with_head t own (writer_head self.old.writers.entries)) self.old.unused }
         requires lasts { HasLasts self.old.places.items (chain_head self.old.cells.entries) (last_of self.old.cells.entries) }

@@ -34,7 +34,7 @@ pub(crate) fn place_of(places: &[Place], chain: Chain, i: usize) -> u32
     step_back(places, chain.last, chain.head.len - 1 - i as u32)
 }
 
-/// The places between which one goes that is to be the i-th of a chain; alone it stands beside itself.
+/// Returns the places between which the i-th place of a chain goes; alone it is its own neighbour.
 pub(crate) fn neighbours(places: &[Place], chain: Head, i: usize, place: u32) -> (u32, u32)
     requires safe { (n : ℕ) → 0 < chain.len → steps (previous_at places.now) n chain.first < length places.now }
     requires within { i ≤ chain.len }
@@ -72,7 +72,7 @@ fn accepts<F: Fn(Txn) -> bool>(f: &F, t: Txn) -> bool
     f(t)
 }
 
-/// The last version of a chain whose writer f accepts, where it is `from` or above.
+/// Returns the last version of a chain, from `from` on, whose writer f accepts.
 pub(crate) fn last_accepted<F: Fn(Txn) -> bool>(
     places: &[Place],
     chain: Chain,

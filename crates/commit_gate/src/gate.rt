@@ -19,8 +19,9 @@ use phase_api::{Control, Facts};
 use teb_names::{Node, Txn};
 use teb_rules::{Stop, Verdict};
 
-/// What a Commit of t meets: on each node of its path, from the root, validation, and then the least of whom the gate names
-/// and the unfinished transactions that t read from and that meet it there. The first node that breaks or waits stops it.
+/// Returns the stop of a Commit of t: at each node of its path, from the root, validation, and then a wait for the lowest-numbered
+/// transaction that the gate names, or that is unfinished, meets t there, and was read from by t. The first node that breaks or waits
+/// stops it.
 pub fn may_commit<K: Control>(controls: &[K], book: &Book, facts: &Facts, t: Txn) -> Stop
     requires tree { IsSound (setup_of facts.now) }
     requires lawful { Lawful (setup_of facts.now) (events_of facts.now) }
@@ -90,7 +91,7 @@ fn control_at<'a, K: Control>(controls: &'a [K], facts: &Facts, n: Node) -> &'a 
     &controls[usize::from(n.0)]
 }
 
-// The wait for the lesser of whom the gate names and a source.
+// Returns the wait for the lower-numbered of the transaction that the gate names and a source.
 fn first_of(gate: Verdict, source: Option<Txn>) -> Verdict
     ensures { result ≡ first_wait gate source }
 {

@@ -1,4 +1,4 @@
-//! Whom a Commit waits for among those that the transaction read from.
+//! The transactions that a Commit waits for among those that its transaction read from.
 
 ghost use Rattle.std.specs.Prelude.{◌≡◌, ◌&&◌, find};
 ghost use Rattle.teb_history.specs.Phases.{unfinished};

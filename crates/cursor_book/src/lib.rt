@@ -57,7 +57,10 @@ impl Cursors {
         }
     }
 
-    /// Makes room for n more transactions, and for some more where there is less. An `Err` leaves all as it was.
+    /// Makes room for n more transactions, and for some more if it has to allocate.
+    ///
+    /// # Errors
+    /// Out of memory. Everything is unchanged.
     pub fn reserve(&mut self, n: usize) -> Result<(), AllocError>
         ensures cursors { self.new.cursors ≡ self.old.cursors }
         ensures ok { OnOk result (n ≤ self.new.spare) }
@@ -73,7 +76,7 @@ impl Cursors {
         Ok(())
     }
 
-    /// The next transaction begins: it stands at step 0.
+    /// Notes that the next transaction begins: its cursor is 0.
     pub fn begin(&mut self)
         requires { 0 < self.old.spare }
         ensures cursors { self.new.cursors ≡ self.old.cursors ++ 0 ∷ [] }
@@ -83,7 +86,7 @@ impl Cursors {
         self.spare -= 1;
     }
 
-    /// A transaction accesses a table: it moves to the least step, from where it stands, that has the table.
+    /// Notes an access of a table: the transaction's cursor moves to the least step, from there on, that has the table.
     pub fn access(&mut self, t: Txn, table: Table, profile: &Profile)
         requires above { 0 < t.0 }
         requires begun { t.0 ≤ length self.old.cursors }
@@ -95,7 +98,7 @@ impl Cursors {
         self.cursors[i] = profile.cursor_after(at, table).unwrap_or(at);
     }
 
-    /// The step at which a transaction stands.
+    /// Returns the cursor of a transaction.
     pub fn cursor(&self, t: Txn) -> u8
         requires above { 0 < t.0 }
         requires begun { t.0 ≤ length self.now.cursors }

@@ -16,8 +16,8 @@ use teb_names::{Cell, Txn};
 /// For how many events room is made at the least, so that not every `reserve` goes through all registers.
 const AHEAD: usize = 256;
 
-/// Who read and who put each cell, whom each transaction read from, and which transactions are unfinished. What a transaction read and
-/// put goes out with its abort.
+/// The readers and writers of each cell, from whom each transaction read, and the unfinished transactions. An abort takes out what its
+/// transaction read and put.
 #[derive(Drop)]
 pub struct Book {
     registers: Registers,
@@ -46,7 +46,10 @@ impl Book {
         }
     }
 
-    /// Makes room for n events. It stands for what it stood for, also after an `Err`.
+    /// Makes room for n events.
+    ///
+    /// # Errors
+    /// Out of memory. The lists are unchanged.
     pub fn reserve(&mut self, n: usize) -> Result<(), AllocError>
         ensures lists { self.new.lists ≡ self.old.lists }
         ensures ok { OnOk result (n ≤ self.new.spare) }
@@ -61,12 +64,12 @@ impl Book {
         Ok(())
     }
 
-    /// Notes the newest event of the history. Of a Put is told whether its transaction has put the cell before. It takes one place of
-    /// the room at most.
+    /// Notes the newest event of the history. If it is a Put, `again` says whether its transaction has put the cell before. It takes at most
+    /// one place of the room.
     ///
-    /// A read or a put costs a look-up of its cell; whom a transaction read from is found by its number alone. An abort costs a look-up for
-    /// each access of its transaction, and goes through what was read or put in the same cells since; where its transaction put a cell
-    /// again, through all that put it. A commit and an abort cost a binary search among the unfinished, and a move of those behind.
+    /// A read or a put costs a look-up of its cell; from whom a transaction read is found by its number. An abort costs a look-up for each
+    /// access of its transaction, and goes through what was read or put in the same cells since; if its transaction put a cell again, through
+    /// all that put it. A commit and an abort cost a binary search among the unfinished transactions, and a move of those after it.
     #[inline(always)]
     pub fn note(&mut self, history: &History, e: Event, again: bool)
         requires { 0 < self.old.spare }
@@ -77,21 +80,22 @@ impl Book {
         self.spare -= 1;
     }
 
-    /// Who read a cell, and from whom, in order of access: a pair for each Got of a transaction that is not aborted.
+    /// Returns the readers of a cell, and from whom each read, in order of access: a pair for each Got of a transaction that is not aborted.
     pub fn readers(&self, cell: Cell) -> &[(Txn, Txn)]
         ensures { result.now ≡ readers_in self.now.lists cell }
     {
         self.registers.cells.readers(cell)
     }
 
-    /// Who put a cell and is not aborted, in order of the first Put.
+    /// Returns the transactions that put a cell and are not aborted, in order of the first Put.
     pub fn writers(&self, cell: Cell) -> &[Txn]
         ensures { result.now ≡ writers_in self.now.lists cell }
     {
         self.registers.cells.writers(cell)
     }
 
-    /// Whom a transaction read from, in ascending number, each once, without itself and the starting rows. None where it is aborted.
+    /// Returns from whom a transaction read, in ascending number, each once, without itself and the starting rows. The list of an aborted
+    /// transaction is empty.
     pub fn read_from(&self, t: Txn) -> &[Txn]
         ensures { result.now ≡ sources_in self.now.lists t }
     {

@@ -18,12 +18,12 @@ use std::alloc::{AllocError, Global};
 use teb_history::{Event, History};
 use teb_names::{Cell, Txn};
 
-/// Who read and put what, from whom, and who is unfinished.
+/// Readers and writers, from whom each transaction read, and the unfinished transactions.
 #[derive(Drop)]
 pub struct Registers {
-    // Who read each cell, beside the writer read from, and who put it, in order of access.
+    // The readers of each cell, beside the writer read from, and its writers, in order of access.
     pub(crate) cells: CellLists,
-    // Whom each transaction read from, in ascending number: a list for each that has begun, the oldest first.
+    // From whom each transaction read, in ascending number: a list for each that has begun, the oldest first.
     pub(crate) sources: NumberedLists<Txn>,
     // In ascending number.
     pub(crate) unfinished: Vec<Txn>,
@@ -53,7 +53,7 @@ impl Registers {
         Ok(())
     }
 
-    /// Notes the newest event of the history. Of a Put is told whether its transaction has put the cell before.
+    /// Notes the newest event of the history. If it is a Put, `again` says whether its transaction has put the cell before.
     #[inline(always)]
     pub(crate) fn note(&mut self, history: &History, e: Event, again: bool)
         requires ascending { SourcesAscend self.old.sources.lists }
@@ -101,7 +101,7 @@ impl Registers {
         source_lists::add_source(&mut self.sources, t, from);
     }
 
-    /// A transaction puts a cell, which it has put before where `again` is true.
+    /// Notes a Put. `again` says whether the transaction has put the cell before.
     fn put(&mut self, t: Txn, cell: Cell, again: bool)
         requires ascending { SourcesAscend self.old.sources.lists }
         requires room { HasRooms self.old 1 }

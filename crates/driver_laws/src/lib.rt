@@ -19,7 +19,7 @@
 
 ghost use Rattle.driver_laws.specs.Laws.{OfAllScripts, AsksFew, KeepsToScripts, WorksThrough, Stops};
 
-/// Where one thread drives sessions along their scripts, it asks at most 12 * sessions * (lines + 1) requests.
+/// The driver asks at most 12 * sessions * (lines + 1) requests.
 pub fn drivers_ask_few()
     ensures { OfAllScripts AsksFew }
 {}
@@ -29,7 +29,7 @@ pub fn sessions_keep_to_scripts()
     ensures { OfAllScripts KeepsToScripts }
 {}
 
-/// Where the driver stops, every script is worked through.
+/// When the driver stops, every script is worked through.
 pub fn scripts_are_worked_through()
     ensures { OfAllScripts WorksThrough }
 {}

@@ -4,7 +4,7 @@ use Rattle.teb_names.specs.declared.Txn.{Txn}
 use Rattle.teb_history.specs.declared.Event.{Event}
 use Rattle.teb_history.specs.declared.Event.TheVariants.{Began}
 
--- the transaction that session s began last, and 0 where it began none
+-- the transaction that session s began last, or 0 if it began none
 unfoldable pub latest_txn : List Event → ℕ → Txn
 latest_txn [] s = record { 0 = 0 }
 latest_txn (Began t a k i ∷ P) s = let r = latest_txn P s in cond (eqb a.0 s) t r

@@ -52,7 +52,7 @@ fn got<K: Control, C: Chains>(asking: &Asking<'_, K, C>, cell: Cell) -> Decision
     )
 }
 
-/// Puts a value, or deletes the row where there is none.
+/// Decides a put of a value, or a deletion of the row if there is no value.
 pub fn decide_write<K: Control, C: Chains>(
     asking: &Asking<'_, K, C>,
     cell: Cell,

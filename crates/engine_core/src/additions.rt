@@ -49,7 +49,7 @@ fn add_base<K: Control, C: Chains>(asking: &Asking<'_, K, C>, cell: Cell) -> Opt
     value.map(|value| value.unwrap_or(0))
 }
 
-/// The sum of two numbers, where it is an `i64`.
+/// Returns the sum of two numbers, if it is an `i64`.
 fn sum_of(base: i64, number: i64) -> Option<i64>
     ensures { result ≡ sum_of base number }
 {

@@ -19,7 +19,7 @@ use store_setup::Setup;
 use teb_history::{Event, History};
 use version_chain::Chains;
 
-/// Appends an event that the rules grant; a Put comes with the place of its version. It takes one place of the room.
+/// Appends an event that the rules grant; a Put has the place of its version. It takes one place of the room.
 pub fn append_event<K: Control, C: Chains>(
     state: &mut EngineState<K, C>,
     event: Event,

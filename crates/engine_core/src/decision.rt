@@ -26,7 +26,7 @@ pub enum Decision {
         value: Option<i64>,
         place: Place,
     },
-    /// The transaction reads so many cells from this one on.
+    /// The transaction reads this many cells, from this one on.
     Scan(Txn, Cell, u8),
     /// The transaction is aborted, and all that have to fall with it.
     Fall(Txn, Cause),
@@ -39,7 +39,7 @@ pub fn refused(why: Refusal) -> Decision
     Decision::Answer(ShortReply::Refused(why))
 }
 
-/// What a stop makes of a request of t. Nobody waits for a transaction of greater number.
+/// Returns what a stop makes of a request of t. A wait for a transaction of greater number becomes an abort.
 pub fn stopped(t: Txn, stop: Stop) -> Decision
     requires { stop ≡ Stop.Go → ⊥ }
     ensures { (X : Store) (H : List Event) → IsStopped X H t.0 stop result }

@@ -38,7 +38,7 @@ pub struct Engine<C: Chains> {
     ready: bool,
 }
 
-/// A call of its own, so that no owner has to prove anew how a state is dropped.
+/// Hand-written `Drop`, so that callers do not re-prove the drop glue.
 impl<C: Chains> Drop for Engine<C> {
     fn drop(self) {
         let Engine {
@@ -94,10 +94,12 @@ impl<C: Chains> Engine<C> {
         Ok(())
     }
 
-    /// Makes room for so many events in the list of events itself, and for the transactions that they may be of in what is kept of each, so
-    /// that neither need move as they come: of use to who knows how many requests follow. Registers that are searched by hash are left to
-    /// grow, since they cost time when they are larger than what they hold. `ready` still has to make the room for each answer. An `Err`
-    /// leaves all as it was, but for that room.
+    /// Makes room for `events` events in the list of events, and for as many transactions in what is kept of each, so that neither has to move
+    /// as they come. It is useful if the number of requests to follow is known. Registers that are searched by hash are left to grow, since
+    /// they cost time if they are larger than what they hold. `ready` still has to make the room for each answer.
+    ///
+    /// # Errors
+    /// Out of memory. Some of that room may have been made; everything else is unchanged.
     pub fn reserve_ahead(&mut self, events: usize) -> Result<(), AllocError>
         ensures store { self.new.store ≡ self.old.store }
         ensures names { self.new.names ≡ self.old.names }
@@ -177,7 +179,7 @@ impl<C: Chains> Engine<C> {
         &self.state.controls
     }
 
-    /// Who read and who put each cell, whom each transaction read from, and which transactions are unfinished.
+    /// Returns the readers and writers of each cell, from whom each transaction read, and the unfinished transactions.
     pub fn book(&self) -> &Book
         ensures { BookOf result.now.lists self.now.events }
     {

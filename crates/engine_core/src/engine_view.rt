@@ -59,7 +59,7 @@ impl<'a, K: Control, C: Chains> EngineView<'a, K, C> {
         &self.state.controls[usize::from(n.0)]
     }
 
-    /// What an unfinished transaction reads of a cell: from whom, and the value.
+    /// Returns what an unfinished transaction reads of a cell: the writer, and the value.
     pub fn read(&self, t: Txn, cell: Cell) -> (Txn, Option<i64>)
         requires whole { ViewIsWhole K.node_number K.stands C.lists self.now }
         requires unfinished { IsTrue (unfinished (events_in self.now) t.0) }

@@ -41,7 +41,7 @@ pub fn keep_versions<C: Chains>(chains: &mut C, event: Event, place: Place)
     }
 }
 
-/// The cursors after the newest event: a transaction that begins stands at step 0, and an access moves its transaction.
+/// Notes the newest event in the cursors: a transaction that begins is at step 0, and an access moves its transaction.
 #[inline(always)]
 pub fn keep_cursors(cursors: &mut Cursors, facts: &Facts, event: Event)
     requires newest { events_of facts.now ≡ event ∷ drop 1 (events_of facts.now) }

@@ -8,7 +8,7 @@ use std::marker::Model;
 use teb_history::Event;
 use teb_names::{Session, Txn};
 
-/// For each session the transaction that it began last, and 0 where it began none. Contracts see their list.
+/// For each session the transaction that it began last, or 0 if it began none. Contracts see their list.
 #[derive(Drop)]
 pub struct LatestTxns {
     // By the session's number.
@@ -25,7 +25,7 @@ impl Model for LatestTxns {
 }
 
 impl LatestTxns {
-    /// Nobody began one.
+    /// Returns the list in which no session has begun a transaction.
     pub fn new() -> Self
         ensures { AreLatest result [] }
     {

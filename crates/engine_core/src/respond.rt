@@ -21,7 +21,7 @@ use version_chain::Chains;
 pub enum Response {
     /// The reply: all is done.
     Reply(ShortReply),
-    /// The transaction reads so many cells from this one on, and nothing is written yet.
+    /// The transaction reads this many cells, from this one on, and nothing is written yet.
     Scan(Txn, Cell, u8),
 }
 

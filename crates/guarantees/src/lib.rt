@@ -37,17 +37,18 @@ ghost use Rattle.guarantees.specs.Reading.{ReadsGoOn, ReadsAreServed};
 ghost use Rattle.guarantees.specs.Cascades.{AbortsAlone, HasNoCascade};
 ghost use Rattle.guarantees.specs.Causes.{NamesCauses};
 
-/// Strict serializability: where the root is a locks or pipeline node, or a leaf, or admits one transaction a batch, what committed before another began stands before it.
+/// Strict serializability: if the root is a locks or a pipeline node, or a leaf, or admits one transaction a batch, a transaction that committed before another began
+/// precedes it in the serial order.
 pub fn serial_order_keeps_time()
     ensures { OfEveryRun IsStrict }
 {}
 
-/// Where the root is a locks or a pipeline node, the serial order is the order of the commits.
+/// If the root is a locks or a pipeline node, the serial order is the order of the commits.
 pub fn serial_order_is_commit_order()
     ensures { OfEveryRun IsCommitOrdered }
 {}
 
-/// No session waits for itself, over any number of others, and the oldest unfinished transaction never waits.
+/// The wait-for graph has no cycle of any length, and the lowest-numbered unfinished transaction never waits.
 pub fn nobody_deadlocks()
     ensures { OfEveryStore HasNoDeadlock }
 {}
@@ -57,7 +58,7 @@ pub fn reads_go_on()
     ensures { OfEveryStore ReadsGoOn }
 {}
 
-/// In a tree of locks and snapshot nodes an abort takes nobody with it.
+/// In a tree of locks and snapshot nodes an abort takes no other transaction with it.
 pub fn aborts_stay_alone()
     ensures { OfEveryStore AbortsAlone }
 {}
@@ -67,7 +68,7 @@ pub fn aborts_name_their_cause()
     ensures { OfEveryStore NamesCauses }
 {}
 
-/// Under a timestamp or a snapshot root with batches of two, a transaction that begins after another committed can stand before it; so the serial order is not that of the commits.
+/// Under a timestamp or a snapshot root with batches of two, a transaction that begins after another committed may precede it; so the serial order is not that of the commits.
 pub fn greater_batches_lose_time()
     ensures timestamps { Breaks (λ X H. KeepsRealTime X.setup H) (two_sides Timestamp) late_joiner }
     ensures snapshots { Breaks (λ X H. KeepsRealTime X.setup H) (two_sides Snapshot) late_joiner }

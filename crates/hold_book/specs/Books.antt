@@ -45,12 +45,12 @@ released t hs = filter (λ h. not (eqb h.txn.0 t)) hs
 pub record IsFiled (holds : Shown Cell Hold) : Type 0 where
   pub ascending : (x : Cell) → IsAscendingBy hold_number (values_in cell_cmp holds x)
 
--- a cell that lies in its slot is held by nobody else
+-- a cell that is in its slot has no other holds
 pub record IsApart (ss : List (Option Alone)) (o : Shown Cell Hold) : Type 0 where
   pub filed : IsFiled o
   pub alone : (x : Cell) → IsTrue (is_some (only_hold ss x)) → values_in cell_cmp o x ≡ []
 
--- an access puts two holds among the others at the most
+-- an access puts at most two holds among the others
 pub record IsBook (ss : List (Option Alone)) (o : Shown Cell Hold) (spare : ℕ) : Type 0 where
   pub apart : IsApart ss o
   pub made : 0 < spare → 1024 ≤ length ss

@@ -1,4 +1,4 @@
--- Slots, in which cells lie that one transaction alone holds.
+-- Slots, for cells that one transaction alone holds.
 use Rattle.std.specs.Prelude.{ℕ, ◌+◌, ◌*◌, ◌%◌, Bool, true, cond, List, [], ◌∷◌, Option, Some, None, get_or}
 use Rattle.teb_names.specs.declared.Cell.{Cell}
 use Rattle.teb_names.specs.Cells.{same_cell}
@@ -18,12 +18,12 @@ abbrev pub is_open : Cell → Option Alone → Bool
 is_open x None = true
 is_open x (Some a) = same_cell a.cell x
 
--- the hold on x, where it is x that lies there
+-- the hold on x, if it is x that is there
 abbrev pub hold_in : Cell → Option Alone → Option Hold
 hold_in x None = None
 hold_in x (Some a) = cond (same_cell a.cell x) (Some a.hold) None
 
--- the only hold on x, where x lies in its slot
+-- the only hold on x, if x is in its slot
 abbrev pub only_hold : List (Option Alone) → Cell → Option Hold
 only_hold ss x = hold_in x (slot_at ss x)
 

@@ -23,10 +23,10 @@ use teb_names::{Cell, Txn};
 /// For how many accesses a book makes room at the least.
 const AHEAD: usize = 64;
 
-/// Who holds which cell at a node. Contracts see the holds on each cell, and for how many accesses there is room.
+/// The lock table of a node. Contracts see the holds on each cell, and for how many accesses there is room.
 #[derive(Drop)]
 pub struct HoldBook {
-    // The cells that one transaction alone holds, each in its slot. There are none before the first `reserve`.
+    // The cells that one transaction alone holds, each in its slot. There are no slots before the first `reserve`.
     slots: Vec<Option<Alone>>,
     // By cell: the holds on each other cell, in ascending number.
     others: Multimap<Cell, Hold>,
@@ -45,7 +45,7 @@ impl Model for HoldBook {
 }
 
 impl HoldBook {
-    /// A book in which nobody holds a cell. Takes no memory.
+    /// Returns a book in which no cell is held. Takes no memory.
     pub fn new(alloc: Global) -> Self
         ensures shown { (x : Cell) → shown result x ≡ [] }
         ensures empty { (S : Setup) (n : ℕ) → HoldsOf result S [] n }
@@ -70,8 +70,8 @@ impl HoldBook {
         self.make_room(n.max(AHEAD))
     }
 
-    /// A transaction accesses a cell: it reads it, or puts it where `wrote` is true. It takes one place of the room at most. It costs a look
-    /// into the cell's bucket, and one at its slot where nobody else holds the cell, and else a search by the cell.
+    /// Notes that a transaction accesses a cell: it puts it if `wrote` is true, and else reads it. It takes at most one place of the room. It
+    /// costs a look into the cell's bucket, and one at its slot if no other transaction holds the cell; otherwise a search by the cell.
     #[inline(always)]
     pub fn access(&mut self, t: Txn, cell: Cell, wrote: bool)
         requires { 0 < self.old.spare }
@@ -79,7 +79,7 @@ impl HoldBook {
         ensures elsewhere { (x : Cell) → IsFalse (same_cell cell x) → shown self.new x ≡ shown self.old x }
         ensures spare { self.old.spare ≤ self.new.spare + 1 }
 
-        // It then stands for the history with the event.
+        // It then shows the history with the event.
         ensures got { (S : Setup) (P : List Event) (n : ℕ) (w : Txn) (v : Option ℤ) → IsFalse wrote → MayHold S P n t.0 → HoldsOf self.old S P n → HoldsOf self.new S (Got t cell w v ∷ P) n }
         ensures put { (S : Setup) (P : List Event) (n : ℕ) (v : Option ℤ) → IsTrue wrote → MayHold S P n t.0 → HoldsOf self.old S P n → HoldsOf self.new S (Put t cell v ∷ P) n }
     {
@@ -122,7 +122,7 @@ impl HoldBook {
         release_in(&mut self.slots, &mut self.others, cell, t);
     }
 
-    // Makes room for n accesses, where there is less.
+    // Makes room for n accesses, if there is less.
     #[inline(never)]
     fn make_room(&mut self, n: usize) -> Result<(), AllocError>
         requires { self.old.spare ≤ n }

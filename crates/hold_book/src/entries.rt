@@ -12,7 +12,7 @@ use crate::slots::{Alone, clear, only_hold, take, take_free};
 use sorted_multimap::Multimap;
 use teb_names::{Cell, Txn};
 
-/// A transaction has accessed a cell, and has put it where `wrote` is true. A cell that nobody holds goes to its slot, where that is free.
+/// Notes that a transaction has accessed a cell, and whether it put it. A cell that no transaction holds goes to its slot, if that is free.
 #[inline(always)]
 pub(crate) fn access_in(
     slots: &mut [Option<Alone>],

@@ -39,7 +39,7 @@ impl Locks {
         }
     }
 
-    /// Who holds a cell: the unfinished transactions on whose path the node stands that have accessed it, in ascending number.
+    /// Returns the holders of a cell: the unfinished transactions with the node on their paths that have accessed it, in ascending number.
     pub fn holds(&self, facts: &Facts, cell: Cell) -> &[Hold]
         requires { LocksStand self.now.register (setup_of facts.now) (events_of facts.now) }
         ensures { result.now ≡ holds_in (setup_of facts.now) (events_of facts.now) self.now.register.node.0 cell }

@@ -36,7 +36,10 @@ pub trait Control: Drop {
     fn node(&self) -> Node
         ensures { result.0 ≡ node_number self.now };
 
-    /// Makes room for n events. It stands for what it stood for, also after an `Err`.
+    /// Makes room for n events. It stands for the same history as before.
+    ///
+    /// # Errors
+    /// Out of memory.
     fn reserve(&mut self, n: usize) -> Result<(), AllocError>
         ensures node_number { node_number self.new ≡ node_number self.old }
         ensures stands { (S : Setup) (H : List Event) → stands self.old S H → stands self.new S H }
@@ -51,7 +54,7 @@ pub trait Control: Drop {
         ensures node_number { node_number self.new ≡ node_number self.old }
         ensures spare { spare self.old ≤ spare self.new + 1 };
 
-    /// What a Begin at a spot meets: where the open batch of its side is full, it waits for the batch's least unfinished member.
+    /// Returns the answer to a Begin at a spot: if the open batch of its side is full, it waits for the batch's least unfinished member.
     fn start(&self, facts: &Facts, s: Spot) -> Verdict
         requires stands { stands self.now (setup_of facts.now) (events_of facts.now) }
         requires kind { s.kind.0 < facts.now.tree.now.types }
@@ -64,8 +67,9 @@ pub trait Control: Drop {
         requires access { IsAccess facts.now (node_number self.now) t.0 cell }
         ensures { result ≡ on_access (row (setup_of facts.now).tree (node_number self.now)).control (setup_of facts.now) (events_of facts.now) (node_number self.now) t.0 cell false };
 
-    /// What a write of a cell meets. `at` is the place that t's version has, or would have, among those of the cell; it is missing at no
-    /// timestamp node. Whoever was read from, by somebody who is not aborted, still has its version: so it is between two answers.
+    /// Returns the answer to a write of a cell. `at` is the place that t's version has, or would have, among those of the cell; a timestamp
+    /// node is always told it. Each writer from whom a transaction that is not aborted has read still has its version: that holds between any
+    /// two answers.
     fn before_write<C: Chains>(
         &self,
         facts: &Facts,
@@ -105,7 +109,7 @@ pub trait Control: Drop {
         requires unfinished { IsTrue (unfinished (events_of facts.now) t.0) }
         ensures { result ≡ validate (row (setup_of facts.now).tree (node_number self.now)).control (setup_of facts.now) (events_of facts.now) (node_number self.now) t.0 };
 
-    /// Whom a Commit waits for at the gate: the least-numbered one.
+    /// Returns the wait for the lowest-numbered transaction that holds up a Commit at the gate.
     fn gate(&self, facts: &Facts, t: Txn) -> Verdict
         requires stands { stands self.now (setup_of facts.now) (events_of facts.now) }
         requires here { IsHere facts.now (node_number self.now) t.0 }

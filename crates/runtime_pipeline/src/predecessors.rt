@@ -1,4 +1,4 @@
-//! Who is ahead of whom at a node, kept event by event.
+//! Which transactions are ahead of which at a node, kept event by event.
 
 ghost use Rattle.std.specs.Prelude.{◌≡◌, ◌<◌, ◌≤◌, ◌+◌, ◌||◌, ℕ, [], IsFalse, cond, drop, eqb, get_or, length, vec_capacity, vec_len, All, IsTrue, OnOk};
 ghost use Rattle.teb_names.specs.declared.Txn.{Txn};
@@ -25,7 +25,7 @@ use std::marker::Model;
 use teb_history::Event;
 use teb_names::{Node, Txn};
 
-/// For each unfinished transaction, those that are ahead of it at a node. It stands for a history, and is told of each event behind it.
+/// For each unfinished transaction, those that are ahead of it at a node. It stands for a history, and notes each later event.
 #[derive(Drop)]
 pub struct Predecessors {
     // By transaction: those that are ahead of it, in ascending number.
@@ -51,7 +51,7 @@ impl Model for Predecessors {
 }
 
 impl Predecessors {
-    /// Nobody, for an empty history. Takes no memory.
+    /// Returns empty lists, for an empty history. Takes no memory.
     pub fn new(alloc: Global) -> Self
         ensures { (S : Setup) (n : ℕ) → PredecessorsOf result S [] n }
     {
@@ -64,7 +64,10 @@ impl Predecessors {
         }
     }
 
-    /// Makes room for n events. It stands for what it stood for, also after an `Err`.
+    /// Makes room for n events. It stands for the same history as before.
+    ///
+    /// # Errors
+    /// Out of memory.
     pub fn reserve(&mut self, n: usize) -> Result<(), AllocError>
         ensures lists { self.new.lists ≡ self.old.lists }
         ensures unfinished { self.new.unfinished ≡ self.old.unfinished }
@@ -158,7 +161,7 @@ impl Predecessors {
     }
 }
 
-// Whether nobody but t holds. Nobody is in its way then: its own hold never is. It costs two comparisons.
+// Returns whether t is the only holder. Then nothing is in its way, since its own hold never is. It costs two comparisons.
 #[inline(always)]
 fn is_alone(holds: &[Hold], t: Txn) -> bool
     ensures { IsTrue result → All (λ h. h.txn.0 ≡ t.0) holds.now }
@@ -209,7 +212,7 @@ fn add_once(behind: &mut Vec<Txn>, t: Txn)
     }
 }
 
-// Takes t out of all lists, and its own away. Where nobody is behind anybody, all lists are empty: that costs one look.
+// Removes t from all lists, and empties its own. If no list has a value, that costs one look.
 fn take_away(lists: &mut Multimap<Txn, Txn>, behind: &mut Vec<Txn>, t: Txn)
     requires ascending { (v : Txn) → IsAscendingBy number_of (values_in txn_cmp lists.old v) }
     requires behind { AllBehind lists.old.entries behind.old.items }

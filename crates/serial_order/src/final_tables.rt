@@ -52,8 +52,8 @@ impl<'a, C: Chains> EndState<'a, C> {
         self.rows_of(alloc, &cells)
     }
 
-    // The cells that somebody has put, each once, in ascending order. There are as many marks as events, so that they cost no
-    // more than the walk over these.
+    // Returns the cells that were put, each once, in ascending order. There are as many marks as events, so they cost no more than
+    // the walk over these.
     fn cells(&self, alloc: Global) -> Result<Vec<Cell>, AllocError>
         ensures { IfOk result (λ v. AreCells (left self.now) self.now.rows.now v.items) }
     {
@@ -62,7 +62,7 @@ impl<'a, C: Chains> EndState<'a, C> {
         seen.ascending(alloc)
     }
 
-    // Adds the cells that somebody has put.
+    // Adds the cells that were put.
     fn add_puts(&self, seen: &mut SeenCells) -> Result<(), AllocError>
         requires { IsSound seen.old }
         ensures { OnOk result (AddsAll seen.old seen.new (cells_put (reverse (events_of self.now.facts.now)))) }
@@ -92,7 +92,7 @@ impl<'a, C: Chains> EndState<'a, C> {
         Ok(rows)
     }
 
-    // The value of the last committed version of a cell, or else of its starting row. It costs the versions above that one, which
+    // Returns the value of the last committed version of a cell, or else of its starting row. It costs the later versions, which
     // are of unfinished transactions.
     fn value(&self, cell: Cell) -> Option<i64>
         ensures { result ≡ left self.now cell }
@@ -121,7 +121,7 @@ impl<'a, C: Chains> EndState<'a, C> {
     }
 }
 
-// Adds the starting rows before a cell, and gives those behind it.
+// Adds the starting rows before a cell, and returns those after it.
 #[inline(always)]
 fn pass_rows<'r>(
     rows: &mut Vec<(Cell, i64)>,

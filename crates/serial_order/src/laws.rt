@@ -9,8 +9,8 @@ pub fn versions_are_ordered()
     ensures { OfEveryEngine (λ e. OrdersVersions e.store.setup e.events) }
 {}
 
-/// The order keeps the conflicts of committed transactions: it has their versions in version order, who is read from before
-/// who reads, and who reads before who wrote past that. What was read from another is what that one left in the end.
+/// The order keeps the conflicts of committed transactions: their versions are in version order; a writer precedes the transactions that read
+/// from it; and a reader precedes the writers of later versions. What was read from a writer is its last version.
 pub fn order_keeps_conflicts()
     ensures { OfEveryOrder KeepsConflicts }
 {}

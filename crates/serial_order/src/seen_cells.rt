@@ -6,13 +6,13 @@ ghost use Rattle.serial_order.specs.Seen.{cell_at as spec_cell_at, place_of as s
 use std::alloc::{AllocError, Global};
 use teb_names::{Cell, Table};
 
-/// Cells that were seen. The first keys of each table have a mark each; a cell of another key stands in a list, as often as it
+/// Cells that were seen. The first keys of each table have a mark each; a cell with another key is in a list, as often as it
 /// was seen.
 #[derive(Drop)]
 pub(crate) struct SeenCells {
     // How many keys of each table have a mark.
     width: u32,
-    // The marks of one table behind those of another.
+    // The marks of one table after those of another.
     marks: Vec<bool>,
     // From here on no mark is set.
     end: usize,
@@ -20,7 +20,7 @@ pub(crate) struct SeenCells {
 }
 
 impl SeenCells {
-    /// No cells. The tables share so many marks evenly, and each has one at least.
+    /// Returns no cells. The tables share `marks` marks evenly, and each has at least one.
     pub(crate) fn new(alloc: Global, tables: u8, marks: usize) -> Result<Self, AllocError>
         ensures { IfOk result IsSound }
     {
@@ -51,7 +51,7 @@ impl SeenCells {
         }
     }
 
-    // The place of a cell's mark, where it has one.
+    // Returns the place of a cell's mark, if it has one.
     fn place_of(&self, cell: Cell) -> usize
         ensures { result ≡ spec_place_of self.now.width cell }
     {

@@ -21,7 +21,7 @@ use teb_history::{Event, History};
 use teb_names::{ControlKind, Node, Txn};
 use version_chain::Chains;
 
-/// A committed transaction, and where its key starts and ends among the numbers of all keys.
+/// A committed transaction, with the range of its key among the numbers of all keys.
 #[derive(Clone, Copy)]
 pub(crate) struct Entry {
     txn: Txn,

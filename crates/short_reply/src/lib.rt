@@ -19,7 +19,7 @@ use teb_names::{Cause, Node, Refusal, Reply, Txn};
 pub enum ShortReply {
     /// The transaction that began.
     Begun(Txn),
-    /// The value that was read; none where there is no row.
+    /// The value that was read; `None` if there is no row.
     Value(Option<i64>),
     /// The write, addition or deletion is done.
     Done,
@@ -50,7 +50,7 @@ impl ShortReply {
         }
     }
 
-    /// The short form of a reply. `None` where the reply has the values of a scan.
+    /// Returns the short form of a reply, or `None` if the reply has the values of a scan.
     pub fn of(reply: &Reply) -> Option<ShortReply>
         ensures { MatchOption result (HasValues reply.now) (λ short. full_reply short ≡ reply.now) }
     {

@@ -1,4 +1,4 @@
-//! A snapshot control that is asked: whose batches are closed before whose, who has put a cell, and what one has accessed.
+//! Questions to a snapshot control: which batches closed before which, the writers of a cell, and the accesses of a transaction.
 
 ghost use Rattle.std.specs.Prelude.{◌≡◌, find, ltb};
 ghost use Rattle.teb_rules.specs.Batches.{start, close};
@@ -11,7 +11,7 @@ use access_book::Accesses;
 use phase_api::Facts;
 use teb_names::{Cell, Txn};
 
-/// A control, and the facts for which it stands.
+/// A control, with the facts of the history that it stands for.
 #[derive(Clone, Copy)]
 pub(crate) struct Asked<'a> {
     pub(crate) register: &'a Register,
@@ -22,7 +22,7 @@ pub(crate) struct Asked<'a> {
 impl<'a> Asked<'a> {
     ghost use Rattle.snapshot_node.specs.Asking.{AreThere, IsAt, IsWalk, comes_first, is_met, there};
 
-    // Those on whose path the node stands that have put a cell and are not aborted, in ascending number, each once.
+    // Returns the transactions with the node on their paths that have put a cell and are not aborted, in ascending number, each once.
     #[inline(always)]
     pub(crate) fn writers(&self, cell: Cell) -> &[Txn]
         ensures { result.now ≡ there self.now writers_in cell }

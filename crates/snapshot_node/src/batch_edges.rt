@@ -1,4 +1,4 @@
-//! Edges at all members of a batch: those at who is known to have one, and those of the one that validates.
+//! Edges at all members of a batch: at members that are known to have one, and at the transaction that validates.
 
 ghost use Rattle.std.specs.Prelude.{◌≡◌};
 ghost use Rattle.snapshot_node.specs.Pivots.{IsLeast, IsLeastEdge, IsLeastEdgeAside, IsLeastEdgeFrom, IsLeastAside, Reaches, ReachesOne, is_mate, earlier_of};
@@ -37,7 +37,7 @@ impl<'a> Validation<'a> {
         c == self.t || mark_at(self.marks, place_of(c)).ahead
     }
 
-    // Whether b is t, or somebody is known to have an edge to it.
+    // Returns whether b is t, or an edge is known to lead to it.
     fn may_be_led_to(&self, b: Txn) -> bool
         ensures { result ≡ may_be_led_to self.now b.0 }
     {
@@ -60,7 +60,7 @@ impl<'a> Validation<'a> {
         }
     }
 
-    // The same, but for edges of others to t: it may leave some of them out. Where no edge is known to leave b's batch, t's are the
+    // Returns the same, but for edges of others to t, some of which it may leave out. If no edge is known to leave b's batch, t's are the
     // only others.
     fn edge_aside(&self, b: Txn, own: Own) -> Option<(Txn, Txn)>
         requires here { IsAt self.now.asked b.0 }
@@ -113,7 +113,7 @@ impl<'a> Validation<'a> {
         }
     }
 
-    // The same, but for t: it may leave t out. Where no edge is known to lead into c's batch, those to t are the only others.
+    // Returns the same, but may leave t out. If no edge is known to lead into c's batch, those to t are the only others.
     fn into_aside(&self, c: Txn, own: Own) -> Option<Txn>
         requires here { IsAt self.now.asked c.0 }
         requires own { AreOwn self.now own }
@@ -128,7 +128,7 @@ impl<'a> Validation<'a> {
         own.behind
     }
 
-    // The same by the members to whom somebody is known to have an edge, and by t.
+    // Returns the same by the members that an edge is known to lead to, and by t.
     fn known_into(&self, c: Txn) -> Option<Txn>
         requires { IsAt self.now.asked c.0 }
         ensures { IsLeast (at self.now ReachesOne (may_be_led_to self.now) c.0) result }

@@ -18,7 +18,7 @@ pub struct Mark {
     pub(crate) ahead: bool,
 }
 
-/// The mark where no edge is known.
+/// The mark if no edge is known.
 pub(crate) const NO_MARK: Mark = Mark {
     entered: false,
     left: false,

@@ -23,7 +23,7 @@ pub(crate) fn from_number(txns: &[Txn], first: Txn) -> &[Txn]
     &txns[start..]
 }
 
-// The same where the one at a place is numbered below `first`: it looks at those behind it, one after another.
+// Returns the same, given a place whose transaction is numbered below `first`: it looks at the later ones, one after another.
 fn from_number_behind(txns: &[Txn], below: usize, first: Txn) -> &[Txn]
     requires ascending { IsAscendingBy number_of txns.now }
     requires within { below < length txns.now }

@@ -26,7 +26,7 @@ impl<'a> Validation<'a> {
         least
     }
 
-    /// The least member of b's batch to whom t has an edge.
+    /// Returns the least member of b's batch to which t has an edge.
     pub(crate) fn least_mate_ahead(&self, b: Txn) -> Option<Txn>
         requires { IsAt self.now.asked b.0 }
         ensures { IsLeast (at self.now EntersAt b.0) result }

@@ -10,7 +10,7 @@ use crate::asked::Asked;
 use crate::numbered::from_number;
 use teb_names::Txn;
 
-/// A control that is asked, a transaction t, and t's horizon there: whoever is numbered below it was of a batch closed before
+/// Questions to a control, a transaction t, and t's horizon there: each transaction numbered below it was of a batch that closed before
 /// t's started.
 #[derive(Clone, Copy)]
 pub(crate) struct Recent<'a> {

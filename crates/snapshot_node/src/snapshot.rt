@@ -45,7 +45,7 @@ impl Snapshot {
         })
     }
 
-    /// The committed transactions on whose path the node stands that have put a cell, in ascending number, each once.
+    /// Returns the committed transactions with the node on their paths that have put a cell, in ascending number, each once.
     pub fn committed(&self, _facts: &Facts, cell: Cell) -> &[Txn]
         requires { SnapshotStandsFor self.now (setup_of _facts.now) (events_of _facts.now) }
         ensures { result.now ≡ committed_in (setup_of _facts.now) (events_of _facts.now) (snapshot_node_number self.now) cell }

@@ -68,7 +68,7 @@ impl<K: Ord + Copy, V: Copy> Bucket<K, V> {
         &self.values[start..end]
     }
 
-    // Where the values of a key begin, and where they end.
+    // Returns the first place of the values of a key, and the place after the last.
     #[inline(always)]
     fn range_of(&self, key: K) -> (usize, usize)
         requires { IsSorted K.cmp self.now }
@@ -95,7 +95,7 @@ impl<K: Ord + Copy, V: Copy> Bucket<K, V> {
         self.values.push_reserved(value);
     }
 
-    // Puts a value, and its key beside it, at a place where the key may stand.
+    // Inserts a value, and its key beside it, at a place at which the key may be.
     fn put_at(&mut self, at: usize, key: K, value: V)
         requires sorted { IsSorted K.cmp self.old }
         requires room { HasRoom self.old 1 }
@@ -107,7 +107,7 @@ impl<K: Ord + Copy, V: Copy> Bucket<K, V> {
         put_in(&mut self.values, at, value);
     }
 
-    /// Puts a value behind those of a key.
+    /// Appends a value to those of a key.
     pub(crate) fn push(&mut self, key: K, value: V)
         requires sorted { IsSorted K.cmp self.old }
         requires room { HasRoom self.old 1 }
@@ -131,7 +131,7 @@ impl<K: Ord + Copy, V: Copy> Bucket<K, V> {
     }
 }
 
-/// Takes a range out of a vector. What stands behind it moves down.
+/// Removes a range from a vector. What follows it moves down.
 fn cut<T: Copy>(v: &mut Vec<T>, start: usize, end: usize)
     requires order { start ≤ end }
     requires within { end ≤ vec_len v.old }
@@ -168,7 +168,7 @@ fn search_first<K: Ord + Copy>(keys: &[K], key: K) -> usize
     keys.partition_point(|k| k.cmp(&key) == Ordering::Less)
 }
 
-/// Where the keys that tie with a key end, from where they begin. They are looked at one after the other.
+/// Returns the end of the keys that tie with a key, given their beginning. It looks at them one after the other.
 #[inline(always)]
 fn end_from<K: Ord + Copy>(keys: &[K], start: usize, key: K) -> usize
     requires ascends { Ascends K.cmp keys.now }

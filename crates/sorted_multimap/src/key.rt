@@ -8,7 +8,7 @@ ghost use Rattle.std.proofs.lemmas.Bool.Decides.{nat_tests};
 
 use teb_names::{Cell, Txn};
 
-/// A key of a multimap. Its spread is a number that says in which bucket its values lie; where the spreads of the keys are even, so are
+/// A key of a multimap. Its spread is a number that determines the bucket of its values. If the spreads of the keys are even, so are
 /// the buckets.
 pub trait Key: Ord + Copy {
     ghost spread_of: { Self → ℕ };

@@ -37,11 +37,11 @@ impl Width {
 // For how many values each bucket gets room at the least, so that not every `reserve` goes through all of them.
 const AHEAD: usize = 64;
 
-/// A multimap: values, each beside its key. Those of a key stand in an order of their own, and are lent as one slice.
+/// A multimap: values, each beside its key. Those of a key have an order, and are lent as one slice.
 ///
-/// Where the bucket of a key is empty, a look-up is one look, and to put a value costs two pushes. Else a look-up is a search among the keys
-/// of the bucket, one after the other where they are few and else a binary search, and goes on along those that tie with the key. An edit
-/// is one too, and moves what stands behind its place in that bucket.
+/// If the bucket of a key is empty, a look-up is one look, and putting a value costs two pushes. Otherwise a look-up is a search among the
+/// keys of the bucket, one after the other if they are few and else a binary search, and goes on along those that tie with the key. An edit
+/// is a look-up, and moves what follows its place in that bucket.
 #[derive(Drop)]
 pub struct Multimap<K: Key, V: Copy> {
     alloc: Global,
@@ -118,7 +118,7 @@ impl<K: Key, V: Copy> Multimap<K, V> {
         self.buckets[place_of(&self.buckets, key)].list(key)
     }
 
-    /// Puts a value behind those of a key. It takes one place of the room.
+    /// Appends a value to those of a key. It takes one place of the room.
     pub fn push(&mut self, key: K, value: V)
         requires { 0 < self.old.spare }
         ensures values { (q : K) → values_in K.cmp self.new q ≡ cond (is_eq (K.cmp key q)) (values_in K.cmp self.old key ++ value ∷ []) (values_in K.cmp self.old q) }
@@ -155,7 +155,7 @@ fn place_of<K: Key, V: Copy>(buckets: &[Bucket<K, V>], key: K) -> usize
     key.spread() % buckets.len()
 }
 
-/// Makes the buckets where there are none.
+/// Makes the buckets if there are none.
 fn make_buckets<K: Key, V: Copy>(
     alloc: Global,
     width: Width,

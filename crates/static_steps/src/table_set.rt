@@ -7,7 +7,7 @@ ghost use Rattle.static_steps.specs.Squares.{is_in};
 
 use teb_names::Table;
 
-/// Bit a stands for table a.
+/// Bit a is set if table a is in the set.
 pub type TableSet = u64;
 
 /// No table.

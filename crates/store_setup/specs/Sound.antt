@@ -11,7 +11,7 @@ use Rattle.store_setup.specs.SetupView.{SetupView}
 abbrev pub rules_of : SetupView → Setup
 rules_of m = record { types = length m.types; profiles = m.profiles; tree = m.tree.rows }
 
--- a store can be set up with it: as many profiles as names of types, and a sound tree of at most 64 nodes, built for so many types; at
+-- a store can be set up with it: as many profiles as names of types, and a sound tree of at most 64 nodes, built for that many types; at
 -- most 64 tables, among which is each table of a profile or of a starting row
 pub record IsWhole (m : SetupView) : Type 0 where
   pub sound : IsSound (rules_of m)

@@ -30,7 +30,7 @@ impl History {
         t != u && self.own_events(t).any(|event| event.is_from(u))
     }
 
-    /// The value of a transaction's last Put of a cell. A value is `None` where the row was deleted.
+    /// Returns the value of a transaction's last Put of a cell. The value is `None` if the row was deleted.
     #[tactic(auto, using(crate::proofs::OwnWalks::last_put_own))]
     pub fn last_put(&self, t: Txn, cell: Cell) -> Option<Option<i64>>
         ensures { result ≡ last_put self.now.events t.0 cell }
@@ -43,7 +43,7 @@ impl History {
         None
     }
 
-    /// What a transaction last read in a cell. A value is `None` where there was no row.
+    /// Returns what a transaction last read in a cell. The value is `None` if there was no row.
     #[tactic(auto, using(crate::proofs::OwnWalks::last_got_own))]
     pub fn last_got(&self, t: Txn, cell: Cell) -> Option<Option<i64>>
         ensures { result ≡ last_got self.now.events t.0 cell }

@@ -1,4 +1,4 @@
-//! Where a transaction stands: what its events say of it, kept as they come.
+//! The standing of a transaction: what its events say of it, kept event by event.
 
 ghost use Rattle.std.specs.Prelude.{◌≡◌, ◌<◌};
 
@@ -23,7 +23,7 @@ pub struct Standing {
     /// By its latest Gone.
     pub gone: Option<Cause>,
     pub told: bool,
-    /// How many events the history has up to its newest, that one included. 0 where it has none.
+    /// One more than the position of its newest event. 0 if it has none.
     pub end: usize,
 }
 
@@ -45,7 +45,8 @@ impl Standing {
         }
     }
 
-    /// One more event of the transaction, with `end` events in the history: whether it is live then, where such an event may change that.
+    /// Notes one more event of the transaction, with `end` events in the history. Returns whether it is live then, if such an event may change
+    /// that.
     #[inline(always)]
     pub fn note(&mut self, event: Event, end: usize) -> Option<bool>
         ensures standing { self.new ≡ standing_after event end self.old }
@@ -76,7 +77,7 @@ impl Standing {
         Some(self.is_live())
     }
 
-    /// How far the transaction has come.
+    /// Returns the phase of the transaction.
     pub fn phase(&self) -> Phase
         ensures { result ≡ standing_phase self.now }
     {
@@ -107,7 +108,7 @@ impl Standing {
         self.is_unfinished() && self.ready
     }
 
-    /// The number of the session that began it, 0 where none has.
+    /// Returns the number of the session that began it, or 0 if none has.
     pub fn session_number(&self) -> u8
         ensures { result ≡ stands_session self.now }
     {

@@ -41,7 +41,7 @@ pub use naming::{NameBook, Names};
 pub use rows::{MOST_ROWS, Rows};
 pub use scan::ScanList;
 
-/// A transaction, numbered from 1 in order of beginning. 0 stands for the starting rows.
+/// A transaction, numbered from 1 in the order of beginning. 0 is the writer of the starting rows.
 #[derive(Clone, Copy, Debug, PartialEq, Eq, PartialOrd, Ord, Hash)]
 pub struct Txn(pub u32);
 
@@ -53,14 +53,14 @@ pub const MOST_TXNS: u32 = 8192;
 #[derive(Clone, Copy, Debug, PartialEq, Eq, PartialOrd, Ord)]
 pub struct Session(pub u8);
 
-/// How many sessions an engine has. Each holds one transaction at most, so that no more than these are unfinished at a time.
+/// How many sessions an engine has. Each holds at most one transaction, so at most this many are active at a time.
 pub const SESSIONS: u8 = 32;
 
-/// A table. 255 stands for a name that the tree does not have.
+/// A table. 255 is the number of every name that the tree does not have.
 #[derive(Clone, Copy, Debug, PartialEq, Eq, PartialOrd, Ord, Hash)]
 pub struct Table(pub u8);
 
-/// A transaction's type. 255 stands for a name that the tree does not have.
+/// A transaction type. 255 is the number of every name that the tree does not have.
 #[derive(Clone, Copy, Debug, PartialEq, Eq, PartialOrd, Ord)]
 pub struct Kind(pub u8);
 
@@ -75,7 +75,7 @@ pub struct Cell {
     pub key: u32,
 }
 
-/// A type with an instance: where a type stands in several leaves, the instance says which of them.
+/// A type with an instance. If a type is at several leaves, the instance selects one of them.
 #[derive(Clone, Copy, Debug, PartialEq, Eq)]
 pub struct Spot {
     pub kind: Kind,
@@ -87,7 +87,7 @@ pub struct Spot {
 pub enum ControlKind {
     /// Two-phase locks.
     Locks,
-    /// Runtime pipelining: a step may run where those before it have passed its tables.
+    /// Runtime pipelining: a transaction may access a table once those before it have passed the table's rank.
     Pipeline,
     /// Multiversion timestamp ordering.
     Timestamp,
@@ -125,7 +125,7 @@ pub enum Request {
 pub enum Reply {
     /// The transaction that began.
     Begun(Txn),
-    /// The value that was read; none where there is no row.
+    /// The value that was read; `None` if there is no row.
     Value(Option<i64>),
     /// The values of a scan, in ascending order of keys.
     Values(ScanList),
@@ -156,8 +156,8 @@ pub enum Cause {
         writer: Txn,
         cell: Cell,
     },
-    /// It would make a batch that reads behind one concurrent batch and writes before another: `a` read what `b`
-    /// overwrote, `c` read what `d` overwrote, and `b` and `c` are of one batch.
+    /// Two read-write edges lead into and out of one batch: `a` read what `b` overwrote, `c` read what `d` overwrote, and `b` and `c`
+    /// are of one batch.
     Pivot {
         node: Node,
         a: Txn,
@@ -205,7 +205,7 @@ pub enum Refusal {
     Overflow,
 }
 
-/// One call of the engine: who asked what, and what was answered.
+/// One call of the engine: the session, its request and the reply.
 #[derive(Clone, Copy, Debug, PartialEq, Eq)]
 pub struct Entry {
     pub session: Session,

@@ -15,7 +15,7 @@ pub struct Names {
     set: IndexSet<String>,
 }
 
-/// A call of its own, so that no owner has to prove anew how a set is dropped.
+/// Hand-written `Drop`, so that callers do not re-prove the drop glue.
 impl Drop for Names {
     fn drop(self) {
         let Names {
@@ -50,8 +50,10 @@ impl Names {
         }
     }
 
-    /// Adds a name behind the others, and answers true; answers false where it is there. Then, and where memory is
-    /// wanting, the names stay as they were.
+    /// Appends a name, and returns true; returns false if it is already there, and then changes nothing.
+    ///
+    /// # Errors
+    /// Out of memory. The names are unchanged.
     pub fn add(&mut self, name: &str) -> Result<bool, AllocError>
         requires { length self.old < 255 }
         ensures added { IfOk result (λ new. (new ≡ not (has self.old name.now))
@@ -89,7 +91,7 @@ impl Names {
         self.set.as_slice()[usize::from(i)].as_str()
     }
 
-    /// The number of a name; none where it is not there.
+    /// Returns the number of a name, or `None` if it is not there.
     pub fn number(&self, name: &str) -> Option<u8>
         ensures { result ≡ number_of self.now name.now }
     {

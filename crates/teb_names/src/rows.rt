@@ -50,8 +50,8 @@ impl Rows {
         Rows { rows }
     }
 
-    /// Adds a row, and answers true; answers false where the cell has a row, which then stays as it is.
-    /// A row of a cell behind all others costs the search alone.
+    /// Adds a row, and returns true; returns false if the cell already has a row, which is unchanged.
+    /// A row after all others costs the search alone.
     pub fn insert(&mut self, cell: Cell, value: i64) -> Result<bool, AllocError>
         ensures added { IfOk result (λ new. new ≡ is_none (row_of self.old cell)) }
         ensures rows { IfOk result (λ new. self.new ≡ (if new then insert_row self.old cell value else self.old)) }
@@ -71,7 +71,7 @@ impl Rows {
         }
     }
 
-    /// The value of the cell's row; none where it has no row.
+    /// Returns the value of the cell's row, or `None` if it has no row.
     pub fn get(&self, cell: Cell) -> Option<i64>
         ensures { result ≡ row_of self.now cell }
     {
@@ -110,7 +110,7 @@ impl Rows {
         &self.rows
     }
 
-    // Where the cell's row stands, or where it belongs.
+    // Returns the place of the cell's row, or the place where it belongs.
     fn place(&self, cell: Cell) -> Result<usize, usize>
         ensures there { IfOk result (λ i. (i < length self.now) × IsSome (row_of self.now cell)
             × ((d : Cell × ℤ) → row_of self.now cell ≡ Some (slice_index_or self.now i d).1)) }

@@ -11,7 +11,7 @@ use arena_multimap::CellMultimap;
 use teb_history::{Event, History};
 use teb_names::{Cell, Txn};
 
-/// Puts a read behind those of its cell. It takes one place of the room.
+/// Appends a read to those of its cell. It takes one place of the room.
 pub(crate) fn push_read(reads: &mut CellMultimap<(Txn, Txn)>, cell: Cell, t: Txn, from: Txn)
     requires { 0 < reads.old.spare }
     ensures values { (x : Cell) → values_in cell_cmp reads.new x ≡ cond (same_cell cell x) (values_in cell_cmp reads.old x ++ (t, from) ∷ []) (values_in cell_cmp reads.old x) }
@@ -33,7 +33,7 @@ pub(crate) fn forget_reads(reads: &mut CellMultimap<(Txn, Txn)>, history: &Histo
     }
 }
 
-/// Takes out the last read of t in a cell, where there is one.
+/// Removes the last read of t in a cell, if there is one.
 fn forget_last(reads: &mut CellMultimap<(Txn, Txn)>, cell: Cell, t: Txn)
     ensures values { (x : Cell) → values_in cell_cmp reads.new x ≡ cond (same_cell cell x) (without_last (is_by t) (values_in cell_cmp reads.old x)) (values_in cell_cmp reads.old x) }
     ensures spare { reads.new.spare ≡ reads.old.spare }

@@ -70,7 +70,7 @@ fn way_keeps_batches(tree: &Tree, n: Node) -> bool
     climb_keeps_batches(tree, n, n.0)
 }
 
-// The same, where at most `most` parents are taken.
+// Returns the same for a way on which at most `most` parents are taken.
 fn climb_keeps_batches(tree: &Tree, n: Node, most: u8) -> bool
     requires { n.0 < length tree.now.rows }
     ensures { (lower : List ℕ) → list_all (has_batches tree.now.rows) (climb tree.now.rows most n.0 lower) ≡ (result && list_all (has_batches tree.now.rows) lower) }
@@ -82,7 +82,7 @@ fn climb_keeps_batches(tree: &Tree, n: Node, most: u8) -> bool
     higher && keeps_batches(tree, n)
 }
 
-// The node above a node, where a further parent may be taken.
+// Returns the node above a node, if a further parent may be taken.
 #[tactic(auto, unfolding(teb_rules::specs::Tree::climb))]
 fn step_up(tree: &Tree, n: Node, most: u8) -> Option<Node>
     requires { n.0 < length tree.now.rows }

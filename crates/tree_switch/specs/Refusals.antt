@@ -21,7 +21,7 @@ pub record IsUntold (H : List Event) (s : ℕ) : Type 0 where
   pub holds : held H s ≡ Some txn
   pub gone : IsTrue (aborted H txn)
 
--- nobody is unfinished, and each session was told of its abort
+-- no transaction is unfinished, and each session was told of its abort
 abbrev pub AllFinished : List Event → Type 0
 AllFinished H = (t : ℕ) → ¬ IsUnfinished H t
 
@@ -39,13 +39,13 @@ AreNumbered H = (t : ℕ) → IsUnfinished H t → (0 < t) × (t ≤ begun_count
 abbrev pub AreOfSessions : List Event → Type 0
 AreOfSessions H = (s : ℕ) → IsUntold H s → (0 < s) × (s ≤ SESSIONS)
 
--- the engine has come to its end, and the setup has its tables and no rows of its own
+-- the engine is drained, and the setup has its tables and no rows
 pub record MaySwitch (e : EngineModel) (m : SetupView) : Type 0 where
   pub drained : IsDrained e.events
   pub tables : m.tables ≡ e.names.tables
   pub rows : m.rows ≡ []
 
--- what stands against it first
+-- the first condition that fails
 abbrev pub IsCause : EngineModel → SetupView → SwitchError → Type 0
 IsCause e m (Again t) = IsLeast (IsUnfinished e.events) t.0
 IsCause e m (Untold s) = AllFinished e.events × IsLeast (IsUntold e.events) s.0

@@ -21,8 +21,8 @@ use store_setup::Setup;
 use teb_names::{Reply, Request, Session};
 use version_chain::Chains;
 
-/// A store in phases, each under a tree of its own. A phase starts with the tables that the one before it left. Contracts
-/// see the phases that are past, the oldest first, and the present one, each as they see its engine.
+/// A store in phases, each under its tree. A phase starts with the tables that the one before it left. Contracts see the phases
+/// that are past, the oldest first, and the present one, each as they see its engine.
 #[derive(Drop)]
 pub struct Phases<C: Chains> {
     past: Vec<Engine<C>>,
@@ -125,9 +125,9 @@ impl<C: Chains> Phases<C> {
     /// with no version. Transactions count from 1 again.
     ///
     /// # Errors
-    /// `Again` where a transaction is unfinished; else `Untold` where a session holds an aborted one; else `Tables` where the
-    /// names of the tables are others, and `Rows` where the setup has rows of its own. Where none of these stands against it,
-    /// memory may be wanting: then the error is `OutOfMemory`. After an error the phases are as they were.
+    /// `Again` if a transaction is unfinished; else `Untold` if a session holds an aborted one; else `Tables` if the names of the
+    /// tables are others; else `Rows` if the setup has rows; else `OutOfMemory` if memory runs out. After an error the phases are
+    /// unchanged.
     pub fn switch(&mut self, alloc: Global, setup: Setup, chains: C) -> Result<(), SwitchError>
         requires setup { IsWhole (setup_view setup) }
         requires chains { (x : Cell) → C.lists chains x ≡ [] }
@@ -145,7 +145,10 @@ impl<C: Chains> Phases<C> {
     }
 }
 
-/// Puts the present engine behind the past ones, and the next one in its place. An `Err` leaves all as it was.
+/// Appends the present engine to the past ones, and puts the next one in its place.
+///
+/// # Errors
+/// Out of memory. Everything is unchanged.
 fn move_on<C: Chains>(
     past: &mut Vec<Engine<C>>,
     present: &mut Engine<C>,

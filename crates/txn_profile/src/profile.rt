@@ -1,4 +1,4 @@
-//! Profiles, and where an access moves a transaction to.
+//! Profiles, and the step to which an access moves a transaction.
 
 ghost use Rattle.std.specs.Prelude.{◌≡◌, ◌==◌, ◌<◌, [], None, Some, MatchResult, length, slice_index_or};
 ghost use Rattle.teb_rules.specs.Steps.{least_step};
@@ -63,8 +63,8 @@ impl Profile {
         &self.steps[usize::from(i)]
     }
 
-    /// Where an access of the table moves a transaction that stands at the step `cursor`: the least step from there
-    /// on that has the table; none where no such step has it.
+    /// Returns the step to which an access of the table moves a transaction that is at the step `cursor`: the least step from there
+    /// on that has the table, or `None` if no such step has it.
     pub fn cursor_after(&self, cursor: u8, table: Table) -> Option<u8>
         ensures { result ≡ least_step self.now cursor table.0 }
     {

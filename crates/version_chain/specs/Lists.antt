@@ -3,7 +3,7 @@ use Rattle.std.specs.Prelude.{ℕ, zero, suc, Bool, not, nat_le, eqb, if◌then�
 use Rattle.std.specs.List.{list_any}
 use Rattle.teb_names.specs.declared.Txn.{Txn}
 
--- a writer and its value, None where it deleted the row
+-- a writer and its value, None if it deleted the row
 abbrev pub Version : Type 0
 Version = Txn × Option ℤ
 

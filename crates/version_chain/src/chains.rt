@@ -15,12 +15,12 @@ use teb_names::{Cell, Txn};
 pub struct Found {
     pub at: usize,
     pub writer: Txn,
-    /// None where the row is deleted.
+    /// `None` if the row is deleted.
     pub value: Option<i64>,
 }
 
-/// Versions by cell. A version is its writer and a value, None where the row is deleted; those of a cell stand in version
-/// order, the oldest at place 0. Contracts see a list for each cell, and how many versions may be placed without memory.
+/// Versions by cell. A version is its writer and a value, `None` if the row is deleted. Those of a cell are in version order,
+/// the oldest at place 0. Contracts see a list for each cell, and how many versions may be placed without memory.
 pub trait Chains: Drop {
     ghost lists: { Self → Cell → List (Txn × Option ℤ) };
 
@@ -77,7 +77,7 @@ pub trait Chains: Drop {
         self.last_where_from(cell, 0, f)
     }
 
-    /// The last place whose writer f accepts, where it is `from` or above. Nothing below `from` is looked at.
+    /// Returns the last place, from `from` on, whose writer f accepts. No place below `from` is looked at.
     fn last_where_from<F: Fn(Txn) -> bool>(&self, cell: Cell, from: usize, f: &F) -> Option<usize>
         requires { (u : Txn) → IsTrue (is_writer (lists self.now cell) u.0) → F.pre f.now u }
         ensures place { (p : ℕ → Bool)
@@ -85,7 +85,7 @@ pub trait Chains: Drop {
             → result ≡ unless_below from (last_place p (writers_of (lists self.now cell))) }
         ensures within { IfSome result (λ i. i < length (lists self.now cell)) };
 
-    /// The version of a writer, or else the last one whose writer f accepts. Where the writer has one, f is not asked.
+    /// Returns the version of a writer, or else the last one whose writer f accepts. If the writer has one, f is not asked.
     fn own_or_last<F: Fn(Txn) -> bool>(&self, cell: Cell, t: Txn, f: &F) -> Option<Found>
         requires { IsFalse (is_writer (lists self.now cell) t.0) → (u : Txn) → IsTrue (is_writer (lists self.now cell) u.0) → F.pre f.now u }
         ensures place { (p : ℕ → Bool)

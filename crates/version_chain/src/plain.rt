@@ -9,8 +9,8 @@ use std::alloc::{AllocError, Global};
 use std::marker::Model;
 use teb_names::{Cell, Txn};
 
-/// Versions in one vector, sorted by cell and, within a cell, in version order. A version is put in and taken out by moving
-/// those behind it: plain to read, and slow where there are many.
+/// Versions in one vector, sorted by cell and, within a cell, in version order. Inserting or removing a version moves
+/// those after it: plain to read, and slow if there are many.
 #[derive(Drop)]
 pub struct PlainChains {
     versions: Vec<Stored>,
@@ -88,7 +88,7 @@ impl Chains for PlainChains {
     }
 }
 
-/// Puts a version in at a place, in room that is there.
+/// Inserts a version at a place, in room that was made.
 fn put_in(versions: &mut Vec<Stored>, at: usize, version: Stored)
     requires within { at ≤ vec_len versions.old }
     requires room { vec_len versions.old < vec_capacity versions.old }

@@ -15,7 +15,7 @@ pub struct Stored {
     pub value: Option<i64>,
 }
 
-/// Where the versions of a cell begin, and how many there are.
+/// Returns the beginning of the versions of a cell, and how many there are.
 pub fn range_of(versions: &[Stored], cell: Cell) -> (usize, usize)
     requires { IsSortedByCell versions.now }
     ensures { IsRange versions.now cell result.0 result.1 }
@@ -41,7 +41,7 @@ pub fn place_of(chain: &[Stored], t: Txn) -> Option<usize>
     chain.iter().position(|v| v.writer == t)
 }
 
-/// The last place of a chain whose writer f accepts, where it is `from` or above.
+/// Returns the last place of a chain, from `from` on, whose writer f accepts.
 pub fn last_accepted<F: Fn(Txn) -> bool>(chain: &[Stored], from: usize, f: &F) -> Option<usize>
     requires { (u : Txn) → IsTrue (is_writer (map version chain.now) u.0) → F.pre f.now u }
     ensures place { (p : ℕ → Bool)

@@ -70,8 +70,8 @@ impl<K: Ord + Copy, V: Numbered> Bucket<K, V> {
         self.put_in_place(place, key, value, false)
     }
 
-    /// Puts a value among those of a key, where it has any: instead of the one that has its number where `replace` is true, and else unless
-    /// one has it. Whether the key has any. A bucket of no values costs one look.
+    /// Puts a value among those of a key, if the key has any. It replaces the value with the same number if `replace` is true, and else leaves
+    /// that one. Returns whether the key has values. An empty bucket costs one look.
     #[inline(always)]
     pub(crate) fn join_by_number(&mut self, key: K, value: V, replace: bool) -> bool
         requires sorted { IsSorted K.cmp self.old }
@@ -104,7 +104,7 @@ impl<K: Ord + Copy, V: Numbered> Bucket<K, V> {
         held
     }
 
-    /// Takes the value with a number out from among those of a key, where there is one. The only value of a bucket leaves no move.
+    /// Removes the value with a number from those of a key, if there is one. Removing the only value of a bucket moves nothing.
     pub(crate) fn take_by_number(&mut self, key: K, number: u32)
         requires sorted { IsSorted K.cmp self.old }
         requires ascending { IsAscendingBy V.numbered_by (bucket_values K.cmp self.old key) }
@@ -122,8 +122,8 @@ impl<K: Ord + Copy, V: Numbered> Bucket<K, V> {
         take_out(&mut self.values, at);
     }
 
-    // Puts a value at its place among those of a key. Where one stands there that has its number, it does so only if `replace` is true.
-    // Whether there was none.
+    // Puts a value at its place among those of a key. It replaces the value with the same number only if `replace` is true. Returns whether
+    // there was none.
     #[inline(always)]
     fn put_in_place(&mut self, place: Result<usize, usize>, key: K, value: V, replace: bool) -> bool
         requires sorted { IsSorted K.cmp self.old }
@@ -145,7 +145,7 @@ impl<K: Ord + Copy, V: Numbered> Bucket<K, V> {
         }
     }
 
-    // Whether a key has values, and where the one with a number stands among them, or where it would go.
+    // Returns whether a key has values, and the place of the one with a number among them, or the place where it would go.
     #[inline(always)]
     fn place_in(&self, key: K, number: u32) -> (bool, Result<usize, usize>)
         requires sorted { IsSorted K.cmp self.now }
