@@ -38,14 +38,14 @@ impl CascadeList {
         }
     }
 
-    /// How many there are, at most `MOST_FALLEN`.
+    /// Returns how many there are, at most `MOST_FALLEN`.
     pub fn len(&self) -> usize
         ensures { result ≡ length self.now }
     {
         self.len
     }
 
-    /// The transaction at a place, from 0, and the one that it is blamed on.
+    /// Returns the transaction at a place, from 0, and the one that it is blamed on.
     pub fn at(&self, i: usize) -> (Txn, Txn)
         requires { i < length self.now }
         ensures { slice_get self.now i ≡ Some result }

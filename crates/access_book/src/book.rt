@@ -1,4 +1,4 @@
-//! The book: what each access, commit and abort adds or takes out, and the lists that it lends.
+//! The book: what each access, commit and abort adds or removes, and the lists that it lends.
 
 ghost use Rattle.std.specs.Prelude.{◌≡◌, ◌<◌, ◌≤◌, ◌+◌, ◌∷◌, ◌&&◌, ◌||◌, ℕ, length, not, eqb, cond, OnOk};
 ghost use Rattle.teb_names.specs.declared.Cell.{Cell};
@@ -64,7 +64,7 @@ impl Model for AccessBook {
 }
 
 impl AccessBook {
-    /// The book of an empty history, with no room. Takes no memory.
+    /// Returns the book of an empty history, with no room. Takes no memory.
     pub fn new(alloc: Global) -> Self
         ensures { IsEmpty result }
     {
@@ -79,7 +79,7 @@ impl AccessBook {
         }
     }
 
-    /// Makes room for n events. The lists stay, also after an `Err`.
+    /// Makes room for n events. The lists are unchanged, also on `Err`.
     pub fn reserve(&mut self, n: usize) -> Result<(), AllocError>
         ensures same { IsKept self.old self.new }
         ensures room { OnOk result (n ≤ self.new.spare) }

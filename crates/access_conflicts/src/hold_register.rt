@@ -25,7 +25,7 @@ pub struct HoldRegister {
 }
 
 impl HoldRegister {
-    /// The register of a node for an empty history. Takes no memory.
+    /// Returns the register of a node for an empty history. Takes no memory.
     pub fn new(alloc: Global, node: Node) -> Self
         ensures node { result.node ≡ node }
         ensures stands { (S : Setup) → Registered result S [] }
@@ -37,7 +37,7 @@ impl HoldRegister {
         }
     }
 
-    /// The node.
+    /// Returns the node.
     #[inline(always)]
     pub fn node(&self) -> Node
         ensures { result ≡ self.now.node }
@@ -110,7 +110,7 @@ impl HoldRegister {
     }
 }
 
-// Whether the node is on the path of a transaction that has begun.
+// Returns whether the node is on the path of a transaction that has begun.
 #[inline(always)]
 fn is_here(here: &[bool], t: Txn) -> bool
     ensures { result ≡ is_here here.now t.0 }
@@ -119,7 +119,7 @@ fn is_here(here: &[bool], t: Txn) -> bool
     i < here.len() && here[i]
 }
 
-// Whether an event is a Put.
+// Returns whether an event is a Put.
 #[inline(always)]
 fn is_put(e: Event) -> bool
     ensures { result ≡ puts e }

@@ -31,7 +31,7 @@ use phase_api::Facts;
 use teb_names::{Node, Txn};
 use teb_rules::Verdict;
 
-/// A wait for the transaction that was found, if any.
+/// Returns a wait for the transaction that was found, or `Go`.
 pub fn wait_for(who: Option<Txn>) -> Verdict
     ensures { result ≡ wait_for_txn who }
 {

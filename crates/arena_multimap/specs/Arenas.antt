@@ -33,11 +33,11 @@ pub record IsWithin (s : Segment) (n : ℕ) : Type 0 where
 abbrev pub AreApart : Segment → Segment → Type 0
 AreApart s t = (s.start + s.room ≤ t.start) ⊎ (t.start + t.room ≤ s.start)
 
--- what a segment takes with its next move, less what the values bring that are put in until then
+-- what a segment takes with its next move, less what the values bring that are appended until then
 abbrev pub owed : Segment → ℕ
 owed s = 4 * s.len - 2 * s.room
 
--- the segments lie in n places, apart, and the debt is at least what they owe
+-- the segments are within n places, apart, and the debt is at least what they owe
 pub record Lies (ss : List Segment) (n debt : ℕ) : Type 0 where
   pub within : (i : ℕ) → IsWithin (segment_at ss i) n
   pub apart : (i j : ℕ) → i ≢ j → AreApart (segment_at ss i) (segment_at ss j)

@@ -23,7 +23,7 @@ pub(crate) struct Segment {
 }
 
 impl Segment {
-    /// The place of its first value.
+    /// Returns the place of its first value.
     #[inline(always)]
     fn start(self) -> usize
         ensures { result ≡ self.start }
@@ -93,14 +93,14 @@ impl<V: Copy> Arena<V> {
         make_wide_room(&mut self.segments, n)
     }
 
-    /// How many lists there are.
+    /// Returns how many lists there are.
     pub(crate) fn len(&self) -> usize
         ensures { result ≡ lists self.now }
     {
         self.segments.len()
     }
 
-    /// The values of a list; none of one that there is not.
+    /// Returns the values of a list; empty if there is no such list.
     pub(crate) fn list(&self, i: usize) -> &[V]
         requires { IsArena self.now }
         ensures { result.now ≡ list_at self.now i }
@@ -152,7 +152,7 @@ impl<V: Copy> Arena<V> {
         self.append(i, value);
     }
 
-    // Gives a list with no place its first ones, and its first value.
+    // Gives an empty list its segment, and its first value.
     #[inline(always)]
     fn open(&mut self, i: usize, value: V)
         requires sound { IsArena self.old }

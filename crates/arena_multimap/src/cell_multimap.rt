@@ -82,7 +82,7 @@ impl<V: Copy> CellMultimap<V> {
         Ok(())
     }
 
-    /// The values of a cell, in their order.
+    /// Returns the values of a cell, in their order.
     #[inline(always)]
     pub fn list(&self, cell: Cell) -> &[V]
         ensures { result.now ≡ values_in cell_cmp self.now cell }
@@ -101,7 +101,7 @@ impl<V: Copy> CellMultimap<V> {
         self.spare -= 1;
     }
 
-    /// Takes out the value at an index among those of a cell.
+    /// Removes the value at an index among those of a cell.
     pub fn take(&mut self, cell: Cell, i: usize)
         requires { i < length (values_in cell_cmp self.old cell) }
         ensures values { (x : Cell) → values_in cell_cmp self.new x ≡ cond (is_eq (cell_cmp cell x)) (remove (values_in cell_cmp self.old cell) i) (values_in cell_cmp self.old x) }
@@ -111,7 +111,7 @@ impl<V: Copy> CellMultimap<V> {
         self.lists.take(list, i);
     }
 
-    /// Takes out all values of a cell.
+    /// Removes all values of a cell.
     pub fn clear(&mut self, cell: Cell)
         ensures values { (x : Cell) → values_in cell_cmp self.new x ≡ cond (is_eq (cell_cmp cell x)) [] (values_in cell_cmp self.old x) }
         ensures spare { self.new.spare ≡ self.old.spare }

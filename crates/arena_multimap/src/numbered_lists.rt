@@ -71,7 +71,7 @@ impl<V: Copy> NumberedLists<V> {
         Ok(())
     }
 
-    /// How many lists there are.
+    /// Returns how many lists there are.
     pub fn len(&self) -> usize
         ensures { result ≡ length self.now.lists }
     {
@@ -88,7 +88,7 @@ impl<V: Copy> NumberedLists<V> {
         self.spare -= 1;
     }
 
-    /// The values of a list, in their order; none of one that there is not.
+    /// Returns the values of a list, in their order; empty if there is no such list.
     #[inline(always)]
     pub fn list(&self, i: usize) -> &[V]
         ensures { result.now ≡ list_in self.now.lists i }
@@ -108,7 +108,7 @@ impl<V: Copy> NumberedLists<V> {
         self.spare -= 1;
     }
 
-    /// Takes out the value at an index of a list.
+    /// Removes the value at an index of a list.
     pub fn take(&mut self, i: usize, at: usize)
         requires { at < length (list_in self.old.lists i) }
         ensures lists { self.new.lists ≡ set self.old.lists i (remove (list_in self.old.lists i) at) }
@@ -117,7 +117,7 @@ impl<V: Copy> NumberedLists<V> {
         self.lists.take(i, at);
     }
 
-    /// Takes out all values of a list, if there is one.
+    /// Removes all values of a list, if there is one.
     pub fn clear(&mut self, i: usize)
         ensures lists { self.new.lists ≡ set self.old.lists i [] }
         ensures spare { self.new.spare ≡ self.old.spare }
@@ -127,8 +127,8 @@ impl<V: Copy> NumberedLists<V> {
 }
 
 impl<V: Numbered> NumberedLists<V> {
-    /// Puts a value among those of a list, which ascend by number, instead of the one that has its number. Whether there was none; then it
-    /// takes one place of the room.
+    /// Inserts a value into a list, whose values ascend by number, or replaces the one with the same number. Returns true if it was inserted,
+    /// which takes one place of the room.
     pub fn put_by_number(&mut self, i: usize, value: V) -> bool
         requires room { 0 < self.old.spare }
         requires within { i < length self.old.lists }

@@ -14,7 +14,7 @@ no_batch = record { side = 0; start = 0; close = None; admitted = 0; settled = 0
 abbrev pub batch_at : List Batch → Member → Batch
 batch_at batches m = get_or batches m.batch no_batch
 
--- two batches start apart, and neither closed before the other started
+-- two batches start at different events, and neither closed before the other started
 abbrev pub are_overlapping : Batch → Batch → Bool
 are_overlapping a b = not (eqb a.start b.start) && not (closes_before a.close b.start) && not (closes_before b.close a.start)
 

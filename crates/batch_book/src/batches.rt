@@ -63,7 +63,7 @@ impl Batches {
         }
     }
 
-    /// Makes room for n joins. The batches stay, also after an `Err`.
+    /// Makes room for n joins. It shows the same batches as before, also on `Err`.
     pub fn reserve(&mut self, n: usize) -> Result<(), AllocError>
         ensures batches { (S : Setup) (H : List Event) (n : ℕ) → BatchesOf self.old S H n → BatchesOf self.new S H n }
         ensures size { self.new.size ≡ self.old.size }
@@ -119,7 +119,7 @@ impl Batches {
         }
     }
 
-    /// Whether t has joined: t has begun, with the node on its path.
+    /// Returns whether t has joined: t has begun, with the node on its path.
     pub fn has(&self, t: Txn) -> bool
         ensures joined { result ≡ has_joined self.now t.0 }
         ensures here { (S : Setup) (H : List Event) (n : ℕ) → BatchesOf self.now S H n → result ≡ (begun H t.0 && on S H n t.0) }
@@ -153,7 +153,7 @@ impl Batches {
         self.batch(t).close
     }
 
-    /// Whether the batch of u closed before that of t started.
+    /// Returns whether the batch of u closed before that of t started.
     pub fn is_closed_before(&self, u: Txn, t: Txn) -> bool
         requires closed { IsTrue (has_joined self.now u.0) }
         requires started { IsTrue (has_joined self.now t.0) }
@@ -165,7 +165,7 @@ impl Batches {
         }
     }
 
-    /// Whether the batches of t and u are two that overlap: they start apart, and neither closed before the other started.
+    /// Returns whether the batches of t and u overlap: they start at different events, and neither closed before the other started.
     #[inline(always)]
     pub fn overlap(&self, t: Txn, u: Txn) -> bool
         requires first { IsTrue (has_joined self.now t.0) }
@@ -175,7 +175,7 @@ impl Batches {
         overlap(self.batch(t), self.batch(u))
     }
 
-    /// A transaction that has joined, such that the batch of each member with a lesser number was closed before that of t
+    /// Returns a transaction that has joined, such that the batch of each member with a lesser number was closed before that of t
     /// started.
     pub fn horizon(&self, t: Txn) -> Txn
         requires { IsTrue (has_joined self.now t.0) }
@@ -187,7 +187,7 @@ impl Batches {
         self.joined[settled].txn
     }
 
-    // The batch of t.
+    // Returns the batch of t.
     fn batch(&self, t: Txn) -> Batch
         requires { IsTrue (has_joined self.now t.0) }
         ensures start { (S : Setup) (H : List Event) (n : ℕ) → BatchesOf self.now S H n → result.start ≡ start S H n t.0 }

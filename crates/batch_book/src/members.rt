@@ -29,7 +29,7 @@ pub(crate) struct Batch {
     pub(crate) settled: usize,
 }
 
-/// The first of the members on a side.
+/// Returns the first of the members on a side.
 pub(crate) fn first_on(members: &[Member], side: u32) -> Option<Member>
     ensures { result ≡ find (λ m. eqb m.side side) members.now }
 {
@@ -122,7 +122,7 @@ pub(crate) fn take_out(members: &mut Vec<Member>, t: Txn) -> Option<Member>
     }
 }
 
-/// Whether some member is of a batch.
+/// Returns whether some member is of a batch.
 pub(crate) fn is_any_of(members: &[Member], batch: usize) -> bool
     ensures { result ≡ list_any (λ m. eqb m.batch batch) members.now }
 {

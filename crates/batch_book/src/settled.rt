@@ -48,7 +48,7 @@ fn is_closed_before(batch: Batch, at: usize) -> bool
     }
 }
 
-/// Whether two batches start apart, and neither closed before the other started.
+/// Returns whether two batches start at different events, and neither closed before the other started.
 pub(crate) fn overlap(first: Batch, second: Batch) -> bool
     ensures { result ≡ are_overlapping first second }
 {

@@ -96,7 +96,7 @@ fn place_from(found: Option<Found>, t: Txn, _begun: u32) -> Place
     }
 }
 
-// The version of t, or else the last one that is before the one that t is about to put.
+// Returns the version of t, or else the last one that is before the one that t is about to put.
 fn own_or_before<K: Control, C: Chains>(
     controls: &[K],
     chains: &C,
@@ -115,7 +115,7 @@ fn own_or_before<K: Control, C: Chains>(
     chains.own_or_last(cell, t, &|w: Txn| is_before(controls, facts, w, t, cell))
 }
 
-// Whether the version of w is before the one that t is about to put. It costs the same, however much w has done.
+// Returns whether the version of w is before the one that t is about to put. Its cost does not depend on what w has done.
 fn is_before<K: Control>(controls: &[K], facts: &Facts, w: Txn, t: Txn, cell: Cell) -> bool
     requires asked { AreAsked K.node_number K.stands controls.now facts.now }
     requires put { MayPut facts.now t.0 cell }

@@ -42,8 +42,8 @@ pub fn read<K: Control, C: Chains>(
     }
 }
 
-// The version of t, or else the last one that it sees. The versions are asked for one by one from the last one on, so that a
-// read costs those that t does not see.
+// Returns the version of t, or else the last one that it sees. It looks at the versions from the last one down, so that a read
+// costs those that t does not see.
 fn own_or_seen<K: Control, C: Chains>(
     controls: &[K],
     chains: &C,

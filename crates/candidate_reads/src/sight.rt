@@ -51,7 +51,7 @@ pub fn amend<K: Control, C: Chains>(
         .or(candidate)
 }
 
-// Whether t meets the writer w at a node, and sees its version there.
+// Returns whether t meets the writer w at a node, and sees its version there.
 #[tactic(auto, using(crate::proofs::Shows::shows_met, crate::proofs::Shows::shows_not))]
 fn is_shown<K: Control>(node: &K, facts: &Facts, t: Txn, w: Txn, cell: Cell) -> bool
     requires stands { K.stands node.now (setup_of facts.now) (events_of facts.now) }

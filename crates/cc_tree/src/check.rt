@@ -10,7 +10,7 @@ use crate::placement::check_placement;
 use crate::shape::check_shape;
 use crate::{NodeRow, TreeError};
 
-/// The first fault: of the shape of each node, of a type without its leaves, or of the placement of each node.
+/// Returns the first fault as an error: of the shape of each node, of a type without its leaves, or of the placement of each node.
 #[tactic(auto, unfolding(teb_rules::specs::Accepted::tree_fault))]
 pub fn check(rows: &[NodeRow], types: u8) -> Result<(), TreeError>
     requires { length rows.now ≤ 64 }

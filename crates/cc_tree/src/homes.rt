@@ -45,7 +45,7 @@ fn is_homeless(rows: &[NodeRow], k: Kind) -> bool
     }
 }
 
-// The number of parts of a type, by the first row that has it.
+// Returns the number of parts of a type, by the first row that has it.
 fn parts_of(rows: &[NodeRow], k: Kind) -> Option<u8>
     ensures { result ≡ parts_of k.0 (rows_of rows.now) }
 {
@@ -67,7 +67,7 @@ fn count_homes(rows: &[NodeRow], k: Kind) -> u8
     }
 }
 
-/// For each type below `types`, the paths to its leaves in order of their parts.
+/// Returns for each type below `types`, the paths to its leaves in order of their parts.
 pub fn all_paths(alloc: Global, rows: &[NodeRow], types: u8) -> Result<Vec<Vec<Path>>, AllocError>
     requires few { length rows.now ≤ 64 }
     requires parts { All (λ r. 0 < r.of) rows.now }
@@ -80,7 +80,7 @@ pub fn all_paths(alloc: Global, rows: &[NodeRow], types: u8) -> Result<Vec<Vec<P
     Ok(paths)
 }
 
-// The paths to the leaves of one type, in order of their parts.
+// Returns the paths to the leaves of one type, in order of their parts.
 fn part_paths(alloc: Global, rows: &[NodeRow], k: Kind) -> Result<Vec<Path>, AllocError>
     requires few { length rows.now ≤ 64 }
     requires parts { All (λ r. 0 < r.of) rows.now }

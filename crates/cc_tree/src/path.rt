@@ -23,7 +23,7 @@ pub(crate) enum Follower {
 
 /// A path: nodes from the root down. Contracts see the list of the nodes.
 ///
-/// Whether a node is on it, and what follows it there, costs one look.
+/// Telling whether a node is on it, and what follows it there, costs one look.
 #[derive(Drop)]
 pub(crate) struct Path {
     nodes: Vec<Node>,
@@ -60,7 +60,7 @@ impl Path {
         &self.nodes
     }
 
-    /// Whether a node is on the path.
+    /// Returns whether a node is on the path.
     #[inline(always)]
     pub(crate) fn has(&self, n: Node) -> bool
         ensures { result ≡ among n.0 (node_numbers self.now) }
@@ -71,7 +71,7 @@ impl Path {
         }
     }
 
-    /// The node that follows n on the path.
+    /// Returns the node that follows n on the path.
     pub(crate) fn next(&self, n: Node) -> Option<Node>
         ensures { (own : ℕ) → side_number result own ≡ next_of n.0 own (node_numbers self.now) }
     {
@@ -95,7 +95,7 @@ impl Path {
         }
     }
 
-    // What follows a node.
+    // Returns what follows a node.
     #[inline(always)]
     fn follower(&self, n: Node) -> Follower
         ensures { result ≡ follower_in n.0 self.now }
@@ -120,7 +120,7 @@ fn followers_on(alloc: Global, nodes: &[Node], count: u8) -> Result<Vec<Follower
     Ok(followers)
 }
 
-// What follows a node in a list of nodes.
+// Returns what follows a node in a list of nodes.
 fn follower_on(nodes: &[Node], n: Node) -> Follower
     ensures { result ≡ follower_in n.0 nodes.now }
 {

@@ -27,7 +27,7 @@ pub fn check_placement(rows: &[NodeRow]) -> Result<(), TreeError>
     Ok(())
 }
 
-// The first rule that one node breaks.
+// Returns the first rule that one node breaks.
 fn broken_at(rows: &[NodeRow], n: Node) -> Option<Rule>
     requires { n.0 < length rows.now }
     ensures { rule_name result ≡ placement_fault (rows_of rows.now) n.0 }

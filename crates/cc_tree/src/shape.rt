@@ -13,7 +13,7 @@ use crate::way::count_above;
 use crate::{NodeRow, ShapeWhy, TreeError};
 use teb_names::{Kind, Node};
 
-/// The first node whose shape is wrong.
+/// Returns an error at the first node whose shape is wrong.
 pub fn check_shape(rows: &[NodeRow]) -> Result<(), TreeError>
     requires { length rows.now ≤ 64 }
     ensures { Finds result (first_at (shape_fault (rows_of rows.now)) (below (length rows.now))) }
@@ -26,7 +26,7 @@ pub fn check_shape(rows: &[NodeRow]) -> Result<(), TreeError>
     Ok(())
 }
 
-// The first fault of one node.
+// Returns the first fault of one node.
 #[tactic(auto, using(crate::proofs::Below::has_children_is))]
 fn shape_at(rows: &[NodeRow], n: Node) -> Option<ShapeWhy>
     requires { n.0 < length rows.now }
@@ -87,7 +87,7 @@ fn has_types(rows: &[NodeRow], n: Node) -> bool
     !rows[usize::from(n.0)].types.is_empty()
 }
 
-// Whether one of these rows is a child of n.
+// Returns whether one of these rows is a child of n.
 fn has_child(rows: &[NodeRow], n: Node) -> bool
     ensures { result ≡ list_any (λ r. is_child_of n.0 r.parent) (rows_of rows.now) }
 {
@@ -125,7 +125,7 @@ fn repeats(types: &[Kind]) -> bool
     }
 }
 
-/// Whether a type is one of a list.
+/// Returns whether a type is one of a list.
 #[tactic(auto, using(crate::proofs::Below::among_kinds))]
 pub fn holds(types: &[Kind], k: Kind) -> bool
     ensures { result ≡ among k.0 (kind_numbers types.now) }

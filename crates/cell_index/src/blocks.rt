@@ -23,7 +23,7 @@ pub(crate) struct Owner {
 }
 
 impl Owner {
-    /// Whether it is the block of a cell.
+    /// Returns whether it is the block of a cell.
     #[inline(always)]
     pub(crate) fn has(self, cell: Cell) -> bool
         ensures { result ≡ has_cell self cell }
@@ -53,7 +53,7 @@ impl Blocks {
         }
     }
 
-    /// Makes the slots, and room for a page of each. The numbers stay, also after an `Err`.
+    /// Makes the slots, and room for a page of each. The numbers are unchanged, also on `Err`.
     pub(crate) fn reserve(&mut self) -> Result<(), AllocError>
         requires { IsPaged self.old }
         ensures paged { IsPaged self.new }
@@ -82,7 +82,7 @@ impl Blocks {
         }
     }
 
-    /// The number of a cell of an owner.
+    /// Returns the number of a cell of an owner.
     #[inline(always)]
     pub(crate) fn number(&self, owner: Owner, cell: Cell) -> u32
         requires paged { IsPaged self.now }
@@ -146,7 +146,7 @@ impl Blocks {
     }
 }
 
-/// The slot of a cell's block: blocks that follow one another have different ones, and so have those of different tables with small keys.
+/// Returns the slot of a cell's block: blocks that follow one another have different ones, and so have those of different tables with small keys.
 #[inline(always)]
 fn slot_of(cell: Cell) -> usize
     ensures slot { result ≡ spec_slot_of cell }

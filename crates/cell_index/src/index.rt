@@ -1,4 +1,4 @@
-//! The index: blocks of keys with pages of numbers, and cells that lie in no such block.
+//! The index: blocks of keys with pages of numbers, and the cells of other blocks by hash.
 
 ghost use Rattle.std.specs.Prelude.{◌≡◌, ◌≢◌, None, ◌<◌, ◌≤◌, ◌+◌, [], length, OnOk, if◌then◌else◌};
 ghost use Rattle.std.specs.List.{IsDistinct};
@@ -80,7 +80,7 @@ impl CellIndex {
         Ok(())
     }
 
-    /// How many cells there are.
+    /// Returns how many cells there are.
     #[inline(always)]
     pub fn len(&self) -> usize
         ensures len { result ≡ length self.now.cells }

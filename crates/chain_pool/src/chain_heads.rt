@@ -75,7 +75,7 @@ impl ChainHeads {
         make_wide_room(&mut self.chains, n)
     }
 
-    /// The chain of a cell.
+    /// Returns the chain of a cell.
     #[inline(always)]
     pub(crate) fn chain_at(&self, cell: Cell) -> Chain
         ensures head { result.head ≡ chain_head self.now.entries cell }
@@ -89,7 +89,7 @@ impl ChainHeads {
         }
     }
 
-    /// Adds a place to a cell's chain, as the i-th. Gives the head that the chain had.
+    /// Adds a place to a cell's chain, as the i-th. Returns the head that the chain had.
     #[inline(always)]
     pub(crate) fn lengthen(&mut self, cell: Cell, place: u32, i: usize) -> Head
         requires room { 0 < self.old.spare }

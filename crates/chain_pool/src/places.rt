@@ -24,7 +24,7 @@ pub(crate) enum Content {
 }
 
 impl Content {
-    /// What a place holds that has a version with the value.
+    /// Returns the content of a place with a version of this value.
     #[inline(always)]
     fn of(value: Option<i64>) -> Self
         ensures { (cell : Cell) (writer : Txn) → version_of cell writer result ≡ Some (record { cell = cell; writer = writer; value = value }) }
@@ -103,7 +103,7 @@ pub(crate) const NO_CHAIN: Chain = Chain {
     last: 0,
 };
 
-/// The place of a number.
+/// Returns the place of a number.
 #[inline(always)]
 pub(crate) fn at(places: &[Place], place: u32) -> &Place
     requires { place < length places.now }
@@ -158,7 +158,7 @@ pub(crate) fn unlink(places: &mut [Place], place: u32, sibling: u32, before: u32
     places[after as usize].previous = before;
 }
 
-/// Gives the version at a place that is not free another value.
+/// Replaces the value of the version at a place that is not free.
 pub(crate) fn rewrite(places: &mut [Place], place: u32, value: Option<i64>)
     requires within { place < length places.old }
     requires used { IsSome (slot_at places.old place).version }

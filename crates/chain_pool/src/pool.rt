@@ -24,7 +24,7 @@ use version_chain::Found;
 /// A chain up to this length costs less to walk than its writer's list to look up.
 const SHORT: u32 = 8;
 
-/// Puts a version into the first free place, and that into its cell's chain and its writer's list. Gives the free places that
+/// Puts a version into the first free place, and that into its cell's chain and its writer's list. Returns the free places that
 /// are left.
 fn put(
     places: &mut [Place],
@@ -61,7 +61,7 @@ fn put(
     }
 }
 
-/// The place of a version that was found.
+/// Returns the place of a version that was found.
 fn place_of(found: Option<Found>) -> Option<usize>
     ensures { result ≡ option_map (λ v. v.at) found }
 {
@@ -129,7 +129,7 @@ impl Pool {
         self.version_in(chain, i)
     }
 
-    /// The i-th version of a chain.
+    /// Returns the i-th version of a chain.
     fn version_in(&self, chain: Chain, i: usize) -> (Txn, Option<i64>)
         requires sound { IsSound self.now }
         requires chain { (x : Cell) × (chain.head ≡ chain_head self.now.cells.entries x) × (chain.last ≡ last_of self.now.cells.entries x) }
@@ -173,7 +173,7 @@ impl Pool {
         place_of(self.last_in(chain, from, f))
     }
 
-    /// Whether a writer's list that is shorter than the chain of a cell shows that the writer has no version of the cell.
+    /// Returns whether a writer's list that is shorter than the chain of a cell shows that the writer has no version of the cell.
     fn lacks(&self, cell: Cell, chain: Head, t: Txn) -> bool
         requires { IsSound self.now }
         ensures { OnTrue result (first_place (λ w. eqb w t.0) (writers_of (chain_of self.now cell)) ≡ None) }
@@ -182,7 +182,7 @@ impl Pool {
         own.len < chain.len && !walks::has_cell(&self.places, own, cell)
     }
 
-    /// The place of a writer's version in the chain of a cell.
+    /// Returns the place of a writer's version in the chain of a cell.
     pub(crate) fn find(&self, cell: Cell, t: Txn) -> Option<usize>
         requires sound { IsSound self.now }
         ensures { result ≡ first_place (λ w. eqb w t.0) (writers_of (chain_of self.now cell)) }
@@ -206,7 +206,7 @@ impl Pool {
         self.last_in(chain, 0, &|w: Txn| w.0 == t.0)
     }
 
-    /// The version of a writer in a chain, which is that of the cell. One that is new to the cell has none.
+    /// Returns the version of a writer in a chain, which is that of the cell. One that is new to the cell has none.
     #[inline(always)]
     fn own_in(&self, cell: Cell, chain: Chain, t: Txn, is_new: bool) -> Option<Found>
         requires sound { IsSound self.now }
@@ -222,7 +222,7 @@ impl Pool {
         self.find_in(cell, chain, t)
     }
 
-    /// The version of a writer, or else the last one whose writer f accepts. A writer that is new to the cell has none of it.
+    /// Returns the version of a writer, or else the last one whose writer f accepts. A writer that is new to the cell has none of it.
     #[inline(always)]
     pub(crate) fn own_or_last<F: Fn(Txn) -> bool>(
         &self,
@@ -290,7 +290,7 @@ impl Pool {
         );
     }
 
-    /// Gives the version at a place of a cell's chain another value.
+    /// Replaces the value of the version at a place of a cell's chain.
     pub(crate) fn overwrite(&mut self, cell: Cell, i: usize, value: Option<i64>)
         requires sound { IsSound self.old }
         requires within { i < length (chain_of self.old cell) }
@@ -353,7 +353,7 @@ impl Pool {
         }
     }
 
-    /// Takes out each version of a writer, and the writer's entry.
+    /// Removes each version of a writer, and the writer's entry.
     pub(crate) fn remove_all_of(&mut self, t: Txn)
         requires sound { IsSound self.old }
         ensures sound { IsSound self.new }

@@ -36,7 +36,7 @@ pub fn may_commit<K: Control>(controls: &[K], book: &Book, facts: &Facts, t: Txn
     }
 }
 
-// The stop along the nodes of a way down, of a transaction that read from the sources.
+// Returns the stop along the nodes of a way down, of a transaction that read from the sources.
 fn stop_along<K: Control>(
     way: &[Node],
     controls: &[K],
@@ -58,7 +58,7 @@ fn stop_along<K: Control>(
     Stop::Go
 }
 
-// What one node of t's path says.
+// Returns the verdict of one node of t's path.
 fn verdict_at<K: Control>(
     controls: &[K],
     sources: &[Txn],
@@ -81,7 +81,7 @@ fn verdict_at<K: Control>(
     }
 }
 
-// The control of a node.
+// Returns the control of a node.
 fn control_at<'a, K: Control>(controls: &'a [K], facts: &Facts, n: Node) -> &'a K
     requires controls { StandAll K.node_number K.stands controls.now (setup_of facts.now) (events_of facts.now) }
     requires node { n.0 < length facts.now.tree.now.rows }

@@ -16,7 +16,7 @@ use teb_names::{Cell, Txn};
 /// For how many events room is made at the least, so that not every `reserve` goes through all registers.
 const AHEAD: usize = 256;
 
-/// The readers and writers of each cell, from whom each transaction read, and the unfinished transactions. An abort takes out what its
+/// The readers and writers of each cell, from whom each transaction read, and the unfinished transactions. An abort removes what its
 /// transaction read and put.
 #[derive(Drop)]
 pub struct Book {
@@ -36,7 +36,7 @@ impl Model for Book {
 }
 
 impl Book {
-    /// The book of the empty history, with no room.
+    /// Returns the book of the empty history, with no room.
     pub fn new(alloc: Global) -> Self
         ensures { BookOf result.lists [] }
     {
@@ -102,7 +102,7 @@ impl Book {
         source_lists::sources_of(&self.registers.sources, t)
     }
 
-    /// The unfinished transactions, in ascending number.
+    /// Returns the unfinished transactions, in ascending number.
     pub fn unfinished(&self) -> &[Txn]
         ensures { result.now ≡ self.now.lists.unfinished }
     {

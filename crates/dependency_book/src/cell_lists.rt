@@ -38,7 +38,7 @@ impl Model for CellLists {
 }
 
 impl CellLists {
-    /// The lists of an empty history, with no room. Takes no memory.
+    /// Returns the lists of an empty history, with no room. Takes no memory.
     pub(crate) fn new(alloc: Global) -> Self
         ensures readers { (x : Cell) → readers_of result x ≡ [] }
         ensures writers { (x : Cell) → writers_of result x ≡ [] }
@@ -50,7 +50,7 @@ impl CellLists {
         }
     }
 
-    /// Makes room for n accesses. The lists stay, also after an `Err`.
+    /// Makes room for n accesses. The lists are unchanged, also on `Err`.
     pub(crate) fn reserve(&mut self, n: usize) -> Result<(), AllocError>
         ensures cells { self.new.cells ≡ self.old.cells }
         ensures readers { self.new.readers ≡ self.old.readers }
@@ -101,7 +101,7 @@ impl CellLists {
         self.writers.list(self.cells.place(cell))
     }
 
-    /// Takes out a pair of t for each of its reads of a cell, and t from the writers of each cell that it put, the newest first. The room
+    /// Removes a pair of t for each of its reads of a cell, and t from the writers of each cell that it put, the newest first. The room
     /// stays.
     pub(crate) fn forget_accesses(&mut self, history: &History, t: Txn)
         ensures readers { (x : Cell) → readers_of self.new x ≡ without_lasts (count_by (reads x) (own_events history.now.events t.0)) (λ r. eqb r.0.0 t.0) (readers_of self.old x) }
@@ -170,14 +170,14 @@ fn place_for(
     place
 }
 
-// The last pair of t.
+// Returns the last pair of t.
 fn read_place(pairs: &[(Txn, Txn)], t: Txn) -> Option<usize>
     ensures { IsLastPlace (λ r. eqb r.0.0 t.0) pairs.now result }
 {
     pairs.iter().rposition(|pair| pair.0 == t)
 }
 
-// The last place of t.
+// Returns the last place of t.
 fn put_place(txns: &[Txn], t: Txn) -> Option<usize>
     ensures { IsLastPlace (λ u. eqb u.0 t.0) txns.now result }
 {

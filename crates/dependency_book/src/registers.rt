@@ -1,4 +1,4 @@
-//! The lists of a book, and what an event of each kind adds to them or takes out.
+//! The lists of a book, and what an event of each kind adds or removes.
 
 ghost use Rattle.std.specs.Prelude.{◌≡◌, ◌+◌, ℕ, List, ◌∷◌, [], Option, ℤ, OnOk};
 ghost use Rattle.teb_names.specs.declared.Cause.{Cause};

@@ -34,7 +34,7 @@ pub fn decide_read<K: Control, C: Chains>(asking: &Asking<'_, K, C>, cell: Cell)
     }
 }
 
-/// A read that does not stop.
+/// Decides a read that does not stop.
 fn got<K: Control, C: Chains>(asking: &Asking<'_, K, C>, cell: Cell) -> Decision
     requires { ViewIsWhole K.node_number K.stands C.lists asking.now.view.now }
     ensures answer { carried (store_in asking.now.view.now) (events_in asking.now.view.now) result ≡ got_value (events_in asking.now.view.now) asking.now.txn.0 cell (read (store_in asking.now.view.now).setup (store_in asking.now.view.now).rows (events_in asking.now.view.now) asking.now.txn.0 cell) }
@@ -68,7 +68,7 @@ pub fn decide_write<K: Control, C: Chains>(
     }
 }
 
-/// A Put that is not refused.
+/// Decides a Put that is not refused.
 pub fn put<K: Control, C: Chains>(
     asking: &Asking<'_, K, C>,
     cell: Cell,

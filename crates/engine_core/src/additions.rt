@@ -36,7 +36,7 @@ pub fn decide_add<K: Control, C: Chains>(
     }
 }
 
-/// What an addition starts from: the value of the transaction's own last Put, or else what it last read; no row counts as 0.
+/// Returns the value that an addition starts from: the value of the transaction's own last Put, or else what it last read; no row counts as 0.
 fn add_base<K: Control, C: Chains>(asking: &Asking<'_, K, C>, cell: Cell) -> Option<i64>
     ensures { result ≡ add_base (last_put (events_in asking.now.view.now) asking.now.txn.0 cell) (last_got (events_in asking.now.view.now) asking.now.txn.0 cell) }
 {

@@ -43,7 +43,7 @@ pub fn scan<K: Control, C: Chains>(
     Reply::Values(read_cells(state, t, first, count))
 }
 
-/// Writes the events of a decision that is no scan, and gives the reply: a short one, which is moved at little cost.
+/// Writes the events of a decision that is no scan, and returns the reply as a short one, which is moved at little cost.
 pub fn write<K: Control, C: Chains>(decision: Decision, state: &mut EngineState<K, C>) -> ShortReply
     requires short { IsShort decision }
     requires whole { StateIsWhole K.node_number K.stands C.lists state.old }

@@ -32,7 +32,7 @@ pub enum Decision {
     Fall(Txn, Cause),
 }
 
-/// A refusal.
+/// Returns a refusal.
 pub fn refused(why: Refusal) -> Decision
     ensures { result ≡ Decision.Answer (ShortReply.Refused why) }
 {
@@ -54,7 +54,7 @@ pub fn stopped(t: Txn, stop: Stop) -> Decision
     }
 }
 
-/// The cause that a break at a node gives.
+/// Returns the cause that a break at a node gives.
 fn cause_at(node: Node, broken: Broken) -> Cause
     ensures { result ≡ cause_at node broken }
 {

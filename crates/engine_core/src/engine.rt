@@ -61,7 +61,7 @@ impl<C: Chains> Model for Engine<C> {
 }
 
 impl<C: Chains> Engine<C> {
-    /// The engine of a store that is set up so, over chains with no version. Nothing has happened yet.
+    /// Returns the engine of a store with this setup, over chains with no version. Nothing has happened yet.
     pub fn new(alloc: Global, setup: Setup, chains: C) -> Result<Self, AllocError>
         requires setup { IsWhole (setup_view setup) }
         requires chains { (x : Cell) → C.lists chains x ≡ [] }
@@ -77,7 +77,10 @@ impl<C: Chains> Engine<C> {
         })
     }
 
-    /// Makes room for the events of one answer. An `Err` leaves all as it was.
+    /// Makes room for the events of one answer.
+    ///
+    /// # Errors
+    /// Out of memory. Everything is unchanged.
     #[inline(always)]
     pub fn ready(&mut self) -> Result<(), AllocError>
         ensures store { self.new.store ≡ self.old.store }
@@ -146,7 +149,7 @@ impl<C: Chains> Engine<C> {
         }
     }
 
-    /// What has happened so far: a history of the store to which requests lead, each event of which the rules granted.
+    /// Returns the history so far. Some list of requests leads to it, and the rules granted each of its events.
     pub fn history(&self) -> &History
         ensures events { result.now.events ≡ self.now.events }
         ensures sound { IsSound self.now.store.setup }
@@ -156,7 +159,7 @@ impl<C: Chains> Engine<C> {
         &self.state.history
     }
 
-    /// What the store is set up with.
+    /// Returns what the store is set up with.
     pub fn setup(&self) -> &Setup
         ensures store { store_of result.now ≡ self.now.store }
         ensures names { result.now.names ≡ self.now.names }
@@ -165,14 +168,14 @@ impl<C: Chains> Engine<C> {
         &self.state.setup
     }
 
-    /// The versions of the cells.
+    /// Returns the versions of the cells.
     pub fn chains(&self) -> &C
         ensures { HoldsVersions self.now.store.setup self.now.events (C.lists result.now) }
     {
         &self.state.chains
     }
 
-    /// The controls of the nodes, in ascending number.
+    /// Returns the controls of the nodes, in ascending number.
     pub fn controls(&self) -> &[AnyControl]
         ensures { StandAll any_node_number any_stands result.now self.now.store.setup self.now.events }
     {
@@ -186,7 +189,7 @@ impl<C: Chains> Engine<C> {
         &self.state.book
     }
 
-    /// The history alone.
+    /// Returns the history, and drops the rest.
     pub fn into_history(self) -> History
         ensures { result.events ≡ self.events }
     {
@@ -198,7 +201,7 @@ impl<C: Chains> Engine<C> {
     }
 }
 
-/// What an engine keeps of an empty history.
+/// Returns what an engine keeps of an empty history.
 fn new_state<C: Chains>(
     alloc: Global,
     setup: Setup,

@@ -38,7 +38,7 @@ pub struct EngineState<K: Control, C: Chains> {
 impl<K: Control, C: Chains> EngineState<K, C> {
     ghost use Rattle.engine_core.specs.Wholes.{store_in, StateIsWhole};
 
-    /// All of it, lent to be read.
+    /// Lends all of it, to be read.
     pub fn view(&self) -> EngineView<'_, K, C>
         ensures store { store_in result ≡ store_of self.now.setup }
         ensures history { result.facts.history.now ≡ self.now.history }
@@ -50,7 +50,7 @@ impl<K: Control, C: Chains> EngineState<K, C> {
         }
     }
 
-    /// What a request of a session is answered.
+    /// Decides a request of a session.
     pub fn decide(&self, session: Session, request: Request) -> Decision
         requires whole { StateIsWhole K.node_number K.stands C.lists self.now }
         requires settled { Settled self.now.history.events }
@@ -72,7 +72,7 @@ impl<K: Control, C: Chains> EngineState<K, C> {
     }
 }
 
-/// What controls are told.
+/// Returns the facts that controls are told.
 pub fn facts_of<'a>(history: &'a History, setup: &'a Setup) -> Facts<'a>
     ensures setup { setup_of result ≡ (store_of setup.now).setup }
     ensures history { result.history.now ≡ history.now }

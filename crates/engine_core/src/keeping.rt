@@ -19,8 +19,8 @@ use teb_history::Event;
 use teb_names::{Cell, Txn};
 use version_chain::Chains;
 
-/// The versions after an event: a Put gives its transaction's version the value, at the place, and an abort takes
-/// away all versions of its transaction.
+/// Notes the newest event in the versions: a Put gives its transaction's version the value, at the place, and an abort removes all
+/// versions of its transaction.
 #[inline(always)]
 pub fn keep_versions<C: Chains>(chains: &mut C, event: Event, place: Place)
     requires room { 0 < C.spare chains.old }

@@ -31,7 +31,7 @@ pub fn asked_place<K: Control, C: Chains>(asking: &Asking<'_, K, C>, cell: Cell)
     }
 }
 
-/// The number of a place that was asked for.
+/// Returns the number of a place that was asked for.
 pub fn at_of(asked: Option<Place>) -> Option<usize>
     ensures { result ≡ at_of asked }
 {
@@ -57,7 +57,7 @@ pub fn granted_place<K: Control, C: Chains>(
     }
 }
 
-/// Whether a timestamp node is among some nodes.
+/// Returns whether a timestamp node is among some nodes.
 fn has_timestamp(tree: &Tree, nodes: &[Node]) -> bool
     requires { All (λ n. n.0 < length tree.now.rows) nodes.now }
     ensures { result ≡ list_any (λ n. is_timestamp (row tree.now.rows n).control) (node_numbers nodes.now) }

@@ -40,7 +40,7 @@ pub fn decide_scan<K: Control, C: Chains>(
     }
 }
 
-/// Whether there are 1 to 16 cells, the last of which has a key.
+/// Returns whether there are 1 to 16 cells, the last of which has a key.
 fn is_scan(first: Cell, count: u8) -> bool
     ensures { result ≡ is_scan first count }
 {

@@ -104,7 +104,7 @@ pub fn begin_stop<K: Control, C: Chains>(view: &EngineView<K, C>, spot: Spot) ->
     Stop::Go
 }
 
-/// The stop that a node's verdict makes.
+/// Returns the stop that follows from a node's verdict.
 fn stop_at(node: Node, verdict: Verdict) -> Stop
     ensures { result ≡ stop_with node.0 verdict Stop.Go }
 {

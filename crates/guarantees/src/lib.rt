@@ -37,8 +37,8 @@ ghost use Rattle.guarantees.specs.Reading.{ReadsGoOn, ReadsAreServed};
 ghost use Rattle.guarantees.specs.Cascades.{AbortsAlone, HasNoCascade};
 ghost use Rattle.guarantees.specs.Causes.{NamesCauses};
 
-/// Strict serializability: if the root is a locks or a pipeline node, or a leaf, or admits one transaction a batch, a transaction that committed before another began
-/// precedes it in the serial order.
+/// Strict serializability: if the root is a locks or a pipeline node, or a leaf, or admits one transaction a batch, a transaction that
+/// committed before another began precedes it in the serial order.
 pub fn serial_order_keeps_time()
     ensures { OfEveryRun IsStrict }
 {}
@@ -68,7 +68,8 @@ pub fn aborts_name_their_cause()
     ensures { OfEveryStore NamesCauses }
 {}
 
-/// Under a timestamp or a snapshot root with batches of two, a transaction that begins after another committed may precede it; so the serial order is not that of the commits.
+/// Under a timestamp or a snapshot root with batches of two, a transaction that begins after another committed may precede it; so the
+/// serial order is not that of the commits.
 pub fn greater_batches_lose_time()
     ensures timestamps { Breaks (λ X H. KeepsRealTime X.setup H) (two_sides Timestamp) late_joiner }
     ensures snapshots { Breaks (λ X H. KeepsRealTime X.setup H) (two_sides Snapshot) late_joiner }

@@ -15,13 +15,13 @@ use Rattle.hold_book.specs.Slots.{only_hold, only_or}
 abbrev pub hold_number : Hold → ℕ
 hold_number h = h.txn.0
 
--- what contracts see of a book: the cells that lie in their slots, the holds on the others, and for how many accesses it has room
+-- what contracts see of a book: the cells that are in their slots, the holds on the others, and for how many accesses it has room
 pub record Held : Type 0 where
   pub slots : List (Option Alone)
   pub others : Shown Cell Hold
   pub spare : ℕ
 
--- the holds on x, by what lies in the slots and by the others
+-- the holds on x, by the slots and by the others
 abbrev pub shown_in : List (Option Alone) → Shown Cell Hold → Cell → List Hold
 shown_in ss o x = only_or (only_hold ss x) (values_in cell_cmp o x)
 

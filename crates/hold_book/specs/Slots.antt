@@ -9,11 +9,11 @@ use Rattle.hold_book.specs.declared.slots.Alone.{Alone}
 unfoldable pub slot_of : Cell → ℕ
 slot_of x = (x.key + x.table.0 * 89) % 1024
 
--- what lies in it
+-- what is in it
 abbrev pub slot_at : List (Option Alone) → Cell → Option Alone
 slot_at ss x = get_or ss (slot_of x) None
 
--- no cell but x lies there
+-- no cell but x is there
 abbrev pub is_open : Cell → Option Alone → Bool
 is_open x None = true
 is_open x (Some a) = same_cell a.cell x

@@ -57,7 +57,7 @@ impl HoldBook {
         }
     }
 
-    /// Makes room for n accesses. It shows what it showed, also after an `Err`.
+    /// Makes room for n accesses. The holds are unchanged, also on `Err`.
     #[inline(always)]
     pub fn reserve(&mut self, n: usize) -> Result<(), AllocError>
         ensures shown { (x : Cell) → shown self.new x ≡ shown self.old x }
@@ -87,8 +87,7 @@ impl HoldBook {
         self.spare -= 1;
     }
 
-    /// A transaction no longer holds any of the cells that it has accessed. The room stays. It costs what each of its accesses
-    /// costs.
+    /// Releases every cell that a transaction has accessed. The room stays. It costs what each of its accesses costs.
     pub fn release_all(&mut self, history: &History, t: Txn)
         ensures shown { (x : Cell) → shown self.new x ≡ cond (wrote history.now.events t.0 x || got history.now.events t.0 x) (released t.0 (shown self.old x)) (shown self.old x) }
         ensures spare { self.new.spare ≡ self.old.spare }
@@ -100,7 +99,7 @@ impl HoldBook {
         }
     }
 
-    /// The holds on a cell, in ascending number of their transactions.
+    /// Returns the holds on a cell, in ascending number of their transactions.
     #[inline(always)]
     pub fn holds(&self, cell: Cell) -> &[Hold]
         ensures { result.now ≡ shown self.now cell }

@@ -1,4 +1,4 @@
-//! What an access enters, and what a release takes out.
+//! What an access enters, and what a release removes.
 
 ghost use Rattle.std.specs.Prelude.{◌≡◌, ◌≤◌, ◌+◌, cond, length, Some};
 ghost use Rattle.teb_names.specs.declared.Cell.{Cell};
@@ -35,7 +35,7 @@ pub(crate) fn access_in(
     access_taken(slots, others, cell, t, wrote);
 }
 
-/// The same for a cell of which no hold is filed, and which lies in its slot or whose slot another cell has.
+/// Does the same for a cell of which no hold is filed, and which is in its slot or whose slot another cell has.
 #[inline(never)]
 fn access_taken(
     slots: &mut [Option<Alone>],
@@ -65,7 +65,7 @@ fn access_taken(
     }
 }
 
-/// A transaction has accessed a cell that lies in its slot, with the hold of another.
+/// Notes an access of a cell that is in its slot, with the hold of another transaction.
 #[inline(never)]
 fn share(
     slots: &mut [Option<Alone>],

@@ -20,7 +20,7 @@ pub(crate) struct Alone {
     hold: Hold,
 }
 
-/// The number of the slot that a cell may have.
+/// Returns the number of the slot that a cell may have.
 #[inline(always)]
 fn slot_of(cell: Cell) -> usize
     ensures at { result ≡ spec_slot_of cell }

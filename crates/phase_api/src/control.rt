@@ -23,8 +23,8 @@ use teb_names::{Cell, Node, Spot, Txn};
 use teb_rules::Verdict;
 use version_chain::Chains;
 
-/// The control of one node. It regulates transactions that meet there, and says nothing of others. Contracts see for which
-/// setup and history it stands, its node's number, and for how many events it has room.
+/// The control of one node. It regulates transactions that meet there, and says nothing of others. Contracts see which setup and
+/// history it stands for, its node's number, and for how many events it has room.
 pub trait Control: Drop {
     ghost stands: { Self → Setup → List Event → Type 0 };
 
@@ -32,7 +32,7 @@ pub trait Control: Drop {
 
     ghost spare: { Self → ℕ };
 
-    /// The node.
+    /// Returns the node.
     fn node(&self) -> Node
         ensures { result.0 ≡ node_number self.now };
 
@@ -45,7 +45,7 @@ pub trait Control: Drop {
         ensures stands { (S : Setup) (H : List Event) → stands self.old S H → stands self.new S H }
         ensures room { OnOk result (n ≤ spare self.new) };
 
-    /// Notes the newest event of the history: a control that stood for the history before it then stands for the history with it.
+    /// Notes the newest event of the history. A control that stood for the history before it then stands for the history with it.
     fn note(&mut self, facts: &Facts, e: Event)
         requires newest { IsNewest facts.now e (node_number self.old) }
         requires stands { stands self.old (setup_of facts.now) (drop 1 (events_of facts.now)) }
@@ -61,7 +61,7 @@ pub trait Control: Drop {
         requires on { IsTrue (on_path (setup_of facts.now).tree (node_number self.now) s) }
         ensures { result ≡ on_begin (setup_of facts.now) (events_of facts.now) s (node_number self.now) };
 
-    /// What a read of a cell meets.
+    /// Returns the answer to a read of a cell.
     fn before_read(&self, facts: &Facts, t: Txn, cell: Cell) -> Verdict
         requires stands { stands self.now (setup_of facts.now) (events_of facts.now) }
         requires access { IsAccess facts.now (node_number self.now) t.0 cell }
@@ -85,14 +85,14 @@ pub trait Control: Drop {
         requires at { IsToldPlace (setup_of facts.now) (events_of facts.now) (node_number self.now) cell t.0 at (writers_of (C.lists chains.now cell)) }
         ensures { result ≡ on_access (row (setup_of facts.now).tree (node_number self.now)).control (setup_of facts.now) (events_of facts.now) (node_number self.now) t.0 cell true };
 
-    /// Whether a reader sees a writer's version of a cell, for two that meet here.
+    /// Returns whether a reader sees a writer's version of a cell, for two that meet here.
     fn sees(&self, facts: &Facts, reader: Txn, writer: Txn, cell: Cell) -> bool
         requires stands { stands self.now (setup_of facts.now) (events_of facts.now) }
         requires pair { IsPair facts.now (node_number self.now) reader.0 writer.0 }
         requires writes { Writes (events_of facts.now) writer.0 cell }
         ensures { result ≡ sees_by (row (setup_of facts.now).tree (node_number self.now)).control (setup_of facts.now) (events_of facts.now) (node_number self.now) cell reader.0 writer.0 };
 
-    /// Whether u's version of a cell is before w's, for two that meet here.
+    /// Returns whether u's version of a cell is before w's, for two that meet here.
     fn orders(&self, facts: &Facts, u: Txn, w: Txn, cell: Cell) -> bool
         requires stands { stands self.now (setup_of facts.now) (events_of facts.now) }
         requires pair { IsPair facts.now (node_number self.now) u.0 w.0 }
@@ -100,7 +100,7 @@ pub trait Control: Drop {
         requires right { Writes (events_of facts.now) w.0 cell }
         ensures { result ≡ orders (setup_of facts.now) (events_of facts.now) (node_number self.now) cell u.0 w.0 };
 
-    /// What the validation of a transaction says. Each event of the history was granted by the rules.
+    /// Returns the verdict of the validation of a transaction. Each event of the history was granted by the rules.
     fn validate(&self, facts: &Facts, t: Txn) -> Verdict
         requires stands { stands self.now (setup_of facts.now) (events_of facts.now) }
         requires tree { IsSound (setup_of facts.now) }

@@ -37,7 +37,7 @@ pub struct Pipeline {
 }
 
 impl Pipeline {
-    /// The control of a pipeline node for an empty history.
+    /// Returns the control of a pipeline node for an empty history.
     pub fn new(alloc: Global, node: Node, facts: &Facts) -> Result<Self, AllocError>
         requires kind { (row (setup_of facts.now).tree node.0).control ≡ IsPipeline }
         requires empty { events_of facts.now ≡ [] }
@@ -88,7 +88,7 @@ impl Pipeline {
         0 < rank && self.current_rank(facts, t) < rank
     }
 
-    // Whether a transaction has passed a rank.
+    // Returns whether a transaction has passed a rank.
     fn has_passed(&self, facts: &Facts, u: Txn, rank: u8) -> bool
         requires stands { PipelineStands self.now (setup_of facts.now) (events_of facts.now) }
         requires typed { IsTyped facts.now u.0 }
@@ -123,7 +123,7 @@ impl Pipeline {
         }
     }
 
-    // The least-numbered transaction that holds up t: it is ahead of t, and has not passed the rank that is given.
+    // Returns the least-numbered transaction that holds up t: it is ahead of t, and has not passed the rank that is given.
     #[inline(always)]
     fn first_ahead(&self, facts: &Facts, t: Txn, rank: Option<u8>) -> Option<Txn>
         requires stands { PipelineStands self.now (setup_of facts.now) (events_of facts.now) }
@@ -138,7 +138,7 @@ impl Pipeline {
         None
     }
 
-    // The least-numbered transaction that is in the way of an access and has not passed the cell's rank.
+    // Returns the least-numbered transaction that is in the way of an access and has not passed the cell's rank.
     #[inline(always)]
     fn first_holder(&self, facts: &Facts, t: Txn, cell: Cell, write: bool) -> Option<Txn>
         requires stands { PipelineStands self.now (setup_of facts.now) (events_of facts.now) }

@@ -85,7 +85,7 @@ impl Predecessors {
         Ok(())
     }
 
-    /// The list of a transaction, in ascending number.
+    /// Returns the list of a transaction, in ascending number.
     #[inline(always)]
     pub fn list(&self, t: Txn) -> &[Txn]
         ensures { result.now ≡ list_of self.now t }
@@ -173,7 +173,7 @@ fn is_alone(holds: &[Hold], t: Txn) -> bool
     }
 }
 
-// Puts the holders that are in the way of an access into the list of the transaction that accesses. Whether there are any.
+// Puts the holders that are in the way of an access into the list of the transaction that accesses. Returns whether there are any.
 fn put_holders(
     lists: &mut Multimap<Txn, Txn>,
     facts: &Facts,

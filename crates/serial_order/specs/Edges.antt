@@ -28,6 +28,6 @@ pub record IsMarked (S : Setup) (H : List Event) (n t : ℕ) (marks : List Bool)
   pub within : start S H n t < length marks
   pub says : slice_index_or marks (start S H n t) false ≡ has_edge_out S H n t
 
--- so it is for all transactions at each snapshot node
+-- this holds of all transactions at each snapshot node
 abbrev pub MarkEdges : Setup → List Event → List Bool → Type 0
 MarkEdges S H marks = (n t : ℕ) → (row S.tree n).control ≡ Snapshot → IsTrue (begun H t) → IsTrue (on S H n t) → IsMarked S H n t marks

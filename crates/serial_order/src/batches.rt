@@ -12,7 +12,7 @@ use engine_core::AnyControl;
 use teb_names::{Node, Txn};
 
 impl<'a> Booked<'a> {
-    // The batches of a node that has them, which its control keeps.
+    // Returns the batches of a node that has them, which its control keeps.
     fn batches(&self, n: Node) -> &Batches
         requires controls { ControlsStand self.now }
         requires node { IsNode self.now n.0 }

@@ -1,4 +1,4 @@
-//! What holds of every engine at every moment, of its versions and of the order that `order` gives: the laws of the rules.
+//! Laws of every engine at every moment, of its versions and of the order that `order` returns.
 
 ghost use Rattle.teb_laws.specs.Laws.{OrdersVersions, RanksAgree};
 ghost use Rattle.teb_rules.specs.Serializes.{Serializes};

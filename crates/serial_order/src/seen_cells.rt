@@ -58,7 +58,7 @@ impl SeenCells {
         usize::from(cell.table.0) * self.width as usize + cell.key as usize
     }
 
-    // The cell whose mark is at a place.
+    // Returns the cell whose mark is at a place.
     fn cell_at(&self, place: usize) -> Cell
         requires sound { IsSound self.now }
         requires within { place < length self.now.marks.items }
@@ -71,7 +71,7 @@ impl SeenCells {
         }
     }
 
-    // The cells that are marked, in ascending order.
+    // Returns the cells that are marked, in ascending order.
     fn marked(&self, alloc: Global) -> Result<Vec<Cell>, AllocError>
         requires { IsSound self.now }
         ensures { IfOk result (λ v. v.items ≡ marked_cells self.now.width self.now.marks.items 0 self.now.end) }
@@ -85,8 +85,8 @@ impl SeenCells {
         Ok(cells)
     }
 
-    /// The cells that were added, each once, in ascending order. Beside the places up to the last mark that is set, it costs a
-    /// sort of those that have no mark.
+    /// Returns the cells that were added, each once, in ascending order. It goes through the places up to the last mark that is set, and
+    /// sorts those that have no mark.
     pub(crate) fn ascending(mut self, alloc: Global) -> Result<Vec<Cell>, AllocError>
         requires { IsSound self }
         ensures { IfOk result (λ v. AreSeen self v.items) }

@@ -14,7 +14,7 @@ ghost use Rattle.short_reply.specs.ShortReplies.{full_reply, HasValues};
 
 use teb_names::{Cause, Node, Refusal, Reply, Txn};
 
-/// A reply without the values of a scan. A `Reply` has room for sixteen values, and so is long; this is moved at little cost.
+/// A reply without the values of a scan. A `Reply` has room for sixteen values; this one has not, so moving it costs little.
 #[derive(Clone, Copy, Debug, PartialEq, Eq)]
 pub enum ShortReply {
     /// The transaction that began.
@@ -34,7 +34,7 @@ pub enum ShortReply {
 }
 
 impl ShortReply {
-    /// The reply as the session gets it.
+    /// Returns the reply as the session gets it.
     pub fn full(self) -> Reply
         ensures { result ≡ full_reply self }
     {

@@ -30,7 +30,7 @@ impl<'a> Asked<'a> {
         self.register.accesses.writers(cell)
     }
 
-    // The accesses of a transaction, the newest first.
+    // Returns the accesses of a transaction, the newest first.
     #[inline(always)]
     pub(crate) fn accesses(&self, t: Txn) -> Accesses<'_>
         requires { IsAt self.now t.0 }
@@ -39,7 +39,7 @@ impl<'a> Asked<'a> {
         self.register.accesses.accesses(t)
     }
 
-    // Whether u's batch is closed before t's starts.
+    // Returns whether u's batch is closed before t's starts.
     pub(crate) fn is_closed_before(&self, u: Txn, t: Txn) -> bool
         requires left { IsAt self.now u.0 }
         requires right { IsAt self.now t.0 }
@@ -48,7 +48,7 @@ impl<'a> Asked<'a> {
         self.register.batches.is_closed_before(u, t)
     }
 
-    // The first of some writers of a cell that is committed, meets t, and is not of a batch closed before t's starts.
+    // Returns the first of some writers of a cell that is committed, meets t, and is not of a batch closed before t's starts.
     pub(crate) fn first_writer(&self, t: Txn, among: &[Txn]) -> Option<Txn>
         requires here { IsAt self.now t.0 }
         requires among_here { AreThere self.now among.now }
@@ -65,7 +65,7 @@ impl<'a> Asked<'a> {
         None
     }
 
-    // The first of some writers of a cell that is unfinished and meets t, so that t's write of the cell waits for it.
+    // Returns the first of some writers of a cell that is unfinished and meets t, so that t's write of the cell waits for it.
     pub(crate) fn blocker(&self, t: Txn, among: &[Txn]) -> Option<Txn>
         requires here { IsAt self.now t.0 }
         requires among_here { AreThere self.now among.now }

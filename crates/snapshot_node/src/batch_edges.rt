@@ -21,7 +21,7 @@ fn earlier(known: Option<(Txn, Txn)>, edge: (Txn, Txn)) -> Option<(Txn, Txn)>
 }
 
 impl<'a> Validation<'a> {
-    // Whether u is of b's batch, and at stake.
+    // Returns whether u is of b's batch, and at stake.
     fn is_mate(&self, b: Txn, u: Txn) -> bool
         requires begun_b { HasBegun self.now.asked b.0 }
         requires begun_u { HasBegun self.now.asked u.0 }
@@ -30,7 +30,7 @@ impl<'a> Validation<'a> {
         self.are_one_batch(b, u) && is_at_stake(self.asked.facts.history, self.t, u)
     }
 
-    // Whether c is t, or known to have an edge.
+    // Returns whether c is t, or known to have an edge.
     fn may_lead(&self, c: Txn) -> bool
         ensures { result ≡ may_lead self.now c.0 }
     {
@@ -44,7 +44,7 @@ impl<'a> Validation<'a> {
         b == self.t || mark_at(self.marks, place_of(b)).behind
     }
 
-    /// The least edge out of b's batch: of its least member that has one, to the least that it leads to.
+    /// Returns the least edge out of b's batch: of its least member that has one, to the least that it leads to.
     pub(crate) fn edge_out(&self, b: Txn, own: Own) -> Option<(Txn, Txn)>
         requires here { IsAt self.now.asked b.0 }
         requires own { AreOwn self.now own }
@@ -79,7 +79,7 @@ impl<'a> Validation<'a> {
         }
     }
 
-    // The same by the members that are known to have an edge, and by t.
+    // Returns the same by the members that are known to have an edge, and by t.
     fn known_edge_out(&self, b: Txn) -> Option<(Txn, Txn)>
         requires { IsAt self.now.asked b.0 }
         ensures { at self.now IsLeastEdgeFrom (may_lead self.now) b.0 result }
@@ -97,7 +97,7 @@ impl<'a> Validation<'a> {
         None
     }
 
-    /// The least one that has an edge to a member of c's batch.
+    /// Returns the least one that has an edge to a member of c's batch.
     pub(crate) fn least_into(&self, c: Txn, own: Own) -> Option<Txn>
         requires here { IsAt self.now.asked c.0 }
         requires own { AreOwn self.now own }

@@ -47,7 +47,7 @@ impl Snapshot {
 }
 
 impl<'a> Asked<'a> {
-    // The same by the reads of `a`.
+    // Returns the same by the reads of `a`.
     fn leads_out(&self, a: Txn) -> bool
         requires sound { IsSound (setup_of self.now.facts.now) }
         requires lawful { Lawful (setup_of self.now.facts.now) (history self.now) }
@@ -64,7 +64,7 @@ impl<'a> Asked<'a> {
         false
     }
 
-    // Whether a committed transaction across from `a` has put a cell. The last committed writer whose batch starts before that of
+    // Returns whether a committed transaction across from `a` has put a cell. The last committed writer whose batch starts before that of
     // `a` closes is one, if there is any.
     fn is_overwritten(&self, a: Txn, cell: Cell) -> bool
         requires lawful { Lawful (setup_of self.now.facts.now) (history self.now) }
@@ -109,7 +109,7 @@ impl<'a> Asked<'a> {
     }
 }
 
-// The place of the last of some transactions that is committed.
+// Returns the place of the last of some transactions that is committed.
 fn last_committed(history: &History, txns: &[Txn]) -> Option<usize>
     ensures { IsLastPlace (λ u. committed history.now.events u.0) txns.now result }
 {

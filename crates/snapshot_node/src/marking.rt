@@ -14,7 +14,7 @@ use access_book::Access;
 use teb_history::Event;
 use teb_names::Txn;
 
-/// The transaction that an event shows to be validated.
+/// Returns the transaction that an event shows to be validated.
 pub(crate) fn validated(e: Event) -> Option<Txn>
     ensures { result ≡ validated_txn e }
 {

@@ -22,7 +22,7 @@ pub(crate) fn is_at_stake(history: &History, t: Txn, u: Txn) -> bool
     u == t || history.is_prepared(u) || history.is_committed(u)
 }
 
-/// The lesser of two, or the only one.
+/// Returns the lesser of two, or the only one.
 pub(crate) fn lesser(a: Option<Txn>, b: Option<Txn>) -> Option<Txn>
     ensures { result ≡ lesser_of a b }
 {
@@ -34,7 +34,7 @@ pub(crate) fn lesser(a: Option<Txn>, b: Option<Txn>) -> Option<Txn>
 }
 
 impl<'a> Validation<'a> {
-    /// Whether u and v meet here, and their batches are concurrent: they are two that overlap.
+    /// Returns whether u and v meet here, and their batches are concurrent: they overlap.
     #[inline(always)]
     pub(crate) fn are_across(&self, u: Txn, v: Txn) -> bool
         requires left { IsAt self.now.asked u.0 }
@@ -60,7 +60,7 @@ impl<'a> Validation<'a> {
         start == other
     }
 
-    /// The least of some at stake that are across from u.
+    /// Returns the least of some at stake that are across from u.
     #[inline(always)]
     pub(crate) fn first_across(&self, u: Txn, among: &[Txn]) -> Option<Txn>
         requires here { IsAt self.now.asked u.0 }
@@ -123,7 +123,7 @@ impl<'a> Validation<'a> {
         least
     }
 
-    /// The least one that has an edge to b, which is at stake.
+    /// Returns the least one that has an edge to b, which is at stake.
     pub(crate) fn least_behind(&self, b: Txn) -> Option<Txn>
         requires here { IsAt self.now.asked b.0 }
         requires stake { IsAtStake self.now b.0 }

@@ -10,7 +10,7 @@ use teb_names::Txn;
 /// At how many of the last ones `from_number` looks before it searches all.
 const FEW: usize = 4;
 
-/// Those of ascending transactions that are numbered from `first` on. Nearly always they are among the last few.
+/// Returns those of ascending transactions that are numbered from `first` on. Nearly always they are among the last few.
 pub(crate) fn from_number(txns: &[Txn], first: Txn) -> &[Txn]
     requires { IsAscendingBy number_of txns.now }
     ensures { result.now ≡ filter (λ u. leb first.0 u.0) txns.now }

@@ -17,7 +17,7 @@ use teb_names::Txn;
 use teb_rules::Broken;
 
 impl<'a> Validation<'a> {
-    /// The least pivot among those at stake.
+    /// Returns the least pivot among those at stake.
     pub(crate) fn least_pivot(&self) -> Option<Broken>
         ensures { break_by result ≡ ruled self.now }
     {
@@ -74,7 +74,7 @@ impl<'a> Validation<'a> {
         least
     }
 
-    // The least one with an edge into a batch that an edge leads from to t.
+    // Returns the least one with an edge into a batch that an edge leads from to t.
     fn least_before(&self, own: Own) -> Option<Txn>
         requires { AreOwn self.now own }
         ensures { IsLeast (at self.now ComesIn) result }
@@ -128,7 +128,7 @@ impl<'a> Validation<'a> {
         least
     }
 
-    // The first of some at stake that are across from a, and whose batch an edge leaves.
+    // Returns the first of some at stake that are across from a, and whose batch an edge leaves.
     fn middle_by(&self, a: Txn, among: &[Txn], own: Own) -> Option<Txn>
         requires here { IsAt self.now.asked a.0 }
         requires own { AreOwn self.now own }

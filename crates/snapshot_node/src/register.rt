@@ -40,7 +40,7 @@ impl Register {
         })
     }
 
-    /// Makes room for n events. It stays as it was, also after an `Err`.
+    /// Makes room for n events. It stands for the same history as before, also on `Err`.
     pub(crate) fn reserve(&mut self, n: usize) -> Result<(), AllocError>
         ensures node { self.new.node ≡ self.old.node }
         ensures stands { (S : Setup) (H : List Event) → RegisterStands self.old S H → RegisterStands self.new S H }

@@ -32,7 +32,7 @@ pub struct Snapshot {
 }
 
 impl Snapshot {
-    /// The control of a snapshot node for an empty history. Takes no memory.
+    /// Returns the control of a snapshot node for an empty history. Takes no memory.
     pub fn new(alloc: Global, node: Node, facts: &Facts) -> Result<Self, AllocError>
         requires kind { (row (setup_of facts.now).tree node.0).control ≡ IsSnapshot }
         requires empty { events_of facts.now ≡ [] }
@@ -53,7 +53,7 @@ impl Snapshot {
         self.register.accesses.committed(cell)
     }
 
-    /// The batches of its node.
+    /// Returns the batches of its node.
     pub fn batches(&self) -> &Batches
         ensures { result.now ≡ self.now.register.batches }
     {

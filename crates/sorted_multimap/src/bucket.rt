@@ -36,7 +36,7 @@ impl<K: Ord + Copy, V: Copy> Bucket<K, V> {
         }
     }
 
-    /// Makes room for n more values. It holds the same, also after an `Err`.
+    /// Makes room for n more values. The values are unchanged, also on `Err`.
     #[inline(always)]
     pub(crate) fn reserve(&mut self, n: usize) -> Result<(), AllocError>
         ensures kept { IsKept K.cmp self.old self.new }
@@ -47,7 +47,7 @@ impl<K: Ord + Copy, V: Copy> Bucket<K, V> {
         Ok(())
     }
 
-    /// The values of a key, in their order.
+    /// Returns the values of a key, in their order.
     #[inline(always)]
     pub(crate) fn list(&self, key: K) -> &[V]
         requires { IsSorted K.cmp self.now }
@@ -59,7 +59,7 @@ impl<K: Ord + Copy, V: Copy> Bucket<K, V> {
         self.list_among(key)
     }
 
-    // The values of a key, among those of others.
+    // Returns the values of a key, among those of others.
     fn list_among(&self, key: K) -> &[V]
         requires { IsSorted K.cmp self.now }
         ensures { result.now ≡ bucket_values K.cmp self.now key }
@@ -117,7 +117,7 @@ impl<K: Ord + Copy, V: Copy> Bucket<K, V> {
         self.put_at(end, key, value);
     }
 
-    /// Takes out all values of a key.
+    /// Removes all values of a key.
     pub(crate) fn clear(&mut self, key: K)
         requires { IsSorted K.cmp self.old }
         ensures { IsEdited K.cmp self.old self.new key [] 0 }
@@ -143,7 +143,7 @@ fn cut<T: Copy>(v: &mut Vec<T>, start: usize, end: usize)
     v.truncate(v.len() - (end - start));
 }
 
-/// How many keys are below a key. A few are looked at one after the other.
+/// Returns how many keys are below a key. A few are looked at one after the other.
 #[inline(always)]
 fn first<K: Ord + Copy>(keys: &[K], key: K) -> usize
     requires { Ascends K.cmp keys.now }
@@ -160,7 +160,7 @@ fn first<K: Ord + Copy>(keys: &[K], key: K) -> usize
     keys.len()
 }
 
-/// How many keys are below a key, by a binary search.
+/// Returns how many keys are below a key, by a binary search.
 fn search_first<K: Ord + Copy>(keys: &[K], key: K) -> usize
     requires { Ascends K.cmp keys.now }
     ensures { result ≡ lows K.cmp keys.now key }

@@ -19,7 +19,7 @@ pub trait Key: Ord + Copy {
     ghost agrees: { (a b : Self) → is_eq (Self.cmp a b) ≡ true → spread_of a ≡ spread_of b };
 }
 
-/// Rows that follow one another lie in buckets that follow one another.
+/// Consecutive rows are in consecutive buckets.
 impl Key for Cell {
     ghost spread_of = { cell_spread };
 

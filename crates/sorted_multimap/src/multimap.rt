@@ -46,7 +46,7 @@ const AHEAD: usize = 64;
 pub struct Multimap<K: Key, V: Copy> {
     alloc: Global,
     width: Width,
-    // A key lies in the bucket whose number is the remainder of its spread. There are none before the first `reserve`.
+    // A key is in the bucket whose number is the remainder of its spread. There are no buckets before the first `reserve`.
     buckets: Vec<Bucket<K, V>>,
     // For how many more values each bucket has room.
     spare: usize,
@@ -91,7 +91,7 @@ impl<K: Key, V: Copy> Multimap<K, V> {
         }
     }
 
-    /// Makes room for n more values, whatever their keys. The values stay, also after an `Err`.
+    /// Makes room for n more values, whatever their keys. The values are unchanged, also on `Err`.
     pub fn reserve(&mut self, n: usize) -> Result<(), AllocError>
         ensures entries { self.new.entries ≡ self.old.entries }
         ensures room { OnOk result (n ≤ self.new.spare) }
@@ -107,7 +107,7 @@ impl<K: Key, V: Copy> Multimap<K, V> {
         Ok(())
     }
 
-    /// The values of a key, in their order.
+    /// Returns the values of a key, in their order.
     #[inline(always)]
     pub fn list(&self, key: K) -> &[V]
         ensures { result.now ≡ values_in K.cmp self.now key }
@@ -129,7 +129,7 @@ impl<K: Key, V: Copy> Multimap<K, V> {
         self.spare -= 1;
     }
 
-    /// Takes out all values of a key.
+    /// Removes all values of a key.
     pub fn clear(&mut self, key: K)
         ensures values { (q : K) → values_in K.cmp self.new q ≡ cond (is_eq (K.cmp key q)) [] (values_in K.cmp self.old q) }
         ensures spare { self.new.spare ≡ self.old.spare }
@@ -142,7 +142,7 @@ impl<K: Key, V: Copy> Multimap<K, V> {
     }
 }
 
-/// The number of the bucket of a key.
+/// Returns the number of the bucket of a key.
 fn place_of<K: Key, V: Copy>(buckets: &[Bucket<K, V>], key: K) -> usize
     requires { 0 < length buckets.now }
     ensures at { result ≡ K.spread_of key % length buckets.now }

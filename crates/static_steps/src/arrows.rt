@@ -13,7 +13,7 @@ use std::alloc::{AllocError, Global};
 use teb_names::{Kind, Table};
 use txn_profile::Profile;
 
-/// For each table below `tables` the tables that some profile of `under` leads to from it.
+/// Returns for each table below `tables` the tables that some profile of `under` leads to from it.
 pub fn arrows(
     alloc: Global,
     profiles: &[Profile],

@@ -27,7 +27,7 @@ impl Ranks {
         Ranks { ranks }
     }
 
-    /// The rank of a table: the length of the longest chain of tables that ends in it, in which each reaches the next
+    /// Returns the rank of a table: the length of the longest chain of tables that ends in it, in which each reaches the next
     /// and is not reached back by it.
     pub fn rank(&self, table: Table) -> u8
         requires { table.0 < length self.now }

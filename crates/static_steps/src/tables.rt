@@ -18,7 +18,7 @@ pub fn ranked_tables(profiles: &[Profile]) -> u8
     }
 }
 
-// The same for the steps of a profile from number `from` on.
+// Returns the same for the steps of a profile from number `from` on.
 fn above_steps(profile: &Profile, from: u8) -> u8
     requires within { from ≤ length profile.now }
     requires bound { above_steps (drop from profile.now) ≤ 64 }

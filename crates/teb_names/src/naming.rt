@@ -68,7 +68,7 @@ impl Names {
         Ok(true)
     }
 
-    /// How many names there are. No two of them are the same.
+    /// Returns how many names there are. No two of them are the same.
     pub fn len(&self) -> u8
         ensures count { result ≡ length self.now }
         ensures distinct { IsDistinct bytes_eq self.now }
@@ -82,7 +82,7 @@ impl Names {
         self.set.is_empty()
     }
 
-    /// The name of a number.
+    /// Returns the name of a number.
     pub fn name(&self, i: u8) -> &str
         requires { i < length self.now }
         ensures name { slice_get self.now i ≡ Some result.now }

@@ -42,7 +42,7 @@ impl Rows {
         }
     }
 
-    /// The rows of a list that ascends by cell.
+    /// Returns the rows of a list that ascends by cell.
     pub fn from_sorted(rows: Vec<(Cell, i64)>) -> Rows
         requires { IsAscending rows.items }
         ensures { result ≡ rows.items }
@@ -81,7 +81,7 @@ impl Rows {
         }
     }
 
-    /// How many rows there are.
+    /// Returns how many rows there are.
     pub fn len(&self) -> usize
         ensures { result ≡ length self.now }
     {
@@ -94,7 +94,7 @@ impl Rows {
         self.rows.is_empty()
     }
 
-    /// The row at a place, from 0, in ascending order of cells.
+    /// Returns the row at a place, from 0, in ascending order of cells.
     pub fn at(&self, i: usize) -> (Cell, i64)
         requires { i < length self.now }
         ensures { slice_get self.now i ≡ Some result }
@@ -102,7 +102,7 @@ impl Rows {
         self.rows[i]
     }
 
-    /// All rows, in ascending order of cells.
+    /// Returns all rows, in ascending order of cells.
     pub fn rows(&self) -> &[(Cell, i64)]
         ensures rows { result.now ≡ self.now }
         ensures ascending { IsAscending result.now }

@@ -43,7 +43,7 @@ pub struct Stamps {
 }
 
 impl Stamps {
-    /// The control of a timestamp node for an empty history. Takes no memory.
+    /// Returns the control of a timestamp node for an empty history. Takes no memory.
     pub fn new(alloc: Global, node: Node, facts: &Facts) -> Result<Self, AllocError>
         requires kind { (row (setup_of facts.now).tree node.0).control ≡ IsTimestamp }
         requires empty { events_of facts.now ≡ [] }
@@ -59,7 +59,7 @@ impl Stamps {
         })
     }
 
-    /// The batches of its node.
+    /// Returns the batches of its node.
     pub fn batches(&self) -> &Batches
         ensures { result.now ≡ self.now.batches }
     {
@@ -104,7 +104,7 @@ impl Stamps {
         least
     }
 
-    // Whether a reader meets t here, starts later, and read t's own version or one before it.
+    // Returns whether a reader meets t here, starts later, and read t's own version or one before it.
     fn is_after<C: Chains>(
         &self,
         facts: &Facts,
@@ -144,7 +144,7 @@ impl Stamps {
         }
     }
 
-    // Whether an unfinished transaction that meets t here started before it.
+    // Returns whether an unfinished transaction that meets t here started before it.
     fn holds_back(&self, facts: &Facts, t: Txn, u: Txn) -> bool
         requires stands { StampsStand self.now.node.0 self.now.ordered self.now.batches self.now.reads (setup_of facts.now) (events_of facts.now) }
         requires here { IsHere facts.now self.now.node.0 t.0 }
@@ -157,7 +157,7 @@ impl Stamps {
     }
 }
 
-// The lesser of two, of which the first may be missing.
+// Returns the lesser of two, of which the first may be missing.
 fn lesser(least: Option<Txn>, t: Txn) -> Txn
     ensures { result ≡ lesser_txn least t }
 {

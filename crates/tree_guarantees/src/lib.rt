@@ -83,7 +83,7 @@ pub fn reads_never_wait(tree: &Tree, spot: Spot) -> bool
     keep_batches(tree, tree.path(spot))
 }
 
-// Whether each of the nodes is a timestamp or a snapshot node.
+// Returns whether each of the nodes is a timestamp or a snapshot node.
 fn keep_batches(tree: &Tree, nodes: &[Node]) -> bool
     requires { All (λ n. n.0 < length tree.now.rows) nodes.now }
     ensures { result ≡ list_all (has_batches tree.now.rows) (node_numbers nodes.now) }
@@ -97,7 +97,7 @@ fn keep_batches(tree: &Tree, nodes: &[Node]) -> bool
     }
 }
 
-// The root, which every tree has.
+// Returns the root, which every tree has.
 fn root(tree: &Tree) -> &NodeRow
     ensures { row_of result.now ≡ row tree.now.rows 0 }
 {

@@ -21,7 +21,7 @@ pub fn type_reads_never_wait(tree: &Tree, kind: Kind) -> bool
     keeps_batches_to(tree, kind)
 }
 
-// Whether the root and each node on the way to a leaf of a type keeps batches.
+// Returns whether the root and each node on the way to a leaf of a type keeps batches.
 fn keeps_batches_to(tree: &Tree, kind: Kind) -> bool
     ensures { result ≡ type_has_batches tree.now.rows kind.0 }
 {
@@ -30,7 +30,7 @@ fn keeps_batches_to(tree: &Tree, kind: Kind) -> bool
     root && leaves_keep_batches(tree, kind)
 }
 
-// Whether each node on the way to a leaf of a type keeps batches.
+// Returns whether each node on the way to a leaf of a type keeps batches.
 #[tactic(auto, using(crate::proofs::Leaves::all_more, crate::proofs::Leaves::one_missing))]
 fn leaves_keep_batches(tree: &Tree, kind: Kind) -> bool
     ensures { result ≡ list_all (has_batches_for tree.now.rows kind.0) (below (length tree.now.rows)) }
@@ -43,7 +43,7 @@ fn leaves_keep_batches(tree: &Tree, kind: Kind) -> bool
     true
 }
 
-// Whether each node on the way to a node keeps batches, if that is a leaf of a type.
+// Returns whether each node on the way to a node keeps batches, if that is a leaf of a type.
 fn keeps_batches_for(tree: &Tree, kind: Kind, n: Node) -> bool
     requires { n.0 < length tree.now.rows }
     ensures { result ≡ has_batches_for tree.now.rows kind.0 n.0 }
@@ -51,7 +51,7 @@ fn keeps_batches_for(tree: &Tree, kind: Kind, n: Node) -> bool
     !holds(&tree.row(n).types, kind) || way_keeps_batches(tree, n)
 }
 
-// Whether a type is one of a list.
+// Returns whether a type is one of a list.
 fn holds(types: &[Kind], kind: Kind) -> bool
     ensures { result ≡ among kind.0 (kind_numbers types.now) }
 {
@@ -61,7 +61,7 @@ fn holds(types: &[Kind], kind: Kind) -> bool
     }
 }
 
-// Whether each node on the way to a node keeps batches.
+// Returns whether each node on the way to a node keeps batches.
 #[tactic(auto, unfolding(teb_rules::specs::Tree::way))]
 fn way_keeps_batches(tree: &Tree, n: Node) -> bool
     requires { n.0 < length tree.now.rows }

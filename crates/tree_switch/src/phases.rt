@@ -40,7 +40,7 @@ impl<C: Chains> Model for Phases<C> {
 }
 
 impl<C: Chains> Phases<C> {
-    /// The first phase, of an engine to which nothing has happened yet. Takes no memory.
+    /// Returns the first phase, of an engine to which nothing has happened yet. Takes no memory.
     pub fn new(alloc: Global, engine: Engine<C>) -> Phases<C>
         requires { engine.events ≡ [] }
         ensures past { result.past ≡ [] }
@@ -53,7 +53,7 @@ impl<C: Chains> Phases<C> {
         }
     }
 
-    /// The past engines, the oldest first, and the present one; `from_parts` puts them together again.
+    /// Returns the past engines, the oldest first, and the present one; `from_parts` puts them together again.
     pub fn into_parts(self) -> (Vec<Engine<C>>, Engine<C>)
         ensures past { result.0.items ≡ self.past }
         ensures present { result.1 ≡ self.present }
@@ -62,7 +62,7 @@ impl<C: Chains> Phases<C> {
         (self.past, self.present)
     }
 
-    /// The phases of these engines, the past ones with the oldest first.
+    /// Returns the phases of these engines, the past ones with the oldest first.
     pub fn from_parts(past: Vec<Engine<C>>, present: Engine<C>) -> Phases<C>
         requires { IsCourse (record { past = past.items; present = present }) }
         ensures past { result.past ≡ past.items }
@@ -71,7 +71,7 @@ impl<C: Chains> Phases<C> {
         Phases { past, present }
     }
 
-    /// The engine of the present phase. Each phase has started with the tables that the one before it left, and the serial
+    /// Returns the engine of the present phase. Each phase has started with the tables that the one before it left, and the serial
     /// orders of all phases, one after the other, are a serial order of the whole.
     pub fn engine(&self) -> &Engine<C>
         ensures engine { result.now ≡ self.now.present }
@@ -81,14 +81,14 @@ impl<C: Chains> Phases<C> {
         &self.present
     }
 
-    /// How many phases are past.
+    /// Returns how many phases are past.
     pub fn finished(&self) -> usize
         ensures { result ≡ length self.now.past }
     {
         self.past.len()
     }
 
-    /// The engine of a past phase, from 0 at the oldest.
+    /// Returns the engine of a past phase, from 0 at the oldest.
     pub fn past(&self, i: usize) -> &Engine<C>
         requires { i < length self.now.past }
         ensures { slice_get self.now.past i ≡ Some result.now }
@@ -96,7 +96,10 @@ impl<C: Chains> Phases<C> {
         &self.past[i]
     }
 
-    /// Makes room for the events of one answer. An `Err` leaves all as it was.
+    /// Makes room for the events of one answer.
+    ///
+    /// # Errors
+    /// Out of memory. Everything is unchanged.
     pub fn ready(&mut self) -> Result<(), AllocError>
         ensures past { self.new.past ≡ self.old.past }
         ensures store { self.new.present.store ≡ self.old.present.store }

@@ -26,26 +26,29 @@ pub trait Chains: Drop {
 
     ghost spare: { Self → ℕ };
 
-    /// Makes room for n versions. An `Err` leaves the lists as they were.
+    /// Makes room for n versions.
+    ///
+    /// # Errors
+    /// Out of memory. The lists are unchanged.
     fn reserve(&mut self, n: usize) -> Result<(), AllocError>
         ensures lists { (x : Cell) → lists self.new x ≡ lists self.old x }
         ensures room { OnOk result (n ≤ spare self.new) }
         ensures kept { spare self.old ≤ spare self.new };
 
-    /// How many versions a cell has.
+    /// Returns how many versions a cell has.
     fn len_of(&self, cell: Cell) -> usize
         ensures { result ≡ length (lists self.now cell) };
 
-    /// The version at a place.
+    /// Returns the version at a place.
     fn at(&self, cell: Cell, i: usize) -> (Txn, Option<i64>)
         requires { i < length (lists self.now cell) }
         ensures { slice_get (lists self.now cell) i ≡ Some result };
 
-    /// The place of a writer's version.
+    /// Returns the place of a writer's version.
     fn find(&self, cell: Cell, t: Txn) -> Option<usize>
         ensures { result ≡ first_place (λ w. eqb w t.0) (writers_of (lists self.now cell)) };
 
-    /// Puts in a version of a writer that has none, at place i. The versions from there on move up by one.
+    /// Inserts a version of a writer that has none, at place i. The versions from there on move up by one.
     fn place(&mut self, cell: Cell, i: usize, t: Txn, value: Option<i64>)
         requires room { 0 < spare self.old }
         requires within { i ≤ length (lists self.old cell) }
@@ -54,19 +57,19 @@ pub trait Chains: Drop {
         ensures elsewhere { (x : Cell) → IsFalse (same_cell x cell) → lists self.new x ≡ lists self.old x }
         ensures spare { spare self.old ≤ spare self.new + 1 };
 
-    /// Gives the version at a place another value.
+    /// Replaces the value of the version at a place.
     fn overwrite(&mut self, cell: Cell, i: usize, value: Option<i64>)
         requires { i < length (lists self.old cell) }
         ensures here { lists self.new cell ≡ set_value i value (lists self.old cell) }
         ensures elsewhere { (x : Cell) → IsFalse (same_cell x cell) → lists self.new x ≡ lists self.old x }
         ensures spare { spare self.new ≡ spare self.old };
 
-    /// Takes out every version of a writer. The others keep their order.
+    /// Removes every version of a writer. The others keep their order.
     fn remove_all_of(&mut self, t: Txn)
         ensures lists { (x : Cell) → lists self.new x ≡ without t.0 (lists self.old x) }
         ensures spare { spare self.old ≤ spare self.new };
 
-    /// The last place whose writer f accepts. It is looked for from the last place down.
+    /// Returns the last place whose writer f accepts. The search goes from the last place down.
     fn last_where<F: Fn(Txn) -> bool>(&self, cell: Cell, f: &F) -> Option<usize>
         requires { (u : Txn) → IsTrue (is_writer (lists self.now cell) u.0) → F.pre f.now u }
         ensures place { (p : ℕ → Bool)

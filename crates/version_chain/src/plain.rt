@@ -99,7 +99,7 @@ fn put_in(versions: &mut Vec<Stored>, at: usize, version: Stored)
     let _ = versions.insert(at, version);
 }
 
-/// Takes out the versions of a writer.
+/// Removes the versions of a writer.
 fn keep_others(versions: &mut Vec<Stored>, t: Txn)
     ensures items { versions.new.items ≡ filter (λ v. not (eqb v.writer.0 t.0)) versions.old.items }
     ensures len { vec_len versions.new ≤ vec_len versions.old }

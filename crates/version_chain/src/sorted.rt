@@ -25,7 +25,7 @@ pub fn range_of(versions: &[Stored], cell: Cell) -> (usize, usize)
     (start, len)
 }
 
-/// The versions of a cell.
+/// Returns the versions of a cell.
 pub fn chain(versions: &[Stored], cell: Cell) -> &[Stored]
     requires { IsSortedByCell versions.now }
     ensures { map version result.now ≡ of_cell cell versions.now }
@@ -34,7 +34,7 @@ pub fn chain(versions: &[Stored], cell: Cell) -> &[Stored]
     &versions[start..][..len]
 }
 
-/// The first place of a chain whose writer is t.
+/// Returns the first place of a chain whose writer is t.
 pub fn place_of(chain: &[Stored], t: Txn) -> Option<usize>
     ensures { result ≡ first_place (λ w. eqb w t.0) (writers_of (map version chain.now)) }
 {

@@ -11,8 +11,8 @@ use crate::{Numbered, find_number};
 use vec_room::take_out;
 
 impl<K: Ord + Copy, V: Numbered> Bucket<K, V> {
-    /// Puts a value among those of a key, instead of the one that has its number. Whether there was none. Into a bucket of no values it
-    /// costs two pushes.
+    /// Inserts a value among those of a key, or replaces the one with the same number. Returns true if it was inserted. Into an empty bucket
+    /// it costs two pushes.
     #[inline(always)]
     pub(crate) fn put_by_number(&mut self, key: K, value: V) -> bool
         requires sorted { IsSorted K.cmp self.old }
@@ -28,7 +28,7 @@ impl<K: Ord + Copy, V: Numbered> Bucket<K, V> {
         self.put_among(key, value)
     }
 
-    // Puts a value among those of a key, instead of the one that has its number. Whether there was none.
+    // Inserts a value among those of a key, or replaces the one with the same number. Returns true if it was inserted.
     #[inline(never)]
     fn put_among(&mut self, key: K, value: V) -> bool
         requires sorted { IsSorted K.cmp self.old }
@@ -41,7 +41,7 @@ impl<K: Ord + Copy, V: Numbered> Bucket<K, V> {
         self.put_in_place(place, key, value, true)
     }
 
-    /// Puts a value among those of a key, unless one has its number. Whether there was none. Into a bucket of no values it costs two pushes.
+    /// Inserts a value among those of a key, unless one has its number. Returns true if it was inserted. Into an empty bucket it costs two pushes.
     #[inline(always)]
     pub(crate) fn add_by_number(&mut self, key: K, value: V) -> bool
         requires sorted { IsSorted K.cmp self.old }
@@ -57,7 +57,7 @@ impl<K: Ord + Copy, V: Numbered> Bucket<K, V> {
         self.add_among(key, value)
     }
 
-    // Puts a value among those of a key, unless one has its number. Whether there was none.
+    // Inserts a value among those of a key, unless one has its number. Returns true if it was inserted.
     #[inline(never)]
     fn add_among(&mut self, key: K, value: V) -> bool
         requires sorted { IsSorted K.cmp self.old }
@@ -87,7 +87,7 @@ impl<K: Ord + Copy, V: Numbered> Bucket<K, V> {
         self.join_among(key, value, replace)
     }
 
-    // The same among the values of others.
+    // Returns the same among the values of others.
     #[inline(never)]
     fn join_among(&mut self, key: K, value: V, replace: bool) -> bool
         requires sorted { IsSorted K.cmp self.old }

@@ -10,8 +10,8 @@ use super::{Multimap, place_of};
 use crate::{Key, Numbered};
 
 impl<K: Key, V: Numbered> Multimap<K, V> {
-    /// Puts a value among those of a key, which ascend by number, instead of the one that has its number. Whether there was none; then it
-    /// takes one place of the room.
+    /// Inserts a value among those of a key, which ascend by number, or replaces the one with the same number. Returns true if it was
+    /// inserted, which takes one place of the room.
     #[inline(always)]
     pub fn put_by_number(&mut self, key: K, value: V) -> bool
         requires room { 0 < self.old.spare }
@@ -26,8 +26,8 @@ impl<K: Key, V: Numbered> Multimap<K, V> {
         added
     }
 
-    /// Puts a value among those of a key, which ascend by number, unless one has its number. Whether there was none; then it takes one place
-    /// of the room.
+    /// Inserts a value among those of a key, which ascend by number, unless one has its number. Returns true if it was inserted, which takes
+    /// one place of the room.
     #[inline(always)]
     pub fn add_by_number(&mut self, key: K, value: V) -> bool
         requires room { 0 < self.old.spare }
