@@ -6,7 +6,7 @@ ghost use Rattle.abort_cascade.specs.Rounds.{is_member};
 use std::marker::Model;
 use teb_names::{SESSIONS, Txn};
 
-/// How many fall with another at most: each session holds one unfinished transaction at most.
+/// At most this many fall with another: each session holds at most one unfinished transaction.
 pub(crate) const MOST_FALLEN: usize = SESSIONS as usize;
 
 /// At most `MOST_FALLEN` transactions, each with the one that it is blamed on.

@@ -67,11 +67,11 @@ pub record IsEmpty (b : Shown) : Type 0 where
   pub begun : b.begun ≡ 0
   pub pending : b.pending ≡ 0
 
--- the accessors stay, of one kind
+-- the accessors of one kind are unchanged
 abbrev pub AreKept : (a b : Cell → List Txn) → Type 0
 AreKept a b = (x : Cell) → b x ≡ a x
 
--- all but the room stays
+-- all but the room is unchanged
 pub record IsKept (a b : Shown) : Type 0 where
   pub readers : AreKept (readers_of a) (readers_of b)
   pub writers : AreKept (writers_of a) (writers_of b)
@@ -86,7 +86,7 @@ IsAccess b (access.Read writers) (Reads x) = writers.now ≡ writers_of b x
 IsAccess b (access.Put readers) (Puts x) = readers.now ≡ readers_of b x
 IsAccess b _ _ = ⊥
 
--- the accesses that are left of a walk, and the book
+-- the remaining accesses of a walk, and the book
 pub record Walk : Type 0 where
   pub book : Shown
   pub left : List Touched

@@ -13,14 +13,14 @@ pub enum Access<'a> {
     Put { readers: &'a [Txn] },
 }
 
-/// What kind of access a transaction has made, and the place of its cell.
+/// The kind of an access, and the place of its cell.
 #[derive(Clone, Copy)]
 pub(crate) enum Touch {
     Read(usize),
     Put(usize),
 }
 
-/// The accesses of a transaction that are left, the newest first.
+/// The remaining accesses of a transaction, the newest first.
 #[derive(Drop)]
 pub struct Accesses<'a> {
     pub(crate) book: &'a AccessBook,

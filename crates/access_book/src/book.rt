@@ -18,7 +18,7 @@ use std::alloc::{AllocError, Global};
 use std::marker::Model;
 use teb_names::{Cell, Txn};
 
-/// For how many events room is made at the least, so that not every `reserve` goes through all lists.
+/// Room is made for at least this many events, so that not every `reserve` goes through all lists.
 const AHEAD: usize = 256;
 
 /// By cell, its readers, its writers and its committed writers, each in ascending number; by transaction, what it has accessed. An aborted
@@ -33,7 +33,7 @@ pub struct AccessBook {
     touches: NumberedLists<Touch>,
     // How many Puts there are of transactions that may still commit. Room for that many committed writers is kept.
     pending: usize,
-    // For how many events there is room.
+    // There is room for this many events.
     spare: usize,
 }
 
@@ -115,7 +115,7 @@ impl AccessBook {
         self.spare -= 1;
     }
 
-    /// A transaction reads a cell. It takes one place of the room.
+    /// Notes that a transaction reads a cell. It takes one place of the room.
     pub fn read(&mut self, t: Txn, cell: Cell)
         requires room { 0 < self.old.spare }
         requires filed { AreFiled self.old }
@@ -142,7 +142,7 @@ impl AccessBook {
         self.spare -= 1;
     }
 
-    /// A transaction puts a cell. It takes one place of the room.
+    /// Notes that a transaction puts a cell. It takes one place of the room.
     pub fn put(&mut self, t: Txn, cell: Cell)
         requires room { 0 < self.old.spare }
         requires filed { AreFiled self.old }
@@ -170,7 +170,7 @@ impl AccessBook {
         self.spare -= 1;
     }
 
-    /// A transaction commits: it is a committed writer of each cell that it has put. The room stays.
+    /// Notes a commit: the transaction is a committed writer of each cell that it has put. The room stays.
     pub fn commit(&mut self, t: Txn)
         requires filed { AreFiled self.old }
         requires first { 0 < t.0 }
@@ -189,7 +189,7 @@ impl AccessBook {
         self.pending -= put_in(&mut self.committed, touches, t);
     }
 
-    /// A transaction aborts: it is no reader and no writer of any cell. The room stays.
+    /// Notes an abort: the transaction is no reader and no writer of any cell. The room stays.
     pub fn abort(&mut self, t: Txn)
         requires filed { AreFiled self.old }
         requires first { 0 < t.0 }
@@ -286,7 +286,7 @@ fn place_for(
     place
 }
 
-/// Puts a transaction among the committed writers of each cell that it has put. The number of its Puts.
+/// Adds a transaction to the committed writers of each cell that it has put. Returns the number of its Puts.
 fn put_in(committed: &mut NumberedLists<Txn>, touches: &[Touch], t: Txn) -> usize
     requires filed { (i : ℕ) → IsAscendingBy number_of (list_in committed.old.lists i) }
     requires known { AreKnown (length committed.old.lists) touches.now }
@@ -307,7 +307,7 @@ fn put_in(committed: &mut NumberedLists<Txn>, touches: &[Touch], t: Txn) -> usiz
     puts
 }
 
-/// Takes a transaction out from among the readers and the writers of each cell that it has accessed. The number of its Puts.
+/// Removes a transaction from the readers and the writers of each cell that it has accessed. Returns the number of its Puts.
 fn take_out(
     readers: &mut NumberedLists<Txn>,
     writers: &mut NumberedLists<Txn>,

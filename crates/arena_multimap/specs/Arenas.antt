@@ -16,7 +16,7 @@ segment_at ss i = get_or ss i none
 abbrev pub values_at : {V : Type 0} → List V → Segment → List V
 values_at vs s = take s.len (drop s.start vs)
 
--- the values of list i; a list that there is not has none
+-- the values of list i; empty if there is no such list
 abbrev pub list_at : {V : Type 0} → Arena V → ℕ → List V
 list_at a i = values_at a.values.items (segment_at a.segments.items i)
 

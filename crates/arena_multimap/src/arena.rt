@@ -8,7 +8,7 @@ ghost use Rattle.arena_multimap.specs.Arenas.{list_at, lists, segment_at, IsAren
 use std::alloc::{AllocError, Global};
 use vec_room::make_wide_room;
 
-/// For how many values room is made at the least, so that not every `reserve` takes memory.
+/// Room is made for at least this many values, so that not every `reserve` takes memory.
 pub(crate) const AHEAD: usize = 64;
 
 /// How many places each value pays for: the first ones of a list, or a part of the next move of its segment.
@@ -58,7 +58,7 @@ pub(crate) struct Arena<V> {
 }
 
 impl<V: Copy> Arena<V> {
-    /// No lists, and no room.
+    /// Returns no lists, with no room.
     pub(crate) fn new(alloc: Global) -> Self
         ensures sound { IsArena result }
         ensures lists { lists result ≡ 0 }
@@ -220,7 +220,7 @@ impl<V: Copy> Arena<V> {
         self.debt += SHARE;
     }
 
-    /// Puts a value among those of a list, or into the next new one.
+    /// Inserts a value into a list, or begins the next list with it.
     #[inline(always)]
     pub(crate) fn insert(&mut self, i: usize, at: usize, value: V)
         requires sound { IsArena self.old }
@@ -256,7 +256,7 @@ impl<V: Copy> Arena<V> {
         self.values[place] = value;
     }
 
-    /// Takes a value out of a list.
+    /// Removes a value from a list.
     pub(crate) fn take(&mut self, i: usize, at: usize)
         requires sound { IsArena self.old }
         requires at { at < length (list_at self.old i) }
@@ -271,7 +271,7 @@ impl<V: Copy> Arena<V> {
         self.segments[i].len -= 1;
     }
 
-    /// Takes all values out of a list, if there is one. Its segment stays.
+    /// Removes all values of a list, if there is one. Its segment stays.
     pub(crate) fn clear(&mut self, i: usize)
         requires { IsArena self.old }
         ensures sound { IsArena self.new }

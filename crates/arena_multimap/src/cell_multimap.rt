@@ -20,7 +20,7 @@ pub struct CellMultimap<V: Copy> {
     // Each cell has the list of its place.
     cells: CellIndex,
     lists: Arena<V>,
-    // For how many more values there is room.
+    // There is room for this many more values.
     spare: usize,
 }
 
@@ -50,7 +50,7 @@ impl<V: Copy> Model for CellMultimap<V> {
 }
 
 impl<V: Copy> CellMultimap<V> {
-    /// No values, and no room. Takes no memory.
+    /// Returns an empty multimap, with no room. Takes no memory.
     pub fn new(alloc: Global) -> Self
         ensures entries { result.entries ≡ [] }
         ensures spare { result.spare ≡ 0 }

@@ -16,7 +16,7 @@ use std::marker::Model;
 /// the later values of its list, and all of them if its segment is full, which is at most two moves for each value.
 pub struct NumberedLists<V: Copy> {
     lists: Arena<V>,
-    // For how many more beginnings and values there is room.
+    // There is room for this many more beginnings and values.
     spare: usize,
 }
 
@@ -41,7 +41,7 @@ impl<V: Copy> Model for NumberedLists<V> {
 }
 
 impl<V: Copy> NumberedLists<V> {
-    /// No lists, and no room. Takes no memory.
+    /// Returns no lists, with no room. Takes no memory.
     pub fn new(alloc: Global) -> Self
         ensures lists { result.lists ≡ [] }
         ensures spare { result.spare ≡ 0 }

@@ -21,9 +21,9 @@ use vec_room::make_wide_room;
 #[derive(Drop)]
 pub struct Batches {
     size: u16,
-    // All that have joined, in ascending number.
+    // The members that have joined, in ascending number.
     joined: Vec<Member>,
-    // The unfinished ones, in ascending number.
+    // The unfinished members, in ascending number.
     running: Vec<Member>,
     batches: Vec<Batch>,
 }

@@ -1,4 +1,4 @@
-//! Those that have joined, and their batches.
+//! The members that have joined, and their batches.
 
 ghost use Rattle.std.specs.Prelude.{◌≡◌, ◌<◌, ◌≤◌, eqb, not, find, filter, length, vec_len, vec_capacity, None, ◌+◌, ◌-◌, ◌^◌};
 ghost use Rattle.std.specs.List.{All, list_any};
@@ -66,7 +66,7 @@ fn search_member(members: &[Member], t: Txn) -> Result<usize, usize>
     members.binary_search_by_key(&t.0, |member| member.txn.0)
 }
 
-/// Enters one more into the open batch of a side, or opens one at a position. It answers the number of the batch.
+/// Admits one more to the open batch of a side, or opens one at a position. Returns the number of the batch.
 #[inline(always)]
 pub(crate) fn enter(
     joined: &[Member],

@@ -33,7 +33,7 @@ pub fn control_between<'a, K: Control>(controls: &'a [K], facts: &Facts, t: Txn,
     ensures meet { IsTrue (meets (setup_of facts.now) (events_of facts.now) (K.node_number result.now) t.0 u.0) }
     ensures stands { K.stands result.now (setup_of facts.now) (events_of facts.now) }
 {
-    // All meet at the node of a tree of one.
+    // In a tree of one node, all transactions meet there.
     if controls.len() == 1 {
         return control_at(controls, facts, Node(0));
     }

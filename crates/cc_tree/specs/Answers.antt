@@ -1,4 +1,4 @@
--- What is answered to a list of nodes, by its first fault.
+-- The answer to a list of nodes, by its first fault.
 use Rattle.std.specs.Prelude.{◌≡◌, ℕ, List, Option, Some, None, Result, Ok, Err}
 use Rattle.teb_rules.specs.Setup.{NodeRow}
 use Rattle.teb_rules.specs.Accepted.{Fault, tree_fault}

@@ -1,4 +1,4 @@
-//! All that is asked of a list of nodes, in order.
+//! The test of a list of nodes: shape, homes of the types, placement, in this order.
 
 ghost use Rattle.std.specs.Prelude.{◌≤◌, length};
 ghost use Rattle.cc_tree.specs.Answers.{Finds};

@@ -1,4 +1,4 @@
-//! What is wrong with a list of nodes that makes no tree.
+//! The faults of lists of nodes that make no tree.
 
 ghost use Rattle.std.specs.Prelude.{◌≡◌};
 
@@ -16,7 +16,7 @@ pub enum Rule {
     P3,
 }
 
-/// Why a list of nodes has not the shape of a tree.
+/// Why a list of nodes does not have the shape of a tree.
 #[derive(Clone, Copy, Debug, PartialEq, Eq)]
 pub enum ShapeWhy {
     /// Node 0 has a parent, or a later node has none.

@@ -53,7 +53,7 @@ impl Path {
         Ok(Path { nodes, followers })
     }
 
-    /// Its nodes, from the root down.
+    /// Returns its nodes, from the root down.
     pub(crate) fn nodes(&self) -> &[Node]
         ensures { result.now ≡ self.now }
     {

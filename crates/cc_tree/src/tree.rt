@@ -72,7 +72,7 @@ impl Tree {
         self.rows.len() as u8
     }
 
-    /// For how many types the tree was built.
+    /// Returns the number of types for which the tree was built.
     pub fn types(&self) -> u8
         ensures { result ≡ self.now.types }
     {

@@ -1,4 +1,4 @@
-//! Numbers of cells, by blocks of keys that follow one another.
+//! Numbers of cells, by blocks of consecutive keys.
 
 ghost use Rattle.std.specs.Prelude.{◌≡◌, ◌<◌, ◌≤◌, ℕ, length, Some, None, IsTrue, OnOk, if◌then◌else◌};
 ghost use Rattle.teb_names.specs.declared.Cell.{Cell};
@@ -8,7 +8,7 @@ ghost use Rattle.cell_index.specs.Blocks.{slots, slot_of as spec_slot_of, owner_
 use std::alloc::{AllocError, Global};
 use teb_names::{Cell, Table};
 
-/// How many keys that follow one another make a block.
+/// How many consecutive keys make a block.
 const KEYS_TO_A_BLOCK: u32 = 128;
 
 /// How many slots there are for blocks.
@@ -42,7 +42,7 @@ pub(crate) struct Blocks {
 }
 
 impl Blocks {
-    /// No slots, and no numbers. Takes no memory.
+    /// Returns no slots and no numbers. Takes no memory.
     pub(crate) fn new(alloc: Global) -> Self
         ensures paged { IsPaged result }
         ensures numbers { (x : Cell) (n : ℕ) → number_or result x n ≡ n }
@@ -69,7 +69,7 @@ impl Blocks {
         Ok(())
     }
 
-    /// Which block has the slot of a cell.
+    /// Returns which block has the slot of a cell.
     #[inline(always)]
     pub(crate) fn owner(&self, cell: Cell) -> Option<Owner>
         ensures { result ≡ owner_of self.now cell }

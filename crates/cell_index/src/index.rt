@@ -28,7 +28,7 @@ pub struct CellIndex {
     far: IndexMap<Cell, u32>,
     // In the order of their places.
     cells: Vec<Cell>,
-    // For how many more cells there is room.
+    // There is room for this many more cells.
     spare: usize,
 }
 
@@ -45,7 +45,7 @@ impl Model for CellIndex {
 }
 
 impl CellIndex {
-    /// No cells, and no room. Takes no memory.
+    /// Returns an empty index, with no room. Takes no memory.
     pub fn new(alloc: Global) -> Self
         ensures cells { result.cells ≡ [] }
         ensures spare { result.spare ≡ 0 }

@@ -7,11 +7,11 @@ use Rattle.teb_names.specs.Cells.{same_cell}
 use Rattle.chain_pool.specs.declared.places.Head.{Head}
 use Rattle.chain_pool.specs.declared.places.Chain.{Chain}
 
--- the head of no list
+-- the head of an empty list
 abbrev pub empty : Head
 empty = record { first = 0; len = 0 }
 
--- a chain of no places
+-- an empty chain
 abbrev pub no_chain : Chain
 no_chain = record { head = empty; last = 0 }
 
@@ -24,11 +24,11 @@ pub record CellHeads : Type 0 where
 abbrev pub with_next : List Chain → ℕ → List Chain
 with_next chains at = if at == length chains then chains ++ no_chain ∷ [] else chains
 
--- the head without a place, at which the next may take the first's part
+-- the head after a place is removed; if that was the first, the next one becomes the first
 abbrev pub without_place : Head → ℕ → ℕ → Head
 without_place h place next = record { first = (if h.first == place then next else h.first); len = h.len - 1 }
 
--- the last place without a place, at which the previous one may take its part
+-- the last place after a place is removed; if that was the last, the previous one becomes the last
 abbrev pub last_without : ℕ → ℕ → ℕ → ℕ
 last_without last place previous = if last == place then previous else last
 

@@ -31,7 +31,7 @@ impl Model for ChainHeads {
     ghost invariant = { λ h. length h.chains.items ≡ length h.cells.cells };
 }
 
-/// One number or another.
+/// Returns the one number if `first` is true, and else the other.
 fn chosen(first: bool, one: u32, other: u32) -> u32
     ensures { result ≡ (if first then one else other) }
 {
@@ -52,7 +52,7 @@ fn add_next(chains: &mut Vec<Chain>, at: usize)
 }
 
 impl ChainHeads {
-    /// No cells.
+    /// Returns no cells.
     pub(crate) fn new(alloc: Global) -> Self
         ensures { result.entries ≡ [] }
     {

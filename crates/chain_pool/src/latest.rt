@@ -8,10 +8,10 @@ ghost use Rattle.chain_pool.specs.Latest.{IsAbove, mark_of as spec_mark_of};
 
 use teb_names::{Cell, Txn};
 
-/// How many remainders of writers are told apart, twice as many as there are sessions.
+/// The number of remainders of writers, twice as many as there are sessions.
 const WRITERS: usize = 64;
 
-/// How many remainders of cells' keys are told apart.
+/// The number of remainders of cells' keys.
 const KEYS: usize = 32;
 
 /// How many marks there are, one for each pair of remainders.

@@ -1,4 +1,4 @@
-//! Places, and what is written at them.
+//! Places, and the steps that write them.
 
 ghost use Rattle.std.specs.Prelude.{◌≡◌, ◌<◌, ◌==◌, ℕ, length, if◌then◌else◌, IsSome, None, Some};
 ghost use Rattle.teb_names.specs.declared.Cell.{Cell};
@@ -87,7 +87,7 @@ pub(crate) struct Head {
     pub(crate) len: u32,
 }
 
-/// The head of no list.
+/// The head of an empty list.
 pub(crate) const EMPTY: Head = Head { first: 0, len: 0 };
 
 /// A cell's chain: its head, and its last place, at which a read begins.
@@ -97,7 +97,7 @@ pub(crate) struct Chain {
     pub(crate) last: u32,
 }
 
-/// A chain of no places.
+/// An empty chain.
 pub(crate) const NO_CHAIN: Chain = Chain {
     head: EMPTY,
     last: 0,

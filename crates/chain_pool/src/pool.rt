@@ -1,4 +1,4 @@
-//! Places in chains and writers' lists, and the steps that put a version in and take versions out.
+//! Places in chains and writers' lists, and the steps that insert a version and remove versions.
 
 ghost use Rattle.std.specs.Prelude.{◌≡◌, ◌<◌, ◌≤◌, ◌+◌, ◌^◌, ℕ, Bool, [], length, slice_get, insert, vec_len, vec_capacity, IsTrue, IsFalse, false, OnOk, IfSome, None, Some, eqb};
 ghost use Rattle.std.specs.Option.{option_map};
@@ -268,7 +268,7 @@ impl Pool {
         self.unused = Head { first, len: 1 };
     }
 
-    /// Puts a version in at a place of its cell's chain.
+    /// Inserts a version at a place of its cell's chain.
     pub(crate) fn place(&mut self, i: usize, version: Version)
         requires sound { IsSound self.old }
         requires room { HasRoom self.old 1 }

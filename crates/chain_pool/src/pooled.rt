@@ -45,7 +45,7 @@ impl Model for PooledChains {
 }
 
 impl PooledChains {
-    /// No versions, and no room.
+    /// Returns no versions, with no room.
     pub fn new(alloc: Global) -> Self
         ensures { (x : Cell) → list_in result x ≡ [] }
     {

@@ -24,7 +24,7 @@ use std::marker::Model;
 use teb_names::{Table, Txn};
 use txn_profile::Profile;
 
-/// For how many transactions more than are asked for room is made at a time.
+/// Room is made for this many transactions more than are asked for.
 const AHEAD: usize = 256;
 
 /// The cursor of each transaction that has begun, by its number. Contracts see the list of them, that of transaction 1
@@ -47,7 +47,7 @@ impl Model for Cursors {
 }
 
 impl Cursors {
-    /// No transaction. Takes no memory.
+    /// Returns an empty list of cursors. Takes no memory.
     pub fn new(alloc: Global) -> Cursors
         ensures { result.cursors ≡ [] }
     {

@@ -1,4 +1,4 @@
--- Readers and writers in a history, from whom each transaction read, and the unfinished ones. An abort takes out what its transaction read and put.
+-- Readers and writers in a history, from whom each transaction read, and the unfinished ones. An abort removes what its transaction read and put.
 use Rattle.std.specs.Prelude.{◌≡◌, Bool, cond, not, ◌&&◌, eqb, ltb, List, [], ◌∷◌, ◌++◌, filter, map, is_some}
 use Rattle.std.specs.List.{list_any}
 use Rattle.teb_names.specs.declared.Txn.{Txn}

@@ -13,7 +13,7 @@ use std::marker::Model;
 use teb_history::{Event, History};
 use teb_names::{Cell, Txn};
 
-/// For how many events room is made at the least, so that not every `reserve` goes through all registers.
+/// Room is made for at least this many events, so that not every `reserve` goes through all registers.
 const AHEAD: usize = 256;
 
 /// The readers and writers of each cell, from whom each transaction read, and the unfinished transactions. An abort removes what its
@@ -21,7 +21,7 @@ const AHEAD: usize = 256;
 #[derive(Drop)]
 pub struct Book {
     registers: Registers,
-    // For how many events there is room.
+    // There is room for this many events.
     spare: usize,
 }
 

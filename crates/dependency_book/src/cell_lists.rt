@@ -117,7 +117,7 @@ impl CellLists {
         }
     }
 
-    /// Takes the last pair of t out of the readers of a cell. The search goes from the end, past what was read there since.
+    /// Removes the last pair of t from the readers of a cell. The search goes from the end, past what was read there since.
     fn forget_read(&mut self, cell: Cell, t: Txn)
         ensures readers { (x : Cell) → readers_of self.new x ≡ cond (same_cell cell x) (without_last (λ r. eqb r.0.0 t.0) (readers_of self.old x)) (readers_of self.old x) }
         ensures writers { (x : Cell) → writers_of self.new x ≡ writers_of self.old x }

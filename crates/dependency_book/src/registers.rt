@@ -77,7 +77,7 @@ impl Registers {
         }
     }
 
-    /// A transaction begins.
+    /// Notes that a transaction begins.
     fn begin(&mut self, t: Txn)
         requires ascending { SourcesAscend self.old.sources.lists }
         requires room { HasRooms self.old 1 }
@@ -89,7 +89,7 @@ impl Registers {
         let _ = self.unfinished.push(t);
     }
 
-    /// A transaction reads a cell.
+    /// Notes that a transaction reads a cell.
     fn read(&mut self, t: Txn, cell: Cell, from: Txn)
         requires ascending { SourcesAscend self.old.sources.lists }
         requires room { HasRooms self.old 1 }
@@ -115,7 +115,7 @@ impl Registers {
         self.cells.put(cell, t);
     }
 
-    /// A transaction commits.
+    /// Notes a commit.
     fn commit(&mut self, t: Txn)
         requires { SourcesAscend self.old.sources.lists }
         ensures ascending { SourcesAscend self.new.sources.lists }
@@ -125,7 +125,7 @@ impl Registers {
         teb_history::remove_txn(&mut self.unfinished, t);
     }
 
-    /// A transaction is aborted by the newest event of the history.
+    /// Notes an abort, by the newest event of the history.
     fn abort(&mut self, history: &History, t: Txn)
         requires { SourcesAscend self.old.sources.lists }
         ensures ascending { SourcesAscend self.new.sources.lists }

@@ -56,7 +56,7 @@ abbrev pub IsRefusal : Store → List Event → ℕ → Cell → Option Refusal 
 IsRefusal X H t x None = (granted : Answered) → or_refused X H t x granted ≡ granted
 IsRefusal X H t x (Some r) = (granted : Answered) → or_refused X H t x granted ≡ refuse H r
 
--- what a stop makes of a request of t
+-- the decision on a request of t that stops
 abbrev pub IsStopped : Store → List Event → ℕ → Stop → Decision → Type 0
 IsStopped X H t s d = ((granted : Answered) → carried X H d ≡ or_stop H t s granted) × ((L : Cell → List Version) → IsBounded L X.setup H d)
 

@@ -1,4 +1,4 @@
--- What versions need to keep up with the history.
+-- What versions need to follow the history.
 use Rattle.std.specs.Prelude.{◌≡◌, ◌≤◌, ℕ, List, length, slice_get, Some, IsTrue}
 use Rattle.teb_names.specs.declared.Cell.{Cell}
 use Rattle.teb_history.specs.declared.Event.{Event}

@@ -14,6 +14,6 @@ latest_txn (_ ∷ P) s = latest_txn P s
 abbrev pub listed : List Txn → ℕ → Txn
 listed ts s = get_or ts s (record { 0 = 0 })
 
--- for each session the one is listed that it began last
+-- the list has for each session the transaction that it began last
 abbrev pub AreLatest : List Txn → List Event → Type 0
 AreLatest ts H = (s : ℕ) → listed ts s ≡ latest_txn H s

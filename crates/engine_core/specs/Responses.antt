@@ -1,4 +1,4 @@
--- What came of a request: its reply, or a scan whose cells are still to be read.
+-- The outcome of a request: its reply, or a scan whose cells are still to be read.
 use Rattle.std.specs.Prelude.{◌≡◌, ◌≤◌, ◌+◌, ◌^◌}
 use Rattle.teb_rules.specs.Answer.{Answered}
 use Rattle.short_reply.specs.ShortReplies.{full_reply}

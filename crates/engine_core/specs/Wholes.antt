@@ -1,4 +1,4 @@
--- What holds of all that an engine keeps at once.
+-- What holds of all that an engine keeps together.
 use Rattle.std.specs.Prelude.{◌≡◌, ◌≤◌, ℕ, List, length, slice_get, Some}
 use Rattle.teb_names.specs.declared.TheConstants.{MOST_TXNS}
 use Rattle.teb_names.specs.declared.Cell.{Cell}
@@ -45,7 +45,7 @@ pub record ViewIsWhole {K C : Type 0} (node_number : K → ℕ) (stands : K → 
   pub whole : IsWhole node_number stands (store_in p) (events_in p) p.state.now.controls.items (lists p.state.now.chains) p.state.now.book.lists p.state.now.cursors.cursors p.state.now.latest
   pub settled : Settled (events_in p)
 
--- the same of what the engine owns, between two answers or amid one
+-- the same of what the engine owns, between two answers or within one
 abbrev pub StateIsWhole : {K C : Type 0} → (K → ℕ) → (K → Setup → List Event → Type 0) → (C → Cell → List Version) → EngineState K C → Type 0
 StateIsWhole node_number stands lists c = IsWhole node_number stands (store_of c.setup) c.history.events c.controls.items (lists c.chains) c.book.lists c.cursors.cursors c.latest
 

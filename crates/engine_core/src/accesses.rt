@@ -1,4 +1,4 @@
-//! What a read, a write and a deletion are answered, and the refusals of every access.
+//! Decisions on reads, writes and deletions, and the refusals of every access.
 
 ghost use Rattle.std.specs.Prelude.{◌≡◌, None};
 ghost use Rattle.teb_names.specs.declared.Request.TheVariants as request;

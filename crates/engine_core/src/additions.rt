@@ -1,4 +1,4 @@
-//! What an addition is answered.
+//! Decisions on additions.
 
 ghost use Rattle.std.specs.Prelude.{◌≡◌};
 ghost use Rattle.teb_names.specs.declared.Request.TheVariants as request;

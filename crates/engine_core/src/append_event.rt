@@ -1,4 +1,4 @@
-//! An event is appended to the history, and all that is kept of the history keeps up with it.
+//! Appending an event to the history, and noting it in all that is kept of the history.
 
 ghost use Rattle.std.specs.Prelude.{◌≡◌, ◌<◌, ◌≤◌, ◌+◌, ◌∷◌, length, drop};
 ghost use Rattle.teb_history.specs.declared.Event.{Event};
@@ -75,7 +75,7 @@ fn append<K: Control, C: Chains>(state: &mut EngineState<K, C>, event: Event, pl
     state.room -= 1;
 }
 
-/// The cursors after the newest event.
+/// Notes the newest event in the cursors.
 #[inline(always)]
 fn move_cursors(cursors: &mut Cursors, history: &History, setup: &Setup, event: Event)
     requires newest { history.now.events ≡ event ∷ drop 1 history.now.events }

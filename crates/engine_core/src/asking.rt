@@ -29,7 +29,7 @@ pub struct Asking<'a, K: Control, C: Chains> {
 }
 
 impl<'a, K: Control, C: Chains> Asking<'a, K, C> {
-    /// That of an unfinished transaction, which may be prepared.
+    /// Returns the asking of an unfinished transaction, which may be prepared.
     pub fn of(view: &'a EngineView<'a, K, C>, txn: Txn, is_prepared: bool) -> Self
         requires whole { ViewIsWhole K.node_number K.stands C.lists view.now }
         requires unfinished { IsTrue (unfinished (events_in view.now) txn.0) }

@@ -1,4 +1,4 @@
-//! What a request is answered, before anything is written.
+//! The decision on a request, before anything is written.
 
 ghost use Rattle.std.specs.Prelude.{◌≡◌, ◌&&◌, leb};
 ghost use Rattle.teb_rules.specs.Answer.{answer, answer_new, answer_of};

@@ -1,4 +1,4 @@
-//! What the engine does with a request.
+//! Decisions: what the engine does on a request.
 
 ghost use Rattle.std.specs.Prelude.{◌≡◌, List};
 ghost use Rattle.teb_history.specs.declared.Event.{Event};
@@ -28,7 +28,7 @@ pub enum Decision {
     },
     /// The transaction reads this many cells, from this one on.
     Scan(Txn, Cell, u8),
-    /// The transaction is aborted, and all that have to fall with it.
+    /// The transaction is aborted, with its cascade.
     Fall(Txn, Cause),
 }
 

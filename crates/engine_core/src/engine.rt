@@ -31,7 +31,7 @@ use teb_history::History;
 use teb_names::{MOST_TXNS, Reply, Request, Session};
 use version_chain::Chains;
 
-/// A store with its history, and the answers that go on with it. Contracts see the store, its names, the events, the
+/// A store with its history, which answers requests. Contracts see the store, its names, the events, the
 /// newest first, and whether there is room for an answer.
 pub struct Engine<C: Chains> {
     state: Box<EngineState<AnyControl, C>>,

@@ -1,4 +1,4 @@
-//! What a decision looks at: what an engine keeps, lent, and the `Facts` of it, which controls are told.
+//! What a decision looks at: what an engine keeps, lent, and the `Facts` that controls are told.
 
 ghost use Rattle.std.specs.Prelude.{◌≡◌, ◌<◌, ltb, length, IsTrue, slice_get, Some};
 ghost use Rattle.teb_rules.specs.Versions.{read};

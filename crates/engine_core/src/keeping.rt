@@ -1,4 +1,4 @@
-//! Versions and cursors keep up with the history.
+//! Noting an event in the versions and the cursors.
 
 ghost use Rattle.std.specs.Prelude.{◌≡◌, ◌<◌, ◌≤◌, ◌+◌, ◌∷◌, List, length, drop};
 ghost use Rattle.teb_history.specs.declared.Event.{Event};

@@ -34,14 +34,14 @@ impl LatestTxns {
         }
     }
 
-    /// That of a session.
+    /// Returns the transaction that a session began last, or 0.
     pub fn of(&self, session: Session) -> Txn
         ensures { result ≡ listed self.now session.0 }
     {
         self.txns[usize::from(session.0)]
     }
 
-    /// An event is noted.
+    /// Notes an event.
     #[inline(always)]
     pub fn note(&mut self, event: Event)
         ensures { (H : List Event) → AreLatest self.old H → AreLatest self.new (event ∷ H) }

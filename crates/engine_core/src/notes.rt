@@ -1,4 +1,4 @@
-//! Each control notes each event.
+//! Noting an event in each control.
 
 ghost use Rattle.std.specs.Prelude.{◌≡◌, ◌<◌, ◌≤◌, ℕ, suc, List, drop, length, OnOk, ◌∷◌};
 ghost use Rattle.teb_history.specs.declared.Event.{Event};
@@ -14,7 +14,7 @@ use std::alloc::AllocError;
 use store_setup::Setup;
 use teb_history::{Event, History};
 
-/// The control of each node notes the newest event.
+/// Notes the newest event in the control of each node.
 #[inline(always)]
 pub fn note_each<K: Control>(controls: &mut Vec<K>, history: &History, setup: &Setup, event: Event)
     requires stand { StandAll K.node_number K.stands controls.old.items (store_of setup.now).setup (drop 1 history.now.events) }

@@ -1,4 +1,4 @@
-//! The cells of a scan are read.
+//! Reading the cells of a scan.
 
 ghost use Rattle.std.specs.Prelude.{◌≡◌, ◌≤◌, ◌+◌, ◌^◌};
 ghost use Rattle.teb_rules.specs.Answer.{cells_from, read_all};

@@ -13,7 +13,7 @@ use version_chain::Chains;
 /// The most events of one answer: an abort takes one transaction of each other session with it at most, and a scan reads 16 cells.
 pub(crate) const MOST_EVENTS: usize = SESSIONS as usize;
 
-/// For how many events room is made at a time.
+/// Room is made for this many events at a time.
 const AHEAD: usize = 256;
 
 /// Makes room for one answer, if there is less. Everything stands for the same history as before.

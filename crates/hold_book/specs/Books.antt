@@ -11,7 +11,7 @@ use Rattle.hold_book.specs.declared.Hold.{Hold}
 use Rattle.hold_book.specs.declared.slots.Alone.{Alone}
 use Rattle.hold_book.specs.Slots.{only_hold, only_or}
 
--- the number of the transaction that holds
+-- the number of the transaction of a hold
 abbrev pub hold_number : Hold → ℕ
 hold_number h = h.txn.0
 
@@ -37,7 +37,7 @@ has_put t hs = list_any (λ h. eqb h.txn.0 t && h.wrote) hs
 abbrev pub accessed : Txn → Bool → List Hold → List Hold
 accessed t wrote hs = put_by hold_number (record { txn = t; wrote = wrote || has_put t.0 hs }) hs
 
--- the holds of everybody but t
+-- the holds of all transactions but t
 abbrev pub released : ℕ → List Hold → List Hold
 released t hs = filter (λ h. not (eqb h.txn.0 t)) hs
 

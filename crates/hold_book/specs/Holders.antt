@@ -33,7 +33,7 @@ pub record MayHold (S : Setup) (H : List Event) (n t : ℕ) : Type 0 where
   pub unfinished : IsTrue (unfinished H t)
   pub on : IsTrue (on S H n t)
 
--- the event leaves everybody's holds at n as they are: it is a Began of a new transaction, or no access and no end, or it is of a transaction off the path
+-- the event changes no hold at n: it is a Began of a new transaction, or no access and no end, or it is of a transaction off the path
 abbrev pub LeavesHolds : Setup → List Event → ℕ → Event → Type 0
 LeavesHolds S P n (Began t s k i) = (t.0 ≡ suc (begun_count P)) × ((x : Cell) → (wrote P t.0 x ≡ false) × (got P t.0 x ≡ false))
 LeavesHolds S P n (Got t x w v) = IsFalse (on S P n t.0)

@@ -20,7 +20,7 @@ use std::marker::Model;
 use teb_history::{Event, History};
 use teb_names::{Cell, Txn};
 
-/// For how many accesses a book makes room at the least.
+/// A book makes room for at least this many accesses.
 const AHEAD: usize = 64;
 
 /// The lock table of a node. Contracts see the holds on each cell, and for how many accesses there is room.
@@ -30,7 +30,7 @@ pub struct HoldBook {
     slots: Vec<Option<Alone>>,
     // By cell: the holds on each other cell, in ascending number.
     others: Multimap<Cell, Hold>,
-    // For how many accesses there is room.
+    // There is room for this many accesses.
     spare: usize,
 }
 
@@ -111,7 +111,7 @@ impl HoldBook {
         alone
     }
 
-    // A transaction no longer holds a cell. The room stays.
+    // Releases a cell. The room stays.
     #[inline(always)]
     fn release(&mut self, t: Txn, cell: Cell)
         ensures here { shown self.new cell ≡ released t.0 (shown self.old cell) }

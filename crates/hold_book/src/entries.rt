@@ -88,7 +88,7 @@ fn share(
     put_in(others, cell, t, wrote);
 }
 
-/// A transaction no longer holds a cell. The room stays.
+/// Releases a cell that a transaction holds. The room stays.
 #[inline(always)]
 pub(crate) fn release_in(
     slots: &mut [Option<Alone>],

@@ -40,7 +40,7 @@ pub struct Hold {
     pub wrote: bool,
 }
 
-/// The number of the transaction that holds.
+/// A hold is numbered by its transaction.
 impl Numbered for Hold {
     ghost numbered_by = { hold_number };
 

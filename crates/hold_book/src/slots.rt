@@ -91,7 +91,7 @@ pub(crate) fn take_free(slots: &mut [Option<Alone>], cell: Cell, hold: Hold) -> 
     true
 }
 
-/// Takes a cell out of its slot.
+/// Removes a cell from its slot.
 #[inline(always)]
 pub(crate) fn clear(slots: &mut [Option<Alone>], cell: Cell)
     requires { IsTrue (is_some (spec_only_hold slots.old cell)) }

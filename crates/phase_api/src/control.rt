@@ -1,4 +1,4 @@
-//! What a control answers.
+//! The trait of controls.
 
 ghost use Rattle.std.specs.Prelude.{◌≡◌, ◌<◌, ◌≤◌, ◌+◌, ℕ, List, drop, OnOk, IsTrue, true, false, find};
 ghost use Rattle.teb_history.specs.declared.Event.{Event};

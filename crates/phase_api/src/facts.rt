@@ -1,4 +1,4 @@
-//! What controls are told.
+//! The facts that controls are told.
 
 ghost use Rattle.std.specs.Prelude.{◌≡◌, ◌↔◌, ◌&&◌, not, eqb, cond, Some, None, IfSome, IsSome, IsTrue};
 

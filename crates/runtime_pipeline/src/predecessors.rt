@@ -34,7 +34,7 @@ pub struct Predecessors {
     behind: Vec<Txn>,
     // How many transactions are unfinished.
     unfinished: usize,
-    // For how many events there is room.
+    // There is room for this many events.
     spare: usize,
     // How many transactions may be unfinished while the room lasts, and so how many an event may put into a list.
     most: usize,
@@ -118,7 +118,7 @@ impl Predecessors {
         }
     }
 
-    // A transaction begins.
+    // Notes that a transaction begins.
     fn begin(&mut self)
         requires { 0 < self.old.spare }
         ensures lists { self.new.lists ≡ self.old.lists }
@@ -129,7 +129,7 @@ impl Predecessors {
         self.spare -= 1;
     }
 
-    // A transaction accesses a cell: those that hold it and are in the way are ahead of the transaction from now on.
+    // Notes an access of a cell: its holders that are in the way are ahead of the transaction from now on.
     fn access(&mut self, facts: &Facts, node: Node, t: Txn, holds: &[Hold], write: bool)
         requires room { 0 < self.old.spare }
         requires few { length holds.now ≤ self.old.unfinished }
@@ -146,7 +146,7 @@ impl Predecessors {
         self.spare -= 1;
     }
 
-    // A transaction finishes: it goes out of the lists of the others, and its own is empty.
+    // Notes that a transaction finishes: it leaves the lists of the others, and its own is emptied.
     fn finish(&mut self, t: Txn)
         requires room { 0 < self.old.spare }
         requires unfinished { 0 < self.old.unfinished }
@@ -200,7 +200,7 @@ fn put_holders(
     some
 }
 
-// Adds t to some, unless it is there.
+// Adds t to a vector, unless it is there.
 fn add_once(behind: &mut Vec<Txn>, t: Txn)
     requires { vec_len behind.old < vec_capacity behind.old }
     ensures members { (v : Txn) → has v behind.new.items ≡ (has v behind.old.items || eqb t.0 v.0) }
@@ -230,7 +230,7 @@ fn take_away(lists: &mut Multimap<Txn, Txn>, behind: &mut Vec<Txn>, t: Txn)
     behind.retain(|u| *u != t);
 }
 
-// Takes t out of the lists of some.
+// Removes t from the lists of some transactions.
 fn take_out(lists: &mut Multimap<Txn, Txn>, behind: &[Txn], t: Txn)
     requires { (v : Txn) → IsAscendingBy number_of (values_in txn_cmp lists.old v) }
     ensures values { (v : Txn) → values_in txn_cmp lists.new v ≡ cond (has v behind.now) (without t.0 (values_in txn_cmp lists.old v)) (values_in txn_cmp lists.old v) }

@@ -15,7 +15,7 @@ pub fn order_keeps_conflicts()
     ensures { OfEveryOrder KeepsConflicts }
 {}
 
-/// Ranks rise up the tree: those at the nodes above one do not go against its own.
+/// The ranks at the nodes above a node do not go against its order.
 pub fn ranks_rise()
     ensures { OfEveryEngine (λ e. RanksAgree e.store.setup e.events) }
 {}

@@ -20,7 +20,7 @@ pub(crate) struct SeenCells {
 }
 
 impl SeenCells {
-    /// Returns no cells. The tables share `marks` marks evenly, and each has at least one.
+    /// Returns an empty set of cells. The tables share `marks` marks evenly, and each has at least one.
     pub(crate) fn new(alloc: Global, tables: u8, marks: usize) -> Result<Self, AllocError>
         ensures { IfOk result IsSound }
     {

@@ -1,4 +1,4 @@
--- What is said of a control that is asked.
+-- Definitions about a control that is asked.
 use Rattle.std.specs.Prelude.{◌≡◌, ◌&&◌, ℕ, Bool, not, List, IsTrue, IsFalse, filter, leb, ltb}
 use Rattle.teb_names.specs.declared.Txn.{Txn}
 use Rattle.teb_history.specs.declared.Event.{Event}
@@ -26,7 +26,7 @@ HasBegun a u = IsTrue (begun (events_of a.facts.now) u)
 abbrev pub IsAt : Asked → ℕ → Type 0
 IsAt a u = IsHere a.facts.now a.register.now.node.0 u
 
--- a word of the setup, the history and the node
+-- a definition, applied to the setup, the history and the node
 abbrev pub there {ℓ} : {A : Type ℓ} → Asked → (Setup → List Event → ℕ → A) → A
 there a p = p (setup_of a.facts.now) (events_of a.facts.now) a.register.now.node.0
 
@@ -53,7 +53,7 @@ pub record IsGranted (a : Asked) (t : ℕ) : Type 0 where
   pub lawful : Lawful (setup_of a.facts.now) (events_of a.facts.now)
   pub runs : IsFalse (aborted (events_of a.facts.now) t)
 
--- what is left of a walk along the accesses of t, in the control's own book, is all of them
+-- a walk over the accesses of t, in the control's own book, has all of them before it
 pub record IsWalk (a : Asked) (t : ℕ) (w : Walk) : Type 0 where
   pub book : w.book ≡ a.register.now.accesses
   pub left : w.left ≡ touched_in (own_events (history a) t)

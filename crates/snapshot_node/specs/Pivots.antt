@@ -38,7 +38,7 @@ lesser_of None o = o
 lesser_of (Some t) None = Some t
 lesser_of (Some t) (Some u) = Some (cond (ltb u.0 t.0) u t)
 
--- of two edges that of the lesser tail, or the only one
+-- the one of two edges with the lesser tail, or the only one
 abbrev pub earlier_of : Option (Txn × Txn) → Txn × Txn → Option (Txn × Txn)
 earlier_of None f = Some f
 earlier_of (Some e) f = Some (cond (ltb f.0.0 e.0.0) f e)
@@ -87,7 +87,7 @@ module _ (S : Setup) (H : List Event) (n t : ℕ) where
   IsLeastEdgeFrom p b None = (c d : ℕ) → IsTrue (p c) → Leaves b c d → ⊥
   IsLeastEdgeFrom p b (Some e) = Leaves b e.0.0 e.1.0 × ((c d : ℕ) → IsTrue (p c) → Leaves b c d → e.0.0 ≤ c) × ((d : ℕ) → Leads e.0.0 d → e.1.0 ≤ d)
 
-  -- the same, but for edges of others to t, of which it may leave some out
+  -- the same, but for edges of others to t, some of which it may leave out
   abbrev pub IsLeastEdgeAside : ℕ → Option (Txn × Txn) → Type 0
   IsLeastEdgeAside b None = (c d : ℕ) → Leaves b c d → d ≡ t
   IsLeastEdgeAside b (Some e) = Leaves b e.0.0 e.1.0 × ((c d : ℕ) → Leaves b c d → (d ≡ t → ⊥) → e.0.0 ≤ c) × ((d : ℕ) → Leads e.0.0 d → e.1.0 ≤ d)

@@ -1,4 +1,4 @@
--- What is said of a validation.
+-- Definitions about a validation.
 use Rattle.std.specs.Prelude.{ℕ, Bool, ◌||◌, eqb, List, IsTrue, IsFalse}
 use Rattle.teb_names.specs.declared.Txn.{Txn}
 use Rattle.teb_history.specs.declared.Event.{Event}
@@ -25,7 +25,7 @@ IsAtStake v u = IsTrue (is_at_stake (events_of v.asked.facts.now) v.t.0 u)
 abbrev pub ruled : Validation → Verdict
 ruled v = there v.asked (validate (row (setup_of v.asked.facts.now).tree v.asked.register.now.node.0).control) v.t.0
 
--- a word of the setup, the history, the node and the one that validates
+-- a definition, applied to the setup, the history, the node and the transaction that validates
 abbrev pub at {ℓ} : {A : Type ℓ} → Validation → (Setup → List Event → ℕ → ℕ → A) → A
 at v p = there v.asked p v.t.0
 

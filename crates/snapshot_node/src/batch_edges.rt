@@ -10,7 +10,7 @@ use crate::neighbours::{is_at_stake, lesser};
 use crate::validation::{Own, Validation};
 use teb_names::Txn;
 
-/// Of two edges that of the lesser tail, or the only one.
+/// Returns the one of two edges with the lesser tail, or the only one.
 fn earlier(known: Option<(Txn, Txn)>, edge: (Txn, Txn)) -> Option<(Txn, Txn)>
     ensures { result ≡ earlier_of known edge }
 {

@@ -7,7 +7,7 @@ ghost use Rattle.teb_history.specs.Live.{number_of};
 
 use teb_names::Txn;
 
-/// At how many of the last ones `from_number` looks before it searches all.
+/// `from_number` looks at this many of the last ones before it searches all.
 const FEW: usize = 4;
 
 /// Returns those of ascending transactions that are numbered from `first` on. Nearly always they are among the last few.

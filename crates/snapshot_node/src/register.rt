@@ -25,7 +25,7 @@ pub struct Register {
 }
 
 impl Register {
-    /// That of an empty history. Takes no memory.
+    /// Returns the register of an empty history. Takes no memory.
     pub(crate) fn new(alloc: Global, node: Node, facts: &Facts) -> Result<Self, AllocError>
         requires kind { (row (setup_of facts.now).tree node.0).control ≡ IsSnapshot }
         requires empty { events_of facts.now ≡ [] }

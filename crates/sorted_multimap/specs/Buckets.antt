@@ -78,7 +78,7 @@ pub record IsKept {K V : Type 0} (R : K → K → Ordering) (a b : Bucket K V) :
   pub sorted : IsSorted R a → IsSorted R b
   pub room : (n : ℕ) → HasRoom a n → HasRoom b n
 
--- so do the buckets of two lists, place by place
+-- the same of the buckets of two lists, place by place
 pub record AreKept {K V : Type 0} (R : K → K → Ordering) (as_ bs : List (Bucket K V)) : Type 0 where
   pub len : length bs ≡ length as_
   pub each : (i : ℕ) (d : Bucket K V) → i < length as_ → IsKept R (get_or as_ i d) (get_or bs i d)

@@ -10,7 +10,7 @@ use std::alloc::{AllocError, Global};
 use std::cmp::Ordering;
 use vec_room::{make_room, put_in};
 
-/// For how many more items than are asked for a bucket makes room, so that the first of them do not make it move.
+/// A bucket makes room for this many more items than are asked for, so that the first of them do not make it move.
 const SPARE: usize = 16;
 
 /// How many keys a search looks at one after the other.
@@ -24,7 +24,7 @@ pub(crate) struct Bucket<K, V> {
 }
 
 impl<K: Ord + Copy, V: Copy> Bucket<K, V> {
-    /// No values, and no room.
+    /// Returns an empty bucket, with no room.
     pub(crate) fn new(alloc: Global) -> Self
         ensures keys { result.keys.items ≡ [] }
         ensures values { result.values.items ≡ [] }
@@ -83,7 +83,7 @@ impl<K: Ord + Copy, V: Copy> Bucket<K, V> {
         (start, end)
     }
 
-    // Puts the first value into a bucket of none.
+    // Puts the first value into an empty bucket.
     #[inline(always)]
     fn put_first(&mut self, key: K, value: V)
         requires none { vec_len self.old.keys ≡ 0 }

@@ -13,10 +13,10 @@ use crate::bucket::Bucket;
 use std::alloc::{AllocError, Global};
 use std::marker::Model;
 
-// How many buckets there are for some dozens of values.
+// The number of buckets for a few dozen values.
 const BUCKETS: usize = 32;
 
-// Among how many buckets the keys are spread.
+// The number of buckets among which the keys are spread.
 #[derive(Clone, Copy)]
 enum Width {
     One,
@@ -34,7 +34,7 @@ impl Width {
     }
 }
 
-// For how many values each bucket gets room at the least, so that not every `reserve` goes through all of them.
+// Each bucket gets room for at least this many values, so that not every `reserve` goes through all of them.
 const AHEAD: usize = 64;
 
 /// A multimap: values, each beside its key. Those of a key have an order, and are lent as one slice.
@@ -48,7 +48,7 @@ pub struct Multimap<K: Key, V: Copy> {
     width: Width,
     // A key is in the bucket whose number is the remainder of its spread. There are no buckets before the first `reserve`.
     buckets: Vec<Bucket<K, V>>,
-    // For how many more values each bucket has room.
+    // Each bucket has room for this many more values.
     spare: usize,
 }
 
@@ -65,7 +65,7 @@ impl<K: Key, V: Copy> Model for Multimap<K, V> {
 }
 
 impl<K: Key, V: Copy> Multimap<K, V> {
-    /// No values, and no room, for some dozens of values at a time: in 32 buckets, so that most have one key or none. Takes no memory.
+    /// Returns an empty multimap, with no room, for a few dozen values: in 32 buckets, so that most have at most one key. Takes no memory.
     pub fn small(alloc: Global) -> Self
         ensures entries { result.entries ≡ [] }
         ensures spare { result.spare ≡ 0 }
@@ -78,7 +78,7 @@ impl<K: Key, V: Copy> Multimap<K, V> {
         }
     }
 
-    /// No values, and no room, for a few values: in one bucket, so that room costs little. Takes no memory.
+    /// Returns an empty multimap, with no room, for a few values: in one bucket, so that room costs little. Takes no memory.
     pub fn narrow(alloc: Global) -> Self
         ensures entries { result.entries ≡ [] }
         ensures spare { result.spare ≡ 0 }
@@ -171,7 +171,7 @@ fn make_buckets<K: Key, V: Copy>(
     Ok(())
 }
 
-/// Buckets with no values and no room.
+/// Returns empty buckets, with no room.
 fn empty_buckets<K: Key, V: Copy>(
     alloc: Global,
     count: usize,

@@ -20,7 +20,7 @@ impl Model for Ranks {
 }
 
 impl Ranks {
-    /// Ranks from a list, by table.
+    /// Returns the ranks of a list, by table.
     pub(crate) fn new(ranks: Vec<u8>) -> Ranks
         ensures { result ≡ ranks.items }
     {

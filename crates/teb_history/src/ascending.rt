@@ -39,7 +39,7 @@ fn search_standing(standings: &[Standing], t: Txn) -> Result<usize, usize>
     }
 }
 
-/// What an event of a transaction found of it, and what it changed.
+/// The end of a transaction's earlier events, and the change that an event made.
 #[derive(Clone, Copy)]
 pub struct Noted {
     /// The end of the transaction's events before it.

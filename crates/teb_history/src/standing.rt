@@ -12,7 +12,7 @@ pub struct Start {
     pub spot: Spot,
 }
 
-/// What the events of one transaction say of it.
+/// The standing of one transaction.
 #[derive(Clone, Copy)]
 pub struct Standing {
     pub txn: Txn,
@@ -30,7 +30,7 @@ pub struct Standing {
 impl Standing {
     ghost use Rattle.teb_history.specs.Standings.{blank, standing_after, turned, stands_unfinished, stands_live, stands_prepared, stands_session, standing_phase};
 
-    /// That of a transaction with no event.
+    /// Returns the standing of a transaction with no event.
     pub fn blank(txn: Txn) -> Standing
         ensures { result ≡ blank txn }
     {
@@ -94,14 +94,14 @@ impl Standing {
         }
     }
 
-    /// Begun, and neither committed nor aborted.
+    /// Returns whether it has begun, and neither committed nor aborted.
     pub fn is_unfinished(&self) -> bool
         ensures { result ≡ stands_unfinished self.now }
     {
         self.start.is_some() && !self.done && self.gone.is_none()
     }
 
-    /// Unfinished, and it has Ready.
+    /// Returns whether it is unfinished and has Ready.
     pub fn is_prepared(&self) -> bool
         ensures { result ≡ stands_prepared self.now }
     {
@@ -115,7 +115,7 @@ impl Standing {
         self.start.map_or(0, |start| start.session.0)
     }
 
-    /// Unfinished, or aborted by a cascade with a session that was not told of it.
+    /// Returns whether it is unfinished, or was aborted by a cascade of which its session was not told.
     pub fn is_live(&self) -> bool
         ensures { result ≡ stands_live self.now }
     {

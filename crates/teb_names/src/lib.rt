@@ -45,7 +45,7 @@ pub use scan::ScanList;
 #[derive(Clone, Copy, Debug, PartialEq, Eq, PartialOrd, Ord, Hash)]
 pub struct Txn(pub u32);
 
-/// How many transactions of one engine begin at most: a Begin past them is refused as `Full`. A hall lays out a note for each of
+/// At most this many transactions of one engine begin; a further Begin is refused as `Full`. A hall makes a note for each of
 /// them beforehand.
 pub const MOST_TXNS: u32 = 8192;
 
@@ -95,7 +95,7 @@ pub enum ControlKind {
     Snapshot,
 }
 
-/// What a session asks.
+/// A request of a session.
 #[derive(Clone, Copy, Debug, PartialEq, Eq)]
 pub enum Request {
     /// Begins a transaction.
@@ -106,21 +106,21 @@ pub enum Request {
     Write(Cell, i64),
     /// Adds a number to the value that the transaction last put or read there; a row that is absent counts as 0.
     Add(Cell, i64),
-    /// Takes a row away.
+    /// Deletes a row.
     Delete(Cell),
-    /// Reads `count` rows, 1 to 16, whose keys follow one another from the cell's on.
+    /// Reads `count` rows, 1 to 16, with consecutive keys from the cell's on.
     Scan { cell: Cell, count: u8 },
-    /// Makes sure that the transaction can commit.
+    /// Prepares the transaction: it is validated, and makes no further access.
     Prepare,
     /// Commits the transaction.
     Commit,
     /// Aborts the transaction.
     Abort,
-    /// Aborts what is left, at the end of a session.
+    /// Ends the session: aborts the transaction that it holds.
     End,
 }
 
-/// What a session is answered.
+/// A reply to a session.
 #[derive(Clone, Copy, Debug, PartialEq, Eq)]
 pub enum Reply {
     /// The transaction that began.
@@ -195,7 +195,7 @@ pub enum Refusal {
     UnknownTable,
     /// The transaction is prepared.
     Prepared,
-    /// No step that is left of the transaction's type has the table.
+    /// No step of the transaction's profile, from its current one on, has the table.
     NotInProfile,
     /// A scan of no rows, of more than 16, or past the last key.
     Range,

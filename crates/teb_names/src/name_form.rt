@@ -1,4 +1,4 @@
-//! What a name looks like.
+//! The form of a name.
 
 ghost use Rattle.std.specs.Prelude.{◌≡◌};
 ghost use Rattle.std.specs.List.{list_all};

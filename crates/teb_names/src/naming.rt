@@ -40,7 +40,7 @@ impl Model for Names {
 
 #[tactic(auto, using(crate::proofs::Texts::has_texts, crate::proofs::Texts::number_texts, crate::proofs::Texts::texts_push, crate::proofs::Texts::number_of_itself))]
 impl Names {
-    /// No names. Takes no memory.
+    /// Returns an empty list of names. Takes no memory.
     pub fn new(alloc: Global) -> Names
         ensures { result ≡ [] }
     {

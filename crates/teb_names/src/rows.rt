@@ -9,7 +9,7 @@ use crate::Cell;
 use std::alloc::{AllocError, Global};
 use std::marker::Model;
 
-/// How many starting rows a store has at most.
+/// The most starting rows of a store.
 pub const MOST_ROWS: usize = 16_384;
 
 /// Rows, each a cell with its value, at most one of a cell. Contracts see the list of them, which ascends by cell:
@@ -33,7 +33,7 @@ impl Model for Rows {
 
 #[tactic(auto, using(crate::proofs::Ascending::ascending_after, crate::proofs::Ascending::row_of_new, crate::proofs::Ascending::row_of_other))]
 impl Rows {
-    /// No rows. Takes no memory.
+    /// Returns no rows. Takes no memory.
     pub fn new(alloc: Global) -> Rows
         ensures { result ≡ [] }
     {
@@ -57,7 +57,7 @@ impl Rows {
         ensures rows { IfOk result (λ new. self.new ≡ (if new then insert_row self.old cell value else self.old)) }
         ensures err { OnErr result (self.new ≡ self.old) }
 
-        // What the rows then tell of each cell.
+        // The value of each cell then.
         ensures ascending { IsAscending self.new }
         ensures found { OnOk result (row_of self.new cell ≡ Some (unwrap_or (row_of self.old cell) value)) }
         ensures others { (x : Cell) → same_cell cell x ≡ false → row_of self.new x ≡ row_of self.old x }

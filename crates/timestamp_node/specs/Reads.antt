@@ -23,7 +23,7 @@ all_reads (_ ∷ P) x = all_reads P x
 unfoldable pub reads : Setup → List Event → ℕ → Cell → List (Txn × Txn)
 reads S H n x = filter (λ r. on S H n r.0.0 && not (aborted H r.0.0)) (all_reads H x)
 
--- each read came while its reader was unfinished
+-- each read was made while its reader was unfinished
 unfoldable pub IsTimely : List Event → Type 0
 IsTimely [] = Unit {0}
 IsTimely (Got t x w v ∷ P) = IsTrue (unfinished P t.0) × IsTimely P

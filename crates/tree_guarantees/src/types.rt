@@ -1,4 +1,4 @@
-//! What holds of a type, whatever the instance.
+//! Guarantees of a type, whatever the instance.
 
 ghost use Rattle.std.specs.Prelude.{◌≡◌, ◌<◌, ◌&&◌, ℕ, List, length, IfSome, IsTrue};
 ghost use Rattle.std.specs.List.{list_all};

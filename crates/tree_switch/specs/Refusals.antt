@@ -8,7 +8,7 @@ use Rattle.tree_switch.specs.declared.error.SwitchError.{SwitchError}
 use Rattle.tree_switch.specs.declared.error.SwitchError.TheVariants.{Again, Untold, Tables, Rows, OutOfMemory}
 use Rattle.teb_names.specs.declared.TheConstants.{SESSIONS}
 
--- n is the least number of which this is so
+-- n is the least number with a property
 abbrev pub IsLeast : (ℕ → Type 0) → ℕ → Type 0
 IsLeast P n = P n × ((m : ℕ) → m < n → ¬ P m)
 
@@ -32,7 +32,7 @@ pub record IsDrained (H : List Event) : Type 0 where
   pub finished : AllFinished H
   pub told : AllTold H
 
--- transactions are numbered from 1 to as many as have begun, and sessions from 1 to SESSIONS
+-- transactions are numbered from 1 to `begun_count`, and sessions from 1 to SESSIONS
 abbrev pub AreNumbered : List Event → Type 0
 AreNumbered H = (t : ℕ) → IsUnfinished H t → (0 < t) × (t ≤ begun_count H)
 

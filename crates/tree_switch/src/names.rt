@@ -1,4 +1,4 @@
-//! Lists of names that are the same.
+//! Equality of lists of names.
 
 ghost use Rattle.std.specs.Prelude.{◌≡◌};
 ghost use Rattle.std.specs.Str.{bytes_eq};

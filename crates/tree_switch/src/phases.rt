@@ -72,7 +72,7 @@ impl<C: Chains> Phases<C> {
     }
 
     /// Returns the engine of the present phase. Each phase has started with the tables that the one before it left, and the serial
-    /// orders of all phases, one after the other, are a serial order of the whole.
+    /// orders of all phases, one after the other, are one serial order.
     pub fn engine(&self) -> &Engine<C>
         ensures engine { result.now ≡ self.now.present }
         ensures course { IsCourse self.now }

@@ -1,4 +1,4 @@
-//! What a store of versions is asked.
+//! The calls of a store of versions.
 
 ghost use Rattle.std.specs.Prelude.{◌≡◌, ◌<◌, ◌≤◌, ◌+◌, ℕ, ℤ, Option, List, Bool, length, insert, slice_get, eqb, OnOk, IfSome, IsTrue, IsFalse, Some};
 ghost use Rattle.std.specs.Option.{option_map};

@@ -28,7 +28,7 @@ impl Model for PlainChains {
 }
 
 impl PlainChains {
-    /// No versions, and no room.
+    /// Returns no versions, with no room.
     pub fn new(alloc: Global) -> Self
         ensures { result.versions ≡ [] }
     {
