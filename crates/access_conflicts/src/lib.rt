@@ -1,6 +1,7 @@
 //! What locks and pipeline nodes share: the register of holders, and which of them are in the way of an access.
 //!
-//! - [`HoldRegister`] is the lock table of a node (`hold_book`), told of each event. It skips transactions that do not pass the node.
+//! - [`HoldRegister`] is the lock table of a node (`hold_book`), which notes each event. It leaves out transactions without the
+//!   node on their path.
 //! - [`is_in_the_way`]: a read conflicts with holders that have put the cell, and a write with all holders. A transaction does not
 //!   conflict with its own holds, or with holders on its own side of the node: they meet at a node below (*nexus* locks).
 //! - [`wait_for`] is the verdict that waits for the holder that was found, if any.

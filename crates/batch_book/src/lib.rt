@@ -25,6 +25,8 @@
 //!
 //! **What it costs.** `join`, `finish` and `full` go through the active members, of which an engine has at most 32. The others are
 //! one look, or a binary search if not every transaction has joined.
+//!
+//! **Not claimed**: anything of transactions without the node on their path: they join no batch.
 #![tactic(auto)]
 
 mod batches;

@@ -14,6 +14,8 @@
 //! `teb_rules`).
 //!
 //! Each call costs one look. [`Cursors::reserve`] makes room, so `begin` takes no memory.
+//!
+//! **Not claimed**: that an access fits the profile. If no further step has the table, the cursor stays.
 #![tactic(auto)]
 
 ghost use Rattle.std.specs.Prelude.{◌≡◌, ◌<◌, ◌≤◌, ◌+◌, ◌∷◌, ◌++◌, [], length, OnOk, OnErr};

@@ -1,5 +1,4 @@
-//! The control of a pipeline node: runtime pipelining, which lets a transaction use a table as soon as the one before it has moved
-//! on.
+//! The control of a pipeline node: runtime pipelining, in which a transaction uses a table once the one before it has moved on.
 //!
 //! Tables have a static order, their *ranks* (`static_steps`). A transaction has *passed* a rank once its cursor is at a step of a
 //! greater rank, or it is prepared or finished. Its writes of that table are then seen, although it has not committed.

@@ -15,11 +15,13 @@
 //! | `put_by_number`, `take_by_number` and others | edit the values of a key that ascend by a number ([`Numbered`]) |
 //!
 //! **What is proved.** Contracts see the values of each key as a list (`values_in` of `specs/Multimap`), and room for more values. No
-//! contract speaks of buckets.
+//! public contract speaks of buckets.
 //!
 //! **What it costs.** An empty bucket costs one look, and an edit there two pushes. Otherwise a look-up goes through a few keys, or
-//! is a binary search if there are many, and an edit moves what follows in its bucket. For that, [`Multimap::reserve`] makes room in
-//! every bucket, so this is no map for what grows: `arena_multimap` is.
+//! is a binary search if there are many, and an edit moves what follows in its bucket. [`Multimap::reserve`] makes room in every
+//! bucket, so this is no map for what grows: `arena_multimap` is.
+//!
+//! **Not claimed**: that the values of a key ascend by number. The calls by number ask for it.
 #![tactic(auto)]
 
 mod bucket;

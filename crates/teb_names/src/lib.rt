@@ -25,7 +25,7 @@
 //! - [`Names`]: at most 255 distinct names, numbered from 0 in the order in which they were added (`Names::add`, clause `added`).
 //! - [`Rows`]: cells with values, at most one of a cell, in ascending order of cells (`Rows::insert`, clauses `rows` and `ascending`;
 //!   `IsAscending` of `specs/Rows`).
-//! - [`ScanList`]: up to sixteen values, each of which may be missing. It takes no memory, so a reply with a scan cannot fail.
+//! - [`ScanList`]: up to sixteen values, each of which may be missing. It takes no memory, so answering a scan cannot fail.
 //!
 //! **Not claimed**: which reply a request gets (`teb_rules` says that); that a number is one of a given tree; that [`Rows`] has at
 //! most [`MOST_ROWS`] rows (`tree_toml` refuses a text with more).

@@ -12,7 +12,7 @@
 //! `guarantees`. `guarantee` says that if the answer is true, the conclusion of that law holds of every run of every sound store with
 //! this tree (`Guarantees` of `specs/Conditions`).
 //!
-//! **Not claimed**: anything if the answer is false. `guarantees` has stores that show where each guarantee ends.
+//! **Not claimed**: anything if an answer is false. `guarantees` has stores that show where each guarantee ends.
 #![tactic(auto)]
 
 mod types;

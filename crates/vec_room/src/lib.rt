@@ -10,6 +10,8 @@
 //! | [`take_out`] | removes a value, and copies those that follow one by one: cheaper than `Vec::remove` if they are few |
 //!
 //! Contracts state the items of the vector, and that its capacity never shrinks.
+//!
+//! **Not claimed**: how much more room there is than was asked for.
 #![tactic(auto)]
 
 ghost use Rattle.std.specs.Prelude.{◌≡◌, ◌<◌, ◌≤◌, ◌+◌, insert, remove, vec_len, vec_capacity, OnOk};
