@@ -1,4 +1,4 @@
-//! Cascading aborts: which transactions fall with an aborted one, and on whom each is blamed.
+//! Cascading aborts: which transactions fall with an aborted one, and which one each is blamed on.
 //!
 //! A transaction *falls* with `t` if it read from `t`, or from one that falls. It is *blamed* on the lowest-numbered transaction that
 //! it read from and that is `t` or falls.

@@ -1,4 +1,4 @@
-//! Who has accessed each cell at a snapshot node, and what each transaction has accessed there.
+//! The readers and writers of each cell at a snapshot node, and the accesses of each transaction there.
 //!
 //! A validation looks for read-write edges in both directions. So the book keeps:
 //!

@@ -13,7 +13,7 @@
 //!
 //! | Call | |
 //! |---|---|
-//! | [`read`] | from whom a transaction reads, and the value |
+//! | [`read`] | the writer that a transaction reads from, and the value |
 //! | [`place_of`] | the place of its version, present or about to be put; it asks the nodes for the order |
 //! | [`place_behind`] | the same if no timestamp node is on its path: a new version goes to the end |
 //! | [`candidate`], [`amend`] | the last version that the leaf shows; the later of that and what a node above shows (`amended_reads`) |

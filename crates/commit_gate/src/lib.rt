@@ -12,7 +12,7 @@
 //! **What is proved.** [`may_commit`] is `commit_stop` of `Stops` in `teb_rules`, for a sound setup, a lawful history, controls that
 //! stand for it, and a book of dependencies of it (`BookOf`).
 //!
-//! **What it costs.** From whom the transaction read is looked up once; each node then goes through that list.
+//! **What it costs.** The transactions that the committing one read from are looked up once; each node then goes through that list.
 //!
 //! **Not claimed**: that a wait is for an older transaction. The engine turns a wait for a newer one into an abort.
 #![tactic(auto)]

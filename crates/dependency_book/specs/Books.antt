@@ -13,8 +13,8 @@ use Rattle.dependency_book.specs.Dependencies.{readers, writers, sources, unfini
 use Rattle.dependency_book.specs.Orderly.{Orderly}
 use Rattle.dependency_book.specs.Places.{HasRoom}
 
--- the cells, and for each of them in that order its readers, beside the writer read from, and its writers; from whom each transaction
--- read, in the order in which they began; and the unfinished transactions
+-- the cells, and for each of them in that order its readers, beside the writer read from, and its writers; the sources of each transaction,
+-- in the order in which they began; and the unfinished transactions
 pub record Lists : Type 0 where
   pub cells : List Cell
   pub readers : List (List (Txn × Txn))

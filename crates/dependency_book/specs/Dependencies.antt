@@ -1,4 +1,4 @@
--- Readers and writers in a history, from whom each transaction read, and the unfinished ones. An abort removes what its transaction read and put.
+-- Readers and writers in a history, the sources of each transaction, and the unfinished ones. An abort removes what its transaction read and put.
 use Rattle.std.specs.Prelude.{◌≡◌, Bool, cond, not, ◌&&◌, eqb, ltb, List, [], ◌∷◌, ◌++◌, filter, map, is_some}
 use Rattle.std.specs.List.{list_any}
 use Rattle.teb_names.specs.declared.Txn.{Txn}
@@ -16,7 +16,7 @@ use Rattle.teb_history.specs.OwnEvents.{put_in, got_in}
 abbrev pub has : Txn → List Txn → Bool
 has t ts = list_any (λ u. eqb u.0 t.0) ts
 
--- the readers of x, and from whom each read, a pair for each Got; the oldest first
+-- the readers of x, each beside the writer that it read from, a pair for each Got; the oldest first
 unfoldable pub all_readers : List Event → Cell → List (Txn × Txn)
 all_readers [] x = []
 all_readers (Got t y w v ∷ P) x = let r = all_readers P x in cond (same_cell y x) (r ++ (t, w) ∷ []) r
@@ -28,7 +28,7 @@ all_writers [] x = []
 all_writers (Put t y v ∷ P) x = let r = all_writers P x in cond (same_cell y x && not (has t r)) (r ++ t ∷ []) r
 all_writers (_ ∷ P) x = all_writers P x
 
--- from whom t read, by number, without t itself and the starting rows
+-- the sources of t: those that it read from, by number, without t itself and the starting rows
 unfoldable pub all_sources : List Event → Txn → List Txn
 all_sources [] t = []
 all_sources (Got s y w v ∷ P) t = let r = all_sources P t in cond (eqb s.0 t.0 && not (eqb w.0 t.0) && ltb 0 w.0) (put_by number_of w r) r

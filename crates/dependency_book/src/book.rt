@@ -16,7 +16,7 @@ use teb_names::{Cell, Txn};
 /// Room is made for at least this many events, so that not every `reserve` goes through all registers.
 const AHEAD: usize = 256;
 
-/// The readers and writers of each cell, from whom each transaction read, and the unfinished transactions. An abort removes what its
+/// The readers and writers of each cell, the sources of each transaction, and the unfinished transactions. An abort removes what its
 /// transaction read and put.
 #[derive(Drop)]
 pub struct Book {
@@ -67,7 +67,7 @@ impl Book {
     /// Notes the newest event of the history. If it is a Put, `again` says whether its transaction has put the cell before. It takes at most
     /// one place of the room.
     ///
-    /// A read or a put costs a look-up of its cell; from whom a transaction read is found by its number. An abort costs a look-up for each
+    /// A read or a put costs a look-up of its cell; the sources of a transaction are found by its number. An abort costs a look-up for each
     /// access of its transaction, and goes through what was read or put in the same cells since; if its transaction put a cell again, through
     /// all that put it. A commit and an abort cost a binary search among the unfinished transactions, and a move of those after it.
     #[inline(always)]
@@ -80,7 +80,7 @@ impl Book {
         self.spare -= 1;
     }
 
-    /// Returns the readers of a cell, and from whom each read, in order of access: a pair for each Got of a transaction that is not aborted.
+    /// Returns the readers of a cell, each beside the writer that it read from, in order of access: a pair for each Got of a transaction that is not aborted.
     pub fn readers(&self, cell: Cell) -> &[(Txn, Txn)]
         ensures { result.now ≡ readers_in self.now.lists cell }
     {
@@ -94,7 +94,7 @@ impl Book {
         self.registers.cells.writers(cell)
     }
 
-    /// Returns from whom a transaction read, in ascending number, each once, without itself and the starting rows. The list of an aborted
+    /// Returns the transactions that one read from, in ascending number, each once, without itself and the starting rows. The list of an aborted
     /// transaction is empty.
     pub fn read_from(&self, t: Txn) -> &[Txn]
         ensures { result.now ≡ sources_in self.now.lists t }

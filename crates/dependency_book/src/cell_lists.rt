@@ -18,7 +18,7 @@ use std::marker::Model;
 use teb_history::{Event, History};
 use teb_names::{Cell, Txn};
 
-/// By cell, its readers and from whom each read, and its writers, each in order of access.
+/// By cell, its readers, each beside the writer that it read from, and its writers, in order of access.
 #[derive(Drop)]
 pub struct CellLists {
     // Each cell has the lists of its place.
@@ -87,7 +87,7 @@ impl CellLists {
         self.writers.push(place, t);
     }
 
-    /// Returns the readers of a cell, and from whom each read.
+    /// Returns the readers of a cell, each beside the writer that it read from.
     pub(crate) fn readers(&self, cell: Cell) -> &[(Txn, Txn)]
         ensures { result.now ≡ readers_of self.now cell }
     {

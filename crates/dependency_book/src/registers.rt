@@ -18,12 +18,12 @@ use std::alloc::{AllocError, Global};
 use teb_history::{Event, History};
 use teb_names::{Cell, Txn};
 
-/// Readers and writers, from whom each transaction read, and the unfinished transactions.
+/// Readers and writers, the sources of each transaction, and the unfinished transactions.
 #[derive(Drop)]
 pub struct Registers {
     // The readers of each cell, beside the writer read from, and its writers, in order of access.
     pub(crate) cells: CellLists,
-    // From whom each transaction read, in ascending number: a list for each that has begun, the oldest first.
+    // The sources of each transaction, in ascending number: a list for each that has begun, the oldest first.
     pub(crate) sources: NumberedLists<Txn>,
     // In ascending number.
     pub(crate) unfinished: Vec<Txn>,

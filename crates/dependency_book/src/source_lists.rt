@@ -1,4 +1,4 @@
-//! From whom each transaction read, in lists by number: transactions are numbered from 1 in the order in which they begin, and lists from 0.
+//! The sources of each transaction, those that it read from, in lists by number: transactions are numbered from 1 in the order in which they begin, and lists from 0.
 
 ghost use Rattle.std.specs.Prelude.{◌≡◌, ◌+◌, ◌≤◌, ◌<◌, ◌&&◌, [], cond, not, eqb, ltb, length};
 ghost use Rattle.teb_names.specs.declared.Txn.{Txn};
@@ -9,7 +9,7 @@ ghost use Rattle.dependency_book.specs.Books.{list_of, SourcesAscend};
 use arena_multimap::NumberedLists;
 use teb_names::Txn;
 
-/// Returns from whom t read. The list is empty if t has none.
+/// Returns the sources of t. They are empty if t has no list.
 pub(crate) fn sources_of(sources: &NumberedLists<Txn>, t: Txn) -> &[Txn]
     ensures { result.now ≡ list_of sources.now.lists t.0 }
 {

@@ -182,7 +182,7 @@ impl<C: Chains> Engine<C> {
         &self.state.controls
     }
 
-    /// Returns the readers and writers of each cell, from whom each transaction read, and the unfinished transactions.
+    /// Returns the readers and writers of each cell, the transactions that each one read from, and the unfinished transactions.
     pub fn book(&self) -> &Book
         ensures { BookOf result.now.lists self.now.events }
     {

@@ -19,7 +19,7 @@
 //! events alone, which history and node a book shows. An access keeps it (clauses `got` and `put`), and a release says what it leaves
 //! (`shown`).
 //!
-//! **Not claimed**: who waits. `access_conflicts` says which holds are in the way of an access.
+//! **Not claimed**: which transactions wait. `access_conflicts` says which holds are in the way of an access.
 #![tactic(auto)]
 
 ghost use Rattle.hold_book.specs.Books.{hold_number};

@@ -68,8 +68,8 @@ pub trait Control: Drop {
         ensures { result ≡ on_access (row (setup_of facts.now).tree (node_number self.now)).control (setup_of facts.now) (events_of facts.now) (node_number self.now) t.0 cell false };
 
     /// Returns the answer to a write of a cell. `at` is the place that t's version has, or would have, among those of the cell; a timestamp
-    /// node is always told it. Each writer from whom a transaction that is not aborted has read still has its version: that holds between any
-    /// two answers.
+    /// node is always told it. If a transaction that is not aborted has read from a writer, that writer still has its version: this holds
+    /// between any two answers.
     fn before_write<C: Chains>(
         &self,
         facts: &Facts,

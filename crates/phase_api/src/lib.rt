@@ -8,7 +8,7 @@
 //! | [`Control::start`] | may a transaction begin here? | `on_begin` |
 //! | [`Control::before_read`], [`Control::before_write`] | may it access this cell? | `on_access` |
 //! | [`Control::validate`] | may it prepare or commit? | `validate` |
-//! | [`Control::gate`] | for whom does its Commit wait? | `gate` |
+//! | [`Control::gate`] | which transactions does its Commit wait for? | `gate` |
 //! | [`Control::sees`] | does this reader see that writer's version? | `sees_by` |
 //! | [`Control::orders`] | which of two versions is first? | `orders` |
 //! | [`Control::note`] | (is told the newest event) | |

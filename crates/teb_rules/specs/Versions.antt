@@ -51,6 +51,6 @@ abbrev pub version : List (Cell × ℤ) → List Event → Cell → ℕ → Opti
 version R H x zero = row_of R x
 version R H x (suc w) = value_left H (suc w) x
 
--- what t reads of x: from whom, and the value
+-- what t reads of x: the writer, and the value
 unfoldable pub read : Setup → List (Cell × ℤ) → List Event → ℕ → Cell → ℕ × Option ℤ
 read S R H t x = (source S H t x, version R H x (source S H t x))

@@ -66,7 +66,7 @@ impl Stamps {
         &self.batches
     }
 
-    /// Returns the readers of a cell, and from whom each read, 0 for the starting row: a pair for each Got by a transaction with the
+    /// Returns the readers of a cell, each beside the writer that it read from, 0 for the starting row: a pair for each Got by a transaction with the
     /// node on its path that is not aborted, in the order of the history.
     pub fn reads(&self, _facts: &Facts, cell: Cell) -> &[(Txn, Txn)]
         requires { StampsStand self.now.node.0 self.now.ordered self.now.batches self.now.reads (setup_of _facts.now) (events_of _facts.now) }
