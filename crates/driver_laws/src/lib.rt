@@ -1,8 +1,8 @@
 //! The laws of the driver: one thread that asks for several sessions, each along its script, stops, and works through every script.
 //!
-//! The driver asks one session after the other, round and round (`Driver` of `teb_rules`). A session that is aborted goes back to the
-//! line that began its transaction. After three aborts it is *due*: then it runs alone, and a transaction that runs alone is never
-//! stopped.
+//! The driver asks one session after the other, round and round (`Driver` of `teb_rules`). If the store aborts a transaction, its
+//! session goes back to the line that began it. After three such aborts the session is *due*: then it runs alone, and a transaction
+//! that runs alone is never stopped.
 //!
 //! | Law | Says of every sound store, and all scripts of sessions in ascending number |
 //! |---|---|
