@@ -80,7 +80,8 @@ impl Book {
         self.spare -= 1;
     }
 
-    /// Returns the readers of a cell, each beside the writer that it read from, in order of access: a pair for each Got of a transaction that is not aborted.
+    /// Returns the readers of a cell, each beside the writer that it read from, in order of access: a pair for each Got of a transaction
+    /// that is not aborted.
     pub fn readers(&self, cell: Cell) -> &[(Txn, Txn)]
         ensures { result.now ≡ readers_in self.now.lists cell }
     {

@@ -1,4 +1,5 @@
-//! The sources of each transaction, those that it read from, in lists by number: transactions are numbered from 1 in the order in which they begin, and lists from 0.
+//! The sources of each transaction, those that it read from, in lists by number: transactions are numbered from 1 in the order in
+//! which they begin, and lists from 0.
 
 ghost use Rattle.std.specs.Prelude.{◌≡◌, ◌+◌, ◌≤◌, ◌<◌, ◌&&◌, [], cond, not, eqb, ltb, length};
 ghost use Rattle.teb_names.specs.declared.Txn.{Txn};

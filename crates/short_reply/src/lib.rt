@@ -3,6 +3,11 @@
 //! A `Reply` has room for the sixteen values of a scan, so moving one costs as much as some answers. A [`ShortReply`] has no such
 //! room. The engine answers in this form every request that is no scan (`Engine::ask_short`), and the crates above pass it on.
 //!
+//! ```text
+//!   Reply         160 bytes    Begun, Value, Values, Done, Prepared, Committed, Again, Aborted, Refused
+//!   ShortReply     24 bytes    the same, without Values
+//! ```
+//!
 //! [`ShortReply::full`] returns the reply that the session gets (`full_reply` of `specs/ShortReplies`). [`ShortReply::of`] goes back,
 //! and returns `None` for the values of a scan alone. `IsNoScan` says of which requests the answer has a short form.
 //!
