@@ -10,16 +10,16 @@ use Rattle.dependency_book.specs.Books.{Lists, sources_in}
 abbrev pub is_member : List (Txn × Txn) → ℕ → Bool
 is_member fell u = list_any (λ p. eqb p.0.0 u) fell
 
--- whom u falls with: the first of its sources that is t or fell; t itself falls with nobody
+-- the transaction that u falls with: the first of its sources that is t or fell; t itself has none
 abbrev pub culprit : Lists → ℕ → List (Txn × Txn) → Txn → Option Txn
 culprit b t fell u = cond (eqb u.0 t) None (find (λ w. eqb w.0 t || is_member fell w.0) (sources_in b u))
 
--- u with its culprit, in front of those that fall besides
+-- u with its culprit, before the others that fall
 abbrev pub with_culprit : Txn → Option Txn → List (Txn × Txn) → List (Txn × Txn)
 with_culprit u None rest = rest
 with_culprit u (Some w) rest = (u, w) ∷ rest
 
--- who falls of the transactions us
+-- those of the transactions us that fall
 abbrev pub round_of : Lists → ℕ → List (Txn × Txn) → List Txn → List (Txn × Txn)
 round_of b t fell [] = []
 round_of b t fell (u ∷ us) = with_culprit u (culprit b t fell u) (round_of b t fell us)

@@ -1,4 +1,4 @@
-//! The cascade: rounds over the unfinished transactions, until nobody is added.
+//! The cascade: rounds over the unfinished transactions, until a round adds none.
 
 ghost use Rattle.std.specs.Prelude.{◌≡◌, ◌≤◌, ◌||◌, eqb, find, length, IsTrue};
 ghost use Rattle.teb_history.specs.Phases.{unfinished};
@@ -13,7 +13,7 @@ use dependency_book::Book;
 use phase_api::Facts;
 use teb_names::Txn;
 
-/// Who falls with t, in ascending number and without t: each transaction that read from t or from one that falls, with the
+/// Returns the transactions that fall with t, in ascending number and without t: each that read from t or from one that falls, with the
 /// least one that it read from and that is t or falls.
 pub fn cascade(book: &Book, facts: &Facts, t: Txn) -> CascadeList
     requires book { BookOf book.now.lists (events_of facts.now) }
@@ -32,7 +32,7 @@ pub fn cascade(book: &Book, facts: &Facts, t: Txn) -> CascadeList
     }
 }
 
-// The unfinished transactions that read from t or from one that fell before, each with the least such.
+// Returns the unfinished transactions that read from t or from one that fell before, each with the least such.
 fn round(book: &Book, t: Txn, fell: &CascadeList) -> CascadeList
     requires { length (round_of book.now.lists t.0 fell.now book.now.lists.unfinished) ≤ MOST_FALLEN }
     ensures { result ≡ round_of book.now.lists t.0 fell.now book.now.lists.unfinished }
@@ -46,7 +46,7 @@ fn round(book: &Book, t: Txn, fell: &CascadeList) -> CascadeList
     next
 }
 
-// The least transaction that u, another one than t, read from and that is t or fell.
+// Returns the least transaction that u, another one than t, read from and that is t or fell.
 fn culprit(book: &Book, t: Txn, fell: &CascadeList, u: Txn) -> Option<Txn>
     ensures { result ≡ culprit book.now.lists t.0 fell.now u }
 {
@@ -56,7 +56,7 @@ fn culprit(book: &Book, t: Txn, fell: &CascadeList, u: Txn) -> Option<Txn>
     first_fallen(book.read_from(u), t, fell)
 }
 
-// The first that is t or fell.
+// Returns the first that is t or fell.
 fn first_fallen(sources: &[Txn], t: Txn, fell: &CascadeList) -> Option<Txn>
     ensures { result ≡ find (λ w. eqb w.0 t.0 || is_member fell.now w.0) sources.now }
 {

@@ -6,7 +6,7 @@ ghost use Rattle.abort_cascade.specs.Rounds.{is_member};
 use std::marker::Model;
 use teb_names::{SESSIONS, Txn};
 
-/// How many fall with another at most: each session holds one unfinished transaction at most.
+/// At most this many fall with another: each session holds at most one unfinished transaction.
 pub(crate) const MOST_FALLEN: usize = SESSIONS as usize;
 
 /// At most `MOST_FALLEN` transactions, each with the one that it is blamed on.
@@ -38,14 +38,14 @@ impl CascadeList {
         }
     }
 
-    /// How many there are, at most `MOST_FALLEN`.
+    /// Returns how many there are, at most `MOST_FALLEN`.
     pub fn len(&self) -> usize
         ensures { result ≡ length self.now }
     {
         self.len
     }
 
-    /// The transaction at a place, from 0, and the one that it is blamed on.
+    /// Returns the transaction at a place, from 0, and the one that it is blamed on.
     pub fn at(&self, i: usize) -> (Txn, Txn)
         requires { i < length self.now }
         ensures { slice_get self.now i ≡ Some result }

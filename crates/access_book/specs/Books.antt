@@ -11,8 +11,8 @@ use Rattle.access_book.specs.declared.accesses.Access.{Access}
 use Rattle.access_book.specs.declared.accesses.Access.TheVariants as access
 use Rattle.access_book.specs.Touched.{Touched, Reads, Puts}
 
--- the cells, and for each of them in that order who accessed it; what each transaction accessed, in the order in which they began and the newest first; how many have begun, how
--- many Puts may still be committed, and for how many events there is room
+-- the cells, and for each of them in that order the transactions that accessed it; what each transaction accessed, in the order in which
+-- they began and the newest first; how many have begun, how many Puts may still be committed, and for how many events there is room
 pub record Shown : Type 0 where
   pub cells : List Cell
   pub readers : List (List Txn)
@@ -48,7 +48,7 @@ touched_of b = list_by b.touched
 abbrev pub is_among : ℕ → List Txn → Bool
 is_among u ts = list_any (λ t. eqb t.0 u) ts
 
--- u stands among the accessors of x
+-- u is among the accessors of x
 abbrev pub is_accessor : (Cell → List Txn) → Cell → ℕ → Bool
 is_accessor f x u = is_among u (f x)
 
@@ -58,7 +58,7 @@ pub record AreFiled (b : Shown) : Type 0 where
   pub writers : (x : Cell) → IsAscendingBy number_of (writers_of b x)
   pub committed : (x : Cell) → IsAscendingBy number_of (committed_of b x)
 
--- nobody has accessed anything, and nobody has begun
+-- no cell was accessed, and no transaction has begun
 pub record IsEmpty (b : Shown) : Type 0 where
   pub readers : (x : Cell) → readers_of b x ≡ []
   pub writers : (x : Cell) → writers_of b x ≡ []
@@ -67,11 +67,11 @@ pub record IsEmpty (b : Shown) : Type 0 where
   pub begun : b.begun ≡ 0
   pub pending : b.pending ≡ 0
 
--- the accessors stay, of one kind
+-- the accessors of one kind are unchanged
 abbrev pub AreKept : (a b : Cell → List Txn) → Type 0
 AreKept a b = (x : Cell) → b x ≡ a x
 
--- all but the room stays
+-- all but the room is unchanged
 pub record IsKept (a b : Shown) : Type 0 where
   pub readers : AreKept (readers_of a) (readers_of b)
   pub writers : AreKept (writers_of a) (writers_of b)
@@ -80,13 +80,13 @@ pub record IsKept (a b : Shown) : Type 0 where
   pub begun : b.begun ≡ a.begun
   pub pending : b.pending ≡ a.pending
 
--- an access shows z, with who accessed its cell in the other way
+-- an access shows z, with the transactions that accessed its cell in the other way
 abbrev pub IsAccess : Shown → Access → Touched → Type 0
 IsAccess b (access.Read writers) (Reads x) = writers.now ≡ writers_of b x
 IsAccess b (access.Put readers) (Puts x) = readers.now ≡ readers_of b x
 IsAccess b _ _ = ⊥
 
--- the accesses that are left of a walk, and the book
+-- the remaining accesses of a walk, and the book
 pub record Walk : Type 0 where
   pub book : Shown
   pub left : List Touched

@@ -20,12 +20,12 @@ abbrev pub touch_place : Touch → ℕ
 touch_place (touch.Read p) = p
 touch_place (touch.Put p) = p
 
--- the access that it stands for
+-- the access that a stored one means
 abbrev pub touched_at : List Cell → Touch → Touched
 touched_at cells (touch.Read p) = Reads (cell_at cells p)
 touched_at cells (touch.Put p) = Puts (cell_at cells p)
 
--- all accesses that they stand for, the newest first
+-- the accesses that stored ones mean, the newest first
 abbrev pub all_touched : List Cell → List Touch → List Touched
 all_touched cells zs = reverse (map (touched_at cells) zs)
 

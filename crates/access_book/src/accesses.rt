@@ -1,10 +1,10 @@
-//! The accesses of a transaction, each with whom it may conflict.
+//! The accesses of a transaction, each with the transactions that it may conflict with.
 
 use crate::book::AccessBook;
 use std::marker::Model;
 use teb_names::Txn;
 
-/// An access of a transaction, and who has accessed the same cell in the other way.
+/// An access of a transaction, and the transactions that have accessed the same cell in the other way.
 #[derive(Clone, Copy)]
 pub enum Access<'a> {
     /// The transaction has read a cell, and these have put it.
@@ -13,14 +13,14 @@ pub enum Access<'a> {
     Put { readers: &'a [Txn] },
 }
 
-/// What kind of access a transaction has made, and the place of its cell.
+/// The kind of an access, and the place of its cell.
 #[derive(Clone, Copy)]
 pub(crate) enum Touch {
     Read(usize),
     Put(usize),
 }
 
-/// The accesses of a transaction that are left, the newest first.
+/// The remaining accesses of a transaction, the newest first.
 #[derive(Drop)]
 pub struct Accesses<'a> {
     pub(crate) book: &'a AccessBook,

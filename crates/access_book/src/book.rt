@@ -1,4 +1,4 @@
-//! The book: what each access, commit and abort adds or takes out, and the lists that it lends.
+//! The book: what each access, commit and abort adds or removes, and the lists that it lends.
 
 ghost use Rattle.std.specs.Prelude.{◌≡◌, ◌<◌, ◌≤◌, ◌+◌, ◌∷◌, ◌&&◌, ◌||◌, ℕ, length, not, eqb, cond, OnOk};
 ghost use Rattle.teb_names.specs.declared.Cell.{Cell};
@@ -18,11 +18,11 @@ use std::alloc::{AllocError, Global};
 use std::marker::Model;
 use teb_names::{Cell, Txn};
 
-/// For how many events room is made at the least, so that not every `reserve` goes through all lists.
+/// Room is made for at least this many events, so that not every `reserve` goes through all lists.
 const AHEAD: usize = 256;
 
-/// By cell, who has read it, who has put it, and who has put it and committed, each in ascending number; by transaction, what it has
-/// accessed. A transaction that aborts is no reader and no writer.
+/// By cell, its readers, its writers and its committed writers, each in ascending number; by transaction, what it has accessed. An aborted
+/// transaction is no reader and no writer.
 pub struct AccessBook {
     // Each cell has the lists of its place.
     cells: CellIndex,
@@ -31,13 +31,13 @@ pub struct AccessBook {
     committed: NumberedLists<Txn>,
     // Of each transaction that has begun, the oldest first.
     touches: NumberedLists<Touch>,
-    // How many Puts there are of transactions that may still commit: for so many committed writers room is kept.
+    // How many Puts there are of transactions that may still commit. Room for that many committed writers is kept.
     pending: usize,
-    // For how many events there is room.
+    // There is room for this many events.
     spare: usize,
 }
 
-/// A call of its own, so that no owner has to prove anew how it is dropped.
+/// Hand-written `Drop`, so that callers do not re-prove the drop glue.
 impl Drop for AccessBook {
     fn drop(self) {
         let AccessBook {
@@ -64,7 +64,7 @@ impl Model for AccessBook {
 }
 
 impl AccessBook {
-    /// The book of an empty history, with no room. Takes no memory.
+    /// Returns the book of an empty history, with no room. Takes no memory.
     pub fn new(alloc: Global) -> Self
         ensures { IsEmpty result }
     {
@@ -79,7 +79,7 @@ impl AccessBook {
         }
     }
 
-    /// Makes room for n events. The lists stay, also after an `Err`.
+    /// Makes room for n events. The lists are unchanged, also on `Err`.
     pub fn reserve(&mut self, n: usize) -> Result<(), AllocError>
         ensures same { IsKept self.old self.new }
         ensures room { OnOk result (n ≤ self.new.spare) }
@@ -100,7 +100,7 @@ impl AccessBook {
         Ok(())
     }
 
-    /// A transaction begins, numbered behind all that have begun. It takes one place of the room.
+    /// Notes that the next transaction begins. It takes one place of the room.
     pub fn begin(&mut self)
         requires { 0 < self.old.spare }
         ensures readers { AreKept (readers_of self.old) (readers_of self.new) }
@@ -115,7 +115,7 @@ impl AccessBook {
         self.spare -= 1;
     }
 
-    /// A transaction reads a cell. It takes one place of the room.
+    /// Notes that a transaction reads a cell. It takes one place of the room.
     pub fn read(&mut self, t: Txn, cell: Cell)
         requires room { 0 < self.old.spare }
         requires filed { AreFiled self.old }
@@ -142,7 +142,7 @@ impl AccessBook {
         self.spare -= 1;
     }
 
-    /// A transaction puts a cell. It takes one place of the room.
+    /// Notes that a transaction puts a cell. It takes one place of the room.
     pub fn put(&mut self, t: Txn, cell: Cell)
         requires room { 0 < self.old.spare }
         requires filed { AreFiled self.old }
@@ -170,7 +170,7 @@ impl AccessBook {
         self.spare -= 1;
     }
 
-    /// A transaction commits: it is a committed writer of each cell that it has put. The room stays.
+    /// Notes a commit: the transaction is a committed writer of each cell that it has put. The room stays.
     pub fn commit(&mut self, t: Txn)
         requires filed { AreFiled self.old }
         requires first { 0 < t.0 }
@@ -189,7 +189,7 @@ impl AccessBook {
         self.pending -= put_in(&mut self.committed, touches, t);
     }
 
-    /// A transaction aborts: it is no reader and no writer of any cell. The room stays.
+    /// Notes an abort: the transaction is no reader and no writer of any cell. The room stays.
     pub fn abort(&mut self, t: Txn)
         requires filed { AreFiled self.old }
         requires first { 0 < t.0 }
@@ -208,8 +208,8 @@ impl AccessBook {
         self.pending -= take_out(&mut self.readers, &mut self.writers, touches, t);
     }
 
-    /// The accesses of a transaction, the newest first, each with who has accessed its cell in the other way. Each costs one step and no
-    /// look-up.
+    /// Returns the accesses of a transaction, the newest first, each with the transactions that have accessed its cell in the other way. Each
+    /// costs one step and no look-up.
     #[inline(always)]
     pub fn accesses(&self, t: Txn) -> Accesses<'_>
         requires { 0 < t.0 }
@@ -222,7 +222,7 @@ impl AccessBook {
         }
     }
 
-    // An access, with who has accessed its cell in the other way.
+    // Returns an access, with the transactions that have accessed its cell in the other way.
     #[inline(always)]
     pub(crate) fn access(&self, touch: Touch) -> Access<'_>
         requires { touch_place touch < length self.now.cells }
@@ -238,14 +238,14 @@ impl AccessBook {
         }
     }
 
-    /// Who has put a cell and not aborted.
+    /// Returns the transactions that have put a cell and are not aborted.
     pub fn writers(&self, cell: Cell) -> &[Txn]
         ensures { result.now ≡ writers_of self.now cell }
     {
         self.writers.list(self.cells.place(cell))
     }
 
-    /// Who has put a cell and committed.
+    /// Returns the committed transactions that have put a cell.
     pub fn committed(&self, cell: Cell) -> &[Txn]
         ensures { result.now ≡ committed_of self.now cell }
     {
@@ -253,7 +253,7 @@ impl AccessBook {
     }
 }
 
-/// The place of a cell, which gets lists of its own where it has none.
+/// Returns the place of a cell, which gets empty lists if it has none.
 #[inline(always)]
 fn place_for(
     cells: &mut CellIndex,
@@ -286,7 +286,7 @@ fn place_for(
     place
 }
 
-/// Puts a transaction among the committed writers of each cell that it has put. The number of its Puts.
+/// Adds a transaction to the committed writers of each cell that it has put. Returns the number of its Puts.
 fn put_in(committed: &mut NumberedLists<Txn>, touches: &[Touch], t: Txn) -> usize
     requires filed { (i : ℕ) → IsAscendingBy number_of (list_in committed.old.lists i) }
     requires known { AreKnown (length committed.old.lists) touches.now }
@@ -307,7 +307,7 @@ fn put_in(committed: &mut NumberedLists<Txn>, touches: &[Touch], t: Txn) -> usiz
     puts
 }
 
-/// Takes a transaction out from among the readers and the writers of each cell that it has accessed. The number of its Puts.
+/// Removes a transaction from the readers and the writers of each cell that it has accessed. Returns the number of its Puts.
 fn take_out(
     readers: &mut NumberedLists<Txn>,
     writers: &mut NumberedLists<Txn>,

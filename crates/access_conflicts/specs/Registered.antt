@@ -1,4 +1,4 @@
--- For what the register of a node stands.
+-- Which history the register of a node stands for.
 use Rattle.std.specs.Prelude.{◌≡◌, ◌<◌, ◌≤◌, ◌-◌, ℕ, zero, suc, min, Bool, true, false, List, length, get_or, vec_len, vec_capacity}
 use Rattle.teb_history.specs.declared.Event.{Event}
 use Rattle.teb_history.specs.declared.Event.TheVariants.{Put}
@@ -10,22 +10,22 @@ use Rattle.hold_book.specs.Books.{Held}
 use Rattle.hold_book.specs.Holders.{HoldsOf}
 use Rattle.access_conflicts.specs.declared.hold_register.HoldRegister.{HoldRegister}
 
--- the history is orderly, and the book shows who holds what at node n
+-- the history is orderly, and the book shows the holds at node n
 pub record BookStands (n : ℕ) (book : Held) (S : Setup) (H : List Event) : Type 0 where
   pub orderly : IsOrderly S H
   pub holds : HoldsOf book S H n
 
--- what is told of transaction t: transactions are numbered from 1
+-- whether n is on the path of transaction t, by the list; transactions are numbered from 1
 abbrev pub is_here : List Bool → ℕ → Bool
 is_here here zero = false
 is_here here (suc i) = get_or here i false
 
--- of each transaction that has begun it is told whether node n is on its path
+-- the list says of each transaction that has begun whether node n is on its path
 pub record AreHere (here : List Bool) (S : Setup) (H : List Event) (n : ℕ) : Type 0 where
   pub counted : length here ≡ begun_count H
   pub told : (t : ℕ) → 0 < t → t ≤ begun_count H → is_here here t ≡ on S H n t
 
--- the register tells who holds what at its node, and who has the node on his path
+-- the register shows the holds at its node, and which transactions have the node on their paths
 pub record Registered (r : HoldRegister) (S : Setup) (H : List Event) : Type 0 where
   pub book : BookStands r.node.0 r.book S H
   pub here : AreHere r.here.items S H r.node.0

@@ -15,7 +15,7 @@ use std::alloc::{AllocError, Global};
 use teb_history::Event;
 use teb_names::{Cell, Node, Txn};
 
-/// Who holds which cell at a node. It stands for a history, and is told of each event behind it.
+/// The lock table of a node. It stands for a history, and notes each later event.
 #[derive(Drop)]
 pub struct HoldRegister {
     node: Node,
@@ -25,7 +25,7 @@ pub struct HoldRegister {
 }
 
 impl HoldRegister {
-    /// The register of a node for an empty history. Takes no memory.
+    /// Returns the register of a node for an empty history. Takes no memory.
     pub fn new(alloc: Global, node: Node) -> Self
         ensures node { result.node ≡ node }
         ensures stands { (S : Setup) → Registered result S [] }
@@ -37,7 +37,7 @@ impl HoldRegister {
         }
     }
 
-    /// The node.
+    /// Returns the node.
     #[inline(always)]
     pub fn node(&self) -> Node
         ensures { result ≡ self.now.node }
@@ -45,7 +45,10 @@ impl HoldRegister {
         self.node
     }
 
-    /// Makes room for n events. It stands for what it stood for, also after an `Err`.
+    /// Makes room for n events. It stands for the same history as before.
+    ///
+    /// # Errors
+    /// Out of memory.
     pub fn reserve(&mut self, n: usize) -> Result<(), AllocError>
         ensures node { self.new.node ≡ self.old.node }
         ensures stands { (S : Setup) (H : List Event) → Registered self.old S H → Registered self.new S H }
@@ -96,7 +99,7 @@ impl HoldRegister {
         self.here.push_reserved(here);
     }
 
-    /// Who holds a cell: the unfinished transactions on whose path the node stands that have accessed it, in ascending number.
+    /// Returns the holders of a cell: the unfinished transactions with the node on their paths that have accessed it, in ascending number.
     #[inline(always)]
     pub fn holds(&self, facts: &Facts, cell: Cell) -> &[Hold]
         requires { Registered self.now (setup_of facts.now) (events_of facts.now) }
@@ -107,7 +110,7 @@ impl HoldRegister {
     }
 }
 
-// Whether the node is on the path of a transaction that has begun.
+// Returns whether the node is on the path of a transaction that has begun.
 #[inline(always)]
 fn is_here(here: &[bool], t: Txn) -> bool
     ensures { result ≡ is_here here.now t.0 }
@@ -116,7 +119,7 @@ fn is_here(here: &[bool], t: Txn) -> bool
     i < here.len() && here[i]
 }
 
-// Whether an event is a Put.
+// Returns whether an event is a Put.
 #[inline(always)]
 fn is_put(e: Event) -> bool
     ensures { result ≡ puts e }

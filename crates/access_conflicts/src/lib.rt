@@ -1,4 +1,22 @@
-//! The register of a node, which keeps who holds which cell there; and which of the holders are in the way of an access.
+//! What locks and pipeline nodes share: the register of holders, and which of them are in the way of an access.
+//!
+//! - [`HoldRegister`] is the lock table of a node (`hold_book`), which notes each event. It leaves out transactions without the
+//!   node on their path.
+//! - [`is_in_the_way`]: a read conflicts with holders that have put the cell, and a write with all holders. A transaction does not
+//!   conflict with its own holds, or with holders on its own side of the node: they meet at a node below (*nexus* locks).
+//! - [`wait_for`] is the verdict that waits for the holder that was found, if any.
+//!
+//! ```text
+//!                   a holder of another side has
+//!                   read the cell     put the cell
+//!   a read asks     goes on           is in the way
+//!   a write asks    is in the way     is in the way
+//! ```
+//!
+//! **What is proved.** The register lends the holders by the history (`HoldRegister::holds`: `holds_in` of `hold_book`), and
+//! `Registered` of `specs/Registered` says which history it stands for. [`is_in_the_way`] is `in_the_way` of `specs/Blockers`.
+//!
+//! **Not claimed**: that a holder in the way is waited for. At a pipeline it is passed over once it has passed the rank of the table.
 #![tactic(auto)]
 
 ghost use Rattle.std.specs.Prelude.{◌≡◌};
@@ -14,7 +32,7 @@ use phase_api::Facts;
 use teb_names::{Node, Txn};
 use teb_rules::Verdict;
 
-/// A wait for the transaction that was found, if any.
+/// Returns a wait for the transaction that was found, or `Go`.
 pub fn wait_for(who: Option<Txn>) -> Verdict
     ensures { result ≡ wait_for_txn who }
 {
@@ -24,8 +42,8 @@ pub fn wait_for(who: Option<Txn>) -> Verdict
     }
 }
 
-/// Whether a hold on a cell is in the way of t's access of the cell: at this node, t's read meets whoever has put it, and t's write whoever
-/// has accessed it. Its own hold never is.
+/// Returns whether a hold on a cell is in the way of t's access of the cell: at this node, t's read conflicts with each transaction that has
+/// put it, and t's write with each that has accessed it. Its own hold is never in its way.
 #[inline(always)]
 pub fn is_in_the_way(facts: &Facts, node: Node, t: Txn, hold: &Hold, write: bool) -> bool
     requires typed { IsTyped facts.now t.0 }

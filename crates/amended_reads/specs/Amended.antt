@@ -13,7 +13,7 @@ abbrev pub amended : (ℕ → Option ℕ) → Option ℕ → List ℕ → Option
 amended shown candidate [] = candidate
 amended shown candidate (n ∷ above) = amended shown (later candidate (shown n)) above
 
--- the candidate of the first node, amended by those behind it
+-- the candidate of the first node, amended by the later ones
 abbrev pub candidate_of : (ℕ → Option ℕ) → List ℕ → Option ℕ
 candidate_of shown [] = None
 candidate_of shown (leaf ∷ above) = amended shown (shown leaf) above

@@ -20,10 +20,10 @@ OfEveryReader P = (S : Setup) (H : List Event) (lists : Cell → List Version) (
 abbrev pub AmendedIsLastSeen : Type 0
 AmendedIsLastSeen = OfEveryReader (λ S H lists t x. candidate_up S H t x (writers_of (lists x)) ≡ last_place (sees S H x t) (writers_of (lists x)))
 
--- t reads the version at this place, and the starting row where there is none
+-- t reads the version at this place, or the starting row if there is none
 abbrev pub IsReadAt : Setup → List (Cell × ℤ) → List Event → (Cell → List Version) → ℕ → Cell → Option ℕ → Type 0
 IsReadAt S R H lists t x place = MatchOption place (read S R H t x ≡ (0, row_of R x)) (λ i. (v : Version) × (slice_get (lists x) i ≡ Some v) × (read S R H t x ≡ (v.0.0, v.1)))
 
--- so it is of who is not aborted and has no version of its own
+-- this holds of each transaction that is not aborted and has no version of its own
 abbrev pub AmendedIsRead : Type 0
 AmendedIsRead = OfEveryReader (λ S H lists t x. (R : List (Cell × ℤ)) → IsFalse (aborted H t) → IsFalse (has_version H x t) → IsReadAt S R H lists t x (candidate_up S H t x (writers_of (lists x))))

@@ -1,4 +1,4 @@
--- Lists of values in one vector, each in a segment of its own.
+-- Lists of values in one vector, each in a segment.
 use Rattle.std.specs.Prelude.{◌≢◌, ◌⊎◌, ℕ, ◌+◌, ◌-◌, ◌*◌, ◌^◌, ◌<◌, ◌≤◌, List, length, take, drop, get_or, vec_len, vec_capacity}
 use Rattle.std.specs.List.{sum_by}
 use Rattle.arena_multimap.specs.declared.arena.Arena.{Arena}
@@ -16,7 +16,7 @@ segment_at ss i = get_or ss i none
 abbrev pub values_at : {V : Type 0} → List V → Segment → List V
 values_at vs s = take s.len (drop s.start vs)
 
--- the values of list i; a list that there is not has none
+-- the values of list i; empty if there is no such list
 abbrev pub list_at : {V : Type 0} → Arena V → ℕ → List V
 list_at a i = values_at a.values.items (segment_at a.segments.items i)
 
@@ -33,11 +33,11 @@ pub record IsWithin (s : Segment) (n : ℕ) : Type 0 where
 abbrev pub AreApart : Segment → Segment → Type 0
 AreApart s t = (s.start + s.room ≤ t.start) ⊎ (t.start + t.room ≤ s.start)
 
--- what a segment takes with its next move, less what the values bring that are put in until then
+-- what a segment takes with its next move, less what the values bring that are appended until then
 abbrev pub owed : Segment → ℕ
 owed s = 4 * s.len - 2 * s.room
 
--- the segments lie in n places, apart, and the debt is at least what they owe
+-- the segments are within n places, apart, and the debt is at least what they owe
 pub record Lies (ss : List Segment) (n debt : ℕ) : Type 0 where
   pub within : (i : ℕ) → IsWithin (segment_at ss i) n
   pub apart : (i j : ℕ) → i ≢ j → AreApart (segment_at ss i) (segment_at ss j)

@@ -8,7 +8,7 @@ pub record Shown (V : Type 0) : Type 0 where
   pub lists : List (List V)
   pub spare : ℕ
 
--- list i; a list that there is not has no values
+-- list i; empty if there is no such list
 abbrev pub list_in : {V : Type 0} → List (List V) → ℕ → List V
 list_in ls i = get_or ls i []
 

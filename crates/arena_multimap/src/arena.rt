@@ -8,13 +8,13 @@ ghost use Rattle.arena_multimap.specs.Arenas.{list_at, lists, segment_at, IsAren
 use std::alloc::{AllocError, Global};
 use vec_room::make_wide_room;
 
-/// For how many values room is made at the least, so that not every `reserve` takes memory.
+/// Room is made for at least this many values, so that not every `reserve` takes memory.
 pub(crate) const AHEAD: usize = 64;
 
 /// How many places each value pays for: the first ones of a list, or a part of the next move of its segment.
 const SHARE: usize = 4;
 
-/// Where a list lies: from `start`, `len` of `room` places.
+/// The segment of a list: from `start`, `len` of `room` places.
 #[derive(Clone, Copy)]
 pub(crate) struct Segment {
     start: u32,
@@ -23,7 +23,7 @@ pub(crate) struct Segment {
 }
 
 impl Segment {
-    /// The place of its first value.
+    /// Returns the place of its first value.
     #[inline(always)]
     fn start(self) -> usize
         ensures { result ≡ self.start }
@@ -31,7 +31,7 @@ impl Segment {
         self.start as usize
     }
 
-    /// The place behind its last value.
+    /// Returns the place after its last value.
     #[inline(always)]
     fn end(self) -> usize
         ensures { result ≡ self.start + self.len }
@@ -40,15 +40,15 @@ impl Segment {
     }
 }
 
-/// Where a list lies that has had no value: it has no place.
+/// The segment of a list that has had no value: it has no place.
 const UNPLACED: Segment = Segment {
     start: 0,
     len: 0,
     room: 0,
 };
 
-/// Lists of values, each in a segment of its own, which takes its first places with its first value. A full one moves to the end of the
-/// vector, to twice the room.
+/// Lists of values, each in a segment. A list gets its first places with its first value. A full segment moves to the end of the vector,
+/// to twice the room.
 #[derive(Drop)]
 pub(crate) struct Arena<V> {
     segments: Vec<Segment>,
@@ -58,7 +58,7 @@ pub(crate) struct Arena<V> {
 }
 
 impl<V: Copy> Arena<V> {
-    /// No lists, and no room.
+    /// Returns no lists, with no room.
     pub(crate) fn new(alloc: Global) -> Self
         ensures sound { IsArena result }
         ensures lists { lists result ≡ 0 }
@@ -71,8 +71,10 @@ impl<V: Copy> Arena<V> {
         }
     }
 
-    /// Makes room for n more values, each in any list or a new one, or lists that begin empty. The lists stay, also after an `Err`, which
-    /// comes where there is no memory, or where the places would be more than 2^32 - 1, with those that are put by and those of n values.
+    /// Makes room for n more values, each in any list or a new one, or lists that begin empty.
+    ///
+    /// # Errors
+    /// Out of memory, or there would be more than 2^32 - 1 places, with those that are put by and those of n values. The lists are unchanged.
     pub(crate) fn reserve(&mut self, n: usize) -> Result<(), AllocError>
         requires { IsArena self.old }
         ensures sound { IsArena self.new }
@@ -91,14 +93,14 @@ impl<V: Copy> Arena<V> {
         make_wide_room(&mut self.segments, n)
     }
 
-    /// How many lists there are.
+    /// Returns how many lists there are.
     pub(crate) fn len(&self) -> usize
         ensures { result ≡ lists self.now }
     {
         self.segments.len()
     }
 
-    /// The values of a list; none of one that there is not.
+    /// Returns the values of a list; empty if there is no such list.
     pub(crate) fn list(&self, i: usize) -> &[V]
         requires { IsArena self.now }
         ensures { result.now ≡ list_at self.now i }
@@ -123,7 +125,7 @@ impl<V: Copy> Arena<V> {
         let _ = self.segments.push(UNPLACED);
     }
 
-    /// Puts a value behind those of a list, or into the next new one.
+    /// Appends a value to a list, or begins the next list with it.
     #[inline(always)]
     pub(crate) fn push(&mut self, i: usize, value: V)
         requires sound { IsArena self.old }
@@ -150,7 +152,7 @@ impl<V: Copy> Arena<V> {
         self.append(i, value);
     }
 
-    // Gives a list with no place its first ones, and its first value.
+    // Gives an empty list its segment, and its first value.
     #[inline(always)]
     fn open(&mut self, i: usize, value: V)
         requires sound { IsArena self.old }
@@ -201,7 +203,7 @@ impl<V: Copy> Arena<V> {
         self.debt -= 2 * room;
     }
 
-    // Writes a value behind those of a list whose segment has room.
+    // Appends a value to a list whose segment has room.
     fn append(&mut self, i: usize, value: V)
         requires sound { IsArena self.old }
         requires within { i < lists self.old }
@@ -218,7 +220,7 @@ impl<V: Copy> Arena<V> {
         self.debt += SHARE;
     }
 
-    /// Puts a value among those of a list, or into the next new one.
+    /// Inserts a value into a list, or begins the next list with it.
     #[inline(always)]
     pub(crate) fn insert(&mut self, i: usize, at: usize, value: V)
         requires sound { IsArena self.old }
@@ -254,7 +256,7 @@ impl<V: Copy> Arena<V> {
         self.values[place] = value;
     }
 
-    /// Takes a value out of a list.
+    /// Removes a value from a list.
     pub(crate) fn take(&mut self, i: usize, at: usize)
         requires sound { IsArena self.old }
         requires at { at < length (list_at self.old i) }
@@ -269,7 +271,7 @@ impl<V: Copy> Arena<V> {
         self.segments[i].len -= 1;
     }
 
-    /// Takes all values out of a list, if there is one. Its segment stays.
+    /// Removes all values of a list, if there is one. Its segment stays.
     pub(crate) fn clear(&mut self, i: usize)
         requires { IsArena self.old }
         ensures sound { IsArena self.new }

@@ -12,20 +12,19 @@ use std::alloc::{AllocError, Global};
 use std::marker::Model;
 use teb_names::Cell;
 
-/// A multimap by cell: values, each beside its cell. Those of a cell stand in an order of their own, and are lent as one slice.
+/// A multimap by cell: values, each beside its cell. Those of a cell have an order, and are lent as one slice.
 ///
-/// All values stand in one vector, where each cell has a segment. A look-up costs one of the cell's place in an index. So does a push, apart
-/// from the moves of the values to a longer segment, which are two for each value at the most. To take a value out moves the values of its
-/// cell that stand behind.
+/// All values are in one vector, in which each cell has a segment. A look-up costs that of the cell's place in an index. So does a push, apart
+/// from the moves of the values to a longer segment, at most two for each value. Taking a value out moves the later values of its cell.
 pub struct CellMultimap<V: Copy> {
     // Each cell has the list of its place.
     cells: CellIndex,
     lists: Arena<V>,
-    // For how many more values there is room.
+    // There is room for this many more values.
     spare: usize,
 }
 
-/// A call of its own, so that no owner has to prove anew how it is dropped.
+/// Hand-written `Drop`, so that callers do not re-prove the drop glue.
 impl<V: Copy> Drop for CellMultimap<V> {
     fn drop(self) {
         let CellMultimap {
@@ -51,7 +50,7 @@ impl<V: Copy> Model for CellMultimap<V> {
 }
 
 impl<V: Copy> CellMultimap<V> {
-    /// No values, and no room. Takes no memory.
+    /// Returns an empty multimap, with no room. Takes no memory.
     pub fn new(alloc: Global) -> Self
         ensures entries { result.entries ≡ [] }
         ensures spare { result.spare ≡ 0 }
@@ -63,9 +62,11 @@ impl<V: Copy> CellMultimap<V> {
         }
     }
 
-    /// Makes room for n more values, whatever their cells. The values stay, also after an `Err`, which comes where there is no memory, where
-    /// there would be more cells than 2^32 - 1, or where 2^30 values or more would have been put in, with those that were taken out since and
-    /// with n more, or 64 where n is less.
+    /// Makes room for n more values, whatever their cells.
+    ///
+    /// # Errors
+    /// Out of memory; there would be more than 2^32 - 1 cells; or at least 2^30 values would have been put in, counting those that were taken
+    /// out since and n more, or 64 if n is less. The values are unchanged.
     pub fn reserve(&mut self, n: usize) -> Result<(), AllocError>
         ensures entries { self.new.entries ≡ self.old.entries }
         ensures room { OnOk result (n ≤ self.new.spare) }
@@ -81,7 +82,7 @@ impl<V: Copy> CellMultimap<V> {
         Ok(())
     }
 
-    /// The values of a cell, in their order.
+    /// Returns the values of a cell, in their order.
     #[inline(always)]
     pub fn list(&self, cell: Cell) -> &[V]
         ensures { result.now ≡ values_in cell_cmp self.now cell }
@@ -89,7 +90,7 @@ impl<V: Copy> CellMultimap<V> {
         self.lists.list(self.cells.place(cell))
     }
 
-    /// Puts a value behind those of a cell. It takes one place of the room.
+    /// Appends a value to those of a cell. It takes one place of the room.
     pub fn push(&mut self, cell: Cell, value: V)
         requires { 0 < self.old.spare }
         ensures values { (x : Cell) → values_in cell_cmp self.new x ≡ cond (is_eq (cell_cmp cell x)) (values_in cell_cmp self.old cell ++ value ∷ []) (values_in cell_cmp self.old x) }
@@ -100,7 +101,7 @@ impl<V: Copy> CellMultimap<V> {
         self.spare -= 1;
     }
 
-    /// Takes out the value at an index among those of a cell.
+    /// Removes the value at an index among those of a cell.
     pub fn take(&mut self, cell: Cell, i: usize)
         requires { i < length (values_in cell_cmp self.old cell) }
         ensures values { (x : Cell) → values_in cell_cmp self.new x ≡ cond (is_eq (cell_cmp cell x)) (remove (values_in cell_cmp self.old cell) i) (values_in cell_cmp self.old x) }
@@ -110,7 +111,7 @@ impl<V: Copy> CellMultimap<V> {
         self.lists.take(list, i);
     }
 
-    /// Takes out all values of a cell.
+    /// Removes all values of a cell.
     pub fn clear(&mut self, cell: Cell)
         ensures values { (x : Cell) → values_in cell_cmp self.new x ≡ cond (is_eq (cell_cmp cell x)) [] (values_in cell_cmp self.old x) }
         ensures spare { self.new.spare ≡ self.old.spare }

@@ -12,15 +12,15 @@ use std::marker::Model;
 
 /// Lists of values, numbered from 0 in the order in which they were begun.
 ///
-/// All values stand in one vector, where each list that has values has a segment. A list is found by its number alone. A value that is put
-/// in moves those of its list that stand behind, and all of them where its segment is full, which is two moves for each value at the most.
+/// All values are in one vector, in which each list that has values has a segment. A list is found by its number. Inserting a value moves
+/// the later values of its list, and all of them if its segment is full, which is at most two moves for each value.
 pub struct NumberedLists<V: Copy> {
     lists: Arena<V>,
-    // For how many more beginnings and values there is room.
+    // There is room for this many more beginnings and values.
     spare: usize,
 }
 
-/// A call of its own, so that no owner has to prove anew how it is dropped.
+/// Hand-written `Drop`, so that callers do not re-prove the drop glue.
 impl<V: Copy> Drop for NumberedLists<V> {
     fn drop(self) {
         let NumberedLists {
@@ -41,7 +41,7 @@ impl<V: Copy> Model for NumberedLists<V> {
 }
 
 impl<V: Copy> NumberedLists<V> {
-    /// No lists, and no room. Takes no memory.
+    /// Returns no lists, with no room. Takes no memory.
     pub fn new(alloc: Global) -> Self
         ensures lists { result.lists ≡ [] }
         ensures spare { result.spare ≡ 0 }
@@ -52,9 +52,11 @@ impl<V: Copy> NumberedLists<V> {
         }
     }
 
-    /// Makes room for n more beginnings and values together, in whatever lists. The lists stay, also after an `Err`, which comes where there
-    /// is no memory, or where 2^30 values or more would have been put in, with those that were taken out since and with n more, or 64 where n
-    /// is less.
+    /// Makes room for n more beginnings and values together, in whatever lists.
+    ///
+    /// # Errors
+    /// Out of memory; or at least 2^30 values would have been put in, counting those that were taken out since and n more, or 64 if n is less.
+    /// The lists are unchanged.
     pub fn reserve(&mut self, n: usize) -> Result<(), AllocError>
         ensures lists { self.new.lists ≡ self.old.lists }
         ensures room { OnOk result (n ≤ self.new.spare) }
@@ -69,7 +71,7 @@ impl<V: Copy> NumberedLists<V> {
         Ok(())
     }
 
-    /// How many lists there are.
+    /// Returns how many lists there are.
     pub fn len(&self) -> usize
         ensures { result ≡ length self.now.lists }
     {
@@ -86,7 +88,7 @@ impl<V: Copy> NumberedLists<V> {
         self.spare -= 1;
     }
 
-    /// The values of a list, in their order; none of one that there is not.
+    /// Returns the values of a list, in their order; empty if there is no such list.
     #[inline(always)]
     pub fn list(&self, i: usize) -> &[V]
         ensures { result.now ≡ list_in self.now.lists i }
@@ -94,7 +96,7 @@ impl<V: Copy> NumberedLists<V> {
         self.lists.list(i)
     }
 
-    /// Puts a value behind those of a list. It takes one place of the room.
+    /// Appends a value to a list. It takes one place of the room.
     #[inline(always)]
     pub fn push(&mut self, i: usize, value: V)
         requires room { 0 < self.old.spare }
@@ -106,7 +108,7 @@ impl<V: Copy> NumberedLists<V> {
         self.spare -= 1;
     }
 
-    /// Takes out the value at an index of a list.
+    /// Removes the value at an index of a list.
     pub fn take(&mut self, i: usize, at: usize)
         requires { at < length (list_in self.old.lists i) }
         ensures lists { self.new.lists ≡ set self.old.lists i (remove (list_in self.old.lists i) at) }
@@ -115,7 +117,7 @@ impl<V: Copy> NumberedLists<V> {
         self.lists.take(i, at);
     }
 
-    /// Takes out all values of a list, if there is one.
+    /// Removes all values of a list, if there is one.
     pub fn clear(&mut self, i: usize)
         ensures lists { self.new.lists ≡ set self.old.lists i [] }
         ensures spare { self.new.spare ≡ self.old.spare }
@@ -125,8 +127,8 @@ impl<V: Copy> NumberedLists<V> {
 }
 
 impl<V: Numbered> NumberedLists<V> {
-    /// Puts a value among those of a list, which ascend by number, instead of the one that has its number. Whether there was none; then it
-    /// takes one place of the room.
+    /// Inserts a value into a list, whose values ascend by number, or replaces the one with the same number. Returns true if it was inserted,
+    /// which takes one place of the room.
     pub fn put_by_number(&mut self, i: usize, value: V) -> bool
         requires room { 0 < self.old.spare }
         requires within { i < length self.old.lists }
@@ -142,7 +144,7 @@ impl<V: Numbered> NumberedLists<V> {
         true
     }
 
-    /// Takes the value with a number out of a list, whose values ascend by number. Where there is none, it stays.
+    /// Removes the value with a number from a list, whose values ascend by number. If there is none, nothing changes.
     pub fn take_by_number(&mut self, i: usize, number: u32)
         requires { IsAscendingBy V.numbered_by (list_in self.old.lists i) }
         ensures lists { self.new.lists ≡ set self.old.lists i (filter (λ v. not (eqb (V.numbered_by v) number)) (list_in self.old.lists i)) }

@@ -2,7 +2,7 @@
 use Rattle.std.specs.Prelude.{◌<◌, ℕ, suc, Bool, cond, not, false, eqb, leb, ltb, List, [], ◌∷◌, ◌++◌, map, filter, Option, Some, None}
 use Rattle.std.specs.List.{list_any}
 
--- a transaction that has joined: its side, and where its batch starts and closes; None while the batch is open
+-- a transaction that has joined: its side, and the start and the close of its batch; None while the batch is open
 pub record Row : Type 0 where
   pub txn : ℕ
   pub side : ℕ
@@ -23,11 +23,11 @@ pub record Book : Type 0 where
   pub running : List Running
   pub spare : ℕ
 
--- somebody on side s is unfinished
+-- some transaction on side s is unfinished
 abbrev pub is_busy : List Running → ℕ → Bool
 is_busy rs s = list_any (λ r. eqb r.side s) rs
 
--- where the open batch of side s started, or `at` where there is none; how many it has admitted
+-- the start of the open batch of side s, or `at` if there is none; how many it has admitted
 abbrev pub start_on : List Running → ℕ → ℕ → ℕ
 start_on [] s at = at
 start_on (r ∷ rs) s at = let i = start_on rs s at in cond (eqb r.side s) r.start i
@@ -46,7 +46,7 @@ rows_joined rs rows s t at = rows ++ record { txn = t; side = s; start = start_o
 abbrev pub running_joined : List Running → ℕ → ℕ → ℕ → List Running
 running_joined rs s t at = map (admit s) rs ++ record { txn = t; side = s; start = start_on rs s at; admitted = suc (admitted_on rs s) } ∷ []
 
--- t finishes at position `at`: the open batch of a side where nobody is left closes
+-- t finishes at position `at`: the open batch of its side closes if t was the last unfinished one there
 abbrev pub running_finished : List Running → ℕ → List Running
 running_finished rs t = filter (λ r. not (eqb r.txn t)) rs
 
@@ -60,7 +60,7 @@ row_finished left at r = record { txn = r.txn; side = r.side; start = r.start; c
 abbrev pub rows_finished : List Running → List Row → ℕ → ℕ → List Row
 rows_finished rs rows t at = map (row_finished (running_finished rs t) at) rows
 
--- the least unfinished transaction of side s, where its batch has admitted `size`
+-- the least unfinished transaction of side s, if its batch has admitted `size`
 abbrev pub full_on : ℕ → ℕ → List Running → Option ℕ
 full_on size s [] = None
 full_on size s (r ∷ rs) = let o = full_on size s rs in cond (eqb r.side s) (cond (leb size r.admitted) (Some r.txn) None) o

@@ -6,7 +6,7 @@ use Rattle.batch_book.specs.declared.members.Member.{Member}
 use Rattle.batch_book.specs.declared.members.Batch.{Batch}
 use Rattle.batch_book.specs.Book.{Row, Running, start_on, admitted_on, closes_before}
 
--- what stands in the place of a batch that is not there
+-- the batch of a number that no batch has
 abbrev pub no_batch : Batch
 no_batch = record { side = 0; start = 0; close = None; admitted = 0; settled = 0 }
 
@@ -14,7 +14,7 @@ no_batch = record { side = 0; start = 0; close = None; admitted = 0; settled = 0
 abbrev pub batch_at : List Batch → Member → Batch
 batch_at batches m = get_or batches m.batch no_batch
 
--- two batches start apart, and neither closed before the other started
+-- two batches start at different events, and neither closed before the other started
 abbrev pub are_overlapping : Batch → Batch → Bool
 are_overlapping a b = not (eqb a.start b.start) && not (closes_before a.close b.start) && not (closes_before b.close a.start)
 
@@ -27,7 +27,7 @@ row_shown batches m = record { txn = m.txn.0; side = (batch_at batches m).side; 
 abbrev pub running_shown : List Batch → Member → Running
 running_shown batches m = record { txn = m.txn.0; side = (batch_at batches m).side; start = (batch_at batches m).start; admitted = (batch_at batches m).admitted }
 
--- x stands in a list
+-- x is in a list
 unfoldable pub Has : {A : Type 0} → A → List A → Type 0
 Has x [] = ⊥
 Has x (y ∷ ys) = (y ≡ x) ⊎ Has x ys

@@ -9,7 +9,7 @@ use Rattle.teb_rules.specs.Tree.{on, side, on_path, side_at}
 use Rattle.teb_rules.specs.Batches.{start, close}
 use Rattle.batch_book.specs.Book.{Row, Running, Book}
 
--- the event may come after P: a Began has the next number, and only an unfinished transaction finishes
+-- the event may follow P: a Began has the next number, and only an unfinished transaction finishes
 abbrev pub MayCome : List Event → Event → Type 0
 MayCome P (Began t s k i) = t.0 ≡ suc (begun_count P)
 MayCome P (Done t) = IsTrue (unfinished P t.0)
@@ -21,11 +21,11 @@ unfoldable pub IsNumbered : List Event → Type 0
 IsNumbered [] = Unit {0}
 IsNumbered (e ∷ P) = MayCome P e × IsNumbered P
 
--- those on whose path n stands, in ascending number
+-- the transactions with n on their paths, in ascending number
 abbrev pub members : Setup → List Event → ℕ → List ℕ
 members S H n = filter (on S H n) (txns H)
 
--- where t's batch closed, if it has
+-- the close of t's batch, if it has closed
 unfoldable pub closing : Setup → List Event → ℕ → ℕ → Option ℕ
 closing S H n t = cond (came H (close S H n t)) (Some (close S H n t)) None
 
@@ -66,13 +66,13 @@ Finishes t (Done u) = u.0 ≡ t
 Finishes t (Gone u c) = u.0 ≡ t
 Finishes t _ = ⊥
 
--- the event does not concern the node: it neither begins nor finishes a transaction on whose path n stands
+-- the event does not concern the node: it neither begins nor finishes a transaction with n on its path
 abbrev pub Passes : Setup → List Event → ℕ → Event → Type 0
 Passes S P n (Began t s k i) = IsFalse (on_path S.tree n (record { kind = k; instance = i }))
 Passes S P n (Done t) = IsFalse (on S P n t.0)
 Passes S P n (Gone t c) = IsFalse (on S P n t.0)
 Passes S P n _ = Unit {0}
 
--- whoever is numbered below m was of a batch that closed before t's started
+-- each member numbered below m was of a batch that closed before t's started
 abbrev pub ClosedBelow : Setup → List Event → ℕ → ℕ → ℕ → Type 0
 ClosedBelow S H n t m = (u : ℕ) → u < m → IsTrue (begun H u) → IsTrue (on S H n u) → close S H n u < start S H n t

@@ -1,10 +1,10 @@
--- Those of the first that have joined whose batches closed before a position.
+-- How many of the first members were of batches that closed before a position.
 use Rattle.std.specs.Prelude.{ℕ, ◌<◌, length, get_or, List, Option, Some, None}
 use Rattle.batch_book.specs.declared.members.Member.{Member}
 use Rattle.batch_book.specs.declared.members.Batch.{Batch}
 use Rattle.batch_book.specs.Fields.{no_batch, batch_at, IsHeld}
 
--- what stands in the place of a member that is not there
+-- the member of a place that has none
 abbrev pub no_member : Member
 no_member = record { txn = record { 0 = 0 }; side = 0; batch = 0 }
 
@@ -17,7 +17,7 @@ IsClosedBefore i (Some c) = c < i
 abbrev pub AreClosed : List Member → List Batch → ℕ → ℕ → Type 0
 AreClosed joined batches i n = (j : ℕ) → j < n → IsClosedBefore i (batch_at batches (get_or joined j no_member)).close
 
--- of less than n each batch knows that theirs closed before it started
+-- each batch knows a number of first members, below n, whose batches closed before it started
 pub record IsSettled (joined : List Member) (batches : List Batch) (n : ℕ) : Type 0 where
   pub fewer : (k : ℕ) → k < length batches → (get_or batches k no_batch).settled < n
   pub closed : (k : ℕ) → k < length batches → AreClosed joined batches (get_or batches k no_batch).start (get_or batches k no_batch).settled

@@ -21,9 +21,9 @@ use vec_room::make_wide_room;
 #[derive(Drop)]
 pub struct Batches {
     size: u16,
-    // All that have joined, in ascending number.
+    // The members that have joined, in ascending number.
     joined: Vec<Member>,
-    // The unfinished ones, in ascending number.
+    // The unfinished members, in ascending number.
     running: Vec<Member>,
     batches: Vec<Batch>,
 }
@@ -47,10 +47,10 @@ impl Model for Batches {
     ghost invariant = { λ b. IsKept b.joined.items b.running.items b.batches.items };
 }
 
-/// `join`, `finish` and `full` cost what the unfinished members are. What is asked of a transaction costs a binary search, and one
-/// look where all that have begun have joined. `join` also looks once, over all calls, at each member whose batch has closed.
+/// `join`, `finish` and `full` go through the unfinished members. A question about a transaction costs a binary search, or one
+/// look if all that have begun have joined. `join` also looks once, over all calls, at each member whose batch has closed.
 impl Batches {
-    /// The batches of an empty history. A batch is full where it has admitted `size`.
+    /// Returns the batches of an empty history. A batch is full once it has admitted `size`.
     pub fn new(alloc: Global, size: u16) -> Self
         ensures batches { (S : Setup) (n : ℕ) → BatchesOf result S [] n }
         ensures size { result.size ≡ size }
@@ -63,7 +63,7 @@ impl Batches {
         }
     }
 
-    /// Makes room for n joins. The batches stay, also after an `Err`.
+    /// Makes room for n joins. It shows the same batches as before, also on `Err`.
     pub fn reserve(&mut self, n: usize) -> Result<(), AllocError>
         ensures batches { (S : Setup) (H : List Event) (n : ℕ) → BatchesOf self.old S H n → BatchesOf self.new S H n }
         ensures size { self.new.size ≡ self.old.size }
@@ -75,7 +75,7 @@ impl Batches {
         Ok(())
     }
 
-    /// The least unfinished member of a side's open batch, where that has admitted its size.
+    /// Returns the least unfinished member of a side's open batch, if that has admitted its size.
     pub fn full(&self, side: u32) -> Option<Txn>
         ensures { (S : Setup) (H : List Event) (n : ℕ) → BatchesOf self.now S H n → result ≡ txn_of (full_at S H n side self.now.size) }
     {
@@ -119,7 +119,7 @@ impl Batches {
         }
     }
 
-    /// Whether t has joined: t has begun, with the node on its path.
+    /// Returns whether t has joined: t has begun, with the node on its path.
     pub fn has(&self, t: Txn) -> bool
         ensures joined { result ≡ has_joined self.now t.0 }
         ensures here { (S : Setup) (H : List Event) (n : ℕ) → BatchesOf self.now S H n → result ≡ (begun H t.0 && on S H n t.0) }
@@ -127,7 +127,7 @@ impl Batches {
         find_member(&self.joined, t).is_some()
     }
 
-    /// Where the batch of t starts.
+    /// Returns the start of t's batch.
     pub fn start(&self, t: Txn) -> usize
         requires { IsTrue (has_joined self.now t.0) }
         ensures { (S : Setup) (H : List Event) (n : ℕ) → BatchesOf self.now S H n → result ≡ start S H n t.0 }
@@ -135,7 +135,7 @@ impl Batches {
         self.batch(t).start
     }
 
-    /// Where the batch of t, which has begun, starts; None where the node is not on its path.
+    /// Returns the start of the batch of t, which has begun, or `None` if the node is not on its path.
     pub fn start_of(&self, t: Txn) -> Option<usize>
         ensures { (S : Setup) (H : List Event) (n : ℕ) → BatchesOf self.now S H n → IsTrue (begun H t.0) → result ≡ cond (on S H n t.0) (Some (start S H n t.0)) None }
     {
@@ -145,7 +145,7 @@ impl Batches {
         }
     }
 
-    /// Where the batch of t closed; None while it is open.
+    /// Returns the close of t's batch, or `None` while it is open.
     pub fn close(&self, t: Txn) -> Option<usize>
         requires { IsTrue (has_joined self.now t.0) }
         ensures { (S : Setup) (H : List Event) (n : ℕ) → BatchesOf self.now S H n → result ≡ closing S H n t.0 }
@@ -153,7 +153,7 @@ impl Batches {
         self.batch(t).close
     }
 
-    /// Whether the batch of u closed before that of t started.
+    /// Returns whether the batch of u closed before that of t started.
     pub fn is_closed_before(&self, u: Txn, t: Txn) -> bool
         requires closed { IsTrue (has_joined self.now u.0) }
         requires started { IsTrue (has_joined self.now t.0) }
@@ -165,7 +165,7 @@ impl Batches {
         }
     }
 
-    /// Whether the batches of t and u are two that overlap: they start apart, and neither closed before the other started.
+    /// Returns whether the batches of t and u overlap: they start at different events, and neither closed before the other started.
     #[inline(always)]
     pub fn overlap(&self, t: Txn, u: Txn) -> bool
         requires first { IsTrue (has_joined self.now t.0) }
@@ -175,7 +175,7 @@ impl Batches {
         overlap(self.batch(t), self.batch(u))
     }
 
-    /// A transaction that has joined, such that the batch of each member with a lesser number was closed before that of t
+    /// Returns a transaction that has joined, such that the batch of each member with a lesser number was closed before that of t
     /// started.
     pub fn horizon(&self, t: Txn) -> Txn
         requires { IsTrue (has_joined self.now t.0) }
@@ -187,7 +187,7 @@ impl Batches {
         self.joined[settled].txn
     }
 
-    // The batch of t.
+    // Returns the batch of t.
     fn batch(&self, t: Txn) -> Batch
         requires { IsTrue (has_joined self.now t.0) }
         ensures start { (S : Setup) (H : List Event) (n : ℕ) → BatchesOf self.now S H n → result.start ≡ start S H n t.0 }

@@ -1,4 +1,4 @@
-//! Those that have joined, and their batches.
+//! The members that have joined, and their batches.
 
 ghost use Rattle.std.specs.Prelude.{◌≡◌, ◌<◌, ◌≤◌, eqb, not, find, filter, length, vec_len, vec_capacity, None, ◌+◌, ◌-◌, ◌^◌};
 ghost use Rattle.std.specs.List.{All, list_any};
@@ -18,8 +18,8 @@ pub(crate) struct Member {
     pub(crate) batch: usize,
 }
 
-/// A batch of a side: where it starts, where it closes, None while it is open, how many it has admitted, and how many of
-/// the first that have joined, at the least, were of batches closed before it started.
+/// A batch of a side: its start, its close (`None` while it is open), how many it has admitted, and a number n such that the
+/// first n that have joined were of batches that closed before it started.
 #[derive(Clone, Copy)]
 pub(crate) struct Batch {
     pub(crate) side: u32,
@@ -29,7 +29,7 @@ pub(crate) struct Batch {
     pub(crate) settled: usize,
 }
 
-/// The first of the members on a side.
+/// Returns the first of the members on a side.
 pub(crate) fn first_on(members: &[Member], side: u32) -> Option<Member>
     ensures { result ≡ find (λ m. eqb m.side side) members.now }
 {
@@ -41,8 +41,8 @@ pub(crate) fn first_on(members: &[Member], side: u32) -> Option<Member>
     None
 }
 
-/// The member of a transaction, among members in ascending number. It costs one look where they are numbered from 1 without a
-/// gap, and else a binary search.
+/// Returns the member of a transaction, among members in ascending number. It costs one look if they are numbered from 1 without
+/// a gap, and otherwise a binary search.
 #[inline(always)]
 pub(crate) fn find_member(members: &[Member], t: Txn) -> Option<Member>
     requires { IsAscendingBy member_number members.now }
@@ -58,7 +58,7 @@ pub(crate) fn find_member(members: &[Member], t: Txn) -> Option<Member>
     }
 }
 
-// Where the member of a transaction stands among members in ascending number, or would stand, by a binary search.
+// Returns the place of the member of a transaction among members in ascending number, or the place where it would go, by a binary search.
 fn search_member(members: &[Member], t: Txn) -> Result<usize, usize>
     requires { IsAscendingBy member_number members.now }
     ensures { result ≡ place_of member_number members.now t.0 }
@@ -66,7 +66,7 @@ fn search_member(members: &[Member], t: Txn) -> Result<usize, usize>
     members.binary_search_by_key(&t.0, |member| member.txn.0)
 }
 
-/// Enters one more into the open batch of a side, or opens one at a position. It answers the number of the batch.
+/// Admits one more to the open batch of a side, or opens one at a position. Returns the number of the batch.
 #[inline(always)]
 pub(crate) fn enter(
     joined: &[Member],
@@ -108,7 +108,7 @@ pub(crate) fn enter(
     }
 }
 
-/// Takes a transaction out of members in ascending number, where it is one of them, and answers its member.
+/// Removes a transaction from members in ascending number, if it is one of them, and returns its member.
 pub(crate) fn take_out(members: &mut Vec<Member>, t: Txn) -> Option<Member>
     requires { IsAscendingBy member_number members.old.items }
     ensures member { result ≡ find (λ m. eqb m.txn.0 t.0) members.old.items }
@@ -122,7 +122,7 @@ pub(crate) fn take_out(members: &mut Vec<Member>, t: Txn) -> Option<Member>
     }
 }
 
-/// Whether some member is of a batch.
+/// Returns whether some member is of a batch.
 pub(crate) fn is_any_of(members: &[Member], batch: usize) -> bool
     ensures { result ≡ list_any (λ m. eqb m.batch batch) members.now }
 {

@@ -8,8 +8,8 @@ ghost use Rattle.batch_book.specs.Settled.{AreClosed, IsClosedBefore, IsSettled}
 
 use crate::members::{Batch, Member};
 
-/// As many as are known by the last batch, where that did not start later, and whoever follows them up to the first whose
-/// batch has not closed before the position.
+/// Returns how many of the first that have joined are of batches that closed before a position. It begins with the number that the last
+/// batch knows, unless that started later, and goes on to the first whose batch has not closed before the position.
 pub(crate) fn settled_before(joined: &[Member], batches: &[Batch], at: usize) -> usize
     requires within { All (λ m. m.batch < length batches.now) joined.now }
     requires settled { IsSettled joined.now batches.now (length joined.now) }
@@ -22,7 +22,7 @@ pub(crate) fn settled_before(joined: &[Member], batches: &[Batch], at: usize) ->
     }
 }
 
-// The same where the first `known` are of such batches.
+// Returns the same, given that the first `known` are of such batches.
 fn settled_from(joined: &[Member], batches: &[Batch], known: usize, at: usize) -> usize
     requires within { All (λ m. m.batch < length batches.now) joined.now }
     requires known { known ≤ length joined.now }
@@ -48,7 +48,7 @@ fn is_closed_before(batch: Batch, at: usize) -> bool
     }
 }
 
-/// Whether two batches start apart, and neither closed before the other started.
+/// Returns whether two batches start at different events, and neither closed before the other started.
 pub(crate) fn overlap(first: Batch, second: Batch) -> bool
     ensures { result ≡ are_overlapping first second }
 {

@@ -1,4 +1,4 @@
--- What is known where a version is asked for.
+-- What is known when a version is asked for.
 use Rattle.std.specs.Prelude.{ℕ, List, IsTrue, IsFalse}
 use Rattle.teb_names.specs.declared.Cell.{Cell}
 use Rattle.teb_history.specs.declared.Event.{Event}

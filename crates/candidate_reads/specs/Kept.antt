@@ -2,7 +2,7 @@
 use Rattle.teb_history.specs.declared.Event.{Event}
 use Rattle.teb_history.specs.declared.Event.TheVariants.{Put, Gone}
 
--- the event puts no version, and takes none away
+-- the event adds no version, and removes none
 abbrev pub LeavesVersions : Event → Type 0
 LeavesVersions (Put t x v) = ⊥
 LeavesVersions (Gone t c) = ⊥

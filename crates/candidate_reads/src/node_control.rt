@@ -10,7 +10,7 @@ ghost use Rattle.phase_api.specs.FactsView.{setup_of, events_of, IsTyped};
 use phase_api::{Control, Facts};
 use teb_names::{Node, Txn};
 
-/// The control of a node, of the controls of all nodes.
+/// Returns the control of a node, of the controls of all nodes.
 pub fn control_at<'a, K: Control>(controls: &'a [K], facts: &Facts, n: Node) -> &'a K
     requires controls { StandAll K.node_number K.stands controls.now (setup_of facts.now) (events_of facts.now) }
     requires node { n.0 < length (setup_of facts.now).tree }
@@ -20,7 +20,7 @@ pub fn control_at<'a, K: Control>(controls: &'a [K], facts: &Facts, n: Node) -> 
     &controls[usize::from(n.0)]
 }
 
-/// The control of the node at which two transactions meet.
+/// Returns the control of the node at which two transactions meet.
 #[inline(always)]
 pub fn control_between<'a, K: Control>(controls: &'a [K], facts: &Facts, t: Txn, u: Txn) -> &'a K
     requires tree { TreeFacts (setup_of facts.now) }
@@ -33,7 +33,7 @@ pub fn control_between<'a, K: Control>(controls: &'a [K], facts: &Facts, t: Txn,
     ensures meet { IsTrue (meets (setup_of facts.now) (events_of facts.now) (K.node_number result.now) t.0 u.0) }
     ensures stands { K.stands result.now (setup_of facts.now) (events_of facts.now) }
 {
-    // All meet at the node of a tree of one.
+    // In a tree of one node, all transactions meet there.
     if controls.len() == 1 {
         return control_at(controls, facts, Node(0));
     }

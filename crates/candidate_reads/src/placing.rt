@@ -1,4 +1,4 @@
-//! Where a transaction's version belongs.
+//! The place of a transaction's version.
 
 ghost use Rattle.std.specs.Prelude.{◌≡◌, ◌≤◌, slice_get, Some, IfSome, IsTrue, IsFalse};
 ghost use Rattle.std.specs.Option.{option_map};
@@ -23,7 +23,7 @@ use version_chain::{Chains, Found};
 #[derive(Clone, Copy)]
 pub struct Place {
     pub at: usize,
-    /// Whether the version stands there, and not another one or none.
+    /// Whether the version is there, and not another one or none.
     pub is_there: bool,
 }
 
@@ -35,8 +35,8 @@ impl Place {
     };
 }
 
-/// The place of t's version of a cell among the versions that are there, in version order: where it stands, or else where it
-/// will stand once t puts the cell. The starting row is not counted.
+/// Returns the place of t's version of a cell among the versions that exist, in version order: its present place, or the one that it
+/// gets once t puts the cell. The starting row is not counted.
 pub fn place_of<K: Control, C: Chains>(
     controls: &[K],
     chains: &C,
@@ -59,7 +59,7 @@ pub fn place_of<K: Control, C: Chains>(
     place_from(found, t, facts.history.begun())
 }
 
-/// The place of t's version of a cell where no timestamp node is on t's path: where it stands, or else behind all that are there.
+/// Returns the place of t's version of a cell if no timestamp node is on t's path: its present place, or else the end of the chain.
 pub fn place_behind<C: Chains>(chains: &C, facts: &Facts, t: Txn, cell: Cell) -> Place
     requires tree { TreeFacts (setup_of facts.now) }
     requires lawful { Lawful (setup_of facts.now) (events_of facts.now) }
@@ -76,7 +76,7 @@ pub fn place_behind<C: Chains>(chains: &C, facts: &Facts, t: Txn, cell: Cell) ->
     place_from(found, t, facts.history.begun())
 }
 
-// The place of t's version, where it is the one that was found, or else behind the one that was found. A cell has at most one
+// Returns the place of t's version: that of the version found, if it is t's, or else the one after it. A cell has at most one
 // version of each transaction that has begun.
 #[inline(always)]
 fn place_from(found: Option<Found>, t: Txn, _begun: u32) -> Place
@@ -96,7 +96,7 @@ fn place_from(found: Option<Found>, t: Txn, _begun: u32) -> Place
     }
 }
 
-// The version of t, or else the last one that is before the one that t is about to put.
+// Returns the version of t, or else the last one that is before the one that t is about to put.
 fn own_or_before<K: Control, C: Chains>(
     controls: &[K],
     chains: &C,
@@ -115,7 +115,7 @@ fn own_or_before<K: Control, C: Chains>(
     chains.own_or_last(cell, t, &|w: Txn| is_before(controls, facts, w, t, cell))
 }
 
-// Whether the version of w is before the one that t is about to put. It costs the same, however much w has done.
+// Returns whether the version of w is before the one that t is about to put. Its cost does not depend on what w has done.
 fn is_before<K: Control>(controls: &[K], facts: &Facts, w: Txn, t: Txn, cell: Cell) -> bool
     requires asked { AreAsked K.node_number K.stands controls.now facts.now }
     requires put { MayPut facts.now t.0 cell }
@@ -125,7 +125,7 @@ fn is_before<K: Control>(controls: &[K], facts: &Facts, w: Txn, t: Txn, cell: Ce
     let control = control_between(controls, facts, w, t);
     match facts.tree.row(control.node()).control {
         ControlKind::Timestamp => control.orders(facts, w, t, cell),
-        // A version that is about to come is later than those that are there.
+        // A version that is about to be put is later than all others.
         _ => true,
     }
 }

@@ -17,8 +17,8 @@ use phase_api::{Control, Facts};
 use teb_names::{Cell, Rows, Txn};
 use version_chain::{Chains, Found};
 
-/// Whose version of a cell t reads, and its value: its own, or else the last one that it sees, or else the starting row, whose
-/// writer is 0. The value is none where there is no row.
+/// Returns whose version of a cell t reads, and its value: its own, or else the last one that it sees, or else the starting row, whose
+/// writer is 0. The value is `None` if there is no row.
 pub fn read<K: Control, C: Chains>(
     controls: &[K],
     chains: &C,
@@ -42,8 +42,8 @@ pub fn read<K: Control, C: Chains>(
     }
 }
 
-// The version of t, or else the last one that it sees. The versions are asked for one by one from the last one on, so that a
-// read costs those that t does not see.
+// Returns the version of t, or else the last one that it sees. It looks at the versions from the last one down, so that a read
+// costs those that t does not see.
 fn own_or_seen<K: Control, C: Chains>(
     controls: &[K],
     chains: &C,
@@ -61,7 +61,7 @@ fn own_or_seen<K: Control, C: Chains>(
     chains.own_or_last(cell, t, &|w: Txn| is_seen(controls, facts, t, w, cell))
 }
 
-// Whether t sees the version of the writer w, which the node where the two meet tells.
+// Returns whether t sees the version of the writer w. The node at which the two meet tells it.
 fn is_seen<K: Control>(controls: &[K], facts: &Facts, t: Txn, w: Txn, cell: Cell) -> bool
     requires asked { AreAsked K.node_number K.stands controls.now facts.now }
     requires reads { ReadsOthers facts.now t.0 cell }

@@ -11,7 +11,7 @@ use phase_api::{Control, Facts};
 use teb_names::{Cell, Txn};
 use version_chain::Chains;
 
-/// The place of the last version that the leaf of t lets it see, among writers that meet t there; none where there is no such
+/// Returns the place of the last version that the leaf of t lets it see, among writers that meet t there; `None` if there is no such
 /// version.
 pub fn candidate<K: Control, C: Chains>(
     leaf: &K,
@@ -29,9 +29,8 @@ pub fn candidate<K: Control, C: Chains>(
     chains.last_where(cell, &|w: Txn| is_shown(leaf, facts, t, w, cell))
 }
 
-/// The later of the candidate and the last version that a node lets t see, among writers that meet t there. A candidate that
-/// the nodes above the leaf amend, up to the root, is the last version that t sees. What stands up to the candidate is not
-/// looked at.
+/// Returns the later of the candidate and the last version that a node lets t see, among writers that meet t there. A candidate that
+/// the nodes above the leaf amend, up to the root, is the last version that t sees. Versions up to the candidate are not looked at.
 pub fn amend<K: Control, C: Chains>(
     node: &K,
     chains: &C,
@@ -52,7 +51,7 @@ pub fn amend<K: Control, C: Chains>(
         .or(candidate)
 }
 
-// Whether t meets the writer w at a node, and sees its version there.
+// Returns whether t meets the writer w at a node, and sees its version there.
 #[tactic(auto, using(crate::proofs::Shows::shows_met, crate::proofs::Shows::shows_not))]
 fn is_shown<K: Control>(node: &K, facts: &Facts, t: Txn, w: Txn, cell: Cell) -> bool
     requires stands { K.stands node.now (setup_of facts.now) (events_of facts.now) }

@@ -1,4 +1,4 @@
--- What is answered to a list of nodes, by its first fault.
+-- The answer to a list of nodes, by its first fault.
 use Rattle.std.specs.Prelude.{◌≡◌, ℕ, List, Option, Some, None, Result, Ok, Err}
 use Rattle.teb_rules.specs.Setup.{NodeRow}
 use Rattle.teb_rules.specs.Accepted.{Fault, tree_fault}
@@ -39,12 +39,12 @@ Names (Shape n w) o = o ≡ Some (n.0, why_fault w)
 Names (Misplaced n r) o = o ≡ Some (n.0, rule_fault r)
 Names OutOfMemory o = ⊥
 
--- nothing is found where there is no fault, and else the fault
+-- nothing is found if there is no fault, and else the fault
 abbrev pub Finds : {A : Type 0} → Result A TreeError → Option (ℕ × Fault) → Type 0
 Finds (Ok a) o = o ≡ None
 Finds (Err e) o = Names e o
 
--- these rows, for so many types, are a tree exactly where they have no fault; else the first fault is named. Memory may be wanting at any rows
+-- these rows, for `types` types, are a tree if and only if they have no fault; else the first fault is named. Any rows may run out of memory
 abbrev pub Answers : Result Tree TreeError → List NodeRow → ℕ → Type 0
 Answers (Ok t) T types = (t ≡ record { rows = T; types = types }) × (tree_fault T types ≡ None)
 Answers (Err OutOfMemory) T types = Unit {0}

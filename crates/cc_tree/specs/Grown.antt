@@ -1,4 +1,4 @@
--- What contracts see of a tree, and how numbers stand in it.
+-- What contracts see of a tree, in numbers.
 use Rattle.std.specs.Prelude.{ℕ, cond, List, map, Option, Some, None}
 use Rattle.teb_names.specs.declared.Kind.{Kind}
 use Rattle.teb_names.specs.declared.Node.{Node}
@@ -33,6 +33,6 @@ abbrev pub side_number : Option Node → ℕ → ℕ
 side_number None own = own
 side_number (Some m) own = m.0
 
--- the side of n on a path, for a transaction with the number own; none where n is not on it
+-- the side of n on a path, for a transaction with the number own; None if n is not on it
 abbrev pub side_found : ℕ → ℕ → List ℕ → Option ℕ
 side_found n own ns = cond (among n ns) (Some (next_of n own ns)) None

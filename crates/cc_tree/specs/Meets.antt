@@ -1,4 +1,4 @@
--- Where two paths part.
+-- The node at which two paths part.
 use Rattle.std.specs.Prelude.{◌≡◌, ◌≢◌, ℕ, cond, eqb, List, [], ◌∷◌, IsTrue}
 use Rattle.teb_names.specs.declared.Spot.{Spot}
 use Rattle.teb_history.specs.declared.Event.{Event}
@@ -12,7 +12,7 @@ last_shared above [] ns = above
 last_shared above (m ∷ ms) [] = above
 last_shared above (m ∷ ms) (n ∷ ns) = let r = last_shared m ms ns in cond (eqb m n) r above
 
--- the lowest node on the paths of a and b: each other node on both stands on the way to it
+-- the lowest node on the paths of a and b: each other node on both is on the way to it
 pub record IsLowest (T : List NodeRow) (a b : Spot) (n : ℕ) : Type 0 where
   pub on_first : IsTrue (on_path T n a)
   pub on_second : IsTrue (on_path T n b)

@@ -17,7 +17,7 @@ is_kind Snapshot c = is_snapshot c
 abbrev pub shares : List ℕ → List ℕ → Bool
 shares js ks = list_any (λ k. among k js) ks
 
--- a type stands in both rows, for the same part or with different numbers of parts
+-- a type is in both rows, for the same part or with different numbers of parts
 abbrev pub clash : NodeRow → NodeRow → Bool
 clash q r = shares q.types r.types && (eqb q.part r.part || not (eqb q.parts r.parts))
 

@@ -1,4 +1,4 @@
--- What callers may rest on of each tree.
+-- What holds of each tree, for its callers.
 use Rattle.std.specs.Prelude.{◌≡◌, ℕ, ◌<◌, ◌≤◌, length, Some, None, IsTrue}
 use Rattle.teb_rules.specs.Setup.{among}
 use Rattle.teb_rules.specs.Tree.{row}

@@ -1,4 +1,4 @@
-//! All that is asked of a list of nodes, in order.
+//! The test of a list of nodes: shape, homes of the types, placement, in this order.
 
 ghost use Rattle.std.specs.Prelude.{◌≤◌, length};
 ghost use Rattle.cc_tree.specs.Answers.{Finds};
@@ -10,7 +10,7 @@ use crate::placement::check_placement;
 use crate::shape::check_shape;
 use crate::{NodeRow, TreeError};
 
-/// The first fault: of the shape of each node, of a type without its leaves, or of the placement of each node.
+/// Returns the first fault as an error: of the shape of each node, of a type without its leaves, or of the placement of each node.
 #[tactic(auto, unfolding(teb_rules::specs::Accepted::tree_fault))]
 pub fn check(rows: &[NodeRow], types: u8) -> Result<(), TreeError>
     requires { length rows.now ≤ 64 }

@@ -1,4 +1,4 @@
-//! What is wrong with a list of nodes that makes no tree.
+//! The faults of lists of nodes that make no tree.
 
 ghost use Rattle.std.specs.Prelude.{◌≡◌};
 
@@ -8,15 +8,15 @@ use teb_names::Node;
 /// The three rules of placement.
 #[derive(Clone, Copy, Debug, PartialEq, Eq)]
 pub enum Rule {
-    /// A snapshot node stands only at the root.
+    /// A snapshot node is only at the root.
     P1,
     /// A timestamp node below a locks node is ordered.
     P2,
-    /// No timestamp node stands below a pipeline node.
+    /// No timestamp node is below a pipeline node.
     P3,
 }
 
-/// Why a list of nodes has not the shape of a tree.
+/// Why a list of nodes does not have the shape of a tree.
 #[derive(Clone, Copy, Debug, PartialEq, Eq)]
 pub enum ShapeWhy {
     /// Node 0 has a parent, or a later node has none.
@@ -29,18 +29,18 @@ pub enum ShapeWhy {
     Empty,
     /// The node has types and children.
     Mixed,
-    /// A type of the node stands twice in it, or in an earlier node with the same part or with another number of parts.
+    /// A type of the node is listed twice in it, or is in an earlier node with the same part or with another number of parts.
     Twice,
-    /// A type stands in fewer nodes than its number of parts, or in none.
+    /// A type is in fewer nodes than its number of parts, or in none.
     Homeless,
 }
 
 /// Why no tree was built.
 #[derive(Clone, Copy, Debug, PartialEq, Eq, Drop)]
 pub enum TreeError {
-    /// The shape is wrong at the node. Where a type is homeless it is node 0.
+    /// The shape is wrong at the node. If a type is homeless, that is node 0.
     Shape { node: Node, why: ShapeWhy },
-    /// The node stands where the rule forbids it.
+    /// The node is at a place that the rule forbids.
     Misplaced { node: Node, rule: Rule },
     /// Out of memory.
     OutOfMemory,

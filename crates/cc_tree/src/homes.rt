@@ -1,4 +1,4 @@
-//! The leaves in which a type stands.
+//! The leaves of each type.
 
 ghost use Rattle.std.specs.Prelude.{◌≡◌, ◌<◌, ◌≤◌, length, cond, Some, None, count_by, map, IfOk};
 ghost use Rattle.std.specs.List.{All, list_any};
@@ -16,7 +16,10 @@ use crate::{NodeRow, ShapeWhy, TreeError};
 use std::alloc::{AllocError, Global};
 use teb_names::{Kind, Node, Spot};
 
-/// Whether some type below `types` stands in fewer nodes than its number of parts, or in none.
+/// Tests whether each type below `types` is in at least as many nodes as it has parts, and in one at least.
+///
+/// # Errors
+/// `Homeless` at node 0 if some type is not.
 pub fn check_homes(rows: &[NodeRow], types: u8) -> Result<(), TreeError>
     requires { length rows.now ≤ 64 }
     ensures { Finds result (cond (list_any (is_homeless (rows_of rows.now)) (below types)) (Some (0, Homeless)) None) }
@@ -42,7 +45,7 @@ fn is_homeless(rows: &[NodeRow], k: Kind) -> bool
     }
 }
 
-// The number of parts of a type, by the first row that has it.
+// Returns the number of parts of a type, by the first row that has it.
 fn parts_of(rows: &[NodeRow], k: Kind) -> Option<u8>
     ensures { result ≡ parts_of k.0 (rows_of rows.now) }
 {
@@ -64,7 +67,7 @@ fn count_homes(rows: &[NodeRow], k: Kind) -> u8
     }
 }
 
-/// For each type below `types`, the paths to its leaves in order of their parts.
+/// Returns for each type below `types`, the paths to its leaves in order of their parts.
 pub fn all_paths(alloc: Global, rows: &[NodeRow], types: u8) -> Result<Vec<Vec<Path>>, AllocError>
     requires few { length rows.now ≤ 64 }
     requires parts { All (λ r. 0 < r.of) rows.now }
@@ -77,7 +80,7 @@ pub fn all_paths(alloc: Global, rows: &[NodeRow], types: u8) -> Result<Vec<Vec<P
     Ok(paths)
 }
 
-// The paths to the leaves of one type, in order of their parts.
+// Returns the paths to the leaves of one type, in order of their parts.
 fn part_paths(alloc: Global, rows: &[NodeRow], k: Kind) -> Result<Vec<Path>, AllocError>
     requires few { length rows.now ≤ 64 }
     requires parts { All (λ r. 0 < r.of) rows.now }
@@ -105,7 +108,7 @@ fn way_to(alloc: Global, rows: &[NodeRow], n: Node) -> Result<Path, AllocError>
     Path::new(alloc, way, rows.len())
 }
 
-// The first node that has the type of a spot and the part of its instance; node 0 where none has.
+// Returns the first node that has the type of a spot and the part of its instance, or node 0 if none has.
 fn leaf_of(rows: &[NodeRow], s: Spot) -> Node
     requires few { length rows.now ≤ 64 }
     requires parts { All (λ r. 0 < r.of) rows.now }

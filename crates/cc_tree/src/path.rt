@@ -23,7 +23,7 @@ pub(crate) enum Follower {
 
 /// A path: nodes from the root down. Contracts see the list of the nodes.
 ///
-/// Whether a node is on it, and what follows it there, costs one look.
+/// Telling whether a node is on it, and what follows it there, costs one look.
 #[derive(Drop)]
 pub(crate) struct Path {
     nodes: Vec<Node>,
@@ -44,7 +44,7 @@ impl Model for Path {
 }
 
 impl Path {
-    /// The path of these nodes, in a tree of so many.
+    /// Returns the path of these nodes, in a tree of `count` nodes.
     pub(crate) fn new(alloc: Global, nodes: Vec<Node>, count: usize) -> Result<Path, AllocError>
         requires { count ≤ 64 }
         ensures { IfOk result (λ p. p ≡ nodes.items) }
@@ -53,14 +53,14 @@ impl Path {
         Ok(Path { nodes, followers })
     }
 
-    /// Its nodes, from the root down.
+    /// Returns its nodes, from the root down.
     pub(crate) fn nodes(&self) -> &[Node]
         ensures { result.now ≡ self.now }
     {
         &self.nodes
     }
 
-    /// Whether a node is on the path.
+    /// Returns whether a node is on the path.
     #[inline(always)]
     pub(crate) fn has(&self, n: Node) -> bool
         ensures { result ≡ among n.0 (node_numbers self.now) }
@@ -71,7 +71,7 @@ impl Path {
         }
     }
 
-    /// The node that follows n on the path.
+    /// Returns the node that follows n on the path.
     pub(crate) fn next(&self, n: Node) -> Option<Node>
         ensures { (own : ℕ) → side_number result own ≡ next_of n.0 own (node_numbers self.now) }
     {
@@ -82,8 +82,8 @@ impl Path {
         }
     }
 
-    /// The number of the side of n for a transaction with the number `own`: that of the node behind n, or `own` where n is the last. None
-    /// where n is not on the path.
+    /// Returns the number of the side of n for a transaction with the number `own`: that of the next node, or `own` if n is the last. `None`
+    /// if n is not on the path.
     #[inline(always)]
     pub(crate) fn side(&self, n: Node, own: u32) -> Option<u32>
         ensures { result ≡ side_found n.0 own (node_numbers self.now) }
@@ -95,7 +95,7 @@ impl Path {
         }
     }
 
-    // What follows a node.
+    // Returns what follows a node.
     #[inline(always)]
     fn follower(&self, n: Node) -> Follower
         ensures { result ≡ follower_in n.0 self.now }
@@ -109,7 +109,7 @@ impl Path {
     }
 }
 
-// What follows each node of a tree of so many.
+// Returns what follows each node of a tree of `count` nodes.
 fn followers_on(alloc: Global, nodes: &[Node], count: u8) -> Result<Vec<Follower>, AllocError>
     ensures { IfOk result (λ v. AreFollowers v.items nodes.now) }
 {
@@ -120,7 +120,7 @@ fn followers_on(alloc: Global, nodes: &[Node], count: u8) -> Result<Vec<Follower
     Ok(followers)
 }
 
-// What follows a node in a list of nodes.
+// Returns what follows a node in a list of nodes.
 fn follower_on(nodes: &[Node], n: Node) -> Follower
     ensures { result ≡ follower_in n.0 nodes.now }
 {
@@ -133,7 +133,7 @@ fn follower_on(nodes: &[Node], n: Node) -> Follower
     }
 }
 
-/// The last node that both paths share from their beginning on, and `above` where their first nodes differ.
+/// Returns the last node that both paths share from their beginning on, or `above` if their first nodes differ.
 pub(crate) fn last_shared(a: &[Node], b: &[Node], above: Node) -> Node
     ensures { result.0 ≡ last_shared above.0 (node_numbers a.now) (node_numbers b.now) }
 {

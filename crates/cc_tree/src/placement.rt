@@ -1,4 +1,4 @@
-//! The placement of controls: which may stand above which.
+//! The placement of controls: which may be above which.
 
 ghost use Rattle.std.specs.Prelude.{◌≡◌, ◌<◌, ◌≤◌, length};
 ghost use Rattle.cc_tree.specs.Answers.{Finds, rule_name};
@@ -11,7 +11,7 @@ use crate::way::some_above;
 use crate::{NodeRow, Rule, TreeError};
 use teb_names::{ControlKind, Node};
 
-/// The first node that stands where a rule forbids it.
+/// Returns an error at the first node that is at a place which a rule forbids.
 pub fn check_placement(rows: &[NodeRow]) -> Result<(), TreeError>
     requires { length rows.now ≤ 64 }
     ensures { Finds result (first_at (placement_fault (rows_of rows.now)) (below (length rows.now))) }
@@ -27,7 +27,7 @@ pub fn check_placement(rows: &[NodeRow]) -> Result<(), TreeError>
     Ok(())
 }
 
-// The first rule that one node breaks.
+// Returns the first rule that one node breaks.
 fn broken_at(rows: &[NodeRow], n: Node) -> Option<Rule>
     requires { n.0 < length rows.now }
     ensures { rule_name result ≡ placement_fault (rows_of rows.now) n.0 }
@@ -43,7 +43,7 @@ fn broken_at(rows: &[NodeRow], n: Node) -> Option<Rule>
     }
 }
 
-// Whether a node of this control stands above n, at any height.
+// Returns whether a node of this control is above n, at any height.
 #[tactic(auto, unfolding(teb_rules::specs::Tree::way))]
 fn is_below(rows: &[NodeRow], n: Node, control: ControlKind) -> bool
     ensures { result ≡ some_above (rows_of rows.now) n.0 (λ r. is_kind control r.control) }

@@ -9,14 +9,14 @@ pub struct NodeRow {
     pub control: ControlKind,
     /// The node above it; none at the root.
     pub parent: Option<Node>,
-    /// The types of its transactions; none where it has children.
+    /// The types of its transactions; none if it has children.
     pub types: Vec<Kind>,
-    /// How many transactions a batch of one child admits, 1 to 1,024. Without effect at a leaf.
+    /// How many transactions a batch of one child admits, 1 to 1,024. It has no effect at a leaf.
     pub batch: u16,
     /// Whether its transactions commit in the order of their starts.
     pub ordered: bool,
-    /// Which part of the instances of its types it takes, from 0 and below `of`.
+    /// The part of the instances of its types that it takes, from 0 to below `of`.
     pub part: u8,
-    /// Into how many leaves the instances of its types are parted, 1 to 16.
+    /// The number of leaves among which the instances of its types are divided, 1 to 16.
     pub of: u8,
 }

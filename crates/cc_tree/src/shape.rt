@@ -13,7 +13,7 @@ use crate::way::count_above;
 use crate::{NodeRow, ShapeWhy, TreeError};
 use teb_names::{Kind, Node};
 
-/// The first node whose shape is wrong.
+/// Returns an error at the first node whose shape is wrong.
 pub fn check_shape(rows: &[NodeRow]) -> Result<(), TreeError>
     requires { length rows.now ≤ 64 }
     ensures { Finds result (first_at (shape_fault (rows_of rows.now)) (below (length rows.now))) }
@@ -26,7 +26,7 @@ pub fn check_shape(rows: &[NodeRow]) -> Result<(), TreeError>
     Ok(())
 }
 
-// The first fault of one node.
+// Returns the first fault of one node.
 #[tactic(auto, using(crate::proofs::Below::has_children_is))]
 fn shape_at(rows: &[NodeRow], n: Node) -> Option<ShapeWhy>
     requires { n.0 < length rows.now }
@@ -87,7 +87,7 @@ fn has_types(rows: &[NodeRow], n: Node) -> bool
     !rows[usize::from(n.0)].types.is_empty()
 }
 
-// Whether one of these rows is a child of n.
+// Returns whether one of these rows is a child of n.
 fn has_child(rows: &[NodeRow], n: Node) -> bool
     ensures { result ≡ list_any (λ r. is_child_of n.0 r.parent) (rows_of rows.now) }
 {
@@ -115,7 +115,7 @@ fn is_twice(rows: &[NodeRow], n: Node) -> bool
     repeats(&row.types) || some_clash(&rows[..n], row)
 }
 
-// Whether a type stands twice in a list.
+// Returns whether a type is listed twice.
 fn repeats(types: &[Kind]) -> bool
     ensures { result ≡ repeats (kind_numbers types.now) }
 {
@@ -125,7 +125,7 @@ fn repeats(types: &[Kind]) -> bool
     }
 }
 
-/// Whether a type is one of a list.
+/// Returns whether a type is one of a list.
 #[tactic(auto, using(crate::proofs::Below::among_kinds))]
 pub fn holds(types: &[Kind], k: Kind) -> bool
     ensures { result ≡ among k.0 (kind_numbers types.now) }
@@ -142,7 +142,7 @@ fn some_clash(earlier: &[NodeRow], row: &NodeRow) -> bool
     }
 }
 
-// Whether a type stands in both rows, for the same part or with different numbers of parts.
+// Returns whether a type is in both rows, for the same part or with different numbers of parts.
 fn clash(earlier: &NodeRow, row: &NodeRow) -> bool
     ensures { result ≡ clash (row_of earlier.now) (row_of row.now) }
 {

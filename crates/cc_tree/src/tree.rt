@@ -37,12 +37,12 @@ impl Model for Tree {
 }
 
 impl Tree {
-    /// The tree of these rows, for so many types.
+    /// Returns the tree of these rows, for `types` types.
     ///
     /// # Errors
-    /// The first fault of the rows: `Shape` at the first node whose shape is wrong, or else at node 0 where a type has
-    /// not a leaf for each of its parts; or else `Misplaced` at the first node that stands where a rule forbids it. Rows
-    /// without a fault make a tree, unless there is no memory: then the error is `OutOfMemory`.
+    /// The first fault of the rows: `Shape` at the first node whose shape is wrong; else `Shape` at node 0 if a type does not have
+    /// a leaf for each of its parts; else `Misplaced` at the first node that is at a place which a rule forbids. Rows without a
+    /// fault make a tree, or `OutOfMemory`.
     pub fn build(alloc: Global, rows: Vec<NodeRow>, types: u8) -> Result<Tree, TreeError>
         requires some { 0 < length rows.items }
         requires few { length rows.items ≤ 64 }
@@ -56,7 +56,7 @@ impl Tree {
         Ok(Tree { rows, paths })
     }
 
-    /// The row of a node.
+    /// Returns the row of a node.
     pub fn row(&self, n: Node) -> &NodeRow
         requires { n.0 < length self.now.rows }
         ensures { row_of result.now ≡ row self.now.rows n.0 }
@@ -64,7 +64,7 @@ impl Tree {
         &self.rows[usize::from(n.0)]
     }
 
-    /// How many nodes there are, 1 to 64. The tree has no fault.
+    /// Returns how many nodes there are, 1 to 64. The tree has no fault.
     pub fn len(&self) -> u8
         ensures count { result ≡ length self.now.rows }
         ensures accepted { IsAccepted self.now }
@@ -72,14 +72,14 @@ impl Tree {
         self.rows.len() as u8
     }
 
-    /// For how many types the tree was built.
+    /// Returns the number of types for which the tree was built.
     pub fn types(&self) -> u8
         ensures { result ≡ self.now.types }
     {
         self.paths.len() as u8
     }
 
-    /// The nodes from the root to the leaf of a type and an instance. Costs a look-up.
+    /// Returns the nodes from the root to the leaf of a type and an instance. It costs a look-up.
     pub fn path(&self, s: Spot) -> &[Node]
         requires { s.kind.0 < self.now.types }
         ensures nodes { node_numbers result.now ≡ path self.now.rows s }
@@ -89,7 +89,7 @@ impl Tree {
         self.stored(s).nodes()
     }
 
-    // The path that is stored for a type and an instance.
+    // Returns the path that is stored for a type and an instance.
     #[inline(always)]
     fn stored(&self, s: Spot) -> &Path
         requires { s.kind.0 < self.now.types }
@@ -100,7 +100,7 @@ impl Tree {
         &parts[s.instance as usize % parts.len()]
     }
 
-    /// Whether a node is on the path of a type and an instance.
+    /// Returns whether a node is on the path of a type and an instance.
     #[tactic(auto, unfolding(teb_rules::specs::Tree::on_path))]
     #[inline(always)]
     pub fn is_on(&self, n: Node, s: Spot) -> bool
@@ -110,7 +110,7 @@ impl Tree {
         self.stored(s).has(n)
     }
 
-    /// The child of a node on the path of a type and an instance; none exactly at their leaf.
+    /// Returns the child of a node on the path of a type and an instance, or `None` if and only if the node is their leaf.
     #[tactic(auto, unfolding(teb_rules::specs::Tree::on_path, teb_rules::specs::Tree::side_at))]
     pub fn side(&self, n: Node, s: Spot) -> Option<Node>
         requires kind { s.kind.0 < self.now.types }
@@ -122,8 +122,8 @@ impl Tree {
         self.stored(s).next(n)
     }
 
-    /// The number of the side of a node on which a transaction is that has this spot and the number `own`: the child's above
-    /// its leaf, and its own at the leaf. None exactly where the node is not on its path.
+    /// Returns the number of the side of a node on which a transaction with this spot and the number `own` is: the child's above
+    /// its leaf, and `own` at the leaf. `None` if and only if the node is not on its path.
     #[tactic(auto, unfolding(teb_rules::specs::Tree::on_path, teb_rules::specs::Tree::side_at))]
     pub fn side_on(&self, n: Node, s: Spot, own: u32) -> Option<u32>
         requires { s.kind.0 < self.now.types }
@@ -132,7 +132,7 @@ impl Tree {
         self.stored(s).side(n, own)
     }
 
-    /// The lowest node on the paths of two spots: the node at which two transactions with these spots meet.
+    /// Returns the lowest node on the paths of two spots: the node at which two transactions with these spots meet.
     pub fn meet(&self, a: Spot, b: Spot) -> Node
         requires first { a.kind.0 < self.now.types }
         requires second { b.kind.0 < self.now.types }

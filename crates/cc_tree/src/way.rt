@@ -10,14 +10,14 @@ use crate::NodeRow;
 use std::alloc::AllocError;
 use teb_names::{ControlKind, Node};
 
-// The node above n; none at the root, and where no node has this number.
+// Returns the node above n; `None` at the root, and if no node has this number.
 fn parent_of(rows: &[NodeRow], n: Node) -> Option<Node>
     ensures { parent_number result ≡ (row (rows_of rows.now) n.0).parent }
 {
     rows.get(usize::from(n.0))?.parent
 }
 
-// The control of a node; locks where no node has this number.
+// Returns the control of a node; locks if no node has this number.
 fn control_of(rows: &[NodeRow], n: Node) -> ControlKind
     ensures { result ≡ (row (rows_of rows.now) n.0).control }
 {
@@ -33,7 +33,7 @@ fn is_kind(a: ControlKind, b: ControlKind) -> bool
     a == b
 }
 
-// One step up from n: the node above it, where a further parent may be taken.
+// Returns the node above n, if a further parent may be taken.
 #[tactic(auto, unfolding(teb_rules::specs::Tree::climb))]
 fn step_up(rows: &[NodeRow], n: Node, most: u8) -> Option<Node>
     ensures { Climbs (rows_of rows.now) most n.0 result }
@@ -41,7 +41,7 @@ fn step_up(rows: &[NodeRow], n: Node, most: u8) -> Option<Node>
     if most == 0 { None } else { parent_of(rows, n) }
 }
 
-/// How many nodes stand above n, where at most `most` parents are taken.
+/// Returns how many nodes are above n, taking at most `most` parents.
 pub fn count_above(rows: &[NodeRow], n: Node, most: u8) -> u8
     ensures few { result ≤ most }
     ensures count { (lower : List ℕ) → length (climb (rows_of rows.now) most n.0 lower) ≡ suc (result + length lower) }
@@ -52,8 +52,8 @@ pub fn count_above(rows: &[NodeRow], n: Node, most: u8) -> u8
     }
 }
 
-/// Whether a node of this control, other than `below`, stands on the way up from `at`, where at most `most` parents are
-/// taken.
+/// Returns whether a node of this control, other than `below`, is on the way up from `at`, taking at most `most`
+/// parents.
 pub fn some_above(rows: &[NodeRow], at: Node, most: u8, below: Node, control: ControlKind) -> bool
     ensures { (lower : List ℕ) → any_other (rows_of rows.now) below.0 control (climb (rows_of rows.now) most at.0 lower)
         ≡ (result || any_other (rows_of rows.now) below.0 control lower) }
@@ -65,7 +65,7 @@ pub fn some_above(rows: &[NodeRow], at: Node, most: u8, below: Node, control: Co
     higher || at != below && is_kind(control, control_of(rows, at))
 }
 
-/// Puts the way down to n behind the nodes of `way`, where at most `most` parents are taken.
+/// Appends the way down to n to the nodes of `way`, taking at most `most` parents.
 pub fn push_way(rows: &[NodeRow], n: Node, most: u8, way: &mut Vec<Node>) -> Result<(), AllocError>
     ensures { OnOk result ((lower : List ℕ) → node_numbers way.new.items ++ lower ≡ node_numbers way.old.items ++ climb (rows_of rows.now) most n.0 lower) }
 {

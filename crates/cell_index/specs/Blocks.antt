@@ -1,4 +1,4 @@
--- Numbers of cells, by blocks of keys that follow one another: a block that has its slot has a page, where each of its cells has an entry.
+-- Numbers of cells, by blocks of consecutive keys: a block that has its slot has a page, with an entry for each of its cells.
 use Rattle.std.specs.Prelude.{◌≡◌, ℕ, ◌+◌, ◌*◌, ◌/◌, ◌%◌, ◌<◌, ◌≤◌, Bool, ◌&&◌, eqb, length, get_or, Option, Some, None, is_none, count_by, IfSome, IsTrue, if◌then◌else◌, vec_capacity}
 use Rattle.std.specs.Option.{option_map_or}
 use Rattle.teb_names.specs.declared.Cell.{Cell}
@@ -25,7 +25,7 @@ owner_of b x = get_or b.owners.items (slot_of x) None
 abbrev pub has_cell : Owner → Cell → Bool
 has_cell o x = eqb o.table.0 x.table.0 && eqb o.block (x.key / keys)
 
--- where the number of a cell stands, if its block has the slot
+-- the entry of the number of a cell, if its block has the slot
 abbrev pub entry_by : Option Owner → Cell → Option ℕ
 entry_by None x = None
 entry_by (Some o) x = if has_cell o x then Some (o.page + x.key % keys) else None
@@ -33,7 +33,7 @@ entry_by (Some o) x = if has_cell o x then Some (o.page + x.key % keys) else Non
 abbrev pub entry_of : Blocks → Cell → Option ℕ
 entry_of b x = entry_by (owner_of b x) x
 
--- the number of a cell; n where its block has no page
+-- the number of a cell; n if its block has no page
 abbrev pub number_or : Blocks → Cell → ℕ → ℕ
 number_or b x n = option_map_or (λ e. get_or b.numbers.items e 0) (entry_of b x) n
 

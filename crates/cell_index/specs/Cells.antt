@@ -9,7 +9,7 @@ pub record Shown : Type 0 where
   pub cells : List Cell
   pub spare : ℕ
 
--- the place of x among the cells; where it has none, their number
+-- the place of x among the cells; if it has none, their number
 abbrev pub place_in : List Cell → Cell → ℕ
 place_in cells x = position_or_len (same_cell x) cells
 
@@ -17,6 +17,6 @@ place_in cells x = position_or_len (same_cell x) cells
 abbrev pub with_cell : List Cell → Cell → List Cell
 with_cell cells x = if list_any (same_cell x) cells then cells else cells ++ x ∷ []
 
--- lists by the places of their cells, with one for x where it has none
+-- lists by the places of their cells, with one for x if it had none
 abbrev pub with_place : {V : Type 0} → List Cell → Cell → List (List V) → List (List V)
 with_place cells x lists = if list_any (same_cell x) cells then lists else lists ++ [] ∷ []

@@ -9,7 +9,7 @@ use Rattle.cell_index.specs.declared.blocks.Blocks.{Blocks}
 use Rattle.cell_index.specs.Blocks.{slots, owner_of, number_or, IsPaged}
 use Rattle.cell_index.specs.Cells.{place_in}
 
--- the number of a cell among the cells: one more than its place; 0 where it has none
+-- the number of a cell among the cells: one more than its place; 0 if it has none
 abbrev pub number_in : List Cell → Cell → ℕ
 number_in cells x = if list_any (same_cell x) cells then place_in cells x + 1 else 0
 
@@ -17,7 +17,7 @@ number_in cells x = if list_any (same_cell x) cells then place_in cells x + 1 el
 abbrev pub far_number : {S : Type 0} → IndexMap Cell ℕ S → Cell → ℕ
 far_number far x = unwrap_or (get same_cell far x) 0
 
--- pages and map give each cell its number, where nobody has the slot there is no cell, and there is room for n more cells
+-- pages and map give each cell its number, there is no cell whose slot no block has, and there is room for n more cells
 pub record IsIndex {S : Type 0} (blocks : Blocks) (far : IndexMap Cell ℕ S) (cells : Vec Cell Global) (n : ℕ) : Type 0 where
   pub unique : IsDistinct same_cell cells.items
   pub paged : IsPaged blocks

@@ -1,4 +1,4 @@
-//! Numbers of cells, by blocks of keys that follow one another.
+//! Numbers of cells, by blocks of consecutive keys.
 
 ghost use Rattle.std.specs.Prelude.{◌≡◌, ◌<◌, ◌≤◌, ℕ, length, Some, None, IsTrue, OnOk, if◌then◌else◌};
 ghost use Rattle.teb_names.specs.declared.Cell.{Cell};
@@ -8,13 +8,13 @@ ghost use Rattle.cell_index.specs.Blocks.{slots, slot_of as spec_slot_of, owner_
 use std::alloc::{AllocError, Global};
 use teb_names::{Cell, Table};
 
-/// How many keys that follow one another make a block.
+/// How many consecutive keys make a block.
 const KEYS_TO_A_BLOCK: u32 = 128;
 
 /// How many slots there are for blocks.
 const SLOTS: usize = 512;
 
-/// A block that has a slot, and where its page begins.
+/// A block that has a slot, and the beginning of its page.
 #[derive(Clone, Copy)]
 pub(crate) struct Owner {
     table: Table,
@@ -23,7 +23,7 @@ pub(crate) struct Owner {
 }
 
 impl Owner {
-    /// Whether it is the block of a cell.
+    /// Returns whether it is the block of a cell.
     #[inline(always)]
     pub(crate) fn has(self, cell: Cell) -> bool
         ensures { result ≡ has_cell self cell }
@@ -37,12 +37,12 @@ impl Owner {
 pub(crate) struct Blocks {
     // For each slot the block that has it.
     owners: Vec<Option<Owner>>,
-    // Page after page, for each key of a block the number of its cell; 0 where it has none.
+    // Page after page, for each key of a block the number of its cell; 0 if it has none.
     numbers: Vec<u32>,
 }
 
 impl Blocks {
-    /// No slots, and no numbers. Takes no memory.
+    /// Returns no slots and no numbers. Takes no memory.
     pub(crate) fn new(alloc: Global) -> Self
         ensures paged { IsPaged result }
         ensures numbers { (x : Cell) (n : ℕ) → number_or result x n ≡ n }
@@ -53,7 +53,7 @@ impl Blocks {
         }
     }
 
-    /// Makes the slots, and room for a page of each. The numbers stay, also after an `Err`.
+    /// Makes the slots, and room for a page of each. The numbers are unchanged, also on `Err`.
     pub(crate) fn reserve(&mut self) -> Result<(), AllocError>
         requires { IsPaged self.old }
         ensures paged { IsPaged self.new }
@@ -69,7 +69,7 @@ impl Blocks {
         Ok(())
     }
 
-    /// Which block has the slot of a cell.
+    /// Returns which block has the slot of a cell.
     #[inline(always)]
     pub(crate) fn owner(&self, cell: Cell) -> Option<Owner>
         ensures { result ≡ owner_of self.now cell }
@@ -82,7 +82,7 @@ impl Blocks {
         }
     }
 
-    /// The number of a cell of an owner.
+    /// Returns the number of a cell of an owner.
     #[inline(always)]
     pub(crate) fn number(&self, owner: Owner, cell: Cell) -> u32
         requires paged { IsPaged self.now }
@@ -105,7 +105,7 @@ impl Blocks {
         self.numbers[owner.page as usize + (cell.key % KEYS_TO_A_BLOCK) as usize] = number;
     }
 
-    /// Which block has the slot of a cell. The block of the cell gets it where nobody has it, with a page that has no number.
+    /// Returns which block has the slot of a cell. If none has it, the block of the cell gets it, with an empty page.
     pub(crate) fn owner_or_claim(&mut self, cell: Cell) -> Owner
         requires paged { IsPaged self.old }
         requires slots { slots ≤ length self.old.owners.items }
@@ -113,7 +113,7 @@ impl Blocks {
         ensures owner { owner_of self.new cell ≡ Some result }
         ensures owners { (x : Cell) → owner_of self.new x ≡ None → owner_of self.old x ≡ None }
         ensures slots { length self.new.owners.items ≡ length self.old.owners.items }
-        // Where nobody had the slot, there was no number.
+        // If no block had the slot, there was no number.
         ensures numbers { (x : Cell) (n : ℕ) → (owner_of self.old x ≡ None → n ≡ 0) → number_or self.new x n ≡ number_or self.old x n }
     {
         let slot = slot_of(cell);
@@ -146,7 +146,7 @@ impl Blocks {
     }
 }
 
-/// The slot of a cell's block: blocks that follow one another have different ones, and so have those of different tables with small keys.
+/// Returns the slot of a cell's block: blocks that follow one another have different ones, and so have those of different tables with small keys.
 #[inline(always)]
 fn slot_of(cell: Cell) -> usize
     ensures slot { result ≡ spec_slot_of cell }

@@ -1,4 +1,4 @@
-//! The index: blocks of keys with pages of numbers, and cells that lie in no such block.
+//! The index: blocks of keys with pages of numbers, and the cells of other blocks by hash.
 
 ghost use Rattle.std.specs.Prelude.{◌≡◌, ◌≢◌, None, ◌<◌, ◌≤◌, ◌+◌, [], length, OnOk, if◌then◌else◌};
 ghost use Rattle.std.specs.List.{IsDistinct};
@@ -18,9 +18,8 @@ use vec_room::make_wide_room;
 
 /// Cells, each with its place: how many cells had been added before it.
 ///
-/// Keys that follow one another, 128 to a block, have one page of numbers. A block finds its page in the slot that it falls on, or has none
-/// where another block was there first: then its cells are found by hash. So with keys that lie near each other a look-up costs two looks
-/// at memory.
+/// Consecutive keys, 128 to a block, have one page of numbers. A block finds its page in its slot, unless another block had the slot first;
+/// then its cells are found by hash. So if keys are near each other, a look-up costs two looks at memory.
 #[derive(Drop)]
 pub struct CellIndex {
     // The number of a cell is one more than its place.
@@ -29,7 +28,7 @@ pub struct CellIndex {
     far: IndexMap<Cell, u32>,
     // In the order of their places.
     cells: Vec<Cell>,
-    // For how many more cells there is room.
+    // There is room for this many more cells.
     spare: usize,
 }
 
@@ -46,7 +45,7 @@ impl Model for CellIndex {
 }
 
 impl CellIndex {
-    /// No cells, and no room. Takes no memory.
+    /// Returns an empty index, with no room. Takes no memory.
     pub fn new(alloc: Global) -> Self
         ensures cells { result.cells ≡ [] }
         ensures spare { result.spare ≡ 0 }
@@ -59,8 +58,10 @@ impl CellIndex {
         }
     }
 
-    /// Makes room for n more cells. The cells stay, also after an `Err`, which comes where there is no memory, or where there would be more
-    /// cells than 2^32 - 1.
+    /// Makes room for n more cells.
+    ///
+    /// # Errors
+    /// Out of memory, or there would be more than 2^32 - 1 cells. The cells are unchanged.
     pub fn reserve(&mut self, n: usize) -> Result<(), AllocError>
         ensures cells { self.new.cells ≡ self.old.cells }
         ensures room { OnOk result (n ≤ self.new.spare) }
@@ -79,7 +80,7 @@ impl CellIndex {
         Ok(())
     }
 
-    /// How many cells there are.
+    /// Returns how many cells there are.
     #[inline(always)]
     pub fn len(&self) -> usize
         ensures len { result ≡ length self.now.cells }
@@ -88,7 +89,7 @@ impl CellIndex {
         self.cells.len()
     }
 
-    /// The place of a cell; where it has none, their number.
+    /// Returns the place of a cell, or the number of cells if it has none.
     #[inline(always)]
     pub fn place(&self, cell: Cell) -> usize
         ensures { result ≡ place_in self.now.cells cell }
@@ -99,7 +100,7 @@ impl CellIndex {
         }
     }
 
-    /// The number of a cell; 0 where it has none.
+    /// Returns the number of a cell, or 0 if it has none.
     #[inline(always)]
     fn number(&self, cell: Cell) -> u32
         ensures { result ≡ number_in self.now.cells cell }
@@ -116,7 +117,7 @@ impl CellIndex {
         }
     }
 
-    /// Gives a cell the next place, where it has none. Its place. It takes one place of the room at most.
+    /// Returns the place of a cell, which gets the next one if it has none. That takes at most one place of the room.
     #[inline(always)]
     pub fn add(&mut self, cell: Cell) -> usize
         requires { 0 < self.old.spare }
@@ -145,7 +146,7 @@ impl CellIndex {
     }
 }
 
-/// Puts the number of a cell into the page of its block, or into the map where another block has the slot.
+/// Puts the number of a cell into the page of its block, or into the map if another block has the slot.
 fn put_number(blocks: &mut Blocks, far: &mut IndexMap<Cell, u32>, cell: Cell, number: u32)
     requires paged { IsPaged blocks.old }
     requires slots { slots ≤ length blocks.old.owners.items }
@@ -166,7 +167,7 @@ fn put_number(blocks: &mut Blocks, far: &mut IndexMap<Cell, u32>, cell: Cell, nu
     }
 }
 
-/// The number of a cell in a map; 0 where it has none.
+/// Returns the number of a cell in a map, or 0 if it has none.
 #[inline(never)]
 fn number_in_map(far: &IndexMap<Cell, u32>, cell: Cell) -> u32
     ensures { result ≡ far_number far.now cell }

@@ -7,11 +7,11 @@ use Rattle.teb_names.specs.Cells.{same_cell}
 use Rattle.chain_pool.specs.declared.places.Head.{Head}
 use Rattle.chain_pool.specs.declared.places.Chain.{Chain}
 
--- the head of no list
+-- the head of an empty list
 abbrev pub empty : Head
 empty = record { first = 0; len = 0 }
 
--- a chain of no places
+-- an empty chain
 abbrev pub no_chain : Chain
 no_chain = record { head = empty; last = 0 }
 
@@ -20,22 +20,22 @@ pub record CellHeads : Type 0 where
   pub entries : List (Cell × Chain)
   pub spare : ℕ
 
--- the chains, with one more where a place is the next one
+-- the chains, with one more if a place is the next one
 abbrev pub with_next : List Chain → ℕ → List Chain
 with_next chains at = if at == length chains then chains ++ no_chain ∷ [] else chains
 
--- the head without a place, at which the next may take the first's part
+-- the head after a place is removed; if that was the first, the next one becomes the first
 abbrev pub without_place : Head → ℕ → ℕ → Head
 without_place h place next = record { first = (if h.first == place then next else h.first); len = h.len - 1 }
 
--- the last place without a place, at which the previous one may take its part
+-- the last place after a place is removed; if that was the last, the previous one becomes the last
 abbrev pub last_without : ℕ → ℕ → ℕ → ℕ
 last_without last place previous = if last == place then previous else last
 
 abbrev pub same_txn : Txn → Txn → Bool
 same_txn t u = eqb t.0 u.0
 
--- the chain of a cell, empty where the cell has no entry; its head, and its last place
+-- the chain of a cell, empty if the cell has no entry; its head, and its last place
 abbrev pub chain_at : List (Cell × Chain) → Cell → Chain
 chain_at cells x = unwrap_or (lookup (same_cell x) cells) no_chain
 
@@ -45,7 +45,7 @@ chain_head cells x = (chain_at cells x).head
 abbrev pub last_of : List (Cell × Chain) → Cell → ℕ
 last_of cells x = (chain_at cells x).last
 
--- the head of a writer's list; empty where the writer has no entry
+-- the head of a writer's list; empty if the writer has no entry
 abbrev pub writer_head : List (Txn × Head) → Txn → Head
 writer_head writers t = unwrap_or (lookup (same_txn t) writers) empty
 

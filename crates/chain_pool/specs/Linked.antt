@@ -8,7 +8,7 @@ use Rattle.chain_pool.specs.declared.places.Head.{Head}
 use Rattle.chain_pool.specs.Threads.{Thread, Ring, walk, steps}
 use Rattle.chain_pool.specs.Places.{next_at, previous_at, sibling_at, pair_at, InChain, IsOwned, IsFree}
 
--- each place stands in its cell's chain and its writer's list, or is free; no writer has two versions of a cell; and the number of places fits 32 bits
+-- each place is in its cell's chain and its writer's list, or is free; no writer has two versions of a cell; and the number of places fits 32 bits
 pub record Linked (ps : List Place) (chain : Cell → Head) (own : Txn → Head) (unused : Head) : Type 0 where
   pub chains : (x : Cell) → Ring (InChain ps x) (next_at ps) (previous_at ps) (chain x).first (chain x).len
   pub owners : (t : Txn) → Thread (IsOwned ps t) (sibling_at ps) (own t).first (own t).len

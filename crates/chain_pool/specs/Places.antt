@@ -1,4 +1,4 @@
--- What stands at a place, and whose it is.
+-- What a place holds, and to which lists it belongs.
 use Rattle.std.specs.Prelude.{◌≡◌, ℕ, ◌<◌, List, length, slice_index_or, Option, Some, None, ℤ, unwrap_or, option_map}
 use Rattle.teb_names.specs.declared.Cell.{Cell}
 use Rattle.teb_names.specs.declared.Txn.{Txn}
@@ -7,12 +7,12 @@ use Rattle.chain_pool.specs.declared.places.Content.{Content}
 use Rattle.chain_pool.specs.declared.places.Content.TheVariants.{Free, Deleted, Value}
 use Rattle.chain_pool.specs.declared.places.Place.{Place}
 
--- the version of a place, None where it is free, and the place behind it in its writer's list, or in the list of free places
+-- the version of a place, None if it is free, and the next place in its writer's list, or in the list of free places
 pub record Slot : Type 0 where
   pub version : Option Version
   pub sibling : ℕ
 
--- the version that a place of this cell and writer holds, by its content; None where it is free
+-- the version that a place of this cell and writer holds, by its content; None if it is free
 abbrev pub version_of : Cell → Txn → Content → Option Version
 version_of cell writer Free = None
 version_of cell writer Deleted = Some (record { cell = cell; writer = writer; value = None })
@@ -21,7 +21,7 @@ version_of cell writer (Value value) = Some (record { cell = cell; writer = writ
 abbrev pub slot_of : Place → Slot
 slot_of p = record { version = version_of p.cell p.writer p.content; sibling = p.sibling }
 
--- what is read where there is no place
+-- what is read of a place that does not exist
 abbrev pub blank : Place
 blank = record { cell = record { table = record { 0 = 0 }; key = 0 }; writer = record { 0 = 0 }; sibling = 0; previous = 0; next = 0; content = Free }
 

@@ -17,7 +17,7 @@ pub record IsSound (p : Pool) : Type 0 where
 abbrev pub chain_of : Pool → Cell → List Version
 chain_of p x = versions p.places.items (chain_head p.cells.entries x)
 
--- the places and the entries have room for so many more, and the number of places then still fits 32 bits
+-- the places and the entries have room for n more, and the number of places then still fits 32 bits
 pub record HasRoom (p : Pool) (n : ℕ) : Type 0 where
   pub places : vec_len p.places + n ≤ vec_capacity p.places
   pub short : vec_len p.places + n < 2 ^ 32

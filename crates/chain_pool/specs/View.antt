@@ -14,7 +14,7 @@ pub record View : Type 0 where
   pub entries : List (Cell × List Version)
   pub spare : ℕ
 
--- the chain of a cell; none where the cell has no entry
+-- the chain of a cell; empty if the cell has no entry
 abbrev pub list_in : View → Cell → List Version
 list_in v x = unwrap_or (lookup (same_cell x) v.entries) []
 

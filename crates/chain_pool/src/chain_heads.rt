@@ -1,4 +1,4 @@
-//! Cells' chains: where each begins and ends.
+//! The chain of each cell: its first and its last place.
 
 ghost use Rattle.std.specs.Prelude.{◌≡◌, ◌==◌, ◌<◌, ◌≤◌, ◌+◌, ◌^◌, [], vec_len, vec_capacity, OnOk, if◌then◌else◌};
 ghost use Rattle.teb_names.specs.declared.Cell.{Cell};
@@ -31,14 +31,14 @@ impl Model for ChainHeads {
     ghost invariant = { λ h. length h.chains.items ≡ length h.cells.cells };
 }
 
-/// One number or another.
+/// Returns the one number if `first` is true, and else the other.
 fn chosen(first: bool, one: u32, other: u32) -> u32
     ensures { result ≡ (if first then one else other) }
 {
     if first { one } else { other }
 }
 
-/// Adds a chain of no places where a place is the next one.
+/// Adds an empty chain if `at` is the next place.
 #[inline(always)]
 fn add_next(chains: &mut Vec<Chain>, at: usize)
     requires { vec_len chains.old < vec_capacity chains.old }
@@ -52,7 +52,7 @@ fn add_next(chains: &mut Vec<Chain>, at: usize)
 }
 
 impl ChainHeads {
-    /// No cells.
+    /// Returns no cells.
     pub(crate) fn new(alloc: Global) -> Self
         ensures { result.entries ≡ [] }
     {
@@ -62,8 +62,10 @@ impl ChainHeads {
         }
     }
 
-    /// Makes room for n more cells. The chains stay, also after an `Err`, which comes where there is no
-    /// memory, or where there would be more than 2^32 - 1 cells.
+    /// Makes room for n more cells.
+    ///
+    /// # Errors
+    /// Out of memory, or there would be more than 2^32 - 1 cells. The chains are unchanged.
     pub(crate) fn reserve(&mut self, n: usize) -> Result<(), AllocError>
         ensures entries { self.new.entries ≡ self.old.entries }
         ensures room { OnOk result (n ≤ self.new.spare) }
@@ -73,7 +75,7 @@ impl ChainHeads {
         make_wide_room(&mut self.chains, n)
     }
 
-    /// The chain of a cell.
+    /// Returns the chain of a cell.
     #[inline(always)]
     pub(crate) fn chain_at(&self, cell: Cell) -> Chain
         ensures head { result.head ≡ chain_head self.now.entries cell }
@@ -87,7 +89,7 @@ impl ChainHeads {
         }
     }
 
-    /// Adds a place to a cell's chain, as the i-th. Gives the head that the chain had.
+    /// Adds a place to a cell's chain, as the i-th. Returns the head that the chain had.
     #[inline(always)]
     pub(crate) fn lengthen(&mut self, cell: Cell, place: u32, i: usize) -> Head
         requires room { 0 < self.old.spare }
@@ -109,8 +111,8 @@ impl ChainHeads {
         was.head
     }
 
-    /// Takes a place out of a cell's chain, whose next place takes its part where it was the first, and whose previous one
-    /// where it was the last.
+    /// Removes a place from a cell's chain. If it was the first, the next place becomes the first; if it was the last, the previous
+    /// one becomes the last.
     pub(crate) fn shorten(&mut self, cell: Cell, place: u32, previous: u32, next: u32)
         requires { 0 < (chain_head self.old.entries cell).len }
         ensures heads { (x : Cell) → chain_head self.new.entries x ≡ (if same_cell cell x then without_place (chain_head self.old.entries cell) place next else chain_head self.old.entries x) }

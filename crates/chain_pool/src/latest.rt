@@ -8,16 +8,16 @@ ghost use Rattle.chain_pool.specs.Latest.{IsAbove, mark_of as spec_mark_of};
 
 use teb_names::{Cell, Txn};
 
-/// How many remainders of writers are told apart, twice as many as there are sessions.
+/// The number of remainders of writers, twice as many as there are sessions.
 const WRITERS: usize = 64;
 
-/// How many remainders of cells' keys are told apart.
+/// The number of remainders of cells' keys.
 const KEYS: usize = 32;
 
 /// How many marks there are, one for each pair of remainders.
 pub(crate) const MARKS: usize = WRITERS * KEYS;
 
-/// The place of the mark that a writer and a cell have.
+/// Returns the place of the mark that a writer and a cell have.
 #[inline(always)]
 fn mark_of(t: Txn, cell: Cell) -> usize
     ensures { result ≡ spec_mark_of t.0 cell }
@@ -25,7 +25,7 @@ fn mark_of(t: Txn, cell: Cell) -> usize
     (t.0 as usize % WRITERS) * KEYS + cell.key as usize % KEYS
 }
 
-/// Whether a writer is above each that was marked with a cell of the same mark.
+/// Returns whether a writer is above each that was marked with a cell of the same mark.
 #[inline(always)]
 pub(crate) fn is_above(latest: &[u32], t: Txn, cell: Cell) -> bool
     ensures { IsTrue result ↔ IsAbove latest.now t.0 cell }

@@ -1,4 +1,4 @@
-//! Places, and what is written at them.
+//! Places, and the steps that write them.
 
 ghost use Rattle.std.specs.Prelude.{◌≡◌, ◌<◌, ◌==◌, ℕ, length, if◌then◌else◌, IsSome, None, Some};
 ghost use Rattle.teb_names.specs.declared.Cell.{Cell};
@@ -15,7 +15,7 @@ pub(crate) struct Version {
     pub(crate) value: Option<i64>,
 }
 
-/// What a place holds: nothing where it is free, a version that deletes the row, or one with a value.
+/// What a place holds: nothing if it is free, a version that deletes the row, or one with a value.
 #[derive(Clone, Copy)]
 pub(crate) enum Content {
     Free,
@@ -24,7 +24,7 @@ pub(crate) enum Content {
 }
 
 impl Content {
-    /// What a place holds that has a version with the value.
+    /// Returns the content of a place with a version of this value.
     #[inline(always)]
     fn of(value: Option<i64>) -> Self
         ensures { (cell : Cell) (writer : Txn) → version_of cell writer result ≡ Some (record { cell = cell; writer = writer; value = value }) }
@@ -36,7 +36,7 @@ impl Content {
     }
 }
 
-/// A place, in 40 bytes: the cell and the writer of its version, the place behind it in its writer's list, or in the list of free places,
+/// A place, in 40 bytes: the cell and the writer of its version, the next place in its writer's list or in the list of free places,
 /// its neighbours in its cell's chain, and what it holds. A chain is a ring: its last place leads to its first.
 #[derive(Clone, Copy)]
 pub(crate) struct Place {
@@ -62,7 +62,7 @@ pub(crate) const BLANK: Place = Place {
 };
 
 impl Place {
-    /// The version at the place; None where it is free.
+    /// Returns the version at the place, or `None` if it is free.
     #[inline(always)]
     pub(crate) fn version(&self) -> Option<Version>
         ensures { result ≡ (slot_of self.now).version }
@@ -80,30 +80,30 @@ impl Place {
     }
 }
 
-/// Where a list of places begins, and how long it is.
+/// The first place of a list, and its length.
 #[derive(Clone, Copy)]
 pub(crate) struct Head {
     pub(crate) first: u32,
     pub(crate) len: u32,
 }
 
-/// The head of no list.
+/// The head of an empty list.
 pub(crate) const EMPTY: Head = Head { first: 0, len: 0 };
 
-/// A cell's chain: its head, and its last place, where a read begins.
+/// A cell's chain: its head, and its last place, at which a read begins.
 #[derive(Clone, Copy)]
 pub(crate) struct Chain {
     pub(crate) head: Head,
     pub(crate) last: u32,
 }
 
-/// A chain of no places.
+/// An empty chain.
 pub(crate) const NO_CHAIN: Chain = Chain {
     head: EMPTY,
     last: 0,
 };
 
-/// The place of a number.
+/// Returns the place of a number.
 #[inline(always)]
 pub(crate) fn at(places: &[Place], place: u32) -> &Place
     requires { place < length places.now }
@@ -112,7 +112,7 @@ pub(crate) fn at(places: &[Place], place: u32) -> &Place
     &places[place as usize]
 }
 
-/// Puts a version into a place, between two neighbours; alone in its ring it is its own neighbour. The sibling is the place behind it
+/// Puts a version into a place, between two neighbours; alone in its ring it is its own neighbour. The sibling is the next place
 /// in its writer's list.
 #[inline(always)]
 pub(crate) fn link(
@@ -142,7 +142,7 @@ pub(crate) fn link(
     places[after as usize].previous = place;
 }
 
-/// Frees a place, and joins its two neighbours. The sibling is the free place behind it.
+/// Frees a place, and joins its two neighbours. The sibling is the next free place.
 pub(crate) fn unlink(places: &mut [Place], place: u32, sibling: u32, before: u32, after: u32)
     requires place_within { place < length places.old }
     requires before_within { before < length places.old }
@@ -158,7 +158,7 @@ pub(crate) fn unlink(places: &mut [Place], place: u32, sibling: u32, before: u32
     places[after as usize].previous = before;
 }
 
-/// Gives the version at a place that is not free another value.
+/// Replaces the value of the version at a place that is not free.
 pub(crate) fn rewrite(places: &mut [Place], place: u32, value: Option<i64>)
     requires within { place < length places.old }
     requires used { IsSome (slot_at places.old place).version }

@@ -1,4 +1,4 @@
-//! Places in chains and writers' lists, and the steps that put a version in and take versions out.
+//! Places in chains and writers' lists, and the steps that insert a version and remove versions.
 
 ghost use Rattle.std.specs.Prelude.{◌≡◌, ◌<◌, ◌≤◌, ◌+◌, ◌^◌, ℕ, Bool, [], length, slice_get, insert, vec_len, vec_capacity, IsTrue, IsFalse, false, OnOk, IfSome, None, Some, eqb};
 ghost use Rattle.std.specs.Option.{option_map};
@@ -24,7 +24,7 @@ use version_chain::Found;
 /// A chain up to this length costs less to walk than its writer's list to look up.
 const SHORT: u32 = 8;
 
-/// Puts a version into the first free place, and that into its cell's chain and its writer's list. Gives the free places that
+/// Puts a version into the first free place, and that into its cell's chain and its writer's list. Returns the free places that
 /// are left.
 fn put(
     places: &mut [Place],
@@ -61,7 +61,7 @@ fn put(
     }
 }
 
-/// The place of a version that was found.
+/// Returns the place of a version that was found.
 fn place_of(found: Option<Found>) -> Option<usize>
     ensures { result ≡ option_map (λ v. v.at) found }
 {
@@ -93,7 +93,10 @@ impl Pool {
         }
     }
 
-    /// Makes room for n versions more. An `Err` comes where there is no memory, or where there would be more places than 2^32 - 1.
+    /// Makes room for n more versions.
+    ///
+    /// # Errors
+    /// Out of memory, or there would be more than 2^32 - 1 places.
     pub(crate) fn reserve(&mut self, n: usize) -> Result<(), AllocError>
         requires { IsSound self.old }
         ensures sound { IsSound self.new }
@@ -126,7 +129,7 @@ impl Pool {
         self.version_in(chain, i)
     }
 
-    /// The i-th version of a chain.
+    /// Returns the i-th version of a chain.
     fn version_in(&self, chain: Chain, i: usize) -> (Txn, Option<i64>)
         requires sound { IsSound self.now }
         requires chain { (x : Cell) × (chain.head ≡ chain_head self.now.cells.entries x) × (chain.last ≡ last_of self.now.cells.entries x) }
@@ -137,7 +140,7 @@ impl Pool {
         walks::pair_at(&self.places, place)
     }
 
-    /// The last version of a chain whose writer f accepts, where it is `from` or above.
+    /// Returns the last version of a chain, from `from` on, whose writer f accepts.
     #[inline(always)]
     fn last_in<F: Fn(Txn) -> bool>(&self, chain: Chain, from: usize, f: &F) -> Option<Found>
         requires sound { IsSound self.now }
@@ -152,7 +155,7 @@ impl Pool {
         walks::last_accepted(&self.places, chain, from, f)
     }
 
-    /// The last version of a cell whose writer f accepts, where it is `from` or above.
+    /// Returns the last version of a cell, from `from` on, whose writer f accepts.
     pub(crate) fn last_where_from<F: Fn(Txn) -> bool>(
         &self,
         cell: Cell,
@@ -170,7 +173,7 @@ impl Pool {
         place_of(self.last_in(chain, from, f))
     }
 
-    /// Whether a writer's list that is shorter than the chain of a cell shows that the writer has no version of the cell.
+    /// Returns whether a writer's list that is shorter than the chain of a cell shows that the writer has no version of the cell.
     fn lacks(&self, cell: Cell, chain: Head, t: Txn) -> bool
         requires { IsSound self.now }
         ensures { OnTrue result (first_place (λ w. eqb w t.0) (writers_of (chain_of self.now cell)) ≡ None) }
@@ -179,7 +182,7 @@ impl Pool {
         own.len < chain.len && !walks::has_cell(&self.places, own, cell)
     }
 
-    /// The place of a writer's version in the chain of a cell.
+    /// Returns the place of a writer's version in the chain of a cell.
     pub(crate) fn find(&self, cell: Cell, t: Txn) -> Option<usize>
         requires sound { IsSound self.now }
         ensures { result ≡ first_place (λ w. eqb w t.0) (writers_of (chain_of self.now cell)) }
@@ -188,8 +191,8 @@ impl Pool {
         place_of(self.find_in(cell, chain, t))
     }
 
-    /// The version of a writer in a chain, which is that of the cell. Where the chain is not short and the writer's list is
-    /// shorter, that list says first whether there is one.
+    /// Returns the version of a writer in a chain, which is that of the cell. If the chain is not short and the writer's list is
+    /// shorter, that list tells first whether there is one.
     fn find_in(&self, cell: Cell, chain: Chain, t: Txn) -> Option<Found>
         requires sound { IsSound self.now }
         requires head { chain.head ≡ chain_head self.now.cells.entries cell }
@@ -203,7 +206,7 @@ impl Pool {
         self.last_in(chain, 0, &|w: Txn| w.0 == t.0)
     }
 
-    /// The version of a writer in a chain, which is that of the cell. One that is new to the cell has none.
+    /// Returns the version of a writer in a chain, which is that of the cell. One that is new to the cell has none.
     #[inline(always)]
     fn own_in(&self, cell: Cell, chain: Chain, t: Txn, is_new: bool) -> Option<Found>
         requires sound { IsSound self.now }
@@ -219,7 +222,7 @@ impl Pool {
         self.find_in(cell, chain, t)
     }
 
-    /// The version of a writer, or else the last one whose writer f accepts. A writer that is new to the cell has none of it.
+    /// Returns the version of a writer, or else the last one whose writer f accepts. A writer that is new to the cell has none of it.
     #[inline(always)]
     pub(crate) fn own_or_last<F: Fn(Txn) -> bool>(
         &self,
@@ -243,7 +246,7 @@ impl Pool {
         }
     }
 
-    /// Makes a free place where there is none.
+    /// Makes a free place if there is none.
     fn add_free(&mut self)
         requires sound { IsSound self.old }
         requires room { vec_len self.old.places < vec_capacity self.old.places }
@@ -265,7 +268,7 @@ impl Pool {
         self.unused = Head { first, len: 1 };
     }
 
-    /// Puts a version in at a place of its cell's chain.
+    /// Inserts a version at a place of its cell's chain.
     pub(crate) fn place(&mut self, i: usize, version: Version)
         requires sound { IsSound self.old }
         requires room { HasRoom self.old 1 }
@@ -287,7 +290,7 @@ impl Pool {
         );
     }
 
-    /// Gives the version at a place of a cell's chain another value.
+    /// Replaces the value of the version at a place of a cell's chain.
     pub(crate) fn overwrite(&mut self, cell: Cell, i: usize, value: Option<i64>)
         requires sound { IsSound self.old }
         requires within { i < length (chain_of self.old cell) }
@@ -301,7 +304,7 @@ impl Pool {
         places::rewrite(&mut self.places, place, value);
     }
 
-    /// Frees the first place of a list, which is that of a writer who has no entry any more. Gives the rest of the list.
+    /// Frees the first place of a list, whose writer has no entry any more. Returns the rest of the list.
     fn take_first(&mut self, t: Txn, own: Head) -> Head
         requires linked { Linked self.old.places.items (chain_head self.old.cells.entries) (with_head t own (writer_head self.old.writers.entries)) self.old.unused }
         requires lasts { HasLasts self.old.places.items (chain_head self.old.cells.entries) (last_of self.old.cells.entries) }
@@ -334,7 +337,7 @@ impl Pool {
         }
     }
 
-    /// Frees each place of a list, which is that of a writer who has no entry any more.
+    /// Frees each place of a list, whose writer has no entry any more.
     fn take_all(&mut self, t: Txn, own: Head)
         requires linked { Linked self.old.places.items (chain_head self.old.cells.entries) (with_head t own (writer_head self.old.writers.entries)) self.old.unused }
         requires lasts { HasLasts self.old.places.items (chain_head self.old.cells.entries) (last_of self.old.cells.entries) }
@@ -350,7 +353,7 @@ impl Pool {
         }
     }
 
-    /// Takes out each version of a writer, and the writer's entry.
+    /// Removes each version of a writer, and the writer's entry.
     pub(crate) fn remove_all_of(&mut self, t: Txn)
         requires sound { IsSound self.old }
         ensures sound { IsSound self.new }

@@ -13,9 +13,9 @@ use teb_names::{Cell, Txn};
 use version_chain::{Chains, Found};
 
 /// Versions by cell, each linked by index into its cell's chain and its writer's list. A cell is found by its place in an index
-/// of cells, a writer by hash; a place of a chain costs its way from the chain's end, and an abort its own versions.
+/// of cells, a writer by hash. A place of a chain costs the walk from the chain's end, and an abort its own versions.
 ///
-/// Places have numbers of 32 bits: `reserve` answers an `Err` also where there would be more of them than 2^32 - 1.
+/// Places have numbers of 32 bits, so `reserve` also fails if there would be more than 2^32 - 1 of them.
 pub struct PooledChains {
     pool: Pool,
     spare: usize,
@@ -23,7 +23,7 @@ pub struct PooledChains {
     latest: [u32; MARKS],
 }
 
-/// A call of its own, so that no owner has to prove anew how a pool is dropped.
+/// Hand-written `Drop`, so that callers do not re-prove the drop glue.
 impl Drop for PooledChains {
     fn drop(self) {
         let PooledChains {
@@ -45,7 +45,7 @@ impl Model for PooledChains {
 }
 
 impl PooledChains {
-    /// No versions, and no room.
+    /// Returns no versions, with no room.
     pub fn new(alloc: Global) -> Self
         ensures { (x : Cell) → list_in result x ≡ [] }
     {

@@ -11,7 +11,7 @@ use crate::places::{self, Chain, Head, Place};
 use teb_names::{Cell, Txn};
 use version_chain::Found;
 
-/// The place that many steps back.
+/// Returns the place that many steps back.
 fn step_back(places: &[Place], start: u32, count: u32) -> u32
     requires { (n : ℕ) → n < count → steps (previous_at places.now) n start < length places.now }
     ensures { result ≡ steps (previous_at places.now) count start }
@@ -23,7 +23,7 @@ fn step_back(places: &[Place], start: u32, count: u32) -> u32
     place
 }
 
-/// The place of the i-th version of a chain. The walk starts at the chain's end.
+/// Returns the place of the i-th version of a chain. The walk starts at the chain's end.
 pub(crate) fn place_of(places: &[Place], chain: Chain, i: usize) -> u32
     requires safe { (n : ℕ) → 0 < chain.head.len → steps (previous_at places.now) n chain.head.first < length places.now }
     requires last { 0 < chain.head.len → chain.last ≡ previous_at places.now chain.head.first }
@@ -34,7 +34,7 @@ pub(crate) fn place_of(places: &[Place], chain: Chain, i: usize) -> u32
     step_back(places, chain.last, chain.head.len - 1 - i as u32)
 }
 
-/// The places between which one goes that is to be the i-th of a chain; alone it stands beside itself.
+/// Returns the places between which the i-th place of a chain goes; alone it is its own neighbour.
 pub(crate) fn neighbours(places: &[Place], chain: Head, i: usize, place: u32) -> (u32, u32)
     requires safe { (n : ℕ) → 0 < chain.len → steps (previous_at places.now) n chain.first < length places.now }
     requires within { i ≤ chain.len }
@@ -53,7 +53,7 @@ pub(crate) fn neighbours(places: &[Place], chain: Head, i: usize, place: u32) ->
     }
 }
 
-/// The writer and the value at a place that is not free.
+/// Returns the writer and the value at a place that is not free.
 pub(crate) fn pair_at(places: &[Place], place: u32) -> (Txn, Option<i64>)
     requires within { place < length places.now }
     requires used { IsSome (slot_at places.now place).version }
@@ -72,7 +72,7 @@ fn accepts<F: Fn(Txn) -> bool>(f: &F, t: Txn) -> bool
     f(t)
 }
 
-/// The last version of a chain whose writer f accepts, where it is `from` or above.
+/// Returns the last version of a chain, from `from` on, whose writer f accepts.
 pub(crate) fn last_accepted<F: Fn(Txn) -> bool>(
     places: &[Place],
     chain: Chain,
@@ -103,7 +103,7 @@ pub(crate) fn last_accepted<F: Fn(Txn) -> bool>(
     None
 }
 
-/// Whether a writer's list has a version of the cell.
+/// Returns whether a writer's list has a version of the cell.
 pub(crate) fn has_cell(places: &[Place], own: Head, cell: Cell) -> bool
     requires { (n : ℕ) → n < own.len → steps (sibling_at places.now) n own.first < length places.now }
     ensures { OnFalse result ((n : ℕ) → n < own.len → cell_in (slot_at places.now (steps (sibling_at places.now) n own.first)) ≡ Some cell → ⊥) }

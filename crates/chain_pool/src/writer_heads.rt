@@ -9,7 +9,7 @@ use crate::places::{EMPTY, Head};
 use indexmap::IndexMap;
 use teb_names::Txn;
 
-/// The head of a writer's list.
+/// Returns the head of a writer's list.
 #[inline(always)]
 pub(crate) fn head_of(writers: &IndexMap<Txn, Head>, t: Txn) -> Head
     ensures { result ≡ writer_head writers.now.entries t }
@@ -20,7 +20,7 @@ pub(crate) fn head_of(writers: &IndexMap<Txn, Head>, t: Txn) -> Head
     }
 }
 
-/// Adds a place to a writer's list, as its first. Gives the head that the list had.
+/// Adds a place to a writer's list, as its first. Returns the head that the list had.
 pub(crate) fn lengthen(writers: &mut IndexMap<Txn, Head>, t: Txn, place: u32) -> Head
     requires room { 0 < spare writers.old }
     requires short { (writer_head writers.old.entries t).len + 1 < 2 ^ 32 }

@@ -1,4 +1,4 @@
--- What is known where a Commit is asked for.
+-- What is known when a Commit is asked for.
 use Rattle.std.specs.Prelude.{◌≡◌, ℕ, List, IsTrue}
 use Rattle.teb_names.specs.declared.Txn.{Txn}
 use Rattle.teb_history.specs.declared.Event.{Event}

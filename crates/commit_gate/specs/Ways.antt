@@ -11,7 +11,7 @@ abbrev pub IsWay : Facts → ℕ → List ℕ → Type 0
 IsWay f t [] = Unit {0}
 IsWay f t (n ∷ ns) = (n < length f.tree.now.rows) × IsHere f n t × IsWay f t ns
 
--- the wait for the lesser of whom a verdict names and another
+-- the wait for the lower-numbered of the transaction that a verdict names and another
 abbrev pub first_wait : Verdict → Option Txn → Verdict
 first_wait v None = v
 first_wait Go (Some w) = Wait w

@@ -19,8 +19,9 @@ use phase_api::{Control, Facts};
 use teb_names::{Node, Txn};
 use teb_rules::{Stop, Verdict};
 
-/// What a Commit of t meets: on each node of its path, from the root, validation, and then the least of whom the gate names
-/// and the unfinished transactions that t read from and that meet it there. The first node that breaks or waits stops it.
+/// Returns the stop of a Commit of t: at each node of its path, from the root, validation, and then a wait for the lowest-numbered
+/// transaction that the gate names, or that is unfinished, meets t there, and was read from by t. The first node that breaks or waits
+/// stops it.
 pub fn may_commit<K: Control>(controls: &[K], book: &Book, facts: &Facts, t: Txn) -> Stop
     requires tree { IsSound (setup_of facts.now) }
     requires lawful { Lawful (setup_of facts.now) (events_of facts.now) }
@@ -35,7 +36,7 @@ pub fn may_commit<K: Control>(controls: &[K], book: &Book, facts: &Facts, t: Txn
     }
 }
 
-// The stop along the nodes of a way down, of a transaction that read from the sources.
+// Returns the stop along the nodes of a way down, of a transaction that read from the sources.
 fn stop_along<K: Control>(
     way: &[Node],
     controls: &[K],
@@ -57,7 +58,7 @@ fn stop_along<K: Control>(
     Stop::Go
 }
 
-// What one node of t's path says.
+// Returns the verdict of one node of t's path.
 fn verdict_at<K: Control>(
     controls: &[K],
     sources: &[Txn],
@@ -80,7 +81,7 @@ fn verdict_at<K: Control>(
     }
 }
 
-// The control of a node.
+// Returns the control of a node.
 fn control_at<'a, K: Control>(controls: &'a [K], facts: &Facts, n: Node) -> &'a K
     requires controls { StandAll K.node_number K.stands controls.now (setup_of facts.now) (events_of facts.now) }
     requires node { n.0 < length facts.now.tree.now.rows }
@@ -90,7 +91,7 @@ fn control_at<'a, K: Control>(controls: &'a [K], facts: &Facts, n: Node) -> &'a 
     &controls[usize::from(n.0)]
 }
 
-// The wait for the lesser of whom the gate names and a source.
+// Returns the wait for the lower-numbered of the transaction that the gate names and a source.
 fn first_of(gate: Verdict, source: Option<Txn>) -> Verdict
     ensures { result ≡ first_wait gate source }
 {

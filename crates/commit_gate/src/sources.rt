@@ -1,4 +1,4 @@
-//! Whom a Commit waits for among those that the transaction read from.
+//! The transactions that a Commit waits for among those that its transaction read from.
 
 ghost use Rattle.std.specs.Prelude.{◌≡◌, ◌&&◌, find};
 ghost use Rattle.teb_history.specs.Phases.{unfinished};
@@ -8,7 +8,7 @@ ghost use Rattle.phase_api.specs.FactsView.{setup_of, events_of, IsOrderly, IsTy
 use phase_api::Facts;
 use teb_names::{Node, Txn};
 
-/// The first of the sources that is unfinished and meets t at a node.
+/// Returns the first of the sources that is unfinished and meets t at a node.
 pub(crate) fn unfinished_source(sources: &[Txn], facts: &Facts, n: Node, t: Txn) -> Option<Txn>
     requires orderly { IsOrderly (setup_of facts.now) (events_of facts.now) }
     requires typed { IsTyped facts.now t.0 }
@@ -22,7 +22,7 @@ pub(crate) fn unfinished_source(sources: &[Txn], facts: &Facts, n: Node, t: Txn)
     None
 }
 
-// Whether w is unfinished and meets t at a node.
+// Returns whether w is unfinished and meets t at a node.
 fn is_waited_for(facts: &Facts, n: Node, t: Txn, w: Txn) -> bool
     requires orderly { IsOrderly (setup_of facts.now) (events_of facts.now) }
     requires typed { IsTyped facts.now t.0 }

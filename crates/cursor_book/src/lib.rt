@@ -1,4 +1,21 @@
-//! Where each transaction stands in its profile.
+//! The cursor of each transaction: the step of its profile at which it is.
+//!
+//! A transaction begins at step 0. An access of a table moves it to the first step, from there on, that has the table
+//! (`txn_profile`). A pipeline needs the cursor to tell which ranks a transaction has passed; the engine needs it to refuse accesses
+//! that the profile does not have.
+//!
+//! ```text
+//!   transaction   1   2   3
+//!   cursor        2   0   1      one byte each; the next transaction that begins is 4
+//! ```
+//!
+//! **What is proved.** Contracts see the list of cursors, that of transaction 1 first. [`Cursors::begin`] appends 0, and
+//! [`Cursors::access`] moves one cursor (`moved` of `specs/Cursors`). `CursorsOf` says that they are those of a history (`cursor` of
+//! `teb_rules`).
+//!
+//! Each call costs one look. [`Cursors::reserve`] makes room, so `begin` takes no memory.
+//!
+//! **Not claimed**: that an access fits the profile. If no further step has the table, the cursor stays.
 #![tactic(auto)]
 
 ghost use Rattle.std.specs.Prelude.{◌≡◌, ◌<◌, ◌≤◌, ◌+◌, ◌∷◌, ◌++◌, [], length, OnOk, OnErr};
@@ -9,7 +26,7 @@ use std::marker::Model;
 use teb_names::{Table, Txn};
 use txn_profile::Profile;
 
-/// For how many transactions more than are asked for room is made at a time.
+/// Room is made for this many transactions more than are asked for.
 const AHEAD: usize = 256;
 
 /// The cursor of each transaction that has begun, by its number. Contracts see the list of them, that of transaction 1
@@ -32,7 +49,7 @@ impl Model for Cursors {
 }
 
 impl Cursors {
-    /// No transaction. Takes no memory.
+    /// Returns an empty list of cursors. Takes no memory.
     pub fn new(alloc: Global) -> Cursors
         ensures { result.cursors ≡ [] }
     {
@@ -42,7 +59,10 @@ impl Cursors {
         }
     }
 
-    /// Makes room for n more transactions, and for some more where there is less. An `Err` leaves all as it was.
+    /// Makes room for n more transactions, and for some more if it has to allocate.
+    ///
+    /// # Errors
+    /// Out of memory. Everything is unchanged.
     pub fn reserve(&mut self, n: usize) -> Result<(), AllocError>
         ensures cursors { self.new.cursors ≡ self.old.cursors }
         ensures ok { OnOk result (n ≤ self.new.spare) }
@@ -58,7 +78,7 @@ impl Cursors {
         Ok(())
     }
 
-    /// The next transaction begins: it stands at step 0.
+    /// Notes that the next transaction begins: its cursor is 0.
     pub fn begin(&mut self)
         requires { 0 < self.old.spare }
         ensures cursors { self.new.cursors ≡ self.old.cursors ++ 0 ∷ [] }
@@ -68,7 +88,7 @@ impl Cursors {
         self.spare -= 1;
     }
 
-    /// A transaction accesses a table: it moves to the least step, from where it stands, that has the table.
+    /// Notes an access of a table: the transaction's cursor moves to the least step, from there on, that has the table.
     pub fn access(&mut self, t: Txn, table: Table, profile: &Profile)
         requires above { 0 < t.0 }
         requires begun { t.0 ≤ length self.old.cursors }
@@ -80,7 +100,7 @@ impl Cursors {
         self.cursors[i] = profile.cursor_after(at, table).unwrap_or(at);
     }
 
-    /// The step at which a transaction stands.
+    /// Returns the cursor of a transaction.
     pub fn cursor(&self, t: Txn) -> u8
         requires above { 0 < t.0 }
         requires begun { t.0 ≤ length self.now.cursors }

@@ -13,7 +13,8 @@ use Rattle.dependency_book.specs.Dependencies.{readers, writers, sources, unfini
 use Rattle.dependency_book.specs.Orderly.{Orderly}
 use Rattle.dependency_book.specs.Places.{HasRoom}
 
--- the cells, and for each of them in that order who read it, beside the writer read from, and who put it; whom each transaction read from, in the order in which they began; and who is unfinished
+-- the cells, and for each of them in that order its readers, beside the writer read from, and its writers; the sources of each transaction,
+-- in the order in which they began; and the unfinished transactions
 pub record Lists : Type 0 where
   pub cells : List Cell
   pub readers : List (List (Txn × Txn))
@@ -62,7 +63,7 @@ pub record HasRooms (r : Registers) (n : ℕ) : Type 0 where
   pub sources : n ≤ r.sources.spare
   pub unfinished : vec_len r.unfinished + n ≤ vec_capacity r.unfinished
 
--- the sources ascend, and there is room for so many events
+-- the sources ascend, and there is room for n events
 pub record IsBook (r : Registers) (n : ℕ) : Type 0 where
   pub ascending : SourcesAscend r.sources.lists
   pub rooms : HasRooms r n

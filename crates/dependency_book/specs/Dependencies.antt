@@ -1,4 +1,4 @@
--- Who read and who put what in a history, from whom, and who is unfinished. An abort takes out what its transaction read and put.
+-- Readers and writers in a history, the sources of each transaction, and the unfinished ones. An abort removes what its transaction read and put.
 use Rattle.std.specs.Prelude.{◌≡◌, Bool, cond, not, ◌&&◌, eqb, ltb, List, [], ◌∷◌, ◌++◌, filter, map, is_some}
 use Rattle.std.specs.List.{list_any}
 use Rattle.teb_names.specs.declared.Txn.{Txn}
@@ -16,19 +16,19 @@ use Rattle.teb_history.specs.OwnEvents.{put_in, got_in}
 abbrev pub has : Txn → List Txn → Bool
 has t ts = list_any (λ u. eqb u.0 t.0) ts
 
--- who read x, and from whom, a pair for each Got; the oldest first
+-- the readers of x, each beside the writer that it read from, a pair for each Got; the oldest first
 unfoldable pub all_readers : List Event → Cell → List (Txn × Txn)
 all_readers [] x = []
 all_readers (Got t y w v ∷ P) x = let r = all_readers P x in cond (same_cell y x) (r ++ (t, w) ∷ []) r
 all_readers (_ ∷ P) x = all_readers P x
 
--- who put x, by the first Put
+-- the writers of x, by the first Put
 unfoldable pub all_writers : List Event → Cell → List Txn
 all_writers [] x = []
 all_writers (Put t y v ∷ P) x = let r = all_writers P x in cond (same_cell y x && not (has t r)) (r ++ t ∷ []) r
 all_writers (_ ∷ P) x = all_writers P x
 
--- whom t read from, by number, without t itself and the starting rows
+-- the sources of t: those that it read from, by number, without t itself and the starting rows
 unfoldable pub all_sources : List Event → Txn → List Txn
 all_sources [] t = []
 all_sources (Got s y w v ∷ P) t = let r = all_sources P t in cond (eqb s.0 t.0 && not (eqb w.0 t.0) && ltb 0 w.0) (put_by number_of w r) r
@@ -41,7 +41,7 @@ reads x e = is_some (got_in x e)
 abbrev pub puts : Cell → Event → Bool
 puts x e = is_some (put_in x e)
 
--- of a Put that comes after P, whether its transaction has put the cell before
+-- of a Put after P, whether its transaction has put the cell before
 abbrev pub IsAgain : List Event → Event → Bool → Type 0
 IsAgain P (Put t x v) again = again ≡ wrote P t.0 x
 IsAgain P _ again = Unit {0}

@@ -1,10 +1,10 @@
--- Histories each of whose events could come where it came.
+-- Histories in which each event may follow those before it.
 use Rattle.std.specs.Prelude.{◌≡◌, suc, List, [], ◌∷◌, IsTrue}
 use Rattle.teb_history.specs.declared.Event.{Event}
 use Rattle.teb_history.specs.declared.Event.TheVariants.{Began, Got, Put, Ready, Done, Gone, Told}
 use Rattle.teb_history.specs.Phases.{begun_count, aborted, unfinished}
 
--- the event may come after P
+-- the event may follow P
 abbrev pub MayFollow : List Event → Event → Type 0
 MayFollow P (Began t s k i) = t.0 ≡ suc (begun_count P)
 MayFollow P (Got t x w v) = IsTrue (unfinished P t.0)
@@ -14,7 +14,7 @@ MayFollow P (Done t) = IsTrue (unfinished P t.0)
 MayFollow P (Gone t c) = IsTrue (unfinished P t.0)
 MayFollow P (Told t) = IsTrue (aborted P t.0)
 
--- each event could come where it came
+-- each event may follow those before it
 unfoldable pub Orderly : List Event → Type 0
 Orderly [] = Unit {0}
 Orderly (e ∷ P) = MayFollow P e × Orderly P

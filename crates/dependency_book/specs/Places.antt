@@ -1,4 +1,4 @@
--- Who read and who put each cell: a cell has a place, and the lists of the cell have the number of its place.
+-- The readers and writers of each cell: a cell has a place, and the lists of the cell have the number of its place.
 use Rattle.std.specs.Prelude.{◌≡◌, ◌≤◌, ◌*◌, ℕ, List, length}
 use Rattle.teb_names.specs.declared.Txn.{Txn}
 use Rattle.teb_names.specs.declared.Cell.{Cell}
@@ -12,7 +12,7 @@ pub record Room : Type 0 where
   pub readers : ℕ
   pub writers : ℕ
 
--- the cells, for each of them in that order who read it, beside the writer read from, and who put it, and the room
+-- the cells, for each of them in that order its readers, beside the writer read from, and its writers, and the room
 pub record Shown : Type 0 where
   pub cells : List Cell
   pub readers : List (List (Txn × Txn))

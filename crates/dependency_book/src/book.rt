@@ -13,15 +13,15 @@ use std::marker::Model;
 use teb_history::{Event, History};
 use teb_names::{Cell, Txn};
 
-/// For how many events room is made at the least, so that not every `reserve` goes through all registers.
+/// Room is made for at least this many events, so that not every `reserve` goes through all registers.
 const AHEAD: usize = 256;
 
-/// Who read and who put each cell, whom each transaction read from, and which transactions are unfinished. What a transaction read and
-/// put goes out with its abort.
+/// The readers and writers of each cell, the sources of each transaction, and the unfinished transactions. An abort removes what its
+/// transaction read and put.
 #[derive(Drop)]
 pub struct Book {
     registers: Registers,
-    // For how many events there is room.
+    // There is room for this many events.
     spare: usize,
 }
 
@@ -36,7 +36,7 @@ impl Model for Book {
 }
 
 impl Book {
-    /// The book of the empty history, with no room.
+    /// Returns the book of the empty history, with no room.
     pub fn new(alloc: Global) -> Self
         ensures { BookOf result.lists [] }
     {
@@ -46,7 +46,10 @@ impl Book {
         }
     }
 
-    /// Makes room for n events. It stands for what it stood for, also after an `Err`.
+    /// Makes room for n events.
+    ///
+    /// # Errors
+    /// Out of memory. The lists are unchanged.
     pub fn reserve(&mut self, n: usize) -> Result<(), AllocError>
         ensures lists { self.new.lists ≡ self.old.lists }
         ensures ok { OnOk result (n ≤ self.new.spare) }
@@ -61,12 +64,12 @@ impl Book {
         Ok(())
     }
 
-    /// Notes the newest event of the history. Of a Put is told whether its transaction has put the cell before. It takes one place of
-    /// the room at most.
+    /// Notes the newest event of the history. If it is a Put, `again` says whether its transaction has put the cell before. It takes at most
+    /// one place of the room.
     ///
-    /// A read or a put costs a look-up of its cell; whom a transaction read from is found by its number alone. An abort costs a look-up for
-    /// each access of its transaction, and goes through what was read or put in the same cells since; where its transaction put a cell
-    /// again, through all that put it. A commit and an abort cost a binary search among the unfinished, and a move of those behind.
+    /// A read or a put costs a look-up of its cell; the sources of a transaction are found by its number. An abort costs a look-up for each
+    /// access of its transaction, and goes through what was read or put in the same cells since; if its transaction put a cell again, through
+    /// all that put it. A commit and an abort cost a binary search among the unfinished transactions, and a move of those after it.
     #[inline(always)]
     pub fn note(&mut self, history: &History, e: Event, again: bool)
         requires { 0 < self.old.spare }
@@ -77,28 +80,30 @@ impl Book {
         self.spare -= 1;
     }
 
-    /// Who read a cell, and from whom, in order of access: a pair for each Got of a transaction that is not aborted.
+    /// Returns the readers of a cell, each beside the writer that it read from, in order of access: a pair for each Got of a transaction
+    /// that is not aborted.
     pub fn readers(&self, cell: Cell) -> &[(Txn, Txn)]
         ensures { result.now ≡ readers_in self.now.lists cell }
     {
         self.registers.cells.readers(cell)
     }
 
-    /// Who put a cell and is not aborted, in order of the first Put.
+    /// Returns the transactions that put a cell and are not aborted, in order of the first Put.
     pub fn writers(&self, cell: Cell) -> &[Txn]
         ensures { result.now ≡ writers_in self.now.lists cell }
     {
         self.registers.cells.writers(cell)
     }
 
-    /// Whom a transaction read from, in ascending number, each once, without itself and the starting rows. None where it is aborted.
+    /// Returns the transactions that one read from, in ascending number, each once, without itself and the starting rows. The list of an aborted
+    /// transaction is empty.
     pub fn read_from(&self, t: Txn) -> &[Txn]
         ensures { result.now ≡ sources_in self.now.lists t }
     {
         source_lists::sources_of(&self.registers.sources, t)
     }
 
-    /// The unfinished transactions, in ascending number.
+    /// Returns the unfinished transactions, in ascending number.
     pub fn unfinished(&self) -> &[Txn]
         ensures { result.now ≡ self.now.lists.unfinished }
     {

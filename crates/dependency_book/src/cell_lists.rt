@@ -1,4 +1,4 @@
-//! Who read and who put each cell: readers and writers have one place under one index.
+//! The readers and writers of each cell: both lists have one place under one index.
 
 ghost use Rattle.std.specs.Prelude.{◌≡◌, ◌<◌, ◌≤◌, ◌+◌, ◌++◌, ◌∷◌, [], ℕ, cond, eqb, OnOk};
 ghost use Rattle.std.specs.List.{count_by};
@@ -18,7 +18,7 @@ use std::marker::Model;
 use teb_history::{Event, History};
 use teb_names::{Cell, Txn};
 
-/// By cell, who read it and from whom, and who put it, each in order of access.
+/// By cell, its readers, each beside the writer that it read from, and its writers, in order of access.
 #[derive(Drop)]
 pub struct CellLists {
     // Each cell has the lists of its place.
@@ -38,7 +38,7 @@ impl Model for CellLists {
 }
 
 impl CellLists {
-    /// The lists of an empty history, with no room. Takes no memory.
+    /// Returns the lists of an empty history, with no room. Takes no memory.
     pub(crate) fn new(alloc: Global) -> Self
         ensures readers { (x : Cell) → readers_of result x ≡ [] }
         ensures writers { (x : Cell) → writers_of result x ≡ [] }
@@ -50,7 +50,7 @@ impl CellLists {
         }
     }
 
-    /// Makes room for n accesses. The lists stay, also after an `Err`.
+    /// Makes room for n accesses. The lists are unchanged, also on `Err`.
     pub(crate) fn reserve(&mut self, n: usize) -> Result<(), AllocError>
         ensures cells { self.new.cells ≡ self.old.cells }
         ensures readers { self.new.readers ≡ self.old.readers }
@@ -65,7 +65,7 @@ impl CellLists {
         Ok(())
     }
 
-    /// A transaction reads a cell: the pair of it and of whom it reads from comes behind the readers. It takes one place of the room.
+    /// Appends to the readers of a cell a pair of the reader and the writer read from. It takes one place of the room.
     pub(crate) fn read(&mut self, cell: Cell, pair: (Txn, Txn))
         requires { HasRoom self.old.room 1 }
         ensures readers { (x : Cell) → readers_of self.new x ≡ cond (same_cell cell x) (readers_of self.old x ++ pair ∷ []) (readers_of self.old x) }
@@ -76,7 +76,7 @@ impl CellLists {
         self.readers.push(place, pair);
     }
 
-    /// A transaction puts a cell: it comes behind the writers. It takes one place of the room.
+    /// Appends a transaction to the writers of a cell. It takes one place of the room.
     pub(crate) fn put(&mut self, cell: Cell, t: Txn)
         requires { HasRoom self.old.room 1 }
         ensures readers { (x : Cell) → readers_of self.new x ≡ readers_of self.old x }
@@ -87,21 +87,21 @@ impl CellLists {
         self.writers.push(place, t);
     }
 
-    /// Who read a cell, and from whom.
+    /// Returns the readers of a cell, each beside the writer that it read from.
     pub(crate) fn readers(&self, cell: Cell) -> &[(Txn, Txn)]
         ensures { result.now ≡ readers_of self.now cell }
     {
         self.readers.list(self.cells.place(cell))
     }
 
-    /// Who put a cell.
+    /// Returns the writers of a cell.
     pub(crate) fn writers(&self, cell: Cell) -> &[Txn]
         ensures { result.now ≡ writers_of self.now cell }
     {
         self.writers.list(self.cells.place(cell))
     }
 
-    /// Takes out a pair of t for each of its reads of a cell, and t from the writers of each cell that it put, the newest first. The room
+    /// Removes a pair of t for each of its reads of a cell, and t from the writers of each cell that it put, the newest first. The room
     /// stays.
     pub(crate) fn forget_accesses(&mut self, history: &History, t: Txn)
         ensures readers { (x : Cell) → readers_of self.new x ≡ without_lasts (count_by (reads x) (own_events history.now.events t.0)) (λ r. eqb r.0.0 t.0) (readers_of self.old x) }
@@ -117,7 +117,7 @@ impl CellLists {
         }
     }
 
-    /// Takes the last pair of t out of the readers of a cell. The search goes from the end, past what was read there since.
+    /// Removes the last pair of t from the readers of a cell. The search goes from the end, past what was read there since.
     fn forget_read(&mut self, cell: Cell, t: Txn)
         ensures readers { (x : Cell) → readers_of self.new x ≡ cond (same_cell cell x) (without_last (λ r. eqb r.0.0 t.0) (readers_of self.old x)) (readers_of self.old x) }
         ensures writers { (x : Cell) → writers_of self.new x ≡ writers_of self.old x }
@@ -129,7 +129,7 @@ impl CellLists {
         }
     }
 
-    /// Takes t out of the writers of a cell, where it is there. The search goes from the end, past what was put there since.
+    /// Removes t from the writers of a cell, if it is there. The search goes from the end, past what was put there since.
     fn forget_put(&mut self, cell: Cell, t: Txn)
         ensures readers { (x : Cell) → readers_of self.new x ≡ readers_of self.old x }
         ensures writers { (x : Cell) → writers_of self.new x ≡ cond (same_cell cell x) (without_last (λ u. eqb u.0 t.0) (writers_of self.old x)) (writers_of self.old x) }
@@ -142,7 +142,7 @@ impl CellLists {
     }
 }
 
-/// The place of a cell, which gets lists of its own where it has none.
+/// Returns the place of a cell, which gets empty lists if it has none.
 #[inline(always)]
 fn place_for(
     cells: &mut CellIndex,
@@ -170,14 +170,14 @@ fn place_for(
     place
 }
 
-// The last pair of t.
+// Returns the last pair of t.
 fn read_place(pairs: &[(Txn, Txn)], t: Txn) -> Option<usize>
     ensures { IsLastPlace (λ r. eqb r.0.0 t.0) pairs.now result }
 {
     pairs.iter().rposition(|pair| pair.0 == t)
 }
 
-// The last place of t.
+// Returns the last place of t.
 fn put_place(txns: &[Txn], t: Txn) -> Option<usize>
     ensures { IsLastPlace (λ u. eqb u.0 t.0) txns.now result }
 {

@@ -1,4 +1,4 @@
-//! The lists of a book, and what an event of each kind adds to them or takes out.
+//! The lists of a book, and what an event of each kind adds or removes.
 
 ghost use Rattle.std.specs.Prelude.{◌≡◌, ◌+◌, ℕ, List, ◌∷◌, [], Option, ℤ, OnOk};
 ghost use Rattle.teb_names.specs.declared.Cause.{Cause};
@@ -18,12 +18,12 @@ use std::alloc::{AllocError, Global};
 use teb_history::{Event, History};
 use teb_names::{Cell, Txn};
 
-/// Who read and put what, from whom, and who is unfinished.
+/// Readers and writers, the sources of each transaction, and the unfinished transactions.
 #[derive(Drop)]
 pub struct Registers {
-    // Who read each cell, beside the writer read from, and who put it, in order of access.
+    // The readers of each cell, beside the writer read from, and its writers, in order of access.
     pub(crate) cells: CellLists,
-    // Whom each transaction read from, in ascending number: a list for each that has begun, the oldest first.
+    // The sources of each transaction, in ascending number: a list for each that has begun, the oldest first.
     pub(crate) sources: NumberedLists<Txn>,
     // In ascending number.
     pub(crate) unfinished: Vec<Txn>,
@@ -53,7 +53,7 @@ impl Registers {
         Ok(())
     }
 
-    /// Notes the newest event of the history. Of a Put is told whether its transaction has put the cell before.
+    /// Notes the newest event of the history. If it is a Put, `again` says whether its transaction has put the cell before.
     #[inline(always)]
     pub(crate) fn note(&mut self, history: &History, e: Event, again: bool)
         requires ascending { SourcesAscend self.old.sources.lists }
@@ -77,7 +77,7 @@ impl Registers {
         }
     }
 
-    /// A transaction begins.
+    /// Notes that a transaction begins.
     fn begin(&mut self, t: Txn)
         requires ascending { SourcesAscend self.old.sources.lists }
         requires room { HasRooms self.old 1 }
@@ -89,7 +89,7 @@ impl Registers {
         let _ = self.unfinished.push(t);
     }
 
-    /// A transaction reads a cell.
+    /// Notes that a transaction reads a cell.
     fn read(&mut self, t: Txn, cell: Cell, from: Txn)
         requires ascending { SourcesAscend self.old.sources.lists }
         requires room { HasRooms self.old 1 }
@@ -101,7 +101,7 @@ impl Registers {
         source_lists::add_source(&mut self.sources, t, from);
     }
 
-    /// A transaction puts a cell, which it has put before where `again` is true.
+    /// Notes a Put. `again` says whether the transaction has put the cell before.
     fn put(&mut self, t: Txn, cell: Cell, again: bool)
         requires ascending { SourcesAscend self.old.sources.lists }
         requires room { HasRooms self.old 1 }
@@ -115,7 +115,7 @@ impl Registers {
         self.cells.put(cell, t);
     }
 
-    /// A transaction commits.
+    /// Notes a commit.
     fn commit(&mut self, t: Txn)
         requires { SourcesAscend self.old.sources.lists }
         ensures ascending { SourcesAscend self.new.sources.lists }
@@ -125,7 +125,7 @@ impl Registers {
         teb_history::remove_txn(&mut self.unfinished, t);
     }
 
-    /// A transaction is aborted by the newest event of the history.
+    /// Notes an abort, by the newest event of the history.
     fn abort(&mut self, history: &History, t: Txn)
         requires { SourcesAscend self.old.sources.lists }
         ensures ascending { SourcesAscend self.new.sources.lists }

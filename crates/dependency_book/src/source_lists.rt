@@ -1,4 +1,5 @@
-//! Whom each transaction read from, in lists by number: transactions are numbered from 1 in the order in which they begin, and lists from 0.
+//! The sources of each transaction, those that it read from, in lists by number: transactions are numbered from 1 in the order in
+//! which they begin, and lists from 0.
 
 ghost use Rattle.std.specs.Prelude.{◌≡◌, ◌+◌, ◌≤◌, ◌<◌, ◌&&◌, [], cond, not, eqb, ltb, length};
 ghost use Rattle.teb_names.specs.declared.Txn.{Txn};
@@ -9,7 +10,7 @@ ghost use Rattle.dependency_book.specs.Books.{list_of, SourcesAscend};
 use arena_multimap::NumberedLists;
 use teb_names::Txn;
 
-/// Whom t read from. Nobody where t has no list.
+/// Returns the sources of t. They are empty if t has no list.
 pub(crate) fn sources_of(sources: &NumberedLists<Txn>, t: Txn) -> &[Txn]
     ensures { result.now ≡ list_of sources.now.lists t.0 }
 {
@@ -19,7 +20,7 @@ pub(crate) fn sources_of(sources: &NumberedLists<Txn>, t: Txn) -> &[Txn]
     sources.list(t.0 as usize - 1)
 }
 
-/// Puts a transaction that t read from among its sources, unless it is there, or is t itself or 0. Where t has no list, all stay.
+/// Adds a transaction to those that t read from, unless it is there, or is t itself or 0. If t has no list, nothing changes.
 pub(crate) fn add_source(sources: &mut NumberedLists<Txn>, t: Txn, from: Txn)
     requires ascending { SourcesAscend sources.old.lists }
     requires room { 0 < sources.old.spare }
@@ -37,7 +38,7 @@ pub(crate) fn add_source(sources: &mut NumberedLists<Txn>, t: Txn, from: Txn)
     sources.put_by_number(t.0 as usize - 1, from);
 }
 
-/// Takes out whom t read from.
+/// Empties the list of those that t read from.
 pub(crate) fn clear_sources(sources: &mut NumberedLists<Txn>, t: Txn)
     ensures lists { length sources.new.lists ≡ length sources.old.lists }
     ensures values { (u : Txn) → list_of sources.new.lists u.0 ≡ cond (eqb t.0 u.0) [] (list_of sources.old.lists u.0) }

@@ -10,7 +10,7 @@ use Rattle.snapshot_node.specs.Controls.{SnapshotStandsFor, snapshot_node_number
 use Rattle.engine_core.specs.declared.any_control.AnyControl.{AnyControl}
 use Rattle.engine_core.specs.declared.any_control.AnyControl.TheVariants.{Locks, Pipeline, Timestamp, Snapshot}
 
--- for which setup and history it stands, its node, and for how many events it has room
+-- which setup and history it stands for, its node, and for how many events it has room
 abbrev pub any_stands : AnyControl → Setup → List Event → Type 0
 any_stands (Locks c) S H = LocksStandFor c S H
 any_stands (Pipeline c) S H = PipelineStands c S H
@@ -29,7 +29,7 @@ any_spare (Pipeline c) = pipeline_spare c
 any_spare (Timestamp c) = stamps_spare c
 any_spare (Snapshot c) = snapshot_spare c
 
--- the history for which it stands is orderly
+-- the history that it stands for is orderly
 pub any_orderly : (c : AnyControl) (S : Setup) (H : List Event) → any_stands c S H → IsOrderly S H
 any_orderly (Locks c) S H s = s.register.book.orderly
 any_orderly (Pipeline c) S H s = s.register.book.orderly

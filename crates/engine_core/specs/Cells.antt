@@ -2,6 +2,6 @@
 use Rattle.std.specs.Prelude.{ℕ, ◌+◌}
 use Rattle.teb_names.specs.declared.Cell.{Cell}
 
--- the cell that stands so many keys after x
+-- the cell whose key is i greater than that of x
 abbrev pub cell_at : Cell → ℕ → Cell
 cell_at x i = record { table = x.table; key = x.key + i }

@@ -29,7 +29,7 @@ carried X H (Put t x v p) = (reply.Done, event.Put t x v ∷ H)
 carried X H (Scan t x n) = got_values (read_all X H t.0 (cells_from x n))
 carried X H (Fall t c) = broken_off H t.0 c
 
--- a Began comes only where fewer than MOST_TXNS transactions have begun, and no node on the way to its leaf holds it back
+-- a Began is granted only if fewer than MOST_TXNS transactions have begun, and no node on the way to its leaf holds it back
 abbrev pub MayBegin : Setup → List Event → Event → Type 0
 MayBegin S H (Began t s k i) = (begun_count H < MOST_TXNS) × (begin_stop S H (record { kind = k; instance = i }) ≡ stop.Go)
 MayBegin S H _ = Unit {0}
@@ -39,7 +39,7 @@ abbrev pub IsNoPut : Event → Type 0
 IsNoPut (event.Put t x v) = ⊥
 IsNoPut _ = Unit {0}
 
--- a Put comes with its version's place among those that are there; at most 16 cells are read, each of which has a key
+-- a Put has its version's place in the chain; at most 16 cells are read, each of which has a key
 abbrev pub IsBounded : (Cell → List Version) → Setup → List Event → Decision → Type 0
 IsBounded L S H (Grant r e) = MayBegin S H e × IsNoPut e
 IsBounded L S H (Put t x v p) = IsPlaced S H L t.0 x p
@@ -56,11 +56,11 @@ abbrev pub IsRefusal : Store → List Event → ℕ → Cell → Option Refusal 
 IsRefusal X H t x None = (granted : Answered) → or_refused X H t x granted ≡ granted
 IsRefusal X H t x (Some r) = (granted : Answered) → or_refused X H t x granted ≡ refuse H r
 
--- what a stop makes of a request of t
+-- the decision on a request of t that stops
 abbrev pub IsStopped : Store → List Event → ℕ → Stop → Decision → Type 0
 IsStopped X H t s d = ((granted : Answered) → carried X H d ≡ or_stop H t s granted) × ((L : Cell → List Version) → IsBounded L X.setup H d)
 
--- the sum of two numbers, where it fits
+-- the sum of two numbers, if it fits
 abbrev pub sum_of : ℤ → ℤ → Option ℤ
 sum_of b v = cond (fits (b +ℤ v)) (Some (b +ℤ v)) None
 

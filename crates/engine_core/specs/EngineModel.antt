@@ -32,7 +32,8 @@ pub record IsOfEngine (e : EngineModel) : Type 0 where
   pub sound : IsSound e.store.setup
   pub reached : IsReached e.store e.events
 
--- the setup is one that a store can be set up with, the state is whole, its history is one that requests lead to, there is the room that is counted, and where it is ready there is room for an answer
+-- the setup is one that a store can be set up with, the state is whole, its history is one that requests lead to, there is the room that
+-- is counted, and if it is ready there is room for an answer
 pub record IsEngine {K C : Type 0} (node_number : K → ℕ) (stands : K → Setup → List Event → Type 0) (spare : K → ℕ) (lists : C → Cell → List Version) (chain_spare : C → ℕ) (k : EngineState K C) (ready : Bool) : Type 0 where
   pub setup : SetUp.IsWhole (setup_view k.setup)
   pub whole : StateIsWhole node_number stands lists k

@@ -4,7 +4,7 @@ use Rattle.teb_names.specs.declared.Txn.{Txn}
 use Rattle.teb_history.specs.declared.Event.{Event}
 use Rattle.teb_history.specs.declared.Event.TheVariants.{Began}
 
--- the transaction that session s began last, and 0 where it began none
+-- the transaction that session s began last, or 0 if it began none
 unfoldable pub latest_txn : List Event → ℕ → Txn
 latest_txn [] s = record { 0 = 0 }
 latest_txn (Began t a k i ∷ P) s = let r = latest_txn P s in cond (eqb a.0 s) t r
@@ -14,6 +14,6 @@ latest_txn (_ ∷ P) s = latest_txn P s
 abbrev pub listed : List Txn → ℕ → Txn
 listed ts s = get_or ts s (record { 0 = 0 })
 
--- for each session the one is listed that it began last
+-- the list has for each session the transaction that it began last
 abbrev pub AreLatest : List Txn → List Event → Type 0
 AreLatest ts H = (s : ℕ) → listed ts s ≡ latest_txn H s

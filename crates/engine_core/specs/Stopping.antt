@@ -13,6 +13,6 @@ abbrev pub at_of : Option Place → Option ℕ
 at_of None = None
 at_of (Some p) = Some p.at
 
--- each node on t's path is told the place of t's version of x, where it has to be told
+-- each node on t's path is told the place of t's version of x, if it has to be told
 abbrev pub AreTold : Setup → List Event → Cell → ℕ → Option ℕ → List ℕ → Type 0
 AreTold S H x t at ws = (n : ℕ) → IsTrue (on_path S.tree n (spot_of H t)) → IsToldPlace S H n x t at ws

@@ -1,4 +1,4 @@
--- What holds of all that an engine keeps at once.
+-- What holds of all that an engine keeps together.
 use Rattle.std.specs.Prelude.{◌≡◌, ◌≤◌, ℕ, List, length, slice_get, Some}
 use Rattle.teb_names.specs.declared.TheConstants.{MOST_TXNS}
 use Rattle.teb_names.specs.declared.Cell.{Cell}
@@ -19,7 +19,8 @@ use Rattle.engine_core.specs.declared.engine_state.EngineState.{EngineState}
 use Rattle.engine_core.specs.declared.engine_view.EngineView.{EngineView}
 use Rattle.store_setup.specs.Stores.{store_of}
 
--- a sound store, with a profile for each type, and a lawful history, for which controls, chains, book, cursors and what each session began last stand
+-- a sound store, with a profile for each type, and a lawful history; controls, chains, book, cursors and what each session began last stand
+-- for it
 pub record IsWhole {K : Type 0} (node_number : K → ℕ) (stands : K → Setup → List Event → Type 0) (X : Store) (H : List Event) (cs : List K) (L : Cell → List Version) (b : Lists) (steps : List ℕ) (last : List Txn) : Type 0 where
   pub sound : IsSound X.setup
   pub profiled : length X.setup.profiles ≡ X.setup.types
@@ -39,12 +40,12 @@ store_in p = record { setup = setup_of p.facts; tables = length p.state.now.setu
 abbrev pub events_in : {K C : Type 0} → EngineView K C → List Event
 events_in p = events_of p.facts
 
--- a view is whole, and nobody who is not aborted has read from somebody who is
+-- a view is whole, and no transaction that is not aborted has read from one that is
 pub record ViewIsWhole {K C : Type 0} (node_number : K → ℕ) (stands : K → Setup → List Event → Type 0) (lists : C → Cell → List Version) (p : EngineView K C) : Type 0 where
   pub whole : IsWhole node_number stands (store_in p) (events_in p) p.state.now.controls.items (lists p.state.now.chains) p.state.now.book.lists p.state.now.cursors.cursors p.state.now.latest
   pub settled : Settled (events_in p)
 
--- the same of what the engine owns, between two answers or amid one
+-- the same of what the engine owns, between two answers or within one
 abbrev pub StateIsWhole : {K C : Type 0} → (K → ℕ) → (K → Setup → List Event → Type 0) → (C → Cell → List Version) → EngineState K C → Type 0
 StateIsWhole node_number stands lists c = IsWhole node_number stands (store_of c.setup) c.history.events c.controls.items (lists c.chains) c.book.lists c.cursors.cursors c.latest
 

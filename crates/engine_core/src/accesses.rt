@@ -1,4 +1,4 @@
-//! What a read, a write and a deletion are answered, and the refusals of every access.
+//! Decisions on reads, writes and deletions, and the refusals of every access.
 
 ghost use Rattle.std.specs.Prelude.{◌≡◌, None};
 ghost use Rattle.teb_names.specs.declared.Request.TheVariants as request;
@@ -34,7 +34,7 @@ pub fn decide_read<K: Control, C: Chains>(asking: &Asking<'_, K, C>, cell: Cell)
     }
 }
 
-/// A read that does not stop.
+/// Decides a read that does not stop.
 fn got<K: Control, C: Chains>(asking: &Asking<'_, K, C>, cell: Cell) -> Decision
     requires { ViewIsWhole K.node_number K.stands C.lists asking.now.view.now }
     ensures answer { carried (store_in asking.now.view.now) (events_in asking.now.view.now) result ≡ got_value (events_in asking.now.view.now) asking.now.txn.0 cell (read (store_in asking.now.view.now).setup (store_in asking.now.view.now).rows (events_in asking.now.view.now) asking.now.txn.0 cell) }
@@ -52,7 +52,7 @@ fn got<K: Control, C: Chains>(asking: &Asking<'_, K, C>, cell: Cell) -> Decision
     )
 }
 
-/// Puts a value, or deletes the row where there is none.
+/// Decides a put of a value, or a deletion of the row if there is no value.
 pub fn decide_write<K: Control, C: Chains>(
     asking: &Asking<'_, K, C>,
     cell: Cell,
@@ -68,7 +68,7 @@ pub fn decide_write<K: Control, C: Chains>(
     }
 }
 
-/// A Put that is not refused.
+/// Decides a Put that is not refused.
 pub fn put<K: Control, C: Chains>(
     asking: &Asking<'_, K, C>,
     cell: Cell,

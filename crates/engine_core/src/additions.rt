@@ -1,4 +1,4 @@
-//! What an addition is answered.
+//! Decisions on additions.
 
 ghost use Rattle.std.specs.Prelude.{◌≡◌};
 ghost use Rattle.teb_names.specs.declared.Request.TheVariants as request;
@@ -36,7 +36,7 @@ pub fn decide_add<K: Control, C: Chains>(
     }
 }
 
-/// What an addition starts from: the value of the transaction's own last Put, or else what it last read; no row counts as 0.
+/// Returns the value that an addition starts from: the value of the transaction's own last Put, or else what it last read; no row counts as 0.
 fn add_base<K: Control, C: Chains>(asking: &Asking<'_, K, C>, cell: Cell) -> Option<i64>
     ensures { result ≡ add_base (last_put (events_in asking.now.view.now) asking.now.txn.0 cell) (last_got (events_in asking.now.view.now) asking.now.txn.0 cell) }
 {
@@ -49,7 +49,7 @@ fn add_base<K: Control, C: Chains>(asking: &Asking<'_, K, C>, cell: Cell) -> Opt
     value.map(|value| value.unwrap_or(0))
 }
 
-/// The sum of two numbers, where it is an `i64`.
+/// Returns the sum of two numbers, if it is an `i64`.
 fn sum_of(base: i64, number: i64) -> Option<i64>
     ensures { result ≡ sum_of base number }
 {

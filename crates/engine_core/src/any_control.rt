@@ -26,7 +26,7 @@ pub enum AnyControl {
     Snapshot(Snapshot),
 }
 
-/// A control for each node of the tree, for an empty history.
+/// Returns a control for each node of the tree, for an empty history.
 pub fn controls_of(alloc: Global, facts: &Facts) -> Result<Vec<AnyControl>, AllocError>
     requires profiled { (setup_of facts.now).types ≤ length (setup_of facts.now).profiles }
     requires few { above_profiles (setup_of facts.now).profiles ≤ 64 }

@@ -1,4 +1,4 @@
-//! An event is appended to the history, and all that is kept of the history keeps up with it.
+//! Appending an event to the history, and noting it in all that is kept of the history.
 
 ghost use Rattle.std.specs.Prelude.{◌≡◌, ◌<◌, ◌≤◌, ◌+◌, ◌∷◌, length, drop};
 ghost use Rattle.teb_history.specs.declared.Event.{Event};
@@ -19,7 +19,7 @@ use store_setup::Setup;
 use teb_history::{Event, History};
 use version_chain::Chains;
 
-/// Appends an event that the rules grant; a Put comes with the place of its version. It takes one place of the room.
+/// Appends an event that the rules grant; a Put has the place of its version. It takes one place of the room.
 pub fn append_event<K: Control, C: Chains>(
     state: &mut EngineState<K, C>,
     event: Event,
@@ -75,7 +75,7 @@ fn append<K: Control, C: Chains>(state: &mut EngineState<K, C>, event: Event, pl
     state.room -= 1;
 }
 
-/// The cursors after the newest event.
+/// Notes the newest event in the cursors.
 #[inline(always)]
 fn move_cursors(cursors: &mut Cursors, history: &History, setup: &Setup, event: Event)
     requires newest { history.now.events ≡ event ∷ drop 1 history.now.events }

@@ -1,4 +1,4 @@
-//! Who asks: a transaction that is neither committed nor aborted.
+//! The transaction that asks. It is neither committed nor aborted.
 
 ghost use Rattle.std.specs.Prelude.{◌≡◌, ◌<◌, IsTrue, is_some};
 ghost use Rattle.teb_history.specs.Phases.{unfinished, prepared, spot_of, kind_of};
@@ -29,7 +29,7 @@ pub struct Asking<'a, K: Control, C: Chains> {
 }
 
 impl<'a, K: Control, C: Chains> Asking<'a, K, C> {
-    /// That of an unfinished transaction, which may be prepared.
+    /// Returns the asking of an unfinished transaction, which may be prepared.
     pub fn of(view: &'a EngineView<'a, K, C>, txn: Txn, is_prepared: bool) -> Self
         requires whole { ViewIsWhole K.node_number K.stands C.lists view.now }
         requires unfinished { IsTrue (unfinished (events_in view.now) txn.0) }
@@ -47,7 +47,7 @@ impl<'a, K: Control, C: Chains> Asking<'a, K, C> {
         }
     }
 
-    /// Whether the profile has a step on a table, from where the transaction stands.
+    /// Returns whether the profile has a step on a table, from the transaction's current step on.
     pub fn has_step(&self, table: Table) -> bool
         requires { ViewIsWhole K.node_number K.stands C.lists self.now.view.now }
         ensures { result ≡ is_some (least_step (profile (store_in self.now.view.now).setup (kind_of (events_in self.now.view.now) self.now.txn.0)) (cursor (store_in self.now.view.now).setup (events_in self.now.view.now) self.now.txn.0) table.0) }

@@ -1,4 +1,4 @@
-//! How a decision is carried out.
+//! Carrying out a decision.
 
 ghost use Rattle.std.specs.Prelude.{◌≡◌, ◌≤◌, ◌+◌, ◌^◌};
 ghost use Rattle.teb_laws.specs.Lawful.{Lawful, Settled};
@@ -20,7 +20,7 @@ use teb_history::Event;
 use teb_names::{Cell, Reply, Txn};
 use version_chain::Chains;
 
-/// Reads the cells of a scan, and replies with their values: out of line, since scans are rare and their reply is long.
+/// Reads the cells of a scan, and replies with their values. It is not inlined, since scans are rare and their reply is long.
 #[inline(never)]
 pub fn scan<K: Control, C: Chains>(
     state: &mut EngineState<K, C>,
@@ -43,7 +43,7 @@ pub fn scan<K: Control, C: Chains>(
     Reply::Values(read_cells(state, t, first, count))
 }
 
-/// Writes the events of a decision that is no scan, and gives the reply: a short one, which is moved at little cost.
+/// Writes the events of a decision that is no scan, and returns the reply as a short one, which is moved at little cost.
 pub fn write<K: Control, C: Chains>(decision: Decision, state: &mut EngineState<K, C>) -> ShortReply
     requires short { IsShort decision }
     requires whole { StateIsWhole K.node_number K.stands C.lists state.old }

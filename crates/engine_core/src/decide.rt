@@ -1,4 +1,4 @@
-//! What a request is answered, before anything is written.
+//! The decision on a request, before anything is written.
 
 ghost use Rattle.std.specs.Prelude.{◌≡◌, ◌&&◌, leb};
 ghost use Rattle.teb_rules.specs.Answer.{answer, answer_new, answer_of};
@@ -20,7 +20,7 @@ use teb_names::{Cause, MOST_TXNS, Refusal, Request, SESSIONS, Session, Spot, Txn
 use teb_rules::Stop;
 use version_chain::Chains;
 
-/// What a request of a session is answered.
+/// Decides a request of a session.
 pub fn decide<K: Control, C: Chains>(
     view: &EngineView<K, C>,
     session: Session,
@@ -42,14 +42,14 @@ pub fn decide<K: Control, C: Chains>(
     }
 }
 
-/// Whether a session's number is one of 1 to `SESSIONS`.
+/// Returns whether a session's number is one of 1 to `SESSIONS`.
 fn is_session(session: Session) -> bool
     ensures { result ≡ (leb 1 session.0 && leb session.0 SESSIONS) }
 {
     (1..=SESSIONS).contains(&session.0)
 }
 
-/// What a session is answered that holds nothing.
+/// Decides a request of a session that holds nothing.
 fn decide_new<K: Control, C: Chains>(
     view: &EngineView<K, C>,
     session: Session,
@@ -96,7 +96,7 @@ fn decide_begin<K: Control, C: Chains>(
     )
 }
 
-/// The notice of an abort that came by a cascade.
+/// Decides that a session is told of an abort by a cascade.
 fn tell<K: Control, C: Chains>(view: &EngineView<K, C>, t: Txn) -> Decision
     requires { ViewIsWhole K.node_number K.stands C.lists view.now }
     ensures answer { carried (store_in view.now) (events_in view.now) result ≡ told (events_in view.now) t.0 }
@@ -106,7 +106,7 @@ fn tell<K: Control, C: Chains>(view: &EngineView<K, C>, t: Txn) -> Decision
     Decision::Grant(ShortReply::Aborted(cause), Event::Told(t))
 }
 
-/// What the request of an unfinished transaction is answered.
+/// Decides a request of an unfinished transaction.
 fn decide_of<K: Control, C: Chains>(asking: &Asking<'_, K, C>, request: Request) -> Decision
     requires whole { ViewIsWhole K.node_number K.stands C.lists asking.now.view.now }
     ensures answer { carried (store_in asking.now.view.now) (events_in asking.now.view.now) result ≡ answer_of (store_in asking.now.view.now) (events_in asking.now.view.now) asking.now.txn.0 request }

@@ -1,4 +1,4 @@
-//! What the engine does with a request.
+//! Decisions: what the engine does on a request.
 
 ghost use Rattle.std.specs.Prelude.{◌≡◌, List};
 ghost use Rattle.teb_history.specs.declared.Event.{Event};
@@ -26,20 +26,20 @@ pub enum Decision {
         value: Option<i64>,
         place: Place,
     },
-    /// The transaction reads so many cells from this one on.
+    /// The transaction reads this many cells, from this one on.
     Scan(Txn, Cell, u8),
-    /// The transaction is aborted, and all that have to fall with it.
+    /// The transaction is aborted, with its cascade.
     Fall(Txn, Cause),
 }
 
-/// A refusal.
+/// Returns a refusal.
 pub fn refused(why: Refusal) -> Decision
     ensures { result ≡ Decision.Answer (ShortReply.Refused why) }
 {
     Decision::Answer(ShortReply::Refused(why))
 }
 
-/// What a stop makes of a request of t. Nobody waits for a transaction of greater number.
+/// Returns what a stop makes of a request of t. A wait for a transaction of greater number becomes an abort.
 pub fn stopped(t: Txn, stop: Stop) -> Decision
     requires { stop ≡ Stop.Go → ⊥ }
     ensures { (X : Store) (H : List Event) → IsStopped X H t.0 stop result }
@@ -54,7 +54,7 @@ pub fn stopped(t: Txn, stop: Stop) -> Decision
     }
 }
 
-/// The cause that a break at a node gives.
+/// Returns the cause that a break at a node gives.
 fn cause_at(node: Node, broken: Broken) -> Cause
     ensures { result ≡ cause_at node broken }
 {

@@ -31,14 +31,14 @@ use teb_history::History;
 use teb_names::{MOST_TXNS, Reply, Request, Session};
 use version_chain::Chains;
 
-/// A store with its history, and the answers that go on with it. Contracts see the store, its names, the events, the
+/// A store with its history, which answers requests. Contracts see the store, its names, the events, the
 /// newest first, and whether there is room for an answer.
 pub struct Engine<C: Chains> {
     state: Box<EngineState<AnyControl, C>>,
     ready: bool,
 }
 
-/// A call of its own, so that no owner has to prove anew how a state is dropped.
+/// Hand-written `Drop`, so that callers do not re-prove the drop glue.
 impl<C: Chains> Drop for Engine<C> {
     fn drop(self) {
         let Engine {
@@ -61,7 +61,7 @@ impl<C: Chains> Model for Engine<C> {
 }
 
 impl<C: Chains> Engine<C> {
-    /// The engine of a store that is set up so, over chains with no version. Nothing has happened yet.
+    /// Returns the engine of a store with this setup, over chains with no version. Nothing has happened yet.
     pub fn new(alloc: Global, setup: Setup, chains: C) -> Result<Self, AllocError>
         requires setup { IsWhole (setup_view setup) }
         requires chains { (x : Cell) → C.lists chains x ≡ [] }
@@ -77,7 +77,10 @@ impl<C: Chains> Engine<C> {
         })
     }
 
-    /// Makes room for the events of one answer. An `Err` leaves all as it was.
+    /// Makes room for the events of one answer.
+    ///
+    /// # Errors
+    /// Out of memory. Everything is unchanged.
     #[inline(always)]
     pub fn ready(&mut self) -> Result<(), AllocError>
         ensures store { self.new.store ≡ self.old.store }
@@ -94,10 +97,12 @@ impl<C: Chains> Engine<C> {
         Ok(())
     }
 
-    /// Makes room for so many events in the list of events itself, and for the transactions that they may be of in what is kept of each, so
-    /// that neither need move as they come: of use to who knows how many requests follow. Registers that are searched by hash are left to
-    /// grow, since they cost time when they are larger than what they hold. `ready` still has to make the room for each answer. An `Err`
-    /// leaves all as it was, but for that room.
+    /// Makes room for `events` events in the list of events, and for as many transactions in what is kept of each, so that neither has to move
+    /// as they come. It is useful if the number of requests to follow is known. Registers that are searched by hash are left to grow, since
+    /// they cost time if they are larger than what they hold. `ready` still has to make the room for each answer.
+    ///
+    /// # Errors
+    /// Out of memory. Some of that room may have been made; everything else is unchanged.
     pub fn reserve_ahead(&mut self, events: usize) -> Result<(), AllocError>
         ensures store { self.new.store ≡ self.old.store }
         ensures names { self.new.names ≡ self.old.names }
@@ -144,7 +149,7 @@ impl<C: Chains> Engine<C> {
         }
     }
 
-    /// What has happened so far: a history of the store to which requests lead, each event of which the rules granted.
+    /// Returns the history so far. Some list of requests leads to it, and the rules granted each of its events.
     pub fn history(&self) -> &History
         ensures events { result.now.events ≡ self.now.events }
         ensures sound { IsSound self.now.store.setup }
@@ -154,7 +159,7 @@ impl<C: Chains> Engine<C> {
         &self.state.history
     }
 
-    /// What the store is set up with.
+    /// Returns what the store is set up with.
     pub fn setup(&self) -> &Setup
         ensures store { store_of result.now ≡ self.now.store }
         ensures names { result.now.names ≡ self.now.names }
@@ -163,28 +168,28 @@ impl<C: Chains> Engine<C> {
         &self.state.setup
     }
 
-    /// The versions of the cells.
+    /// Returns the versions of the cells.
     pub fn chains(&self) -> &C
         ensures { HoldsVersions self.now.store.setup self.now.events (C.lists result.now) }
     {
         &self.state.chains
     }
 
-    /// The controls of the nodes, in ascending number.
+    /// Returns the controls of the nodes, in ascending number.
     pub fn controls(&self) -> &[AnyControl]
         ensures { StandAll any_node_number any_stands result.now self.now.store.setup self.now.events }
     {
         &self.state.controls
     }
 
-    /// Who read and who put each cell, whom each transaction read from, and which transactions are unfinished.
+    /// Returns the readers and writers of each cell, the transactions that each one read from, and the unfinished transactions.
     pub fn book(&self) -> &Book
         ensures { BookOf result.now.lists self.now.events }
     {
         &self.state.book
     }
 
-    /// The history alone.
+    /// Returns the history, and drops the rest.
     pub fn into_history(self) -> History
         ensures { result.events ≡ self.events }
     {
@@ -196,7 +201,7 @@ impl<C: Chains> Engine<C> {
     }
 }
 
-/// What an engine keeps of an empty history.
+/// Returns what an engine keeps of an empty history.
 fn new_state<C: Chains>(
     alloc: Global,
     setup: Setup,

@@ -21,9 +21,8 @@ use teb_history::History;
 use teb_names::{Cell, Request, Session, Txn};
 use version_chain::Chains;
 
-/// A store with its history, and what is kept of the history: a control for each node, the versions, who read from whom,
-/// where each transaction stands in its profile, which one each session began last, and for how many more events there is room
-/// in all of it.
+/// A store with its history, and what is kept of the history: a control for each node, the versions, the dependencies, the
+/// cursor of each transaction, which one each session began last, and for how many more events there is room in all of it.
 #[derive(Drop)]
 pub struct EngineState<K: Control, C: Chains> {
     pub setup: Setup,
@@ -39,7 +38,7 @@ pub struct EngineState<K: Control, C: Chains> {
 impl<K: Control, C: Chains> EngineState<K, C> {
     ghost use Rattle.engine_core.specs.Wholes.{store_in, StateIsWhole};
 
-    /// All of it, lent to be read.
+    /// Lends all of it, to be read.
     pub fn view(&self) -> EngineView<'_, K, C>
         ensures store { store_in result ≡ store_of self.now.setup }
         ensures history { result.facts.history.now ≡ self.now.history }
@@ -51,7 +50,7 @@ impl<K: Control, C: Chains> EngineState<K, C> {
         }
     }
 
-    /// What a request of a session is answered.
+    /// Decides a request of a session.
     pub fn decide(&self, session: Session, request: Request) -> Decision
         requires whole { StateIsWhole K.node_number K.stands C.lists self.now }
         requires settled { Settled self.now.history.events }
@@ -61,7 +60,7 @@ impl<K: Control, C: Chains> EngineState<K, C> {
         decide(&self.view(), session, request)
     }
 
-    /// What an unfinished transaction reads of a cell: from whom, and the value.
+    /// Returns what an unfinished transaction reads of a cell: the writer, and the value.
     pub fn read(&self, t: Txn, cell: Cell) -> (Txn, Option<i64>)
         requires whole { StateIsWhole K.node_number K.stands C.lists self.now }
         requires settled { Settled self.now.history.events }
@@ -73,7 +72,7 @@ impl<K: Control, C: Chains> EngineState<K, C> {
     }
 }
 
-/// What controls are told.
+/// Returns the facts that controls are told.
 pub fn facts_of<'a>(history: &'a History, setup: &'a Setup) -> Facts<'a>
     ensures setup { setup_of result ≡ (store_of setup.now).setup }
     ensures history { result.history.now ≡ history.now }

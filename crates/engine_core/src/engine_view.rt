@@ -1,4 +1,4 @@
-//! What a decision looks at: what an engine keeps, lent, and the `Facts` of it, which controls are told.
+//! What a decision looks at: what an engine keeps, lent, and the `Facts` that controls are told.
 
 ghost use Rattle.std.specs.Prelude.{◌≡◌, ◌<◌, ltb, length, IsTrue, slice_get, Some};
 ghost use Rattle.teb_rules.specs.Versions.{read};
@@ -12,7 +12,7 @@ use phase_api::{Control, Facts};
 use teb_names::{Cell, Kind, Node, Spot, Table, Txn};
 use version_chain::Chains;
 
-/// What an engine keeps, lent to be read, and what controls are told of it. It is five words, made anew at each request.
+/// What an engine keeps, lent to be read, and the facts that controls are told. It is five words, made at each request.
 #[derive(Drop)]
 pub struct EngineView<'a, K: Control, C: Chains> {
     pub facts: Facts<'a>,
@@ -22,21 +22,21 @@ pub struct EngineView<'a, K: Control, C: Chains> {
 impl<'a, K: Control, C: Chains> EngineView<'a, K, C> {
     ghost use Rattle.engine_core.specs.Wholes.{store_in, events_in, ViewIsWhole};
 
-    /// Whether the store has a table.
+    /// Returns whether the store has a table.
     pub fn has_table(&self, table: Table) -> bool
         ensures { result ≡ ltb table.0 (store_in self.now).tables }
     {
         table.0 < self.state.setup.names.tables.len()
     }
 
-    /// Whether the store has a type.
+    /// Returns whether the store has a type.
     pub fn has_type(&self, kind: Kind) -> bool
         ensures { result ≡ ltb kind.0 (store_in self.now).setup.types }
     {
         kind.0 < self.facts.tree.types()
     }
 
-    /// The type and the instance of an unfinished transaction.
+    /// Returns the type and the instance of an unfinished transaction.
     pub fn spot_of(&self, t: Txn) -> Spot
         requires whole { ViewIsWhole K.node_number K.stands C.lists self.now }
         requires unfinished { IsTrue (unfinished (events_in self.now) t.0) }
@@ -49,7 +49,7 @@ impl<'a, K: Control, C: Chains> EngineView<'a, K, C> {
         spot
     }
 
-    /// The control of a node.
+    /// Returns the control of a node.
     pub fn control_at(&self, n: Node) -> &'a K
         requires whole { ViewIsWhole K.node_number K.stands C.lists self.now }
         requires node { n.0 < length (store_in self.now).setup.tree }
@@ -59,7 +59,7 @@ impl<'a, K: Control, C: Chains> EngineView<'a, K, C> {
         &self.state.controls[usize::from(n.0)]
     }
 
-    /// What an unfinished transaction reads of a cell: from whom, and the value.
+    /// Returns what an unfinished transaction reads of a cell: the writer, and the value.
     pub fn read(&self, t: Txn, cell: Cell) -> (Txn, Option<i64>)
         requires whole { ViewIsWhole K.node_number K.stands C.lists self.now }
         requires unfinished { IsTrue (unfinished (events_in self.now) t.0) }
@@ -77,7 +77,7 @@ impl<'a, K: Control, C: Chains> EngineView<'a, K, C> {
         )
     }
 
-    /// The place that the version of an unfinished transaction has, or would have, in the chain of a cell.
+    /// Returns the place that the version of an unfinished transaction has, or would have, in the chain of a cell.
     pub fn place_of(&self, t: Txn, cell: Cell) -> Place
         requires whole { ViewIsWhole K.node_number K.stands C.lists self.now }
         requires unfinished { IsTrue (unfinished (events_in self.now) t.0) }

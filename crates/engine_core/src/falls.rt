@@ -1,4 +1,4 @@
-//! An abort, with all that fall with it.
+//! An abort, with its cascade.
 
 ghost use Rattle.std.specs.Prelude.{◌≡◌, ◌≤◌, IsTrue};
 ghost use Rattle.teb_history.specs.Phases.{unfinished};
@@ -16,7 +16,7 @@ use teb_history::Event;
 use teb_names::{Cause, Txn};
 use version_chain::Chains;
 
-/// Aborts an unfinished transaction, and then all that have to fall with it, in ascending number.
+/// Aborts an unfinished transaction, and then its cascade, in ascending number.
 pub fn fall<K: Control, C: Chains>(state: &mut EngineState<K, C>, t: Txn, cause: Cause)
     requires whole { StateIsWhole K.node_number K.stands C.lists state.old }
     requires settled { Settled state.old.history.events }

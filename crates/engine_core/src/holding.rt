@@ -20,7 +20,7 @@ pub enum Holding {
     Running { txn: Txn, is_prepared: bool },
 }
 
-/// What a session holds: the transaction that it began last, if that is live. It costs one look.
+/// Returns what a session holds: the transaction that it began last, if that is live. It costs one look.
 pub fn held<K: Control, C: Chains>(view: &EngineView<K, C>, session: Session) -> Holding
     requires { ViewIsWhole K.node_number K.stands C.lists view.now }
     ensures { IsHeld (events_in view.now) session result }

@@ -1,4 +1,4 @@
-//! Versions and cursors keep up with the history.
+//! Noting an event in the versions and the cursors.
 
 ghost use Rattle.std.specs.Prelude.{◌≡◌, ◌<◌, ◌≤◌, ◌+◌, ◌∷◌, List, length, drop};
 ghost use Rattle.teb_history.specs.declared.Event.{Event};
@@ -19,8 +19,8 @@ use teb_history::Event;
 use teb_names::{Cell, Txn};
 use version_chain::Chains;
 
-/// The versions after an event: a Put gives its transaction's version the value, at the place, and an abort takes
-/// away all versions of its transaction.
+/// Notes the newest event in the versions: a Put gives its transaction's version the value, at the place, and an abort removes all
+/// versions of its transaction.
 #[inline(always)]
 pub fn keep_versions<C: Chains>(chains: &mut C, event: Event, place: Place)
     requires room { 0 < C.spare chains.old }
@@ -41,7 +41,7 @@ pub fn keep_versions<C: Chains>(chains: &mut C, event: Event, place: Place)
     }
 }
 
-/// The cursors after the newest event: a transaction that begins stands at step 0, and an access moves its transaction.
+/// Notes the newest event in the cursors: a transaction that begins is at step 0, and an access moves its transaction.
 #[inline(always)]
 pub fn keep_cursors(cursors: &mut Cursors, facts: &Facts, event: Event)
     requires newest { events_of facts.now ≡ event ∷ drop 1 (events_of facts.now) }

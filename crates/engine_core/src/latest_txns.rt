@@ -8,7 +8,7 @@ use std::marker::Model;
 use teb_history::Event;
 use teb_names::{Session, Txn};
 
-/// For each session the transaction that it began last, and 0 where it began none. Contracts see their list.
+/// For each session the transaction that it began last, or 0 if it began none. Contracts see their list.
 #[derive(Drop)]
 pub struct LatestTxns {
     // By the session's number.
@@ -25,7 +25,7 @@ impl Model for LatestTxns {
 }
 
 impl LatestTxns {
-    /// Nobody began one.
+    /// Returns the list in which no session has begun a transaction.
     pub fn new() -> Self
         ensures { AreLatest result [] }
     {
@@ -34,14 +34,14 @@ impl LatestTxns {
         }
     }
 
-    /// That of a session.
+    /// Returns the transaction that a session began last, or 0.
     pub fn of(&self, session: Session) -> Txn
         ensures { result ≡ listed self.now session.0 }
     {
         self.txns[usize::from(session.0)]
     }
 
-    /// An event is noted.
+    /// Notes an event.
     #[inline(always)]
     pub fn note(&mut self, event: Event)
         ensures { (H : List Event) → AreLatest self.old H → AreLatest self.new (event ∷ H) }

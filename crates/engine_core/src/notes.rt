@@ -1,4 +1,4 @@
-//! Each control is told of each event.
+//! Noting an event in each control.
 
 ghost use Rattle.std.specs.Prelude.{◌≡◌, ◌<◌, ◌≤◌, ℕ, suc, List, drop, length, OnOk, ◌∷◌};
 ghost use Rattle.teb_history.specs.declared.Event.{Event};
@@ -14,7 +14,7 @@ use std::alloc::AllocError;
 use store_setup::Setup;
 use teb_history::{Event, History};
 
-/// The control of each node notes the newest event.
+/// Notes the newest event in the control of each node.
 #[inline(always)]
 pub fn note_each<K: Control>(controls: &mut Vec<K>, history: &History, setup: &Setup, event: Event)
     requires stand { StandAll K.node_number K.stands controls.old.items (store_of setup.now).setup (drop 1 history.now.events) }
@@ -31,7 +31,10 @@ pub fn note_each<K: Control>(controls: &mut Vec<K>, history: &History, setup: &S
     }
 }
 
-/// Makes room for n events in the control of each node. They stand for what they stood for, also after an `Err`.
+/// Makes room for n events in the control of each node. They stand for the same history as before.
+///
+/// # Errors
+/// Out of memory.
 pub fn reserve_each<K: Control>(controls: &mut Vec<K>, n: usize) -> Result<(), AllocError>
     ensures stand { (S : Rules) (H : List Event) → StandAll K.node_number K.stands controls.old.items S H → StandAll K.node_number K.stands controls.new.items S H }
     ensures room { OnOk result (RoomFor K.spare n controls.new.items) }

@@ -1,5 +1,5 @@
-//! The place of the version that a Put is about to write: it is looked for before the nodes are asked where one of them orders
-//! versions by it, and else once the Put is granted.
+//! The place of the version that a Put is about to write. If a node on the path orders versions by it, it is looked for before
+//! the nodes are asked; otherwise once the Put is granted.
 
 ghost use Rattle.std.specs.Prelude.{◌≡◌, ◌<◌, All, IfSome, length};
 ghost use Rattle.std.specs.List.{list_any};
@@ -17,7 +17,7 @@ use phase_api::Control;
 use teb_names::{Cell, ControlKind, Node};
 use version_chain::Chains;
 
-/// The place of t's version of a cell, where a timestamp node is on t's path.
+/// Returns the place of t's version of a cell, if a timestamp node is on t's path.
 pub fn asked_place<K: Control, C: Chains>(asking: &Asking<'_, K, C>, cell: Cell) -> Option<Place>
     requires whole { ViewIsWhole K.node_number K.stands C.lists asking.now.view.now }
     ensures placed { IfSome result (λ p. IsPlaced (store_in asking.now.view.now).setup (events_in asking.now.view.now) (C.lists asking.now.view.now.state.now.chains) asking.now.txn.0 cell p) }
@@ -31,15 +31,15 @@ pub fn asked_place<K: Control, C: Chains>(asking: &Asking<'_, K, C>, cell: Cell)
     }
 }
 
-/// The number of a place that was asked for.
+/// Returns the number of a place that was asked for.
 pub fn at_of(asked: Option<Place>) -> Option<usize>
     ensures { result ≡ at_of asked }
 {
     asked.map(|place| place.at)
 }
 
-/// The place of t's version of a cell, which is asked for already where a timestamp node is on t's path. Where none is, no control
-/// need be asked.
+/// Returns the place of t's version of a cell, which was asked for already if a timestamp node is on t's path. If none is, no control has
+/// to be asked.
 pub fn granted_place<K: Control, C: Chains>(
     asking: &Asking<'_, K, C>,
     asked: Option<Place>,
@@ -57,7 +57,7 @@ pub fn granted_place<K: Control, C: Chains>(
     }
 }
 
-/// Whether a timestamp node is among some nodes.
+/// Returns whether a timestamp node is among some nodes.
 fn has_timestamp(tree: &Tree, nodes: &[Node]) -> bool
     requires { All (λ n. n.0 < length tree.now.rows) nodes.now }
     ensures { result ≡ list_any (λ n. is_timestamp (row tree.now.rows n).control) (node_numbers nodes.now) }

@@ -1,4 +1,4 @@
-//! The cells of a scan are read.
+//! Reading the cells of a scan.
 
 ghost use Rattle.std.specs.Prelude.{◌≡◌, ◌≤◌, ◌+◌, ◌^◌};
 ghost use Rattle.teb_rules.specs.Answer.{cells_from, read_all};
@@ -16,7 +16,7 @@ use teb_history::Event;
 use teb_names::{Cell, ScanList, Txn};
 use version_chain::Chains;
 
-/// Reads the cells one after the other, and gives their values. Each is read from the history that has the reads before it.
+/// Reads the cells one after the other, and returns their values. Each is read in the history with the reads before it.
 pub fn read_cells<K: Control, C: Chains>(
     state: &mut EngineState<K, C>,
     t: Txn,

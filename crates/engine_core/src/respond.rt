@@ -16,12 +16,12 @@ use short_reply::ShortReply;
 use teb_names::{Cell, Request, Session, Txn};
 use version_chain::Chains;
 
-/// What came of a request.
+/// The outcome of a request.
 #[derive(Clone, Copy)]
 pub enum Response {
-    /// The reply: all is done.
+    /// The reply; everything is written.
     Reply(ShortReply),
-    /// The transaction reads so many cells from this one on, and nothing is written yet.
+    /// The transaction reads this many cells, from this one on, and nothing is written yet.
     Scan(Txn, Cell, u8),
 }
 

@@ -13,10 +13,13 @@ use version_chain::Chains;
 /// The most events of one answer: an abort takes one transaction of each other session with it at most, and a scan reads 16 cells.
 pub(crate) const MOST_EVENTS: usize = SESSIONS as usize;
 
-/// For how many events room is made at a time.
+/// Room is made for this many events at a time.
 const AHEAD: usize = 256;
 
-/// Makes room for one answer, where there is less. All stands for what it stood for, also after an `Err`.
+/// Makes room for one answer, if there is less. Everything stands for the same history as before.
+///
+/// # Errors
+/// Out of memory.
 #[inline(always)]
 pub fn make_room<K: Control, C: Chains>(state: &mut EngineState<K, C>) -> Result<(), AllocError>
     requires whole { StateIsWhole K.node_number K.stands C.lists state.old }
@@ -33,7 +36,7 @@ pub fn make_room<K: Control, C: Chains>(state: &mut EngineState<K, C>) -> Result
     make_room_ahead(state)
 }
 
-/// Makes room ahead. It stands apart, so that the test for room is inlined.
+/// Makes room ahead. It is a separate function, so that the test for room is inlined.
 #[cold]
 #[inline(never)]
 fn make_room_ahead<K: Control, C: Chains>(state: &mut EngineState<K, C>) -> Result<(), AllocError>
@@ -50,7 +53,10 @@ fn make_room_ahead<K: Control, C: Chains>(state: &mut EngineState<K, C>) -> Resu
     Ok(())
 }
 
-/// Makes room for n events in all that is kept. It stands for what it stood for, also after an `Err`.
+/// Makes room for n events in all that is kept. Everything stands for the same history as before.
+///
+/// # Errors
+/// Out of memory.
 fn reserve<K: Control, C: Chains>(state: &mut EngineState<K, C>, n: usize) -> Result<(), AllocError>
     requires { StateIsWhole K.node_number K.stands C.lists state.old }
     ensures whole { StateIsWhole K.node_number K.stands C.lists state.new }

@@ -1,4 +1,4 @@
-//! What a scan is answered: so many cells of a table are read, in ascending order of keys.
+//! The answer to a scan: cells with consecutive keys are read, in ascending order.
 
 ghost use Rattle.std.specs.Prelude.{◌≡◌, ◌≤◌, ◌<◌, ◌+◌, ◌^◌};
 ghost use Rattle.teb_names.specs.declared.Request.TheVariants as request;
@@ -18,7 +18,7 @@ use teb_names::{Cell, Refusal};
 use teb_rules::Stop;
 use version_chain::Chains;
 
-/// Reads so many cells.
+/// Decides a scan of `count` cells.
 pub fn decide_scan<K: Control, C: Chains>(
     asking: &Asking<'_, K, C>,
     first: Cell,
@@ -40,7 +40,7 @@ pub fn decide_scan<K: Control, C: Chains>(
     }
 }
 
-/// Whether there are 1 to 16 cells, the last of which has a key.
+/// Returns whether there are 1 to 16 cells, the last of which has a key.
 fn is_scan(first: Cell, count: u8) -> bool
     ensures { result ≡ is_scan first count }
 {
@@ -48,7 +48,7 @@ fn is_scan(first: Cell, count: u8) -> bool
     (1..=16).contains(&count) && after <= 1 << 32
 }
 
-/// The cell that stands so many keys after the first.
+/// Returns the cell whose key is `i` greater than that of the first.
 pub fn cell_at(first: Cell, i: u8) -> Cell
     requires { first.key + i < 2 ^ 32 }
     ensures { result ≡ cell_at first i }
@@ -59,7 +59,7 @@ pub fn cell_at(first: Cell, i: u8) -> Cell
     }
 }
 
-/// Where a scan stops: at the first cell whose read stops.
+/// Returns the stop of a scan: that of the first cell whose read stops.
 fn scan_stop<K: Control, C: Chains>(asking: &Asking<'_, K, C>, first: Cell, count: u8) -> Stop
     requires whole { ViewIsWhole K.node_number K.stands C.lists asking.now.view.now }
     requires asks { IsAsking (store_in asking.now.view.now).setup (events_in asking.now.view.now) asking.now.txn.0 first }

@@ -1,4 +1,4 @@
-//! Where a request stops: at the first node from the root that waits or breaks.
+//! The stop of a request: that of the first node from the root that waits or breaks.
 
 ghost use Rattle.std.specs.Prelude.{◌≡◌, ◌<◌, true, false};
 ghost use Rattle.teb_rules.specs.Stops.{stop_with, access_stop, prepare_stop, commit_stop, begin_stop};
@@ -15,7 +15,7 @@ use teb_names::{Cell, Node, Spot};
 use teb_rules::{Stop, Verdict};
 use version_chain::Chains;
 
-/// Where a read stops.
+/// Returns the stop of a read.
 #[inline(always)]
 pub fn read_stop<K: Control, C: Chains>(asking: &Asking<'_, K, C>, cell: Cell) -> Stop
     requires whole { ViewIsWhole K.node_number K.stands C.lists asking.now.view.now }
@@ -35,7 +35,7 @@ pub fn read_stop<K: Control, C: Chains>(asking: &Asking<'_, K, C>, cell: Cell) -
     Stop::Go
 }
 
-/// Where a write stops, whose version has, or would have, the place `at`.
+/// Returns the stop of a write, whose version has, or would have, the place `at`.
 pub fn write_stop<K: Control, C: Chains>(
     asking: &Asking<'_, K, C>,
     cell: Cell,
@@ -59,7 +59,7 @@ pub fn write_stop<K: Control, C: Chains>(
     Stop::Go
 }
 
-/// Where a Prepare stops.
+/// Returns the stop of a Prepare.
 pub fn prepare_stop<K: Control, C: Chains>(asking: &Asking<'_, K, C>) -> Stop
     requires whole { ViewIsWhole K.node_number K.stands C.lists asking.now.view.now }
     ensures { result ≡ prepare_stop (store_in asking.now.view.now).setup (events_in asking.now.view.now) asking.now.txn.0 }
@@ -74,7 +74,7 @@ pub fn prepare_stop<K: Control, C: Chains>(asking: &Asking<'_, K, C>) -> Stop
     Stop::Go
 }
 
-/// Where a Commit stops.
+/// Returns the stop of a Commit.
 pub fn commit_stop<K: Control, C: Chains>(asking: &Asking<'_, K, C>) -> Stop
     requires whole { ViewIsWhole K.node_number K.stands C.lists asking.now.view.now }
     ensures { result ≡ commit_stop (store_in asking.now.view.now).setup (events_in asking.now.view.now) asking.now.txn.0 }
@@ -88,7 +88,7 @@ pub fn commit_stop<K: Control, C: Chains>(asking: &Asking<'_, K, C>) -> Stop
     )
 }
 
-/// Where a Begin stops.
+/// Returns the stop of a Begin.
 pub fn begin_stop<K: Control, C: Chains>(view: &EngineView<K, C>, spot: Spot) -> Stop
     requires whole { ViewIsWhole K.node_number K.stands C.lists view.now }
     requires kind { spot.kind.0 < (store_in view.now).setup.types }
@@ -104,7 +104,7 @@ pub fn begin_stop<K: Control, C: Chains>(view: &EngineView<K, C>, spot: Spot) ->
     Stop::Go
 }
 
-/// The stop that a node's verdict makes.
+/// Returns the stop that follows from a node's verdict.
 fn stop_at(node: Node, verdict: Verdict) -> Stop
     ensures { result ≡ stop_with node.0 verdict Stop.Go }
 {

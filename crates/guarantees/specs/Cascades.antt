@@ -1,4 +1,4 @@
--- Trees in which an abort takes nobody with it.
+-- Trees in which an abort takes no other transaction with it.
 use Rattle.std.specs.Prelude.{◌≡◌, ◌≢◌, ℕ, List, [], Some, IsTrue}
 use Rattle.teb_names.specs.declared.Txn.{Txn}
 use Rattle.teb_names.specs.declared.Session.{Session}
@@ -12,12 +12,12 @@ use Rattle.teb_rules.specs.Cascade.{cascade}
 use Rattle.teb_rules.specs.Answer.{answer}
 use Rattle.guarantees.specs.Shapes.{HidesUncommitted}
 
--- an abort takes nobody with it, nobody was aborted after another, and nobody is told of it
+-- an abort takes no other transaction with it, no cause is After, and no session is told After
 pub record HasNoCascade (X : Store) (H : List Event) : Type 0 where
   pub alone : (t : ℕ) → IsTrue (unfinished H t) → cascade H t ≡ []
   pub none_after : (t : ℕ) (u : Txn) → cause_of H t ≢ Some (After u)
   pub told : (s : Session) (r : Request) (u : Txn) → (answer X H s r).0 ≢ Aborted (After u)
 
--- so it is where every node is a locks or a snapshot node
+-- this holds if every node is a locks or a snapshot node
 abbrev pub AbortsAlone : Store → List Event → Type 0
 AbortsAlone X H = HidesUncommitted X.setup → HasNoCascade X H

@@ -26,7 +26,7 @@ use Rattle.teb_rules.specs.Serializes.{In}
 use Rattle.teb_rules.specs.Answer.{answer, cells_from}
 use Rattle.teb_laws.specs.Laws.{is_read}
 
--- t read x from w, which stands in the history
+-- t read x from w: the history has that event
 abbrev pub HasRead : List Event → ℕ → Cell → ℕ → Type 0
 HasRead H t x w = IsTrue (list_any (is_read t x w) H)
 
@@ -105,7 +105,7 @@ pub record IsAfter (H : List Event) (t : ℕ) (u : Txn) : Type 0 where
   pub read : HasRead H t cell u.0
   pub put : IsTrue (wrote H u.0 cell)
 
--- what a cause names that t, which asks r, is told after H
+-- what a cause names that is told, after H, as the answer to the request r of t
 abbrev pub IsGrounded : Setup → List Event → Request → ℕ → Cause → Type 0
 IsGrounded S H r t (Late n u x) = IsTooLate S H r t n.0 u.0 x
 IsGrounded S H r t (First n u x) = IsSecond S H r t n.0 u.0 x
@@ -115,14 +115,15 @@ IsGrounded S H r t (After u) = IsAfter H t u
 IsGrounded S H r t Asked = (r ≡ Abort) × IsTrue (unfinished H t)
 IsGrounded S H r t Ended = (r ≡ End) × IsTrue (unfinished H t)
 
--- the session s that is told c as the answer to r holds a transaction t, to which c names its cause; and c is the cause that the history keeps
+-- the session s, which is told c as the answer to r, holds a transaction t; c names its cause, and the history keeps c
 pub record NamesCause (X : Store) (H : List Event) (s : Session) (r : Request) (c : Cause) : Type 0 where
   pub txn : ℕ
   pub holds : held H s.0 ≡ Some txn
   pub grounds : IsGrounded X.setup H r txn c
   pub kept : cause_of (answer X H s r).1 txn ≡ Some c
 
--- every abort that is told names its cause; whoever else an answer aborts read from one that it leaves aborted; and each such cause that is kept is true
+-- every abort that is told names its cause; every other transaction that an answer aborts read from one that it leaves aborted; and each
+-- such cause that is kept is true
 pub record NamesCauses (X : Store) (H : List Event) : Type 0 where
   pub told : (s : Session) (r : Request) (c : Cause) → (answer X H s r).0 ≡ Aborted c → NamesCause X H s r c
   pub others : (s : Session) (r : Request) (v : ℕ) → IsFalse (aborted H v) → IsTrue (aborted (answer X H s r).1 v) → held H s.0 ≢ Some v → (u : Txn) × IsAfter (answer X H s r).1 v u

@@ -8,11 +8,11 @@ use Rattle.teb_rules.specs.Ranks.{serial_order}
 use Rattle.teb_rules.specs.Serializes.{StandsBefore}
 use Rattle.guarantees.specs.Shapes.{orders_by_commits, keeps_time}
 
--- a transaction that committed before another one began stands before it in the serial order
+-- a transaction that committed before another one began precedes it in the serial order
 abbrev pub KeepsRealTime : Setup → List Event → Type 0
 KeepsRealTime S H = (t u : ℕ) → IsTrue (committed H t) → IsTrue (committed H u) → done_at H t < began_at H u → StandsBefore (serial_order S H) t u
 
--- so it is where the root orders by commits, is a leaf, or admits one transaction a batch
+-- this holds if the root orders by commits, is a leaf, or admits one transaction a batch
 abbrev pub IsStrict : Setup → List Event → Type 0
 IsStrict S H = IsTrue (keeps_time S) → KeepsRealTime S H
 
@@ -26,6 +26,6 @@ commit_order (_ ∷ P) = commit_order P
 abbrev pub FollowsCommits : Setup → List Event → Type 0
 FollowsCommits S H = serial_order S H ≡ commit_order H
 
--- so it is where the root is a locks or a pipeline node, whatever stands below it
+-- this holds if the root is a locks or a pipeline node, whatever is below it
 abbrev pub IsCommitOrdered : Setup → List Event → Type 0
 IsCommitOrdered S H = IsTrue (orders_by_commits S) → FollowsCommits S H

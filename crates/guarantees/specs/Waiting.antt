@@ -1,4 +1,4 @@
--- Who waits for whom: no deadlock.
+-- The wait-for graph: no deadlock.
 use Rattle.std.specs.Prelude.{◌≡◌, ◌≢◌, ℕ, ◌≤◌, List, Some, IsTrue}
 use Rattle.teb_names.specs.declared.Txn.{Txn}
 use Rattle.teb_names.specs.declared.Node.{Node}
@@ -23,7 +23,7 @@ pub data Leads (R : ℕ → ℕ → Type 0) : ℕ → ℕ → Type 0 where
   step : (s z : ℕ) → R s z → Leads R s z
   further : (s y z : ℕ) → R s y → Leads R y z → Leads R s z
 
--- no session waits for itself, over any number of others; and the least-numbered unfinished transaction is never told to wait
+-- no session waits for itself, directly or over others; and the lowest-numbered unfinished transaction is never told to wait
 pub record HasNoDeadlock (X : Store) (H : List Event) : Type 0 where
   pub no_cycle : (s : ℕ) → Leads (WaitsFor X H) s s → ⊥
   pub oldest : (s : Session) (t : ℕ) (r : Request) (u : Txn) (n : Node) → held H s.0 ≡ Some t → ((v : ℕ) → IsTrue (unfinished H v) → t ≤ v) → (answer X H s r).0 ≢ Again u n

@@ -1,5 +1,30 @@
-//! What each tree of controls guarantees, in the field's terms: a law for each, and stores in which a stronger sentence would be false.
-//! The laws are stated in `specs/`; each function here carries one as its contract. They hold of every sound setup and every list of requests.
+//! What each tree of controls guarantees, in the terms of the field.
+//!
+//! Each function has an empty body, and its contract is one law. A law holds of every sound store and every list of requests. If it
+//! needs a shape of the tree, the shape is its only premise (`specs/Shapes`).
+//!
+//! | Law | Guarantee | If |
+//! |---|---|---|
+//! | [`nobody_deadlocks`] | the wait-for graph has no cycle; the lowest-numbered active transaction is never told to wait | |
+//! | [`aborts_name_their_cause`] | what an abort names is true, and is what the history keeps | |
+//! | [`serial_order_keeps_time`] | strict serializability | the root is a locks or a pipeline node, or a leaf, or has batches of one |
+//! | [`serial_order_is_commit_order`] | the serial order is the order of the commits | the root is a locks or a pipeline node |
+//! | [`aborts_stay_alone`] | no cascading aborts | every node is a locks or a snapshot node |
+//! | [`reads_go_on`] | reads neither wait nor break | every node of the path is a timestamp or a snapshot node |
+//!
+//! Three more contracts show where a guarantee ends. Each names a sound store and a list of requests after which the stronger
+//! sentence is false (`Breaks` of `specs/Shapes`): [`greater_batches_lose_time`], [`early_reads_fall`], [`other_reads_wait`]. For the
+//! first, under a timestamp or a snapshot root with batches of two:
+//!
+//! ```text
+//!   session 1, side A   Begin                                           keeps a batch of side A open
+//!   session 2, side B            Begin  Write x  Commit
+//!   session 3, side A                                    Begin  Read x  Commit
+//!
+//!   3 begins after 2 has committed, joins the open batch of 1, and precedes 2 in the serial order: it does not read the write of 2
+//! ```
+//!
+//! **Not claimed**: serializability and recoverability, which hold of every tree and are laws of `teb_laws`; freedom from starvation.
 #![tactic(auto)]
 
 ghost use Rattle.teb_laws.specs.Laws.{OfEveryRun, OfEveryStore};
@@ -12,17 +37,18 @@ ghost use Rattle.guarantees.specs.Reading.{ReadsGoOn, ReadsAreServed};
 ghost use Rattle.guarantees.specs.Cascades.{AbortsAlone, HasNoCascade};
 ghost use Rattle.guarantees.specs.Causes.{NamesCauses};
 
-/// Strict serializability: where the root is a locks or pipeline node, or a leaf, or admits one transaction a batch, what committed before another began stands before it.
+/// Strict serializability: if the root is a locks or a pipeline node, or a leaf, or admits one transaction a batch, a transaction that
+/// committed before another began precedes it in the serial order.
 pub fn serial_order_keeps_time()
     ensures { OfEveryRun IsStrict }
 {}
 
-/// Where the root is a locks or a pipeline node, the serial order is the order of the commits.
+/// If the root is a locks or a pipeline node, the serial order is the order of the commits.
 pub fn serial_order_is_commit_order()
     ensures { OfEveryRun IsCommitOrdered }
 {}
 
-/// No session waits for itself, over any number of others, and the oldest unfinished transaction never waits.
+/// The wait-for graph has no cycle of any length, and the lowest-numbered unfinished transaction never waits.
 pub fn nobody_deadlocks()
     ensures { OfEveryStore HasNoDeadlock }
 {}
@@ -32,7 +58,7 @@ pub fn reads_go_on()
     ensures { OfEveryStore ReadsGoOn }
 {}
 
-/// In a tree of locks and snapshot nodes an abort takes nobody with it.
+/// In a tree of locks and snapshot nodes an abort takes no other transaction with it.
 pub fn aborts_stay_alone()
     ensures { OfEveryStore AbortsAlone }
 {}
@@ -42,7 +68,8 @@ pub fn aborts_name_their_cause()
     ensures { OfEveryStore NamesCauses }
 {}
 
-/// Under a timestamp or a snapshot root with batches of two, a transaction that begins after another committed can stand before it; so the serial order is not that of the commits.
+/// Under a timestamp or a snapshot root with batches of two, a transaction that begins after another committed may precede it; so the
+/// serial order is not that of the commits.
 pub fn greater_batches_lose_time()
     ensures timestamps { Breaks (λ X H. KeepsRealTime X.setup H) (two_sides Timestamp) late_joiner }
     ensures snapshots { Breaks (λ X H. KeepsRealTime X.setup H) (two_sides Snapshot) late_joiner }

@@ -11,17 +11,17 @@ use Rattle.hold_book.specs.declared.Hold.{Hold}
 use Rattle.hold_book.specs.declared.slots.Alone.{Alone}
 use Rattle.hold_book.specs.Slots.{only_hold, only_or}
 
--- the number of the transaction that holds
+-- the number of the transaction of a hold
 abbrev pub hold_number : Hold → ℕ
 hold_number h = h.txn.0
 
--- what contracts see of a book: the cells that lie in their slots, the holds on the others, and for how many accesses it has room
+-- what contracts see of a book: the cells that are in their slots, the holds on the others, and for how many accesses it has room
 pub record Held : Type 0 where
   pub slots : List (Option Alone)
   pub others : Shown Cell Hold
   pub spare : ℕ
 
--- the holds on x, by what lies in the slots and by the others
+-- the holds on x, by the slots and by the others
 abbrev pub shown_in : List (Option Alone) → Shown Cell Hold → Cell → List Hold
 shown_in ss o x = only_or (only_hold ss x) (values_in cell_cmp o x)
 
@@ -37,7 +37,7 @@ has_put t hs = list_any (λ h. eqb h.txn.0 t && h.wrote) hs
 abbrev pub accessed : Txn → Bool → List Hold → List Hold
 accessed t wrote hs = put_by hold_number (record { txn = t; wrote = wrote || has_put t.0 hs }) hs
 
--- the holds of everybody but t
+-- the holds of all transactions but t
 abbrev pub released : ℕ → List Hold → List Hold
 released t hs = filter (λ h. not (eqb h.txn.0 t)) hs
 
@@ -45,12 +45,12 @@ released t hs = filter (λ h. not (eqb h.txn.0 t)) hs
 pub record IsFiled (holds : Shown Cell Hold) : Type 0 where
   pub ascending : (x : Cell) → IsAscendingBy hold_number (values_in cell_cmp holds x)
 
--- a cell that lies in its slot is held by nobody else
+-- a cell that is in its slot has no other holds
 pub record IsApart (ss : List (Option Alone)) (o : Shown Cell Hold) : Type 0 where
   pub filed : IsFiled o
   pub alone : (x : Cell) → IsTrue (is_some (only_hold ss x)) → values_in cell_cmp o x ≡ []
 
--- an access puts two holds among the others at the most
+-- an access puts at most two holds among the others
 pub record IsBook (ss : List (Option Alone)) (o : Shown Cell Hold) (spare : ℕ) : Type 0 where
   pub apart : IsApart ss o
   pub made : 0 < spare → 1024 ≤ length ss

@@ -20,17 +20,17 @@ use std::marker::Model;
 use teb_history::{Event, History};
 use teb_names::{Cell, Txn};
 
-/// For how many accesses a book makes room at the least.
+/// A book makes room for at least this many accesses.
 const AHEAD: usize = 64;
 
-/// Who holds which cell at a node. Contracts see the holds on each cell, and for how many accesses there is room.
+/// The lock table of a node. Contracts see the holds on each cell, and for how many accesses there is room.
 #[derive(Drop)]
 pub struct HoldBook {
-    // The cells that one transaction alone holds, each in its slot. There are none before the first `reserve`.
+    // The cells that one transaction alone holds, each in its slot. There are no slots before the first `reserve`.
     slots: Vec<Option<Alone>>,
     // By cell: the holds on each other cell, in ascending number.
     others: Multimap<Cell, Hold>,
-    // For how many accesses there is room.
+    // There is room for this many accesses.
     spare: usize,
 }
 
@@ -45,7 +45,7 @@ impl Model for HoldBook {
 }
 
 impl HoldBook {
-    /// A book in which nobody holds a cell. Takes no memory.
+    /// Returns a book in which no cell is held. Takes no memory.
     pub fn new(alloc: Global) -> Self
         ensures shown { (x : Cell) → shown result x ≡ [] }
         ensures empty { (S : Setup) (n : ℕ) → HoldsOf result S [] n }
@@ -57,7 +57,7 @@ impl HoldBook {
         }
     }
 
-    /// Makes room for n accesses. It shows what it showed, also after an `Err`.
+    /// Makes room for n accesses. The holds are unchanged, also on `Err`.
     #[inline(always)]
     pub fn reserve(&mut self, n: usize) -> Result<(), AllocError>
         ensures shown { (x : Cell) → shown self.new x ≡ shown self.old x }
@@ -70,8 +70,8 @@ impl HoldBook {
         self.make_room(n.max(AHEAD))
     }
 
-    /// A transaction accesses a cell: it reads it, or puts it where `wrote` is true. It takes one place of the room at most. It costs a look
-    /// into the cell's bucket, and one at its slot where nobody else holds the cell, and else a search by the cell.
+    /// Notes that a transaction accesses a cell: it puts it if `wrote` is true, and else reads it. It takes at most one place of the room. It
+    /// costs a look into the cell's bucket, and one at its slot if no other transaction holds the cell; otherwise a search by the cell.
     #[inline(always)]
     pub fn access(&mut self, t: Txn, cell: Cell, wrote: bool)
         requires { 0 < self.old.spare }
@@ -79,7 +79,7 @@ impl HoldBook {
         ensures elsewhere { (x : Cell) → IsFalse (same_cell cell x) → shown self.new x ≡ shown self.old x }
         ensures spare { self.old.spare ≤ self.new.spare + 1 }
 
-        // It then stands for the history with the event.
+        // It then shows the history with the event.
         ensures got { (S : Setup) (P : List Event) (n : ℕ) (w : Txn) (v : Option ℤ) → IsFalse wrote → MayHold S P n t.0 → HoldsOf self.old S P n → HoldsOf self.new S (Got t cell w v ∷ P) n }
         ensures put { (S : Setup) (P : List Event) (n : ℕ) (v : Option ℤ) → IsTrue wrote → MayHold S P n t.0 → HoldsOf self.old S P n → HoldsOf self.new S (Put t cell v ∷ P) n }
     {
@@ -87,8 +87,7 @@ impl HoldBook {
         self.spare -= 1;
     }
 
-    /// A transaction no longer holds any of the cells that it has accessed. The room stays. It costs what each of its accesses
-    /// costs.
+    /// Releases every cell that a transaction has accessed. The room stays. It costs what each of its accesses costs.
     pub fn release_all(&mut self, history: &History, t: Txn)
         ensures shown { (x : Cell) → shown self.new x ≡ cond (wrote history.now.events t.0 x || got history.now.events t.0 x) (released t.0 (shown self.old x)) (shown self.old x) }
         ensures spare { self.new.spare ≡ self.old.spare }
@@ -100,7 +99,7 @@ impl HoldBook {
         }
     }
 
-    /// The holds on a cell, in ascending number of their transactions.
+    /// Returns the holds on a cell, in ascending number of their transactions.
     #[inline(always)]
     pub fn holds(&self, cell: Cell) -> &[Hold]
         ensures { result.now ≡ shown self.now cell }
@@ -112,7 +111,7 @@ impl HoldBook {
         alone
     }
 
-    // A transaction no longer holds a cell. The room stays.
+    // Releases a cell. The room stays.
     #[inline(always)]
     fn release(&mut self, t: Txn, cell: Cell)
         ensures here { shown self.new cell ≡ released t.0 (shown self.old cell) }
@@ -122,7 +121,7 @@ impl HoldBook {
         release_in(&mut self.slots, &mut self.others, cell, t);
     }
 
-    // Makes room for n accesses, where there is less.
+    // Makes room for n accesses, if there is less.
     #[inline(never)]
     fn make_room(&mut self, n: usize) -> Result<(), AllocError>
         requires { self.old.spare ≤ n }

@@ -1,4 +1,4 @@
-//! What an access enters, and what a release takes out.
+//! What an access enters, and what a release removes.
 
 ghost use Rattle.std.specs.Prelude.{◌≡◌, ◌≤◌, ◌+◌, cond, length, Some};
 ghost use Rattle.teb_names.specs.declared.Cell.{Cell};
@@ -12,7 +12,7 @@ use crate::slots::{Alone, clear, only_hold, take, take_free};
 use sorted_multimap::Multimap;
 use teb_names::{Cell, Txn};
 
-/// A transaction has accessed a cell, and has put it where `wrote` is true. A cell that nobody holds goes to its slot, where that is free.
+/// Notes that a transaction has accessed a cell, and whether it put it. A cell that no transaction holds goes to its slot, if that is free.
 #[inline(always)]
 pub(crate) fn access_in(
     slots: &mut [Option<Alone>],
@@ -35,7 +35,7 @@ pub(crate) fn access_in(
     access_taken(slots, others, cell, t, wrote);
 }
 
-/// The same for a cell of which no hold is filed, and which lies in its slot or whose slot another cell has.
+/// Does the same for a cell of which no hold is filed, and which is in its slot or whose slot another cell has.
 #[inline(never)]
 fn access_taken(
     slots: &mut [Option<Alone>],
@@ -65,7 +65,7 @@ fn access_taken(
     }
 }
 
-/// A transaction has accessed a cell that lies in its slot, with the hold of another.
+/// Notes an access of a cell that is in its slot, with the hold of another transaction.
 #[inline(never)]
 fn share(
     slots: &mut [Option<Alone>],
@@ -88,7 +88,7 @@ fn share(
     put_in(others, cell, t, wrote);
 }
 
-/// A transaction no longer holds a cell. The room stays.
+/// Releases a cell that a transaction holds. The room stays.
 #[inline(always)]
 pub(crate) fn release_in(
     slots: &mut [Option<Alone>],

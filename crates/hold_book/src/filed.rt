@@ -10,7 +10,7 @@ use crate::Hold;
 use sorted_multimap::Multimap;
 use teb_names::{Cell, Txn};
 
-/// Puts in that a transaction has accessed a cell, and whether it put it. It takes one place of the room at the most.
+/// Files that a transaction has accessed a cell, and whether it put it. It takes at most one place of the room.
 #[inline(never)]
 pub(crate) fn put_in(holds: &mut Multimap<Cell, Hold>, cell: Cell, t: Txn, wrote: bool)
     requires filed { IsFiled holds.old }
@@ -27,8 +27,8 @@ pub(crate) fn put_in(holds: &mut Multimap<Cell, Hold>, cell: Cell, t: Txn, wrote
     }
 }
 
-/// Puts in that a transaction has accessed a cell, and whether it put it, where a hold on the cell is filed. Whether one is; else nothing
-/// changes. It takes one place of the room at the most.
+/// Files that a transaction has accessed a cell, and whether it put it, if some hold on the cell is filed. Returns whether one is; if not,
+/// nothing changes. It takes at most one place of the room.
 #[inline(always)]
 pub(crate) fn join_in(holds: &mut Multimap<Cell, Hold>, cell: Cell, t: Txn, wrote: bool) -> bool
     requires filed { IsFiled holds.old }
@@ -42,7 +42,7 @@ pub(crate) fn join_in(holds: &mut Multimap<Cell, Hold>, cell: Cell, t: Txn, wrot
     holds.join_by_number(cell, Hold { txn: t, wrote }, wrote)
 }
 
-/// Takes out the hold of a transaction on a cell, where it is there. The room stays.
+/// Removes the hold of a transaction on a cell, if it is filed. The room stays.
 #[inline(never)]
 pub(crate) fn take_out(holds: &mut Multimap<Cell, Hold>, cell: Cell, t: Txn)
     requires { IsFiled holds.old }

@@ -1,4 +1,4 @@
-//! Slots, in which cells lie that one transaction alone holds.
+//! Slots, for cells that one transaction alone holds.
 
 ghost use Rattle.std.specs.Prelude.{◌≡◌, ◌<◌, ◌≤◌, [], cond, length, Some, None, IsTrue, IsFalse, OnOk};
 ghost use Rattle.std.specs.Option.{is_some, is_none};
@@ -13,14 +13,14 @@ use teb_names::Cell;
 /// How many slots there are.
 const SLOTS: usize = 1024;
 
-/// A cell that one transaction alone holds, and its hold.
+/// A cell that one transaction alone holds, with the hold.
 #[derive(Clone, Copy)]
 pub(crate) struct Alone {
     cell: Cell,
     hold: Hold,
 }
 
-/// The number of the slot that a cell may have.
+/// Returns the number of the slot that a cell may have.
 #[inline(always)]
 fn slot_of(cell: Cell) -> usize
     ensures at { result ≡ spec_slot_of cell }
@@ -29,7 +29,7 @@ fn slot_of(cell: Cell) -> usize
     (cell.key as usize + usize::from(cell.table.0) * 89) % SLOTS
 }
 
-/// Makes the slots where there are none.
+/// Makes the slots if there are none.
 pub(crate) fn make_slots(slots: &mut Vec<Option<Alone>>) -> Result<(), AllocError>
     ensures made { OnOk result (1024 ≤ length slots.new.items) }
     ensures kept { length slots.old.items ≤ length slots.new.items }
@@ -41,7 +41,7 @@ pub(crate) fn make_slots(slots: &mut Vec<Option<Alone>>) -> Result<(), AllocErro
     Ok(())
 }
 
-/// The only hold on a cell, where the cell lies in its slot.
+/// Returns the only hold on a cell, if the cell is in its slot.
 #[inline(always)]
 pub(crate) fn only_hold(slots: &[Option<Alone>], cell: Cell) -> Option<Hold>
     ensures { result ≡ spec_only_hold slots.now cell }
@@ -52,7 +52,7 @@ pub(crate) fn only_hold(slots: &[Option<Alone>], cell: Cell) -> Option<Hold>
     }
 }
 
-/// The only hold on a cell as a list, where the cell lies in its slot, and else no hold.
+/// Returns the only hold on a cell as a list, if the cell is in its slot; otherwise an empty list.
 #[inline(always)]
 pub(crate) fn only_list(slots: &[Option<Alone>], cell: Cell) -> &[Hold]
     ensures { result.now ≡ only_or (spec_only_hold slots.now cell) [] }
@@ -74,7 +74,7 @@ pub(crate) fn take(slots: &mut [Option<Alone>], cell: Cell, hold: Hold)
     slots[slot_of(cell)] = Some(Alone { cell, hold });
 }
 
-/// Puts a cell into its slot, with the only hold on it, where the slot is free. Whether it was.
+/// Puts a cell into its slot, with the only hold on it, if the slot is free. Returns whether it was.
 #[inline(always)]
 pub(crate) fn take_free(slots: &mut [Option<Alone>], cell: Cell, hold: Hold) -> bool
     requires { 1024 ≤ length slots.old }
@@ -91,7 +91,7 @@ pub(crate) fn take_free(slots: &mut [Option<Alone>], cell: Cell, hold: Hold) -> 
     true
 }
 
-/// Takes a cell out of its slot.
+/// Removes a cell from its slot.
 #[inline(always)]
 pub(crate) fn clear(slots: &mut [Option<Alone>], cell: Cell)
     requires { IsTrue (is_some (spec_only_hold slots.old cell)) }

@@ -6,7 +6,7 @@ use Rattle.access_conflicts.specs.Registered.{register_spare}
 use Rattle.nexus_locks.specs.Standing.{LocksStand}
 use Rattle.nexus_locks.specs.declared.locks.Locks.{Locks}
 
--- for which setup and history it stands, the number of its node, and for how many events it has room
+-- which setup and history it stands for, the number of its node, and for how many events it has room
 abbrev pub LocksStandFor : Locks → Setup → List Event → Type 0
 LocksStandFor c S H = LocksStand c.register S H
 

@@ -1,4 +1,4 @@
--- For what a locks control stands.
+-- Which history a locks control stands for.
 use Rattle.std.specs.Prelude.{◌≡◌, List}
 use Rattle.teb_history.specs.declared.Event.{Event}
 use Rattle.teb_names.specs.declared.ControlKind.TheVariants.{Locks}
@@ -7,7 +7,7 @@ use Rattle.teb_rules.specs.Tree.{row}
 use Rattle.access_conflicts.specs.Registered.{Registered}
 use Rattle.access_conflicts.specs.declared.hold_register.HoldRegister.{HoldRegister}
 
--- the node of a register is a locks node, and the register shows who holds what there
+-- the node of a register is a locks node, and the register shows the holds there
 pub record LocksStand (r : HoldRegister) (S : Setup) (H : List Event) : Type 0 where
   pub kind : (row S.tree r.node.0).control ≡ Locks
   pub register : Registered r S H

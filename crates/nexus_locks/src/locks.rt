@@ -27,7 +27,7 @@ pub struct Locks {
 }
 
 impl Locks {
-    /// The control of a locks node for an empty history. Takes no memory.
+    /// Returns the control of a locks node for an empty history. Takes no memory.
     pub fn new(alloc: Global, node: Node, _facts: &Facts) -> Self
         requires kind { (row (setup_of _facts.now).tree node.0).control ≡ IsLocks }
         requires empty { events_of _facts.now ≡ [] }
@@ -39,7 +39,7 @@ impl Locks {
         }
     }
 
-    /// Who holds a cell: the unfinished transactions on whose path the node stands that have accessed it, in ascending number.
+    /// Returns the holders of a cell: the unfinished transactions with the node on their paths that have accessed it, in ascending number.
     pub fn holds(&self, facts: &Facts, cell: Cell) -> &[Hold]
         requires { LocksStand self.now.register (setup_of facts.now) (events_of facts.now) }
         ensures { result.now ≡ holds_in (setup_of facts.now) (events_of facts.now) self.now.register.node.0 cell }
@@ -47,7 +47,7 @@ impl Locks {
         self.register.holds(facts, cell)
     }
 
-    // The least-numbered transaction that an access waits for.
+    // Returns the least-numbered transaction that an access waits for.
     #[inline(always)]
     fn blocker(&self, facts: &Facts, t: Txn, cell: Cell, write: bool) -> Option<Txn>
         requires stands { LocksStand self.now.register (setup_of facts.now) (events_of facts.now) }

@@ -44,7 +44,7 @@ pub record IsPair (f : Facts) (n t u : ℕ) : Type 0 where
 abbrev pub Writes : List Event → ℕ → Cell → Type 0
 Writes H u x = IsTrue (wrote H u x || unfinished H u)
 
--- the event may come after P, and be noted at node n
+-- the event may follow P, and be noted at node n
 abbrev pub MayNote : Setup → List Event → ℕ → Event → Type 0
 MayNote S P n (Began t s k i) = (t.0 ≡ suc (begun_count P)) × (k.0 < S.types) × (IsTrue (on_path S.tree n (record { kind = k; instance = i })) → on_begin S P (record { kind = k; instance = i }) n ≡ Go)
 MayNote S P n (Got t x w v) = IsTrue (unfinished P t.0) × HasStep S P t.0 x

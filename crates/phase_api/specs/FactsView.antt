@@ -18,7 +18,7 @@ pub record IsTyped (f : Facts) (t : ℕ) : Type 0 where
   pub begun : IsTrue (begun (events_of f) t)
   pub kind : kind_of (events_of f) t < f.tree.now.types
 
--- each transaction that has begun is of a type of the setup, they are numbered from 1 on, and nobody else has accessed a cell
+-- each transaction that has begun is of a type of the setup, they are numbered from 1 on, and only those have accessed cells
 pub record IsOrderly (S : Setup) (H : List Event) : Type 0 where
   pub typed : (u : ℕ) → IsTrue (begun H u) → kind_of H u < S.types
   pub numbered : (u : ℕ) → IsTrue (begun H u) → (0 < u) × (u ≤ begun_count H)

@@ -1,4 +1,4 @@
--- What it is that chains hold the versions of a history.
+-- What it means that chains hold the versions of a history.
 use Rattle.std.specs.Prelude.{◌≡◌, ◌⊎◌, ◌≤◌, ◌<◌, ℕ, Bool, true, false, not, ◌&&◌, eqb, List, [], ◌∷◌, length, slice_get, Option, Some, None, IsTrue, IsFalse}
 use Rattle.std.specs.List.{list_any}
 use Rattle.teb_names.specs.declared.Cell.{Cell}
@@ -34,7 +34,7 @@ pub record IsPlaceOf (S : Setup) (H : List Event) (x : Cell) (t at : ℕ) (ws : 
   pub before : (i w : ℕ) → i < at → slice_get ws i ≡ Some w → precedes S H x w t ≡ true
   pub behind : (i w : ℕ) → at ≤ i → slice_get ws i ≡ Some w → precedes S H x w t ≡ false
 
--- what node n is told of the place of t's version of x: a timestamp node is told the place
+-- what node n is told of the place of t's version of x: a timestamp node is told it
 abbrev pub IsToldPlace : Setup → List Event → ℕ → Cell → ℕ → Option ℕ → List ℕ → Type 0
 IsToldPlace S H n x t (Some at) ws = IsPlaceOf S H x t at ws
 IsToldPlace S H n x t None ws = IsFalse (is_timestamp (row S.tree n).control)
@@ -44,6 +44,6 @@ abbrev pub reads_from : ℕ → Cell → ℕ → Event → Bool
 reads_from u x w (Got s y v c) = eqb s.0 u && same_cell y x && eqb v.0 w
 reads_from u x w _ = false
 
--- whatever somebody who is not aborted has read of x is the starting row, or of a writer that has a version
+-- each transaction that is not aborted has read x from the starting row, or from a writer that has a version
 abbrev pub SourcesStand : List Event → Cell → Type 0
 SourcesStand H x = (u w : ℕ) → IsFalse (aborted H u) → IsTrue (list_any (reads_from u x w) H) → (w ≡ 0) ⊎ IsTrue (has_version H x w)

@@ -1,4 +1,4 @@
-//! What controls are told.
+//! The facts that controls are told.
 
 ghost use Rattle.std.specs.Prelude.{◌≡◌, ◌↔◌, ◌&&◌, not, eqb, cond, Some, None, IfSome, IsSome, IsTrue};
 
@@ -21,7 +21,7 @@ impl<'a> Facts<'a> {
     ghost use Rattle.teb_rules.specs.Tree.{on, side, meets};
     ghost use Rattle.phase_api.specs.FactsView.{setup_of, events_of, IsTyped};
 
-    /// The type and the instance with which a transaction began.
+    /// Returns the type and the instance with which a transaction began.
     pub fn spot(&self, t: Txn) -> Option<Spot>
         ensures begun { IsSome result ↔ IsTrue (begun (events_of self.now) t.0) }
         ensures spot { IfSome result (λ s. s ≡ spot_of (events_of self.now) t.0) }
@@ -29,7 +29,7 @@ impl<'a> Facts<'a> {
         self.history.spot(t)
     }
 
-    /// Whether a node is on the path of a transaction.
+    /// Returns whether a node is on the path of a transaction.
     #[inline(always)]
     pub fn is_on(&self, n: Node, t: Txn) -> bool
         requires { IsTyped self.now t.0 }
@@ -41,7 +41,7 @@ impl<'a> Facts<'a> {
         }
     }
 
-    /// The number of the side of a node on which a transaction is: the child's above its leaf, and its own at the leaf.
+    /// Returns the number of the side of a node on which a transaction is: the child's above its leaf, and its own at the leaf.
     pub fn side(&self, n: Node, t: Txn) -> u32
         requires typed { IsTyped self.now t.0 }
         requires on { IsTrue (on (setup_of self.now) (events_of self.now) n.0 t.0) }
@@ -56,7 +56,7 @@ impl<'a> Facts<'a> {
         }
     }
 
-    /// The number of the side of a node on which a transaction is; none where the node is not on its path.
+    /// Returns the number of the side of a node on which a transaction is, or `None` if the node is not on its path.
     pub fn side_on(&self, n: Node, t: Txn) -> Option<u32>
         requires { IsTyped self.now t.0 }
         ensures { result ≡ cond (on (setup_of self.now) (events_of self.now) n.0 t.0) (Some (side (setup_of self.now) (events_of self.now) n.0 t.0)) None }
@@ -67,7 +67,7 @@ impl<'a> Facts<'a> {
         }
     }
 
-    /// Whether two transactions meet at a node: it is on the paths of both, and they are on different sides of it.
+    /// Returns whether two transactions meet at a node: it is on the paths of both, and they are on different sides of it.
     #[inline(always)]
     pub fn meet_at(&self, n: Node, t: Txn, u: Txn) -> bool
         requires left { IsTyped self.now t.0 }
@@ -80,7 +80,7 @@ impl<'a> Facts<'a> {
         }
     }
 
-    // Whether a node is on the path of a transaction, which is on another side of it than `own`.
+    // Returns whether a node is on the path of a transaction, which is on another side of it than `own`.
     fn is_across(&self, n: Node, own: u32, u: Txn) -> bool
         requires { IsTyped self.now u.0 }
         ensures { result ≡ (on (setup_of self.now) (events_of self.now) n.0 u.0 && not (eqb own (side (setup_of self.now) (events_of self.now) n.0 u.0))) }

@@ -1,4 +1,4 @@
--- Who is ahead of whom at a node, and what is kept of it.
+-- Which transactions are ahead of which at a node, and what is kept of it.
 use Rattle.std.specs.Prelude.{◌≡◌, ℕ, ◌+◌, ◌*◌, ◌≤◌, Bool, cond, not, ◌&&◌, eqb, List, [], ◌∷◌, map, filter, length, Vec, vec_len, vec_capacity, IsFalse}
 use Rattle.std.specs.declared.alloc.Global.{Global}
 use Rattle.teb_names.specs.declared.Txn.{Txn}
@@ -39,11 +39,12 @@ pub record Kept : Type 0 where
 abbrev pub list_of : Kept → Txn → List Txn
 list_of k t = values_of txn_cmp k.lists t
 
--- nobody has committed or aborted without having begun
+-- no transaction has committed or aborted without having begun
 abbrev pub EndsFollow : List Event → Type 0
 EndsFollow H = (u : ℕ) → IsFalse (begun H u) → IsFalse (committed H u) × IsFalse (aborted H u)
 
--- the list of each unfinished transaction has those that are ahead of it, that of anybody else is empty, and the unfinished ones are no more than counted
+-- the list of each unfinished transaction has those that are ahead of it, every other list is empty, and no more transactions are
+-- unfinished than are counted
 pub record PredecessorsOf (k : Kept) (S : Setup) (H : List Event) (n : ℕ) : Type 0 where
   pub ends : EndsFollow H
   pub counted : length (unfinished_in H) ≤ k.unfinished
@@ -58,11 +59,12 @@ joined p (h ∷ hs) us = joined p hs (cond (p h) (put_by number_of h.txn us) us)
 abbrev pub without : ℕ → List Txn → List Txn
 without t us = filter (λ u. not (eqb u.0 t)) us
 
--- whoever is not among some has an empty list
+-- a transaction that is not among some has an empty list
 abbrev pub AllBehind : List (Txn × Txn) → List Txn → Type 0
 AllBehind lists behind = (v : Txn) → IsFalse (has v behind) → values_of txn_cmp lists v ≡ []
 
--- there is room for so many events, while at most so many transactions are unfinished: each event may put so many into a list, and make one list not empty
+-- there is room for `spare` events, while at most `most` transactions are unfinished: each event may put that many into a list, and make
+-- one list not empty
 pub record HasRoom (room : ℕ) (behind : Vec Txn Global) (open_txns spare most : ℕ) : Type 0 where
   pub lists : spare * most ≤ room
   pub few : open_txns + spare ≤ most

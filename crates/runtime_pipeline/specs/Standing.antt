@@ -1,4 +1,4 @@
--- For what a pipeline control stands.
+-- Which history a pipeline control stands for.
 use Rattle.std.specs.Prelude.{◌≡◌, ◌≤◌, ℕ, Bool, false, not, ◌&&◌, min, List, length, slice_index, Option, Some, None}
 use Rattle.teb_history.specs.declared.Event.{Event}
 use Rattle.teb_names.specs.declared.ControlKind.TheVariants.{Pipeline as IsPipeline}
@@ -31,11 +31,11 @@ pub record PipelineStands (c : Pipeline) (S : Setup) (H : List Event) : Type 0 w
   pub cursors : CursorsOf c.cursors.cursors S H
   pub predecessors : PredecessorsOf c.predecessors S H c.register.node.0
 
--- u has passed a rank, where one is given
+-- u has passed a rank; false if none is given
 abbrev pub passed_some : Setup → List Event → ℕ → ℕ → Option ℕ → Bool
 passed_some S H n u None = false
 passed_some S H n u (Some k) = passed S H n u k
 
--- whoever is ahead of t holds it up, unless it has passed the rank
+-- u is ahead of t, and has not passed the rank
 abbrev pub holds_up : Setup → List Event → ℕ → ℕ → Option ℕ → ℕ → Bool
 holds_up S H n t k u = is_ahead S H n t u && not (passed_some S H n u k)

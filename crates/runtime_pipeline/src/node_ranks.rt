@@ -30,7 +30,7 @@ impl Model for NodeRanks {
 }
 
 impl NodeRanks {
-    /// The ranks at a node, over the profiles of the types that stand under it.
+    /// Returns the ranks at a node, over the profiles of the types under it.
     pub fn of(
         alloc: Global,
         node: Node,
@@ -47,7 +47,7 @@ impl NodeRanks {
         Ok(NodeRanks { ranks, tables })
     }
 
-    /// The rank of a table; 0 where no profile names it.
+    /// Returns the rank of a table, or 0 if no profile names it.
     pub fn rank(&self, table: Table) -> u8
         ensures { result ≡ slice_index self.now table.0 }
     {

@@ -1,5 +1,5 @@
-//! The control of a pipeline node: an access waits for a transaction that has accessed the cell and not passed its rank, and a
-//! transaction enters a step, and commits, behind those that are earlier.
+//! The control of a pipeline node. An access waits for a transaction that has accessed the cell and not passed its rank; a
+//! transaction enters a step, and commits, after those that are earlier.
 
 ghost use Rattle.std.specs.Prelude.{◌≡◌, ◌<◌, ◌≤◌, ◌&&◌, not, [], Option, Some, None, IfOk, IsTrue, find, ltb, slice_index_or, length};
 ghost use Rattle.teb_names.specs.declared.ControlKind.TheVariants.{Pipeline as IsPipeline};
@@ -37,7 +37,7 @@ pub struct Pipeline {
 }
 
 impl Pipeline {
-    /// The control of a pipeline node for an empty history.
+    /// Returns the control of a pipeline node for an empty history.
     pub fn new(alloc: Global, node: Node, facts: &Facts) -> Result<Self, AllocError>
         requires kind { (row (setup_of facts.now).tree node.0).control ≡ IsPipeline }
         requires empty { events_of facts.now ≡ [] }
@@ -55,7 +55,7 @@ impl Pipeline {
         })
     }
 
-    /// Who holds a cell: the unfinished transactions on whose path the node stands that have accessed it, in ascending number.
+    /// Returns the holders of a cell: the unfinished transactions with the node on their paths that have accessed it, in ascending number.
     pub fn holds(&self, facts: &Facts, cell: Cell) -> &[Hold]
         requires { PipelineStands self.now (setup_of facts.now) (events_of facts.now) }
         ensures { result.now ≡ holds_in (setup_of facts.now) (events_of facts.now) (pipeline_node_number self.now) cell }
@@ -63,7 +63,7 @@ impl Pipeline {
         self.register.holds(facts, cell)
     }
 
-    // The rank of the step at which a transaction stands.
+    // Returns the rank of a transaction's current step.
     fn current_rank(&self, facts: &Facts, u: Txn) -> u8
         requires stands { PipelineStands self.now (setup_of facts.now) (events_of facts.now) }
         requires typed { IsTyped facts.now u.0 }
@@ -79,7 +79,7 @@ impl Pipeline {
         }
     }
 
-    // Whether an access of a table of this rank enters a step of a greater rank than the one at which the transaction stands.
+    // Returns whether an access of a table of this rank enters a step of a greater rank than the transaction's current one.
     fn enters(&self, facts: &Facts, t: Txn, rank: u8) -> bool
         requires stands { PipelineStands self.now (setup_of facts.now) (events_of facts.now) }
         requires typed { IsTyped facts.now t.0 }
@@ -88,7 +88,7 @@ impl Pipeline {
         0 < rank && self.current_rank(facts, t) < rank
     }
 
-    // Whether a transaction has passed a rank.
+    // Returns whether a transaction has passed a rank.
     fn has_passed(&self, facts: &Facts, u: Txn, rank: u8) -> bool
         requires stands { PipelineStands self.now (setup_of facts.now) (events_of facts.now) }
         requires typed { IsTyped facts.now u.0 }
@@ -100,8 +100,8 @@ impl Pipeline {
             || rank < self.current_rank(facts, u)
     }
 
-    /// Those that are ahead of an unfinished transaction: the unfinished ones that meet it at the node and of which some access
-    /// stands before a conflicting access of its own. In ascending number, each once.
+    /// Returns the transactions that are ahead of an unfinished one: the unfinished ones that meet it at the node, an access of which
+    /// precedes a conflicting access of that transaction. In ascending number, each once.
     #[inline(always)]
     pub fn before(&self, _facts: &Facts, t: Txn) -> &[Txn]
         requires stands { PipelineStands self.now (setup_of _facts.now) (events_of _facts.now) }
@@ -111,7 +111,7 @@ impl Pipeline {
         self.predecessors.list(t)
     }
 
-    // Whether a transaction has passed a rank, where one is given.
+    // Returns whether a transaction has passed a rank; false if none is given.
     fn has_passed_some(&self, facts: &Facts, u: Txn, rank: Option<u8>) -> bool
         requires stands { PipelineStands self.now (setup_of facts.now) (events_of facts.now) }
         requires typed { IsTyped facts.now u.0 }
@@ -123,7 +123,7 @@ impl Pipeline {
         }
     }
 
-    // The least-numbered transaction that holds up t: it is ahead of t, and has not passed the rank that is given.
+    // Returns the least-numbered transaction that holds up t: it is ahead of t, and has not passed the rank that is given.
     #[inline(always)]
     fn first_ahead(&self, facts: &Facts, t: Txn, rank: Option<u8>) -> Option<Txn>
         requires stands { PipelineStands self.now (setup_of facts.now) (events_of facts.now) }
@@ -138,7 +138,7 @@ impl Pipeline {
         None
     }
 
-    // The least-numbered transaction that is in the way of an access and has not passed the cell's rank.
+    // Returns the least-numbered transaction that is in the way of an access and has not passed the cell's rank.
     #[inline(always)]
     fn first_holder(&self, facts: &Facts, t: Txn, cell: Cell, write: bool) -> Option<Txn>
         requires stands { PipelineStands self.now (setup_of facts.now) (events_of facts.now) }
@@ -158,7 +158,7 @@ impl Pipeline {
         None
     }
 
-    // What an access meets: first those that are earlier, where it would enter a step of a greater rank, and then the holders.
+    // Returns the answer to an access: first by those that are earlier, if it would enter a step of a greater rank, and then by the holders.
     #[inline(always)]
     fn before_access(&self, facts: &Facts, t: Txn, cell: Cell, write: bool) -> Verdict
         requires stands { PipelineStands self.now (setup_of facts.now) (events_of facts.now) }
@@ -251,7 +251,7 @@ impl Control for Pipeline {
     }
 }
 
-// The first table of a step; table 0 where there is no such step.
+// Returns the first table of a step, or table 0 if there is no such step.
 fn first_table(profile: &Profile, step: u8) -> Table
     ensures { result.0 ≡ slice_index_or (slice_index_or profile.now step []) 0 0 }
 {

@@ -1,4 +1,4 @@
-//! Who is ahead of whom at a node, kept event by event.
+//! Which transactions are ahead of which at a node, kept event by event.
 
 ghost use Rattle.std.specs.Prelude.{◌≡◌, ◌<◌, ◌≤◌, ◌+◌, ◌||◌, ℕ, [], IsFalse, cond, drop, eqb, get_or, length, vec_capacity, vec_len, All, IsTrue, OnOk};
 ghost use Rattle.teb_names.specs.declared.Txn.{Txn};
@@ -25,7 +25,7 @@ use std::marker::Model;
 use teb_history::Event;
 use teb_names::{Node, Txn};
 
-/// For each unfinished transaction, those that are ahead of it at a node. It stands for a history, and is told of each event behind it.
+/// For each unfinished transaction, those that are ahead of it at a node. It stands for a history, and notes each later event.
 #[derive(Drop)]
 pub struct Predecessors {
     // By transaction: those that are ahead of it, in ascending number.
@@ -34,7 +34,7 @@ pub struct Predecessors {
     behind: Vec<Txn>,
     // How many transactions are unfinished.
     unfinished: usize,
-    // For how many events there is room.
+    // There is room for this many events.
     spare: usize,
     // How many transactions may be unfinished while the room lasts, and so how many an event may put into a list.
     most: usize,
@@ -51,7 +51,7 @@ impl Model for Predecessors {
 }
 
 impl Predecessors {
-    /// Nobody, for an empty history. Takes no memory.
+    /// Returns empty lists, for an empty history. Takes no memory.
     pub fn new(alloc: Global) -> Self
         ensures { (S : Setup) (n : ℕ) → PredecessorsOf result S [] n }
     {
@@ -64,7 +64,10 @@ impl Predecessors {
         }
     }
 
-    /// Makes room for n events. It stands for what it stood for, also after an `Err`.
+    /// Makes room for n events. It stands for the same history as before.
+    ///
+    /// # Errors
+    /// Out of memory.
     pub fn reserve(&mut self, n: usize) -> Result<(), AllocError>
         ensures lists { self.new.lists ≡ self.old.lists }
         ensures unfinished { self.new.unfinished ≡ self.old.unfinished }
@@ -82,7 +85,7 @@ impl Predecessors {
         Ok(())
     }
 
-    /// The list of a transaction, in ascending number.
+    /// Returns the list of a transaction, in ascending number.
     #[inline(always)]
     pub fn list(&self, t: Txn) -> &[Txn]
         ensures { result.now ≡ list_of self.now t }
@@ -115,7 +118,7 @@ impl Predecessors {
         }
     }
 
-    // A transaction begins.
+    // Notes that a transaction begins.
     fn begin(&mut self)
         requires { 0 < self.old.spare }
         ensures lists { self.new.lists ≡ self.old.lists }
@@ -126,7 +129,7 @@ impl Predecessors {
         self.spare -= 1;
     }
 
-    // A transaction accesses a cell: those that hold it and are in the way are ahead of the transaction from now on.
+    // Notes an access of a cell: its holders that are in the way are ahead of the transaction from now on.
     fn access(&mut self, facts: &Facts, node: Node, t: Txn, holds: &[Hold], write: bool)
         requires room { 0 < self.old.spare }
         requires few { length holds.now ≤ self.old.unfinished }
@@ -143,7 +146,7 @@ impl Predecessors {
         self.spare -= 1;
     }
 
-    // A transaction finishes: it goes out of the lists of the others, and its own is empty.
+    // Notes that a transaction finishes: it leaves the lists of the others, and its own is emptied.
     fn finish(&mut self, t: Txn)
         requires room { 0 < self.old.spare }
         requires unfinished { 0 < self.old.unfinished }
@@ -158,7 +161,7 @@ impl Predecessors {
     }
 }
 
-// Whether nobody but t holds. Nobody is in its way then: its own hold never is. It costs two comparisons.
+// Returns whether t is the only holder. Then nothing is in its way, since its own hold never is. It costs two comparisons.
 #[inline(always)]
 fn is_alone(holds: &[Hold], t: Txn) -> bool
     ensures { IsTrue result → All (λ h. h.txn.0 ≡ t.0) holds.now }
@@ -170,7 +173,7 @@ fn is_alone(holds: &[Hold], t: Txn) -> bool
     }
 }
 
-// Puts the holders that are in the way of an access into the list of the transaction that accesses. Whether there are any.
+// Puts the holders that are in the way of an access into the list of the transaction that accesses. Returns whether there are any.
 fn put_holders(
     lists: &mut Multimap<Txn, Txn>,
     facts: &Facts,
@@ -197,7 +200,7 @@ fn put_holders(
     some
 }
 
-// Adds t to some, unless it is there.
+// Adds t to a vector, unless it is there.
 fn add_once(behind: &mut Vec<Txn>, t: Txn)
     requires { vec_len behind.old < vec_capacity behind.old }
     ensures members { (v : Txn) → has v behind.new.items ≡ (has v behind.old.items || eqb t.0 v.0) }
@@ -209,7 +212,7 @@ fn add_once(behind: &mut Vec<Txn>, t: Txn)
     }
 }
 
-// Takes t out of all lists, and its own away. Where nobody is behind anybody, all lists are empty: that costs one look.
+// Removes t from all lists, and empties its own. If no list has a value, that costs one look.
 fn take_away(lists: &mut Multimap<Txn, Txn>, behind: &mut Vec<Txn>, t: Txn)
     requires ascending { (v : Txn) → IsAscendingBy number_of (values_in txn_cmp lists.old v) }
     requires behind { AllBehind lists.old.entries behind.old.items }
@@ -227,7 +230,7 @@ fn take_away(lists: &mut Multimap<Txn, Txn>, behind: &mut Vec<Txn>, t: Txn)
     behind.retain(|u| *u != t);
 }
 
-// Takes t out of the lists of some.
+// Removes t from the lists of some transactions.
 fn take_out(lists: &mut Multimap<Txn, Txn>, behind: &[Txn], t: Txn)
     requires { (v : Txn) → IsAscendingBy number_of (values_in txn_cmp lists.old v) }
     ensures values { (v : Txn) → values_in txn_cmp lists.new v ≡ cond (has v behind.now) (without t.0 (values_in txn_cmp lists.old v)) (values_in txn_cmp lists.old v) }

@@ -1,4 +1,4 @@
-//! The types that stand under a node.
+//! The types under a node.
 
 ghost use Rattle.std.specs.Prelude.{◌≡◌, ◌<◌, ◌≤◌, ◌&&◌, [], IfOk, filter, length};
 ghost use Rattle.std.specs.List.{list_any};
@@ -12,7 +12,7 @@ use cc_tree::Tree;
 use std::alloc::{AllocError, Global};
 use teb_names::{Kind, Node};
 
-/// The types that stand in some leaf under a node, ascending.
+/// Returns the types of the leaves under a node, ascending.
 pub fn kinds_under(alloc: Global, node: Node, tree: &Tree) -> Result<Vec<Kind>, AllocError>
     ensures { IfOk result (λ kinds. kind_numbers kinds.items ≡ filter (stands_under tree.now.rows node.0) (below tree.now.types)) }
 {
@@ -26,7 +26,7 @@ pub fn kinds_under(alloc: Global, node: Node, tree: &Tree) -> Result<Vec<Kind>, 
     Ok(kinds)
 }
 
-// Whether a type stands in one of the first so many nodes, under the node.
+// Returns whether one of the first `rows` nodes has a type, and is under the node.
 fn stands_among(tree: &Tree, node: Node, kind: Kind, rows: u8) -> bool
     requires accepted { IsAccepted tree.now }
     requires within { rows ≤ length tree.now.rows }
@@ -46,7 +46,7 @@ fn has_kind(kinds: &[Kind], kind: Kind) -> bool
     kinds.contains(&kind)
 }
 
-// Whether a node stands on the way to another, of which at most so many parents are looked at.
+// Returns whether a node is on the way to another, taking at most `parents` parents.
 fn is_above(tree: &Tree, node: Node, lower: Node, parents: u8) -> bool
     requires accepted { IsAccepted tree.now }
     requires within { lower.0 < length tree.now.rows }

@@ -1,4 +1,4 @@
--- What is said of facts with controls.
+-- Definitions about facts with controls.
 use Rattle.std.specs.Prelude.{◌<◌, ℕ, List, length, IsTrue}
 use Rattle.teb_history.specs.declared.Event.{Event}
 use Rattle.teb_rules.specs.Setup.{Setup}
@@ -27,6 +27,6 @@ HasBatches b n = IsTrue (has_batches (setup_of b.facts.now).tree n)
 abbrev pub IsAt : Booked → ℕ → ℕ → Type 0
 IsAt b n t = IsHere b.facts.now n t
 
--- a word of the setup and the history
+-- a definition, applied to the setup and the history
 abbrev pub told {ℓ} : {A : Type ℓ} → Booked → (Setup → List Event → A) → A
 told b p = p (setup_of b.facts.now) (events_of b.facts.now)

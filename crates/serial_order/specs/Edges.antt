@@ -18,16 +18,16 @@ leads_out S H n a = committed H a && on S H n a && has_edge S H n a
 abbrev pub leads_from : Setup → List Event → ℕ → ℕ → ℕ → Bool
 leads_from S H n i a = leads_out S H n a && eqb (start S H n a) i
 
--- each position is marked where a batch starts there from which one of us leads out
+-- a position is marked if a batch starts there from which one of us leads out
 pub record AreMarked (S : Setup) (H : List Event) (n : ℕ) (us : List ℕ) (ms : List Bool) : Type 0 where
   pub one_each : length ms ≡ length H
   pub marked : (i : ℕ) → i < length H → slice_index_or ms i false ≡ list_any (leads_from S H n i) us
 
--- where t's batch starts there is a mark, which says whether it has an edge out
+-- the position at which t's batch starts has a mark, which says whether it has an edge out
 pub record IsMarked (S : Setup) (H : List Event) (n t : ℕ) (marks : List Bool) : Type 0 where
   pub within : start S H n t < length marks
   pub says : slice_index_or marks (start S H n t) false ≡ has_edge_out S H n t
 
--- so it is for all transactions at each snapshot node
+-- this holds of all transactions at each snapshot node
 abbrev pub MarkEdges : Setup → List Event → List Bool → Type 0
 MarkEdges S H marks = (n t : ℕ) → (row S.tree n).control ≡ Snapshot → IsTrue (begun H t) → IsTrue (on S H n t) → IsMarked S H n t marks

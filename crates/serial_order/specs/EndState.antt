@@ -1,4 +1,4 @@
--- What is said of the end state.
+-- Definitions about the end state.
 use Rattle.std.specs.Prelude.{ℕ, ℤ, Option}
 use Rattle.teb_names.specs.declared.Cell.{Cell}
 use Rattle.teb_rules.specs.Setup.{Store}

@@ -31,7 +31,7 @@ key_along S H t ns = cut_of (λ n. rank S H n t) (λ n. side S H n t) (λ n. ran
 abbrev pub cut_key : Setup → List Event → ℕ → List ℕ
 cut_key S H t = key_along S H t (path S.tree (spot_of H t))
 
--- where its key stands among the numbers of all keys
+-- its key, among the numbers of all keys
 abbrev pub key_of : List ℕ → Entry → List ℕ
 key_of ns e = drop e.start (take e.end ns)
 

@@ -1,4 +1,4 @@
--- The laws of the rules, said of engines and of the order that `order` gives.
+-- The laws of the rules, of engines and of the order that `order` returns.
 use Rattle.std.specs.Prelude.{◌≡◌, ◌≢◌, ℕ, List, IsTrue}
 use Rattle.std.specs.List.{list_any}
 use Rattle.teb_names.specs.declared.Cell.{Cell}
@@ -16,7 +16,7 @@ use Rattle.serial_order.specs.Commits.{txn_numbers}
 abbrev pub OfEveryEngine : (EngineModel → Type 0) → Type 0
 OfEveryEngine P = (e : EngineModel) → IsOfEngine e → P e
 
--- and of the numbers of the transactions in the order that `order` gives
+-- and of the numbers of the transactions in the order that `order` returns
 abbrev pub OfEveryOrder : (EngineModel → List ℕ → Type 0) → Type 0
 OfEveryOrder P = OfEveryEngine (λ e. (ts : List Txn) → txn_numbers ts ≡ serial_order e.store.setup e.events → P e (txn_numbers ts))
 

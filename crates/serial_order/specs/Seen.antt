@@ -10,7 +10,7 @@ use Rattle.serial_order.specs.declared.seen_cells.SeenCells.{SeenCells}
 abbrev pub is_among : Cell → List Cell → Bool
 is_among x xs = list_any (λ y. same_cell y x) xs
 
--- the place of the mark of a cell, where so many keys of each table have one
+-- the place of the mark of a cell, if `width` keys of each table have one
 abbrev pub place_of : ℕ → Cell → ℕ
 place_of width x = x.table.0 * width + x.key
 

@@ -18,7 +18,7 @@ pub record IsFinalRows (X : Store) (H : List Event) (rows : List (Cell × ℤ)) 
   pub ascending : IsAscending rows
   pub each : (x : Cell) → row_of rows x ≡ final_table X H x
 
--- the store with so many tables and these starting rows
+-- the store with this many tables and these starting rows
 abbrev pub store_with : Facts → List (Cell × ℤ) → ℕ → Store
 store_with f R n = record { setup = setup_of f; tables = n; rows = R }
 
@@ -42,12 +42,12 @@ abbrev pub rows_before : Cell → List (Cell × ℤ) → List (Cell × ℤ)
 rows_before x [] = []
 rows_before x (r ∷ rs) = elim (cell_cmp r.0 x) [ Less ↦ r ∷ rows_before x rs | Equal ↦ [] | Greater ↦ [] ]
 
--- of rows that ascend, those behind a cell
+-- of rows that ascend, those after a cell
 abbrev pub rows_behind : Cell → List (Cell × ℤ) → List (Cell × ℤ)
 rows_behind x [] = []
 rows_behind x (r ∷ rs) = elim (cell_cmp r.0 x) [ Less ↦ rows_behind x rs | Equal ↦ rs | Greater ↦ r ∷ rs ]
 
--- these rows behind that of a cell, if it has a value
+-- these rows after that of a cell, if it has a value
 abbrev pub row_before : Cell → Option ℤ → List (Cell × ℤ) → List (Cell × ℤ)
 row_before x None rows = rows
 row_before x (Some v) rows = (x, v) ∷ rows

@@ -1,4 +1,4 @@
-//! Where the batch of a transaction starts at a node, and where it closes.
+//! The start and the close of the batch of a transaction at a node.
 
 ghost use Rattle.std.specs.Prelude.{◌≡◌};
 ghost use Rattle.teb_rules.specs.Batches.{start, close};
@@ -12,7 +12,7 @@ use engine_core::AnyControl;
 use teb_names::{Node, Txn};
 
 impl<'a> Booked<'a> {
-    // The batches of a node that has them, which its control keeps.
+    // Returns the batches of a node that has them, which its control keeps.
     fn batches(&self, n: Node) -> &Batches
         requires controls { ControlsStand self.now }
         requires node { IsNode self.now n.0 }
@@ -26,7 +26,7 @@ impl<'a> Booked<'a> {
         }
     }
 
-    /// Where the batch of a transaction starts at a node.
+    /// Returns the start of a transaction's batch at a node.
     pub(crate) fn start_of(&self, n: Node, t: Txn) -> usize
         requires controls { ControlsStand self.now }
         requires here { IsAt self.now n.0 t.0 }
@@ -37,7 +37,7 @@ impl<'a> Booked<'a> {
         self.batches(n).start(t)
     }
 
-    /// Where it closes: the length of the history while it is open.
+    /// Returns the close of that batch: the length of the history while it is open.
     pub(crate) fn close_of(&self, n: Node, t: Txn) -> usize
         requires controls { ControlsStand self.now }
         requires here { IsAt self.now n.0 t.0 }

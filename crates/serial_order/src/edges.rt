@@ -17,8 +17,8 @@ use teb_names::{Node, Txn};
 const ROOT: Node = Node(0);
 
 impl<'a> Booked<'a> {
-    /// For each position, whether a committed member of the batch that starts there has an edge to a committed transaction. With
-    /// another root than a snapshot node there are no marks. It costs what the root's control takes to tell of each committed transaction
+    /// Returns for each position whether a committed member of the batch that starts there has an edge to a committed transaction. If
+    /// the root is no snapshot node, there are no marks. It costs what the root's control takes to tell of each committed transaction
     /// whether it has an edge.
     pub(crate) fn edges_out(&self, alloc: Global) -> Result<Vec<bool>, AllocError>
         requires { ControlsStand self.now }
@@ -30,7 +30,7 @@ impl<'a> Booked<'a> {
         }
     }
 
-    // The marks of a root that is a snapshot node.
+    // Returns the marks of a root that is a snapshot node.
     fn edges_at(&self, alloc: Global, root: &Snapshot) -> Result<Vec<bool>, AllocError>
         requires stands { told self.now (SnapshotStandsFor root.now) }
         requires root { snapshot_node_number root.now ≡ 0 }
@@ -46,7 +46,7 @@ impl<'a> Booked<'a> {
         Ok(marks)
     }
 
-    // Whether a transaction is committed and has an edge to a committed one.
+    // Returns whether a transaction is committed and has an edge to a committed one.
     fn leads_out(&self, root: &Snapshot, a: Txn) -> bool
         requires stands { told self.now (SnapshotStandsFor root.now) }
         requires root { snapshot_node_number root.now ≡ 0 }

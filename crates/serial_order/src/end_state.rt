@@ -1,4 +1,4 @@
-//! What a history leaves in the cells.
+//! The state in which a history leaves the cells.
 
 ghost use Rattle.teb_laws.specs.Lawful.{Lawful};
 ghost use Rattle.phase_api.specs.FactsView.{setup_of, events_of};

@@ -19,10 +19,14 @@ use teb_history::Event;
 use teb_names::{Cell, Txn};
 use version_chain::{Chains, Found};
 
-/// The rows of the final tables, in ascending order of cells: for each cell the value of its last committed version, or of its
-/// starting row. A deleted row is left out. Beside the walk over the events and the starting rows, and a sort of the cells
-/// whose keys are greater than the share of the events that falls to a table, a cell that was put costs the versions above that
-/// one, which are of unfinished transactions.
+/// Returns the rows of the final tables, in ascending order of cells: for each cell the value of its last committed version, or of its
+/// starting row. A deleted row is left out.
+///
+/// It walks over the events and the starting rows. Cells with keys too great for a mark are sorted. A cell that was put also costs the
+/// versions after its last committed one, which are of unfinished transactions.
+///
+/// # Errors
+/// Out of memory.
 pub fn tables<C: Chains>(alloc: Global, engine: &Engine<C>) -> Result<Vec<(Cell, i64)>, AllocError>
     ensures { IfOk result (λ v. IsFinalRows engine.now.store engine.now.events v.items) }
 {
@@ -44,7 +48,7 @@ pub fn tables<C: Chains>(alloc: Global, engine: &Engine<C>) -> Result<Vec<(Cell,
 impl<'a, C: Chains> EndState<'a, C> {
     ghost use Rattle.serial_order.specs.EndState.{left, store};
 
-    // The rows of the final tables, with any number of tables.
+    // Returns the rows of the final tables, with any number of tables.
     fn rows_left(&self, alloc: Global) -> Result<Vec<(Cell, i64)>, AllocError>
         ensures { (tables : ℕ) → IfOk result (λ v. IsFinalRows (store self.now tables) (events_of self.now.facts.now) v.items) }
     {
@@ -52,8 +56,8 @@ impl<'a, C: Chains> EndState<'a, C> {
         self.rows_of(alloc, &cells)
     }
 
-    // The cells that somebody has put, each once, in ascending order. There are as many marks as events, so that they cost no
-    // more than the walk over these.
+    // Returns the cells that were put, each once, in ascending order. There are as many marks as events, so they cost no more than
+    // the walk over these.
     fn cells(&self, alloc: Global) -> Result<Vec<Cell>, AllocError>
         ensures { IfOk result (λ v. AreCells (left self.now) self.now.rows.now v.items) }
     {
@@ -62,7 +66,7 @@ impl<'a, C: Chains> EndState<'a, C> {
         seen.ascending(alloc)
     }
 
-    // Adds the cells that somebody has put.
+    // Adds the cells that were put.
     fn add_puts(&self, seen: &mut SeenCells) -> Result<(), AllocError>
         requires { IsSound seen.old }
         ensures { OnOk result (AddsAll seen.old seen.new (cells_put (reverse (events_of self.now.facts.now)))) }
@@ -75,7 +79,7 @@ impl<'a, C: Chains> EndState<'a, C> {
         Ok(())
     }
 
-    // The starting rows, with what is left in these cells in the place of theirs.
+    // Returns the starting rows, with what is left in these cells in the place of theirs.
     fn rows_of(&self, alloc: Global, cells: &[Cell]) -> Result<Vec<(Cell, i64)>, AllocError>
         ensures rows { IfOk result (λ v. v.items ≡ merged_rows (left self.now) self.now.rows.now cells.now) }
         ensures ascending { IsAscending self.now.rows.now }
@@ -92,7 +96,7 @@ impl<'a, C: Chains> EndState<'a, C> {
         Ok(rows)
     }
 
-    // The value of the last committed version of a cell, or else of its starting row. It costs the versions above that one, which
+    // Returns the value of the last committed version of a cell, or else of its starting row. It costs the later versions, which
     // are of unfinished transactions.
     fn value(&self, cell: Cell) -> Option<i64>
         ensures { result ≡ left self.now cell }
@@ -103,7 +107,7 @@ impl<'a, C: Chains> EndState<'a, C> {
         }
     }
 
-    // The last version whose writer is committed.
+    // Returns the last version whose writer is committed.
     fn last_committed(&self, cell: Cell) -> Option<Found>
         ensures place { option_map (λ v. v.at) result ≡ last_place (committed (events_of self.now.facts.now)) (writers_of (C.lists self.now.chains.now cell)) }
         ensures version { IfSome result (λ v. slice_get (C.lists self.now.chains.now cell) v.at ≡ Some (v.writer, v.value)) }
@@ -113,7 +117,7 @@ impl<'a, C: Chains> EndState<'a, C> {
             .own_or_last(cell, self.nobody(), &|w: Txn| history.is_committed(w))
     }
 
-    // A transaction that has no version: the one that would begin next, of which the chains may tell so without a look-up, or 0.
+    // Returns a transaction that has no version: the one that would begin next, of which the chains tell that without a look-up, or 0.
     fn nobody(&self) -> Txn
         ensures { 0 < result.0 → begun_count (events_of self.now.facts.now) < result.0 }
     {
@@ -121,7 +125,7 @@ impl<'a, C: Chains> EndState<'a, C> {
     }
 }
 
-// Adds the starting rows before a cell, and gives those behind it.
+// Adds the starting rows before a cell, and returns those after it.
 #[inline(always)]
 fn pass_rows<'r>(
     rows: &mut Vec<(Cell, i64)>,

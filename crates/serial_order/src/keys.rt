@@ -42,7 +42,7 @@ impl<'a> Booked<'a> {
         Ok(())
     }
 
-    // The number of the side of a node on which a transaction is, by its spot.
+    // Returns the number of the side of a node on which a transaction is, by its spot.
     fn side(&self, n: Node, spot: Spot, t: Txn) -> u32
         requires here { IsAt self.now n.0 t.0 }
         requires spot { spot ≡ spot_of (history self.now) t.0 }
@@ -54,7 +54,7 @@ impl<'a> Booked<'a> {
         }
     }
 
-    // The rank of a transaction at a node.
+    // Returns the rank of a transaction at a node.
     fn rank(&self, marks: &[bool], n: Node, t: Txn, done: usize) -> usize
         requires controls { ControlsStand self.now }
         requires marks { told self.now MarkEdges marks.now }
@@ -78,7 +78,7 @@ impl<'a> Booked<'a> {
     }
 }
 
-// Whether a node of a kind ranks a transaction by its Done.
+// Returns whether a node of a kind ranks a transaction by its Done.
 fn ranks_by_done(control: ControlKind) -> bool
     ensures { result ≡ ranks_by_done control }
 {

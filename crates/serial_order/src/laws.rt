@@ -1,4 +1,4 @@
-//! What holds of every engine at every moment, of its versions and of the order that `order` gives: the laws of the rules.
+//! Laws of every engine at every moment, of its versions and of the order that `order` returns.
 
 ghost use Rattle.teb_laws.specs.Laws.{OrdersVersions, RanksAgree};
 ghost use Rattle.teb_rules.specs.Serializes.{Serializes};
@@ -9,13 +9,13 @@ pub fn versions_are_ordered()
     ensures { OfEveryEngine (λ e. OrdersVersions e.store.setup e.events) }
 {}
 
-/// The order keeps the conflicts of committed transactions: it has their versions in version order, who is read from before
-/// who reads, and who reads before who wrote past that. What was read from another is what that one left in the end.
+/// The order keeps the conflicts of committed transactions: their versions are in version order; a writer precedes the transactions that read
+/// from it; and a reader precedes the writers of later versions. What was read from a writer is its last version.
 pub fn order_keeps_conflicts()
     ensures { OfEveryOrder KeepsConflicts }
 {}
 
-/// Ranks rise up the tree: those at the nodes above one do not go against its own.
+/// The ranks at the nodes above a node do not go against its order.
 pub fn ranks_rise()
     ensures { OfEveryEngine (λ e. RanksAgree e.store.setup e.events) }
 {}

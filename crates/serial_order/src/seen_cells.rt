@@ -6,13 +6,13 @@ ghost use Rattle.serial_order.specs.Seen.{cell_at as spec_cell_at, place_of as s
 use std::alloc::{AllocError, Global};
 use teb_names::{Cell, Table};
 
-/// Cells that were seen. The first keys of each table have a mark each; a cell of another key stands in a list, as often as it
+/// Cells that were seen. The first keys of each table have a mark each; a cell with another key is in a list, as often as it
 /// was seen.
 #[derive(Drop)]
 pub(crate) struct SeenCells {
     // How many keys of each table have a mark.
     width: u32,
-    // The marks of one table behind those of another.
+    // The marks of one table after those of another.
     marks: Vec<bool>,
     // From here on no mark is set.
     end: usize,
@@ -20,7 +20,7 @@ pub(crate) struct SeenCells {
 }
 
 impl SeenCells {
-    /// No cells. The tables share so many marks evenly, and each has one at least.
+    /// Returns an empty set of cells. The tables share `marks` marks evenly, and each has at least one.
     pub(crate) fn new(alloc: Global, tables: u8, marks: usize) -> Result<Self, AllocError>
         ensures { IfOk result IsSound }
     {
@@ -51,14 +51,14 @@ impl SeenCells {
         }
     }
 
-    // The place of a cell's mark, where it has one.
+    // Returns the place of a cell's mark, if it has one.
     fn place_of(&self, cell: Cell) -> usize
         ensures { result ≡ spec_place_of self.now.width cell }
     {
         usize::from(cell.table.0) * self.width as usize + cell.key as usize
     }
 
-    // The cell whose mark is at a place.
+    // Returns the cell whose mark is at a place.
     fn cell_at(&self, place: usize) -> Cell
         requires sound { IsSound self.now }
         requires within { place < length self.now.marks.items }
@@ -71,7 +71,7 @@ impl SeenCells {
         }
     }
 
-    // The cells that are marked, in ascending order.
+    // Returns the cells that are marked, in ascending order.
     fn marked(&self, alloc: Global) -> Result<Vec<Cell>, AllocError>
         requires { IsSound self.now }
         ensures { IfOk result (λ v. v.items ≡ marked_cells self.now.width self.now.marks.items 0 self.now.end) }
@@ -85,8 +85,8 @@ impl SeenCells {
         Ok(cells)
     }
 
-    /// The cells that were added, each once, in ascending order. Beside the places up to the last mark that is set, it costs a
-    /// sort of those that have no mark.
+    /// Returns the cells that were added, each once, in ascending order. It goes through the places up to the last mark that is set, and
+    /// sorts those that have no mark.
     pub(crate) fn ascending(mut self, alloc: Global) -> Result<Vec<Cell>, AllocError>
         requires { IsSound self }
         ensures { IfOk result (λ v. AreSeen self v.items) }

@@ -21,7 +21,7 @@ use teb_history::{Event, History};
 use teb_names::{ControlKind, Node, Txn};
 use version_chain::Chains;
 
-/// A committed transaction, and where its key starts and ends among the numbers of all keys.
+/// A committed transaction, with the range of its key among the numbers of all keys.
 #[derive(Clone, Copy)]
 pub(crate) struct Entry {
     txn: Txn,
@@ -29,7 +29,7 @@ pub(crate) struct Entry {
     end: usize,
 }
 
-/// The committed transactions in the serial order, which serializes the history.
+/// Returns the committed transactions in the serial order, which serializes the history.
 pub fn order<C: Chains>(alloc: Global, engine: &Engine<C>) -> Result<Vec<Txn>, AllocError>
     ensures order { IfOk result (λ v. txn_numbers v.items ≡ serial_order engine.now.store.setup engine.now.events) }
     ensures serializes { IfOk result (λ v. Serializes engine.now.store engine.now.events (txn_numbers v.items)) }
@@ -43,7 +43,7 @@ pub fn order<C: Chains>(alloc: Global, engine: &Engine<C>) -> Result<Vec<Txn>, A
     order_of(alloc, &facts, engine.controls())
 }
 
-// The same, of what controls are told. Under a root of locks or a pipeline it is the order of the commits.
+// Returns the same, from the facts that controls are told. Under a root of locks or a pipeline it is the order of the commits.
 fn order_of(alloc: Global, facts: &Facts, controls: &[AnyControl]) -> Result<Vec<Txn>, AllocError>
     requires sound { IsSound (setup_of facts.now) }
     requires lawful { Lawful (setup_of facts.now) (events_of facts.now) }
@@ -56,7 +56,7 @@ fn order_of(alloc: Global, facts: &Facts, controls: &[AnyControl]) -> Result<Vec
     }
 }
 
-// The committed transactions in the order of their commits.
+// Returns the committed transactions in the order of their commits.
 fn order_of_commits(alloc: Global, history: &History) -> Result<Vec<Txn>, AllocError>
     ensures { IfOk result (λ v. txn_numbers v.items ≡ commits_in (reverse history.now.events)) }
 {
@@ -69,7 +69,7 @@ fn order_of_commits(alloc: Global, history: &History) -> Result<Vec<Txn>, AllocE
     Ok(txns)
 }
 
-// The committed transactions sorted by keys.
+// Returns the committed transactions sorted by keys.
 fn order_by_keys(
     alloc: Global,
     facts: &Facts,
@@ -89,7 +89,7 @@ fn order_by_keys(
 }
 
 impl<'a> Booked<'a> {
-    // The committed transactions in the order of their commits, each with its key, which it appends to the numbers.
+    // Returns the committed transactions in the order of their commits, each with its key, which it appends to the numbers.
     fn entries(
         &self,
         alloc: Global,
@@ -115,7 +115,7 @@ impl<'a> Booked<'a> {
     }
 }
 
-// The key of an entry, among the numbers of all keys.
+// Returns the key of an entry, among the numbers of all keys.
 fn key_of<'k>(numbers: &'k [usize], entry: &Entry) -> &'k [usize]
     ensures { result.now ≡ key_of numbers.now entry.now }
 {
@@ -123,7 +123,7 @@ fn key_of<'k>(numbers: &'k [usize], entry: &Entry) -> &'k [usize]
     &ended[entry.start.min(ended.len())..]
 }
 
-// The transactions alone.
+// Returns the transactions alone.
 fn txns_of(alloc: Global, entries: &[Entry]) -> Result<Vec<Txn>, AllocError>
     ensures { IfOk result (λ v. txn_numbers v.items ≡ entry_numbers entries.now) }
 {

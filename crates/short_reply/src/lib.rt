@@ -1,4 +1,17 @@
-//! Replies without the values of a scan.
+//! A reply without the values of a scan: 24 bytes in place of 160.
+//!
+//! A `Reply` has room for the sixteen values of a scan, so moving one costs as much as some answers. A [`ShortReply`] has no such
+//! room. The engine answers in this form every request that is no scan (`Engine::ask_short`), and the crates above pass it on.
+//!
+//! ```text
+//!   Reply         160 bytes    Begun, Value, Values, Done, Prepared, Committed, Again, Aborted, Refused
+//!   ShortReply     24 bytes    the same, without Values
+//! ```
+//!
+//! [`ShortReply::full`] returns the reply that the session gets (`full_reply` of `specs/ShortReplies`). [`ShortReply::of`] goes back,
+//! and returns `None` for the values of a scan alone. `IsNoScan` says of which requests the answer has a short form.
+//!
+//! **Not claimed**: the sizes. They are measured, and no contract speaks of them.
 #![tactic(auto)]
 
 ghost use Rattle.std.specs.Prelude.{◌≡◌, MatchOption};
@@ -6,12 +19,12 @@ ghost use Rattle.short_reply.specs.ShortReplies.{full_reply, HasValues};
 
 use teb_names::{Cause, Node, Refusal, Reply, Txn};
 
-/// A reply without the values of a scan. A `Reply` has room for sixteen values, and so is long; this is moved at little cost.
+/// A reply without the values of a scan. A `Reply` has room for sixteen values; this one has not, so moving it costs little.
 #[derive(Clone, Copy, Debug, PartialEq, Eq)]
 pub enum ShortReply {
     /// The transaction that began.
     Begun(Txn),
-    /// The value that was read; none where there is no row.
+    /// The value that was read; `None` if there is no row.
     Value(Option<i64>),
     /// The write, addition or deletion is done.
     Done,
@@ -26,7 +39,7 @@ pub enum ShortReply {
 }
 
 impl ShortReply {
-    /// The reply as the session gets it.
+    /// Returns the reply as the session gets it.
     pub fn full(self) -> Reply
         ensures { result ≡ full_reply self }
     {
@@ -42,7 +55,7 @@ impl ShortReply {
         }
     }
 
-    /// The short form of a reply. `None` where the reply has the values of a scan.
+    /// Returns the short form of a reply, or `None` if the reply has the values of a scan.
     pub fn of(reply: &Reply) -> Option<ShortReply>
         ensures { MatchOption result (HasValues reply.now) (λ short. full_reply short ≡ reply.now) }
     {

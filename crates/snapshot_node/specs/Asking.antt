@@ -1,4 +1,4 @@
--- What is said of a control that is asked.
+-- Definitions about a control that is asked.
 use Rattle.std.specs.Prelude.{◌≡◌, ◌&&◌, ℕ, Bool, not, List, IsTrue, IsFalse, filter, leb, ltb}
 use Rattle.teb_names.specs.declared.Txn.{Txn}
 use Rattle.teb_history.specs.declared.Event.{Event}
@@ -22,15 +22,15 @@ history a = events_of a.facts.now
 abbrev pub HasBegun : Asked → ℕ → Type 0
 HasBegun a u = IsTrue (begun (events_of a.facts.now) u)
 
--- the node stands on the path of u
+-- the node is on the path of u
 abbrev pub IsAt : Asked → ℕ → Type 0
 IsAt a u = IsHere a.facts.now a.register.now.node.0 u
 
--- a word of the setup, the history and the node
+-- a definition, applied to the setup, the history and the node
 abbrev pub there {ℓ} : {A : Type ℓ} → Asked → (Setup → List Event → ℕ → A) → A
 there a p = p (setup_of a.facts.now) (events_of a.facts.now) a.register.now.node.0
 
--- the node stands on the path of each of them
+-- the node is on the path of each of them
 abbrev pub AreThere : Asked → List Txn → Type 0
 AreThere a ts = AreHere a.facts.now a.register.now.node.0 ts
 
@@ -42,7 +42,7 @@ comes_first S H n t u = committed H u.0 && not (ltb (close S H n u.0) (start S H
 abbrev pub is_met : Setup → List Event → ℕ → ℕ → Txn → Bool
 is_met S H n t u = unfinished H u.0 && meets S H n t u.0
 
--- those of some transactions from a number on, where whoever is below it was of a batch that closed before t's started
+-- those of some transactions from a number on; each one below it was of a batch that closed before t's started
 pub record AreLate (a : Asked) (t : ℕ) (all us : List Txn) : Type 0 where
   pub from : ℕ
   pub below : there a ClosedBelow t from
@@ -53,7 +53,7 @@ pub record IsGranted (a : Asked) (t : ℕ) : Type 0 where
   pub lawful : Lawful (setup_of a.facts.now) (events_of a.facts.now)
   pub runs : IsFalse (aborted (events_of a.facts.now) t)
 
--- what is left of a walk along the accesses of t, in the control's own book, is all of them
+-- a walk over the accesses of t, in the control's own book, has all of them before it
 pub record IsWalk (a : Asked) (t : ℕ) (w : Walk) : Type 0 where
   pub book : w.book ≡ a.register.now.accesses
   pub left : w.left ≡ touched_in (own_events (history a) t)

@@ -1,4 +1,4 @@
--- For what the committed writers of each cell stand, and how many may come.
+-- Which history the committed writers of each cell stand for, and how many more there may be.
 use Rattle.std.specs.Prelude.{◌≡◌, ℕ, Bool, true, false, ◌&&◌, List}
 use Rattle.std.specs.List.{count_by}
 use Rattle.teb_names.specs.declared.Cell.{Cell}

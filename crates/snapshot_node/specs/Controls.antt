@@ -6,7 +6,7 @@ use Rattle.snapshot_node.specs.Stood.{room_of}
 use Rattle.snapshot_node.specs.Marks.{MarkedStand}
 use Rattle.snapshot_node.specs.declared.snapshot.Snapshot.{Snapshot}
 
--- for which setup and history it stands, the number of its node, and for how many events it has room
+-- which setup and history it stands for, the number of its node, and for how many events it has room
 abbrev pub SnapshotStandsFor : Snapshot → Setup → List Event → Type 0
 SnapshotStandsFor c S H = MarkedStand c.register.node.0 c.register.batches c.register.accesses c.marks.items S H
 

@@ -59,19 +59,19 @@ pub record IsTold (S : Setup) (H : List Event) (n : ℕ) (ms : List Mark) (u w :
   pub ahead : IsTrue (is_ahead ms (place_of_txn u))
   pub behind : IsTrue (is_behind ms (place_of_txn w))
 
--- u and w are across from one another, and u has read a cell that w has put: where the rules granted each event, an edge leads from u to w
+-- u and w are across from one another, and u has read a cell that w has put: if the rules granted each event, an edge leads from u to w
 pub record Touches (S : Setup) (H : List Event) (n u w : ℕ) : Type 0 where
   pub cell : Cell
   pub read : IsTrue (got H u cell)
   pub put : IsTrue (wrote H w cell)
   pub across : IsTrue (is_across S H n u w)
 
--- where the rules granted each event, the marks tell of each edge among those that are prepared or committed
+-- if the rules granted each event, the marks tell of each edge among those that are prepared or committed
 pub record AreMarked (S : Setup) (H : List Event) (n : ℕ) (ms : List Mark) : Type 0 where
   pub long : length H ≤ length ms
   pub told : Lawful S H → (u w : ℕ) → IsSettled H u → IsSettled H w → Touches S H n u w → IsTold S H n ms u w
 
--- for what a snapshot control stands, by its register and its marks
+-- which history a snapshot control stands for, by its register and its marks
 pub record MarkedStand (n : ℕ) (batches : Book) (accesses : Shown) (marks : List Mark) (S : Setup) (H : List Event) : Type 0 where
   pub register : SnapshotStand n batches accesses S H
   pub committed : CommittedStand n accesses S H

@@ -23,7 +23,7 @@ is_at_stake H t u = eqb u t || prepared H u || committed H u
 abbrev pub is_across : Setup → List Event → ℕ → ℕ → ℕ → Bool
 is_across S H n u v = meets S H n u v && concurrent S H n u v
 
--- the node stands on the path of each of them
+-- the node is on the path of each of them
 abbrev pub AreHere : Facts → ℕ → List Txn → Type 0
 AreHere f n ts = (u : ℕ) → IsTrue (is_among u ts) → IsHere f n u
 
@@ -38,13 +38,13 @@ lesser_of None o = o
 lesser_of (Some t) None = Some t
 lesser_of (Some t) (Some u) = Some (cond (ltb u.0 t.0) u t)
 
--- of two edges that of the lesser tail, or the only one
+-- the one of two edges with the lesser tail, or the only one
 abbrev pub earlier_of : Option (Txn × Txn) → Txn × Txn → Option (Txn × Txn)
 earlier_of None f = Some f
 earlier_of (Some e) f = Some (cond (ltb f.0.0 e.0.0) f e)
 
 module _ (S : Setup) (H : List Event) (n t : ℕ) where
-  -- u is at stake where t validates, and across from v, and has put x
+  -- u is at stake when t validates, and across from v, and has put x
   pub record PutsAcross (v : ℕ) (x : Cell) (u : ℕ) : Type 0 where
     pub put : IsTrue (wrote H u x)
     pub stake : IsTrue (is_at_stake H t u)
@@ -77,7 +77,7 @@ module _ (S : Setup) (H : List Event) (n t : ℕ) where
     pub to : ℕ
     pub out : Leaves b from to
 
-  -- the least edge out of b's batch: its least member that has one, and the least to which that one has
+  -- the least edge out of b's batch: its least member that has one, and the least transaction to which that member has one
   abbrev pub IsLeastEdge : ℕ → Option (Txn × Txn) → Type 0
   IsLeastEdge b None = IsLeft b → ⊥
   IsLeastEdge b (Some e) = Leaves b e.0.0 e.1.0 × ((c d : ℕ) → Leaves b c d → e.0.0 ≤ c) × ((d : ℕ) → Leads e.0.0 d → e.1.0 ≤ d)
@@ -87,18 +87,18 @@ module _ (S : Setup) (H : List Event) (n t : ℕ) where
   IsLeastEdgeFrom p b None = (c d : ℕ) → IsTrue (p c) → Leaves b c d → ⊥
   IsLeastEdgeFrom p b (Some e) = Leaves b e.0.0 e.1.0 × ((c d : ℕ) → IsTrue (p c) → Leaves b c d → e.0.0 ≤ c) × ((d : ℕ) → Leads e.0.0 d → e.1.0 ≤ d)
 
-  -- the same, but for edges of others to t, of which it may leave some out
+  -- the same, but for edges of others to t, some of which it may leave out
   abbrev pub IsLeastEdgeAside : ℕ → Option (Txn × Txn) → Type 0
   IsLeastEdgeAside b None = (c d : ℕ) → Leaves b c d → d ≡ t
   IsLeastEdgeAside b (Some e) = Leaves b e.0.0 e.1.0 × ((c d : ℕ) → Leaves b c d → (d ≡ t → ⊥) → e.0.0 ≤ c) × ((d : ℕ) → Leads e.0.0 d → e.1.0 ≤ d)
 
-  -- a has an edge to somebody of c's batch
+  -- a has an edge to a member of c's batch
   pub record Reaches (c a : ℕ) : Type 0 where
     pub member : ℕ
     pub batch : IsTrue (one_batch S H n c member)
     pub edge : Leads a member
 
-  -- a has an edge to somebody of c's batch who passes a test
+  -- a has an edge to a member of c's batch that passes a test
   pub record ReachesOne (p : ℕ → Bool) (c a : ℕ) : Type 0 where
     pub reach : Reaches c a
     pub passes : IsTrue (p reach.member)
@@ -107,7 +107,7 @@ module _ (S : Setup) (H : List Event) (n t : ℕ) where
   abbrev pub IsMateAmong : ℕ → List Txn → ℕ → Type 0
   IsMateAmong b among u = IsAcross t among u × IsTrue (one_batch S H n b u)
 
-  -- the least that has an edge to somebody of c's batch, but for t, which it may leave out
+  -- the least that has an edge to a member of c's batch, but for t, which it may leave out
   abbrev pub IsLeastAside : ℕ → Option Txn → Type 0
   IsLeastAside c None = (a : ℕ) → Reaches c a → a ≡ t
   IsLeastAside c (Some u) = Reaches c u.0 × ((a : ℕ) → Reaches c a → (a ≡ t → ⊥) → u.0 ≤ a)
@@ -136,28 +136,28 @@ module _ (S : Setup) (H : List Event) (n t : ℕ) where
     pub into : Leads a b
     pub out : Leaves b c d
 
-  -- a comes first in a pivot
+  -- a is the first of a pivot
   pub record IsFirst (a : ℕ) : Type 0 where
     pub second : ℕ
     pub third : ℕ
     pub fourth : ℕ
     pub pivot : IsPivot a second third fourth
 
-  -- a has an edge to somebody of the batch of one that has an edge to t
+  -- a has an edge to a member of the batch of a transaction that has an edge to t
   pub record ComesIn (a : ℕ) : Type 0 where
     pub third : ℕ
     pub into : Reaches third a
     pub out : Leads third t
 
-  -- a comes first in a pivot in which t is last, or second
+  -- a is the first of a pivot in which t is last, or second
   abbrev pub ComesBefore : ℕ → Type 0
   ComesBefore a = ComesIn a ⊎ (Leads a t × IsLeft t)
 
-  -- a comes first in a pivot in which t is third, or first
+  -- a is the first of a pivot in which t is third, or first
   abbrev pub ComesAfter : ℕ → Type 0
   ComesAfter a = (Reaches t a × ((d : ℕ) × Leads t d)) ⊎ ((a ≡ t) × ((b : ℕ) × IsMiddle t b))
 
-  -- a has an edge to somebody of the batch of one of some that are across from t
+  -- a has an edge to a member of the batch of one of some that are across from t
   pub record ComesInAmong (among : List Txn) (a : ℕ) : Type 0 where
     pub third : ℕ
     pub into : Reaches third a

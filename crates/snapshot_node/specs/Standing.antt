@@ -1,4 +1,4 @@
--- For what a snapshot control stands.
+-- Which history a snapshot control stands for.
 use Rattle.std.specs.Prelude.{◌≡◌, ℕ, Bool, not, cond, ◌&&◌, ◌||◌, List, [], map, filter}
 use Rattle.teb_names.specs.declared.Cell.{Cell}
 use Rattle.teb_names.specs.declared.Txn.{Txn}
@@ -43,7 +43,7 @@ has_read_in S H n x u = on S H n u && not (aborted H u) && got H u x
 abbrev pub readers_in : Setup → List Event → ℕ → Cell → List Txn
 readers_in S H n x = map (λ (u : ℕ). record { 0 = u }) (filter (has_read_in S H n x) (txns H))
 
--- node n is a snapshot node, one book shows its batches, and another who accessed what
+-- node n is a snapshot node, one book shows its batches, and another the accesses there
 pub record SnapshotStand (n : ℕ) (book : Book) (accesses : Shown) (S : Setup) (H : List Event) : Type 0 where
   pub kind : (row S.tree n).control ≡ Snapshot
   pub size : book.size ≡ (row S.tree n).batch

@@ -1,4 +1,4 @@
--- For what a register stands, and for how many events it has room.
+-- Which history a register stands for, and for how many events it has room.
 use Rattle.std.specs.Prelude.{ℕ, List, min}
 use Rattle.teb_history.specs.declared.Event.{Event}
 use Rattle.teb_rules.specs.Setup.{Setup}

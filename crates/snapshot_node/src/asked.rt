@@ -1,4 +1,4 @@
-//! A snapshot control that is asked: whose batches are closed before whose, who has put a cell, and what one has accessed.
+//! Questions to a snapshot control: which batches closed before which, the writers of a cell, and the accesses of a transaction.
 
 ghost use Rattle.std.specs.Prelude.{◌≡◌, find, ltb};
 ghost use Rattle.teb_rules.specs.Batches.{start, close};
@@ -11,7 +11,7 @@ use access_book::Accesses;
 use phase_api::Facts;
 use teb_names::{Cell, Txn};
 
-/// A control, and the facts for which it stands.
+/// A control, with the facts of the history that it stands for.
 #[derive(Clone, Copy)]
 pub(crate) struct Asked<'a> {
     pub(crate) register: &'a Register,
@@ -22,7 +22,7 @@ pub(crate) struct Asked<'a> {
 impl<'a> Asked<'a> {
     ghost use Rattle.snapshot_node.specs.Asking.{AreThere, IsAt, IsWalk, comes_first, is_met, there};
 
-    // Those on whose path the node stands that have put a cell and are not aborted, in ascending number, each once.
+    // Returns the transactions with the node on their paths that have put a cell and are not aborted, in ascending number, each once.
     #[inline(always)]
     pub(crate) fn writers(&self, cell: Cell) -> &[Txn]
         ensures { result.now ≡ there self.now writers_in cell }
@@ -30,7 +30,7 @@ impl<'a> Asked<'a> {
         self.register.accesses.writers(cell)
     }
 
-    // The accesses of a transaction, the newest first.
+    // Returns the accesses of a transaction, the newest first.
     #[inline(always)]
     pub(crate) fn accesses(&self, t: Txn) -> Accesses<'_>
         requires { IsAt self.now t.0 }
@@ -39,7 +39,7 @@ impl<'a> Asked<'a> {
         self.register.accesses.accesses(t)
     }
 
-    // Whether u's batch is closed before t's starts.
+    // Returns whether u's batch is closed before t's starts.
     pub(crate) fn is_closed_before(&self, u: Txn, t: Txn) -> bool
         requires left { IsAt self.now u.0 }
         requires right { IsAt self.now t.0 }
@@ -48,7 +48,7 @@ impl<'a> Asked<'a> {
         self.register.batches.is_closed_before(u, t)
     }
 
-    // The first of some writers of a cell that is committed, meets t, and is not of a batch closed before t's starts.
+    // Returns the first of some writers of a cell that is committed, meets t, and is not of a batch closed before t's starts.
     pub(crate) fn first_writer(&self, t: Txn, among: &[Txn]) -> Option<Txn>
         requires here { IsAt self.now t.0 }
         requires among_here { AreThere self.now among.now }
@@ -65,7 +65,7 @@ impl<'a> Asked<'a> {
         None
     }
 
-    // The first of some writers of a cell that is unfinished and meets t, so that t's write of the cell waits for it.
+    // Returns the first of some writers of a cell that is unfinished and meets t, so that t's write of the cell waits for it.
     pub(crate) fn blocker(&self, t: Txn, among: &[Txn]) -> Option<Txn>
         requires here { IsAt self.now t.0 }
         requires among_here { AreThere self.now among.now }

@@ -1,4 +1,4 @@
-//! Edges at all members of a batch: those at who is known to have one, and those of the one that validates.
+//! Edges at all members of a batch: at members that are known to have one, and at the transaction that validates.
 
 ghost use Rattle.std.specs.Prelude.{◌≡◌};
 ghost use Rattle.snapshot_node.specs.Pivots.{IsLeast, IsLeastEdge, IsLeastEdgeAside, IsLeastEdgeFrom, IsLeastAside, Reaches, ReachesOne, is_mate, earlier_of};
@@ -10,7 +10,7 @@ use crate::neighbours::{is_at_stake, lesser};
 use crate::validation::{Own, Validation};
 use teb_names::Txn;
 
-/// Of two edges that of the lesser tail, or the only one.
+/// Returns the one of two edges with the lesser tail, or the only one.
 fn earlier(known: Option<(Txn, Txn)>, edge: (Txn, Txn)) -> Option<(Txn, Txn)>
     ensures { result ≡ earlier_of known edge }
 {
@@ -21,7 +21,7 @@ fn earlier(known: Option<(Txn, Txn)>, edge: (Txn, Txn)) -> Option<(Txn, Txn)>
 }
 
 impl<'a> Validation<'a> {
-    // Whether u is of b's batch, and at stake.
+    // Returns whether u is of b's batch, and at stake.
     fn is_mate(&self, b: Txn, u: Txn) -> bool
         requires begun_b { HasBegun self.now.asked b.0 }
         requires begun_u { HasBegun self.now.asked u.0 }
@@ -30,21 +30,21 @@ impl<'a> Validation<'a> {
         self.are_one_batch(b, u) && is_at_stake(self.asked.facts.history, self.t, u)
     }
 
-    // Whether c is t, or known to have an edge.
+    // Returns whether c is t, or known to have an edge.
     fn may_lead(&self, c: Txn) -> bool
         ensures { result ≡ may_lead self.now c.0 }
     {
         c == self.t || mark_at(self.marks, place_of(c)).ahead
     }
 
-    // Whether b is t, or somebody is known to have an edge to it.
+    // Returns whether b is t, or an edge is known to lead to it.
     fn may_be_led_to(&self, b: Txn) -> bool
         ensures { result ≡ may_be_led_to self.now b.0 }
     {
         b == self.t || mark_at(self.marks, place_of(b)).behind
     }
 
-    /// The least edge out of b's batch: of its least member that has one, to the least that it leads to.
+    /// Returns the least edge out of b's batch: of its least member that has one, to the least that it leads to.
     pub(crate) fn edge_out(&self, b: Txn, own: Own) -> Option<(Txn, Txn)>
         requires here { IsAt self.now.asked b.0 }
         requires own { AreOwn self.now own }
@@ -60,7 +60,7 @@ impl<'a> Validation<'a> {
         }
     }
 
-    // The same, but for edges of others to t: it may leave some of them out. Where no edge is known to leave b's batch, t's are the
+    // Returns the same, but for edges of others to t, some of which it may leave out. If no edge is known to leave b's batch, t's are the
     // only others.
     fn edge_aside(&self, b: Txn, own: Own) -> Option<(Txn, Txn)>
         requires here { IsAt self.now.asked b.0 }
@@ -79,7 +79,7 @@ impl<'a> Validation<'a> {
         }
     }
 
-    // The same by the members that are known to have an edge, and by t.
+    // Returns the same by the members that are known to have an edge, and by t.
     fn known_edge_out(&self, b: Txn) -> Option<(Txn, Txn)>
         requires { IsAt self.now.asked b.0 }
         ensures { at self.now IsLeastEdgeFrom (may_lead self.now) b.0 result }
@@ -97,7 +97,7 @@ impl<'a> Validation<'a> {
         None
     }
 
-    /// The least one that has an edge to a member of c's batch.
+    /// Returns the least one that has an edge to a member of c's batch.
     pub(crate) fn least_into(&self, c: Txn, own: Own) -> Option<Txn>
         requires here { IsAt self.now.asked c.0 }
         requires own { AreOwn self.now own }
@@ -113,7 +113,7 @@ impl<'a> Validation<'a> {
         }
     }
 
-    // The same, but for t: it may leave t out. Where no edge is known to lead into c's batch, those to t are the only others.
+    // Returns the same, but may leave t out. If no edge is known to lead into c's batch, those to t are the only others.
     fn into_aside(&self, c: Txn, own: Own) -> Option<Txn>
         requires here { IsAt self.now.asked c.0 }
         requires own { AreOwn self.now own }
@@ -128,7 +128,7 @@ impl<'a> Validation<'a> {
         own.behind
     }
 
-    // The same by the members to whom somebody is known to have an edge, and by t.
+    // Returns the same by the members that an edge is known to lead to, and by t.
     fn known_into(&self, c: Txn) -> Option<Txn>
         requires { IsAt self.now.asked c.0 }
         ensures { IsLeast (at self.now ReachesOne (may_be_led_to self.now) c.0) result }

@@ -1,8 +1,8 @@
 //! Whether an edge leads from a committed transaction to a committed one.
 //!
-//! A read and a committed write of its cell make an edge where their batches are of different sides and concurrent: the version
-//! read is then before the one written. The batches of the writers of one cell lie one behind the other, in the order in which the
-//! writers are numbered. So it is enough to look at the last committed one whose batch starts before the reader's closes.
+//! A read and a committed write of its cell make an edge if their batches are of different sides and concurrent: the version read
+//! is then before the one written. The batches of the writers of one cell follow one another, in the order in which the writers
+//! are numbered. So it is enough to look at the last committed one whose batch starts before the reader's closes.
 
 ghost use Rattle.std.specs.Prelude.{◌≡◌, IsTrue};
 ghost use Rattle.sorted_multimap.specs.LastMatches.{IsLastPlace};
@@ -24,8 +24,8 @@ use teb_history::{Event, History};
 use teb_names::{Cell, Txn};
 
 impl Snapshot {
-    /// Whether an edge leads from `a`, which is committed and on whose path the node stands, to a committed transaction. It costs
-    /// one look where no edge is known to lead from `a`, and else, for each read of `a`, a binary search in the writers of the cell
+    /// Returns whether an edge leads from `a`, which is committed and has the node on its path, to a committed transaction. It costs
+    /// one look if no edge is known to lead from `a`; otherwise, for each read of `a`, a binary search in the writers of the cell
     /// and a look at the unfinished ones among them, of which there is at most one for each session.
     pub fn has_edge(&self, facts: &Facts, a: Txn) -> bool
         requires stands { SnapshotStandsFor self.now (setup_of facts.now) (events_of facts.now) }
@@ -47,7 +47,7 @@ impl Snapshot {
 }
 
 impl<'a> Asked<'a> {
-    // The same by the reads of `a`.
+    // Returns the same by the reads of `a`.
     fn leads_out(&self, a: Txn) -> bool
         requires sound { IsSound (setup_of self.now.facts.now) }
         requires lawful { Lawful (setup_of self.now.facts.now) (history self.now) }
@@ -64,7 +64,7 @@ impl<'a> Asked<'a> {
         false
     }
 
-    // Whether a committed transaction across from `a` has put a cell. The last committed writer whose batch starts before that of
+    // Returns whether a committed transaction across from `a` has put a cell. The last committed writer whose batch starts before that of
     // `a` closes is one, if there is any.
     fn is_overwritten(&self, a: Txn, cell: Cell) -> bool
         requires lawful { Lawful (setup_of self.now.facts.now) (history self.now) }
@@ -78,7 +78,7 @@ impl<'a> Asked<'a> {
         }
     }
 
-    // Where the batch of `a` closes: the length of the history while it is open.
+    // Returns the close of `a`'s batch: the length of the history while it is open.
     fn close_of(&self, a: Txn) -> usize
         requires { IsAt self.now a.0 }
         ensures { result ≡ there self.now close a.0 }
@@ -89,7 +89,7 @@ impl<'a> Asked<'a> {
             .unwrap_or(self.facts.history.len())
     }
 
-    // The writers of a cell whose batches start before a position. They come first, and are found by a binary search.
+    // Returns the writers of a cell whose batches start before a position. They are the first ones, and are found by a binary search.
     fn started_before(&self, cell: Cell, at: usize) -> &[Txn]
         requires { Lawful (setup_of self.now.facts.now) (history self.now) }
         ensures { there self.now AreStarted cell at result.now }
@@ -109,7 +109,7 @@ impl<'a> Asked<'a> {
     }
 }
 
-// The place of the last of some transactions that is committed.
+// Returns the place of the last of some transactions that is committed.
 fn last_committed(history: &History, txns: &[Txn]) -> Option<usize>
     ensures { IsLastPlace (λ u. committed history.now.events u.0) txns.now result }
 {

@@ -14,7 +14,7 @@ use access_book::Access;
 use teb_history::Event;
 use teb_names::Txn;
 
-/// The transaction that an event shows to be validated.
+/// Returns the transaction that an event shows to be validated.
 pub(crate) fn validated(e: Event) -> Option<Txn>
     ensures { result ≡ validated_txn e }
 {
@@ -84,7 +84,7 @@ fn mark_pair(marks: &mut [Mark], asked: &Asked, u: Txn, w: Txn)
     mark_ends(marks, place_of(u), place_of(w));
 }
 
-// Whether u is at stake where t was validated, and their batches are two that overlap: where the rules granted each event, whether
+// Returns whether u was at stake when t was validated, and their batches overlap: if the rules granted each event, that is whether
 // it is across from t.
 #[inline(always)]
 fn may_be_across(asked: &Asked, t: Txn, u: Txn) -> bool

@@ -18,7 +18,7 @@ pub struct Mark {
     pub(crate) ahead: bool,
 }
 
-/// The mark where no edge is known.
+/// The mark if no edge is known.
 pub(crate) const NO_MARK: Mark = Mark {
     entered: false,
     left: false,
@@ -26,7 +26,7 @@ pub(crate) const NO_MARK: Mark = Mark {
     ahead: false,
 };
 
-/// The mark of a place.
+/// Returns the mark of a place.
 pub(crate) fn mark_at(marks: &[Mark], place: usize) -> Mark
     ensures { result ≡ get_or marks.now place no_mark }
 {
@@ -36,7 +36,7 @@ pub(crate) fn mark_at(marks: &[Mark], place: usize) -> Mark
     }
 }
 
-/// The place of a transaction: they are numbered from 1 on.
+/// Returns the place of a transaction: they are numbered from 1 on.
 pub(crate) fn place_of(t: Txn) -> usize
     ensures { result ≡ place_of_txn t.0 }
 {

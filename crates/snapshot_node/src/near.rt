@@ -15,7 +15,7 @@ use crate::validation::{Own, Validation};
 use teb_names::Txn;
 
 impl<'a> Validation<'a> {
-    /// Whether t may be in a pivot, by its own edges. With edges of both kinds it may. With edges of one kind only, an edge of others
+    /// Returns whether t may be in a pivot, by its own edges. With edges of both kinds it may. With edges of one kind only, an edge of others
     /// has to enter or to leave the batch of t, or of one at the other end.
     pub(crate) fn is_near(&self, own: Own) -> bool
         requires { AreOwn self.now own }
@@ -29,7 +29,7 @@ impl<'a> Validation<'a> {
         }
     }
 
-    /// The mark of u's batch.
+    /// Returns the mark of u's batch.
     pub(crate) fn mark_of(&self, u: Txn) -> Mark
         requires { IsAt self.now.asked u.0 }
         ensures { result ≡ get_or self.now.marks.now (there self.now.asked start u.0) no_mark }
@@ -37,7 +37,7 @@ impl<'a> Validation<'a> {
         mark_at(self.marks, self.asked.register.batches.start(u))
     }
 
-    /// The least of some at stake that are across from t, and whether one of them is of a batch that is known to be left.
+    /// Returns the least of some at stake that are across from t, and whether one of them is of a batch that is known to be left.
     #[inline(always)]
     pub(crate) fn heads_among(&self, among: &[Txn]) -> (Option<Txn>, bool)
         requires ascending { IsAscendingBy number_of among.now }
@@ -51,7 +51,7 @@ impl<'a> Validation<'a> {
         }
     }
 
-    // Whether one of some at stake that are across from t is of a batch that is known to be left.
+    // Returns whether one of some at stake that are across from t is of a batch that is known to be left.
     fn is_left_among(&self, among: &[Txn]) -> bool
         requires { AreAt self.now among.now }
         ensures { IsFalse result → (b : ℕ) → at self.now IsAcross self.now.t.0 among.now b → IsTrue (is_marked_left self.now b) → ⊥ }
@@ -67,7 +67,7 @@ impl<'a> Validation<'a> {
         false
     }
 
-    /// The least of some at stake that are across from t, and whether one of them is of a batch that is known to be entered.
+    /// Returns the least of some at stake that are across from t, and whether one of them is of a batch that is known to be entered.
     #[inline(always)]
     pub(crate) fn tails_among(&self, among: &[Txn]) -> (Option<Txn>, bool)
         requires ascending { IsAscendingBy number_of among.now }
@@ -81,7 +81,7 @@ impl<'a> Validation<'a> {
         }
     }
 
-    // Whether one of some at stake that are across from t is of a batch that is known to be entered.
+    // Returns whether one of some at stake that are across from t is of a batch that is known to be entered.
     fn is_entered_among(&self, among: &[Txn]) -> bool
         requires { AreAt self.now among.now }
         ensures { IsFalse result → (a : ℕ) → at self.now IsAcross self.now.t.0 among.now a → IsTrue (is_marked_entered self.now a) → ⊥ }

@@ -1,5 +1,5 @@
-//! To whom edges lead from a transaction, and from whom they lead to it, by the readers and the writers of the cells that it
-//! has put or read.
+//! The transactions to which edges lead from a transaction, and those from which they lead to it, by the readers and the writers
+//! of the cells that it has put or read.
 
 ghost use Rattle.std.specs.Prelude.{◌≡◌};
 ghost use Rattle.teb_history.specs.Ascending.{IsAscendingBy};
@@ -14,7 +14,7 @@ use access_book::Access;
 use teb_history::History;
 use teb_names::Txn;
 
-/// Whether u is at stake where t validates: it is t itself, or prepared or committed.
+/// Returns whether u is at stake when t validates: it is t itself, or prepared or committed.
 #[inline(always)]
 pub(crate) fn is_at_stake(history: &History, t: Txn, u: Txn) -> bool
     ensures { result ≡ is_at_stake history.now.events t.0 u.0 }
@@ -22,7 +22,7 @@ pub(crate) fn is_at_stake(history: &History, t: Txn, u: Txn) -> bool
     u == t || history.is_prepared(u) || history.is_committed(u)
 }
 
-/// The lesser of two, or the only one.
+/// Returns the lesser of two, or the only one.
 pub(crate) fn lesser(a: Option<Txn>, b: Option<Txn>) -> Option<Txn>
     ensures { result ≡ lesser_of a b }
 {
@@ -34,7 +34,7 @@ pub(crate) fn lesser(a: Option<Txn>, b: Option<Txn>) -> Option<Txn>
 }
 
 impl<'a> Validation<'a> {
-    /// Whether u and v meet here, and their batches are concurrent: they are two that overlap.
+    /// Returns whether u and v meet here, and their batches are concurrent: they overlap.
     #[inline(always)]
     pub(crate) fn are_across(&self, u: Txn, v: Txn) -> bool
         requires left { IsAt self.now.asked u.0 }
@@ -44,7 +44,7 @@ impl<'a> Validation<'a> {
         u != v && self.asked.register.batches.overlap(u, v)
     }
 
-    /// Whether two are of one batch: where both are here, theirs start at one place.
+    /// Returns whether two transactions are of one batch: both have the node on their paths, and their batches start at one position.
     pub(crate) fn are_one_batch(&self, b: Txn, c: Txn) -> bool
         requires begun_b { HasBegun self.now.asked b.0 }
         requires begun_c { HasBegun self.now.asked c.0 }
@@ -60,7 +60,7 @@ impl<'a> Validation<'a> {
         start == other
     }
 
-    /// The least of some at stake that are across from u.
+    /// Returns the least of some at stake that are across from u.
     #[inline(always)]
     pub(crate) fn first_across(&self, u: Txn, among: &[Txn]) -> Option<Txn>
         requires here { IsAt self.now.asked u.0 }
@@ -76,7 +76,7 @@ impl<'a> Validation<'a> {
         None
     }
 
-    /// The least one to whom t has an edge, the least one that has an edge to t, and whether edges of others may go on from t's.
+    /// Returns the least transaction to which t has an edge, the least one that has an edge to t, and whether edges of others may go on from t's.
     pub(crate) fn own_edges(&self) -> Own
         ensures { AreOwn self.now result }
     {
@@ -107,7 +107,7 @@ impl<'a> Validation<'a> {
         }
     }
 
-    /// The least one to whom c, which is at stake, has an edge.
+    /// Returns the least transaction to which c, which is at stake, has an edge.
     pub(crate) fn least_ahead(&self, c: Txn) -> Option<Txn>
         requires here { IsAt self.now.asked c.0 }
         requires stake { IsAtStake self.now c.0 }
@@ -123,7 +123,7 @@ impl<'a> Validation<'a> {
         least
     }
 
-    /// The least one that has an edge to b, which is at stake.
+    /// Returns the least one that has an edge to b, which is at stake.
     pub(crate) fn least_behind(&self, b: Txn) -> Option<Txn>
         requires here { IsAt self.now.asked b.0 }
         requires stake { IsAtStake self.now b.0 }

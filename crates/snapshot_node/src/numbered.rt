@@ -7,10 +7,10 @@ ghost use Rattle.teb_history.specs.Live.{number_of};
 
 use teb_names::Txn;
 
-/// At how many of the last ones `from_number` looks before it searches all.
+/// `from_number` looks at this many of the last ones before it searches all.
 const FEW: usize = 4;
 
-/// Those of ascending transactions that are numbered from `first` on. Nearly always they are among the last few.
+/// Returns those of ascending transactions that are numbered from `first` on. Nearly always they are among the last few.
 pub(crate) fn from_number(txns: &[Txn], first: Txn) -> &[Txn]
     requires { IsAscendingBy number_of txns.now }
     ensures { result.now ≡ filter (λ u. leb first.0 u.0) txns.now }
@@ -23,7 +23,7 @@ pub(crate) fn from_number(txns: &[Txn], first: Txn) -> &[Txn]
     &txns[start..]
 }
 
-// The same where the one at a place is numbered below `first`: it looks at those behind it, one after another.
+// Returns the same, given a place whose transaction is numbered below `first`: it looks at the later ones, one after another.
 fn from_number_behind(txns: &[Txn], below: usize, first: Txn) -> &[Txn]
     requires ascending { IsAscendingBy number_of txns.now }
     requires within { below < length txns.now }

@@ -11,7 +11,7 @@ use access_book::Access;
 use teb_names::Txn;
 
 impl<'a> Validation<'a> {
-    /// The least member of b's batch that has an edge to t.
+    /// Returns the least member of b's batch that has an edge to t.
     pub(crate) fn least_mate_behind(&self, b: Txn) -> Option<Txn>
         requires { IsAt self.now.asked b.0 }
         ensures { IsLeast (λ c. at self.now Leaves b.0 c self.now.t.0) result }
@@ -26,7 +26,7 @@ impl<'a> Validation<'a> {
         least
     }
 
-    /// The least member of b's batch to whom t has an edge.
+    /// Returns the least member of b's batch to which t has an edge.
     pub(crate) fn least_mate_ahead(&self, b: Txn) -> Option<Txn>
         requires { IsAt self.now.asked b.0 }
         ensures { IsLeast (at self.now EntersAt b.0) result }
@@ -41,7 +41,7 @@ impl<'a> Validation<'a> {
         least
     }
 
-    // The least of some at stake that are across from t, and of b's batch.
+    // Returns the least of some at stake that are across from t, and of b's batch.
     fn first_mate_across(&self, b: Txn, among: &[Txn]) -> Option<Txn>
         requires here { IsAt self.now.asked b.0 }
         requires ascending { IsAscendingBy number_of among.now }

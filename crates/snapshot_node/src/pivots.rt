@@ -1,7 +1,7 @@
-//! The least pivot: two edges among those at stake, from a to b and from c to d, where b and c are of one batch.
+//! The least pivot: two edges among those at stake, from a to b and from c to d, such that b and c are of one batch.
 //!
-//! Each pivot has the one that validates in it, since those that were validated before hold none. So whoever comes first in a
-//! pivot is found from the edges at that one and at its batch.
+//! Each pivot contains the transaction that validates, since those that were validated before hold none. So the first of a pivot is
+//! found from the edges at that transaction and at its batch.
 
 ghost use Rattle.std.specs.Prelude.{◌≡◌};
 ghost use Rattle.teb_history.specs.Ascending.{IsAscendingBy};
@@ -17,7 +17,7 @@ use teb_names::Txn;
 use teb_rules::Broken;
 
 impl<'a> Validation<'a> {
-    /// The least pivot among those at stake.
+    /// Returns the least pivot among those at stake.
     pub(crate) fn least_pivot(&self) -> Option<Broken>
         ensures { break_by result ≡ ruled self.now }
     {
@@ -34,7 +34,7 @@ impl<'a> Validation<'a> {
         Some(Broken::Pivot { a, b, c, d })
     }
 
-    // The least one that comes first in a pivot.
+    // Returns the least transaction that is the first of a pivot.
     fn least_first(&self, own: Own) -> Option<Txn>
         requires { AreOwn self.now own }
         ensures { IsLeast (at self.now IsFirst) result }
@@ -42,8 +42,8 @@ impl<'a> Validation<'a> {
         lesser(self.first_before(own), self.first_after(own))
     }
 
-    // The same with t last or second. With t last, an edge leads to t, and one into the batch of whoever has it; with t second, an
-    // edge leads to t, and one leaves t's batch.
+    // Returns the same for pivots with t last or second. With t last, an edge leads to t, and one into the batch of the one that has it; with t
+    // second, an edge leads to t, and one leaves t's batch.
     fn first_before(&self, own: Own) -> Option<Txn>
         requires { AreOwn self.now own }
         ensures { IsLeast (at self.now ComesBefore) result }
@@ -58,8 +58,8 @@ impl<'a> Validation<'a> {
         least
     }
 
-    // The same with t third or first. With t third, an edge leads from t, and one into t's batch; with t first, an edge leads from
-    // t into a batch that one leaves.
+    // Returns the same for pivots with t third or first. With t third, an edge leads from t, and one into t's batch; with t first, an edge leads
+    // from t into a batch that one leaves.
     fn first_after(&self, own: Own) -> Option<Txn>
         requires { AreOwn self.now own }
         ensures { IsLeast (at self.now ComesAfter) result }
@@ -74,7 +74,7 @@ impl<'a> Validation<'a> {
         least
     }
 
-    // The least one with an edge into a batch that an edge leads from to t.
+    // Returns the least one with an edge into a batch that an edge leads from to t.
     fn least_before(&self, own: Own) -> Option<Txn>
         requires { AreOwn self.now own }
         ensures { IsLeast (at self.now ComesIn) result }
@@ -89,8 +89,8 @@ impl<'a> Validation<'a> {
         least
     }
 
-    // The same of those at stake among some that are across from t. Of those that follow one another in one batch it asks the first:
-    // the others are reached by the same. `last` is the last one that was asked; at first t, who has no mate across from it.
+    // Returns the same by those at stake among some that are across from t. Of those that follow one another in one batch it asks the first:
+    // the others are reached by the same. `last` is the last one that was asked; at first t, which has no mate across from it.
     fn least_before_by(&self, among: &[Txn], own: Own) -> Option<Txn>
         requires own { AreOwn self.now own }
         requires among_here { AreAt self.now among.now }
@@ -111,7 +111,7 @@ impl<'a> Validation<'a> {
         least
     }
 
-    // The least one to whom a, which is at stake, has an edge, and whose batch an edge leaves.
+    // Returns the least transaction to which a, which is at stake, has an edge, and whose batch an edge leaves.
     fn least_middle(&self, a: Txn, own: Own) -> Option<Txn>
         requires here { IsAt self.now.asked a.0 }
         requires stake { IsAtStake self.now a.0 }
@@ -128,7 +128,7 @@ impl<'a> Validation<'a> {
         least
     }
 
-    // The first of some at stake that are across from a, and whose batch an edge leaves.
+    // Returns the first of some at stake that are across from a, and whose batch an edge leaves.
     fn middle_by(&self, a: Txn, among: &[Txn], own: Own) -> Option<Txn>
         requires here { IsAt self.now.asked a.0 }
         requires own { AreOwn self.now own }

@@ -1,4 +1,4 @@
-//! Of some transactions, those whose batches may overlap that of one.
+//! The transactions, of some, whose batches may overlap that of one.
 
 ghost use Rattle.std.specs.Prelude.{◌≡◌};
 ghost use Rattle.teb_history.specs.Ascending.{IsAscendingBy};
@@ -10,7 +10,7 @@ use crate::asked::Asked;
 use crate::numbered::from_number;
 use teb_names::Txn;
 
-/// A control that is asked, a transaction t, and t's horizon there: whoever is numbered below it was of a batch closed before
+/// Questions to a control, a transaction t, and t's horizon there: each transaction numbered below it was of a batch that closed before
 /// t's started.
 #[derive(Clone, Copy)]
 pub(crate) struct Recent<'a> {
@@ -21,7 +21,7 @@ pub(crate) struct Recent<'a> {
 }
 
 impl<'a> Asked<'a> {
-    /// Those from t's horizon on. It costs a binary search, and a walk along t's accesses needs it once.
+    /// Returns the transactions from t's horizon on. It costs a binary search, which a walk along t's accesses needs once.
     pub(crate) fn recent(&self, t: Txn) -> Recent<'a>
         requires { IsAt self.now t.0 }
         ensures asked { result.asked ≡ self.now }
@@ -36,7 +36,7 @@ impl<'a> Asked<'a> {
 }
 
 impl<'a> Recent<'a> {
-    /// Those among some transactions of the node.
+    /// Returns those of some transactions of the node.
     #[inline(always)]
     pub(crate) fn among<'b>(&self, txns: &'b [Txn]) -> &'b [Txn]
         requires ascending { IsAscendingBy number_of txns.now }

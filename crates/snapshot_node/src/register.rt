@@ -1,4 +1,4 @@
-//! What a snapshot control keeps of a history: the batches of its node, and who has accessed what.
+//! What a snapshot control keeps of a history: the batches of its node, and the accesses there.
 
 ghost use Rattle.std.specs.Prelude.{◌≡◌, ◌<◌, ◌≤◌, ◌+◌, [], List, drop, length, IfOk, OnOk};
 ghost use Rattle.teb_names.specs.declared.ControlKind.TheVariants.{Snapshot as IsSnapshot};
@@ -16,7 +16,7 @@ use std::alloc::{AllocError, Global};
 use teb_history::Event;
 use teb_names::{Node, Txn};
 
-/// The batches of a snapshot node, and who has read and put each cell.
+/// The batches of a snapshot node, and the readers and writers of each cell.
 #[derive(Drop)]
 pub struct Register {
     pub(crate) node: Node,
@@ -25,7 +25,7 @@ pub struct Register {
 }
 
 impl Register {
-    /// That of an empty history. Takes no memory.
+    /// Returns the register of an empty history. Takes no memory.
     pub(crate) fn new(alloc: Global, node: Node, facts: &Facts) -> Result<Self, AllocError>
         requires kind { (row (setup_of facts.now).tree node.0).control ≡ IsSnapshot }
         requires empty { events_of facts.now ≡ [] }
@@ -40,7 +40,7 @@ impl Register {
         })
     }
 
-    /// Makes room for n events. It stays as it was, also after an `Err`.
+    /// Makes room for n events. It stands for the same history as before, also on `Err`.
     pub(crate) fn reserve(&mut self, n: usize) -> Result<(), AllocError>
         ensures node { self.new.node ≡ self.old.node }
         ensures stands { (S : Setup) (H : List Event) → RegisterStands self.old S H → RegisterStands self.new S H }
@@ -51,7 +51,7 @@ impl Register {
         self.accesses.reserve(n)
     }
 
-    /// Notes the newest event of the history, which takes one place of the room at the most.
+    /// Notes the newest event of the history, which takes at most one place of the room.
     #[inline(always)]
     pub(crate) fn note(&mut self, facts: &Facts, e: Event)
         requires newest { IsNewest facts.now e self.old.node.0 }
@@ -88,7 +88,7 @@ impl Register {
         }
     }
 
-    // Notes the Began of a transaction at position `at`, the newest event: where the node is on its path, it joins a batch.
+    // Notes the Began of a transaction at position `at`, the newest event: if the node is on its path, it joins a batch.
     #[inline(never)]
     fn begin(&mut self, facts: &Facts, txn: Txn, at: usize)
         requires newest { HasJustBegun facts.now self.old.node.0 txn }

@@ -32,7 +32,7 @@ pub struct Snapshot {
 }
 
 impl Snapshot {
-    /// The control of a snapshot node for an empty history. Takes no memory.
+    /// Returns the control of a snapshot node for an empty history. Takes no memory.
     pub fn new(alloc: Global, node: Node, facts: &Facts) -> Result<Self, AllocError>
         requires kind { (row (setup_of facts.now).tree node.0).control ≡ IsSnapshot }
         requires empty { events_of facts.now ≡ [] }
@@ -45,7 +45,7 @@ impl Snapshot {
         })
     }
 
-    /// The committed transactions on whose path the node stands that have put a cell, in ascending number, each once.
+    /// Returns the committed transactions with the node on their paths that have put a cell, in ascending number, each once.
     pub fn committed(&self, _facts: &Facts, cell: Cell) -> &[Txn]
         requires { SnapshotStandsFor self.now (setup_of _facts.now) (events_of _facts.now) }
         ensures { result.now ≡ committed_in (setup_of _facts.now) (events_of _facts.now) (snapshot_node_number self.now) cell }
@@ -53,7 +53,7 @@ impl Snapshot {
         self.register.accesses.committed(cell)
     }
 
-    /// The batches of its node.
+    /// Returns the batches of its node.
     pub fn batches(&self) -> &Batches
         ensures { result.now ≡ self.now.register.batches }
     {

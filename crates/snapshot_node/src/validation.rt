@@ -27,8 +27,8 @@ pub(crate) struct Validation<'a> {
     ghost marked: { AreMarked (setup_of asked.facts.now) (events_of asked.facts.now) asked.register.now.node.0 marks.now } by { Prim.hlevel kept },
 }
 
-/// The least to whom the one that validates has an edge, and the least that has an edge to it; and whether it has one to somebody
-/// whose batch is known to be left, and one from somebody whose batch is known to be entered.
+/// The least transaction to which the one that validates has an edge, and the least that has an edge to it; and whether it has one to a
+/// transaction whose batch is known to be left, and one from a transaction whose batch is known to be entered.
 #[derive(Clone, Copy)]
 pub(crate) struct Own {
     pub(crate) ahead: Option<Txn>,

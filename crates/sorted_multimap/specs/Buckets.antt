@@ -13,7 +13,7 @@ values_beside R (j ∷ js) (v ∷ vs) k = let r = values_beside R js vs k in con
 abbrev pub bucket_values : {K V : Type 0} → (K → K → Ordering) → Bucket K V → K → List V
 bucket_values R p k = values_beside R p.keys.items p.values.items k
 
--- no key is above one behind it
+-- no key is above a later one
 abbrev pub NoneBelow : {K : Type 0} → (K → K → Ordering) → K → List K → Type 0
 NoneBelow R k [] = ⊤
 NoneBelow R k (j ∷ js) = IsFalse (is_gt (R k j)) × NoneBelow R k js
@@ -66,7 +66,7 @@ pub record IsBucket {K V : Type 0} (R : K → K → Ordering) (spread : K → �
   pub room : HasRoom b spare
   pub own : (q : K) → spread q % n ≢ i → bucket_values R b q ≡ []
 
--- each bucket is sound, and there is one where there is room
+-- each bucket is sound, and if there is room there is a bucket
 pub record IsSpread {K V : Type 0} (R : K → K → Ordering) (spread : K → ℕ) (bs : List (Bucket K V)) (spare : ℕ) : Type 0 where
   pub some : 0 < spare → 0 < length bs
   pub each : (i : ℕ) (d : Bucket K V) → i < length bs → IsBucket R spread (length bs) i spare (get_or bs i d)
@@ -78,7 +78,7 @@ pub record IsKept {K V : Type 0} (R : K → K → Ordering) (a b : Bucket K V) :
   pub sorted : IsSorted R a → IsSorted R b
   pub room : (n : ℕ) → HasRoom a n → HasRoom b n
 
--- so do the buckets of two lists, place by place
+-- the same of the buckets of two lists, place by place
 pub record AreKept {K V : Type 0} (R : K → K → Ordering) (as_ bs : List (Bucket K V)) : Type 0 where
   pub len : length bs ≡ length as_
   pub each : (i : ℕ) (d : Bucket K V) → i < length as_ → IsKept R (get_or as_ i d) (get_or bs i d)

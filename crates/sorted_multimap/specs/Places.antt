@@ -5,7 +5,7 @@ use Rattle.teb_history.specs.Ascending.{place_of}
 use Rattle.sorted_multimap.specs.declared.bucket.Bucket.{Bucket}
 use Rattle.sorted_multimap.specs.Buckets.{bucket_values, lows, tops}
 
--- the value with the number n among those of k stands there
+-- the value with the number n among those of k is there
 pub record IsFound {K V : Type 0} (R : K → K → Ordering) (key : V → ℕ) (p : Bucket K V) (k : K) (n : ℕ) (at : ℕ) : Type 0 where
   pub low : lows R p.keys.items k ≤ at
   pub top : at < tops R p.keys.items k

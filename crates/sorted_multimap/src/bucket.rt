@@ -10,7 +10,7 @@ use std::alloc::{AllocError, Global};
 use std::cmp::Ordering;
 use vec_room::{make_room, put_in};
 
-/// For how many more items than are asked for a bucket makes room, so that the first of them do not make it move.
+/// A bucket makes room for this many more items than are asked for, so that the first of them do not make it move.
 const SPARE: usize = 16;
 
 /// How many keys a search looks at one after the other.
@@ -24,7 +24,7 @@ pub(crate) struct Bucket<K, V> {
 }
 
 impl<K: Ord + Copy, V: Copy> Bucket<K, V> {
-    /// No values, and no room.
+    /// Returns an empty bucket, with no room.
     pub(crate) fn new(alloc: Global) -> Self
         ensures keys { result.keys.items ≡ [] }
         ensures values { result.values.items ≡ [] }
@@ -36,7 +36,7 @@ impl<K: Ord + Copy, V: Copy> Bucket<K, V> {
         }
     }
 
-    /// Makes room for n more values. It holds the same, also after an `Err`.
+    /// Makes room for n more values. The values are unchanged, also on `Err`.
     #[inline(always)]
     pub(crate) fn reserve(&mut self, n: usize) -> Result<(), AllocError>
         ensures kept { IsKept K.cmp self.old self.new }
@@ -47,7 +47,7 @@ impl<K: Ord + Copy, V: Copy> Bucket<K, V> {
         Ok(())
     }
 
-    /// The values of a key, in their order.
+    /// Returns the values of a key, in their order.
     #[inline(always)]
     pub(crate) fn list(&self, key: K) -> &[V]
         requires { IsSorted K.cmp self.now }
@@ -59,7 +59,7 @@ impl<K: Ord + Copy, V: Copy> Bucket<K, V> {
         self.list_among(key)
     }
 
-    // The values of a key, among those of others.
+    // Returns the values of a key, among those of others.
     fn list_among(&self, key: K) -> &[V]
         requires { IsSorted K.cmp self.now }
         ensures { result.now ≡ bucket_values K.cmp self.now key }
@@ -68,7 +68,7 @@ impl<K: Ord + Copy, V: Copy> Bucket<K, V> {
         &self.values[start..end]
     }
 
-    // Where the values of a key begin, and where they end.
+    // Returns the first place of the values of a key, and the place after the last.
     #[inline(always)]
     fn range_of(&self, key: K) -> (usize, usize)
         requires { IsSorted K.cmp self.now }
@@ -83,7 +83,7 @@ impl<K: Ord + Copy, V: Copy> Bucket<K, V> {
         (start, end)
     }
 
-    // Puts the first value into a bucket of none.
+    // Puts the first value into an empty bucket.
     #[inline(always)]
     fn put_first(&mut self, key: K, value: V)
         requires none { vec_len self.old.keys ≡ 0 }
@@ -95,7 +95,7 @@ impl<K: Ord + Copy, V: Copy> Bucket<K, V> {
         self.values.push_reserved(value);
     }
 
-    // Puts a value, and its key beside it, at a place where the key may stand.
+    // Inserts a value, and its key beside it, at a place at which the key may be.
     fn put_at(&mut self, at: usize, key: K, value: V)
         requires sorted { IsSorted K.cmp self.old }
         requires room { HasRoom self.old 1 }
@@ -107,7 +107,7 @@ impl<K: Ord + Copy, V: Copy> Bucket<K, V> {
         put_in(&mut self.values, at, value);
     }
 
-    /// Puts a value behind those of a key.
+    /// Appends a value to those of a key.
     pub(crate) fn push(&mut self, key: K, value: V)
         requires sorted { IsSorted K.cmp self.old }
         requires room { HasRoom self.old 1 }
@@ -117,7 +117,7 @@ impl<K: Ord + Copy, V: Copy> Bucket<K, V> {
         self.put_at(end, key, value);
     }
 
-    /// Takes out all values of a key.
+    /// Removes all values of a key.
     pub(crate) fn clear(&mut self, key: K)
         requires { IsSorted K.cmp self.old }
         ensures { IsEdited K.cmp self.old self.new key [] 0 }
@@ -131,7 +131,7 @@ impl<K: Ord + Copy, V: Copy> Bucket<K, V> {
     }
 }
 
-/// Takes a range out of a vector. What stands behind it moves down.
+/// Removes a range from a vector. What follows it moves down.
 fn cut<T: Copy>(v: &mut Vec<T>, start: usize, end: usize)
     requires order { start ≤ end }
     requires within { end ≤ vec_len v.old }
@@ -143,7 +143,7 @@ fn cut<T: Copy>(v: &mut Vec<T>, start: usize, end: usize)
     v.truncate(v.len() - (end - start));
 }
 
-/// How many keys are below a key. A few are looked at one after the other.
+/// Returns how many keys are below a key. A few are looked at one after the other.
 #[inline(always)]
 fn first<K: Ord + Copy>(keys: &[K], key: K) -> usize
     requires { Ascends K.cmp keys.now }
@@ -160,7 +160,7 @@ fn first<K: Ord + Copy>(keys: &[K], key: K) -> usize
     keys.len()
 }
 
-/// How many keys are below a key, by a binary search.
+/// Returns how many keys are below a key, by a binary search.
 fn search_first<K: Ord + Copy>(keys: &[K], key: K) -> usize
     requires { Ascends K.cmp keys.now }
     ensures { result ≡ lows K.cmp keys.now key }
@@ -168,7 +168,7 @@ fn search_first<K: Ord + Copy>(keys: &[K], key: K) -> usize
     keys.partition_point(|k| k.cmp(&key) == Ordering::Less)
 }
 
-/// Where the keys that tie with a key end, from where they begin. They are looked at one after the other.
+/// Returns the end of the keys that tie with a key, given their beginning. It looks at them one after the other.
 #[inline(always)]
 fn end_from<K: Ord + Copy>(keys: &[K], start: usize, key: K) -> usize
     requires ascends { Ascends K.cmp keys.now }

@@ -8,7 +8,7 @@ ghost use Rattle.std.proofs.lemmas.Bool.Decides.{nat_tests};
 
 use teb_names::{Cell, Txn};
 
-/// A key of a multimap. Its spread is a number that says in which bucket its values lie; where the spreads of the keys are even, so are
+/// A key of a multimap. Its spread is a number that determines the bucket of its values. If the spreads of the keys are even, so are
 /// the buckets.
 pub trait Key: Ord + Copy {
     ghost spread_of: { Self → ℕ };
@@ -19,7 +19,7 @@ pub trait Key: Ord + Copy {
     ghost agrees: { (a b : Self) → is_eq (Self.cmp a b) ≡ true → spread_of a ≡ spread_of b };
 }
 
-/// Rows that follow one another lie in buckets that follow one another.
+/// Consecutive rows are in consecutive buckets.
 impl Key for Cell {
     ghost spread_of = { cell_spread };
 

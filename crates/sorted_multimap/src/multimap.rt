@@ -13,10 +13,10 @@ use crate::bucket::Bucket;
 use std::alloc::{AllocError, Global};
 use std::marker::Model;
 
-// How many buckets there are for some dozens of values.
+// The number of buckets for a few dozen values.
 const BUCKETS: usize = 32;
 
-// Among how many buckets the keys are spread.
+// The number of buckets among which the keys are spread.
 #[derive(Clone, Copy)]
 enum Width {
     One,
@@ -34,21 +34,21 @@ impl Width {
     }
 }
 
-// For how many values each bucket gets room at the least, so that not every `reserve` goes through all of them.
+// Each bucket gets room for at least this many values, so that not every `reserve` goes through all of them.
 const AHEAD: usize = 64;
 
-/// A multimap: values, each beside its key. Those of a key stand in an order of their own, and are lent as one slice.
+/// A multimap: values, each beside its key. Those of a key have an order, and are lent as one slice.
 ///
-/// Where the bucket of a key is empty, a look-up is one look, and to put a value costs two pushes. Else a look-up is a search among the keys
-/// of the bucket, one after the other where they are few and else a binary search, and goes on along those that tie with the key. An edit
-/// is one too, and moves what stands behind its place in that bucket.
+/// If the bucket of a key is empty, a look-up is one look, and putting a value costs two pushes. Otherwise a look-up is a search among the
+/// keys of the bucket, one after the other if they are few and else a binary search, and goes on along those that tie with the key. An edit
+/// is a look-up, and moves what follows its place in that bucket.
 #[derive(Drop)]
 pub struct Multimap<K: Key, V: Copy> {
     alloc: Global,
     width: Width,
-    // A key lies in the bucket whose number is the remainder of its spread. There are none before the first `reserve`.
+    // A key is in the bucket whose number is the remainder of its spread. There are no buckets before the first `reserve`.
     buckets: Vec<Bucket<K, V>>,
-    // For how many more values each bucket has room.
+    // Each bucket has room for this many more values.
     spare: usize,
 }
 
@@ -65,7 +65,7 @@ impl<K: Key, V: Copy> Model for Multimap<K, V> {
 }
 
 impl<K: Key, V: Copy> Multimap<K, V> {
-    /// No values, and no room, for some dozens of values at a time: in 32 buckets, so that most have one key or none. Takes no memory.
+    /// Returns an empty multimap, with no room, for a few dozen values: in 32 buckets, so that most have at most one key. Takes no memory.
     pub fn small(alloc: Global) -> Self
         ensures entries { result.entries ≡ [] }
         ensures spare { result.spare ≡ 0 }
@@ -78,7 +78,7 @@ impl<K: Key, V: Copy> Multimap<K, V> {
         }
     }
 
-    /// No values, and no room, for a few values: in one bucket, so that room costs little. Takes no memory.
+    /// Returns an empty multimap, with no room, for a few values: in one bucket, so that room costs little. Takes no memory.
     pub fn narrow(alloc: Global) -> Self
         ensures entries { result.entries ≡ [] }
         ensures spare { result.spare ≡ 0 }
@@ -91,7 +91,7 @@ impl<K: Key, V: Copy> Multimap<K, V> {
         }
     }
 
-    /// Makes room for n more values, whatever their keys. The values stay, also after an `Err`.
+    /// Makes room for n more values, whatever their keys. The values are unchanged, also on `Err`.
     pub fn reserve(&mut self, n: usize) -> Result<(), AllocError>
         ensures entries { self.new.entries ≡ self.old.entries }
         ensures room { OnOk result (n ≤ self.new.spare) }
@@ -107,7 +107,7 @@ impl<K: Key, V: Copy> Multimap<K, V> {
         Ok(())
     }
 
-    /// The values of a key, in their order.
+    /// Returns the values of a key, in their order.
     #[inline(always)]
     pub fn list(&self, key: K) -> &[V]
         ensures { result.now ≡ values_in K.cmp self.now key }
@@ -118,7 +118,7 @@ impl<K: Key, V: Copy> Multimap<K, V> {
         self.buckets[place_of(&self.buckets, key)].list(key)
     }
 
-    /// Puts a value behind those of a key. It takes one place of the room.
+    /// Appends a value to those of a key. It takes one place of the room.
     pub fn push(&mut self, key: K, value: V)
         requires { 0 < self.old.spare }
         ensures values { (q : K) → values_in K.cmp self.new q ≡ cond (is_eq (K.cmp key q)) (values_in K.cmp self.old key ++ value ∷ []) (values_in K.cmp self.old q) }
@@ -129,7 +129,7 @@ impl<K: Key, V: Copy> Multimap<K, V> {
         self.spare -= 1;
     }
 
-    /// Takes out all values of a key.
+    /// Removes all values of a key.
     pub fn clear(&mut self, key: K)
         ensures values { (q : K) → values_in K.cmp self.new q ≡ cond (is_eq (K.cmp key q)) [] (values_in K.cmp self.old q) }
         ensures spare { self.new.spare ≡ self.old.spare }
@@ -142,7 +142,7 @@ impl<K: Key, V: Copy> Multimap<K, V> {
     }
 }
 
-/// The number of the bucket of a key.
+/// Returns the number of the bucket of a key.
 fn place_of<K: Key, V: Copy>(buckets: &[Bucket<K, V>], key: K) -> usize
     requires { 0 < length buckets.now }
     ensures at { result ≡ K.spread_of key % length buckets.now }
@@ -155,7 +155,7 @@ fn place_of<K: Key, V: Copy>(buckets: &[Bucket<K, V>], key: K) -> usize
     key.spread() % buckets.len()
 }
 
-/// Makes the buckets where there are none.
+/// Makes the buckets if there are none.
 fn make_buckets<K: Key, V: Copy>(
     alloc: Global,
     width: Width,
@@ -171,7 +171,7 @@ fn make_buckets<K: Key, V: Copy>(
     Ok(())
 }
 
-/// Buckets with no values and no room.
+/// Returns empty buckets, with no room.
 fn empty_buckets<K: Key, V: Copy>(
     alloc: Global,
     count: usize,

@@ -6,7 +6,7 @@ ghost use Rattle.teb_history.specs.Live.{number_of};
 
 use teb_names::Txn;
 
-/// A value with a number, by which the values of a key may stand in ascending order.
+/// A value with a number. The values of a key may ascend by it.
 pub trait Numbered: Copy {
     ghost numbered_by: { Self → ℕ };
 
@@ -22,8 +22,8 @@ impl Numbered for Txn {
     }
 }
 
-/// Where the value with a number stands among values that ascend by number, or where it would go. It costs a look at the last value where
-/// that has the number or a lesser one, and else a binary search.
+/// Returns the place of the value with a number among values that ascend by number, or the place where it would go. It costs a look at the
+/// last value if that has the number or a lesser one, and otherwise a binary search.
 pub fn find_number<V: Numbered>(values: &[V], number: u32) -> Result<usize, usize>
     requires { IsAscendingBy V.numbered_by values.now }
     ensures { result ≡ place_of V.numbered_by values.now number }

@@ -13,7 +13,7 @@ use std::alloc::{AllocError, Global};
 use teb_names::{Kind, Table};
 use txn_profile::Profile;
 
-/// For each table below `tables` the tables that some profile of `under` leads to from it.
+/// Returns for each table below `tables` the tables that some profile of `under` leads to from it.
 pub fn arrows(
     alloc: Global,
     profiles: &[Profile],
@@ -33,7 +33,7 @@ pub fn arrows(
     Ok(rows)
 }
 
-// Adds the arrows of the steps from number `from` on, and answers the tables of these steps.
+// Adds the arrows of the steps from number `from` on, and returns the tables of these steps.
 fn add_steps(profile: &Profile, from: u8, rows: &mut [TableSet]) -> TableSet
     requires within { from ≤ length profile.now }
     requires named { above_steps (drop from profile.now) ≤ length rows.old }

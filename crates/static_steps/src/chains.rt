@@ -8,7 +8,7 @@ use crate::table_set::{TableSet, has};
 use std::alloc::{AllocError, Global};
 use std::mem;
 
-/// For each table the length of the longest chain that ends in it, where the rows say which table reaches which.
+/// Returns for each table the length of the longest chain that ends in it. The rows say which table reaches which.
 pub fn longest_chains(alloc: Global, rows: &[TableSet]) -> Result<Vec<u8>, AllocError>
     requires { length rows.now ≤ 64 }
     ensures { IfOk result (λ chains. (length chains.items ≡ length rows.now)
@@ -23,7 +23,7 @@ pub fn longest_chains(alloc: Global, rows: &[TableSet]) -> Result<Vec<u8>, Alloc
     Ok(chains)
 }
 
-// The longest chains of one link more.
+// Computes the longest chains of one more link.
 fn lengthen(rows: &[TableSet], chains: &[u8], longer: &mut [u8])
     requires few { length rows.now ≤ 64 }
     requires chains { length chains.now ≡ length rows.now }
@@ -36,7 +36,7 @@ fn lengthen(rows: &[TableSet], chains: &[u8], longer: &mut [u8])
     }
 }
 
-// The longest chain to table b, where `chains` has those to the tables before it.
+// Returns the length of the longest chain to table b. `chains` has those to the tables before it.
 fn longest_to(rows: &[TableSet], chains: &[u8], b: u8) -> u8
     requires few { length rows.now ≤ 64 }
     requires within { b < length rows.now }
@@ -53,7 +53,7 @@ fn longest_to(rows: &[TableSet], chains: &[u8], b: u8) -> u8
     longest
 }
 
-// Table a reaches b, and b does not reach a.
+// Returns whether table a reaches b, and b does not reach a.
 fn is_ahead(rows: &[TableSet], a: u8, b: u8) -> bool
     requires few { length rows.now ≤ 64 }
     requires first { a < length rows.now }

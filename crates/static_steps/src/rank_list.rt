@@ -20,14 +20,14 @@ impl Model for Ranks {
 }
 
 impl Ranks {
-    /// Ranks from a list, by table.
+    /// Returns the ranks of a list, by table.
     pub(crate) fn new(ranks: Vec<u8>) -> Ranks
         ensures { result ≡ ranks.items }
     {
         Ranks { ranks }
     }
 
-    /// The rank of a table: the length of the longest chain of tables that ends in it, in which each reaches the next
+    /// Returns the rank of a table: the length of the longest chain of tables that ends in it, in which each reaches the next
     /// and is not reached back by it.
     pub fn rank(&self, table: Table) -> u8
         requires { table.0 < length self.now }

@@ -14,7 +14,10 @@ use std::alloc::{AllocError, Global};
 use teb_names::Kind;
 use txn_profile::Profile;
 
-/// The ranks of the tables below `tables`, over the profiles whose numbers stand in `under`.
+/// Returns the ranks of the tables below `tables`, over the profiles of the types in `under`.
+///
+/// # Errors
+/// Out of memory.
 pub fn ranks(
     alloc: Global,
     profiles: &[Profile],

@@ -7,7 +7,7 @@ ghost use Rattle.static_steps.specs.Squares.{is_in};
 
 use teb_names::Table;
 
-/// Bit a stands for table a.
+/// Bit a is set if table a is in the set.
 pub type TableSet = u64;
 
 /// No table.
@@ -20,7 +20,7 @@ pub fn has(set: TableSet, a: u8) -> bool
     set >> a & 1 == 1
 }
 
-/// The set and one table more.
+/// Returns the set and one table more.
 pub fn with(set: TableSet, a: u8) -> TableSet
     requires { a < 64 }
     ensures { (b : ℕ) → is_in result b ≡ (eqb a b || is_in set b) }
@@ -28,14 +28,14 @@ pub fn with(set: TableSet, a: u8) -> TableSet
     set | 1 << a
 }
 
-/// The tables of both sets.
+/// Returns the tables of both sets.
 pub fn union(first: TableSet, second: TableSet) -> TableSet
     ensures { (b : ℕ) → is_in result b ≡ (is_in first b || is_in second b) }
 {
     first | second
 }
 
-/// The set of these tables.
+/// Returns the set of these tables.
 pub fn set_of(tables: &[Table]) -> TableSet
     requires { above (numbers_of tables.now) ≤ 64 }
     ensures { (b : ℕ) → is_in result b ≡ among b (numbers_of tables.now) }

@@ -7,7 +7,7 @@ ghost use Rattle.txn_profile.specs.Steps.{numbers_of};
 use teb_names::Table;
 use txn_profile::Profile;
 
-/// One more than the greatest table of the profiles, 0 to 64: the tables that have ranks are below it.
+/// Returns one more than the greatest table of the profiles, 0 to 64: the tables that have ranks are below it.
 pub fn ranked_tables(profiles: &[Profile]) -> u8
     requires { above_profiles profiles.now ≤ 64 }
     ensures { result ≡ above_profiles profiles.now }
@@ -18,7 +18,7 @@ pub fn ranked_tables(profiles: &[Profile]) -> u8
     }
 }
 
-// The same for the steps of a profile from number `from` on.
+// Returns the same for the steps of a profile from number `from` on.
 fn above_steps(profile: &Profile, from: u8) -> u8
     requires within { from ≤ length profile.now }
     requires bound { above_steps (drop from profile.now) ≤ 64 }

@@ -1,4 +1,4 @@
--- What a setup is good for.
+-- Setups that an engine can be made from, and names that can be written.
 use Rattle.std.specs.Prelude.{◌≡◌, ◌<◌, ◌≤◌, true, length}
 use Rattle.std.specs.List.{All, IsDistinct, list_all}
 use Rattle.std.specs.Str.{bytes_eq}
@@ -11,7 +11,7 @@ use Rattle.store_setup.specs.SetupView.{SetupView}
 abbrev pub rules_of : SetupView → Setup
 rules_of m = record { types = length m.types; profiles = m.profiles; tree = m.tree.rows }
 
--- a store can be set up with it: as many profiles as names of types, and a sound tree of at most 64 nodes, built for so many types; at
+-- a store can be set up with it: as many profiles as names of types, and a sound tree of at most 64 nodes, built for that many types; at
 -- most 64 tables, among which is each table of a profile or of a starting row
 pub record IsWhole (m : SetupView) : Type 0 where
   pub sound : IsSound (rules_of m)
@@ -26,7 +26,7 @@ pub record IsWhole (m : SetupView) : Type 0 where
 abbrev pub IsNamed : SetupView → Type 0
 IsNamed m = length m.tree.rows ≡ length m.nodes
 
--- its tables, types and nodes have names as names may be, and no two tables have the same
+-- the names of its tables, types and nodes have the form of names, and no two tables have the same
 pub record HasNames (m : SetupView) : Type 0 where
   pub tables : list_all is_name m.tables ≡ true
   pub types : list_all is_name m.types ≡ true

@@ -1,6 +1,15 @@
-//! What a store is set up with, as a value: the names, the profiles of the types, the tree of controls and the starting rows.
+//! What a store is set up with, as a value: names, profiles of the types, the tree of controls, and the starting rows.
 //!
-//! The engine takes a [`Setup`]. Where one comes from, as from the text of a tree, is no concern of this crate.
+//! An engine is made from a [`Setup`]. One comes from the text of a tree (`tree_toml`), or is made in code.
+//!
+//! - Contracts see a [`Setup`] as a `SetupView` (`specs/SetupView`).
+//! - `rules_of` is the part that the controls go by; `store_of` is the store of the rules: that part, the number of tables, and the
+//!   starting rows (`specs/Stores`).
+//! - A setup is *whole* if an engine can be made from it: there is a profile for each type, the tree is sound for these types, and
+//!   each table that a profile or a row names exists (`IsWhole` of `specs/Sound`).
+//! - `HasNames` says that its names have the form of names, and that no two tables have the same one.
+//!
+//! **Not claimed**: that a [`Setup`] is whole. Its fields are public, so each crate that makes an engine asks for `IsWhole`.
 #![tactic(auto)]
 
 use cc_tree::Tree;

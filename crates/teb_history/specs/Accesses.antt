@@ -30,7 +30,7 @@ wrote H t x = came H (put_at H t x)
 unfoldable pub got : List Event → ℕ → Cell → Bool
 got H t x = came H (got_at H t x)
 
--- the value of t's last Put of x, and what t last read there; a value is None where there is no row
+-- the value of t's last Put of x, and what t last read there; a value is None if there is no row
 unfoldable pub last_put : List Event → ℕ → Cell → Option (Option ℤ)
 last_put [] t x = None
 last_put (Put u y v ∷ P) t x = let r = last_put P t x in cond (eqb u.0 t && same_cell y x) (Some v) r

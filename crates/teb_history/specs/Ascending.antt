@@ -16,7 +16,7 @@ abbrev pub next_place : Result ℕ ℕ → Result ℕ ℕ
 next_place (Ok i) = Ok (suc i)
 next_place (Err i) = Err (suc i)
 
--- where the element with the key n stands, or where it would go
+-- the place of the element with the key n, or the place where it would go
 abbrev pub place_of : {A : Type 0} → (A → ℕ) → List A → ℕ → Result ℕ ℕ
 place_of key [] n = Err zero
 place_of key (x ∷ xs) n = let r = place_of key xs n in cond (ltb (key x) n) (next_place r) (cond (eqb (key x) n) (Ok zero) (Err zero))

@@ -23,7 +23,7 @@ is_live H t = unfinished H t || untold H t
 abbrev pub live_txns : List Event → List Txn
 live_txns H = filter (λ t. is_live H t.0) (mentioned H)
 
--- ascending transactions with t put in, or taken out, and as they were where neither is said
+-- ascending transactions with t inserted, or removed, or unchanged for None
 abbrev pub kept_by : Option Bool → Txn → List Txn → List Txn
 kept_by None t ts = ts
 kept_by (Some b) t ts = cond b (put_by number_of t ts) (filter (λ u. not (eqb u.0 t.0)) ts)

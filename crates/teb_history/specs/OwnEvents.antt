@@ -1,4 +1,4 @@
--- A transaction's own events, and where the newest of them stands.
+-- A transaction's own events, and the position of the newest of them.
 use Rattle.std.specs.Prelude.{◌≡◌, ◌≤◌, ℕ, zero, suc, Bool, false, cond, eqb, Option, Some, None, ℤ, List, [], ◌∷◌, length, filter, reverse}
 use Rattle.teb_names.specs.declared.Cell.{Cell}
 use Rattle.teb_names.specs.declared.Txn.{Txn}
@@ -21,7 +21,7 @@ event_txn (Told t) = t
 abbrev pub is_of : ℕ → Event → Bool
 is_of t e = eqb (event_txn e).0 t
 
--- the value of a Put, or of a Got, of x, whoever's
+-- the value of a Put of x, and of a Got of x, of any transaction
 abbrev pub put_in : Cell → Event → Option (Option ℤ)
 put_in x (Put t y v) = cond (same_cell y x) (Some v) None
 put_in x _ = None
@@ -39,7 +39,7 @@ gets_from u _ = false
 unfoldable pub own_events : List Event → ℕ → List Event
 own_events H t = filter (is_of t) H
 
--- how many events there are up to t's newest, that one included; 0 where t has none
+-- one more than the position of t's newest event; 0 if t has none
 unfoldable pub own_end : List Event → ℕ → ℕ
 own_end [] t = zero
 own_end (e ∷ P) t = let n = own_end P t in cond (is_of t e) (suc (length P)) n

@@ -22,24 +22,24 @@ standing_number r = r.txn.0
 abbrev pub start_of : List Event → ℕ → Option Start
 start_of H t = cond (begun H t) (Some (record { session = record { 0 = session_of H t }; spot = spot_of H t })) None
 
--- where t stands
+-- the standing of t: what its events say of it
 abbrev pub standing_of : List Event → ℕ → Standing
 standing_of H t = record { txn = record { 0 = t }; start = start_of H t; ready = came H (ready_at H t); done = committed H t; gone = cause_of H t; told = came H (told_at H t); end = own_end H t }
 
--- where t stands while it has no event
+-- the standing of t before its first event
 abbrev pub blank : Txn → Standing
 blank t = record { txn = t; start = None; ready = false; done = false; gone = None; told = false; end = 0 }
 
--- at a place among the standings; where nothing stands there, t has no event
+-- the standing at a place; a blank one if there is no place
 abbrev pub standing_at : List Standing → Txn → Result ℕ ℕ → Standing
 standing_at kept t (Ok i) = get_or kept i (blank t)
 standing_at kept t (Err i) = blank t
 
--- where t stands among the standings of those that have an event
+-- the standing of t, among those of the transactions that have an event
 abbrev pub standing_in : List Standing → Txn → Standing
 standing_in kept t = standing_at kept t (place_of standing_number kept t.0)
 
--- where a transaction stands after one more event of its own, with n events in the history
+-- a standing after one more event of its transaction, with n events in the history
 abbrev pub standing_after : Event → ℕ → Standing → Standing
 standing_after (event.Began t s k i) n r = record r { start = Some (record { session = s; spot = record { kind = k; instance = i } }); end = n }
 standing_after (event.Got t x w v) n r = record r { end = n }
@@ -59,7 +59,7 @@ stands_prepared r = stands_unfinished r && r.ready
 abbrev pub stands_live : Standing → Bool
 stands_live r = stands_unfinished r || (is_after r.gone && not r.told)
 
--- whether a transaction is live after one more event of its own, where such an event may change that
+-- whether a transaction is live after one more of its events, if such an event may change that
 abbrev pub turned : Event → ℕ → Standing → Option Bool
 turned (event.Began t s k i) n r = Some (stands_live (standing_after (event.Began t s k i) n r))
 turned (event.Got t x w v) n r = None
@@ -69,7 +69,7 @@ turned (event.Done t) n r = Some (stands_live (standing_after (event.Done t) n r
 turned (event.Gone t c) n r = Some (stands_live (standing_after (event.Gone t c) n r))
 turned (event.Told t) n r = Some (stands_live (standing_after (event.Told t) n r))
 
--- the number of the session that began it, and 0 where none has
+-- the number of the session that began it; 0 if none has
 abbrev pub stands_session : Standing → ℕ
 stands_session r = option_map_or (λ s. s.session.0) r.start 0
 

@@ -6,23 +6,23 @@ ghost use Rattle.teb_history.specs.Accesses.{wrote, got, last_put, last_got, rea
 use super::History;
 use teb_names::{Cell, Txn};
 
-/// Each call costs what the transaction's own events are.
+/// Each call goes through the transaction's own events.
 impl History {
-    /// Whether a transaction has put a cell.
+    /// Returns whether a transaction has put a cell.
     pub fn wrote(&self, t: Txn, cell: Cell) -> bool
         ensures { result ≡ wrote self.now.events t.0 cell }
     {
         self.own_events(t).any(|event| event.put_in(cell).is_some())
     }
 
-    /// Whether a transaction has read a cell.
+    /// Returns whether a transaction has read a cell.
     pub fn got(&self, t: Txn, cell: Cell) -> bool
         ensures { result ≡ got self.now.events t.0 cell }
     {
         self.own_events(t).any(|event| event.got_in(cell).is_some())
     }
 
-    /// Whether a transaction has read from u, another one.
+    /// Returns whether a transaction has read from u, another one.
     #[tactic(auto, using(crate::proofs::OwnWalks::read_from_own))]
     pub fn read_from(&self, t: Txn, u: Txn) -> bool
         ensures { result ≡ read_from self.now.events t.0 u.0 }
@@ -30,7 +30,7 @@ impl History {
         t != u && self.own_events(t).any(|event| event.is_from(u))
     }
 
-    /// The value of a transaction's last Put of a cell. A value is `None` where the row was deleted.
+    /// Returns the value of a transaction's last Put of a cell. The value is `None` if the row was deleted.
     #[tactic(auto, using(crate::proofs::OwnWalks::last_put_own))]
     pub fn last_put(&self, t: Txn, cell: Cell) -> Option<Option<i64>>
         ensures { result ≡ last_put self.now.events t.0 cell }
@@ -43,7 +43,7 @@ impl History {
         None
     }
 
-    /// What a transaction last read in a cell. A value is `None` where there was no row.
+    /// Returns what a transaction last read in a cell. The value is `None` if there was no row.
     #[tactic(auto, using(crate::proofs::OwnWalks::last_got_own))]
     pub fn last_got(&self, t: Txn, cell: Cell) -> Option<Option<i64>>
         ensures { result ≡ last_got self.now.events t.0 cell }

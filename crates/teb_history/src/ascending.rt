@@ -12,8 +12,8 @@ use crate::standing::Standing;
 use teb_names::Txn;
 use vec_room::{put_in, take_out};
 
-/// Where the standing of t is, or where it would go. It costs one look where the transactions are numbered from 1 without a gap and t is
-/// one of them, or where t is above all of them, and else a binary search.
+/// Returns the place of t's standing, or the place where it would go. It costs one look if the transactions are numbered from 1 without a
+/// gap and t is one of them, or if t is above all of them; otherwise a binary search.
 #[inline(always)]
 pub fn find_standing(standings: &[Standing], t: Txn) -> Result<usize, usize>
     requires { IsAscendingBy standing_number standings.now }
@@ -26,7 +26,7 @@ pub fn find_standing(standings: &[Standing], t: Txn) -> Result<usize, usize>
     search_standing(standings, t)
 }
 
-/// Where the standing of t is, or where it would go: at the end where t is above all, and else by a binary search.
+/// Returns the place of t's standing, or the place where it would go: the end if t is above all, and otherwise by a binary search.
 fn search_standing(standings: &[Standing], t: Txn) -> Result<usize, usize>
     requires { IsAscendingBy standing_number standings.now }
     ensures { result ≡ place_of standing_number standings.now t.0 }
@@ -39,17 +39,17 @@ fn search_standing(standings: &[Standing], t: Txn) -> Result<usize, usize>
     }
 }
 
-/// What an event of a transaction found of it, and what it changed.
+/// The end of a transaction's earlier events, and the change that an event made.
 #[derive(Clone, Copy)]
 pub struct Noted {
     /// The end of the transaction's events before it.
     pub previous: usize,
-    /// Whether the transaction is live after it, where it may have changed that.
+    /// Whether the transaction is live after it, if the event may have changed that.
     pub live: Option<bool>,
 }
 
-/// The standing of an event's transaction after the event, with `end` events in the history. It costs what `find_standing` does, and
-/// where the transaction has no standing yet, a move of those behind its place.
+/// Notes an event in the standing of its transaction, with `end` events in the history. It costs what `find_standing` does, and, if the
+/// transaction has no standing yet, a move of those after its place.
 #[inline(always)]
 pub fn note_event(standings: &mut Vec<Standing>, event: Event, end: usize) -> Noted
     requires ascending { IsAscendingBy standing_number standings.old.items }
@@ -67,7 +67,7 @@ pub fn note_event(standings: &mut Vec<Standing>, event: Event, end: usize) -> No
     Noted { previous, live }
 }
 
-/// Where the standing of t is, after a blank one was put in if there was none.
+/// Returns the place of t's standing, after inserting a blank one if there was none.
 #[inline(always)]
 fn place_standing(standings: &mut Vec<Standing>, t: Txn) -> usize
     requires ascending { IsAscendingBy standing_number standings.old.items }
@@ -87,7 +87,7 @@ fn place_standing(standings: &mut Vec<Standing>, t: Txn) -> usize
     }
 }
 
-/// Puts a transaction in, or takes it out. Where it is to be as it was, nothing is looked at.
+/// Inserts or removes a transaction. `None` changes nothing, at no cost.
 #[inline(always)]
 pub fn keep_txn(txns: &mut Vec<Txn>, t: Txn, is_in: Option<bool>)
     requires ascending { IsAscendingBy number_of txns.old.items }
@@ -103,7 +103,7 @@ pub fn keep_txn(txns: &mut Vec<Txn>, t: Txn, is_in: Option<bool>)
     }
 }
 
-/// Puts a transaction among ascending ones, where it is not one of them yet. It costs a binary search, and a move of those behind it.
+/// Inserts a transaction among ascending ones, unless it is already there. It costs a binary search, and a move of those after it.
 #[inline(never)]
 fn put_txn(txns: &mut Vec<Txn>, t: Txn)
     requires ascending { IsAscendingBy number_of txns.old.items }
@@ -117,7 +117,7 @@ fn put_txn(txns: &mut Vec<Txn>, t: Txn)
     }
 }
 
-/// Takes a transaction out of ascending ones, where it is one of them. It costs a binary search, and a move of those behind it.
+/// Removes a transaction from ascending ones, if it is there. It costs a binary search, and a move of those after it.
 #[inline(never)]
 pub fn remove_txn(txns: &mut Vec<Txn>, t: Txn)
     ensures items { IsAscendingBy number_of txns.old.items → txns.new.items ≡ filter (λ u. not (eqb u.0 t.0)) txns.old.items }
@@ -129,7 +129,7 @@ pub fn remove_txn(txns: &mut Vec<Txn>, t: Txn)
     }
 }
 
-/// Where a transaction stands among ascending ones, or would stand: `Ok` of its index, or `Err` of the index at which it goes in.
+/// Returns the index of a transaction among ascending ones (`Ok`), or the index at which it would be inserted (`Err`).
 pub fn find_txn(txns: &[Txn], t: Txn) -> Result<usize, usize>
     ensures within { IsSearchInRange result (length txns.now) }
     ensures place { IsAscendingBy number_of txns.now → result ≡ place_of number_of txns.now t.0 }

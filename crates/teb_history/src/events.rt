@@ -8,7 +8,7 @@ use super::Event;
 use teb_names::{Cell, Txn};
 
 impl Event {
-    /// The transaction that the event is of.
+    /// Returns the transaction that the event is of.
     pub fn txn(&self) -> Txn
         ensures { result ≡ event_txn self.now }
     {
@@ -23,14 +23,14 @@ impl Event {
         }
     }
 
-    /// Whether the event is a Began.
+    /// Returns whether the event is a Began.
     pub fn is_begin(&self) -> bool
         ensures { result ≡ is_begin self.now }
     {
         matches!(self, Event::Began { .. })
     }
 
-    // The value of a Put of the cell.
+    // Returns the value of a Put of the cell.
     pub(crate) fn put_in(&self, cell: Cell) -> Option<Option<i64>>
         ensures { result ≡ put_in cell self.now }
     {
@@ -40,7 +40,7 @@ impl Event {
         }
     }
 
-    // What a Got of the cell read.
+    // Returns what a Got of the cell read.
     pub(crate) fn got_in(&self, cell: Cell) -> Option<Option<i64>>
         ensures { result ≡ got_in cell self.now }
     {
@@ -50,7 +50,7 @@ impl Event {
         }
     }
 
-    // Whether the event is a Got from u.
+    // Returns whether the event is a Got from u.
     pub(crate) fn is_from(&self, u: Txn) -> bool
         ensures { result ≡ gets_from u.0 self.now }
     {

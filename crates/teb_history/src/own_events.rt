@@ -3,13 +3,13 @@
 use super::Event;
 use std::marker::Model;
 
-/// Events of one transaction that are left, the newest first.
+/// The remaining events of one transaction, the newest first.
 #[derive(Drop)]
 pub struct OwnEvents<'a> {
     events: &'a [Event],
     // For each event the end of its transaction's events before it.
     previous: &'a [usize],
-    // The end of those that are left: the next is right before it.
+    // The end of the remaining events: the next one is right before it.
     end: usize,
 }
 

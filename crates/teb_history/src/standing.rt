@@ -1,4 +1,4 @@
-//! Where a transaction stands: what its events say of it, kept as they come.
+//! The standing of a transaction: what its events say of it, kept event by event.
 
 ghost use Rattle.std.specs.Prelude.{◌≡◌, ◌<◌};
 
@@ -12,7 +12,7 @@ pub struct Start {
     pub spot: Spot,
 }
 
-/// What the events of one transaction say of it.
+/// The standing of one transaction.
 #[derive(Clone, Copy)]
 pub struct Standing {
     pub txn: Txn,
@@ -23,14 +23,14 @@ pub struct Standing {
     /// By its latest Gone.
     pub gone: Option<Cause>,
     pub told: bool,
-    /// How many events the history has up to its newest, that one included. 0 where it has none.
+    /// One more than the position of its newest event. 0 if it has none.
     pub end: usize,
 }
 
 impl Standing {
     ghost use Rattle.teb_history.specs.Standings.{blank, standing_after, turned, stands_unfinished, stands_live, stands_prepared, stands_session, standing_phase};
 
-    /// That of a transaction with no event.
+    /// Returns the standing of a transaction with no event.
     pub fn blank(txn: Txn) -> Standing
         ensures { result ≡ blank txn }
     {
@@ -45,7 +45,8 @@ impl Standing {
         }
     }
 
-    /// One more event of the transaction, with `end` events in the history: whether it is live then, where such an event may change that.
+    /// Notes one more event of the transaction, with `end` events in the history. Returns whether it is live then, if such an event may change
+    /// that.
     #[inline(always)]
     pub fn note(&mut self, event: Event, end: usize) -> Option<bool>
         ensures standing { self.new ≡ standing_after event end self.old }
@@ -76,7 +77,7 @@ impl Standing {
         Some(self.is_live())
     }
 
-    /// How far the transaction has come.
+    /// Returns the phase of the transaction.
     pub fn phase(&self) -> Phase
         ensures { result ≡ standing_phase self.now }
     {
@@ -93,28 +94,28 @@ impl Standing {
         }
     }
 
-    /// Begun, and neither committed nor aborted.
+    /// Returns whether it has begun, and neither committed nor aborted.
     pub fn is_unfinished(&self) -> bool
         ensures { result ≡ stands_unfinished self.now }
     {
         self.start.is_some() && !self.done && self.gone.is_none()
     }
 
-    /// Unfinished, and it has Ready.
+    /// Returns whether it is unfinished and has Ready.
     pub fn is_prepared(&self) -> bool
         ensures { result ≡ stands_prepared self.now }
     {
         self.is_unfinished() && self.ready
     }
 
-    /// The number of the session that began it, 0 where none has.
+    /// Returns the number of the session that began it, or 0 if none has.
     pub fn session_number(&self) -> u8
         ensures { result ≡ stands_session self.now }
     {
         self.start.map_or(0, |start| start.session.0)
     }
 
-    /// Unfinished, or aborted by a cascade with a session that was not told of it.
+    /// Returns whether it is unfinished, or was aborted by a cascade of which its session was not told.
     pub fn is_live(&self) -> bool
         ensures { result ≡ stands_live self.now }
     {

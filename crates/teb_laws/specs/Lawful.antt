@@ -15,7 +15,7 @@ use Rattle.teb_rules.specs.declared.Verdict.TheVariants.{Go}
 use Rattle.teb_rules.specs.Controls.{on_access, validate}
 use Rattle.teb_rules.specs.Stops.{on_commit}
 
--- whatever somebody who is not aborted read from is not aborted
+-- a transaction that is not aborted read from none that is
 abbrev pub Settled : List Event → Type 0
 Settled P = (t w : ℕ) → IsFalse (aborted P t) → IsTrue (read_from P t w) → IsFalse (aborted P w)
 
@@ -52,7 +52,7 @@ unfoldable pub Lawful : Setup → List Event → Type 0
 Lawful S [] = Unit {0}
 Lawful S (e ∷ P) = Granted S P e × Lawful S P
 
--- whatever was read from the starting rows is what stands there
+-- each read of a starting row has the row's value
 unfoldable pub ReadsRows : List (Cell × ℤ) → List Event → Type 0
 ReadsRows R [] = Unit {0}
 ReadsRows R (Got t x w v ∷ P) = (w.0 ≡ 0 → v ≡ row_of R x) × ReadsRows R P

@@ -79,7 +79,7 @@ ReadsAreStable S H = (t w : Txn) (x : Cell) (v : Option ℤ) → IsTrue (committ
 abbrev pub RanksAgree : Setup → List Event → Type 0
 RanksAgree S H = (m n u w : ℕ) → IsTrue (committed H u) → IsTrue (committed H w) → IsTrue (meets S H m u w) → IsAbove S n m → rank S H m u < rank S H m w → rank S H n u ≤ rank S H n w
 
--- all unfinished transactions of one side share its open batch; a batch of whoever has begun, aborted or not, lies within one batch of
+-- all unfinished transactions of one side share its open batch; the batch of a transaction, aborted or not, lies within one batch of
 -- each node above; and those of one batch are of one batch at each node above
 pub record BatchesNest (S : Setup) (H : List Event) : Type 0 where
   pub one_open : (n t u : ℕ) → IsTrue (unfinished H t) → IsTrue (unfinished H u) → IsTrue (on S H n t) → IsTrue (on S H n u) → side S H n t ≡ side S H n u → start S H n t ≡ start S H n u
@@ -94,7 +94,7 @@ SessionsHoldOne S H = (t u : ℕ) → IsTrue (begun H t) → IsTrue (begun H u) 
 abbrev pub CascadesAreFew : Setup → List Event → Type 0
 CascadesAreFew S H = (t : ℕ) → IsTrue (unfinished H t) → length (cascade H t) < SESSIONS
 
--- whoever is named by an Again is unfinished, and of a smaller number than the transaction that the session holds
+-- the transaction that an Again names is unfinished, and of a smaller number than the one that the session holds
 pub record IsOlder (H : List Event) (s u : ℕ) : Type 0 where
   pub running : IsTrue (unfinished H u)
   pub older : (t : ℕ) → held H s ≡ Some t → u < t
@@ -108,7 +108,7 @@ pub record OnlyGrows (X : Store) (H : List Event) : Type 0 where
   pub commits_stay : (s : Session) (r : Request) (t : ℕ) → IsTrue (committed H t) → IsTrue (committed (answer X H s r).1 t) × IsFalse (aborted (answer X H s r).1 t)
   pub aborts_stay : (s : Session) (r : Request) (t : ℕ) → IsTrue (aborted H t) → IsTrue (aborted (answer X H s r).1 t) × IsFalse (committed (answer X H s r).1 t)
 
--- a transaction that runs alone is never told to wait, and nothing breaks it; and where nobody is unfinished a transaction may begin
+-- a transaction that runs alone is never told to wait, and nothing breaks it; and if no transaction is unfinished, one may begin
 pub record ServesAlone (X : Store) (H : List Event) : Type 0 where
   pub alone : (s : Session) (t : ℕ) (r : Request) → IsTrue (leb 1 s.0 && leb s.0 SESSIONS) → held H s.0 ≡ Some t → IsTrue (unfinished H t) → IsTrue (is_alone H t) → IsTrue (is_served r (answer X H s r).0)
   pub begins : (s : Session) (k : Spot) → held H s.0 ≡ None → IsTrue (is_quiet H) → IsTrue (is_served (Begin k) (answer X H s (Begin k)).0)

@@ -1,4 +1,4 @@
--- What stands in replies and events is there: nodes of the tree, tables and types of the store.
+-- Replies and events name only what exists: nodes of the tree, tables and types of the store.
 use Rattle.std.specs.Prelude.{◌<◌, List, [], ◌∷◌, length}
 use Rattle.teb_names.specs.declared.Node.{Node}
 use Rattle.teb_names.specs.declared.Cell.{Cell}
@@ -43,7 +43,7 @@ module _ (X : Store) where
   AllWithin [] = Unit {0}
   AllWithin (e ∷ P) = EventWithin e × AllWithin P
 
--- the events of a history, and each reply to come
+-- the events of a history, and the reply to every further request
 pub record StaysWithin (X : Store) (H : List Event) : Type 0 where
   pub events : AllWithin X H
   pub replies : (s : Session) (r : Request) → ReplyWithin X (answer X H s r).0

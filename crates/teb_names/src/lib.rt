@@ -1,4 +1,34 @@
-//! Numbers for transactions, sessions, tables, types and nodes, and the words between a session and the engine.
+//! The words that all crates share: numbers, names, rows, and what a session and the engine say to each other.
+//!
+//! | Type | In the field |
+//! |---|---|
+//! | [`Txn`] | a transaction, numbered from 1 in the order of their beginning; 0 is the writer of the starting rows |
+//! | [`Session`] | a client's connection, 1 to [`SESSIONS`]; it has at most one open transaction |
+//! | [`Table`], [`Cell`] | a table; a row, which is named by its table and its key |
+//! | [`Kind`], [`Spot`] | a transaction type; a type with an instance, which says in which partition the transaction runs |
+//! | [`Node`], [`ControlKind`] | a node of the tree of concurrency controls; the kind of its control |
+//! | [`Request`], [`Reply`] | one call of the store and its answer; an [`Entry`] is both, with the session |
+//! | [`Cause`], [`Refusal`] | why a transaction was aborted; why a request was refused |
+//!
+//! A session that adds 5 to a row, as requests and replies:
+//!
+//! ```text
+//!   Begin(spot)     Begun(Txn(1))
+//!   Add(cell, 5)    Refused(NotRead)      an Add needs a value that the transaction has read or put
+//!   Read(cell)      Value(Some(10))
+//!   Add(cell, 5)    Done
+//!   Commit          Committed             the row is 15 now
+//! ```
+//!
+//! The crate also has three small collections. Contracts see each as a list:
+//!
+//! - [`Names`]: at most 255 distinct names, numbered from 0 in the order in which they were added (`Names::add`, clause `added`).
+//! - [`Rows`]: cells with values, at most one of a cell, in ascending order of cells (`Rows::insert`, clauses `rows` and `ascending`;
+//!   `IsAscending` of `specs/Rows`).
+//! - [`ScanList`]: up to sixteen values, each of which may be missing. It takes no memory, so answering a scan cannot fail.
+//!
+//! **Not claimed**: which reply a request gets (`teb_rules` says that); that a number is one of a given tree; that [`Rows`] has at
+//! most [`MOST_ROWS`] rows (`tree_toml` refuses a text with more).
 #![tactic(auto)]
 
 mod name_form;
@@ -11,11 +41,11 @@ pub use naming::{NameBook, Names};
 pub use rows::{MOST_ROWS, Rows};
 pub use scan::ScanList;
 
-/// A transaction, numbered from 1 in order of beginning. 0 stands for the starting rows.
+/// A transaction, numbered from 1 in the order of beginning. 0 is the writer of the starting rows.
 #[derive(Clone, Copy, Debug, PartialEq, Eq, PartialOrd, Ord, Hash)]
 pub struct Txn(pub u32);
 
-/// How many transactions of one engine begin at most: a Begin past them is refused as `Full`. A hall lays out a note for each of
+/// At most this many transactions of one engine begin; a further Begin is refused as `Full`. A hall makes a note for each of
 /// them beforehand.
 pub const MOST_TXNS: u32 = 8192;
 
@@ -23,14 +53,14 @@ pub const MOST_TXNS: u32 = 8192;
 #[derive(Clone, Copy, Debug, PartialEq, Eq, PartialOrd, Ord)]
 pub struct Session(pub u8);
 
-/// How many sessions an engine has. Each holds one transaction at most, so that no more than these are unfinished at a time.
+/// How many sessions an engine has. Each holds at most one transaction, so at most this many are active at a time.
 pub const SESSIONS: u8 = 32;
 
-/// A table. 255 stands for a name that the tree does not have.
+/// A table. 255 is the number of every name that the tree does not have.
 #[derive(Clone, Copy, Debug, PartialEq, Eq, PartialOrd, Ord, Hash)]
 pub struct Table(pub u8);
 
-/// A transaction's type. 255 stands for a name that the tree does not have.
+/// A transaction type. 255 is the number of every name that the tree does not have.
 #[derive(Clone, Copy, Debug, PartialEq, Eq, PartialOrd, Ord)]
 pub struct Kind(pub u8);
 
@@ -45,7 +75,7 @@ pub struct Cell {
     pub key: u32,
 }
 
-/// A type with an instance: where a type stands in several leaves, the instance says which of them.
+/// A type with an instance. If a type is at several leaves, the instance selects one of them.
 #[derive(Clone, Copy, Debug, PartialEq, Eq)]
 pub struct Spot {
     pub kind: Kind,
@@ -57,7 +87,7 @@ pub struct Spot {
 pub enum ControlKind {
     /// Two-phase locks.
     Locks,
-    /// Runtime pipelining: a step may run where those before it have passed its tables.
+    /// Runtime pipelining: a transaction may access a table once those before it have passed the table's rank.
     Pipeline,
     /// Multiversion timestamp ordering.
     Timestamp,
@@ -65,7 +95,7 @@ pub enum ControlKind {
     Snapshot,
 }
 
-/// What a session asks.
+/// A request of a session.
 #[derive(Clone, Copy, Debug, PartialEq, Eq)]
 pub enum Request {
     /// Begins a transaction.
@@ -76,26 +106,26 @@ pub enum Request {
     Write(Cell, i64),
     /// Adds a number to the value that the transaction last put or read there; a row that is absent counts as 0.
     Add(Cell, i64),
-    /// Takes a row away.
+    /// Deletes a row.
     Delete(Cell),
-    /// Reads `count` rows, 1 to 16, whose keys follow one another from the cell's on.
+    /// Reads `count` rows, 1 to 16, with consecutive keys from the cell's on.
     Scan { cell: Cell, count: u8 },
-    /// Makes sure that the transaction can commit.
+    /// Prepares the transaction: it is validated, and makes no further access.
     Prepare,
     /// Commits the transaction.
     Commit,
     /// Aborts the transaction.
     Abort,
-    /// Aborts what is left, at the end of a session.
+    /// Ends the session: aborts the transaction that it holds.
     End,
 }
 
-/// What a session is answered.
+/// A reply to a session.
 #[derive(Clone, Copy, Debug, PartialEq, Eq)]
 pub enum Reply {
     /// The transaction that began.
     Begun(Txn),
-    /// The value that was read; none where there is no row.
+    /// The value that was read; `None` if there is no row.
     Value(Option<i64>),
     /// The values of a scan, in ascending order of keys.
     Values(ScanList),
@@ -126,8 +156,8 @@ pub enum Cause {
         writer: Txn,
         cell: Cell,
     },
-    /// It would make a batch that reads behind one concurrent batch and writes before another: `a` read what `b`
-    /// overwrote, `c` read what `d` overwrote, and `b` and `c` are of one batch.
+    /// Two read-write edges lead into and out of one batch: `a` read what `b` overwrote, `c` read what `d` overwrote, and `b` and `c`
+    /// are of one batch.
     Pivot {
         node: Node,
         a: Txn,
@@ -165,7 +195,7 @@ pub enum Refusal {
     UnknownTable,
     /// The transaction is prepared.
     Prepared,
-    /// No step that is left of the transaction's type has the table.
+    /// No step of the transaction's profile, from its current one on, has the table.
     NotInProfile,
     /// A scan of no rows, of more than 16, or past the last key.
     Range,
@@ -175,7 +205,7 @@ pub enum Refusal {
     Overflow,
 }
 
-/// One call of the engine: who asked what, and what was answered.
+/// One call of the engine: the session, its request and the reply.
 #[derive(Clone, Copy, Debug, PartialEq, Eq)]
 pub struct Entry {
     pub session: Session,

@@ -1,10 +1,10 @@
-//! What a name looks like.
+//! The form of a name.
 
 ghost use Rattle.std.specs.Prelude.{◌≡◌};
 ghost use Rattle.std.specs.List.{list_all};
 ghost use Rattle.teb_names.specs.Names.{is_name, is_name_byte};
 
-/// Whether a text is a name: 1 to 32 bytes of `[a-z][a-z0-9_]*`.
+/// Returns whether a text is a name: 1 to 32 bytes of `[a-z][a-z0-9_]*`.
 #[tactic(auto, unfolding(crate::specs::Names::is_name))]
 pub fn is_name(text: &[u8]) -> bool
     ensures { result ≡ is_name text.now }

@@ -15,7 +15,7 @@ pub struct Names {
     set: IndexSet<String>,
 }
 
-/// A call of its own, so that no owner has to prove anew how a set is dropped.
+/// Hand-written `Drop`, so that callers do not re-prove the drop glue.
 impl Drop for Names {
     fn drop(self) {
         let Names {
@@ -40,7 +40,7 @@ impl Model for Names {
 
 #[tactic(auto, using(crate::proofs::Texts::has_texts, crate::proofs::Texts::number_texts, crate::proofs::Texts::texts_push, crate::proofs::Texts::number_of_itself))]
 impl Names {
-    /// No names. Takes no memory.
+    /// Returns an empty list of names. Takes no memory.
     pub fn new(alloc: Global) -> Names
         ensures { result ≡ [] }
     {
@@ -50,8 +50,10 @@ impl Names {
         }
     }
 
-    /// Adds a name behind the others, and answers true; answers false where it is there. Then, and where memory is
-    /// wanting, the names stay as they were.
+    /// Appends a name, and returns true; returns false if it is already there, and then changes nothing.
+    ///
+    /// # Errors
+    /// Out of memory. The names are unchanged.
     pub fn add(&mut self, name: &str) -> Result<bool, AllocError>
         requires { length self.old < 255 }
         ensures added { IfOk result (λ new. (new ≡ not (has self.old name.now))
@@ -66,7 +68,7 @@ impl Names {
         Ok(true)
     }
 
-    /// How many names there are. No two of them are the same.
+    /// Returns how many names there are. No two of them are the same.
     pub fn len(&self) -> u8
         ensures count { result ≡ length self.now }
         ensures distinct { IsDistinct bytes_eq self.now }
@@ -80,7 +82,7 @@ impl Names {
         self.set.is_empty()
     }
 
-    /// The name of a number.
+    /// Returns the name of a number.
     pub fn name(&self, i: u8) -> &str
         requires { i < length self.now }
         ensures name { slice_get self.now i ≡ Some result.now }
@@ -89,7 +91,7 @@ impl Names {
         self.set.as_slice()[usize::from(i)].as_str()
     }
 
-    /// The number of a name; none where it is not there.
+    /// Returns the number of a name, or `None` if it is not there.
     pub fn number(&self, name: &str) -> Option<u8>
         ensures { result ≡ number_of self.now name.now }
     {

@@ -9,7 +9,7 @@ use crate::Cell;
 use std::alloc::{AllocError, Global};
 use std::marker::Model;
 
-/// How many starting rows a store has at most.
+/// The most starting rows of a store.
 pub const MOST_ROWS: usize = 16_384;
 
 /// Rows, each a cell with its value, at most one of a cell. Contracts see the list of them, which ascends by cell:
@@ -33,7 +33,7 @@ impl Model for Rows {
 
 #[tactic(auto, using(crate::proofs::Ascending::ascending_after, crate::proofs::Ascending::row_of_new, crate::proofs::Ascending::row_of_other))]
 impl Rows {
-    /// No rows. Takes no memory.
+    /// Returns no rows. Takes no memory.
     pub fn new(alloc: Global) -> Rows
         ensures { result ≡ [] }
     {
@@ -42,7 +42,7 @@ impl Rows {
         }
     }
 
-    /// The rows of a list that ascends by cell.
+    /// Returns the rows of a list that ascends by cell.
     pub fn from_sorted(rows: Vec<(Cell, i64)>) -> Rows
         requires { IsAscending rows.items }
         ensures { result ≡ rows.items }
@@ -50,14 +50,14 @@ impl Rows {
         Rows { rows }
     }
 
-    /// Adds a row, and answers true; answers false where the cell has a row, which then stays as it is.
-    /// A row of a cell behind all others costs the search alone.
+    /// Adds a row, and returns true; returns false if the cell already has a row, which is unchanged.
+    /// A row after all others costs the search alone.
     pub fn insert(&mut self, cell: Cell, value: i64) -> Result<bool, AllocError>
         ensures added { IfOk result (λ new. new ≡ is_none (row_of self.old cell)) }
         ensures rows { IfOk result (λ new. self.new ≡ (if new then insert_row self.old cell value else self.old)) }
         ensures err { OnErr result (self.new ≡ self.old) }
 
-        // What the rows then tell of each cell.
+        // The value of each cell then.
         ensures ascending { IsAscending self.new }
         ensures found { OnOk result (row_of self.new cell ≡ Some (unwrap_or (row_of self.old cell) value)) }
         ensures others { (x : Cell) → same_cell cell x ≡ false → row_of self.new x ≡ row_of self.old x }
@@ -71,7 +71,7 @@ impl Rows {
         }
     }
 
-    /// The value of the cell's row; none where it has no row.
+    /// Returns the value of the cell's row, or `None` if it has no row.
     pub fn get(&self, cell: Cell) -> Option<i64>
         ensures { result ≡ row_of self.now cell }
     {
@@ -81,7 +81,7 @@ impl Rows {
         }
     }
 
-    /// How many rows there are.
+    /// Returns how many rows there are.
     pub fn len(&self) -> usize
         ensures { result ≡ length self.now }
     {
@@ -94,7 +94,7 @@ impl Rows {
         self.rows.is_empty()
     }
 
-    /// The row at a place, from 0, in ascending order of cells.
+    /// Returns the row at a place, from 0, in ascending order of cells.
     pub fn at(&self, i: usize) -> (Cell, i64)
         requires { i < length self.now }
         ensures { slice_get self.now i ≡ Some result }
@@ -102,7 +102,7 @@ impl Rows {
         self.rows[i]
     }
 
-    /// All rows, in ascending order of cells.
+    /// Returns all rows, in ascending order of cells.
     pub fn rows(&self) -> &[(Cell, i64)]
         ensures rows { result.now ≡ self.now }
         ensures ascending { IsAscending result.now }
@@ -110,7 +110,7 @@ impl Rows {
         &self.rows
     }
 
-    // Where the cell's row stands, or where it belongs.
+    // Returns the place of the cell's row, or the place where it belongs.
     fn place(&self, cell: Cell) -> Result<usize, usize>
         ensures there { IfOk result (λ i. (i < length self.now) × IsSome (row_of self.now cell)
             × ((d : Cell × ℤ) → row_of self.now cell ≡ Some (slice_index_or self.now i d).1)) }

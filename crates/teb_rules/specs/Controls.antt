@@ -18,14 +18,14 @@ use Rattle.teb_rules.specs.declared.Verdict.{Verdict}
 use Rattle.teb_rules.specs.declared.Verdict.TheVariants.{Go, Break}
 use Rattle.teb_rules.specs.Verdicts.{wait_for, break_for, or_else}
 
--- some access of u stands before a conflicting access of t
+-- some access of u precedes a conflicting access of t
 unfoldable pub earlier : List Event → ℕ → ℕ → Bool
 earlier [] u t = false
 earlier (Got s x w v ∷ P) u t = (eqb s.0 t && wrote P u x) || earlier P u t
 earlier (Put s x v ∷ P) u t = (eqb s.0 t && (wrote P u x || got P u x)) || earlier P u t
 earlier (_ ∷ P) u t = earlier P u t
 
--- an unfinished u that meets t at n is in the way of t's read of x, which it has put, or of t's write, where it has put or read x
+-- an unfinished u that meets t at n is in the way of t's read of x if it has put x, and of t's write if it has put or read x
 unfoldable pub blocks : Setup → List Event → ℕ → ℕ → Cell → Bool → ℕ → Bool
 blocks S H n t x write u = unfinished H u && meets S H n t u && (wrote H u x || (write && got H u x))
 
@@ -41,7 +41,7 @@ has_read_before S H [] x t u = false
 has_read_before S H (Got s y w v ∷ P) x t u = (eqb s.0 u && same_cell y x && (eqb w.0 t || precedes S H x w.0 t)) || has_read_before S H P x t u
 has_read_before S H (_ ∷ P) x t u = has_read_before S H P x t u
 
--- a write of x by t comes too late for u
+-- a write of x by t is too late: u has read x already
 unfoldable pub is_late : Setup → List Event → ℕ → ℕ → Cell → ℕ → Bool
 is_late S H n t x u = meets S H n t u && not (aborted H u) && ltb (start S H n t) (start S H n u) && has_read_before S H H x t u
 
@@ -66,7 +66,7 @@ reads_past S H [] a b = false
 reads_past S H (Got s x w v ∷ P) a b = (eqb s.0 a && wrote H b x && precedes S H x w.0 b) || reads_past S H P a b
 reads_past S H (_ ∷ P) a b = reads_past S H P a b
 
--- an edge from a reader to one who wrote past it
+-- an edge from a reader to a concurrent writer of a later version
 unfoldable pub edge : Setup → List Event → ℕ → ℕ → ℕ → Bool
 edge S H n a b = meets S H n a b && concurrent S H n a b && reads_past S H H a b
 

@@ -16,7 +16,7 @@ abbrev pub value_of : Store → List Event → Cell → Option ℕ → Option �
 value_of X H x (Some w) = value_left H w x
 value_of X H x None = row_of X.rows x
 
--- the final table: for each cell the last committed version, no row where that deletes, and the starting row where nobody put the cell
+-- the final table: for each cell the last committed version, no row if that deletes, and the starting row if no committed one put it
 unfoldable pub final_table : Store → List Event → Values
 final_table X H x = value_of X H x (latest X.setup H x (filter (λ w. committed H w && wrote H w x) (txns H)))
 
@@ -30,13 +30,14 @@ abbrev pub Pairs : (ℕ → ℕ → Type 0) → List ℕ → Type 0
 Pairs R [] = Unit {0}
 Pairs R (s ∷ ss) = ((u : ℕ) → In u ss → R s u) × Pairs R ss
 
--- t stands before u in a list
+-- t precedes u in a list
 abbrev pub StandsBefore : List ℕ → ℕ → ℕ → Type 0
 StandsBefore [] t u = ⊥
 StandsBefore (s ∷ ss) t u = ((s ≡ t) × In u ss) ⊎ StandsBefore ss t u
 
--- the order lists each committed transaction once; run one after the other in this order from the starting rows, the transactions read
--- what they read, and leave the final table; the order keeps every node's order of its sides; nobody commits before one that it read from
+-- the order lists each committed transaction once, and no other; run serially in this order from the starting rows, the transactions read
+-- what they read, and leave the final table; the order keeps every node's order of its sides; no transaction commits before one that it
+-- read from
 pub record Serializes (X : Store) (H : List Event) (order : List ℕ) : Type 0 where
   pub each : (t : ℕ) → In t order ↔ IsTrue (committed H t)
   pub once : Pairs (λ t u. t ≢ u) order

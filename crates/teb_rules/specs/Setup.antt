@@ -5,7 +5,7 @@ use Rattle.teb_names.specs.declared.Cell.{Cell}
 use Rattle.teb_names.specs.declared.ControlKind.{ControlKind}
 
 -- a node of the tree: the number of a node is its place in the list of nodes. A leaf has types, and takes one part of
--- their instances, where `parts` is the number of parts
+-- their instances, of `parts` parts
 pub record NodeRow : Type 0 where
   pub control : ControlKind
   pub parent : Option ℕ

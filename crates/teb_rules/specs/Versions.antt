@@ -38,19 +38,19 @@ sees S H x t w = not (eqb w t) && wrote H w x && not (aborted H w) && sees_by (r
 unfoldable pub latest : Setup → List Event → Cell → List ℕ → Option ℕ
 latest S H x ws = find (λ w. list_all (λ v. not (precedes S H x w v)) ws) ws
 
--- the value that a writer left; None where it left none, or deleted the row
+-- the value that a writer left; None if it left none, or deleted the row
 abbrev pub value_left : List Event → ℕ → Cell → Option ℤ
 value_left H w x = unwrap_or (last_put H w x) None
 
--- whose version of x t reads: its own, else the last one that it sees; 0 where it is the starting row
+-- whose version of x t reads: its own, else the last one that it sees; 0 if that is the starting row
 unfoldable pub source : Setup → List Event → ℕ → Cell → ℕ
 source S H t x = cond (wrote H t x) t (unwrap_or (latest S H x (filter (sees S H x t) (txns H))) 0)
 
--- the version of x by w, where R are the starting rows
+-- the version of x by w; R are the starting rows
 abbrev pub version : List (Cell × ℤ) → List Event → Cell → ℕ → Option ℤ
 version R H x zero = row_of R x
 version R H x (suc w) = value_left H (suc w) x
 
--- what t reads of x: from whom, and the value
+-- what t reads of x: the writer, and the value
 unfoldable pub read : Setup → List (Cell × ℤ) → List Event → ℕ → Cell → ℕ × Option ℤ
 read S R H t x = (source S H t x, version R H x (source S H t x))

@@ -5,7 +5,7 @@ use Rattle.teb_rules.specs.Setup.{Setup}
 use Rattle.timestamp_node.specs.Standing.{StampsStand}
 use Rattle.timestamp_node.specs.declared.stamps.Stamps.{Stamps}
 
--- for which setup and history it stands, the number of its node, and for how many events it has room
+-- which setup and history it stands for, the number of its node, and for how many events it has room
 abbrev pub StampsStandFor : Stamps → Setup → List Event → Type 0
 StampsStandFor c S H = StampsStand c.node.0 c.ordered c.batches c.reads S H
 

@@ -1,4 +1,4 @@
--- A read that a write comes too late for.
+-- A read that makes a write too late.
 use Rattle.std.specs.Prelude.{ℕ, Bool, cond, ◌&&◌, ◌||◌, eqb, ltb, List, Option, Some, None}
 use Rattle.teb_names.specs.declared.Txn.{Txn}
 use Rattle.teb_names.specs.declared.Cell.{Cell}

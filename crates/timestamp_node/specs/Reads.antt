@@ -1,4 +1,4 @@
--- Who read what at a node, and from whom.
+-- The reads at a node, with the writers read from.
 use Rattle.std.specs.Prelude.{ℕ, Bool, cond, not, ◌&&◌, eqb, List, [], ◌∷◌, ◌++◌, filter, IsTrue}
 use Rattle.teb_names.specs.declared.Txn.{Txn}
 use Rattle.teb_names.specs.declared.Cell.{Cell}
@@ -19,11 +19,11 @@ all_reads [] x = []
 all_reads (Got t y w v ∷ P) x = let r = all_reads P x in cond (same_cell y x) (r ++ (t, w) ∷ []) r
 all_reads (_ ∷ P) x = all_reads P x
 
--- those of readers on whose path n stands and that are not aborted
+-- those of readers with n on their paths that are not aborted
 unfoldable pub reads : Setup → List Event → ℕ → Cell → List (Txn × Txn)
 reads S H n x = filter (λ r. on S H n r.0.0 && not (aborted H r.0.0)) (all_reads H x)
 
--- each read came while its reader was unfinished
+-- each read was made while its reader was unfinished
 unfoldable pub IsTimely : List Event → Type 0
 IsTimely [] = Unit {0}
 IsTimely (Got t x w v ∷ P) = IsTrue (unfinished P t.0) × IsTimely P

@@ -1,4 +1,4 @@
--- For what a timestamp control stands.
+-- Which history a timestamp control stands for.
 use Rattle.std.specs.Prelude.{◌≡◌, ℕ, Bool, List}
 use Rattle.teb_names.specs.declared.Txn.{Txn}
 use Rattle.teb_names.specs.declared.Cell.{Cell}
@@ -16,7 +16,7 @@ use Rattle.timestamp_node.specs.Reads.{reads, IsTimely}
 abbrev pub ShownReads : Type 0
 ShownReads = Shown Cell (Txn × Txn)
 
--- the multimap shows who read each cell
+-- the multimap shows the reads of each cell
 abbrev pub ReadsOf : ShownReads → Setup → List Event → ℕ → Type 0
 ReadsOf shown S H n = (x : Cell) → values_in cell_cmp shown x ≡ reads S H n x
 

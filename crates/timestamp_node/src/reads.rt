@@ -1,4 +1,4 @@
-//! Edits of the reads by cell: what a Got adds, and what an abort takes out.
+//! Edits of the reads by cell: what a Got adds, and what an abort removes.
 
 ghost use Rattle.std.specs.Prelude.{◌≡◌, ◌<◌, ◌++◌, ◌∷◌, ◌+◌, [], cond, not, filter};
 ghost use Rattle.teb_names.specs.declared.Cell.{Cell};
@@ -11,7 +11,7 @@ use arena_multimap::CellMultimap;
 use teb_history::{Event, History};
 use teb_names::{Cell, Txn};
 
-/// Puts a read behind those of its cell. It takes one place of the room.
+/// Appends a read to those of its cell. It takes one place of the room.
 pub(crate) fn push_read(reads: &mut CellMultimap<(Txn, Txn)>, cell: Cell, t: Txn, from: Txn)
     requires { 0 < reads.old.spare }
     ensures values { (x : Cell) → values_in cell_cmp reads.new x ≡ cond (same_cell cell x) (values_in cell_cmp reads.old x ++ (t, from) ∷ []) (values_in cell_cmp reads.old x) }
@@ -20,7 +20,7 @@ pub(crate) fn push_read(reads: &mut CellMultimap<(Txn, Txn)>, cell: Cell, t: Txn
     reads.push(cell, (t, from));
 }
 
-/// Takes out all reads of t, which are those of the history; the others stay. Each costs what was read of its cell since.
+/// Removes all reads of t, which are those of the history. Each costs a look at what was read of its cell since.
 pub(crate) fn forget_reads(reads: &mut CellMultimap<(Txn, Txn)>, history: &History, t: Txn)
     requires { (x : Cell) → filter (is_by t) (values_in cell_cmp reads.old x) ≡ filter (is_by t) (all_reads history.now.events x) }
     ensures values { (x : Cell) → values_in cell_cmp reads.new x ≡ filter (λ r. not (is_by t r)) (values_in cell_cmp reads.old x) }
@@ -33,7 +33,7 @@ pub(crate) fn forget_reads(reads: &mut CellMultimap<(Txn, Txn)>, history: &Histo
     }
 }
 
-/// Takes out the last read of t in a cell, where there is one.
+/// Removes the last read of t in a cell, if there is one.
 fn forget_last(reads: &mut CellMultimap<(Txn, Txn)>, cell: Cell, t: Txn)
     ensures values { (x : Cell) → values_in cell_cmp reads.new x ≡ cond (same_cell cell x) (without_last (is_by t) (values_in cell_cmp reads.old x)) (values_in cell_cmp reads.old x) }
     ensures spare { reads.new.spare ≡ reads.old.spare }
@@ -43,7 +43,7 @@ fn forget_last(reads: &mut CellMultimap<(Txn, Txn)>, cell: Cell, t: Txn)
     }
 }
 
-// The last read of t.
+// Returns the last read of t.
 fn last_place(reads: &[(Txn, Txn)], t: Txn) -> Option<usize>
     ensures { IsLastPlace (is_by t) reads.now result }
 {

@@ -1,4 +1,4 @@
-//! The control of a timestamp node: versions stand in the order in which batches start, and a write that comes too late for a
+//! The control of a timestamp node: versions are in the order in which batches start, and a write that is too late for a
 //! read breaks.
 
 ghost use Rattle.std.specs.Prelude.{◌≡◌, ◌⊎◌, ◌||◌, ◌&&◌, ◌<◌, ◌≤◌, ◌+◌, [], IfOk, IsTrue, List, drop, eqb, length, ltb, find};
@@ -43,7 +43,7 @@ pub struct Stamps {
 }
 
 impl Stamps {
-    /// The control of a timestamp node for an empty history. Takes no memory.
+    /// Returns the control of a timestamp node for an empty history. Takes no memory.
     pub fn new(alloc: Global, node: Node, facts: &Facts) -> Result<Self, AllocError>
         requires kind { (row (setup_of facts.now).tree node.0).control ≡ IsTimestamp }
         requires empty { events_of facts.now ≡ [] }
@@ -59,15 +59,15 @@ impl Stamps {
         })
     }
 
-    /// The batches of its node.
+    /// Returns the batches of its node.
     pub fn batches(&self) -> &Batches
         ensures { result.now ≡ self.now.batches }
     {
         &self.batches
     }
 
-    /// Who read a cell, and from whom, 0 for the starting row: a pair for each Got by a transaction on whose path the node
-    /// stands and that is not aborted, in the order of the history.
+    /// Returns the readers of a cell, each beside the writer that it read from, 0 for the starting row: a pair for each Got by a transaction with the
+    /// node on its path that is not aborted, in the order of the history.
     pub fn reads(&self, _facts: &Facts, cell: Cell) -> &[(Txn, Txn)]
         requires { StampsStand self.now.node.0 self.now.ordered self.now.batches self.now.reads (setup_of _facts.now) (events_of _facts.now) }
         ensures { result.now ≡ reads (setup_of _facts.now) (events_of _facts.now) self.now.node.0 cell }
@@ -75,8 +75,8 @@ impl Stamps {
         self.reads.list(cell)
     }
 
-    // The least-numbered transaction for which t's write of a cell comes too late. It goes back from the newest read, and stops at
-    // one whose reader's batch closed before t's starts: the batches of all who read before that one started before t's.
+    // Returns the lowest-numbered transaction that makes t's write of a cell too late. It goes back from the newest read, and stops at
+    // one whose reader's batch closed before t's starts: the batches of all earlier readers started before t's.
     fn reader_after<C: Chains>(
         &self,
         facts: &Facts,
@@ -104,7 +104,7 @@ impl Stamps {
         least
     }
 
-    // Whether a reader meets t here, starts later, and read t's own version or one before it.
+    // Returns whether a reader meets t here, starts later, and read t's own version or one before it.
     fn is_after<C: Chains>(
         &self,
         facts: &Facts,
@@ -128,7 +128,7 @@ impl Stamps {
             && is_at_most(chains, at, t, cell, writer)
     }
 
-    // Notes the Began of a transaction at position `at`, the newest event: where the node is on its path, it joins a batch.
+    // Notes the Began of a transaction at position `at`, the newest event: if the node is on its path, it joins a batch.
     #[inline(never)]
     fn begin(&mut self, facts: &Facts, txn: Txn, at: usize)
         requires newest { HasJustBegun facts.now self.old.node.0 txn }
@@ -144,7 +144,7 @@ impl Stamps {
         }
     }
 
-    // Whether an unfinished transaction that meets t here started before it.
+    // Returns whether an unfinished transaction that meets t here started before it.
     fn holds_back(&self, facts: &Facts, t: Txn, u: Txn) -> bool
         requires stands { StampsStand self.now.node.0 self.now.ordered self.now.batches self.now.reads (setup_of facts.now) (events_of facts.now) }
         requires here { IsHere facts.now self.now.node.0 t.0 }
@@ -157,7 +157,7 @@ impl Stamps {
     }
 }
 
-// The lesser of two, of which the first may be missing.
+// Returns the lesser of two, of which the first may be missing.
 fn lesser(least: Option<Txn>, t: Txn) -> Txn
     ensures { result ≡ lesser_txn least t }
 {
@@ -167,7 +167,7 @@ fn lesser(least: Option<Txn>, t: Txn) -> Txn
     }
 }
 
-// Whether the version that was read is t's own or one before it, where t's stands at a place or would. 0 wrote the starting row.
+// Returns whether the version that was read is t's own or one before it. `at` is the place that t's has or would have; 0 wrote the starting row.
 fn is_at_most<C: Chains>(chains: &C, at: usize, t: Txn, cell: Cell, writer: Txn) -> bool
     requires { 0 < t.0 }
     ensures { (S : Setup) (H : List Event) → HoldsVersions S H (C.lists chains.now) → IsPlaceOf S H cell t.0 at (writers_of (C.lists chains.now cell)) → (writer.0 ≡ 0) ⊎ IsTrue (has_version H cell writer.0) → result ≡ (eqb writer.0 t.0 || precedes S H cell writer.0 t.0) }

@@ -1,6 +1,18 @@
-//! What the shape of a tree guarantees: a question for each sentence of the guarantees that depends on it.
+//! What the shape of a tree guarantees: one question for each guarantee that depends on the shape.
 //!
-//! Each answer is the condition of a law of the crate `guarantees`. If it is true, the guarantee of that law holds of every run over the tree.
+//! | Question | Guarantee, if the answer is true |
+//! |---|---|
+//! | [`is_strict`] | strict serializability |
+//! | [`commits_in_order`] | the serial order is the order of the commits |
+//! | [`has_no_cascades`] | an abort takes no other transaction with it |
+//! | [`reads_never_wait`] | reads of a type and an instance neither wait nor break |
+//! | [`type_reads_never_wait`] | the same of a type, whatever the instance |
+//!
+//! Each contract has two clauses. `condition` says when the answer is true; for the first four that is the premise of a law of
+//! `guarantees`. `guarantee` says that if the answer is true, the conclusion of that law holds of every run of every sound store with
+//! this tree (`Guarantees` of `specs/Conditions`).
+//!
+//! **Not claimed**: anything if an answer is false. `guarantees` has stores that show where each guarantee ends.
 #![tactic(auto)]
 
 mod types;
@@ -71,7 +83,7 @@ pub fn reads_never_wait(tree: &Tree, spot: Spot) -> bool
     keep_batches(tree, tree.path(spot))
 }
 
-// Whether each of the nodes is a timestamp or a snapshot node.
+// Returns whether each of the nodes is a timestamp or a snapshot node.
 fn keep_batches(tree: &Tree, nodes: &[Node]) -> bool
     requires { All (λ n. n.0 < length tree.now.rows) nodes.now }
     ensures { result ≡ list_all (has_batches tree.now.rows) (node_numbers nodes.now) }
@@ -85,7 +97,7 @@ fn keep_batches(tree: &Tree, nodes: &[Node]) -> bool
     }
 }
 
-// The root, which every tree has.
+// Returns the root, which every tree has.
 fn root(tree: &Tree) -> &NodeRow
     ensures { row_of result.now ≡ row tree.now.rows 0 }
 {

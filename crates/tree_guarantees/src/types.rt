@@ -1,4 +1,4 @@
-//! What holds of a type, whatever the instance.
+//! Guarantees of a type, whatever the instance.
 
 ghost use Rattle.std.specs.Prelude.{◌≡◌, ◌<◌, ◌&&◌, ℕ, List, length, IfSome, IsTrue};
 ghost use Rattle.std.specs.List.{list_all};
@@ -21,7 +21,7 @@ pub fn type_reads_never_wait(tree: &Tree, kind: Kind) -> bool
     keeps_batches_to(tree, kind)
 }
 
-// Whether the root and each node on the way to a leaf of a type keeps batches.
+// Returns whether the root and each node on the way to a leaf of a type keeps batches.
 fn keeps_batches_to(tree: &Tree, kind: Kind) -> bool
     ensures { result ≡ type_has_batches tree.now.rows kind.0 }
 {
@@ -30,7 +30,7 @@ fn keeps_batches_to(tree: &Tree, kind: Kind) -> bool
     root && leaves_keep_batches(tree, kind)
 }
 
-// Whether each node on the way to a leaf of a type keeps batches.
+// Returns whether each node on the way to a leaf of a type keeps batches.
 #[tactic(auto, using(crate::proofs::Leaves::all_more, crate::proofs::Leaves::one_missing))]
 fn leaves_keep_batches(tree: &Tree, kind: Kind) -> bool
     ensures { result ≡ list_all (has_batches_for tree.now.rows kind.0) (below (length tree.now.rows)) }
@@ -43,7 +43,7 @@ fn leaves_keep_batches(tree: &Tree, kind: Kind) -> bool
     true
 }
 
-// Whether each node on the way to a node keeps batches, if that is a leaf of a type.
+// Returns whether each node on the way to a node keeps batches, if that is a leaf of a type.
 fn keeps_batches_for(tree: &Tree, kind: Kind, n: Node) -> bool
     requires { n.0 < length tree.now.rows }
     ensures { result ≡ has_batches_for tree.now.rows kind.0 n.0 }
@@ -51,7 +51,7 @@ fn keeps_batches_for(tree: &Tree, kind: Kind, n: Node) -> bool
     !holds(&tree.row(n).types, kind) || way_keeps_batches(tree, n)
 }
 
-// Whether a type is one of a list.
+// Returns whether a type is one of a list.
 fn holds(types: &[Kind], kind: Kind) -> bool
     ensures { result ≡ among kind.0 (kind_numbers types.now) }
 {
@@ -61,7 +61,7 @@ fn holds(types: &[Kind], kind: Kind) -> bool
     }
 }
 
-// Whether each node on the way to a node keeps batches.
+// Returns whether each node on the way to a node keeps batches.
 #[tactic(auto, unfolding(teb_rules::specs::Tree::way))]
 fn way_keeps_batches(tree: &Tree, n: Node) -> bool
     requires { n.0 < length tree.now.rows }
@@ -70,7 +70,7 @@ fn way_keeps_batches(tree: &Tree, n: Node) -> bool
     climb_keeps_batches(tree, n, n.0)
 }
 
-// The same, where at most `most` parents are taken.
+// Returns the same for a way on which at most `most` parents are taken.
 fn climb_keeps_batches(tree: &Tree, n: Node, most: u8) -> bool
     requires { n.0 < length tree.now.rows }
     ensures { (lower : List ℕ) → list_all (has_batches tree.now.rows) (climb tree.now.rows most n.0 lower) ≡ (result && list_all (has_batches tree.now.rows) lower) }
@@ -82,7 +82,7 @@ fn climb_keeps_batches(tree: &Tree, n: Node, most: u8) -> bool
     higher && keeps_batches(tree, n)
 }
 
-// The node above a node, where a further parent may be taken.
+// Returns the node above a node, if a further parent may be taken.
 #[tactic(auto, unfolding(teb_rules::specs::Tree::climb))]
 fn step_up(tree: &Tree, n: Node, most: u8) -> Option<Node>
     requires { n.0 < length tree.now.rows }

@@ -40,6 +40,6 @@ abbrev pub GoOn : List (List ℕ) → Values → List EngineModel → Type 0
 GoOn names T [] = Unit {0}
 GoOn names T (e ∷ later) = StartsWith names T e × GoOn names (end_of e) later
 
--- so it is of all phases, over the tables and from the rows of the first
+-- this holds of all phases, over the tables and from the rows of the first
 abbrev pub IsCourse : Course → Type 0
 IsCourse p = GoOn (first p).names.tables (start_of (first p)) (phases p)

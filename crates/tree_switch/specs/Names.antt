@@ -1,4 +1,4 @@
--- Lists of names that are the same.
+-- Equality of lists of names.
 use Rattle.std.specs.Prelude.{ℕ, Bool, List}
 use Rattle.std.specs.Cmp.Lexicographic.{pointwise}
 use Rattle.std.specs.Str.{bytes_eq}

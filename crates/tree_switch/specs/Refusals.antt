@@ -8,7 +8,7 @@ use Rattle.tree_switch.specs.declared.error.SwitchError.{SwitchError}
 use Rattle.tree_switch.specs.declared.error.SwitchError.TheVariants.{Again, Untold, Tables, Rows, OutOfMemory}
 use Rattle.teb_names.specs.declared.TheConstants.{SESSIONS}
 
--- n is the least number of which this is so
+-- n is the least number with a property
 abbrev pub IsLeast : (ℕ → Type 0) → ℕ → Type 0
 IsLeast P n = P n × ((m : ℕ) → m < n → ¬ P m)
 
@@ -21,7 +21,7 @@ pub record IsUntold (H : List Event) (s : ℕ) : Type 0 where
   pub holds : held H s ≡ Some txn
   pub gone : IsTrue (aborted H txn)
 
--- nobody is unfinished, and each session was told of its abort
+-- no transaction is unfinished, and each session was told of its abort
 abbrev pub AllFinished : List Event → Type 0
 AllFinished H = (t : ℕ) → ¬ IsUnfinished H t
 
@@ -32,20 +32,20 @@ pub record IsDrained (H : List Event) : Type 0 where
   pub finished : AllFinished H
   pub told : AllTold H
 
--- transactions are numbered from 1 to as many as have begun, and sessions from 1 to SESSIONS
+-- transactions are numbered from 1 to `begun_count`, and sessions from 1 to SESSIONS
 abbrev pub AreNumbered : List Event → Type 0
 AreNumbered H = (t : ℕ) → IsUnfinished H t → (0 < t) × (t ≤ begun_count H)
 
 abbrev pub AreOfSessions : List Event → Type 0
 AreOfSessions H = (s : ℕ) → IsUntold H s → (0 < s) × (s ≤ SESSIONS)
 
--- the engine has come to its end, and the setup has its tables and no rows of its own
+-- the engine is drained, and the setup has its tables and no rows
 pub record MaySwitch (e : EngineModel) (m : SetupView) : Type 0 where
   pub drained : IsDrained e.events
   pub tables : m.tables ≡ e.names.tables
   pub rows : m.rows ≡ []
 
--- what stands against it first
+-- the first condition that fails
 abbrev pub IsCause : EngineModel → SetupView → SwitchError → Type 0
 IsCause e m (Again t) = IsLeast (IsUnfinished e.events) t.0
 IsCause e m (Untold s) = AllFinished e.events × IsLeast (IsUntold e.events) s.0

@@ -18,7 +18,7 @@ pub enum SwitchError {
     /// The names of the tables are not those of the store.
     #[error("other tables")]
     Tables,
-    /// The setup has rows of its own.
+    /// The setup has rows.
     #[error("rows of its own")]
     Rows,
     #[error("out of memory")]

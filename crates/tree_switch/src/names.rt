@@ -1,4 +1,4 @@
-//! Lists of names that are the same.
+//! Equality of lists of names.
 
 ghost use Rattle.std.specs.Prelude.{◌≡◌};
 ghost use Rattle.std.specs.Str.{bytes_eq};
@@ -6,7 +6,7 @@ ghost use Rattle.tree_switch.specs.Names.{same_names};
 
 use teb_names::Names;
 
-/// Whether two lists of names are the same, in the same order.
+/// Returns whether two lists of names are the same, in the same order.
 pub fn same_names(some: &Names, other: &Names) -> bool
     ensures { result ≡ same_names some.now other.now }
 {

@@ -1,4 +1,4 @@
-//! How the next phase starts.
+//! The start of the next phase.
 
 ghost use Rattle.std.specs.Prelude.{◌≡◌, [], IfOk};
 ghost use Rattle.teb_names.specs.declared.Cell.{Cell};
@@ -18,7 +18,7 @@ use version_chain::Chains;
 /// Returns an engine under a setup, with the tables that another engine leaves as its starting rows. Nothing has happened in it.
 ///
 /// # Errors
-/// `AllocError` if memory is out. The engine before is only read.
+/// Out of memory. The engine before is only read.
 pub fn start<C: Chains>(
     alloc: Global,
     before: &Engine<C>,

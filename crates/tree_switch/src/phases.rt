@@ -21,8 +21,8 @@ use store_setup::Setup;
 use teb_names::{Reply, Request, Session};
 use version_chain::Chains;
 
-/// A store in phases, each under a tree of its own. A phase starts with the tables that the one before it left. Contracts
-/// see the phases that are past, the oldest first, and the present one, each as they see its engine.
+/// A store in phases, each under its tree. A phase starts with the tables that the one before it left. Contracts see the phases
+/// that are past, the oldest first, and the present one, each as they see its engine.
 #[derive(Drop)]
 pub struct Phases<C: Chains> {
     past: Vec<Engine<C>>,
@@ -40,7 +40,7 @@ impl<C: Chains> Model for Phases<C> {
 }
 
 impl<C: Chains> Phases<C> {
-    /// The first phase, of an engine to which nothing has happened yet. Takes no memory.
+    /// Returns the first phase, of an engine to which nothing has happened yet. Takes no memory.
     pub fn new(alloc: Global, engine: Engine<C>) -> Phases<C>
         requires { engine.events ≡ [] }
         ensures past { result.past ≡ [] }
@@ -53,7 +53,7 @@ impl<C: Chains> Phases<C> {
         }
     }
 
-    /// The past engines, the oldest first, and the present one; `from_parts` puts them together again.
+    /// Returns the past engines, the oldest first, and the present one; `from_parts` puts them together again.
     pub fn into_parts(self) -> (Vec<Engine<C>>, Engine<C>)
         ensures past { result.0.items ≡ self.past }
         ensures present { result.1 ≡ self.present }
@@ -62,7 +62,7 @@ impl<C: Chains> Phases<C> {
         (self.past, self.present)
     }
 
-    /// The phases of these engines, the past ones with the oldest first.
+    /// Returns the phases of these engines, the past ones with the oldest first.
     pub fn from_parts(past: Vec<Engine<C>>, present: Engine<C>) -> Phases<C>
         requires { IsCourse (record { past = past.items; present = present }) }
         ensures past { result.past ≡ past.items }
@@ -71,8 +71,8 @@ impl<C: Chains> Phases<C> {
         Phases { past, present }
     }
 
-    /// The engine of the present phase. Each phase has started with the tables that the one before it left, and the serial
-    /// orders of all phases, one after the other, are a serial order of the whole.
+    /// Returns the engine of the present phase. Each phase has started with the tables that the one before it left, and the serial
+    /// orders of all phases, one after the other, are one serial order.
     pub fn engine(&self) -> &Engine<C>
         ensures engine { result.now ≡ self.now.present }
         ensures course { IsCourse self.now }
@@ -81,14 +81,14 @@ impl<C: Chains> Phases<C> {
         &self.present
     }
 
-    /// How many phases are past.
+    /// Returns how many phases are past.
     pub fn finished(&self) -> usize
         ensures { result ≡ length self.now.past }
     {
         self.past.len()
     }
 
-    /// The engine of a past phase, from 0 at the oldest.
+    /// Returns the engine of a past phase, from 0 at the oldest.
     pub fn past(&self, i: usize) -> &Engine<C>
         requires { i < length self.now.past }
         ensures { slice_get self.now.past i ≡ Some result.now }
@@ -96,7 +96,10 @@ impl<C: Chains> Phases<C> {
         &self.past[i]
     }
 
-    /// Makes room for the events of one answer. An `Err` leaves all as it was.
+    /// Makes room for the events of one answer.
+    ///
+    /// # Errors
+    /// Out of memory. Everything is unchanged.
     pub fn ready(&mut self) -> Result<(), AllocError>
         ensures past { self.new.past ≡ self.old.past }
         ensures store { self.new.present.store ≡ self.old.present.store }
@@ -125,9 +128,9 @@ impl<C: Chains> Phases<C> {
     /// with no version. Transactions count from 1 again.
     ///
     /// # Errors
-    /// `Again` where a transaction is unfinished; else `Untold` where a session holds an aborted one; else `Tables` where the
-    /// names of the tables are others, and `Rows` where the setup has rows of its own. Where none of these stands against it,
-    /// memory may be wanting: then the error is `OutOfMemory`. After an error the phases are as they were.
+    /// `Again` if a transaction is unfinished; else `Untold` if a session holds an aborted one; else `Tables` if the names of the
+    /// tables are others; else `Rows` if the setup has rows; else `OutOfMemory` if memory runs out. After an error the phases are
+    /// unchanged.
     pub fn switch(&mut self, alloc: Global, setup: Setup, chains: C) -> Result<(), SwitchError>
         requires setup { IsWhole (setup_view setup) }
         requires chains { (x : Cell) → C.lists chains x ≡ [] }
@@ -145,7 +148,10 @@ impl<C: Chains> Phases<C> {
     }
 }
 
-/// Puts the present engine behind the past ones, and the next one in its place. An `Err` leaves all as it was.
+/// Appends the present engine to the past ones, and puts the next one in its place.
+///
+/// # Errors
+/// Out of memory. Everything is unchanged.
 fn move_on<C: Chains>(
     past: &mut Vec<Engine<C>>,
     present: &mut Engine<C>,

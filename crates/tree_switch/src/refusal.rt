@@ -12,7 +12,10 @@ use teb_history::History;
 use teb_names::{SESSIONS, Session, Txn};
 use version_chain::Chains;
 
-/// Whether the store of an engine may go on under a setup. It costs a look at each transaction.
+/// Tests whether the store of an engine may go on under a setup. It costs a look at each transaction.
+///
+/// # Errors
+/// The first condition that fails, in the order of `SwitchError`.
 pub fn check<C: Chains>(present: &Engine<C>, setup: &Setup) -> Result<(), SwitchError>
     ensures { IsRefusedBy present.now (setup_view setup.now) result }
 {
@@ -32,14 +35,14 @@ pub fn check<C: Chains>(present: &Engine<C>, setup: &Setup) -> Result<(), Switch
     Ok(())
 }
 
-/// True if no transaction of an engine is unfinished, and each session was told of its abort. It costs one look.
+/// Returns true if no transaction of an engine is unfinished, and each session was told of its abort. It costs one look.
 pub fn is_drained<C: Chains>(engine: &Engine<C>) -> bool
     ensures { IsTrue result ↔ IsDrained engine.now.events }
 {
     engine.history().live().is_empty()
 }
 
-/// The least unfinished transaction.
+/// Returns the least unfinished transaction.
 fn first_unfinished(history: &History) -> Option<Txn>
     requires { AreNumbered history.now.events }
     ensures { MatchOption result (AllFinished history.now.events) (λ t. IsLeast (IsUnfinished history.now.events) t.0) }
@@ -53,7 +56,7 @@ fn first_unfinished(history: &History) -> Option<Txn>
     None
 }
 
-/// The least session that holds an aborted transaction.
+/// Returns the least session that holds an aborted transaction.
 fn first_untold(history: &History) -> Option<Session>
     requires { AreOfSessions history.now.events }
     ensures { MatchOption result (AllTold history.now.events) (λ s. IsLeast (IsUntold history.now.events) s.0) }
@@ -67,7 +70,7 @@ fn first_untold(history: &History) -> Option<Session>
     None
 }
 
-/// Whether a session holds an aborted transaction.
+/// Returns whether a session holds an aborted transaction.
 fn is_untold(history: &History, session: Session) -> bool
     ensures { IsTrue result ↔ IsUntold history.now.events session.0 }
 {

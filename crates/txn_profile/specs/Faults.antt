@@ -9,7 +9,7 @@ use Rattle.txn_profile.specs.Steps.{has_twice}
 abbrev pub step_fault : ℕ → List ℕ → Option StepsError
 step_fault i tables = cond (eqb (length tables) 0) (Some (EmptyStep i)) (cond (has_twice tables) (Some (Twice i)) None)
 
--- of the first step that has a fault, where the steps are numbered from i on
+-- of the first step that has a fault; the steps are numbered from i on
 abbrev pub first_step_fault : ℕ → List (List ℕ) → Option StepsError
 first_step_fault i [] = None
 first_step_fault i (tables ∷ steps) = option_or (step_fault i tables) (first_step_fault (i + 1) steps)

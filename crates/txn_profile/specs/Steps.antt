@@ -10,7 +10,7 @@ numbers_of tables = map (λ t. t.0) tables
 abbrev pub steps_of : List (Vec Table Global) → List (List ℕ)
 steps_of steps = map (λ step. numbers_of step.items) steps
 
--- some table stands twice in a step
+-- some table is listed twice in a step
 abbrev pub has_twice : List ℕ → Bool
 has_twice [] = false
 has_twice (a ∷ tables) = among a tables || has_twice tables

@@ -20,7 +20,7 @@ pub enum StepsError {
     Twice(u8),
 }
 
-/// The first fault of a list of steps; none where it is a profile.
+/// Returns the first fault of a list of steps, or `None` if it is a profile.
 pub fn steps_fault(steps: &[Vec<Table>]) -> Option<StepsError>
     ensures { result ≡ steps_fault (steps_of steps.now) }
 {
@@ -30,7 +30,7 @@ pub fn steps_fault(steps: &[Vec<Table>]) -> Option<StepsError>
     first_step_fault(0, steps)
 }
 
-// The fault of the first step that has one, where the steps are numbered from `number` on.
+// Returns the fault of the first step that has one. The steps are numbered from `number` on.
 fn first_step_fault(number: u8, steps: &[Vec<Table>]) -> Option<StepsError>
     requires { number + length steps.now ≤ 16 }
     ensures { result ≡ first_step_fault number (steps_of steps.now) }
@@ -65,7 +65,7 @@ fn has_twice(tables: &[Table]) -> bool
     }
 }
 
-/// Whether a table stands in a list.
+/// Returns whether a list has a table.
 pub fn has_table(tables: &[Table], table: Table) -> bool
     ensures { result ≡ among table.0 (numbers_of tables.now) }
 {

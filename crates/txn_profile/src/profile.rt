@@ -1,4 +1,4 @@
-//! Profiles, and where an access moves a transaction to.
+//! Profiles, and the step to which an access moves a transaction.
 
 ghost use Rattle.std.specs.Prelude.{◌≡◌, ◌==◌, ◌<◌, [], None, Some, MatchResult, length, slice_index_or};
 ghost use Rattle.teb_rules.specs.Steps.{least_step};
@@ -29,7 +29,7 @@ impl Model for Profile {
 }
 
 impl Profile {
-    /// The profile of these steps, or their first fault: `Steps`, and then that of the first step at fault.
+    /// Returns the profile of these steps, or their first fault: `Steps`, and then that of the first step at fault.
     /// Takes no memory.
     pub fn new(steps: Vec<Vec<Table>>) -> Result<Profile, StepsError>
         ensures { let asked = steps_of steps.items in
@@ -41,7 +41,7 @@ impl Profile {
         }
     }
 
-    /// How many steps there are, 1 to 16.
+    /// Returns how many steps there are, 1 to 16.
     pub fn len(&self) -> u8
         ensures count { result ≡ length self.now }
         ensures profile { IsProfile self.now }
@@ -55,7 +55,7 @@ impl Profile {
         self.steps.is_empty()
     }
 
-    /// The tables of a step, which are numbered from 0.
+    /// Returns the tables of a step, which are numbered from 0.
     pub fn step(&self, i: u8) -> &[Table]
         requires { i < length self.now }
         ensures { numbers_of result.now ≡ slice_index_or self.now i [] }
@@ -63,8 +63,8 @@ impl Profile {
         &self.steps[usize::from(i)]
     }
 
-    /// Where an access of the table moves a transaction that stands at the step `cursor`: the least step from there
-    /// on that has the table; none where no such step has it.
+    /// Returns the step to which an access of the table moves a transaction that is at the step `cursor`: the least step from there
+    /// on that has the table, or `None` if no such step has it.
     pub fn cursor_after(&self, cursor: u8, table: Table) -> Option<u8>
         ensures { result ≡ least_step self.now cursor table.0 }
     {

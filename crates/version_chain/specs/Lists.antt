@@ -3,7 +3,7 @@ use Rattle.std.specs.Prelude.{ℕ, zero, suc, Bool, not, nat_le, eqb, if◌then�
 use Rattle.std.specs.List.{list_any}
 use Rattle.teb_names.specs.declared.Txn.{Txn}
 
--- a writer and its value, None where it deleted the row
+-- a writer and its value, None if it deleted the row
 abbrev pub Version : Type 0
 Version = Txn × Option ℤ
 
@@ -14,7 +14,7 @@ writers_of vs = map (λ v. v.0.0) vs
 abbrev pub is_writer : List Version → ℕ → Bool
 is_writer vs t = list_any (λ w. eqb w t) (writers_of vs)
 
--- a place of a list, seen from one place further up
+-- a place in the rest of a list, as a place in the whole
 abbrev pub next_place : Option ℕ → Option ℕ
 next_place None = None
 next_place (Some i) = Some (suc i)
@@ -44,6 +44,6 @@ set_value i value [] = []
 set_value zero value (v ∷ vs) = (v.0, value) ∷ vs
 set_value (suc i) value (v ∷ vs) = v ∷ set_value i value vs
 
--- the versions of others than t
+-- the versions of all writers but t
 abbrev pub without : ℕ → List Version → List Version
 without t vs = filter (λ v. not (eqb v.0.0 t)) vs

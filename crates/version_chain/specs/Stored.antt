@@ -16,7 +16,7 @@ version v = (v.writer, v.value)
 abbrev pub of_cell : Cell → List Stored → List Version
 of_cell x vs = map version (filter (λ v. same_cell v.cell x) vs)
 
--- no version stands before one of a lesser cell
+-- no version is before one of a lesser cell
 abbrev pub IsSortedByCell : List Stored → Type 0
 IsSortedByCell vs = IsSortedByKey (λ v. v.cell) cell_cmp vs
 

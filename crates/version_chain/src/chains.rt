@@ -1,4 +1,4 @@
-//! What a store of versions is asked.
+//! The calls of a store of versions.
 
 ghost use Rattle.std.specs.Prelude.{◌≡◌, ◌<◌, ◌≤◌, ◌+◌, ℕ, ℤ, Option, List, Bool, length, insert, slice_get, eqb, OnOk, IfSome, IsTrue, IsFalse, Some};
 ghost use Rattle.std.specs.Option.{option_map};
@@ -15,37 +15,40 @@ use teb_names::{Cell, Txn};
 pub struct Found {
     pub at: usize,
     pub writer: Txn,
-    /// None where the row is deleted.
+    /// `None` if the row is deleted.
     pub value: Option<i64>,
 }
 
-/// Versions by cell. A version is its writer and a value, None where the row is deleted; those of a cell stand in version
-/// order, the oldest at place 0. Contracts see a list for each cell, and how many versions may be placed without memory.
+/// Versions by cell. A version is its writer and a value, `None` if the row is deleted. Those of a cell are in version order,
+/// the oldest at place 0. Contracts see a list for each cell, and how many versions may be placed without memory.
 pub trait Chains: Drop {
     ghost lists: { Self → Cell → List (Txn × Option ℤ) };
 
     ghost spare: { Self → ℕ };
 
-    /// Makes room for n versions. An `Err` leaves the lists as they were.
+    /// Makes room for n versions.
+    ///
+    /// # Errors
+    /// Out of memory. The lists are unchanged.
     fn reserve(&mut self, n: usize) -> Result<(), AllocError>
         ensures lists { (x : Cell) → lists self.new x ≡ lists self.old x }
         ensures room { OnOk result (n ≤ spare self.new) }
         ensures kept { spare self.old ≤ spare self.new };
 
-    /// How many versions a cell has.
+    /// Returns how many versions a cell has.
     fn len_of(&self, cell: Cell) -> usize
         ensures { result ≡ length (lists self.now cell) };
 
-    /// The version at a place.
+    /// Returns the version at a place.
     fn at(&self, cell: Cell, i: usize) -> (Txn, Option<i64>)
         requires { i < length (lists self.now cell) }
         ensures { slice_get (lists self.now cell) i ≡ Some result };
 
-    /// The place of a writer's version.
+    /// Returns the place of a writer's version.
     fn find(&self, cell: Cell, t: Txn) -> Option<usize>
         ensures { result ≡ first_place (λ w. eqb w t.0) (writers_of (lists self.now cell)) };
 
-    /// Puts in a version of a writer that has none, at place i. The versions from there on move up by one.
+    /// Inserts a version of a writer that has none, at place i. The versions from there on move up by one.
     fn place(&mut self, cell: Cell, i: usize, t: Txn, value: Option<i64>)
         requires room { 0 < spare self.old }
         requires within { i ≤ length (lists self.old cell) }
@@ -54,19 +57,19 @@ pub trait Chains: Drop {
         ensures elsewhere { (x : Cell) → IsFalse (same_cell x cell) → lists self.new x ≡ lists self.old x }
         ensures spare { spare self.old ≤ spare self.new + 1 };
 
-    /// Gives the version at a place another value.
+    /// Replaces the value of the version at a place.
     fn overwrite(&mut self, cell: Cell, i: usize, value: Option<i64>)
         requires { i < length (lists self.old cell) }
         ensures here { lists self.new cell ≡ set_value i value (lists self.old cell) }
         ensures elsewhere { (x : Cell) → IsFalse (same_cell x cell) → lists self.new x ≡ lists self.old x }
         ensures spare { spare self.new ≡ spare self.old };
 
-    /// Takes out every version of a writer. The others keep their order.
+    /// Removes every version of a writer. The others keep their order.
     fn remove_all_of(&mut self, t: Txn)
         ensures lists { (x : Cell) → lists self.new x ≡ without t.0 (lists self.old x) }
         ensures spare { spare self.old ≤ spare self.new };
 
-    /// The last place whose writer f accepts. It is looked for from the last place down.
+    /// Returns the last place whose writer f accepts. The search goes from the last place down.
     fn last_where<F: Fn(Txn) -> bool>(&self, cell: Cell, f: &F) -> Option<usize>
         requires { (u : Txn) → IsTrue (is_writer (lists self.now cell) u.0) → F.pre f.now u }
         ensures place { (p : ℕ → Bool)
@@ -77,7 +80,7 @@ pub trait Chains: Drop {
         self.last_where_from(cell, 0, f)
     }
 
-    /// The last place whose writer f accepts, where it is `from` or above. Nothing below `from` is looked at.
+    /// Returns the last place, from `from` on, whose writer f accepts. No place below `from` is looked at.
     fn last_where_from<F: Fn(Txn) -> bool>(&self, cell: Cell, from: usize, f: &F) -> Option<usize>
         requires { (u : Txn) → IsTrue (is_writer (lists self.now cell) u.0) → F.pre f.now u }
         ensures place { (p : ℕ → Bool)
@@ -85,7 +88,7 @@ pub trait Chains: Drop {
             → result ≡ unless_below from (last_place p (writers_of (lists self.now cell))) }
         ensures within { IfSome result (λ i. i < length (lists self.now cell)) };
 
-    /// The version of a writer, or else the last one whose writer f accepts. Where the writer has one, f is not asked.
+    /// Returns the version of a writer, or else the last one whose writer f accepts. If the writer has one, f is not asked.
     fn own_or_last<F: Fn(Txn) -> bool>(&self, cell: Cell, t: Txn, f: &F) -> Option<Found>
         requires { IsFalse (is_writer (lists self.now cell) t.0) → (u : Txn) → IsTrue (is_writer (lists self.now cell) u.0) → F.pre f.now u }
         ensures place { (p : ℕ → Bool)

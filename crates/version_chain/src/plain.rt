@@ -9,8 +9,8 @@ use std::alloc::{AllocError, Global};
 use std::marker::Model;
 use teb_names::{Cell, Txn};
 
-/// Versions in one vector, sorted by cell and, within a cell, in version order. A version is put in and taken out by moving
-/// those behind it: plain to read, and slow where there are many.
+/// Versions in one vector, sorted by cell and, within a cell, in version order. Inserting or removing a version moves
+/// those after it: plain to read, and slow if there are many.
 #[derive(Drop)]
 pub struct PlainChains {
     versions: Vec<Stored>,
@@ -28,7 +28,7 @@ impl Model for PlainChains {
 }
 
 impl PlainChains {
-    /// No versions, and no room.
+    /// Returns no versions, with no room.
     pub fn new(alloc: Global) -> Self
         ensures { result.versions ≡ [] }
     {
@@ -88,7 +88,7 @@ impl Chains for PlainChains {
     }
 }
 
-/// Puts a version in at a place, in room that is there.
+/// Inserts a version at a place, in room that was made.
 fn put_in(versions: &mut Vec<Stored>, at: usize, version: Stored)
     requires within { at ≤ vec_len versions.old }
     requires room { vec_len versions.old < vec_capacity versions.old }
@@ -99,7 +99,7 @@ fn put_in(versions: &mut Vec<Stored>, at: usize, version: Stored)
     let _ = versions.insert(at, version);
 }
 
-/// Takes out the versions of a writer.
+/// Removes the versions of a writer.
 fn keep_others(versions: &mut Vec<Stored>, t: Txn)
     ensures items { versions.new.items ≡ filter (λ v. not (eqb v.writer.0 t.0)) versions.old.items }
     ensures len { vec_len versions.new ≤ vec_len versions.old }

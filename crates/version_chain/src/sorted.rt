@@ -15,7 +15,7 @@ pub struct Stored {
     pub value: Option<i64>,
 }
 
-/// Where the versions of a cell begin, and how many there are.
+/// Returns the beginning of the versions of a cell, and how many there are.
 pub fn range_of(versions: &[Stored], cell: Cell) -> (usize, usize)
     requires { IsSortedByCell versions.now }
     ensures { IsRange versions.now cell result.0 result.1 }
@@ -25,7 +25,7 @@ pub fn range_of(versions: &[Stored], cell: Cell) -> (usize, usize)
     (start, len)
 }
 
-/// The versions of a cell.
+/// Returns the versions of a cell.
 pub fn chain(versions: &[Stored], cell: Cell) -> &[Stored]
     requires { IsSortedByCell versions.now }
     ensures { map version result.now ≡ of_cell cell versions.now }
@@ -34,14 +34,14 @@ pub fn chain(versions: &[Stored], cell: Cell) -> &[Stored]
     &versions[start..][..len]
 }
 
-/// The first place of a chain whose writer is t.
+/// Returns the first place of a chain whose writer is t.
 pub fn place_of(chain: &[Stored], t: Txn) -> Option<usize>
     ensures { result ≡ first_place (λ w. eqb w t.0) (writers_of (map version chain.now)) }
 {
     chain.iter().position(|v| v.writer == t)
 }
 
-/// The last place of a chain whose writer f accepts, where it is `from` or above.
+/// Returns the last place of a chain, from `from` on, whose writer f accepts.
 pub fn last_accepted<F: Fn(Txn) -> bool>(chain: &[Stored], from: usize, f: &F) -> Option<usize>
     requires { (u : Txn) → IsTrue (is_writer (map version chain.now) u.0) → F.pre f.now u }
     ensures place { (p : ℕ → Bool)

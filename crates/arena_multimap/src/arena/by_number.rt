@@ -9,7 +9,7 @@ use super::Arena;
 use sorted_multimap::{Numbered, find_number};
 
 impl<V: Numbered> Arena<V> {
-    /// Puts a value among those of a list, or into the next new one, instead of the one that has its number. Whether there was none.
+    /// Inserts a value among those of a list, or of the next new one, or replaces the one with the same number. Returns true if it was inserted.
     #[inline(always)]
     pub(crate) fn put_by_number(&mut self, i: usize, value: V) -> bool
         requires sound { IsArena self.old }

@@ -11,8 +11,8 @@ use crate::{Numbered, find_number};
 use vec_room::take_out;
 
 impl<K: Ord + Copy, V: Numbered> Bucket<K, V> {
-    /// Puts a value among those of a key, instead of the one that has its number. Whether there was none. Into a bucket of no values it
-    /// costs two pushes.
+    /// Inserts a value among those of a key, or replaces the one with the same number. Returns true if it was inserted. Into an empty bucket
+    /// it costs two pushes.
     #[inline(always)]
     pub(crate) fn put_by_number(&mut self, key: K, value: V) -> bool
         requires sorted { IsSorted K.cmp self.old }
@@ -28,7 +28,7 @@ impl<K: Ord + Copy, V: Numbered> Bucket<K, V> {
         self.put_among(key, value)
     }
 
-    // Puts a value among those of a key, instead of the one that has its number. Whether there was none.
+    // Inserts a value among those of a key, or replaces the one with the same number. Returns true if it was inserted.
     #[inline(never)]
     fn put_among(&mut self, key: K, value: V) -> bool
         requires sorted { IsSorted K.cmp self.old }
@@ -41,7 +41,7 @@ impl<K: Ord + Copy, V: Numbered> Bucket<K, V> {
         self.put_in_place(place, key, value, true)
     }
 
-    /// Puts a value among those of a key, unless one has its number. Whether there was none. Into a bucket of no values it costs two pushes.
+    /// Inserts a value among those of a key, unless one has its number. Returns true if it was inserted. Into an empty bucket it costs two pushes.
     #[inline(always)]
     pub(crate) fn add_by_number(&mut self, key: K, value: V) -> bool
         requires sorted { IsSorted K.cmp self.old }
@@ -57,7 +57,7 @@ impl<K: Ord + Copy, V: Numbered> Bucket<K, V> {
         self.add_among(key, value)
     }
 
-    // Puts a value among those of a key, unless one has its number. Whether there was none.
+    // Inserts a value among those of a key, unless one has its number. Returns true if it was inserted.
     #[inline(never)]
     fn add_among(&mut self, key: K, value: V) -> bool
         requires sorted { IsSorted K.cmp self.old }
@@ -70,8 +70,8 @@ impl<K: Ord + Copy, V: Numbered> Bucket<K, V> {
         self.put_in_place(place, key, value, false)
     }
 
-    /// Puts a value among those of a key, where it has any: instead of the one that has its number where `replace` is true, and else unless
-    /// one has it. Whether the key has any. A bucket of no values costs one look.
+    /// Puts a value among those of a key, if the key has any. It replaces the value with the same number if `replace` is true, and else leaves
+    /// that one. Returns whether the key has values. An empty bucket costs one look.
     #[inline(always)]
     pub(crate) fn join_by_number(&mut self, key: K, value: V, replace: bool) -> bool
         requires sorted { IsSorted K.cmp self.old }
@@ -87,7 +87,7 @@ impl<K: Ord + Copy, V: Numbered> Bucket<K, V> {
         self.join_among(key, value, replace)
     }
 
-    // The same among the values of others.
+    // Returns the same among the values of others.
     #[inline(never)]
     fn join_among(&mut self, key: K, value: V, replace: bool) -> bool
         requires sorted { IsSorted K.cmp self.old }
@@ -104,7 +104,7 @@ impl<K: Ord + Copy, V: Numbered> Bucket<K, V> {
         held
     }
 
-    /// Takes the value with a number out from among those of a key, where there is one. The only value of a bucket leaves no move.
+    /// Removes the value with a number from those of a key, if there is one. Removing the only value of a bucket moves nothing.
     pub(crate) fn take_by_number(&mut self, key: K, number: u32)
         requires sorted { IsSorted K.cmp self.old }
         requires ascending { IsAscendingBy V.numbered_by (bucket_values K.cmp self.old key) }
@@ -122,8 +122,8 @@ impl<K: Ord + Copy, V: Numbered> Bucket<K, V> {
         take_out(&mut self.values, at);
     }
 
-    // Puts a value at its place among those of a key. Where one stands there that has its number, it does so only if `replace` is true.
-    // Whether there was none.
+    // Puts a value at its place among those of a key. It replaces the value with the same number only if `replace` is true. Returns whether
+    // there was none.
     #[inline(always)]
     fn put_in_place(&mut self, place: Result<usize, usize>, key: K, value: V, replace: bool) -> bool
         requires sorted { IsSorted K.cmp self.old }
@@ -145,7 +145,7 @@ impl<K: Ord + Copy, V: Numbered> Bucket<K, V> {
         }
     }
 
-    // Whether a key has values, and where the one with a number stands among them, or where it would go.
+    // Returns whether a key has values, and the place of the one with a number among them, or the place where it would go.
     #[inline(always)]
     fn place_in(&self, key: K, number: u32) -> (bool, Result<usize, usize>)
         requires sorted { IsSorted K.cmp self.now }

@@ -10,8 +10,8 @@ use super::{Multimap, place_of};
 use crate::{Key, Numbered};
 
 impl<K: Key, V: Numbered> Multimap<K, V> {
-    /// Puts a value among those of a key, which ascend by number, instead of the one that has its number. Whether there was none; then it
-    /// takes one place of the room.
+    /// Inserts a value among those of a key, which ascend by number, or replaces the one with the same number. Returns true if it was
+    /// inserted, which takes one place of the room.
     #[inline(always)]
     pub fn put_by_number(&mut self, key: K, value: V) -> bool
         requires room { 0 < self.old.spare }
@@ -26,8 +26,8 @@ impl<K: Key, V: Numbered> Multimap<K, V> {
         added
     }
 
-    /// Puts a value among those of a key, which ascend by number, unless one has its number. Whether there was none; then it takes one place
-    /// of the room.
+    /// Inserts a value among those of a key, which ascend by number, unless one has its number. Returns true if it was inserted, which takes
+    /// one place of the room.
     #[inline(always)]
     pub fn add_by_number(&mut self, key: K, value: V) -> bool
         requires room { 0 < self.old.spare }
@@ -42,8 +42,8 @@ impl<K: Key, V: Numbered> Multimap<K, V> {
         added
     }
 
-    /// Puts a value among those of a key, which ascend by number, where it has any: instead of the one that has its number where `replace`
-    /// is true, and else unless one has it. Whether the key has any; then it takes one place of the room, and else nothing changes.
+    /// Puts a value among those of a key, which ascend by number, if the key has any. It replaces the value with the same number if `replace`
+    /// is true, and else leaves that one. Returns whether the key has values; then it takes one place of the room, and else nothing changes.
     #[inline(always)]
     pub fn join_by_number(&mut self, key: K, value: V, replace: bool) -> bool
         requires room { 0 < self.old.spare }
@@ -59,7 +59,7 @@ impl<K: Key, V: Numbered> Multimap<K, V> {
         joined
     }
 
-    /// Takes the value with a number out from among those of a key, which ascend by number. Where there is none, it holds the same.
+    /// Removes the value with a number from those of a key, which ascend by number. If there is none, nothing changes.
     #[inline(always)]
     pub fn take_by_number(&mut self, key: K, number: u32)
         requires { IsAscendingBy V.numbered_by (values_in K.cmp self.old key) }
