@@ -7,6 +7,9 @@
 //! |---|---|
 //! | `EngineStore::open` | begins an epoch with the rows that a disk has, or with those of the setup if it has none |
 //! | `ask` | answers a request; a commit makes four calls of the disk, and all other requests none |
+//! | `begin_group` | the same store, as an [`EngineGroup`], whose commits wait for the disk together |
+//! | `EngineGroup::ask` | answers a request, without a call of the disk; a commit waits |
+//! | `EngineGroup::sync` | writes all commits that wait in four calls of the disk, two of them syncs, and gives the store back |
 //! | `is_drained` | whether no transaction is unfinished and each session was told of its abort, as `next_epoch` asks |
 //! | `next_epoch` | writes a checkpoint of all rows, and goes on with a new engine over them, under any tree with the same tables |
 //! | `into_disk` | the disk, which may be opened again, also after a failure |
@@ -17,7 +20,8 @@
 //! - A commit is *unsure* if the disk failed at it: the disk may keep it or not, and the store is *stopped* ([`AskError`]).
 //!
 //! **What is proved.** A crash at any moment of a call, or after it, leaves the rows after the first k commits of the epoch, and k
-//! is at least the number of commits that were answered (`ask`, clauses `any_moment` and `images`). The next opening finds these
+//! is at least the number of commits that were answered (`ask`, clauses `any_moment` and `images`); of a group, the number of
+//! those that a `sync` has written (`EngineGroup::sync`, the same clauses). The next opening finds these
 //! rows (`open`, clause `found`). The serial orders of the commits that were kept, over all epochs, one after the other, are one
 //! serial order of the whole life ([`lives_are_serial`], and the clauses `life`). The contracts say this for every past: a store
 //! keeps nothing of the epochs before the present one.
@@ -28,6 +32,7 @@
 
 mod error;
 mod found;
+mod group;
 mod label;
 mod laws;
 mod next_epoch;
@@ -39,6 +44,7 @@ mod store;
 
 pub use epoch_store::AskError;
 pub use error::NextError;
+pub use group::EngineGroup;
 pub use label::label_tells_names;
 pub use laws::{empty_disks_tell, lives_are_serial};
 pub use next_epoch::{NotNext, next_engine};

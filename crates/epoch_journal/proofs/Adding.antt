@@ -1,16 +1,16 @@
--- A record more in the current half.
-use Rattle.std.proofs.Common.{◌≡◌, inl, inr, ◌⊎◌, ℕ, ◌+◌, ◌≤◌, Bool, List, [], ◌∷◌, ◌++◌, length, get_or, drop, sym, ◌∙◌, ap, arith, append_assoc, length-append}
+-- More records in the current half.
+use Rattle.std.proofs.Common.{◌≡◌, inl, inr, ◌⊎◌, ℕ, ◌+◌, ◌<◌, ◌≤◌, Bool, List, [], ◌∷◌, ◌++◌, length, get_or, drop, sym, ◌∙◌, ap, arith, append_assoc, length-append}
 use Rattle.std.proofs.lemmas.Bool.{cases_eq}
 use Rattle.crash_disk.specs.Disk.{IsTorn, Holds}
-use Rattle.record_journal.specs.Format.{Record, RecordFits, body, records}
-use Rattle.record_journal.specs.Journal.{IsBody}
-use Rattle.record_journal.proofs.Spelled.{length-body, records-push, length-records-push, all_push}
+use Rattle.record_journal.specs.Format.{Record, RecordFits, records}
 use Rattle.epoch_journal.specs.Layout.{Layout, half_size, half_at, half, header}
+use Rattle.epoch_journal.specs.Bodies.{AreBodies}
 use Rattle.epoch_journal.specs.Halves.{IsHalf, IsResting, IsOneOf}
 use Rattle.epoch_journal.proofs.Fronts.{behind_front, same_selector, same_front, same_fronted, torn_half, holds_half, far_half, half_front, rests_half}
 use Rattle.epoch_journal.proofs.Staging.{written_behind, marked}
+use Rattle.epoch_journal.proofs.Bodies.{records-append, all_append, length-bodies, marked_bodies}
 
-module _ (l : Layout) (first : Bool) (rs : List Record) (r : Record) (end : ℕ) (bytes f : List ℕ) (added : IsBody r bytes) (resting : IsResting l first rs end f) (room : end + 1 + length bytes ≤ half_size l.capacity) where
+module _ (l : Layout) (first : Bool) (rs more : List Record) (end : ℕ) (bytes f : List ℕ) (added : AreBodies more bytes) (some : 0 < length bytes) (resting : IsResting l first rs end f) (room : end + 1 + length bytes ≤ half_size l.capacity) where
   abbrev b : ℕ
   b = half_at l.capacity first
 
@@ -20,8 +20,8 @@ module _ (l : Layout) (first : Bool) (rs : List Record) (r : Record) (end : ℕ)
   size : end ≡ length pre
   size = omega (arith, resting.size, length-append (header l.label) (records rs))
 
-  length-bytes : length bytes ≡ length (body r) + 1
-  length-bytes = omega (arith, ap length added.is, length-append (body r) (0 ∷ []))
+  length-more : length (records (rs ++ more)) ≡ length (records rs) + length bytes
+  length-more = omega (arith, ap length (records-append rs more), length-append (records rs) (records more), length-bodies more bytes added)
 
   shut : IsHalf l rs (half l first f)
   shut = rests_half l first rs end f resting (omega (arith, room))
@@ -29,7 +29,7 @@ module _ (l : Layout) (first : Bool) (rs : List Record) (r : Record) (end : ℕ)
   long : b + (end + 1) ≤ length f
   long = omega (arith, far_half l first rs f shut, resting.size)
 
-  pub behind : (p : ℕ) (c : List ℕ) → p ≡ b + end + 1 → IsTorn p (length bytes) f c → IsOneOf l first rs r c
+  pub behind : (p : ℕ) (c : List ℕ) → p ≡ b + end + 1 → IsTorn p (length bytes) f c → IsOneOf l first rs more c
   behind p c is torn = record {
     fronted = same_fronted l.capacity p (length bytes) f c torn (omega (arith, is, behind_front l.capacity first)) resting.fronted;
     selects = same_selector p (length bytes) f c torn (omega (arith, is)) (omega (arith, long)) ∙ resting.selects;
@@ -41,14 +41,12 @@ module _ (l : Layout) (first : Bool) (rs : List Record) (r : Record) (end : ℕ)
     rest = drop (end + 1 + length bytes) (half l first mid)
 
     abbrev tail : List ℕ
-    tail = body r ++ 0 ∷ rest
+    tail = bytes ++ rest
 
     staged : half l first mid ≡ pre ++ 0 ∷ tail
     staged =
-        written_behind pre end size bytes (half l first f) resting.rest (half l first mid) (resting.is ∙ sym (append_assoc (header l.label) (records rs) (0 ∷ resting.rest))) (omega (arith, length-bytes))
+        written_behind pre end size bytes (half l first f) resting.rest (half l first mid) (resting.is ∙ sym (append_assoc (header l.label) (records rs) (0 ∷ resting.rest))) some
         (torn_half b (end + 1) p (length bytes) f mid (omega (arith, is)) (omega (arith, long)) torn) (holds_half b (end + 1) p bytes mid (omega (arith, is)) holds)
-        ∙ ap (λ (t : List ℕ). pre ++ 0 ∷ (t ++ rest)) added.is
-        ∙ ap (λ (t : List ℕ). pre ++ 0 ∷ t) (append_assoc (body r) (0 ∷ []) rest)
 
     longer : b + (end + 1) ≤ length mid
     longer = omega (arith, long, torn.no_shorter)
@@ -56,25 +54,28 @@ module _ (l : Layout) (first : Bool) (rs : List Record) (r : Record) (end : ℕ)
     parts : (q : ℕ) (c : List ℕ) → q ≡ b + end → IsTorn q 1 mid c → half l first c ≡ pre ++ get_or (half l first c) end 0 ∷ tail
     parts q c same mark = marked pre end size (half l first mid) tail (half l first c) staged (torn_half b end q 1 mid c same (omega (arith, longer)) mark)
 
-    opened : (x : List ℕ) (g : ℕ) → x ≡ pre ++ g ∷ tail → g ≡ 1 → x ≡ header l.label ++ (records (rs ++ r ∷ []) ++ 0 ∷ rest)
-    opened x g split is_open =
-        split
-        ∙ ap (λ (n : ℕ). pre ++ n ∷ tail) is_open
-        ∙ append_assoc (header l.label) (records rs) (1 ∷ tail)
-        ∙ ap (λ (t : List ℕ). header l.label ++ t) (sym (records-push rs r (0 ∷ rest)))
+    spelled : records rs ++ 1 ∷ tail ≡ records (rs ++ more) ++ 0 ∷ rest
+    spelled =
+        ap (λ (t : List ℕ). records rs ++ (t ++ rest)) (marked_bodies more bytes added some)
+        ∙ ap (λ (t : List ℕ). records rs ++ t) (append_assoc (records more) (0 ∷ []) rest)
+        ∙ sym (append_assoc (records rs) (records more) (0 ∷ rest))
+        ∙ ap (λ (t : List ℕ). t ++ 0 ∷ rest) (sym (records-append rs more))
 
-    pub at_mark : (q : ℕ) (c : List ℕ) → q ≡ b + end → IsTorn q 1 mid c → IsOneOf l first rs r c
+    opened : (x : List ℕ) (g : ℕ) → x ≡ pre ++ g ∷ tail → g ≡ 1 → x ≡ header l.label ++ (records (rs ++ more) ++ 0 ∷ rest)
+    opened x g split is_open = split ∙ ap (λ (n : ℕ). pre ++ n ∷ tail) is_open ∙ append_assoc (header l.label) (records rs) (1 ∷ tail) ∙ ap (λ (t : List ℕ). header l.label ++ t) spelled
+
+    pub at_mark : (q : ℕ) (c : List ℕ) → q ≡ b + end → IsTorn q 1 mid c → IsOneOf l first rs more c
     at_mark q c same mark = record {
       fronted = same_fronted l.capacity q 1 mid c mark (omega (arith, same, behind_front l.capacity first)) (behind p mid is torn).fronted;
       selects = same_selector q 1 mid c mark (omega (arith, same, behind_front l.capacity first)) (omega (arith, longer)) ∙ (behind p mid is torn).selects;
       has = cases;
     }
       where
-        cases : IsHalf l rs (half l first c) ⊎ IsHalf l (rs ++ r ∷ []) (half l first c)
+        cases : IsHalf l rs (half l first c) ⊎ IsHalf l (rs ++ more) (half l first c)
         cases = elim (cases_eq (get_or (half l first c) end 0) 1) [
           | inl is_open ↦ inr (record {
-            fit = all_push RecordFits rs r resting.fit added.fits;
-            within = omega (arith, length-records-push rs r, length-body r, length-bytes, resting.size, room);
+            fit = all_append RecordFits rs more resting.fit added.fit;
+            within = omega (arith, length-more, resting.size, room);
             mark = 0;
             ends = λ zero_one. omega arith;
             rest = rest;
@@ -83,15 +84,15 @@ module _ (l : Layout) (first : Bool) (rs : List Record) (r : Record) (end : ℕ)
           | inr is_shut ↦ inl (record { fit = shut.fit; within = shut.within; mark = get_or (half l first c) end 0; ends = is_shut; rest = tail; is = parts q c same mark ∙ append_assoc (header l.label) (records rs) (get_or (half l first c) end 0 ∷ tail) })
         ]
 
-    pub rests : (q : ℕ) (c : List ℕ) → q ≡ b + end → IsTorn q 1 mid c → Holds q (1 ∷ []) c → IsResting l first (rs ++ r ∷ []) (end + length bytes) c
+    pub rests : (q : ℕ) (c : List ℕ) → q ≡ b + end → IsTorn q 1 mid c → Holds q (1 ∷ []) c → IsResting l first (rs ++ more) (end + length bytes) c
     rests q c same mark written =
         let one = at_mark q c same mark in
         let here = holds_half b end q (1 ∷ []) c same written in
         record {
           fronted = one.fronted;
           selects = one.selects;
-          fit = all_push RecordFits rs r resting.fit added.fits;
-          size = omega (arith, length-records-push rs r, length-body r, length-bytes, resting.size);
+          fit = all_append RecordFits rs more resting.fit added.fit;
+          size = omega (arith, length-more, resting.size);
           rest = rest;
           is = opened (half l first c) (get_or (half l first c) end 0) (parts q c same mark) (ap (λ (k : ℕ). get_or (half l first c) k 0) (omega arith) ∙ here.each 0 (omega arith));
         }

@@ -2,6 +2,7 @@ pub mod Sizes
 pub mod Moments
 pub mod Fronts
 pub mod Staging
+pub mod Bodies
 pub mod Adding
 pub mod Switching
 pub mod Settling

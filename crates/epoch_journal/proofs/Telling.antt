@@ -80,14 +80,14 @@ tells_with l start all some least k c is few many on = record {
   begun = on.begun;
 }
 
-pub one_of_tells : (l : Layout) (start : Values) (past asked all : List Record) (rows : List (Cell × ℤ)) (r : Record) (least : ℕ) (first : Bool) (c : List ℕ) → ((x : Cell) → row_of rows x ≡ after_records past start x)
-    → all ≡ past ++ asked → least ≤ length all → IsOneOf l first (checkpoint_of rows ∷ asked) r c → TellsOn l start (all ++ r ∷ []) least c
-one_of_tells l start past asked all rows r least first c checkpoint split few one = ⊎_elim
-    (λ whole. tells_with l start (all ++ r ∷ []) all least (length all) c (take_at all (r ∷ []) (length all) refl) few (omega (arith, length-append all (r ∷ [])))
+pub one_of_tells : (l : Layout) (start : Values) (past asked all : List Record) (rows : List (Cell × ℤ)) (more : List Record) (least : ℕ) (first : Bool) (c : List ℕ) → ((x : Cell) → row_of rows x ≡ after_records past start x)
+    → all ≡ past ++ asked → least ≤ length all → IsOneOf l first (checkpoint_of rows ∷ asked) more c → TellsOn l start (all ++ more) least c
+one_of_tells l start past asked all rows more least first c checkpoint split few one = ⊎_elim
+    (λ whole. tells_with l start (all ++ more) all least (length all) c (take_at all more (length all) refl) few (omega (arith, length-append all more))
     (stands_with l start past asked all rows c checkpoint split (settled_has l first (checkpoint_of rows ∷ asked) c (record { fronted = one.fronted; selects = one.selects; has = inl whole }))))
-    (λ whole. tells_with l start (all ++ r ∷ []) (all ++ r ∷ []) least (length (all ++ r ∷ [])) c (take_all (length (all ++ r ∷ [])) (all ++ r ∷ []) (omega arith)) (omega (arith, few, length-append all (r ∷ []))) (omega arith)
-    (stands_with l start past (asked ++ r ∷ []) (all ++ r ∷ []) rows c checkpoint (ap (λ (t : List Record). t ++ r ∷ []) split ∙ append_assoc past asked (r ∷ []))
-    (settled_has l first (checkpoint_of rows ∷ (asked ++ r ∷ [])) c (record { fronted = one.fronted; selects = one.selects; has = inl whole }))))
+    (λ whole. tells_with l start (all ++ more) (all ++ more) least (length (all ++ more)) c (take_all (length (all ++ more)) (all ++ more) (omega arith)) (omega (arith, few, length-append all more)) (omega arith)
+    (stands_with l start past (asked ++ more) (all ++ more) rows c checkpoint (ap (λ (t : List Record). t ++ more) split ∙ append_assoc past asked more)
+    (settled_has l first (checkpoint_of rows ∷ (asked ++ more)) c (record { fronted = one.fronted; selects = one.selects; has = inl whole }))))
     one.has
 
 pub either_tells : (l : Layout) (start : Values) (past asked all : List Record) (old new : List (Cell × ℤ)) (least : ℕ) (first : Bool) (c : List ℕ) → ((x : Cell) → row_of old x ≡ after_records past start x) → all ≡ past ++ asked

@@ -58,11 +58,11 @@ pub record IsResting (l : Layout) (first : Bool) (rs : List Record) (end : ℕ) 
   pub rest : List ℕ
   pub is : half l first file ≡ header l.label ++ (records rs ++ 0 ∷ rest)
 
--- this half is current, and it has these records, or these and one more
-pub record IsOneOf (l : Layout) (first : Bool) (rs : List Record) (r : Record) (file : List ℕ) : Type 0 where
+-- this half is current, and it has these records, or these and all of the others
+pub record IsOneOf (l : Layout) (first : Bool) (rs more : List Record) (file : List ℕ) : Type 0 where
   pub fronted : IsFronted l.capacity file
   pub selects : is_first file ≡ first
-  pub has : IsHalf l rs (half l first file) ⊎ IsHalf l (rs ++ r ∷ []) (half l first file)
+  pub has : IsHalf l rs (half l first file) ⊎ IsHalf l (rs ++ more) (half l first file)
 
 -- the bytes of a half that has this one record
 pub record IsPiece (l : Layout) (r : Record) (bytes : List ℕ) : Type 0 where

@@ -1,4 +1,6 @@
 pub mod Layout
+pub mod Bodies
+pub mod Group
 pub mod Halves
 pub mod Telling
 pub mod State

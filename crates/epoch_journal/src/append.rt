@@ -7,20 +7,24 @@ ghost use Rattle.crash_disk.specs.Calls.{AreCalls};
 ghost use Rattle.crash_disk.specs.Disk.{LeavesOnly};
 ghost use Rattle.record_journal.specs.Format.{Record};
 ghost use Rattle.record_journal.specs.Journal.{IsBody};
+ghost use Rattle.epoch_journal.specs.Bodies.{AreBodies};
+ghost use Rattle.epoch_journal.specs.Group.{group_size};
 ghost use Rattle.epoch_journal.specs.Layout.{half_size};
 ghost use Rattle.epoch_journal.specs.Telling.{TellsOn};
 ghost use Rattle.epoch_journal.specs.Kept.{Keeps};
 ghost use Rattle.epoch_journal.specs.Memory.{IsForRecord};
 
+use crate::group::Group;
 use crate::journal::{EpochJournal, Place};
 use crate::layout::{base, half_bytes};
-use crate::steps::add_record;
+use crate::steps::add_records;
 use crash_disk::{Disk, Memory};
 use std::alloc::{AllocError, Global};
 use teb_io::Failed;
 
 impl<D: Disk> EpochJournal<D> {
-    /// Returns memory for a record whose body has so many bytes, which `append` takes. It makes no call of the disk.
+    /// Returns memory for a record whose body has so many bytes, or a group of that size, which `append` and `append_group` take. It makes no
+    /// call of the disk.
     ///
     /// # Errors
     /// `AllocError`: out of memory.
@@ -64,15 +68,76 @@ impl<D: Disk> EpochJournal<D> {
         ensures cause { HasCause (D.faults self.old.disk) (D.faults self.new.disk) result }
         ensures calls { AreCalls (D.tally self.old.disk).promise.writes 4 (length body.now + 1) (D.tally self.old.disk) (D.tally self.new.disk) result }
     {
+        self.append_bodies(memory, body, 1)
+    }
+
+    /// Adds the records of a group, the first one first, in memory that `reserve` returned for their size. After `Ok` all of them are
+    /// acknowledged: from then on each crash leaves them. It makes four calls of the disk, however many records there are, none of which
+    /// fails for want of memory.
+    ///
+    /// # Errors
+    /// `Failed` if a call of the disk fails. The journal is then stopped, and all records of the group may be on the disk, or none.
+    pub fn append_group(&mut self, memory: Memory, group: &Group) -> Result<(), Failed>
+        requires running { self.old.stopped ≡ false }
+        requires some { 0 < length group.now.records }
+        requires room { self.old.end + 1 + group_size group.now ≤ half_size self.old.layout.capacity }
+
+        // A crash leaves the table after the first of all records, and after `Ok` of all of them.
+        ensures kept { (start : Values) (all : List Record) (least : ℕ) → Keeps D.seen D.may_leave start all least self.old
+            → OnOk result (Keeps D.seen D.may_leave start (all ++ group.now.records) (least + length group.now.records) self.new) }
+        ensures not_added { (start : Values) (all : List Record) (least : ℕ) → Keeps D.seen D.may_leave start all least self.old
+            → OnErr result (Keeps D.seen D.may_leave start (all ++ group.now.records) least self.new) }
+
+        // So does a crash at any moment of the call.
+        ensures any_moment { (start : Values) (all : List Record) (least : ℕ) → Keeps D.seen D.may_leave start all least self.old
+            → LeavesOnly D.moment D.left_since self.old.disk self.new.disk (TellsOn self.old.layout start (all ++ group.now.records) least) }
+
+        ensures layout { self.new.layout ≡ self.old.layout }
+        ensures first { self.new.first ≡ self.old.first }
+        ensures acknowledged { OnOk result ((self.new.stopped ≡ false) × (self.new.acknowledged ≡ self.old.acknowledged + length group.now.records)) }
+        ensures end { OnOk result (self.new.end ≡ self.old.end + group_size group.now) }
+        ensures stopped { OnErr result ((self.new.stopped ≡ true) × (self.new.end ≡ self.old.end) × (self.new.acknowledged ≡ self.old.acknowledged)) }
+        // In memory that was reserved for it, it is refused none.
+        ensures memory { IsForRecord D.spare_with (group_size group.now) memory self.old → D.refusals self.new.disk ≡ D.refusals self.old.disk }
+        ensures cause { HasCause (D.faults self.old.disk) (D.faults self.new.disk) result }
+        ensures calls { AreCalls (D.tally self.old.disk).promise.writes 4 (group_size group.now + 1) (D.tally self.old.disk) (D.tally self.new.disk) result }
+    {
+        self.append_bodies(memory, &group.bytes, group.len as u64)
+    }
+
+    /// Adds so many records, of which these are the bodies with the marks behind them.
+    ///
+    /// # Errors
+    /// `Failed` if a call of the disk fails. The journal is then stopped, and all of the records may be on the disk, or none.
+    fn append_bodies(&mut self, memory: Memory, bodies: &[u8], count: u64) -> Result<(), Failed>
+        requires running { self.old.stopped ≡ false }
+        requires some { 0 < length bodies.now }
+        requires counted { count ≤ length bodies.now }
+        requires room { self.old.end + 1 + length bodies.now ≤ half_size self.old.layout.capacity }
+        ensures kept { (start : Values) (all : List Record) (least : ℕ) (more : List Record) → AreBodies more bodies.now → Keeps D.seen D.may_leave start all least self.old
+            → OnOk result (Keeps D.seen D.may_leave start (all ++ more) (least + length more) self.new) }
+        ensures not_added { (start : Values) (all : List Record) (least : ℕ) (more : List Record) → AreBodies more bodies.now → Keeps D.seen D.may_leave start all least self.old
+            → OnErr result (Keeps D.seen D.may_leave start (all ++ more) least self.new) }
+        ensures any_moment { (start : Values) (all : List Record) (least : ℕ) (more : List Record) → AreBodies more bodies.now → Keeps D.seen D.may_leave start all least self.old
+            → LeavesOnly D.moment D.left_since self.old.disk self.new.disk (TellsOn self.old.layout start (all ++ more) least) }
+        ensures layout { self.new.layout ≡ self.old.layout }
+        ensures first { self.new.first ≡ self.old.first }
+        ensures acknowledged { OnOk result ((self.new.stopped ≡ false) × (self.new.acknowledged ≡ self.old.acknowledged + count)) }
+        ensures end { OnOk result (self.new.end ≡ self.old.end + length bodies.now) }
+        ensures stopped { OnErr result ((self.new.stopped ≡ true) × (self.new.end ≡ self.old.end) × (self.new.acknowledged ≡ self.old.acknowledged)) }
+        ensures memory { IsForRecord D.spare_with (length bodies.now) memory self.old → D.refusals self.new.disk ≡ D.refusals self.old.disk }
+        ensures cause { HasCause (D.faults self.old.disk) (D.faults self.new.disk) result }
+        ensures calls { AreCalls (D.tally self.old.disk).promise.writes 4 (length bodies.now + 1) (D.tally self.old.disk) (D.tally self.new.disk) result }
+    {
         let Place { first, end, .. } = self.place;
         self.disk.adopt(memory);
-        let added = add_record(&mut self.disk, self.capacity, first, end, body);
+        let added = add_records(&mut self.disk, self.capacity, first, end, bodies);
         match added {
             Ok(()) => {
                 self.place = Place {
                     first,
-                    end: end + body.len() as u64,
-                    acknowledged: self.place.acknowledged + 1,
+                    end: end + bodies.len() as u64,
+                    acknowledged: self.place.acknowledged + count,
                 };
             }
             Err(Failed) => self.stopped = true,

@@ -18,6 +18,7 @@
 //! - The *life* of a disk is all its epochs, one after the other.
 //! - The *label* says whose rows these are: `engine_store` writes the names of its tables into it.
 //! - A record is *acknowledged* once `append` has returned `Ok`. A journal is *stopped* once a call of its disk has failed.
+//! - A [`Group`] is records that are added together. `append_group` makes no more calls of the disk for it than `append` for one record.
 //!
 //! | Call | Writes, each followed by a sync |
 //! |---|---|
@@ -25,6 +26,7 @@
 //! | `begin` | on a disk of at most 13 bytes first byte 0, and then the front; then as `checkpoint` |
 //! | `open` | as `recover`, and then `begin` |
 //! | `append` | the body with the next end mark, after the present end mark; then the commit mark over the present end mark |
+//! | `append_group` | the bodies with commit marks between them and the next end mark; then as `append` |
 //! | `checkpoint` | header, checkpoint and end mark into the half that is not current; then byte 0 |
 //! | `renew` | none: it frees the memory that the past calls of the disk took |
 //!
@@ -36,10 +38,11 @@
 //!
 //! **Why the records of a crash are a prefix.** The body of a record follows an end mark until it is safe. Its commit mark
 //! is one byte, so a torn write leaves either the mark, and then the whole record counts, or another byte, and then it does
-//! not. A checkpoint is safe before its half becomes current.
+//! not. Of a group only the first mark is written last: with it all records of the group count, and without it none. A
+//! checkpoint is safe before its half becomes current.
 //!
-//! **What is proved.** After a crash at any call of `recover`, `begin`, `open`, `append` or `checkpoint`, the disk has the
-//! table after the first k of all records that were given to it, and k is at least the number of acknowledged records
+//! **What is proved.** After a crash at any call of `recover`, `begin`, `open`, `append`, `append_group` or `checkpoint`, the
+//! disk has the table after the first k of all records that were given to it, and k is at least the number of acknowledged records
 //! (`Tells`, `TellsOn`). The next opening finds these rows, and reports no damage. `epochs_go_on` says that what a disk
 //! tells of an epoch, it tells of the whole life.
 //!
@@ -52,6 +55,7 @@ mod begin;
 mod checkpoint;
 mod current;
 mod error;
+mod group;
 mod journal;
 mod laws;
 mod layout;
@@ -69,6 +73,7 @@ mod table;
 
 pub use current::Current;
 pub use error::{CheckpointError, OpenError};
+pub use group::Group;
 pub use journal::EpochJournal;
 pub use laws::epochs_go_on;
 pub use recovered::{NotOpened, RecoveredDisk};

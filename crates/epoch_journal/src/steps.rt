@@ -1,4 +1,4 @@
-//! What is done to a disk in halves: a record more, and the other half in place of this one.
+//! What is done to a disk in halves: more records, and the other half in place of this one.
 
 ghost use Rattle.std.specs.Prelude.{◌≡◌, ◌+◌, ◌-◌, ◌<◌, ◌≤◌, ◌++◌, ◌∷◌, [], List, ℕ, not, length, OnOk};
 ghost use Rattle.crash_disk.specs.Calls.{AreCalls};
@@ -6,8 +6,8 @@ ghost use Rattle.crash_disk.specs.Disk.{LeavesOnly, Only};
 ghost use Rattle.crash_disk.specs.Spare.{UsesUp};
 ghost use Rattle.teb_io.specs.Faults.{HasCause};
 ghost use Rattle.record_journal.specs.Format.{Record};
-ghost use Rattle.record_journal.specs.Journal.{IsBody};
 ghost use Rattle.epoch_journal.specs.Layout.{half_at, half_size, layout};
+ghost use Rattle.epoch_journal.specs.Bodies.{AreBodies};
 ghost use Rattle.epoch_journal.specs.Halves.{IsEither, IsFronted, IsOneOf, IsPiece, IsResting, IsSettled};
 
 use crate::layout::{COMMIT_MARK, base};
@@ -15,34 +15,35 @@ use crate::safely::write_safely;
 use crash_disk::Disk;
 use teb_io::Failed;
 
-/// Adds a record behind the end mark at `end` of a half: its body with the next end mark, and then its commit mark, each made safe. It
-/// makes four calls of the disk.
+/// Adds records behind the end mark at `end` of a half: their bodies with the marks behind them, and then the first commit mark, each
+/// made safe. It makes four calls of the disk, however many records there are.
 ///
 /// # Errors
-/// `Failed` if one of them fails. The record may then be on the disk or not.
-pub(crate) fn add_record<D: Disk>(
+/// `Failed` if one of them fails. All of the records may then be on the disk, or none.
+pub(crate) fn add_records<D: Disk>(
     disk: &mut D,
     capacity: u64,
     first: bool,
     end: u64,
-    body: &[u8],
+    bodies: &[u8],
 ) -> Result<(), Failed>
     requires small { capacity ≤ D.capacity disk.old }
-    requires room { end + 1 + length body.now ≤ half_size capacity }
-    ensures added { (label : List ℕ) (rs : List Record) (r : Record) → IsBody r body.now → IsResting (layout capacity label) first rs end (D.seen disk.old)
+    requires some { 0 < length bodies.now }
+    requires room { end + 1 + length bodies.now ≤ half_size capacity }
+    ensures added { (label : List ℕ) (rs more : List Record) → AreBodies more bodies.now → IsResting (layout capacity label) first rs end (D.seen disk.old)
         → Only (D.seen disk.old) (D.may_leave disk.old)
-        → OnOk result (IsResting (layout capacity label) first (rs ++ r ∷ []) (end + length body.now) (D.seen disk.new) × Only (D.seen disk.new) (D.may_leave disk.new)) }
-    ensures any_moment { (label : List ℕ) (rs : List Record) (r : Record) → IsBody r body.now → IsResting (layout capacity label) first rs end (D.seen disk.old)
+        → OnOk result (IsResting (layout capacity label) first (rs ++ more) (end + length bodies.now) (D.seen disk.new) × Only (D.seen disk.new) (D.may_leave disk.new)) }
+    ensures any_moment { (label : List ℕ) (rs more : List Record) → AreBodies more bodies.now → IsResting (layout capacity label) first rs end (D.seen disk.old)
         → Only (D.seen disk.old) (D.may_leave disk.old)
-        → LeavesOnly D.moment D.left_since disk.old disk.new (IsOneOf (layout capacity label) first rs r) }
+        → LeavesOnly D.moment D.left_since disk.old disk.new (IsOneOf (layout capacity label) first rs more) }
     ensures durable { OnOk result (Only (D.seen disk.new) (D.may_leave disk.new)) }
     ensures stays { D.capacity disk.new ≡ D.capacity disk.old }
     ensures cause { HasCause (D.faults disk.old) (D.faults disk.new) result }
-    ensures calls { AreCalls (D.tally disk.old).promise.writes 4 (length body.now + 1) (D.tally disk.old) (D.tally disk.new) result }
-    ensures memory { UsesUp 4 (length body.now + 1) (half_at capacity first + end + 1 + length body.now) (D.spare disk.old) (D.spare disk.new) (D.refusals disk.old) (D.refusals disk.new) }
+    ensures calls { AreCalls (D.tally disk.old).promise.writes 4 (length bodies.now + 1) (D.tally disk.old) (D.tally disk.new) result }
+    ensures memory { UsesUp 4 (length bodies.now + 1) (half_at capacity first + end + 1 + length bodies.now) (D.spare disk.old) (D.spare disk.new) (D.refusals disk.old) (D.refusals disk.new) }
 {
     let mark = base(capacity, first) + end;
-    write_safely(disk, mark + 1, body)?;
+    write_safely(disk, mark + 1, bodies)?;
     write_safely(disk, mark, &[COMMIT_MARK])?;
     Ok(())
 }

@@ -19,20 +19,34 @@
 //! - A commit is *acknowledged* once it is answered (`acknowledged`). It is *unsure* if the disk failed at it: the history has it,
 //!   and the disk may keep it or not.
 //! - A store is *stopped* if a call of its disk has failed. It answers `Stopped` from then on.
+//! - In a *group commit* several commits share the calls of the disk that one takes. `begin_group` turns the store into a
+//!   [`GroupCommit`], whose `ask` lets commits wait; its `sync` writes all of them and gives the store back.
+//!
+//! ```text
+//!   begin_group ──► ask: the engine's answer; a commit waits, and the disk is not touched ──► ask ──► ..
+//!                                                                                              │
+//!                                                                                              ▼
+//!        all commits are acknowledged ◄── sync: write all records, sync, write the first commit mark, sync
+//! ```
 //!
 //! **What is proved.** The reply and the events of `ask` are those of `answer` (clauses `reply`, `events`). A crash at any moment
 //! of `ask`, or after it, leaves the rows after the first k commits of the epoch, and k is at least the number of acknowledged
 //! commits (`any_moment`, `images`). Every error but `Unsure` leaves the store as it was (`not_asked`). A crash at any moment of
-//! `next_epoch` leaves the rows after all commits of the epoch that ends.
+//! `next_epoch` leaves the rows after all commits of the epoch that ends. `GroupCommit::ask` makes no call of the disk, and
+//! `GroupCommit::sync` four, however many commits wait; a crash at any moment of them leaves the first commits too, at least those
+//! that were acknowledged before.
 //!
-//! **Not claimed**: anything of serial orders, or of epochs that are past: that is `engine_store`. No epoch ends by itself.
+//! **Not claimed**: anything of serial orders, or of epochs that are past: that is `engine_store`. No epoch ends by itself, and no
+//! group: who answers the commits of a group to its clients before `sync` has returned `Ok` may tell them of commits that a crash loses.
 #![tactic(auto)]
 
 mod error;
+mod group_commit;
 mod recorder;
 mod renew;
 mod store;
 
 pub use error::{AskError, NotBegun};
+pub use group_commit::GroupCommit;
 pub use recorder::{PrepareError, Recorder};
 pub use store::EpochStore;

@@ -29,7 +29,7 @@ use teb_io::Failed;
 use teb_names::{Reply, Request, Session};
 
 /// No record has more bytes, since it counts its changes in four.
-const MOST_LEFT: u64 = 4_294_967_295;
+pub(crate) const MOST_LEFT: u64 = 4_294_967_295;
 
 /// A store whose commits are kept on a disk. Whatever a crash leaves, now and at any moment of a call, has the rows after the first k of
 /// the commits of this epoch, applied to the rows that the epoch began with; k is no less than the number of commits that were answered.
@@ -258,14 +258,43 @@ fn prepared<E: Recorder, D: Disk>(
     ensures unchanged { OnErr result (engine.new ≡ engine.old) }
 {
     let left = journal.left().min(MOST_LEFT);
+    let (body, memory) = match body_and_memory(alloc, engine, journal, 0, left, session, request) {
+        Ok(found) => found,
+        Err(error) => return Err(error),
+    };
+    let Ok(()) = engine.make_ready() else {
+        return Err(AskError::OutOfMemory);
+    };
+    Ok((body, memory))
+}
+
+/// Returns the body of the record that a request would commit, and memory to write it behind `waiting` bytes more.
+///
+/// # Errors
+/// `Full` if the record may need more than `left` bytes; `OutOfMemory`.
+pub(crate) fn body_and_memory<E: Recorder, D: Disk>(
+    alloc: Global,
+    engine: &E,
+    journal: &EpochJournal<D>,
+    waiting: usize,
+    left: u64,
+    session: Session,
+    request: Request,
+) -> Result<(Vec<u8>, Memory), AskError>
+    requires left { (1 ≤ left) × (left ≤ 2 ^ 32) }
+    requires waiting { waiting < 2 ^ 32 }
+    ensures prepared { IfOk result (λ p. E.prepared engine.now session request p.0.items) }
+    ensures memory { IfOk result (λ p. IsForRecord D.spare_with (waiting + length p.0.items) p.1 journal.now) }
+    ensures fits { IfOk result (λ p. length p.0.items + 1 ≤ left) }
+    ensures room { OnOk result (E.lacks engine.now left session request → ⊥) }
+    ensures full { IsErrOf result errors.Full → E.lacks engine.now left session request }
+    ensures only { IfErr result (λ e. (e ≡ errors.Full) ⊎ (e ≡ errors.OutOfMemory)) }
+{
     let body = match engine.body(alloc, left, session, request) {
         Ok(body) => body,
         Err(error) => return Err(AskError::from(error)),
     };
-    let Ok(memory) = journal.reserve(alloc, body.len()) else {
-        return Err(AskError::OutOfMemory);
-    };
-    let Ok(()) = engine.make_ready() else {
+    let Ok(memory) = journal.reserve(alloc, waiting + body.len()) else {
         return Err(AskError::OutOfMemory);
     };
     Ok((body, memory))

@@ -15,7 +15,8 @@ pub type TrialStore = EngineStore<PlainChains, MemDisk>;
 /// How many commits a life has.
 pub const COMMITS: i64 = 3;
 
-const CELL: Cell = Cell {
+/// The cell of each commit.
+pub const CELL: Cell = Cell {
     table: Table(0),
     key: 1,
 };
