@@ -1,6 +1,6 @@
 //! The trait of what takes the answers of a run.
 
-ghost use Rattle.std.specs.Prelude.{◌++◌, ◌∷◌, [], List, OnOk};
+ghost use Rattle.std.specs.Prelude.{◌++◌, ◌∷◌, [], List, IsOk, OnOk};
 ghost use Rattle.teb_names.specs.declared.naming.NameBook.{NameBook};
 ghost use Rattle.short_reply.specs.ShortReplies.{full_reply};
 ghost use Rattle.script_text.specs.declared.Answered.{Answered};
@@ -17,10 +17,11 @@ pub trait Log: Drop {
     /// There is room for one answer.
     ghost has_room: { Self → Type 0 };
 
-    /// Makes room for one answer. The log tells what it told before, also if this fails.
+    /// Makes room for one answer. The log tells what it told before, also if this fails. It does not fail if there is room already.
     fn ready(&mut self, names: &NameBook) -> Result<(), AllocError>
         ensures told { (answers : List Answered) → tells self.old names.now answers → tells self.new names.now answers }
-        ensures room { OnOk result (has_room self.new) };
+        ensures room { OnOk result (has_room self.new) }
+        ensures sure { has_room self.old → IsOk result };
 
     /// Appends the answer to a session. It uses up the room.
     fn add(&mut self, names: &NameBook, session: Session, reply: &Reply)

@@ -63,7 +63,7 @@ module _ (ss : List Segment) (n debt i : ℕ) (t : Segment) (h : Lies ss n debt)
   pub other_now : (j : ℕ) → j ≢ i → segment_at (set ss i t) j ≡ segment_at ss j
   other_now j ne = get_or-set_other ss i j t none ne
 
-  same_place : (j : ℕ) → ((segment_at (set ss i t) j).start ≡ (segment_at ss j).start) × ((segment_at (set ss i t) j).room ≡ (segment_at ss j).room) × ((segment_at (set ss i t) j).len ≤ (segment_at ss j).len)
+  pub same_place : (j : ℕ) → ((segment_at (set ss i t) j).start ≡ (segment_at ss j).start) × ((segment_at (set ss i t) j).room ≡ (segment_at ss j).room) × ((segment_at (set ss i t) j).len ≤ (segment_at ss j).len)
   same_place j = elim (cases_eq j i) [
     | inl e ↦ subst (λ (k : ℕ). ((segment_at (set ss i t) k).start ≡ (segment_at ss k).start) × ((segment_at (set ss i t) k).room ≡ (segment_at ss k).room) × ((segment_at (set ss i t) k).len ≤ (segment_at ss k).len)) (sym e)
         (ap (λ (s : Segment). s.start) here_now ∙ start, ap (λ (s : Segment). s.room) here_now ∙ room, omega (arith, len, ap (λ (s : Segment). s.len) here_now))

@@ -256,12 +256,13 @@ impl<V: Copy> Arena<V> {
         self.values[place] = value;
     }
 
-    /// Removes a value from a list.
+    /// Removes a value from a list. The list keeps its segment.
     pub(crate) fn take(&mut self, i: usize, at: usize)
         requires sound { IsArena self.old }
         requires at { at < length (list_at self.old i) }
         ensures sound { IsArena self.new }
         ensures lists { lists self.new ≡ lists self.old }
+        ensures segments { (j : ℕ) → (segment_at self.new.segments.items j).room ≡ (segment_at self.old.segments.items j).room }
         ensures values { (j : ℕ) → list_at self.new j ≡ cond (eqb j i) (remove (list_at self.old i) at) (list_at self.old j) }
         ensures room { (n : ℕ) → HasRoom self.old n → HasRoom self.new n }
     {
@@ -276,6 +277,7 @@ impl<V: Copy> Arena<V> {
         requires { IsArena self.old }
         ensures sound { IsArena self.new }
         ensures lists { lists self.new ≡ lists self.old }
+        ensures segments { (j : ℕ) → (segment_at self.new.segments.items j).room ≡ (segment_at self.old.segments.items j).room }
         ensures values { (j : ℕ) → list_at self.new j ≡ cond (eqb j i) [] (list_at self.old j) }
         ensures room { (n : ℕ) → HasRoom self.old n → HasRoom self.new n }
     {

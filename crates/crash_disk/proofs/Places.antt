@@ -1,9 +1,9 @@
 -- The call at a place of a log, with its bytes.
-use Rattle.std.proofs.Common.{slice_get, zero, suc, Some, None, ◌≡◌, ℕ, ◌+◌, ◌-◌, ◌<◌, ◌≤◌, List, [], ◌∷◌, length, take, drop, refl, sym, ◌∙◌, ap, subst, arith, length-drop}
+use Rattle.std.proofs.Common.{slice_get, zero, suc, Some, ◌≡◌, ℕ, ◌+◌, ◌-◌, ◌≤◌, List, [], ◌∷◌, length, take, drop, sym, ◌∙◌, ap, arith, length-drop}
 use Rattle.std.proofs.lemmas.List.{drop-drop}
 use Rattle.crash_disk.specs.declared.call.Call.{Call}
 use Rattle.crash_disk.specs.declared.call.Call.TheVariants as call
-use Rattle.crash_disk.specs.Log.{Step, Wrote, Synced, steps, total}
+use Rattle.crash_disk.specs.Log.{Wrote, Synced, steps, total}
 
 pub total_back : (cs : List Call) (p : ℕ) → total (drop p cs) ≤ total cs
 total_back cs zero = omega arith

@@ -1,5 +1,6 @@
 -- The calls of a disk: how many were made, and which of them are sure to succeed or to fail.
-use Rattle.std.specs.Prelude.{◌≡◌, ◌⊎◌, ℕ, ◌+◌, ◌<◌, ◌≤◌, ◌^◌, Result, OnOk, IsOk, IsErr}
+use Rattle.std.specs.Prelude.{◌≡◌, ◌⊎◌, ℕ, ◌+◌, ◌<◌, ◌≤◌, ◌^◌, Result, OnOk, OnErr, IsOk, IsErr}
+use Rattle.teb_io.specs.Faults.{next}
 use Rattle.crash_disk.specs.declared.room.Room.{Room}
 use Rattle.crash_disk.specs.Sizes.{promised_reads, promised_calls, promised_bytes}
 
@@ -47,6 +48,19 @@ pub record AreCalls {T E : Type 0} (most k n : ℕ) (old new : Tally) (result : 
   pub all : OnOk result (old.made + k < 2 ^ 64 → new.made ≡ old.made + k)
   pub sure : AreSure most k n old → IsOk result
   pub fails : Fails k old → IsErr result
+
+-- What a call counts. One that succeeds counts no refusal. One that fails counts one fault, and one refusal at most. If the disk fails only at its
+-- stop or for want of memory (`tells`), then a call that fails counts a refusal exactly if it comes before the stop.
+pub record Counts {T E : Type 0} (tells : Type 0) (calls : Tally) (faults faults' refusals refusals' : ℕ) (result : Result T E) : Type 0 where
+  pub granted : OnOk result (refusals' ≡ refusals)
+  pub fault : OnErr result (faults' ≡ next faults)
+  pub once : (refusals' ≡ refusals) ⊎ (refusals' ≡ next refusals)
+  pub refused : OnErr result (tells → IsBefore calls.promise.stop (next calls.made) → refusals' ≡ next refusals)
+  pub stopped : tells → IsFrom calls.promise.stop (next calls.made) → refusals' ≡ refusals
+
+-- the same, which a proof sees only if it unfolds it
+unfoldable pub IsCounted : {T E : Type 0} → Type 0 → Tally → ℕ → ℕ → ℕ → ℕ → Result T E → Type 0
+IsCounted tells calls faults faults' refusals refusals' result = Counts tells calls faults faults' refusals refusals' result
 
 -- A disk in memory promises the calls before its stop: those that read, and the writes and syncs for which memory is reserved.
 abbrev pub memory_tally : ℕ → ℕ → ℕ → Room → Tally

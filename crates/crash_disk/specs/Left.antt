@@ -12,4 +12,5 @@ pub record IsLeft (old left : MemDisk) : Type 0 where
   pub stop : left.counter.stop ≡ 0
   pub made : left.counter.made ≡ old.counter.made
   pub faults : left.counter.faults ≡ old.counter.faults
+  pub refusals : left.counter.refusals ≡ old.counter.refusals
   pub written : byte_count left.log.steps ≤ byte_count old.log.steps

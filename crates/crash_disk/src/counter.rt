@@ -1,6 +1,6 @@
 //! Which calls fail, and how many did.
 
-ghost use Rattle.std.specs.Prelude.{◌≡◌, ◌≤◌, OnOk, IsOk, IsErr};
+ghost use Rattle.std.specs.Prelude.{◌≡◌, ◌≤◌, OnOk, OnErr, IsOk, IsErr};
 ghost use Rattle.teb_io.specs.Faults.{HasCause, Rose, next};
 ghost use Rattle.crash_disk.specs.Calls.{IsBefore, IsFrom};
 
@@ -45,6 +45,7 @@ impl Counter {
         ensures stopped { IsFrom self.old.stop (next self.old.made) → IsErr result }
         ensures cause { HasCause self.old.faults self.new.faults result }
         ensures no_fault { OnOk result (self.new.faults ≡ self.old.faults) }
+        ensures fault { OnErr result (self.new.faults ≡ next self.old.faults) }
         ensures no_refusal { self.new.refusals ≡ self.old.refusals }
     {
         self.made = self.made.saturating_add(1);
@@ -57,6 +58,7 @@ impl Counter {
 
     /// Counts one fault more. The calls stay as they were.
     fn fault(&mut self)
+        ensures one { self.new.faults ≡ next self.old.faults }
         ensures rose { Rose self.old.faults self.new.faults }
         ensures later { self.old.faults ≤ self.new.faults }
         ensures made { self.new.made ≡ self.old.made }
@@ -68,6 +70,8 @@ impl Counter {
 
     /// Counts one fault more, for want of memory. The calls stay as they were.
     pub fn refuse(&mut self)
+        ensures one { self.new.faults ≡ next self.old.faults }
+        ensures one_refusal { self.new.refusals ≡ next self.old.refusals }
         ensures rose { Rose self.old.faults self.new.faults }
         ensures later { self.old.faults ≤ self.new.faults }
         ensures refused { Rose self.old.refusals self.new.refusals }

@@ -2,7 +2,7 @@
 
 ghost use Rattle.std.specs.Prelude.{◌≡◌, ◌+◌, ◌<◌, ◌≤◌, ◌^◌, List, ℕ, length, IfOk, OnOk, OnErr, IsErr};
 ghost use Rattle.crash_disk.specs.Disk.{Only, Follows, NoMore, IsTorn, Holds, IsRead, Elapses};
-ghost use Rattle.crash_disk.specs.Calls.{Tally, AreCalls};
+ghost use Rattle.crash_disk.specs.Calls.{Tally, AreCalls, IsCounted};
 ghost use Rattle.crash_disk.specs.Spare.{Spare, Covers, IsNoLess, UsesUp};
 ghost use Rattle.teb_io.specs.Faults.{HasCause};
 
@@ -46,6 +46,9 @@ pub trait Disk {
 
     /// How often a call has failed for want of memory.
     ghost refusals: { Self → ℕ };
+
+    /// A call fails only at the stop, or for want of memory.
+    ghost tells_failures: { Self → Type 0 };
 
     /// For how many calls to come it has memory.
     ghost spare: { Self → Spare };
@@ -98,6 +101,7 @@ pub trait Disk {
         ensures calls { AreCalls (tally self.old).promise.reads 1 0 (tally self.old) (tally self.new) result }
         ensures cause { HasCause (faults self.old) (faults self.new) result }
         ensures no_fault { OnOk result (faults self.new ≡ faults self.old) }
+        ensures count { IsCounted (tells_failures self.old) (tally self.old) (faults self.old) (faults self.new) (refusals self.old) (refusals self.new) result }
         ensures broken { broken self.old → IsErr result }
         ensures memory { UsesUp 0 0 0 (spare self.old) (spare self.new) (refusals self.old) (refusals self.new) };
 
@@ -116,6 +120,7 @@ pub trait Disk {
         ensures calls { AreCalls (tally self.old).promise.reads 1 0 (tally self.old) (tally self.new) result }
         ensures cause { HasCause (faults self.old) (faults self.new) result }
         ensures no_fault { OnOk result (faults self.new ≡ faults self.old) }
+        ensures count { IsCounted (tells_failures self.old) (tally self.old) (faults self.old) (faults self.new) (refusals self.old) (refusals self.new) result }
         ensures broken { broken self.old → IsErr result }
         ensures memory { UsesUp 0 0 0 (spare self.old) (spare self.new) (refusals self.old) (refusals self.new) };
 
@@ -135,6 +140,7 @@ pub trait Disk {
         ensures calls { AreCalls (tally self.old).promise.writes 1 (length bytes.now) (tally self.old) (tally self.new) result }
         ensures cause { HasCause (faults self.old) (faults self.new) result }
         ensures no_fault { OnOk result (faults self.new ≡ faults self.old) }
+        ensures count { IsCounted (tells_failures self.old) (tally self.old) (faults self.old) (faults self.new) (refusals self.old) (refusals self.new) result }
         ensures broken { broken self.old → IsErr result }
         ensures memory { UsesUp 1 (length bytes.now) (at + length bytes.now) (spare self.old) (spare self.new) (refusals self.old) (refusals self.new) };
 
@@ -154,6 +160,7 @@ pub trait Disk {
         ensures calls { AreCalls (tally self.old).promise.writes 1 0 (tally self.old) (tally self.new) result }
         ensures cause { HasCause (faults self.old) (faults self.new) result }
         ensures no_fault { OnOk result (faults self.new ≡ faults self.old) }
+        ensures count { IsCounted (tells_failures self.old) (tally self.old) (faults self.old) (faults self.new) (refusals self.old) (refusals self.new) result }
         ensures broken { broken self.old → IsErr result }
         ensures memory { UsesUp 1 0 0 (spare self.old) (spare self.new) (refusals self.old) (refusals self.new) };
 

@@ -1,6 +1,6 @@
 //! The bytes of a disk in memory.
 
-ghost use Rattle.std.specs.Prelude.{◌≡◌, ◌+◌, ◌^◌, ◌<◌, ◌≤◌, ◌++◌, length, take, drop, vec_capacity, OnOk, OnErr, IsOk};
+ghost use Rattle.std.specs.Prelude.{◌≡◌, ◌+◌, ◌^◌, ◌-◌, ◌<◌, ◌≤◌, ◌++◌, length, take, drop, min, vec_capacity, OnOk, OnErr, IsOk};
 ghost use Rattle.crash_disk.specs.Log.{written};
 
 use std::alloc::AllocError;
@@ -47,6 +47,7 @@ pub fn copy_from(bytes: &[u8], at: usize, buf: &mut [u8]) -> usize
     ensures copied { take result buf.new ≡ take result (drop at bytes.now) }
     ensures within { at + result ≤ length bytes.now }
     ensures at_end { result ≡ 0 → 0 < length buf.old → length bytes.now ≤ at }
+    ensures count { result ≡ min (length buf.old) (length bytes.now - at) }
     ensures same_length { length buf.new ≡ length buf.old }
 {
     let n = buf.len().min(bytes.len() - at);

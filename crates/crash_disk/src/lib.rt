@@ -15,10 +15,12 @@
 //! - *Safe* are the bytes as they were at the last sync that succeeded (`safe`).
 //! - The *tally* says how many calls were made, and which of the next ones are sure to succeed or to fail. A [`MemDisk`] fails at
 //!   its call number `stop`, counted from 1, and at all later ones; a `stop` of 0 names no call.
+//! - A *refusal* is a fault for want of memory. A call that fails counts one fault, and one refusal at most (`IsCounted`).
 //! - The *log* of a [`MemDisk`] has its writes and syncs, and its images are computed from it (`specs/Log.antt`). A disk that can
 //!   forget its log is a [`Renew`].
 //!
-//! **What is proved.** [`MemDisk`] meets [`Disk`] and [`Renew`]. `MemDisk::left` is the disk after a crash that dropped all writes
+//! **What is proved.** [`MemDisk`] meets [`Disk`] and [`Renew`]. A call of it that fails before its stop counts a refusal, and one
+//! that fails at its stop counts none. `MemDisk::left` is the disk after a crash that dropped all writes
 //! since the last good sync (`IsLeft`).
 //!
 //! **Not claimed**: that a device in the world keeps this. Nothing is assumed of a sector: a write of two bytes may be torn

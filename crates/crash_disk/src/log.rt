@@ -94,6 +94,7 @@ impl Log {
         ensures added { OnOk result (self.new ≡ record self.old { steps = self.old.steps ++ Wrote at bytes.now ∷ [] }) }
         ensures same { OnErr result (self.new ≡ self.old) }
         ensures within { OnOk result (self.old.room ≡ Reserved → length self.old.steps < reserved_calls) }
+        ensures within_bytes { OnOk result (self.old.room ≡ Reserved → byte_count self.old.steps + length bytes.now ≤ reserved_bytes) }
         ensures sure { self.old.room ≡ Reserved → length self.old.steps < reserved_calls → byte_count self.old.steps + length bytes.now ≤ reserved_bytes → IsOk result }
         ensures covered { length self.old.steps < self.old.sure_calls → length bytes.now ≤ self.old.sure_bytes - byte_count self.old.steps → IsOk result }
     {

@@ -24,6 +24,7 @@ impl MemDisk {
         ensures made { IfOk result (λ disk. disk.counter.made ≡ 0) }
         ensures stop { IfOk result (λ disk. disk.counter.stop ≡ stop) }
         ensures faults { IfOk result (λ disk. disk.counter.faults ≡ 0) }
+        ensures refusals { IfOk result (λ disk. disk.counter.refusals ≡ 0) }
     {
         Ok(MemDisk {
             image: Vec::with_capacity(alloc, DEFAULT_CAPACITY as usize)?,
@@ -44,6 +45,7 @@ impl MemDisk {
         ensures made { result.counter.made ≡ 0 }
         ensures stop { result.counter.stop ≡ stop }
         ensures faults { result.counter.faults ≡ 0 }
+        ensures refusals { result.counter.refusals ≡ 0 }
     {
         MemDisk {
             image: Vec::new(alloc),
@@ -68,6 +70,7 @@ impl MemDisk {
         ensures made { IfOk result (λ disk. disk.counter.made ≡ 0) }
         ensures stop { IfOk result (λ disk. disk.counter.stop ≡ 0) }
         ensures faults { IfOk result (λ disk. disk.counter.faults ≡ 0) }
+        ensures refusals { IfOk result (λ disk. disk.counter.refusals ≡ 0) }
     {
         let log = Log::of(alloc, &bytes)?;
         Ok(MemDisk {

@@ -39,6 +39,8 @@ impl Disk for MemDisk {
 
     ghost refusals = { λ m. m.counter.refusals };
 
+    ghost tells_failures = { λ m. Unit {0} };
+
     ghost spare = { λ m. spare_of m };
 
     ghost spare_with = { λ m more. mem_spare_with m more };
@@ -85,11 +87,13 @@ impl Disk for MemDisk {
         self.log.adopt(calls, bytes);
     }
 
+    #[tactic(auto, unfolding(crate::specs::Calls::IsCounted))]
     fn len(&mut self) -> Result<u64, Failed> {
         self.counter.call()?;
         Ok(self.image.len() as u64)
     }
 
+    #[tactic(auto, unfolding(crate::specs::Calls::IsCounted))]
     fn read_at(&mut self, at: u64, buf: &mut [u8]) -> Result<usize, Failed> {
         self.counter.call()?;
         if at >= self.image.len() as u64 {
@@ -98,6 +102,7 @@ impl Disk for MemDisk {
         Ok(copy_from(&self.image, at as usize, buf))
     }
 
+    #[tactic(auto, unfolding(crate::specs::Calls::IsCounted))]
     fn write_at(&mut self, at: u64, bytes: &[u8]) -> Result<(), Failed> {
         self.counter.call()?;
         match write(&mut self.image, &mut self.log, at, bytes) {
@@ -109,6 +114,7 @@ impl Disk for MemDisk {
         }
     }
 
+    #[tactic(auto, unfolding(crate::specs::Calls::IsCounted))]
     fn sync(&mut self) -> Result<(), Failed> {
         self.counter.call()?;
         match self.log.sync() {
@@ -127,6 +133,7 @@ fn write(image: &mut Vec<u8>, log: &mut Log, at: u64, bytes: &[u8]) -> Result<()
     ensures image { OnOk result (image.new.items ≡ written at bytes.now image.old.items) }
     ensures log { OnOk result (log.new ≡ record log.old { steps = log.old.steps ++ Wrote at bytes.now ∷ [] }) }
     ensures within { OnOk result (log.old.room ≡ Reserved → length log.old.steps < reserved_calls) }
+    ensures within_bytes { OnOk result (log.old.room ≡ Reserved → byte_count log.old.steps + length bytes.now ≤ reserved_bytes) }
     ensures same { OnErr result ((image.new.items ≡ image.old.items) × (log.new ≡ log.old)) }
     ensures capacity { vec_capacity image.old ≤ vec_capacity image.new }
     ensures sure { log.old.room ≡ Reserved → at + length bytes.now ≤ vec_capacity image.old → length log.old.steps < reserved_calls

@@ -54,6 +54,8 @@ impl Disk for FileDisk {
 
     ghost refusals = { λ d. d.mirror.counter.refusals };
 
+    ghost tells_failures = { λ d. ⊥ };
+
     ghost spare = { λ d. spare_of d.mirror };
 
     ghost spare_with = { λ d more. mirror_with d.mirror more };
@@ -88,6 +90,7 @@ impl Disk for FileDisk {
         self.mirror.adopt(memory);
     }
 
+    #[tactic(auto, unfolding(crash_disk::specs::Calls::IsCounted))]
     fn len(&mut self) -> Result<u64, Failed> {
         if self.faults.any() {
             return Err(self.faults.add());
@@ -101,6 +104,7 @@ impl Disk for FileDisk {
         }
     }
 
+    #[tactic(auto, unfolding(crash_disk::specs::Calls::IsCounted))]
     fn read_at(&mut self, at: u64, buf: &mut [u8]) -> Result<usize, Failed> {
         if self.faults.any() {
             return Err(self.faults.add());
@@ -111,6 +115,7 @@ impl Disk for FileDisk {
         }
     }
 
+    #[tactic(auto, unfolding(crash_disk::specs::Calls::IsCounted))]
     fn write_at(&mut self, at: u64, bytes: &[u8]) -> Result<(), Failed> {
         if self.faults.any() {
             return Err(self.faults.add());
@@ -124,6 +129,7 @@ impl Disk for FileDisk {
         }
     }
 
+    #[tactic(auto, unfolding(crash_disk::specs::Calls::IsCounted))]
     fn sync(&mut self) -> Result<(), Failed> {
         if self.faults.any() {
             return Err(self.faults.add());

@@ -27,6 +27,7 @@ impl FileDisk {
         ensures safe { IfOk result (λ disk. Only (contents disk.mirror.log.steps) (MayLeave disk.mirror.log.steps)) }
         ensures capacity { IfOk result (λ disk. disk.mirror.capacity ≡ default_capacity) }
         ensures faults { IfOk result (λ disk. disk.faults.count ≡ 0) }
+        ensures refusals { IfOk result (λ disk. disk.mirror.counter.refusals ≡ 0) }
     {
         FileDisk::open_with_capacity(rt, alloc, path, DEFAULT_CAPACITY)
     }
@@ -48,6 +49,7 @@ impl FileDisk {
         ensures safe { IfOk result (λ disk. Only (contents disk.mirror.log.steps) (MayLeave disk.mirror.log.steps)) }
         ensures capacity { IfOk result (λ disk. disk.mirror.capacity ≡ capacity) }
         ensures faults { IfOk result (λ disk. disk.faults.count ≡ 0) }
+        ensures refusals { IfOk result (λ disk. disk.mirror.counter.refusals ≡ 0) }
     {
         let file = OpenOptions::new()
             .read(true)

@@ -1,4 +1,4 @@
-use Rattle.std.proofs.Common.{rules, ◌≡◌, ◌≤◌, List, ℕ, length, Some, slice_get, sym, ◌∙◌, ap, subst, arith}
+use Rattle.std.proofs.Common.{rules, ◌≡◌, ◌≤◌, List, ℕ, length, Some, slice_get, ◌∙◌, ap, subst, arith}
 use Rattle.crash_disk.specs.Log.{Logged, Step, steps, step_of}
 use Rattle.crash_disk.proofs.Logged.{sizes}
 use Rattle.crash_disk.proofs.log.Log.call.Goals as goal

@@ -43,6 +43,14 @@ returns-in-Ok-clause-within c room =
     let low = room_used m.room c.holds.result _ _ c.holds.ensures c.if-not-holds.false (ap (λ (l : Logged). l.room) c.self.view_is ∙ room) in
     omega (arith, calls, low, size.0)
 
+pub returns-in-Ok-clause-within_bytes : goal.returns-in-Ok-clause-within_bytes
+returns-in-Ok-clause-within_bytes c room =
+    let m = c.self.inside in
+    let size = sizes m.calls.items m.bytes.items c.args.self.now.steps (ap (λ (l : Logged). l.steps) c.self.view_is) c.self.invariant.counted in
+    let bytes : c.len-before.result ≡ length m.bytes.items = search rules in
+    let used = both_used m.room c.holds.result _ _ c.holds.ensures c.if-not-holds.false (ap (λ (l : Logged). l.room) c.self.view_is ∙ room) in
+    omega (arith, bytes, used.1, size.1)
+
 pub returns-then-not-holds-clause-covered : goal.returns-then-not-holds-clause-covered
 returns-then-not-holds-clause-covered c lt fits =
     let m = c.self.inside in
