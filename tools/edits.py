@@ -8,8 +8,8 @@ An edit has a line `file: PATH` (below src/, specs/ or proofs/ of its crate) and
 must be in the file exactly once. The first tier, crates/NAME/must-fail/, has the same form, and `rt ci` tries it.
 
 The edits are tried on a copy of the working tree in a temporary folder, where the edits of a crate are its must-fail edits. For each crate,
-lowest first: `rt check` proves it as it is, beginning with the work that checks on this machine kept, and then `rt must-fail` checks it with
-each edit. A crate has a line when it is done, and each edit that was not refused has one. An edit that cannot be applied, is not valid code,
+lowest first: `rt check` proves it as it is, beginning with the libraries and the work that earlier checks kept in `out/`, and then `rt must-fail`
+checks it with each edit. A crate has a line when it is done, and each edit that was not refused has one. An edit that cannot be applied, is not valid code,
 or was not tried counts as failed; so do all edits of a crate that is not proved. The last line is `N passed, M failed`.
 """
 import argparse
@@ -74,14 +74,30 @@ def read(names):
     return failed == 0
 
 
-def copied(names, to):
-    """Copies the crates, with the second tier of the named ones in the place of their must-fail edits."""
+def linked(source, target):
+    """Links a file, or copies it if the folders are on different disks."""
+    try:
+        os.link(source, target)
+    except OSError:
+        shutil.copy2(source, target)
+
+
+def copied(names, below, to):
+    """Copies the crates, with the second tier of the named ones in the place of their must-fail edits.
+
+    The libraries that are built come along, if they are below a named crate: nothing writes to them. So does the kept work of the named crates.
+    """
     for at in ("crates.txt", "HANDLES"):
         shutil.copyfile(TOP / at, to / at)
-    kept = shutil.ignore_patterns("out", *TIERS)
-    shutil.copytree(TOP / "crates", to / "crates", ignore=kept)
+    left_out = shutil.ignore_patterns("out", *TIERS)
+    shutil.copytree(TOP / "crates", to / "crates", ignore=left_out)
     for name in names:
         shutil.copytree(TOP / "crates" / name / "edits", to / "crates" / name / "must-fail")
+    for part, crates, copy in (("rlib", below, linked), ("incremental", names, shutil.copy2)):
+        for name in crates:
+            kept = TOP / "crates" / name / "out" / part
+            if kept.is_dir():
+                shutil.copytree(kept, to / "crates" / name / "out" / part, copy_function=copy)
 
 
 def run(words, folder, environment):
@@ -115,7 +131,8 @@ def main():
     parser.add_argument("--jobs", type=int, metavar="N")
     parser.add_argument("crates", nargs="*", metavar="CRATE")
     given = parser.parse_args()
-    order = Graph.read(TOP / "crates.txt").lowest_first()
+    graph = Graph.read(TOP / "crates.txt")
+    order = graph.lowest_first()
     unknown = [it for it in given.crates if it not in order]
     if unknown:
         parser.error(f"crates.txt has no crate {unknown[0]}")
@@ -126,7 +143,7 @@ def main():
     passed, failed = 0, 0
     with tempfile.TemporaryDirectory(prefix="tebaldi-edits-") as room:
         repository = pathlib.Path(room)
-        copied(names, repository)
+        copied(names, sorted(graph.all_below(names)), repository)
         for at, name in enumerate(names, 1):
             start = time.time()
             good, bad, lines = tried(name, repository, given.jobs)
