@@ -84,7 +84,9 @@ def main():
     os.chdir(TOP)
     # (its first call sets a signal's handler, which only the main thread may)
     rt.rtlib.guarded()
-    rt.share_work(True)
+    # (only some kits share the work of one clone with others)
+    if hasattr(rt, "share_work"):
+        rt.share_work(True)
     every = rt.rtlib.crates_below(str(TOP))
     unknown = [it for it in names if it not in [crate.name for crate in every]]
     if unknown or any(it.startswith("-") for it in names):
