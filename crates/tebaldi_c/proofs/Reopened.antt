@@ -1,5 +1,5 @@
 -- A store over the bytes of a file has what they tell.
-use Rattle.std.proofs.Common.{◌≡◌, ◌≤◌, ℕ, List, false, length, sym, subst}
+use Rattle.std.proofs.Common.{◌≡◌, ◌⊎◌, ◌+◌, ◌<◌, ◌≤◌, ℕ, List, false, length, refl, sym, subst}
 use Rattle.teb_names.specs.declared.Cell.{Cell}
 use Rattle.teb_names.specs.Rows.{row_of}
 use Rattle.teb_history.specs.declared.Event.{Event}
@@ -14,11 +14,28 @@ use Rattle.crash_disk.specs.Log.{LeftSince, MayLeave, contents}
 use Rattle.crash_disk.specs.declared.memory.MemDisk.{MemDisk}
 use Rattle.epoch_journal.specs.State.{JournalState}
 use Rattle.engine_core.specs.EngineModel.{EngineModel}
-use Rattle.engine_store.specs.Opening.{HasTable, IsBeginning, layout_of}
+use Rattle.epoch_journal.specs.Layout.{half_size}
+use Rattle.epoch_journal.specs.Read.{HasOtherCapacity, HasOtherLabel, IsDamaged}
+use Rattle.engine_store.specs.Opening.{HasForeignRow, HasTable, HasTooMany, IsBeginning, layout_of}
+use Rattle.engine_store.specs.declared.open_error.OpenError.{OpenError}
+use Rattle.engine_store.specs.declared.open_error.OpenError.TheVariants as errors
 use Rattle.engine_store.specs.Telling.{TellsCommits}
-use Rattle.tebaldi_c.specs.Images.{IsReopened, file_capacity}
+use Rattle.tebaldi_c.specs.Images.{IsFault, IsReopened, file_capacity}
 use Rattle.tebaldi_c.specs.Shelves.{Filed, FileState, calls, next_place}
 use Rattle.tebaldi_c.proofs.Files.{clock, images}
+
+-- why the bytes of a disk in memory are refused
+pub refused : (s : Setup) (bytes seen : List ℕ) (capacity : ℕ) (why : OpenError) → seen ≡ bytes → capacity ≡ file_capacity
+    → ((at : ℕ) → why ≡ errors.Damaged at → IsDamaged (layout_of capacity s) at seen ⊎ HasForeignRow (layout_of capacity s) (row_of s.rows) (length s.names.tables) at seen)
+    → (why ≡ errors.OtherCapacity → HasOtherCapacity (layout_of capacity s) seen) → (why ≡ errors.OtherTables → HasOtherLabel (layout_of capacity s) seen)
+    → (why ≡ errors.Full → (half_size capacity < 10 + length (layout_of capacity s).label) ⊎ HasTooMany (layout_of capacity s) (row_of s.rows) seen)
+    → IsFault (setup_view s) bytes why
+refused s bytes seen capacity (errors.Damaged at) same is damaged oc ot full = subst (λ (x : ℕ × List ℕ). IsDamaged (layout_of x.0 s) at x.1 ⊎ HasForeignRow (layout_of x.0 s) (row_of s.rows) (length s.names.tables) at x.1) (λ i. (is i, same i)) (damaged at refl)
+refused s bytes seen capacity errors.OtherCapacity same is d oc ot full = subst (λ (x : ℕ × List ℕ). HasOtherCapacity (layout_of x.0 s) x.1) (λ i. (is i, same i)) (oc refl)
+refused s bytes seen capacity errors.OtherTables same is d oc ot full = subst (λ (x : ℕ × List ℕ). HasOtherLabel (layout_of x.0 s) x.1) (λ i. (is i, same i)) (ot refl)
+refused s bytes seen capacity errors.Full same is d oc ot full = subst (λ (x : ℕ × List ℕ). (half_size x.0 < 10 + length (layout_of x.0 s).label) ⊎ HasTooMany (layout_of x.0 s) (row_of s.rows) x.1) (λ i. (is i, same i)) (full refl)
+refused s bytes seen capacity errors.DiskFault same is d oc ot full = tt
+refused s bytes seen capacity errors.OutOfMemory same is d oc ot full = tt
 
 -- whatever a crash leaves of the disk tells this
 abbrev AllTell : ℕ → Setup → Store → List Event → ℕ → MemDisk → Type 0

@@ -8,11 +8,7 @@ use Rattle.tree_switch.specs.Refusals.{IsCause}
 use Rattle.tree_switch.specs.Starts.{IsStarted}
 use Rattle.tree_switch.specs.declared.error.SwitchError.{SwitchError}
 use Rattle.tree_switch.specs.declared.error.SwitchError.TheVariants.{Again, Untold, Tables, Rows, OutOfMemory}
-use Rattle.epoch_journal.specs.Layout.{Layout}
-use Rattle.engine_store.specs.Next.{IsCause as IsNextCause}
-use Rattle.engine_store.specs.declared.error.NextError.{NextError}
-use Rattle.engine_store.specs.declared.error.NextError.TheVariants as next
-use Rattle.tebaldi_c.specs.Epochs.{IsHindrance, IsFileHindrance}
+use Rattle.tebaldi_c.specs.Epochs.{IsHindrance}
 use Rattle.tebaldi_c.specs.Images.{IsReopened}
 use Rattle.tebaldi_c.specs.Shelves.{Filed}
 use Rattle.tebaldi_c.specs.SetUp.{IsSetUp}
@@ -28,22 +24,13 @@ set_up_next s before e whole nodes names started = record {
   named = started.names;
 }
 
-pub file_hindered : (l : Layout) (e : EngineModel) (tables : List (List ℕ)) (why : NextError) → IsNextCause l e tables why → IsFileHindrance e why
-file_hindered l e tables next.Stopped cause = tt
-file_hindered l e tables (next.Again t) cause = cause
-file_hindered l e tables (next.Untold s) cause = cause.1
-file_hindered l e tables next.OtherTables cause = tt
-file_hindered l e tables next.Full cause = tt
-file_hindered l e tables next.DiskFault cause = tt
-file_hindered l e tables next.OutOfMemory cause = tt
-
 -- the store of the bytes of a file has the setup of its tree text
 pub set_up_reopened : (m : SetupView) (bytes : List ℕ) (f : Filed) → IsWhole m → IsNamed m → HasNames m → IsReopened m bytes f → IsSetUp f.engine.store f.engine.names
 set_up_reopened m bytes f whole nodes names r = record { setup = m; whole = whole; nodes = nodes; has_names = names; rules = r.setup; tables = r.tables; named = r.names }
 
-pub hindered : (e : EngineModel) (m : SetupView) (why : SwitchError) → m.rows ≡ [] → IsCause e m why → IsHindrance e why
+pub hindered : (e : EngineModel) (m : SetupView) (why : SwitchError) → m.rows ≡ [] → IsCause e m why → IsHindrance e m.tables why
 hindered e m (Again t) none cause = cause
-hindered e m (Untold s) none cause = cause.1
-hindered e m Tables none cause = tt
+hindered e m (Untold s) none cause = cause
+hindered e m Tables none cause = cause.1
 hindered e m Rows none cause = absurd (cause.2 none)
 hindered e m OutOfMemory none cause = tt

@@ -51,6 +51,15 @@ abbrev pub HasFailed : Option ShelfState → Type 0
 HasFailed None = ⊥
 HasFailed (Some s) = IsFailed s.file
 
+-- there is no file: the store is in memory, or closed
+abbrev pub IsInMemory : Option ShelfState → Type 0
+IsInMemory None = Unit {0}
+IsInMemory (Some s) = s.file ≡ None
+
+-- what an ask of a store without a file may return
+abbrev pub IsOfMemoryAsk : ℕ → Type 0
+IsOfMemoryAsk n = (n ≡ OK) ⊎ (n ≡ NOT_OPEN) ⊎ (n ≡ BAD_VERB) ⊎ (n ≡ OUT_OF_MEMORY)
+
 -- why an open store has no reply
 abbrev pub IsNoReply : ℕ → Type 0
 IsNoReply n = (n ≡ OUT_OF_MEMORY) ⊎ (n ≡ STOPPED) ⊎ (n ≡ UNSURE) ⊎ (n ≡ NO_ROOM) ⊎ (n ≡ WAITING)

@@ -1,5 +1,5 @@
 -- The store that the bytes of a file are.
-use Rattle.std.specs.Prelude.{◌≡◌, ◌⊎◌, ◌≤◌, ℕ, [], false, List, Option, Some, None, Result, Ok, Err}
+use Rattle.std.specs.Prelude.{◌≡◌, ◌⊎◌, ◌+◌, ◌<◌, ◌≤◌, ℕ, [], false, List, length, Option, Some, None, Result, Ok, Err}
 use Rattle.teb_names.specs.declared.Cell.{Cell}
 use Rattle.teb_names.specs.Rows.{row_of}
 use Rattle.teb_history.specs.declared.Event.{Event}
@@ -11,10 +11,13 @@ use Rattle.store_setup.specs.Stores.{store_of_view, names_of}
 use Rattle.tree_toml.specs.declared.fault.TreeText.{TreeText}
 use Rattle.commit_laws.specs.Commits.{commit_count, rows_after}
 use Rattle.crash_disk.specs.Log.{LeftSince}
-use Rattle.epoch_journal.specs.Layout.{Layout, layout}
+use Rattle.epoch_journal.specs.Layout.{Layout, layout, half_size}
+use Rattle.epoch_journal.specs.Read.{HasOtherCapacity, HasOtherLabel, IsDamaged}
 use Rattle.engine_core.specs.EngineModel.{EngineModel}
 use Rattle.engine_store.specs.Label.{label_of}
-use Rattle.engine_store.specs.Opening.{HasTable}
+use Rattle.engine_store.specs.Opening.{HasForeignRow, HasTable, HasTooMany}
+use Rattle.engine_store.specs.declared.open_error.OpenError.{OpenError}
+use Rattle.engine_store.specs.declared.open_error.OpenError.TheVariants as errors
 use Rattle.engine_store.specs.Telling.{TellsCommits}
 use Rattle.tebaldi_c.specs.Shelves.{FileState, Filed, ShelfState, calls, next_place}
 use Rattle.tebaldi_c.specs.declared.status.TheConstants.{TOO_LONG, DAMAGED, OTHER_CAPACITY, OTHER_TABLES, NO_ROOM, OUT_OF_MEMORY}
@@ -53,6 +56,20 @@ IfFiled s P = IfFiledBy s.engine s.file P
 abbrev pub IsReopenedOf : Result SetupView TreeText → List ℕ → ShelfState → Type 0
 IsReopenedOf (Ok m) bytes s = IfFiled s (IsReopened m bytes)
 IsReopenedOf (Err why) bytes s = ⊥
+
+-- why the bytes are no store over the tables of a setup
+abbrev pub IsFault : SetupView → List ℕ → OpenError → Type 0
+IsFault m bytes (errors.Damaged at) = IsDamaged (file_layout m) at bytes ⊎ HasForeignRow (file_layout m) (row_of m.rows) (length m.tables) at bytes
+IsFault m bytes errors.OtherCapacity = HasOtherCapacity (file_layout m) bytes
+IsFault m bytes errors.OtherTables = HasOtherLabel (file_layout m) bytes
+IsFault m bytes errors.Full = (half_size (file_layout m).capacity < 10 + length (file_layout m).label) ⊎ HasTooMany (file_layout m) (row_of m.rows) bytes
+IsFault m bytes errors.DiskFault = Unit {0}
+IsFault m bytes errors.OutOfMemory = Unit {0}
+
+-- a setup was read, and this is why the bytes are no store over its tables
+abbrev pub IsFaultOf : Result SetupView TreeText → List ℕ → OpenError → Type 0
+IsFaultOf (Ok m) bytes error = IsFault m bytes error
+IsFaultOf (Err why) bytes error = ⊥
 
 -- why bytes are not opened
 abbrev pub IsOfImage : ℕ → Type 0

@@ -6,6 +6,7 @@ pub mod Contents
 pub mod Ended
 pub mod Epochs
 pub mod Events
+pub mod Hindered
 pub mod Holding
 pub mod Images
 pub mod Naming

@@ -1,10 +1,12 @@
 //! How a session asks.
 
-ghost use Rattle.std.specs.Prelude.{◌≡◌, ◌≢◌, ◌↔◌, ◌⊎◌, ◌<◌, true, IsNone, IsSome, IsTrue, OnOk, OnErr};
+ghost use Rattle.std.specs.Prelude.{◌≡◌, ◌≢◌, ◌↔◌, ◌⊎◌, ◌<◌, true, None, IsNone, IsSome, IsTrue, OnOk, OnErr};
 ghost use Rattle.teb_rules.specs.Answer.{answer};
 ghost use Rattle.c_forms.specs.Requests.{request_in as read};
 ghost use Rattle.c_forms.specs.Replies.{reply_form as form};
-ghost use Rattle.tebaldi_c.specs.Asking.{IsAnswered, IsAsked, IsKept, IsFileKept, HasFailed, IsFailed, IsNoReply, IsOfAsk};
+ghost use Rattle.tebaldi_c.specs.Asking.{IfOpen, IsAnswered, IsAsked, IsKept, IsFileKept, HasFailed, IsFailed, IsInMemory, IsNoReply, IsOfAsk, IsOfMemoryAsk};
+ghost use Rattle.tebaldi_c.specs.Hindered.{HasCommitted, HasWaiting, IsFullFor, IsFullForForm, IsStopped, IsUnsure};
+ghost use Rattle.tebaldi_c.specs.Images.{IfFiled};
 
 use crate::contents::Contents;
 use crate::filed::FileStore;
@@ -36,10 +38,15 @@ pub extern "C" fn tebaldi_ask(
 ) -> u32
     ensures ok { result ≡ OK → IsAsked store.old.held.value store.new.held.value session (read request.now) reply.new }
     ensures stays { result ≢ OK → result ≢ UNSURE → store.new.held.value ≡ store.old.held.value }
+    ensures in_memory { IsInMemory store.old.held.value → (result ≢ OK → store.new.held.value ≡ store.old.held.value) × IsOfMemoryAsk result }
     ensures not_told { result ≢ OK → reply.new ≡ reply.old }
     ensures kept { IsKept store.old.held.value store.new.held.value }
     ensures failed { HasFailed store.old.held.value → result ≢ OK }
     ensures not_open { result ≡ NOT_OPEN ↔ IsNone store.old.held.value }
+    ensures waiting { result ≡ WAITING → IfOpen store.old.held.value (λ s. IfFiled s HasWaiting) }
+    ensures stopped { result ≡ STOPPED → IfOpen store.old.held.value (λ s. IfFiled s IsStopped) }
+    ensures no_room { result ≡ NO_ROOM → IfOpen store.old.held.value (λ s. IfFiled s (IsFullForForm session (read request.now))) }
+    ensures unsure { result ≡ UNSURE → IsUnsure store.old.held.value store.new.held.value session (read request.now) }
     ensures bad_verb { result ≡ BAD_VERB ↔ IsSome store.old.held.value × IsNone (read request.now) }
     ensures other { IsOfAsk result }
 {
@@ -66,8 +73,13 @@ impl Shelf {
     ) -> u32
         ensures ok { result ≡ OK → IsAnswered self.old.engine self.new.engine session.0 request.now reply.new }
         ensures stays { result ≢ OK → result ≢ UNSURE → self.new ≡ self.old }
+        ensures in_memory { self.old.file ≡ None → (result ≢ OK → self.new ≡ self.old) × ((result ≡ OK) ⊎ (result ≡ OUT_OF_MEMORY)) }
         ensures not_told { result ≢ OK → reply.new ≡ reply.old }
         ensures kept { IsFileKept self.old.file self.new.file }
+        ensures waiting { result ≡ WAITING → IfFiled self.old HasWaiting }
+        ensures stopped { result ≡ STOPPED → IfFiled self.old IsStopped }
+        ensures no_room { result ≡ NO_ROOM → IfFiled self.old (IsFullFor session.0 request.now) }
+        ensures unsure { result ≡ UNSURE → HasCommitted self.old.engine self.new.engine session.0 request.now × IfFiled self.new IsStopped }
         ensures failed { IsFailed self.old.file → result ≢ OK }
         ensures other { (result ≡ OK) ⊎ IsNoReply result }
     {
@@ -96,6 +108,10 @@ fn ask_file(
     ensures same { (file.new.engine.store ≡ file.old.engine.store) × (file.new.engine.names ≡ file.old.engine.names) }
     ensures kept { 0 < file.new.file.waiting → file.new.file.kept ≡ file.old.file.kept }
     ensures same_failure { file.new.file.failed ≡ file.old.file.failed }
+    ensures waiting { result ≡ WAITING → HasWaiting file.old }
+    ensures stopped { result ≡ STOPPED → IsStopped file.old }
+    ensures no_room { result ≡ NO_ROOM → IsFullFor session.0 request file.old }
+    ensures unsure { result ≡ UNSURE → HasCommitted file.old.engine file.new.engine session.0 request × IsStopped file.new }
     ensures failed { file.old.file.failed ≡ true → result ≢ OK }
     ensures other { (result ≡ OK) ⊎ IsNoReply result }
 {

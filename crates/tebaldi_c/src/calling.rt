@@ -1,7 +1,7 @@
 //! The calls that a store's caller performs on its file.
 
-ghost use Rattle.std.specs.Prelude.{◌≡◌, ◌≢◌, ◌↔◌, ◌⊎◌, IsNone, Some, Option, slice_get};
-ghost use Rattle.tebaldi_c.specs.Asking.{IfOpen};
+ghost use Rattle.std.specs.Prelude.{◌≡◌, ◌≢◌, ◌↔◌, ◌⊎◌, IsNone, None, Some, Option, slice_get};
+ghost use Rattle.tebaldi_c.specs.Asking.{IfFile, IfOpen};
 ghost use Rattle.tebaldi_c.specs.Calls.{AfterCall, AfterFailure, IsCall, IsFileForm, IsNextCall};
 ghost use Rattle.tebaldi_c.specs.Shelves.{calls, next_place};
 
@@ -28,6 +28,7 @@ pub extern "C" fn tebaldi_next_call(
     out: &mut [u8],
 ) -> u32
     ensures ok { result ≡ OK → IfOpen store.old.held.value (λ s. IsNextCall s.file from call.new out.old out.new) }
+    ensures no_such { result ≡ NO_SUCH → IfOpen store.old.held.value (λ s. IfFile s.file (λ f. f.waiting ≡ 0)) }
     ensures stays { store.new.held.value ≡ store.old.held.value }
     ensures not_open { result ≡ NOT_OPEN ↔ IsNone store.old.held.value }
     ensures not_told { result ≢ OK → (call.new ≡ call.old) × (out.new ≡ out.old) }
@@ -51,6 +52,7 @@ pub extern "C" fn tebaldi_next_call(
 #[unsafe(no_mangle)]
 pub extern "C" fn tebaldi_performed(alloc: Global, store: &mut StoreHandle) -> u32
     ensures ok { result ≡ OK → AfterCall store.old.held.value store.new.held.value }
+    ensures no_such { result ≡ NO_SUCH → IfOpen store.old.held.value (λ s. IfFile s.file (λ f. f.waiting ≡ 0)) }
     ensures stays { result ≢ OK → store.new.held.value ≡ store.old.held.value }
     ensures not_open { result ≡ NOT_OPEN ↔ IsNone store.old.held.value }
     ensures other { result ≢ OK → result ≢ NOT_OPEN → result ≡ NO_SUCH }
@@ -70,6 +72,7 @@ pub extern "C" fn tebaldi_performed(alloc: Global, store: &mut StoreHandle) -> u
 #[unsafe(no_mangle)]
 pub extern "C" fn tebaldi_failed(alloc: Global, store: &mut StoreHandle) -> u32
     ensures ok { result ≡ OK → AfterFailure store.old.held.value store.new.held.value }
+    ensures no_such { result ≡ NO_SUCH → IfOpen store.old.held.value (λ s. s.file ≡ None) }
     ensures stays { result ≢ OK → store.new.held.value ≡ store.old.held.value }
     ensures not_open { result ≡ NOT_OPEN ↔ IsNone store.old.held.value }
     ensures other { result ≢ OK → result ≢ NOT_OPEN → result ≡ NO_SUCH }
@@ -93,6 +96,7 @@ pub extern "C" fn tebaldi_file_state(
     state: &mut FileForm,
 ) -> u32
     ensures ok { result ≡ OK → IfOpen store.old.held.value (λ s. IsFileForm s.file state.new) }
+    ensures no_such { result ≡ NO_SUCH → IfOpen store.old.held.value (λ s. s.file ≡ None) }
     ensures stays { store.new.held.value ≡ store.old.held.value }
     ensures not_open { result ≡ NOT_OPEN ↔ IsNone store.old.held.value }
     ensures not_told { result ≢ OK → state.new ≡ state.old }
@@ -128,7 +132,7 @@ fn file_form(file: &FileStore) -> FileForm
 fn tell_call(file: &FileStore, from: usize, told: &mut CallForm, out: &mut [u8]) -> u32
     ensures ok { result ≡ OK → IsCall (slice_get (calls file.now.file) (next_place file.now.file)) from told.new out.old out.new }
     ensures not_told { result ≢ OK → (told.new ≡ told.old) × (out.new ≡ out.old) }
-    ensures other { (result ≡ OK) ⊎ (result ≡ NO_SUCH) }
+    ensures other { (result ≡ OK) ⊎ ((result ≡ NO_SUCH) × (file.now.file.waiting ≡ 0)) }
 {
     match file.call() {
         None => NO_SUCH,

@@ -1,13 +1,15 @@
 //! How a store goes on.
 
-ghost use Rattle.std.specs.Prelude.{◌≡◌, ◌≢◌, ◌↔◌, ◌⊎◌, true, IsNone, IfOk, IfErr};
+ghost use Rattle.std.specs.Prelude.{◌≡◌, ◌≢◌, ◌↔◌, ◌⊎◌, true, None, IsNone, IfOk, IfErr};
 ghost use Rattle.store_setup.specs.SetupView.{setup_view};
 ghost use Rattle.store_setup.specs.Sound.{IsWhole, IsNamed, HasNames};
 ghost use Rattle.tree_toml.specs.SetupText.{setup_of_text};
 ghost use Rattle.tree_switch.specs.Starts.{IsStarted};
-ghost use Rattle.tebaldi_c.specs.Asking.{HasFailed, IfOpen, IsFailed};
+ghost use Rattle.tebaldi_c.specs.Asking.{HasFailed, IfOpen, IsFailed, IsInMemory};
 ghost use Rattle.tebaldi_c.specs.Buffers.{IsTold};
-ghost use Rattle.tebaldi_c.specs.Epochs.{IfBoth, IsFirstUnfinished, IsFirstUntold, IsHindrance, IsNext, IsNextOf, IsOfEpoch, IsOfNext};
+ghost use Rattle.tebaldi_c.specs.Epochs.{HasOtherTables, IfBoth, IsFirstUnfinished, IsFirstUntold, IsHindrance, IsNext, IsNextOf, IsOfEpoch, IsOfMemoryEpoch, IsOfMemoryNext, IsOfNext};
+ghost use Rattle.tebaldi_c.specs.Hindered.{HasNoRoomForRows, HasWaiting, IsStopped, IsStoppedAt};
+ghost use Rattle.tebaldi_c.specs.Images.{IfFiled};
 ghost use Rattle.tebaldi_c.specs.Opening.{fault_line};
 ghost use Rattle.tebaldi_c.specs.SetUp.{IsSetUp};
 
@@ -48,6 +50,8 @@ pub extern "C" fn tebaldi_next_epoch(
 ) -> u32
     ensures ok { result ≡ OK → IfBoth store.old.held.value store.new.held.value (IsNextOf (setup_of_text tree.now)) }
     ensures stays { result ≢ OK → result ≢ STOPPED → store.new.held.value ≡ store.old.held.value }
+    ensures in_memory { IsInMemory store.old.held.value → (result ≢ OK → store.new.held.value ≡ store.old.held.value) × IsOfMemoryEpoch result }
+    ensures stays_in_memory { IsInMemory store.old.held.value ↔ IsInMemory store.new.held.value }
     ensures failed { HasFailed store.old.held.value → result ≢ OK }
     ensures not_open { result ≡ NOT_OPEN ↔ IsNone store.old.held.value }
     ensures bad_tree { result ≡ BAD_TREE → IsTold (fault_line (setup_of_text tree.now)) fault.old fault.new fault_len.new }
@@ -55,6 +59,10 @@ pub extern "C" fn tebaldi_next_epoch(
     ensures unfinished { result ≡ UNFINISHED → IfOpen store.old.held.value (λ s. IsFirstUnfinished s.engine who.new) }
     ensures untold { result ≡ UNTOLD → IfOpen store.old.held.value (λ s. IsFirstUntold s.engine who.new) }
     ensures nobody { result ≢ UNFINISHED → result ≢ UNTOLD → who.new ≡ who.old }
+    ensures other_tables { result ≡ OTHER_TABLES → IfOpen store.old.held.value (λ s. HasOtherTables (setup_of_text tree.now) s.engine) }
+    ensures waiting { result ≡ WAITING → IfOpen store.old.held.value (λ s. IfFiled s HasWaiting) }
+    ensures no_room { result ≡ NO_ROOM → IfOpen store.old.held.value (λ s. IfFiled s HasNoRoomForRows) }
+    ensures stopped { result ≡ STOPPED → IsStoppedAt store.old.held.value store.new.held.value }
     ensures other { IsOfEpoch result }
 {
     let Some(mut shelf) = store.take(alloc) else {
@@ -77,10 +85,16 @@ impl Shelf {
         requires names { HasNames (setup_view setup) }
         ensures ok { result ≡ OK → IsNext (setup_view setup) self.old.engine self.new.engine }
         ensures stays { result ≢ OK → result ≢ STOPPED → self.new ≡ self.old }
+        ensures in_memory { self.old.file ≡ None → (result ≢ OK → self.new ≡ self.old) × ((result ≡ OK) ⊎ IsOfMemoryNext result) }
+        ensures stays_in_memory { (self.old.file ≡ None) ↔ (self.new.file ≡ None) }
         ensures failed { IsFailed self.old.file → result ≢ OK }
         ensures unfinished { result ≡ UNFINISHED → IsFirstUnfinished self.old.engine who.new }
         ensures untold { result ≡ UNTOLD → IsFirstUntold self.old.engine who.new }
         ensures nobody { result ≢ UNFINISHED → result ≢ UNTOLD → who.new ≡ who.old }
+        ensures other_tables { result ≡ OTHER_TABLES → setup.names.tables ≢ self.old.engine.names.tables }
+        ensures waiting { result ≡ WAITING → IfFiled self.old HasWaiting }
+        ensures no_room { result ≡ NO_ROOM → IfFiled self.old HasNoRoomForRows }
+        ensures stopped { result ≡ STOPPED → (self.new.engine ≡ self.old.engine) × IfFiled self.new IsStopped }
         ensures status { (result ≡ OK) ⊎ IsOfNext result }
     {
         match &mut self.contents {
@@ -102,6 +116,10 @@ fn end_file_epoch(alloc: Global, file: &mut FileStore, setup: Setup, who: &mut u
     ensures unfinished { result ≡ UNFINISHED → IsFirstUnfinished file.old.engine who.new }
     ensures untold { result ≡ UNTOLD → IsFirstUntold file.old.engine who.new }
     ensures nobody { result ≢ UNFINISHED → result ≢ UNTOLD → who.new ≡ who.old }
+    ensures other_tables { result ≡ OTHER_TABLES → setup.names.tables ≢ file.old.engine.names.tables }
+    ensures waiting { result ≡ WAITING → HasWaiting file.old }
+    ensures no_room { result ≡ NO_ROOM → HasNoRoomForRows file.old }
+    ensures stopped { result ≡ STOPPED → (file.new.engine ≡ file.old.engine) × IsStopped file.new }
     ensures set_up { IsSetUp file.old.engine.store file.old.engine.names → IsSetUp file.new.engine.store file.new.engine.names }
     ensures status { (result ≡ OK) ⊎ IsOfNext result }
 {
@@ -139,8 +157,9 @@ fn end_epoch(alloc: Global, engine: &mut Engine<PooledChains>, setup: Setup, who
     ensures unfinished { result ≡ UNFINISHED → IsFirstUnfinished engine.old who.new }
     ensures untold { result ≡ UNTOLD → IsFirstUntold engine.old who.new }
     ensures nobody { result ≢ UNFINISHED → result ≢ UNTOLD → who.new ≡ who.old }
+    ensures other_tables { result ≡ OTHER_TABLES → setup.names.tables ≢ engine.old.names.tables }
     ensures set_up { IsSetUp engine.old.store engine.old.names → IsSetUp engine.new.store engine.new.names }
-    ensures status { (result ≡ OK) ⊎ IsOfNext result }
+    ensures status { (result ≡ OK) ⊎ IsOfMemoryNext result }
 {
     match next_engine(alloc, engine, setup) {
         Ok(next) => {
@@ -172,7 +191,7 @@ fn next_engine(
     setup: Setup,
 ) -> Result<Engine<PooledChains>, SwitchError>
     requires { IsWhole (setup_view setup) }
-    ensures refused { IfErr result (IsHindrance engine.now) }
+    ensures refused { IfErr result (IsHindrance engine.now setup.names.tables) }
     ensures started { IfOk result (λ next. IsStarted setup engine.now next) }
 {
     let _ = engine.history();

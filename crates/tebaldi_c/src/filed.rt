@@ -1,6 +1,6 @@
 //! A store in a file that its caller reads and writes.
 
-ghost use Rattle.std.specs.Prelude.{◌≡◌, ◌≢◌, ◌<◌, ◌+◌, ◌||◌, true, false, length, slice_get, Some, MatchOption, IfOk, IfErr, OnOk, OnErr};
+ghost use Rattle.std.specs.Prelude.{◌≡◌, ◌≢◌, ◌<◌, ◌+◌, ◌||◌, true, false, length, slice_get, Some, MatchOption, IfOk, IfErr, OnOk, OnErr, IsErrOf, ◌⊎◌};
 ghost use Rattle.teb_rules.specs.Answer.{answer};
 ghost use Rattle.crash_disk.specs.Log.{step_of};
 ghost use Rattle.epoch_journal.specs.Layout.{half_size};
@@ -10,7 +10,8 @@ ghost use Rattle.engine_store.specs.declared.error.NextError.TheVariants as next
 ghost use Rattle.store_setup.specs.SetupView.{setup_view};
 ghost use Rattle.store_setup.specs.Sound.{IsWhole};
 ghost use Rattle.tree_switch.specs.Starts.{IsStarted};
-ghost use Rattle.tebaldi_c.specs.Epochs.{IsFileHindrance};
+ghost use Rattle.engine_store.specs.Next.{IsCause};
+ghost use Rattle.tebaldi_c.specs.Hindered.{HasCommitted, IsFullFor, IsStopped};
 ghost use Rattle.tebaldi_c.specs.Shelves.{calls, next_place};
 
 use chain_pool::PooledChains;
@@ -142,6 +143,9 @@ impl FileStore {
         ensures not_asked { IfErr result (λ e. e ≢ asked.Unsure → self.new ≡ self.old) }
         ensures failed { self.new.file.failed ≡ self.old.file.failed }
         ensures stopped { self.old.file.failed ≡ true → IfOk result (λ _. ⊥) }
+        ensures refused { IsErrOf result asked.Stopped → IsStopped self.old }
+        ensures full { IsErrOf result asked.Full → IsFullFor session.0 request self.old }
+        ensures unsure { IsErrOf result asked.Unsure → HasCommitted self.old.engine self.new.engine session.0 request × IsStopped self.new }
     {
         if self.failed {
             return Err(AskError::Stopped);
@@ -169,7 +173,8 @@ impl FileStore {
         requires settled { self.old.file.waiting ≡ 0 }
         requires whole { IsWhole (setup_view setup) }
         ensures begun { OnOk result (IsStarted setup self.old.engine self.new.engine) }
-        ensures refused { IfErr result (IsFileHindrance self.old.engine) }
+        ensures refused { IfErr result (IsCause self.old.file.journal.layout self.old.engine setup.names.tables) }
+        ensures halted { IfErr result (λ e. (e ≡ next.Stopped) ⊎ (e ≡ next.DiskFault) → IsStopped self.new) }
         ensures stays { IfErr result (λ e. e ≢ next.DiskFault → self.new ≡ self.old) }
         ensures back { OnErr result (self.new.engine ≡ self.old.engine) }
         ensures failed { self.new.file.failed ≡ self.old.file.failed }

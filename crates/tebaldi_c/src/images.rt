@@ -1,12 +1,13 @@
 //! How a store is opened over the bytes of a file.
 
-ghost use Rattle.std.specs.Prelude.{◌≡◌, ◌≢◌, ◌↔◌, ◌⊎◌, ◌<◌, ◌≤◌, [], false, length, IsSome, IfOk};
+ghost use Rattle.std.specs.Prelude.{◌≡◌, ◌≢◌, ◌↔◌, ◌⊎◌, ◌<◌, ◌≤◌, [], false, length, IsSome, IfOk, IfErr};
 ghost use Rattle.store_setup.specs.SetupView.{setup_view};
 ghost use Rattle.store_setup.specs.Sound.{HasNames, IsNamed, IsWhole};
 ghost use Rattle.tree_toml.specs.SetupText.{setup_of_text};
+ghost use Rattle.engine_store.specs.declared.open_error.OpenError.TheVariants as errors;
 ghost use Rattle.tebaldi_c.specs.Asking.{IfOpen};
 ghost use Rattle.tebaldi_c.specs.Buffers.{IsTold};
-ghost use Rattle.tebaldi_c.specs.Images.{IsReopened, IsReopenedOf, IfFiled, IsOfImage, file_capacity};
+ghost use Rattle.tebaldi_c.specs.Images.{IsReopened, IsReopenedOf, IfFiled, IsFault, IsFaultOf, IsOfImage, file_capacity};
 ghost use Rattle.tebaldi_c.specs.Shelves.{calls, next_place};
 ghost use Rattle.tebaldi_c.specs.Opening.{fault_line};
 
@@ -51,6 +52,10 @@ pub extern "C" fn tebaldi_open_image(
     ensures no_fault { result ≢ BAD_TREE → (fault.new ≡ fault.old) × (fault_len.new ≡ fault_len.old) }
     ensures no_place { result ≢ DAMAGED → place.new ≡ place.old }
     ensures too_long { result ≡ TOO_LONG → file_capacity < length image.now }
+    ensures damaged { result ≡ DAMAGED → IsFaultOf (setup_of_text tree.now) image.now (errors.Damaged place.new) }
+    ensures other_capacity { result ≡ OTHER_CAPACITY → IsFaultOf (setup_of_text tree.now) image.now errors.OtherCapacity }
+    ensures other_tables { result ≡ OTHER_TABLES → IsFaultOf (setup_of_text tree.now) image.now errors.OtherTables }
+    ensures no_room { result ≡ NO_ROOM → IsFaultOf (setup_of_text tree.now) image.now errors.Full }
     ensures other { (result ≡ OK) ⊎ (result ≡ IS_OPEN) ⊎ (result ≡ BAD_TREE) ⊎ IsOfImage result }
 {
     if let Some(shelf) = store.take(alloc) {
@@ -77,6 +82,10 @@ pub extern "C" fn tebaldi_open_image(
 fn tell_why(why: OpenError, place: &mut u64) -> u32
     ensures place { result ≢ DAMAGED → place.new ≡ place.old }
     ensures status { (result ≢ TOO_LONG) × IsOfImage result }
+    ensures damaged { result ≡ DAMAGED → why ≡ errors.Damaged place.new }
+    ensures other_capacity { result ≡ OTHER_CAPACITY → why ≡ errors.OtherCapacity }
+    ensures other_tables { result ≡ OTHER_TABLES → why ≡ errors.OtherTables }
+    ensures no_room { result ≡ NO_ROOM → why ≡ errors.Full }
 {
     match why {
         OpenError::Full => NO_ROOM,
@@ -97,7 +106,8 @@ fn shelf_of(alloc: Global, image: &[u8], setup: Setup) -> Result<Box<Shelf>, Ope
     requires nodes { IsNamed (setup_view setup) }
     requires names { HasNames (setup_view setup) }
     requires fits { length image.now ≤ file_capacity }
-    ensures { IfOk result (λ b. IfFiled b.value (IsReopened (setup_view setup) image.now)) }
+    ensures ok { IfOk result (λ b. IfFiled b.value (IsReopened (setup_view setup) image.now)) }
+    ensures refused { IfErr result (IsFault (setup_view setup) image.now) }
 {
     let file = FileStore::open(alloc, image, setup)?;
     let contents = Contents::File(file);
@@ -115,7 +125,8 @@ impl FileStore {
     fn open(alloc: Global, image: &[u8], setup: Setup) -> Result<FileStore, OpenError>
         requires whole { IsWhole (setup_view setup) }
         requires fits { length image.now ≤ file_capacity }
-        ensures { IfOk result (IsReopened (setup_view setup) image.now) }
+        ensures ok { IfOk result (IsReopened (setup_view setup) image.now) }
+        ensures refused { IfErr result (IsFault (setup_view setup) image.now) }
     {
         let bytes = Vec::from_slice(alloc, image)?;
         let disk = MemDisk::of(alloc, bytes, FILE_CAPACITY)?;

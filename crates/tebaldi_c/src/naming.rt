@@ -1,6 +1,6 @@
 //! Names and their numbers.
 
-ghost use Rattle.std.specs.Prelude.{◌≡◌, ◌≢◌, ◌↔◌, Some, IsNone, IfSome, slice_get};
+ghost use Rattle.std.specs.Prelude.{◌≡◌, ◌≢◌, ◌↔◌, ◌≤◌, Some, None, IsNone, length, slice_get};
 ghost use Rattle.teb_names.specs.Names.{number_of};
 ghost use Rattle.tebaldi_c.specs.Asking.{IfOpen};
 ghost use Rattle.tebaldi_c.specs.Buffers.{IsTold};
@@ -10,7 +10,6 @@ use crate::buffers::lay_over;
 use crate::status::{NO_SUCH, NOT_OPEN, OK};
 use crate::store::StoreHandle;
 use std::alloc::Global;
-use std::str;
 use teb_names::{NameBook, Names};
 
 /// Finds the number of a name among the tables (`list` 0), the types (1) or the nodes (any other).
@@ -26,6 +25,7 @@ pub extern "C" fn tebaldi_number(
     number: &mut u8,
 ) -> u32
     ensures ok { result ≡ OK → IfOpen store.old.held.value (λ s. number_of (names_in s.engine.names list) name.now ≡ Some number.new) }
+    ensures no_such { result ≡ NO_SUCH → IfOpen store.old.held.value (λ s. number_of (names_in s.engine.names list) name.now ≡ None) }
     ensures stays { store.new.held.value ≡ store.old.held.value }
     ensures not_open { result ≡ NOT_OPEN ↔ IsNone store.old.held.value }
     ensures not_told { result ≢ OK → number.new ≡ number.old }
@@ -58,6 +58,7 @@ pub extern "C" fn tebaldi_name(
     out: &mut [u8],
     len: &mut usize,
 ) -> u32
+    ensures no_such { result ≡ NO_SUCH → IfOpen store.old.held.value (λ s. length (names_in s.engine.names list) ≤ number) }
     ensures ok { result ≡ OK → IfOpen store.old.held.value (λ s. IsTold (slice_get (names_in s.engine.names list) number) out.old out.new len.new) }
     ensures stays { store.new.held.value ≡ store.old.held.value }
     ensures not_open { result ≡ NOT_OPEN ↔ IsNone store.old.held.value }
@@ -88,12 +89,14 @@ fn list_of(book: &NameBook, list: u8) -> &Names
     }
 }
 
-/// The number of a name. `None` if it is not there, or not UTF-8.
+/// The number of a name, or `None` if it is not there.
 fn number_in(names: &Names, name: &[u8]) -> Option<u8>
-    ensures { IfSome result (λ i. number_of names.now name.now ≡ Some i) }
+    ensures { result ≡ number_of names.now name.now }
 {
-    match str::from_utf8(name) {
-        Ok(text) => names.number(text),
-        Err(_) => None,
+    for number in 0..names.len() {
+        if name == names.name(number).as_bytes() {
+            return Some(number);
+        }
     }
+    None
 }

@@ -1,6 +1,6 @@
 //! What a handle points to.
 
-ghost use Rattle.std.specs.Prelude.{◌≡◌, ◌≢◌};
+ghost use Rattle.std.specs.Prelude.{◌≡◌, ◌≢◌, None};
 
 use crate::contents::Contents;
 use crate::status::{NO_SUCH, OK};
@@ -27,6 +27,7 @@ impl Model for Shelf {
 }
 
 impl Shelf {
+    ghost use Rattle.tebaldi_c.specs.Asking.{IfFile};
     ghost use Rattle.tebaldi_c.specs.Calls.{FilesAfter, FilesFailed};
 
     /// The engine of the present epoch.
@@ -42,7 +43,7 @@ impl Shelf {
     /// Notes that the first call that waits was performed on the file. Returns `OK`, or `NO_SUCH` if none waits.
     pub fn performed(&mut self) -> u32
         ensures ok { result ≡ OK → (self.new.engine ≡ self.old.engine) × FilesAfter self.old.file self.new.file }
-        ensures none { result ≢ OK → (result ≡ NO_SUCH) × (self.new ≡ self.old) }
+        ensures none { result ≢ OK → (result ≡ NO_SUCH) × (self.new ≡ self.old) × IfFile self.old.file (λ f. f.waiting ≡ 0) }
     {
         match &mut self.contents {
             Contents::File(file) if file.waiting() > 0 => {
@@ -56,7 +57,7 @@ impl Shelf {
     /// Notes that a call on the file has failed. Returns `OK`, or `NO_SUCH` if there is no file.
     pub fn fail(&mut self) -> u32
         ensures ok { result ≡ OK → (self.new.engine ≡ self.old.engine) × FilesFailed self.old.file self.new.file }
-        ensures none { result ≢ OK → (result ≡ NO_SUCH) × (self.new ≡ self.old) }
+        ensures none { result ≢ OK → (result ≡ NO_SUCH) × (self.new ≡ self.old) × (self.old.file ≡ None) }
     {
         match &mut self.contents {
             Contents::File(file) => {

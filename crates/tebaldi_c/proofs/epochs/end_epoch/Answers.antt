@@ -6,4 +6,5 @@ use Rattle.tebaldi_c.proofs.epochs.end_epoch.Goals as goal
 pub returns-in-Err-Untold-clause-untold : goal.returns-in-Err-Untold-clause-untold
 unfolding IsFirstUntold
 returns-in-Err-Untold-clause-untold c = λ _.
-    subst (IsLeast (IsUntold c.args.engine.now.events)) (sym c.from.ensures) (subst (IsHindrance c.args.engine.now) c.in-Err-Untold.field-0-is c.in-Err-Untold.ensures.refused)
+    let cause = subst (IsHindrance c.args.engine.now c.args.setup.names.tables) c.in-Err-Untold.field-0-is c.in-Err-Untold.ensures.refused in
+    (cause.0, subst (IsLeast (IsUntold c.args.engine.now.events)) (sym c.from.ensures) cause.1)

@@ -1,11 +1,10 @@
 use Rattle.std.proofs.Common.{◌-◌, ℕ, sym, ◌∙◌, ap, subst, Result, IfErr}
 use Rattle.crash_disk.specs.Disk.{LeavesOnly}
 use Rattle.epoch_journal.specs.Layout.{Layout}
+use Rattle.engine_store.specs.Next.{IsCause}
 use Rattle.engine_store.specs.Telling.{TellsCommits}
 use Rattle.commit_laws.specs.Commits.{commit_count}
 use Rattle.engine_core.specs.EngineModel.{EngineModel}
-use Rattle.tebaldi_c.proofs.SetUps.{file_hindered}
-use Rattle.tebaldi_c.specs.Epochs.{IsFileHindrance}
 use Rattle.tebaldi_c.specs.Shelves.{FileState, Filed}
 use Rattle.tebaldi_c.proofs.Files.{clock, images, moved, no_commits, still_all}
 use Rattle.tebaldi_c.proofs.filed.FileStore.next_epoch.Goals as goal
@@ -39,10 +38,10 @@ invariant_of-self c =
 
 pub returns-clause-refused : goal.returns-clause-refused
 returns-clause-refused c =
-    let s = c.self.inside in
+    let f = c.args.self.now in
     let tables = c.args.setup.names.tables in
     elim c.match-begun.branch [
-      | in-Ok w ↦ subst (λ (r : Result _ _). IfErr r (IsFileHindrance c.args.self.now.engine)) (sym w.result-is) tt
-      | in-Err w ↦ subst (λ (r : Result _ _). IfErr r (IsFileHindrance c.args.self.now.engine)) (sym w.result-is)
-          (subst (λ (f : Filed). IsFileHindrance f.engine w.in-Err.why) c.self.view_is (file_hindered s.store.journal.layout s.store.engine tables w.in-Err.why w.in-Err.ensures.refused))
+      | in-Ok w ↦ subst (λ (r : Result _ _). IfErr r (IsCause f.file.journal.layout f.engine tables)) (sym w.result-is) tt
+      | in-Err w ↦ subst (λ (r : Result _ _). IfErr r (IsCause f.file.journal.layout f.engine tables)) (sym w.result-is)
+          (subst (λ (g : Filed). IsCause g.file.journal.layout g.engine tables w.in-Err.why) c.self.view_is w.in-Err.ensures.refused)
     ]

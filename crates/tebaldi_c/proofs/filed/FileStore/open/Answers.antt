@@ -1,9 +1,9 @@
 use Rattle.std.proofs.Common.{◌∙◌, arith}
-use Rattle.tebaldi_c.proofs.Reopened.{reopened}
+use Rattle.tebaldi_c.proofs.Reopened.{refused, reopened}
 use Rattle.tebaldi_c.proofs.filed.FileStore.open.Goals as goal
 
-pub returns-in-Ok : goal.returns-in-Ok
-returns-in-Ok c =
+pub returns-in-Ok-clause-ok : goal.returns-in-Ok-clause-ok
+returns-in-Ok-clause-ok c =
     let before = c.call_count-before.ensures in
     reopened c.args.setup c.args.image.now c.in_ok-disk.disk c.in-Ok.store.engine c.in-Ok.store.journal c.begun.result
     c.begun.ensures.engine c.begun.ensures.journal c.in_ok-disk.ensures.capacity
@@ -11,3 +11,9 @@ returns-in-Ok c =
     c.begun.ensures.running (c.in_ok-disk.ensures.seen ∙ c.in_ok-bytes.ensures.items)
     (λ image left. c.in_ok-disk.ensures.safe image left ∙ c.in_ok-bytes.ensures.items)
     c.in-Ok.ensures.begun c.in-Ok.ensures.read c.in-Ok.ensures.found c.in-Ok.ensures.any_moment
+
+pub returns-in-Err-clause-refused : goal.returns-in-Err-clause-refused
+returns-in-Err-clause-refused c =
+    let r = c.in-Err.ensures.refused in
+    refused c.args.setup c.args.image.now _ _ c.in-Err.back.why (c.in_ok-disk.ensures.seen ∙ c.in_ok-bytes.ensures.items) c.in_ok-disk.ensures.capacity
+    r.damaged r.other_capacity r.other_tables r.full
