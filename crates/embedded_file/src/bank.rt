@@ -40,10 +40,22 @@ const TRANSFER: Spot = Spot {
 };
 
 /// The one session of this program.
-const SESSION: Session = Session(1);
+pub const SESSION: Session = Session(1);
 
 /// The store of the bank.
 pub type Bank = EngineStore<PooledChains, FileDisk>;
+
+/// What answers requests: the bank, or the bank while its commits wait.
+pub trait Answers {
+    /// Answers a request of the one session.
+    fn answer(&mut self, alloc: Global, request: Request) -> Result<Reply, AskError>;
+}
+
+impl Answers for Bank {
+    fn answer(&mut self, alloc: Global, request: Request) -> Result<Reply, AskError> {
+        self.ask(alloc, SESSION, request)
+    }
+}
 
 /// Why there is no bank, or no transfer.
 #[derive(Debug, Drop, Error)]
@@ -106,7 +118,7 @@ pub fn move_money(alloc: Global, mut bank: Bank) -> Result<(Bank, i64), Stopped>
 }
 
 /// The bank with a checkpoint of all rows, and room for further transactions.
-fn next_epoch(alloc: Global, bank: Bank) -> Result<Bank, Stopped> {
+pub fn next_epoch(alloc: Global, bank: Bank) -> Result<Bank, Stopped> {
     match bank.next_epoch(alloc, setup(alloc)?, PooledChains::new(alloc)) {
         Ok((bank, _ended)) => Ok(bank),
         Err(refused) => Err(Stopped::NoEpoch(refused.why)),
@@ -114,16 +126,16 @@ fn next_epoch(alloc: Global, bank: Bank) -> Result<Bank, Stopped> {
 }
 
 /// Makes one transaction. After an error no transaction is open.
-fn transfer(alloc: Global, bank: &mut Bank) -> Result<i64, Stopped> {
+pub fn transfer(alloc: Global, bank: &mut impl Answers) -> Result<i64, Stopped> {
     let moved = steps(alloc, bank);
     if moved.is_err() {
-        let _ended = bank.ask(alloc, SESSION, Request::End);
+        let _ended = bank.answer(alloc, Request::End);
     }
     moved
 }
 
 /// Makes the requests of a transfer: 1 from one account to another, and the number of the transfer.
-fn steps(alloc: Global, bank: &mut Bank) -> Result<i64, Stopped> {
+fn steps(alloc: Global, bank: &mut impl Answers) -> Result<i64, Stopped> {
     ask(alloc, bank, Request::Begin(TRANSFER))?;
     let count = Cell {
         table: TRANSFERS,
@@ -138,15 +150,15 @@ fn steps(alloc: Global, bank: &mut Bank) -> Result<i64, Stopped> {
 }
 
 /// Adds an amount to the balance of an account.
-fn add(alloc: Global, bank: &mut Bank, account: Cell, amount: i64) -> Result<(), Stopped> {
+fn add(alloc: Global, bank: &mut impl Answers, account: Cell, amount: i64) -> Result<(), Stopped> {
     ask(alloc, bank, Request::Read(account))?;
     ask(alloc, bank, Request::Add(account, amount))?;
     Ok(())
 }
 
 /// Asks the store. Returns the value of a row that was read, 0 if there is none, and 0 after other requests.
-fn ask(alloc: Global, bank: &mut Bank, request: Request) -> Result<i64, Stopped> {
-    match bank.ask(alloc, SESSION, request) {
+fn ask(alloc: Global, bank: &mut impl Answers, request: Request) -> Result<i64, Stopped> {
+    match bank.answer(alloc, request) {
         Ok(Reply::Value(value)) => Ok(value.unwrap_or(0)),
         Ok(Reply::Refused(Refusal::Full)) | Err(AskError::Full) => Err(Stopped::Full),
         Ok(Reply::Refused(why)) => Err(Stopped::Refused(why)),

@@ -1,0 +1,66 @@
+//! Transfers that share the syncs of one.
+
+use crate::bank::{Answers, Bank, SESSION, Stopped, next_epoch, transfer};
+use chain_pool::PooledChains;
+use engine_store::{AskError, EngineGroup};
+use file_disk::FileDisk;
+use std::alloc::Global;
+use teb_names::{Reply, Request};
+
+/// The bank while its commits wait.
+type BankGroup = EngineGroup<PooledChains, FileDisk>;
+
+impl Answers for BankGroup {
+    fn answer(&mut self, alloc: Global, request: Request) -> Result<Reply, AskError> {
+        self.ask(alloc, SESSION, request)
+    }
+}
+
+/// Makes the next transfers, at most so many, in the next epoch if this one is full, and returns their numbers. They are in the file then.
+pub fn move_money_together(
+    alloc: Global,
+    bank: Bank,
+    most: u32,
+) -> Result<(Bank, Vec<i64>), Stopped> {
+    let (bank, numbers) = transfers(alloc, bank, most)?;
+    if !numbers.is_empty() {
+        return Ok((bank, numbers));
+    }
+    let (bank, numbers) = transfers(alloc, next_epoch(alloc, bank)?, most)?;
+    if numbers.is_empty() {
+        return Err(Stopped::Full);
+    }
+    Ok((bank, numbers))
+}
+
+/// Makes transfers until the epoch is full, at most so many, and returns their numbers once they are in the file.
+fn transfers(alloc: Global, bank: Bank, most: u32) -> Result<(Bank, Vec<i64>), Stopped> {
+    let mut numbers = Vec::with_capacity(alloc, most as usize)?;
+    if bank.is_stopped() {
+        return Err(Stopped::NoAnswer(AskError::Stopped));
+    }
+    let mut group = bank.begin_group(alloc);
+    let ended = gather(alloc, &mut group, &mut numbers, most);
+    let (bank, written) = group.sync();
+    match (ended, written) {
+        (Ok(()) | Err(Stopped::Full), Ok(())) => Ok((bank, numbers)),
+        (Err(stopped), Ok(())) => Err(stopped),
+        (_, Err(_)) => Err(Stopped::NoAnswer(AskError::Unsure)),
+    }
+}
+
+/// Makes at most so many transfers, which wait for the file, and puts their numbers behind the others.
+fn gather(
+    alloc: Global,
+    group: &mut BankGroup,
+    numbers: &mut Vec<i64>,
+    most: u32,
+) -> Result<(), Stopped> {
+    for _ in 0..most {
+        let number = transfer(alloc, group)?;
+        if numbers.push(number).is_err() {
+            return Err(Stopped::OutOfMemory);
+        }
+    }
+    Ok(())
+}
