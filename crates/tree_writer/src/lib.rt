@@ -1,4 +1,10 @@
-//! The tree text of a setup: what `tree_toml` reads as this setup.
+//! The tree text of a setup.
+//!
+//! `shell_runner` answers `.dump` with it: a store that is opened under the text is to have the same tables, types, tree and rows.
+//!
+//! **What is proved.** [`put_tree_text`] appends the text that `tree_text` says (`specs/Written.antt`), or returns out of memory.
+//!
+//! **Not claimed**: that `tree_toml` reads the text as the same setup. `tools/shell_dumps.py` tries it.
 #![tactic(auto)]
 
 mod arrays;
