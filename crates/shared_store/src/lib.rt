@@ -17,6 +17,7 @@ mod ask;
 mod close;
 mod entry;
 mod error;
+mod first;
 mod hosted;
 mod life;
 mod make;
@@ -29,6 +30,7 @@ mod taking;
 
 pub use entry::LifeEntry;
 pub use error::{Failure, Fault, StoreError};
+pub use first::First;
 pub use hosted::Hosted;
 pub use life::Life;
 pub use origin::Origin;
