@@ -8,12 +8,12 @@ ghost use Rattle.shared_store.specs.Turning.{Adds, AddsMarks, AddsResult};
 
 use crate::entry::LifeEntry;
 use crate::error::{Failure, Fault};
+use crate::first::First;
 use crate::origin::Origin;
 use crate::reply::StoreReply;
 use crate::server::{EpochServer, NoEpoch};
 use short_reply::ShortReply;
 use std::alloc::Global;
-use std::snapshot::Snapshot;
 use teb_names::{Reply, Request, SESSIONS, Session};
 use turn_lock::Member;
 
@@ -23,7 +23,7 @@ pub struct Hosted<S: EpochServer> {
     pub(crate) server: S,
     pub(crate) entries: Vec<LifeEntry>,
     /// The server as it was at first.
-    pub(crate) first: Snapshot<S>,
+    pub(crate) first: First<S>,
     /// For each session, by its number, how its transaction was ended in its absence.
     pub(crate) notices: Vec<Option<ShortReply>>,
     ghost life: { IsLifeOf (stage_of 0 (S.standing first.value)) (S.standing server) entries.items },
@@ -57,7 +57,7 @@ impl<S: EpochServer> Hosted<S> {
             return Err(server);
         };
         Ok(Hosted {
-            first: Snapshot::of(&server),
+            first: First::of(&server),
             server,
             entries: Vec::new(alloc),
             notices,

@@ -9,14 +9,17 @@
 //! transaction is unfinished and each session was told of its abort, and the next one begins with the rows that it left. A crash loses
 //! no commit that was answered Committed; after one that was answered Unsure, nothing is asked.
 //!
-//! **Not claimed**: that a session may be sent to another thread, which the compiler does not find by itself; that a session ever gets its
-//! turn, or that an epoch ends while a session keeps its transaction open. A silent session can be ended by another, with [`Store::expel`].
+//! Threads may share a store, and a session may go to another thread, if the server may (`embedded_shared` is an example).
+//!
+//! **Not claimed**: that a session ever gets its turn, or that an epoch ends while a session keeps its transaction open. A silent session
+//! can be ended by another, with [`StoreSession::expel`].
 #![tactic(auto)]
 
 mod ask;
 mod close;
 mod entry;
 mod error;
+mod first;
 mod hosted;
 mod life;
 mod make;
@@ -29,6 +32,7 @@ mod taking;
 
 pub use entry::LifeEntry;
 pub use error::{Failure, Fault, StoreError};
+pub use first::First;
 pub use hosted::Hosted;
 pub use life::Life;
 pub use origin::Origin;

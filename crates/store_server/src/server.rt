@@ -21,7 +21,7 @@ use tree_toml::read_tree;
 const LEAST_PART: u64 = 8;
 
 /// A store in epochs, all under one tree. An epoch is to end once 8,192 transactions have begun, little of its half of the disk
-/// is left, or a commit did not fit.
+/// is left, or a commit did not fit, unless the disk has failed.
 #[derive(Drop)]
 pub struct StoreServer<D: Renew> {
     pub(crate) store: EngineStore<PooledChains, D>,
@@ -109,9 +109,11 @@ impl<D: Renew> EpochServer for StoreServer<D> {
     }
 
     fn is_ending(&self) -> bool {
-        self.is_full
-            || self.store.left() < self.reserve
-            || MOST_TXNS <= self.store.engine().history().begun()
+        // A store that is stopped has no next epoch, so nobody is to wait for one.
+        !self.store.is_stopped()
+            && (self.is_full
+                || self.store.left() < self.reserve
+                || MOST_TXNS <= self.store.engine().history().begun())
     }
 
     fn next_epoch(self, alloc: Global) -> (Self, Result<(), NoEpoch>) {

@@ -1,0 +1,108 @@
+//! A bank in a file, shared by threads: each client has a session and a thread, and moves money between accounts.
+//!
+//! `client` has what every thread needs: it asks again while an older transaction is in the way or an epoch comes to its end, and starts
+//! over if the store aborts its transaction. The store goes on from epoch to epoch as the threads ask it. The program may be killed at any
+//! moment. Whatever transfer it has printed is in the file when it is started again.
+#![tactic(auto)]
+
+mod bank;
+mod client;
+
+ghost use Rattle.std.specs.Prelude.{ℕ, ◌≡◌, ◌<◌, All, length, slice_index_or};
+ghost use Rattle.shared_store.specs.Sharing.{IsSessionOf};
+
+use bank::{open_bank, report};
+use client::{Work, run_client};
+use file_disk::FileDisk;
+use shared_store::{EpochServer, Life, LifeEntry, Store, StoreSession};
+use std::alloc::Global;
+use std::env;
+use std::sync::Wait;
+use std::thread::{self, Threads};
+use std::time::Clock;
+use teb_names::SESSIONS;
+
+/// A file has fewer bytes than so many.
+const MOST_BYTES: u64 = 1 << 40;
+
+fn main(rt: HostRuntime) -> anyhow::Result<()> {
+    let alloc = rt.alloc();
+    let mut words = env::args(&rt)?.skip(1);
+    let (Some(path), Some(bytes), Some(clients), Some(count)) = (
+        words.next(),
+        words.next(),
+        words.next(),
+        words.next(),
+    ) else {
+        println!(rt; "usage: embedded_shared FILE BYTES CLIENTS TRANSFERS [loud]")?;
+        return Ok(());
+    };
+    let work = Work {
+        count: count.parse()?,
+        is_loud: words.next().is_some(),
+    };
+    let bytes = bytes.parse::<u64>()?;
+    if bytes == 0 || MOST_BYTES <= bytes {
+        println!(rt; "the file is to have 1 to {} bytes", MOST_BYTES - 1)?;
+        return Ok(());
+    }
+    let disk = FileDisk::open_with_capacity(&rt, alloc, &path, bytes)?;
+    let server = open_bank(alloc, disk)?;
+    report(&rt, alloc, server.store(), work.is_loud)?;
+    let Some((server, life)) = share(&rt, alloc, server, clients.parse()?, work) else {
+        println!(rt; "out of memory")?;
+        return Ok(());
+    };
+    println!(rt; "several epochs: {}", epochs_ended(&life) > 0)?;
+    report(&rt, alloc, server.store(), work.is_loud)
+}
+
+/// Shares a server among that many clients until they are done. It returns the server and what happened; none if memory is out.
+fn share<S: EpochServer + Send + Drop, R: Threads + Wait + Clock + Print + Sync>(
+    rt: &R,
+    alloc: Global,
+    server: S,
+    clients: usize,
+    work: Work,
+) -> Option<(S, Life)>
+    requires { (S.standing server).unkept ≡ 0 }
+{
+    let Ok((store, mut sessions)) = Store::new(alloc, server) else {
+        return None;
+    };
+    run_clients(rt, alloc, &store, &mut sessions, clients, work);
+    let (server, life) = store.close(sessions);
+    Some((server, life))
+}
+
+/// Runs that many clients, each with a session and in a thread of its own. The other sessions ask nothing.
+fn run_clients<S: EpochServer + Send, R: Threads + Wait + Clock + Print + Sync>(
+    rt: &R,
+    alloc: Global,
+    store: &Store<S>,
+    sessions: &mut [StoreSession<S>],
+    clients: usize,
+    work: Work,
+)
+    requires { All (IsSessionOf store.now) sessions.old }
+    ensures { (i : ℕ) (d : _) → i < length sessions.old → IsSessionOf store.now (slice_index_or sessions.new i d) × ((slice_index_or sessions.new i d).session ≡ (slice_index_or sessions.old i d).session) }
+{
+    let threads = usize::from(SESSIONS);
+    thread::for_each_mut(
+        rt,
+        sessions,
+        threads,
+        &|i, session| {
+            if i < clients {
+                run_client(rt, alloc, store, session, work);
+            }
+        },
+    );
+}
+
+/// The number of epochs that have ended.
+fn epochs_ended(life: &Life) -> usize {
+    (0..life.len())
+        .filter(|i| matches!(life.at(*i), LifeEntry::Turned(_)))
+        .count()
+}

@@ -1,0 +1,207 @@
+#!/usr/bin/env python3
+"""Tries the store that sessions share, by the example program embedded_shared, on real files.
+
+    tools/store_in_threads.py [--kills N] [--transfers N]    8 clients in threads make transfers, and the sums are compared; the program is killed again and
+                                                             again amid transfers; each call of its disk fails once, under 4 clients. The last line is
+                                                             `N passed, M failed`
+
+A client makes transfer number n of its session from an account of the session to the account n places further on. So the number of transfers of each session
+says what every account has. The program prints each transfer once it is committed. After a kill it must find, for each session, the last transfer that was
+printed, and at most one more, and the accounts that go with them. After a call that failed it makes no further one, and the file has each transfer that was
+printed, and at most one more.
+"""
+import argparse
+import itertools
+import os
+import pathlib
+import random
+import re
+import shutil
+import subprocess
+import sys
+import tempfile
+import time
+
+TOP = pathlib.Path(__file__).resolve().parent.parent
+PROGRAM = TOP / "crates/embedded_shared/out/embedded_shared"
+ROW = re.compile(r"(session|account) (\d+) has (-?\d+)\n")
+TOLD = re.compile(r"session (\d+) transfer (\d+)\n")
+CLIENTS = 8
+FEW = 4
+ACCOUNTS = 500
+STRIDE = 15
+BYTES = 65_536
+# (so few that epochs end within a few transfers)
+FEW_BYTES = 2048
+SECONDS = 600
+
+# A library that is loaded before the program: the call of the disk with the number FAILED_CALL fails. The file TOLD_CALLS gets a byte for each call.
+FAILING = r"""
+#define _GNU_SOURCE
+#include <dlfcn.h>
+#include <errno.h>
+#include <fcntl.h>
+#include <stdatomic.h>
+#include <stdlib.h>
+#include <unistd.h>
+static atomic_long calls;
+static int fails(void) {
+    int told = open(getenv("TOLD_CALLS"), O_WRONLY | O_CREAT | O_APPEND, 0600);
+    if (write(told, "x", 1) != 1) abort();
+    close(told);
+    if (atomic_fetch_add(&calls, 1) + 1 != atol(getenv("FAILED_CALL"))) return 0;
+    errno = EIO;
+    return 1;
+}
+ssize_t pwrite(int file, const void *bytes, size_t count, off_t place) {
+    ssize_t (*next)(int, const void *, size_t, off_t) = dlsym(RTLD_NEXT, "pwrite");
+    return fails() ? -1 : next(file, bytes, count, place);
+}
+ssize_t pwrite64(int file, const void *bytes, size_t count, off64_t place) {
+    ssize_t (*next)(int, const void *, size_t, off64_t) = dlsym(RTLD_NEXT, "pwrite64");
+    return fails() ? -1 : next(file, bytes, count, place);
+}
+int fdatasync(int file) {
+    int (*next)(int) = dlsym(RTLD_NEXT, "fdatasync");
+    return fails() ? -1 : next(file);
+}
+"""
+
+
+class Trials:
+    """Counts what passes, and says what fails."""
+
+    def __init__(self):
+        self.passed = self.failed = 0
+
+    def expect(self, what, holds, seen=""):
+        if holds:
+            self.passed += 1
+        else:
+            self.failed += 1
+            print(f"FAILED {what}: {seen}")
+
+
+def command_of(path, count, *words, clients=CLIENTS, size=BYTES):
+    """Returns the command by which so many clients make so many transfers each."""
+    return [PROGRAM, path, str(size), str(clients), str(count), *words]
+
+
+def run(command, **variables):
+    """Runs the program to its end; returns the status, the lines and what it complained."""
+    done = subprocess.run(command, capture_output=True, text=True, timeout=SECONDS, check=False, env={**os.environ, **variables})
+    return done.returncode, done.stdout.splitlines(True), done.stderr
+
+
+def rows_in(path, size=BYTES):
+    """Returns the transfers of each session and the balance of each account that the file has."""
+    status, lines, complaint = run(command_of(path, 0, "loud", size=size))
+    if status:
+        sys.exit(f"the file is not opened: {complaint}")
+    # (the program prints what it finds, and then the same again, since nobody made a transfer)
+    end = next(i for i, line in enumerate(lines) if " transfers, and " in line)
+    rows = {"session": {}, "account": {}}
+    for what, key, value in (ROW.fullmatch(line).groups() for line in lines[:end]):
+        rows[what][int(key)] = int(value)
+    return rows["session"], rows["account"]
+
+
+def balances_of(made):
+    """Returns the balance of each account that any transfer has changed."""
+    balances = {}
+    for session, count in made.items():
+        first = session * STRIDE
+        for number in range(1, count + 1):
+            for place, amount in ((first, -1), (first + number, 1)):
+                balances[place % ACCOUNTS] = balances.get(place % ACCOUNTS, 0) + amount
+    return balances
+
+
+def told_in(lines):
+    """Returns the last transfer of each session that was printed; the last line may be cut off."""
+    return {int(match[1]): int(match[2]) for match in map(TOLD.fullmatch, lines) if match}
+
+
+def has_each(made, told):
+    """Whether each transfer that was printed was made, and of each session at most one more."""
+    return all(told.get(session, 0) <= made.get(session, 0) <= told.get(session, 0) + 1 for session in made | told)
+
+
+def try_totals(trials, folder, transfers):
+    """8 clients make so many transfers together, over many epochs."""
+    path, each = f"{folder}/totals", transfers // CLIENTS
+    status, lines, complaint = run(command_of(path, each))
+    wanted = ["0 transfers, and 0 in all accounts\n", "several epochs: true\n", f"{each * CLIENTS} transfers, and 0 in all accounts\n"]
+    trials.expect("the sums", status == 0 and lines == wanted, (status, lines, complaint))
+    made, accounts = rows_in(path)
+    trials.expect("the transfers of each session", made == {session: each for session in range(1, CLIENTS + 1)}, made)
+    trials.expect("the accounts", accounts == balances_of(made), accounts)
+
+
+def try_kills(trials, folder, kills):
+    """Kills the program at random moments of its life, and looks each time what the file has; at the end at least one transfer of each session."""
+    path, before, choice = f"{folder}/kills", {}, random.Random(11)
+    for n in range(kills):
+        told = dict(before)
+        with tempfile.TemporaryFile("w+") as out:
+            with subprocess.Popen(command_of(path, 100_000_000, "loud"), stdout=out, stderr=subprocess.DEVNULL) as it:
+                time.sleep(choice.uniform(0.001, 0.4))
+                it.kill()
+            out.seek(0)
+            told |= told_in(out.readlines())
+        made, accounts = rows_in(path)
+        trials.expect(f"kill {n}: the transfers", has_each(made, told), f"{made} after {told}")
+        trials.expect(f"kill {n}: the accounts", accounts == balances_of(made) and sum(accounts.values()) == 0, accounts)
+        before = made
+    trials.expect("how far it came", len(before) == CLIENTS, before)
+    print(f"{sum(before.values())} transfers, {kills} kills")
+
+
+def try_faults(trials, folder):
+    """Fails each call of the disk in turn, on a file that has transfers: it is the last call, and what was printed is there."""
+    source, library, start, path, calls = (f"{folder}/{name}" for name in ("failing.c", "failing.so", "some", "failed", "calls"))
+    pathlib.Path(source).write_text(FAILING, encoding="utf-8")
+    subprocess.run(["cc", "-O1", "-shared", "-fPIC", "-o", library, source, "-ldl"], check=True)
+    run(command_of(start, 2, clients=FEW, size=FEW_BYTES))
+    for number in itertools.count(1):
+        shutil.copyfile(start, path)
+        pathlib.Path(calls).write_bytes(b"")
+        command = command_of(path, 6, "loud", clients=FEW, size=FEW_BYTES)
+        status, lines, complaint = run(command, LD_PRELOAD=library, FAILED_CALL=str(number), TOLD_CALLS=calls)
+        made_calls = os.path.getsize(calls)
+        if made_calls < number:
+            break
+        told = {session: 2 for session in range(1, FEW + 1)} | told_in(lines)
+        made, accounts = rows_in(path, FEW_BYTES)
+        trials.expect(f"call {number}: the last one", made_calls == number, made_calls)
+        trials.expect(f"call {number}: the transfers", has_each(made, told) and sum(made.values()) <= sum(told.values()) + 1, f"{made} after {told}")
+        trials.expect(f"call {number}: the accounts", accounts == balances_of(made), accounts)
+        trials.expect(f"call {number}: what is said", status != 0 or any("stopped" in line for line in lines), lines)
+    trials.expect("without a failure", status == 0 and told_in(lines) == {session: 8 for session in range(1, FEW + 1)}, (lines, complaint))
+    print(f"{number - 1} calls of the disk failed")
+
+
+def main():
+    words = argparse.ArgumentParser(description=__doc__, formatter_class=argparse.RawDescriptionHelpFormatter)
+    words.add_argument("--kills", type=int, default=100, help="how often the program is killed")
+    words.add_argument("--transfers", type=int, default=100_000, help="how many transfers are made without a kill")
+    words.add_argument("--program", type=pathlib.Path, help="another build of the program")
+    given = words.parse_args()
+    global PROGRAM
+    PROGRAM = (given.program or PROGRAM).resolve()
+    if not PROGRAM.exists():
+        print(f"{PROGRAM} is not built: ./check builds it", file=sys.stderr)
+        return 2
+    trials = Trials()
+    # (a kill loses nothing that a file has been told, so a file system in memory is as good, and faster)
+    memory = "/dev/shm" if pathlib.Path("/dev/shm").is_dir() else None
+    with tempfile.TemporaryDirectory(dir=memory) as folder:
+        try_totals(trials, folder, given.transfers)
+        try_kills(trials, folder, given.kills)
+        try_faults(trials, folder)
+    print(f"{trials.passed} passed, {trials.failed} failed")
+    return trials.failed != 0
+
+
+if __name__ == "__main__":
+    sys.exit(main())
