@@ -1,0 +1,108 @@
+#!/usr/bin/env python3
+"""Measures commits a second of clients in threads on one file: the example embedded_shared, SQLite and RocksDB, each on the same transfers.
+
+    tools/bench_threads.py [--seconds N] [--folder FOLDER]
+
+Each client has a thread, and makes transfers between accounts: it counts the transfer, and adds to two accounts, in a transaction that is on the disk before it
+is answered. SQLite has a write-ahead log and synchronous=FULL, RocksDB pessimistic transactions and a synced write (bench_threads.cpp). For each number of
+clients there are as many transfers as take some N seconds. The calls of fsync and fdatasync are counted by strace in a second, shorter run. It needs g++, strace and the
+packages libsqlite3-dev and librocksdb-dev; what is missing is left out.
+"""
+import argparse
+import os
+import pathlib
+import re
+import shutil
+import subprocess
+import sys
+import tempfile
+import time
+
+TOP = pathlib.Path(__file__).resolve().parent.parent
+TEBALDI = TOP / "crates/embedded_shared/out/embedded_shared"
+SOURCE = TOP / "tools/bench_threads.cpp"
+BYTES = 67_108_864
+CLIENTS = (1, 2, 4, 8, 32)
+# (a first run of so many transfers tells how many a longer one makes in its time)
+FIRST = 320
+
+
+def stores(folder):
+    """Returns the command of each store: from a path, a number of clients and a number of transfers of each."""
+    found = {}
+    if TEBALDI.exists():
+        found["Tebaldi"] = lambda path, clients, count: [TEBALDI, path, str(BYTES), str(clients), str(count)]
+    others = f"{folder}/others"
+    made = subprocess.run(["g++", "-O2", "-std=c++17", SOURCE, "-o", others, "-lrocksdb", "-lsqlite3", "-lpthread"], capture_output=True, text=True, check=False)
+    if made.returncode:
+        print(f"left out: SQLite and RocksDB: {made.stderr.splitlines()[:1]}", file=sys.stderr)
+        return found
+    for name, word in (("SQLite", "sqlite"), ("RocksDB", "rocksdb")):
+        found[name] = lambda path, clients, count, word=word: [others, word, path, str(clients), str(count)]
+    return found
+
+
+def removed(path):
+    """Removes what a store has left there."""
+    for it in (path, f"{path}-wal", f"{path}-shm"):
+        if os.path.isdir(it):
+            shutil.rmtree(it)
+        elif os.path.exists(it):
+            os.unlink(it)
+
+
+def seconds_of(command, path, clients, count):
+    """Returns the seconds of a run on a new file, in which each client makes so many transfers."""
+    removed(path)
+    start = time.time()
+    done = subprocess.run(command(path, clients, count), capture_output=True, text=True, check=True)
+    if f"{clients * count} transfers, and 0 in all accounts\n" not in done.stdout:
+        sys.exit(f"the sums are wrong: {done.stdout}")
+    return time.time() - start
+
+
+def syncs_of(command, path, clients, count):
+    """Returns how often a run on a new file syncs, by strace; None without strace."""
+    if not shutil.which("strace"):
+        return None
+    removed(path)
+    traced = subprocess.run(["strace", "-f", "-c", "-e", "trace=fsync,fdatasync", *command(path, clients, count)], capture_output=True, text=True, check=True)
+    return sum(int(calls) for calls in re.findall(r"^ *[\d.]+ +[\d.]+ +\d+ +(\d+) .*sync$", traced.stderr, re.MULTILINE))
+
+
+def measured(command, path, clients, seconds):
+    """Returns the commits a second, and the syncs of a commit."""
+    first = -(-FIRST // clients)
+    count = max(1, round(first * seconds / seconds_of(command, path, clients, first)))
+    rate = clients * count / seconds_of(command, path, clients, count)
+    syncs = syncs_of(command, path, clients, first)
+    return rate, None if syncs is None else syncs / (clients * first)
+
+
+def bare_syncs(path, seconds):
+    """How many calls of fdatasync, each after a short write, the disk makes in a second."""
+    handle, start, count = os.open(path, os.O_CREAT | os.O_WRONLY), time.time(), 0
+    while time.time() - start < seconds:
+        os.pwrite(handle, bytes(48), 48 * count)
+        os.fdatasync(handle)
+        count += 1
+    os.close(handle)
+    return count / (time.time() - start)
+
+
+def main():
+    words = argparse.ArgumentParser(description=__doc__, formatter_class=argparse.RawDescriptionHelpFormatter)
+    words.add_argument("--seconds", type=float, default=5, help="about how long each run takes")
+    words.add_argument("--folder", default="/var/tmp", help="where the files are, on a disk")
+    given = words.parse_args()
+    with tempfile.TemporaryDirectory(dir=given.folder) as folder:
+        print(f"bare calls of fdatasync a second: {bare_syncs(f'{folder}/bare', given.seconds):.0f}")
+        for name, command in stores(folder).items():
+            for clients in CLIENTS:
+                rate, syncs = measured(command, f"{folder}/{name}", clients, given.seconds)
+                print(f"{name}, {clients} clients: {rate:.0f} commits a second, {'-' if syncs is None else f'{syncs:.2f}'} syncs a commit", flush=True)
+    return 0
+
+
+if __name__ == "__main__":
+    sys.exit(main())
