@@ -4,6 +4,7 @@ import ctypes
 import os
 import pathlib
 from ctypes import POINTER, Structure, c_bool, c_char_p, c_int, c_int64, c_size_t, c_uint8, c_uint32, c_uint64, c_void_p
+from typing import Any
 
 OK, BAD_TREE, BAD_VERB, NO_SUCH, OUT_OF_MEMORY, BAD_RUN, TOO_LONG = 0, 3, 4, 5, 6, 7, 8
 OTHER_TABLES, UNFINISHED, UNTOLD = 9, 10, 11
@@ -79,7 +80,6 @@ def load() -> ctypes.CDLL:
     for name, arguments, result in [
         ("version", [POINTER(RawVersion)], None),
         ("open", [store, c_char_p, c_size_t, byte, c_size_t, size], c_uint32),
-        ("ask", [store, c_uint8, POINTER(RawRequest), POINTER(RawReply)], c_uint32),
         ("number", [store, c_uint8, c_char_p, c_size_t, byte], c_uint32),
         ("name", [store, c_uint8, c_uint8, byte, c_size_t, size], c_uint32),
         ("line", [store, c_uint8, POINTER(RawReply), byte, c_size_t, size], c_uint32),
@@ -87,7 +87,6 @@ def load() -> ctypes.CDLL:
         ("rows", [store, POINTER(RawRow), c_size_t, size], c_uint32),
         ("event", [store, c_size_t, POINTER(RawEvent)], c_uint32),
         ("file_open", [file, c_char_p, c_char_p, c_size_t, byte, c_size_t, size, POINTER(c_uint64)], c_uint32),
-        ("file_ask", [file, c_uint8, POINTER(RawRequest), POINTER(RawReply)], c_uint32),
         ("file_next_epoch", [file, c_char_p, c_size_t, byte, c_size_t, size, POINTER(c_uint32)], c_uint32),
         ("file_close", [file], None),
         ("file_state", [store, POINTER(RawFileState)], c_uint32),
@@ -99,3 +98,13 @@ def load() -> ctypes.CDLL:
 
 
 LIBRARY = load()
+
+
+def plain(name: str) -> Any:
+    """A function of the library whose arguments are not checked, which is faster: its caller gives it references and small numbers."""
+    call = LIBRARY["tebaldi_" + name]
+    call.restype = c_uint32
+    return call
+
+
+ASK, FILE_ASK = plain("ask"), plain("file_ask")

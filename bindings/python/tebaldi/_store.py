@@ -7,6 +7,7 @@ import threading
 import time
 from ctypes import byref, c_size_t, c_uint8, c_uint32, c_uint64, get_errno
 from dataclasses import dataclass
+from functools import partial
 from types import TracebackType
 from typing import Any, Callable, Dict, Iterator, List, Optional, Tuple, Type, TypeVar, Union
 
@@ -135,8 +136,7 @@ class Store:
             raise BadFile("the file is damaged", place.value)
         _check_tree(status, fault, length)
         _check(status)
-        store._ask = LIBRARY.tebaldi_file_ask
-        store._asked = store._file
+        store._admit(native.FILE_ASK, store._file)
         return store
 
     def _begin(self, tree: Union[str, bytes]) -> bytes:
@@ -144,17 +144,19 @@ class Store:
         self._tree = text = _bytes(tree)
         self._raw = native.RawFile(native.RawStore(), -1)
         self._file, self._at = byref(self._raw), byref(self._raw.store)
-        # How a session asks: of the store, or of the store and its file.
-        self._ask, self._asked = LIBRARY.tebaldi_ask, self._at
         # One call at a time, and a place to sleep until a call has changed something.
         self._lock = threading.Lock()
         self._changed = threading.Condition(self._lock)
         self._changes = 0
         self._waiters = 0
-        # The sessions that are free, each with its request and its reply.
-        self._free = [_Session(number) for number in range(32, 0, -1)]
         self._numbers: List[Dict[str, int]] = [{}, {}, {}]
+        self._admit(native.ASK, self._at)
         return text
+
+    def _admit(self, ask: Callable[..., int], asked: Any) -> None:
+        """Makes the sessions, which are all free. They ask by a function of the library: of a store, or of a store and its file."""
+        self._ask, self._asked = ask, asked
+        self._free = [_Session(number, ask, asked) for number in range(32, 0, -1)]
 
     def next_epoch(self, tree: Union[str, bytes, None] = None) -> None:
         """Ends the present epoch, and begins the next one with the rows that it leaves. An epoch has room for 8,192 transactions.
@@ -175,15 +177,13 @@ class Store:
             _check(status)
             self._tree = text
             self._numbers = [{}, {}, {}]
-            self._changes += 1
-            self._changed.notify_all()
+            self._note_change()
 
     def close(self) -> None:
         """Closes the store, and frees its memory. A closed store raises ValueError at each call."""
         with self._changed:
             LIBRARY.tebaldi_file_close(self._file)
-            self._changes += 1
-            self._changed.notify_all()
+            self._note_change()
 
     @property
     def kept(self) -> Optional[int]:
@@ -205,6 +205,20 @@ class Store:
             return None
         _check(status)
         return state
+
+    def _note_change(self) -> None:
+        """Wakes the threads that sleep, if there are any, since a call has changed something. The lock is held."""
+        self._changes += 1
+        if self._waiters:
+            self._changed.notify_all()
+
+    def _sleep(self, until: Callable[[], Any], timeout: float) -> bool:
+        """Sleeps until this holds, and returns False if the time is over before. The lock is held, and is free meanwhile."""
+        self._waiters += 1
+        try:
+            return bool(self._changed.wait_for(until, timeout))
+        finally:
+            self._waiters -= 1
 
     def __enter__(self) -> Store:
         return self
@@ -251,8 +265,7 @@ class Store:
         with self._changed:
             _check(self._ask(self._asked, _within("session", session, 8), byref(asked), byref(told)))
             if told.kind != native.AGAIN and told.kind != native.REFUSED:
-                self._changes += 1
-                self._changed.notify_all()
+                self._note_change()
             return self._reply(session, told)
 
     def number(self, list: str, name: str) -> int:
@@ -340,14 +353,16 @@ class Store:
 
 
 class _Session:
-    """A session's number, and the request and the reply of its calls."""
+    """A session's number, the request and the reply of its calls, and the call itself, which takes no more arguments."""
 
-    __slots__ = ("number", "request", "reply", "request_at", "reply_at")
+    __slots__ = ("number", "request", "reply", "values", "present", "ask")
 
-    def __init__(self, number: int):
+    def __init__(self, number: int, ask: Callable[..., int], asked: Any):
         self.number = number
         self.request, self.reply = native.RawRequest(), native.RawReply()
-        self.request_at, self.reply_at = byref(self.request), byref(self.reply)
+        # (they share the memory of the reply)
+        self.values, self.present = self.reply.values, self.reply.present
+        self.ask = partial(ask, asked, number, byref(self.request), byref(self.reply))
 
 
 class Transaction:
@@ -369,14 +384,14 @@ class Transaction:
 
     def __enter__(self) -> Transaction:
         store = self._store
-        with store._changed:
-            if not store._free and not store._changed.wait_for(lambda: store._free, self._timeout):
+        with store._lock:
+            if not store._free and not store._sleep(lambda: store._free, self._timeout):
                 raise Again(0, "every session")
             self._session = store._free.pop()
         request = self._session.request
         request.type, request.instance = self._type, self._instance
         try:
-            self.number = self._call(_BEGIN).txn
+            self.number = self._call(_BEGIN).reply.txn
         except BaseException:
             self._end(False)
             raise
@@ -395,8 +410,8 @@ class Transaction:
 
     def read(self, table: str, key: int) -> Optional[int]:
         """Returns the value of a row."""
-        told = self._at(_READ, table, key)
-        return told.values[0] if told.present[0] else None
+        session = self._at(_READ, table, key)
+        return session.values[0] if session.present[0] else None
 
     def write(self, table: str, key: int, value: int) -> None:
         """Writes a value to a row, which need not exist."""
@@ -413,8 +428,8 @@ class Transaction:
     def scan(self, table: str, key: int, count: int) -> List[Optional[int]]:
         """Returns the values of `count` rows, 1 to 16, with consecutive keys from `key` on."""
         self._open().request.count = _within("count", count, 8)
-        told = self._at(_SCAN, table, key)
-        return [told.values[i] if told.present[i] else None for i in range(told.len)]
+        session = self._at(_SCAN, table, key)
+        return [session.values[i] if session.present[i] else None for i in range(session.reply.len)]
 
     def prepare(self) -> None:
         """Makes sure that the transaction can commit. It can then read and write no more."""
@@ -430,7 +445,7 @@ class Transaction:
             raise TransactionOver("the transaction is over")
         return self._session
 
-    def _at(self, verb: int, table: str, key: int, value: int = 0) -> native.RawReply:
+    def _at(self, verb: int, table: str, key: int, value: int = 0) -> _Session:
         session = self._session or self._open()
         number = self._store._numbers[0].get(table)
         request = session.request
@@ -439,52 +454,39 @@ class Transaction:
         request.value = value if -0x8000000000000000 <= value <= 0x7FFFFFFFFFFFFFFF else _value(value)
         return self._call(verb)
 
-    def _call(self, verb: int) -> native.RawReply:
-        """Asks, sleeps as long as the answer is to ask again, and returns the reply."""
+    def _call(self, verb: int) -> _Session:
+        """Asks, sleeps as long as the answer is to ask again, and returns the session, which has the reply."""
         session = self._session or self._open()
-        store, told = self._store, session.reply
+        store = self._store
         session.request.verb = verb
         with store._lock:
-            status = store._ask(store._asked, session.number, session.request_at, session.reply_at)
-            kind = told.kind
-            if status or kind >= native.AGAIN:
+            status = session.ask()
+            if status or session.reply.kind >= native.AGAIN:
                 return self._other(session, status)
-            store._changes += 1
-            if store._waiters:
-                store._changed.notify_all()
-        return told
+            store._note_change()
+        return session
 
-    def _other(self, session: _Session, status: int) -> native.RawReply:
+    def _other(self, session: _Session, status: int) -> _Session:
         """What a reply comes to that is no success. The lock is held."""
         store, told = self._store, session.reply
         until = time.monotonic() + self._timeout
         while not status and told.kind == native.AGAIN:
-            if not self._sleep(until):
+            seen = store._changes
+            if not store._sleep(lambda: store._changes != seen, until - time.monotonic()):
                 raise Again(told.txn, store._name(native.NODES, told.node))
-            status = store._ask(store._asked, session.number, session.request_at, session.reply_at)
+            status = session.ask()
         _check(status)
         if told.kind == native.REFUSED:
             why = native.REFUSALS[told.refusal]
             self._end_locked(session, session.request.verb != _BEGIN)
             raise Refused(why)
-        store._changes += 1
-        store._changed.notify_all()
+        store._note_change()
         if told.kind == native.ABORTED:
             cause, line = native.CAUSES[told.cause.why], store._line(session.number, told)
             self.was_aborted = True
             self._end_locked(session, False)
             raise Aborted(cause, line)
-        return told
-
-    def _sleep(self, until: float) -> bool:
-        """Sleeps until another call has changed something, and returns False once it is too late."""
-        store = self._store
-        seen = store._changes
-        store._waiters += 1
-        try:
-            return store._changed.wait_for(lambda: store._changes != seen, until - time.monotonic())
-        finally:
-            store._waiters -= 1
+        return session
 
     def _end(self, aborts: bool) -> None:
         with self._store._lock:
@@ -496,11 +498,10 @@ class Transaction:
         store = self._store
         if aborts:
             session.request.verb = _ABORT
-            store._ask(store._asked, session.number, session.request_at, session.reply_at)
-            store._changes += 1
+            session.ask()
         self._session = None
         store._free.append(session)
-        store._changed.notify_all()
+        store._note_change()
 
 
 def open_file(path: Union[str, "os.PathLike[str]"], tree: Union[str, bytes] = b"") -> Store:
