@@ -15,7 +15,7 @@ line_alone status line = record { status = status; text = line ++ 10 ∷ []; his
 abbrev pub events_of : Option Written → Option (List Event)
 events_of history = option_map (λ w. w.events) history
 
--- a status with which something is shown: not that of a read or a write that failed, and not that of want of memory
+-- a status with which something is shown: not that of a read or a write that failed, and not that of out of memory
 pub record IsShowable (status : ℕ) : Type 0 where
   pub no_read_fault : status ≢ 3
   pub no_write_fault : status ≢ 4

@@ -50,7 +50,7 @@ pub record AreCalls {T E : Type 0} (most k n : ℕ) (old new : Tally) (result : 
   pub fails : Fails k old → IsErr result
 
 -- What a call counts. One that succeeds counts no refusal. One that fails counts one fault, and one refusal at most. If the disk fails only at its
--- stop or for want of memory (`tells`), then a call that fails counts a refusal exactly if it comes before the stop.
+-- stop or because it is refused memory (`tells`), then a call that fails counts a refusal exactly if it comes before the stop.
 pub record Counts {T E : Type 0} (tells : Type 0) (calls : Tally) (faults faults' refusals refusals' : ℕ) (result : Result T E) : Type 0 where
   pub granted : OnOk result (refusals' ≡ refusals)
   pub fault : OnErr result (faults' ≡ next faults)

@@ -6,7 +6,7 @@ ghost use Rattle.crash_disk.specs.Calls.{IsBefore, IsFrom};
 
 use teb_io::Failed;
 
-/// How many calls were made, from which of them on they fail, how many faults there were, and how many of these for want of memory. No count
+/// How many calls were made, from which of them on they fail, how many faults there were, and how many of these were refusals of memory. No count
 /// goes past 2^64 - 1.
 #[derive(Clone, Copy, Debug, PartialEq, Eq)]
 pub struct Counter {
@@ -16,7 +16,7 @@ pub struct Counter {
     pub stop: u32,
     /// How many faults there were.
     pub faults: u64,
-    /// How many of them for want of memory.
+    /// How many of them are refusals of memory.
     pub refusals: u64,
 }
 
@@ -68,7 +68,7 @@ impl Counter {
         self.faults = self.faults.saturating_add(1);
     }
 
-    /// Counts one fault more, for want of memory. The calls stay as they were.
+    /// Counts one fault more, a refusal of memory. The calls stay as they were.
     pub fn refuse(&mut self)
         ensures one { self.new.faults ≡ next self.old.faults }
         ensures one_refusal { self.new.refusals ≡ next self.old.refusals }

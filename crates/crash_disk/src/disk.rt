@@ -44,10 +44,10 @@ pub trait Disk {
     /// Each call to come fails.
     ghost broken: { Self → Type 0 };
 
-    /// How often a call has failed for want of memory.
+    /// How often a call has failed because it was refused memory.
     ghost refusals: { Self → ℕ };
 
-    /// A call fails only at the stop, or for want of memory.
+    /// A call fails only at the stop, or because it is refused memory.
     ghost tells_failures: { Self → Type 0 };
 
     /// For how many calls to come it has memory.

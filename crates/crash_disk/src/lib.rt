@@ -15,7 +15,7 @@
 //! - *Safe* are the bytes as they were at the last sync that succeeded (`safe`).
 //! - The *tally* says how many calls were made, and which of the next ones are sure to succeed or to fail. A [`MemDisk`] fails at
 //!   its call number `stop`, counted from 1, and at all later ones; a `stop` of 0 names no call.
-//! - A *refusal* is a fault for want of memory. A call that fails counts one fault, and one refusal at most (`IsCounted`).
+//! - A *refusal* is a fault because a call was refused memory. A call that fails counts one fault, and one refusal at most (`IsCounted`).
 //! - The *log* of a [`MemDisk`] has its writes and syncs, and its images are computed from it (`specs/Log.antt`). A disk that can
 //!   forget its log is a [`Renew`].
 //!

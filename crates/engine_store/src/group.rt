@@ -110,8 +110,8 @@ impl<C: Chains, D: Disk> EngineGroup<C, D> {
     }
 
     /// Writes all commits that wait, the oldest first. After `Ok` they are acknowledged: from then on each crash leaves them. It makes
-    /// four calls of the disk, two of them syncs, however many commits wait, and none if none waits. None of the calls fails for want of
-    /// memory.
+    /// four calls of the disk, two of them syncs, however many commits wait, and none if none waits. None of the calls is
+    /// refused memory.
     ///
     /// # Errors
     /// `Failed` if a call of the disk fails. The disk may keep all of the commits that wait, or none, and the store is stopped.

@@ -65,7 +65,7 @@ impl<C: Chains, D: Renew> EngineStore<C, D> {
         ensures fault { IfErr result (λ refused. refused.why ≡ errors.DiskFault
             → (refused.store.journal.stopped ≡ true) × Rose (D.faults self.journal.disk) (D.faults refused.store.journal.disk)) }
 
-        // No call of the disk fails for want of memory.
+        // No call of the disk is refused memory.
         ensures memory { MatchResult result (λ o. D.refusals o.0.journal.disk ≡ D.refusals self.journal.disk) (λ refused. D.refusals refused.store.journal.disk ≡ D.refusals self.journal.disk) }
 
         // Whatever epochs are past, the life goes on.

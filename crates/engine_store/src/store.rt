@@ -95,7 +95,7 @@ impl<C: Chains, D: Disk> EngineStore<C, D> {
         ensures unsure { IsErrOf result errors.Unsure → ((answer self.old.engine.store self.old.engine.events session request).0 ≡ replies.Committed)
             × (self.new.journal.stopped ≡ true) × Rose (D.faults self.old.journal.disk) (D.faults self.new.journal.disk) }
 
-        // No call of the disk fails for want of memory.
+        // No call of the disk is refused memory.
         ensures memory { D.refusals self.new.journal.disk ≡ D.refusals self.old.journal.disk }
 
         // Only a commit touches the disk.

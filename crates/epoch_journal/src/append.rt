@@ -39,7 +39,7 @@ impl<D: Disk> EpochJournal<D> {
     }
 
     /// Adds the record that the body spells, in memory that `reserve` returned for it. After `Ok` it is acknowledged: from then on each
-    /// crash leaves it. It makes four calls of the disk, none of which fails for want of memory.
+    /// crash leaves it. It makes four calls of the disk, none of which is refused memory.
     ///
     /// # Errors
     /// `Failed` if a call of the disk fails. The journal is then stopped, and this record may be on the disk or not.
@@ -73,7 +73,7 @@ impl<D: Disk> EpochJournal<D> {
 
     /// Adds the records of a group, the first one first, in memory that `reserve` returned for their size. After `Ok` all of them are
     /// acknowledged: from then on each crash leaves them. It makes four calls of the disk, however many records there are, none of which
-    /// fails for want of memory.
+    /// is refused memory.
     ///
     /// # Errors
     /// `Failed` if a call of the disk fails. The journal is then stopped, and all records of the group may be on the disk, or none.

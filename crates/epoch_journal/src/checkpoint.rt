@@ -52,7 +52,7 @@ impl<D: Disk> EpochJournal<D> {
         ensures fits { OnOk result (10 + length self.old.layout.label + 14 * length rows.now ≤ half_size self.old.layout.capacity) }
         ensures full { IsErrOf result errors.Full → half_size self.old.layout.capacity < 10 + length self.old.layout.label + 14 * length rows.now }
         ensures unchanged { IfErr result (λ e. (e ≡ errors.DiskFault → ⊥) → self.new ≡ self.old) }
-        // No call of the disk fails for want of memory.
+        // No call of the disk is refused memory.
         ensures memory { D.refusals self.new.disk ≡ D.refusals self.old.disk }
         ensures place { OnErr result ((self.new.first ≡ self.old.first) × (self.new.end ≡ self.old.end) × (self.new.acknowledged ≡ self.old.acknowledged)) }
         ensures fault { IsErrOf result errors.DiskFault → (self.new.stopped ≡ true) × Rose (D.faults self.old.disk) (D.faults self.new.disk) }

@@ -26,7 +26,7 @@ use teb_io::Failed;
 use teb_names::{Reply, Request, Session};
 
 /// A store whose commits wait for the disk together. `ask` answers a commit before it is on the disk; `sync` writes all commits that wait,
-/// in the calls of the disk that one commit takes, and only after its `Ok` a commit may be told to whoever asked for it. Until then a crash
+/// in the calls of the disk that one commit takes, and only after its `Ok` may a commit be told to its client. Until then a crash
 /// leaves the rows after the first commits, at least those that were acknowledged before.
 ///
 /// It is not `Drop`: what waits has to be written.
@@ -121,8 +121,8 @@ impl<E: Recorder, D: Disk> GroupCommit<E, D> {
     }
 
     /// Writes all commits that wait, the oldest first. After `Ok` they are acknowledged: from then on each crash leaves them. It makes
-    /// four calls of the disk, two of them syncs, however many commits wait, and none if none waits. None of the calls fails for want of
-    /// memory.
+    /// four calls of the disk, two of them syncs, however many commits wait, and none if none waits. None of the calls is
+    /// refused memory.
     ///
     /// # Errors
     /// `Failed` if a call of the disk fails. The disk may keep all of the commits that wait, or none, and the store is stopped.

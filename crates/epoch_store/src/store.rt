@@ -100,7 +100,7 @@ impl<E: Recorder, D: Disk> EpochStore<E, D> {
         ensures unsure { IsErrOf result errors.Unsure → ((answer (E.store self.old.engine) (E.events self.old.engine) session request).0 ≡ replies.Committed)
             × (self.new.journal.stopped ≡ true) × Rose (D.faults self.old.journal.disk) (D.faults self.new.journal.disk) }
 
-        // No call of the disk fails for want of memory.
+        // No call of the disk is refused memory.
         ensures memory { D.refusals self.new.journal.disk ≡ D.refusals self.old.journal.disk }
 
         // Only a commit touches the disk.

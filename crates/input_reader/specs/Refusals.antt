@@ -17,7 +17,7 @@ why_text why.Count = codes "count"
 why_text why.Name = codes "name"
 why_text why.Number = codes "number"
 
--- the status and the line of a fault; a read that failed and want of memory have none
+-- the status and the line of a fault; a read that failed and out of memory have none
 abbrev pub refusal : InputError → Shown
 refusal ReadFault = record { status = 3; text = []; history = None }
 refusal TooLong = line_alone 5 (codes "too long")

@@ -12,7 +12,7 @@ pub record IsFront (old new : List ℕ) : Type 0 where
   pub more : List ℕ
   pub grown : new ≡ old ++ more
 
--- the text stands behind the old bytes; for want of memory something does
+-- the text follows the old bytes; if memory runs out, some bytes do
 abbrev pub Puts : {E : Type 0} → List ℕ → List ℕ → List ℕ → Result (Unit {0}) E → Type 0
 Puts old text new (Ok u) = new ≡ old ++ text
 Puts old text new (Err e) = IsFront old new

@@ -38,7 +38,7 @@ abbrev pub Gives : {X Y E : Type 0} → (X → Y) → Result X E → Result Y E 
 Gives view (Ok x) read = read ≡ Ok (view x)
 Gives view (Err e) read = read ≡ Err e
 
--- the same, want of memory aside
+-- the same, out of memory aside
 abbrev pub UnlessMemory : TreeText → Type 0 → Type 0
 UnlessMemory OutOfMemory P = Unit {0}
 UnlessMemory NotToml P = P

@@ -95,7 +95,7 @@ abbrev pub field_parts : ListName → ℕ → Key → FieldWhy → List (List �
 field_parts list.Top i k w = codes "bad tree: " ∷ top_word k ∷ codes " " ∷ why_word w ∷ codes "\n" ∷ []
 field_parts l i k w = codes "bad tree: " ∷ entry_parts l i k (codes " " ∷ why_word w ∷ codes "\n" ∷ [])
 
--- the line of a fault; want of memory has none
+-- the line of a fault; out of memory has none
 abbrev pub fault_text : TreeText → List ℕ
 fault_text NotToml = joined (codes "bad tree: not toml\n" ∷ [])
 fault_text (Field p w) = joined (field_parts p.list p.index p.key w)
