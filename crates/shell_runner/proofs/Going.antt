@@ -1,14 +1,13 @@
 -- A run goes on by a step, or ends.
-use Rattle.std.proofs.Common.{◌≡◌, ◌≢◌, ℕ, ◌+◌, List, [], ◌∷◌, ◌++◌, length, take, Option, Some, None, Result, Ok, Err, IsTrue, is_some, inl, inr, refl, sym, ap, ◌∙◌, subst, arith, length-append}
+use Rattle.std.proofs.Common.{◌≡◌, ◌≢◌, ℕ, ◌+◌, ◌^◌, ◌≤◌, List, [], ◌∷◌, ◌++◌, length, take, Option, Some, None, Result, Ok, Err, IsTrue, is_some, inl, inr, refl, sym, ap, ◌∙◌, subst, arith, length-append}
 use Rattle.std.specs.Prelude.{◌⊎◌, Bool, true, false, if◌then◌else◌, nat_le, IfErr, IfOk, IsErr, IsOk, MatchResult}
 use Rattle.std.proofs.lemmas.Result.{MatchResult-at_err, MatchResult-at_ok}
-use Rattle.std.specs.Io.KnownBytes.{Appends, Consumes, Keeps}
+use Rattle.std.specs.Io.KnownBytes.{Appends, Consumes, IsAtEnd, Keeps}
 use Rattle.std.proofs.KnownBytes.{Appends-kept, Appends-nil, Appends-trans, Consumes-nil, prepend_known-nil}
 use Rattle.std.proofs.Math.Seq.{take-append-add}
+use Rattle.std.proofs.lemmas.List.{append-nil}
 use Rattle.teb_io.specs.Bytes.{AppendsFront}
 use Rattle.line_reader.specs.Lines.{ahead}
-use Rattle.shell_lines.specs.Lines.{shell_line}
-use Rattle.teb_names.specs.declared.Request.{Request}
 use Rattle.teb_names.specs.declared.Request.TheVariants as request
 use Rattle.teb_names.specs.declared.Txn.{Txn}
 use Rattle.teb_names.specs.declared.naming.NameBook.{NameBook}
@@ -17,7 +16,6 @@ use Rattle.teb_history.specs.Phases.{held}
 use Rattle.teb_history.specs.Written.{held_txn, txn_of}
 use Rattle.teb_names.specs.declared.Session.{Session}
 use Rattle.shell_lines.specs.declared.line.ShellLine.{ShellLine}
-use Rattle.shell_lines.specs.Answers.{reply_line}
 use Rattle.shell_lines.specs.declared.line.Unable.{Unable}
 use Rattle.shell_lines.specs.declared.line.ShellLine.TheVariants.{Ask}
 use Rattle.shell_lines.specs.declared.line.ShellLine.TheVariants as line
@@ -25,11 +23,13 @@ use Rattle.shell_lines.specs.declared.reply.StoreReply.{StoreReply}
 use Rattle.shell_lines.specs.declared.reply.StoreReply.TheVariants as reply
 use Rattle.shell_lines.specs.declared.reply.StoreReply.TheVariants.{Later}
 use Rattle.shell_runner.specs.States.{Stored}
-use Rattle.shell_runner.specs.Answers.{HasFailed, IsAnswered, IsAsked, IsBegin, ShowsReply, State, after_read, after_reply}
+use Rattle.shell_runner.specs.Answers.{IsAnswered, ShowsReply, State, after_read, after_reply}
 use Rattle.shell_runner.specs.Flows.{after_of}
-use Rattle.shell_runner.specs.Runs.{Answers, Asks, AsksNext, Brings, GoesOn, HasEnded, HasRun, IsDone, IsThrough, IsSafely, IsSameOrSafe, StopsAt, TakenBy, said, state_of, Step}
+use Rattle.shell_runner.specs.Holders.{holders}
+use Rattle.shell_runner.specs.Runs.{Answers, AsksNext, GoesOn, GoesOnAfter, HasEnded, HasRead, HasRun, HasStopped, IsDone, IsFailure, IsRun, IsSafely, IsSameOrSafe, IsTaken, IsUnread, StopsAt, said, state_of, status_of, Step}
 use Rattle.shell_runner.specs.declared.shell.Shell.{Shell}
 use Rattle.shell_runner.specs.declared.running.Flow.{Flow}
+use Rattle.shell_runner.specs.declared.running.Flow.TheVariants as flow
 use Rattle.shell_runner.specs.declared.step.After.{After}
 use Rattle.shell_runner.specs.declared.step.After.TheVariants.{Bad, Next, Quit, Stopped}
 use Rattle.teb_names.specs.declared.rows.TheConstants.{MOST_ROWS}
@@ -48,28 +48,25 @@ once safe s t h = record { mid = t; first = h; second = inl refl }
 pub unmoved : {T : Type 0} (safe : T → T → Type 0) (s : Shell T) → IsSafely safe s s
 unmoved safe s = record { mid = s; first = inl refl; second = inl refl }
 
--- a request that is asked at once
-pub asked_at_once : (n : ℕ) (s t : State) (session : Session) (request : Request) (text : List ℕ) (after : After) → ShowsReply s session request text after t → IsAnswered n s (Ask session request) text after t
-asked_at_once n s t session request text after h = inl (record { mid = s; turned = inl refl; replied = h })
+-- the end of a session is asked at once
+pub end_asked : (n : ℕ) (s t : State) (session : Session) (text : List ℕ) (after : After) → ShowsReply s session request.End text after t → IsAnswered n s (Ask session request.End) text after t
+end_asked n s t session text after h = inl (record { goes_on = λ b. b.begins; replied = h })
 
-pub ends_answered : {E : Type 0} (n : ℕ) (s t : State) (session : Session) (request : Request) (items text : List ℕ) (answered : Result After E) → text ≡ items
-    → IfOk answered (λ (after : After). ShowsReply s session request items after t) → IfOk answered (λ (after : After). IsAnswered n s (Ask session request) text after t)
-ends_answered n s t session request items text (Ok a) e h = subst (λ (x : List ℕ). IsAnswered n s (Ask session request) x a t) (sym e) (asked_at_once n s t session request items a h)
-ends_answered n s t session request items text (Err x) e h = tt
+pub ends_answered : {E : Type 0} (n : ℕ) (s t : State) (session : Session) (items text : List ℕ) (answered : Result After E) → text ≡ items
+    → IfOk answered (λ (after : After). ShowsReply s session request.End items after t) → IfOk answered (λ (after : After). IsAnswered n s (Ask session request.End) text after t)
+ends_answered n s t session items text (Ok a) e h = subst (λ (x : List ℕ). IsAnswered n s (Ask session request.End) x a t) (sym e) (end_asked n s t session items a h)
+ends_answered n s t session items text (Err x) e h = tt
 
 -- the same text by another name
 pub answered_by : {E : Type 0} (n : ℕ) (s t : State) (l : ShellLine) (items text : List ℕ) (answered : Result After E) → text ≡ items → IfOk answered (λ (after : After). IsAnswered n s l items after t)
     → IfOk answered (λ (after : After). IsAnswered n s l text after t)
 answered_by n s t l items text answered e h = subst (λ (x : List ℕ). IfOk answered (λ (after : After). IsAnswered n s l x after t)) (sym e) h
 
--- a session that is to ask again later
-pub asked_later : (s t : State) (session : Session) (request : Request) (text : List ℕ) (after : After) → IsBegin request → t ≡ s → text ≡ reply_line s.stored.names session Later → after ≡ Next → IsAsked s session request text after t
-asked_later s t session request text after begins same said goes = record { mid = s; turned = inl refl; replied = record { answer = Later; told = (begins, same); shown = said; goes_on = goes } }
-
-pub later_asked : {E : Type 0} (s t : State) (session : Session) (request : Request) (names : NameBook) (text : List ℕ) (answered : Result After E) → IsBegin request → t ≡ s → names ≡ s.stored.names
-    → IfOk answered (λ (after : After). (after ≡ Next) × (text ≡ reply_line names session Later)) → IfOk answered (λ (after : After). IsAsked s session request text after t ⊎ HasFailed text after)
-later_asked s t session request names text (Ok a) begins same called h = inl (asked_later s t session request text a begins same (h.1 ∙ ap (λ (n : NameBook). reply_line n session Later) called) h.0)
-later_asked s t session request names text (Err e) begins same called h = tt
+not_quit : (r : StoreReply) → Quit ≡ after_reply r → ⊥
+not_quit (reply.Reply r) p = absurd (cc)
+not_quit reply.Later p = absurd (cc)
+not_quit reply.Full p = absurd (cc)
+not_quit reply.Unsure p = absurd (cc)
 
 -- only `.quit` asks for the end
 pub quits : (n : ℕ) (s : State) (l : ShellLine) (text : List ℕ) (t : State) → IsAnswered n s l text Quit t → l ≡ line.Quit
@@ -95,25 +92,30 @@ quits n s line.Read text t h = absurd (go h.0.0 h.0.2)
 quits n s line.Help text t h = absurd (let p = h.0.1 in cc)
 quits n s line.Quit text t h = refl
 quits n s (line.Bad why) text t h = absurd (let p = h.0.1 in cc)
-quits n s (line.Ask session request) text t (inl a) = absurd (go a.replied.answer a.replied.goes_on)
-  where
-    go : (r : StoreReply) → Quit ≡ after_reply r → ⊥
-    go (reply.Reply r) p = absurd (cc)
-    go reply.Later p = absurd (cc)
-    go reply.Full p = absurd (cc)
-    go reply.Unsure p = absurd (cc)
-quits n s (line.Ask session request) text t (inr f) = absurd (let p = f.stopped in cc)
+quits n s (line.Ask session request) text t (inl a) = absurd (not_quit a.replied.answer a.replied.goes_on)
+quits n s (line.Ask session request) text t (inr (inl l)) = absurd (let p = l.goes_on in cc)
+quits n s (line.Ask session request) text t (inr (inr (inl a))) = absurd (not_quit a.replied.answer a.replied.goes_on)
+quits n s (line.Ask session request) text t (inr (inr (inr f))) = absurd (let p = f.failed.stopped in cc)
 quits n s line.Checkpoint text t (inl c) = absurd (let p = c.goes_on in cc)
-quits n s line.Checkpoint text t (inr f) = absurd (let p = f.stopped in cc)
+quits n s line.Checkpoint text t (inr f) = absurd (let p = f.1.stopped in cc)
 
-pub one_more_through : (rest : Option (List ℕ)) (steps : List Step) (step : Step) → IsThrough rest steps → IsThrough rest (step ∷ steps)
-one_more_through rest steps step (inl e) = inl e
-one_more_through rest steps step (inr (inl q)) = inr (inl (inr q))
-one_more_through rest steps step (inr (inr n)) = inr (inr (omega (arith, n)))
+is_not : (status j k : ℕ) → status ≡ j → j ≢ k → status ≡ k → ⊥
+is_not status j k e other p = other (sym e ∙ p)
 
-not_done : (status k : ℕ) → status ≡ k → k ≢ 0 → k ≢ 7 → IsDone status → ⊥
-not_done status k e zero seven (inl p) = zero (sym e ∙ p)
-not_done status k e zero seven (inr p) = seven (sym e ∙ p)
+-- a line that is not read has no other status
+pub not_of : (status k : ℕ) → IsUnread status → 3 ≢ k → 5 ≢ k → 8 ≢ k → status ≢ k
+not_of status k (inl e) a b c = is_not status 3 k e a
+not_of status k (inr (inl e)) a b c = is_not status 5 k e b
+not_of status k (inr (inr e)) a b c = is_not status 8 k e c
+
+failure_not : (status k : ℕ) → IsFailure status → 3 ≢ k → 5 ≢ k → 8 ≢ k → 4 ≢ k → 15 ≢ k → status ≢ k
+failure_not status k (inl why) a b c d e = not_of status k why a b c
+failure_not status k (inr (inl p)) a b c d e = is_not status 4 k p d
+failure_not status k (inr (inr p)) a b c d e = is_not status 15 k p e
+
+pub not_done : (status : ℕ) → IsFailure status → IsDone status → ⊥
+not_done status fails (inl p) = failure_not status 0 fails (omega arith) (omega arith) (omega arith) (omega arith) (omega arith) p
+not_done status fails (inr p) = failure_not status 7 fails (omega arith) (omega arith) (omega arith) (omega arith) (omega arith) p
 
 -- an answer that is written, whole or in part, or not for want of memory
 pub writes : {E : Type 0} (n : ℕ) (s t : State) (asks : ShellLine) (text : List ℕ) (answered : Result After E) (r : Result After ℕ) (now later : Option (List ℕ)) → IfOk answered (λ (after : After). IsAnswered n s asks text after t)
@@ -128,108 +130,130 @@ writes n s t asks text (Err e) (Err status) now later h w (inr p) = absurd (not_
     not_ok : {E : Type 0} (e : E) → IsOk {T = After} (Err e) → ⊥
     not_ok e p = cc
 
+-- with another status neither all was answered, nor is anything left to be told
 module _ {T : Type 0} (stored : T → Stored) (safe : T → T → Type 0) (first : Shell T) (left before : Option (List ℕ)) where
-  -- one more step was answered, and its text is written
-  pub stepped : (n : ℕ) (s t : Shell T) (mid rest now later : Option (List ℕ)) (line : Option (List ℕ)) (asks : ShellLine) (file : List ℕ) (after : After) → HasRun stored safe first left before n s mid now
-      → Asks (stored s.store) s.format line asks → Brings asks file → TakenBy line file mid rest → Answers (n + 1) (state_of stored s) asks after (state_of stored t) now later → IsSafely safe s t
-      → HasRun stored safe first left before (n + 1) t rest later
-  stepped n s t mid rest now later line asks file after r is brings takes a between = record {
-    steps = record { line = line; asks = asks; file = file; text = a.text } ∷ r.steps;
-    count = omega (arith, r.count);
-    run = (s, r.run, record { after = after; asks = is; brings = brings; answered = subst (λ (k : ℕ). IsAnswered (k + 1) (state_of stored s) asks a.text after (state_of stored t)) r.count a.answered; safely = between });
-    taken = (mid, r.taken, takes);
-    written = Appends-trans before now later (said r.steps) a.text r.written a.written;
+  -- a run that ends amid its lines
+  pub amid : (lines : List Step) (mid end : Shell T) (rest now : Option (List ℕ)) (status : ℕ) → IsRun stored safe first lines mid → IsTaken left rest lines → IsFailure status
+      → ((status ≢ 4) × Appends before now (said lines)) ⊎ ((status ≡ 4) × AppendsFront before now (said lines)) → (status ≡ 15 → HasStopped lines) → (status ≢ 8 → end ≡ mid) → IsSafely safe mid end
+      → HasEnded stored safe first left before status end now
+  amid lines mid end rest now status run taken fails written stops same safely = record {
+    kind = inr fails;
+    lines = lines;
+    mid = mid;
+    rest = rest;
+    run = run;
+    taken = taken;
+    through = λ d. absurd (not_done status fails d);
+    ends = [];
+    more = holders (stored mid.store).events;
+    last = mid;
+    closing = refl;
+    ended = refl;
+    closed = λ d. absurd (not_done status fails d);
+    written = elim written [
+      | inl w ↦ inl (w.0, subst (Appends before now) (sym (append-nil (said lines))) w.1)
+      | inr w ↦ inr (w.0, subst (AppendsFront before now) (sym (append-nil (said lines))) w.1)
+    ];
+    stopped = λ e. inl (stops e);
+    same = same;
+    safely = safely;
   }
 
-  -- a run ends whose text is written whole
-  pub ended : (n : ℕ) (s : Shell T) (rest now : Option (List ℕ)) (status : ℕ) → status ≢ 4 → (r : HasRun stored safe first left before n s rest now) → (IsDone status → IsThrough rest r.steps) → HasEnded stored safe first left before status s now
-  ended n s rest now status other r through = record {
+  -- a run that ends before its next line
+  pub ended_before : (n so_far : ℕ) (s : Shell T) (rest now : Option (List ℕ)) (status : ℕ) → HasRun stored safe first left before n so_far s rest now → IsUnread status → HasEnded stored safe first left before status s now
+  ended_before n so_far s rest now status r why =
+      amid r.steps s s rest now status r.run r.taken (inl why) (inl (not_of status 4 why (omega arith) (omega arith) (omega arith), r.written)) (λ e. absurd (not_of status 15 why (omega arith) (omega arith) (omega arith) e)) (λ _. refl) (unmoved safe s)
+
+  -- a run at the end of its input
+  pub read_out : (n so_far : ℕ) (s : Shell T) (rest now : Option (List ℕ)) (r : HasRun stored safe first left before n so_far s rest now) → IsAtEnd rest ⊎ (2 ^ 64 ≤ n + 2) → HasRead stored safe first left before so_far s now
+  read_out n so_far s rest now r end = record {
     steps = r.steps;
-    last = s;
     rest = rest;
+    status = r.status;
+    through = inl (r.going, subst (λ (k : ℕ). IsAtEnd rest ⊎ (2 ^ 64 ≤ k + 2)) r.count end);
     run = r.run;
     taken = r.taken;
-    written = inl (other, r.written);
-    through = through;
-    same = λ _. refl;
-    safely = unmoved safe s;
+    written = r.written;
   }
 
-  -- a run ends at a step whose text was not written whole, or for want of memory
-  pub stopped : (n : ℕ) (s t : Shell T) (mid rest now later : Option (List ℕ)) (line : Option (List ℕ)) (asks : ShellLine) (file : List ℕ) (status : ℕ) → HasRun stored safe first left before n s mid now
-      → Asks (stored s.store) s.format line asks → Brings asks file → TakenBy line file mid rest → StopsAt (n + 1) (state_of stored s) asks status (state_of stored t) now later → IsSafely safe s t
-      → HasEnded stored safe first left before status t later
-  stopped n s t mid rest now later line asks file status r is brings takes (inl (e, a)) between = record {
-    steps = record { line = line; asks = asks; file = file; text = a.text } ∷ r.steps;
-    last = t;
-    rest = rest;
-    run = (s, r.run, record { after = a.after; asks = is; brings = brings; answered = subst (λ (k : ℕ). IsAnswered (k + 1) (state_of stored s) asks a.text a.after (state_of stored t)) r.count a.answered; safely = between });
-    taken = (mid, r.taken, takes);
-    written = inr (e, appends_front before now later (said r.steps) a.text r.written a.written);
-    through = λ d. absurd (not_done status 4 e (omega arith) (omega arith) d);
-    same = λ _. refl;
-    safely = unmoved safe t;
-  }
-  stopped n s t mid rest now later line asks file status r is brings takes (inr (e, kept)) between = record {
-    steps = r.steps;
-    last = s;
-    rest = mid;
-    run = r.run;
-    taken = r.taken;
-    written = inl ((λ p. absurd (omega (arith, e, p))), Appends-kept before now later (said r.steps) r.written kept);
-    through = λ d. absurd (not_done status 8 e (omega arith) (omega arith) d);
-    same = λ p. absurd (p e);
-    safely = between;
-  }
+  -- the next line is taken
+  module _ (n so_far : ℕ) (s t : Shell T) (mid rest now later : Option (List ℕ)) (asks : ShellLine) (r : HasRun stored safe first left before n so_far s mid now) (next : AsksNext (stored s.store).names s.format asks mid rest) (between : IsSafely safe s t) where
+    abbrev one_more : List ℕ → After → Step
+    one_more text after = record { line = Some next.line; asks = asks; file = next.file; text = text; after = after }
+
+    more_run : (text : List ℕ) (after : After) → IsAnswered (n + 1) (state_of stored s) asks text after (state_of stored t) → IsRun stored safe first (one_more text after ∷ r.steps) t
+    more_run text after answered = (s, r.run, r.going, record { asks = next.is; brings = next.brings; answered = subst (λ (k : ℕ). IsAnswered (k + 1) (state_of stored s) asks text after (state_of stored t)) r.count answered; safely = between })
+
+    more_taken : (text : List ℕ) (after : After) → IsTaken left rest (one_more text after ∷ r.steps)
+    more_taken text after = (mid, r.taken, next.takes)
+
+    -- it is answered, and its text is written
+    module _ (after : After) (a : Answers (n + 1) (state_of stored s) asks after (state_of stored t) now later) where
+      more_written : Appends before later (said (one_more a.text after ∷ r.steps))
+      more_written = Appends-trans before now later (said r.steps) a.text r.written a.written
+
+      -- the run goes on
+      pub on : (status : ℕ) → GoesOnAfter after → status ≡ status_of (one_more a.text after ∷ r.steps) → HasRun stored safe first left before (n + 1) status t rest later
+      on status goes is = record {
+        steps = one_more a.text after ∷ r.steps;
+        count = omega (arith, r.count);
+        status = is;
+        going = goes;
+        run = more_run a.text after a.answered;
+        taken = more_taken a.text after;
+        written = more_written;
+      }
+
+      -- it is the last one
+      pub last_one : so_far ≡ status_of (one_more a.text after ∷ r.steps) → asks ≡ line.Quit → HasRead stored safe first left before so_far t later
+      last_one is quit = record {
+        steps = one_more a.text after ∷ r.steps;
+        rest = rest;
+        status = is;
+        through = inr quit;
+        run = more_run a.text after a.answered;
+        taken = more_taken a.text after;
+        written = more_written;
+      }
+
+    -- the disk failed at it
+    pub failed : (status : ℕ) → status ≡ 15 → Answers (n + 1) (state_of stored s) asks Stopped (state_of stored t) now later → HasEnded stored safe first left before status t later
+    failed status e a =
+        amid (one_more a.text Stopped ∷ r.steps) t t rest later status (more_run a.text Stopped a.answered) (more_taken a.text Stopped) (inr (inr e)) (inl ((λ p. absurd (omega (arith, e, p))), more_written Stopped a))
+        (λ _. refl) (λ _. refl) (unmoved safe t)
+
+    -- its text is not written whole, or memory ran out
+    pub broken_off : (status : ℕ) → StopsAt (n + 1) (state_of stored s) asks status (state_of stored t) now later → HasEnded stored safe first left before status t later
+    broken_off status (inl (e, a)) =
+        amid (one_more a.text a.after ∷ r.steps) t t rest later status (more_run a.text a.after a.answered) (more_taken a.text a.after) (inr (inl e))
+        (inr (e, appends_front before now later (said r.steps) a.text r.written a.written)) (λ p. absurd (omega (arith, e, p))) (λ _. refl) (unmoved safe t)
+    broken_off status (inr (e, kept)) =
+        amid r.steps s t mid later status r.run r.taken (inl (inr (inr e))) (inl ((λ p. absurd (omega (arith, e, p))), Appends-kept before now later (said r.steps) r.written kept))
+        (λ p. absurd (omega (arith, e, p))) (λ p. absurd (p e)) between
+
+    -- it was answered, and nothing is said yet of what follows
+    flow_on : (flow : Flow) → Answers (n + 1) (state_of stored s) asks (after_of flow) (state_of stored t) now later → GoesOn stored safe first left before (n + 1) so_far flow t rest later
+    flow_on flow.Next a = on Next a so_far tt r.status
+    flow_on flow.Bad a = on Bad a 7 tt refl
+    flow_on flow.End a = last_one Quit a r.status (quits (n + 1) (state_of stored s) asks a.text (state_of stored t) a.answered)
+
+    pub flowed_on : (a : Result After ℕ) (f : Result Flow ℕ) → MatchResult a (λ (after : After). Answers (n + 1) (state_of stored s) asks after (state_of stored t) now later) (λ (status : ℕ). StopsAt (n + 1) (state_of stored s) asks status (state_of stored t) now later)
+        → MatchResult f (λ (flow : Flow). a ≡ Ok (after_of flow)) (λ (status : ℕ). (a ≡ Err status) ⊎ ((a ≡ Ok Stopped) × (status ≡ 15)))
+        → MatchResult f (λ (flow : Flow). GoesOn stored safe first left before (n + 1) so_far flow t rest later) (λ (status : ℕ). HasEnded stored safe first left before status t later)
+    flowed_on a (Ok flow) m g = flow_on flow (MatchResult-at_ok (λ (after : After). Answers (n + 1) (state_of stored s) asks after (state_of stored t) now later) (λ (status : ℕ). StopsAt (n + 1) (state_of stored s) asks status (state_of stored t) now later) (after_of flow) g m)
+    flowed_on a (Err status) m (inl g) = broken_off status (MatchResult-at_err (λ (after : After). Answers (n + 1) (state_of stored s) asks after (state_of stored t) now later) (λ (status : ℕ). StopsAt (n + 1) (state_of stored s) asks status (state_of stored t) now later) status g m)
+    flowed_on a (Err status) m (inr g) = failed status g.1 (MatchResult-at_ok (λ (after : After). Answers (n + 1) (state_of stored s) asks after (state_of stored t) now later) (λ (status : ℕ). StopsAt (n + 1) (state_of stored s) asks status (state_of stored t) now later) Stopped g.0 m)
 
   -- a line was read, answered and written: the run goes on, or ends
-  pub flowed : (number n : ℕ) (s t : Shell T) (names : NameBook) (asks : ShellLine) (mid rest now later : Option (List ℕ)) (a : Result After ℕ) (f : Result Flow ℕ) → number ≡ n + 1 → HasRun stored safe first left before n s mid now
+  pub flowed : (number n so_far : ℕ) (s t : Shell T) (names : NameBook) (asks : ShellLine) (mid rest now later : Option (List ℕ)) (a : Result After ℕ) (f : Result Flow ℕ) → number ≡ n + 1 → HasRun stored safe first left before n so_far s mid now
       → names ≡ (stored s.store).names → AsksNext names s.format asks mid rest
       → MatchResult a (λ (after : After). Answers number (state_of stored s) asks after (state_of stored t) now later) (λ (status : ℕ). StopsAt number (state_of stored s) asks status (state_of stored t) now later)
       → IsSafely safe s t → MatchResult f (λ (flow : Flow). a ≡ Ok (after_of flow)) (λ (status : ℕ). (a ≡ Err status) ⊎ ((a ≡ Ok Stopped) × (status ≡ 15)))
-      → MatchResult f (λ (flow : Flow). GoesOn stored safe first left before number flow t rest later) (λ (status : ℕ). HasEnded stored safe first left before status t later)
-  unfolding stepped
-  flowed number n s t names asks mid rest now later a (Ok flow) e r called next m between g =
-      let step = MatchResult-at_ok (λ (after : After). Answers number (state_of stored s) asks after (state_of stored t) now later) (λ (status : ℕ). StopsAt number (state_of stored s) asks status (state_of stored t) now later) (after_of flow) g m in
-      let is = next.is ∙ ap (λ (b : NameBook). shell_line b s.format next.line) called in
-      record {
-        n = n + 1;
-        rest = rest;
-        has = stepped n s t mid rest now later (Some next.line) asks next.file (after_of flow) r is next.brings next.takes (subst (λ (k : ℕ). Answers k (state_of stored s) asks (after_of flow) (state_of stored t) now later) e step) between;
-        on = λ _. (sym e, refl);
-        stops = λ ends. inr (inl (quits number (state_of stored s) asks step.text (state_of stored t) (subst (λ (a : After). IsAnswered number (state_of stored s) asks step.text a (state_of stored t)) (ap after_of ends) step.answered)));
-      }
-  flowed number n s t names asks mid rest now later a (Err status) e r called next m between (inl g) =
-      let step = MatchResult-at_err (λ (after : After). Answers number (state_of stored s) asks after (state_of stored t) now later) (λ (status : ℕ). StopsAt number (state_of stored s) asks status (state_of stored t) now later) status g m in
-      let is = next.is ∙ ap (λ (b : NameBook). shell_line b s.format next.line) called in
-      stopped n s t mid rest now later (Some next.line) asks next.file status r is next.brings next.takes (subst (λ (k : ℕ). StopsAt k (state_of stored s) asks status (state_of stored t) now later) e step) between
-  flowed number n s t names asks mid rest now later a (Err status) e r called next m between (inr g) =
-      let step = MatchResult-at_ok (λ (after : After). Answers number (state_of stored s) asks after (state_of stored t) now later) (λ (status : ℕ). StopsAt number (state_of stored s) asks status (state_of stored t) now later) Stopped g.0 m in
-      let is = next.is ∙ ap (λ (b : NameBook). shell_line b s.format next.line) called in
-      ended (n + 1) t rest later status (λ p. absurd (omega (arith, g.1, p)))
-      (stepped n s t mid rest now later (Some next.line) asks next.file Stopped r is next.brings next.takes (subst (λ (k : ℕ). Answers k (state_of stored s) asks Stopped (state_of stored t) now later) e step) between)
-      (λ d. absurd (not_done status 15 g.1 (omega arith) (omega arith) d))
-
-module _ {T : Type 0} (stored : T → Stored) (safe : T → T → Type 0) (first : Shell T) (left before : Option (List ℕ)) where
-  -- a session was ended: the run goes on, or ends
-  pub end_flowed : (n : ℕ) (s t : Shell T) (rest now later : Option (List ℕ)) (session : Session) (a : Result After ℕ) → (r : HasRun stored safe first left before n s rest now) → IsThrough rest r.steps → IsTrue (is_some (held (stored s.store).events session.0))
-      → ((k : ℕ) → MatchResult a (λ (after : After). Answers k (state_of stored s) (Ask session request.End) after (state_of stored t) now later) (λ (status : ℕ). StopsAt k (state_of stored s) (Ask session request.End) status (state_of stored t) now later))
-      → IsSafely safe s t → MatchResult a (λ (after : After). (x : ℕ) × (h : HasRun stored safe first left before x t rest later) × IsThrough rest h.steps) (λ (status : ℕ). HasEnded stored safe first left before status t later)
-  unfolding stepped
-  end_flowed n s t rest now later session (Ok after) r through holds m between =
-      (n + 1, stepped stored safe first left before n s t rest rest now later None (Ask session request.End) [] after r (session, refl, holds) (inr refl) refl (m (n + 1)) between, one_more_through rest r.steps (record { line = None; asks = Ask session request.End; file = []; text = (m (n + 1)).text }) through)
-  end_flowed n s t rest now later session (Err status) r through holds m between = stopped stored safe first left before n s t rest rest now later None (Ask session request.End) [] status r (session, refl, holds) (inr refl) refl (m (n + 1)) between
-
-  -- the same, where the disk has failed too
-  pub ends_or_goes_on : (t : Shell T) (rest later : Option (List ℕ)) (a : Result After ℕ) (d : Result (Unit {0}) ℕ)
-      → MatchResult a (λ (after : After). (x : ℕ) × (h : HasRun stored safe first left before x t rest later) × IsThrough rest h.steps) (λ (status : ℕ). HasEnded stored safe first left before status t later)
-      → MatchResult d (λ (u : Unit {0}). (b : After) × (a ≡ Ok b) × (b ≡ Stopped → ⊥)) (λ (status : ℕ). (a ≡ Err status) ⊎ ((a ≡ Ok Stopped) × (status ≡ 15)))
-      → MatchResult d (λ (u : Unit {0}). (x : ℕ) × (h : HasRun stored safe first left before x t rest later) × IsThrough rest h.steps) (λ (status : ℕ). HasEnded stored safe first left before status t later)
-  ends_or_goes_on t rest later a (Ok u) m g = MatchResult-at_ok (λ (after : After). (x : ℕ) × (h : HasRun stored safe first left before x t rest later) × IsThrough rest h.steps) (λ (status : ℕ). HasEnded stored safe first left before status t later) g.0 g.1 m
-  ends_or_goes_on t rest later a (Err status) m (inl g) = MatchResult-at_err (λ (after : After). (x : ℕ) × (h : HasRun stored safe first left before x t rest later) × IsThrough rest h.steps) (λ (status : ℕ). HasEnded stored safe first left before status t later) status g m
-  ends_or_goes_on t rest later a (Err status) m (inr g) =
-      let r = MatchResult-at_ok (λ (after : After). (x : ℕ) × (h : HasRun stored safe first left before x t rest later) × IsThrough rest h.steps) (λ (status : ℕ). HasEnded stored safe first left before status t later) Stopped g.0 m in
-      ended stored safe first left before r.0 t rest later status (λ p. absurd (omega (arith, g.1, p))) r.1 (λ _. r.2)
+      → MatchResult f (λ (flow : Flow). GoesOn stored safe first left before number so_far flow t rest later) (λ (status : ℕ). HasEnded stored safe first left before status t later)
+  flowed number n so_far s t names asks mid rest now later a f e r called next m between g =
+      subst (λ (k : ℕ). MatchResult f (λ (flow : Flow). GoesOn stored safe first left before k so_far flow t rest later) (λ (status : ℕ). HasEnded stored safe first left before status t later)) (sym e)
+      (flowed_on n so_far s t mid rest now later asks r (subst (λ (b : NameBook). AsksNext b s.format asks mid rest) called next) between a f
+      (subst (λ (k : ℕ). MatchResult a (λ (after : After). Answers k (state_of stored s) asks after (state_of stored t) now later) (λ (status : ℕ). StopsAt k (state_of stored s) asks status (state_of stored t) now later)) e m) g)
 
 -- a session holds a transaction
 pub held_some : (H K : List Event) (s : Session) (t : Txn) → K ≡ H → Some t ≡ held_txn K s → IsTrue (is_some (held H s.0))
@@ -240,10 +264,12 @@ held_some H K s t same is = subst (λ (J : List Event). IsTrue (is_some (held J 
     go (Some n) e = rw e refl
 
 -- no step yet
-pub begun : {T : Type 0} (stored : T → Stored) (safe : T → T → Type 0) (s : Shell T) (left now : Option (List ℕ)) → HasRun stored safe s left now 0 s (ahead [] left) now
+pub begun : {T : Type 0} (stored : T → Stored) (safe : T → T → Type 0) (s : Shell T) (left now : Option (List ℕ)) → HasRun stored safe s left now 0 0 s (ahead [] left) now
 begun stored safe s left now = record {
   steps = [];
   count = refl;
+  status = refl;
+  going = tt;
   run = refl;
   taken = subst (λ (o : Option (List ℕ)). Consumes left o []) (sym (prepend_known-nil left)) (Consumes-nil left);
   written = Appends-nil now;

@@ -3,3 +3,6 @@ pub mod Going
 pub mod FewLines
 pub mod Brought
 pub mod Shown
+pub mod Released
+pub mod Ending
+pub mod Turning

@@ -11,7 +11,7 @@ use Rattle.shell_lines.specs.declared.reply.StoreReply.{StoreReply}
 use Rattle.shell_lines.specs.declared.reply.StoreReply.TheVariants.{Reply, Later, Full, Unsure}
 use Rattle.shell_lines.specs.Sessions.{noted}
 use Rattle.shell_lines.specs.declared.waits.Waits.{Waits}
-use Rattle.shell_runner.specs.States.{Stored, HasNodeNames, IsNext, IsOfTree, IsReplied}
+use Rattle.shell_runner.specs.States.{Stored, HasNodeNames, IsDrained, IsNext, IsOfTree, IsReplied}
 use Rattle.shell_runner.specs.Answers.{HasTurned, IsTold, State, next_number}
 
 pub record SameTree (s t : Stored) : Type 0 where
@@ -21,7 +21,7 @@ pub record SameTree (s t : Stored) : Type 0 where
 pub same_tree : (s : Stored) (session : Session) (request : Request) (a : StoreReply) (t : Stored) → IsReplied s session request a t → SameTree s t
 same_tree s session request (Reply r) t h = record { store = h.1.store; names = h.1.names }
 same_tree s session request Later t h = absurd h
-same_tree s session request Full t h = record { store = ap (λ (x : Stored). x.store) h; names = ap (λ (x : Stored). x.names) h }
+same_tree s session request Full t h = record { store = ap (λ (x : Stored). x.store) h.0; names = ap (λ (x : Stored). x.names) h.0 }
 same_tree s session request Unsure t h = record { store = h.1.store; names = h.1.names }
 
 of_tree_along : (tree : List ℕ) (s t : Stored) → SameTree s t → IsOfTree tree s → IsOfTree tree t
@@ -49,12 +49,13 @@ told s t session request Unsure h e f w = (h, e, f, w)
 
 -- the next epoch has begun under the same tree
 module _ (tree : List ℕ) (s t : Stored) (m : SetupView) (of : IsOfTree tree s) (same : of.view ≡ m) (n : IsNext m s t) where
-  pub turned : (e f : ℕ) (format : ℕ) (waits : Waits) → f ≡ next_number e → HasTurned (record { stored = s; epoch = e; format = format; waits = waits }) (record { stored = t; epoch = f; format = format; waits = waits })
-  turned e f format waits next = record {
+  pub turned : (e f : ℕ) (format : ℕ) (waits : Waits) → IsDrained s.events → f ≡ next_number e → HasTurned (record { stored = s; epoch = e; format = format; waits = waits }) (record { stored = t; epoch = f; format = format; waits = waits })
+  turned e f format waits drained next = record {
     setup = n.setup ∙ ap (λ (v : SetupView). (store_of_view v).setup) (sym same) ∙ sym of.setup;
     tables = n.tables ∙ ap (λ (v : SetupView). (store_of_view v).tables) (sym same) ∙ sym of.tables;
     names = n.names ∙ ap names_of (sym same) ∙ sym of.names;
     rows = n.rows;
+    drained = drained;
     events = n.events;
     commits = n.commits;
     epoch = next;

@@ -1,5 +1,5 @@
 -- How a line is answered.
-use Rattle.std.specs.Prelude.{◌≡◌, ◌⊎◌, ℕ, ◌+◌, ◌-◌, ◌^◌, ℤ, codes, min, nat_le, if◌then◌else◌, List, [], length, map, Option, Some, None, IsTrue}
+use Rattle.std.specs.Prelude.{◌≡◌, ◌⊎◌, ℕ, ◌+◌, ◌-◌, ◌^◌, ◌<◌, ◌≤◌, ℤ, codes, min, nat_le, if◌then◌else◌, List, [], length, map, Option, Some, None, IsTrue}
 use Rattle.teb_names.specs.declared.Cell.{Cell}
 use Rattle.teb_names.specs.declared.Session.{Session}
 use Rattle.teb_names.specs.declared.Request.{Request}
@@ -22,8 +22,10 @@ use Rattle.shell_lines.specs.declared.line.ShellLine.{ShellLine}
 use Rattle.shell_lines.specs.declared.line.ShellLine.TheVariants as line
 use Rattle.shell_lines.specs.declared.reply.StoreReply.{StoreReply}
 use Rattle.shell_lines.specs.declared.reply.StoreReply.TheVariants as reply
-use Rattle.shell_runner.specs.States.{Stored, AreFinalRows, IsReplied, IsUntold}
-use Rattle.teb_history.specs.Phases.{unfinished}
+use Rattle.shell_runner.specs.States.{Stored, AreFinalRows, IsDrained, IsHindered, IsReplied, IsUntold}
+use Rattle.shell_runner.specs.declared.requests.TheConstants.{LEAST_LEFT}
+use Rattle.teb_names.specs.declared.TheConstants.{MOST_TXNS}
+use Rattle.teb_history.specs.Phases.{begun_count, held, unfinished}
 use Rattle.shell_runner.specs.declared.step.After.{After}
 use Rattle.shell_runner.specs.declared.step.After.TheVariants.{Next, Bad, Quit, Stopped}
 
@@ -37,12 +39,13 @@ pub record State : Type 0 where
 abbrev pub next_number : ℕ → ℕ
 next_number n = min (n + 1) (2 ^ 64 - 1)
 
--- the next epoch began under the same tree: nothing has happened in it, and it has the rows that the commits of the last one have left
+-- the next epoch began under the same tree, for nobody was unfinished or untold: nothing has happened in it, and it has the rows that the commits of the last one have left
 pub record HasTurned (s t : State) : Type 0 where
   pub setup : t.stored.store.setup ≡ s.stored.store.setup
   pub tables : t.stored.store.tables ≡ s.stored.store.tables
   pub names : t.stored.names ≡ s.stored.names
   pub rows : AreFinalRows s.stored.store s.stored.events t.stored.store.rows
+  pub drained : IsDrained s.stored.events
   pub events : t.stored.events ≡ []
   pub commits : t.stored.commits ≡ 0
   pub epoch : t.epoch ≡ next_number s.epoch
@@ -53,20 +56,26 @@ abbrev pub IsBegin : Request → Type 0
 IsBegin (Begin spot) = Unit {0}
 IsBegin _ = ⊥
 
--- before a Begin the next epoch may begin
-abbrev pub MayTurn : Request → State → State → Type 0
-MayTurn request s t = (t ≡ s) ⊎ (IsBegin request × HasTurned s t)
+-- as many transactions have begun as may, or there are commits and little is left for more
+abbrev pub HasToEnd : Stored → Type 0
+HasToEnd s = (MOST_TXNS ≤ begun_count s.events) ⊎ ((0 < s.commits) × (s.left < LEAST_LEFT))
 
--- a session is answered so: later, where it would begin while the epoch ends, or as the store replies
+-- a session without a transaction asks to begin one in an epoch that has to end
+pub record BeginsAtEnd (s : Stored) (session : Session) (request : Request) : Type 0 where
+  pub begins : IsBegin request
+  pub free : held s.events session.0 ≡ None
+  pub ends : HasToEnd s
+
+-- a session is answered as the store replies, and the reply is noted
 abbrev pub IsTold : State → Session → Request → StoreReply → State → Type 0
-IsTold s session request reply.Later t = IsBegin request × (t ≡ s)
+IsTold s session request reply.Later t = ⊥
 IsTold s session request r t = IsReplied s.stored session request r t.stored × (t.epoch ≡ s.epoch) × (t.format ≡ s.format) × (t.waits ≡ noted s.waits session r)
 
 abbrev pub after_reply : StoreReply → After
 after_reply reply.Unsure = Stopped
 after_reply _ = Next
 
--- the disk failed as the next epoch was to begin, and nothing is shown
+-- the disk failed, and nothing is shown
 pub record HasFailed (text : List ℕ) (after : After) : Type 0 where
   pub silent : text ≡ []
   pub stopped : after ≡ Stopped
@@ -78,17 +87,43 @@ pub record ShowsReply (s : State) (session : Session) (request : Request) (text 
   pub shown : text ≡ reply_line s.stored.names session answer
   pub goes_on : after ≡ after_reply answer
 
-pub record IsAsked (s : State) (session : Session) (request : Request) (text : List ℕ) (after : After) (t : State) : Type 0 where
+-- the store is asked at once
+pub record AsksNow (s : State) (session : Session) (request : Request) (text : List ℕ) (after : After) (t : State) : Type 0 where
+  pub goes_on : ¬ BeginsAtEnd s.stored session request
+  pub replied : ShowsReply s session request text after t
+
+-- the session is to ask again later, since a transaction is unfinished or a session was not told of its abort; nothing is asked
+pub record TellsLater (s : State) (session : Session) (request : Request) (text : List ℕ) (after : After) (t : State) : Type 0 where
+  pub at_end : BeginsAtEnd s.stored session request
+  pub hindered : IsHindered s.stored.events
+  pub same : t ≡ s
+  pub shown : text ≡ reply_line s.stored.names session reply.Later
+  pub goes_on : after ≡ Next
+
+-- the store is asked after the next epoch has begun, or without it if the rows do not fit
+pub record AsksAfterTurn (s : State) (session : Session) (request : Request) (text : List ℕ) (after : After) (t : State) : Type 0 where
+  pub at_end : BeginsAtEnd s.stored session request
+  pub drained : IsDrained s.stored.events
   pub mid : State
-  pub turned : MayTurn request s mid
+  pub turned : HasTurned s mid ⊎ (mid ≡ s)
   pub replied : ShowsReply mid session request text after t
+
+-- the disk failed as the next epoch was to begin
+pub record FailsToTurn (s : State) (session : Session) (request : Request) (text : List ℕ) (after : After) : Type 0 where
+  pub at_end : BeginsAtEnd s.stored session request
+  pub drained : IsDrained s.stored.events
+  pub failed : HasFailed text after
+
+abbrev pub IsAsked : State → Session → Request → List ℕ → After → State → Type 0
+IsAsked s session request text after t =
+    AsksNow s session request text after t ⊎ (TellsLater s session request text after t ⊎ (AsksAfterTurn s session request text after t ⊎ FailsToTurn s session request text after))
 
 -- what becomes of a checkpoint
 abbrev pub IsCheckpointed : State → Checkpoint → State → Type 0
 IsCheckpointed s (checkpoint.Begun n) t = HasTurned s t × (n ≡ t.epoch)
 IsCheckpointed s (checkpoint.Unfinished u) t = (t ≡ s) × IsTrue (unfinished s.stored.events u.0)
 IsCheckpointed s (checkpoint.Untold u) t = (t ≡ s) × IsUntold s.stored.events u
-IsCheckpointed s checkpoint.Full t = t ≡ s
+IsCheckpointed s checkpoint.Full t = (t ≡ s) × IsDrained s.stored.events
 
 pub record IsCheckpoint (s : State) (text : List ℕ) (after : After) (t : State) : Type 0 where
   pub checkpoint : Checkpoint
@@ -159,6 +194,6 @@ IsUnchanging _ = Unit {0}
 
 -- line n of the input is answered by this text, and leaves this state
 abbrev pub IsAnswered : ℕ → State → ShellLine → List ℕ → After → State → Type 0
-IsAnswered n s (line.Ask session request) text after t = IsAsked s session request text after t ⊎ HasFailed text after
-IsAnswered n s line.Checkpoint text after t = IsCheckpoint s text after t ⊎ HasFailed text after
+IsAnswered n s (line.Ask session request) text after t = IsAsked s session request text after t
+IsAnswered n s line.Checkpoint text after t = IsCheckpoint s text after t ⊎ (IsDrained s.stored.events × HasFailed text after)
 IsAnswered n s l text after t = Shows n s l text after × (t ≡ s)

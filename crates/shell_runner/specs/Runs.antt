@@ -1,5 +1,6 @@
 -- A run: lines, each answered before the next one is read, and then the ends of the sessions that hold a transaction.
-use Rattle.std.specs.Prelude.{◌≡◌, ◌≢◌, ◌⊎◌, ℕ, ◌+◌, ◌^◌, ◌≤◌, List, [], ◌∷◌, ◌++◌, length, Option, Some, None, IsTrue, is_some}
+use Rattle.std.specs.Prelude.{◌≡◌, ◌≢◌, ◌⊎◌, ℕ, ◌+◌, ◌^◌, ◌≤◌, Bool, true, false, if◌then◌else◌, List, [], ◌∷◌, ◌++◌, length, map, reverse, Option, Some, None, IsTrue, is_some}
+use Rattle.std.specs.List.{list_any}
 use Rattle.std.specs.Io.KnownBytes.{Appends, Consumes, IsAtEnd, Keeps, prepend_known}
 use Rattle.teb_io.specs.Bytes.{AppendsFront}
 use Rattle.teb_names.specs.declared.Session.{Session}
@@ -9,32 +10,35 @@ use Rattle.teb_history.specs.Phases.{held}
 use Rattle.line_reader.specs.Lines.{TakesLine}
 use Rattle.shell_lines.specs.Lines.{shell_line}
 use Rattle.shell_lines.specs.declared.line.ShellLine.{ShellLine}
-use Rattle.shell_lines.specs.declared.line.ShellLine.TheVariants.{Ask, Quit, Read}
+use Rattle.shell_lines.specs.declared.line.ShellLine.TheVariants as line
 use Rattle.shell_runner.specs.States.{Stored}
 use Rattle.shell_runner.specs.Answers.{State, IsAnswered}
+use Rattle.shell_runner.specs.Holders.{holders}
 use Rattle.shell_runner.specs.declared.shell.Shell.{Shell}
 use Rattle.shell_runner.specs.declared.running.Flow.{Flow}
-use Rattle.shell_runner.specs.declared.running.Flow.TheVariants.{End}
+use Rattle.shell_runner.specs.declared.running.Flow.TheVariants as flow
 use Rattle.shell_runner.specs.declared.step.After.{After}
+use Rattle.shell_runner.specs.declared.step.After.TheVariants.{Next, Bad, Quit, Stopped}
 
--- a line of the input, or none at the end of a session; what it asks; the text of a file that it brought in its place; and the text that answers it
+-- a line of the input, or none at the end of a session; what it asks; the text of a file that it brought in its place; the text that answers it; and what follows it
 pub record Step : Type 0 where
   pub line : Option (List ℕ)
   pub asks : ShellLine
   pub file : List ℕ
   pub text : List ℕ
+  pub after : After
 
 abbrev pub state_of : {T : Type 0} → (T → Stored) → Shell T → State
 state_of stored shell = record { stored = stored shell.store; epoch = shell.epoch; format = shell.format; waits = shell.waits }
 
 -- a line asks what its text says; a session that ends holds a transaction
 abbrev pub Asks : Stored → ℕ → Option (List ℕ) → ShellLine → Type 0
-Asks s format (Some line) asks = asks ≡ shell_line s.names format line
-Asks s format None asks = (session : Session) × (asks ≡ Ask session request.End) × IsTrue (is_some (held s.events session.0))
+Asks s format (Some text) asks = asks ≡ shell_line s.names format text
+Asks s format None asks = (session : Session) × (asks ≡ line.Ask session request.End) × IsTrue (is_some (held s.events session.0))
 
 -- only a line that reads a file brings one
 abbrev pub Brings : ShellLine → List ℕ → Type 0
-Brings asks file = (asks ≡ Read) ⊎ (file ≡ [])
+Brings asks file = (asks ≡ line.Read) ⊎ (file ≡ [])
 
 -- the shell is as it was, or a crash on the way from the first to the second leaves what it may
 abbrev pub IsSameOrSafe : {T : Type 0} → (T → T → Type 0) → Shell T → Shell T → Type 0
@@ -48,16 +52,26 @@ pub record IsSafely {T : Type 0} (safe : T → T → Type 0) (s t : Shell T) : T
 
 -- step n is answered
 pub record IsStep {T : Type 0} (stored : T → Stored) (safe : T → T → Type 0) (n : ℕ) (s : Shell T) (step : Step) (t : Shell T) : Type 0 where
-  pub after : After
   pub asks : Asks (stored s.store) s.format step.line step.asks
   pub brings : Brings step.asks step.file
-  pub answered : IsAnswered n (state_of stored s) step.asks step.text after (state_of stored t)
+  pub answered : IsAnswered n (state_of stored s) step.asks step.text step.after (state_of stored t)
   pub safely : IsSafely safe s t
+
+-- another step may follow
+abbrev pub GoesOnAfter : After → Type 0
+GoesOnAfter Quit = ⊥
+GoesOnAfter Stopped = ⊥
+GoesOnAfter _ = Unit {0}
+
+-- another step may follow these, the newest first
+abbrev pub IsGoing : List Step → Type 0
+IsGoing [] = Unit {0}
+IsGoing (step ∷ older) = GoesOnAfter step.after
 
 -- the steps, the newest first, lead from one shell to another
 abbrev pub IsRun : {T : Type 0} → (T → Stored) → (T → T → Type 0) → Shell T → List Step → Shell T → Type 0
 IsRun stored safe first [] last = last ≡ first
-IsRun {T = T} stored safe first (step ∷ older) last = (mid : Shell T) × IsRun stored safe first older mid × IsStep stored safe (length older + 1) mid step last
+IsRun {T = T} stored safe first (step ∷ older) last = (mid : Shell T) × IsRun stored safe first older mid × IsGoing older × IsStep stored safe (length older + 1) mid step last
 
 -- what they say, in order
 abbrev pub said : List Step → List ℕ
@@ -78,55 +92,106 @@ pub record AsksNext (names : NameBook) (format : ℕ) (asks : ShellLine) (mid re
   pub brings : Brings asks file
   pub takes : TakesStep line file mid rest
 
--- a step's line, if it has one
+-- a step of a line
 abbrev pub TakenBy : Option (List ℕ) → List ℕ → Option (List ℕ) → Option (List ℕ) → Type 0
 TakenBy (Some line) file mid rest = TakesStep line file mid rest
-TakenBy None file mid rest = mid ≡ rest
+TakenBy None file mid rest = ⊥
 
--- their lines are the next ones, those of the files that they bring among them
+-- each has a line, and these are the next ones, those of the files that they bring among them
 abbrev pub IsTaken : Option (List ℕ) → Option (List ℕ) → List Step → Type 0
 IsTaken left rest [] = Consumes left rest []
 IsTaken left rest (step ∷ older) = (mid : Option (List ℕ)) × IsTaken left mid older × TakenBy step.line step.file mid rest
 
--- a step asked for the end
+-- the newest step asked for the end
 abbrev pub HasQuit : List Step → Type 0
 HasQuit [] = ⊥
-HasQuit (step ∷ older) = (step.asks ≡ Quit) ⊎ HasQuit older
+HasQuit (step ∷ older) = step.asks ≡ line.Quit
 
--- no line is left, or a step asked for the end, or there were 2^64 - 2 of them
+-- the disk failed at the newest step
+abbrev pub HasStopped : List Step → Type 0
+HasStopped [] = ⊥
+HasStopped (step ∷ older) = step.after ≡ Stopped
+
+-- no line is left, or there were 2^64 - 2 of them; or the last one asked for the end
 abbrev pub IsThrough : Option (List ℕ) → List Step → Type 0
-IsThrough rest steps = IsAtEnd rest ⊎ (HasQuit steps ⊎ (2 ^ 64 ≤ length steps + 2))
+IsThrough rest steps = (IsGoing steps × (IsAtEnd rest ⊎ (2 ^ 64 ≤ length steps + 2))) ⊎ HasQuit steps
 
 -- each line was answered, and some of them may have been bad
 abbrev pub IsDone : ℕ → Type 0
 IsDone status = (status ≡ 0) ⊎ (status ≡ 7)
 
+-- why the next line is not read: a read failed, it is too long, or memory ran out
+abbrev pub IsUnread : ℕ → Type 0
+IsUnread status = (status ≡ 3) ⊎ ((status ≡ 5) ⊎ (status ≡ 8))
+
+-- that, or a write or the disk failed
+abbrev pub IsFailure : ℕ → Type 0
+IsFailure status = IsUnread status ⊎ ((status ≡ 4) ⊎ (status ≡ 15))
+
+abbrev pub is_bad : After → Bool
+is_bad Bad = true
+is_bad _ = false
+
+-- 7 if a line was bad, and else 0
+abbrev pub status_of : List Step → ℕ
+status_of steps = if list_any (λ step. is_bad step.after) steps then 7 else 0
+
+-- what a step reads and asks
+abbrev pub asked_by : Step → Option (List ℕ) × ShellLine
+asked_by step = (step.line, step.asks)
+
+-- the end of a session, which no line asks for
+abbrev pub end_of : ℕ → Option (List ℕ) × ShellLine
+end_of n = (None, line.Ask (record { 0 = n }) request.End)
+
+-- the steps end sessions, in order; with the sessions that are left these are all that hold a transaction, in ascending number
+abbrev pub AreEnds : Stored → List Step → List ℕ → Type 0
+AreEnds s steps more = map asked_by (reverse steps) ++ map end_of more ≡ map end_of (holders s.events)
+
 -- a run so far: its n steps have led to this shell, and their text is written
-pub record HasRun {T : Type 0} (stored : T → Stored) (safe : T → T → Type 0) (first : Shell T) (left before : Option (List ℕ)) (n : ℕ) (last : Shell T) (rest now : Option (List ℕ)) : Type 0 where
+pub record HasRun {T : Type 0} (stored : T → Stored) (safe : T → T → Type 0) (first : Shell T) (left before : Option (List ℕ)) (n so_far : ℕ) (last : Shell T) (rest now : Option (List ℕ)) : Type 0 where
   pub steps : List Step
   pub count : n ≡ length steps
+  pub status : so_far ≡ status_of steps
+  pub going : IsGoing steps
   pub run : IsRun stored safe first steps last
   pub taken : IsTaken left rest steps
   pub written : Appends before now (said steps)
 
--- a run after the line of this number: it goes on with what is ahead, unless it ends here
-pub record GoesOn {T : Type 0} (stored : T → Stored) (safe : T → T → Type 0) (first : Shell T) (left before : Option (List ℕ)) (number : ℕ) (flow : Flow) (last : Shell T) (ahead now : Option (List ℕ)) : Type 0 where
-  pub n : ℕ
-  pub rest : Option (List ℕ)
-  pub has : HasRun stored safe first left before n last rest now
-  pub on : (flow ≡ End → ⊥) → (n ≡ number) × (rest ≡ ahead)
-  pub stops : flow ≡ End → IsAtEnd rest ⊎ HasQuit has.steps
-
--- a run at its end: with status 0 or 7 no line is left, or one asked for the end. The text of all its steps is written, or a prefix of it and the status is 4; where memory ran out (8), the shell may have asked one line
--- more, and a crash leaves what it may
-pub record HasEnded {T : Type 0} (stored : T → Stored) (safe : T → T → Type 0) (first : Shell T) (left before : Option (List ℕ)) (status : ℕ) (end : Shell T) (now : Option (List ℕ)) : Type 0 where
+-- a run whose last line was answered
+pub record HasRead {T : Type 0} (stored : T → Stored) (safe : T → T → Type 0) (first : Shell T) (left before : Option (List ℕ)) (so_far : ℕ) (last : Shell T) (now : Option (List ℕ)) : Type 0 where
   pub steps : List Step
-  pub last : Shell T
   pub rest : Option (List ℕ)
+  pub status : so_far ≡ status_of steps
+  pub through : IsThrough rest steps
   pub run : IsRun stored safe first steps last
   pub taken : IsTaken left rest steps
-  pub written : ((status ≢ 4) × Appends before now (said steps)) ⊎ ((status ≡ 4) × AppendsFront before now (said steps))
-  pub through : IsDone status → IsThrough rest steps
+  pub written : Appends before now (said steps)
+
+-- a run after one line more, if there is one: it goes on, or that line was the last
+abbrev pub GoesOn : {T : Type 0} → (T → Stored) → (T → T → Type 0) → Shell T → Option (List ℕ) → Option (List ℕ) → ℕ → ℕ → Flow → Shell T → Option (List ℕ) → Option (List ℕ) → Type 0
+GoesOn stored safe first left before number status flow.Next last ahead now = HasRun stored safe first left before number status last ahead now
+GoesOn stored safe first left before number status flow.Bad last ahead now = HasRun stored safe first left before number 7 last ahead now
+GoesOn stored safe first left before number status flow.End last ahead now = HasRead stored safe first left before status last now
+
+-- a run at its end: the steps of lines, and then those that end sessions. With status 0 or 7 no line is left, or the last one asked for the end; 7 if a line was bad; each session that held a transaction was ended, and none holds
+-- one. The text of all steps is written, or a prefix of it and the status is 4; with 15 the disk failed at the last step; where memory ran out (8), the shell may have asked one line more, and a crash leaves what it may
+pub record HasEnded {T : Type 0} (stored : T → Stored) (safe : T → T → Type 0) (first : Shell T) (left before : Option (List ℕ)) (status : ℕ) (end : Shell T) (now : Option (List ℕ)) : Type 0 where
+  pub kind : IsDone status ⊎ IsFailure status
+  pub lines : List Step
+  pub mid : Shell T
+  pub rest : Option (List ℕ)
+  pub run : IsRun stored safe first lines mid
+  pub taken : IsTaken left rest lines
+  pub through : IsDone status → IsThrough rest lines × (status ≡ status_of lines)
+  pub ends : List Step
+  pub more : List ℕ
+  pub last : Shell T
+  pub closing : IsRun stored safe mid ends last
+  pub ended : AreEnds (stored mid.store) ends more
+  pub closed : IsDone status → (more ≡ []) × (holders (stored last.store).events ≡ [])
+  pub written : ((status ≢ 4) × Appends before now (said lines ++ said ends)) ⊎ ((status ≡ 4) × AppendsFront before now (said lines ++ said ends))
+  pub stopped : status ≡ 15 → HasStopped lines ⊎ HasStopped ends
   pub same : status ≢ 8 → end ≡ last
   pub safely : IsSafely safe last end
 
@@ -146,3 +211,26 @@ pub record AnswersInPart (n : ℕ) (s : State) (asks : ShellLine) (t : State) (b
 -- why a step is the last one: its text was not written whole, or memory ran out and nothing of it was written
 abbrev pub StopsAt : ℕ → State → ShellLine → ℕ → State → Option (List ℕ) → Option (List ℕ) → Type 0
 StopsAt n s asks status t before now = ((status ≡ 4) × AnswersInPart n s asks t before now) ⊎ ((status ≡ 8) × Keeps before now)
+
+-- a session that holds a transaction is ended, or it holds none and nothing changes
+pub record IsEnded {T : Type 0} (stored : T → Stored) (safe : T → T → Type 0) (session : Session) (s t : Shell T) (before now : Option (List ℕ)) : Type 0 where
+  pub after : After
+  pub goes_on : GoesOnAfter after
+  pub holds : IsTrue (is_some (held (stored s.store).events session.0))
+  pub answers : Answers 1 (state_of stored s) (line.Ask session request.End) after (state_of stored t) before now
+  pub safely : IsSafely safe s t
+
+pub record HasNone {T : Type 0} (stored : T → Stored) (session : Session) (s t : Shell T) (before now : Option (List ℕ)) : Type 0 where
+  pub holds : held (stored s.store).events session.0 ≡ None
+  pub same : t ≡ s
+  pub unwritten : now ≡ before
+
+abbrev pub EndsIfHeld : {T : Type 0} → (T → Stored) → (T → T → Type 0) → Session → Shell T → Shell T → Option (List ℕ) → Option (List ℕ) → Type 0
+EndsIfHeld stored safe session s t before now = IsEnded stored safe session s t before now ⊎ HasNone stored session s t before now
+
+-- the run ends at the end of a session: its text was not written whole, or memory ran out, or the disk failed
+pub record EndsAtEnd {T : Type 0} (stored : T → Stored) (safe : T → T → Type 0) (session : Session) (status : ℕ) (s t : Shell T) (before now : Option (List ℕ)) : Type 0 where
+  pub holds : IsTrue (is_some (held (stored s.store).events session.0))
+  pub stops : StopsAt 1 (state_of stored s) (line.Ask session request.End) status (state_of stored t) before now
+      ⊎ ((status ≡ 15) × Answers 1 (state_of stored s) (line.Ask session request.End) Stopped (state_of stored t) before now)
+  pub safely : IsSafely safe s t

@@ -1,8 +1,10 @@
 -- What the shell sees of its store, and how it goes on.
-use Rattle.std.specs.Prelude.{◌≡◌, ◌≢◌, ℕ, ◌+◌, ℤ, Bool, false, List, [], Some, Ok, IsTrue, length}
+use Rattle.std.specs.Prelude.{◌≡◌, ◌≢◌, ◌⊎◌, ℕ, ◌+◌, ◌*◌, ◌<◌, ℤ, Bool, false, List, [], Some, Ok, IsTrue, length}
 use Rattle.teb_names.specs.declared.Cell.{Cell}
 use Rattle.teb_names.specs.declared.Session.{Session}
+use Rattle.teb_names.specs.declared.Txn.{Txn}
 use Rattle.teb_names.specs.declared.Request.{Request}
+use Rattle.teb_names.specs.declared.Request.TheVariants.{Commit}
 use Rattle.teb_names.specs.declared.Reply.TheVariants.{Committed}
 use Rattle.teb_names.specs.declared.naming.NameBook.{NameBook}
 use Rattle.teb_names.specs.Rows.{row_of, IsAscending}
@@ -11,6 +13,9 @@ use Rattle.teb_history.specs.Phases.{aborted, held, unfinished}
 use Rattle.teb_rules.specs.Setup.{Store}
 use Rattle.teb_rules.specs.Answer.{answer}
 use Rattle.teb_rules.specs.Serializes.{final_table}
+use Rattle.teb_rules.specs.Accepted.{IsSound}
+use Rattle.teb_laws.specs.Laws.{reached}
+use Rattle.commit_laws.specs.Records.{puts_of}
 use Rattle.store_setup.specs.SetupView.{SetupView}
 use Rattle.store_setup.specs.Sound.{IsNamed}
 use Rattle.tree_toml.specs.SetupText.{setup_of_text}
@@ -53,17 +58,31 @@ pub record IsReady (tree : List ℕ) (s : Stored) : Type 0 where
   pub of_tree : IsOfTree tree s
   pub running : s.stopped ≡ false
 
+-- a store can be set up so, and some requests lead to the history
+pub record IsReached (s : Stored) : Type 0 where
+  pub sound : IsSound s.store.setup
+  pub asked : List (Session × Request)
+  pub leads : s.events ≡ reached s.store asked
+
+-- a session asks to commit an unfinished transaction, and what is left may not hold it: six bytes, and fourteen for each cell that it has put
+pub record LacksRoom (s : Stored) (session : Session) (request : Request) : Type 0 where
+  pub txn : ℕ
+  pub asks : request ≡ Commit
+  pub holds : held s.events session.0 ≡ Some txn
+  pub unfinished : IsTrue (unfinished s.events txn)
+  pub full : s.left < 6 + 14 * length (puts_of s.events txn)
+
 -- the store has the request, by this answer of the rules
 pub record HasAsked (s : Stored) (session : Session) (request : Request) (t : Stored) : Type 0 where
   pub store : t.store ≡ s.store
   pub names : t.names ≡ s.names
   pub events : t.events ≡ (answer s.store s.events session request).1
 
--- what the store makes of a request: the rules answer it; it does not fit, and nothing is asked; or it is a commit at which the disk failed
+-- what the store makes of a request: the rules answer it; it is a commit that does not fit, and nothing is asked; or it is a commit at which the disk failed
 abbrev pub IsReplied : Stored → Session → Request → StoreReply → Stored → Type 0
 IsReplied s session request (Reply r) t = (r ≡ (answer s.store s.events session request).0) × HasAsked s session request t × (r ≡ Committed → t.commits ≡ s.commits + 1) × (r ≢ Committed → t.commits ≡ s.commits)
 IsReplied s session request Later t = ⊥
-IsReplied s session request Full t = t ≡ s
+IsReplied s session request Full t = (t ≡ s) × LacksRoom s session request
 IsReplied s session request Unsure t = ((answer s.store s.events session request).0 ≡ Committed) × HasAsked s session request t × (t.commits ≡ s.commits)
 
 -- nothing has happened in the next epoch; it has the tree and the names of a setup, and the rows that the commits have left
@@ -81,8 +100,19 @@ pub record IsUntold (H : List Event) (s : Session) : Type 0 where
   pub holds : held H s.0 ≡ Some txn
   pub gone : IsTrue (aborted H txn)
 
+-- who keeps the next epoch from beginning: a transaction that is unfinished, or a session that holds an aborted one
+abbrev pub IsHindered : List Event → Type 0
+IsHindered H = ((t : Txn) × IsTrue (unfinished H t.0)) ⊎ ((s : Session) × IsUntold H s)
+
+-- nobody does
+pub record IsDrained (H : List Event) : Type 0 where
+  pub finished : (t : ℕ) → ¬ IsTrue (unfinished H t)
+  pub told : (s : Session) → ¬ IsUntold H s
+
 -- what keeps the next epoch from beginning is so
 abbrev pub IsTurnRefused : List Event → TurnError → Type 0
 IsTurnRefused H (turn.Unfinished t) = IsTrue (unfinished H t.0)
 IsTurnRefused H (turn.Untold s) = IsUntold H s
-IsTurnRefused H _ = Unit {0}
+IsTurnRefused H turn.Full = IsDrained H
+IsTurnRefused H turn.DiskFault = IsDrained H
+IsTurnRefused H turn.OutOfMemory = Unit {0}

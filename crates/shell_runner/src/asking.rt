@@ -1,13 +1,13 @@
 //! What the next line asks.
 
-ghost use Rattle.std.specs.Prelude.{◌≡◌, ◌≢◌, ◌<◌, ◌≤◌, ◌^◌, ◌++◌, IfErr, IfOk, List, MatchOption, length, ℕ};
+ghost use Rattle.std.specs.Prelude.{◌≡◌, ◌≢◌, ◌↔◌, ◌<◌, ◌≤◌, ◌^◌, ◌++◌, IfErr, IfOk, List, MatchOption, OnOk, length, ℕ};
 ghost use Rattle.std.specs.Io.KnownBytes.{IsAtEnd};
 ghost use Rattle.script_text.specs.Lines.{lines_of};
 ghost use Rattle.teb_io.specs.Faults.{Rose};
 ghost use Rattle.teb_io.specs.declared.source.ReadError.TheVariants as reads;
 ghost use Rattle.line_reader.specs.Lines.{ahead};
 ghost use Rattle.shell_lines.specs.Lines.{shell_line};
-ghost use Rattle.shell_runner.specs.Runs.{AsksNext, Brings, IsDone};
+ghost use Rattle.shell_runner.specs.Runs.{AsksNext, Brings, IsUnread};
 
 use crate::Host;
 use crate::files::bring_file;
@@ -37,8 +37,10 @@ pub(crate) fn next_asked<H: Host, S: Source>(
 ) -> Result<Option<Asked>, u8>
     ensures next { IfOk result (λ o. MatchOption o (IsAtEnd (ahead reader.old (S.left input.old)))
         (λ asked. AsksNext names.now format asked.asks (ahead reader.old (S.left input.old)) (ahead reader.new (S.left input.new)))) }
-    ensures others { IfErr result (λ status. (status ≢ 4) × (IsDone status → ⊥)) }
+    ensures unread { IfErr result IsUnread }
     ensures fault { IfErr result (λ status. status ≡ 3 → Rose (S.faults input.old) (S.faults input.new)) }
+    ensures no_fault { OnOk result (S.faults input.new ≡ S.faults input.old) }
+    ensures no_other_fault { IfErr result (λ status. status ≢ 3 → S.faults input.new ≡ S.faults input.old) }
     ensures later { S.faults input.old ≤ S.faults input.new }
 {
     let line = match reader.next_line(alloc, input) {
@@ -89,8 +91,8 @@ fn parsed<H: Host>(
 }
 
 fn read_status(error: ReadError) -> u8
-    ensures fault { result ≡ 3 → error ≡ reads.ReadFault }
-    ensures others { (result ≢ 4) × (IsDone result → ⊥) }
+    ensures fault { (result ≡ 3) ↔ (error ≡ reads.ReadFault) }
+    ensures unread { IsUnread result }
 {
     match error {
         ReadError::ReadFault => READ_FAULT,

@@ -1,11 +1,13 @@
 //! The end of the sessions that hold a transaction.
 
-ghost use Rattle.std.specs.Prelude.{◌≡◌, ◌≢◌, ◌≤◌, ◌⊎◌, Err, IfErr, IfOk, List, MatchResult, Ok, Option, ℕ};
+ghost use Rattle.std.specs.Prelude.{◌≡◌, ◌≢◌, ◌≤◌, ◌⊎◌, Err, IfErr, IfOk, IsTrue, List, MatchResult, Ok, Option, is_some, ℕ};
 ghost use Rattle.teb_io.specs.Faults.{Rose};
 ghost use Rattle.teb_names.specs.declared.Request.TheVariants as requests;
+ghost use Rattle.teb_history.specs.Phases.{held};
 ghost use Rattle.shell_lines.specs.declared.line.ShellLine.TheVariants as lines;
-ghost use Rattle.shell_runner.specs.States.{IsReady};
-ghost use Rattle.shell_runner.specs.Runs.{Answers, HasEnded, HasRun, IsSafely, IsThrough, StopsAt, state_of};
+ghost use Rattle.shell_runner.specs.States.{IsReached, IsReady};
+ghost use Rattle.shell_runner.specs.Holders.{IsReleased};
+ghost use Rattle.shell_runner.specs.Runs.{Answers, EndsAtEnd, EndsIfHeld, HasEnded, HasRead, IsSafely, StopsAt, state_of};
 ghost use Rattle.shell_runner.specs.declared.shell.Shell.{Shell as TheShell};
 ghost use Rattle.shell_runner.specs.declared.step.After.{After as TheAfter};
 ghost use Rattle.shell_runner.specs.declared.step.After.TheVariants as afters;
@@ -29,8 +31,8 @@ pub(crate) fn end_sessions<T: ShellStore, K: Sink>(
     out: &mut K,
 ) -> Ended<T>
     requires ready { IsReady tree.now (T.stored shell.store) }
-    requires status { (status ≢ 3) × (status ≢ 4) × (status ≢ 8) }
-    ensures ended { (first : TheShell T) (left before rest : Option (List ℕ)) (n : ℕ) → (h : HasRun T.stored T.safe first left before n shell rest (K.written out.old)) → IsThrough rest h.steps
+    requires status { (status ≢ 3) × (status ≢ 4) × (status ≢ 8) × (status ≢ 15) }
+    ensures ended { (first : TheShell T) (left before : Option (List ℕ)) → HasRead T.stored T.safe first left before status shell (K.written out.old)
         → HasEnded T.stored T.safe first left before result.status result.shell (K.written out.new) }
     ensures read { result.status ≢ 3 }
     ensures write_fault { result.status ≡ 4 → Rose (K.faults out.old) (K.faults out.new) }
@@ -53,7 +55,8 @@ pub(crate) fn end_sessions<T: ShellStore, K: Sink>(
     }
 }
 
-/// Ends a session, if it holds a transaction, and writes the answer. An `Err` is the status of a run that ends at once.
+/// Ends a session, if it holds a transaction, and writes the answer. Then it holds none. An `Err` is the status of a run that ends at
+/// once.
 fn end_if_held<T: ShellStore, K: Sink>(
     alloc: Global,
     shell: Shell<T>,
@@ -62,9 +65,9 @@ fn end_if_held<T: ShellStore, K: Sink>(
     out: &mut K,
 ) -> (Shell<T>, Result<(), u8>)
     requires ready { IsReady tree.now (T.stored shell.store) }
-    ensures ended { (first : TheShell T) (left before rest : Option (List ℕ)) (n : ℕ) → (h : HasRun T.stored T.safe first left before n shell rest (K.written out.old)) → IsThrough rest h.steps
-        → MatchResult result.1 (λ _. (k : ℕ) × (j : HasRun T.stored T.safe first left before k result.0 rest (K.written out.new)) × IsThrough rest j.steps)
-        (λ status. HasEnded T.stored T.safe first left before status result.0 (K.written out.new)) }
+    ensures ended { MatchResult result.1 (λ _. EndsIfHeld T.stored T.safe session shell result.0 (K.written out.old) (K.written out.new))
+        (λ status. EndsAtEnd T.stored T.safe session status shell result.0 (K.written out.old) (K.written out.new)) }
+    ensures released { IfOk result.1 (λ _. IsReleased session.0 (T.stored shell.store).events (T.stored result.0.store).events) }
     ensures ready { IfOk result.1 (λ _. IsReady tree.now (T.stored result.0.store)) }
     ensures read { IfErr result.1 (λ status. status ≢ 3) }
     ensures write_fault { IfErr result.1 (λ status. status ≡ 4 → Rose (K.faults out.old) (K.faults out.new)) }
@@ -101,9 +104,11 @@ fn end_session<T: ShellStore, K: Sink>(
     out: &mut K,
 ) -> (Shell<T>, Result<After, u8>)
     requires ready { IsReady tree.now (T.stored shell.store) }
-    ensures step { (n : ℕ) → MatchResult result.1
-        (λ after. Answers n (state_of T.stored shell) (lines.Ask session requests.End) after (state_of T.stored result.0) (K.written out.old) (K.written out.new))
-        (λ status. StopsAt n (state_of T.stored shell) (lines.Ask session requests.End) status (state_of T.stored result.0) (K.written out.old) (K.written out.new)) }
+    ensures step { MatchResult result.1
+        (λ after. Answers 1 (state_of T.stored shell) (lines.Ask session requests.End) after (state_of T.stored result.0) (K.written out.old) (K.written out.new))
+        (λ status. StopsAt 1 (state_of T.stored shell) (lines.Ask session requests.End) status (state_of T.stored result.0) (K.written out.old) (K.written out.new)) }
+    ensures released { IsReached (T.stored shell.store) → IsTrue (is_some (held (T.stored shell.store).events session.0))
+        → IfOk result.1 (λ _. IsReleased session.0 (T.stored shell.store).events (T.stored result.0.store).events) }
     ensures ready { IfOk result.1 (λ after. (after ≡ afters.Stopped → ⊥) → IsReady tree.now (T.stored result.0.store)) }
     ensures safe { IsSafely T.safe shell result.0 }
     ensures format { result.0.format ≡ shell.format }

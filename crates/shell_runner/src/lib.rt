@@ -11,17 +11,21 @@
 //!
 //! - A [`ShellStore`] keeps commits in epochs. The shell asks it for replies, rows, the serial order and the next epoch.
 //! - A [`Shell`] is the store between two lines, the number of the epoch, and the format of the tree text.
-//! - An *epoch* ends by a line that asks for it, or at a Begin, if 8,192 transactions have begun in it, or if it has commits and
-//!   fewer than 65,536 bytes are left for it. The next one begins under the same tree. A session that would begin while the epoch
-//!   cannot end yet is told `later`.
+//! - An *epoch* ends by a line that asks for it. It has to end (`HasToEnd`) if 8,192 transactions have begun in it, or if it has
+//!   commits and fewer than 65,536 bytes are left for it: then a Begin of a session without a transaction first begins the next
+//!   one, under the same tree. While a transaction is unfinished, or a session was not told of its abort, that session is told
+//!   `later` in its place.
 //! - A run *ends* at the end of the input or at `.quit`, after each session that holds a transaction is ended; or at a failure.
 //!   Its status is one of [`status`].
 //!
-//! **What is proved.** The text is, line by line, what `IsAnswered` says of the line and of the store before it; a prefix of that
-//! text with status 4 ([`run`], clause `ended`: `HasEnded`). With status 0 or 7 no line is left, or `.quit` was asked, or 2^64 - 2
-//! lines were answered (`IsThrough`). Whatever a crash leaves between two states has the commits that the text before it
-//! acknowledges (`safe` of [`ShellStore`], in each `IsStep`). Status 3 and status 4 are left only if the source's or the sink's
-//! count of faults rose (`read_fault`, `write_fault`).
+//! **What is proved.** The text is, line by line, what `IsAnswered` says of the line and of the store before it, and then the
+//! answers to the ends of the sessions that hold a transaction, in ascending number; a prefix of that text with status 4 ([`run`],
+//! clause `ended`: `HasEnded`). With status 0 or 7 no line is left, or the last one was `.quit`, or 2^64 - 2 lines were answered
+//! (`IsThrough`), and no session holds a transaction (`closed`). The status is 7 if a line was bad and else 0 (`status_of`), and 15
+//! only if the disk failed at the last step (`stopped`). Whatever a crash leaves between two states has the commits that the text
+//! before it acknowledges (`safe` of [`ShellStore`], in each `IsStep`). Status 3 and status 4 are left only if the source's or the
+//! sink's count of faults rose (`read_fault`, `write_fault`); with another status than 3 the source's count is as it was
+//! (`no_read_fault`).
 //!
 //! **Not claimed**: that an input ends. After status 8 the shell may have asked the last line without an answer.
 #![tactic(auto)]

@@ -6,8 +6,8 @@ ghost use Rattle.store_setup.specs.Sound.{IsNamed, IsWhole};
 ghost use Rattle.tree_toml.specs.SetupText.{setup_of_text};
 ghost use Rattle.shell_lines.specs.Answers.{reply_line};
 ghost use Rattle.shell_lines.specs.declared.reply.StoreReply.TheVariants as replies;
-ghost use Rattle.shell_runner.specs.States.{IsReady, IsTurnRefused};
-ghost use Rattle.shell_runner.specs.Answers.{HasTurned, IsAsked, IsBegin, IsCheckpoint, ShowsReply, after_reply, HasFailed};
+ghost use Rattle.shell_runner.specs.States.{IsDrained, IsReady, IsTurnRefused};
+ghost use Rattle.shell_runner.specs.Answers.{BeginsAtEnd, HasFailed, HasToEnd, HasTurned, IsAsked, IsCheckpoint, ShowsReply, after_reply};
 ghost use Rattle.shell_runner.specs.Runs.{IsSafely, IsSameOrSafe, state_of};
 ghost use Rattle.shell_runner.specs.declared.step.After.TheVariants as afters;
 ghost use Rattle.shell_runner.specs.declared.store.TurnError.TheVariants as errors;
@@ -34,7 +34,7 @@ pub(crate) fn ask<T: ShellStore>(
 ) -> (Shell<T>, Result<After, AllocError>)
     requires ready { IsReady tree.now (T.stored shell.store) }
     requires blank { out.old.items ≡ [] }
-    ensures asked { IfOk result.1 (λ after. IsAsked (state_of T.stored shell) session request out.new.items after (state_of T.stored result.0) ⊎ HasFailed out.new.items after) }
+    ensures asked { IfOk result.1 (λ after. IsAsked (state_of T.stored shell) session request out.new.items after (state_of T.stored result.0)) }
     ensures ready { IfOk result.1 (λ after. (after ≡ afters.Stopped → ⊥) → IsReady tree.now (T.stored result.0.store)) }
     ensures safe { IsSafely T.safe shell result.0 }
     ensures format { result.0.format ≡ shell.format }
@@ -74,19 +74,21 @@ fn put_later(out: &mut Vec<u8>, names: &NameBook, session: Session) -> Result<Af
     Ok(After::Next)
 }
 
-/// True if a request would begin a transaction in an epoch that has to end.
+/// True if a session without a transaction asks to begin one in an epoch that has to end.
 fn has_to_turn<T: ShellStore>(store: &T, session: Session, request: Request) -> bool
-    ensures { IsTrue result → IsBegin request }
+    ensures { IsTrue result ↔ BeginsAtEnd (T.stored store.now) session request }
 {
     match request {
-        Request::Begin(_) => {
-            let history = store.history();
-            history.held(session).is_none()
-                && (history.begun() >= MOST_TXNS
-                    || store.left() < LEAST_LEFT && store.commits() > 0)
-        }
+        Request::Begin(_) => store.history().held(session).is_none() && has_to_end(store),
         _ => false,
     }
+}
+
+/// True if as many transactions have begun as may, or there are commits and little is left for more.
+fn has_to_end<T: ShellStore>(store: &T) -> bool
+    ensures { IsTrue result ↔ HasToEnd (T.stored store.now) }
+{
+    store.history().begun() >= MOST_TXNS || store.commits() > 0 && store.left() < LEAST_LEFT
 }
 
 /// Asks the store, and appends the line of the answer.
@@ -142,7 +144,8 @@ pub(crate) fn checkpoint<T: ShellStore>(
 ) -> (Shell<T>, Result<After, AllocError>)
     requires ready { IsReady tree.now (T.stored shell.store) }
     requires blank { out.old.items ≡ [] }
-    ensures checked { IfOk result.1 (λ after. IsCheckpoint (state_of T.stored shell) out.new.items after (state_of T.stored result.0) ⊎ HasFailed out.new.items after) }
+    ensures checked { IfOk result.1 (λ after. IsCheckpoint (state_of T.stored shell) out.new.items after (state_of T.stored result.0)
+        ⊎ (IsDrained (T.stored shell.store).events × HasFailed out.new.items after)) }
     ensures ready { IfOk result.1 (λ after. (after ≡ afters.Stopped → ⊥) → IsReady tree.now (T.stored result.0.store)) }
     ensures safe { IsSafely T.safe shell result.0 }
     ensures format { result.0.format ≡ shell.format }

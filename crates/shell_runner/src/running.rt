@@ -1,10 +1,10 @@
 //! The loop over the lines.
 
-ghost use Rattle.std.specs.Prelude.{◌≡◌, ◌≢◌, ◌+◌, ◌≤◌, ◌⊎◌, Err, IfErr, IfOk, List, MatchResult, Ok, Option, ℕ};
+ghost use Rattle.std.specs.Prelude.{◌≡◌, ◌≢◌, ◌+◌, ◌≤◌, ◌⊎◌, Err, IfErr, IfOk, List, MatchResult, Ok, OnOk, Option, ℕ};
 ghost use Rattle.teb_io.specs.Faults.{Rose};
 ghost use Rattle.line_reader.specs.Lines.{ahead};
 ghost use Rattle.shell_runner.specs.States.{IsReady};
-ghost use Rattle.shell_runner.specs.Runs.{Answers, GoesOn, HasEnded, HasRun, IsSafely, IsThrough, StopsAt, state_of};
+ghost use Rattle.shell_runner.specs.Runs.{Answers, GoesOn, HasEnded, HasRead, HasRun, IsSafely, StopsAt, state_of};
 ghost use Rattle.shell_runner.specs.declared.shell.Shell.{Shell as TheShell};
 ghost use Rattle.shell_runner.specs.Flows.{after_of};
 ghost use Rattle.shell_runner.specs.declared.step.After.TheVariants as afters;
@@ -35,6 +35,7 @@ pub fn run<T: ShellStore, H: Host, S: Source, K: Sink>(
     requires ready { IsReady tree.now (T.stored shell.store) }
     ensures ended { HasEnded T.stored T.safe shell (S.left input.old) (K.written out.old) result.status result.shell (K.written out.new) }
     ensures read_fault { result.status ≡ 3 → Rose (S.faults input.old) (S.faults input.new) }
+    ensures no_read_fault { result.status ≢ 3 → S.faults input.new ≡ S.faults input.old }
     ensures write_fault { result.status ≡ 4 → Rose (K.faults out.old) (K.faults out.new) }
 {
     let (shell, lines) = run_lines(alloc, shell, tree, host, input, out);
@@ -54,11 +55,13 @@ fn run_lines<T: ShellStore, H: Host, S: Source, K: Sink>(
     out: &mut K,
 ) -> (Shell<T>, Result<u8, u8>)
     requires ready { IsReady tree.now (T.stored shell.store) }
-    ensures run { IfOk result.1 (λ status. (n : ℕ) × (rest : Option (List ℕ)) × (h : HasRun T.stored T.safe shell (S.left input.old) (K.written out.old) n result.0 rest (K.written out.new)) × IsThrough rest h.steps) }
-    ensures status { IfOk result.1 (λ status. (status ≢ 3) × (status ≢ 4) × (status ≢ 8)) }
+    ensures read { IfOk result.1 (λ status. HasRead T.stored T.safe shell (S.left input.old) (K.written out.old) status result.0 (K.written out.new)) }
+    ensures status { IfOk result.1 (λ status. (status ≢ 3) × (status ≢ 4) × (status ≢ 8) × (status ≢ 15)) }
     ensures ready { IfOk result.1 (λ status. IsReady tree.now (T.stored result.0.store)) }
     ensures ended { IfErr result.1 (λ status. HasEnded T.stored T.safe shell (S.left input.old) (K.written out.old) status result.0 (K.written out.new)) }
     ensures read_fault { IfErr result.1 (λ status. status ≡ 3 → Rose (S.faults input.old) (S.faults input.new)) }
+    ensures no_read_fault { OnOk result.1 (S.faults input.new ≡ S.faults input.old) }
+    ensures no_other_fault { IfErr result.1 (λ status. status ≢ 3 → S.faults input.new ≡ S.faults input.old) }
     ensures write_fault { IfErr result.1 (λ status. status ≡ 4 → Rose (K.faults out.old) (K.faults out.new)) }
     ensures later { K.faults out.old ≤ K.faults out.new }
 {
@@ -99,12 +102,14 @@ fn next_step<T: ShellStore, H: Host, S: Source, K: Sink>(
     out: &mut K,
 ) -> (Shell<T>, Result<Flow, u8>)
     requires ready { IsReady tree.now (T.stored shell.store) }
-    ensures next { (first : TheShell T) (left before : Option (List ℕ)) (n : ℕ) → number ≡ n + 1
-        → HasRun T.stored T.safe first left before n shell (ahead reader.old (S.left input.old)) (K.written out.old)
-        → MatchResult result.1 (λ flow. GoesOn T.stored T.safe first left before number flow result.0 (ahead reader.new (S.left input.new)) (K.written out.new))
+    ensures next { (first : TheShell T) (left before : Option (List ℕ)) (n so_far : ℕ) → number ≡ n + 1
+        → HasRun T.stored T.safe first left before n so_far shell (ahead reader.old (S.left input.old)) (K.written out.old)
+        → MatchResult result.1 (λ flow. GoesOn T.stored T.safe first left before number so_far flow result.0 (ahead reader.new (S.left input.new)) (K.written out.new))
         (λ status. HasEnded T.stored T.safe first left before status result.0 (K.written out.new)) }
     ensures ready { IfOk result.1 (λ flow. IsReady tree.now (T.stored result.0.store)) }
     ensures read_fault { IfErr result.1 (λ status. status ≡ 3 → Rose (S.faults input.old) (S.faults input.new)) }
+    ensures no_read_fault { OnOk result.1 (S.faults input.new ≡ S.faults input.old) }
+    ensures no_other_fault { IfErr result.1 (λ status. status ≢ 3 → S.faults input.new ≡ S.faults input.old) }
     ensures write_fault { IfErr result.1 (λ status. status ≡ 4 → Rose (K.faults out.old) (K.faults out.new)) }
     ensures reads { S.faults input.old ≤ S.faults input.new }
     ensures writes { K.faults out.old ≤ K.faults out.new }

@@ -7,7 +7,7 @@ ghost use Rattle.shell_lines.specs.Answers.{StoreReplyNamed};
 ghost use Rattle.shell_lines.specs.declared.reply.StoreReply.TheVariants as replies;
 ghost use Rattle.store_setup.specs.SetupView.{setup_view};
 ghost use Rattle.store_setup.specs.Sound.{IsWhole};
-ghost use Rattle.shell_runner.specs.States.{AreFinalRows, HasNodeNames, IsNext, IsReplied, IsTurnRefused, Stored};
+ghost use Rattle.shell_runner.specs.States.{AreFinalRows, HasNodeNames, IsDrained, IsNext, IsReached, IsReplied, IsTurnRefused, Stored};
 ghost use Rattle.shell_runner.specs.declared.store.TurnError.TheVariants as turn;
 
 use shell_lines::StoreReply;
@@ -45,6 +45,7 @@ pub trait ShellStore: Drop {
     /// What has happened in this epoch.
     fn history(&self) -> &History
         ensures events { result.now.events ≡ (stored self.now).events }
+        ensures reached { IsReached (stored self.now) }
         ensures named { HasNodeNames (stored self.now) → All (EventNamed (stored self.now).names) (reverse (stored self.now).events) };
 
     /// What the store is set up with.
@@ -99,6 +100,7 @@ pub trait ShellStore: Drop {
         requires whole { IsWhole (setup_view setup) }
         requires tables { setup.names.tables ≡ (Self.stored self).names.tables }
         ensures next { OnOk result.1 (IsNext (setup_view setup) (Self.stored self) (Self.stored result.0)) }
+        ensures drained { OnOk result.1 (IsDrained (Self.stored self).events) }
         ensures running { OnOk result.1 ((Self.stored result.0).stopped ≡ false) }
         ensures refused { IfErr result.1 (IsTurnRefused (Self.stored self).events) }
         ensures kept { IfErr result.1 (λ why. (why ≡ turn.DiskFault → ⊥) → result.0 ≡ self) }

@@ -1,2 +1,3 @@
 mod Named
 mod Opened
+pub mod Turned

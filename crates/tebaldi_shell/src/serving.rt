@@ -1,6 +1,6 @@
 //! The shell over a disk.
 
-ghost use Rattle.std.specs.Prelude.{◌≡◌, IfErr, IfOk, List, Ok, ℕ};
+ghost use Rattle.std.specs.Prelude.{◌≡◌, ◌≢◌, IfErr, IfOk, List, Ok, OnErr, ℕ};
 ghost use Rattle.teb_io.specs.Faults.{Rose};
 ghost use Rattle.store_setup.specs.SetupView.{setup_view};
 ghost use Rattle.store_setup.specs.Sound.{IsNamed, IsWhole};
@@ -53,8 +53,10 @@ pub fn serve<D: Renew + Drop, H: Host, S: Source, K: Sink>(
     ensures served { IfOk result (λ ended. HasServed D.seen D.may_leave D.faults D.moment D.left_since (D.capacity disk) tree.now disk
         (S.left input.old) (K.written out.old) ended.status ended.shell (K.written out.new)) }
     ensures read_fault { IfOk result (λ ended. ended.status ≡ 3 → Rose (S.faults input.old) (S.faults input.new)) }
+    ensures no_read_fault { IfOk result (λ ended. ended.status ≢ 3 → S.faults input.new ≡ S.faults input.old) }
     ensures write_fault { IfOk result (λ ended. ended.status ≡ 4 → Rose (K.faults out.old) (K.faults out.new)) }
     ensures refused { IfErr result (IsRefusedTree tree.now) }
+    ensures unread { OnErr result ((S.faults input.new ≡ S.faults input.old) × (S.left input.new ≡ S.left input.old) × (K.written out.new ≡ K.written out.old)) }
 {
     let setup = match read_tree(alloc, tree) {
         Ok(setup) => setup,

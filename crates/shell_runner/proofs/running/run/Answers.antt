@@ -3,5 +3,4 @@ use Rattle.shell_runner.proofs.running.run.Goals as goal
 
 pub returns-in-Ok-clause-ended : goal.returns-in-Ok-clause-ended
 returns-in-Ok-clause-ended g c =
-    let r = MatchResult-at_ok _ _ _ c.in-Ok.is c.run_lines-shell.ensures.run in
-    c.end_sessions.ensures.ended c.args.shell _ _ r.1 r.0 r.2 r.3
+    c.end_sessions.ensures.ended c.args.shell _ _ (MatchResult-at_ok _ _ _ c.in-Ok.is c.run_lines-shell.ensures.read)

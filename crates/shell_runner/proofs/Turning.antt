@@ -1,0 +1,43 @@
+-- What becomes of a request, and of the epoch before it.
+use Rattle.std.proofs.Common.{◌≡◌, ℕ, List, Result, Ok, Err, inl, inr, ap, ◌∙◌}
+use Rattle.std.specs.Prelude.{◌⊎◌, IfOk}
+use Rattle.teb_names.specs.declared.Session.{Session}
+use Rattle.teb_names.specs.declared.Request.{Request}
+use Rattle.teb_names.specs.declared.naming.NameBook.{NameBook}
+use Rattle.shell_lines.specs.Answers.{reply_line}
+use Rattle.shell_lines.specs.declared.reply.StoreReply.TheVariants.{Later}
+use Rattle.teb_history.specs.declared.Event.{Event}
+use Rattle.shell_runner.specs.States.{IsDrained, IsHindered, IsTurnRefused}
+use Rattle.shell_runner.specs.declared.store.TurnError.{TurnError}
+use Rattle.shell_runner.specs.declared.store.TurnError.TheVariants as turn
+use Rattle.shell_runner.specs.Answers.{BeginsAtEnd, HasTurned, IsAsked, ShowsReply, State}
+use Rattle.shell_runner.specs.declared.step.After.{After}
+use Rattle.shell_runner.specs.declared.step.After.TheVariants.{Next}
+
+-- an error that is somebody's
+abbrev pub IsSomebodys : TurnError → Type 0
+IsSomebodys (turn.Unfinished t) = Unit {0}
+IsSomebodys (turn.Untold s) = Unit {0}
+IsSomebodys _ = ⊥
+
+pub hinders : (H : List Event) (w : TurnError) → IsTurnRefused H w → IsSomebodys w → IsHindered H
+hinders H (turn.Unfinished t) h is = inl (t, h)
+hinders H (turn.Untold s) h is = inr (s, h)
+hinders H turn.Full h is = absurd is
+hinders H turn.DiskFault h is = absurd is
+hinders H turn.OutOfMemory h is = absurd is
+
+module _ {E : Type 0} (s : State) (session : Session) (request : Request) (text : List ℕ) where
+  pub asked_now : (t : State) (r : Result After E) → (BeginsAtEnd s.stored session request → ⊥) → IfOk r (λ (a : After). ShowsReply s session request text a t) → IfOk r (λ (a : After). IsAsked s session request text a t)
+  asked_now t (Ok a) goes h = inl (record { goes_on = goes; replied = h })
+  asked_now t (Err e) goes h = tt
+
+  pub asked_after : (mid t : State) (r : Result After E) → BeginsAtEnd s.stored session request → IsDrained s.stored.events → HasTurned s mid ⊎ (mid ≡ s) → IfOk r (λ (a : After). ShowsReply mid session request text a t)
+      → IfOk r (λ (a : After). IsAsked s session request text a t)
+  asked_after mid t (Ok a) begins drained turned h = inr (inr (inl (record { at_end = begins; drained = drained; mid = mid; turned = turned; replied = h })))
+  asked_after mid t (Err e) begins drained turned h = tt
+
+  pub told_later : (t : State) (names : NameBook) (r : Result After E) → BeginsAtEnd s.stored session request → IsHindered s.stored.events → t ≡ s → names ≡ s.stored.names
+      → IfOk r (λ (a : After). (a ≡ Next) × (text ≡ reply_line names session Later)) → IfOk r (λ (a : After). IsAsked s session request text a t)
+  told_later t names (Ok a) begins hindered same called h = inr (inl (record { at_end = begins; hindered = hindered; same = same; shown = h.1 ∙ ap (λ (n : NameBook). reply_line n session Later) called; goes_on = h.0 }))
+  told_later t names (Err e) begins hindered same called h = tt
