@@ -15,7 +15,7 @@ impl<T: Member> Turn<T> {
     /// At `Err` there was no memory, and the value comes back.
     pub fn new(alloc: Global, value: T, notes: u32, owners: u8) -> Result<(Turn<T>, SeatOf<T>), T>
         requires empty { (T.entries value ≡ []) × ((i : ℕ) → T.note value i ≡ 0) }
-        requires owners { (1 ≤ owners) × (owners ≤ 32) }
+        requires owners { 1 ≤ owners }
         ensures turn { IfOk result (λ t. (note_count t.0 ≡ notes) × (owner_count t.0 ≡ owners) × (base_in T.base t.0 ≡ T.base value)) }
         ensures seat { IfOk result (λ t. IsOf t.0 t.1 × IsOutside t.1 × (view_of t.1 ≡ first_view (T.base value) notes owners)) }
         ensures back { IfErr result (λ x. x ≡ value) }

@@ -14,7 +14,7 @@ new-requires g c = let m = g.T.Member in let x = c.args.value in let n = c.args.
     let xs : c.push_reserved.new.self.items ≡ Some x ∷ [] = c.push_reserved.ensures.items ∙ ap (λ l. l ++ Some x ∷ []) (c.in-Ok-with_capacity.ensures {u = tt}).items in
     subst (λ xs. Holds m.entries m.owner m.note m.base (m.base c.of.result.value) n k (opening c.as_slice.result.now xs (first_view (m.base c.of.result.value) k n))) (sym xs)
     (subst (λ y. Holds m.entries m.owner m.note m.base (m.base y) n k (opening c.as_slice.result.now (Some x ∷ []) (first_view (m.base y) k n))) (sym c.of.ensures)
-    (opens m.entries m.owner m.note m.base x n k c.as_slice.result.now ws c.requires.empty.0 c.requires.empty.1 c.requires.owners.0))
+    (opens m.entries m.owner m.note m.base x n k c.as_slice.result.now ws c.requires.empty.0 c.requires.empty.1 c.requires.owners))
 
 pub invariant_of-result-in-Ok-new : goal.invariant_of-result-in-Ok-new
-invariant_of-result-in-Ok-new g c = record { live = λ z. some_owner c.args.owners c.requires.owners.0 (sym (ap (λ s. s.0.owners) (c.in-Ok-new.ensures {u = tt}).ok.4) ∙ z) }
+invariant_of-result-in-Ok-new g c = record { live = λ z. some_owner c.args.owners c.requires.owners (sym (ap (λ s. s.0.owners) (c.in-Ok-new.ensures {u = tt}).ok.4) ∙ z) }
