@@ -34,7 +34,8 @@ module _ (b : Lists) (t : ℕ) (fell : List (Txn × Txn)) where
   round_append [] ys = refl
   round_append (u ∷ us) ys = ap (with_culprit u (culprit b t fell u)) (round_append us ys) ∙ with_append u (culprit b t fell u) (round_of b t fell us) (round_of b t fell ys)
 
-  pub round_more : (us : List Txn) (i : ℕ) (d : Txn) → i < length us → round_of b t fell (take (i + 1) us) ≡ round_of b t fell (take i us) ++ with_culprit (get_or us i d) (culprit b t fell (get_or us i d)) []
+  pub round_more : (us : List Txn) (i : ℕ) (d : Txn) → i < length us → round_of b t fell (take (i + 1) us) ≡ round_of b t fell (take i us)
+      ++ with_culprit (get_or us i d) (culprit b t fell (get_or us i d)) []
   round_more us i d lt = ap (round_of b t fell) (take_more us i d lt) ∙ round_append (take i us) (get_or us i d ∷ [])
 
   longer : (u : Txn) (c : Option Txn) (xs ys : List (Txn × Txn)) → length xs < length ys → length (with_culprit u c xs) < length (with_culprit u c ys)
@@ -71,7 +72,8 @@ any_swap {A} {B} R (x ∷ xs) ys = ap (λ (o : Bool). list_any (R x) ys || o) (a
 
     apart : (zs : List B) → list_any (λ y. R x y || list_any (λ x. R x y) xs) zs ≡ (list_any (R x) zs || list_any (λ y. list_any (λ x. R x y) xs) zs)
     apart [] = refl
-    apart (z ∷ zs) = ap (λ (o : Bool). (R x z || list_any (λ x. R x z) xs) || o) (apart zs) ∙ regroup (R x z) (list_any (λ x. R x z) xs) (list_any (R x) zs) (list_any (λ y. list_any (λ x. R x y) xs) zs)
+    apart (z ∷ zs) = ap (λ (o : Bool). (R x z || list_any (λ x. R x z) xs) || o) (apart zs) ∙ regroup (R x z) (list_any (λ x. R x z) xs) (list_any (R x) zs)
+        (list_any (λ y. list_any (λ x. R x y) xs) zs)
 
 any_alike : {A : Type 0} (p q : A → Bool) (xs : List A) → ((x : A) → p x ≡ q x) → list_any p xs ≡ list_any q xs
 any_alike p q [] f = refl
@@ -102,17 +104,20 @@ filter_twice : (p r : ℕ → Bool) (xs : List ℕ) → filter r (filter p xs) �
 filter_twice p r [] = refl
 filter_twice p r (x ∷ xs) = go (p x) (filter_twice p r xs)
   where
-    go : (b : Bool) → filter r (filter p xs) ≡ filter (λ x. r x && p x) xs → filter r (cond b (x ∷ filter p xs) (filter p xs)) ≡ cond (r x && b) (x ∷ filter (λ x. r x && p x) xs) (filter (λ x. r x && p x) xs)
+    go : (b : Bool) → filter r (filter p xs) ≡ filter (λ x. r x && p x) xs → filter r (cond b (x ∷ filter p xs) (filter p xs)) ≡ cond (r x && b) (x ∷ filter (λ x. r x && p x) xs)
+        (filter (λ x. r x && p x) xs)
     go true ih = ap (λ (ys : List ℕ). cond (r x) (x ∷ ys) ys) ih ∙ ap (λ (o : Bool). cond o (x ∷ filter (λ x. r x && p x) xs) (filter (λ x. r x && p x) xs)) (sym (and_true (r x)))
     go false ih = ih ∙ ap (λ (o : Bool). cond o (x ∷ filter (λ x. r x && p x) xs) (filter (λ x. r x && p x) xs)) (sym (and_false (r x)))
 
 -- the numbers of a round
-round_numbers : (b : Lists) (t : ℕ) (fell : List (Txn × Txn)) (ns : List ℕ) → fallen_numbers (round_of b t fell (map (λ u. record { 0 = u }) ns)) ≡ filter (λ u. is_some (culprit b t fell (record { 0 = u }))) ns
+round_numbers : (b : Lists) (t : ℕ) (fell : List (Txn × Txn)) (ns : List ℕ) → fallen_numbers (round_of b t fell (map (λ u. record { 0 = u }) ns)) ≡ filter
+    (λ u. is_some (culprit b t fell (record { 0 = u }))) ns
 round_numbers b t fell [] = refl
 round_numbers b t fell (n ∷ ns) = go (culprit b t fell (record { 0 = n })) (round_numbers b t fell ns)
   where
     go : (c : Option Txn) → fallen_numbers (round_of b t fell (map (λ u. record { 0 = u }) ns)) ≡ filter (λ u. is_some (culprit b t fell (record { 0 = u }))) ns
-        → fallen_numbers (with_culprit (record { 0 = n }) c (round_of b t fell (map (λ u. record { 0 = u }) ns))) ≡ cond (is_some c) (n ∷ filter (λ u. is_some (culprit b t fell (record { 0 = u }))) ns) (filter (λ u. is_some (culprit b t fell (record { 0 = u }))) ns)
+        → fallen_numbers (with_culprit (record { 0 = n }) c (round_of b t fell (map (λ u. record { 0 = u }) ns))) ≡ cond (is_some c)
+        (n ∷ filter (λ u. is_some (culprit b t fell (record { 0 = u }))) ns) (filter (λ u. is_some (culprit b t fell (record { 0 = u }))) ns)
     go None ih = ih
     go (Some w) ih = ap (λ (xs : List ℕ). n ∷ xs) ih
 
@@ -132,7 +137,8 @@ module _ (b : Lists) (H : List Event) (is : BookOf b H) (t : ℕ) (now : unfinis
   txns_begun u i = orderly_begun H u is.orderly (numbers_pos (begun_count H) u i) (numbers-In (begun_count H) u i)
 
   -- an unfinished one falls with somebody exactly where it read from t or from one that fell
-  culprit_any : (fell : List (Txn × Txn)) (u : ℕ) → unfinished H u ≡ true → AllUnfinished (fallen_numbers fell) → is_some (culprit b t fell (record { 0 = u })) ≡ (not (eqb u t) && list_any (read_from H u) (t ∷ fallen_numbers fell))
+  culprit_any : (fell : List (Txn × Txn)) (u : ℕ) → unfinished H u ≡ true → AllUnfinished (fallen_numbers fell)
+      → is_some (culprit b t fell (record { 0 = u })) ≡ (not (eqb u t) && list_any (read_from H u) (t ∷ fallen_numbers fell))
   culprit_any fell u un all = go (eqb u t)
     where
       listed : sources_in b (record { 0 = u }) ≡ all_sources H (record { 0 = u })
@@ -146,7 +152,8 @@ module _ (b : Lists) (H : List Event) (is : BookOf b H) (t : ℕ) (now : unfinis
           any_alike (λ w. eqb w.0 t || is_member fell w.0) (λ w. list_any (λ a. eqb w.0 a) (t ∷ fallen_numbers fell)) (all_sources H (record { 0 = u })) among
           ∙ any_swap (λ (w : Txn) (a : ℕ). eqb w.0 a) (all_sources H (record { 0 = u })) (t ∷ fallen_numbers fell)
           ∙ any_alike_in (λ a. list_any (λ (w : Txn). eqb w.0 a) (all_sources H (record { 0 = u }))) (read_from H u) (t ∷ fallen_numbers fell)
-          (λ a i. has_source H (record { 0 = u }) (record { 0 = a }) ∙ ap (λ (o : Bool). o && read_from H u a) (lt-ltb 0 a (positive a (elim i [ inl e ↦ subst (λ (z : ℕ). unfinished H z ≡ true) e now | inr j ↦ all a j ]))))
+          (λ a i. has_source H (record { 0 = u }) (record { 0 = a })
+          ∙ ap (λ (o : Bool). o && read_from H u a) (lt-ltb 0 a (positive a (elim i [ inl e ↦ subst (λ (z : ℕ). unfinished H z ≡ true) e now | inr j ↦ all a j ]))))
 
       go : (o : Bool) → is_some (cond o None (find (λ w. eqb w.0 t || is_member fell w.0) (sources_in b (record { 0 = u })))) ≡ (not o && list_any (read_from H u) (t ∷ fallen_numbers fell))
       go true = refl
@@ -168,7 +175,8 @@ module _ (b : Lists) (H : List Event) (is : BookOf b H) (t : ℕ) (now : unfinis
       go true e false k false n w s r = refl
       go false e y k z n w s r = e
 
-  falls_same : (fell : List (Txn × Txn)) (u : ℕ) → AllUnfinished (fallen_numbers fell) → In u (txns H) → (is_some (culprit b t fell (record { 0 = u })) && unfinished H u) ≡ falls H t (fallen_numbers fell) u
+  falls_same : (fell : List (Txn × Txn)) (u : ℕ) → AllUnfinished (fallen_numbers fell) → In u (txns H) → (is_some (culprit b t fell (record { 0 = u })) && unfinished H u) ≡ falls H t
+      (fallen_numbers fell) u
   unfolding falls
   falls_same fell u all i = go (unfinished H u) refl
     where
@@ -177,7 +185,8 @@ module _ (b : Lists) (H : List Event) (is : BookOf b H) (t : ℕ) (now : unfinis
       no false h = refl
 
       go : (o : Bool) → unfinished H u ≡ o → (is_some (culprit b t fell (record { 0 = u })) && o) ≡ (not (aborted H u) && not (eqb u t) && list_any (read_from H u) (t ∷ fallen_numbers fell))
-      go true h = and_true (is_some (culprit b t fell (record { 0 = u }))) ∙ culprit_any fell u h all ∙ sym (ap (λ (o : Bool). not o && not (eqb u t) && list_any (read_from H u) (t ∷ fallen_numbers fell)) (unfinished_parts H u h).2)
+      go true h = and_true (is_some (culprit b t fell (record { 0 = u }))) ∙ culprit_any fell u h all
+          ∙ sym (ap (λ (o : Bool). not o && not (eqb u t) && list_any (read_from H u) (t ∷ fallen_numbers fell)) (unfinished_parts H u h).2)
       go false h = and_false (is_some (culprit b t fell (record { 0 = u }))) ∙ no _ (λ f. let z : true ≡ false = sym (falls_unfinished (fallen_numbers fell) u all i (unfold falls in f)) ∙ h in cc)
 
   pub round_falls : (fell : List (Txn × Txn)) → AllUnfinished (fallen_numbers fell) → fallen_numbers (round_of b t fell b.unfinished) ≡ filter (falls H t (fallen_numbers fell)) (txns H)
@@ -199,7 +208,8 @@ module _ (b : Lists) (H : List Event) (is : BookOf b H) (t : ℕ) (now : unfinis
       round_falls fell (λ a i. stage_unfinished k a (subst (In a) e i)) ∙ ap (λ (us : List ℕ). filter (falls H t us) (txns H)) e ∙ sym (stage_next H t k)
 
   -- the culprit of one that falls is whom the cascade blames
-  pub culprit_blamed : (fell : List (Txn × Txn)) → fallen_numbers fell ≡ cascade H t → (u : ℕ) → unfinished H u ≡ true → (w : Txn) → culprit b t fell (record { 0 = u }) ≡ Some w → w ≡ txn (blamed H t u)
+  pub culprit_blamed : (fell : List (Txn × Txn)) → fallen_numbers fell ≡ cascade H t → (u : ℕ) → unfinished H u ≡ true → (w : Txn) → culprit b t fell (record { 0 = u }) ≡ Some w
+      → w ≡ txn (blamed H t u)
   unfolding blamed txns
   culprit_blamed fell all u un w h = ap (λ (n : ℕ). record { 0 = n }) (sym (ap (λ (o : Option ℕ). unwrap_or o 0) found))
     where
@@ -209,7 +219,8 @@ module _ (b : Lists) (H : List Event) (is : BookOf b H) (t : ℕ) (now : unfinis
       listed : sources_in b (record { 0 = u }) ≡ all_sources H (record { 0 = u })
       listed = is.sources (record { 0 = u }) ∙ sources_standing H (record { 0 = u }) stands
 
-      open_culprit : (o : Bool) → cond o None (find (λ v. eqb v.0 t || is_member fell v.0) (sources_in b (record { 0 = u }))) ≡ Some w → find (λ v. eqb v.0 t || is_member fell v.0) (sources_in b (record { 0 = u })) ≡ Some w
+      open_culprit : (o : Bool) → cond o None (find (λ v. eqb v.0 t || is_member fell v.0) (sources_in b (record { 0 = u }))) ≡ Some w
+          → find (λ v. eqb v.0 t || is_member fell v.0) (sources_in b (record { 0 = u })) ≡ Some w
       open_culprit true h = absurd (cc)
       open_culprit false h = h
 
@@ -258,8 +269,10 @@ module _ (b : Lists) (H : List Event) (is : BookOf b H) (t : ℕ) (now : unfinis
   paired fell all [] f = refl
   paired fell all (n ∷ ns) f = go (culprit b t fell (record { 0 = n })) (culprit_blamed fell all n (f n (inl refl))) (paired fell all ns (λ u i. f u (inr i)))
     where
-      go : (c : Option Txn) → ((w : Txn) → c ≡ Some w → w ≡ txn (blamed H t n)) → round_of b t fell (map (λ u. record { 0 = u }) ns) ≡ map (λ u. (txn u, txn (blamed H t u))) (fallen_numbers (round_of b t fell (map (λ u. record { 0 = u }) ns)))
-          → with_culprit (record { 0 = n }) c (round_of b t fell (map (λ u. record { 0 = u }) ns)) ≡ map (λ u. (txn u, txn (blamed H t u))) (fallen_numbers (with_culprit (record { 0 = n }) c (round_of b t fell (map (λ u. record { 0 = u }) ns))))
+      go : (c : Option Txn) → ((w : Txn) → c ≡ Some w → w ≡ txn (blamed H t n)) → round_of b t fell (map (λ u. record { 0 = u }) ns) ≡ map (λ u. (txn u, txn (blamed H t u)))
+          (fallen_numbers (round_of b t fell (map (λ u. record { 0 = u }) ns)))
+          → with_culprit (record { 0 = n }) c (round_of b t fell (map (λ u. record { 0 = u }) ns)) ≡ map (λ u. (txn u, txn (blamed H t u)))
+          (fallen_numbers (with_culprit (record { 0 = n }) c (round_of b t fell (map (λ u. record { 0 = u }) ns))))
       go None g ih = ih
       go (Some w) g ih = λ j. (record { 0 = n }, g w refl j) ∷ ih j
 
@@ -279,7 +292,8 @@ module _ (b : Lists) (H : List Event) (is : BookOf b H) (t : ℕ) (now : unfinis
   round_length fell k e few = omega (arith, sym (length-fallen (round_of b t fell b.unfinished)) ∙ ap length (round_stage fell k e), stage_length H t (suc k))
 
   -- a round that is not the last adds somebody
-  pub round_grows : (fell : List (Txn × Txn)) (k : ℕ) → fallen_numbers fell ≡ stage H t k → length (round_of b t fell b.unfinished) ≢ length fell → length fell < length (round_of b t fell b.unfinished)
+  pub round_grows : (fell : List (Txn × Txn)) (k : ℕ) → fallen_numbers fell ≡ stage H t k → length (round_of b t fell b.unfinished) ≢ length fell
+      → length fell < length (round_of b t fell b.unfinished)
   round_grows fell k e ne =
       let was = sym (length-fallen fell) ∙ ap length e in
       let more = sym (length-fallen (round_of b t fell b.unfinished)) ∙ ap length (round_stage fell k e) in

@@ -15,7 +15,8 @@ pub among_put : (t : Txn) (xs : List Txn) (u : ℕ) → is_among u (put_by numbe
 among_put t [] u = or_swap (eqb t.0 u) false
 among_put t (x ∷ xs) u = go (ltb x.0 t.0) (eqb x.0 t.0) refl (among_put t xs u)
   where
-    go : (b c : Bool) → eqb x.0 t.0 ≡ c → is_among u (put_by number_of t xs) ≡ (is_among u xs || eqb t.0 u) → is_among u (cond b (x ∷ put_by number_of t xs) (t ∷ cond c xs (x ∷ xs))) ≡ ((eqb x.0 u || is_among u xs) || eqb t.0 u)
+    go : (b c : Bool) → eqb x.0 t.0 ≡ c → is_among u (put_by number_of t xs) ≡ (is_among u xs || eqb t.0 u)
+        → is_among u (cond b (x ∷ put_by number_of t xs) (t ∷ cond c xs (x ∷ xs))) ≡ ((eqb x.0 u || is_among u xs) || eqb t.0 u)
     go true c q ih = ap (λ (b : Bool). eqb x.0 u || b) ih ∙ or_later (eqb x.0 u) (is_among u xs) (eqb t.0 u)
     go false true q ih = twice (eqb t.0 u) (is_among u xs) ∙ ap (λ (n : ℕ). (eqb n u || is_among u xs) || eqb t.0 u) (sym (eqb-true _ _ q))
       where
@@ -33,7 +34,8 @@ pub among_others : (n : ℕ) (xs : List Txn) (u : ℕ) → is_among u (others n 
 among_others n [] u = refl
 among_others n (x ∷ xs) u = go (eqb x.0 n) refl (eqb x.0 u) refl (among_others n xs u)
   where
-    go : (b : Bool) → eqb x.0 n ≡ b → (c : Bool) → eqb x.0 u ≡ c → is_among u (others n xs) ≡ (is_among u xs && not (eqb n u)) → is_among u (cond (not b) (x ∷ others n xs) (others n xs)) ≡ ((c || is_among u xs) && not (eqb n u))
+    go : (b : Bool) → eqb x.0 n ≡ b → (c : Bool) → eqb x.0 u ≡ c → is_among u (others n xs) ≡ (is_among u xs && not (eqb n u))
+        → is_among u (cond (not b) (x ∷ others n xs) (others n xs)) ≡ ((c || is_among u xs) && not (eqb n u))
     go true h true k ih =
         let e : eqb n u ≡ true = eq-eqb n u (let a = eqb-true x.0 n h in let b = eqb-true x.0 u k in omega arith) in
         ih ∙ ap (λ (b : Bool). is_among u xs && not b) e ∙ and_false (is_among u xs) ∙ sym (ap not e)

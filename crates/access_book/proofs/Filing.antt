@@ -63,9 +63,11 @@ out_twice true false r e = refl
 out_twice false s r e = refl
 
 -- a list after an edit of list p
-edit_at : (ls ls' : List (List Txn)) (p i : ℕ) (L : List Txn) (u : ℕ) (f : Bool → Bool) → ls' ≡ set ls p L → p < length ls → is_among u L ≡ f (is_among u (list_in ls p)) → is_among u (list_in ls' i) ≡ cond (eqb i p) (f (is_among u (list_in ls i))) (is_among u (list_in ls i))
+edit_at : (ls ls' : List (List Txn)) (p i : ℕ) (L : List Txn) (u : ℕ) (f : Bool → Bool) → ls' ≡ set ls p L → p < length ls → is_among u L ≡ f (is_among u (list_in ls p))
+    → is_among u (list_in ls' i) ≡ cond (eqb i p) (f (is_among u (list_in ls i))) (is_among u (list_in ls i))
 edit_at ls ls' p i L u f e lt own = ap (λ (k : List (List Txn)). is_among u (list_in k i)) e ∙ ap (is_among u) (set_tells ls p i L lt) ∙ elim (eqb_tells i p) [
-  | inl q ↦ ap (λ (b : Bool). is_among u (cond b L (list_in ls i))) q.0 ∙ own ∙ ap (λ (k : ℕ). f (is_among u (list_in ls k))) (sym q.1) ∙ sym (ap (λ (b : Bool). cond b (f (is_among u (list_in ls i))) (is_among u (list_in ls i))) q.0)
+  | inl q ↦ ap (λ (b : Bool). is_among u (cond b L (list_in ls i))) q.0 ∙ own ∙ ap (λ (k : ℕ). f (is_among u (list_in ls k))) (sym q.1)
+      ∙ sym (ap (λ (b : Bool). cond b (f (is_among u (list_in ls i))) (is_among u (list_in ls i))) q.0)
   | inr q ↦ ap (λ (b : Bool). is_among u (cond b L (list_in ls i))) q.0 ∙ sym (ap (λ (b : Bool). cond b (f (is_among u (list_in ls i))) (is_among u (list_in ls i))) q.0)
 ]
 
@@ -84,7 +86,8 @@ module _ (t : Txn) (a b c : Numbered Txn) (all left rest : List Touch) (puts p :
     lists = λ i u. ap (λ (zs : List Touch). is_among u (list_in b.lists i) || (list_any (puts_here i) zs && eqb t.0 u)) (sym q) ∙ h.lists i u;
   }
 
-  pub filing_put : (new : Bool) → IsFiling t.0 a b all left puts → left ≡ touch.Put p ∷ rest → c.lists ≡ set b.lists p (put_by number_of t (list_in b.lists p)) → b.spare ≡ c.spare + cond new 1 0 → IsFiling t.0 a c all rest (puts + 1)
+  pub filing_put : (new : Bool) → IsFiling t.0 a b all left puts → left ≡ touch.Put p ∷ rest → c.lists ≡ set b.lists p (put_by number_of t (list_in b.lists p)) → b.spare ≡ c.spare + cond new 1 0
+      → IsFiling t.0 a c all rest (puts + 1)
   filing_put new h q put spare =
       let k = (subst (AreKnown (length a.lists)) q h.known) in
       let n = h.count in
@@ -112,10 +115,12 @@ module _ (t : Txn) (here : ℕ → Touch → Bool) (a b c : Numbered Txn) (all l
     filed = h.filed;
     count = h.count;
     room = h.room;
-    lists = λ i u. ap (λ (x : Bool). is_among u (list_in b.lists i) && not ((x || list_any (here i) rest) && eqb t.0 u)) (sym (other i)) ∙ ap (λ (zs : List Touch). is_among u (list_in b.lists i) && not (list_any (here i) zs && eqb t.0 u)) (sym q) ∙ h.lists i u;
+    lists = λ i u. ap (λ (x : Bool). is_among u (list_in b.lists i) && not ((x || list_any (here i) rest) && eqb t.0 u)) (sym (other i))
+        ∙ ap (λ (zs : List Touch). is_among u (list_in b.lists i) && not (list_any (here i) zs && eqb t.0 u)) (sym q) ∙ h.lists i u;
   }
 
-  pub taking_one : IsTaking t.0 here a b all left → left ≡ z ∷ rest → ((i : ℕ) → here i z ≡ eqb i p) → c.lists ≡ set b.lists p (filter (λ v. not (eqb (number_of v) t.0)) (list_in b.lists p)) → c.spare ≡ b.spare → p < length a.lists → IsTaking t.0 here a c all rest
+  pub taking_one : IsTaking t.0 here a b all left → left ≡ z ∷ rest → ((i : ℕ) → here i z ≡ eqb i p) → c.lists ≡ set b.lists p (filter (λ v. not (eqb (number_of v) t.0)) (list_in b.lists p))
+      → c.spare ≡ b.spare → p < length a.lists → IsTaking t.0 here a c all rest
   taking_one h q same take spare within =
       let n = h.count in
       let lt : p < length b.lists = omega (arith, within, n) in

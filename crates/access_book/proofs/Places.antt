@@ -45,7 +45,8 @@ module _ (cells : List Cell) (lists : List (List Txn)) (unique : IsDistinct same
 pub filed_back : (cells : List Cell) (lists : List (List Txn)) → ((i : ℕ) → IsAscendingBy number_of (list_in lists i)) → (x : Cell) → IsAscendingBy number_of (list_of cells lists x)
 filed_back cells lists h x = subst (IsAscendingBy number_of) (sym (list_of-is cells lists x)) (h (place_in cells x))
 
-module _ (cells : List Cell) (lists : List (List Txn)) (c : Cell) (paired : length lists ≡ length cells) (cells' : List Cell) (lists1 : List (List Txn)) (e : cells' ≡ with_cell cells c) (f : lists1 ≡ with_place cells c lists) where
+module _ (cells : List Cell) (lists : List (List Txn)) (c : Cell) (paired : length lists ≡ length cells) (cells' : List Cell) (lists1 : List (List Txn)) (e : cells' ≡ with_cell cells c)
+    (f : lists1 ≡ with_place cells c lists) where
   -- the accessors of each cell stay
   pub kept : AreKept (list_of cells lists) (list_of cells' lists1)
   kept x = list_of-is cells' lists1 x ∙ placed cells lists c paired cells' lists1 e f x ∙ sym (list_of-is cells lists x)
@@ -78,6 +79,7 @@ module _ (cells : List Cell) (lists : List (List Txn)) (c : Cell) (paired : leng
       pub put_among : (x : Cell) (u : ℕ) → is_accessor (list_of cells' lists') x u ≡ (is_accessor (list_of cells lists) x u || (same_cell c x && eqb t.0 u))
       put_among x u = go (same_cell c x) refl (put_is x)
         where
-          go : (b : Bool) → same_cell c x ≡ b → list_of cells' lists' x ≡ cond b (put_by number_of t (list_of cells lists c)) (list_of cells lists x) → is_among u (list_of cells' lists' x) ≡ (is_among u (list_of cells lists x) || (b && eqb t.0 u))
+          go : (b : Bool) → same_cell c x ≡ b → list_of cells' lists' x ≡ cond b (put_by number_of t (list_of cells lists c)) (list_of cells lists x)
+              → is_among u (list_of cells' lists' x) ≡ (is_among u (list_of cells lists x) || (b && eqb t.0 u))
           go true s z = ap (is_among u) z ∙ among_put t (list_of cells lists c) u ∙ ap (λ (y : Cell). is_among u (list_of cells lists y) || eqb t.0 u) (same_cell-true c x s)
           go false s z = ap (is_among u) z ∙ put_cond false (is_among u (list_of cells lists x)) (eqb t.0 u)

@@ -30,7 +30,8 @@ or_swap false false = refl
 
 any_reverse : {A : Type 0} (q : A → Bool) (xs : List A) → list_any q (reverse xs) ≡ list_any q xs
 any_reverse q [] = refl
-any_reverse q (x ∷ xs) = ap (list_any q) (reverse-append (x ∷ []) xs) ∙ list_any-append q (reverse xs) (x ∷ []) ∙ ap (λ (b : Bool). b || (q x || false)) (any_reverse q xs) ∙ or_swap (list_any q xs) (q x)
+any_reverse q (x ∷ xs) = ap (list_any q) (reverse-append (x ∷ []) xs) ∙ list_any-append q (reverse xs) (x ∷ []) ∙ ap (λ (b : Bool). b || (q x || false)) (any_reverse q xs)
+    ∙ or_swap (list_any q xs) (q x)
 
 count_reverse : {A : Type 0} (q : A → Bool) (xs : List A) → count_by q (reverse xs) ≡ count_by q xs
 count_reverse q [] = refl
@@ -66,7 +67,8 @@ module _ (cells : List Cell) (unique : IsDistinct same_cell cells) (x : Cell) wh
 
 counted : (cells : List Cell) (zs : List Touch) → puts_among (map (touched_at cells) zs) ≡ puts_held zs
 counted cells [] = refl
-counted cells (z ∷ zs) = sum_by-cons (λ y. cond (is_put y) 1 0) (touched_at cells z) (map (touched_at cells) zs) ∙ (λ j. cond (is_put-is z j) 1 0 + counted cells zs j) ∙ sym (sum_by-cons (λ y. cond (holds_put y) 1 0) z zs)
+counted cells (z ∷ zs) = sum_by-cons (λ y. cond (is_put y) 1 0) (touched_at cells z) (map (touched_at cells) zs) ∙ (λ j. cond (is_put-is z j) 1 0 + counted cells zs j)
+    ∙ sym (sum_by-cons (λ y. cond (holds_put y) 1 0) z zs)
   where
     is_put-is : (z : Touch) → is_put (touched_at cells z) ≡ holds_put z
     is_put-is (touch.Read p) = refl
@@ -82,7 +84,8 @@ last_apart xs d le =
     (drop-cons xs (length xs - 1) d (omega (arith, le)) ∙ ap (λ (l : List _). get_or xs (length xs - 1) d ∷ l) (drop_all (suc (length xs - 1)) xs (omega (arith, n))))
 
 -- the newest access is the last that is held
-pub newest_first : (cells : List Cell) (zs : List Touch) (d : Touch) → 1 ≤ length zs → all_touched cells zs ≡ touched_at cells (get_or zs (length zs - 1) d) ∷ all_touched cells (take (length zs - 1) zs)
+pub newest_first : (cells : List Cell) (zs : List Touch) (d : Touch) → 1 ≤ length zs → all_touched cells zs ≡ touched_at cells (get_or zs (length zs - 1) d) ∷ all_touched cells
+    (take (length zs - 1) zs)
 newest_first cells zs d le =
     let ys = take (length zs - 1) zs in
     let y = get_or zs (length zs - 1) d in
@@ -128,7 +131,8 @@ by_set : (ls : List (List Touched)) (i t : ℕ) (Z : Touched) → t ≡ suc i �
 unfolding list_by
 by_set ls i t Z e lt zero = sym (ap (λ (b : Bool). cond b (Z ∷ []) []) (ne_eqb t 0 (λ q. omega (arith, q, e))))
 by_set ls i t Z e lt (suc j) = set_tells ls i j (Z ∷ list_in ls i) lt ∙ elim (eqb_tells j i) [
-  | inl p ↦ ap (λ (b : Bool). cond b (Z ∷ list_in ls i) (list_in ls j)) p.0 ∙ ap (λ (k : ℕ). Z ∷ list_in ls k) (sym p.1) ∙ sym (ap (λ (b : Bool). cond b (Z ∷ list_in ls j) (list_in ls j)) (eq-eqb t (suc j) (omega (arith, e, p.1))))
+  | inl p ↦ ap (λ (b : Bool). cond b (Z ∷ list_in ls i) (list_in ls j)) p.0 ∙ ap (λ (k : ℕ). Z ∷ list_in ls k) (sym p.1)
+      ∙ sym (ap (λ (b : Bool). cond b (Z ∷ list_in ls j) (list_in ls j)) (eq-eqb t (suc j) (omega (arith, e, p.1))))
   | inr p ↦ ap (λ (b : Bool). cond b (Z ∷ list_in ls i) (list_in ls j)) p.0 ∙ sym (ap (λ (b : Bool). cond b (Z ∷ list_in ls j) (list_in ls j)) (ne_eqb t (suc j) (λ q. p.1 (omega (arith, e, q)))))
 ]
 
@@ -161,7 +165,8 @@ module _ (cells : List Cell) (c : Cell) where
   -- and t makes an access, which shows Z
   module _ (ls ls' : List (List Touch)) (cells' : List Cell) (t i : ℕ) (z : Touch) (Z : Touched) (e : cells' ≡ with_cell cells c) (put : ls' ≡ set ls i (list_in ls i ++ z ∷ []))
       (number : t ≡ suc i) (lt : i < length ls) (known : (j : ℕ) → AreKnown (length cells) (list_in ls j)) where
-    pub pushed_by : touched_at (with_cell cells c) z ≡ Z → (u : ℕ) → list_by (map (all_touched cells') ls') u ≡ cond (eqb t u) (Z ∷ list_by (map (all_touched cells) ls) u) (list_by (map (all_touched cells) ls) u)
+    pub pushed_by : touched_at (with_cell cells c) z ≡ Z → (u : ℕ) → list_by (map (all_touched cells') ls') u ≡ cond (eqb t u) (Z ∷ list_by (map (all_touched cells) ls) u)
+        (list_by (map (all_touched cells) ls) u)
     pushed_by shows u =
         let f' = all_touched (with_cell cells c) in
         let L = map (all_touched cells) ls in
@@ -182,6 +187,7 @@ module _ (cells : List Cell) (c : Cell) where
         subst (AreKnown (length cells')) (sym (ap (λ (l : List (List Touch)). list_in l j) put ∙ set_tells ls i j (list_in ls i ++ z ∷ []) lt))
         (go (eqb j i) all (known_push (length cells') (list_in ls i) z (all i) (omega (arith, here, m, n))))
       where
-        go : (b : Bool) → ((j : ℕ) → AreKnown (length cells') (list_in ls j)) → AreKnown (length cells') (list_in ls i ++ z ∷ []) → AreKnown (length cells') (cond b (list_in ls i ++ z ∷ []) (list_in ls j))
+        go : (b : Bool) → ((j : ℕ) → AreKnown (length cells') (list_in ls j)) → AreKnown (length cells') (list_in ls i ++ z ∷ [])
+            → AreKnown (length cells') (cond b (list_in ls i ++ z ∷ []) (list_in ls j))
         go true all own = own
         go false all own = all j

@@ -31,7 +31,7 @@ pub struct AccessBook {
     committed: NumberedLists<Txn>,
     // Of each transaction that has begun, the oldest first.
     touches: NumberedLists<Touch>,
-    // How many Puts there are of transactions that may still commit. Room for that many committed writers is kept.
+    // The number of Puts of transactions that may still commit. Room for as many committed writers is kept.
     pending: usize,
     // There is room for this many events.
     spare: usize,

@@ -78,8 +78,10 @@ module _ (S : Setup) (H : List Event) (n : ℕ) (x : Cell) where
   held_at [] i d l = absurd (omega arith)
   held_at (u ∷ us) i d l = go (holds S H n x u) refl i (held_at us) l
     where
-      go : (a : Bool) → holds S H n x u ≡ a → (i : ℕ) → ((j : ℕ) (d : Hold) → j < length (map (hold_of H x) (filter (holds S H n x) us)) → unfinished H (get_or (map (hold_of H x) (filter (holds S H n x) us)) j d).txn.0 ≡ true)
-          → i < length (map (hold_of H x) (cond a (u ∷ filter (holds S H n x) us) (filter (holds S H n x) us))) → unfinished H (get_or (map (hold_of H x) (cond a (u ∷ filter (holds S H n x) us) (filter (holds S H n x) us))) i d).txn.0 ≡ true
+      go : (a : Bool) → holds S H n x u ≡ a → (i : ℕ)
+          → ((j : ℕ) (d : Hold) → j < length (map (hold_of H x) (filter (holds S H n x) us)) → unfinished H (get_or (map (hold_of H x) (filter (holds S H n x) us)) j d).txn.0 ≡ true)
+          → i < length (map (hold_of H x) (cond a (u ∷ filter (holds S H n x) us) (filter (holds S H n x) us)))
+          → unfinished H (get_or (map (hold_of H x) (cond a (u ∷ filter (holds S H n x) us) (filter (holds S H n x) us))) i d).txn.0 ≡ true
       go true e zero ih l = (held_parts S H n x u e).0
       go true e (suc j) ih l = ih j d (omega arith)
       go false e i ih l = ih i d l
@@ -88,10 +90,12 @@ module _ (S : Setup) (H : List Event) (n : ℕ) (x : Cell) where
   held_unfinished i d l = held_at (txns H) i d l
 
 -- so it has begun, with a type of the tree
-pub held_typed : (f : Facts) (n : ℕ) (x : Cell) (hs : List Hold) (i : ℕ) (d : Hold) → IsOrderly (setup_of f) (events_of f) → hs ≡ holds_in (setup_of f) (events_of f) n x → i < length hs → IsTyped f (get_or hs i d).txn.0
+pub held_typed : (f : Facts) (n : ℕ) (x : Cell) (hs : List Hold) (i : ℕ) (d : Hold) → IsOrderly (setup_of f) (events_of f) → hs ≡ holds_in (setup_of f) (events_of f) n x → i < length hs
+    → IsTyped f (get_or hs i d).txn.0
 held_typed f n x hs i d o e l =
     let there : i < length (holds_in (setup_of f) (events_of f) n x) = omega (arith, ap (λ (l : List Hold). length l) e) in
-    let open_ : unfinished (events_of f) (get_or hs i d).txn.0 ≡ true = ap (λ (l : List Hold). unfinished (events_of f) (get_or l i d).txn.0) e ∙ held_unfinished (setup_of f) (events_of f) n x i d there in
+    let open_ : unfinished (events_of f) (get_or hs i d).txn.0 ≡ true = ap (λ (l : List Hold). unfinished (events_of f) (get_or l i d).txn.0) e
+    ∙ held_unfinished (setup_of f) (events_of f) n x i d there in
     typed_now f (get_or hs i d).txn.0 o (unfinished_begun (events_of f) (get_or hs i d).txn.0 open_)
 
 -- a walk along a list that looks for the first that passes

@@ -50,7 +50,8 @@ module _ (S : Setup) (P : List Event) (n : ℕ) (here : List Bool) (a : AreHere 
       at : (u : ℕ) → 0 < u → u ≤ suc (begun_count P) → is_here (here ++ h ∷ []) u ≡ on S (Began t s k i ∷ P) n u
       at zero pos le = absurd (omega arith)
       at (suc j) pos le = elim (cases_lt j (length here)) [
-        | inl lt ↦ get_or_append_left here (h ∷ []) false j lt ∙ a.told (suc j) pos (omega (arith, lt, a.counted)) ∙ (unfold on in unfold spot_of in rw (ne_eqb t.0 (suc j) (λ e. omega (arith, e, new, lt, a.counted))) refl)
+        | inl lt ↦ get_or_append_left here (h ∷ []) false j lt ∙ a.told (suc j) pos (omega (arith, lt, a.counted))
+            ∙ (unfold on in unfold spot_of in rw (ne_eqb t.0 (suc j) (λ e. omega (arith, e, new, lt, a.counted))) refl)
         | inr ge ↦
             let z : j ≡ length here = omega (arith, ge, le, a.counted) in
             let m : t.0 ≡ suc j = omega (arith, z, new, a.counted) in
@@ -105,4 +106,5 @@ module _ (S : Setup) (H : List Event) (n : ℕ) (e : Event) (i : H ≡ e ∷ dro
       (subst (λ (G : List Event). AreHere (here ++ h ∷ []) S G n) (sym now) (here_begun S (drop 1 H) n here a t s k j h new (is ∙ ap (λ (G : List Event). on S G n t.0) now)))
 
   pub began_typed : (t : Txn) (s : Session) (k : Kind) (j : ℕ) → e ≡ Began t s k j → IsTrue (begun H t.0)
-  began_typed t s k j q = subst (λ (G : List Event). IsTrue (begun G t.0)) (sym (i ∙ ap (λ (d : Event). d ∷ drop 1 H) q)) (begun-cons (Began t s k j) (drop 1 H) t.0 ∙ or_left (eqb t.0 t.0) (begun (drop 1 H) t.0) (eq-eqb t.0 t.0 refl))
+  began_typed t s k j q = subst (λ (G : List Event). IsTrue (begun G t.0)) (sym (i ∙ ap (λ (d : Event). d ∷ drop 1 H) q))
+      (begun-cons (Began t s k j) (drop 1 H) t.0 ∙ or_left (eqb t.0 t.0) (begun (drop 1 H) t.0) (eq-eqb t.0 t.0 refl))

@@ -35,7 +35,8 @@ got_next : (S : Setup) (P : List Event) (e : Event) → Accesses e P → IsOrder
 got_next S P e a o u x g = begun_kept e P u (elim (or_cases (is_got u x e) (got P u x) (sym (got-cons e P u x) ∙ g)) [ inl h ↦ a.get u x h | inr h ↦ o.got u x h ])
 
 -- an event that begins nothing
-no_began : (S : Setup) (P : List Event) (e : Event) → ((u : ℕ) → is_began u e ≡ false) → begun_count (e ∷ P) ≡ begun_count P → ((u : ℕ) → kind_of (e ∷ P) u ≡ kind_of P u) → Accesses e P → IsOrderly S P → IsOrderly S (e ∷ P)
+no_began : (S : Setup) (P : List Event) (e : Event) → ((u : ℕ) → is_began u e ≡ false) → begun_count (e ∷ P) ≡ begun_count P → ((u : ℕ) → kind_of (e ∷ P) u ≡ kind_of P u) → Accesses e P
+    → IsOrderly S P → IsOrderly S (e ∷ P)
 no_began S P e f c k a o = record {
   typed = λ u b. subst (λ (n : ℕ). n < S.types) (sym (k u)) (o.typed u (sym (begun_same e P u (f u)) ∙ b));
   numbered = λ u b. subst (λ (n : ℕ). (0 < u) × (u ≤ n)) (sym c) (o.numbered u (sym (begun_same e P u (f u)) ∙ b));

@@ -87,7 +87,8 @@ there_is [] i h = absurd (omega arith)
 there_is (v ∷ vs) zero h = (v, refl)
 there_is (v ∷ vs) (suc i) h = there_is vs i (omega arith)
 
-module _ (S : Setup) (R : List (Cell × ℤ)) (H : List Event) (lists : Cell → List Version) (t : ℕ) (x : Cell) (l : Lawful S H) (h : HoldsVersions S H lists) (na : aborted H t ≡ false) (none : has_version H x t ≡ false) where
+module _ (S : Setup) (R : List (Cell × ℤ)) (H : List Event) (lists : Cell → List Version) (t : ℕ) (x : Cell) (l : Lawful S H) (h : HoldsVersions S H lists) (na : aborted H t ≡ false)
+    (none : has_version H x t ≡ false) where
   absent : None ≡ first_place (λ w. eqb w t) (writers_of (lists x))
   absent = first_nothing (λ w. eqb w t) (writers_of (lists x)) (h.writers x t ∙ none)
 

@@ -10,7 +10,7 @@
 //! ```
 //!
 //! - [`amended_is_last_seen`]: it is the last version that the transaction sees.
-//! - [`amended_is_read`]: a transaction without a version of its own reads it, or the starting row if there is none.
+//! - [`amended_is_read`]: a transaction that has put no version of the cell reads it, or the starting row if there is none.
 //!
 //! Each holds of every sound tree, every lawful history, and chains that hold its versions (`OfEveryReader` of `specs/Laws`).
 //!
@@ -24,7 +24,7 @@ pub fn amended_is_last_seen()
     ensures { AmendedIsLastSeen }
 {}
 
-/// A transaction without a version of its own reads the version at that place, or the starting row if there is no place.
+/// A transaction that has put no version of the cell reads the version at that place, or the starting row if there is no place.
 pub fn amended_is_read()
     ensures { AmendedIsRead }
 {}

@@ -28,7 +28,8 @@ tied : (x q : Cell) (b : Bool) → same_cell q x ≡ b → is_eq (cell_cmp x q) 
 tied x q b e = sym (same_cell-cell_cmp x q) ∙ same_laws.symm x q ∙ e
 
 module _ {V : Type 0} where
-  one_cell : (x : Cell) (vs : List V) (es : List (Cell × V)) (q : Cell) (b : Bool) → is_eq (cell_cmp x q) ≡ b → values_of cell_cmp (map (λ v. (x, v)) vs ++ es) q ≡ cond b (vs ++ values_of cell_cmp es q) (values_of cell_cmp es q)
+  one_cell : (x : Cell) (vs : List V) (es : List (Cell × V)) (q : Cell) (b : Bool) → is_eq (cell_cmp x q) ≡ b → values_of cell_cmp (map (λ v. (x, v)) vs ++ es) q ≡ cond b
+      (vs ++ values_of cell_cmp es q) (values_of cell_cmp es q)
   one_cell x [] es q true e = refl
   one_cell x [] es q false e = refl
   one_cell x (v ∷ vs) es q true e = (λ j. cond (e j) (v ∷ one_cell x vs es q true e j) (one_cell x vs es q true e j))
@@ -47,7 +48,8 @@ module _ {V : Type 0} where
   found f n [] q d end = sym end
   found f n (x ∷ xs) q d end = go (same_cell q x) refl (found f (suc n) xs q (IsDistinct-tail same_cell x xs d) (ap f (omega arith) ∙ end))
     where
-      go : (b : Bool) → same_cell q x ≡ b → values_of cell_cmp (entries_from f (suc n) xs) q ≡ f (suc n + place_in xs q) → values_of cell_cmp (entries_from f n (x ∷ xs)) q ≡ f (n + place_in (x ∷ xs) q)
+      go : (b : Bool) → same_cell q x ≡ b → values_of cell_cmp (entries_from f (suc n) xs) q ≡ f (suc n + place_in xs q) → values_of cell_cmp (entries_from f n (x ∷ xs)) q ≡ f
+          (n + place_in (x ∷ xs) q)
       go true e ih =
           let z = ap (λ (b : Bool). cond (not b) (1 + place_in xs q) 0) e in
           one_cell x (f n) (entries_from f (suc n) xs) q true (tied x q true e)
@@ -88,7 +90,8 @@ module _ {V : Type 0} where
       at_place j b e = edit j ∙ ap (λ (o : Bool). cond o L (list_at a j)) e
 
       -- what is shown of the cells xs, where the list of each is known
-      told : (xs : List Cell) (q : Cell) → values_of cell_cmp (entries_from (list_at a') 0 xs) q ≡ cond (same_cell x q) L (list_at a (place_in cells.cells q)) → values_of cell_cmp (entries_from (list_at a') 0 xs) q ≡ cond (is_eq (cell_cmp x q)) L (values_of cell_cmp (entries_from (list_at a) 0 cells.cells) q)
+      told : (xs : List Cell) (q : Cell) → values_of cell_cmp (entries_from (list_at a') 0 xs) q ≡ cond (same_cell x q) L (list_at a (place_in cells.cells q))
+          → values_of cell_cmp (entries_from (list_at a') 0 xs) q ≡ cond (is_eq (cell_cmp x q)) L (values_of cell_cmp (entries_from (list_at a) 0 cells.cells) q)
       told xs q e = e ∙ ap (λ (b : Bool). cond b L (list_at a (place_in cells.cells q))) (same_cell-cell_cmp x q) ∙ ap (λ (l : List V). cond (is_eq (cell_cmp x q)) L l) (sym (shown q))
 
       -- the cells stay
@@ -130,7 +133,13 @@ module _ {V : Type 0} where
         paired' = ap length put ∙ put_length cells.cells x ∙ (let e = h.paired in omega (arith, e, count))
 
         pub put_listed : (m : ℕ) → n ≡ m + 1 → cells.spare ≤ cells'.spare + 1 → IsArena a' → ((m : ℕ) → HasRoom a (m + 1) → HasRoom a' m) → AreListed cells' a' m
-        put_listed m one spare sound room = record { unique = unique'; paired = paired'; sound = sound; cells_room = omega (arith, one, spare, h.cells_room); room = room m (subst (HasRoom a) one h.room) }
+        put_listed m one spare sound room = record {
+          unique = unique';
+          paired = paired';
+          sound = sound;
+          cells_room = omega (arith, one, spare, h.cells_room);
+          room = room m (subst (HasRoom a) one h.room);
+        }
 
         same_list : (q : Cell) → list_at a (place_in cells'.cells q) ≡ list_at a (place_in cells.cells q)
         same_list q = elim (put_other cells.cells x q) [

@@ -18,7 +18,8 @@ module _ {V : Type 0} where
   slice_is xs L a n len within same =
       let long = length-take n (drop a xs) in
       let rest = length-drop a xs in
-      same_lists (take n (drop a xs)) L (omega (arith, len, long, rest, within)) (λ k d lt. let l : k < n = omega (arith, lt, long) in get_or-take n (drop a xs) k d l ∙ (get_or-drop a xs k d ∙ same k d l))
+      same_lists (take n (drop a xs)) L (omega (arith, len, long, rest, within)) (λ k d lt. let l : k < n = omega (arith, lt, long) in
+      get_or-take n (drop a xs) k d l ∙ (get_or-drop a xs k d ∙ same k d l))
 
   pub length-values_at : (vs : List V) (s : Segment) (n : ℕ) → IsWithin s (length vs) → length (values_at vs s) ≡ s.len
   length-values_at vs s n w = omega (arith, length-take s.len (drop s.start vs), length-drop s.start vs, w.len, w.end)
@@ -43,7 +44,8 @@ module _ {V : Type 0} where
     other j ne =
         let s = segment_at ss j in
         ap (values_at vs') (others j ne)
-        ∙ slice_is vs' (values_at vs s) s.start s.len (length-values_at vs s 0 (within j)) (omega (arith, len, (within j).len, (within j).end)) (λ k d lt. kept (s.start + k) d (outside j k ne lt) ∙ sym (get_or-values_at vs s k d lt))
+        ∙ slice_is vs' (values_at vs s) s.start s.len (length-values_at vs s 0 (within j)) (omega (arith, len, (within j).len, (within j).end))
+        (λ k d lt. kept (s.start + k) d (outside j k ne lt) ∙ sym (get_or-values_at vs s k d lt))
 
     mine : values_at vs' (segment_at ss' i) ≡ L
     mine = slice_is vs' L (segment_at ss' i).start (segment_at ss' i).len count inside (λ k d lt. here k d (omega (arith, lt, count)))
@@ -63,9 +65,11 @@ module _ (ss : List Segment) (n debt i : ℕ) (t : Segment) (h : Lies ss n debt)
   pub other_now : (j : ℕ) → j ≢ i → segment_at (set ss i t) j ≡ segment_at ss j
   other_now j ne = get_or-set_other ss i j t none ne
 
-  pub same_place : (j : ℕ) → ((segment_at (set ss i t) j).start ≡ (segment_at ss j).start) × ((segment_at (set ss i t) j).room ≡ (segment_at ss j).room) × ((segment_at (set ss i t) j).len ≤ (segment_at ss j).len)
+  pub same_place : (j : ℕ) → ((segment_at (set ss i t) j).start ≡ (segment_at ss j).start) × ((segment_at (set ss i t) j).room ≡ (segment_at ss j).room)
+      × ((segment_at (set ss i t) j).len ≤ (segment_at ss j).len)
   same_place j = elim (cases_eq j i) [
-    | inl e ↦ subst (λ (k : ℕ). ((segment_at (set ss i t) k).start ≡ (segment_at ss k).start) × ((segment_at (set ss i t) k).room ≡ (segment_at ss k).room) × ((segment_at (set ss i t) k).len ≤ (segment_at ss k).len)) (sym e)
+    | inl e ↦ subst (λ (k : ℕ). ((segment_at (set ss i t) k).start ≡ (segment_at ss k).start) × ((segment_at (set ss i t) k).room ≡ (segment_at ss k).room)
+        × ((segment_at (set ss i t) k).len ≤ (segment_at ss k).len)) (sym e)
         (ap (λ (s : Segment). s.start) here_now ∙ start, ap (λ (s : Segment). s.room) here_now ∙ room, omega (arith, len, ap (λ (s : Segment). s.len) here_now))
     | inr ne ↦ (ap (λ (s : Segment). s.start) (other_now j ne), ap (λ (s : Segment). s.room) (other_now j ne), omega (arith, ap (λ (s : Segment). s.len) (other_now j ne)))
   ]
@@ -117,7 +121,8 @@ module _ {V : Type 0} (ss : List Segment) (vs : List V) (debt i : ℕ) (r : Segm
   long = length-values_at vs (segment_at ss i) 0 (h.within i) ∙ sym len_is
 
   -- a value is replaced
-  pub replaced : (at p : ℕ) (v : V) → at < length (values_at vs (segment_at ss i)) → p ≡ r.start + at → (j : ℕ) → values_at (set vs p v) (segment_at ss j) ≡ cond (eqb j i) (set (values_at vs (segment_at ss i)) at v) (values_at vs (segment_at ss j))
+  pub replaced : (at p : ℕ) (v : V) → at < length (values_at vs (segment_at ss i)) → p ≡ r.start + at → (j : ℕ) → values_at (set vs p v) (segment_at ss j) ≡ cond (eqb j i)
+      (set (values_at vs (segment_at ss i)) at v) (values_at vs (segment_at ss j))
   replaced at p v lt here =
       let s = segment_at ss i in
       let w = h.within i in
@@ -126,7 +131,8 @@ module _ {V : Type 0} (ss : List Segment) (vs : List V) (debt i : ℕ) (r : Segm
       (length-set (values_at vs s) at v ∙ long ∙ len_is)
       (omega (arith, w.len, w.end, length-set vs p v))
       (λ k d l. elim (cases_eq k at) [
-        | inl e ↦ get_or-set_at vs p (s.start + k) v d (omega (arith, e, here, start_is)) (omega (arith, here, start_is, lt, long, len_is, w.len, w.end)) ∙ sym (get_or-set_at (values_at vs s) at k v d e lt)
+        | inl e ↦ get_or-set_at vs p (s.start + k) v d (omega (arith, e, here, start_is)) (omega (arith, here, start_is, lt, long, len_is, w.len, w.end))
+            ∙ sym (get_or-set_at (values_at vs s) at k v d e lt)
         | inr ne ↦
             get_or-set_other vs p (s.start + k) v d (omega (arith, ne, here, start_is))
             ∙ sym (get_or-values_at vs s k d (omega (arith, l, length-set (values_at vs s) at v, long, len_is)))
@@ -134,7 +140,8 @@ module _ {V : Type 0} (ss : List Segment) (vs : List V) (debt i : ℕ) (r : Segm
       ])
 
   -- a value is put behind those of a list whose segment has room
-  pub appended : (p : ℕ) (v : V) (t : Segment) → i < length ss → r.len < r.room → p ≡ r.start + r.len → t.start ≡ r.start → t.len ≡ r.len + 1 → (j : ℕ) → values_at (set vs p v) (segment_at (set ss i t) j) ≡ cond (eqb j i) (values_at vs (segment_at ss i) ++ v ∷ []) (values_at vs (segment_at ss j))
+  pub appended : (p : ℕ) (v : V) (t : Segment) → i < length ss → r.len < r.room → p ≡ r.start + r.len → t.start ≡ r.start → t.len ≡ r.len + 1 → (j : ℕ)
+      → values_at (set vs p v) (segment_at (set ss i t) j) ≡ cond (eqb j i) (values_at vs (segment_at ss i) ++ v ∷ []) (values_at vs (segment_at ss j))
   appended p v t lt wide here start len =
       let s = segment_at ss i in
       let w = h.within i in
@@ -147,7 +154,8 @@ module _ {V : Type 0} (ss : List Segment) (vs : List V) (debt i : ℕ) (r : Segm
       (omega (arith, n, long, now_len, len))
       (omega (arith, now_start, now_len, start, len, start_is, wide, room_is, w.end, length-set vs p v))
       (λ k d l. elim (cases_eq k r.len) [
-        | inl e ↦ get_or-set_at vs p ((segment_at (set ss i t) i).start + k) v d (omega (arith, e, here, now_start, start)) (omega (arith, here, start_is, wide, room_is, w.end)) ∙ sym (get_or_push (values_at vs s) v d k (omega (arith, long, e)))
+        | inl e ↦ get_or-set_at vs p ((segment_at (set ss i t) i).start + k) v d (omega (arith, e, here, now_start, start)) (omega (arith, here, start_is, wide, room_is, w.end))
+            ∙ sym (get_or_push (values_at vs s) v d k (omega (arith, long, e)))
         | inr ne ↦
             get_or-set_other vs p ((segment_at (set ss i t) i).start + k) v d (omega (arith, ne, here, now_start, start))
             ∙ ap (λ (m : ℕ). get_or vs m d) (omega (arith, now_start, start, start_is))
@@ -156,7 +164,8 @@ module _ {V : Type 0} (ss : List Segment) (vs : List V) (debt i : ℕ) (r : Segm
       ])
 
   -- a value is taken out, and those behind it move down
-  pub removed : (vs' : List V) (at p q : ℕ) (t : Segment) → at < length (values_at vs (segment_at ss i)) → p ≡ r.start + at → q ≡ r.start + r.len → t.start ≡ r.start → t.len ≡ r.len - 1 → length vs' ≡ length vs
+  pub removed : (vs' : List V) (at p q : ℕ) (t : Segment) → at < length (values_at vs (segment_at ss i)) → p ≡ r.start + at → q ≡ r.start + r.len → t.start ≡ r.start → t.len ≡ r.len - 1
+      → length vs' ≡ length vs
       → CopiedTo vs vs' (p + 1) p (q - (p + 1)) → SameBelow vs vs' p → SameFrom vs vs' (p + (q - (p + 1)))
       → (j : ℕ) → values_at vs' (segment_at (set ss i t) j) ≡ cond (eqb j i) (remove (values_at vs (segment_at ss i)) at) (values_at vs (segment_at ss j))
   removed vs' at p q t lt here behind start len same copied below from =
@@ -200,7 +209,8 @@ module _ {V : Type 0} (ss : List Segment) (vs : List V) (debt i : ℕ) (r : Segm
       (omega (arith, n, m, len_is))
       (omega (arith, w.len, w.end, length-set vs' p v, same))
       (λ k d l. elim (cases_eq k at) [
-        | inl e ↦ get_or-set_at vs' p (s.start + k) v d (omega (arith, e, here, start_is)) (omega (arith, here, start_is, len_is, le, m, w.len, w.end, same)) ∙ sym (get_or-insert_at M at v d le) ∙ ap (λ (q : ℕ). get_or (insert M at v) q d) (sym e)
+        | inl e ↦ get_or-set_at vs' p (s.start + k) v d (omega (arith, e, here, start_is)) (omega (arith, here, start_is, len_is, le, m, w.len, w.end, same)) ∙ sym (get_or-insert_at M at v d le)
+            ∙ ap (λ (q : ℕ). get_or (insert M at v) q d) (sym e)
         | inr ne ↦ elim (cases_lt k at) [
           | inl lo ↦
               get_or-set_other vs' p (s.start + k) v d (omega (arith, ne, here, start_is)) ∙ below (s.start + k) d (omega (arith, lo, here, start_is))
@@ -209,7 +219,8 @@ module _ {V : Type 0} (ss : List Segment) (vs : List V) (debt i : ℕ) (r : Segm
               ∙ sym (get_or-insert_below M at v d k lo le)
           | inr hi ↦
               let one : k ≡ k - 1 + 1 = omega (arith, hi, ne) in
-              get_or-set_other vs' p (s.start + k) v d (omega (arith, ne, here, start_is)) ∙ copied (s.start + k) d (omega (arith, hi, ne, here, start_is)) (omega (arith, l, n, m, hi, ne, here, last, start_is))
+              get_or-set_other vs' p (s.start + k) v d (omega (arith, ne, here, start_is)) ∙ copied (s.start + k) d (omega (arith, hi, ne, here, start_is))
+              (omega (arith, l, n, m, hi, ne, here, last, start_is))
               ∙ ap (λ (q : ℕ). get_or vs q d) (let e : p + (s.start + k - (p + 1)) ≡ s.start + (k - 1) = omega (arith, hi, ne, here, start_is) in e)
               ∙ sym (get_or-values_at vs s (k - 1) d (omega (arith, l, n, m, len_is, hi, ne))) ∙ ap (λ (l : List V). get_or l (k - 1) d) was
               ∙ get_or-append M (v ∷ []) d (k - 1) (omega (arith, l, n, hi, ne))

@@ -68,7 +68,8 @@ pub no_commits : (done : List Bool) → done ≡ [] → MarksCommits done []
 unfolding committed
 no_commits done is = rw is (record { each = λ t. refl })
 
-pub sources_more : (sources sources' : List (Vec ℕ Global)) (past : List Item) (i : Item) → ((p : ℕ → Bool) (t : ℕ) → list_any p (list_at sources' t) ≡ (reads_from p t i || list_any p (list_at sources t)))
+pub sources_more : (sources sources' : List (Vec ℕ Global)) (past : List Item) (i : Item)
+    → ((p : ℕ → Bool) (t : ℕ) → list_any p (list_at sources' t) ≡ (reads_from p t i || list_any p (list_at sources t)))
     → KeepsSources sources past → KeepsSources sources' (i ∷ past)
 sources_more sources sources' past i more kept = record { each = λ p t. more p t ∙ ap (λ b. reads_from p t i || b) (kept.each p t) }
 

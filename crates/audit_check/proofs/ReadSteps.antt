@@ -27,7 +27,8 @@ unfolding own_from
 own_more t n k [] l e = let same : n ≡ k = omega (arith, e) in ap (λ m. if is_own t (line_view l) then m ∷ [] else []) same
 own_more t n k (x ∷ xs) l e = rw (own_more t (n + 1) k xs l (omega (arith, e))) (both (is_own t (line_view x)) (is_own t (line_view l)) (own_from t (n + 1) xs))
   where
-    both : (a b : Bool) (ys : List ℕ) → (if a then n ∷ (if b then ys ++ k ∷ [] else ys) else (if b then ys ++ k ∷ [] else ys)) ≡ (if b then (if a then n ∷ ys else ys) ++ k ∷ [] else (if a then n ∷ ys else ys))
+    both : (a b : Bool) (ys : List ℕ) → (if a then n ∷ (if b then ys ++ k ∷ [] else ys) else (if b then ys ++ k ∷ [] else ys)) ≡ (if b then (if a then n ∷ ys else ys)
+        ++ k ∷ [] else (if a then n ∷ ys else ys))
     both true true ys = refl
     both true false ys = refl
     both false true ys = refl
@@ -162,9 +163,11 @@ module _ (t : ℕ) (lines : List Line) (T : Values) (wrong : List Bool) where
       let past = views (take n lines) in
       let item = line_view (get_or lines n End) in
       record {
-        table = along entries (after_puts past t T) (after_puts (views (take (n + 1) lines)) t T) (sym (ap (λ (is : List Item). after_puts is t T) (next_item t lines n within) ∙ puts_other t T past item other)) r.table;
+        table = along entries (after_puts past t T) (after_puts (views (take (n + 1) lines)) t T)
+            (sym (ap (λ (is : List Item). after_puts is t T) (next_item t lines n within) ∙ puts_other t T past item other)) r.table;
         told = λ i below. elim (cases_eq i n) [
-          | inl same ↦ subst (λ j. is_marked wrong' j ≡ misread_or (is_marked wrong j) (views (take j lines)) T t (line_view (get_or lines j End))) (sym same) (r.rest n (omega arith) ∙ sym (misread_other (is_marked wrong n) t T past item other))
+          | inl same ↦ subst (λ j. is_marked wrong' j ≡ misread_or (is_marked wrong j) (views (take j lines)) T t (line_view (get_or lines j End))) (sym same)
+              (r.rest n (omega arith) ∙ sym (misread_other (is_marked wrong n) t T past item other))
           | inr apart ↦ r.told i (omega (arith, below, apart))
         ];
         rest = λ i above. r.rest i (omega (arith, above));
@@ -176,9 +179,11 @@ module _ (t : ℕ) (lines : List Line) (T : Values) (wrong : List Bool) where
   runs_line n entries entries' wrong' wrong'' within own r s =
       let past = views (take n lines) in
       let item = line_view (get_or lines n End) in
-      let here : is_marked wrong'' n ≡ misread_now (is_marked wrong' n) (after_puts past t T) item = s.told n ∙ at n (misread_now (is_marked wrong' n) (after_puts past t T) item) (is_marked wrong' n) in
+      let here : is_marked wrong'' n ≡ misread_now (is_marked wrong' n) (after_puts past t T) item = s.told n ∙ at n (misread_now (is_marked wrong' n) (after_puts past t T) item)
+      (is_marked wrong' n) in
       record {
-        table = along entries' (after_line item (after_puts past t T)) (after_puts (views (take (n + 1) lines)) t T) (sym (ap (λ (is : List Item). after_puts is t T) (next_item t lines n within) ∙ puts_own t T past item own)) s.table;
+        table = along entries' (after_line item (after_puts past t T)) (after_puts (views (take (n + 1) lines)) t T)
+            (sym (ap (λ (is : List Item). after_puts is t T) (next_item t lines n within) ∙ puts_own t T past item own)) s.table;
         told = λ i below. elim (cases_eq i n) [
           | inl same ↦ subst (λ j. is_marked wrong'' j ≡ misread_or (is_marked wrong j) (views (take j lines)) T t (line_view (get_or lines j End))) (sym same)
               (here ∙ ap (λ b. misread_now b (after_puts past t T) item) (r.rest n (omega arith)) ∙ sym (misread_own (is_marked wrong n) t T past item own))
@@ -369,7 +374,8 @@ module _ (lines : List Line) where
           told = λ i below.
               run.told i below
               ∙ ap (λ b. misread_or b (views (take i lines)) table_at t (line_view (get_or lines i End))) (r.told i below)
-              ∙ misread_more (views lines) (take j order) (take (j + 1) order) t table_at (views (take i lines)) (line_view (get_or lines i End)) table_then (among_more (λ _. true) order j t within at);
+              ∙ misread_more (views lines) (take j order) (take (j + 1) order) t table_at (views (take i lines)) (line_view (get_or lines i End)) table_then
+              (among_more (λ _. true) order j t within at);
         }
 
   pub told_all : (entries : List (Key × Option ℤ)) (wrong : List Bool) (i : ℕ) → Replays (order_in (views lines)) lines entries wrong → i < length lines

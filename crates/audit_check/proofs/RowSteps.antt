@@ -37,7 +37,8 @@ seen_push rows p x false new = ap (λ (ps : List RowKey). has_row_key ps x) (map
 pub row_seen : (rows rows' : List Key) (p : Key) (v : ℤ) (past : List Item) → rows' ≡ (if has_row_key (row_keys rows) (row_key_view p) then rows else rows ++ p ∷ [])
     → SeesRows rows past → SeesRows rows' (Row (row_key_view p) v ∷ past)
 row_seen rows rows' p v past is seen = record {
-  each = λ x. ap (λ (ks : List Key). has_row_key (row_keys ks) x) is ∙ seen_push rows p x (has_row_key (row_keys rows) (row_key_view p)) refl ∙ ap (λ b. same_row_key x (row_key_view p) || b) (seen.each x);
+  each = λ x. ap (λ (ks : List Key). has_row_key (row_keys ks) x) is ∙ seen_push rows p x (has_row_key (row_keys rows) (row_key_view p)) refl ∙ ap (λ b. same_row_key x (row_key_view p) || b)
+      (seen.each x);
 }
 
 pub missed : (H past : List Item) (entries : List (Key × Option ℤ)) (rows : List Key) (p : Key) → HoldsTable entries (last_table H) → SeesRows rows past

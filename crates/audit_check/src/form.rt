@@ -147,7 +147,8 @@ fn take_line<'a>(
 #[tactic(auto, using(crate::proofs::Cells::start_kept, crate::proofs::Cells::row_kept))]
 fn is_new<'a>(cells: &mut Cells<'a>, line: &Line<'a>) -> Result<bool, AllocFailed<RowKey<'a>>>
     ensures new { IfOk result (λ new. (past : List Item) → KeepsCells cells.old.starts.keys cells.old.rows.keys past → new ≡ not (repeats past (line_view line.now))) }
-    ensures kept { IfOk result (λ new. (past : List Item) → KeepsCells cells.old.starts.keys cells.old.rows.keys past → IsTrue new → KeepsCells cells.new.starts.keys cells.new.rows.keys (line_view line.now ∷ past)) }
+    ensures kept { IfOk result (λ new. (past : List Item) → KeepsCells cells.old.starts.keys cells.old.rows.keys past → IsTrue new → KeepsCells cells.new.starts.keys cells.new.rows.keys
+        (line_view line.now ∷ past)) }
 {
     match line {
         Line::Start(row_key, _) => add_row_key(&mut cells.starts, *row_key),

@@ -119,7 +119,8 @@ fn run<'a>(
     requires own { (t : ℕ) → list_at own.now t ≡ own_from t 0 lines.now }
     requires all { length replay.old.wrong.items ≡ length lines.now }
     ensures length { OnOk result (length replay.new.wrong.items ≡ length lines.now) }
-    ensures runs { OnOk result ((T : Values) → HoldsTable replay.old.table.values.entries T → RunsTo (length lines.now) txn lines.now T replay.old.wrong.items replay.new.table.values.entries replay.new.wrong.items) }
+    ensures runs { OnOk result ((T : Values) → HoldsTable replay.old.table.values.entries T → RunsTo (length lines.now) txn lines.now T replay.old.wrong.items replay.new.table.values.entries
+        replay.new.wrong.items) }
 {
     for at in list_at(own, txn) {
         let i = *at as usize;
@@ -132,7 +133,8 @@ fn run<'a>(
 fn step<'a>(replay: &mut Replay<'a>, line: &Line<'a>, i: usize) -> Result<(), AllocError>
     requires { i < length replay.old.wrong.items }
     ensures length { OnOk result (length replay.new.wrong.items ≡ length replay.old.wrong.items) }
-    ensures steps { OnOk result ((T : Values) → HoldsTable replay.old.table.values.entries T → StepsLine T (line_view line.now) i replay.old.wrong.items replay.new.table.values.entries replay.new.wrong.items) }
+    ensures steps { OnOk result ((T : Values) → HoldsTable replay.old.table.values.entries T → StepsLine T (line_view line.now) i replay.old.wrong.items replay.new.table.values.entries
+        replay.new.wrong.items) }
 {
     match line {
         Line::Got { row_key, value, .. } => {

@@ -83,7 +83,8 @@ fn has_begun(begun: u32, txn: u32) -> bool
 
 /// Updates the state of the transaction of a right line.
 fn take(standings: &mut Standings, line: &Line) -> Result<(), AllocError>
-    ensures { OnOk result ((past : List Item) → wrong_txn past (line_view line.now) ≡ false → KeepsStandings standings.old.begun standings.old.done.items standings.old.gone.items past → KeepsStandings standings.new.begun standings.new.done.items standings.new.gone.items (line_view line.now ∷ past)) }
+    ensures { OnOk result ((past : List Item) → wrong_txn past (line_view line.now) ≡ false → KeepsStandings standings.old.begun standings.old.done.items standings.old.gone.items past
+        → KeepsStandings standings.new.begun standings.new.done.items standings.new.gone.items (line_view line.now ∷ past)) }
 {
     match line {
         Line::Began(txn) => {

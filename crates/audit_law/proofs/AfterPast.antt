@@ -42,7 +42,8 @@ module _ (S : Setup) (a : TreeFacts S) (t : Txn) (P : List Event) (l : Lawful S 
 
   pub read_committed : (w : ℕ) → 0 < w → list_any (is_from t.0 w) P ≡ true → history.committed P w ≡ true
   read_committed w above reads =
-      let sooner : history.done_at now w < history.done_at now t.0 = read_recoverable S a now t.0 w l (commits_from now t.0 newest_commits) above now (le_refl (length now)) (upto_all (length now) now (le_refl (length now))) reads in
+      let sooner : history.done_at now w < history.done_at now t.0 = read_recoverable S a now t.0 w l (commits_from now t.0 newest_commits) above now (le_refl (length now))
+      (upto_all (length now) now (le_refl (length now))) reads in
       let last = done_last in
       let before : history.done_at now w < length P = omega (arith, sooner, last) in
       ap (λ (H : List Event). history.committed H w) (sym front) ∙ committed-upto now (length P) w (omega arith) ∙ lt-ltb (history.done_at now w) (length P) before

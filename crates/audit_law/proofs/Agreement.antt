@@ -77,7 +77,8 @@ module _ (names : NameBook) (distinct : IsDistinct bytes_eq names.tables) where
   unfolding starts_in
   no_rows = record { each = λ x named. refl }
 
-  one_row : (r : Cell × ℤ) (rs : List (Cell × ℤ)) → CellNamed names r.0 → Agree (starts_in (starts (by_row_key names rs))) (row_of rs) → Agree (starts_in (starts (by_row_key names (r ∷ rs)))) (row_of (r ∷ rs))
+  one_row : (r : Cell × ℤ) (rs : List (Cell × ℤ)) → CellNamed names r.0 → Agree (starts_in (starts (by_row_key names rs))) (row_of rs) → Agree (starts_in (starts (by_row_key names (r ∷ rs))))
+      (row_of (r ∷ rs))
   unfolding starts_in
   one_row r rs named agree = record { each = (put_agrees r.0 (Some r.1) (starts_in (starts (by_row_key names rs))) (row_of rs) named agree).each }
 

@@ -59,11 +59,13 @@ rows_along names R W (event.Done t ∷ P) = (refl, rows_along names R W P)
 rows_along names R W (event.Gone t c ∷ P) = (refl, rows_along names R W P)
 rows_along names R W (event.Told t ∷ P) = (refl, rows_along names R W P)
 
-no_fault : (W : List Item) → first_line wrong_txn W ≡ None → first_line (wrong_order W) W ≡ None → first_line wrong_after W ≡ None → first_line (wrong_read W) W ≡ None → first_line (wrong_row W) W ≡ None → fault_in W ≡ None
+no_fault : (W : List Item) → first_line wrong_txn W ≡ None → first_line (wrong_order W) W ≡ None → first_line wrong_after W ≡ None → first_line (wrong_read W) W ≡ None
+    → first_line (wrong_row W) W ≡ None → fault_in W ≡ None
 unfolding fault_in
 no_fault W t o a r w = rw (t, o, a, r, w)
 
-module _ (names : NameBook) (X : Store) (a : TreeFacts X.setup) (H : List Event) (order : List Txn) (rows : List (Cell × ℤ)) (can : CanPrint names X.rows H) (order_fits : All TxnFits order) (rows_fit : All (RowFits names) rows)
+module _ (names : NameBook) (X : Store) (a : TreeFacts X.setup) (H : List Event) (order : List Txn) (rows : List (Cell × ℤ)) (can : CanPrint names X.rows H) (order_fits : All TxnFits order)
+    (rows_fit : All (RowFits names) rows)
     (l : Lawful X.setup H) (ser : Serializes X H (map (λ t. t.0) order)) (first : Apart X.rows) (last : Apart rows) (final : (x : Cell) → row_of rows x ≡ final_table X H x) where
   abbrev ts : List ℕ
   ts = map (λ t. t.0) order
@@ -97,7 +99,8 @@ module _ (names : NameBook) (X : Store) (a : TreeFacts X.setup) (H : List Event)
       (tables_agree names can.names_differ R H us (starts_in Q) (row_of X.rows) can.events_fit starting)
 
   begins : (t : ℕ) → Agree names can.names_differ (table_before W t) (rule.table_after H (before t ts) (row_of X.rows))
-  begins t = subst (λ (us : List ℕ). Agree names can.names_differ (table_after W (before t us) (starts_in W)) (rule.table_after H (before t ts) (row_of X.rows))) (sym (order_reported ts Q Rows)) (after_some (before t ts))
+  begins t = subst (λ (us : List ℕ). Agree names can.names_differ (table_after W (before t us) (starts_in W)) (rule.table_after H (before t ts) (row_of X.rows))) (sym (order_reported ts Q Rows))
+      (after_some (before t ts))
 
   ends : Agree names can.names_differ (last_table W) (rule.table_after H ts (row_of X.rows))
   ends = subst (λ (us : List ℕ). Agree names can.names_differ (table_after W us (starts_in W)) (rule.table_after H ts (row_of X.rows))) (sym (order_reported ts Q Rows)) (after_some ts)
@@ -130,7 +133,8 @@ module _ (names : NameBook) (X : Store) (a : TreeFacts X.setup) (H : List Event)
   no_row =
       none_reported (wrong_row W) ts Q (none_along names R (wrong_row W) (λ past x v. refl) H (rows_along names R W H)) refl Rows
       (rows_right names can.names_differ W rows (rule.table_after H ts (row_of X.rows)) ends last_is (reverse rows) row_fit (All-reverse (HasRow rows) rows (rows_stand rows last)))
-      (none_missing names can.names_differ W rows (rule.table_after H ts (row_of X.rows)) ends last_is (reverse X.rows) H ts (row_items Rows ++ Order ts ∷ Q) start_fit can.events_fit has_line (row_keys_reported ts Q Rows))
+      (none_missing names can.names_differ W rows (rule.table_after H ts (row_of X.rows)) ends last_is (reverse X.rows) H ts (row_items Rows ++ Order ts ∷ Q) start_fit can.events_fit has_line
+      (row_keys_reported ts Q Rows))
 
   -- the lines are read back
   abbrev said : List Item
@@ -149,7 +153,8 @@ module _ (names : NameBook) (X : Store) (a : TreeFacts X.setup) (H : List Event)
   told = onto begun (map (event_item names) (reverse H))
 
   begun_is : begun ≡ starts R
-  begun_is = onto_map start_item [] X.rows ∙ append-nil (map start_item (reverse X.rows)) ∙ sym (map_map (λ (r : RowKey × ℤ). Start r.0 r.1) (λ (r : Cell × ℤ). (row_key_of names r.0, r.1)) (reverse X.rows))
+  begun_is = onto_map start_item [] X.rows ∙ append-nil (map start_item (reverse X.rows))
+      ∙ sym (map_map (λ (r : RowKey × ℤ). Start r.0 r.1) (λ (r : Cell × ℤ). (row_key_of names r.0, r.1)) (reverse X.rows))
 
   told_is : told ≡ Q
   told_is =

@@ -89,7 +89,13 @@ module _ (names : NameBook) (are : AreNames names) where
   began_back t s k zero fits some most kind small = rw (txn_back t fits, from_one_back SESSIONS s some most (omega (arith, most)), kind_back k kind)
   began_back t s k (suc i) fits some most kind small =
       let told : (suc i == 0) ≡ false = grind (arith, nat_tests) in
-      rw (told, txn_back t fits, from_one_back SESSIONS s some most (omega (arith, most)), kind_back k kind, from_one_back (2 ^ 32 - 1) (suc i) (omega arith) (omega (arith, small)) (omega (arith, small)))
+      rw (
+        told,
+        txn_back t fits,
+        from_one_back SESSIONS s some most (omega (arith, most)),
+        kind_back k kind,
+        from_one_back (2 ^ 32 - 1) (suc i) (omega arith) (omega (arith, small)) (omega (arith, small)),
+      )
 
   began_are_words : (t : Txn) (s : ℕ) (k i : ℕ) → TxnFits t → s ≤ SESSIONS → k < length names.types → i < 2 ^ 32
       → list_all is_word (txn_text t ∷ decimal s ∷ name_of names.types k ∷ instance_words i) ≡ true

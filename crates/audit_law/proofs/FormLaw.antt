@@ -51,7 +51,8 @@ module _ (names : NameBook) (distinct : IsDistinct bytes_eq names.tables) where
   starts_from : (rs : List (Cell × ℤ)) (past : List Item) → All (RowFits names) rs → Apart rs → part_after past ≡ 0 → Fresh is_start past rs → AllFit past (map start_item rs)
   starts_from [] past fit apart at fresh = tt
   starts_from (r ∷ rs) past fit apart at fresh = (
-    and_from (may_follow (part_after past) 0) (not (list_any (is_start (row_key_of names r.0)) past)) (ap (λ p. may_follow p 0) at) (not_from_false (list_any (is_start (row_key_of names r.0)) past) fresh.0),
+    and_from (may_follow (part_after past) 0) (not (list_any (is_start (row_key_of names r.0)) past)) (ap (λ p. may_follow p 0) at)
+        (not_from_false (list_any (is_start (row_key_of names r.0)) past) fresh.0),
     starts_from rs (start_item r ∷ past) (All-tail (RowFits names) r rs fit) apart.1 refl
         (still_fresh is_start start_item (λ x y v. refl) past r rs (All-head (RowFits names) r rs fit).0.0 (All-tail (RowFits names) r rs fit) apart.0 fresh.1),
   )
@@ -97,13 +98,15 @@ module _ (names : NameBook) (distinct : IsDistinct bytes_eq names.tables) where
   part_of_starts (r ∷ rs) past low = part_of_starts rs (start_item r ∷ past) (omega arith)
 
   -- the report
-  rows_from : (rs : List (Cell × ℤ)) (past : List Item) → All (RowFits names) rs → Apart rs → 2 ≤ part_after past → part_after past ≤ 3 → Fresh is_row past rs → AllFit past (map row_item rs ++ End ∷ [])
+  rows_from : (rs : List (Cell × ℤ)) (past : List Item) → All (RowFits names) rs → Apart rs → 2 ≤ part_after past → part_after past ≤ 3 → Fresh is_row past rs
+      → AllFit past (map row_item rs ++ End ∷ [])
   rows_from [] past fit apart low high fresh = (end_fits (part_after past) low high, tt)
     where
       end_fits : (p : ℕ) → 2 ≤ p → p ≤ 3 → (may_follow p 4 && true) ≡ true
       end_fits p l h = grind (arith, nat_tests)
   rows_from (r ∷ rs) past fit apart low high fresh = (
-    and_from (may_follow (part_after past) 3) (not (list_any (is_row (row_key_of names r.0)) past)) (row_follows (part_after past) low high) (not_from_false (list_any (is_row (row_key_of names r.0)) past) fresh.0),
+    and_from (may_follow (part_after past) 3) (not (list_any (is_row (row_key_of names r.0)) past)) (row_follows (part_after past) low high)
+        (not_from_false (list_any (is_row (row_key_of names r.0)) past) fresh.0),
     rows_from rs (row_item r ∷ past) (All-tail (RowFits names) r rs fit) apart.1 (omega arith) (omega arith)
         (still_fresh is_row row_item (λ x y v. refl) past r rs (All-head (RowFits names) r rs fit).0.0 (All-tail (RowFits names) r rs fit) apart.0 fresh.1),
   )
@@ -111,7 +114,8 @@ module _ (names : NameBook) (distinct : IsDistinct bytes_eq names.tables) where
       row_follows : (p : ℕ) → 2 ≤ p → p ≤ 3 → may_follow p 3 ≡ true
       row_follows p l h = grind (arith, nat_tests)
 
-  pub report_fits : (ts : List ℕ) (rs : List (Cell × ℤ)) (past : List Item) → All (RowFits names) rs → Apart rs → part_after past ≤ 1 → Fresh is_row past rs → AllFit past (Order ts ∷ (map row_item rs ++ End ∷ []))
+  pub report_fits : (ts : List ℕ) (rs : List (Cell × ℤ)) (past : List Item) → All (RowFits names) rs → Apart rs → part_after past ≤ 1 → Fresh is_row past rs
+      → AllFit past (Order ts ∷ (map row_item rs ++ End ∷ []))
   report_fits ts rs past fit apart low fresh =
       (order_follows (part_after past) low, rows_from rs (Order ts ∷ past) fit apart (omega arith) (omega arith) (kept rs fresh))
     where

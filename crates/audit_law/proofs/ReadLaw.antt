@@ -51,7 +51,8 @@ module _ (names : NameBook) (distinct : IsDistinct bytes_eq names.tables) (start
       → (is_among (order_in W) t && is_misread (items names starting P) (table_before W t) t (row_key_of names x) v) ≡ false
   got_right P t u x v fit named reads = elim (cases_Bool (is_among order t)) [
     | inl listed ↦
-        let held : after_puts (items names starting P) t (table_before W t) (row_key_of names x) ≡ v = (puts_agree names distinct starting P t (table_before W t) (rule.table_after H (before t order) T) fit (begins t)).each x named ∙ sym (reads listed) in
+        let held : after_puts (items names starting P) t (table_before W t) (row_key_of names x) ≡ v =
+        (puts_agree names distinct starting P t (table_before W t) (rule.table_after H (before t order) T) fit (begins t)).each x named ∙ sym (reads listed) in
         and_right (is_among (order_in W) t) (is_misread (items names starting P) (table_before W t) t (row_key_of names x) v)
         (not_from_true (same_value (after_puts (items names starting P) t (table_before W t) (row_key_of names x)) v) (ap (λ w. same_value w v) held ∙ itself v))
     | inr other ↦ and_left (is_among (order_in W) t) (is_misread (items names starting P) (table_before W t) t (row_key_of names x) v) (ap (λ ts. is_among ts t) is ∙ other)

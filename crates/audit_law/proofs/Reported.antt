@@ -39,7 +39,8 @@ module _ (names : NameBook) where
   done_fits (Gone u c ∷ P) t fit h = done_fits P t (All-tail (EventFits names) (Gone u c) P fit) h
   done_fits (Told u ∷ P) t fit h = done_fits P t (All-tail (EventFits names) (Told u) P fit) h
 
-  listed_fit : (H : List Event) (all : List ℕ) (order : List Txn) → All (EventFits names) H → ((t : ℕ) → In t all → history.committed H t ≡ true) → ((t : ℕ) → In t (map (λ u. u.0) order) → In t all) → All TxnFits order
+  listed_fit : (H : List Event) (all : List ℕ) (order : List Txn) → All (EventFits names) H → ((t : ℕ) → In t all → history.committed H t ≡ true) → ((t : ℕ) → In t (map (λ u. u.0) order) → In t all)
+      → All TxnFits order
   listed_fit H all [] fit each part = All-nil TxnFits
   listed_fit H all (t ∷ ts) fit each part =
       All-cons TxnFits t ts (done_fits H t.0 fit (committed_items names [] H t.0 ∙ each t.0 (part t.0 (inl refl)))) (listed_fit H all ts fit each (λ u i. part u (inr i)))
@@ -99,5 +100,6 @@ module _ (names : NameBook) where
     each_fits all (r ∷ rs) final has =
         All-cons (RowFits names) r rs (final_fits r.0 r.1 (sym (final r.0) ∙ All-head (HasRow all) r rs has)) (each_fits all rs final (All-tail (HasRow all) r rs has))
 
-  pub rows_fit : (X : Store) (H : List Event) (rows : List (Cell × ℤ)) → All (RowFits names) X.rows → All (EventFits names) H → Apart rows → ((x : Cell) → row_of rows x ≡ final_table X H x) → All (RowFits names) rows
+  pub rows_fit : (X : Store) (H : List Event) (rows : List (Cell × ℤ)) → All (RowFits names) X.rows → All (EventFits names) H → Apart rows → ((x : Cell) → row_of rows x ≡ final_table X H x)
+      → All (RowFits names) rows
   rows_fit X H rows starts fit apart final = each_fits X H starts fit rows rows final (rows_stand rows apart)

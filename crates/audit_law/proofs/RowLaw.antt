@@ -33,7 +33,8 @@ module _ (names : NameBook) (distinct : IsDistinct bytes_eq names.tables) where
     unfolding row_keys_in
     no_start [] fit = refl
     no_start (r ∷ rows) fit =
-        or_from (p (row_key_of names r.0)) (list_any p (row_keys_in (starts (by_row_key names rows)))) (none r.0 (All-head (RowFits names) r rows fit).0.0) (no_start rows (All-tail (RowFits names) r rows fit))
+        or_from (p (row_key_of names r.0)) (list_any p (row_keys_in (starts (by_row_key names rows)))) (none r.0 (All-head (RowFits names) r rows fit).0.0)
+        (no_start rows (All-tail (RowFits names) r rows fit))
 
     pub no_row_key : (rows : List (Cell × ℤ)) (H : List Event) → All (RowFits names) rows → All (EventFits names) H → list_any p (row_keys_in (items names (by_row_key names rows) H)) ≡ false
     unfolding row_keys_in

@@ -52,7 +52,8 @@ module _ (B : List Batch) (s : ℕ) where
   ]
 
   -- where the first on the side is, its batch tells whether it is full
-  pub found_full : (R : List Member) (first : Member) (size : ℕ) → find on_side R ≡ Some first → full_on size s (map (running_shown B) R) ≡ cond (leb size (batch_at B first).admitted) (Some first.txn.0) None
+  pub found_full : (R : List Member) (first : Member) (size : ℕ) → find on_side R ≡ Some first → full_on size s (map (running_shown B) R) ≡ cond (leb size (batch_at B first).admitted)
+      (Some first.txn.0) None
   found_full [] first size h = absurd (cc)
   found_full (m ∷ R) first size h = elim (cases_Bool (on_side m)) [
     | inl t ↦ rw t (let q : Some m ≡ Some first = rw t at h in let r : m ≡ first = cc in ap (λ (o : Member). cond (leb size (batch_at B o).admitted) (Some o.txn.0) None) r)
@@ -150,7 +151,8 @@ module _ (J R : List Member) (B C : List Batch) (s at b : ℕ) (h : IsHeld J R B
       fuse (m ∷ ms) = λ i. admit s (running_shown B m) ∷ fuse ms i
 
       each : map (running_shown C) R ≡ map (admit s) (map (running_shown B) R)
-      each = map_Has (running_shown C) (λ m. admit s (running_shown B m)) R (λ m k. running_path m.txn.0 _ _ _ _ _ _ (e.side m (in_running m k)) (e.start m (in_running m k)) (e.admitted m k)) ∙ sym (fuse R)
+      each = map_Has (running_shown C) (λ m. admit s (running_shown B m)) R (λ m k. running_path m.txn.0 _ _ _ _ _ _ (e.side m (in_running m k)) (e.start m (in_running m k)) (e.admitted m k))
+          ∙ sym (fuse R)
 
   few_on : (ms : List Member) → ((m : Member) → Has m ms → (batch_at B m).admitted ≤ length J) → admitted_on (map (running_shown B) ms) s ≤ length J
   unfolding Has
@@ -166,10 +168,20 @@ module _ (J R : List Member) (B C : List Batch) (s at b : ℕ) (h : IsHeld J R B
       record {
         ascending = ascending_push member_number t J h.ascending above_j;
         running_ascending = ascending_push member_number t R h.running_ascending above_r;
-        joined_within = All-push (λ (m : Member). m.batch < length C) J t (All-weaker (λ (m : Member). m.batch < length B) (λ (m : Member). m.batch < length C) (λ m k. let z = e.longer in longer k z) J h.joined_within) own_within;
-        running_within = All-push (λ (m : Member). m.batch < length C) R t (All-weaker (λ (m : Member). m.batch < length B) (λ (m : Member). m.batch < length C) (λ m k. let z = e.longer in longer k z) R h.running_within) own_within;
-        sides = λ m k. elim (Has-push_cases m t R k) [ inl j ↦ h.sides m j ∙ sym (e.side m (in_running m j)) | inr p ↦ subst (λ (o : Member). o.side ≡ (batch_at C o).side) p (on ∙ sym (own (λ z. z.side) s e.own_side)) ];
-        unclosed = λ m k. elim (Has-push_cases m t R k) [ inl j ↦ e.close m (in_running m j) ∙ h.unclosed m j | inr p ↦ subst (λ (o : Member). (batch_at C o).close ≡ None) p (own (λ z. z.close) None e.own_close) ];
+        joined_within = All-push (λ (m : Member). m.batch < length C) J t
+            (All-weaker (λ (m : Member). m.batch < length B) (λ (m : Member). m.batch < length C) (λ m k. let z = e.longer in longer k z) J h.joined_within) own_within;
+        running_within = All-push (λ (m : Member). m.batch < length C) R t
+            (All-weaker (λ (m : Member). m.batch < length B) (λ (m : Member). m.batch < length C) (λ m k. let z = e.longer in longer k z) R h.running_within) own_within;
+        sides = λ m k. elim (Has-push_cases m t R k) [
+          | inl j ↦ h.sides m j ∙ sym (e.side m (in_running m j))
+          | inr p ↦ subst (λ (o : Member). o.side ≡ (batch_at C o).side) p
+              (on ∙ sym (own (λ z. z.side) s e.own_side))
+        ];
+        unclosed = λ m k. elim (Has-push_cases m t R k) [
+          | inl j ↦ e.close m (in_running m j) ∙ h.unclosed m j
+          | inr p ↦ subst (λ (o : Member). (batch_at C o).close ≡ None) p
+              (own (λ z. z.close) None e.own_close)
+        ];
         busy = λ m k c. elim (Has-push_cases m t J k) [
           | inl j ↦ (let r = h.busy m j (sym (e.close m (in_joined m j)) ∙ c) in (r.0, Has-append_left r.0 R (t ∷ []) r.1, r.2))
           | inr p ↦ (t, Has-push t R, ap (λ (o : Member). o.batch) p)
@@ -180,7 +192,8 @@ module _ (J R : List Member) (B C : List Batch) (s at b : ℕ) (h : IsHeld J R B
             | inr p ↦ e.mine m j (sym (e.side m (in_running m j)) ∙ c ∙ ap (λ (o : Member). (batch_at C o).side) (sym p) ∙ own (λ z. z.side) s e.own_side) ∙ sym q ∙ ap (λ (o : Member). o.batch) p
           ]
           | inr r ↦ elim (Has-push_cases o t R k) [
-            | inl k ↦ ap (λ (o : Member). o.batch) (sym r) ∙ q ∙ sym (e.mine o k (sym (e.side o (in_running o k)) ∙ sym c ∙ ap (λ (o : Member). (batch_at C o).side) (sym r) ∙ own (λ z. z.side) s e.own_side))
+            | inl k ↦ ap (λ (o : Member). o.batch) (sym r) ∙ q
+                ∙ sym (e.mine o k (sym (e.side o (in_running o k)) ∙ sym c ∙ ap (λ (o : Member). (batch_at C o).side) (sym r) ∙ own (λ z. z.side) s e.own_side))
             | inr p ↦ ap (λ (o : Member). o.batch) (sym r ∙ p)
           ]
         ];

@@ -50,7 +50,8 @@ module _ (S : Setup) (P : List Event) (n : ℕ) (e : Event) (l : IsNumbered P) (
   admitted_kept h u i =
       let b = old u i in
       let q0 = λ (v : ℕ). on S P n v && eqb (side S P n v) (side S P n u) in
-      (λ j. count_by (λ w. eqb (start S (e ∷ P) n w) (start_kept S e P n u (In-txns_begun P u l i) b j)) (filter (λ w. on S (e ∷ P) n w && eqb (side S (e ∷ P) n w) (side_kept S e P n u b j)) (txns (e ∷ P))))
+      (λ j. count_by (λ w. eqb (start S (e ∷ P) n w) (start_kept S e P n u (In-txns_begun P u l i) b j))
+      (filter (λ w. on S (e ∷ P) n w && eqb (side S (e ∷ P) n w) (side_kept S e P n u b j)) (txns (e ∷ P))))
       ∙ ap (count_by (λ w. eqb (start S (e ∷ P) n w) (start S P n u))) (filter_sides h (side S P n u))
       ∙ count_in _ _ (filter q0 (txns P)) (λ w k j. eqb (start_kept S e P n w (In-txns_begun P w l (filter-In q0 w (txns P) k).0) (old w (filter-In q0 w (txns P) k).0) j) (start S P n u))
 
@@ -73,7 +74,8 @@ module _ (S : Setup) (P : List Event) (n : ℕ) (e : Event) (l : IsNumbered P) (
   running_done t h f =
       let g = steady_kept h in
       ap (λ (us : List ℕ). map (running_of S (e ∷ P) n) (filter (unfinished (e ∷ P)) us)) (members_kept g)
-      ∙ ap (map (running_of S (e ∷ P) n)) (filter_agree (unfinished (e ∷ P)) (λ u. unfinished P u && not (eqb u t)) f (members S P n) ∙ sym (filter-filter (unfinished P) (λ u. not (eqb u t)) (members S P n)))
+      ∙ ap (map (running_of S (e ∷ P) n)) (filter_agree (unfinished (e ∷ P)) (λ u. unfinished P u && not (eqb u t)) f (members S P n)
+      ∙ sym (filter-filter (unfinished P) (λ u. not (eqb u t)) (members S P n)))
       ∙ running_kept g (filter (λ u. not (eqb u t)) (filter (unfinished P) (members S P n)))
       (λ u i. (filter-In (on S P n) u (txns P) (filter-In (unfinished P) u (members S P n) (filter-In (λ w. not (eqb w t)) u (filter (unfinished P) (members S P n)) i).0).0).0)
       ∙ sym (filter-map (running_of S P n) (λ r. not (eqb r.txn t)) (filter (unfinished P) (members S P n)))
@@ -158,11 +160,13 @@ passed S P n (Began t s k i) l m h = let r = running_passed S P n (Began t s k i
     f u w = unfinished_kept (Began t s k i) P u (old S P n (Began t s k i) l m u (filter-In (on S P n) u (txns P) w).0) refl refl
 passed S P n (Done t) l m h =
     let g = steady_kept S P n (Done t) l m refl in
-    let r = running_passed S P n (Done t) l m g (λ u w. finished t.0 (Done t) P refl u ∙ ap (λ (b : Bool). unfinished P u && not b) (other_unfinished S P n t.0 u h (filter-In (on S P n) u (txns P) w).1) ∙ and_true (unfinished P u)) in
+    let r = running_passed S P n (Done t) l m g
+    (λ u w. finished t.0 (Done t) P refl u ∙ ap (λ (b : Bool). unfinished P u && not b) (other_unfinished S P n t.0 u h (filter-In (on S P n) u (txns P) w).1) ∙ and_true (unfinished P u)) in
     (r, rows_passed S P n (Done t) l m g r)
 passed S P n (Gone t c) l m h =
     let g = steady_kept S P n (Gone t c) l m refl in
-    let r = running_passed S P n (Gone t c) l m g (λ u w. finished t.0 (Gone t c) P refl u ∙ ap (λ (b : Bool). unfinished P u && not b) (other_unfinished S P n t.0 u h (filter-In (on S P n) u (txns P) w).1) ∙ and_true (unfinished P u)) in
+    let r = running_passed S P n (Gone t c) l m g
+    (λ u w. finished t.0 (Gone t c) P refl u ∙ ap (λ (b : Bool). unfinished P u && not b) (other_unfinished S P n t.0 u h (filter-In (on S P n) u (txns P) w).1) ∙ and_true (unfinished P u)) in
     (r, rows_passed S P n (Gone t c) l m g r)
 passed S P n (Got t x w v) l m h =
     let g = steady_kept S P n (Got t x w v) l m refl in

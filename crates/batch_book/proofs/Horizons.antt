@@ -58,7 +58,8 @@ closed_before S H n u i h = go (came H (close S H n u)) h
     go true h = h
     go false h = absurd h
 
-pub closed_below : (b : Book) (J R : List Member) (B : List Batch) (S : Setup) (H : List Event) (n t : ℕ) (m : Member) → IsKept J R B → map (row_shown B) J ≡ b.rows → BatchesOf b S H n → m.batch < length B → row_shown B m ≡ row_of S H n t →
+pub closed_below : (b : Book) (J R : List Member) (B : List Batch) (S : Setup) (H : List Event) (n t : ℕ) (m : Member) → IsKept J R B → map (row_shown B) J ≡ b.rows → BatchesOf b S H n
+    → m.batch < length B → row_shown B m ≡ row_of S H n t →
     ClosedBelow S H n t (get_or J (batch_at B m).settled no_member).txn.0
 closed_below b J R B S H n t m k shown h w r u l bu ou =
     let i = In-filter (on S H n) u (txns H) (txns-In H u h.numbered bu) ou in

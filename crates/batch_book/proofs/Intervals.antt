@@ -120,7 +120,8 @@ unfolding closing close
 closing_found S H n u s e = ap (λ (z : ℕ). found (λ Q. begun Q u && idle S Q n z) H) e
 
 -- the close of one that has begun: it stays, or comes now
-pub closing_step : (S : Setup) (e : Event) (P : List Event) (n u : ℕ) → begun P u ≡ true → is_began u e ≡ false → closing S (e ∷ P) n u ≡ closed_at (idle S (e ∷ P) n (side S P n u)) (length P) (closing S P n u)
+pub closing_step : (S : Setup) (e : Event) (P : List Event) (n u : ℕ) → begun P u ≡ true → is_began u e ≡ false → closing S (e ∷ P) n u ≡ closed_at (idle S (e ∷ P) n (side S P n u)) (length P)
+    (closing S P n u)
 closing_step S e P n u h b =
     let s = side S P n u in
     let p = λ (Q : List Event). begun Q u && idle S Q n (side S P n u) in

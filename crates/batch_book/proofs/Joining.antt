@@ -27,7 +27,8 @@ number_it : (P : List Event) (e : Event) → MayCome P e → IsNumbered P → Is
 unfolding IsNumbered
 number_it P e m l = (m, l)
 
-module _ (S : Setup) (P : List Event) (n : ℕ) (t : Txn) (z : Session) (k : Kind) (inst : ℕ) (l : IsNumbered P) (m : t.0 ≡ suc (begun_count P)) (o : on_path S.tree n (record { kind = k; instance = inst }) ≡ true) where
+module _ (S : Setup) (P : List Event) (n : ℕ) (t : Txn) (z : Session) (k : Kind) (inst : ℕ) (l : IsNumbered P) (m : t.0 ≡ suc (begun_count P))
+    (o : on_path S.tree n (record { kind = k; instance = inst }) ≡ true) where
   abbrev e : Event
   e = Began t z k inst
 
@@ -117,7 +118,8 @@ module _ (S : Setup) (P : List Event) (n : ℕ) (t : Txn) (z : Session) (k : Kin
       ∙ ap (count_by p) (filter-append q (txns P) (t.0 ∷ []))
       ∙ (λ i. count_by p (filter_in q q0 (txns P) (λ u j h. on_kept S e P n u (old u j) h && eqb (side_kept S e P n u (old u j) h) y) i ++ cond (new_on i && eqb (new_side i) y) (t.0 ∷ []) []))
       ∙ count-append p (filter q0 (txns P)) (cond (eqb s y) (t.0 ∷ []) [])
-      ∙ (λ i. count_in p (λ v. eqb (start S P n v) a) (filter q0 (txns P)) (λ u j h. eqb (start_kept S e P n u (In-txns_begun P u l (filter-In q0 u (txns P) j).0) (old u (filter-In q0 u (txns P) j).0) h) a) i + one (eqb s y) (p t.0) i)
+      ∙ (λ i. count_in p (λ v. eqb (start S P n v) a) (filter q0 (txns P))
+      (λ u j h. eqb (start_kept S e P n u (In-txns_begun P u l (filter-In q0 u (txns P) j).0) (old u (filter-In q0 u (txns P) j).0) h) a) i + one (eqb s y) (p t.0) i)
     where
       one : (b c : Bool) → count_by (λ v. eqb (start S (e ∷ P) n v) a) (cond b (t.0 ∷ []) []) ≡ cond (b && eqb (start S (e ∷ P) n t.0) a) 1 0
       one true c = last_one (eqb (start S (e ∷ P) n t.0) a)
@@ -131,7 +133,8 @@ module _ (S : Setup) (P : List Event) (n : ℕ) (t : Txn) (z : Session) (k : Kin
   unfolding admitted
   old_admitted u v =
       let b = old u v.there in
-      (λ i. count_by (λ w. eqb (start S (e ∷ P) n w) (start_kept S e P n u (In-txns_begun P u l v.there) b i)) (filter (λ w. on S (e ∷ P) n w && eqb (side S (e ∷ P) n w) (side_kept S e P n u b i)) (txns (e ∷ P))))
+      (λ i. count_by (λ w. eqb (start S (e ∷ P) n w) (start_kept S e P n u (In-txns_begun P u l v.there) b i))
+      (filter (λ w. on S (e ∷ P) n w && eqb (side S (e ∷ P) n w) (side_kept S e P n u b i)) (txns (e ∷ P))))
       ∙ counts (side S P n u) (start S P n u)
       ∙ more (cases_Bool (eqb (side S P n u) s))
     where
@@ -158,7 +161,8 @@ module _ (S : Setup) (P : List Event) (n : ℕ) (t : Txn) (z : Session) (k : Kin
       grow a b q = omega arith
 
       none : counted s (length P) ≡ 0
-      none = count_zero _ (filter (λ v. on S P n v && eqb (side S P n v) s) (txns P)) (λ u i. ne_eqb _ _ (λ q. let h = start-lt S P n u (In-txns_begun P u l (filter-In _ u (txns P) i).0) in absurd (omega arith)))
+      none = count_zero _ (filter (λ v. on S P n v && eqb (side S P n v) s) (txns P))
+          (λ u i. ne_eqb _ _ (λ q. let h = start-lt S P n u (In-txns_begun P u l (filter-In _ u (txns P) i).0) in absurd (omega arith)))
 
       found : admitted_on (running_in S P n) s ≡ cond (is_busy (running_in S P n) s) (counted s (last (opens S n s) P)) 0
       found = admitted_on_is (running_of S P n) s (counted s (last (opens S n s) P)) (filter (unfinished P) (members S P n))

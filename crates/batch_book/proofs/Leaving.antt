@@ -59,14 +59,16 @@ module _ (J R : List Member) (B : List Batch) (t : ℕ) (h : IsHeld J R B) where
   left_busy m o k e = busy_any B (batch_at B m).side (without t R) ∙ Has-any (λ z. eqb (batch_at B z).side (batch_at B m).side) o (without t R) k (eq-eqb _ _ (same_side o m e))
 
   -- a row stays, if somebody of its batch is left where that is open
-  row_same : (at : ℕ) (m : Member) → ((batch_at B m).close ≡ None → (o : Member) × Has o (without t R) × (o.batch ≡ m.batch)) → row_shown B m ≡ row_finished (map (running_shown B) (without t R)) at (row_shown B m)
+  row_same : (at : ℕ) (m : Member) → ((batch_at B m).close ≡ None → (o : Member) × Has o (without t R) × (o.batch ≡ m.batch)) → row_shown B m ≡ row_finished (map (running_shown B) (without t R)) at
+      (row_shown B m)
   row_same at m f = row_path m.txn.0 _ _ _ _ _ _ refl refl (sym (go (batch_at B m).close refl))
     where
       go : (c : Option ℕ) → (batch_at B m).close ≡ c → closed_at (not (is_busy (map (running_shown B) (without t R)) (batch_at B m).side)) at c ≡ c
       go (Some c) e = refl
       go None e = let r = f e in ap (λ (b : Bool). cond (not b) (Some at) None) (left_busy m r.0 r.1 r.2)
 
-  rows_of : (C : List Batch) (at : ℕ) → ((m : Member) → Has m J → row_shown C m ≡ row_finished (map (running_shown B) (without t R)) at (row_shown B m)) → map (row_shown C) J ≡ rows_finished (map (running_shown B) R) (map (row_shown B) J) t at
+  rows_of : (C : List Batch) (at : ℕ) → ((m : Member) → Has m J → row_shown C m ≡ row_finished (map (running_shown B) (without t R)) at (row_shown B m))
+      → map (row_shown C) J ≡ rows_finished (map (running_shown B) R) (map (row_shown B) J) t at
   rows_of C at f =
       map_Has (row_shown C) (λ m. row_finished (map (running_shown B) (without t R)) at (row_shown B m)) J f
       ∙ sym (map-map (row_shown B) (row_finished (map (running_shown B) (without t R)) at) J)

@@ -36,7 +36,8 @@ pub filter-map : {A B : Type 0} (f : A → B) (g : B → Bool) (us : List A) →
 filter-map f g [] = refl
 filter-map f g (v ∷ vs) = go (g (f v)) (filter-map f g vs)
   where
-    go : (b : Bool) → filter g (map f vs) ≡ map f (filter (λ u. g (f u)) vs) → cond b (f v ∷ filter g (map f vs)) (filter g (map f vs)) ≡ map f (cond b (v ∷ filter (λ u. g (f u)) vs) (filter (λ u. g (f u)) vs))
+    go : (b : Bool) → filter g (map f vs) ≡ map f (filter (λ u. g (f u)) vs) → cond b (f v ∷ filter g (map f vs)) (filter g (map f vs)) ≡ map f
+        (cond b (v ∷ filter (λ u. g (f u)) vs) (filter (λ u. g (f u)) vs))
     go true h = ap (λ (xs : List _). f v ∷ xs) h
     go false h = h
 
@@ -44,6 +45,7 @@ pub filter-filter : {A : Type 0} (p q : A → Bool) (us : List A) → filter q (
 filter-filter p q [] = refl
 filter-filter p q (v ∷ vs) = go (p v) (filter-filter p q vs)
   where
-    go : (b : Bool) → filter q (filter p vs) ≡ filter (λ u. p u && q u) vs → filter q (cond b (v ∷ filter p vs) (filter p vs)) ≡ cond (b && q v) (v ∷ filter (λ u. p u && q u) vs) (filter (λ u. p u && q u) vs)
+    go : (b : Bool) → filter q (filter p vs) ≡ filter (λ u. p u && q u) vs → filter q (cond b (v ∷ filter p vs) (filter p vs)) ≡ cond (b && q v) (v ∷ filter (λ u. p u && q u) vs)
+        (filter (λ u. p u && q u) vs)
     go true h = λ i. cond (q v) (v ∷ h i) (h i)
     go false h = h

@@ -13,7 +13,8 @@ use Rattle.batch_book.proofs.Entering.{set_keeps}
 
 module _ (J : List Member) (B : List Batch) where
   -- other batches that know as much, and of which as many are closed
-  carried : (C : List Batch) (n m : ℕ) → n ≤ m → length C ≡ length B → ((i : ℕ) → (get_or C i no_batch).settled ≡ (get_or B i no_batch).settled) → ((i : ℕ) → (get_or C i no_batch).start ≡ (get_or B i no_batch).start) →
+  carried : (C : List Batch) (n m : ℕ) → n ≤ m → length C ≡ length B → ((i : ℕ) → (get_or C i no_batch).settled ≡ (get_or B i no_batch).settled)
+      → ((i : ℕ) → (get_or C i no_batch).start ≡ (get_or B i no_batch).start) →
       ((i p : ℕ) → IsClosedBefore p (get_or B i no_batch).close → IsClosedBefore p (get_or C i no_batch).close) → IsSettled J B n → IsSettled J C m
   carried C n m l e f g k h = record {
     fewer = λ i p. (let z = h.fewer i (omega arith) in let y = f i in omega arith);

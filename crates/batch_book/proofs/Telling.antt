@@ -147,6 +147,7 @@ lawful_numbered S (e ∷ P) l = (may e l.0, lawful_numbered S P l.1)
     may (Told t) g = tt
 
 -- a Begin at an inner node that has batches waits for the one that is found where its batch is full
-pub begin_waits : (S : Setup) (H : List Event) (s : Spot) (n : ℕ) → on_begin S H s n ≡ cond (has_batches S.tree n && not (eqb n (leaf S.tree s))) (wait_for (full_at S H n (side_at S.tree n s 0) (row S.tree n).batch)) Go
+pub begin_waits : (S : Setup) (H : List Event) (s : Spot) (n : ℕ) → on_begin S H s n ≡ cond (has_batches S.tree n && not (eqb n (leaf S.tree s)))
+    (wait_for (full_at S H n (side_at S.tree n s 0) (row S.tree n).batch)) Go
 unfolding on_begin full_at admitted
 begin_waits S H s n = refl

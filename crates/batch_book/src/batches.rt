@@ -170,7 +170,8 @@ impl Batches {
     pub fn overlap(&self, t: Txn, u: Txn) -> bool
         requires first { IsTrue (has_joined self.now t.0) }
         requires second { IsTrue (has_joined self.now u.0) }
-        ensures { (S : Setup) (H : List Event) (n : ℕ) → BatchesOf self.now S H n → result ≡ (not (eqb (start S H n t.0) (start S H n u.0)) && not (ltb (close S H n t.0) (start S H n u.0)) && not (ltb (close S H n u.0) (start S H n t.0))) }
+        ensures { (S : Setup) (H : List Event) (n : ℕ) → BatchesOf self.now S H n
+            → result ≡ (not (eqb (start S H n t.0) (start S H n u.0)) && not (ltb (close S H n t.0) (start S H n u.0)) && not (ltb (close S H n u.0) (start S H n t.0))) }
     {
         overlap(self.batch(t), self.batch(u))
     }

@@ -35,5 +35,6 @@ pub fn lawful_is_numbered()
 
 /// A Begin at an inner node that has batches waits for the transaction that `full_at` finds, if its batch is full.
 pub fn begin_waits_for_full()
-    ensures { (S : Setup) (H : List Event) (s : Spot) (n : ℕ) → on_begin S H s n ≡ cond (has_batches S.tree n && not (eqb n (leaf S.tree s))) (wait_for (full_at S H n (side_at S.tree n s 0) (row S.tree n).batch)) Go }
+    ensures { (S : Setup) (H : List Event) (s : Spot) (n : ℕ) → on_begin S H s n ≡ cond (has_batches S.tree n && not (eqb n (leaf S.tree s)))
+        (wait_for (full_at S H n (side_at S.tree n s 0) (row S.tree n).batch)) Go }
 {}

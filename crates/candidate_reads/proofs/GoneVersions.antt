@@ -26,7 +26,8 @@ among-without w t (v ∷ vs) = go (eqb v.0.0 t) refl (among-without w t vs)
     same true false c f = refl
     same false b c f = refl
 
-    go : (b : Bool) → eqb v.0.0 t ≡ b → is_writer (without t vs) w ≡ (not (eqb t w) && is_writer vs w) → is_writer (cond (not b) (v ∷ without t vs) (without t vs)) w ≡ (not (eqb t w) && (eqb v.0.0 w || is_writer vs w))
+    go : (b : Bool) → eqb v.0.0 t ≡ b → is_writer (without t vs) w ≡ (not (eqb t w) && is_writer vs w)
+        → is_writer (cond (not b) (v ∷ without t vs) (without t vs)) w ≡ (not (eqb t w) && (eqb v.0.0 w || is_writer vs w))
     go true e ih = ih ∙ subst (λ (z : ℕ). (not (eqb t w) && is_writer vs w) ≡ (not (eqb t w) && (eqb z w || is_writer vs w))) (sym (eqb-true v.0.0 t e)) (gone (eqb t w))
       where
         gone : (a : Bool) → (not a && is_writer vs w) ≡ (not a && (a || is_writer vs w))
@@ -59,7 +60,8 @@ Pairs-without R t (v ∷ vs) h = go (not (eqb v.0.0 t)) (Pairs-without R t vs h.
     go true k = ((λ u i. h.0 u (In-without u t vs i)), k)
     go false k = k
 
-cell_removed : (S : Setup) (a : TreeFacts S) (t : Txn) (c : Cause) (P : List Event) (x : Cell) (vs : List Version) → Lawful S (Gone t c ∷ P) → HoldsCell S P x vs → HoldsCell S (Gone t c ∷ P) x (without t.0 vs)
+cell_removed : (S : Setup) (a : TreeFacts S) (t : Txn) (c : Cause) (P : List Event) (x : Cell) (vs : List Version) → Lawful S (Gone t c ∷ P) → HoldsCell S P x vs
+    → HoldsCell S (Gone t c ∷ P) x (without t.0 vs)
 cell_removed S a t c P x vs l h = record {
   writers = λ w. among-without w t.0 vs ∙ ap (λ (b : Bool). not (eqb t.0 w) && b) (h.writers w) ∙ sym (version_gone t c P x w);
   values = values_same (Gone t c) P x (without t.0 vs) (λ u i. refl) (values-without P x t.0 vs h.values);
@@ -67,6 +69,7 @@ cell_removed S a t c P x vs l h = record {
 }
 
 -- a Gone of t, whose versions are taken out
-pub versions_removed : (S : Setup) (a : TreeFacts S) (t : Txn) (c : Cause) (P : List Event) (L M : Cell → List Version) → Lawful S (Gone t c ∷ P) → HoldsVersions S P L → ((x : Cell) → M x ≡ without t.0 (L x)) → HoldsVersions S (Gone t c ∷ P) M
+pub versions_removed : (S : Setup) (a : TreeFacts S) (t : Txn) (c : Cause) (P : List Event) (L M : Cell → List Version) → Lawful S (Gone t c ∷ P) → HoldsVersions S P L
+    → ((x : Cell) → M x ≡ without t.0 (L x)) → HoldsVersions S (Gone t c ∷ P) M
 versions_removed S a t c P L M l h f = all_cells S (Gone t c ∷ P) M (λ x.
     subst (λ (vs : List Version). HoldsCell S (Gone t c ∷ P) x vs) (sym (f x)) (cell_removed S a t c P x (L x) l (cell_of S P L x h)))

@@ -41,7 +41,8 @@ pub have : (S : Setup) (H : List Event) (x : Cell) (vs : List Version) → Holds
 have S H x vs h w i = sym (h.writers w) ∙ In_among w (writers_of vs) i
 
 -- an event that neither puts this cell nor is a Gone
-pub cell_kept : (S : Setup) (a : TreeFacts S) (e : Event) (P : List Event) (x : Cell) (vs : List Version) → Lawful S (e ∷ P) → ((u : ℕ) → is_put u x e ≡ false) → ((u : ℕ) → is_gone u e ≡ false) → HoldsCell S P x vs → HoldsCell S (e ∷ P) x vs
+pub cell_kept : (S : Setup) (a : TreeFacts S) (e : Event) (P : List Event) (x : Cell) (vs : List Version) → Lawful S (e ∷ P) → ((u : ℕ) → is_put u x e ≡ false) → ((u : ℕ) → is_gone u e ≡ false)
+    → HoldsCell S P x vs → HoldsCell S (e ∷ P) x vs
 cell_kept S a e P x vs l p g h = record {
   writers = λ w. h.writers w ∙ sym (version_same e P x w (p w) (g w));
   values = values_same e P x vs (λ u i. p u) h.values;

@@ -73,10 +73,12 @@ module _ (f : Facts) (x : Cell) (n w t : ℕ) (a : TreeFacts (setup_of f)) (l : 
 
   -- the node's order of their versions is the order of versions
   pub order_there : meets (setup_of f) (events_of f) n w t ≡ true → orders (setup_of f) (events_of f) n x w t ≡ precedes (setup_of f) (events_of f) x w t
-  order_there h = sym (precedes_at (setup_of f) a (events_of f) n x w t l (writer_began (setup_of f) (events_of f) w x l (version_parts (events_of f) x w v).0) (begun_place (events_of f) t ty.begun) h)
+  order_there h = sym (precedes_at (setup_of f) a (events_of f) n x w t l (writer_began (setup_of f) (events_of f) w x l (version_parts (events_of f) x w v).0) (begun_place (events_of f) t ty.begun)
+      h)
 
   -- and where t has not put x its version will be the later one, but at a timestamp node
-  pub later_there : is_timestamp (row (setup_of f).tree n).control ≡ false → has_version (events_of f) x t ≡ false → aborted (events_of f) t ≡ false → meets (setup_of f) (events_of f) n w t ≡ true → true ≡ precedes (setup_of f) (events_of f) x w t
+  pub later_there : is_timestamp (row (setup_of f).tree n).control ≡ false → has_version (events_of f) x t ≡ false → aborted (events_of f) t ≡ false → meets (setup_of f) (events_of f) n w t ≡ true
+      → true ≡ precedes (setup_of f) (events_of f) x w t
   later_there k none na h =
       let not_put : wrote (events_of f) t x ≡ false = unwritten (wrote (events_of f) t x) (aborted (events_of f) t) none na in
       sym (orders_put (setup_of f) (events_of f) n x w t k ∙ coming_later (events_of f) w t x (version_parts (events_of f) x w v).0 not_put) ∙ order_there h
@@ -85,7 +87,8 @@ module _ (f : Facts) (x : Cell) (n w t : ℕ) (a : TreeFacts (setup_of f)) (l : 
   pub sight_there : w ≢ t → meets (setup_of f) (events_of f) n t w ≡ true → sees_by (row (setup_of f).tree n).control (setup_of f) (events_of f) n x t w ≡ sees (setup_of f) (events_of f) x t w
   unfolding sees
   sight_there ne h =
-      let e : meet (setup_of f) (events_of f) t w ≡ n = meet_is (setup_of f) a (events_of f) n t w l (begun_place (events_of f) t ty.begun) (writer_began (setup_of f) (events_of f) w x l (version_parts (events_of f) x w v).0) h in
+      let e : meet (setup_of f) (events_of f) t w ≡ n = meet_is (setup_of f) a (events_of f) n t w l (begun_place (events_of f) t ty.begun)
+      (writer_began (setup_of f) (events_of f) w x l (version_parts (events_of f) x w v).0) h in
       let p = version_parts (events_of f) x w v in
       rw (ne_eqb w t ne, p.0, p.1, e) refl
 

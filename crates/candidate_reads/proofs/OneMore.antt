@@ -71,7 +71,8 @@ before_newest e P = upto_cons (length P) e P (omega arith) ∙ upto_all (length 
 stays : (q : Event → Bool) (e : Event) (P : List Event) → first_event q P < length P → first_event q (e ∷ P) < length P
 unfolding first_event
 stays q e P h =
-    let m : first (newest q) P ≡ min (length P) (first (newest q) (e ∷ P)) = ap (first (newest q)) (sym (before_newest e P)) ∙ first-upto (newest q) (length P) (e ∷ P) (let z : length P ≤ length (e ∷ P) = omega arith in z) in
+    let m : first (newest q) P ≡ min (length P) (first (newest q) (e ∷ P)) = ap (first (newest q)) (sym (before_newest e P))
+    ∙ first-upto (newest q) (length P) (e ∷ P) (let z : length P ≤ length (e ∷ P) = omega arith in z) in
     omega arith
 
 pub began_stays : (e : Event) (P : List Event) (u : ℕ) → began_at P u < length P → began_at (e ∷ P) u < length P
@@ -83,7 +84,8 @@ unfolding wrote put_at
 put_stays e P u x h = stays (is_put u x) e P (ltb-true _ _ h)
 
 -- the order of a version and a transaction that has begun
-pub precedes_stays : (S : Setup) (a : TreeFacts S) (e : Event) (P : List Event) (x : Cell) (u w : ℕ) → Lawful S (e ∷ P) → began_at P u < length P → began_at P w < length P → wrote P u x ≡ true → u ≢ w → precedes S P x u w ≡ precedes S (e ∷ P) x u w
+pub precedes_stays : (S : Setup) (a : TreeFacts S) (e : Event) (P : List Event) (x : Cell) (u w : ℕ) → Lawful S (e ∷ P) → began_at P u < length P → began_at P w < length P → wrote P u x ≡ true → u ≢ w
+    → precedes S P x u w ≡ precedes S (e ∷ P) x u w
 precedes_stays S a e P x u w l bu bw pu ne =
     ap (λ (Q : List Event). precedes S Q x u w) (sym (before_newest e P))
     ∙ precedes-upto S a (e ∷ P) (length P) x u w l (let z : length P ≤ length (e ∷ P) = omega arith in z) (began_stays e P u bu) (began_stays e P w bw) (put_stays e P u x pu) ne
@@ -92,7 +94,8 @@ earlier : (S : Setup) (e : Event) (P : List Event) → Lawful S (e ∷ P) → La
 unfolding Lawful
 earlier S e P l = l.1
 
-pub strict_stays : (S : Setup) (a : TreeFacts S) (e : Event) (P : List Event) (x : Cell) (u w : ℕ) → Lawful S (e ∷ P) → has_version P x u ≡ true → has_version P x w ≡ true → Strict S P x u w → Strict S (e ∷ P) x u w
+pub strict_stays : (S : Setup) (a : TreeFacts S) (e : Event) (P : List Event) (x : Cell) (u w : ℕ) → Lawful S (e ∷ P) → has_version P x u ≡ true → has_version P x w ≡ true → Strict S P x u w
+    → Strict S (e ∷ P) x u w
 strict_stays S a e P x u w l hu hw s =
     let pu = (version_parts P x u hu).0 in
     let pw = (version_parts P x w hw).0 in
@@ -101,5 +104,6 @@ strict_stays S a e P x u w l hu hw s =
     let ne : u ≢ w = λ q. both_ways _ (precedes_irreflexive S P x w) (subst (λ (z : ℕ). precedes S P x z w ≡ true) q s.0) in
     (sym (precedes_stays S a e P x u w l bu bw pu ne) ∙ s.0, sym (precedes_stays S a e P x w u l bw bu pw (λ q. ne (sym q))) ∙ s.1)
 
-pub order_stays : (S : Setup) (a : TreeFacts S) (e : Event) (P : List Event) (x : Cell) (ws : List ℕ) → Lawful S (e ∷ P) → ((w : ℕ) → In w ws → has_version P x w ≡ true) → Pairs (Strict S P x) ws → Pairs (Strict S (e ∷ P) x) ws
+pub order_stays : (S : Setup) (a : TreeFacts S) (e : Event) (P : List Event) (x : Cell) (ws : List ℕ) → Lawful S (e ∷ P) → ((w : ℕ) → In w ws → has_version P x w ≡ true) → Pairs (Strict S P x) ws
+    → Pairs (Strict S (e ∷ P) x) ws
 order_stays S a e P x ws l f h = Pairs-weaker (Strict S P x) (Strict S (e ∷ P) x) ws (λ u w i j s. strict_stays S a e P x u w l (f u i) (f w j) s) h

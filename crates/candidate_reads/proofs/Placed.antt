@@ -46,11 +46,13 @@ IsFound S H x t vs f = (option_map (λ v. v.at) f ≡ own_or_last t (λ w. prece
 own_place : (S : Setup) (H : List Event) (x : Cell) (t i : ℕ) (ws : List ℕ) → Pairs (Strict S H x) ws → i < length ws → slice_get ws i ≡ Some t → IsPlaceOf S H x t i ws
 own_place S H x t i ws order here it = record {
   within = omega arith;
-  before = λ j w lt g. subst (λ (z : ℕ). precedes S H x w z ≡ true) own (subst (λ (z : ℕ). precedes S H x z (get_or ws i 0) ≡ true) (get_or_from_slice_get ws j w 0 g) (Pairs-at (Strict S H x) ws j i order lt here).0);
+  before = λ j w lt g. subst (λ (z : ℕ). precedes S H x w z ≡ true) own
+      (subst (λ (z : ℕ). precedes S H x z (get_or ws i 0) ≡ true) (get_or_from_slice_get ws j w 0 g) (Pairs-at (Strict S H x) ws j i order lt here).0);
   behind = λ j w le g. elim (cases_order i j) [
     | inl e ↦ subst (λ (z : ℕ). precedes S H x z t ≡ false) (sym own ∙ (ap (λ (k : ℕ). get_or ws k 0) e ∙ get_or_from_slice_get ws j w 0 g)) (precedes_irreflexive S H x t)
     | inr o ↦ elim o [
-      | inl lt ↦ subst (λ (z : ℕ). precedes S H x w z ≡ false) own (subst (λ (z : ℕ). precedes S H x z (get_or ws i 0) ≡ false) (get_or_from_slice_get ws j w 0 g) (Pairs-at (Strict S H x) ws i j order lt (slice_get_within ws j w g)).1)
+      | inl lt ↦ subst (λ (z : ℕ). precedes S H x w z ≡ false) own
+          (subst (λ (z : ℕ). precedes S H x z (get_or ws i 0) ≡ false) (get_or_from_slice_get ws j w 0 g) (Pairs-at (Strict S H x) ws i j order lt (slice_get_within ws j w g)).1)
       | inr gt ↦ absurd (omega arith)
     ]
   ];
@@ -108,7 +110,10 @@ module _ (S : Setup) (H : List Event) (L : Cell → List Version) (l : Lawful S 
 
   -- who may write and has no place is unfinished
   pub about_to : (t : ℕ) → aborted H t ≡ false → Writes H t x → None ≡ first_place (λ w. eqb w t) (writers_of (L x)) → unfinished H t ≡ true
-  about_to t na w e = elim (or_cases (wrote H t x) (unfinished H t) w) [ inl p ↦ absurd (both_ways _ (sym (h.writers x t) ∙ own_absent (writers_of (L x)) t e) (and_from _ _ p (not_from_false _ na))) | inr u ↦ u ]
+  about_to t na w e = elim (or_cases (wrote H t x) (unfinished H t) w) [
+    | inl p ↦ absurd (both_ways _ (sym (h.writers x t) ∙ own_absent (writers_of (L x)) t e) (and_from _ _ p (not_from_false _ na)))
+    | inr u ↦ u
+  ]
 
   module _ (a : TreeFacts S) (t : ℕ) (na : aborted H t ≡ false) (w : Writes H t x) (e : None ≡ first_place (λ w. eqb w t) (writers_of (L x))) where
     along_t : (u v : ℕ) → In u (writers_of (L x)) → In v (writers_of (L x)) → precedes S H x u v ≡ true → precedes S H x v t ≡ true → precedes S H x u t ≡ true

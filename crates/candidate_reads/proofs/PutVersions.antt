@@ -38,7 +38,8 @@ use Rattle.candidate_reads.proofs.KeptVersions.{HoldsCell, cell_of, all_cells, h
 elsewhere : (t : Txn) (x y : Cell) (v : Option ℤ) (u : ℕ) → same_cell y x ≡ false → is_put u y (Put t x v) ≡ false
 elsewhere t x y v u e = rw (same_cell-other y x e) (and_false (eqb t.0 u))
 
-put_cells : (S : Setup) (a : TreeFacts S) (t : Txn) (x : Cell) (v : Option ℤ) (P : List Event) (L M : Cell → List Version) → Lawful S (Put t x v ∷ P) → HoldsVersions S P L → ((y : Cell) → IsFalse (same_cell y x) → M y ≡ L y) →
+put_cells : (S : Setup) (a : TreeFacts S) (t : Txn) (x : Cell) (v : Option ℤ) (P : List Event) (L M : Cell → List Version) → Lawful S (Put t x v ∷ P) → HoldsVersions S P L
+    → ((y : Cell) → IsFalse (same_cell y x) → M y ≡ L y) →
     HoldsCell S (Put t x v ∷ P) x (M x) → HoldsVersions S (Put t x v ∷ P) M
 put_cells S a t x v P L M l h f here = all_cells S (Put t x v ∷ P) M (λ y. elim (cases_Bool (same_cell y x)) [
   | inl e ↦ subst (λ (z : Cell). HoldsCell S (Put t x v ∷ P) z (M z)) (sym (same_cell-true y x e)) here
@@ -60,7 +61,8 @@ stands_in [] i t e = absurd (cc)
 stands_in (u ∷ us) zero t e = inl (cc)
 stands_in (u ∷ us) (suc i) t e = inr (stands_in us i t e)
 
-values-set_value : (t : Txn) (x : Cell) (v : Option ℤ) (P : List Event) (vs : List Version) (i : ℕ) → Pairs (λ u w. u ≢ w) (writers_of vs) → slice_get (writers_of vs) i ≡ Some t.0 → HaveLastValues P x vs → HaveLastValues (Put t x v ∷ P) x (set_value i v vs)
+values-set_value : (t : Txn) (x : Cell) (v : Option ℤ) (P : List Event) (vs : List Version) (i : ℕ) → Pairs (λ u w. u ≢ w) (writers_of vs) → slice_get (writers_of vs) i ≡ Some t.0
+    → HaveLastValues P x vs → HaveLastValues (Put t x v ∷ P) x (set_value i v vs)
 values-set_value t x v P [] i d e h = absurd (cc)
 values-set_value t x v P (w ∷ vs) zero d e h =
     let own : w.0.0 ≡ t.0 = cc in
@@ -69,14 +71,17 @@ values-set_value t x v P (w ∷ vs) (suc i) d e h =
     let other : w.0.0 ≢ t.0 = d.0 t.0 (stands_in (writers_of vs) i t.0 e) in
     (put_skip (Put t x v) P w.0.0 x (put_by_other t x x v w.0.0 (λ q. other (sym q))) ∙ h.0, values-set_value t x v P vs i d.1 e h.1)
 
-cell_overwritten : (S : Setup) (a : TreeFacts S) (t : Txn) (x : Cell) (v : Option ℤ) (P : List Event) (vs : List Version) (i : ℕ) → Lawful S (Put t x v ∷ P) → slice_get (writers_of vs) i ≡ Some t.0 → HoldsCell S P x vs → HoldsCell S (Put t x v ∷ P) x (set_value i v vs)
+cell_overwritten : (S : Setup) (a : TreeFacts S) (t : Txn) (x : Cell) (v : Option ℤ) (P : List Event) (vs : List Version) (i : ℕ) → Lawful S (Put t x v ∷ P) → slice_get (writers_of vs) i ≡ Some t.0
+    → HoldsCell S P x vs → HoldsCell S (Put t x v ∷ P) x (set_value i v vs)
 cell_overwritten S a t x v P vs i l at h =
     let na = unfinished_stands P t.0 (granted_put S t x v P l).0 in
     let same = writers-set_value i v vs in
     let own : has_version P x t.0 ≡ true = have S P x vs h t.0 (stands_in (writers_of vs) i t.0 at) in
     record {
       writers = λ w. ap (among w) same ∙ h.writers w ∙ covered (eqb t.0 w) (λ e. subst (λ (z : ℕ). has_version P x z ≡ true) (eqb-true t.0 w e) own) ∙ sym (version_put t v P x w na);
-      values = values-set_value t x v P vs i (Pairs-weaker (Strict S P x) (λ u w. u ≢ w) (writers_of vs) (λ u w j k s q. both_ways _ (precedes_irreflexive S P x w) (subst (λ (z : ℕ). precedes S P x z w ≡ true) q s.0)) h.order) at h.values;
+      values = values-set_value t x v P vs i
+          (Pairs-weaker (Strict S P x) (λ u w. u ≢ w) (writers_of vs) (λ u w j k s q. both_ways _ (precedes_irreflexive S P x w) (subst (λ (z : ℕ). precedes S P x z w ≡ true) q s.0)) h.order) at
+          h.values;
       order = subst (λ (us : List ℕ). Pairs (Strict S (Put t x v ∷ P) x) us) (sym same) (order_stays S a (Put t x v) P x (writers_of vs) l (have S P x vs h) h.order);
     }
   where
@@ -114,7 +119,8 @@ In-inserted w [] (suc at) t i = i
 In-inserted w (u ∷ us) zero t i = i
 In-inserted w (u ∷ us) (suc at) t i = elim i [ inl e ↦ inr (inl e) | inr j ↦ elim (In-inserted w us at t j) [ inl e ↦ inl e | inr k ↦ inr (inr k) ] ]
 
-Pairs-insert : (R : ℕ → ℕ → Type 0) (us : List ℕ) (at t : ℕ) → Pairs R us → ((i w : ℕ) → i < at → slice_get us i ≡ Some w → R w t) → ((i w : ℕ) → at ≤ i → slice_get us i ≡ Some w → R t w) → Pairs R (insert us at t)
+Pairs-insert : (R : ℕ → ℕ → Type 0) (us : List ℕ) (at t : ℕ) → Pairs R us → ((i w : ℕ) → i < at → slice_get us i ≡ Some w → R w t) → ((i w : ℕ) → at ≤ i → slice_get us i ≡ Some w → R t w)
+    → Pairs R (insert us at t)
 Pairs-insert R [] zero t h f g = ((λ u i. absurd i), tt)
 Pairs-insert R [] (suc at) t h f g = ((λ u i. absurd i), tt)
 Pairs-insert R (u ∷ us) zero t h f g = ((λ w i. let k = In-at w (u ∷ us) i in g k.0 w (omega arith) (slice_get-get_or (u ∷ us) k.0 0 k.1 ∙ ap (λ (z : ℕ). Some z) k.2)), h)
@@ -130,7 +136,8 @@ values-insert H x (v ∷ vs) zero p e h = (e, h)
 values-insert H x (v ∷ vs) (suc at) p e h = (h.0, values-insert H x vs at p e h.1)
 
 -- a Put of t, which had no version of x
-module _ (S : Setup) (a : TreeFacts S) (t : Txn) (x : Cell) (v : Option ℤ) (P : List Event) (vs : List Version) (l : Lawful S (Put t x v ∷ P)) (h : HoldsCell S P x vs) (absent : is_writer vs t.0 ≡ false) where
+module _ (S : Setup) (a : TreeFacts S) (t : Txn) (x : Cell) (v : Option ℤ) (P : List Event) (vs : List Version) (l : Lawful S (Put t x v ∷ P)) (h : HoldsCell S P x vs)
+    (absent : is_writer vs t.0 ≡ false) where
   stands : aborted P t.0 ≡ false
   stands = unfinished_stands P t.0 (granted_put S t x v P l).0
 

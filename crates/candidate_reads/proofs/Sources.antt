@@ -161,13 +161,15 @@ module _ (S : Setup) (R : List (Cell × ℤ)) (H : List Event) (t : ℕ) (x : Ce
   ]
 
 -- the version at the place of t's own is t's, and that at a later place is not
-pub own_at : (vs : List Version) (t i : ℕ) (p : ℕ → Bool) (v : Version) → Some i ≡ own_or_last t p (writers_of vs) → slice_get vs i ≡ Some v → v.0.0 ≡ t → Some i ≡ first_place (λ w. eqb w t) (writers_of vs)
+pub own_at : (vs : List Version) (t i : ℕ) (p : ℕ → Bool) (v : Version) → Some i ≡ own_or_last t p (writers_of vs) → slice_get vs i ≡ Some v → v.0.0 ≡ t
+    → Some i ≡ first_place (λ w. eqb w t) (writers_of vs)
 own_at vs t i p v e g is = elim (own_or_last_cases t p (writers_of vs) (Some i) e) [
   | inl own ↦ own.0
   | inr last ↦ absurd (both_ways _ (own_absent (writers_of vs) t last.0) (In_among t (writers_of vs) (subst (λ (w : ℕ). In w (writers_of vs)) is (at-writer vs i v g).1)))
 ]
 
-pub other_at : (vs : List Version) (t i : ℕ) (p : ℕ → Bool) (v : Version) → Some i ≡ own_or_last t p (writers_of vs) → slice_get vs i ≡ Some v → (v.0.0 ≡ t → ⊥) → (None ≡ first_place (λ w. eqb w t) (writers_of vs)) × (Some i ≡ last_place p (writers_of vs))
+pub other_at : (vs : List Version) (t i : ℕ) (p : ℕ → Bool) (v : Version) → Some i ≡ own_or_last t p (writers_of vs) → slice_get vs i ≡ Some v → (v.0.0 ≡ t → ⊥)
+    → (None ≡ first_place (λ w. eqb w t) (writers_of vs)) × (Some i ≡ last_place p (writers_of vs))
 other_at vs t i p v e g other = elim (own_or_last_cases t p (writers_of vs) (Some i) e) [
   | inl own ↦ absurd (other (sym (at-writer vs i v g).0 ∙ get_or_from_slice_get (writers_of vs) i t 0 (own_found (writers_of vs) t i own.0).1))
   | inr last ↦ last

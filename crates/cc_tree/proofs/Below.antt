@@ -33,7 +33,8 @@ pub rows_below : (T : List NodeRow) (n : ℕ) → n ≤ length T → map (row T)
 unfolding below
 rows_below T zero h = refl
 rows_below T (suc n) h =
-    map-append (row T) (below n) (n ∷ []) ∙ ap (λ (z : List NodeRow). z ++ row T n ∷ []) (rows_below T n (omega arith)) ∙ sym (take_more T n no_row (omega arith)) ∙ ap (λ (z : ℕ). take z T) (let z : n + 1 ≡ suc n = omega arith in z)
+    map-append (row T) (below n) (n ∷ []) ∙ ap (λ (z : List NodeRow). z ++ row T n ∷ []) (rows_below T n (omega arith)) ∙ sym (take_more T n no_row (omega arith))
+    ∙ ap (λ (z : ℕ). take z T) (let z : n + 1 ≡ suc n = omega arith in z)
 
 any_map : (f : NodeRow → Bool) (T : List NodeRow) (ns : List ℕ) → list_any (λ m. f (row T m)) ns ≡ list_any f (map (row T) ns)
 any_map f T [] = refl
@@ -51,7 +52,8 @@ pub is_twice_is : (rs : List Row) (n : ℕ) (r : Row) (es : List Row) → n < le
 is_twice_is rs n r es h e t =
     let z : n ≤ length (rows_of rs) = omega (arith, length-map rs row_of) in
     ap (λ (q : NodeRow). repeats q.types || list_any (λ m. clash (row (rows_of rs) m) q) (below n)) (row_at rs n r h e) ∙
-    ap (λ (b : Bool). repeats (kind_numbers r.types.items) || b) (any_below (λ q. clash q (row_of r)) (rows_of rs) n z ∙ ap (list_any (λ q. clash q (row_of r))) (take-map row_of n rs ∙ ap (map row_of) (sym t)))
+    ap (λ (b : Bool). repeats (kind_numbers r.types.items) || b)
+    (any_below (λ q. clash q (row_of r)) (rows_of rs) n z ∙ ap (list_any (λ q. clash q (row_of r))) (take-map row_of n rs ∙ ap (map row_of) (sym t)))
 
 -- the first fault of a list in two parts
 first_append : (f : ℕ → Option Fault) (xs ys : List ℕ) → first_at f (xs ++ ys) ≡ or_fault (first_at f xs) (first_at f ys)
@@ -59,7 +61,8 @@ first_append f [] ys = refl
 first_append f (x ∷ xs) ys = go (f x) (first_append f xs ys)
   where
     go : (o : Option Fault) → first_at f (xs ++ ys) ≡ or_fault (first_at f xs) (first_at f ys) →
-        elim o as (λ z. Option (ℕ × Fault)) [ Some w ↦ Some (x, w) | None ↦ first_at f (xs ++ ys) ] ≡ or_fault (elim o as (λ z. Option (ℕ × Fault)) [ Some w ↦ Some (x, w) | None ↦ first_at f xs ]) (first_at f ys)
+        elim o as (λ z. Option (ℕ × Fault)) [ Some w ↦ Some (x, w) | None ↦ first_at f (xs ++ ys) ] ≡ or_fault (elim o as (λ z. Option (ℕ × Fault)) [ Some w ↦ Some (x, w) | None ↦ first_at f xs ])
+        (first_at f ys)
     go (Some w) ih = refl
     go None ih = ih
 
@@ -74,7 +77,8 @@ none_below f = refl
 -- no fault below the next number
 pub none_more : (f : ℕ → Option Fault) (n : ℕ) → first_at f (below n) ≡ None → f n ≡ None → first_at f (below (n + 1)) ≡ None
 unfolding below
-none_more f n h e = ap (λ (z : ℕ). first_at f (below z)) (let z : n + 1 ≡ suc n = omega arith in z) ∙ first_append f (below n) (n ∷ []) ∙ ap (λ (o : Option (ℕ × Fault)). or_fault o (first_at f (n ∷ []))) h ∙ first_one f n None e
+none_more f n h e = ap (λ (z : ℕ). first_at f (below z)) (let z : n + 1 ≡ suc n = omega arith in z) ∙ first_append f (below n) (n ∷ [])
+    ∙ ap (λ (o : Option (ℕ × Fault)). or_fault o (first_at f (n ∷ []))) h ∙ first_one f n None e
 
 -- the first fault stands at n
 pub first_below : (f : ℕ → Option Fault) (n m : ℕ) (w : Fault) → first_at f (below n) ≡ None → n < m → f n ≡ Some w → first_at f (below m) ≡ Some (n, w)
@@ -103,7 +107,8 @@ any_zero p = refl
 
 pub any_more : (p : ℕ → Bool) (n : ℕ) → list_any p (below n) ≡ false → p n ≡ false → list_any p (below (n + 1)) ≡ false
 unfolding below
-any_more p n h e = ap (λ (z : ℕ). list_any p (below z)) (let z : n + 1 ≡ suc n = omega arith in z) ∙ list_any-append p (below n) (n ∷ []) ∙ ap (λ (b : Bool). b || (p n || false)) h ∙ ap (λ (b : Bool). b || false) e
+any_more p n h e = ap (λ (z : ℕ). list_any p (below z)) (let z : n + 1 ≡ suc n = omega arith in z) ∙ list_any-append p (below n) (n ∷ []) ∙ ap (λ (b : Bool). b || (p n || false)) h
+    ∙ ap (λ (b : Bool). b || false) e
 
 pub any_found : (p : ℕ → Bool) (n m : ℕ) → n < m → p n ≡ true → list_any p (below m) ≡ true
 any_found p n m l e = list_any_from p (below m) n (In-below m n l) e
@@ -114,14 +119,16 @@ find_zero p = refl
 
 pub find_more : (p : ℕ → Bool) (n : ℕ) → find p (below n) ≡ None → p n ≡ false → find p (below (n + 1)) ≡ None
 unfolding below
-find_more p n h e = ap (λ (z : ℕ). find p (below z)) (let z : n + 1 ≡ suc n = omega arith in z) ∙ find-append p (below n) (n ∷ []) ∙ ap (λ (o : Option ℕ). option_or o (find p (n ∷ []))) h ∙ ap (λ (b : Bool). cond b (Some n) None) e
+find_more p n h e = ap (λ (z : ℕ). find p (below z)) (let z : n + 1 ≡ suc n = omega arith in z) ∙ find-append p (below n) (n ∷ []) ∙ ap (λ (o : Option ℕ). option_or o (find p (n ∷ []))) h
+    ∙ ap (λ (b : Bool). cond b (Some n) None) e
 
 pub find_found : (p : ℕ → Bool) (n m : ℕ) → find p (below n) ≡ None → n < m → p n ≡ true → find p (below m) ≡ Some n
 unfolding below
 find_found p n zero h l e = absurd (omega arith)
 find_found p n (suc m) h l e = find-append p (below m) (m ∷ []) ∙ elim (cases_lt n m) [
   | inl k ↦ ap (λ (o : Option ℕ). option_or o (find p (m ∷ []))) (find_found p n m h k e)
-  | inr k ↦ (let z : m ≡ n = omega arith in ap (λ (i : ℕ). option_or (find p (below i)) (find p (i ∷ []))) z ∙ ap (λ (o : Option ℕ). option_or o (find p (n ∷ []))) h ∙ ap (λ (b : Bool). cond b (Some n) None) e)
+  | inr k ↦ (let z : m ≡ n = omega arith in ap (λ (i : ℕ). option_or (find p (below i)) (find p (i ∷ []))) z ∙ ap (λ (o : Option ℕ). option_or o (find p (n ∷ []))) h
+      ∙ ap (λ (b : Bool). cond b (Some n) None) e)
 ]
 
 -- the first node that houses a spot is its leaf

@@ -7,7 +7,8 @@ use Rattle.cc_tree.specs.Grown.{parent_number}
 use Rattle.cc_tree.specs.Ways.{Climbs}
 
 -- where a parent may be taken, the way goes on from it
-climb_suc : (T : List NodeRow) (d n : ℕ) (lower : List ℕ) (o : Option ℕ) → (row T n).parent ≡ o → climb T (suc d) n lower ≡ elim o as (λ z. List ℕ) [ None ↦ n ∷ lower | Some p ↦ climb T d p (n ∷ lower) ]
+climb_suc : (T : List NodeRow) (d n : ℕ) (lower : List ℕ) (o : Option ℕ) → (row T n).parent ≡ o
+    → climb T (suc d) n lower ≡ elim o as (λ z. List ℕ) [ None ↦ n ∷ lower | Some p ↦ climb T d p (n ∷ lower) ]
 unfolding climb
 climb_suc T d n lower o e = ap (λ (z : Option ℕ). elim z as (λ z. List ℕ) [ None ↦ n ∷ lower | Some p ↦ climb T d p (n ∷ lower) ]) e
 

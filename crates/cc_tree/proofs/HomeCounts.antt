@@ -48,7 +48,8 @@ few_filter p (r ∷ rs) = go (p r) (few_filter p rs)
 homeless_is : (T : List NodeRow) (k : ℕ) → is_homeless T k ≡ few_by (parts_of k T) (count_by (λ r. among k r.types) T)
 unfolding homes
 homeless_is T k =
-    few_map T (homes T k) ∙ ap few_rows (filter_rows (λ r. among k r.types) T (below (length T)) ∙ ap (filter (λ r. among k r.types)) (rows_below T (length T) (le_refl _) ∙ take_all (length T) T (le_refl _))) ∙
+    few_map T (homes T k) ∙ ap few_rows
+    (filter_rows (λ r. among k r.types) T (below (length T)) ∙ ap (filter (λ r. among k r.types)) (rows_below T (length T) (le_refl _) ∙ take_all (length T) T (le_refl _))) ∙
     few_filter (λ r. among k r.types) T ∙ ap (few_by (parts_of k T)) (length-filter (λ r. among k r.types) T)
 
 -- a type without a row is homeless, and one with fewer rows than parts

@@ -35,7 +35,8 @@ pub part_of : (T : Grown) → IsAccepted T → (a b : Spot) → a.kind.0 < T.typ
 part_of T g a b ha hb = parting (setup_of_tree T) (path T.rows a) (path T.rows b) (path_good (setup_of_tree T) (facts_of T g) a ha).rooted (path_good (setup_of_tree T) (facts_of T g) b hb).rooted
 
 -- two transactions are on different sides of the node where their paths part
-sides_differ : (T : Grown) (g : IsAccepted T) (a b : Spot) (ha : a.kind.0 < T.types) (hb : b.kind.0 < T.types) (r : Parting (setup_of_tree T) (path T.rows a) (path T.rows b)) (t u : ℕ) → t ≢ u → side_at T.rows r.node a t ≢ side_at T.rows r.node b u
+sides_differ : (T : Grown) (g : IsAccepted T) (a b : Spot) (ha : a.kind.0 < T.types) (hb : b.kind.0 < T.types) (r : Parting (setup_of_tree T) (path T.rows a) (path T.rows b)) (t u : ℕ) → t ≢ u
+    → side_at T.rows r.node a t ≢ side_at T.rows r.node b u
 unfolding side_at head_or
 sides_differ T g a b ha hb r t u ne e =
     let f = facts_of T g in
@@ -43,9 +44,11 @@ sides_differ T g a b ha hb r t u ne e =
     elim r.part [
       | inl q ↦ ne (sym (ap (head_or t) q.0) ∙ e2 ∙ ap (head_or u) q.1)
       | inr o ↦ elim o [
-        | inl q ↦ no_child (setup_of_tree T) f a b r.node q.1.0 r.front q.1.1 ha hb (r.is_left ∙ ap (λ (z : List ℕ). r.front ++ r.node ∷ z) q.0) (r.is_right ∙ ap (λ (z : List ℕ). r.front ++ r.node ∷ z) q.1.2)
+        | inl q ↦ no_child (setup_of_tree T) f a b r.node q.1.0 r.front q.1.1 ha hb (r.is_left ∙ ap (λ (z : List ℕ). r.front ++ r.node ∷ z) q.0)
+            (r.is_right ∙ ap (λ (z : List ℕ). r.front ++ r.node ∷ z) q.1.2)
         | inr o2 ↦ elim o2 [
-          | inl q ↦ no_child (setup_of_tree T) f b a r.node q.0.0 r.front q.0.1 hb ha (r.is_right ∙ ap (λ (z : List ℕ). r.front ++ r.node ∷ z) q.1) (r.is_left ∙ ap (λ (z : List ℕ). r.front ++ r.node ∷ z) q.0.2)
+          | inl q ↦ no_child (setup_of_tree T) f b a r.node q.0.0 r.front q.0.1 hb ha (r.is_right ∙ ap (λ (z : List ℕ). r.front ++ r.node ∷ z) q.1)
+              (r.is_left ∙ ap (λ (z : List ℕ). r.front ++ r.node ∷ z) q.0.2)
           | inr q ↦ q.6 (sym (ap (head_or t) q.4) ∙ e2 ∙ ap (head_or u) q.5)
         ]
       ]
@@ -81,7 +84,8 @@ find_first p n [] ls f h = rw h refl
 find_first p n (x ∷ xs) ls f h = rw (f x (or_left (eqb x x) (among x xs) (eq-eqb x x refl))) (find_first p n xs ls (λ m i. f m (or_right (eqb x m) (among m xs) i)) h)
 
 -- for any setup with this tree
-of_tree : (T : Grown) (g : IsAccepted T) (a b : Spot) → a.kind.0 < T.types → b.kind.0 < T.types → (r : Parting (setup_of_tree T) (path T.rows a) (path T.rows b)) → (S : Setup) (H : List Event) (t u : ℕ) → S.tree ≡ T.rows → spot_of H t ≡ a → spot_of H u ≡ b → t ≢ u → find (λ n. meets S H n t u) (path S.tree (spot_of H t)) ≡ Some r.node
+of_tree : (T : Grown) (g : IsAccepted T) (a b : Spot) → a.kind.0 < T.types → b.kind.0 < T.types → (r : Parting (setup_of_tree T) (path T.rows a) (path T.rows b))
+    → (S : Setup) (H : List Event) (t u : ℕ) → S.tree ≡ T.rows → spot_of H t ≡ a → spot_of H u ≡ b → t ≢ u → find (λ n. meets S H n t u) (path S.tree (spot_of H t)) ≡ Some r.node
 unfolding on side on_path side_at
 of_tree T g a b ha hb r S H t u tree st su ne =
     let ea : path S.tree (spot_of H t) ≡ path T.rows a = ap (λ (z : List NodeRow). path z (spot_of H t)) tree ∙ ap (path T.rows) st in
@@ -104,7 +108,8 @@ pub record Found (T : Grown) (a b : Spot) (n : ℕ) : Type 0 where
   pub meet : IsMeet T.rows a b n
   pub within : n < length T.rows
 
-pub found : (T : Grown) (g : IsAccepted T) (a b : Spot) → a.kind.0 < T.types → b.kind.0 < T.types → (xs ys : List ℕ) (above n : ℕ) → xs ≡ path T.rows a → ys ≡ path T.rows b → n ≡ last_shared above xs ys → Found T a b n
+pub found : (T : Grown) (g : IsAccepted T) (a b : Spot) → a.kind.0 < T.types → b.kind.0 < T.types → (xs ys : List ℕ) (above n : ℕ) → xs ≡ path T.rows a → ys ≡ path T.rows b
+    → n ≡ last_shared above xs ys → Found T a b n
 unfolding on_path
 found T g a b ha hb xs ys above n ex ey e =
     let r = part_of T g a b ha hb in

@@ -17,7 +17,8 @@ use Rattle.cc_tree.specs.Stored.{path_among}
 use Rattle.cc_tree.proofs.Facts.{setup_of_tree, sound_of, facts_of}
 
 -- two homes of a type have the same number of parts
-same_parts : (T : Grown) → IsAccepted T → (k m n : ℕ) → m < length T.rows → n < length T.rows → among k (row T.rows m).types ≡ true → among k (row T.rows n).types ≡ true → (row T.rows m).parts ≡ (row T.rows n).parts
+same_parts : (T : Grown) → IsAccepted T → (k m n : ℕ) → m < length T.rows → n < length T.rows → among k (row T.rows m).types ≡ true → among k (row T.rows n).types ≡ true
+    → (row T.rows m).parts ≡ (row T.rows n).parts
 same_parts T a k m n hm hn im in_n =
     let s = sound_of T a.some a.parts a.faultless in
     elim (cases_lt m n) [
@@ -44,7 +45,12 @@ first_row p (r ∷ rs) n h e = elim (cases_Bool (p r)) [
   where
     later : (n : ℕ) → n < length (r ∷ rs) → p (row (r ∷ rs) n) ≡ true → p r ≡ false → ((m : ℕ) → m < length rs → p (row rs m) ≡ true → First p rs) → First p (r ∷ rs)
     later zero h e b ih = absurd (cc)
-    later (suc n) h e b ih = let f = ih n (omega arith) e in record { node = suc f.node; within = (let z = f.within in omega arith); is = ap (λ (z : Bool). cond z (Some r) (find p rs)) b ∙ f.is; passes = f.passes }
+    later (suc n) h e b ih = let f = ih n (omega arith) e in record {
+      node = suc f.node;
+      within = (let z = f.within in omega arith);
+      is = ap (λ (z : Bool). cond z (Some r) (find p rs)) b ∙ f.is;
+      passes = f.passes;
+    }
 
 -- the number of parts of a type: that of each of its homes
 record Parted (T : Grown) (k p : ℕ) : Type 0 where
@@ -56,7 +62,8 @@ parted : (T : Grown) → IsAccepted T → (s : Spot) → s.kind.0 < T.types → 
 parted T a s h =
     let l = (facts_of T a).housed s h in
     let f = first_row (λ r. among s.kind.0 r.types) T.rows (leaf T.rows s) l.0 l.1 in
-    let each : (n : ℕ) → n < length T.rows → among s.kind.0 (row T.rows n).types ≡ true → (row T.rows n).parts ≡ (row T.rows (leaf T.rows s)).parts = (λ n hn i. same_parts T a s.kind.0 n (leaf T.rows s) hn l.0 i l.1) in
+    let each : (n : ℕ) → n < length T.rows → among s.kind.0 (row T.rows n).types ≡ true → (row T.rows n).parts ≡ (row T.rows (leaf T.rows s)).parts =
+    (λ n hn i. same_parts T a s.kind.0 n (leaf T.rows s) hn l.0 i l.1) in
     record {
       is = ap (λ (o : Option NodeRow). unwrap_or (option_map (λ r. r.parts) o) 0) f.is ∙ each f.node f.within f.passes;
       some = (let z = a.parts (leaf T.rows s) l.0 in omega arith);
@@ -73,12 +80,15 @@ mod_twice i p h = mod-eq_of_lt (mod-lt i h)
 -- the leaf of an instance is that of its part
 leaf_part : (T : Grown) → IsAccepted T → (s : Spot) → s.kind.0 < T.types → (p : ℕ) → Parted T s.kind.0 p → leaf T.rows (spot_of s.kind.0 (s.instance % p)) ≡ leaf T.rows s
 unfolding leaf
-leaf_part T a s h p d = ap (λ (o : Option ℕ). unwrap_or o 0) (find_same (λ n. houses (row T.rows n) (spot_of s.kind.0 (s.instance % p))) (λ n. houses (row T.rows n) s) (below (length T.rows)) (λ n i. same n (below-In (length T.rows) n i)))
+leaf_part T a s h p d = ap (λ (o : Option ℕ). unwrap_or o 0) (find_same (λ n. houses (row T.rows n) (spot_of s.kind.0 (s.instance % p))) (λ n. houses (row T.rows n) s) (below (length T.rows))
+    (λ n i. same n (below-In (length T.rows) n i)))
   where
     same : (n : ℕ) → n < length T.rows → houses (row T.rows n) (spot_of s.kind.0 (s.instance % p)) ≡ houses (row T.rows n) s
     same n l = elim (cases_Bool (among s.kind.0 (row T.rows n).types)) [
-      | inl e ↦ (let q = d.each n l e in ap (λ (z : ℕ). among s.kind.0 (row T.rows n).types && eqb z (row T.rows n).part) (ap (λ (z : ℕ). (s.instance % p) % z) q ∙ mod_twice s.instance p d.some ∙ ap (λ (z : ℕ). s.instance % z) (sym q)))
-      | inr e ↦ ap (λ (b : Bool). b && eqb ((s.instance % p) % (row T.rows n).parts) (row T.rows n).part) e ∙ ap (λ (b : Bool). b && eqb (s.instance % (row T.rows n).parts) (row T.rows n).part) (sym e)
+      | inl e ↦ (let q = d.each n l e in ap (λ (z : ℕ). among s.kind.0 (row T.rows n).types && eqb z (row T.rows n).part)
+          (ap (λ (z : ℕ). (s.instance % p) % z) q ∙ mod_twice s.instance p d.some ∙ ap (λ (z : ℕ). s.instance % z) (sym q)))
+      | inr e ↦ ap (λ (b : Bool). b && eqb ((s.instance % p) % (row T.rows n).parts) (row T.rows n).part) e ∙ ap (λ (b : Bool). b && eqb (s.instance % (row T.rows n).parts) (row T.rows n).part)
+          (sym e)
     ]
 
 length_append_one : (xs : List ℕ) (x : ℕ) → length (xs ++ x ∷ []) ≡ suc (length xs)

@@ -65,7 +65,8 @@ next_split T a s h n xs ls e own =
 -- behind the leaf comes the own side
 pub side_leaf : (T : Grown) → IsAccepted T → (s : Spot) → s.kind.0 < T.types → (n own : ℕ) → n ≡ leaf T.rows s → next_of n own (path T.rows s) ≡ own
 unfolding head_or
-side_leaf T a s h n own e = ap (λ (z : ℕ). next_of z own (path T.rows s)) e ∙ next_split T a s h (leaf T.rows s) (front_of (setup_of_tree T) (facts_of T a) (leaf T.rows s)) [] (path_leaf (setup_of_tree T) (facts_of T a) s h) own
+side_leaf T a s h n own e = ap (λ (z : ℕ). next_of z own (path T.rows s)) e ∙ next_split T a s h (leaf T.rows s) (front_of (setup_of_tree T) (facts_of T a) (leaf T.rows s)) []
+    (path_leaf (setup_of_tree T) (facts_of T a) s h) own
 
 -- only behind the leaf
 pub leaf_side : (T : Grown) → IsAccepted T → (s : Spot) → s.kind.0 < T.types → (n : ℕ) → on_path T.rows n s ≡ true → ((own : ℕ) → next_of n own (path T.rows s) ≡ own) → n ≡ leaf T.rows s
@@ -76,15 +77,18 @@ leaf_side T a s h n on f =
     go p.0 p.1
   where
     go : (ls : List ℕ) → path T.rows s ≡ front_of (setup_of_tree T) (facts_of T a) n ++ n ∷ ls → n ≡ leaf T.rows s
-    go [] e = sym (end_is n (front_of (setup_of_tree T) (facts_of T a) n)) ∙ ap end_of (sym e ∙ path_leaf (setup_of_tree T) (facts_of T a) s h) ∙ end_is (leaf T.rows s) (front_of (setup_of_tree T) (facts_of T a) (leaf T.rows s))
+    go [] e = sym (end_is n (front_of (setup_of_tree T) (facts_of T a) n)) ∙ ap end_of (sym e ∙ path_leaf (setup_of_tree T) (facts_of T a) s h)
+        ∙ end_is (leaf T.rows s) (front_of (setup_of_tree T) (facts_of T a) (leaf T.rows s))
     go (l ∷ ls) e = let q : l ≡ suc l = sym (next_split T a s h n (front_of (setup_of_tree T) (facts_of T a) n) (l ∷ ls) e (suc l)) ∙ f (suc l) in absurd (omega arith)
 
 -- the answer of `side` is none exactly at the leaf
-pub none_at_leaf : (T : Grown) → IsAccepted T → (s : Spot) → s.kind.0 < T.types → (n : ℕ) → on_path T.rows n s ≡ true → (r : Option Node) → ((own : ℕ) → side_number r own ≡ next_of n own (path T.rows s)) → (r ≡ None) ↔ (n ≡ leaf T.rows s)
+pub none_at_leaf : (T : Grown) → IsAccepted T → (s : Spot) → s.kind.0 < T.types → (n : ℕ) → on_path T.rows n s ≡ true → (r : Option Node)
+    → ((own : ℕ) → side_number r own ≡ next_of n own (path T.rows s)) → (r ≡ None) ↔ (n ≡ leaf T.rows s)
 none_at_leaf T a s h n on None f = ((λ e. leaf_side T a s h n on (λ own. sym (f own))), λ e. refl)
 none_at_leaf T a s h n on (Some m) f = ((λ e. absurd (cc)), λ e. absurd (let z : m.0 ≡ suc m.0 = f (suc m.0) ∙ side_leaf T a s h n (suc m.0) e in omega arith))
 
 -- a child on the path is a node of the tree
-pub side_within : (T : Grown) → IsAccepted T → (s : Spot) → s.kind.0 < T.types → (n : ℕ) (r : Option Node) → ((own : ℕ) → side_number r own ≡ next_of n own (path T.rows s)) → IfSome r (λ m. m.0 < length T.rows)
+pub side_within : (T : Grown) → IsAccepted T → (s : Spot) → s.kind.0 < T.types → (n : ℕ) (r : Option Node) → ((own : ℕ) → side_number r own ≡ next_of n own (path T.rows s))
+    → IfSome r (λ m. m.0 < length T.rows)
 side_within T a s h n None f = tt
 side_within T a s h n (Some m) f = child_within T a s h n m.0 f

@@ -23,5 +23,6 @@ stored_path t st s h ps p k i ek eps ei ep =
     let some : 0 < length ps.items = (let z = st.some s.kind.0 lk in omega arith) in
     let li : i < length ps.items = (let z = mod-lt s.instance some in omega arith) in
     let g : get_or (parts_of ps) i [] ≡ node_numbers p = get_or-map node_numbers ps.items i p [] li ∙ ap node_numbers (sym ep) in
-    let w : path_among (get_or (paths_of t) s.kind.0 []) s ≡ get_or (parts_of ps) i [] = ap (λ (z : List (List ℕ)). get_or z (s.instance % length z) []) e ∙ ap (λ (z : ℕ). get_or (parts_of ps) z []) (ap (λ (z : ℕ). s.instance % z) (length-map ps.items node_numbers) ∙ sym ei) in
+    let w : path_among (get_or (paths_of t) s.kind.0 []) s ≡ get_or (parts_of ps) i [] = ap (λ (z : List (List ℕ)). get_or z (s.instance % length z) []) e
+    ∙ ap (λ (z : ℕ). get_or (parts_of ps) z []) (ap (λ (z : ℕ). s.instance % z) (length-map ps.items node_numbers) ∙ sym ei) in
     sym g ∙ sym w ∙ st.right s lk

@@ -27,7 +27,8 @@ distinct-with_cell cells c d = elim (decided (list_any (same_cell c) cells)) [
 ]
 
 -- the list of c becomes L
-pub list_edited : {V : Type 0} (cells : List Cell) (lists lists' : List (List V)) (c : Cell) (p : ℕ) (L : List V) → length lists ≡ length cells → p ≡ place_in cells c → p < length lists → lists' ≡ set lists p L
+pub list_edited : {V : Type 0} (cells : List Cell) (lists lists' : List (List V)) (c : Cell) (p : ℕ) (L : List V) → length lists ≡ length cells → p ≡ place_in cells c → p < length lists
+    → lists' ≡ set lists p L
     → (x : Cell) → list_for cells lists' x ≡ cond (same_cell c x) L (list_for cells lists x)
 list_edited cells lists lists' c p L paired here lt edit x =
     let q = place_in cells x in

@@ -64,17 +64,20 @@ far_vacant b far cells n h x e = sym (ap (λ o. option_map_or (λ i. get_or b.nu
 
 -- a number is put in the map for a cell whose block has no page
 pub number_far : {S : Type 0} (b : Blocks) (far far' : IndexMap Cell ℕ S) (c : Cell) (o : Owner) (n : ℕ) → owner_of b c ≡ Some o → has_cell o c ≡ false
-    → ((x : Cell) → far_number far' x ≡ (if same_cell c x then n else far_number far x)) → (x : Cell) → number_or b x (far_number far' x) ≡ (if same_cell c x then n else number_or b x (far_number far x))
+    → ((x : Cell) → far_number far' x ≡ (if same_cell c x then n else far_number far x)) → (x : Cell)
+    → number_or b x (far_number far' x) ≡ (if same_cell c x then n else number_or b x (far_number far x))
 number_far b far far' c o n owner other put x = go (same_cell c x) refl
   where
     go : (s : Bool) → same_cell c x ≡ s → number_or b x (far_number far' x) ≡ (if s then n else number_or b x (far_number far x))
     go true s =
-        let entry : entry_by (owner_of b x) x ≡ None = ap (λ z. entry_by (owner_of b z) z) (sym (same_cell-true c x s)) ∙ ap (λ p. entry_by p c) owner ∙ ap (λ (h : Bool). if h then Some (o.page + c.key % keys) else None) other in
+        let entry : entry_by (owner_of b x) x ≡ None = ap (λ z. entry_by (owner_of b z) z) (sym (same_cell-true c x s)) ∙ ap (λ p. entry_by p c) owner
+        ∙ ap (λ (h : Bool). if h then Some (o.page + c.key % keys) else None) other in
         ap (λ e. option_map_or (λ i. get_or b.numbers.items i 0) e (far_number far' x)) entry ∙ put x ∙ ap (λ (h : Bool). if h then n else far_number far x) s
     go false s = ap (number_or b x) (put x ∙ ap (λ (h : Bool). if h then n else far_number far x) s)
 
 -- c is added: its block or the map has the next number for it, and each other cell keeps its number
-module _ {S : Type 0} (b b' : Blocks) (far far' : IndexMap Cell ℕ S) (cells cells' : Vec Cell Global) (n : ℕ) (c : Cell) (h : IsIndex b far cells n) (some : 0 < n) (absent : place_in cells.items c ≡ length cells.items) where
+module _ {S : Type 0} (b b' : Blocks) (far far' : IndexMap Cell ℕ S) (cells cells' : Vec Cell Global) (n : ℕ) (c : Cell) (h : IsIndex b far cells n) (some : 0 < n)
+    (absent : place_in cells.items c ≡ length cells.items) where
   pub index_push : IsPaged b' → owner_of b' c ≢ None → ((x : Cell) → owner_of b' x ≡ None → owner_of b x ≡ None) → length b'.owners.items ≡ length b.owners.items
       → ((x : Cell) → number_or b' x (far_number far' x) ≡ (if same_cell c x then length cells.items + 1 else number_or b x (far_number far x))) → spare far ≤ spare far' + 1
       → cells'.items ≡ cells.items ++ c ∷ [] → vec_len cells' ≡ vec_len cells + 1 → vec_capacity cells' ≡ vec_capacity cells → IsIndex b' far' cells' (n - 1)

@@ -56,7 +56,8 @@ same_place (c ∷ cells) x y lt = go (same_cell x c) (same_cell y c) refl refl (
         → eqb (place_in (c ∷ cells) y) (place_in (c ∷ cells) x) ≡ same_cell x y
     go true true e f ih = (λ j. eqb (up (f j) (place_in cells y)) (up (e j) (place_in cells x))) ∙ sym (same_laws.congr x c y e ∙ same_laws.symm c y ∙ f)
     go true false e f ih = (λ j. eqb (up (f j) (place_in cells y)) (up (e j) (place_in cells x))) ∙ (one_up (place_in cells y)).0 ∙ sym (same_laws.congr x c y e ∙ same_laws.symm c y ∙ f)
-    go false true e f ih = (λ j. eqb (up (f j) (place_in cells y)) (up (e j) (place_in cells x))) ∙ (one_up (place_in cells x)).1 ∙ sym (same_laws.symm x y ∙ same_laws.congr y c x f ∙ same_laws.symm c x ∙ e)
+    go false true e f ih = (λ j. eqb (up (f j) (place_in cells y)) (up (e j) (place_in cells x))) ∙ (one_up (place_in cells x)).1
+        ∙ sym (same_laws.symm x y ∙ same_laws.congr y c x f ∙ same_laws.symm c x ∙ e)
     go false false e f ih =
         let z = ap (λ (b : Bool). up b (place_in cells x)) e in
         (λ j. eqb (up (f j) (place_in cells y)) (up (e j) (place_in cells x))) ∙ both_up (place_in cells y) (place_in cells x) ∙ ih (omega (arith, lt, z))

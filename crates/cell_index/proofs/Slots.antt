@@ -21,7 +21,8 @@ none_behind (o ∷ os) k (suc i) = none_behind os k i
 pub owner_made : (os made : List (Option Owner)) (n k i : ℕ) → length os ≤ n → made ≡ take n os ++ replicate k None → get_or made i None ≡ get_or os i None
 owner_made os made n k i le e = ap (λ (l : List (Option Owner)). get_or l i None) (e ∙ ap (λ (l : List (Option Owner)). l ++ replicate k None) (take_all n os le)) ∙ none_behind os k i
 
-pub paged_made : (b b' : Blocks) → IsPaged b → length b.owners.items ≤ slots → b'.owners.items ≡ take slots b.owners.items ++ replicate (slots - length b.owners.items) None → b'.numbers.items ≡ b.numbers.items
+pub paged_made : (b b' : Blocks) → IsPaged b → length b.owners.items ≤ slots → b'.owners.items ≡ take slots b.owners.items ++ replicate (slots - length b.owners.items) None
+    → b'.numbers.items ≡ b.numbers.items
     → keys * slots ≤ vec_capacity b'.numbers → IsPaged b'
 paged_made b b' h few owners numbers room = record {
   within = λ x. subst (λ e. IfSome e (λ i. i < length b'.numbers.items)) (sym (same_entry x)) (subst (λ (l : List ℕ). IfSome (entry_of b x) (λ i. i < length l)) (sym numbers) (h.within x));

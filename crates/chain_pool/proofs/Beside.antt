@@ -61,12 +61,14 @@ replaced x h (c ∷ cells) (g ∷ chains) n lt y = at (same_cell x c) refl lt (�
         ∙ behind (same_cell y c) e refl (lookup (same_cell y) (zip cells (set chains (place_in cells x) h))) (lookup (same_cell y) (zip cells chains)) (rest (omega (arith, lt)))
 
 -- a cell has a place, or the next one is its
-pub place_cases : (x : Cell) (cells : List Cell) → (list_any (same_cell x) cells ≡ true) × (place_in cells x < length cells) ⊎ (list_any (same_cell x) cells ≡ false) × (place_in cells x ≡ length cells)
+pub place_cases : (x : Cell) (cells : List Cell) → (list_any (same_cell x) cells ≡ true) × (place_in cells x < length cells) ⊎ (list_any (same_cell x) cells ≡ false)
+    × (place_in cells x ≡ length cells)
 place_cases x [] = inr (refl, refl)
 place_cases x (c ∷ cells) = at (same_cell x c) (place_cases x cells)
   where
     at : (b : Bool) → (list_any (same_cell x) cells ≡ true) × (place_in cells x < length cells) ⊎ (list_any (same_cell x) cells ≡ false) × (place_in cells x ≡ length cells)
-        → (b || list_any (same_cell x) cells ≡ true) × (cond (not b) (1 + place_in cells x) 0 < length (c ∷ cells)) ⊎ (b || list_any (same_cell x) cells ≡ false) × (cond (not b) (1 + place_in cells x) 0 ≡ length (c ∷ cells))
+        → (b || list_any (same_cell x) cells ≡ true) × (cond (not b) (1 + place_in cells x) 0 < length (c ∷ cells)) ⊎ (b || list_any (same_cell x) cells ≡ false)
+        × (cond (not b) (1 + place_in cells x) 0 ≡ length (c ∷ cells))
     at true rest = inl (refl, omega arith)
     at false (inl some) = inl (some.0, omega (arith, some.1))
     at false (inr none) = inr (none.0, omega (arith, none.1))
@@ -76,7 +78,8 @@ place_pushed : (x : Cell) (cells : List Cell) → place_in (cells ++ x ∷ []) x
 place_pushed x [] = ap (λ (b : Bool). cond (not b) 1 0) (same_cell-itself x)
 place_pushed x (c ∷ cells) = ap (λ n. cond (not (same_cell x c)) (1 + n) 0) (place_pushed x cells)
 
-chain_pushed : (x : Cell) (cells : List Cell) (chains : List Chain) → length chains ≡ length cells → (y : Cell) → chain_at (zip (cells ++ x ∷ []) (chains ++ no_chain ∷ [])) y ≡ chain_at (zip cells chains) y
+chain_pushed : (x : Cell) (cells : List Cell) (chains : List Chain) → length chains ≡ length cells → (y : Cell) → chain_at (zip (cells ++ x ∷ []) (chains ++ no_chain ∷ [])) y ≡ chain_at
+    (zip cells chains) y
 chain_pushed x [] [] n y = at (same_cell y x)
   where
     at : (b : Bool) → unwrap_or (cond b (Some no_chain) None) no_chain ≡ no_chain
@@ -108,7 +111,12 @@ module _ (x : Cell) (cells : List Cell) (chains : List Chain) (n : length chains
         rw (some.0, stay) (n, refl, some.1, λ y. refl)
     | inr none ↦
         let next : (place_in cells x == length chains) ≡ true = eq-eqb _ _ (none.1 ∙ sym n) in
-        rw (none.0, next) (length-append chains (no_chain ∷ []) ∙ (ap (λ k. k + 1) n ∙ sym (length-append cells (x ∷ []))), place_pushed x cells, omega (arith, none.1, length-append cells (x ∷ [])), chain_pushed x cells chains n)
+        rw (none.0, next) (
+          length-append chains (no_chain ∷ []) ∙ (ap (λ k. k + 1) n ∙ sym (length-append cells (x ∷ []))),
+          place_pushed x cells,
+          omega (arith, none.1, length-append cells (x ∷ [])),
+          chain_pushed x cells chains n,
+        )
   ]
 
   pub next_within : place_in cells x < length chains'
@@ -161,7 +169,8 @@ busy_within x cells chains n some = elim (place_cases x cells) [
     none_at (h ∷ hs) (suc i) le = none_at hs i (omega (arith, le))
 
 -- what stands at a cell's place, where the entries and the place were read
-module _ (x : Cell) (cells : List Cell) (chains : List Chain) (n : length chains ≡ length cells) (entries : List (Cell × Chain)) (seen : zip cells chains ≡ entries) (at : ℕ) (at_is : at ≡ place_in cells x) where
+module _ (x : Cell) (cells : List Cell) (chains : List Chain) (n : length chains ≡ length cells) (entries : List (Cell × Chain)) (seen : zip cells chains ≡ entries) (at : ℕ)
+    (at_is : at ≡ place_in cells x) where
   pub chain_here : (h : Chain) → at < length chains → h ≡ get_or chains at h → h ≡ chain_at entries x
   chain_here h lt is =
       get_or_read_under chains at (length chains) h no_chain is lt refl

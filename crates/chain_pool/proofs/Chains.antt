@@ -26,7 +26,8 @@ filter-all f [] d h = refl
 filter-all f (v ∷ vs) d h = let t : f v ≡ true = h 0 (omega arith) in rw t (ap (λ l. v ∷ l) (filter-all f vs d (λ j lt. h (suc j) (omega arith))))
 
 -- where one place at the most passes, the last that does is the first
-last_is_first : (p : ℕ → Bool) (ws : List ℕ) → ((i j : ℕ) → i < length ws → j < length ws → p (get_or ws i 0) ≡ true → p (get_or ws j 0) ≡ true → i ≡ j) → (o : Option ℕ) → IsLast p ws o → unless_below 0 o ≡ first_place p ws
+last_is_first : (p : ℕ → Bool) (ws : List ℕ) → ((i j : ℕ) → i < length ws → j < length ws → p (get_or ws i 0) ≡ true → p (get_or ws j 0) ≡ true → i ≡ j) → (o : Option ℕ) → IsLast p ws o
+    → unless_below 0 o ≡ first_place p ws
 last_is_first p ws one None h = first_place_is p ws None h
 last_is_first p ws one (Some i) h =
     let le : 0 ≤ i = omega arith in
@@ -87,7 +88,8 @@ module _ (ps : List Place) (chain : Cell → Head) (own : Txn → Head) (unused 
   one_each x t i j li lj ei ej =
       let n : length (writers_of (versions ps (chain x))) ≡ (chain x).len = length-writers _ ∙ versions_len x in
       (S.chains x).thread.distinct i j (omega (arith, n, li)) (omega (arith, n, lj))
-      (S.once x (record { 0 = t }) _ _ ((S.chains x).thread.inside i (omega (arith, n, li))) ((S.chains x).thread.inside j (omega (arith, n, lj))) (owned i (omega (arith, n, li)) ei) (owned j (omega (arith, n, lj)) ej))
+      (S.once x (record { 0 = t }) _ _ ((S.chains x).thread.inside i (omega (arith, n, li))) ((S.chains x).thread.inside j (omega (arith, n, lj))) (owned i (omega (arith, n, li)) ei)
+      (owned j (omega (arith, n, lj)) ej))
     where
       owned : (k : ℕ) → k < (chain x).len → eqb (get_or (writers_of (versions ps (chain x))) k 0) t ≡ true → IsOwned ps (record { 0 = t }) (get_or (S.chains x).thread.places k 0)
       owned k lt e =
@@ -100,7 +102,8 @@ module _ (ps : List Place) (chain : Cell → Head) (own : Txn → Head) (unused 
   find_last x t = last_is_first (λ w. eqb w t) (writers_of (versions ps (chain x))) (one_each x t) _ (last_place-found (λ w. eqb w t) (writers_of (versions ps (chain x))))
 
   -- where a writer's list has no version of the cell, the chain has none of the writer
-  pub find_none : (x : Cell) (t : Txn) → ((n : ℕ) → n < (own t).len → cell_in (slot_at ps (steps (sibling_at ps) n (own t).first)) ≡ Some x → ⊥) → None ≡ first_place (λ w. eqb w t.0) (writers_of (versions ps (chain x)))
+  pub find_none : (x : Cell) (t : Txn) → ((n : ℕ) → n < (own t).len → cell_in (slot_at ps (steps (sibling_at ps) n (own t).first)) ≡ Some x → ⊥)
+      → None ≡ first_place (λ w. eqb w t.0) (writers_of (versions ps (chain x)))
   find_none x t none = first_of_writer (versions ps (chain x)) t None (λ j d lt is.
       let in_len : j < (chain x).len = omega (arith, versions_len x, lt) in
       let m = (S.chains x).thread.inside j in_len in
@@ -109,12 +112,14 @@ module _ (ps : List Place) (chain : Cell → Head) (own : Txn → Head) (unused 
       none at.0 at.1.0 (ap (λ p. cell_in (slot_at ps p)) (thread-steps _ _ _ _ (S.owners t) at.0 at.1.0 ∙ at.1.1) ∙ m.is_mine))
 
   -- a search from the chain's end
-  pub last_found : (x : Cell) (h : Head) → h ≡ chain x → (p : ℕ → Bool) (Answers : Txn → Bool → Type 0) → ((u : Txn) (b : Bool) → IsTrue (is_writer (versions ps (chain x)) u.0) → Answers u b → b ≡ p u.0)
+  pub last_found : (x : Cell) (h : Head) → h ≡ chain x → (p : ℕ → Bool) (Answers : Txn → Bool → Type 0)
+      → ((u : Txn) (b : Bool) → IsTrue (is_writer (versions ps (chain x)) u.0) → Answers u b → b ≡ p u.0)
       → (from : ℕ) (r : Option ℕ)
       → MatchOption r ((j : ℕ) → from ≤ j → j < h.len → Answers (pair_at ps (nth_place ps h j)).0 false)
       (λ i. (from ≤ i) × (i < h.len) × Answers (pair_at ps (nth_place ps h i)).0 true × ((j : ℕ) → i < j → j < h.len → Answers (pair_at ps (nth_place ps h j)).0 false))
       → r ≡ unless_below from (last_place p (writers_of (versions ps (chain x))))
-  last_found x h is p Answers agrees from r found = last_where_is (versions ps (chain x)) p Answers agrees from r (places r (subst (λ (g : Head). MatchOption r ((j : ℕ) → from ≤ j → j < g.len → Answers (pair_at ps (nth_place ps g j)).0 false)
+  last_found x h is p Answers agrees from r found = last_where_is (versions ps (chain x)) p Answers agrees from r
+      (places r (subst (λ (g : Head). MatchOption r ((j : ℕ) → from ≤ j → j < g.len → Answers (pair_at ps (nth_place ps g j)).0 false)
       (λ i. (from ≤ i) × (i < g.len) × Answers (pair_at ps (nth_place ps g i)).0 true × ((j : ℕ) → i < j → j < g.len → Answers (pair_at ps (nth_place ps g j)).0 false))) is found))
     where
       n : length (versions ps (chain x)) ≡ (chain x).len
@@ -125,15 +130,24 @@ module _ (ps : List Place) (chain : Cell → Head) (own : Txn → Head) (unused 
 
       places : (r : Option ℕ)
           → MatchOption r ((j : ℕ) → from ≤ j → j < (chain x).len → Answers (pair_at ps (nth_place ps (chain x) j)).0 false)
-          (λ i. (from ≤ i) × (i < (chain x).len) × Answers (pair_at ps (nth_place ps (chain x) i)).0 true × ((j : ℕ) → i < j → j < (chain x).len → Answers (pair_at ps (nth_place ps (chain x) j)).0 false))
+          (λ i. (from ≤ i) × (i < (chain x).len) × Answers (pair_at ps (nth_place ps (chain x) i)).0 true
+          × ((j : ℕ) → i < j → j < (chain x).len → Answers (pair_at ps (nth_place ps (chain x) j)).0 false))
           → MatchOption r ((j : ℕ) (d : Version) → from ≤ j → j < length (versions ps (chain x)) → Answers (get_or (versions ps (chain x)) j d).0 false)
-          (λ i. (from ≤ i) × (i < length (versions ps (chain x))) × ((d : Version) → Answers (get_or (versions ps (chain x)) i d).0 true) × ((j : ℕ) (d : Version) → i < j → j < length (versions ps (chain x)) → Answers (get_or (versions ps (chain x)) j d).0 false))
+          (λ i. (from ≤ i) × (i < length (versions ps (chain x))) × ((d : Version) → Answers (get_or (versions ps (chain x)) i d).0 true)
+          × ((j : ℕ) (d : Version) → i < j → j < length (versions ps (chain x)) → Answers (get_or (versions ps (chain x)) j d).0 false))
       places None found = λ j d le lt. let low : j < (chain x).len = omega (arith, n, lt) in said false j d low (found j le low)
-      places (Some i) found = (found.0, omega (arith, n, found.1), λ d. said true i d found.1 found.2, λ j d above lt. let low : j < (chain x).len = omega (arith, n, lt) in said false j d low (found.3 j above low))
+      places (Some i) found = (
+        found.0,
+        omega (arith, n, found.1),
+        λ d. said true i d found.1 found.2,
+        λ j d above lt. let low : j < (chain x).len = omega (arith, n, lt) in
+            said false j d low (found.3 j above low),
+      )
 
   -- each writer that a walk comes to is one of the chain's
   pub is_writer-nth : (x : Cell) (h : Head) → h ≡ chain x → (j : ℕ) → j < h.len → is_writer (versions ps (chain x)) (pair_at ps (nth_place ps h j)).0.0 ≡ true
   is_writer-nth x h is j lt =
       let low : j < (chain x).len = subst (λ (g : Head). j < g.len) is lt in
       ap (λ (g : Head). is_writer (versions ps (chain x)) (pair_at ps (nth_place ps g j)).0.0) is
-      ∙ (ap (λ (v : Version). is_writer (versions ps (chain x)) v.0.0) (sym (versions_nth x j (pair_at ps 0) low)) ∙ is_writer-at (versions ps (chain x)) j (pair_at ps 0) (omega (arith, versions_len x, low)))
+      ∙ (ap (λ (v : Version). is_writer (versions ps (chain x)) v.0.0) (sym (versions_nth x j (pair_at ps 0) low)) ∙ is_writer-at (versions ps (chain x)) j (pair_at ps 0)
+      (omega (arith, versions_len x, low)))

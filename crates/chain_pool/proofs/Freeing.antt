@@ -91,8 +91,10 @@ module _ (ps ps' : List Place) (chain chain' : Cell → Head) (own own' : Txn �
         let previous_else : (s : ℕ) → s ≢ b → s ≢ p → previous_at ps' s ≡ previous_at ps s = λ s nb np. previous s ∙ passed s b _ _ nb in
         let turn : (chain cell).first ≡ p → (without_place (chain cell) p b).first ≡ b = λ e. chosen _ p _ _ e in
         let stay : (chain cell).first ≢ p → (without_place (chain cell) p b).first ≡ (chain cell).first = λ ne. passed _ p _ _ ne in (
-          ring-remove _ _ _ _ _ _ _ _ (S.chains cell) p p_place.0 a b p_place.1.0 p_place.1.1 a_is b_is kept only next_a next_else previous_b previous_else (without_place (chain cell) p b).first turn stay,
-          places-ring-remove _ _ _ _ _ _ _ _ (S.chains cell) p p_place.0 a b p_place.1.0 p_place.1.1 a_is b_is kept only next_a next_else previous_b previous_else (without_place (chain cell) p b).first turn stay,
+          ring-remove _ _ _ _ _ _ _ _ (S.chains cell) p p_place.0 a b p_place.1.0 p_place.1.1 a_is b_is kept only next_a next_else previous_b previous_else (without_place (chain cell) p b).first turn
+              stay,
+          places-ring-remove _ _ _ _ _ _ _ _ (S.chains cell) p p_place.0 a b p_place.1.0 p_place.1.1 a_is b_is kept only next_a next_else previous_b previous_else
+              (without_place (chain cell) p b).first turn stay,
         )
 
     elsewhere : (y : Cell) → cell ≢ y → (r : ℕ) → InChain ps y r → (r ≢ p) × ((r ≢ a) × (r ≢ b))
@@ -193,7 +195,8 @@ module _ (ps ps' : List Place) (chain chain' : Cell → Head) (own own' : Txn �
             let new : versions ps' (without_place (chain cell) p b) ≡ map (pair_at ps') (remove L p_place.0) = ring-versions ps' cell (without_place (chain cell) p b) _ here_shorter in
             let count : length (remove L p_place.0) ≡ (chain cell).len - 1 = ap length (sym here_shorter.1) ∙ here_shorter.0.thread.count in
             let same : map (pair_at ps') (remove L p_place.0) ≡ map (pair_at ps) (remove L p_place.0) =
-            map-agree (pair_at ps') (pair_at ps) _ (λ j lt. same_pair _ (not_p cell _ (subst (λ l. InChain ps' cell (get_or l j 0)) here_shorter.1 (here_shorter.0.thread.inside j (omega (arith, count, lt)))))) in
+            map-agree (pair_at ps') (pair_at ps) _
+            (λ j lt. same_pair _ (not_p cell _ (subst (λ l. InChain ps' cell (get_or l j 0)) here_shorter.1 (here_shorter.0.thread.inside j (omega (arith, count, lt)))))) in
             let old : versions ps (chain cell) ≡ map (pair_at ps) L = ring-versions ps cell (chain cell) _ (S.chains cell, refl) in
             let at : get_or (map (pair_at ps) L) p_place.0 (pair_at ps 0) ≡ pair_at ps p = get_or-map (pair_at ps) L p_place.0 0 (pair_at ps 0) in_L ∙ ap (pair_at ps) p_place.1.1 in
             let gone : not (eqb (get_or (map (pair_at ps) L) p_place.0 (pair_at ps 0)).0.0 t.0) ≡ false =

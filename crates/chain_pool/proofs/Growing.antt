@@ -101,5 +101,6 @@ module _ (ps ps' : List Place) (chain : Cell → Head) (own : Txn → Head) (unu
 
   pub grown_versions : (x : Cell) → versions ps' (chain x) ≡ versions ps (chain x)
   grown_versions x = ring-versions ps' x (chain x) _ (chain_with x)
-      ∙ (map-agree (pair_at ps') (pair_at ps) _ (λ j lt. ap (λ (z : Place). pair_in (slot_of z)) (other _ (λ e. let m = (S.chains x).thread.inside j (omega (arith, (S.chains x).thread.count, lt)) in omega (arith, m.within, e, q_is))))
+      ∙ (map-agree (pair_at ps') (pair_at ps) _
+      (λ j lt. ap (λ (z : Place). pair_in (slot_of z)) (other _ (λ e. let m = (S.chains x).thread.inside j (omega (arith, (S.chains x).thread.count, lt)) in omega (arith, m.within, e, q_is))))
       ∙ sym (ring-versions ps x (chain x) _ (S.chains x, refl)))

@@ -7,7 +7,8 @@ use Rattle.chain_pool.specs.Heads.{IsBusy, same_txn, with_head}
 use Rattle.chain_pool.proofs.Keys.{same_txn-itself}
 
 -- what is looked up where each value is changed by a function
-pub lookup_map : {K V W : Type 0} (f : V → W) (test : K → Bool) (entries : List (K × V)) (d : V) → unwrap_or (lookup test (map (λ e. (e.0, f e.1)) entries)) (f d) ≡ f (unwrap_or (lookup test entries) d)
+pub lookup_map : {K V W : Type 0} (f : V → W) (test : K → Bool) (entries : List (K × V)) (d : V) → unwrap_or (lookup test (map (λ e. (e.0, f e.1)) entries)) (f d) ≡ f
+    (unwrap_or (lookup test entries) d)
 lookup_map f test [] d = refl
 lookup_map {K} {V} {W} f test (e ∷ entries) d = at (test e.0) (lookup test (map (λ e. (e.0, f e.1)) entries)) (lookup test entries) (lookup_map f test entries d)
   where
@@ -27,7 +28,8 @@ pub with_head-here : (t : Txn) (h : Head) (own : Txn → Head) → with_head t h
 with_head-here t h own = ap (λ (b : Bool). if b then h else own t) (same_txn-itself t)
 
 -- where t has a list that is not empty
-pub busy_with : (was now : List (Txn × Head)) (t : Txn) (h : Head) → ((u : Txn) → lookup (same_txn u) now ≡ cond (same_txn t u) (Some h) (lookup (same_txn u) was)) → 0 < h.len → IsBusy was → IsBusy now
+pub busy_with : (was now : List (Txn × Head)) (t : Txn) (h : Head) → ((u : Txn) → lookup (same_txn u) now ≡ cond (same_txn t u) (Some h) (lookup (same_txn u) was)) → 0 < h.len → IsBusy was
+    → IsBusy now
 busy_with was now t h put some busy u = subst (λ (o : Option Head). IfSome o (λ g. 0 < g.len)) (sym (put u)) (at (same_txn t u) (lookup (same_txn u) was) (busy u))
   where
     at : (b : Bool) (o : Option Head) → IfSome o (λ g. 0 < g.len) → IfSome (cond b (Some h) o) (λ g. 0 < g.len)

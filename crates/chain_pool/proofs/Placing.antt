@@ -23,7 +23,8 @@ pub record IsPlaced (ps ps' : List Place) (chain chain' : Cell → Head) (own' :
   pub linked : Linked ps' chain' own' unused'
   pub here : versions ps' (chain' v.cell) ≡ insert (versions ps (chain v.cell)) i (v.writer, v.value)
   pub elsewhere : (y : Cell) → v.cell ≢ y → versions ps' (chain' y) ≡ versions ps (chain y)
-  pub lasts : (last last' : Cell → ℕ) → HasLasts ps chain last → ((y : Cell) → last' y ≡ (if same_cell v.cell y then (if i == (chain v.cell).len then q else last v.cell) else last y)) → HasLasts ps' chain' last'
+  pub lasts : (last last' : Cell → ℕ) → HasLasts ps chain last → ((y : Cell) → last' y ≡ (if same_cell v.cell y then (if i == (chain v.cell).len then q else last v.cell) else last y))
+      → HasLasts ps' chain' last'
 
 -- the version v goes into the free place q, between a and b, as the i-th of its chain
 module _ (ps ps' : List Place) (chain chain' : Cell → Head) (own own' : Txn → Head) (unused : Head) (S : Linked ps chain own unused)
@@ -125,8 +126,10 @@ module _ (ps ps' : List Place) (chain chain' : Cell → Head) (own own' : Txn �
               )
           | inr nz ↦
               let some : 0 < (chain v.cell).len = omega (arith, nz) in (
-                ring-insert _ _ _ _ _ _ _ _ (S.chains v.cell) q i a b within some fresh now_chain (kept v.cell) (only v.cell) b_at (b_end some) (a_is some) next_a (next_q (a_not_q some)) next_else previous_b (previous_q (b_not_q some)) previous_else longer_chain.first start stay,
-                places-ring-insert _ _ _ _ _ _ _ _ (S.chains v.cell) q i a b within some fresh now_chain (kept v.cell) (only v.cell) b_at (b_end some) (a_is some) next_a (next_q (a_not_q some)) next_else previous_b (previous_q (b_not_q some)) previous_else longer_chain.first start stay,
+                ring-insert _ _ _ _ _ _ _ _ (S.chains v.cell) q i a b within some fresh now_chain (kept v.cell) (only v.cell) b_at (b_end some) (a_is some) next_a (next_q (a_not_q some)) next_else
+                    previous_b (previous_q (b_not_q some)) previous_else longer_chain.first start stay,
+                places-ring-insert _ _ _ _ _ _ _ _ (S.chains v.cell) q i a b within some fresh now_chain (kept v.cell) (only v.cell) b_at (b_end some) (a_is some) next_a
+                    (next_q (a_not_q some)) next_else previous_b (previous_q (b_not_q some)) previous_else longer_chain.first start stay,
               )
         ]
 
@@ -183,7 +186,8 @@ module _ (ps ps' : List Place) (chain chain' : Cell → Head) (own own' : Txn �
       | inl ep ↦ elim (cases_eq r q) [ inl er ↦ ep ∙ sym er | inr nr ↦ absurd (clash r nr (subst (InChain ps' x) ep mp) mr (subst (IsOwned ps' u) ep op) or) ]
       | inr np ↦ elim (cases_eq r q) [
         | inl er ↦ absurd (clash p np (subst (InChain ps' x) er mr) mp (subst (IsOwned ps' u) er or) op)
-        | inr nr ↦ S.once x u p r (chain_was ps ps' q put_slot len slots x p np mp) (chain_was ps ps' q put_slot len slots x r nr mr) (owned_was ps ps' q put_slot len slots u p np op) (owned_was ps ps' q put_slot len slots u r nr or)
+        | inr nr ↦ S.once x u p r (chain_was ps ps' q put_slot len slots x p np mp) (chain_was ps ps' q put_slot len slots x r nr mr) (owned_was ps ps' q put_slot len slots u p np op)
+            (owned_was ps ps' q put_slot len slots u r nr or)
       ]
     ]
       where
@@ -191,7 +195,8 @@ module _ (ps ps' : List Place) (chain chain' : Cell → Head) (own own' : Txn �
         clash k nk mq mk oq ok =
             let ex : x ≡ v.cell = one_chain ps' q x v.cell mq now_chain in
             let et : u ≡ v.writer = one_owner ps' q u v.writer oq now_owned in
-            absent k (subst (λ (y : Cell). InChain ps y k) ex (chain_was ps ps' q put_slot len slots x k nk mk)) (subst (λ (y : Txn). IsOwned ps y k) et (owned_was ps ps' q put_slot len slots u k nk ok))
+            absent k (subst (λ (y : Cell). InChain ps y k) ex (chain_was ps ps' q put_slot len slots x k nk mk))
+            (subst (λ (y : Txn). IsOwned ps y k) et (owned_was ps ps' q put_slot len slots u k nk ok))
 
     chain_here : chain' v.cell ≡ longer_chain
     chain_here = let same : same_cell v.cell v.cell ≡ true = same_cell-itself v.cell in chains_are v.cell ∙ ap (λ (b : Bool). if b then longer_chain else chain v.cell) same
@@ -227,14 +232,17 @@ module _ (ps ps' : List Place) (chain chain' : Cell → Head) (own own' : Txn �
     }
 
     kept_pairs : (y : Cell) → map (pair_at ps') (S.chains y).thread.places ≡ map (pair_at ps) (S.chains y).thread.places
-    kept_pairs y = map-agree (pair_at ps') (pair_at ps) _ (λ j lt. pair_else ps ps' q put_slot len slots _ (chain_not_q y _ ((S.chains y).thread.inside j (omega (arith, (S.chains y).thread.count, lt)))))
+    kept_pairs y = map-agree (pair_at ps') (pair_at ps) _
+        (λ j lt. pair_else ps ps' q put_slot len slots _ (chain_not_q y _ ((S.chains y).thread.inside j (omega (arith, (S.chains y).thread.count, lt)))))
 
     versions_here : versions ps' (chain' v.cell) ≡ insert (versions ps (chain v.cell)) i (v.writer, v.value)
     versions_here =
         let old : versions ps (chain v.cell) ≡ map (pair_at ps) (S.chains v.cell).thread.places = ring-versions ps v.cell (chain v.cell) _ (S.chains v.cell, refl) in
         let new : versions ps' longer_chain ≡ map (pair_at ps') (insert (S.chains v.cell).thread.places i q) = ring-versions ps' v.cell longer_chain _ here_chain in
         let put : pair_at ps' q ≡ (v.writer, v.value) = ap pair_in sh in
-        ap (versions ps') chain_here ∙ (new ∙ (map-insert (pair_at ps') (S.chains v.cell).thread.places i q ∙ (ap (λ l. insert l i (pair_at ps' q)) (kept_pairs v.cell ∙ sym old) ∙ ap (insert (versions ps (chain v.cell)) i) put)))
+        ap (versions ps') chain_here
+        ∙ (new ∙ (map-insert (pair_at ps') (S.chains v.cell).thread.places i q
+        ∙ (ap (λ l. insert l i (pair_at ps' q)) (kept_pairs v.cell ∙ sym old) ∙ ap (insert (versions ps (chain v.cell)) i) put)))
 
     versions_else : (y : Cell) → v.cell ≢ y → versions ps' (chain' y) ≡ versions ps (chain y)
     versions_else y ne =
@@ -242,33 +250,35 @@ module _ (ps ps' : List Place) (chain chain' : Cell → Head) (own own' : Txn �
         let new : versions ps' (chain y) ≡ map (pair_at ps') (S.chains y).thread.places = ring-versions ps' y (chain y) _ (other_chain y ne) in
         ap (versions ps') (chain_else y ne) ∙ (new ∙ (kept_pairs y ∙ sym old))
 
-    module _ (last last' : Cell → ℕ) (ends : HasLasts ps chain last) (lasts_are : (y : Cell) → last' y ≡ (if same_cell v.cell y then (if i == (chain v.cell).len then q else last v.cell) else last y)) where
-      -- the last place of the chain that has one more
-      longer_end : (if i == (chain v.cell).len then q else last v.cell) ≡ previous_at ps' longer_chain.first
-      longer_end =
-          let L = (S.chains v.cell).thread.places in
-          let fits : i ≤ length L = omega (arith, within, (S.chains v.cell).thread.count) in
-          let end : get_or (insert L i q) (chain v.cell).len 0 ≡ previous_at ps' longer_chain.first =
-          ap (λ k. get_or (insert L i q) k 0) (omega arith) ∙ sym (ring-end ps' v.cell longer_chain _ here_chain (omega arith)) in
-          elim (cases_eq i (chain v.cell).len) [
-            | inl e ↦ chosen i _ _ _ e ∙ (sym (here L i q fits (chain v.cell).len (sym e)) ∙ end)
-            | inr ne ↦
-                let some : 0 < (chain v.cell).len = omega (arith, within, ne) in
-                passed i _ _ _ ne ∙ (ends v.cell some ∙ (ring-end ps v.cell (chain v.cell) _ (S.chains v.cell, refl) some ∙ (sym (above L i q fits (chain v.cell).len (omega (arith, within, ne))) ∙ end)))
-          ]
+    module _ (last last' : Cell → ℕ) (ends : HasLasts ps chain last) (lasts_are : (y : Cell) → last' y ≡ (if same_cell v.cell y then (if i == (chain v.cell).len then q else last v.cell) else last y))
+      where
+        -- the last place of the chain that has one more
+        longer_end : (if i == (chain v.cell).len then q else last v.cell) ≡ previous_at ps' longer_chain.first
+        longer_end =
+            let L = (S.chains v.cell).thread.places in
+            let fits : i ≤ length L = omega (arith, within, (S.chains v.cell).thread.count) in
+            let end : get_or (insert L i q) (chain v.cell).len 0 ≡ previous_at ps' longer_chain.first =
+            ap (λ k. get_or (insert L i q) k 0) (omega arith) ∙ sym (ring-end ps' v.cell longer_chain _ here_chain (omega arith)) in
+            elim (cases_eq i (chain v.cell).len) [
+              | inl e ↦ chosen i _ _ _ e ∙ (sym (here L i q fits (chain v.cell).len (sym e)) ∙ end)
+              | inr ne ↦
+                  let some : 0 < (chain v.cell).len = omega (arith, within, ne) in
+                  passed i _ _ _ ne ∙ (ends v.cell some
+                  ∙ (ring-end ps v.cell (chain v.cell) _ (S.chains v.cell, refl) some ∙ (sym (above L i q fits (chain v.cell).len (omega (arith, within, ne))) ∙ end)))
+            ]
 
-      lasts_kept : HasLasts ps' chain' last'
-      lasts_kept y some = elim (key_cases same_cell same_cell-itself same_cell-exact v.cell y) [
-        | inl e ↦ subst (λ (x : Cell). last' x ≡ previous_at ps' (chain' x).first) e (
-            lasts_are v.cell ∙ (ap (λ (b : Bool). if b then (if i == (chain v.cell).len then q else last v.cell) else last v.cell) (same_cell-itself v.cell)
-            ∙ (longer_end ∙ ap (λ (g : Head). previous_at ps' g.first) (sym chain_here)))
-            )
-        | inr off ↦
-            let ne = key_apart same_cell same_cell-itself same_cell-exact v.cell y off in
-            let old : 0 < (chain y).len = subst (λ (g : Head). 0 < g.len) (chain_else y ne) some in
-            lasts_are y ∙ (ap (λ (b : Bool). if b then (if i == (chain v.cell).len then q else last v.cell) else last y) off
-            ∙ (ends y old ∙ (same-end ps ps' y (chain y) _ (S.chains y, refl) (other_chain y ne) old ∙ ap (λ (g : Head). previous_at ps' g.first) (sym (chain_else y ne)))))
-      ]
+        lasts_kept : HasLasts ps' chain' last'
+        lasts_kept y some = elim (key_cases same_cell same_cell-itself same_cell-exact v.cell y) [
+          | inl e ↦ subst (λ (x : Cell). last' x ≡ previous_at ps' (chain' x).first) e (
+              lasts_are v.cell ∙ (ap (λ (b : Bool). if b then (if i == (chain v.cell).len then q else last v.cell) else last v.cell) (same_cell-itself v.cell)
+              ∙ (longer_end ∙ ap (λ (g : Head). previous_at ps' g.first) (sym chain_here)))
+              )
+          | inr off ↦
+              let ne = key_apart same_cell same_cell-itself same_cell-exact v.cell y off in
+              let old : 0 < (chain y).len = subst (λ (g : Head). 0 < g.len) (chain_else y ne) some in
+              lasts_are y ∙ (ap (λ (b : Bool). if b then (if i == (chain v.cell).len then q else last v.cell) else last y) off
+              ∙ (ends y old ∙ (same-end ps ps' y (chain y) _ (S.chains y, refl) (other_chain y ne) old ∙ ap (λ (g : Head). previous_at ps' g.first) (sym (chain_else y ne)))))
+        ]
 
     is_placed : IsPlaced ps ps' chain chain' own' fewer_free v i q
     is_placed = record { linked = placed; here = versions_here; elsewhere = versions_else; lasts = lasts_kept }

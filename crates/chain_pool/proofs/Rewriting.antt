@@ -23,18 +23,22 @@ written n new old is = ap (λ k. take k (new ++ drop (length new) old)) is ∙ f
     front [] b = refl
     front (x ∷ a) b = ap (λ l. x ∷ l) (front a b)
 
-set_map : (f g : ℕ → Version) (L : List ℕ) (i : ℕ) (v : Option ℤ) → i < length L → g (get_or L i 0) ≡ ((f (get_or L i 0)).0, v) → ((j : ℕ) → j < length L → j ≢ i → g (get_or L j 0) ≡ f (get_or L j 0)) → map g L ≡ set_value i v (map f L)
+set_map : (f g : ℕ → Version) (L : List ℕ) (i : ℕ) (v : Option ℤ) → i < length L → g (get_or L i 0) ≡ ((f (get_or L i 0)).0, v) → ((j : ℕ) → j < length L → j ≢ i → g (get_or L j 0) ≡ f (get_or L j 0))
+    → map g L ≡ set_value i v (map f L)
 set_map f g [] i v lt here other = absurd (omega (arith, lt))
 set_map f g (x ∷ L) zero v lt here other = ap (λ (w : Version). w ∷ map g L) here ∙ ap (λ l. ((f x).0, v) ∷ l) (map-agree g f L (λ j l. other (suc j) (omega (arith, l)) (omega arith)))
 set_map f g (x ∷ L) (suc i) v lt here other =
-    ap (λ (w : Version). w ∷ map g L) (other 0 (omega arith) (omega arith)) ∙ ap (λ l. f x ∷ l) (set_map f g L i v (omega (arith, lt)) here (λ j l ne. other (suc j) (omega (arith, l)) (omega (arith, ne))))
+    ap (λ (w : Version). w ∷ map g L) (other 0 (omega arith) (omega arith))
+    ∙ ap (λ l. f x ∷ l) (set_map f g L i v (omega (arith, lt)) here (λ j l ne. other (suc j) (omega (arith, l)) (omega (arith, ne))))
 
 -- what the value does not change
-same_cell_in : (o : Option Stored) (v : Option ℤ) → option_map (λ (w : Stored). w.cell) (option_map (λ (w : Stored). record { cell = w.cell; writer = w.writer; value = v }) o) ≡ option_map (λ (w : Stored). w.cell) o
+same_cell_in : (o : Option Stored) (v : Option ℤ) → option_map (λ (w : Stored). w.cell) (option_map (λ (w : Stored). record { cell = w.cell; writer = w.writer; value = v }) o) ≡ option_map
+    (λ (w : Stored). w.cell) o
 same_cell_in None v = refl
 same_cell_in (Some w) v = refl
 
-same_writer_in : (o : Option Stored) (v : Option ℤ) → option_map (λ (w : Stored). w.writer) (option_map (λ (w : Stored). record { cell = w.cell; writer = w.writer; value = v }) o) ≡ option_map (λ (w : Stored). w.writer) o
+same_writer_in : (o : Option Stored) (v : Option ℤ) → option_map (λ (w : Stored). w.writer) (option_map (λ (w : Stored). record { cell = w.cell; writer = w.writer; value = v }) o) ≡ option_map
+    (λ (w : Stored). w.writer) o
 same_writer_in None v = refl
 same_writer_in (Some w) v = refl
 
@@ -80,7 +84,10 @@ module _ (ps ps' : List Place) (chain : Cell → Head) (own : Txn → Head) (unu
   free_from p m = record { within = omega (arith, m.within, len); free = none_none _ (sym (cell_same p) ∙ ap (option_map (λ (w : Stored). w.cell)) m.free) }
 
   chain_with : (x : Cell) → RingWith (InChain ps' x) (next_at ps') (previous_at ps') (chain x) (S.chains x).thread.places
-  chain_with x = (ring-keep _ _ _ _ _ _ _ _ (S.chains x) (chain_to x) (chain_from x) (λ p m. next p) (λ p m. previous p), places-ring-keep _ _ _ _ _ _ _ _ (S.chains x) (chain_to x) (chain_from x) (λ p m. next p) (λ p m. previous p))
+  chain_with x = (
+    ring-keep _ _ _ _ _ _ _ _ (S.chains x) (chain_to x) (chain_from x) (λ p m. next p) (λ p m. previous p),
+    places-ring-keep _ _ _ _ _ _ _ _ (S.chains x) (chain_to x) (chain_from x) (λ p m. next p) (λ p m. previous p),
+  )
 
   pub rewritten : Linked ps' chain own unused
   rewritten = record {

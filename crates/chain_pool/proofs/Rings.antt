@@ -26,8 +26,10 @@ module _ (mine : ℕ → Type 0) (next previous : ℕ → ℕ) (first len : ℕ)
 
   pub mine_previous : (p : ℕ) → mine p → mine (previous p)
   mine_previous p m = let at = r.thread.complete p m in elim (cases_eq at.0 0) [
-    | inl z ↦ subst mine (sym (last_place (omega (arith, at.1.0))) ∙ ap previous (r.thread.head (omega (arith, at.1.0)) ∙ (ap (λ k. get_or r.thread.places k 0) (sym z) ∙ at.1.1))) (r.thread.inside (len - 1) (omega (arith, at.1.0)))
-    | inr nz ↦ subst mine (sym (step_back (at.0 - 1) (omega (arith, at.1.0))) ∙ ap previous (ap (λ k. get_or r.thread.places k 0) (omega arith) ∙ at.1.1)) (r.thread.inside (at.0 - 1) (omega (arith, at.1.0)))
+    | inl z ↦ subst mine (sym (last_place (omega (arith, at.1.0))) ∙ ap previous (r.thread.head (omega (arith, at.1.0)) ∙ (ap (λ k. get_or r.thread.places k 0) (sym z) ∙ at.1.1)))
+        (r.thread.inside (len - 1) (omega (arith, at.1.0)))
+    | inr nz ↦ subst mine (sym (step_back (at.0 - 1) (omega (arith, at.1.0))) ∙ ap previous (ap (λ k. get_or r.thread.places k 0) (omega arith) ∙ at.1.1))
+        (r.thread.inside (at.0 - 1) (omega (arith, at.1.0)))
   ]
 
 pub ring-keep : (mine mine' : ℕ → Type 0) (next next' previous previous' : ℕ → ℕ) (first len : ℕ) (r : Ring mine next previous first len)
@@ -53,7 +55,8 @@ module _ (mine mine' : ℕ → Type 0) (next next' previous previous' : ℕ → 
   alone p m = elim (only p m) [ inl old ↦ let at = r.thread.complete p old in absurd (omega (arith, at.1.0)) | inr e ↦ e ]
 
   first_thread : Thread mine' next' first' (len + 1)
-  first_thread = thread-insert mine mine' next next' first len r.thread q i within fresh now kept only (λ lt. absurd (omega (arith, lt))) (λ lt. absurd (omega (arith, lt))) (λ j lt _. absurd (omega (arith, lt))) first' (λ _. first_is) (λ lt. absurd (omega (arith, lt)))
+  first_thread = thread-insert mine mine' next next' first len r.thread q i within fresh now kept only (λ lt. absurd (omega (arith, lt))) (λ lt. absurd (omega (arith, lt)))
+      (λ j lt _. absurd (omega (arith, lt))) first' (λ _. first_is) (λ lt. absurd (omega (arith, lt)))
 
   pub ring-one : Ring mine' next' previous' first' (len + 1)
   ring-one = record {
@@ -182,7 +185,8 @@ module _ (mine mine' : ℕ → Type 0) (next next' previous previous' : ℕ → 
         | inl z ↦ ap next' (sym (behind_first z)) ∙ (next_a ∙ sym (new_first (sym (p_first z))))
         | inr nz ↦ onward_same (len - 1) (omega arith) (omega arith) (λ lo. omega arith) (λ z. absurd (nz z)) ∙ (r.closes (omega arith) ∙ sym (old_first (first_stays (omega arith))))
       ])
-      | inr ge ↦ ap next' (low r.thread.places i u (len - 1 - 1) (omega arith)) ∙ (ap (λ k. next' (get_or r.thread.places k 0)) (omega arith) ∙ (ap next' (sym (behind (omega arith))) ∙ (next_a ∙ (ahead_last (omega arith) ∙ sym (old_first (first_stays (omega arith)))))))
+      | inr ge ↦ ap next' (low r.thread.places i u (len - 1 - 1) (omega arith))
+          ∙ (ap (λ k. next' (get_or r.thread.places k 0)) (omega arith) ∙ (ap next' (sym (behind (omega arith))) ∙ (next_a ∙ (ahead_last (omega arith) ∙ sym (old_first (first_stays (omega arith)))))))
     ]
 
     back_less : (s : ℕ) → mine s → s ≢ p → previous' (next' s) ≡ s
@@ -208,10 +212,12 @@ module _ (mine mine' : ℕ → Type 0) (next next' previous previous' : ℕ → 
     places-ring-remove = refl
 
 -- going back from the first leads to the last, the one before it, and so on
-pub ring-steps : (mine : ℕ → Type 0) (next previous : ℕ → ℕ) (first len : ℕ) (r : Ring mine next previous first len) (n : ℕ) → n < len → steps previous (suc n) first ≡ get_or r.thread.places (len - 1 - n) 0
+pub ring-steps : (mine : ℕ → Type 0) (next previous : ℕ → ℕ) (first len : ℕ) (r : Ring mine next previous first len) (n : ℕ) → n < len → steps previous (suc n) first ≡ get_or r.thread.places
+    (len - 1 - n) 0
 ring-steps mine next previous first len r zero lt = last_place mine next previous first len r lt ∙ ap (λ k. get_or r.thread.places k 0) (omega arith)
 ring-steps mine next previous first len r (suc n) lt =
-    ap previous (ring-steps mine next previous first len r n (omega (arith, lt))) ∙ (ap (λ k. previous (get_or r.thread.places k 0)) (omega arith) ∙ step_back mine next previous first len r (len - 1 - suc n) (omega (arith, lt)))
+    ap previous (ring-steps mine next previous first len r n (omega (arith, lt)))
+    ∙ (ap (λ k. previous (get_or r.thread.places k 0)) (omega arith) ∙ step_back mine next previous first len r (len - 1 - suc n) (omega (arith, lt)))
 
 -- the place to put before, that many steps back
 pub steps-at : (mine : ℕ → Type 0) (next previous : ℕ → ℕ) (first len : ℕ) (r : Ring mine next previous first len) (i : ℕ) → i < len → steps previous (len - i) first ≡ get_or r.thread.places i 0

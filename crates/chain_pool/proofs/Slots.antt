@@ -57,7 +57,8 @@ pair_owner ps t p m = from (slot_at ps p).version m.is_mine
 pub owner_pair : (ps : List Place) (x : Cell) (t : Txn) (p : ℕ) → InChain ps x p → (pair_at ps p).0 ≡ t → IsOwned ps t p
 owner_pair ps x t p m is = record { within = m.within; is_mine = from (slot_at ps p).version m.is_mine is }
   where
-    from : (o : Option Stored) → option_map (λ v. v.cell) o ≡ Some x → (unwrap_or {T = Txn × Option ℤ} (option_map (λ v. (v.writer, v.value)) o) (record { 0 = 0 }, None)).0 ≡ t → option_map (λ v. v.writer) o ≡ Some t
+    from : (o : Option Stored) → option_map (λ v. v.cell) o ≡ Some x → (unwrap_or {T = Txn × Option ℤ} (option_map (λ v. (v.writer, v.value)) o) (record { 0 = 0 }, None)).0 ≡ t
+        → option_map (λ v. v.writer) o ≡ Some t
     from None e is = let z : None ≡ Some x = e in cc
     from (Some v) e is = ap Some is
 

@@ -17,7 +17,8 @@ use Rattle.chain_pool.proofs.Lookups.{with_head-here, with_head-twice}
 use Rattle.chain_pool.proofs.Sizes.{owned_first, previous_within, next_within, chain_some, free_short}
 
 -- a place whose version has a writer is one of its cell
-cell_kept : (cell : Cell) (writer t : Txn) (c : Content) → option_map (λ (v : Stored). v.writer) (version_of cell writer c) ≡ Some t → option_map (λ (v : Stored). v.cell) (version_of cell writer c) ≡ Some cell
+cell_kept : (cell : Cell) (writer t : Txn) (c : Content) → option_map (λ (v : Stored). v.writer) (version_of cell writer c) ≡ Some t
+    → option_map (λ (v : Stored). v.cell) (version_of cell writer c) ≡ Some cell
 cell_kept cell writer t Free is = let z : None ≡ Some t = is in cc
 cell_kept cell writer t Deleted is = refl
 cell_kept cell writer t (Value value) is = refl
@@ -52,14 +53,19 @@ module _ (ps : List Place) (chain : Cell → Head) (own : Txn → Head) (unused 
 
   used_here : UsedAs ps (place_at ps h.first)
   used_here =
-      let cell = (place_at ps h.first).cell in
-      (previous_within ps chain with_h unused S cell h.first mine, next_within ps chain with_h unused S cell h.first mine, chain_some ps chain with_h unused S cell h.first mine, free_short ps chain with_h unused S cell h.first mine)
+      let cell = (place_at ps h.first).cell in (
+        previous_within ps chain with_h unused S cell h.first mine,
+        next_within ps chain with_h unused S cell h.first mine,
+        chain_some ps chain with_h unused S cell h.first mine,
+        free_short ps chain with_h unused S cell h.first mine,
+      )
 
   freed_here : FreedAs ps (place_at ps h.first)
   freed_here ps' chain' len next previous slots chains =
       let m = mine in
       let rest : Head = record { first = sibling_at ps h.first; len = h.len - 1 } in
-      freeing ps ps' chain chain' with_h (with_head t rest own) unused S (place_at ps h.first).cell t h (sym here) (subst (λ (g : Head). 0 < g.len) (sym here) some) m.is_mine len next previous slots chains (with_head-twice t h rest own)
+      freeing ps ps' chain chain' with_h (with_head t rest own) unused S (place_at ps h.first).cell t h (sym here) (subst (λ (g : Head). 0 < g.len) (sym here) some) m.is_mine len next previous slots
+      chains (with_head-twice t h rest own)
 
   module _ (qs : List Place) (same : qs ≡ ps) (taken : Place) (is : taken ≡ place_at ps h.first) where
     pub first_used : UsedAs qs taken

@@ -56,7 +56,8 @@ module _ (mine mine' : ℕ → Type 0) (next next' : ℕ → ℕ) (first len : �
     ]
     | inr hi ↦ elim (cases_eq j i) [
       | inl e ↦ ap next' (here t.places i q insert_within j e) ∙ after (omega arith) ∙ ap (λ k. get_or t.places k 0) (omega arith) ∙ sym (above t.places i q insert_within (j + 1) (omega arith))
-      | inr ne ↦ ap next' (above t.places i q insert_within j (omega arith)) ∙ others (j - 1) (omega arith) (omega arith) ∙ t.link (j - 1) (omega arith) ∙ ap (λ k. get_or t.places k 0) (omega arith) ∙ sym (above t.places i q insert_within (j + 1) (omega arith))
+      | inr ne ↦ ap next' (above t.places i q insert_within j (omega arith)) ∙ others (j - 1) (omega arith) (omega arith) ∙ t.link (j - 1) (omega arith) ∙ ap (λ k. get_or t.places k 0) (omega arith)
+          ∙ sym (above t.places i q insert_within (j + 1) (omega arith))
     ]
   ]
 
@@ -129,10 +130,12 @@ module _ (mine mine' : ℕ → Type 0) (next next' : ℕ → ℕ) (first len : �
   pub link_less : (j : ℕ) → j + 1 < len - 1 → next' (get_or (remove t.places i) j 0) ≡ get_or (remove t.places i) (j + 1) 0
   link_less j lt = elim (cases_lt j i) [
     | inl lo ↦ elim (cases_eq (j + 1) i) [
-      | inl e ↦ ap next' (low t.places i remove_within j lo) ∙ (ap (λ k. next' (get_or t.places k 0)) (omega arith) ∙ over (omega arith) (omega arith)) ∙ ap (λ k. get_or t.places k 0) (omega arith) ∙ sym (high t.places i remove_within (j + 1) (omega arith))
+      | inl e ↦ ap next' (low t.places i remove_within j lo) ∙ (ap (λ k. next' (get_or t.places k 0)) (omega arith) ∙ over (omega arith) (omega arith)) ∙ ap (λ k. get_or t.places k 0) (omega arith)
+          ∙ sym (high t.places i remove_within (j + 1) (omega arith))
       | inr ne ↦ ap next' (low t.places i remove_within j lo) ∙ others j (omega arith) ne (omega arith) ∙ t.link j (omega arith) ∙ sym (low t.places i remove_within (j + 1) (omega arith))
     ]
-    | inr hi ↦ ap next' (high t.places i remove_within j hi) ∙ others (j + 1) (omega arith) (omega arith) (omega arith) ∙ t.link (j + 1) (omega arith) ∙ sym (high t.places i remove_within (j + 1) (omega arith))
+    | inr hi ↦ ap next' (high t.places i remove_within j hi) ∙ others (j + 1) (omega arith) (omega arith) (omega arith) ∙ t.link (j + 1) (omega arith)
+        ∙ sym (high t.places i remove_within (j + 1) (omega arith))
   ]
 
   pub inside_less : (j : ℕ) → j < len - 1 → mine' (get_or (remove t.places i) j 0)
@@ -143,7 +146,17 @@ module _ (mine mine' : ℕ → Type 0) (next next' : ℕ → ℕ) (first len : �
 
   pub distinct_less : (a b : ℕ) → a < len - 1 → b < len - 1 → get_or (remove t.places i) a 0 ≡ get_or (remove t.places i) b 0 → a ≡ b
   distinct_less a b la lb e =
-      grind (arith, low t.places i remove_within a, high t.places i remove_within a, low t.places i remove_within b, high t.places i remove_within b, t.distinct a b, t.distinct a (b + 1), t.distinct (a + 1) b, t.distinct (a + 1) (b + 1))
+      grind (
+        arith,
+        low t.places i remove_within a,
+        high t.places i remove_within a,
+        low t.places i remove_within b,
+        high t.places i remove_within b,
+        t.distinct a b,
+        t.distinct a (b + 1),
+        t.distinct (a + 1) b,
+        t.distinct (a + 1) (b + 1),
+      )
 
   found_less : (r j : ℕ) → j < len → get_or t.places j 0 ≡ r → r ≢ p → (k : ℕ) × ((k < len - 1) × (get_or (remove t.places i) k 0 ≡ r))
   found_less r j lt e ne =
@@ -176,14 +189,16 @@ walk_is next (x ∷ L) zero p len head link = absurd (omega (arith, len))
 walk_is next [] (suc n) p len head link = absurd (omega (arith, len))
 walk_is next (x ∷ L) (suc n) p len head link =
     let e : p ≡ x = head (omega arith) in
-    let rest : walk next n (next p) ≡ L = walk_is next L n (next p) (omega (arith, len)) (λ lt. ap next e ∙ link 0 (omega arith)) (λ j lt. let e : suc j + 1 ≡ suc (j + 1) = omega arith in link (suc j) (omega arith) ∙ ap (λ k. get_or (x ∷ L) k 0) e) in
+    let rest : walk next n (next p) ≡ L = walk_is next L n (next p) (omega (arith, len)) (λ lt. ap next e ∙ link 0 (omega arith)) (λ j lt. let e : suc j + 1 ≡ suc (j + 1) = omega arith in
+    link (suc j) (omega arith) ∙ ap (λ k. get_or (x ∷ L) k 0) e) in
     ap (λ h. h ∷ walk next n (next p)) e ∙ ap (λ t. x ∷ t) rest
 
 pub thread-walk : (mine : ℕ → Type 0) (next : ℕ → ℕ) (first len : ℕ) (t : Thread mine next first len) → walk next len first ≡ t.places
 thread-walk mine next first len t = walk_is next t.places len first t.count t.head t.link
 
 -- there are no more places than there is room
-distinct_tail : (x : ℕ) (L : List ℕ) → ((i j : ℕ) → i < length (x ∷ L) → j < length (x ∷ L) → get_or (x ∷ L) i 0 ≡ get_or (x ∷ L) j 0 → i ≡ j) → (i j : ℕ) → i < length L → j < length L → get_or L i 0 ≡ get_or L j 0 → i ≡ j
+distinct_tail : (x : ℕ) (L : List ℕ) → ((i j : ℕ) → i < length (x ∷ L) → j < length (x ∷ L) → get_or (x ∷ L) i 0 ≡ get_or (x ∷ L) j 0 → i ≡ j) → (i j : ℕ) → i < length L → j < length L
+    → get_or L i 0 ≡ get_or L j 0 → i ≡ j
 distinct_tail x L d i j li lj e = let s = d (suc i) (suc j) (omega (arith, li)) (omega (arith, lj)) e in omega (arith, s)
 
 not_later : (x : ℕ) (L : List ℕ) → ((i : ℕ) → i < length L → get_or L i 0 ≢ x) → AllByRecursion (λ y. eqb x y ≡ false) L
@@ -207,7 +222,8 @@ pub len-lt : (mine : ℕ → Type 0) (next : ℕ → ℕ) (first len room : ℕ)
 unfolding IsDistinct
 len-lt mine next first len room t within q q_in fresh =
     let short : (i : ℕ) → i < length (q ∷ t.places) → get_or (q ∷ t.places) i 0 < room = below_all in
-    let apart : (i j : ℕ) → i < length t.places → j < length t.places → get_or t.places i 0 ≡ get_or t.places j 0 → i ≡ j = λ i j li lj e. t.distinct i j (omega (arith, t.count, li)) (omega (arith, t.count, lj)) e in
+    let apart : (i j : ℕ) → i < length t.places → j < length t.places → get_or t.places i 0 ≡ get_or t.places j 0 → i ≡ j = λ i j li lj e. t.distinct i j (omega (arith, t.count, li))
+    (omega (arith, t.count, lj)) e in
     let off : (i : ℕ) → i < length t.places → get_or t.places i 0 ≢ q = λ i lt e. fresh (subst mine e (t.inside i (omega (arith, t.count, lt)))) in
     omega (arith, t.count, length-le_from_distinct_below (q ∷ t.places) room (not_later q t.places off, is_distinct t.places apart) (all_below (q ∷ t.places) room short))
   where

@@ -95,8 +95,10 @@ impl ChainHeads {
         requires room { 0 < self.old.spare }
         requires short { (chain_head self.old.entries cell).len + 1 < 2 ^ 32 }
         ensures result { result ≡ chain_head self.old.entries cell }
-        ensures heads { (x : Cell) → chain_head self.new.entries x ≡ (if same_cell cell x then record { first = (if i == 0 then place else result.first); len = result.len + 1 } else chain_head self.old.entries x) }
-        ensures lasts { (x : Cell) → last_of self.new.entries x ≡ (if same_cell cell x then (if i == (chain_head self.old.entries cell).len then place else last_of self.old.entries cell) else last_of self.old.entries x) }
+        ensures heads { (x : Cell)
+            → chain_head self.new.entries x ≡ (if same_cell cell x then record { first = (if i == 0 then place else result.first); len = result.len + 1 } else chain_head self.old.entries x) }
+        ensures lasts { (x : Cell)
+            → last_of self.new.entries x ≡ (if same_cell cell x then (if i == (chain_head self.old.entries cell).len then place else last_of self.old.entries cell) else last_of self.old.entries x) }
         ensures room { self.old.spare ≤ self.new.spare + 1 }
     {
         let at = self.cells.add(cell);

@@ -8,7 +8,7 @@ ghost use Rattle.chain_pool.specs.Latest.{IsAbove, mark_of as spec_mark_of};
 
 use teb_names::{Cell, Txn};
 
-/// The number of remainders of writers, twice as many as there are sessions.
+/// The number of remainders of writers: twice the number of sessions.
 const WRITERS: usize = 64;
 
 /// The number of remainders of cells' keys.

@@ -71,9 +71,12 @@ module _ (S : Setup) (H : List Event) (n : ℕ) (t : Txn) (orderly : Orderly H) 
       let un = (and_parts (unfinished H w.0) (meets S H n t.0 w.0) least.passes).0 in
       numbers_find Waits (begun_count H) w.0 (ltb-true 0 w.0 read.0) ((known H w.0 orderly).begins (unfinished_parts H w.0 un).0) ((λ j. least.passes j && read.1 j))
       (λ v p lt. unmet v (λ r. least.lower (record { 0 = v }) lt (has_source H t (record { 0 = v }) ∙ (λ j. lt-ltb 0 v p j && r j))))
-  source_find None h = none_below Waits (suc (begun_count H)) (begun_count H) (omega arith) (λ v p lt. unmet v (λ r. find_absent Meets (all_sources H t) h (record { 0 = v }) (has_source H t (record { 0 = v }) ∙ (λ j. lt-ltb 0 v p j && r j))))
+  source_find None h = none_below Waits (suc (begun_count H)) (begun_count H) (omega arith)
+      (λ v p lt. unmet v (λ r. find_absent Meets (all_sources H t) h (record { 0 = v }) (has_source H t (record { 0 = v }) ∙ (λ j. lt-ltb 0 v p j && r j))))
 
-  pub commit_waits : (sources : List Txn) → sources ≡ all_sources H t → (g : ℕ → Bool) → first_wait (wait_for (find g (txns H))) (find (λ w. unfinished H w.0 && meets S H n t.0 w.0) sources) ≡ wait_for (find (λ u. g u || (unfinished H u && meets S H n t.0 u && read_from H t.0 u)) (txns H))
+  pub commit_waits : (sources : List Txn) → sources ≡ all_sources H t → (g : ℕ → Bool)
+      → first_wait (wait_for (find g (txns H))) (find (λ w. unfinished H w.0 && meets S H n t.0 w.0) sources) ≡ wait_for
+      (find (λ u. g u || (unfinished H u && meets S H n t.0 u && read_from H t.0 u)) (txns H))
   unfolding txns
   commit_waits sources listed g =
       let found = source_find (find (λ w. unfinished H w.0 && meets S H n t.0 w.0) (all_sources H t)) refl in

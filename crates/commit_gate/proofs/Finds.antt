@@ -7,7 +7,8 @@ module _ {A : Type 0} (q : A → Bool) where
   find_hit (x ∷ xs) zero d lt n h = sym (ap (λ (o : Bool). cond o (Some x) (find q xs)) h)
   find_hit (x ∷ xs) (suc i) d lt n h = go (q x) n (find_hit xs i d (omega arith))
     where
-      go : (b : Bool) → cond b (Some x) (find q (take i xs)) ≡ None → (find q (take i xs) ≡ None → q (get_or xs i d) ≡ true → Some (get_or xs i d) ≡ find q xs) → Some (get_or xs i d) ≡ cond b (Some x) (find q xs)
+      go : (b : Bool) → cond b (Some x) (find q (take i xs)) ≡ None → (find q (take i xs) ≡ None → q (get_or xs i d) ≡ true → Some (get_or xs i d) ≡ find q xs)
+          → Some (get_or xs i d) ≡ cond b (Some x) (find q xs)
       go true n f = absurd (cc)
       go false n f = f n h
 
@@ -16,6 +17,7 @@ module _ {A : Type 0} (q : A → Bool) where
   find_miss (x ∷ xs) zero d lt n h = ap (λ (o : Bool). cond o (Some x) None) h
   find_miss (x ∷ xs) (suc i) d lt n h = go (q x) n (find_miss xs i d (omega arith))
     where
-      go : (b : Bool) → cond b (Some x) (find q (take i xs)) ≡ None → (find q (take i xs) ≡ None → q (get_or xs i d) ≡ false → find q (take (suc i) xs) ≡ None) → cond b (Some x) (find q (take (suc i) xs)) ≡ None
+      go : (b : Bool) → cond b (Some x) (find q (take i xs)) ≡ None → (find q (take i xs) ≡ None → q (get_or xs i d) ≡ false → find q (take (suc i) xs) ≡ None)
+          → cond b (Some x) (find q (take (suc i) xs)) ≡ None
       go true n f = n
       go false n f = f n h

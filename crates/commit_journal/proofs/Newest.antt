@@ -65,7 +65,8 @@ module _ (S : Setup) (H : List Event) (x : Cell) (L : Cell → List Version) (l 
         let at = In-at v ws (there v a (committed_stands v c)) in
         elim (low at.0 v at.1 at.2 (or_right _ _ c)) [
           | inl q ↦ (let same : t ≡ v = sym e ∙ ap (λ (k : ℕ). get_or ws k 0) (sym q) ∙ at.2 in subst (λ (z : ℕ). precedes S H x t z ≡ false) same (precedes_irreflexive S H x t))
-          | inr below ↦ (let s = Pairs-at (Strict S H x) ws at.0 i (h.order x) below r.0 in subst (λ (z : ℕ). precedes S H x t z ≡ false) at.2 (subst (λ (z : ℕ). precedes S H x z (get_or ws at.0 0) ≡ false) e s.1))
+          | inr below ↦ (let s = Pairs-at (Strict S H x) ws at.0 i (h.order x) below r.0 in
+              subst (λ (z : ℕ). precedes S H x t z ≡ false) at.2 (subst (λ (z : ℕ). precedes S H x z (get_or ws at.0 0) ≡ false) e s.1))
         ]
 
     tops : w ≡ t → is_newest S H t x ≡ true

@@ -76,7 +76,8 @@ more_fresh seen cs d absent = ap (λ (b : Bool). cond (not b) (d ∷ rest) rest)
             let there : has (seen ++ d ∷ []) c.cell ≡ true = has_push seen d c.cell ∙ ap (λ (t : Bool). cond (has seen c.cell) true t) (same_laws.symm d.cell c.cell ∙ e) ∙ either (has seen c.cell) in
             ih ∙ sym (ap (λ (t : Bool). cond (not t) (c ∷ fresh (seen ++ d ∷ []) cs) (fresh (seen ++ d ∷ []) cs)) there)
         go false e s f ih =
-            let same : has (seen ++ d ∷ []) c.cell ≡ has seen c.cell = has_push seen d c.cell ∙ ap (λ (t : Bool). cond (has seen c.cell) true t) (same_laws.symm d.cell c.cell ∙ e) ∙ itself (has seen c.cell) in
+            let same : has (seen ++ d ∷ []) c.cell ≡ has seen c.cell = has_push seen d c.cell ∙ ap (λ (t : Bool). cond (has seen c.cell) true t) (same_laws.symm d.cell c.cell ∙ e)
+            ∙ itself (has seen c.cell) in
             ap (λ (l : Record). cond (not (has seen c.cell)) (c ∷ l) l) ih ∙ ap (λ (t : Bool). cond (not t) (c ∷ fresh (seen ++ d ∷ []) cs) (fresh (seen ++ d ∷ []) cs)) (sym same)
 
 -- what was found, and what the events that are left add, are the last Puts
@@ -105,7 +106,8 @@ one_put all so_far next left rest t y v is step adds = subst (λ (n : Record). A
     go : (b : Bool) → has so_far y ≡ b → AreSoFar all rest (if b then so_far else so_far ++ record { cell = y; value = v } ∷ [])
     go true e =
         was
-        ∙ ap (λ (b : Bool). so_far ++ cond (not b) (record { cell = y; value = v } ∷ fresh so_far (filter (λ d. not (same_cell d.cell y)) (last_puts rest))) (fresh so_far (filter (λ d. not (same_cell d.cell y)) (last_puts rest)))) e
+        ∙ ap (λ (b : Bool). so_far ++ cond (not b) (record { cell = y; value = v } ∷ fresh so_far (filter (λ d. not (same_cell d.cell y)) (last_puts rest)))
+        (fresh so_far (filter (λ d. not (same_cell d.cell y)) (last_puts rest)))) e
         ∙ ap (λ (l : Record). so_far ++ l) (same_fresh so_far (last_puts rest) y e)
     go false e =
         was
@@ -141,7 +143,8 @@ put_wrote H t cs i d is lt =
     wrote_if H t x f.0 (sym (last_put_own H t x) ∙ sym (lookup_puts (own_events H t) x) ∙ sym (ap (λ (l : Record). lookup l x) is) ∙ f.1)
 
 -- one change more is looked at
-pub chosen_more : (p : Change → Bool) (cs so_far : Record) (i : ℕ) (d : Change) (b : Bool) → i < length cs → p (get_or cs i d) ≡ b → so_far ≡ filter p (take i cs) → cond b (so_far ++ get_or cs i d ∷ []) so_far ≡ filter p (take (i + 1) cs)
+pub chosen_more : (p : Change → Bool) (cs so_far : Record) (i : ℕ) (d : Change) (b : Bool) → i < length cs → p (get_or cs i d) ≡ b → so_far ≡ filter p (take i cs)
+    → cond b (so_far ++ get_or cs i d ∷ []) so_far ≡ filter p (take (i + 1) cs)
 chosen_more p cs so_far i d b lt test is = go b test ∙ sym (ap (filter p) (take_more cs i d lt) ∙ filter-append p (take i cs) (get_or cs i d ∷ []))
   where
     go : (b : Bool) → p (get_or cs i d) ≡ b → cond b (so_far ++ get_or cs i d ∷ []) so_far ≡ filter p (take i cs) ++ cond (p (get_or cs i d)) (get_or cs i d ∷ []) []
@@ -173,7 +176,8 @@ either_way true false = refl
 either_way false true = refl
 either_way false false = refl
 
-pub cells_more : (old new : BTreeSet Cell) (cs : Record) (c : Change) → AreCells old cs → ((q : Cell) → contains cell_cmp new q ≡ cond (is_at (cell_cmp c.cell) q) true (contains cell_cmp old q)) → AreCells new (cs ++ c ∷ [])
+pub cells_more : (old new : BTreeSet Cell) (cs : Record) (c : Change) → AreCells old cs → ((q : Cell) → contains cell_cmp new q ≡ cond (is_at (cell_cmp c.cell) q) true (contains cell_cmp old q))
+    → AreCells new (cs ++ c ∷ [])
 cells_more old new cs c are updates x =
     updates x
     ∙ ap₂ (λ (a b : Bool). cond a true b) (sym (same_cell-cell_cmp c.cell x)) (are x)

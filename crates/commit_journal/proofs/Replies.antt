@@ -101,8 +101,11 @@ of_held X H s t (Read x) h = others (access_quiet X H t x _ (stop_quiet X.setup 
 of_held X H s t (Write x v) h = others (access_quiet X H t x _ (put_quiet X.setup H t x (Some v)))
 of_held X H s t (Add x v) h = others (access_quiet X H t x _ (added_quiet X.setup H t x v (add_base (last_put H t x) (last_got H t x))))
 of_held X H s t (Delete x) h = others (access_quiet X H t x _ (put_quiet X.setup H t x None))
-of_held X H s t (Scan x n) h = others (access_quiet X H t x _ (cond_quiet X.setup H (is_scan x n) (scan_values X H t x n) (refuse H Range) (stop_quiet X.setup H t (scan_stop X.setup H t (cells_from x n)) _ ((λ q. absurd (cc)), read_records X t (cells_from x n) H)) (refused X.setup H Range)))
-of_held X H s t Prepare h = others (cond_quiet X.setup H (prepared H t) (refuse H IsPrepared) (or_stop H t (prepare_stop X.setup H t) (Prepared, Ready (txn t) ∷ H)) (refused X.setup H IsPrepared) (stop_quiet X.setup H t (prepare_stop X.setup H t) _ ((λ q. absurd (cc)), refl)))
+of_held X H s t (Scan x n) h = others
+    (access_quiet X H t x _ (cond_quiet X.setup H (is_scan x n) (scan_values X H t x n) (refuse H Range)
+    (stop_quiet X.setup H t (scan_stop X.setup H t (cells_from x n)) _ ((λ q. absurd (cc)), read_records X t (cells_from x n) H)) (refused X.setup H Range)))
+of_held X H s t Prepare h = others (cond_quiet X.setup H (prepared H t) (refuse H IsPrepared) (or_stop H t (prepare_stop X.setup H t) (Prepared, Ready (txn t) ∷ H)) (refused X.setup H IsPrepared)
+    (stop_quiet X.setup H t (prepare_stop X.setup H t) _ ((λ q. absurd (cc)), refl)))
 
 begin_outcome : (S : Setup) (H : List Event) (s : Session) (k : Spot) (o : Stop) → Outcome S H s (Begin k) (begin_or_wait H s k o)
 unfolding records_of
@@ -117,7 +120,8 @@ cond_outcome S H s r false x y p q = q
 of_new : (S : Setup) (H : List Event) (s : Session) (r : Request) → Outcome S H s r (answer_new S H s r)
 unfolding answer_new
 of_new S H s (Begin k) = cond_outcome S H s (Begin k) (not (ltb k.kind.0 S.types)) (refuse H UnknownType) _ (others ((λ q. absurd (cc)), refl))
-    (cond_outcome S H s (Begin k) (leb MOST_TXNS (begun_count H)) (refuse H Full) (begin_or_wait H s k (begin_stop S H k)) (others ((λ q. absurd (cc)), refl)) (begin_outcome S H s k (begin_stop S H k)))
+    (cond_outcome S H s (Begin k) (leb MOST_TXNS (begun_count H)) (refuse H Full) (begin_or_wait H s k (begin_stop S H k)) (others ((λ q. absurd (cc)), refl))
+    (begin_outcome S H s k (begin_stop S H k)))
 of_new S H s (Read x) = others ((λ q. absurd (cc)), refl)
 of_new S H s (Write x v) = others ((λ q. absurd (cc)), refl)
 of_new S H s (Add x v) = others ((λ q. absurd (cc)), refl)
@@ -142,7 +146,8 @@ to_outcome X H s r (Some t) e = go (aborted H t) refl
 
 pub outcome : (X : Store) (H : List Event) (s : Session) (r : Request) → Outcome X.setup H s r (answer X H s r)
 unfolding answer
-outcome X H s r = cond_outcome X.setup H s r (leb 1 s.0 && leb s.0 SESSIONS) (answer_to X H s r (held H s.0)) (refuse H BadSession) (to_outcome X H s r (held H s.0) refl) (others ((λ q. absurd (cc)), refl))
+outcome X H s r = cond_outcome X.setup H s r (leb 1 s.0 && leb s.0 SESSIONS) (answer_to X H s r (held H s.0)) (refuse H BadSession) (to_outcome X H s r (held H s.0) refl)
+    (others ((λ q. absurd (cc)), refl))
 
 -- a Committed is the Done of what the session asked to commit
 pub committed_now : (S : Setup) (H : List Event) (s : Session) (r : Request) (x : Answered) → Outcome S H s r x → x.0 ≡ Committed → (t : ℕ) × (committing H s r ≡ Some t) × (x.1 ≡ Done (txn t) ∷ H)

@@ -31,7 +31,8 @@ pub rows_are_final : (X : Store) (a : TreeFacts X.setup) (H : List Event) → La
 unfolding rows_after final_table
 rows_are_final X a H l k x =
     let p = prefix_is k H in
-    subst (λ (Q : List Event). value_of X H x (latest X.setup H x (counted (committed Q) H x)) ≡ value_of X Q x (latest X.setup Q x (counted (committed Q) Q x))) (sym p.is) (same_latest X.setup a H l p.at p.within x X)
+    subst (λ (Q : List Event). value_of X H x (latest X.setup H x (counted (committed Q) H x)) ≡ value_of X Q x (latest X.setup Q x (counted (committed Q) Q x))) (sym p.is)
+    (same_latest X.setup a H l p.at p.within x X)
 
 -- an event that is no commit commits nobody
 not_done : (e : Event) (P : List Event) (w : ℕ) → is_done w e ≡ false → committed (e ∷ P) w ≡ committed P w

@@ -71,7 +71,8 @@ lookup_puts (Put t y v ∷ es) x =
     ∙ ap (λ (s : Bool). option_or (cond (not s) (lookup (last_puts es) x) None) (cond (same_cell y x) (Some v) None)) (same_laws.symm x y)
     ∙ go (same_cell y x) (lookup_puts es x)
   where
-    go : (s : Bool) → lookup (last_puts es) x ≡ newest_in (puts x) es → option_or (cond (not s) (lookup (last_puts es) x) None) (cond s (Some v) None) ≡ option_or (cond s (Some v) None) (newest_in (puts x) es)
+    go : (s : Bool) → lookup (last_puts es) x ≡ newest_in (puts x) es → option_or (cond (not s) (lookup (last_puts es) x) None) (cond s (Some v) None) ≡ option_or (cond s (Some v) None)
+        (newest_in (puts x) es)
     go true ih = refl
     go false ih = none_or (lookup (last_puts es) x) ∙ ih
       where
@@ -89,7 +90,8 @@ lookup_puts (Told t ∷ es) x = lookup_puts es x
 pub record_at : (S : Setup) (H : List Event) (t : ℕ) (T : Values) (x : Cell) → after_changes (record_of S H t) T x ≡ unwrap_or (cond (is_newest S H t x) (last_put H t x) None) (T x)
 record_at S H t T x =
     changes_at (record_of S H t) T x
-    ∙ ap (λ (o : Option (Option ℤ)). unwrap_or o (T x)) (lookup_filter (is_newest S H t) (last_puts (own_events H t)) x ∙ ap (λ (o : Option (Option ℤ)). cond (is_newest S H t x) o None) (lookup_puts (own_events H t) x ∙ last_put_own H t x))
+    ∙ ap (λ (o : Option (Option ℤ)). unwrap_or o (T x)) (lookup_filter (is_newest S H t) (last_puts (own_events H t)) x ∙ ap (λ (o : Option (Option ℤ)). cond (is_newest S H t x) o None)
+    (lookup_puts (own_events H t) x ∙ last_put_own H t x))
 
 -- one more record
 pub records_push : (rs : List Record) (r : Record) (T : Values) → after_records (rs ++ r ∷ []) T ≡ after_changes r (after_records rs T)

@@ -129,7 +129,8 @@ module _ (X : Store) (a : TreeFacts X.setup) (t : Txn) (P : List Event) (l : Law
   newest_left r f =
       let p = own_wrote r in
       let mine : Wrote H x t.0 = record { done = commits_from H t.0 done_now; put = omega arith } in
-      latest_is S H x (counted (committed H) H x) t.0 (λ u w j k ne. writers_ordered_by S a H l x u w (of_now u j).0 (of_now w k).0 ne) (in_counted S a H l x (committed H) t.0 done_now mine) (λ u j. elim (cases_eq t.0 u) [
+      latest_is S H x (counted (committed H) H x) t.0 (λ u w j k ne. writers_ordered_by S a H l x u w (of_now u j).0 (of_now w k).0 ne) (in_counted S a H l x (committed H) t.0 done_now mine)
+      (λ u j. elim (cases_eq t.0 u) [
         | inl e ↦ subst (λ (z : ℕ). precedes S H x t.0 z ≡ false) e (precedes_irreflexive S H x t.0)
         | inr ne ↦ elim (of_now u j).1 [
           | inl e ↦ absurd (ne (sym e))
@@ -196,7 +197,8 @@ module _ (X : Store) (a : TreeFacts X.setup) (t : Txn) (P : List Event) (l : Law
   unfolding wrote
   wrote_not r = ltb-false _ _ r
 
-  from_others : (o : Option ℕ) → latest S Q x (counted (committed Q) Q x) ≡ o → ((m : ℕ) → o ≡ Some m → put_at H t.0 x < length H → precedes S H x m t.0 ≡ false) → (o ≡ None → put_at H t.0 x < length H → ⊥) → final_table X H x ≡ final_table X Q x
+  from_others : (o : Option ℕ) → latest S Q x (counted (committed Q) Q x) ≡ o → ((m : ℕ) → o ≡ Some m → put_at H t.0 x < length H → precedes S H x m t.0 ≡ false)
+      → (o ≡ None → put_at H t.0 x < length H → ⊥) → final_table X H x ≡ final_table X Q x
   from_others (Some m) is beside none = table H (Some m) (others_left m is (beside m refl)) ∙ value_then S a H l i h x X m is ∙ sym (table Q (Some m) is)
   from_others None is beside none = table H None (nobody_left is (none refl)) ∙ sym (table Q None is)
 

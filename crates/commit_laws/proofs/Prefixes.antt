@@ -58,7 +58,8 @@ unfolding records_of up_to_commit
 prefix_records S k [] = sym (take_all k [] (omega arith))
 prefix_records S k (Done t ∷ P) = go (leb k (commit_count P)) refl (prefix_records S k P)
   where
-    go : (b : Bool) → leb k (commit_count P) ≡ b → records_of S (up_to_commit k P) ≡ take k (records_of S P) → records_of S (up_to_commit k (Done t ∷ P)) ≡ take k (records_of S P ++ record_of S P t.0 ∷ [])
+    go : (b : Bool) → leb k (commit_count P) ≡ b → records_of S (up_to_commit k P) ≡ take k (records_of S P) → records_of S (up_to_commit k (Done t ∷ P)) ≡ take k
+        (records_of S P ++ record_of S P t.0 ∷ [])
     go true e ih =
         ap (λ (b : Bool). records_of S (cond b (up_to_commit k P) (Done t ∷ P))) e
         ∙ ih

@@ -50,7 +50,8 @@ unfolding put_count
 own_puts [] t = refl
 own_puts (Put u x v ∷ P) t = go (eqb u.0 t) (own_puts P t)
   where
-    go : (b : Bool) → put_count (filter (is_of t) P) ≡ puts_by (λ u. eqb u t) P → put_count (cond b (Put u x v ∷ filter (is_of t) P) (filter (is_of t) P)) ≡ cond b (suc (puts_by (λ u. eqb u t) P)) (puts_by (λ u. eqb u t) P)
+    go : (b : Bool) → put_count (filter (is_of t) P) ≡ puts_by (λ u. eqb u t) P → put_count (cond b (Put u x v ∷ filter (is_of t) P) (filter (is_of t) P)) ≡ cond b (suc (puts_by (λ u. eqb u t) P))
+        (puts_by (λ u. eqb u t) P)
     go true ih = ap suc ih
     go false ih = ih
 own_puts (Began u s k i ∷ P) t = skip (eqb u.0 t) (own_puts P t)

@@ -11,7 +11,8 @@ before_fewer stop n m (inr low) le = inr (omega arith)
 
 -- ---- a disk in memory
 
-pub call_ok : {T E : Type 0} (most made made' written written' stop stop' n : ℕ) (room room' : Room) (v : T) → room' ≡ room → made' ≡ next made → stop' ≡ stop → written' ≤ written + n → (IsFrom stop (next made) → ⊥) → AreCalls {E = E} most 1 n (memory_tally made written stop room) (memory_tally made' written' stop' room') (Ok v)
+pub call_ok : {T E : Type 0} (most made made' written written' stop stop' n : ℕ) (room room' : Room) (v : T) → room' ≡ room → made' ≡ next made → stop' ≡ stop → written' ≤ written + n
+    → (IsFrom stop (next made) → ⊥) → AreCalls {E = E} most 1 n (memory_tally made written stop room) (memory_tally made' written' stop' room') (Ok v)
 call_ok most made made' written written' stop stop' n room room' v roomy is same le never = record {
   up_to = record { made = omega arith; written = le; promise = ap (λ (s : ℕ). (memory_tally 0 0 s room').promise) same ∙ ap (λ (r : Room). (memory_tally 0 0 stop r).promise) roomy };
   all = λ small. omega arith;
@@ -61,7 +62,8 @@ fails_then k n k' a b one all f = record {
 }
 
 -- the first group went through, and the second one too, or it stopped
-pub then_ok : {T E U F : Type 0} (most k n k' n' : ℕ) (a b c : Tally) (v : T) (w : U) → AreCalls {E = E} most k n a b (Ok v) → AreCalls {E = F} most k' n' b c (Ok w) → AreCalls {E = F} most (k + k') (n + n') a c (Ok w)
+pub then_ok : {T E U F : Type 0} (most k n k' n' : ℕ) (a b c : Tally) (v : T) (w : U) → AreCalls {E = E} most k n a b (Ok v) → AreCalls {E = F} most k' n' b c (Ok w)
+    → AreCalls {E = F} most (k + k') (n + n') a c (Ok w)
 then_ok most k n k' n' a b c v w one two = record {
   up_to = up_to_then k n k' n' a b c one.up_to two.up_to;
   all = λ small. let first = one.all (omega arith) in omega (arith, first, two.all (omega (arith, first)));
@@ -69,7 +71,8 @@ then_ok most k n k' n' a b c v w one two = record {
   fails = λ f. two.fails (fails_then k n k' a b one.up_to (one.all (let z = f.small in omega arith)) f);
 }
 
-pub then_err : {T E U F : Type 0} (most k n k' n' : ℕ) (a b c : Tally) (v : T) (e : F) → AreCalls {E = E} most k n a b (Ok v) → AreCalls {T = U} most k' n' b c (Err e) → AreCalls {T = U} most (k + k') (n + n') a c (Err e)
+pub then_err : {T E U F : Type 0} (most k n k' n' : ℕ) (a b c : Tally) (v : T) (e : F) → AreCalls {E = E} most k n a b (Ok v) → AreCalls {T = U} most k' n' b c (Err e)
+    → AreCalls {T = U} most (k + k') (n + n') a c (Err e)
 then_err most k n k' n' a b c v e one two = record {
   up_to = up_to_then k n k' n' a b c one.up_to two.up_to;
   all = tt;

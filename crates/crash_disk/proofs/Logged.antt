@@ -14,7 +14,8 @@ use Rattle.crash_disk.specs.LogLaws.{read_is_left}
 
 -- ---- the log
 
-pub steps-write : (cs : List Call) (bytes piece : List ℕ) (at n : ℕ) → total cs ≡ length bytes → n ≡ length piece → steps (cs ++ call.Write at n ∷ []) (bytes ++ piece) ≡ steps cs bytes ++ Wrote at piece ∷ []
+pub steps-write : (cs : List Call) (bytes piece : List ℕ) (at n : ℕ) → total cs ≡ length bytes → n ≡ length piece → steps (cs ++ call.Write at n ∷ []) (bytes ++ piece) ≡ steps cs bytes
+    ++ Wrote at piece ∷ []
 steps-write [] [] piece at n whole is = ap (λ (l : List ℕ). Wrote at l ∷ []) (take_all n piece (omega arith))
 steps-write [] (b ∷ bytes) piece at n whole is = absurd (omega arith)
 steps-write (call.Write at' n' ∷ cs) bytes piece at n whole is =
@@ -80,7 +81,14 @@ module _ (at : ℕ) (piece m : List ℕ) where
   length-front = length-take-le at wide (omega (arith, length-wide))
 
   pub length-written : length now ≡ max (length m) (at + length piece)
-  length-written = omega (arith, length-append (take at wide) (piece ++ drop (at + length piece) wide), length-append piece (drop (at + length piece) wide), length-front, length-drop (at + length piece) wide, length-wide)
+  length-written = omega (
+    arith,
+    length-append (take at wide) (piece ++ drop (at + length piece) wide),
+    length-append piece (drop (at + length piece) wide),
+    length-front,
+    length-drop (at + length piece) wide,
+    length-wide,
+  )
 
   low : (i : ℕ) → i < at → get_or now i 0 ≡ get_or wide i 0
   low i lt = get_or_append_left (take at wide) (piece ++ drop (at + length piece) wide) 0 i (omega (arith, length-front)) ∙ get_or-take at wide i 0 lt
@@ -156,7 +164,8 @@ torn_write xs ys at piece is = subst (IsTorn at (length piece) (contents xs)) (s
 pub holds_write : (xs ys : List Step) (at : ℕ) (piece : List ℕ) → ys ≡ xs ++ Wrote at piece ∷ [] → Holds at piece (contents ys)
 holds_write xs ys at piece is = subst (Holds at piece) (sym (wrote_contents xs ys at piece is)) (write_holds at piece (contents xs))
 
-pub joined_write : (cs cs' : List Call) (bytes bytes' piece : List ℕ) (at : ℕ) → total cs ≡ length bytes → cs' ≡ cs ++ call.Write at (length piece) ∷ [] → bytes' ≡ bytes ++ piece → steps cs' bytes' ≡ steps cs bytes ++ Wrote at piece ∷ []
+pub joined_write : (cs cs' : List Call) (bytes bytes' piece : List ℕ) (at : ℕ) → total cs ≡ length bytes → cs' ≡ cs ++ call.Write at (length piece) ∷ [] → bytes' ≡ bytes ++ piece
+    → steps cs' bytes' ≡ steps cs bytes ++ Wrote at piece ∷ []
 joined_write cs cs' bytes bytes' piece at whole is-cs is-bytes =
     ap (λ (l : List Call). steps l bytes') is-cs ∙ ap (λ (l : List ℕ). steps (cs ++ call.Write at (length piece) ∷ []) l) is-bytes ∙ steps-write cs bytes piece at (length piece) whole refl
 
@@ -205,7 +214,8 @@ count-sync (Synced ∷ xs) = count-sync xs
 
 -- ---- one write less
 
-pub one_less : (cs : List Call) (bytes : List ℕ) (at n : ℕ) → total (cs ++ call.Write at n ∷ []) ≡ length bytes → IsOneWriteLess (steps (cs ++ call.Write at n ∷ []) bytes) (steps cs (take (length bytes - n) bytes))
+pub one_less : (cs : List Call) (bytes : List ℕ) (at n : ℕ) → total (cs ++ call.Write at n ∷ []) ≡ length bytes → IsOneWriteLess (steps (cs ++ call.Write at n ∷ []) bytes)
+    (steps cs (take (length bytes - n) bytes))
 one_less cs bytes at n counted =
     let kept = length bytes - n in
     let low : total cs ≡ kept = omega (arith, total-push cs at n) in
@@ -277,13 +287,15 @@ write_within cs bytes at n counted got =
     omega (arith, ap total split, total-push (take k cs) at n)
 
 -- the bytes and the calls without the last write
-pub one_less_of : (cs less : List Call) (bytes fewer : List ℕ) (at n : ℕ) (old : List Step) → cs ≡ less ++ call.Write at n ∷ [] → fewer ≡ take (length bytes - n) bytes → total cs ≡ length bytes → steps cs bytes ≡ old → IsOneWriteLess old (steps less fewer)
+pub one_less_of : (cs less : List Call) (bytes fewer : List ℕ) (at n : ℕ) (old : List Step) → cs ≡ less ++ call.Write at n ∷ [] → fewer ≡ take (length bytes - n) bytes → total cs ≡ length bytes
+    → steps cs bytes ≡ old → IsOneWriteLess old (steps less fewer)
 one_less_of cs less bytes fewer at n old split is counted view =
     subst (λ (o : List Step). IsOneWriteLess o (steps less fewer)) (ap (λ (l : List Call). steps l bytes) (sym split) ∙ view)
     (subst (λ (b : List ℕ). IsOneWriteLess (steps (less ++ call.Write at n ∷ []) bytes) (steps less b)) (sym is) (one_less less bytes at n (ap total (sym split) ∙ counted)))
 
 -- a write of a log, carried out again
-pub replayed : (at size : ℕ) (image rest image' rest' piece : List ℕ) (ds : List Call) (target : List ℕ) → after_steps image (steps (call.Write at size ∷ ds) rest) ≡ target → piece ≡ take size rest → rest' ≡ drop size rest
+pub replayed : (at size : ℕ) (image rest image' rest' piece : List ℕ) (ds : List Call) (target : List ℕ) → after_steps image (steps (call.Write at size ∷ ds) rest) ≡ target → piece ≡ take size rest
+    → rest' ≡ drop size rest
     → image' ≡ written at piece image → after_steps image' (steps ds rest') ≡ target
 replayed at size image rest image' rest' piece ds target told is-piece is-rest is-image =
     ap (λ (r : List ℕ). after_steps image' (steps ds r)) is-rest
@@ -297,12 +309,18 @@ no_shorter m [] = omega arith
 no_shorter m (Wrote at piece ∷ xs) = omega (arith, length-written at piece m, no_shorter (written at piece m) xs)
 no_shorter m (Synced ∷ xs) = no_shorter m xs
 
-pub next_fits : (at size : ℕ) (image rest piece : List ℕ) (ds : List Call) (target : List ℕ) → after_steps image (steps (call.Write at size ∷ ds) rest) ≡ target → piece ≡ take size rest → at + length piece ≤ length target
+pub next_fits : (at size : ℕ) (image rest piece : List ℕ) (ds : List Call) (target : List ℕ) → after_steps image (steps (call.Write at size ∷ ds) rest) ≡ target → piece ≡ take size rest
+    → at + length piece ≤ length target
 next_fits at size image rest piece ds target told is-piece =
     omega (arith, ap length told, ap length is-piece, length-written at (take size rest) image, no_shorter (written at (take size rest) image) (steps ds (drop size rest)))
 
 pub less_long : (old new : List Step) → IsOneWriteLess old new → length (contents new) ≤ length (contents old)
-less_long old new less = omega (arith, ap (λ (xs : List Step). length (contents xs)) less.is, ap length (after_steps-push [] new (Wrote less.at less.piece)), length-written less.at less.piece (contents new))
+less_long old new less = omega (
+  arith,
+  ap (λ (xs : List Step). length (contents xs)) less.is,
+  ap length (after_steps-push [] new (Wrote less.at less.piece)),
+  length-written less.at less.piece (contents new),
+)
 
 none_left : (bytes : List ℕ) → length (padded (0 + length bytes) []) ≡ 0 + length bytes
 none_left bytes =

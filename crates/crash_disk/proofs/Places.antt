@@ -21,7 +21,8 @@ back_less cs bytes p n counted =
     let same : n + (length (drop n bytes) - total (drop p cs)) ≡ length bytes - total (drop p cs) = omega (arith, length-drop n bytes, few, counted) in
     drop-drop (length (drop n bytes) - total (drop p cs)) n bytes ∙ ap (λ (k : ℕ). drop k bytes) same
 
-pub write_at : (cs : List Call) (bytes : List ℕ) (p at n : ℕ) → total cs ≡ length bytes → slice_get cs p ≡ Some (call.Write at n) → slice_get (steps cs bytes) p ≡ Some (Wrote at (take n (back cs bytes p)))
+pub write_at : (cs : List Call) (bytes : List ℕ) (p at n : ℕ) → total cs ≡ length bytes → slice_get cs p ≡ Some (call.Write at n)
+    → slice_get (steps cs bytes) p ≡ Some (Wrote at (take n (back cs bytes p)))
 write_at [] bytes p at n counted is = absurd (cc)
 write_at (c ∷ cs) bytes zero at n counted is =
     let q : c ≡ call.Write at n = cc in
@@ -45,7 +46,8 @@ starts_at (c ∷ cs) zero at n is =
     omega (arith, ap (λ (d : Call). total (d ∷ cs)) q)
 starts_at (c ∷ cs) (suc p) at n is = starts_at cs p at n is
 
-pub wrote_at : (cs : List Call) (bytes : List ℕ) (p at n from : ℕ) (piece : List ℕ) → total cs ≡ length bytes → slice_get cs p ≡ Some (call.Write at n) → from + total (drop p cs) ≡ length bytes → piece ≡ take n (drop from bytes)
+pub wrote_at : (cs : List Call) (bytes : List ℕ) (p at n from : ℕ) (piece : List ℕ) → total cs ≡ length bytes → slice_get cs p ≡ Some (call.Write at n) → from + total (drop p cs) ≡ length bytes
+    → piece ≡ take n (drop from bytes)
     → slice_get (steps cs bytes) p ≡ Some (Wrote at piece)
 wrote_at cs bytes p at n from piece counted is start piece-is =
     let back-is : length bytes - total (drop p cs) ≡ from = omega (arith, start) in

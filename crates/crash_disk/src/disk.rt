@@ -26,7 +26,7 @@ pub trait Disk {
     /// The clock, which never goes back.
     ghost moment: { Self → ℕ };
 
-    /// The images that a crash at some moment from that one on might have left, during a call or between two.
+    /// The images that a crash might have left at some moment since the given one, during a call or between two.
     ghost left_since: { Self → ℕ → List ℕ → Type 0 };
 
     /// The bytes as they were at the last sync that succeeded.
@@ -87,7 +87,7 @@ pub trait Disk {
         ensures calls { tally self.new ≡ tally self.old }
         ensures faults { faults self.new ≡ faults self.old };
 
-    /// How many bytes there are. It changes no byte, and nothing that a crash may leave.
+    /// Returns how many bytes there are. It changes no byte, and nothing that a crash may leave.
     ///
     /// # Errors
     /// `Failed` where the device fails.

@@ -40,7 +40,7 @@ pub fn put(image: &mut Vec<u8>, at: usize, bytes: &[u8]) -> Result<(), AllocErro
     Ok(())
 }
 
-/// Copies the bytes from a place on into the front of a buffer, as many as there are and as it has room for, and answers how many.
+/// Copies the bytes from a place on into the front of a buffer, up to the end of the bytes or of the buffer, and returns how many.
 pub fn copy_from(bytes: &[u8], at: usize, buf: &mut [u8]) -> usize
     requires { at ≤ length bytes.now }
     ensures fits { result ≤ length buf.old }

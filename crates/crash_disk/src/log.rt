@@ -20,7 +20,7 @@ pub struct Log {
     // Those of all writes, one after the other.
     bytes: Vec<u8>,
     room: Room,
-    // For so many calls, and for so many bytes, there is memory.
+    // The number of calls, and of bytes, for which there is memory.
     sure_calls: usize,
     sure_bytes: usize,
 }
@@ -44,7 +44,7 @@ impl Model for Log {
 }
 
 impl Log {
-    /// An empty log, for whose calls and bytes memory is reserved.
+    /// Returns an empty log, for whose calls and bytes memory is reserved.
     ///
     /// # Errors
     /// `AllocError`: out of memory.
@@ -60,7 +60,7 @@ impl Log {
         })
     }
 
-    /// An empty log that grows as memory lasts.
+    /// Returns an empty log that grows as memory lasts.
     pub fn growing(alloc: Global) -> Log
         ensures { result ≡ record { steps = []; room = Growing; sure_calls = 0; sure_bytes = 0 } }
     {
@@ -73,7 +73,7 @@ impl Log {
         }
     }
 
-    /// A log of one write, of these bytes at the front, and a sync. It grows as memory lasts.
+    /// Returns a log of one write, of these bytes at the front, and a sync. It grows as memory lasts.
     ///
     /// # Errors
     /// `AllocError`: out of memory.
@@ -134,7 +134,7 @@ impl Log {
         Ok(())
     }
 
-    /// Returns memory for a log of so many calls more, whose writes have so many bytes in all. The log takes it by `adopt`.
+    /// Returns memory for `calls` more calls, whose writes have `bytes` bytes in all. The log takes it by `adopt`.
     ///
     /// # Errors
     /// `AllocError`: the log may not hold so much, or out of memory.
@@ -223,14 +223,14 @@ impl Log {
         }
     }
 
-    /// The number of its calls.
+    /// Returns the number of its calls.
     pub fn call_count(&self) -> usize
         ensures { result ≡ length self.now.steps }
     {
         self.calls.len()
     }
 
-    /// The call at a place, with the bytes that it wrote; a sync has none. `None` if there are no more calls than that. It costs a look
+    /// Returns the call at a place, with the bytes that it wrote; a sync has none. `None` if there are no more calls than that. It costs a look
     /// at each later call.
     pub fn call(&self, place: usize) -> Option<(Call, &[u8])>
         ensures { MatchOption result (length self.now.steps ≤ place) (λ r. slice_get self.now.steps place ≡ Some (step_of r.0 r.1.now)) }
@@ -243,7 +243,7 @@ impl Log {
     }
 }
 
-/// The bytes of the call at a place, of those of all writes; a sync has none.
+/// Returns the bytes of the call at a place, of those of all writes; a sync has none.
 fn bytes_of<'a>(call: Call, calls: &[Call], bytes: &'a [u8], place: usize) -> &'a [u8]
     requires is { slice_get calls.now place ≡ Some call }
     requires within { place < length calls.now }
@@ -260,7 +260,7 @@ fn bytes_of<'a>(call: Call, calls: &[Call], bytes: &'a [u8], place: usize) -> &'
     }
 }
 
-/// The place of the first byte of some calls whose bytes end at `end`.
+/// Returns the place of the first byte of some calls whose bytes end at `end`.
 fn start_of(calls: &[Call], end: usize) -> usize
     requires { total calls.now ≤ end }
     ensures { result + total calls.now ≡ end }

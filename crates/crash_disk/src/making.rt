@@ -11,7 +11,7 @@ use crate::{Counter, DEFAULT_CAPACITY, Log, MemDisk};
 use std::alloc::{AllocError, Global};
 
 impl MemDisk {
-    /// An empty disk of `DEFAULT_CAPACITY` bytes, with memory reserved for them, for `RESERVED_CALLS` writes and syncs, and for
+    /// Returns an empty disk of `DEFAULT_CAPACITY` bytes, with memory reserved for them, for `RESERVED_CALLS` writes and syncs, and for
     /// `RESERVED_BYTES` bytes in all writes. A write or a sync past these is a fault. The disk fails at the call `stop` and at all
     /// later ones; 0 names no call.
     ///
@@ -34,7 +34,7 @@ impl MemDisk {
         })
     }
 
-    /// An empty disk of so many bytes. Its memory grows with what is written; a write or a sync for which memory does not last is a
+    /// Returns an empty disk of `capacity` bytes. Its memory grows with what is written; a write or a sync for which memory does not last is a
     /// fault. The disk fails at the call `stop` and at all later ones; 0 names no call.
     pub fn with_capacity(alloc: Global, capacity: u64, stop: u32) -> MemDisk
         requires some { 0 < capacity }
@@ -55,7 +55,7 @@ impl MemDisk {
         }
     }
 
-    /// A disk of so many bytes that has these, all of them safe. It has no stop, and its memory grows with what is written.
+    /// Returns a disk of `capacity` bytes that has these bytes, all of them safe. It has no stop, and its memory grows with what is written.
     ///
     /// # Errors
     /// `AllocError`: out of memory.
@@ -81,7 +81,7 @@ impl MemDisk {
         })
     }
 
-    /// Its bytes.
+    /// Returns its bytes.
     pub fn bytes(&self) -> &[u8]
         ensures bytes { result.now ≡ contents self.now.log.steps }
         ensures within { length result.now ≤ self.now.capacity }
@@ -89,7 +89,7 @@ impl MemDisk {
         &self.image
     }
 
-    /// The disk with all writes since the last good sync dropped. It has no stop, and as many calls and faults as before. It costs
+    /// Returns the disk with all writes since the last good sync dropped. It has no stop, and as many calls and faults as before. It costs
     /// the bytes of all writes that are left.
     pub fn left(self) -> MemDisk
         ensures { IsLeft self result }

@@ -1,4 +1,4 @@
-//! A disk in memory. Its calls stand in a file of their own, since a spec that they name stands on this one.
+//! A disk in memory. `Call` is in another file, since a spec that it names depends on this one.
 
 ghost use Rattle.std.specs.Prelude.{◌≡◌, ◌≤◌, ◌<◌, ◌^◌, length, vec_capacity};
 ghost use Rattle.crash_disk.specs.declared.room.Room.TheVariants.{Reserved};

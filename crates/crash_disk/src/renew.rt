@@ -1,4 +1,4 @@
-//! Disks that forget the calls behind them.
+//! Disks that forget their past calls.
 
 ghost use Rattle.std.specs.Prelude.{◌≡◌, IfOk, IfErr};
 ghost use Rattle.crash_disk.specs.Disk.{Only};
@@ -8,7 +8,7 @@ use std::alloc::Global;
 
 /// A disk whose memory grows with its calls, and which can forget them.
 pub trait Renew: Disk {
-    /// Forgets the calls behind it, and frees the memory that they take: the same bytes, all of them safe. It is no call of the
+    /// Forgets the past calls, and frees the memory that they take: the same bytes, all of them safe. It is no call of the
     /// device: the number of calls, the stop and the counts of faults stay. The clock begins anew. It costs one pass over the bytes.
     ///
     /// # Errors

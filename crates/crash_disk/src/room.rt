@@ -20,7 +20,7 @@ pub enum Room {
 }
 
 impl Room {
-    /// Returns whether a log may hold so many writes and syncs, and so many bytes.
+    /// Returns true if a log may hold `calls` writes and syncs, and `bytes` bytes.
     pub fn holds(self, calls: usize, bytes: usize) -> bool
         ensures { IsTrue result ↔ MayHold self calls bytes }
     {

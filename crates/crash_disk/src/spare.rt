@@ -13,7 +13,7 @@ pub struct Memory {
     pub(crate) bytes: Vec<u8>,
 }
 
-/// Returns an empty vector with room for so many items, where the room that is there does not hold them: then for twice that room at least.
+/// Returns an empty vector with room for `wanted` items, and for twice `has` at least. If `has` is enough, it returns one without room.
 ///
 /// # Errors
 /// `AllocError`: out of memory.

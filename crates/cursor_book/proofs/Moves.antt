@@ -31,21 +31,26 @@ unfolding txns begun_count numbers
 cursors_none S = refl
 
 -- a transaction begins, which has done nothing yet
-pub cursors_began : (cs : List ℕ) (S : Setup) (P : List Event) (t : Txn) (s : Session) (k : Kind) (i : ℕ) → CursorsOf cs S P → cursor S P (suc (begun_count P)) ≡ 0 → CursorsOf (cs ++ 0 ∷ []) S (Began t s k i ∷ P)
+pub cursors_began : (cs : List ℕ) (S : Setup) (P : List Event) (t : Txn) (s : Session) (k : Kind) (i : ℕ) → CursorsOf cs S P → cursor S P (suc (begun_count P)) ≡ 0
+    → CursorsOf (cs ++ 0 ∷ []) S (Began t s k i ∷ P)
 unfolding txns begun_count numbers cursor
-cursors_began cs S P t s k i h z = ap (λ (xs : List ℕ). xs ++ 0 ∷ []) h ∙ ap (λ (c : ℕ). map (cursor S P) (numbers (begun_count P)) ++ c ∷ []) (sym z) ∙ sym (map-append (cursor S P) (numbers (begun_count P)) (suc (begun_count P) ∷ []))
+cursors_began cs S P t s k i h z = ap (λ (xs : List ℕ). xs ++ 0 ∷ []) h ∙ ap (λ (c : ℕ). map (cursor S P) (numbers (begun_count P)) ++ c ∷ []) (sym z)
+    ∙ sym (map-append (cursor S P) (numbers (begun_count P)) (suc (begun_count P) ∷ []))
 
 -- the cursor of a transaction after an access of a cell, by itself or by another
-cursor_got : (S : Setup) (P : List Event) (t w : Txn) (x : Cell) (v : Option ℤ) (u : ℕ) → cursor S (Got t x w v ∷ P) u ≡ cond (eqb t.0 u) (unwrap_or (least_step (profile S (kind_of P u)) (cursor S P u) x.table.0) (cursor S P u)) (cursor S P u)
+cursor_got : (S : Setup) (P : List Event) (t w : Txn) (x : Cell) (v : Option ℤ) (u : ℕ) → cursor S (Got t x w v ∷ P) u ≡ cond (eqb t.0 u)
+    (unwrap_or (least_step (profile S (kind_of P u)) (cursor S P u) x.table.0) (cursor S P u)) (cursor S P u)
 unfolding cursor
 cursor_got S P t w x v u = refl
 
-cursor_put : (S : Setup) (P : List Event) (t : Txn) (x : Cell) (v : Option ℤ) (u : ℕ) → cursor S (Put t x v ∷ P) u ≡ cond (eqb t.0 u) (unwrap_or (least_step (profile S (kind_of P u)) (cursor S P u) x.table.0) (cursor S P u)) (cursor S P u)
+cursor_put : (S : Setup) (P : List Event) (t : Txn) (x : Cell) (v : Option ℤ) (u : ℕ)
+    → cursor S (Put t x v ∷ P) u ≡ cond (eqb t.0 u) (unwrap_or (least_step (profile S (kind_of P u)) (cursor S P u) x.table.0) (cursor S P u)) (cursor S P u)
 unfolding cursor
 cursor_put S P t x v u = refl
 
 module _ (cs : List ℕ) (S : Setup) (P : List Event) (t : Txn) (x : Cell) (h : CursorsOf cs S P) (above : 0 < t.0) (begun : t.0 ≤ begun_count P) where
-  after : (e : Event) → ((u : ℕ) → cursor S (e ∷ P) u ≡ cond (eqb t.0 u) (unwrap_or (least_step (profile S (kind_of P u)) (cursor S P u) x.table.0) (cursor S P u)) (cursor S P u)) → moved cs t.0 (profile S (kind_of P t.0)) x.table.0 ≡ map (cursor S (e ∷ P)) (numbers (begun_count P))
+  after : (e : Event) → ((u : ℕ) → cursor S (e ∷ P) u ≡ cond (eqb t.0 u) (unwrap_or (least_step (profile S (kind_of P u)) (cursor S P u) x.table.0) (cursor S P u)) (cursor S P u))
+      → moved cs t.0 (profile S (kind_of P t.0)) x.table.0 ≡ map (cursor S (e ∷ P)) (numbers (begun_count P))
   unfolding txns
   after e f =
       let at = cursor_at cs S P t.0 h above begun in

@@ -29,7 +29,8 @@ at-map-numbers f (suc n) t h k =
 pub map_same : (f g : ℕ → ℕ) (n : ℕ) → ((u : ℕ) → 0 < u → u ≤ n → f u ≡ g u) → map f (numbers n) ≡ map g (numbers n)
 unfolding numbers
 map_same f g zero h = refl
-map_same f g (suc n) h = map_more f n ∙ ap (λ (xs : List ℕ). xs ++ f (suc n) ∷ []) (map_same f g n (λ u a b. h u a (omega arith))) ∙ ap (λ (z : ℕ). map g (numbers n) ++ z ∷ []) (h (suc n) (omega arith) (omega arith)) ∙ sym (map_more g n)
+map_same f g (suc n) h = map_more f n ∙ ap (λ (xs : List ℕ). xs ++ f (suc n) ∷ []) (map_same f g n (λ u a b. h u a (omega arith)))
+    ∙ ap (λ (z : ℕ). map g (numbers n) ++ z ∷ []) (h (suc n) (omega arith) (omega arith)) ∙ sym (map_more g n)
 
 -- another element for t alone
 pub set-map-numbers : (f g : ℕ → ℕ) (n t : ℕ) → 0 < t → t ≤ n → ((u : ℕ) → (u ≡ t → ⊥) → f u ≡ g u) → set (map f (numbers n)) (t - 1) (g t) ≡ map g (numbers n)

@@ -29,7 +29,8 @@ module _ {V : Type 0} (p : V → Bool) (q : Cell → Event → Bool) (a : Cell �
       one_more false n vs = ap (λ (m : ℕ). without_lasts m p vs) (let e : n ≡ n + 0 = omega arith in e)
 
   -- an event that does not pass
-  pub forgetting_other : (b c : Cell → List V) (left rest : List Event) (e : Event) → IsForgetting p q a b all left → left ≡ e ∷ rest → ((x : Cell) → q x e ≡ false) → ((x : Cell) → c x ≡ b x) → IsForgetting p q a c all rest
+  pub forgetting_other : (b c : Cell → List V) (left rest : List Event) (e : Event) → IsForgetting p q a b all left → left ≡ e ∷ rest → ((x : Cell) → q x e ≡ false) → ((x : Cell) → c x ≡ b x)
+      → IsForgetting p q a c all rest
   forgetting_other b c left rest e was is off same = forgetting_next b c left rest e was is (λ x. same x ∙ sym (ap (λ (o : Bool). cond o (without_last p (b x)) (b x)) (off x)))
 
   -- when nothing is left

@@ -46,8 +46,10 @@ filter_made p q same [] = refl
 filter_made p q same (n ∷ ns) = go (p n) (same n) (filter_made p q same ns)
   where
     go : (b : Bool) → q (record { 0 = n }) ≡ b → filter q (map (λ t. record { 0 = t }) ns) ≡ map (λ t. record { 0 = t }) (filter p ns)
-        → cond (q (record { 0 = n })) (record { 0 = n } ∷ filter q (map (λ t. record { 0 = t }) ns)) (filter q (map (λ t. record { 0 = t }) ns)) ≡ map (λ t. record { 0 = t }) (cond b (n ∷ filter p ns) (filter p ns))
-    go true h ih = ap (λ (o : Bool). cond o (record { 0 = n } ∷ filter q (map (λ t. record { 0 = t }) ns)) (filter q (map (λ t. record { 0 = t }) ns))) h ∙ ap (λ (ys : List Txn). record { 0 = n } ∷ ys) ih
+        → cond (q (record { 0 = n })) (record { 0 = n } ∷ filter q (map (λ t. record { 0 = t }) ns)) (filter q (map (λ t. record { 0 = t }) ns)) ≡ map (λ t. record { 0 = t })
+        (cond b (n ∷ filter p ns) (filter p ns))
+    go true h ih = ap (λ (o : Bool). cond o (record { 0 = n } ∷ filter q (map (λ t. record { 0 = t }) ns)) (filter q (map (λ t. record { 0 = t }) ns))) h
+        ∙ ap (λ (ys : List Txn). record { 0 = n } ∷ ys) ih
     go false h ih = ap (λ (o : Bool). cond o (record { 0 = n } ∷ filter q (map (λ t. record { 0 = t }) ns)) (filter q (map (λ t. record { 0 = t }) ns))) h ∙ ih
 
 -- the unfinished ones ascend
@@ -70,7 +72,8 @@ module _ (e : Event) (P : List Event) (b : (u : ℕ) → is_began u e ≡ false)
 
   pub unfinished_txns_same : begun_count (e ∷ P) ≡ begun_count P → unfinished_txns (e ∷ P) ≡ unfinished_txns P
   unfolding unfinished_txns txns
-  unfinished_txns_same n = (λ j. map (λ t. record { 0 = t }) (filter (unfinished (e ∷ P)) (numbers (n j)))) ∙ ap (λ (ns : List ℕ). map (λ t. record { 0 = t }) ns) (filter_alike (unfinished P) (unfinished (e ∷ P)) stay_unfinished (numbers (begun_count P)))
+  unfinished_txns_same n = (λ j. map (λ t. record { 0 = t }) (filter (unfinished (e ∷ P)) (numbers (n j)))) ∙ ap (λ (ns : List ℕ). map (λ t. record { 0 = t }) ns)
+      (filter_alike (unfinished P) (unfinished (e ∷ P)) stay_unfinished (numbers (begun_count P)))
 
 -- an event that aborts nobody
 module _ (e : Event) (P : List Event) (g : (u : ℕ) → is_gone u e ≡ false) where
@@ -158,7 +161,8 @@ module _ (b d : Lists) (P : List Event) (was : BookOf b P) where
           let on : eqb t.0 (suc (begun_count P)) ≡ true = eq-eqb t.0 (suc (begun_count P)) m in
           unfinished-cons (Began t s k i) P (suc (begun_count P)) ∙ (λ j. (on j || begun P (suc (begun_count P))) && not (f.1 j) && not (f.2 j))
 
-      all_more : map (λ t. record { 0 = t }) (filter (unfinished (Began t s k i ∷ P)) (numbers (begun_count P) ++ suc (begun_count P) ∷ [])) ≡ map (λ t. record { 0 = t }) (filter (unfinished P) (numbers (begun_count P))) ++ t ∷ []
+      all_more : map (λ t. record { 0 = t }) (filter (unfinished (Began t s k i ∷ P)) (numbers (begun_count P) ++ suc (begun_count P) ∷ [])) ≡ map (λ t. record { 0 = t })
+          (filter (unfinished P) (numbers (begun_count P))) ++ t ∷ []
       all_more =
           ap (map (λ t. record { 0 = t })) (filter_push (unfinished (Began t s k i ∷ P)) (numbers (begun_count P)) (suc (begun_count P)) newest)
           ∙ ap (λ (ns : List ℕ). map (λ t. record { 0 = t }) (ns ++ suc (begun_count P) ∷ [])) (numbers_alike (Began t s k i) (begun_count P) older)
@@ -176,9 +180,11 @@ module _ (b d : Lists) (P : List Event) (was : BookOf b P) where
   unfolding Orderly readers writers sources begun_count all_readers all_writers all_sources
   noted_got t x w v m r wr n so u = record {
     orderly = (m, was.orderly);
-    readers = λ y. r y ∙ ap (λ (rs : List (Txn × Txn)). cond (same_cell x y) (rs ++ (t, w) ∷ []) rs) (was.readers y) ∙ sym (readers_alike e P (λ z. refl) (all_readers (Got t x w v ∷ P) y) ∙ here (same_cell x y) (all_readers P y));
+    readers = λ y. r y ∙ ap (λ (rs : List (Txn × Txn)). cond (same_cell x y) (rs ++ (t, w) ∷ []) rs) (was.readers y)
+        ∙ sym (readers_alike e P (λ z. refl) (all_readers (Got t x w v ∷ P) y) ∙ here (same_cell x y) (all_readers P y));
     writers = λ y. wr y ∙ was.writers y ∙ sym (writers_alike e P (λ z. refl) (all_writers P y));
-    sources = λ y. so listed.0 listed.1 y ∙ ap (λ (ts : List Txn). cond (eqb t.0 y.0 && not (eqb w.0 y.0) && ltb 0 w.0) (put_by number_of w ts) ts) (was.sources y) ∙ sym (sources_alike e P (λ z. refl) y (all_sources (Got t x w v ∷ P) y) ∙ from y);
+    sources = λ y. so listed.0 listed.1 y ∙ ap (λ (ts : List Txn). cond (eqb t.0 y.0 && not (eqb w.0 y.0) && ltb 0 w.0) (put_by number_of w ts) ts) (was.sources y)
+        ∙ sym (sources_alike e P (λ z. refl) y (all_sources (Got t x w v ∷ P) y) ∙ from y);
     begun = n ∙ was.begun;
     unfinished = u ∙ was.unfinished ∙ sym (unfinished_txns_same e P (λ z. refl) (λ z. refl) (λ z. refl) refl);
   }
@@ -194,7 +200,8 @@ module _ (b d : Lists) (P : List Event) (was : BookOf b P) where
       stands : aborted P t.0 ≡ false
       stands = (unfinished_parts P t.0 m).2
 
-      here : (o : Bool) (rs : List (Txn × Txn)) → filter (λ p. not (aborted P p.0.0)) (cond o (rs ++ (t, w) ∷ []) rs) ≡ cond o (filter (λ p. not (aborted P p.0.0)) rs ++ (t, w) ∷ []) (filter (λ p. not (aborted P p.0.0)) rs)
+      here : (o : Bool) (rs : List (Txn × Txn)) → filter (λ p. not (aborted P p.0.0)) (cond o (rs ++ (t, w) ∷ []) rs) ≡ cond o (filter (λ p. not (aborted P p.0.0)) rs ++ (t, w) ∷ [])
+          (filter (λ p. not (aborted P p.0.0)) rs)
       here true rs = filter_push (λ p. not (aborted P p.0.0)) rs (t, w) (ap not stands)
       here false rs = refl
 
@@ -203,7 +210,8 @@ module _ (b d : Lists) (P : List Event) (was : BookOf b P) where
       from y = go (eqb t.0 y.0) refl (aborted P y.0) refl (not (eqb w.0 y.0)) (ltb 0 w.0)
         where
           go : (c : Bool) → eqb t.0 y.0 ≡ c → (o : Bool) → aborted P y.0 ≡ o → (f g : Bool)
-              → cond o [] (cond (c && f && g) (put_by number_of w (all_sources P y)) (all_sources P y)) ≡ cond (c && f && g) (put_by number_of w (cond o [] (all_sources P y))) (cond o [] (all_sources P y))
+              → cond o [] (cond (c && f && g) (put_by number_of w (all_sources P y)) (all_sources P y)) ≡ cond (c && f && g) (put_by number_of w (cond o [] (all_sources P y)))
+              (cond o [] (all_sources P y))
           go c h false k f g = refl
           go true h true k f g = absurd (let z : true ≡ false = sym k ∙ ap (aborted P) (sym (eqb-true t.0 y.0 h)) ∙ stands in cc)
           go false h true k f g = refl
@@ -267,7 +275,8 @@ module _ (b d : Lists) (P : List Event) (was : BookOf b P) where
   }
     where
       others : (u : ℕ) → unfinished (Done t ∷ P) u ≡ (not (eqb u t.0) && unfinished P u)
-      others u = unfinished-cons (Done t) P u ∙ go (eqb t.0 u) (eqb u t.0) (eqb_swap t.0 u) (begun P u) (committed P u) (aborted P u) ∙ ap (λ (b : Bool). not (eqb u t.0) && b) (sym (unfinished_is P u))
+      others u = unfinished-cons (Done t) P u ∙ go (eqb t.0 u) (eqb u t.0) (eqb_swap t.0 u) (begun P u) (committed P u) (aborted P u)
+          ∙ ap (λ (b : Bool). not (eqb u t.0) && b) (sym (unfinished_is P u))
         where
           go : (k l : Bool) → k ≡ l → (x y z : Bool) → (x && not (k || y) && not z) ≡ (not l && (x && not y && not z))
           go true true h true y z = refl
@@ -290,14 +299,23 @@ module _ (b d : Lists) (P : List Event) (was : BookOf b P) where
     readers = λ y.
         r y ∙ ap (without_lasts (count_by (reads y) own) (λ r. eqb r.0.0 t.0)) (was.readers y)
         ∙ without_all (λ r. eqb r.0.0 t.0) (count_by (reads y) own) (filter (λ r. not (aborted P r.0.0)) (all_readers P y))
-        (omega (arith, reads_counted (Gone t c ∷ P) t y, count_kept (λ r. eqb r.0.0 t.0) (λ r. not (aborted P r.0.0)) (all_readers P y) (λ r h. ap (λ (n : ℕ). not (aborted P n)) (eqb-true r.0.0 t.0 h) ∙ ap not it_stands)))
+        (omega (
+          arith,
+          reads_counted (Gone t c ∷ P) t y,
+          count_kept (λ r. eqb r.0.0 t.0) (λ r. not (aborted P r.0.0)) (all_readers P y) (λ r h. ap (λ (n : ℕ). not (aborted P n)) (eqb-true r.0.0 t.0 h) ∙ ap not it_stands),
+        ))
         ∙ sym (filter_both (λ r. not (aborted P r.0.0)) (λ r. not (eqb r.0.0 t.0)) (λ r. not (aborted (Gone t c ∷ P) r.0.0)) (λ r. stands r.0.0) (all_readers P y));
     writers = λ y.
         w y ∙ ap (without_lasts (count_by (puts y) own) (λ u. eqb u.0 t.0)) (was.writers y)
         ∙ without_all (λ u. eqb u.0 t.0) (count_by (puts y) own) (filter (λ u. not (aborted P u.0)) (all_writers P y))
-        (omega (arith, puts_counted (Gone t c ∷ P) t y, count_kept (λ u. eqb u.0 t.0) (λ u. not (aborted P u.0)) (all_writers P y) (λ u h. ap (λ (n : ℕ). not (aborted P n)) (eqb-true u.0 t.0 h) ∙ ap not it_stands)))
+        (omega (
+          arith,
+          puts_counted (Gone t c ∷ P) t y,
+          count_kept (λ u. eqb u.0 t.0) (λ u. not (aborted P u.0)) (all_writers P y) (λ u h. ap (λ (n : ℕ). not (aborted P n)) (eqb-true u.0 t.0 h) ∙ ap not it_stands),
+        ))
         ∙ sym (filter_both (λ u. not (aborted P u.0)) (λ u. not (eqb u.0 t.0)) (λ u. not (aborted (Gone t c ∷ P) u.0)) (λ u. stands u.0) (all_writers P y));
-    sources = λ y. so y ∙ ap (λ (ts : List Txn). cond (eqb t.0 y.0) [] ts) (was.sources y) ∙ gone_or (eqb t.0 y.0) (aborted P y.0) (all_sources P y) ∙ ap (λ (o : Bool). cond o [] (all_sources P y)) (sym (aborted-cons (Gone t c) P y.0));
+    sources = λ y. so y ∙ ap (λ (ts : List Txn). cond (eqb t.0 y.0) [] ts) (was.sources y) ∙ gone_or (eqb t.0 y.0) (aborted P y.0) (all_sources P y) ∙ ap (λ (o : Bool). cond o [] (all_sources P y))
+        (sym (aborted-cons (Gone t c) P y.0));
     begun = n ∙ was.begun;
     unfinished = u ∙ ap (filter (λ u. not (eqb u.0 t.0))) was.unfinished ∙ left_unfinished (Gone t c) t m others refl;
   }
@@ -306,7 +324,8 @@ module _ (b d : Lists) (P : List Event) (was : BookOf b P) where
       own = own_events (Gone t c ∷ P) t.0
 
       others : (u : ℕ) → unfinished (Gone t c ∷ P) u ≡ (not (eqb u t.0) && unfinished P u)
-      others u = unfinished-cons (Gone t c) P u ∙ go (eqb t.0 u) (eqb u t.0) (eqb_swap t.0 u) (begun P u) (committed P u) (aborted P u) ∙ ap (λ (b : Bool). not (eqb u t.0) && b) (sym (unfinished_is P u))
+      others u = unfinished-cons (Gone t c) P u ∙ go (eqb t.0 u) (eqb u t.0) (eqb_swap t.0 u) (begun P u) (committed P u) (aborted P u)
+          ∙ ap (λ (b : Bool). not (eqb u t.0) && b) (sym (unfinished_is P u))
         where
           go : (k l : Bool) → k ≡ l → (x y z : Bool) → (x && not y && not (k || z)) ≡ (not l && (x && not y && not z))
           go true true h true true z = refl

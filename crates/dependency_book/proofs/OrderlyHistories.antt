@@ -83,13 +83,19 @@ known (Ready t ∷ P) u o = let ih = known P u o.1 in record {
 }
 known (Done t ∷ P) u o = let ih = known P u o.1 in record {
   begins = λ h. ih.begins (sym (begun-cons (Done t) P u) ∙ h);
-  commits = λ h. elim (either _ _ (sym (committed-cons (Done t) P u) ∙ h)) [ inl e ↦ subst (λ (n : ℕ). n ≤ begun_count P) (eqb-true t.0 u e) ((known P t.0 o.1).begins (unfinished_parts P t.0 o.0).0) | inr e ↦ ih.commits e ];
+  commits = λ h. elim (either _ _ (sym (committed-cons (Done t) P u) ∙ h)) [
+    | inl e ↦ subst (λ (n : ℕ). n ≤ begun_count P) (eqb-true t.0 u e) ((known P t.0 o.1).begins (unfinished_parts P t.0 o.0).0)
+    | inr e ↦ ih.commits e
+  ];
   aborts = λ h. ih.aborts (sym (aborted-cons (Done t) P u) ∙ h);
 }
 known (Gone t c ∷ P) u o = let ih = known P u o.1 in record {
   begins = λ h. ih.begins (sym (begun-cons (Gone t c) P u) ∙ h);
   commits = λ h. ih.commits (sym (committed-cons (Gone t c) P u) ∙ h);
-  aborts = λ h. elim (either _ _ (sym (aborted-cons (Gone t c) P u) ∙ h)) [ inl e ↦ subst (λ (n : ℕ). n ≤ begun_count P) (eqb-true t.0 u e) ((known P t.0 o.1).begins (unfinished_parts P t.0 o.0).0) | inr e ↦ ih.aborts e ];
+  aborts = λ h. elim (either _ _ (sym (aborted-cons (Gone t c) P u) ∙ h)) [
+    | inl e ↦ subst (λ (n : ℕ). n ≤ begun_count P) (eqb-true t.0 u e) ((known P t.0 o.1).begins (unfinished_parts P t.0 o.0).0)
+    | inr e ↦ ih.aborts e
+  ];
 }
 known (Told t ∷ P) u o = let ih = known P u o.1 in record {
   begins = λ h. ih.begins (sym (begun-cons (Told t) P u) ∙ h);

@@ -13,7 +13,8 @@ use Rattle.arena_multimap.specs.NumberedLists.{list_in}
 
 module _ {V : Type 0} (cells : List Cell) (lists : List (List V)) (c : Cell) (paired : length lists ≡ length cells) where
   -- c is added, and v comes behind its list
-  pub pushed : (cells' : List Cell) (lists1 lists' : List (List V)) (p : ℕ) (v : V) → cells' ≡ with_cell cells c → lists1 ≡ with_place cells c lists → p ≡ place_in cells c → lists' ≡ set lists1 p (list_in lists1 p ++ v ∷ [])
+  pub pushed : (cells' : List Cell) (lists1 lists' : List (List V)) (p : ℕ) (v : V) → cells' ≡ with_cell cells c → lists1 ≡ with_place cells c lists → p ≡ place_in cells c
+      → lists' ≡ set lists1 p (list_in lists1 p ++ v ∷ [])
       → (x : Cell) → list_for cells' lists' x ≡ cond (same_cell c x) (list_for cells lists x ++ v ∷ []) (list_for cells lists x)
   pushed cells' lists1 lists' p v e f here push x =
       placed_edited cells lists c paired cells' lists1 e f p here lists' _ push x

@@ -27,7 +27,8 @@ has-put w v (x ∷ xs) = go (ltb x.0 v.0) (eqb x.0 v.0) refl (has-put w v xs)
     once true c = refl
     once false c = refl
 
-    go : (b c : Bool) → eqb x.0 v.0 ≡ c → has w (put_by number_of v xs) ≡ (eqb v.0 w.0 || has w xs) → has w (cond b (x ∷ put_by number_of v xs) (v ∷ cond c xs (x ∷ xs))) ≡ (eqb v.0 w.0 || (eqb x.0 w.0 || has w xs))
+    go : (b c : Bool) → eqb x.0 v.0 ≡ c → has w (put_by number_of v xs) ≡ (eqb v.0 w.0 || has w xs)
+        → has w (cond b (x ∷ put_by number_of v xs) (v ∷ cond c xs (x ∷ xs))) ≡ (eqb v.0 w.0 || (eqb x.0 w.0 || has w xs))
     go true c e ih = ap (λ (o : Bool). eqb x.0 w.0 || o) ih ∙ swap (eqb x.0 w.0) (eqb v.0 w.0) (has w xs)
     go false true e ih = once (eqb v.0 w.0) (has w xs) ∙ ap (λ (n : ℕ). eqb v.0 w.0 || (eqb n w.0 || has w xs)) (sym (eqb-true x.0 v.0 e))
     go false false e ih = refl
@@ -36,7 +37,8 @@ has-put w v (x ∷ xs) = go (ltb x.0 v.0) (eqb x.0 v.0) refl (has-put w v xs)
 pub has_source : (H : List Event) (t w : Txn) → has w (all_sources H t) ≡ (ltb 0 w.0 && read_from H t.0 w.0)
 unfolding all_sources read_from
 has_source [] t w = sym (and_false (ltb 0 w.0))
-has_source (Got s y v x ∷ P) t w = ap (λ (ts : List Txn). has w ts) refl ∙ went (eqb s.0 t.0 && not (eqb v.0 t.0) && ltb 0 v.0) ∙ ap (λ (o : Bool). (eqb s.0 t.0 && not (eqb v.0 t.0) && ltb 0 v.0) && eqb v.0 w.0 || o) (has_source P t w) ∙ same (eqb v.0 w.0) refl (eqb s.0 t.0) (read_from P t.0 w.0)
+has_source (Got s y v x ∷ P) t w = ap (λ (ts : List Txn). has w ts) refl ∙ went (eqb s.0 t.0 && not (eqb v.0 t.0) && ltb 0 v.0)
+    ∙ ap (λ (o : Bool). (eqb s.0 t.0 && not (eqb v.0 t.0) && ltb 0 v.0) && eqb v.0 w.0 || o) (has_source P t w) ∙ same (eqb v.0 w.0) refl (eqb s.0 t.0) (read_from P t.0 w.0)
   where
     went : (c : Bool) → has w (cond c (put_by number_of v (all_sources P t)) (all_sources P t)) ≡ (c && eqb v.0 w.0 || has w (all_sources P t))
     went true = has-put w v (all_sources P t)
@@ -45,7 +47,8 @@ has_source (Got s y v x ∷ P) t w = ap (λ (ts : List Txn). has w ts) refl ∙ 
     same : (e : Bool) → eqb v.0 w.0 ≡ e → (a r : Bool) → ((a && not (eqb v.0 t.0) && ltb 0 v.0) && e || (ltb 0 w.0 && r)) ≡ (ltb 0 w.0 && ((a && e && not (eqb t.0 w.0)) || r))
     same true h a r =
         let n = eqb-true v.0 w.0 h in
-        ap (λ (k : ℕ). (a && not (eqb k t.0) && ltb 0 k) && true || (ltb 0 w.0 && r)) n ∙ ap (λ (o : Bool). (a && not o && ltb 0 w.0) && true || (ltb 0 w.0 && r)) (eqb_swap w.0 t.0) ∙ tests a (eqb t.0 w.0) (ltb 0 w.0) r
+        ap (λ (k : ℕ). (a && not (eqb k t.0) && ltb 0 k) && true || (ltb 0 w.0 && r)) n ∙ ap (λ (o : Bool). (a && not o && ltb 0 w.0) && true || (ltb 0 w.0 && r)) (eqb_swap w.0 t.0)
+        ∙ tests a (eqb t.0 w.0) (ltb 0 w.0) r
       where
         tests : (a o p r : Bool) → ((a && not o && p) && true || (p && r)) ≡ (p && ((a && true && not o) || r))
         tests true true true r = refl
@@ -135,7 +138,8 @@ pub find_absent : (q : ℕ → Bool) (ts : List Txn) → find (λ x. q x.0) ts �
 find_absent q [] h w i = absurd (let z : false ≡ true = i in cc)
 find_absent q (x ∷ xs) h w i = go (q x.0) refl h (eqb x.0 w.0) refl i (λ n j. find_absent q xs n w j)
   where
-    go : (b : Bool) → q x.0 ≡ b → cond b (Some x) (find (λ x. q x.0) xs) ≡ None → (o : Bool) → eqb x.0 w.0 ≡ o → (o || has w xs) ≡ true → (find (λ x. q x.0) xs ≡ None → has w xs ≡ true → q w.0 ≡ false) → q w.0 ≡ false
+    go : (b : Bool) → q x.0 ≡ b → cond b (Some x) (find (λ x. q x.0) xs) ≡ None → (o : Bool) → eqb x.0 w.0 ≡ o → (o || has w xs) ≡ true
+        → (find (λ x. q x.0) xs ≡ None → has w xs ≡ true → q w.0 ≡ false) → q w.0 ≡ false
     go true e n o k i f = absurd (cc)
     go false e n true k i f = ap q (sym (eqb-true x.0 w.0 k)) ∙ e
     go false e n false k i f = f n i

@@ -107,7 +107,8 @@ impl Registers {
         requires room { HasRooms self.old 1 }
         ensures ascending { SourcesAscend self.new.sources.lists }
         ensures room { (n : ℕ) → HasRooms self.old (n + 1) → HasRooms self.new n }
-        ensures book { (P : List Event) (v : Option ℤ) → again ≡ wrote P t.0 cell → BookOf (lists_of self.old) P → MayFollow P (event.Put t cell v) → BookOf (lists_of self.new) (event.Put t cell v ∷ P) }
+        ensures book { (P : List Event) (v : Option ℤ) → again ≡ wrote P t.0 cell → BookOf (lists_of self.old) P → MayFollow P (event.Put t cell v)
+            → BookOf (lists_of self.new) (event.Put t cell v ∷ P) }
     {
         if again {
             return;
@@ -130,7 +131,8 @@ impl Registers {
         requires { SourcesAscend self.old.sources.lists }
         ensures ascending { SourcesAscend self.new.sources.lists }
         ensures room { (n : ℕ) → HasRooms self.old n → HasRooms self.new n }
-        ensures book { (P : List Event) (c : Cause) → history.now.events ≡ event.Gone t c ∷ P → BookOf (lists_of self.old) P → MayFollow P (event.Gone t c) → BookOf (lists_of self.new) (event.Gone t c ∷ P) }
+        ensures book { (P : List Event) (c : Cause) → history.now.events ≡ event.Gone t c ∷ P → BookOf (lists_of self.old) P → MayFollow P (event.Gone t c)
+            → BookOf (lists_of self.new) (event.Gone t c ∷ P) }
     {
         self.cells.forget_accesses(history, t);
         source_lists::clear_sources(&mut self.sources, t);

@@ -26,7 +26,8 @@ pub(crate) fn add_source(sources: &mut NumberedLists<Txn>, t: Txn, from: Txn)
     requires room { 0 < sources.old.spare }
     ensures ascending { SourcesAscend sources.new.lists }
     ensures lists { length sources.new.lists ≡ length sources.old.lists }
-    ensures values { 0 < t.0 → t.0 ≤ length sources.old.lists → (u : Txn) → list_of sources.new.lists u.0 ≡ cond (eqb t.0 u.0 && not (eqb from.0 u.0) && ltb 0 from.0) (put_by number_of from (list_of sources.old.lists u.0)) (list_of sources.old.lists u.0) }
+    ensures values { 0 < t.0 → t.0 ≤ length sources.old.lists → (u : Txn) → list_of sources.new.lists u.0 ≡ cond (eqb t.0 u.0 && not (eqb from.0 u.0) && ltb 0 from.0)
+        (put_by number_of from (list_of sources.old.lists u.0)) (list_of sources.old.lists u.0) }
     ensures spare { sources.old.spare ≤ sources.new.spare + 1 }
 {
     if from == t || from.0 == 0 {

@@ -117,7 +117,7 @@ pub fn move_money(alloc: Global, mut bank: Bank) -> Result<(Bank, i64), Stopped>
     Ok((bank, number))
 }
 
-/// The bank with a checkpoint of all rows, and room for further transactions.
+/// Returns the bank with a checkpoint of all rows, and room for further transactions.
 pub fn next_epoch(alloc: Global, bank: Bank) -> Result<Bank, Stopped> {
     match bank.next_epoch(alloc, setup(alloc)?, PooledChains::new(alloc)) {
         Ok((bank, _ended)) => Ok(bank),

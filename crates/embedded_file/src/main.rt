@@ -63,7 +63,7 @@ fn main(rt: HostRuntime) -> anyhow::Result<()> {
     Ok(())
 }
 
-/// Moves money, so many transfers at a time, and prints each one once it is in the file.
+/// Moves money, `together` transfers at a time, and prints each one once it is in the file.
 fn print_together(
     rt: &impl Print,
     alloc: Global,

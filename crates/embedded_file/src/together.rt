@@ -16,7 +16,7 @@ impl Answers for BankGroup {
     }
 }
 
-/// Makes the next transfers, at most so many, in the next epoch if this one is full, and returns their numbers. They are in the file then.
+/// Makes at most `most` transfers, in the next epoch if this one is full, and returns their numbers. They are in the file then.
 pub fn move_money_together(
     alloc: Global,
     bank: Bank,
@@ -33,7 +33,7 @@ pub fn move_money_together(
     Ok((bank, numbers))
 }
 
-/// Makes transfers until the epoch is full, at most so many, and returns their numbers once they are in the file.
+/// Makes transfers until the epoch is full, at most `most`, and returns their numbers once they are in the file.
 fn transfers(alloc: Global, bank: Bank, most: u32) -> Result<(Bank, Vec<i64>), Stopped> {
     let mut numbers = Vec::with_capacity(alloc, most as usize)?;
     if bank.is_stopped() {
@@ -49,7 +49,7 @@ fn transfers(alloc: Global, bank: Bank, most: u32) -> Result<(Bank, Vec<i64>), S
     }
 }
 
-/// Makes at most so many transfers, which wait for the file, and puts their numbers behind the others.
+/// Makes at most `most` transfers, which wait for the file, and appends their numbers.
 fn gather(
     alloc: Global,
     group: &mut BankGroup,

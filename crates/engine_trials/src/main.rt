@@ -1,7 +1,7 @@
 //! Trials of an engine as an embedder has it: what its registers lend, and that a request that finds no memory changes nothing.
 //!
 //! The program prints the replies to 24 requests, what the engine lends before the last two and at the end, and the entries of
-//! a hall. `stdout` has the expected text, worked out by hand. Then all of it runs again behind a transaction that leaves room
+//! a hall. `stdout` has the expected text, worked out by hand. Then all of it runs again after a transaction that leaves room
 //! for some of the events only, with versions that refuse room at one call. Each run must give the same text as one in which
 //! nothing is refused. The last line says how many were tried.
 //!

@@ -101,7 +101,8 @@ module _ (H : List Event) (n : ℕ) (ws : List Seat) (within : n ≤ length ws) 
   none_upto : (m : ℕ) → m ≤ n → NoneIn n (length ws) → NoneIn 0 m → (k : ℕ) (d : Seat) → k < length ws - n + m → offer H (round_from n ws) (get_or (round_from n ws) k d) ≡ None
   none_upto m l f g k d h = elim (cases_lt k (length ws - n)) [
     | inl b ↦ none_behind f k d (omega arith)
-    | inr b ↦ subst (λ (i : ℕ). offer H (round_from n ws) (get_or (round_from n ws) i d) ≡ None) (let z : length ws - n + (k - (length ws - n)) ≡ k = omega arith in z) (none_front m l g (k - (length ws - n)) d (omega arith))
+    | inr b ↦ subst (λ (i : ℕ). offer H (round_from n ws) (get_or (round_from n ws) i d) ≡ None) (let z : length ws - n + (k - (length ws - n)) ≡ k = omega arith in z)
+        (none_front m l g (k - (length ws - n)) d (omega arith))
   ]
 
   pub turn_none : NoneIn n (length ws) → NoneIn 0 n → turn H (round_from n ws) ≡ None
@@ -109,7 +110,8 @@ module _ (H : List Event) (n : ℕ) (ws : List Seat) (within : n ≤ length ws) 
   turn_none f g = none_first (offer H (round_from n ws)) (round_from n ws) (λ k d l. none_upto n (omega arith) f g k d (let z = size n ws within in omega arith))
 
   turned_at : (j : ℕ) (a : Asked) → a.index < length ws → j < length ws → ((k : ℕ) (e : Seat) → k < j → offer H (round_from n ws) (get_or (round_from n ws) k e) ≡ None) →
-      ((d : Seat) → get_or (round_from n ws) j d ≡ get_or ws a.index d) → ((d : Seat) → a.session ≡ (get_or ws a.index d).session) → ((d : Seat) → offer H ws (get_or ws a.index d) ≡ Some a.request.now) →
+      ((d : Seat) → get_or (round_from n ws) j d ≡ get_or ws a.index d) → ((d : Seat) → a.session ≡ (get_or ws a.index d).session)
+      → ((d : Seat) → offer H ws (get_or ws a.index d) ≡ Some a.request.now) →
       drop (suc j) (round_from n ws) ++ take j (round_from n ws) ≡ drop (a.index + 1) ws ++ take a.index ws → IsTurnOf H n ws a
   unfolding turn
   turned_at j a l m before there s r o = record {
@@ -137,7 +139,8 @@ module _ (H : List Event) (n : ℕ) (ws : List Seat) (within : n ≤ length ws) 
       f.session f.request (others_front n a.index ws within f.within)
 
 -- the round behind the seat at i, once that seat is another
-pub round_on : (cs : List Cursor) (i : ℕ) (c : Cursor) (v : Seat) → i < length cs → seat_of c ≡ v → round_from (i + 1) (seats_in (set cs i c)) ≡ drop (i + 1) (seats_in cs) ++ take i (seats_in cs) ++ v ∷ []
+pub round_on : (cs : List Cursor) (i : ℕ) (c : Cursor) (v : Seat) → i < length cs → seat_of c ≡ v → round_from (i + 1) (seats_in (set cs i c)) ≡ drop (i + 1) (seats_in cs) ++ take i (seats_in cs)
+    ++ v ∷ []
 round_on cs i c v h e =
     let n : length (seats_in cs) ≡ length cs = length-map cs seat_of in
     ap (round_from (i + 1)) (map-set seat_of cs i c ∙ ap (λ (w : Seat). set (seats_in cs) i w) e)
@@ -145,7 +148,8 @@ round_on cs i c v h e =
     ∙ sym (append_assoc (drop (i + 1) (seats_in cs)) (take i (seats_in cs)) (v ∷ []))
 
 -- the seats at the start
-pub seat_made : (scripts : List (Session × List Line)) (i : ℕ) (s : Session) (ls : List Line) → option_map (λ (x : Session × List Line). x.0) (slice_get scripts i) ≡ Some s → option_map (λ (x : Session × List Line). x.1) (slice_get scripts i) ≡ Some ls →
+pub seat_made : (scripts : List (Session × List Line)) (i : ℕ) (s : Session) (ls : List Line) → option_map (λ (x : Session × List Line). x.0) (slice_get scripts i) ≡ Some s
+    → option_map (λ (x : Session × List Line). x.1) (slice_get scripts i) ≡ Some ls →
     seated (scripts_on (take (i + 1) scripts)) ≡ seated (scripts_on (take i scripts)) ++ record { session = s; state = at_first (requests_on ls); aborts = 0 } ∷ []
 seat_made [] i s ls a b = absurd (cc)
 seat_made (x ∷ xs) zero s ls a b = let e : x.0 ≡ s = cc in let f : x.1 ≡ ls = cc in
@@ -157,6 +161,7 @@ pub seat_there : (cs : List Cursor) (i : ℕ) (c : Cursor) (w : Seat) → i < le
 seat_there cs i c w h e g = sym (seat_read cs i c nobody h e) ∙ get_or_from_slice_get (seats_in cs) i w nobody g
 
 -- behind nobody, the first of those before the n-th has the turn
-pub turn_last : (H : List Event) (n : ℕ) (ws : List Seat) → n ≤ length ws → AllWithin (λ (w : Seat). offer H ws w ≡ None) ws n (length ws) → (o : Option Asked) → IsFirst (offer H ws) ws 0 n o → IsTurn H n ws o
+pub turn_last : (H : List Event) (n : ℕ) (ws : List Seat) → n ≤ length ws → AllWithin (λ (w : Seat). offer H ws w ≡ None) ws n (length ws) → (o : Option Asked) → IsFirst (offer H ws) ws 0 n o
+    → IsTurn H n ws o
 turn_last H n ws m none None f = turn_none H n ws m none f
 turn_last H n ws m none (Some a) f = turn_front H n ws m none a f

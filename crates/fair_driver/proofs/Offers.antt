@@ -42,10 +42,12 @@ and_swap false true = refl
 and_swap false false = refl
 
 any_turned : (p : Seat → Bool) (n : ℕ) (ws : List Seat) → list_any p (round_from n ws) ≡ list_any p ws
-any_turned p n ws = any_append p (drop n ws) (take n ws) ∙ or_swap (list_any p (drop n ws)) (list_any p (take n ws)) ∙ sym (any_append p (take n ws) (drop n ws)) ∙ ap (list_any p) (take-append-drop n ws)
+any_turned p n ws = any_append p (drop n ws) (take n ws) ∙ or_swap (list_any p (drop n ws)) (list_any p (take n ws)) ∙ sym (any_append p (take n ws) (drop n ws))
+    ∙ ap (list_any p) (take-append-drop n ws)
 
 all_turned : (p : Seat → Bool) (n : ℕ) (ws : List Seat) → list_all p (round_from n ws) ≡ list_all p ws
-all_turned p n ws = all_append p (drop n ws) (take n ws) ∙ and_swap (list_all p (drop n ws)) (list_all p (take n ws)) ∙ sym (all_append p (take n ws) (drop n ws)) ∙ ap (list_all p) (take-append-drop n ws)
+all_turned p n ws = all_append p (drop n ws) (take n ws) ∙ and_swap (list_all p (drop n ws)) (list_all p (take n ws)) ∙ sym (all_append p (take n ws) (drop n ws))
+    ∙ ap (list_all p) (take-append-drop n ws)
 
 -- it is offered the same wherever the round begins
 pub offer_turned : (H : List Event) (n : ℕ) (ws : List Seat) (w : Seat) → offer H (round_from n ws) w ≡ offer H ws w

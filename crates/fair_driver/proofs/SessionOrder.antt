@@ -26,7 +26,8 @@ kept lines a n = filter (λ (s : Session × List Line). not (length s.1 == 0)) (
 ascend_from : (lines : List Line) → AreOfSessions lines → (least a n : ℕ) → ((k : ℕ) → a ≤ k → 0 < k → least < k) → Ascending least (scripts_on (kept lines a n))
 unfolding lines_for
 ascend_from lines s least a zero p = tt
-ascend_from lines s least a (suc n) p = go (not (length (lines_for lines a) == 0)) refl (ascend_from lines s a (a + 1) n (λ k h z. omega (arith, h))) (ascend_from lines s least (a + 1) n (λ k h z. p k (omega (arith, h)) z))
+ascend_from lines s least a (suc n) p = go (not (length (lines_for lines a) == 0)) refl (ascend_from lines s a (a + 1) n (λ k h z. omega (arith, h)))
+    (ascend_from lines s least (a + 1) n (λ k h z. p k (omega (arith, h)) z))
   where
     go : (b : Bool) → not (length (lines_for lines a) == 0) ≡ b → Ascending a (scripts_on (kept lines (a + 1) n)) → Ascending least (scripts_on (kept lines (a + 1) n)) →
         Ascending least (scripts_on (cond b ((session a, lines_for lines a) ∷ kept lines (a + 1) n) (kept lines (a + 1) n)))

@@ -27,7 +27,8 @@ use Rattle.fair_driver.specs.Turns.{IsTurnOf}
 use Rattle.fair_driver.specs.Logged.{answered, answers_of, AreAnswers, IsOf, IsAnswered, IsMade}
 
 -- one turn: who is asked, the answer, and the round behind it
-pub turn_taken : (X Y : Store) (H G K : List Event) (n : ℕ) (ws rs : List Seat) (a : Asked) (q : Reply) → (t : IsTurnOf H n ws a) → Y ≡ X → G ≡ H → q ≡ (answer Y G a.session a.request.now).0 → K ≡ (answer Y G a.session a.request.now).1 →
+pub turn_taken : (X Y : Store) (H G K : List Event) (n : ℕ) (ws rs : List Seat) (a : Asked) (q : Reply) → (t : IsTurnOf H n ws a) → Y ≡ X → G ≡ H → q ≡ (answer Y G a.session a.request.now).0
+    → K ≡ (answer Y G a.session a.request.now).1 →
     rs ≡ drop (a.index + 1) ws ++ take a.index ws ++ seat_after t.of.seat q ∷ [] →
     Stepped X (record { history = H; round = round_from n ws }) (Some (record { session = a.session; request = a.request.now; reply = q })) (record { history = K; round = rs })
 turn_taken X Y H G K n ws rs a q t x g p k r = (
@@ -65,24 +66,28 @@ underway_next X scripts log logged H K ws vs u m = record {
 log_size : (entries : List Entry) (log : List Answered) → log ≡ answers_of entries → length log ≡ length entries
 log_size entries log e = ap length e ∙ length-map entries answered
 
-pub underway_short : (X : Store) → IsSound X.setup → (scripts : List Script) → Ascending 0 scripts → (log logged : List Answered) (H K : List Event) (ws vs : List Seat) → IsUnderway X scripts log H ws →
+pub underway_short : (X : Store) → IsSound X.setup → (scripts : List Script) → Ascending 0 scripts → (log logged : List Answered) (H K : List Event) (ws vs : List Seat) → IsUnderway X scripts log H ws
+    →
     IsAnswered X (record { history = H; round = ws }) log (record { history = K; round = vs }) logged → length log < most_requests scripts
 underway_short X a scripts h log logged H K ws vs u m =
     let z = log_size u.entries log u.replies in
     let y = driving_short X a scripts h u.entries (record { history = H; round = ws }) m.entry (record { history = K; round = vs }) u.driving m.stepped in omega arith
 
-pub underway_bound : (X : Store) → IsSound X.setup → (scripts : List Script) → Ascending 0 scripts → (log : List Answered) (H : List Event) (ws : List Seat) → IsUnderway X scripts log H ws → length log ≤ most_requests scripts
+pub underway_bound : (X : Store) → IsSound X.setup → (scripts : List Script) → Ascending 0 scripts → (log : List Answered) (H : List Event) (ws : List Seat) → IsUnderway X scripts log H ws
+    → length log ≤ most_requests scripts
 underway_bound X a scripts h log H ws u =
     let z = log_size u.entries log u.replies in
     let y = driving_bound X a scripts h u.entries (record { history = H; round = ws }) u.driving in omega arith
 
-underway_history : (X : Store) (scripts : List Script) (entries : List Entry) (H : List Event) (ws : List Seat) → Driving X scripts entries (record { history = H; round = ws }) → H ≡ history_of X entries
+underway_history : (X : Store) (scripts : List Script) (entries : List Entry) (H : List Event) (ws : List Seat) → Driving X scripts entries (record { history = H; round = ws })
+    → H ≡ history_of X entries
 underway_history X scripts entries H ws v = sym (ap (λ (d : Drive). d.history) v.stands) ∙ drive_history X entries (at_start scripts)
 
 pub underway_made : (X : Store) (scripts : List Script) (log : List Answered) (H : List Event) (ws : List Seat) → IsUnderway X scripts log H ws → IsOf (Follows X [] (seated scripts)) X log H
 underway_made X scripts log H ws u = record { entries = u.entries; holds = u.driving.follows; replies = u.replies; events = underway_history X scripts u.entries H ws u.driving }
 
-pub underway_ended : (X : Store) (scripts : List Script) (log : List Answered) (H K : List Event) (ws vs : List Seat) → IsUnderway X scripts log H ws → Stepped X (record { history = H; round = ws }) None (record { history = K; round = vs }) → IsOf (Turns X scripts) X log H
+pub underway_ended : (X : Store) (scripts : List Script) (log : List Answered) (H K : List Event) (ws vs : List Seat) → IsUnderway X scripts log H ws
+    → Stepped X (record { history = H; round = ws }) None (record { history = K; round = vs }) → IsOf (Turns X scripts) X log H
 underway_ended X scripts log H K ws vs u s = record {
   entries = u.entries;
   holds = record { follows = u.driving.follows; ends = driving_end X scripts u.entries (record { history = H; round = ws }) (record { history = K; round = vs }) u.driving s };
@@ -91,7 +96,8 @@ underway_ended X scripts log H K ws vs u s = record {
 }
 
 -- nobody was sent back more than three times
-pub underway_few : (X : Store) → IsSound X.setup → (scripts : List Script) → Ascending 0 scripts → (log : List Answered) (H : List Event) (n : ℕ) (ws : List Seat) → IsUnderway X scripts log H (round_from n ws) → All (λ (w : Seat). w.aborts ≤ 3) ws
+pub underway_few : (X : Store) → IsSound X.setup → (scripts : List Script) → Ascending 0 scripts → (log : List Answered) (H : List Event) (n : ℕ) (ws : List Seat)
+    → IsUnderway X scripts log H (round_from n ws) → All (λ (w : Seat). w.aborts ≤ 3) ws
 underway_few X a scripts h log H n ws u =
     let d : Drive = record { history = H; round = round_from n ws } in
     let o : Round X.setup H (round_from n ws) = subst (λ (e : Drive). Round X.setup e.history e.round) u.driving.stands
@@ -107,11 +113,13 @@ pub record IsLogged (X : Store) (scripts : List Script) (Tells : List Answered �
   pub underway : IsUnderway X scripts answers H ws
   pub counted : steps ≡ start + length answers
 
-pub logged_start : (X : Store) (scripts : List Script) (Tells : List Answered → Type 0) (H : List Event) (ws : List Seat) (start : ℕ) → Tells [] → H ≡ [] → ws ≡ seated scripts → IsLogged X scripts Tells H ws start start
+pub logged_start : (X : Store) (scripts : List Script) (Tells : List Answered → Type 0) (H : List Event) (ws : List Seat) (start : ℕ) → Tells [] → H ≡ [] → ws ≡ seated scripts
+    → IsLogged X scripts Tells H ws start start
 logged_start X scripts Tells H ws start t a b = record { answers = []; told = t; underway = underway_start X scripts [] H ws refl a b; counted = omega arith }
 
 -- memory was wanting: the history is as it was, and the log tells what it told
-pub logged_made : (X : Store) → IsSound X.setup → (scripts : List Script) → Ascending 0 scripts → (Tells Then : NameBook → List Answered → Type 0) (m n : NameBook) (H K : List Event) (ws : List Seat) (start steps : ℕ) → m ≡ n → K ≡ H
+pub logged_made : (X : Store) → IsSound X.setup → (scripts : List Script) → Ascending 0 scripts → (Tells Then : NameBook → List Answered → Type 0) (m n : NameBook) (H K : List Event) (ws : List Seat)
+    (start steps : ℕ) → m ≡ n → K ≡ H
     → ((told : List Answered) → Tells m told → Then m told) → IsLogged X scripts (Tells n) H ws start steps → AreAnswers (Follows X [] (seated scripts)) X scripts (Then n) K start steps
 logged_made X sound scripts ascending Tells Then m n H K ws start steps e k keep l = record {
   answers = l.answers;
@@ -122,8 +130,10 @@ logged_made X sound scripts ascending Tells Then m n H K ws start steps e k keep
 }
 
 -- what one call made of a log in these names, by whether somebody was asked
-module _ (X Y : Store) (sound : IsSound X.setup) (scripts : List Script) (ascending : Ascending 0 scripts) (Tells Then : NameBook → List Answered → Type 0) (m n : NameBook) (asked : Bool) (H K : List Event) (ws vs : List Seat) (start steps : ℕ)
-    (same : Y ≡ X) (names : m ≡ n) (made : (told : List Answered) → Tells m told → (now : List Answered) × Then m now × IsMade Y asked (record { history = H; round = ws }) told (record { history = K; round = vs }) now)
+module _ (X Y : Store) (sound : IsSound X.setup) (scripts : List Script) (ascending : Ascending 0 scripts) (Tells Then : NameBook → List Answered → Type 0) (m n : NameBook) (asked : Bool)
+    (H K : List Event) (ws vs : List Seat) (start steps : ℕ)
+    (same : Y ≡ X) (names : m ≡ n) (made : (told : List Answered) → Tells m told → (now : List Answered) × Then m now × IsMade Y asked (record { history = H; round = ws }) told
+    (record { history = K; round = vs }) now)
     (l : IsLogged X scripts (Tells n) H ws start steps) where
   abbrev now : List Answered
   now = (made l.answers (subst (λ (b : NameBook). Tells b l.answers) (sym names) l.told)).0
@@ -132,7 +142,8 @@ module _ (X Y : Store) (sound : IsSound X.setup) (scripts : List Script) (ascend
   now_told = subst (λ (b : NameBook). Then b now) names (made l.answers (subst (λ (b : NameBook). Tells b l.answers) (sym names) l.told)).1
 
   is_made : (b : Bool) → asked ≡ b → IsMade X b (record { history = H; round = ws }) l.answers (record { history = K; round = vs }) now
-  is_made b e = subst₂ (λ (Z : Store) (c : Bool). IsMade Z c (record { history = H; round = ws }) l.answers (record { history = K; round = vs }) now) same e (made l.answers (subst (λ (b : NameBook). Tells b l.answers) (sym names) l.told)).2
+  is_made b e = subst₂ (λ (Z : Store) (c : Bool). IsMade Z c (record { history = H; round = ws }) l.answers (record { history = K; round = vs }) now) same e
+      (made l.answers (subst (λ (b : NameBook). Tells b l.answers) (sym names) l.told)).2
 
   pub logged_next : (then_steps : ℕ) → asked ≡ true → then_steps ≡ steps + 1 → IsLogged X scripts (Then n) K vs start then_steps
   logged_next then_steps e t =
@@ -155,7 +166,8 @@ module _ (X Y : Store) (sound : IsSound X.setup) (scripts : List Script) (ascend
       record {
         answers = now;
         told = now_told;
-        of = subst₂ (λ (log : List Answered) (J : List Event). IsOf (Turns X scripts) X log J) (sym none.1) (sym (ap (λ (d : Drive). d.history) none.0.1)) (underway_ended X scripts l.answers H K ws vs l.underway none.0);
+        of = subst₂ (λ (log : List Answered) (J : List Event). IsOf (Turns X scripts) X log J) (sym none.1) (sym (ap (λ (d : Drive). d.history) none.0.1))
+            (underway_ended X scripts l.answers H K ws vs l.underway none.0);
         steps = omega arith;
         bound = omega arith;
       }

@@ -182,7 +182,8 @@ one_a_batch S a H l q hb ht one t b =
     let none : find full (filter (unfinished P) members) ≡ None = wait_none (find full (filter (unfinished P) members)) (λ u e. free u (cond_wait _ _ inner ∙ e)) in
     idle_from S H 0 (side S H 0 t) i l il (λ u w.
     let ub = w.begun in
-    let on_side : side S P 0 u ≡ side_at S.tree 0 s 0 = side-upto S H i 0 u l il ub ∙ w.on_side ∙ inner_side (path S.tree s) t 0 (path_good S a s kt).rooted (λ e. inner_leaf S a s kt ht (sym (path_end S a s kt) ∙ e)) in
+    let on_side : side S P 0 u ≡ side_at S.tree 0 s 0 = side-upto S H i 0 u l il ub ∙ w.on_side ∙ inner_side (path S.tree s) t 0 (path_good S a s kt).rooted
+    (λ e. inner_leaf S a s kt ht (sym (path_end S a s kt) ∙ e)) in
     let m : In u members = In-filter _ u (txns P) (In-txns S P u lp (begun_there H i u il ub)) (and_from _ _ (on-upto S H i 0 u l il ub ∙ w.on_node) (eq-eqb _ _ on_side)) in
     let no = find_none full (filter (unfinished P) members) u none (In-filter (unfinished P) u members m (upto-unfinished H i u il ub w.undone w.ungone)) in
     let c = count_some (λ v. eqb (start S P 0 v) (start S P 0 u)) members u m (eq-eqb _ _ refl) in

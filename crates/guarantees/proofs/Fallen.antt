@@ -48,7 +48,8 @@ cause_skip : (c : Cause) (u v : ℕ) (P : List Event) → u ≢ v → cause_of (
 unfolding cause_of
 cause_skip c u v P ne = rw (ne_eqb u v ne) refl
 
-pub cause_member : (H : List Event) (t : ℕ) (us : List ℕ) (P : List Event) (v : ℕ) → In v us ⊎ (cause_of P v ≡ Some (After (txn (blamed H t v)))) → cause_of (fall_in_turn H t us P) v ≡ Some (After (txn (blamed H t v)))
+pub cause_member : (H : List Event) (t : ℕ) (us : List ℕ) (P : List Event) (v : ℕ) → In v us ⊎ (cause_of P v ≡ Some (After (txn (blamed H t v))))
+    → cause_of (fall_in_turn H t us P) v ≡ Some (After (txn (blamed H t v)))
 unfolding fall_in_turn
 cause_member H t [] P v o = elim o [ inl i ↦ absurd i | inr e ↦ e ]
 cause_member H t (u ∷ us) P v o = cause_member H t us (Gone (txn u) (After (txn (blamed H t u))) ∷ P) v (elim (cases_eq u v) [
@@ -138,19 +139,26 @@ reads_gone t c H v w = refl
 
 -- what the cause of one who is no member says
 outside_fallen : (H : List Event) (t : ℕ) (c : Cause) (us : List ℕ) (v : ℕ) (w : Txn) → is_after (Some c) ≡ false → Fallen H → cause_of (Gone (txn t) c ∷ H) v ≡ Some (After w) →
-    (aborted (fall_in_turn H t us (Gone (txn t) c ∷ H)) v ≡ true) × (read_from (fall_in_turn H t us (Gone (txn t) c ∷ H)) v w.0 ≡ true) × (aborted (fall_in_turn H t us (Gone (txn t) c ∷ H)) w.0 ≡ true)
+    (aborted (fall_in_turn H t us (Gone (txn t) c ∷ H)) v ≡ true) × (read_from (fall_in_turn H t us (Gone (txn t) c ∷ H)) v w.0 ≡ true)
+    × (aborted (fall_in_turn H t us (Gone (txn t) c ∷ H)) w.0 ≡ true)
 outside_fallen H t c us v w a q k = elim (cases_eq t v) [
   | inl s ↦ absurd (both_ways _ a (ap is_after (sym (cause_one t v c H s) ∙ k)))
-  | inr ne ↦ (let r = q v w (sym (cause_skip c t v H ne) ∙ k) in
-      (fall_aborts H t us (Gone (txn t) c ∷ H) v (inl (gone_on t v c H r.0)), fall_reads H t us (Gone (txn t) c ∷ H) v w.0 ∙ reads_gone t c H v w.0 ∙ r.1, fall_aborts H t us (Gone (txn t) c ∷ H) w.0 (inl (gone_on t w.0 c H r.2))))
+  | inr ne ↦ (let r = q v w (sym (cause_skip c t v H ne) ∙ k) in (
+    fall_aborts H t us (Gone (txn t) c ∷ H) v (inl (gone_on t v c H r.0)),
+    fall_reads H t us (Gone (txn t) c ∷ H) v w.0 ∙ reads_gone t c H v w.0 ∙ r.1,
+    fall_aborts H t us (Gone (txn t) c ∷ H) w.0 (inl (gone_on t w.0 c H r.2)),
+  ))
 ]
 
 abort_fallen : (S : Setup) (H : List Event) (t : ℕ) (c : Cause) → Good S H → unfinished H t ≡ true → is_after (Some c) ≡ false → Fallen H → Fallen (abort H t c)
 unfolding abort
 abort_fallen S H t c g u a q v w e = elim (In_or_not v (cascade H t)) [
   | inl i ↦ (let k : txn (blamed H t v) ≡ w = same_after (txn (blamed H t v)) w (sym (cause_member H t (cascade H t) (Gone (txn t) c ∷ H) v (inl i)) ∙ e) in
-      let r = member_fallen S H t c v g u i in
-      (r.0, subst (λ (z : Txn). read_from (fall_in_turn H t (cascade H t) (Gone (txn t) c ∷ H)) v z.0 ≡ true) k r.1, subst (λ (z : Txn). aborted (fall_in_turn H t (cascade H t) (Gone (txn t) c ∷ H)) z.0 ≡ true) k r.2))
+      let r = member_fallen S H t c v g u i in (
+        r.0,
+        subst (λ (z : Txn). read_from (fall_in_turn H t (cascade H t) (Gone (txn t) c ∷ H)) v z.0 ≡ true) k r.1,
+        subst (λ (z : Txn). aborted (fall_in_turn H t (cascade H t) (Gone (txn t) c ∷ H)) z.0 ≡ true) k r.2,
+      ))
   | inr out ↦ outside_fallen H t c (cascade H t) v w a q (sym (cause_other H t (cascade H t) (Gone (txn t) c ∷ H) v out) ∙ e)
 ]
 

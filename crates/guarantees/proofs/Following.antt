@@ -96,8 +96,10 @@ module _ (X : Store) (Q : List Event → Type 0) (k : Keeps X Q) where
     of_keeps t (Write x v) u = refused_keeps t x _ (put_keeps t x (Some v) u)
     of_keeps t (Add x v) u = refused_keeps t x _ (added_keeps t x v _ u)
     of_keeps t (Delete x) u = refused_keeps t x _ (put_keeps t x None u)
-    of_keeps t (Scan x n) u = refused_keeps t x _ (cond_keeps (is_scan x n) (scan_values X H t x n) (refuse H Range) (or_stop_keeps t (scan_stop X.setup H t (cells_from x n)) _ u (reads_keep t (cells_from x n) H q)) q)
-    of_keeps t Prepare u = cond_keeps (prepared H t) (refuse H IsPrepared) (or_stop H t (prepare_stop X.setup H t) (Prepared, Ready (txn t) ∷ H)) q (or_stop_keeps t (prepare_stop X.setup H t) _ u (k.plain (Ready (txn t)) H refl q))
+    of_keeps t (Scan x n) u = refused_keeps t x _
+        (cond_keeps (is_scan x n) (scan_values X H t x n) (refuse H Range) (or_stop_keeps t (scan_stop X.setup H t (cells_from x n)) _ u (reads_keep t (cells_from x n) H q)) q)
+    of_keeps t Prepare u = cond_keeps (prepared H t) (refuse H IsPrepared) (or_stop H t (prepare_stop X.setup H t) (Prepared, Ready (txn t) ∷ H)) q
+        (or_stop_keeps t (prepare_stop X.setup H t) _ u (k.plain (Ready (txn t)) H refl q))
     of_keeps t Commit u = or_stop_keeps t (commit_stop X.setup H t) _ u (k.plain (Done (txn t)) H refl q)
     of_keeps t Abort u = k.aborts H t Asked g u refl q
     of_keeps t End u = k.aborts H t Ended g u refl q

@@ -111,10 +111,12 @@ second S H r t n u x a c h =
     record { asks = a; snapshot = c; meet = k.0; done = k.1; put = q.1; unclosed = ltb-false _ _ (not-true _ p.1) }
 
 -- an access that a node breaks
-access_breaks : (c : ControlKind) (S : Setup) (H : List Event) (r : Request) (n t : ℕ) (x : Cell) (write : Bool) (b : Broken) → (row S.tree n).control ≡ c → (write ≡ true → writes x r ≡ true) → on_access c S H n t x write ≡ Break b → IsGrounded S H r t (cause_at (record { 0 = n }) b)
+access_breaks : (c : ControlKind) (S : Setup) (H : List Event) (r : Request) (n t : ℕ) (x : Cell) (write : Bool) (b : Broken) → (row S.tree n).control ≡ c → (write ≡ true → writes x r ≡ true)
+    → on_access c S H n t x write ≡ Break b → IsGrounded S H r t (cause_at (record { 0 = n }) b)
 unfolding on_access
 access_breaks Locks S H r n t x write b c a h = absurd (wait_no_break _ b h)
-access_breaks Pipeline S H r n t x write b c a h = absurd (two_waits (find (entry_blocks S H n t x) (txns H)) (find (λ u. blocks S H n t x write u && not (passed S H n u (rank_of_table S n x.table.0))) (txns H)) b h)
+access_breaks Pipeline S H r n t x write b c a h = absurd
+    (two_waits (find (entry_blocks S H n t x) (txns H)) (find (λ u. blocks S H n t x write u && not (passed S H n u (rank_of_table S n x.table.0))) (txns H)) b h)
 access_breaks Timestamp S H r n t x false b c a h = absurd (cc)
 access_breaks Timestamp S H r n t x true b c a h =
     let f : ℕ → Broken = λ u. Late (record { 0 = u }) x in
@@ -168,7 +170,8 @@ settled_two : (H : List Event) (t u : ℕ) → In u (at_stake H t) → u ≢ t �
 settled_two H t u i ne = or_cases (prepared H u) (committed H u) (settled_one H t u i ne)
 
 -- t is one of the four, since those that are prepared or committed hold no pivot
-one_of : (S : Setup) (tf : TreeFacts S) (H : List Event) (n t a b c d : ℕ) → Lawful S H → (row S.tree n).control ≡ Snapshot → In a (at_stake H t) → In b (at_stake H t) → In c (at_stake H t) → In d (at_stake H t) →
+one_of : (S : Setup) (tf : TreeFacts S) (H : List Event) (n t a b c d : ℕ) → Lawful S H → (row S.tree n).control ≡ Snapshot → In a (at_stake H t) → In b (at_stake H t) → In c (at_stake H t)
+    → In d (at_stake H t) →
     edge S H n a b ≡ true → edge S H n c d ≡ true → one_batch S H n b c ≡ true → In t (a ∷ b ∷ c ∷ d ∷ [])
 one_of S tf H n t a b c d l k ia ib ic id e f o = elim (cases_eq a t) [
   | inl q ↦ inl q
@@ -188,7 +191,8 @@ pivot_found : (o : Option ((ℕ × ℕ) × (ℕ × ℕ))) (b : Broken) → pivot
 pivot_found None b h = absurd (cc)
 pivot_found (Some q) b h = let e : Pivot (txn q.0.0) (txn q.0.1) (txn q.1.0) (txn q.1.1) ≡ b = cc in (q, refl, e)
 
-validate_breaks : (c : ControlKind) (S : Setup) (tf : TreeFacts S) (H : List Event) (r : Request) (n t : ℕ) (b : Broken) → Lawful S H → (row S.tree n).control ≡ c → (r ≡ Prepare) ⊎ (r ≡ Commit) → validate c S H n t ≡ Break b → IsGrounded S H r t (cause_at (record { 0 = n }) b)
+validate_breaks : (c : ControlKind) (S : Setup) (tf : TreeFacts S) (H : List Event) (r : Request) (n t : ℕ) (b : Broken) → Lawful S H → (row S.tree n).control ≡ c → (r ≡ Prepare) ⊎ (r ≡ Commit)
+    → validate c S H n t ≡ Break b → IsGrounded S H r t (cause_at (record { 0 = n }) b)
 unfolding validate
 validate_breaks Locks S tf H r n t b l c a h = absurd (cc)
 validate_breaks Pipeline S tf H r n t b l c a h = absurd (cc)

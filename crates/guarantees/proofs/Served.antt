@@ -58,7 +58,8 @@ cond_served r false x y f g = g
 stop_served : (H : List Event) (t : ℕ) (r : Request) (s : Stop) (granted : Answered) → s ≡ Free → is_served r granted.0 ≡ true → is_served r (or_stop H t s granted).0 ≡ true
 stop_served H t r s granted e g = rw e g
 
-read_served : (X : Store) (H : List Event) (t : ℕ) (x : Cell) (granted : Answered) (r : Request) → is_served r (refuse H UnknownTable).0 ≡ true → is_served r (refuse H IsPrepared).0 ≡ true → is_served r (refuse H NotInProfile).0 ≡ true → is_served r granted.0 ≡ true → is_served r (or_refused X H t x granted).0 ≡ true
+read_served : (X : Store) (H : List Event) (t : ℕ) (x : Cell) (granted : Answered) (r : Request) → is_served r (refuse H UnknownTable).0 ≡ true → is_served r (refuse H IsPrepared).0 ≡ true
+    → is_served r (refuse H NotInProfile).0 ≡ true → is_served r granted.0 ≡ true → is_served r (or_refused X H t x granted).0 ≡ true
 read_served X H t x granted r a b c g =
     let inner = cond (is_none (least_step (profile X.setup (kind_of H t)) (cursor X.setup H t) x.table.0)) (refuse H NotInProfile) granted in
     cond_served r (not (ltb x.table.0 X.tables)) (refuse H UnknownTable) (cond (prepared H t) (refuse H IsPrepared) inner) a
@@ -75,13 +76,17 @@ asked_by X H s t r l h u =
     let a : aborted H t ≡ false = not-true _ (and_parts _ _ u).1 in
     rw (valid, h, a) refl
 
-pub reads_served : (X : Store) (H : List Event) (s : Session) (t : ℕ) (x : Cell) → Lawful X.setup H → held H s.0 ≡ Some t → unfinished H t ≡ true → ReadsFreely X H t → is_served (Read x) (answer X H s (Read x)).0 ≡ true
+pub reads_served : (X : Store) (H : List Event) (s : Session) (t : ℕ) (x : Cell) → Lawful X.setup H → held H s.0 ≡ Some t → unfinished H t ≡ true → ReadsFreely X H t
+    → is_served (Read x) (answer X H s (Read x)).0 ≡ true
 unfolding answer_of
-reads_served X H s t x l h u f = rw (asked_by X H s t (Read x) l h u) (read_served X H t x _ (Read x) refl refl refl (stop_served H t (Read x) (access_stop X.setup H t x false) _ (read_free X H t x f) refl))
+reads_served X H s t x l h u f = rw (asked_by X H s t (Read x) l h u)
+    (read_served X H t x _ (Read x) refl refl refl (stop_served H t (Read x) (access_stop X.setup H t x false) _ (read_free X H t x f) refl))
 
-pub scans_served : (X : Store) (H : List Event) (s : Session) (t : ℕ) (x : Cell) (n : ℕ) → Lawful X.setup H → held H s.0 ≡ Some t → unfinished H t ≡ true → ReadsFreely X H t → is_served (Scan x n) (answer X H s (Scan x n)).0 ≡ true
+pub scans_served : (X : Store) (H : List Event) (s : Session) (t : ℕ) (x : Cell) (n : ℕ) → Lawful X.setup H → held H s.0 ≡ Some t → unfinished H t ≡ true → ReadsFreely X H t
+    → is_served (Scan x n) (answer X H s (Scan x n)).0 ≡ true
 unfolding answer_of
-scans_served X H s t x n l h u f = rw (asked_by X H s t (Scan x n) l h u) (read_served X H t x _ (Scan x n) refl refl refl (cond_served (Scan x n) (is_scan x n) (scan_values X H t x n) (refuse H Range)
+scans_served X H s t x n l h u f = rw (asked_by X H s t (Scan x n) l h u)
+    (read_served X H t x _ (Scan x n) refl refl refl (cond_served (Scan x n) (is_scan x n) (scan_values X H t x n) (refuse H Range)
     (stop_served H t (Scan x n) (scan_stop X.setup H t (cells_from x n)) _ (scan_free X H t (cells_from x n) f) refl) refl))
 
 pub writes_is : (x : Cell) (r : Request) → writes x r ≡ true → is_write r ≡ true

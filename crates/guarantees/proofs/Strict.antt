@@ -86,7 +86,8 @@ close_is S a H t l f d =
           ]
         ]
 
-strict_by_idle : (S : Setup) (a : TreeFacts S) (H : List Event) → Lawful S H → BeginsIdle S H → (t u : ℕ) → Commits H t → Commits H u → done_at H t < began_at H u → BatchRank S H 0 → rank S H 0 t < rank S H 0 u
+strict_by_idle : (S : Setup) (a : TreeFacts S) (H : List Event) → Lawful S H → BeginsIdle S H → (t u : ℕ) → Commits H t → Commits H u → done_at H t < began_at H u → BatchRank S H 0
+    → rank S H 0 t < rank S H 0 u
 strict_by_idle S a H l f t u dt du h r =
     let ct = commits S H t l dt in let cu = commits S H u l du in
     let bt : began_at H t < length H = omega arith in
@@ -98,7 +99,8 @@ strict_by_idle S a H l f t u dt du h r =
     omega arith
 
 -- the rank at the root follows time
-root_rank : (S : Setup) (a : TreeFacts S) (H : List Event) → Lawful S H → (orders_by_commits S ≡ true) ⊎ BeginsIdle S H → (t u : ℕ) → Commits H t → Commits H u → done_at H t < began_at H u → rank S H 0 t < rank S H 0 u
+root_rank : (S : Setup) (a : TreeFacts S) (H : List Event) → Lawful S H → (orders_by_commits S ≡ true) ⊎ BeginsIdle S H → (t u : ℕ) → Commits H t → Commits H u → done_at H t < began_at H u
+    → rank S H 0 t < rank S H 0 u
 root_rank S a H l o t u dt du h = elim (kind_node S 0) [
   | by_done c ↦ (let p = done_rank S H 0 t c in let q = done_rank S H 0 u c in let z = (commits S H u l du).0 in omega arith)
   | by_start c ↦ elim o [ inl k ↦ absurd (no_stamps (row S.tree 0).control c k) | inr f ↦ strict_by_idle S a H l f t u dt du h (timestamp_rank S H 0 l c) ]

@@ -92,7 +92,8 @@ module _ (X : Store) (tf : TreeFacts X.setup) (H : List Event) (l : Lawful X.set
       (cond_tells r (is_none (least_step (profile X.setup (kind_of H t)) (cursor X.setup H t) x.table.0)) (refuse H NotInProfile) granted (same_tells r _ refl) f))
 
   put_tells : (r : Request) (x : Cell) (v : Option ℤ) → request_stop X.setup H t r ≡ access_stop X.setup H t x true → writes x r ≡ true → Tells X.setup H r t (put_value X.setup H t x v)
-  put_tells r x v o w = or_stop_tells r (access_stop X.setup H t x true) _ o (access_names X.setup H r t x true (λ e. w)) (granted_tells r Written (Put (txn t) x v ∷ H) refl (λ z. aborted_kept (Put (txn t) x v) H z refl))
+  put_tells r x v o w = or_stop_tells r (access_stop X.setup H t x true) _ o (access_names X.setup H r t x true (λ e. w))
+      (granted_tells r Written (Put (txn t) x v ∷ H) refl (λ z. aborted_kept (Put (txn t) x v) H z refl))
 
   added_tells : (r : Request) (x : Cell) (v : ℤ) (o : Option ℤ) → request_stop X.setup H t r ≡ access_stop X.setup H t x true → writes x r ≡ true → Tells X.setup H r t (added X.setup H t x v o)
   added_tells r x v None k w = same_tells r _ refl
@@ -101,16 +102,19 @@ module _ (X : Store) (tf : TreeFacts X.setup) (H : List Event) (l : Lawful X.set
   of_tells : (r : Request) → Tells X.setup H r t (answer_of X H t r)
   unfolding answer_of read
   of_tells (Begin s) = same_tells (Begin s) _ refl
-  of_tells (Read x) = refused_tells (Read x) x _ (or_stop_tells (Read x) (access_stop X.setup H t x false) _ refl (access_names X.setup H (Read x) t x false (λ e. absurd (cc))) (granted_tells (Read x) (Value _) (Got (txn t) x _ _ ∷ H) refl (λ v. aborted_kept (Got (txn t) x _ _) H v refl)))
+  of_tells (Read x) = refused_tells (Read x) x _ (or_stop_tells (Read x) (access_stop X.setup H t x false) _ refl (access_names X.setup H (Read x) t x false (λ e. absurd (cc)))
+      (granted_tells (Read x) (Value _) (Got (txn t) x _ _ ∷ H) refl (λ v. aborted_kept (Got (txn t) x _ _) H v refl)))
   of_tells (Write x v) = refused_tells (Write x v) x _ (put_tells (Write x v) x (Some v) refl (same_itself x))
   of_tells (Add x v) = refused_tells (Add x v) x _ (added_tells (Add x v) x v _ refl (same_itself x))
   of_tells (Delete x) = refused_tells (Delete x) x _ (put_tells (Delete x) x None refl (same_itself x))
   of_tells (Scan x n) = refused_tells (Scan x n) x _ (cond_tells (Scan x n) (is_scan x n) (scan_values X H t x n) (refuse H Range)
-      (or_stop_tells (Scan x n) (scan_stop X.setup H t (cells_from x n)) _ refl (scan_names X.setup H (Scan x n) t (cells_from x n)) (granted_tells (Scan x n) (Values _) _ refl (reads_abort_none X t (cells_from x n) H)))
+      (or_stop_tells (Scan x n) (scan_stop X.setup H t (cells_from x n)) _ refl (scan_names X.setup H (Scan x n) t (cells_from x n))
+      (granted_tells (Scan x n) (Values _) _ refl (reads_abort_none X t (cells_from x n) H)))
       (same_tells (Scan x n) _ refl))
   of_tells Prepare = cond_tells Prepare (prepared H t) (refuse H IsPrepared) (or_stop H t (prepare_stop X.setup H t) (Prepared, Ready (txn t) ∷ H)) (same_tells Prepare _ refl)
       (or_stop_tells Prepare (prepare_stop X.setup H t) _ refl (prepare_names X.setup tf H t l) (granted_tells Prepare Prepared (Ready (txn t) ∷ H) refl (λ v. aborted_kept (Ready (txn t)) H v refl)))
-  of_tells Commit = or_stop_tells Commit (commit_stop X.setup H t) _ refl (commit_names X.setup tf H t l) (granted_tells Commit Committed (Done (txn t) ∷ H) refl (λ v. aborted_kept (Done (txn t)) H v refl))
+  of_tells Commit = or_stop_tells Commit (commit_stop X.setup H t) _ refl (commit_names X.setup tf H t l)
+      (granted_tells Commit Committed (Done (txn t) ∷ H) refl (λ v. aborted_kept (Done (txn t)) H v refl))
   of_tells Abort = aborted_tells Abort Asked (refl, u)
   of_tells End = aborted_tells End Ended (refl, u)
 
@@ -175,7 +179,8 @@ unfolding untold
 untold_after H t h = (and_parts _ _ h).0
 
 -- the notice repeats the kept cause
-notice_names : (S : Setup) (H : List Event) (s : Session) (r : Request) (t : ℕ) → Lawful S H → Fallen H → held H s.0 ≡ Some t → aborted H t ≡ true → Names S H s r (Aborted (unwrap_or (cause_of H t) Asked), WasTold (txn t) ∷ H)
+notice_names : (S : Setup) (H : List Event) (s : Session) (r : Request) (t : ℕ) → Lawful S H → Fallen H → held H s.0 ≡ Some t → aborted H t ≡ true
+    → Names S H s r (Aborted (unwrap_or (cause_of H t) Asked), WasTold (txn t) ∷ H)
 unfolding cause_of
 notice_names S H s r t l q h a =
     let k = elim (holds_cases H s.0 t (held_holds H s.0 t h)) as (λ z. is_after (cause_of H t) ≡ true) [ inl w ↦ absurd (not_unfinished H t a w) | inr w ↦ untold_after H t w ] in
@@ -186,14 +191,19 @@ notice_names S H s r t l q h a =
       others = λ v b d n. absurd (both_ways _ b (sym (aborted_kept (WasTold (txn t)) H v refl) ∙ d));
     }
 
-of_names : (X : Store) (tf : TreeFacts X.setup) (H : List Event) (s : Session) (r : Request) (t : ℕ) → Lawful X.setup H → held H s.0 ≡ Some t → aborted H t ≡ false → Names X.setup H s r (answer_of X H t r)
+of_names : (X : Store) (tf : TreeFacts X.setup) (H : List Event) (s : Session) (r : Request) (t : ℕ) → Lawful X.setup H → held H s.0 ≡ Some t → aborted H t ≡ false
+    → Names X.setup H s r (answer_of X H t r)
 of_names X tf H s r t l h a =
     let k = of_tells X tf H l t (held_runs H s.0 t h a) r in
     record {
       told = λ c e. let d = k.tells c e in (t, h, d.0, ap (λ (Q : List Event). cause_of Q t) d.1 ∙ abort_cause H t c);
       others = λ v b d n. elim k.keeps [
         | inr same ↦ absurd (both_ways _ b (sym (same v) ∙ d))
-        | inl w ↦ (txn (blamed H t v), ap (λ (Q : List Event). cause_of Q v) w.1 ∙ abort_others H t w.0 v b (sym (ap (λ (Q : List Event). aborted Q v) w.1) ∙ d) (λ e. n (h ∙ ap (λ (z : ℕ). Some z) e)))
+        | inl w ↦ (
+          txn (blamed H t v),
+          ap (λ (Q : List Event). cause_of Q v) w.1 ∙ abort_others H t w.0 v b (sym (ap (λ (Q : List Event). aborted Q v) w.1) ∙ d)
+              (λ e. n (h ∙ ap (λ (z : ℕ). Some z) e)),
+        )
       ];
     }
 
@@ -207,4 +217,5 @@ to_names X tf H s r (Some t) e l q = go (aborted H t) refl
 
 pub answer_names : (X : Store) (tf : TreeFacts X.setup) (H : List Event) (s : Session) (r : Request) → Lawful X.setup H → Fallen H → Names X.setup H s r (answer X H s r)
 unfolding answer
-answer_names X tf H s r l q = cond_names X.setup H s r (leb 1 s.0 && leb s.0 SESSIONS) (answer_to X H s r (held H s.0)) (refuse H BadSession) (to_names X tf H s r (held H s.0) refl l q) (quiet_names X.setup H s r _ refl (λ v. refl))
+answer_names X tf H s r l q = cond_names X.setup H s r (leb 1 s.0 && leb s.0 SESSIONS) (answer_to X H s r (held H s.0)) (refuse H BadSession) (to_names X tf H s r (held H s.0) refl l q)
+    (quiet_names X.setup H s r _ refl (λ v. refl))

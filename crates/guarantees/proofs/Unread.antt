@@ -28,7 +28,8 @@ use Rattle.teb_laws.proofs.Timeline.{begun_counted}
 use Rattle.guarantees.specs.Shapes.{HidesUncommitted}
 
 -- a batch that is closed leaves nobody unfinished
-closed_committed : (S : Setup) (P : List Event) (n t w : ℕ) → Lawful S P → on S P n t ≡ true → on S P n w ≡ true → began_at P t < length P → began_at P w < length P → aborted P w ≡ false → close S P n w < start S P n t → committed P w ≡ true
+closed_committed : (S : Setup) (P : List Event) (n t w : ℕ) → Lawful S P → on S P n t ≡ true → on S P n w ≡ true → began_at P t < length P → began_at P w < length P → aborted P w ≡ false
+    → close S P n w < start S P n t → committed P w ≡ true
 unfolding aborted committed
 closed_committed S P n t w l ot ow bt bw a h = elim (cases_lt (done_at P w) (length P)) [
   | inl d ↦ lt-ltb _ _ d
@@ -36,7 +37,8 @@ closed_committed S P n t w l ot ow bt bw a h = elim (cases_lt (done_at P w) (len
 ]
 
 -- what is seen there is committed
-seen_committed : (S : Setup) (c : ControlKind) (P : List Event) (n : ℕ) (x : Cell) (t w : ℕ) → Lawful S P → is_locks c || is_snapshot c ≡ true → on S P n t ≡ true → on S P n w ≡ true → began_at P t < length P → began_at P w < length P → aborted P w ≡ false →
+seen_committed : (S : Setup) (c : ControlKind) (P : List Event) (n : ℕ) (x : Cell) (t w : ℕ) → Lawful S P → is_locks c || is_snapshot c ≡ true → on S P n t ≡ true → on S P n w ≡ true
+    → began_at P t < length P → began_at P w < length P → aborted P w ≡ false →
     sees_by c S P n x t w ≡ true → committed P w ≡ true
 unfolding sees_by
 seen_committed S Locks P n x t w l k ot ow bt bw a h = h
@@ -55,7 +57,8 @@ hides S h n = elim (cases_lt n (length S.tree)) [
 ]
 
 -- who sees a version there is read by
-seen_done : (S : Setup) (a : TreeFacts S) (P : List Event) (x : Cell) (t w : ℕ) → Lawful S P → HidesUncommitted S → began_at P t < length P → began_at P w < length P → sees S P x t w ≡ true → committed P w ≡ true
+seen_done : (S : Setup) (a : TreeFacts S) (P : List Event) (x : Cell) (t w : ℕ) → Lawful S P → HidesUncommitted S → began_at P t < length P → began_at P w < length P → sees S P x t w ≡ true
+    → committed P w ≡ true
 seen_done S a P x t w l h bt bw s =
     let p = sees_parts S P x t w s in
     let m = meets_exists S a P t w l bt bw (λ e. p.0 (sym e)) in
@@ -64,7 +67,8 @@ seen_done S a P x t w l h bt bw s =
     (subst (λ (n : ℕ). sees_by (row S.tree n).control S P n x t w ≡ true) (meet_is S a P m.node t w l bt bw m.meet) p.3)
 
 -- the Got of a version of another transaction
-got_committed : (S : Setup) (a : TreeFacts S) (P : List Event) (t w : ℕ) (x : Cell) → Lawful S P → HidesUncommitted S → began_at P t < length P → source S P t x ≡ w → w ≢ t → 0 < w → committed P w ≡ true
+got_committed : (S : Setup) (a : TreeFacts S) (P : List Event) (t w : ℕ) (x : Cell) → Lawful S P → HidesUncommitted S → began_at P t < length P → source S P t x ≡ w → w ≢ t → 0 < w
+    → committed P w ≡ true
 got_committed S a P t w x l h bt e ne pos = elim (read_case S P t x w e) [
   | from_own f o ↦ absurd (ne o)
   | from_row f o z ↦ absurd (omega arith)

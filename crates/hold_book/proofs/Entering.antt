@@ -69,7 +69,8 @@ pub let_go : (t : ℕ) (h : Hold) → eqb h.txn.0 t ≡ true → [] ≡ released
 let_go t h e = ap (λ (b : Bool). cond (not b) (h ∷ []) []) (sym e)
 
 -- one edit after another
-pub twice : (c : Cell) (f f' f'' : Cell → List Hold) (g g' : List Hold → List Hold) → ((x : Cell) → f' x ≡ cond (same_cell c x) (g (f x)) (f x)) → ((x : Cell) → f'' x ≡ cond (same_cell c x) (g' (f' x)) (f' x))
+pub twice : (c : Cell) (f f' f'' : Cell → List Hold) (g g' : List Hold → List Hold) → ((x : Cell) → f' x ≡ cond (same_cell c x) (g (f x)) (f x))
+    → ((x : Cell) → f'' x ≡ cond (same_cell c x) (g' (f' x)) (f' x))
     → (x : Cell) → f'' x ≡ cond (same_cell c x) (g' (g (f x))) (f x)
 twice c f f' f'' g g' one two x = two x ∙ ap (λ (hs : List Hold). cond (same_cell c x) (g' hs) hs) (one x) ∙ go (same_cell c x)
   where

@@ -41,7 +41,8 @@ put_found t (g ∷ hs) i d a h = elim (cases_order g.txn.0 t) [
         subst (λ (k : ℕ). ((get_or (g ∷ hs) k d).txn.0 ≡ t) × (has_put t (g ∷ hs) ≡ (get_or (g ∷ hs) k d).wrote)) q
         (e, (λ j. (eq-eqb g.txn.0 t e j && g.wrote) || none_above t hs (above_less t g.txn.0 hs (omega arith) a.0) j) ∙ or_false g.wrote)
 
-    below : g.txn.0 < t → (p : Result ℕ ℕ) → ((k : ℕ) → p ≡ Ok k → ((get_or hs k d).txn.0 ≡ t) × (has_put t hs ≡ (get_or hs k d).wrote)) → next_place p ≡ Ok i → ((get_or (g ∷ hs) i d).txn.0 ≡ t) × (has_put t (g ∷ hs) ≡ (get_or (g ∷ hs) i d).wrote)
+    below : g.txn.0 < t → (p : Result ℕ ℕ) → ((k : ℕ) → p ≡ Ok k → ((get_or hs k d).txn.0 ≡ t) × (has_put t hs ≡ (get_or hs k d).wrote)) → next_place p ≡ Ok i → ((get_or (g ∷ hs) i d).txn.0 ≡ t)
+        × (has_put t (g ∷ hs) ≡ (get_or (g ∷ hs) i d).wrote)
     below l (Ok k) rec q =
         let next : suc k ≡ i = cc in
         let ih = rec k refl in
@@ -79,7 +80,8 @@ put_again t true hs e = refl
 put_again t false hs e = absurd (cc)
 
 -- a read of one that does not hold
-put_anew : (t : Txn) (wrote : Bool) (hs : List Hold) (i : ℕ) → IsAscendingBy hold_number hs → place_of hold_number hs t.0 ≡ Err i → put_by hold_number (record { txn = t; wrote = wrote }) hs ≡ accessed t wrote hs
+put_anew : (t : Txn) (wrote : Bool) (hs : List Hold) (i : ℕ) → IsAscendingBy hold_number hs → place_of hold_number hs t.0 ≡ Err i
+    → put_by hold_number (record { txn = t; wrote = wrote }) hs ≡ accessed t wrote hs
 put_anew t wrote hs i a p =
     let made : Bool → Hold = λ b. record { txn = t; wrote = b } in
     ap (λ (b : Bool). put_by hold_number (made b) hs) (sym (or_false wrote) ∙ ap (λ (b : Bool). wrote || b) (sym (put_absent t.0 hs i a p)))
@@ -94,12 +96,14 @@ put_unless t wrote hs added e a told = ap (λ (b : Bool). cond b (put_by hold_nu
     go (Err i) p = put_anew t wrote hs i a p
 
 -- the hold of a put, and of a read where there is none
-pub put_joined : (t : Txn) (wrote : Bool) (hs : List Hold) → IsAscendingBy hold_number hs → cond (wrote || is_err (place_of hold_number hs t.0)) (put_by hold_number (record { txn = t; wrote = wrote }) hs) hs ≡ accessed t wrote hs
+pub put_joined : (t : Txn) (wrote : Bool) (hs : List Hold) → IsAscendingBy hold_number hs → cond (wrote || is_err (place_of hold_number hs t.0))
+    (put_by hold_number (record { txn = t; wrote = wrote }) hs) hs ≡ accessed t wrote hs
 put_joined t true hs a = put_again t true hs refl
 put_joined t false hs a = put_unless t false hs _ refl a refl
 
 -- an edit at one cell alone
-pub edited_cell : (f : Cell → List Hold) (x : Cell) (g : List Hold → List Hold) (new : List Hold) → new ≡ g (f x) → (y : Cell) → cond (is_eq (cell_cmp x y)) new (f y) ≡ cond (same_cell x y) (g (f y)) (f y)
+pub edited_cell : (f : Cell → List Hold) (x : Cell) (g : List Hold → List Hold) (new : List Hold) → new ≡ g (f x) → (y : Cell) → cond (is_eq (cell_cmp x y)) new (f y) ≡ cond (same_cell x y) (g (f y))
+    (f y)
 edited_cell f x g new e y = go (same_cell x y) refl
   where
     go : (b : Bool) → same_cell x y ≡ b → cond (is_eq (cell_cmp x y)) new (f y) ≡ cond b (g (f y)) (f y)

@@ -107,7 +107,8 @@ last_off : (w p : ℕ → Bool) (m : ℕ) → p m ≡ false → (us : List ℕ) 
 last_off w p m off [] = rw off refl
 last_off w p m off (u ∷ us) = go (p u) (last_off w p m off us)
   where
-    go : (a : Bool) → map (hold_by w) (filter p (us ++ m ∷ [])) ≡ map (hold_by w) (filter p us) → map (hold_by w) (cond a (u ∷ filter p (us ++ m ∷ [])) (filter p (us ++ m ∷ []))) ≡ map (hold_by w) (cond a (u ∷ filter p us) (filter p us))
+    go : (a : Bool) → map (hold_by w) (filter p (us ++ m ∷ [])) ≡ map (hold_by w) (filter p us) → map (hold_by w) (cond a (u ∷ filter p (us ++ m ∷ [])) (filter p (us ++ m ∷ []))) ≡ map (hold_by w)
+        (cond a (u ∷ filter p us) (filter p us))
     go true ih = ap (λ (l : List Hold). hold_by w u ∷ l) ih
     go false ih = ih
 
@@ -130,10 +131,12 @@ ends_gone true false false false = refl
 ends_gone false c d a = refl
 
 unfinished_done : (P : List Event) (t : Txn) (u : ℕ) → unfinished (Done t ∷ P) u ≡ (unfinished P u && not (eqb u t.0))
-unfinished_done P t u = unfinished-cons (Done t) P u ∙ ends_done (begun P u) (eqb t.0 u) (committed P u) (aborted P u) ∙ (unfold unfinished in ap (λ (b : Bool). unfinished P u && not b) (eqb_swap t.0 u))
+unfinished_done P t u = unfinished-cons (Done t) P u ∙ ends_done (begun P u) (eqb t.0 u) (committed P u) (aborted P u)
+    ∙ (unfold unfinished in ap (λ (b : Bool). unfinished P u && not b) (eqb_swap t.0 u))
 
 unfinished_gone : (P : List Event) (t : Txn) (c : Cause) (u : ℕ) → unfinished (Gone t c ∷ P) u ≡ (unfinished P u && not (eqb u t.0))
-unfinished_gone P t c u = unfinished-cons (Gone t c) P u ∙ ends_gone (begun P u) (committed P u) (eqb t.0 u) (aborted P u) ∙ (unfold unfinished in ap (λ (b : Bool). unfinished P u && not b) (eqb_swap t.0 u))
+unfinished_gone P t c u = unfinished-cons (Gone t c) P u ∙ ends_gone (begun P u) (committed P u) (eqb t.0 u) (aborted P u)
+    ∙ (unfold unfinished in ap (λ (b : Bool). unfinished P u && not b) (eqb_swap t.0 u))
 
 -- the order of three tests does not matter
 moved_not : (a b c d : Bool) → (a && (b && d) && c) ≡ ((a && b && c) && d)
@@ -146,12 +149,14 @@ moved_not true false c false = refl
 moved_not false b c d = refl
 
 -- t finishes
-finished_holds : (S : Setup) (P : List Event) (n t : ℕ) (e : Event) (x : Cell) → begun_count (e ∷ P) ≡ begun_count P → ((u : ℕ) → on S (e ∷ P) n u ≡ on S P n u) → ((u : ℕ) → unfinished (e ∷ P) u ≡ (unfinished P u && not (eqb u t)))
+finished_holds : (S : Setup) (P : List Event) (n t : ℕ) (e : Event) (x : Cell) → begun_count (e ∷ P) ≡ begun_count P → ((u : ℕ) → on S (e ∷ P) n u ≡ on S P n u)
+    → ((u : ℕ) → unfinished (e ∷ P) u ≡ (unfinished P u && not (eqb u t)))
     → ((u : ℕ) → wrote (e ∷ P) u x ≡ wrote P u x) → ((u : ℕ) → got (e ∷ P) u x ≡ got P u x) → holds_in S (e ∷ P) n x ≡ released t (holds_in S P n x)
 unfolding holds txns
 finished_holds S P n t e x c o f w g =
     (λ j. map (hold_by (λ u. w u j)) (filter (holds S (e ∷ P) n x) (numbers (c j))))
-    ∙ passes_no_more t (λ u. wrote P u x) (holds S P n x) (holds S (e ∷ P) n x) (λ u. (λ j. o u j && f u j && (w u j || g u j)) ∙ moved_not (on S P n u) (unfinished P u) (wrote P u x || got P u x) (not (eqb u t))) (numbers (begun_count P))
+    ∙ passes_no_more t (λ u. wrote P u x) (holds S P n x) (holds S (e ∷ P) n x)
+    (λ u. (λ j. o u j && f u j && (w u j || g u j)) ∙ moved_not (on S P n u) (unfinished P u) (wrote P u x || got P u x) (not (eqb u t))) (numbers (begun_count P))
 
 -- one that does not hold x has no hold to release
 pub released_off : (S : Setup) (P : List Event) (n : ℕ) (x : Cell) (t : ℕ) → holds S P n x t ≡ false → released t (holds_in S P n x) ≡ holds_in S P n x
@@ -172,10 +177,12 @@ holder_accessed S P n x t h = ap (λ (b : Bool). on S P n t && unfinished P t &&
     none false b = refl
 
 done_holds : (S : Setup) (P : List Event) (n : ℕ) (t : Txn) (x : Cell) → holds_in S (Done t ∷ P) n x ≡ released t.0 (holds_in S P n x)
-done_holds S P n t x = finished_holds S P n t.0 (Done t) x (unfold begun_count in refl) (λ u. unfold on in unfold spot_of in refl) (unfinished_done P t) (λ u. wrote-cons (Done t) P u x) (λ u. got-cons (Done t) P u x)
+done_holds S P n t x = finished_holds S P n t.0 (Done t) x (unfold begun_count in refl) (λ u. unfold on in unfold spot_of in refl) (unfinished_done P t) (λ u. wrote-cons (Done t) P u x)
+    (λ u. got-cons (Done t) P u x)
 
 gone_holds : (S : Setup) (P : List Event) (n : ℕ) (t : Txn) (c : Cause) (x : Cell) → holds_in S (Gone t c ∷ P) n x ≡ released t.0 (holds_in S P n x)
-gone_holds S P n t c x = finished_holds S P n t.0 (Gone t c) x (unfold begun_count in refl) (λ u. unfold on in unfold spot_of in refl) (unfinished_gone P t c) (λ u. wrote-cons (Gone t c) P u x) (λ u. got-cons (Gone t c) P u x)
+gone_holds S P n t c x = finished_holds S P n t.0 (Gone t c) x (unfold begun_count in refl) (λ u. unfold on in unfold spot_of in refl) (unfinished_gone P t c) (λ u. wrote-cons (Gone t c) P u x)
+    (λ u. got-cons (Gone t c) P u x)
 
 -- nothing changes that matters on x
 kept_holds : (S : Setup) (P : List Event) (n : ℕ) (e : Event) (x : Cell) → begun_count (e ∷ P) ≡ begun_count P → ((u : ℕ) → holds S (e ∷ P) n x u ≡ holds S P n x u)
@@ -185,7 +192,8 @@ kept_holds S P n e x c h w = ap (λ (m : ℕ). map (hold_of (e ∷ P) x) (filter
     ∙ same_holds (λ u. wrote P u x) (λ u. wrote (e ∷ P) u x) (holds S P n x) (holds S (e ∷ P) n x) h w (numbers (begun_count P))
 
 -- t accesses x
-accessed_holds : (S : Setup) (P : List Event) (n : ℕ) (t : Txn) (wr : Bool) (e : Event) (x : Cell) → MayHold S P n t.0 → begun_count (e ∷ P) ≡ begun_count P → ((u : ℕ) → u ≢ t.0 → holds S (e ∷ P) n x u ≡ holds S P n x u)
+accessed_holds : (S : Setup) (P : List Event) (n : ℕ) (t : Txn) (wr : Bool) (e : Event) (x : Cell) → MayHold S P n t.0 → begun_count (e ∷ P) ≡ begun_count P
+    → ((u : ℕ) → u ≢ t.0 → holds S (e ∷ P) n x u ≡ holds S P n x u)
     → ((u : ℕ) → u ≢ t.0 → wrote (e ∷ P) u x ≡ wrote P u x) → holds S (e ∷ P) n x t.0 ≡ true → wrote (e ∷ P) t.0 x ≡ (wr || wrote P t.0 x) → holds_in S (e ∷ P) n x ≡ accessed t wr (holds_in S P n x)
 unfolding holds txns
 accessed_holds S P n t wr e x m c h w here put =
@@ -244,7 +252,8 @@ put_elsewhere S P n t x y v o =
 
 -- a book after one event more
 module _ (b b' : Held) (S : Setup) (P : List Event) (n : ℕ) (t : Txn) (stood : HoldsOf b S P n) where
-  pub stands_got : (x : Cell) (w : Txn) (v : Option ℤ) → MayHold S P n t.0 → shown b' x ≡ accessed t false (shown b x) → ((y : Cell) → same_cell x y ≡ false → shown b' y ≡ shown b y) → HoldsOf b' S (Got t x w v ∷ P) n
+  pub stands_got : (x : Cell) (w : Txn) (v : Option ℤ) → MayHold S P n t.0 → shown b' x ≡ accessed t false (shown b x) → ((y : Cell) → same_cell x y ≡ false → shown b' y ≡ shown b y)
+      → HoldsOf b' S (Got t x w v ∷ P) n
   stands_got x w v m here else = record {
     shows = λ y. elim (cases_Bool (same_cell x y)) [
       | inl e ↦ subst (λ (z : Cell). shown b' z ≡ holds_in S (Got t x w v ∷ P) n z) (same_cell-true x y e) (here ∙ ap (accessed t false) (stood.shows x) ∙ sym (got_here S P n t m x w v))
@@ -252,7 +261,8 @@ module _ (b b' : Held) (S : Setup) (P : List Event) (n : ℕ) (t : Txn) (stood :
     ];
   }
 
-  pub stands_put : (x : Cell) (v : Option ℤ) → MayHold S P n t.0 → shown b' x ≡ accessed t true (shown b x) → ((y : Cell) → same_cell x y ≡ false → shown b' y ≡ shown b y) → HoldsOf b' S (Put t x v ∷ P) n
+  pub stands_put : (x : Cell) (v : Option ℤ) → MayHold S P n t.0 → shown b' x ≡ accessed t true (shown b x) → ((y : Cell) → same_cell x y ≡ false → shown b' y ≡ shown b y)
+      → HoldsOf b' S (Put t x v ∷ P) n
   stands_put x v m here else = record {
     shows = λ y. elim (cases_Bool (same_cell x y)) [
       | inl e ↦ subst (λ (z : Cell). shown b' z ≡ holds_in S (Put t x v ∷ P) n z) (same_cell-true x y e) (here ∙ ap (accessed t true) (stood.shows x) ∙ sym (put_here S P n t m x v))
@@ -267,7 +277,8 @@ module _ (b b' : Held) (S : Setup) (P : List Event) (n : ℕ) (t : Txn) (stood :
   stands_gone c f = record { shows = λ y. f y ∙ ap (released t.0) (stood.shows y) ∙ sym (gone_holds S P n t c y) }
 
 -- an event that leaves all holds as they are
-kept_inert : (S : Setup) (P : List Event) (n : ℕ) (e : Event) (x : Cell) → begun_count (e ∷ P) ≡ begun_count P → ((u : ℕ) → on S (e ∷ P) n u ≡ on S P n u) → ((u : ℕ) → unfinished (e ∷ P) u ≡ unfinished P u)
+kept_inert : (S : Setup) (P : List Event) (n : ℕ) (e : Event) (x : Cell) → begun_count (e ∷ P) ≡ begun_count P → ((u : ℕ) → on S (e ∷ P) n u ≡ on S P n u)
+    → ((u : ℕ) → unfinished (e ∷ P) u ≡ unfinished P u)
     → ((u : ℕ) → wrote (e ∷ P) u x ≡ wrote P u x) → ((u : ℕ) → got (e ∷ P) u x ≡ got P u x) → holds_in S (e ∷ P) n x ≡ holds_in S P n x
 unfolding holds
 kept_inert S P n e x c o f w g = kept_holds S P n e x c (λ u j. o u j && f u j && (w u j || g u j)) (λ u _. w u)
@@ -302,7 +313,8 @@ began_holds S P n t s k i x new put get =
     let after : holds S (e ∷ P) n x t.0 ≡ false = none (e ∷ P) (wrote-cons e P t.0 x ∙ put) (got-cons e P t.0 x ∙ get) in
     let puts : (u : ℕ) → wrote (e ∷ P) u x ≡ wrote P u x = λ u. wrote-cons e P u x in
     let else : (u : ℕ) → u ≢ t.0 → holds S (e ∷ P) n x u ≡ holds S P n x u =
-    others_same S P n t.0 e x (λ u ne. ap (λ (b : Bool). on_path S.tree n (cond b (record { kind = k; instance = i }) (spot_of P u))) (not_other t.0 u ne)) (λ u ne. unfinished_same e P u (not_other t.0 u ne) refl refl) (λ u _. puts u) (λ u _. got-cons e P u x) in
+    others_same S P n t.0 e x (λ u ne. ap (λ (b : Bool). on_path S.tree n (cond b (record { kind = k; instance = i }) (spot_of P u))) (not_other t.0 u ne))
+    (λ u ne. unfinished_same e P u (not_other t.0 u ne) refl refl) (λ u _. puts u) (λ u _. got-cons e P u x) in
     same_holds (λ u. wrote P u x) (λ u. wrote (e ∷ P) u x) (holds S P n x) (holds S (e ∷ P) n x)
     (λ u. elim (cases_eq u t.0) [ inl q ↦ ap (holds S (e ∷ P) n x) q ∙ after ∙ sym (ap (holds S P n x) q ∙ before) | inr ne ↦ else u ne ])
     (λ u _. puts u) (numbers (suc (begun_count P)))
@@ -324,7 +336,8 @@ holds_left S P n (Got t y w v) h x =
     let e : Event = Got t y w v in
     let puts : (u : ℕ) → wrote (e ∷ P) u x ≡ wrote P u x = λ u. wrote-cons e P u x in
     kept_off S P n t.0 e x refl (off_holds S P n x t.0 h) (off_holds S (e ∷ P) n x t.0 h)
-    (others_same S P n t.0 e x (λ u _. refl) (λ u _. unfinished_same e P u refl refl refl) (λ u _. puts u) (λ u ne. got-cons e P u x ∙ ap (λ (b : Bool). (b && same_cell y x) || got P u x) (not_other t.0 u ne)))
+    (others_same S P n t.0 e x (λ u _. refl) (λ u _. unfinished_same e P u refl refl refl) (λ u _. puts u)
+    (λ u ne. got-cons e P u x ∙ ap (λ (b : Bool). (b && same_cell y x) || got P u x) (not_other t.0 u ne)))
     (λ u _. puts u)
 holds_left S P n (Put t y v) h x =
     let e : Event = Put t y v in

@@ -90,7 +90,8 @@ accessed_own H t x = either (own_events H t) ∙ (λ j. sym (wrote_own H t x) j 
     either (e ∷ es) = ap (λ (b : Bool). is_access x e || b) (either es) ∙ regroup (is_some (put_in x e)) (is_some (got_in x e)) _ _
 
 -- when nothing is left
-pub released_own : (H : List Event) (t : ℕ) (a b : Held) (left : List Event) → IsReleasing t a b (own_events H t) left → left ≡ [] → (x : Cell) → shown b x ≡ released_if (wrote H t x || got H t x) t (shown a x)
+pub released_own : (H : List Event) (t : ℕ) (a b : Held) (left : List Event) → IsReleasing t a b (own_events H t) left → left ≡ [] → (x : Cell) → shown b x ≡ released_if (wrote H t x || got H t x) t
+    (shown a x)
 released_own H t a b left h q x =
     ap (λ (es : List Event). released_if (accesses es x) t (shown b x)) (sym q) ∙ h.shown x ∙ ap (λ (p : Bool). released_if p t (shown a x)) (accessed_own H t x)
 

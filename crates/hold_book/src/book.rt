@@ -26,7 +26,7 @@ const AHEAD: usize = 64;
 /// The lock table of a node. Contracts see the holds on each cell, and for how many accesses there is room.
 #[derive(Drop)]
 pub struct HoldBook {
-    // The cells that one transaction alone holds, each in its slot. There are no slots before the first `reserve`.
+    // The cells that only one transaction holds, each in its slot. There are no slots before the first `reserve`.
     slots: Vec<Option<Alone>>,
     // By cell: the holds on each other cell, in ascending number.
     others: Multimap<Cell, Hold>,

@@ -1,4 +1,4 @@
-//! Slots, for cells that one transaction alone holds.
+//! Slots, for cells that only one transaction holds.
 
 ghost use Rattle.std.specs.Prelude.{◌≡◌, ◌<◌, ◌≤◌, [], cond, length, Some, None, IsTrue, IsFalse, OnOk};
 ghost use Rattle.std.specs.Option.{is_some, is_none};
@@ -13,7 +13,7 @@ use teb_names::Cell;
 /// How many slots there are.
 const SLOTS: usize = 1024;
 
-/// A cell that one transaction alone holds, with the hold.
+/// A cell that only one transaction holds, with the hold.
 #[derive(Clone, Copy)]
 pub(crate) struct Alone {
     cell: Cell,

@@ -21,8 +21,10 @@ apart : (task : Task) (why : InputError) → Ok task ≡ Err why → ⊥
 apart task why q = absurd (cc)
 
 module _ (task : Task) where
-  scripted : (m : SetupView) (text : List ℕ) (r : Result (List Line) ScriptError) → script_of (names_of m) m.format text ≡ r → length (lines_of text) ≤ MOST_LINES → task_of m r ≡ Ok task → length task.lines ≤ MOST_LINES
-  scripted m text (Ok ls) s few q = let same : record { setup = m; lines = ls } ≡ task = cc in omega (arith, script_few (names_of m) m.format 1 (lines_of text) ls s, few, ap (λ (t : Task). length t.lines) same)
+  scripted : (m : SetupView) (text : List ℕ) (r : Result (List Line) ScriptError) → script_of (names_of m) m.format text ≡ r → length (lines_of text) ≤ MOST_LINES → task_of m r ≡ Ok task
+      → length task.lines ≤ MOST_LINES
+  scripted m text (Ok ls) s few q = let same : record { setup = m; lines = ls } ≡ task = cc in
+      omega (arith, script_few (names_of m) m.format 1 (lines_of text) ls s, few, ap (λ (t : Task). length t.lines) same)
   scripted m text (Err w) s few q = absurd (apart task (script_error w) (sym q))
 
   set_up : (r : Result SetupView TreeText) (text : List ℕ) → length (lines_of text) ≤ MOST_LINES → task_under r text ≡ Ok task → length task.lines ≤ MOST_LINES

@@ -23,7 +23,8 @@ use Rattle.input_reader.specs.Readings.{AreOf, AreReadFrom, IsRead, IsReadFrom}
 use Rattle.store_setup.specs.Stores.{names_of}
 use Rattle.input_reader.specs.Tasks.{Task}
 
-module _ (bytes tree text : List ℕ) (few : length bytes ≤ MOST_BYTES) (parts : parts_of bytes ≡ Some (tree, text)) (lines : length (lines_of text) ≤ MOST_LINES) (m : SetupView) (setup : setup_of_text tree ≡ Ok m) where
+module _ (bytes tree text : List ℕ) (few : length bytes ≤ MOST_BYTES) (parts : parts_of bytes ≡ Some (tree, text)) (lines : length (lines_of text) ≤ MOST_LINES) (m : SetupView)
+    (setup : setup_of_text tree ≡ Ok m) where
   under : input_of bytes ≡ task_under (setup_of_text tree) text
   under = rw (le-ltb MOST_BYTES (length bytes) few, parts, le-ltb MOST_LINES (length (lines_of text)) lines) refl
 
@@ -48,7 +49,8 @@ too_long None now t = let l = long MOST_BYTES in (l.0, record { told = tt; whole
 too_long (Some xs) None t = absurd t
 too_long (Some xs) (Some ys) t = (xs, record { told = refl; whole = λ k. absurd (omega (arith, t.0, k)) }, omega (arith, t.0))
 
-pub bytes_read : (left now : Option (List ℕ)) (r : Result (Vec ℕ Global) ReadError) → IfOk r (λ v. IfSome left (λ bytes. v.items ≡ bytes) × IsAtEnd now × (length v.items ≤ MOST_BYTES)) → (IsErrOf r read.TooLong → Takes left now (suc MOST_BYTES)) → AreReadFrom left now r
+pub bytes_read : (left now : Option (List ℕ)) (r : Result (Vec ℕ Global) ReadError) → IfOk r (λ v. IfSome left (λ bytes. v.items ≡ bytes) × IsAtEnd now × (length v.items ≤ MOST_BYTES))
+    → (IsErrOf r read.TooLong → Takes left now (suc MOST_BYTES)) → AreReadFrom left now r
 bytes_read None now (Ok v) ok long = (record { told = tt; whole = λ h. ok.1 }, ok.2)
 bytes_read (Some xs) now (Ok v) ok long = (record { told = sym ok.0; whole = λ h. ok.1 }, ok.2)
 bytes_read left now (Err read.ReadFault) ok long = tt

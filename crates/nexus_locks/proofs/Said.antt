@@ -18,7 +18,8 @@ use Rattle.teb_rules.specs.Stops.{on_begin}
 use Rattle.access_conflicts.specs.Waits.{some_txn, wait_for_txn}
 
 -- what a locks node says of an access
-pub locks_access : (S : Setup) (H : List Event) (n t : ℕ) (x : Cell) (write : Bool) (v : Verdict) → (row S.tree n).control ≡ Locks → v ≡ wait_for_txn (some_txn (find (blocks S H n t x write) (txns H))) → v ≡ on_access (row S.tree n).control S H n t x write
+pub locks_access : (S : Setup) (H : List Event) (n t : ℕ) (x : Cell) (write : Bool) (v : Verdict) → (row S.tree n).control ≡ Locks
+    → v ≡ wait_for_txn (some_txn (find (blocks S H n t x write) (txns H))) → v ≡ on_access (row S.tree n).control S H n t x write
 unfolding on_access
 locks_access S H n t x write v e h = rw e (h ∙ waits (find (blocks S H n t x write) (txns H)))
   where

@@ -10,7 +10,8 @@ use Rattle.teb_rules.specs.Stops.{stop_with, stop_of}
 use Rattle.cc_tree.specs.Grown.{node_numbers}
 
 -- where node i goes on, the nodes from i + 1 on still decide
-pub stop_next : (f : ℕ → Verdict) (ns : List Node) (i : ℕ) (d : Node) (v : Verdict) → i < length ns → v ≡ f (get_or ns i d).0 → v ≡ Go → stop_of f (node_numbers (drop i ns)) ≡ stop_of f (node_numbers ns) → stop_of f (node_numbers (drop (i + 1) ns)) ≡ stop_of f (node_numbers ns)
+pub stop_next : (f : ℕ → Verdict) (ns : List Node) (i : ℕ) (d : Node) (v : Verdict) → i < length ns → v ≡ f (get_or ns i d).0 → v ≡ Go → stop_of f (node_numbers (drop i ns)) ≡ stop_of f
+    (node_numbers ns) → stop_of f (node_numbers (drop (i + 1) ns)) ≡ stop_of f (node_numbers ns)
 unfolding stop_of
 stop_next f ns i d v l q e k =
     let n : suc i ≡ i + 1 = omega arith in
@@ -18,7 +19,8 @@ stop_next f ns i d v l q e k =
     ∙ sym (ap (λ (ms : List Node). stop_of f (node_numbers ms)) (drop-cons ns i d l) ∙ ap (λ (w : Verdict). stop_with (get_or ns i d).0 w (stop_of f (node_numbers (drop (suc i) ns)))) (sym q ∙ e)) ∙ k
 
 -- where node i does not go on, its verdict decides
-pub stop_here : (f : ℕ → Verdict) (ns : List Node) (i : ℕ) (d : Node) (v : Verdict) → i < length ns → v ≡ f (get_or ns i d).0 → (v ≡ Go → ⊥) → stop_of f (node_numbers (drop i ns)) ≡ stop_of f (node_numbers ns) → stop_with (get_or ns i d).0 v stop.Go ≡ stop_of f (node_numbers ns)
+pub stop_here : (f : ℕ → Verdict) (ns : List Node) (i : ℕ) (d : Node) (v : Verdict) → i < length ns → v ≡ f (get_or ns i d).0 → (v ≡ Go → ⊥) → stop_of f (node_numbers (drop i ns)) ≡ stop_of f
+    (node_numbers ns) → stop_with (get_or ns i d).0 v stop.Go ≡ stop_of f (node_numbers ns)
 unfolding stop_of
 stop_here f ns i d v l q w k =
     let rest = stop_of f (node_numbers (drop (suc i) ns)) in

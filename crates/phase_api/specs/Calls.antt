@@ -46,7 +46,8 @@ Writes H u x = IsTrue (wrote H u x || unfinished H u)
 
 -- the event may follow P, and be noted at node n
 abbrev pub MayNote : Setup → List Event → ℕ → Event → Type 0
-MayNote S P n (Began t s k i) = (t.0 ≡ suc (begun_count P)) × (k.0 < S.types) × (IsTrue (on_path S.tree n (record { kind = k; instance = i })) → on_begin S P (record { kind = k; instance = i }) n ≡ Go)
+MayNote S P n (Began t s k i) = (t.0 ≡ suc (begun_count P)) × (k.0 < S.types)
+    × (IsTrue (on_path S.tree n (record { kind = k; instance = i })) → on_begin S P (record { kind = k; instance = i }) n ≡ Go)
 MayNote S P n (Got t x w v) = IsTrue (unfinished P t.0) × HasStep S P t.0 x
 MayNote S P n (Put t x v) = IsTrue (unfinished P t.0) × HasStep S P t.0 x
 MayNote S P n (Ready t) = IsTrue (unfinished P t.0)

@@ -114,7 +114,8 @@ pub trait Control: Drop {
         requires stands { stands self.now (setup_of facts.now) (events_of facts.now) }
         requires here { IsHere facts.now (node_number self.now) t.0 }
         requires unfinished { IsTrue (unfinished (events_of facts.now) t.0) }
-        ensures { result ≡ wait_for (find (gate (row (setup_of facts.now).tree (node_number self.now)).control (setup_of facts.now) (events_of facts.now) (node_number self.now) t.0) (txns (events_of facts.now))) };
+        ensures { result ≡ wait_for (find (gate (row (setup_of facts.now).tree (node_number self.now)).control (setup_of facts.now) (events_of facts.now) (node_number self.now) t.0)
+            (txns (events_of facts.now))) };
 
     ghost sound: { (c : Self) (S : Setup) (H : List Event) → stands c S H → IsOrderly S H };
 }

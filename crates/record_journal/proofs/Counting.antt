@@ -5,16 +5,19 @@ use Rattle.crash_disk.specs.Calls.{Promise, Tally, AreCalls}
 use Rattle.crash_disk.proofs.Groups.{cut, then_ok, then_err, as_before}
 
 -- one group more
-pub more : {T E U F : Type 0} (K N k n k2 n2 : ℕ) (a b c : Tally) (v : T) (s : Result U F) → k + k2 ≡ K → n + n2 ≡ N → AreCalls {E = E} a.promise.writes k n a b (Ok v) → AreCalls b.promise.writes k2 n2 b c s → AreCalls a.promise.writes K N a c s
+pub more : {T E U F : Type 0} (K N k n k2 n2 : ℕ) (a b c : Tally) (v : T) (s : Result U F) → k + k2 ≡ K → n + n2 ≡ N → AreCalls {E = E} a.promise.writes k n a b (Ok v)
+    → AreCalls b.promise.writes k2 n2 b c s → AreCalls a.promise.writes K N a c s
 more {U = U} {F = F} K N k n k2 n2 a b c v s is-k is-n one two =
-    subst (λ (m : ℕ). AreCalls a.promise.writes m N a c s) is-k (subst (λ (m : ℕ). AreCalls a.promise.writes (k + k2) m a c s) is-n (go s (as_before a.promise.writes b.promise.writes k2 n2 b c s (ap (λ (p : Promise). p.writes) one.up_to.promise) two)))
+    subst (λ (m : ℕ). AreCalls a.promise.writes m N a c s) is-k
+    (subst (λ (m : ℕ). AreCalls a.promise.writes (k + k2) m a c s) is-n (go s (as_before a.promise.writes b.promise.writes k2 n2 b c s (ap (λ (p : Promise). p.writes) one.up_to.promise) two)))
   where
     go : (s : Result U F) → AreCalls a.promise.writes k2 n2 b c s → AreCalls a.promise.writes (k + k2) (n + n2) a c s
     go (Ok w) t = then_ok a.promise.writes k n k2 n2 a b c v w one t
     go (Err e) t = then_err a.promise.writes k n k2 n2 a b c v e one t
 
 -- the last group stopped
-pub stop : {T E U F : Type 0} (K N k n : ℕ) (a b : Tally) (r : Result T E) (s : Result U F) → k ≤ K → n ≤ N → AreCalls a.promise.writes k n a b r → IsErr r → IsErr s → AreCalls a.promise.writes K N a b s
+pub stop : {T E U F : Type 0} (K N k n : ℕ) (a b : Tally) (r : Result T E) (s : Result U F) → k ≤ K → n ≤ N → AreCalls a.promise.writes k n a b r → IsErr r → IsErr s
+    → AreCalls a.promise.writes K N a b s
 stop {U = U} {F = F} K N k n a b r s le-k le-n one failed this =
     let is-k : k + (K - k) ≡ K = omega arith in
     let is-n : n + (N - n) ≡ N = omega arith in

@@ -51,7 +51,8 @@ module _ (limit : ℕ) (rs : List Record) (r : Record) (end : ℕ) (bytes old : 
   }
     where
       regroup : (rest : List ℕ) → (front ++ (body r ++ 0 ∷ [])) ++ rest ≡ records rs ++ 0 ∷ (body r ++ 0 ∷ rest)
-      regroup rest = append_assoc front (body r ++ 0 ∷ []) rest ∙ append_assoc (records rs) (0 ∷ []) ((body r ++ 0 ∷ []) ++ rest) ∙ ap (λ (l : List ℕ). records rs ++ (0 ∷ l)) (append_assoc (body r) (0 ∷ []) rest)
+      regroup rest = append_assoc front (body r ++ 0 ∷ []) rest ∙ append_assoc (records rs) (0 ∷ []) ((body r ++ 0 ∷ []) ++ rest)
+          ∙ ap (λ (l : List ℕ). records rs ++ (0 ∷ l)) (append_assoc (body r) (0 ∷ []) rest)
 
   pub stage_crash : (left now : List ℕ → Type 0) → Only old left → Follows (IsTorn (end + 1) (length bytes)) left now → (c : List ℕ) → now c → recovered limit c ≡ Whole rs
   stage_crash left now only follows c is =
@@ -74,12 +75,14 @@ module _ (limit : ℕ) (rs : List Record) (r : Record) (end : ℕ) (bytes old : 
     pub gate_parts : (c : List ℕ) → IsTorn end 1 staged c → c ≡ records rs ++ get_or c end 0 ∷ (body r ++ 0 ∷ is_staged.rest)
     gate_parts c torn =
         two_parts end c (records rs) (torn_front end 1 staged c torn (omega (arith, length-staged)) ∙ staged_front)
-        ∙ ap (λ (l : List ℕ). records rs ++ l) (drop_more c end 0 (omega (arith, length-staged, torn.no_shorter)) ∙ ap (λ (l : List ℕ). get_or c end 0 ∷ l) (torn_back end 1 staged c torn length-staged ∙ staged_back))
+        ∙ ap (λ (l : List ℕ). records rs ++ l)
+        (drop_more c end 0 (omega (arith, length-staged, torn.no_shorter)) ∙ ap (λ (l : List ℕ). get_or c end 0 ∷ l) (torn_back end 1 staged c torn length-staged ∙ staged_back))
 
     -- the record stands whole in each image of the second write
     pub torn_gate : (c : List ℕ) → IsTorn end 1 staged c → IsBeforeOrAfter limit rs r c
     torn_gate c torn =
-        subst (IsBeforeOrAfter limit rs r) (sym (gate_parts c torn)) (recovered_gate limit rs r (get_or c end 0) is_staged.rest at_rest.fit added.fits (omega (arith, room, length-bytes, at_rest.size)))
+        subst (IsBeforeOrAfter limit rs r) (sym (gate_parts c torn))
+        (recovered_gate limit rs r (get_or c end 0) is_staged.rest at_rest.fit added.fits (omega (arith, room, length-bytes, at_rest.size)))
 
     pub written_gate : (c : List ℕ) → IsTorn end 1 staged c → Holds end (1 ∷ []) c → IsAtRest limit (rs ++ r ∷ []) (end + length bytes) c
     written_gate c torn holds = record {

@@ -27,7 +27,8 @@ no_damage least at asked file stands bad = apart (take stands.k asked) at (sym s
     apart : (rs : List Record) (k : ℕ) → Whole rs ≡ Damaged k → ⊥
     apart rs k same = cc same
 
-pub first_found : (least commits : ℕ) (asked rs : List Record) (file : List ℕ) (rows : List (Cell × ℤ)) (start : List (Cell × ℤ)) → StandsFor default_capacity least asked file → recovered default_capacity file ≡ Whole rs → commits ≡ length rs
+pub first_found : (least commits : ℕ) (asked rs : List Record) (file : List ℕ) (rows : List (Cell × ℤ)) (start : List (Cell × ℤ)) → StandsFor default_capacity least asked file
+    → recovered default_capacity file ≡ Whole rs → commits ≡ length rs
     → ((x : Cell) → row_of rows x ≡ after_records rs (row_of start) x)
     → (least ≤ commits) × (commits ≤ length asked) × ((x : Cell) → row_of rows x ≡ after_records (take commits asked) (row_of start) x)
 first_found least commits asked rs file rows start stands found count after =

@@ -25,7 +25,8 @@ module _ {D : Type 0} (moment : D → ℕ) (left_since : D → ℕ → List ℕ 
   }
 
   -- the calls begin with a disk that differs from an old one in its memory alone
-  pub since_before : (old mid new : D) (P : List ℕ → Type 0) → moment mid ≡ moment old → ((t : ℕ) (c : List ℕ) → left_since mid t c → left_since old t c) → LeavesOnly moment left_since mid new P → LeavesOnly moment left_since old new P
+  pub since_before : (old mid new : D) (P : List ℕ → Type 0) → moment mid ≡ moment old → ((t : ℕ) (c : List ℕ) → left_since mid t c → left_since old t c) → LeavesOnly moment left_since mid new P
+      → LeavesOnly moment left_since old new P
   since_before old mid new P clock time only = record {
     later = omega (arith, only.later, clock);
     each = λ c left. only.each c (subst (λ (t : ℕ). left_since new t c) (sym clock) left);

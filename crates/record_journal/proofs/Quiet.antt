@@ -7,7 +7,8 @@ use Rattle.record_journal.proofs.Spelled.{take_past}
 
 module _ {D : Type 0} (seen : D → List ℕ) (may_leave : D → List ℕ → Type 0) (moment : D → ℕ) (left_since : D → ℕ → List ℕ → Type 0) (faults capacity : D → ℕ) where
   pub quieter : (old mid new : D) → IsQuiet seen may_leave moment left_since faults capacity old mid → seen new ≡ seen mid → NoMore (may_leave mid) (may_leave new)
-      → Elapses (moment mid) (moment new) (left_since mid) (left_since new) (may_leave new) → faults mid ≤ faults new → capacity new ≡ capacity mid → IsQuiet seen may_leave moment left_since faults capacity old new
+      → Elapses (moment mid) (moment new) (left_since mid) (left_since new) (may_leave new) → faults mid ≤ faults new → capacity new ≡ capacity mid
+      → IsQuiet seen may_leave moment left_since faults capacity old new
   quieter old mid new so_far same crash time later stays = record {
     same = same ∙ so_far.same;
     crash = λ c left. so_far.crash c (crash c left);
@@ -29,7 +30,8 @@ take_more_of (x ∷ xs) (suc m) n =
     ap (λ (k : ℕ). take k (x ∷ xs)) is ∙ ap (λ (l : List ℕ). x ∷ l) (take_more_of xs m n)
 
 -- the bytes so far, and those that a read added behind them
-pub filled_more : (file bytes next piece : List ℕ) (filled n : ℕ) → take filled bytes ≡ take filled file → filled ≤ length bytes → next ≡ take filled bytes ++ piece → n ≤ length piece → take n piece ≡ take n (drop filled file)
+pub filled_more : (file bytes next piece : List ℕ) (filled n : ℕ) → take filled bytes ≡ take filled file → filled ≤ length bytes → next ≡ take filled bytes ++ piece → n ≤ length piece
+    → take n piece ≡ take n (drop filled file)
     → take (filled + n) next ≡ take (filled + n) file
 filled_more file bytes next piece filled n so_far le is long reads =
     ap (λ (l : List ℕ). take (filled + n) l) is
@@ -38,7 +40,8 @@ filled_more file bytes next piece filled n so_far le is long reads =
     ∙ ap (λ (l : List ℕ). take filled file ++ l) reads
     ∙ sym (take_more_of file filled n)
 
-pub filled_part : (file bytes ys post : List ℕ) (filled n : ℕ) → take filled bytes ≡ take filled file → filled ≤ length bytes → IsRead file filled n ys → take (filled + n) (take filled bytes ++ (ys ++ post)) ≡ take (filled + n) file
+pub filled_part : (file bytes ys post : List ℕ) (filled n : ℕ) → take filled bytes ≡ take filled file → filled ≤ length bytes → IsRead file filled n ys
+    → take (filled + n) (take filled bytes ++ (ys ++ post)) ≡ take (filled + n) file
 filled_part file bytes ys post filled n so_far le read =
     filled_more file bytes (take filled bytes ++ (ys ++ post)) (ys ++ post) filled n so_far le refl (omega (arith, read.fits, length-append ys post)) (take-append-le n ys post read.fits ∙ read.bytes)
 

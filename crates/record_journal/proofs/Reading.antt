@@ -16,7 +16,8 @@ prefixed front (Some r) = Some (front ++ r)
 pub short : (front : Record) (n : ℕ) (rest : List ℕ) (total : Option Record) → 0 < n → length rest < 14 → prefixed front (changes_of n rest) ≡ total → total ≡ None
 unfolding changes_of
 short front zero rest total some below so_far = absurd (omega arith)
-short front (suc n) rest total some below so_far = sym so_far ∙ ap (prefixed front) (cond-true (ltb (length rest) 14) None (follow (change_of (take 14 rest)) (changes_of n (drop 14 rest))) (lt-ltb (length rest) 14 below))
+short front (suc n) rest total some below so_far = sym so_far
+    ∙ ap (prefixed front) (cond-true (ltb (length rest) 14) None (follow (change_of (take 14 rest)) (changes_of n (drop 14 rest))) (lt-ltb (length rest) 14 below))
 
 one : (n : ℕ) (rest : List ℕ) → 14 ≤ length rest → changes_of (suc n) rest ≡ follow (change_of (take 14 rest)) (changes_of n (drop 14 rest))
 unfolding changes_of
@@ -30,7 +31,8 @@ regroup : (front : Record) (c : Change) (others : Option Record) → prefixed fr
 regroup front c None = refl
 regroup front c (Some r) = ap (λ (l : Record). Some l) (sym (append_assoc front (c ∷ []) r))
 
-pub next : (front : Record) (n m : ℕ) (rest : List ℕ) (c : Change) (total : Option Record) → n ≡ suc m → 14 ≤ length rest → change_of (take 14 rest) ≡ Some c → prefixed front (changes_of n rest) ≡ total
+pub next : (front : Record) (n m : ℕ) (rest : List ℕ) (c : Change) (total : Option Record) → n ≡ suc m → 14 ≤ length rest → change_of (take 14 rest) ≡ Some c
+    → prefixed front (changes_of n rest) ≡ total
     → prefixed (front ++ c ∷ []) (changes_of m (drop 14 rest)) ≡ total
 next front n m rest c total is long found so_far =
     sym (regroup front c (changes_of m (drop 14 rest)))
@@ -43,11 +45,13 @@ push_all-push : (rs : List Record) (r : Record) (x : Reading) → push_all (rs +
 push_all-push [] r x = refl
 push_all-push (q ∷ rs) r x = ap (push q) (push_all-push rs r x)
 
-pub reads_on : (rs : List Record) (r : Record) (n at : ℕ) (behind : List ℕ) (total : Reading) → n ≡ size r → record_of behind ≡ Some r → n ≤ length behind → push_all rs (reading 0 at (1 ∷ behind)) ≡ total
+pub reads_on : (rs : List Record) (r : Record) (n at : ℕ) (behind : List ℕ) (total : Reading) → n ≡ size r → record_of behind ≡ Some r → n ≤ length behind
+    → push_all rs (reading 0 at (1 ∷ behind)) ≡ total
     → push_all (rs ++ r ∷ []) (reading 0 (at + (1 + n)) (drop n behind)) ≡ total
 reads_on rs r n at behind total is found long so_far =
     let over : reading (size r) (suc at) behind ≡ reading 0 (suc at + n) (drop n behind) =
-    ap (λ (k : ℕ). reading k (suc at) behind) (sym is) ∙ ap (reading n (suc at)) (sym (take-append-drop n behind)) ∙ skips n (suc at) (take n behind) (drop n behind) (sym (length-take-le n behind long)) in
+    ap (λ (k : ℕ). reading k (suc at) behind) (sym is) ∙ ap (reading n (suc at)) (sym (take-append-drop n behind)) ∙ skips n (suc at) (take n behind) (drop n behind)
+    (sym (length-take-le n behind long)) in
     push_all-push rs r (reading 0 (at + (1 + n)) (drop n behind))
     ∙ ap (λ (x : Reading). push_all rs (push r x)) (ap (λ (k : ℕ). reading 0 k (drop n behind)) (omega arith) ∙ sym over)
     ∙ ap (push_all rs) (sym (reading_open at behind r found))

@@ -28,7 +28,8 @@ value_again (Some z) fits = ap (λ (y : ℤ). Some (Some y)) (ap (λ (n : ℕ). 
 
 change_again : (c : Change) → ChangeFits c → change_of (entry c) ≡ Some c
 change_again c fits =
-    ap (λ (k : ℕ). with_cell (record { table = c.cell.table; key = k }) (value_of_tag (tag_of c.value) (from_be_bytes w64 (to_be_bytes w64 (number_of c.value))))) (from_be_bytes-to_be_bytes_4 c.cell.key fits.key)
+    ap (λ (k : ℕ). with_cell (record { table = c.cell.table; key = k }) (value_of_tag (tag_of c.value) (from_be_bytes w64 (to_be_bytes w64 (number_of c.value)))))
+    (from_be_bytes-to_be_bytes_4 c.cell.key fits.key)
     ∙ ap (λ (v : Option (Option ℤ)). with_cell c.cell v) (value_again c.value fits.value)
 
 pub length-entries : (r : Record) → length (entries r) ≡ 14 * length r
@@ -39,7 +40,8 @@ changes_again : (r : Record) (rest : List ℕ) → AllByRecursion ChangeFits r �
 unfolding changes_of
 changes_again [] rest fit = refl
 changes_again (c ∷ cs) rest fit =
-    cond-false (ltb (length (entries (c ∷ cs) ++ rest)) 14) None (follow (change_of (entry c)) (changes_of (length cs) (entries cs ++ rest))) (le-ltb (length (entries (c ∷ cs) ++ rest)) 14 (omega (arith, length-append (entries (c ∷ cs)) rest, length-entries (c ∷ cs))))
+    cond-false (ltb (length (entries (c ∷ cs) ++ rest)) 14) None (follow (change_of (entry c)) (changes_of (length cs) (entries cs ++ rest)))
+    (le-ltb (length (entries (c ∷ cs) ++ rest)) 14 (omega (arith, length-append (entries (c ∷ cs)) rest, length-entries (c ∷ cs))))
     ∙ ap (λ (first : Option Change). follow first (changes_of (length cs) (entries cs ++ rest))) (change_again c fit.0)
     ∙ ap (λ (others : Option Record). follow (Some c) others) (changes_again cs rest fit.1)
 
@@ -51,7 +53,8 @@ length-body r = omega (arith, length-append (to_be_bytes w32 (length r)) (entrie
 record_again : (r : Record) (rest : List ℕ) → RecordFits r → record_of (body r ++ rest) ≡ Some r
 unfolding record_of
 record_again r rest fits =
-    cond-false (ltb (length (body r ++ rest)) 4) None (changes_of (from_be_bytes w32 (to_be_bytes w32 (length r))) (entries r ++ rest)) (le-ltb (length (body r ++ rest)) 4 (omega (arith, length-append (body r) rest, length-body r)))
+    cond-false (ltb (length (body r ++ rest)) 4) None (changes_of (from_be_bytes w32 (to_be_bytes w32 (length r))) (entries r ++ rest))
+    (le-ltb (length (body r ++ rest)) 4 (omega (arith, length-append (body r) rest, length-body r)))
     ∙ ap (λ (n : ℕ). changes_of n (entries r ++ rest)) (from_be_bytes-to_be_bytes_4 (length r) fits.count) ∙ changes_again r rest fits.each
 
 -- ---- a journal
@@ -95,7 +98,8 @@ take_past (x ∷ xs) ys zero n is = absurd (omega arith)
 take_past (x ∷ xs) ys (suc m) n is = ap (λ (l : List ℕ). x ∷ l) (take_past xs ys m n (omega arith))
 
 -- a closed gate ends them, whatever stands behind it
-pub recovered_closed : (limit : ℕ) (rs : List Record) (gate : ℕ) (rest : List ℕ) → AllByRecursion RecordFits rs → length (records rs) < limit → gate ≢ 1 → recovered limit (records rs ++ gate ∷ rest) ≡ Whole rs
+pub recovered_closed : (limit : ℕ) (rs : List Record) (gate : ℕ) (rest : List ℕ) → AllByRecursion RecordFits rs → length (records rs) < limit → gate ≢ 1
+    → recovered limit (records rs ++ gate ∷ rest) ≡ Whole rs
 unfolding recovered
 recovered_closed limit rs gate rest fit below shut =
     let m = limit - length (records rs) - 1 in
@@ -108,7 +112,8 @@ recovered_closed limit rs gate rest fit below shut =
 pub records-push : (rs : List Record) (r : Record) (rest : List ℕ) → records (rs ++ r ∷ []) ++ rest ≡ records rs ++ 1 ∷ (body r ++ rest)
 records-push [] r rest = ap (λ (l : List ℕ). 1 ∷ l) (append_assoc (body r) [] rest)
 records-push (q ∷ rs) r rest =
-    ap (λ (l : List ℕ). 1 ∷ l) (append_assoc (body q) (records (rs ++ r ∷ [])) rest ∙ ap (λ (l : List ℕ). body q ++ l) (records-push rs r rest) ∙ sym (append_assoc (body q) (records rs) (1 ∷ (body r ++ rest))))
+    ap (λ (l : List ℕ). 1 ∷ l) (append_assoc (body q) (records (rs ++ r ∷ [])) rest ∙ ap (λ (l : List ℕ). body q ++ l) (records-push rs r rest)
+    ∙ sym (append_assoc (body q) (records rs) (1 ∷ (body r ++ rest))))
 
 pub length-records-push : (rs : List Record) (r : Record) → length (records (rs ++ r ∷ [])) ≡ length (records rs) + 1 + size r
 length-records-push [] r = omega (arith, length-append (body r) [], length-body r)

@@ -41,13 +41,15 @@ all_before (e ∷ es) y h = and_from (is_before y e.0) (list_all (λ s. is_befor
 -- the entries of a map from cells are rows in ascending order
 pub entries_ascend : (es : List (Cell × ℤ)) → IsStrictlySortedBy cell_cmp (keys_of es) → IsAscending es
 entries_ascend [] s = refl
-entries_ascend (e ∷ es) s = and_from (list_all (λ r. is_before e.0 r.0) es) (is_ascending es) (all_before es e.0 (sorted_head cell_cmp e.0 (keys_of es) s)) (entries_ascend es (sorted_tail cell_cmp e.0 (keys_of es) s))
+entries_ascend (e ∷ es) s = and_from (list_all (λ r. is_before e.0 r.0) es) (is_ascending es) (all_before es e.0 (sorted_head cell_cmp e.0 (keys_of es) s))
+    (entries_ascend es (sorted_tail cell_cmp e.0 (keys_of es) s))
 
 after_changes-push : (r : Record) (c : Change) (T : Values) (x : Cell) → after_changes (r ++ c ∷ []) T x ≡ put_in c.cell c.value (after_changes r T) x
 after_changes-push [] c T x = refl
 after_changes-push (d ∷ r) c T x = after_changes-push r c (put_in d.cell d.value T) x
 
-pub change_more : (r : Record) (i : ℕ) (d : Change) (T now next : Values) (x : Cell) → i < length r → next x ≡ put_in (get_or r i d).cell (get_or r i d).value now x → now x ≡ after_changes (take i r) T x → next x ≡ after_changes (take (i + 1) r) T x
+pub change_more : (r : Record) (i : ℕ) (d : Change) (T now next : Values) (x : Cell) → i < length r → next x ≡ put_in (get_or r i d).cell (get_or r i d).value now x
+    → now x ≡ after_changes (take i r) T x → next x ≡ after_changes (take (i + 1) r) T x
 change_more r i d T now next x below puts so_far =
     puts
     ∙ ap (λ (v : Option ℤ). cond (same_cell (get_or r i d).cell x) (get_or r i d).value v) so_far
@@ -62,7 +64,8 @@ after_records-push : (rs : List Record) (r : Record) (T : Values) (x : Cell) →
 after_records-push [] r T x = refl
 after_records-push (q ∷ rs) r T x = after_records-push rs r (after_changes q T) x
 
-pub record_more : (vs : List (Vec Change Global)) (i : ℕ) (d : Vec Change Global) (T now next : Values) → i < length vs → ((x : Cell) → next x ≡ after_changes (get_or vs i d).items now x) → ((x : Cell) → now x ≡ after_records (record_lists (take i vs)) T x)
+pub record_more : (vs : List (Vec Change Global)) (i : ℕ) (d : Vec Change Global) (T now next : Values) → i < length vs → ((x : Cell) → next x ≡ after_changes (get_or vs i d).items now x)
+    → ((x : Cell) → now x ≡ after_records (record_lists (take i vs)) T x)
     → (x : Cell) → next x ≡ after_records (record_lists (take (i + 1) vs)) T x
 record_more vs i d T now next below puts so_far x =
     puts x

@@ -18,7 +18,8 @@ entries-push : (r : Record) (c : Change) → entries (r ++ c ∷ []) ≡ entries
 entries-push [] c = append-nil (entry c)
 entries-push (d ∷ r) c = ap (λ (l : List ℕ). entry d ++ l) (entries-push r c) ∙ sym (append_assoc (entry d) (entries r) (entry c))
 
-pub grows : (front bytes next : List ℕ) (r : Record) (i : ℕ) (d : Change) → i < length r → bytes ≡ front ++ entries (take i r) → next ≡ bytes ++ entry (get_or r i d) → next ≡ front ++ entries (take (i + 1) r)
+pub grows : (front bytes next : List ℕ) (r : Record) (i : ℕ) (d : Change) → i < length r → bytes ≡ front ++ entries (take i r) → next ≡ bytes ++ entry (get_or r i d) → next ≡ front
+    ++ entries (take (i + 1) r)
 grows front bytes next r i d below is adds =
     adds
     ∙ ap (λ (l : List ℕ). l ++ entry (get_or r i d)) is

@@ -80,7 +80,8 @@ impl<D: Disk> Journal<D> {
         ensures end { OnOk result (self.new.progress.end ≡ self.old.progress.end + length body.now) }
         ensures not_acknowledged { OnErr result ((self.new.stopped ≡ true) × (self.new.progress.acknowledged ≡ self.old.progress.acknowledged)) }
         // After an error, what was safe at the last good sync has only the acknowledged records.
-        ensures not_added { (asked : List Record) (r : Record) → IsBody r body.now → Keeps D.seen D.may_leave asked self.old → OnErr result (recovered default_capacity (D.safe self.new.disk) ≡ Whole asked) }
+        ensures not_added { (asked : List Record) (r : Record) → IsBody r body.now → Keeps D.seen D.may_leave asked self.old
+            → OnErr result (recovered default_capacity (D.safe self.new.disk) ≡ Whole asked) }
 
         ensures cause { HasCause (D.faults self.old.disk) (D.faults self.new.disk) result }
         ensures capacity { D.capacity self.new.disk ≡ D.capacity self.old.disk }

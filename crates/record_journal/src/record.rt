@@ -71,7 +71,8 @@ pub fn write_record<D: Disk>(disk: &mut D, end: u64, body: &[u8]) -> Result<(), 
         → LeavesOnly D.moment D.left_since disk.old disk.new (IsBeforeOrAfter room rs r) }
 
     // If it fails, what was safe at the last good sync has only the earlier records.
-    ensures not_added { (room : ℕ) (rs : List Record) (r : Record) → end + 1 + length body.now ≤ room → IsBody r body.now → IsAtRest room rs end (D.seen disk.old) → recovered room (D.safe disk.old) ≡ Whole rs
+    ensures not_added { (room : ℕ) (rs : List Record) (r : Record) → end + 1 + length body.now ≤ room → IsBody r body.now → IsAtRest room rs end (D.seen disk.old)
+        → recovered room (D.safe disk.old) ≡ Whole rs
         → OnErr result (recovered room (D.safe disk.new) ≡ Whole rs) }
 
     ensures cause { HasCause (D.faults disk.old) (D.faults disk.new) result }

@@ -66,7 +66,8 @@ module _ (asked behind all : Requests) (is : all ≡ asked ++ behind) (X Y : Sto
       }
 
 -- one of some requests is asked, and then those behind it
-module _ {A : Type 0} (f : A → Session × Request) (xs : List A) (i : ℕ) (d : A) (within : i < length xs) (s : Session) (q : Request) (is : (s, q) ≡ f (get_or xs i d)) (X Y : Store) (H K : List Event) (same : Y ≡ X) (on : K ≡ (answer X H s q).1) where
+module _ {A : Type 0} (f : A → Session × Request) (xs : List A) (i : ℕ) (d : A) (within : i < length xs) (s : Session) (q : Request) (is : (s, q) ≡ f (get_or xs i d)) (X Y : Store) (H K : List Event)
+    (same : Y ≡ X) (on : K ≡ (answer X H s q).1) where
   left : map f (drop i xs) ≡ (s, q) ∷ map f (drop (i + 1) xs)
   left = ap (map f) (drop_more xs i d within) ∙ ap (λ (r : Session × Request). r ∷ map f (drop (i + 1) xs)) (sym is)
 

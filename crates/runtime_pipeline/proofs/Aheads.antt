@@ -47,7 +47,8 @@ none_equal q v us h = filter_agree q (λ u. q u || eqb v u) us (λ u i. ap (λ (
 put_among : (v : ℕ) (q : ℕ → Bool) (us : List ℕ) → IsAscendingBy number us → In v us → put_by number_of (numbered v) (map numbered (filter q us)) ≡ map numbered (filter (λ u. q u || eqb v u) us)
 put_among v q [] a i = absurd i
 put_among v q (u ∷ us) a i = elim i [
-  | inl e ↦ here e (q u) ∙ sym (ap (λ (b : Bool). map numbered (cond b (u ∷ filter (λ w. q w || eqb v w) us) (filter (λ w. q w || eqb v w) us))) (ap (λ (b : Bool). q u || b) (eq-eqb v u (sym e)) ∙ or_true (q u)) ∙ rest e)
+  | inl e ↦ here e (q u) ∙ sym
+      (ap (λ (b : Bool). map numbered (cond b (u ∷ filter (λ w. q w || eqb v w) us) (filter (λ w. q w || eqb v w) us))) (ap (λ (b : Bool). q u || b) (eq-eqb v u (sym e)) ∙ or_true (q u)) ∙ rest e)
   | inr j ↦ later (above_in u v us a.0 j) (put_among v q us a.1 j) (q u)
 ]
   where
@@ -59,7 +60,8 @@ put_among v q (u ∷ us) a i = elim i [
     here e false = put_front v (filter q us) (above-filter number v q us (subst (λ (z : ℕ). AllAbove number z us) e a.0))
 
     later : u < v → put_by number_of (numbered v) (map numbered (filter q us)) ≡ map numbered (filter (λ w. q w || eqb v w) us) → (b : Bool)
-        → put_by number_of (numbered v) (map numbered (cond b (u ∷ filter q us) (filter q us))) ≡ map numbered (cond (b || eqb v u) (u ∷ filter (λ w. q w || eqb v w) us) (filter (λ w. q w || eqb v w) us))
+        → put_by number_of (numbered v) (map numbered (cond b (u ∷ filter q us) (filter q us))) ≡ map numbered
+        (cond (b || eqb v u) (u ∷ filter (λ w. q w || eqb v w) us) (filter (λ w. q w || eqb v w) us))
     later l ih true = rw (lt-ltb u v l) (ap (λ (ts : List Txn). numbered u ∷ ts) ih)
     later l ih false = ih ∙ sym (ap (λ (b : Bool). map numbered (cond b (u ∷ filter (λ w. q w || eqb v w) us) (filter (λ w. q w || eqb v w) us))) (ne_eqb v u (λ e. omega arith)))
 
@@ -93,23 +95,28 @@ module _ (S : Setup) (H : List Event) (n t : ℕ) (x : Cell) (write : Bool) wher
   Joined all hs ts q = joined (in_the_way S H n t write) hs ts ≡ map numbered (filter q all)
 
   joined_among : (all us : List ℕ) → IsAscendingBy number all → ((u : ℕ) → In u us → In u all) → (q : ℕ → Bool)
-      → joined (in_the_way S H n t write) (map (hold_of H x) (filter (holds S H n x) us)) (map numbered (filter q all)) ≡ map numbered (filter (λ u. q u || (among u us && blocks S H n t x write u)) all)
+      → joined (in_the_way S H n t write) (map (hold_of H x) (filter (holds S H n x) us)) (map numbered (filter q all)) ≡ map numbered
+      (filter (λ u. q u || (among u us && blocks S H n t x write u)) all)
   joined_among all [] a i q = λ j. map numbered (filter (λ u. sym (or_false (q u)) j) all)
   joined_among all (v ∷ us) a i q = go (joined_among all us a (λ u j. i u (inr j))) (holds S H n x v) refl (blocks S H n t x write v) refl
     where
-      skipped : ((q : ℕ → Bool) → Joined all (map (hold_of H x) (filter (holds S H n x) us)) (map numbered (filter q all)) (λ u. q u || (among u us && blocks S H n t x write u))) → blocks S H n t x write v ≡ false
+      skipped : ((q : ℕ → Bool) → Joined all (map (hold_of H x) (filter (holds S H n x) us)) (map numbered (filter q all)) (λ u. q u || (among u us && blocks S H n t x write u)))
+          → blocks S H n t x write v ≡ false
           → Joined all (map (hold_of H x) (filter (holds S H n x) us)) (map numbered (filter q all)) (λ u. q u || ((eqb v u || among u us) && blocks S H n t x write u))
       skipped ih f = ih q ∙ (λ j. map numbered (filter (λ u. without_it (q u) (eqb v u) (among u us) (blocks S H n t x write u) (at_it v false f u) j) all))
 
       go : ((q : ℕ → Bool) → Joined all (map (hold_of H x) (filter (holds S H n x) us)) (map numbered (filter q all)) (λ u. q u || (among u us && blocks S H n t x write u)))
           → (o : Bool) → holds S H n x v ≡ o → (b : Bool) → blocks S H n t x write v ≡ b
-          → Joined all (map (hold_of H x) (cond o (v ∷ filter (holds S H n x) us) (filter (holds S H n x) us))) (map numbered (filter q all)) (λ u. q u || ((eqb v u || among u us) && blocks S H n t x write u))
+          → Joined all (map (hold_of H x) (cond o (v ∷ filter (holds S H n x) us) (filter (holds S H n x) us))) (map numbered (filter q all))
+          (λ u. q u || ((eqb v u || among u us) && blocks S H n t x write u))
       go ih false e b f = skipped ih (off_way v e)
       go ih true e false f =
-          ap (λ (w : Bool). joined (in_the_way S H n t write) (map (hold_of H x) (filter (holds S H n x) us)) (cond w (put_by number_of (numbered v) (map numbered (filter q all))) (map numbered (filter q all)))) (sym (blocks_held S H n t x write v e) ∙ f)
+          ap (λ (w : Bool). joined (in_the_way S H n t write) (map (hold_of H x) (filter (holds S H n x) us))
+          (cond w (put_by number_of (numbered v) (map numbered (filter q all))) (map numbered (filter q all)))) (sym (blocks_held S H n t x write v e) ∙ f)
           ∙ skipped ih f
       go ih true e true f =
-          ap (λ (w : Bool). joined (in_the_way S H n t write) (map (hold_of H x) (filter (holds S H n x) us)) (cond w (put_by number_of (numbered v) (map numbered (filter q all))) (map numbered (filter q all)))) (sym (blocks_held S H n t x write v e) ∙ f)
+          ap (λ (w : Bool). joined (in_the_way S H n t write) (map (hold_of H x) (filter (holds S H n x) us))
+          (cond w (put_by number_of (numbered v) (map numbered (filter q all))) (map numbered (filter q all)))) (sym (blocks_held S H n t x write v e) ∙ f)
           ∙ ap (joined (in_the_way S H n t write) (map (hold_of H x) (filter (holds S H n x) us))) (put_among v q all a (i v (inl refl)))
           ∙ ih (λ u. q u || eqb v u)
           ∙ (λ j. map numbered (filter (λ u. with_it (q u) (eqb v u) (among u us) (blocks S H n t x write u) (at_it v true f u) j) all))
@@ -117,7 +124,8 @@ module _ (S : Setup) (H : List Event) (n t : ℕ) (x : Cell) (write : Bool) wher
   pub joined_all : (q : ℕ → Bool) → joined (in_the_way S H n t write) (holds_in S H n x) (map numbered (filter q (txns H))) ≡ map numbered (filter (λ u. q u || blocks S H n t x write u) (txns H))
   joined_all q =
       joined_among (txns H) (txns H) (txns_ascending H) (λ u i. i) q
-      ∙ ap (map numbered) (filter_agree (λ u. q u || blocks S H n t x write u) (λ u. q u || (among u (txns H) && blocks S H n t x write u)) (txns H) (λ u i. ap (λ (b : Bool). q u || (b && blocks S H n t x write u)) (among_in u (txns H) i)))
+      ∙ ap (map numbered) (filter_agree (λ u. q u || blocks S H n t x write u) (λ u. q u || (among u (txns H) && blocks S H n t x write u)) (txns H)
+      (λ u i. ap (λ (b : Bool). q u || (b && blocks S H n t x write u)) (among_in u (txns H) i)))
 
 -- each that is ahead is unfinished
 pub ahead_unfinished : (S : Setup) (H : List Event) (n t u : ℕ) → is_ahead S H n t u ≡ true → unfinished H u ≡ true
@@ -157,5 +165,6 @@ filter_without t p q f (u ∷ us) = ap (λ (b : Bool). map numbered (cond b (u �
     go : (a b : Bool) → eqb u t ≡ b → map numbered (filter q us) ≡ without t (map numbered (filter p us))
         → map numbered (cond (a && not b) (u ∷ filter q us) (filter q us)) ≡ without t (map numbered (cond a (u ∷ filter p us) (filter p us)))
     go true true e ih = ih ∙ sym (ap (λ (b : Bool). cond (not b) (numbered u ∷ without t (map numbered (filter p us))) (without t (map numbered (filter p us)))) e)
-    go true false e ih = ap (λ (ts : List Txn). numbered u ∷ ts) ih ∙ sym (ap (λ (b : Bool). cond (not b) (numbered u ∷ without t (map numbered (filter p us))) (without t (map numbered (filter p us)))) e)
+    go true false e ih = ap (λ (ts : List Txn). numbered u ∷ ts) ih
+        ∙ sym (ap (λ (b : Bool). cond (not b) (numbered u ∷ without t (map numbered (filter p us))) (without t (map numbered (filter p us)))) e)
     go false b e ih = ih

@@ -76,7 +76,8 @@ noted_none S n k l = record {
     none false = refl
 
 -- an event that changes neither who has begun, nor who is unfinished, nor who meets
-module _ (S : Setup) (P : List Event) (n : ℕ) (e : Event) (count : begun_count (e ∷ P) ≡ begun_count P) (open_ : (u : ℕ) → unfinished (e ∷ P) u ≡ unfinished P u) (meet : (t u : ℕ) → meets S (e ∷ P) n t u ≡ meets S P n t u) where
+module _ (S : Setup) (P : List Event) (n : ℕ) (e : Event) (count : begun_count (e ∷ P) ≡ begun_count P) (open_ : (u : ℕ) → unfinished (e ∷ P) u ≡ unfinished P u)
+    (meet : (t u : ℕ) → meets S (e ∷ P) n t u ≡ meets S P n t u) where
   same_unfinished : unfinished_in (e ∷ P) ≡ unfinished_in P
   unfolding txns
   same_unfinished = λ j. map numbered (filter (λ u. open_ u j) (numbers (count j)))
@@ -88,7 +89,8 @@ module _ (S : Setup) (P : List Event) (n : ℕ) (e : Event) (count : begun_count
   unfolding txns
   same_before t f = λ j. map numbered (filter (λ u. open_ u j && meet t u j && f u j) (numbers (count j)))
 
-  kept : (k k' : Kept) (t : Txn) → list_of k' t ≡ list_of k t → PredecessorsOf k S P n → ((u : ℕ) → earlier (e ∷ P) u t.0 ≡ earlier P u t.0) → list_of k' t ≡ cond (unfinished (e ∷ P) t.0) (before_in S (e ∷ P) n t.0) []
+  kept : (k k' : Kept) (t : Txn) → list_of k' t ≡ list_of k t → PredecessorsOf k S P n → ((u : ℕ) → earlier (e ∷ P) u t.0 ≡ earlier P u t.0)
+      → list_of k' t ≡ cond (unfinished (e ∷ P) t.0) (before_in S (e ∷ P) n t.0) []
   kept k k' t l was f = l ∙ was.ahead t ∙ sym (λ j. cond (open_ t.0 j) (same_before t.0 f j) [])
 
   noted_inert : (k : Kept) → EndsFollow (e ∷ P) → ((u t : ℕ) → earlier (e ∷ P) u t ≡ earlier P u t) → PredecessorsOf k S P n → PredecessorsOf k S (e ∷ P) n
@@ -107,7 +109,11 @@ module _ (S : Setup) (P : List Event) (n : ℕ) (e : Event) (count : begun_count
     noted_access : (k k' : Kept) → EndsFollow (e ∷ P) → unfinished P t.0 ≡ true → k'.unfinished ≡ k.unfinished
         → ((v : Txn) → list_of k' v ≡ cond (eqb t.0 v.0) (joined (in_the_way S (e ∷ P) n t.0 write) (holds_in S (e ∷ P) n x) (list_of k v)) (list_of k v))
         → PredecessorsOf k S P n → PredecessorsOf k' S (e ∷ P) n
-    noted_access k k' ends u same lists was = record { ends = ends; counted = subst (λ (m : ℕ). length (unfinished_in (e ∷ P)) ≤ m) (sym same) (same_count was.counted); ahead = λ v. go v (eqb t.0 v.0) refl }
+    noted_access k k' ends u same lists was = record {
+      ends = ends;
+      counted = subst (λ (m : ℕ). length (unfinished_in (e ∷ P)) ≤ m) (sym same) (same_count was.counted);
+      ahead = λ v. go v (eqb t.0 v.0) refl;
+    }
       where
         at_t : list_of k' t ≡ cond (unfinished (e ∷ P) t.0) (before_in S (e ∷ P) n t.0) []
         at_t =
@@ -122,7 +128,8 @@ module _ (S : Setup) (P : List Event) (n : ℕ) (e : Event) (count : begun_count
 -- Ready and Told
 pub noted_ready : (S : Setup) (P : List Event) (n : ℕ) (t : Txn) (k : Kept) → PredecessorsOf k S P n → PredecessorsOf k S (Ready t ∷ P) n
 unfolding begun_count meets on side spot_of earlier
-noted_ready S P n t k was = noted_inert S P n (Ready t) refl (λ u. unfinished_same (Ready t) P u refl refl refl) (λ v u. refl) k (none_ends (Ready t) P (λ u. refl) (λ u. refl) was.ends) (λ u v. refl) was
+noted_ready S P n t k was = noted_inert S P n (Ready t) refl (λ u. unfinished_same (Ready t) P u refl refl refl) (λ v u. refl) k (none_ends (Ready t) P (λ u. refl) (λ u. refl) was.ends)
+    (λ u v. refl) was
 
 pub noted_told : (S : Setup) (P : List Event) (n : ℕ) (t : Txn) (k : Kept) → PredecessorsOf k S P n → PredecessorsOf k S (Told t ∷ P) n
 unfolding begun_count meets on side spot_of earlier
@@ -214,7 +221,8 @@ module _ (S : Setup) (P : List Event) (n : ℕ) (e : Event) (t : Txn) (count : b
   unfolding txns
   left_before v =
       (λ j. map numbered (filter (is_ahead S (e ∷ P) n v) (numbers (count j))))
-      ∙ filter_without t.0 (is_ahead S P n v) (is_ahead S (e ∷ P) n v) (λ u. (λ j. ended u j && meet v u j && early u v j) ∙ shuffled (unfinished P u) (not (eqb u t.0)) (meets S P n v u) (earlier P u v)) (numbers (begun_count P))
+      ∙ filter_without t.0 (is_ahead S P n v) (is_ahead S (e ∷ P) n v)
+      (λ u. (λ j. ended u j && meet v u j && early u v j) ∙ shuffled (unfinished P u) (not (eqb u t.0)) (meets S P n v u) (earlier P u v)) (numbers (begun_count P))
 
   noted_end : (k k' : Kept) → IsOrderly S P → EndsFollow (e ∷ P) → unfinished P t.0 ≡ true → k.unfinished ≡ k'.unfinished + 1
       → ((v : Txn) → list_of k' v ≡ cond (eqb t.0 v.0) [] (without t.0 (list_of k v)))
@@ -263,23 +271,27 @@ module _ (S : Setup) (P : List Event) (n : ℕ) (t : Txn) (o : IsOrderly S P) (o
     (lists : (v : Txn) → list_of k' v ≡ cond (eqb t.0 v.0) [] (without t.0 (list_of k v))) (was : PredecessorsOf k S P n) where
   pub noted_done : PredecessorsOf k' S (Done t ∷ P) n
   unfolding begun_count meets on side spot_of earlier
-  noted_done = noted_end S P n (Done t) t refl (λ u. ended u (eqb t.0 u) refl) (λ v u. refl) (λ u v. refl) k k' o (ends_next (Done t) P was.ends (λ u. its_begun P t.0 u open_) (λ u h. absurd (cc))) open_ fewer lists was
+  noted_done = noted_end S P n (Done t) t refl (λ u. ended u (eqb t.0 u) refl) (λ v u. refl) (λ u v. refl) k k' o (ends_next (Done t) P was.ends (λ u. its_begun P t.0 u open_) (λ u h. absurd (cc)))
+      open_ fewer lists was
     where
       ended : (u : ℕ) (b : Bool) → eqb t.0 u ≡ b → unfinished (Done t ∷ P) u ≡ (unfinished P u && not (eqb u t.0))
       ended u true h =
           unfinished-cons (Done t) P u ∙ ap (λ (b : Bool). begun P u && not (b || committed P u) && not (aborted P u)) h ∙ ended_by (begun P u) (committed P u) (not (aborted P u))
           ∙ sym (ap (λ (b : Bool). unfinished P u && not b) (eq-eqb u t.0 (sym (eqb-true t.0 u h))) ∙ and_false (unfinished P u))
-      ended u false h = unfinished_same (Done t) P u refl h refl ∙ sym (ap (λ (b : Bool). unfinished P u && not b) (ne_eqb u t.0 (λ q. both_ways _ h (eq-eqb t.0 u (sym q)))) ∙ and_true (unfinished P u))
+      ended u false h = unfinished_same (Done t) P u refl h refl
+          ∙ sym (ap (λ (b : Bool). unfinished P u && not b) (ne_eqb u t.0 (λ q. both_ways _ h (eq-eqb t.0 u (sym q)))) ∙ and_true (unfinished P u))
 
   pub noted_gone : (c : Cause) → PredecessorsOf k' S (Gone t c ∷ P) n
   unfolding begun_count meets on side spot_of earlier
-  noted_gone c = noted_end S P n (Gone t c) t refl (λ u. ended u (eqb t.0 u) refl) (λ v u. refl) (λ u v. refl) k k' o (ends_next (Gone t c) P was.ends (λ u h. absurd (cc)) (λ u. its_begun P t.0 u open_)) open_ fewer lists was
+  noted_gone c = noted_end S P n (Gone t c) t refl (λ u. ended u (eqb t.0 u) refl) (λ v u. refl) (λ u v. refl) k k' o
+      (ends_next (Gone t c) P was.ends (λ u h. absurd (cc)) (λ u. its_begun P t.0 u open_)) open_ fewer lists was
     where
       ended : (u : ℕ) (b : Bool) → eqb t.0 u ≡ b → unfinished (Gone t c ∷ P) u ≡ (unfinished P u && not (eqb u t.0))
       ended u true h =
           unfinished-cons (Gone t c) P u ∙ ap (λ (b : Bool). begun P u && not (committed P u) && not (b || aborted P u)) h ∙ aborted_by (begun P u) (not (committed P u)) (aborted P u)
           ∙ sym (ap (λ (b : Bool). unfinished P u && not b) (eq-eqb u t.0 (sym (eqb-true t.0 u h))) ∙ and_false (unfinished P u))
-      ended u false h = unfinished_same (Gone t c) P u refl refl h ∙ sym (ap (λ (b : Bool). unfinished P u && not b) (ne_eqb u t.0 (λ q. both_ways _ h (eq-eqb t.0 u (sym q)))) ∙ and_true (unfinished P u))
+      ended u false h = unfinished_same (Gone t c) P u refl refl h
+          ∙ sym (ap (λ (b : Bool). unfinished P u && not b) (ne_eqb u t.0 (λ q. both_ways _ h (eq-eqb t.0 u (sym q)))) ∙ and_true (unfinished P u))
 
 -- whoever has accessed nothing is earlier than nobody, and nobody is earlier
 earlier_none : (P : List Event) (t u : ℕ) → ((x : Cell) → wrote P t x ≡ false) → ((x : Cell) → got P t x ≡ false) → earlier P t u ≡ false
@@ -302,9 +314,11 @@ none_earlier : (P : List Event) (u t : ℕ) → ((x : Cell) → wrote P t x ≡ 
 unfolding earlier
 none_earlier [] u t w g = refl
 none_earlier (Got s x v z ∷ P) u t w g =
-    ap (λ (b : Bool). (b && wrote P u x) || earlier P u t) (other (eqb s.0 t) x (no_got (Got s x v z) P t x (g x))) ∙ none_earlier P u t (wrote_before (Got s x v z) P t w) (got_before (Got s x v z) P t g)
+    ap (λ (b : Bool). (b && wrote P u x) || earlier P u t) (other (eqb s.0 t) x (no_got (Got s x v z) P t x (g x))) ∙ none_earlier P u t (wrote_before (Got s x v z) P t w)
+    (got_before (Got s x v z) P t g)
 none_earlier (Put s x v ∷ P) u t w g =
-    ap (λ (b : Bool). (b && (wrote P u x || got P u x)) || earlier P u t) (other (eqb s.0 t) x (no_put (Put s x v) P t x (w x))) ∙ none_earlier P u t (wrote_before (Put s x v) P t w) (got_before (Put s x v) P t g)
+    ap (λ (b : Bool). (b && (wrote P u x || got P u x)) || earlier P u t) (other (eqb s.0 t) x (no_put (Put s x v) P t x (w x))) ∙ none_earlier P u t (wrote_before (Put s x v) P t w)
+    (got_before (Put s x v) P t g)
 none_earlier (Began s a k i ∷ P) u t w g = none_earlier P u t (wrote_before (Began s a k i) P t w) (got_before (Began s a k i) P t g)
 none_earlier (Ready s ∷ P) u t w g = none_earlier P u t (wrote_before (Ready s) P t w) (got_before (Ready s) P t g)
 none_earlier (Done s ∷ P) u t w g = none_earlier P u t (wrote_before (Done s) P t w) (got_before (Done s) P t g)
@@ -352,7 +366,8 @@ module _ (S : Setup) (P : List Event) (n : ℕ) (t : Txn) (s : Session) (l : Kin
   more_unfinished : unfinished_in (Began t s l i ∷ P) ≡ unfinished_in P ++ t ∷ []
   unfolding txns begun_count numbers
   more_unfinished =
-      last_in (unfinished (Began t s l i ∷ P)) (unfinished P) (suc (begun_count P)) (ap (unfinished (Began t s l i ∷ P)) (sym new) ∙ open_new) (numbers (begun_count P)) (λ u j. open_old u (old_number u j))
+      last_in (unfinished (Began t s l i ∷ P)) (unfinished P) (suc (begun_count P)) (ap (unfinished (Began t s l i ∷ P)) (sym new) ∙ open_new) (numbers (begun_count P))
+      (λ u j. open_old u (old_number u j))
       ∙ ap (λ (m : ℕ). unfinished_in P ++ numbered m ∷ []) (sym new)
 
   same_spot : (u : ℕ) → eqb t.0 u ≡ false → spot_of (Began t s l i ∷ P) u ≡ spot_of P u
@@ -370,7 +385,8 @@ module _ (S : Setup) (P : List Event) (n : ℕ) (t : Txn) (s : Session) (l : Kin
   unfolding txns begun_count numbers earlier
   before_others v h =
       last_out (is_ahead S (Began t s l i ∷ P) n v) (is_ahead S P n v) (suc (begun_count P))
-      (ap (λ (b : Bool). unfinished (Began t s l i ∷ P) (suc (begun_count P)) && meets S (Began t s l i ∷ P) n v (suc (begun_count P)) && b) (ap (λ (m : ℕ). earlier P m v) (sym new) ∙ earlier_none P t.0 v (λ x. (none x).0) (λ x. (none x).1))
+      (ap (λ (b : Bool). unfinished (Began t s l i ∷ P) (suc (begun_count P)) && meets S (Began t s l i ∷ P) n v (suc (begun_count P)) && b)
+      (ap (λ (m : ℕ). earlier P m v) (sym new) ∙ earlier_none P t.0 v (λ x. (none x).0) (λ x. (none x).1))
       ∙ and_false (unfinished (Began t s l i ∷ P) (suc (begun_count P)) && meets S (Began t s l i ∷ P) n v (suc (begun_count P))))
       (numbers (begun_count P))
       (λ u j. let f = old_number u j in (λ k. open_old u f k && same_meets v u h f k && earlier P u v))
@@ -378,7 +394,8 @@ module _ (S : Setup) (P : List Event) (n : ℕ) (t : Txn) (s : Session) (l : Kin
   before_new : before_in S (Began t s l i ∷ P) n t.0 ≡ []
   unfolding earlier
   before_new =
-      (λ j. map numbered (filter (λ u. unfinished (Began t s l i ∷ P) u && meets S (Began t s l i ∷ P) n t.0 u && none_earlier P u t.0 (λ x. (none x).0) (λ x. (none x).1) j) (txns (Began t s l i ∷ P))))
+      (λ j. map numbered (filter (λ u. unfinished (Began t s l i ∷ P) u && meets S (Began t s l i ∷ P) n t.0 u && none_earlier P u t.0 (λ x. (none x).0) (λ x. (none x).1) j)
+      (txns (Began t s l i ∷ P))))
       ∙ (λ j. map numbered (filter (λ u. and_false (unfinished (Began t s l i ∷ P) u && meets S (Began t s l i ∷ P) n t.0 u) j) (txns (Began t s l i ∷ P))))
       ∙ ap (map numbered) (no_members (txns (Began t s l i ∷ P)))
 
@@ -397,7 +414,8 @@ module _ (S : Setup) (P : List Event) (n : ℕ) (t : Txn) (s : Session) (l : Kin
       empty false = refl
 
       at_t : cond (unfinished P t.0) (before_in S P n t.0) [] ≡ cond (unfinished (Began t s l i ∷ P) t.0) (before_in S (Began t s l i ∷ P) n t.0) []
-      at_t = ap (λ (b : Bool). cond b (before_in S P n t.0) []) not_unfinished ∙ empty (unfinished (Began t s l i ∷ P) t.0) ∙ sym (ap (λ (us : List Txn). cond (unfinished (Began t s l i ∷ P) t.0) us []) before_new)
+      at_t = ap (λ (b : Bool). cond b (before_in S P n t.0) []) not_unfinished ∙ empty (unfinished (Began t s l i ∷ P) t.0)
+          ∙ sym (ap (λ (us : List Txn). cond (unfinished (Began t s l i ∷ P) t.0) us []) before_new)
 
       go : (v : Txn) (b : Bool) → eqb t.0 v.0 ≡ b → cond (unfinished P v.0) (before_in S P n v.0) [] ≡ cond (unfinished (Began t s l i ∷ P) v.0) (before_in S (Began t s l i ∷ P) n v.0) []
       go v true h = subst (λ (z : Txn). cond (unfinished P z.0) (before_in S P n z.0) [] ≡ cond (unfinished (Began t s l i ∷ P) z.0) (before_in S (Began t s l i ∷ P) n z.0) []) (one_txn t v h) at_t

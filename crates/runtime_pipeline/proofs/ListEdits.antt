@@ -57,7 +57,9 @@ module _ (t : Txn) (behind : List Txn) (lists : Txn → List Txn) (all : (v : Tx
     where
       go : (b : Bool) → eqb t.0 v.0 ≡ b → cond b [] (without t.0 (lists v)) ≡ []
       go true h = refl
-      go false h = ap (without t.0) (all v (sym (any-filter_same (λ (u : Txn). eqb u.0 v.0) (λ u. not (eqb u.0 t.0)) true (λ u q. ap not (ne_eqb u.0 t.0 (λ e. both_ways _ h (eq-eqb t.0 v.0 (sym e ∙ eqb-true u.0 v.0 q))))) behind) ∙ ap (has v) (sym is) ∙ n))
+      go false h = ap (without t.0)
+          (all v (sym (any-filter_same (λ (u : Txn). eqb u.0 v.0) (λ u. not (eqb u.0 t.0)) true (λ u q. ap not (ne_eqb u.0 t.0 (λ e. both_ways _ h (eq-eqb t.0 v.0 (sym e ∙ eqb-true u.0 v.0 q)))))
+          behind) ∙ ap (has v) (sym is) ∙ n))
 
 -- t is still to be taken out of the lists of some, which then leaves the lists a
 pub record IsTaking (t : ℕ) (us rest : List Txn) (a b : Shown Txn Txn) : Type 0 where
@@ -109,7 +111,8 @@ module _ (p : Hold → Bool) (t : Txn) (hs : List Hold) where
   put_kept false q u xs h = h
 
   putting_more : (a b c : Shown Txn Txn) (i : ℕ) (d : Hold) (s o : Bool) → i < length hs → IsPutting p t hs (drop i hs) i s a b
-      → ((v : Txn) → values_in txn_cmp c v ≡ cond (eqb t.0 v.0) (cond (p (get_or hs i d)) (put_by number_of (get_or hs i d).txn (values_in txn_cmp b v)) (values_in txn_cmp b v)) (values_in txn_cmp b v)) → (IsFalse o → (v : Txn) → values_in txn_cmp c v ≡ values_in txn_cmp a v) → b.spare ≤ c.spare + 1
+      → ((v : Txn) → values_in txn_cmp c v ≡ cond (eqb t.0 v.0) (cond (p (get_or hs i d)) (put_by number_of (get_or hs i d).txn (values_in txn_cmp b v)) (values_in txn_cmp b v))
+      (values_in txn_cmp b v)) → (IsFalse o → (v : Txn) → values_in txn_cmp c v ≡ values_in txn_cmp a v) → b.spare ≤ c.spare + 1
       → IsPutting p t hs (drop (i + 1) hs) (i + 1) o a c
   putting_more a b c i d s o l was put none spare =
       let n : suc i ≡ i + 1 = omega arith in
@@ -132,8 +135,12 @@ module _ (p : Hold → Bool) (t : Txn) (hs : List Hold) where
       → ((v : Txn) → values_in txn_cmp c v ≡ cond (eqb t.0 v.0) (put_by number_of (get_or hs i d).txn (values_in txn_cmp b v)) (values_in txn_cmp b v)) → b.spare ≤ c.spare + 1
       → IsPutting p t hs (drop (i + 1) hs) (i + 1) true a c
   putting_in a b c i d s l was q put spare = putting_more a b c i d s true l was
-      (λ v. put v ∙ sym (ap (λ (o : Bool). cond (eqb t.0 v.0) (cond o (put_by number_of (get_or hs i d).txn (values_in txn_cmp b v)) (values_in txn_cmp b v)) (values_in txn_cmp b v)) q)) (λ n. absurd (cc)) spare
+      (λ v. put v ∙ sym (ap (λ (o : Bool). cond (eqb t.0 v.0) (cond o (put_by number_of (get_or hs i d).txn (values_in txn_cmp b v)) (values_in txn_cmp b v)) (values_in txn_cmp b v)) q))
+      (λ n. absurd (cc)) spare
 
-  pub putting_none : (a b : Shown Txn Txn) (i : ℕ) (d : Hold) (s : Bool) → i < length hs → IsPutting p t hs (drop i hs) i s a b → p (get_or hs i d) ≡ false → IsPutting p t hs (drop (i + 1) hs) (i + 1) s a b
+  pub putting_none : (a b : Shown Txn Txn) (i : ℕ) (d : Hold) (s : Bool) → i < length hs → IsPutting p t hs (drop i hs) i s a b → p (get_or hs i d) ≡ false
+      → IsPutting p t hs (drop (i + 1) hs) (i + 1) s a b
   putting_none a b i d s l was q = putting_more a b b i d s s l was
-      (λ v. same (eqb t.0 v.0) (values_in txn_cmp b v) ∙ sym (ap (λ (o : Bool). cond (eqb t.0 v.0) (cond o (put_by number_of (get_or hs i d).txn (values_in txn_cmp b v)) (values_in txn_cmp b v)) (values_in txn_cmp b v)) q)) was.none (omega arith)
+      (λ v. same (eqb t.0 v.0) (values_in txn_cmp b v)
+      ∙ sym (ap (λ (o : Bool). cond (eqb t.0 v.0) (cond o (put_by number_of (get_or hs i d).txn (values_in txn_cmp b v)) (values_in txn_cmp b v)) (values_in txn_cmp b v)) q)) was.none
+      (omega arith)

@@ -136,7 +136,8 @@ module _ (S : Setup) (H : List Event) (n : ℕ) (e : Event) (i : H ≡ e ∷ dro
     ]
   ]
 
-pub stands_next : (S : Setup) (P H : List Event) (c c' : Pipeline) → c'.register.node.0 ≡ c.register.node.0 → c'.ranks ≡ c.ranks → PipelineStands c S P → Registered c'.register S H → CursorsOf c'.cursors.cursors S H
+pub stands_next : (S : Setup) (P H : List Event) (c c' : Pipeline) → c'.register.node.0 ≡ c.register.node.0 → c'.ranks ≡ c.ranks → PipelineStands c S P → Registered c'.register S H
+    → CursorsOf c'.cursors.cursors S H
     → PredecessorsOf c'.predecessors S H c'.register.node.0 → PipelineStands c' S H
 stands_next S P H c c' e r s h k p = record {
   kind = subst (λ (m : ℕ). (row S.tree m).control ≡ IsPipeline) (sym e) s.kind;

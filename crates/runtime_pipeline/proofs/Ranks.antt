@@ -75,12 +75,15 @@ all_from m (k ∷ kinds) f zero d l = f k.0 (inl refl)
 all_from m (k ∷ kinds) f (suc i) d l = all_from m kinds (λ j q. f j (inr q)) i d (omega arith)
 
 pub under_known : (S : Setup) (n m : ℕ) (kinds : List Kind) → S.types ≤ m → kind_numbers kinds ≡ filter (stands_under S.tree n) (below S.types) → All (λ (k : Kind). k.0 < m) kinds
-under_known S n m kinds l e = all_from m kinds (λ k i. let j = (filter-In (stands_under S.tree n) k (below S.types) (subst (λ (xs : List ℕ). In k xs) e i)).0 in let z = below-In S.types k j in omega arith)
+under_known S n m kinds l e = all_from m kinds (λ k i. let j = (filter-In (stands_under S.tree n) k (below S.types) (subst (λ (xs : List ℕ). In k xs) e i)).0 in let z = below-In S.types k j in
+    omega arith)
 
-pub ranks_are : (S : Setup) (n tables : ℕ) (kinds : List Kind) (ranks : List ℕ) → kind_numbers kinds ≡ filter (stands_under S.tree n) (below S.types) → tables ≡ above_profiles S.profiles → length ranks ≡ tables
+pub ranks_are : (S : Setup) (n tables : ℕ) (kinds : List Kind) (ranks : List ℕ) → kind_numbers kinds ≡ filter (stands_under S.tree n) (below S.types) → tables ≡ above_profiles S.profiles
+    → length ranks ≡ tables
     → ((a : ℕ) → a < tables → get_or ranks a 0 ≡ table_rank (profiles_of S.profiles kinds) tables a) → RanksOf ranks S n
 unfolding rank_of_table table_rank
 ranks_are S n tables kinds ranks e t l f a = elim (cases_lt a tables) [
   | inl b ↦ f a b ∙ (λ j. longest (under_profiles S n kinds e j) (t j) (t j) a)
-  | inr b ↦ get_or-eq_default ranks 0 (omega arith) ∙ sym (no_rank (profiles_under S n) (ranked_tables S) (ranked_tables S) a (let z = some_below S.profiles kinds in let y = ap above_profiles (under_profiles S n kinds e) in omega arith))
+  | inr b ↦ get_or-eq_default ranks 0 (omega arith)
+      ∙ sym (no_rank (profiles_under S n) (ranked_tables S) (ranked_tables S) a (let z = some_below S.profiles kinds in let y = ap above_profiles (under_profiles S n kinds e) in omega arith))
 ]

@@ -39,7 +39,8 @@ module _ (S : Setup) (H : List Event) (n t : ℕ) where
   finds_up p (u ∷ us) = go (is_ahead S H n t u) (p u) refl (finds_up p us)
     where
       go : (a b : Bool) → p u ≡ b → find (λ (u : Txn). p u.0) (map numbered (filter (is_ahead S H n t) us)) ≡ some_txn (find (λ u. is_ahead S H n t u && p u) us)
-          → find (λ (u : Txn). p u.0) (map numbered (cond a (u ∷ filter (is_ahead S H n t) us) (filter (is_ahead S H n t) us))) ≡ some_txn (cond (a && p u) (Some u) (find (λ u. is_ahead S H n t u && p u) us))
+          → find (λ (u : Txn). p u.0) (map numbered (cond a (u ∷ filter (is_ahead S H n t) us) (filter (is_ahead S H n t) us))) ≡ some_txn
+          (cond (a && p u) (Some u) (find (λ u. is_ahead S H n t u && p u) us))
       go true true e ih = rw e refl
       go true false e ih = rw e ih
       go false b e ih = ih
@@ -52,17 +53,21 @@ module _ (S : Setup) (H : List Event) (n t : ℕ) where
   ahead_at [] i d l = absurd (omega arith)
   ahead_at (u ∷ us) i d l = go (is_ahead S H n t u) refl i (ahead_at us) l
     where
-      go : (a : Bool) → is_ahead S H n t u ≡ a → (i : ℕ) → ((j : ℕ) (d : Txn) → j < length (map numbered (filter (is_ahead S H n t) us)) → unfinished H (get_or (map numbered (filter (is_ahead S H n t) us)) j d).0 ≡ true)
-          → i < length (map numbered (cond a (u ∷ filter (is_ahead S H n t) us) (filter (is_ahead S H n t) us))) → unfinished H (get_or (map numbered (cond a (u ∷ filter (is_ahead S H n t) us) (filter (is_ahead S H n t) us))) i d).0 ≡ true
+      go : (a : Bool) → is_ahead S H n t u ≡ a → (i : ℕ)
+          → ((j : ℕ) (d : Txn) → j < length (map numbered (filter (is_ahead S H n t) us)) → unfinished H (get_or (map numbered (filter (is_ahead S H n t) us)) j d).0 ≡ true)
+          → i < length (map numbered (cond a (u ∷ filter (is_ahead S H n t) us) (filter (is_ahead S H n t) us)))
+          → unfinished H (get_or (map numbered (cond a (u ∷ filter (is_ahead S H n t) us) (filter (is_ahead S H n t) us))) i d).0 ≡ true
       go true e zero ih l = ahead_unfinished S H n t u e
       go true e (suc j) ih l = ih j d (omega arith)
       go false e i ih l = ih i d l
 
 -- so it has begun, with a type of the tree
-pub ahead_typed : (f : Facts) (n t : ℕ) (us : List Txn) (i : ℕ) (d : Txn) → IsOrderly (setup_of f) (events_of f) → us ≡ before_in (setup_of f) (events_of f) n t → i < length us → IsTyped f (get_or us i d).0
+pub ahead_typed : (f : Facts) (n t : ℕ) (us : List Txn) (i : ℕ) (d : Txn) → IsOrderly (setup_of f) (events_of f) → us ≡ before_in (setup_of f) (events_of f) n t → i < length us
+    → IsTyped f (get_or us i d).0
 ahead_typed f n t us i d o e l =
     let there : i < length (before_in (setup_of f) (events_of f) n t) = omega (arith, ap (λ (l : List Txn). length l) e) in
-    let open_ : unfinished (events_of f) (get_or us i d).0 ≡ true = ap (λ (l : List Txn). unfinished (events_of f) (get_or l i d).0) e ∙ ahead_at (setup_of f) (events_of f) n t (txns (events_of f)) i d there in
+    let open_ : unfinished (events_of f) (get_or us i d).0 ≡ true = ap (λ (l : List Txn). unfinished (events_of f) (get_or l i d).0) e
+    ∙ ahead_at (setup_of f) (events_of f) n t (txns (events_of f)) i d there in
     let b = unfinished_begun (events_of f) (get_or us i d).0 open_ in
     record { begun = b; kind = o.typed (get_or us i d).0 b }
 
@@ -70,8 +75,10 @@ ahead_typed f n t us i d o e l =
 abbrev pub stops : Setup → List Event → ℕ → ℕ → Bool → ℕ → Hold → Bool
 stops S H n t write k h = in_the_way S H n t write h && not (passed S H n h.txn.0 k)
 
-pub first_stop : (S : Setup) (H : List Event) (n t : ℕ) (x : Cell) (write : Bool) (k : ℕ) → holder (find (stops S H n t write k) (holds_in S H n x)) ≡ some_txn (find (λ u. blocks S H n t x write u && not (passed S H n u k)) (txns H))
-first_stop S H n t x write k = found_among_holders S H n x (λ u. blocks S H n t x write u && not (passed S H n u k)) (stops S H n t write k) (λ u h. blocks_holds S H n t x write u (and_parts _ _ h).0) (λ u h. ap (λ (b : Bool). b && not (passed S H n u k)) (blocks_held S H n t x write u h))
+pub first_stop : (S : Setup) (H : List Event) (n t : ℕ) (x : Cell) (write : Bool) (k : ℕ) → holder (find (stops S H n t write k) (holds_in S H n x)) ≡ some_txn
+    (find (λ u. blocks S H n t x write u && not (passed S H n u k)) (txns H))
+first_stop S H n t x write k = found_among_holders S H n x (λ u. blocks S H n t x write u && not (passed S H n u k)) (stops S H n t write k) (λ u h. blocks_holds S H n t x write u (and_parts _ _ h).0)
+    (λ u h. ap (λ (b : Bool). b && not (passed S H n u k)) (blocks_held S H n t x write u h))
 
 waits : (o : Option ℕ) → wait_for_txn (some_txn o) ≡ wait_for o
 waits None = refl
@@ -102,29 +109,37 @@ module _ (S : Setup) (H : List Event) (n : ℕ) (is : (row S.tree n).control ≡
   unfolding entry_blocks
   enters_none t x e = (λ j. find (λ u. e j && unfinished H u && meets S H n t u && earlier H u t && not (passed S H n u (rank_of_table S n x.table.0))) (txns H)) ∙ nobody (txns H)
 
-  enters_up : (t : ℕ) (x : Cell) → ltb (rank_of_step S n (kind_of H t) (cursor S H t)) (rank_of_table S n x.table.0) ≡ true → find (entry_blocks S H n t x) (txns H) ≡ find (holds_up S H n t (Some (rank_of_table S n x.table.0))) (txns H)
+  enters_up : (t : ℕ) (x : Cell) → ltb (rank_of_step S n (kind_of H t) (cursor S H t)) (rank_of_table S n x.table.0) ≡ true
+      → find (entry_blocks S H n t x) (txns H) ≡ find (holds_up S H n t (Some (rank_of_table S n x.table.0))) (txns H)
   unfolding entry_blocks
   enters_up t x e = λ j. find (λ u. e j && unfinished H u && meets S H n t u && earlier H u t && not (passed S H n u (rank_of_table S n x.table.0))) (txns H)
 
-  said : (t : ℕ) (x : Cell) (write : Bool) → on_access (row S.tree n).control S H n t x write ≡ or_else (wait_for (find (entry_blocks S H n t x) (txns H))) (wait_for (find (λ u. blocks S H n t x write u && not (passed S H n u (rank_of_table S n x.table.0))) (txns H)))
+  said : (t : ℕ) (x : Cell) (write : Bool) → on_access (row S.tree n).control S H n t x write ≡ or_else (wait_for (find (entry_blocks S H n t x) (txns H)))
+      (wait_for (find (λ u. blocks S H n t x write u && not (passed S H n u (rank_of_table S n x.table.0))) (txns H)))
   unfolding on_access
   said t x write = rw is refl
 
   -- an access that enters no step of a greater rank
   pub access_stays : (t : ℕ) (x : Cell) (write : Bool) → ltb (rank_of_step S n (kind_of H t) (cursor S H t)) (rank_of_table S n x.table.0) ≡ false
       → wait_for_txn (some_txn (find (λ u. blocks S H n t x write u && not (passed S H n u (rank_of_table S n x.table.0))) (txns H))) ≡ on_access (row S.tree n).control S H n t x write
-  access_stays t x write e = waits _ ∙ sym (said t x write ∙ ap (λ (o : Option ℕ). or_else (wait_for o) (wait_for (find (λ u. blocks S H n t x write u && not (passed S H n u (rank_of_table S n x.table.0))) (txns H)))) (enters_none t x e))
+  access_stays t x write e = waits _
+      ∙ sym (said t x write ∙ ap (λ (o : Option ℕ). or_else (wait_for o) (wait_for (find (λ u. blocks S H n t x write u && not (passed S H n u (rank_of_table S n x.table.0))) (txns H))))
+      (enters_none t x e))
 
   -- one that does: where nobody holds it up, and where somebody does
-  pub access_enters : (t : ℕ) (x : Cell) (write : Bool) → ltb (rank_of_step S n (kind_of H t) (cursor S H t)) (rank_of_table S n x.table.0) ≡ true → None ≡ some_txn (find (holds_up S H n t (Some (rank_of_table S n x.table.0))) (txns H))
+  pub access_enters : (t : ℕ) (x : Cell) (write : Bool) → ltb (rank_of_step S n (kind_of H t) (cursor S H t)) (rank_of_table S n x.table.0) ≡ true
+      → None ≡ some_txn (find (holds_up S H n t (Some (rank_of_table S n x.table.0))) (txns H))
       → wait_for_txn (some_txn (find (λ u. blocks S H n t x write u && not (passed S H n u (rank_of_table S n x.table.0))) (txns H))) ≡ on_access (row S.tree n).control S H n t x write
-  access_enters t x write e f = waits _ ∙ sym (said t x write ∙ ap (λ (o : Option ℕ). or_else (wait_for o) (wait_for (find (λ u. blocks S H n t x write u && not (passed S H n u (rank_of_table S n x.table.0))) (txns H)))) (enters_up t x e ∙ none_is _ f))
+  access_enters t x write e f = waits _
+      ∙ sym (said t x write ∙ ap (λ (o : Option ℕ). or_else (wait_for o) (wait_for (find (λ u. blocks S H n t x write u && not (passed S H n u (rank_of_table S n x.table.0))) (txns H))))
+      (enters_up t x e ∙ none_is _ f))
     where
       none_is : (o : Option ℕ) → None ≡ some_txn o → o ≡ None
       none_is None q = refl
       none_is (Some u) q = absurd (cc)
 
-  pub access_held : (t : ℕ) (x : Cell) (write : Bool) (u : Txn) → ltb (rank_of_step S n (kind_of H t) (cursor S H t)) (rank_of_table S n x.table.0) ≡ true → Some u ≡ some_txn (find (holds_up S H n t (Some (rank_of_table S n x.table.0))) (txns H))
+  pub access_held : (t : ℕ) (x : Cell) (write : Bool) (u : Txn) → ltb (rank_of_step S n (kind_of H t) (cursor S H t)) (rank_of_table S n x.table.0) ≡ true
+      → Some u ≡ some_txn (find (holds_up S H n t (Some (rank_of_table S n x.table.0))) (txns H))
       → Wait u ≡ on_access (row S.tree n).control S H n t x write
   access_held t x write u e f = go (find (holds_up S H n t (Some (rank_of_table S n x.table.0))) (txns H)) (enters_up t x e) f
     where
@@ -132,7 +147,8 @@ module _ (S : Setup) (H : List Event) (n : ℕ) (is : (row S.tree n).control ≡
       go None q f = absurd (cc)
       go (Some v) q f =
           let same : u ≡ record { 0 = v } = cc in
-          ap Wait same ∙ sym (said t x write ∙ ap (λ (o : Option ℕ). or_else (wait_for o) (wait_for (find (λ u. blocks S H n t x write u && not (passed S H n u (rank_of_table S n x.table.0))) (txns H)))) q)
+          ap Wait same ∙ sym (said t x write
+          ∙ ap (λ (o : Option ℕ). or_else (wait_for o) (wait_for (find (λ u. blocks S H n t x write u && not (passed S H n u (rank_of_table S n x.table.0))) (txns H)))) q)
 
 -- whoever has begun has a cursor
 pub has_cursor : (cs : List ℕ) (S : Setup) (H : List Event) (u : ℕ) → IsOrderly S H → CursorsOf cs S H → IsTrue (begun H u) → (0 < u) × (u ≤ length cs)

@@ -20,7 +20,8 @@ climb_lower T m (suc d) n l = go (row T n).parent (λ p. climb_lower T m d p)
     go : (o : Option ℕ) → ((p : ℕ) (l : List ℕ) → among m (climb T d p l) ≡ (among m (climb T d p []) || among m l))
         → among m (elim o as (λ z. List ℕ) [ None ↦ n ∷ l | Some p ↦ climb T d p (n ∷ l) ]) ≡ (among m (elim o as (λ z. List ℕ) [ None ↦ n ∷ [] | Some p ↦ climb T d p (n ∷ []) ]) || among m l)
     go None ih = or_assoc (eqb n m) false (among m l)
-    go (Some p) ih = ih p (n ∷ l) ∙ or_assoc (among m (climb T d p [])) (eqb n m) (among m l) ∙ ap (λ (b : Bool). b || among m l) (ap (λ (b : Bool). among m (climb T d p []) || b) (sym (or_false (eqb n m))) ∙ sym (ih p (n ∷ [])))
+    go (Some p) ih = ih p (n ∷ l) ∙ or_assoc (among m (climb T d p [])) (eqb n m) (among m l)
+        ∙ ap (λ (b : Bool). b || among m l) (ap (λ (b : Bool). among m (climb T d p []) || b) (sym (or_false (eqb n m))) ∙ sym (ih p (n ∷ [])))
 
 -- one step up from a node that is not m
 pub climb_stops : (T : List NodeRow) (m d n : ℕ) → eqb n m ≡ false → d ≡ 0 → among m (climb T d n []) ≡ false
@@ -71,7 +72,8 @@ filter_append : (p : ℕ → Bool) (xs : List ℕ) (y : ℕ) → filter p (xs ++
 filter_append p [] y = refl
 filter_append p (x ∷ xs) y = go (p x) (filter_append p xs y)
   where
-    go : (b : Bool) → filter p (xs ++ y ∷ []) ≡ filter p xs ++ cond (p y) (y ∷ []) [] → cond b (x ∷ filter p (xs ++ y ∷ [])) (filter p (xs ++ y ∷ [])) ≡ cond b (x ∷ filter p xs) (filter p xs) ++ cond (p y) (y ∷ []) []
+    go : (b : Bool) → filter p (xs ++ y ∷ []) ≡ filter p xs ++ cond (p y) (y ∷ []) [] → cond b (x ∷ filter p (xs ++ y ∷ [])) (filter p (xs ++ y ∷ [])) ≡ cond b (x ∷ filter p xs) (filter p xs)
+        ++ cond (p y) (y ∷ []) []
     go true ih = ap (λ (l : List ℕ). x ∷ l) ih
     go false ih = ih
 

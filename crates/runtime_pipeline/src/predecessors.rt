@@ -136,7 +136,8 @@ impl Predecessors {
         requires ascending { IsAscendingBy number_of (list_of self.old t) }
         requires typed { IsTyped facts.now t.0 }
         requires holders { (i : ℕ) (d : Hold) → i < length holds.now → IsTyped facts.now (get_or holds.now i d).txn.0 }
-        ensures lists { (v : Txn) → list_of self.new v ≡ cond (eqb t.0 v.0) (joined (in_the_way (setup_of facts.now) (events_of facts.now) node.0 t.0 write) holds.now (list_of self.old v)) (list_of self.old v) }
+        ensures lists { (v : Txn) → list_of self.new v ≡ cond (eqb t.0 v.0) (joined (in_the_way (setup_of facts.now) (events_of facts.now) node.0 t.0 write) holds.now (list_of self.old v))
+            (list_of self.old v) }
         ensures unfinished { self.new.unfinished ≡ self.old.unfinished }
         ensures spare { self.old.spare ≤ self.new.spare + 1 }
     {
@@ -186,7 +187,8 @@ fn put_holders(
     requires ascending { IsAscendingBy number_of (values_in txn_cmp lists.old t) }
     requires typed { IsTyped facts.now t.0 }
     requires holders { (i : ℕ) (d : Hold) → i < length holds.now → IsTyped facts.now (get_or holds.now i d).txn.0 }
-    ensures values { (v : Txn) → values_in txn_cmp lists.new v ≡ cond (eqb t.0 v.0) (joined (in_the_way (setup_of facts.now) (events_of facts.now) node.0 t.0 write) holds.now (values_in txn_cmp lists.old v)) (values_in txn_cmp lists.old v) }
+    ensures values { (v : Txn) → values_in txn_cmp lists.new v ≡ cond (eqb t.0 v.0)
+        (joined (in_the_way (setup_of facts.now) (events_of facts.now) node.0 t.0 write) holds.now (values_in txn_cmp lists.old v)) (values_in txn_cmp lists.old v) }
     ensures none { IsFalse result → (v : Txn) → values_in txn_cmp lists.new v ≡ values_in txn_cmp lists.old v }
     ensures spare { lists.old.spare ≤ lists.new.spare + length holds.now }
 {

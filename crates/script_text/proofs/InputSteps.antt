@@ -69,7 +69,8 @@ module _ (bytes rest : List ℕ) (at n : ℕ) (so_far : parts_of bytes ≡ behin
 
   pub turn_found : (tail : List ℕ) → n ≤ length rest → is_separator (take n rest) ≡ true → tail ≡ drop (n + 1) rest → Some (take at bytes, tail) ≡ parts_of bytes
   turn_found tail within is_one is =
-      sym (here ∙ ap (behind (take at bytes)) (found rest n line within is_one) ∙ ap (λ (l : List ℕ). Some (l, drop (n + 1) rest)) (append-nil (take at bytes)) ∙ ap (λ (l : List ℕ). Some (take at bytes, l)) (sym is))
+      sym (here ∙ ap (behind (take at bytes)) (found rest n line within is_one) ∙ ap (λ (l : List ℕ). Some (l, drop (n + 1) rest)) (append-nil (take at bytes))
+      ∙ ap (λ (l : List ℕ). Some (take at bytes, l)) (sym is))
 
   pub turn_none : length rest ≤ n → is_separator (take n rest) ≡ false → None ≡ parts_of bytes
   turn_none end isnt = sym (here ∙ ap (behind (take at bytes)) (none_left rest n line end isnt))

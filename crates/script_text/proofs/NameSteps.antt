@@ -23,7 +23,8 @@ module _ (names : List (List ℕ)) where
   unfolding AreNumbered
   none_numbered i some = absurd (omega (arith, some, all_empty i))
 
-  pub numbered_more : (xs : List (Bor (List ℕ))) (n : ℕ) (w : Bor (List ℕ)) → n < length xs → AreNumbered names (nows xs) → is_name w.now ≡ true → number_of names w.now ≡ Some n → AreNumbered names (nows (set xs n w))
+  pub numbered_more : (xs : List (Bor (List ℕ))) (n : ℕ) (w : Bor (List ℕ)) → n < length xs → AreNumbered names (nows xs) → is_name w.now ≡ true → number_of names w.now ≡ Some n
+      → AreNumbered names (nows (set xs n w))
   unfolding AreNumbered
   numbered_more xs n w h known name number i some = elim (cases_eq i n) [ inl same ↦ at_it same | inr other ↦ beside other ]
     where
@@ -32,7 +33,8 @@ module _ (names : List (List ℕ)) where
 
       at_it : i ≡ n → (is_name (get_or (nows (set xs n w)) i []) ≡ true) × (number_of names (get_or (nows (set xs n w)) i []) ≡ Some i)
       at_it same =
-          let here : get_or (nows (set xs n w)) i [] ≡ w.now = moved ∙ ap (λ k. get_or (set (nows xs) n w.now) k []) same ∙ get_or-set_same (nows xs) n w.now [] (omega (arith, h, length-map xs (λ (x : Bor (List ℕ)). x.now))) in
+          let here : get_or (nows (set xs n w)) i [] ≡ w.now = moved ∙ ap (λ k. get_or (set (nows xs) n w.now) k []) same
+          ∙ get_or-set_same (nows xs) n w.now [] (omega (arith, h, length-map xs (λ (x : Bor (List ℕ)). x.now))) in
           rw (here) (name, number ∙ ap Some (sym same))
 
       beside : (i ≡ n → ⊥) → (is_name (get_or (nows (set xs n w)) i []) ≡ true) × (number_of names (get_or (nows (set xs n w)) i []) ≡ Some i)

@@ -52,7 +52,8 @@ session_ok w s e = go (number_from_one SESSIONS w) refl e
   where
     go : (o : Option ℕ) → number_from_one SESSIONS w ≡ o → (ok_or o why.Session >>= (λ (n : ℕ). Ok (record { 0 = n }))) ≡ Ok s → IsSession s.0
     go None q f = absurd (cc)
-    go (Some n) q f = let z : n ≡ s.0 = (let k : record { 0 = n } ≡ s = cc in ap (λ (x : Session). x.0) k) in let y = from_one (number_upto SESSIONS w) SESSIONS n q (λ k h. upto w SESSIONS k h) in (omega arith, omega arith)
+    go (Some n) q f = let z : n ≡ s.0 = (let k : record { 0 = n } ≡ s = cc in ap (λ (x : Session). x.0) k) in let y = from_one (number_upto SESSIONS w) SESSIONS n q (λ k h. upto w SESSIONS k h) in
+        (omega arith, omega arith)
 
 module _ (names : NameBook) (format : ℕ) where
   line_session : (n : ℕ) (ws : List (List ℕ)) (l : Line) → line_in names format n ws ≡ Ok (Some l) → IsSession l.session.0
@@ -60,7 +61,8 @@ module _ (names : NameBook) (format : ℕ) where
   line_session n [] l e = absurd (let z : None ≡ Some l = cc in cc)
   line_session n (w ∷ ws) l e = go (slice_index w 0 == 35) e
     where
-      go : (b : Bool) → (if b then Ok None else (session_at w >>= (λ s. after_session names format ws >>= (λ r. Ok (Some (record { number = n; session = s; request = r })))))) ≡ Ok (Some l) → IsSession l.session.0
+      go : (b : Bool) → (if b then Ok None else (session_at w >>= (λ s. after_session names format ws >>= (λ r. Ok (Some (record { number = n; session = s; request = r })))))) ≡ Ok (Some l)
+          → IsSession l.session.0
       go true f = absurd (let z : None ≡ Some l = cc in cc)
       go false f =
           let a = bind_ok (session_at w) (λ (s : Session). after_session names format ws >>= (λ r. Ok (Some (record { number = n; session = s; request = r })))) (Some l) f in

@@ -116,7 +116,8 @@ module _ (line : List ℕ) (at start stop : ℕ) (first : start ≡ at + positio
       let inside : n ≡ 0 → ⊥ = λ none. omega (arith, h, length-drop start line, ap length (sym here ∙ none_inside (drop at line) (ap (position_or_len is_blank) here ∙ none))) in
       let some : (length (take n (without_blanks (drop at line))) == 0) ≡ false = rw (here, long) (ne_eqb n 0 inside) in
       let width : stop - start ≡ n = omega (arith, last) in
-      word_next (drop at line) n (ap (position_or_len is_blank) (sym here)) some ∙ ap₂ (λ w l. w ∷ words_of l) (ap (take n) here ∙ ap (λ k. take k (drop start line)) (sym width)) (ap (drop n) here ∙ left)
+      word_next (drop at line) n (ap (position_or_len is_blank) (sym here)) some ∙ ap₂ (λ w l. w ∷ words_of l) (ap (take n) here ∙ ap (λ k. take k (drop start line)) (sym width))
+      (ap (drop n) here ∙ left)
 
 abbrev Texts : Type 0
 Texts = List (Bor (List ℕ))

@@ -13,7 +13,8 @@ line_at (l ∷ ls) i h = l
 
 -- what is left of a script at a line of it, and behind its last line
 pub rest_at : (lines : List Line) (i : ℕ) (d : Line) → i < length lines → drop i (requests_on lines) ≡ (get_or lines i d).request ∷ drop (i + 1) (requests_on lines)
-rest_at lines i d h = drop-map (λ (l : Line). l.request) i lines ∙ ap requests_on (drop_more lines i d h) ∙ ap (λ (rs : List Request). (get_or lines i d).request ∷ rs) (sym (drop-map (λ (l : Line). l.request) (i + 1) lines))
+rest_at lines i d h = drop-map (λ (l : Line). l.request) i lines ∙ ap requests_on (drop_more lines i d h) ∙ ap (λ (rs : List Request). (get_or lines i d).request ∷ rs)
+    (sym (drop-map (λ (l : Line). l.request) (i + 1) lines))
 
 -- what is asked there
 pub asks_line : (lines : List Line) (i : ℕ) (b : Option ℕ) (d : Line) → i < length lines → asks (state_at (requests_on lines) i b) ≡ Some (get_or lines i d).request
@@ -29,7 +30,8 @@ enters l r rs b e = rw e refl
 pub leaves : (l : List Request) (r : Request) (rs : List Request) (b : Option (List Request)) → l ≡ r ∷ rs → moved l b Leaves ≡ record { rest = rs; begun = None }
 leaves l r rs b e = rw e refl
 
-pub returns_to : (lines : List Request) (i : ℕ) (r : Request) (rs : List Request) (b : Option ℕ) → drop i lines ≡ r ∷ rs → moved (drop i lines) (lines_from lines b) Returns ≡ state_at lines (unwrap_or b i) None
+pub returns_to : (lines : List Request) (i : ℕ) (r : Request) (rs : List Request) (b : Option ℕ) → drop i lines ≡ r ∷ rs → moved (drop i lines) (lines_from lines b) Returns ≡ state_at lines
+    (unwrap_or b i) None
 returns_to lines i r rs None e = rw e refl
 returns_to lines i r rs (Some j) e = rw e refl
 

@@ -120,7 +120,10 @@ twice false k e z h = absurd (cc)
 distinct_count : (us : List ℕ) → ((t : ℕ) → count t us ≤ 1) → Distinct us
 unfolding count
 distinct_count [] f = tt
-distinct_count (u ∷ us) f = ((λ t i q. twice (eqb u u) (count u us) (eq-eqb u u refl) (In-count u us (subst (λ (k : ℕ). In k us) (sym q) i)) (f u)), distinct_count us (λ t. less_one (eqb u t) (count t us) (f t)))
+distinct_count (u ∷ us) f = (
+  (λ t i q. twice (eqb u u) (count u us) (eq-eqb u u refl) (In-count u us (subst (λ (k : ℕ). In k us) (sym q) i)) (f u)),
+  distinct_count us (λ t. less_one (eqb u t) (count t us) (f t)),
+)
 
 count_moved : (t : ℕ) (us ws : List ℕ) → IsPermutation us ws → count t ws ≡ count t us
 count_moved t us ws m = count_sum t ws ∙ sum_by-IsPermutation (hits t) us ws m ∙ sym (count_sum t us)
@@ -169,7 +172,8 @@ pairs_numbers R (e ∷ es) f = (
 )
 
 -- entries with their keys, sorted by std
-module _ (S : Setup) (a : TreeFacts S) (H : List Event) (l : Lawful S H) (ns : List ℕ) (es : List Entry) (done : All (λ (e : Entry). Commits H e.txn.0) es) (have : HaveKeys S H ns es) (up : IsSortedBy (λ d e. is_lt (slice_cmp nat_cmp (key_of ns d) (key_of ns e))) es) where
+module _ (S : Setup) (a : TreeFacts S) (H : List Event) (l : Lawful S H) (ns : List ℕ) (es : List Entry) (done : All (λ (e : Entry). Commits H e.txn.0) es) (have : HaveKeys S H ns es)
+    (up : IsSortedBy (λ d e. is_lt (slice_cmp nat_cmp (key_of ns d) (key_of ns e))) es) where
   later : (i j : ℕ) (d : Entry) → i < j → j < length es → serially S H (get_or es j d).txn.0 (get_or es i d).txn.0 ≡ false
   later i j d h k =
       let e = get_or es j d in
@@ -187,13 +191,15 @@ number_there [] k d low = absurd (omega arith)
 number_there (e ∷ es) zero d low = inl refl
 number_there (e ∷ es) (suc k) d low = inr (number_there es k d (omega arith))
 
-pub entries_ordered : (S : Setup) (a : TreeFacts S) (H : List Event) → Lawful S H → (ns : List ℕ) (xs es : List Entry) → entry_numbers xs ≡ commits_in (reverse H) → HaveKeys S H ns xs → IsPermutation xs es →
+pub entries_ordered : (S : Setup) (a : TreeFacts S) (H : List Event) → Lawful S H → (ns : List ℕ) (xs es : List Entry) → entry_numbers xs ≡ commits_in (reverse H) → HaveKeys S H ns xs
+    → IsPermutation xs es →
     IsSortedBy (λ d e. is_lt (slice_cmp nat_cmp (key_of ns d) (key_of ns e))) es → entry_numbers es ≡ serial_order S H
 entries_ordered S a H l ns xs es numbers have m up =
     let all = numbers ∙ commits_walk H in
     let done : All (λ (e : Entry). Commits H e.txn.0) xs = λ k d low. committed-In H (get_or xs k d).txn.0 (subst (In (get_or xs k d).txn.0) all (number_there xs k d low)) in
     order_is S a H l (entry_numbers es) (subst (λ (us : List ℕ). IsPermutation us (entry_numbers es)) all (IsPermutation-map (λ (e : Entry). e.txn.0) xs es m))
-    (pairs_numbers (λ u t. serially S H t u ≡ false) es (λ i j d. later S a H l ns es (All-permutation (λ (e : Entry). Commits H e.txn.0) xs es m done) (All-permutation (HasKey S H ns) xs es m have) up i j d))
+    (pairs_numbers (λ u t. serially S H t u ≡ false) es
+    (λ i j d. later S a H l ns es (All-permutation (λ (e : Entry). Commits H e.txn.0) xs es m done) (All-permutation (HasKey S H ns) xs es m have) up i j d))
 
 -- one event more
 drop_there : (es : List Event) (i : ℕ) (e : Event) → slice_get es i ≡ Some e → drop i es ≡ e ∷ drop (i + 1) es
@@ -210,7 +216,8 @@ skip_commit (Ready t) es n = refl
 skip_commit (Gone t c) es n = refl
 skip_commit (Told t) es n = refl
 
-pub numbers_skip : (ns ts : List ℕ) (es : List Event) (i : ℕ) (e : Event) → slice_get es i ≡ Some e → ((t : Txn) → e ≡ Done t → ⊥) → ns ++ commits_in (drop i es) ≡ ts → ns ++ commits_in (drop (i + 1) es) ≡ ts
+pub numbers_skip : (ns ts : List ℕ) (es : List Event) (i : ℕ) (e : Event) → slice_get es i ≡ Some e → ((t : Txn) → e ≡ Done t → ⊥) → ns ++ commits_in (drop i es) ≡ ts → ns
+    ++ commits_in (drop (i + 1) es) ≡ ts
 numbers_skip ns ts es i e h n q = ap (λ (us : List ℕ). ns ++ us) (sym (ap commits_in (drop_there es i e h) ∙ skip_commit e (drop (i + 1) es) n)) ∙ q
 
 entries_append : (xs : List Entry) (e : Entry) → entry_numbers (xs ++ e ∷ []) ≡ entry_numbers xs ++ e.txn.0 ∷ []
@@ -221,7 +228,8 @@ one_by_one : (ns us : List ℕ) (t : ℕ) → (ns ++ t ∷ []) ++ us ≡ ns ++ (
 one_by_one [] us t = refl
 one_by_one (n ∷ ns) us t = ap (λ (ws : List ℕ). n ∷ ws) (one_by_one ns us t)
 
-pub numbers_more : (xs : List Entry) (n : Entry) (ts : List ℕ) (es : List Event) (i : ℕ) (t : Txn) → slice_get es i ≡ Some (Done t) → n.txn ≡ t → entry_numbers xs ++ commits_in (drop i es) ≡ ts → entry_numbers (xs ++ n ∷ []) ++ commits_in (drop (i + 1) es) ≡ ts
+pub numbers_more : (xs : List Entry) (n : Entry) (ts : List ℕ) (es : List Event) (i : ℕ) (t : Txn) → slice_get es i ≡ Some (Done t) → n.txn ≡ t → entry_numbers xs ++ commits_in (drop i es) ≡ ts
+    → entry_numbers (xs ++ n ∷ []) ++ commits_in (drop (i + 1) es) ≡ ts
 numbers_more xs n ts es i t h e q =
     ap (λ (us : List ℕ). us ++ commits_in (drop (i + 1) es)) (entries_append xs n) ∙ one_by_one (entry_numbers xs) (commits_in (drop (i + 1) es)) n.txn.0
     ∙ ap (λ (u : Txn). entry_numbers xs ++ (u.0 ∷ commits_in (drop (i + 1) es))) e

@@ -52,7 +52,8 @@ module _ (S : Setup) (a : TreeFacts S) where
   abbrev Alike : Spot → Spot → ℕ → ℕ → List ℕ → List ℕ → Type 0
   Alike k j t u xs ys = GoAlike (λ m. side_at S.tree m k t) (λ m. side_at S.tree m j u) xs ys
 
-  alike_from : (k j : Spot) (t u : ℕ) → k.kind.0 < S.types → j.kind.0 < S.types → (xs : List ℕ) (n : ℕ) (ls ms : List ℕ) → path S.tree k ≡ xs ++ n ∷ ls → path S.tree j ≡ xs ++ n ∷ ms → Alike k j t u (n ∷ ls) (n ∷ ms)
+  alike_from : (k j : Spot) (t u : ℕ) → k.kind.0 < S.types → j.kind.0 < S.types → (xs : List ℕ) (n : ℕ) (ls ms : List ℕ) → path S.tree k ≡ xs ++ n ∷ ls → path S.tree j ≡ xs ++ n ∷ ms
+      → Alike k j t u (n ∷ ls) (n ∷ ms)
   unfolding head_or
   alike_from k j t u hk hj xs n [] [] p q = (refl, λ e. tt)
   alike_from k j t u hk hj xs n [] (m ∷ ms) p q = (refl, λ e. no_child S a k j n m xs ms hk hj p q)

@@ -75,10 +75,12 @@ module _ (S : Setup) (H : List Event) (n : ℕ) (l : Lawful S H) where
   pub marks_same : (k : ℕ) (ms : List Bool) → AreMarked S H n (numbers k) ms → leads_out S H n (k + 1) ≡ false → AreMarked S H n (numbers (k + 1)) ms
   marks_same k ms m f = record {
     one_each = m.one_each;
-    marked = λ i lt. m.marked i lt ∙ sym (or_false (list_any (leads_from S H n i) (numbers k))) ∙ ap (λ (b : Bool). list_any (leads_from S H n i) (numbers k) || (b && eqb (start S H n (k + 1)) i)) (sym f) ∙ sym (any_next (leads_from S H n i) k);
+    marked = λ i lt. m.marked i lt ∙ sym (or_false (list_any (leads_from S H n i) (numbers k))) ∙ ap (λ (b : Bool). list_any (leads_from S H n i) (numbers k) || (b && eqb (start S H n (k + 1)) i))
+        (sym f) ∙ sym (any_next (leads_from S H n i) k);
   }
 
-  pub marks_more : (k : ℕ) (ms : List Bool) → AreMarked S H n (numbers k) ms → leads_out S H n (k + 1) ≡ true → start S H n (k + 1) < length ms → AreMarked S H n (numbers (k + 1)) (set ms (start S H n (k + 1)) true)
+  pub marks_more : (k : ℕ) (ms : List Bool) → AreMarked S H n (numbers k) ms → leads_out S H n (k + 1) ≡ true → start S H n (k + 1) < length ms
+      → AreMarked S H n (numbers (k + 1)) (set ms (start S H n (k + 1)) true)
   marks_more k ms m f low = record {
     one_each = length-set ms (start S H n (k + 1)) true ∙ m.one_each;
     marked = λ i lt. here i lt ∙ ap (λ (b : Bool). list_any (leads_from S H n i) (numbers k) || (b && eqb (start S H n (k + 1)) i)) (sym f) ∙ sym (any_next (leads_from S H n i) k);
@@ -86,8 +88,10 @@ module _ (S : Setup) (H : List Event) (n : ℕ) (l : Lawful S H) where
     where
       here : (i : ℕ) → i < length H → get_or (set ms (start S H n (k + 1)) true) i false ≡ (list_any (leads_from S H n i) (numbers k) || eqb (start S H n (k + 1)) i)
       here i lt = elim (cases_eq (start S H n (k + 1)) i) [
-        | inl e ↦ sym (ap (λ (j : ℕ). get_or (set ms (start S H n (k + 1)) true) j false) e) ∙ get_or-set_same ms (start S H n (k + 1)) true false low ∙ sym (or_right (list_any (leads_from S H n i) (numbers k)) _ (eq-eqb _ _ e))
-        | inr ne ↦ get_or-set_other ms (start S H n (k + 1)) i true false (λ e. ne (sym e)) ∙ m.marked i lt ∙ sym (or_false (list_any (leads_from S H n i) (numbers k))) ∙ ap (λ (b : Bool). list_any (leads_from S H n i) (numbers k) || b) (sym (ne_eqb _ _ ne))
+        | inl e ↦ sym (ap (λ (j : ℕ). get_or (set ms (start S H n (k + 1)) true) j false) e) ∙ get_or-set_same ms (start S H n (k + 1)) true false low
+            ∙ sym (or_right (list_any (leads_from S H n i) (numbers k)) _ (eq-eqb _ _ e))
+        | inr ne ↦ get_or-set_other ms (start S H n (k + 1)) i true false (λ e. ne (sym e)) ∙ m.marked i lt ∙ sym (or_false (list_any (leads_from S H n i) (numbers k)))
+            ∙ ap (λ (b : Bool). list_any (leads_from S H n i) (numbers k) || b) (sym (ne_eqb _ _ ne))
       ]
 
   -- who leads out is of the node, and its batch starts within the history

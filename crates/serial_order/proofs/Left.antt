@@ -41,7 +41,8 @@ untouched X H x f = ap (value_of X H x) (latest_nobody X.setup H x (filter (is_f
     both_ways _ (f u) (and_parts _ _ (filter-In (is_final H x) u (txns H) i).1).1))
 
 -- the cells that somebody has put are enough
-pub cells_enough : (X : Store) (H : List Event) (xs : List Cell) → IsStrictlySortedBy cell_cmp xs → ((x : Cell) → is_among x (cells_put (reverse H)) ≡ true → is_among x xs ≡ true) → AreCells (final_table X H) X.rows xs
+pub cells_enough : (X : Store) (H : List Event) (xs : List Cell) → IsStrictlySortedBy cell_cmp xs → ((x : Cell) → is_among x (cells_put (reverse H)) ≡ true → is_among x xs ≡ true)
+    → AreCells (final_table X H) X.rows xs
 cells_enough X H xs sorted all = record {
   ascending = sorted;
   all = λ x h. untouched X H x (λ w. not_wrote H x w (false_from_ne_true _ (λ put. both_ways _ h (all x put))));

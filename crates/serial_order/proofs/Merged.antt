@@ -183,7 +183,8 @@ module _ (left : Cell → Option ℤ) where
   rise_merged rs (x ∷ xs) h s =
       let high = above_merged x (rows_behind x rs) xs (behind_above x rs h) s.0 in
       let low = rise_merged (rows_behind x rs) xs (rise_behind x rs h) s.1 in
-      rise_append x (rows_before x rs) (row_before x (left x) (merged_rows left (rows_behind x rs) xs)) (rise_before x rs h) (first (left x) high low) (below_before x rs) (λ y l. second (left x) high y l)
+      rise_append x (rows_before x rs) (row_before x (left x) (merged_rows left (rows_behind x rs) xs)) (rise_before x rs h) (first (left x) high low) (below_before x rs)
+      (λ y l. second (left x) high y l)
     where
       first : (o : Option ℤ) → Above x (merged_rows left (rows_behind x rs) xs) → Rise (merged_rows left (rows_behind x rs) xs) → Rise (row_before x o (merged_rows left (rows_behind x rs) xs))
       first None m l = l
@@ -230,7 +231,8 @@ module _ (left : Cell → Option ℤ) where
       go false f m = ap (or_else (row_of (rows_before x rs) y)) (that (left x) f ∙ m) ∙ others (is_among y xs) refl f
 
   -- the merged rows tell what is left, where each other cell has its starting row
-  pub merged_left : (rs : List Row) (xs : List Cell) (y : Cell) → IsAscending rs → IsStrictlySortedBy cell_cmp xs → (is_among y xs ≡ false → left y ≡ row_of rs y) → row_of (merged_rows left rs xs) y ≡ left y
+  pub merged_left : (rs : List Row) (xs : List Cell) (y : Cell) → IsAscending rs → IsStrictlySortedBy cell_cmp xs → (is_among y xs ≡ false → left y ≡ row_of rs y)
+      → row_of (merged_rows left rs xs) y ≡ left y
   merged_left rs xs y h s others = merged_value rs xs y (rise rs h) s ∙ go (is_among y xs) refl
     where
       go : (b : Bool) → is_among y xs ≡ b → cond b (left y) (row_of rs y) ≡ left y

@@ -35,7 +35,8 @@ module _ (e : EngineModel) (h : IsOfEngine e) (ts : List Txn) (o : txn_numbers t
   began u c = let d = commits_from e.events u c in let z = commits e.store.setup e.events u lawful d in omega arith
 
   -- whose rank is the lesser one where the two meet
-  before : (u w : ℕ) → committed e.events u ≡ true → committed e.events w ≡ true → u ≢ w → ((n : ℕ) → meets e.store.setup e.events n u w ≡ true → rank e.store.setup e.events n u < rank e.store.setup e.events n w) → StandsBefore (txn_numbers ts) u w
+  before : (u w : ℕ) → committed e.events u ≡ true → committed e.events w ≡ true → u ≢ w
+      → ((n : ℕ) → meets e.store.setup e.events n u w ≡ true → rank e.store.setup e.events n u < rank e.store.setup e.events n w) → StandsBefore (txn_numbers ts) u w
   before u w cu cw ne f =
       let m = meets_exists e.store.setup (tree_facts e.store.setup h.sound) e.events u w lawful (began u cu) (began w cw) ne in
       (order_serializes e h ts o).nodes m.node u w cu cw m.meet (f m.node m.meet)

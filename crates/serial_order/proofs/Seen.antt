@@ -73,7 +73,8 @@ module _ (w : ℕ) (wide : 0 < w) where
         here true h = ap (λ (b : Bool). b || is_among (cell_at w i) (marked_cells w marks (suc i) n)) (same_itself (cell_at w i))
         here false h = absurd (cc)
 
-        behind : (b : Bool) → is_among (cell_at w p) (marked_cells w marks (suc i) n) ≡ true → is_among (cell_at w p) (cond b (cell_at w i ∷ marked_cells w marks (suc i) n) (marked_cells w marks (suc i) n)) ≡ true
+        behind : (b : Bool) → is_among (cell_at w p) (marked_cells w marks (suc i) n) ≡ true
+            → is_among (cell_at w p) (cond b (cell_at w i ∷ marked_cells w marks (suc i) n) (marked_cells w marks (suc i) n)) ≡ true
         behind true h = or_right _ _ h
         behind false h = h
 
@@ -137,7 +138,8 @@ only_marked s xs ok none e = record {
 }
 
 -- the marked cells and the others, sorted, and each once
-pub all_sorted : (s : SeenCells) (ms ps qs : List Cell) → IsSound s → ms ≡ marked_cells s.width s.marks.items 0 s.end → IsPermutation s.others.items ps → IsPermutation (ms ++ ps) qs → IsSorted cell_cmp qs
+pub all_sorted : (s : SeenCells) (ms ps qs : List Cell) → IsSound s → ms ≡ marked_cells s.width s.marks.items 0 s.end → IsPermutation s.others.items ps → IsPermutation (ms ++ ps) qs
+    → IsSorted cell_cmp qs
     → AreSeen s (dedup same_cell qs)
 all_sorted s ms ps qs ok e others both sorted = record {
   ascending = IsStrictlySortedBy-dedup cell_cmp_total same_cell-cell_cmp qs sorted;

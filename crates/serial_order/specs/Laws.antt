@@ -22,7 +22,9 @@ OfEveryOrder P = OfEveryEngine (λ e. (ts : List Txn) → txn_numbers ts ≡ ser
 
 -- of two committed transactions with conflicting accesses of x, the order has the one first whose access counts as the earlier one
 pub record KeepsConflicts (e : EngineModel) (order : List ℕ) : Type 0 where
-  pub writes : (u w : ℕ) (x : Cell) → IsTrue (committed e.events u) → IsTrue (committed e.events w) → u ≢ w → IsTrue (wrote e.events u x) → IsTrue (wrote e.events w x) → IsTrue (precedes e.store.setup e.events x u w) → StandsBefore order u w
+  pub writes : (u w : ℕ) (x : Cell) → IsTrue (committed e.events u) → IsTrue (committed e.events w) → u ≢ w → IsTrue (wrote e.events u x) → IsTrue (wrote e.events w x)
+      → IsTrue (precedes e.store.setup e.events x u w) → StandsBefore order u w
   pub reads : (u w : ℕ) (x : Cell) → IsTrue (committed e.events u) → IsTrue (committed e.events w) → u ≢ w → IsTrue (list_any (is_read w x u) e.events) → StandsBefore order u w
-  pub overwrites : (u w v : ℕ) (x : Cell) → IsTrue (committed e.events u) → IsTrue (committed e.events w) → u ≢ w → IsTrue (list_any (is_read u x v) e.events) → u ≢ v → IsTrue (wrote e.events w x) → IsTrue (precedes e.store.setup e.events x v w) → StandsBefore order u w
+  pub overwrites : (u w v : ℕ) (x : Cell) → IsTrue (committed e.events u) → IsTrue (committed e.events w) → u ≢ w → IsTrue (list_any (is_read u x v) e.events) → u ≢ v → IsTrue (wrote e.events w x)
+      → IsTrue (precedes e.store.setup e.events x v w) → StandsBefore order u w
   pub stable : ReadsAreStable e.store.setup e.events

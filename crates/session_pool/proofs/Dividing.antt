@@ -30,7 +30,8 @@ module _ {C : Type 0} {g : Ghosts C} (h : Hall C g) (scripts : Scripted) where
     pub tasks : All (IsTask h scripts) ts
     pub all : (weight : ℕ → ℕ) → total weight (map number_in ts) + total weight (scripted_of scripts (count_from (suc n) (SESSIONS - n))) ≡ total weight (count_from (suc n) (SESSIONS - n))
 
-  pub divided_first : (n : ℕ) (ps : List (Pass C g)) (ws : List (Waiting C g)) (ts : List (Task C g)) → n ≡ SESSIONS → map number_of ps ≡ numbers SESSIONS → All (IsNew h) ps → ws ≡ [] → ts ≡ [] → IsDivided n ps ws ts
+  pub divided_first : (n : ℕ) (ps : List (Pass C g)) (ws : List (Waiting C g)) (ts : List (Task C g)) → n ≡ SESSIONS → map number_of ps ≡ numbers SESSIONS → All (IsNew h) ps → ws ≡ [] → ts ≡ []
+      → IsDivided n ps ws ts
   divided_first n ps ws ts e s a w t = subst (λ (k : ℕ). IsDivided k ps ws ts) (sym e) record {
     few = omega arith;
     sessions = s;
@@ -48,7 +49,8 @@ module _ {C : Type 0} {g : Ghosts C} (h : Hall C g) (scripts : Scripted) where
   pub last_new : (n k : ℕ) (ps qs : List (Pass C g)) (p : Pass C g) (ws : List (Waiting C g)) (ts : List (Task C g)) → IsDivided n ps ws ts → ps ≡ qs ++ p ∷ [] → n ≡ suc k → IsNew h p
   last_new n k ps qs p ws ts d is e = (its_last n k ps qs p ws ts d is e).last_new
 
-  pub waits_on : (n k : ℕ) (ps qs : List (Pass C g)) (p : Pass C g) (s : Session) (ws vs : List (Waiting C g)) (ts : List (Task C g)) → IsDivided n ps ws ts → ps ≡ qs ++ p ∷ [] → n ≡ suc k → s ≡ p.session → is_some (place_in scripts s.0) ≡ true → vs ≡ record { session = s; pass = p } ∷ ws → IsDivided k qs vs ts
+  pub waits_on : (n k : ℕ) (ps qs : List (Pass C g)) (p : Pass C g) (s : Session) (ws vs : List (Waiting C g)) (ts : List (Task C g)) → IsDivided n ps ws ts → ps ≡ qs ++ p ∷ [] → n ≡ suc k
+      → s ≡ p.session → is_some (place_in scripts s.0) ≡ true → vs ≡ record { session = s; pass = p } ∷ ws → IsDivided k qs vs ts
   waits_on n k ps qs p s ws vs ts d is e same there to =
       let l = its_last n k ps qs p ws ts d is e in
       let few = d.few in
@@ -61,12 +63,14 @@ module _ {C : Type 0} {g : Ghosts C} (h : Hall C g) (scripts : Scripted) where
         waits = ap (map number_at) to ∙ ((λ i. number i ∷ d.waits i) ∙ sym next);
         fitting = subst (All (IsWaiting h)) (sym to) (All_cons (IsWaiting h) (record { session = s; pass = p }) ws record { new = l.last_new; session = sym same } d.fitting);
         tasks = d.tasks;
-        all = λ weight. (let a : total weight (scripted_of scripts (count_from (suc k) (SESSIONS - k))) ≡ weight (suc k) + total weight (scripted_of scripts (count_from (suc n) (SESSIONS - n))) = ap (total weight) next in
+        all = λ weight. (let a : total weight (scripted_of scripts (count_from (suc k) (SESSIONS - k))) ≡ weight (suc k) + total weight (scripted_of scripts (count_from (suc n) (SESSIONS - n))) = ap
+            (total weight) next in
             let b : total weight (count_from (suc k) (SESSIONS - k)) ≡ weight (suc k) + total weight (count_from (suc n) (SESSIONS - n)) = ap (total weight) more in
             let c = d.all weight in omega arith);
       }
 
-  pub idles_on : (n k : ℕ) (ps qs : List (Pass C g)) (p : Pass C g) (s : Session) (t : Task C g) (ws : List (Waiting C g)) (ts us : List (Task C g)) → IsDivided n ps ws ts → ps ≡ qs ++ p ∷ [] → n ≡ suc k → s ≡ p.session → is_some (place_in scripts s.0) ≡ false → IsTask h scripts t → t.pass.session ≡ p.session → us ≡ ts ++ t ∷ [] → IsDivided k qs ws us
+  pub idles_on : (n k : ℕ) (ps qs : List (Pass C g)) (p : Pass C g) (s : Session) (t : Task C g) (ws : List (Waiting C g)) (ts us : List (Task C g)) → IsDivided n ps ws ts → ps ≡ qs ++ p ∷ []
+      → n ≡ suc k → s ≡ p.session → is_some (place_in scripts s.0) ≡ false → IsTask h scripts t → t.pass.session ≡ p.session → us ≡ ts ++ t ∷ [] → IsDivided k qs ws us
   idles_on n k ps qs p s t ws ts us d is e same no_ task own to =
       let l = its_last n k ps qs p ws ts d is e in
       let few = d.few in
@@ -79,10 +83,12 @@ module _ {C : Type 0} {g : Ghosts C} (h : Hall C g) (scripts : Scripted) where
         waits = d.waits ∙ sym next;
         fitting = d.fitting;
         tasks = subst (All (IsTask h scripts)) (sym to) (All-push (IsTask h scripts) ts t d.tasks task);
-        all = λ weight. (let a : total weight (scripted_of scripts (count_from (suc k) (SESSIONS - k))) ≡ total weight (scripted_of scripts (count_from (suc n) (SESSIONS - n))) = ap (total weight) next in
+        all = λ weight. (let a : total weight (scripted_of scripts (count_from (suc k) (SESSIONS - k))) ≡ total weight (scripted_of scripts (count_from (suc n) (SESSIONS - n))) = ap
+            (total weight) next in
             let b : total weight (count_from (suc k) (SESSIONS - k)) ≡ weight (suc k) + total weight (count_from (suc n) (SESSIONS - n)) = ap (total weight) more in
             let m : number_in t ≡ suc k = ap (λ (z : Session). z.0) own ∙ l.last in
-            let f : total weight (map number_in us) ≡ total weight (map number_in ts ++ number_in t ∷ []) = ap (λ (vs : List (Task C g)). total weight (map number_in vs)) to ∙ ap (total weight) (map-append number_in ts (t ∷ [])) in
+            let f : total weight (map number_in us) ≡ total weight (map number_in ts ++ number_in t ∷ []) = ap (λ (vs : List (Task C g)). total weight (map number_in vs)) to
+            ∙ ap (total weight) (map-append number_in ts (t ∷ [])) in
             let i = total_append weight (map number_in ts) (number_in t ∷ []) in
             let j : weight (number_in t) ≡ weight (suc k) = ap weight m in
             let c = d.all weight in omega arith);

@@ -18,7 +18,8 @@ use Rattle.session_pool.proofs.Sums.{total_append, one, total_one, total_alone}
 use Rattle.session_pool.proofs.Risings.{rising_once, rising_snoc, rising_before, rising_left, merged_total, merged_rises}
 
 -- what holds of the new view and of the others holds of all
-each_set : (F : ℕ → Tally → Type 0) (views : List Tally) (port : ℕ) (w : Tally) → F port w → ((j : ℕ) (u : Tally) → j ≢ port → get_elem? views j ≡ some u → F j u) → (j : ℕ) (u : Tally) → get_elem? (set views port w) j ≡ some u → F j u
+each_set : (F : ℕ → Tally → Type 0) (views : List Tally) (port : ℕ) (w : Tally) → F port w → ((j : ℕ) (u : Tally) → j ≢ port → get_elem? views j ≡ some u → F j u) → (j : ℕ) (u : Tally)
+    → get_elem? (set views port w) j ≡ some u → F j u
 each_set F views port w mine others j u e = ⊎_elim (λ (x : (j ≡ port) × (w ≡ u)). subst (λ (y : ℕ × Tally). F y.0 y.1) (λ i. (sym x.0 i, x.1 i)) mine)
     (λ (x : (j ≢ port) × (get_elem? views j ≡ some u)). others j u x.0 x.1) (at_set views port j w u e)
 
@@ -94,7 +95,8 @@ module _ {T : Type 0} (numbers : List ℕ) (number : T → ℕ) (fits : T → Ty
       rising = h.rising;
       prefix = h.prefix ∙ sym (append_assoc h.popped (number x ∷ []) (map number items));
       fitting = λ k d l. h.fitting (suc k) d (omega arith);
-      shared = λ weight. (let s = total_set (λ (u : Tally). total weight u.taken) views port v w at in let a = total_append weight v.taken (number x ∷ []) in let b = total_append weight h.popped (number x ∷ []) in let t = h.shared weight in omega arith);
+      shared = λ weight. (let s = total_set (λ (u : Tally). total weight u.taken) views port v w at in let a = total_append weight v.taken (number x ∷ []) in
+          let b = total_append weight h.popped (number x ∷ []) in let t = h.shared weight in omega arith);
       whole = (let s = total_set (λ (u : Tally). u.parts) views port v w at in let t = h.whole in omega arith);
       each = each_set (IsTally h.writer h.pushed) views port w
           record { rising = up; alone = mine.alone; counts = mine.counts; idle = λ z. absurd (omega arith) }
@@ -133,9 +135,11 @@ module _ {T : Type 0} (numbers : List ℕ) (number : T → ℕ) (fits : T → Ty
     rising = h.rising;
     prefix = h.prefix;
     fitting = h.fitting;
-    shared = λ weight. (let s = total_set (λ (u : Tally). total weight u.taken) views port v l at in let t = total_snoc (λ (u : Tally). total weight u.taken) vs new_tally in let o = h.shared weight in omega arith);
+    shared = λ weight. (let s = total_set (λ (u : Tally). total weight u.taken) views port v l at in let t = total_snoc (λ (u : Tally). total weight u.taken) vs new_tally in let o = h.shared weight in
+        omega arith);
     whole = (let s = total_set (λ (u : Tally). u.parts) views port v l at in let t = total_snoc (λ (u : Tally). u.parts) vs new_tally in let o = h.whole in omega arith);
-    each = λ j u e. ⊎_elim (λ (there : get_elem? vs j ≡ some u). old j u there) (λ (is : new_tally ≡ u). subst (IsTally h.writer h.pushed j) is (idle_tally h.writer h.pushed j new_tally refl refl)) (at_snoc vs new_tally u j e);
+    each = λ j u e. ⊎_elim (λ (there : get_elem? vs j ≡ some u). old j u there) (λ (is : new_tally ≡ u). subst (IsTally h.writer h.pushed j) is (idle_tally h.writer h.pushed j new_tally refl refl))
+        (at_snoc vs new_tally u j e);
   }
     where
       l : Tally
@@ -160,7 +164,8 @@ module _ {T : Type 0} (numbers : List ℕ) (number : T → ℕ) (fits : T → Ty
     rising = h.rising;
     prefix = h.prefix;
     fitting = h.fitting;
-    shared = λ weight. (let s = total_set (λ (y : Tally). total weight y.taken) views port v both at in let t = total_set (λ (y : Tally). total weight y.taken) vs other u spent_tally at' in let m = merged_total weight v.taken u.taken in let o = h.shared weight in omega arith);
+    shared = λ weight. (let s = total_set (λ (y : Tally). total weight y.taken) views port v both at in let t = total_set (λ (y : Tally). total weight y.taken) vs other u spent_tally at' in
+        let m = merged_total weight v.taken u.taken in let o = h.shared weight in omega arith);
     whole = (let s = total_set (λ (y : Tally). y.parts) views port v both at in let t = total_set (λ (y : Tally). y.parts) vs other u spent_tally at' in let o = h.whole in omega arith);
     each = each_set (IsTally h.writer h.pushed) vs other spent_tally (idle_tally h.writer h.pushed other spent_tally refl refl) (λ j y n e. now j y e);
   }
@@ -200,7 +205,9 @@ module _ {T : Type 0} (numbers : List ℕ) (number : T → ℕ) (fits : T → Ty
   -- what the only token learns
   pub learns_rest : (port : ℕ) (v : Tally) → v.parts ≡ 256 → v.pushes ≡ true → Learns H port v (IsRest numbers number v)
   learns_rest port v all may items views h at weight =
-      let a : total (λ (u : Tally). total weight u.taken) views ≡ total weight v.taken = total_alone (λ (u : Tally). total weight u.taken) (λ (u : Tally). u.parts) views port v at (h.whole ∙ sym all) (λ i u e z. ap (total weight) ((h.each i u e).idle z)) in
+      let a : total (λ (u : Tally). total weight u.taken) views ≡ total weight v.taken = total_alone (λ (u : Tally). total weight u.taken) (λ (u : Tally). u.parts) views port v at (h.whole ∙ sym all)
+      (λ i u e z. ap (total weight) ((h.each i u e).idle z)) in
       let b = h.shared weight in
       let c = total_append weight h.popped (map number items) in
-      let d : total weight (take v.pushed numbers) ≡ total weight (h.popped ++ map number items) = ap (λ (n : ℕ). total weight (take n numbers)) ((h.each port v at).counts may) ∙ ap (total weight) h.prefix in omega arith
+      let d : total weight (take v.pushed numbers) ≡ total weight (h.popped ++ map number items) = ap (λ (n : ℕ). total weight (take n numbers)) ((h.each port v at).counts may)
+      ∙ ap (total weight) h.prefix in omega arith

@@ -23,7 +23,8 @@ total_sum f [] = refl
 total_sum f (x ∷ xs) = let h = total_sum f xs in let s = sum_by-cons f x xs in omega arith
 
 module _ {C : Type 0} {g : Ghosts C} (h : Hall C g) (scripts : Scripted) where
-  pub put_in_order : (us ts : List (Task C g)) → IsPermutation us ts → IsNonDecreasingBy number_in ts → All (IsTask h scripts) us → ((weight : ℕ → ℕ) → total weight (map number_in us) ≡ total weight (numbers SESSIONS)) → AreTasks h scripts (numbers SESSIONS) ts
+  pub put_in_order : (us ts : List (Task C g)) → IsPermutation us ts → IsNonDecreasingBy number_in ts → All (IsTask h scripts) us
+      → ((weight : ℕ → ℕ) → total weight (map number_in us) ≡ total weight (numbers SESSIONS)) → AreTasks h scripts (numbers SESSIONS) ts
   put_in_order us ts moved sorted tasks all = record {
     numbers = rising_same 0 (map number_in ts) (numbers SESSIONS) rises numbers_rise count;
     each = All-permutation (IsTask h scripts) us ts moved tasks;

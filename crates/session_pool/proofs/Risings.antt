@@ -101,7 +101,8 @@ pub rising_same : (low : ℕ) (xs ys : List ℕ) → Rising low xs → Rising lo
 rising_same low [] [] r q h = refl
 rising_same low [] (y ∷ ys) r q h = absurd (let k = h y in let s = same_yes y y refl in omega arith)
 rising_same low (x ∷ xs) [] r q h = absurd (let k = h x in let s = same_yes x x refl in omega arith)
-rising_same low (x ∷ xs) (y ∷ ys) r q h = let others : xs ≡ ys = rising_same (suc x) xs ys r.1 (subst (λ (z : ℕ). Rising (suc z) ys) (sym first) q.1) (λ s. let k = h s in let e : same s x ≡ same s y = ap (same s) first in omega arith) in λ i. first i ∷ others i
+rising_same low (x ∷ xs) (y ∷ ys) r q h = let others : xs ≡ ys = rising_same (suc x) xs ys r.1 (subst (λ (z : ℕ). Rising (suc z) ys) (sym first) q.1)
+    (λ s. let k = h s in let e : same s x ≡ same s y = ap (same s) first in omega arith) in λ i. first i ∷ others i
   where
     below : y ≤ x
     below = at_least y x (y ∷ ys) ((let a : y ≤ y = omega arith in a), q.1) (let k = h x in let s = same_yes x x refl in omega arith)
@@ -125,7 +126,8 @@ times_there n (x ∷ xs) zero d l = let s = same_yes (n x) (n x) refl in omega a
 times_there n (x ∷ xs) (suc i) d l = let h = times_there n xs i d (omega arith) in omega arith
 
 -- what does not fall, and stands there once, rises
-pub sorted_rises : {A : Type 0} (n : A → ℕ) (low : ℕ) (xs : List A) → IsNonDecreasingBy n xs → ((s : ℕ) → times s (map n xs) ≤ 1) → ((i : ℕ) (d : A) → i < length xs → low ≤ n (get_or xs i d)) → Rising low (map n xs)
+pub sorted_rises : {A : Type 0} (n : A → ℕ) (low : ℕ) (xs : List A) → IsNonDecreasingBy n xs → ((s : ℕ) → times s (map n xs) ≤ 1) → ((i : ℕ) (d : A) → i < length xs → low ≤ n (get_or xs i d))
+    → Rising low (map n xs)
 sorted_rises n low [] up once least = tt
 sorted_rises n low (x ∷ xs) up once least = (
   least 0 x (omega arith),

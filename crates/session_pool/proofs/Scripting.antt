@@ -105,7 +105,8 @@ module _ (scripts : Scripted) where
   -- the last session of those that are left is divided from the others
   pub one_more : (n k : ℕ) → n ≡ suc k → n ≤ SESSIONS → count_from (suc k) (SESSIONS - k) ≡ suc k ∷ count_from (suc n) (SESSIONS - n)
   one_more n k e l =
-      sessions_from k (omega arith) ∙ ap (λ (p : ℕ × ℕ). suc k ∷ count_from p.0 p.1) (λ i. ((let a : suc (suc k) ≡ suc n = omega arith in a) i, (let b : SESSIONS - suc k ≡ SESSIONS - n = omega arith in b) i))
+      sessions_from k (omega arith) ∙ ap (λ (p : ℕ × ℕ). suc k ∷ count_from p.0 p.1)
+      (λ i. ((let a : suc (suc k) ≡ suc n = omega arith in a) i, (let b : SESSIONS - suc k ≡ SESSIONS - n = omega arith in b) i))
 
   filtered : (k : ℕ) (rest : List ℕ) (b : Bool) → test k ≡ b → scripted_of scripts (k ∷ rest) ≡ cond b (k ∷ scripted_of scripts rest) (scripted_of scripts rest)
   filtered k rest b e = ap (λ t. cond t (k ∷ scripted_of scripts rest) (scripted_of scripts rest)) e

@@ -29,7 +29,8 @@ none_of f g (x ∷ xs) e h =
     let a : f x ≡ 0 = h 0 x refl (omega arith) in
     let b = none_of f g xs (omega arith) (λ i y at z. h (suc i) y at z) in omega arith
 
-pub total_alone : {A : Type 0} (f g : A → ℕ) (xs : List A) (k : ℕ) (v : A) → get_elem? xs k ≡ some v → total g xs ≡ g v → ((i : ℕ) (a : A) → get_elem? xs i ≡ some a → g a ≡ 0 → f a ≡ 0) → total f xs ≡ f v
+pub total_alone : {A : Type 0} (f g : A → ℕ) (xs : List A) (k : ℕ) (v : A) → get_elem? xs k ≡ some v → total g xs ≡ g v → ((i : ℕ) (a : A) → get_elem? xs i ≡ some a → g a ≡ 0 → f a ≡ 0)
+    → total f xs ≡ f v
 total_alone f g [] k v at e h = absurd (some-ne-none v (sym at))
 total_alone f g (x ∷ xs) zero v at e h =
     let s : f x ≡ f v = ap f (some-injective x v at) in

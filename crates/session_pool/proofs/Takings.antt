@@ -27,7 +27,8 @@ all_map P g [] a = All_none P
 all_map P g (x ∷ xs) a = All_cons P (g x) (map g xs) (a 0 x (omega arith)) (all_map P g xs (λ k d l. a (suc k) d (omega arith)))
 
 -- lists that rise, and together are the sessions with a script
-pub are_taken : (scripts : Scripted) (workers : ℕ) (lists : List (List ℕ)) → length lists ≡ workers → All (Rising 0) lists → ((weight : ℕ → ℕ) → total (total weight) lists ≡ total weight (scripted scripts)) → AreTaken scripts workers lists
+pub are_taken : (scripts : Scripted) (workers : ℕ) (lists : List (List ℕ)) → length lists ≡ workers → All (Rising 0) lists
+    → ((weight : ℕ → ℕ) → total (total weight) lists ≡ total weight (scripted scripts)) → AreTaken scripts workers lists
 are_taken scripts workers lists count rising shared = record {
   lists = count;
   ascending = λ k d l. rising_increases 0 _ (rising k d l);
@@ -37,9 +38,11 @@ are_taken scripts workers lists count rising shared = record {
 
 module _ {C : Type 0} {g : Ghosts C} where
   -- what is told of the hands
-  pub hands_taken : (h : Hall C g) (scripts : Scripted) (workers : ℕ) (hands : List (Vec (Task C g) Global)) (lists : List (List ℕ)) → AreHands h scripts workers (scripted scripts) hands → lists ≡ map taken_in hands → AreTaken scripts workers lists
+  pub hands_taken : (h : Hall C g) (scripts : Scripted) (workers : ℕ) (hands : List (Vec (Task C g) Global)) (lists : List (List ℕ)) → AreHands h scripts workers (scripted scripts) hands
+      → lists ≡ map taken_in hands → AreTaken scripts workers lists
   hands_taken h scripts workers hands lists a is = subst (AreTaken scripts workers) (sym is)
-      (are_taken scripts workers (map taken_in hands) (length-map hands taken_in ∙ a.count) (all_map (Rising 0) taken_in hands a.rising) (λ weight. total_map (total weight) taken_in hands ∙ a.shared weight))
+      (are_taken scripts workers (map taken_in hands) (length-map hands taken_in ∙ a.count) (all_map (Rising 0) taken_in hands a.rising)
+      (λ weight. total_map (total weight) taken_in hands ∙ a.shared weight))
 
   abbrev in_all : List (Vec (Task C g) Global) → List (Task C g)
   in_all hands = flat_map (λ hand. hand.items) hands
@@ -59,8 +62,10 @@ module _ {C : Type 0} {g : Ghosts C} where
       let t = total_append weight (map number_in v.items) (map number_in (in_all vs)) in
       let h = flat_weight weight vs in omega arith
 
-  pub tasks_weigh : (weight : ℕ → ℕ) (idle ts : List (Task C g)) (hands : List (Vec (Task C g) Global)) → ts ≡ idle ++ in_all hands → total weight (map number_in ts) ≡ total weight (map number_in idle) + weight_of weight hands
+  pub tasks_weigh : (weight : ℕ → ℕ) (idle ts : List (Task C g)) (hands : List (Vec (Task C g) Global)) → ts ≡ idle ++ in_all hands → total weight (map number_in ts) ≡ total weight
+      (map number_in idle) + weight_of weight hands
   tasks_weigh weight idle ts hands is =
-      let e : total weight (map number_in ts) ≡ total weight (map number_in idle ++ map number_in (in_all hands)) = ap (λ (us : List (Task C g)). total weight (map number_in us)) is ∙ ap (total weight) (map-append number_in idle (in_all hands)) in
+      let e : total weight (map number_in ts) ≡ total weight (map number_in idle ++ map number_in (in_all hands)) = ap (λ (us : List (Task C g)). total weight (map number_in us)) is
+      ∙ ap (total weight) (map-append number_in idle (in_all hands)) in
       let t = total_append weight (map number_in idle) (map number_in (in_all hands)) in
       let h = flat_weight weight hands in omega arith

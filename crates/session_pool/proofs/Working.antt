@@ -48,7 +48,8 @@ total_set_or f (x ∷ xs) (suc i) b d l = let h = total_set_or f xs i b d (omega
 
 module _ {C : Type 0} {g : Ghosts C} {Q A : Type 0} (line : Slotted (Option (Waiting C g)) (Doing (Waiting C g) Tally) Q A) where
   -- a worker with an empty hand
-  pub hired : (p : Pass (Waiting C g) Tally) (v : Vec (Task C g) Global) → IsPassOf line p → view p ≡ tally 1 false 0 [] → v.items ≡ [] → vec_capacity v ≡ SESSIONS → IsHired line (record { token = p; hand = v })
+  pub hired : (p : Pass (Waiting C g) Tally) (v : Vec (Task C g) Global) → IsPassOf line p → view p ≡ tally 1 false 0 [] → v.items ≡ [] → vec_capacity v ≡ SESSIONS
+      → IsHired line (record { token = p; hand = v })
   hired p v of is none room = record {
     token = record { of = of; knows = is ∙ ap (λ (l : List (Task C g)). tally 1 false 0 (map number_in l)) (sym none) };
     empty = none;
@@ -64,7 +65,8 @@ written_back (x ∷ xs) zs (suc n) e = ap (λ ys. x ∷ ys) (written_back xs zs 
 
 module _ {C : Type 0} {g : Ghosts C} where
   -- one more hand
-  pub weight_on : (weight : ℕ → ℕ) (hands hands2 : List (Vec (Task C g) Global)) (v : Vec (Task C g) Global) (a b : List ℕ) → weight_of weight hands ≡ total weight a → b ≡ taken_in v → hands2 ≡ hands ++ v ∷ [] → weight_of weight hands2 ≡ total weight (merged a b)
+  pub weight_on : (weight : ℕ → ℕ) (hands hands2 : List (Vec (Task C g) Global)) (v : Vec (Task C g) Global) (a b : List ℕ) → weight_of weight hands ≡ total weight a → b ≡ taken_in v → hands2 ≡ hands
+      ++ v ∷ [] → weight_of weight hands2 ≡ total weight (merged a b)
   weight_on weight hands hands2 v a b old e is =
       let s = total_snoc (λ (u : Vec (Task C g) Global). total weight (taken_in u)) hands v in
       let m = merged_total weight a b in
@@ -82,7 +84,8 @@ module _ {C : Type 0} {g : Ghosts C} where
       let e : total weight (taken_in u) ≡ 0 = ap (λ (ts : List (Task C g)). total weight (map number_in ts)) (a 0 u (omega arith)) in
       let r = none_weigh weight us (λ k d l. a (suc k) d (omega arith)) in omega arith
 
-  pub no_hands : (h : Hall C g) (scripts : Scripted) (workers : ℕ) (numbers : List ℕ) (hands : List (Vec (Task C g) Global)) → length hands ≡ workers → All (λ (u : Vec (Task C g) Global). u.items ≡ []) hands → numbers ≡ [] → AreHands h scripts workers numbers hands
+  pub no_hands : (h : Hall C g) (scripts : Scripted) (workers : ℕ) (numbers : List ℕ) (hands : List (Vec (Task C g) Global)) → length hands ≡ workers
+      → All (λ (u : Vec (Task C g) Global). u.items ≡ []) hands → numbers ≡ [] → AreHands h scripts workers numbers hands
   no_hands h scripts workers numbers hands count none empty = record {
     count = count;
     tasks = λ k d l. subst (All (IsTask h scripts)) (sym (none k d l)) (λ i t b. absurd (omega arith));
@@ -90,7 +93,8 @@ module _ {C : Type 0} {g : Ghosts C} where
     shared = λ weight. none_weigh weight hands none ∙ sym (ap (total weight) empty);
   }
 
-  pub no_hands_yet : (h : Hall C g) (scripts : Scripted) (workers : ℕ) (numbers : List ℕ) (r : Result (Vec (Vec (Task C g) Global) Global) AllocError) → IfOk r (λ v. length v.items ≡ workers) → IfOk r (λ v. All (λ (u : Vec (Task C g) Global). u.items ≡ []) v.items) → numbers ≡ [] → IfOk r (λ v. AreHands h scripts workers numbers v.items)
+  pub no_hands_yet : (h : Hall C g) (scripts : Scripted) (workers : ℕ) (numbers : List ℕ) (r : Result (Vec (Vec (Task C g) Global) Global) AllocError) → IfOk r (λ v. length v.items ≡ workers)
+      → IfOk r (λ v. All (λ (u : Vec (Task C g) Global). u.items ≡ []) v.items) → numbers ≡ [] → IfOk r (λ v. AreHands h scripts workers numbers v.items)
   no_hands_yet h scripts workers numbers (Ok v) count none empty = no_hands h scripts workers numbers v.items count none empty
   no_hands_yet h scripts workers numbers (Err w) count none empty = tt
 
@@ -106,12 +110,16 @@ module _ {C : Type 0} {g : Ghosts C} (h : Hall C g) (scripts : Scripted) where
     pub worked_tokens : (ws : List (Worker C g)) → All (IsAtWork line h scripts) ws → All (HasToken line) ws
     worked_tokens ws a k d l = (a k d l).token
 
-    pub worked_hands : (ws : List (Worker C g)) (n pushed : ℕ) (v : Tally) (hands : List (Vec (Task C g) Global)) → All (IsAtWork line h scripts) ws → length ws ≡ n → hands ≡ map (λ w. w.hand) ws → IsWhole pushed v → ((weight : ℕ → ℕ) → weight_of weight hands ≡ total weight v.taken) → AreCollected h scripts n pushed v hands
+    pub worked_hands : (ws : List (Worker C g)) (n pushed : ℕ) (v : Tally) (hands : List (Vec (Task C g) Global)) → All (IsAtWork line h scripts) ws → length ws ≡ n → hands ≡ map (λ w. w.hand) ws
+        → IsWhole pushed v → ((weight : ℕ → ℕ) → weight_of weight hands ≡ total weight v.taken) → AreCollected h scripts n pushed v hands
     worked_hands ws n pushed v hands a count is whole shared = record {
       count = ap length is ∙ (length-map ws (λ (w : Worker C g). w.hand) ∙ count);
-      tasks = subst (All (λ (u : Vec (Task C g) Global). All (IsTask h scripts) u.items)) (sym is) (all_map (λ (u : Vec (Task C g) Global). All (IsTask h scripts) u.items) (λ (w : Worker C g). w.hand) ws (λ k d l. (a k d l).tasks));
-      rising = subst (All (λ (u : Vec (Task C g) Global). Rising 0 (taken_in u))) (sym is) (all_map (λ (u : Vec (Task C g) Global). Rising 0 (taken_in u)) (λ (w : Worker C g). w.hand) ws (λ k d l. (a k d l).rising));
-      room = subst (All (λ (u : Vec (Task C g) Global). vec_capacity u ≡ SESSIONS)) (sym is) (all_map (λ (u : Vec (Task C g) Global). vec_capacity u ≡ SESSIONS) (λ (w : Worker C g). w.hand) ws (λ k d l. (a k d l).room));
+      tasks = subst (All (λ (u : Vec (Task C g) Global). All (IsTask h scripts) u.items)) (sym is)
+          (all_map (λ (u : Vec (Task C g) Global). All (IsTask h scripts) u.items) (λ (w : Worker C g). w.hand) ws (λ k d l. (a k d l).tasks));
+      rising = subst (All (λ (u : Vec (Task C g) Global). Rising 0 (taken_in u))) (sym is)
+          (all_map (λ (u : Vec (Task C g) Global). Rising 0 (taken_in u)) (λ (w : Worker C g). w.hand) ws (λ k d l. (a k d l).rising));
+      room = subst (All (λ (u : Vec (Task C g) Global). vec_capacity u ≡ SESSIONS)) (sym is)
+          (all_map (λ (u : Vec (Task C g) Global). vec_capacity u ≡ SESSIONS) (λ (w : Worker C g). w.hand) ws (λ k d l. (a k d l).room));
       whole = whole;
       shared = shared;
     }
@@ -121,7 +129,8 @@ module _ {C : Type 0} {g : Ghosts C} (h : Hall C g) (scripts : Scripted) where
     at_work_room w a few = let e : length (view w.token).taken ≡ length (taken_in w.hand) = ap (λ (v : Tally). length v.taken) a.token.knows in let m = length-map w.hand.items number_in in omega arith
 
     -- it has taken one more
-    pub at_work_on : (w : Worker C g) (p : Pass (Waiting C g) Tally) (v : Vec (Task C g) Global) (t : Task C g) (n : ℕ) → IsAtWork line h scripts w → IsPassOf line p → view p ≡ after_pop (view w.token) n → IsTaken SESSIONS (view w.token) (view p)
+    pub at_work_on : (w : Worker C g) (p : Pass (Waiting C g) Tally) (v : Vec (Task C g) Global) (t : Task C g) (n : ℕ) → IsAtWork line h scripts w → IsPassOf line p
+        → view p ≡ after_pop (view w.token) n → IsTaken SESSIONS (view w.token) (view p)
         → IsTask h scripts t → number_in t ≡ n → v.items ≡ w.hand.items ++ t ∷ [] → vec_capacity v ≡ vec_capacity w.hand → IsAtWork line h scripts (record { token = p; hand = v })
     at_work_on w p v t n a of is taken task e items room = record {
       token = record { of = of; knows = knows };
@@ -140,7 +149,8 @@ module _ {C : Type 0} {g : Ghosts C} (h : Hall C g) (scripts : Scripted) where
     pub within : (weight : ℕ → ℕ) → total weight (taken_in v) ≤ total weight new.taken
     pub more : (weight : ℕ → ℕ) → total weight (taken_in v) + total weight old.taken ≡ total weight (taken_in u) + total weight new.taken
 
-  pub rest_on : (u v : Vec (Task C g) Global) (old new : Tally) (t : Task C g) (n most : ℕ) → All (IsTask h scripts) u.items → Rising 0 (taken_in u) → ((weight : ℕ → ℕ) → total weight (taken_in u) ≤ total weight old.taken)
+  pub rest_on : (u v : Vec (Task C g) Global) (old new : Tally) (t : Task C g) (n most : ℕ) → All (IsTask h scripts) u.items → Rising 0 (taken_in u)
+      → ((weight : ℕ → ℕ) → total weight (taken_in u) ≤ total weight old.taken)
       → new ≡ after_pop old n → IsTaken most old new → IsTask h scripts t → number_in t ≡ n → v.items ≡ u.items ++ t ∷ [] → IsRestTaken u v old new
   rest_on u v old new t n most tasks rising within is taken task e items = record {
     tasks = tasks_on u v t items tasks task;
@@ -166,7 +176,8 @@ module _ {C : Type 0} {g : Ghosts C} (h : Hall C g) (scripts : Scripted) where
   rest_room u old within few = let a = within one in let b = total_one (taken_in u) in let c = total_one old.taken in let m = length-map u.items number_in in omega arith
 
   -- where nothing is left all was taken
-  pub all_taken : {T : Type 0} (numbers : List ℕ) (number : T → ℕ) (v : Tally) → IsWhole (length numbers) v → Held 0 (IsRest numbers number v) → (weight : ℕ → ℕ) → total weight v.taken ≡ total weight numbers
+  pub all_taken : {T : Type 0} (numbers : List ℕ) (number : T → ℕ) (v : Tally) → IsWhole (length numbers) v → Held 0 (IsRest numbers number v) → (weight : ℕ → ℕ)
+      → total weight v.taken ≡ total weight numbers
   all_taken numbers number v whole held weight =
       let r = held.2 weight in
       let a : total weight (map number held.0) ≡ 0 = none held.0 held.1 in
@@ -183,21 +194,26 @@ module _ {C : Type 0} {g : Ghosts C} (h : Hall C g) (scripts : Scripted) where
     pub within : (weight : ℕ → ℕ) → total weight (taken_in u) ≤ total weight v.taken
     pub room : vec_capacity u ≡ SESSIONS
 
-  pub first_hand : (workers pushed : ℕ) (v : Tally) (hands : List (Vec (Task C g) Global)) (u : Vec (Task C g) Global) → AreCollected h scripts workers pushed v hands → 0 < length hands → u ≡ get_or hands 0 u → IsFirst u v
+  pub first_hand : (workers pushed : ℕ) (v : Tally) (hands : List (Vec (Task C g) Global)) (u : Vec (Task C g) Global) → AreCollected h scripts workers pushed v hands → 0 < length hands
+      → u ≡ get_or hands 0 u → IsFirst u v
   first_hand workers pushed v hands u a some_ is = record {
     tasks = subst (λ (w : Vec (Task C g) Global). All (IsTask h scripts) w.items) (sym is) (a.tasks 0 u some_);
     rising = subst (λ (w : Vec (Task C g) Global). Rising 0 (taken_in w)) (sym is) (a.rising 0 u some_);
-    within = λ weight. (let k = total_at_or (λ (w : Vec (Task C g) Global). total weight (taken_in w)) hands 0 u some_ in let s = a.shared weight in let e : total weight (taken_in (get_or hands 0 u)) ≡ total weight (taken_in u) = ap (λ (w : Vec (Task C g) Global). total weight (taken_in w)) (sym is) in omega arith);
+    within = λ weight. (let k = total_at_or (λ (w : Vec (Task C g) Global). total weight (taken_in w)) hands 0 u some_ in let s = a.shared weight in
+        let e : total weight (taken_in (get_or hands 0 u)) ≡ total weight (taken_in u) = ap (λ (w : Vec (Task C g) Global). total weight (taken_in w)) (sym is) in omega arith);
     room = ap (λ (w : Vec (Task C g) Global). vec_capacity w) is ∙ a.room 0 u some_;
   }
 
-  pub all_hands : (workers pushed : ℕ) (v : Tally) (numbers : List ℕ) (hands hands2 : List (Vec (Task C g) Global)) (u w : Vec (Task C g) Global) → AreCollected h scripts workers pushed v hands → 0 < length hands → u ≡ get_or hands 0 u → hands2 ≡ set hands 0 w
-      → All (IsTask h scripts) w.items → Rising 0 (taken_in w) → ((weight : ℕ → ℕ) → total weight (taken_in w) + total weight v.taken ≡ total weight (taken_in u) + total weight numbers) → AreHands h scripts workers numbers hands2
+  pub all_hands : (workers pushed : ℕ) (v : Tally) (numbers : List ℕ) (hands hands2 : List (Vec (Task C g) Global)) (u w : Vec (Task C g) Global) → AreCollected h scripts workers pushed v hands
+      → 0 < length hands → u ≡ get_or hands 0 u → hands2 ≡ set hands 0 w
+      → All (IsTask h scripts) w.items → Rising 0 (taken_in w) → ((weight : ℕ → ℕ) → total weight (taken_in w) + total weight v.taken ≡ total weight (taken_in u) + total weight numbers)
+      → AreHands h scripts workers numbers hands2
   all_hands workers pushed v numbers hands hands2 u w a some_ is to tasks rising rest = subst (AreHands h scripts workers numbers) (sym to) record {
     count = length-set hands 0 w ∙ a.count;
     tasks = All-set (λ (y : Vec (Task C g) Global). All (IsTask h scripts) y.items) hands 0 w tasks a.tasks;
     rising = All-set (λ (y : Vec (Task C g) Global). Rising 0 (taken_in y)) hands 0 w rising a.rising;
-    shared = λ weight. (let k = total_set_or (λ (y : Vec (Task C g) Global). total weight (taken_in y)) hands 0 w u some_ in let s = a.shared weight in let e : total weight (taken_in (get_or hands 0 u)) ≡ total weight (taken_in u) = ap (λ (y : Vec (Task C g) Global). total weight (taken_in y)) (sym is) in let r = rest weight in omega arith);
+    shared = λ weight. (let k = total_set_or (λ (y : Vec (Task C g) Global). total weight (taken_in y)) hands 0 w u some_ in let s = a.shared weight in
+        let e : total weight (taken_in (get_or hands 0 u)) ≡ total weight (taken_in u) = ap (λ (y : Vec (Task C g) Global). total weight (taken_in y)) (sym is) in let r = rest weight in omega arith);
   }
 
 -- the pass that was taken is the new one of its session

@@ -18,7 +18,8 @@ abbrev pub IsTaken : ℕ → Tally → Tally → Type 0
 IsTaken most v w = (length v.taken < most) × Rising 0 w.taken
 
 module _ {T : Type 0} (numbers : List ℕ) (number : T → ℕ) (fits : T → Type 0) where
-  -- The numbers of what was pushed are the first of the list: those of what was popped, and then those of what the queue holds. The tallies have what was popped, and each of it once: however numbers are weighed, it weighs as much as the tallies
+  -- The numbers of what was pushed are the first of the list: those of what was popped, and then those of what the queue holds. The tallies have what was
+  -- popped, and each of it once: however numbers are weighed, it weighs as much as the tallies
   pub record AreHandedOut (items : List T) (views : List Tally) : Type 0 where
     pub pushed : ℕ
     pub popped : List ℕ

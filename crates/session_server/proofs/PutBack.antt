@@ -13,7 +13,8 @@ module _ {V : Type 0} {g : Ghosts V} where
   is_pass h p n = (n.seat, n.base)
 
   -- where the last was taken off, and a pass of its session put in its place, the sessions are the same
-  pub same_numbers : (all rest other : List (PassOf V g)) (last : Option (PassOf V g)) (old new : PassOf V g) → all ≡ rest ++ option_to_list last → last ≡ Some old → new.session ≡ old.session → map number_of other ≡ map number_of rest
+  pub same_numbers : (all rest other : List (PassOf V g)) (last : Option (PassOf V g)) (old new : PassOf V g) → all ≡ rest ++ option_to_list last → last ≡ Some old → new.session ≡ old.session
+      → map number_of other ≡ map number_of rest
       → map number_of (other ++ new ∷ []) ≡ map number_of all
   same_numbers all rest other last old new is some session same =
       let whole : all ≡ rest ++ old ∷ [] = is ∙ ap (λ (o : Option (PassOf V g)). rest ++ option_to_list o) some in

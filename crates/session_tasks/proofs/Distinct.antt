@@ -21,8 +21,10 @@ at_least low (y ∷ ys) (suc i) s l a e = let r = at_least (suc y.0.0) ys i s l 
 rising_distinct : (low : ℕ) (scripts : Scripted) → Rising low scripts → AreDistinct scripts
 rising_distinct low [] a i j s k l e f = absurd (cc)
 rising_distinct low (y ∷ ys) a zero zero s k l e f = refl
-rising_distinct low (y ∷ ys) a zero (suc j) s k l e f = let z : y ≡ (s, k) = cc in let w : y.0.0 ≡ s.0 = ap (λ (v : Session × List Line). v.0.0) z in let b = at_least (suc y.0.0) ys j s l a.1 f in absurd (omega arith)
-rising_distinct low (y ∷ ys) a (suc i) zero s k l e f = let z : y ≡ (s, l) = cc in let w : y.0.0 ≡ s.0 = ap (λ (v : Session × List Line). v.0.0) z in let b = at_least (suc y.0.0) ys i s k a.1 e in absurd (omega arith)
+rising_distinct low (y ∷ ys) a zero (suc j) s k l e f = let z : y ≡ (s, k) = cc in let w : y.0.0 ≡ s.0 = ap (λ (v : Session × List Line). v.0.0) z in let b = at_least (suc y.0.0) ys j s l a.1 f in
+    absurd (omega arith)
+rising_distinct low (y ∷ ys) a (suc i) zero s k l e f = let z : y ≡ (s, l) = cc in let w : y.0.0 ≡ s.0 = ap (λ (v : Session × List Line). v.0.0) z in let b = at_least (suc y.0.0) ys i s k a.1 e in
+    absurd (omega arith)
 rising_distinct low (y ∷ ys) a (suc i) (suc j) s k l e f = ap suc (rising_distinct (suc y.0.0) ys a.1 i j s k l e f)
 
 -- what the scripts ask

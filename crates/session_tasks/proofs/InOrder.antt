@@ -93,7 +93,8 @@ no_numbers = refl
 module _ {C : Type 0} {g : Ghosts C} (h : Hall C g) (x : Scripted) where
   -- one more task stands behind the others
   pub gathered_on : (k : ℕ) (ts us : List (Task C g)) (t : Task C g) → AreTasks h x (numbers k) ts → IsTask h x t → number_in t ≡ suc k → us ≡ ts ++ t ∷ [] → AreTasks h x (numbers (k + 1)) us
-  gathered_on k ts us t a task is to = subst (λ (ns : List ℕ). AreTasks h x ns us) (sym (numbers_next k) ∙ ap numbers (let z : suc k ≡ k + 1 = omega arith in z)) (tasks_push h x (numbers k) ts us t (suc k) a task is to)
+  gathered_on k ts us t a task is to = subst (λ (ns : List ℕ). AreTasks h x ns us) (sym (numbers_next k) ∙ ap numbers (let z : suc k ≡ k + 1 = omega arith in z))
+      (tasks_push h x (numbers k) ts us t (suc k) a task is to)
 
   -- the first of the tasks that are left
   pub finish_front : (k : ℕ) (us ts : List (Task C g)) (t : Task C g) → k ≤ SESSIONS → AreTasks h x (count_from (suc k) (SESSIONS - k)) us → us ≡ t ∷ ts → k < SESSIONS
@@ -105,7 +106,8 @@ module _ {C : Type 0} {g : Ghosts C} (h : Hall C g) (x : Scripted) where
         let v : length (map number_in us) ≡ suc (length (map number_in ts)) = ap (λ (ys : List (Task C g)). length (map number_in ys)) is in absurd (omega arith))
   ]
 
-  pub finish_step : (k : ℕ) (us ts : List (Task C g)) (t : Task C g) → k < SESSIONS → AreTasks h x (count_from (suc k) (SESSIONS - k)) us → us ≡ t ∷ ts → Popped h x (count_from (suc (k + 1)) (SESSIONS - (k + 1))) (suc k) ts t
+  pub finish_step : (k : ℕ) (us ts : List (Task C g)) (t : Task C g) → k < SESSIONS → AreTasks h x (count_from (suc k) (SESSIONS - k)) us → us ≡ t ∷ ts
+      → Popped h x (count_from (suc (k + 1)) (SESSIONS - (k + 1))) (suc k) ts t
   finish_step k us ts t l a is =
       let p = tasks_front h x (suc k) (count_from (suc (suc k)) (SESSIONS - suc k)) t us ts (subst (λ (ns : List ℕ). AreTasks h x ns us) (sessions_from k l) a) is in record {
         rest = subst (λ (ns : List ℕ). AreTasks h x ns ts) (from_next k l) p.rest;
@@ -129,7 +131,8 @@ module _ {C : Type 0} {g : Ghosts C} (h : Hall C g) where
   pub last_of : (ps qs : List (Pass C g)) (p : Pass C g) (n k : ℕ) → ps ≡ qs ++ p ∷ [] → n ≡ suc k → map number_of ps ≡ numbers n → All (IsNew h) ps → LastOf qs p k
   last_of ps qs p n k is e s a =
       let all : All (IsNew h) (qs ++ p ∷ []) = subst (All (IsNew h)) is a in
-      let same = last_same (map number_of qs) (numbers k) (number_of p) (suc k) (sym (map-append number_of qs (p ∷ [])) ∙ (sym (ap (map number_of) is) ∙ (s ∙ (ap numbers e ∙ numbers_next k)))) in record {
+      let same = last_same (map number_of qs) (numbers k) (number_of p) (suc k) (sym (map-append number_of qs (p ∷ [])) ∙ (sym (ap (map number_of) is) ∙ (s ∙ (ap numbers e ∙ numbers_next k)))) in
+      record {
         sessions = same.0;
         new = All_left (IsNew h) qs (p ∷ []) all;
         last = same.1;

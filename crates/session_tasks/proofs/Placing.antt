@@ -35,7 +35,8 @@ pub record IsFoundAt (scripts : Scripted) (n s m : ℕ) : Type 0 where
   pub within : index < length scripts
   pub there : slice_get scripts index ≡ Some (record { 0 = s }, lines)
 
-found_from : (b : Bool) (x : Session × List Line) (xs : Scripted) (n s m : ℕ) → eqb x.0.0 s ≡ b → (if b then Some n else place_from (suc n) s xs) ≡ Some m → (place_from (suc n) s xs ≡ Some m → IsFoundAt xs (suc n) s m) → IsFoundAt (x ∷ xs) n s m
+found_from : (b : Bool) (x : Session × List Line) (xs : Scripted) (n s m : ℕ) → eqb x.0.0 s ≡ b → (if b then Some n else place_from (suc n) s xs) ≡ Some m
+    → (place_from (suc n) s xs ≡ Some m → IsFoundAt xs (suc n) s m) → IsFoundAt (x ∷ xs) n s m
 found_from true x xs n s m e q f = record {
   index = 0;
   lines = x.1;
@@ -77,7 +78,8 @@ pub lines_there : (scripts : Scripted) (i : ℕ) (s : Session) (l : List Line) �
 lines_there scripts i s l e = ap (λ (o : Option (Session × List Line)). unwrap_or (option_map (λ x. x.1) o) []) e
 
 -- the lines at the place of a session are those of its script
-pub script_lines : (scripts : Scripted) → AreDistinct scripts → (s : Session) (o : Option ℕ) → o ≡ place_in scripts s.0 → (i : ℕ) (l : List Line) → slice_get scripts i ≡ Some (s, l) → lines_at scripts o ≡ l
+pub script_lines : (scripts : Scripted) → AreDistinct scripts → (s : Session) (o : Option ℕ) → o ≡ place_in scripts s.0 → (i : ℕ) (l : List Line) → slice_get scripts i ≡ Some (s, l)
+    → lines_at scripts o ≡ l
 script_lines scripts d s None q i l e = absurd (place_lacks scripts 0 s.0 (sym q) i l e)
 script_lines scripts d s (Some j) q i l e =
     let f = place_script scripts s.0 j (sym q) in

@@ -35,7 +35,8 @@ module _ {C : Type 0} {g : Ghosts C} (h : Hall C g) (x : Scripted) where
   mine_none : (p : Pass C g) → IsNew h p → mine p ≡ []
   mine_none p n = ap (entries_of p.session.0) n.seen
 
-  begun_open : (p : Pass C g) (i : ℕ) (w : Walker) → IsNew h p → Some i ≡ place_in x p.session.0 → ((lines : List Line) → state_of lines w ≡ at_first (requests_on lines)) → IsTask h x (record { place = Some i; pass = p; walker = w; progress = Open })
+  begun_open : (p : Pass C g) (i : ℕ) (w : Walker) → IsNew h p → Some i ≡ place_in x p.session.0 → ((lines : List Line) → state_of lines w ≡ at_first (requests_on lines))
+      → IsTask h x (record { place = Some i; pass = p; walker = w; progress = Open })
   begun_open p i w n q s = record {
     place = q;
     hall = (n.seat, n.base);
@@ -45,7 +46,8 @@ module _ {C : Type 0} {g : Ghosts C} (h : Hall C g) (x : Scripted) where
     idle = λ e. absurd (cc);
   }
 
-  begun_idle : (p : Pass C g) (w : Walker) → IsNew h p → None ≡ place_in x p.session.0 → ((lines : List Line) → state_of lines w ≡ at_first (requests_on lines)) → IsTask h x (record { place = None; pass = p; walker = w; progress = Through })
+  begun_idle : (p : Pass C g) (w : Walker) → IsNew h p → None ≡ place_in x p.session.0 → ((lines : List Line) → state_of lines w ≡ at_first (requests_on lines))
+      → IsTask h x (record { place = None; pass = p; walker = w; progress = Through })
   begun_idle p w n q s = record {
     place = q;
     hall = (n.seat, n.base);
@@ -56,7 +58,8 @@ module _ {C : Type 0} {g : Ghosts C} (h : Hall C g) (x : Scripted) where
   }
 
   -- a session before the first request
-  pub begun : (p : Pass C g) (o : Option ℕ) (w : Walker) → IsNew h p → o ≡ place_in x p.session.0 → ((lines : List Line) → state_of lines w ≡ at_first (requests_on lines)) → IsTask h x (record { place = o; pass = p; walker = w; progress = progress_at o })
+  pub begun : (p : Pass C g) (o : Option ℕ) (w : Walker) → IsNew h p → o ≡ place_in x p.session.0 → ((lines : List Line) → state_of lines w ≡ at_first (requests_on lines))
+      → IsTask h x (record { place = o; pass = p; walker = w; progress = progress_at o })
   begun p None w n q s = begun_idle p w n q s
   begun p (Some i) w n q s = begun_open p i w n q s
 

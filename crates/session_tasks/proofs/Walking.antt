@@ -18,7 +18,8 @@ next_is : (script : List Request) (E : List Entry) (p : ScriptState) → p ≡ s
 unfolding next
 next_is script E p e = ap asks (sym e)
 
-pub walk_on : (lines : List Line) (E F : List Entry) (e : Entry) (w v : Walker) → IsUnderWay lines E w → asks (state_of lines w) ≡ Some e.request → F ≡ E ++ e ∷ [] → state_of lines v ≡ after_answer (state_of lines w) e.reply → IsUnderWay lines F v
+pub walk_on : (lines : List Line) (E F : List Entry) (e : Entry) (w v : Walker) → IsUnderWay lines E w → asks (state_of lines w) ≡ Some e.request → F ≡ E ++ e ∷ []
+    → state_of lines v ≡ after_answer (state_of lines w) e.reply → IsUnderWay lines F v
 walk_on lines E F e w v u q is a = let script = requests_on lines in record {
   way = subst (IsWay script) (sym is) (way_push script E e u.way (next_is script E (state_of lines w) u.stands ∙ q));
   stands = a ∙ (ap (λ (p : ScriptState). after_answer p e.reply) u.stands ∙ (sym (state_push (at_first script) (replies_of E) e.reply)

@@ -86,14 +86,24 @@ module _ (a : Asked) where
     reads_next ts e = go steps.1.0 steps.1.1 (subst (λ (k : Access). IsAccess a.register.now.accesses k steps.1.0) e shown)
       where
         go : (z : Touched) → s.left ≡ z ∷ t.left → IsAccess a.register.now.accesses (access.Read ts) z → ReadsNext a s t ts
-        go (Reads x) l h = record { cell = x; left = l; those = h ∙ listed (has_put_in S H n x) H a.stands.orderly (putter_begun S H n x a.stands.orderly) _ (a.stands.filed.writers x) (a.stands.put x) }
+        go (Reads x) l h = record {
+          cell = x;
+          left = l;
+          those = h ∙ listed (has_put_in S H n x) H a.stands.orderly (putter_begun S H n x a.stands.orderly) _ (a.stands.filed.writers x)
+              (a.stands.put x);
+        }
         go (Puts x) l h = absurd h
 
     pub puts_next : (ts : Bor (List Txn)) → i ≡ access.Put ts → PutsNext a s t ts
     puts_next ts e = go steps.1.0 steps.1.1 (subst (λ (k : Access). IsAccess a.register.now.accesses k steps.1.0) e shown)
       where
         go : (z : Touched) → s.left ≡ z ∷ t.left → IsAccess a.register.now.accesses (access.Put ts) z → PutsNext a s t ts
-        go (Puts x) l h = record { cell = x; left = l; those = h ∙ listed (has_read_in S H n x) H a.stands.orderly (reader_begun S H n x a.stands.orderly) _ (a.stands.filed.readers x) (a.stands.read x) }
+        go (Puts x) l h = record {
+          cell = x;
+          left = l;
+          those = h ∙ listed (has_read_in S H n x) H a.stands.orderly (reader_begun S H n x a.stands.orderly) _ (a.stands.filed.readers x)
+              (a.stands.read x);
+        }
         go (Reads x) l h = absurd h
 
     -- what is no read is a put, and what is no put is a read

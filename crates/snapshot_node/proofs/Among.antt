@@ -33,7 +33,8 @@ among_same (x ∷ xs) (y ∷ ys) a b h = elim (cases_order x.0 y.0) [
   | inl e ↦ (λ j. one_of x y e j ∷ among_same xs ys a.1 b.1 (rest e) j)
   | inr o ↦ elim o [
     | inl l ↦ absurd (both_ways _ (h x.0 ∙ ap (λ (c : Bool). c || is_among x.0 ys) (ne_eqb y.0 x.0 (λ k. omega arith)) ∙ among_above y.0 x.0 ys (omega arith) b.0) (or_left _ _ (eq-eqb x.0 x.0 refl)))
-    | inr l ↦ absurd (both_ways _ (sym (h y.0) ∙ ap (λ (c : Bool). c || is_among y.0 xs) (ne_eqb x.0 y.0 (λ k. omega arith)) ∙ among_above x.0 y.0 xs (omega arith) a.0) (or_left _ _ (eq-eqb y.0 y.0 refl)))
+    | inr l ↦ absurd (both_ways _ (sym (h y.0) ∙ ap (λ (c : Bool). c || is_among y.0 xs) (ne_eqb x.0 y.0 (λ k. omega arith)) ∙ among_above x.0 y.0 xs (omega arith) a.0)
+        (or_left _ _ (eq-eqb y.0 y.0 refl)))
   ]
 ]
   where

@@ -64,9 +64,11 @@ leads_here f n t a b o e =
     (here_from f n a o g.0 m.0, here_from f n b o g.1 m.1)
 
 -- the next one of b's batch, where the loop looks
-pub mate_here : (f : Facts) (n t b i : ℕ) → IsNumbered (events_of f) → IsOrderly (setup_of f) (events_of f) → i < begun_count (events_of f) → is_mate (setup_of f) (events_of f) n t b (i + 1) ≡ true → IsHere f n (i + 1)
+pub mate_here : (f : Facts) (n t b i : ℕ) → IsNumbered (events_of f) → IsOrderly (setup_of f) (events_of f) → i < begun_count (events_of f) → is_mate (setup_of f) (events_of f) n t b (i + 1) ≡ true
+    → IsHere f n (i + 1)
 mate_here f n t b i k o l m =
-    here_from f n (i + 1) o (begun_all (events_of f) (i + 1) k (omega arith) (omega arith)) (batch_parts (setup_of f) (events_of f) n b (i + 1) (and_parts (one_batch (setup_of f) (events_of f) n b (i + 1)) (is_at_stake (events_of f) t (i + 1)) m).0).1
+    here_from f n (i + 1) o (begun_all (events_of f) (i + 1) k (omega arith) (omega arith))
+    (batch_parts (setup_of f) (events_of f) n b (i + 1) (and_parts (one_batch (setup_of f) (events_of f) n b (i + 1)) (is_at_stake (events_of f) t (i + 1)) m).0).1
 
 -- nobody of b's batch is numbered below the horizon of b
 module _ (S : Setup) (H : List Event) (n b first : ℕ) (l : Lawful S H) (o : IsOrderly S H) (below : ClosedBelow S H n b first) where
@@ -109,7 +111,11 @@ module _ (S : Setup) (H : List Event) (n t b : ℕ) (p : ℕ → Bool) where
   leave_none i above f = leave_next i above (λ d q e. f d e.out)
 
   pub leave_here : (i : ℕ) (d : Txn) → LeaveAbove i → is_mate S H n t b (i + 1) ≡ true → IsLeast (Leads S H n t (i + 1)) (Some d) → IsLeastEdgeFrom S H n t p b (Some (record { 0 = i + 1 }, d))
-  leave_here i d above m k = (record { batch = (and_parts (one_batch S H n b (i + 1)) (is_at_stake H t (i + 1)) m).0; out = k.0 }, λ c e q x. (let z = above c e q x in let y : i + 1 ≤ c = omega arith in y), λ e x. k.1 e x)
+  leave_here i d above m k = (
+    record { batch = (and_parts (one_batch S H n b (i + 1)) (is_at_stake H t (i + 1)) m).0; out = k.0 },
+    λ c e q x. (let z = above c e q x in let y : i + 1 ≤ c = omega arith in y),
+    λ e x. k.1 e x,
+  )
 
   pub leave_end : (i : ℕ) → IsOrderly S H → LeaveAbove i → begun_count H ≤ i → IsLeastEdgeFrom S H n t p b None
   leave_end i o above f = λ c d q e. let z = above c d q e in let y = (o.numbered c (edge_begun S H n c d o e.out.edge).0).1 in absurd (omega arith)
@@ -131,7 +137,8 @@ module _ (S : Setup) (H : List Event) (n t : ℕ) (p : ℕ → Bool) (c : ℕ) w
   reach_end i best o f h = least_as (ReachesBy S H n t p c i) (ReachesOne S H n t p c) best (λ a r. r.one)
       (λ a r. record { one = r; by = (let z = (o.numbered r.reach.member (edge_begun S H n a r.reach.member o r.reach.edge.edge).1).1 in let y : r.reach.member ≤ i = omega arith in y) }) h
 
-  reach_next : (i : ℕ) (best : Option Txn) → ((a : ℕ) (r : ReachesOne S H n t p c a) → r.reach.member ≡ i + 1 → ⊥) → IsLeast (ReachesBy S H n t p c i) best → IsLeast (ReachesBy S H n t p c (i + 1)) best
+  reach_next : (i : ℕ) (best : Option Txn) → ((a : ℕ) (r : ReachesOne S H n t p c a) → r.reach.member ≡ i + 1 → ⊥) → IsLeast (ReachesBy S H n t p c i) best
+      → IsLeast (ReachesBy S H n t p c (i + 1)) best
   reach_next i best none h = least_as (ReachesBy S H n t p c i) (ReachesBy S H n t p c (i + 1)) best
       (λ a r. record { one = r.one; by = (let z = r.by in let y : r.one.reach.member ≤ i + 1 = omega arith in y) })
       (λ a r. record { one = r.one; by = low a r }) h
@@ -149,8 +156,10 @@ module _ (S : Setup) (H : List Event) (n t : ℕ) (p : ℕ → Bool) (c : ℕ) w
   pub reach_apart : (i : ℕ) (best : Option Txn) → is_mate S H n t c (i + 1) ≡ false → IsLeast (ReachesBy S H n t p c i) best → IsLeast (ReachesBy S H n t p c (i + 1)) best
   reach_apart i best f h = reach_next i best (λ a r e. both_ways _ f (subst (λ (w : ℕ). is_mate S H n t c w ≡ true) e (and_from _ _ r.reach.batch r.reach.edge.to))) h
 
-  pub reach_here : (i : ℕ) (best next : Option Txn) → p (i + 1) ≡ true → is_mate S H n t c (i + 1) ≡ true → IsLeast (ReachesBy S H n t p c i) best → IsLeast (λ a. Leads S H n t a (i + 1)) next → IsLeast (ReachesBy S H n t p c (i + 1)) (lesser_of best next)
-  reach_here i best next q m h k = least_as (λ a. ReachesBy S H n t p c i a ⊎ Leads S H n t a (i + 1)) (ReachesBy S H n t p c (i + 1)) (lesser_of best next) to from (least_either (ReachesBy S H n t p c i) (λ a. Leads S H n t a (i + 1)) best next h k)
+  pub reach_here : (i : ℕ) (best next : Option Txn) → p (i + 1) ≡ true → is_mate S H n t c (i + 1) ≡ true → IsLeast (ReachesBy S H n t p c i) best → IsLeast (λ a. Leads S H n t a (i + 1)) next
+      → IsLeast (ReachesBy S H n t p c (i + 1)) (lesser_of best next)
+  reach_here i best next q m h k = least_as (λ a. ReachesBy S H n t p c i a ⊎ Leads S H n t a (i + 1)) (ReachesBy S H n t p c (i + 1)) (lesser_of best next) to from
+      (least_either (ReachesBy S H n t p c i) (λ a. Leads S H n t a (i + 1)) best next h k)
     where
       to : (a : ℕ) → ReachesBy S H n t p c i a ⊎ Leads S H n t a (i + 1) → ReachesBy S H n t p c (i + 1) a
       to a h = elim h [

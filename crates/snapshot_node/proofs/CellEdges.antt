@@ -145,7 +145,8 @@ module _ (S : Setup) (H : List Event) (n t : ℕ) (l : Lawful S H) (o : IsOrderl
         each (Reads x) i q = record {
           from = st;
           to = q.stake;
-          edge = shared_edge c d (stake_stands S H t d l runs q.stake) q.across (record { cell = x; read = sym (reads_own H c x) ∙ Has-any (reads x) (Reads x) (accesses_of H c) i (same_cell-itself x); put = q.put });
+          edge = shared_edge c d (stake_stands S H t d l runs q.stake) q.across
+              (record { cell = x; read = sym (reads_own H c x) ∙ Has-any (reads x) (Reads x) (accesses_of H c) i (same_cell-itself x); put = q.put });
         }
         each (Puts x) i q = absurd q
 

@@ -76,7 +76,8 @@ module _ (S : Setup) (H : List Event) (n t : ℕ) where
 
 -- the least with P or, where C holds, with Q
 pub least_with : (P Q : ℕ → Type 0) (C : Type 0) (best next : Option Txn) → C → IsLeast P best → IsLeast Q next → IsLeast (λ u. P u ⊎ (Q u × C)) (lesser_of best next)
-least_with P Q C best next c h k = least_as (λ u. P u ⊎ Q u) (λ u. P u ⊎ (Q u × C)) (lesser_of best next) (λ u z. elim z [ inl p ↦ inl p | inr q ↦ inr (q, c) ]) (λ u z. elim z [ inl p ↦ inl p | inr q ↦ inr q.0 ]) (least_either P Q best next h k)
+least_with P Q C best next c h k = least_as (λ u. P u ⊎ Q u) (λ u. P u ⊎ (Q u × C)) (lesser_of best next) (λ u z. elim z [ inl p ↦ inl p | inr q ↦ inr (q, c) ])
+    (λ u z. elim z [ inl p ↦ inl p | inr q ↦ inr q.0 ]) (least_either P Q best next h k)
 
 pub least_without : (P Q : ℕ → Type 0) (C : Type 0) (best : Option Txn) → (C → ⊥) → IsLeast P best → IsLeast (λ u. P u ⊎ (Q u × C)) best
 least_without P Q C best n h = least_as P (λ u. P u ⊎ (Q u × C)) best (λ u p. inl p) (λ u z. elim z [ inl p ↦ p | inr q ↦ absurd (n q.1) ]) h
@@ -89,7 +90,12 @@ module _ (S : Setup) (H : List Event) (n t : ℕ) where
   with_first : (a : ℕ) → WithFirst a → IsFirst S H n t a
   with_first a h = elim h [
     | inl h ↦ elim h [
-      | inl q ↦ record { second = q.into.member; third = q.third; fourth = t; pivot = record { into = q.into.edge; out = record { batch = batch_sym S H n q.third q.into.member q.into.batch; out = q.out } } }
+      | inl q ↦ record {
+        second = q.into.member;
+        third = q.third;
+        fourth = t;
+        pivot = record { into = q.into.edge; out = record { batch = batch_sym S H n q.third q.into.member q.into.batch; out = q.out } };
+      }
       | inr q ↦ record { second = t; third = q.1.from; fourth = q.1.to; pivot = record { into = q.0; out = q.1.out } }
     ]
     | inr h ↦ elim h [
@@ -122,9 +128,11 @@ module _ (S : Setup) (H : List Event) (n t : ℕ) where
   none_after none = λ a h. elim h [ inl q ↦ none q.1.0 q.1.1 | inr q ↦ none q.1.0 q.1.1.into ]
 
   -- with an edge from t, by who leads into its batch and by whether it has a middle
-  pub after_with : (d : ℕ) → Leads S H n t t d → (o : Option Txn) (u : Txn) → u.0 ≡ t → IsLeast (Reaches S H n t t) o → (b : ℕ) × IsMiddle S H n t t b → IsLeast (ComesAfter S H n t) (lesser_of o (Some u))
+  pub after_with : (d : ℕ) → Leads S H n t t d → (o : Option Txn) (u : Txn) → u.0 ≡ t → IsLeast (Reaches S H n t t) o → (b : ℕ) × IsMiddle S H n t t b
+      → IsLeast (ComesAfter S H n t) (lesser_of o (Some u))
   after_with d e o u q h m =
-      least_as (λ a. Reaches S H n t t a ⊎ (a ≡ t)) (ComesAfter S H n t) (lesser_of o (Some u)) (λ a z. elim z [ inl r ↦ inl (r, (d, e)) | inr x ↦ inr (x, m) ]) (λ a z. elim z [ inl r ↦ inl r.0 | inr x ↦ inr x.0 ])
+      least_as (λ a. Reaches S H n t t a ⊎ (a ≡ t)) (ComesAfter S H n t) (lesser_of o (Some u)) (λ a z. elim z [ inl r ↦ inl (r, (d, e)) | inr x ↦ inr (x, m) ])
+      (λ a z. elim z [ inl r ↦ inl r.0 | inr x ↦ inr x.0 ])
       (least_either (Reaches S H n t t) (λ a. a ≡ t) o (Some u) h (q, λ a x. subst (λ (z : ℕ). u.0 ≤ z) (sym x) (subst (λ (z : ℕ). u.0 ≤ z) q (le_refl u.0))))
 
   pub after_without : (d : ℕ) → Leads S H n t t d → (o : Option Txn) → IsLeast (Reaches S H n t t) o → ((b : ℕ) → IsMiddle S H n t t b → ⊥) → IsLeast (ComesAfter S H n t) o
@@ -148,7 +156,8 @@ module _ (S : Setup) (H : List Event) (n t : ℕ) where
   last_next c best o b k = record { there = b; asked = inr (o, k, lesser_twice best o) }
 
   -- a mate of the last one adds nobody
-  pub remains_mate : (P : ℕ → Type 0) (last c : Txn) (best : Option Txn) (left rest : List Txn) → left ≡ c ∷ rest → IsLast last best → one_batch S H n last.0 c.0 ≡ true → IsTrue (is_at_stake H t c.0) → IsTrue (is_across S H n t c.0)
+  pub remains_mate : (P : ℕ → Type 0) (last c : Txn) (best : Option Txn) (left rest : List Txn) → left ≡ c ∷ rest → IsLast last best → one_batch S H n last.0 c.0 ≡ true → IsTrue (is_at_stake H t c.0)
+      → IsTrue (is_across S H n t c.0)
       → Remains (ComesThrough S H n t) P left best → Remains (ComesThrough S H n t) P rest best
   remains_mate P last c best left rest e h m st ac r = elim h.asked [
     | inl q ↦ absurd ((meets_parts S H n t c.0 (and_parts (meets S H n t c.0) (concurrent S H n t c.0) ac).0).2 (batch_parts S H n t c.0 (subst (λ (z : ℕ). one_batch S H n z c.0 ≡ true) q m)).2)

@@ -27,11 +27,13 @@ use Rattle.snapshot_node.proofs.Pending.{pending_stays, pending_more, pending_be
 use Rattle.snapshot_node.proofs.Touching.{touched_at, puts_at, count_at}
 
 -- an event that is none of u's Began, Put and Done
-still_committed : (S : Setup) (P : List Event) (n : ℕ) (e : Event) (x : Cell) (u : ℕ) → is_began u e ≡ false → is_put u x e ≡ false → is_done u e ≡ false → has_committed_in S (e ∷ P) n x u ≡ has_committed_in S P n x u
+still_committed : (S : Setup) (P : List Event) (n : ℕ) (e : Event) (x : Cell) (u : ℕ) → is_began u e ≡ false → is_put u x e ≡ false → is_done u e ≡ false
+    → has_committed_in S (e ∷ P) n x u ≡ has_committed_in S P n x u
 still_committed S P n e x u b p d = λ j. on_kept S e P n u b j && committed_kept e P u d j && wrote_kept e P u x p j
 
 -- t begins, and has put nothing yet
-began_committed : (S : Setup) (P : List Event) (n : ℕ) (t : Txn) (s : Session) (k : Kind) (i : ℕ) → ((x : Cell) → wrote P t.0 x ≡ false) → (x : Cell) (u : ℕ) → has_committed_in S (Began t s k i ∷ P) n x u ≡ has_committed_in S P n x u
+began_committed : (S : Setup) (P : List Event) (n : ℕ) (t : Txn) (s : Session) (k : Kind) (i : ℕ) → ((x : Cell) → wrote P t.0 x ≡ false) → (x : Cell) (u : ℕ)
+    → has_committed_in S (Began t s k i ∷ P) n x u ≡ has_committed_in S P n x u
 began_committed S P n t s k i new x u = elim (cases_Bool (eqb t.0 u)) [
   | inl q ↦ and_right _ _ (wrote_kept (Began t s k i) P u x refl ∙ none q) ∙ sym (and_right _ _ (none q))
   | inr q ↦ still_committed S P n (Began t s k i) x u q refl refl
@@ -44,7 +46,8 @@ uncommitted : (S : Setup) (H : List Event) (n : ℕ) (x : Cell) (u : ℕ) → co
 uncommitted S H n x u h = ap (λ (b : Bool). b && wrote H u x) (and_right (on S H n u) (committed H u) h)
 
 -- t, which is unfinished, puts y
-put_committed : (S : Setup) (P : List Event) (n : ℕ) (t : Txn) (y : Cell) (v : Option ℤ) (x : Cell) (u : ℕ) → unfinished P t.0 ≡ true → has_committed_in S (Put t y v ∷ P) n x u ≡ has_committed_in S P n x u
+put_committed : (S : Setup) (P : List Event) (n : ℕ) (t : Txn) (y : Cell) (v : Option ℤ) (x : Cell) (u : ℕ) → unfinished P t.0 ≡ true
+    → has_committed_in S (Put t y v ∷ P) n x u ≡ has_committed_in S P n x u
 put_committed S P n t y v x u run = elim (cases_Bool (eqb t.0 u)) [
   | inl q ↦ uncommitted S (Put t y v ∷ P) n x u (committed_kept (Put t y v) P u refl ∙ still q) ∙ sym (uncommitted S P n x u (still q))
   | inr q ↦ still_committed S P n (Put t y v) x u refl (ap (λ (b : Bool). b && same_cell y x) q) refl
@@ -54,7 +57,8 @@ put_committed S P n t y v x u run = elim (cases_Bool (eqb t.0 u)) [
     still q = ap (committed P) (sym (eqb-true t.0 u q)) ∙ (unfinished_parts P t.0 run).1
 
 -- t commits
-done_committed : (S : Setup) (P : List Event) (n : ℕ) (t : Txn) (x : Cell) (u : ℕ) → (has_committed_in S P n x u || (on S P n t.0 && wrote P t.0 x && eqb t.0 u)) ≡ has_committed_in S (Done t ∷ P) n x u
+done_committed : (S : Setup) (P : List Event) (n : ℕ) (t : Txn) (x : Cell) (u : ℕ) → (has_committed_in S P n x u || (on S P n t.0 && wrote P t.0 x && eqb t.0 u)) ≡ has_committed_in S
+    (Done t ∷ P) n x u
 done_committed S P n t x u = go (eqb t.0 u) refl ∙ sym (λ j. on_kept S (Done t) P n u refl j && committed_step (Done t) P u j && wrote_kept (Done t) P u x refl j)
   where
     joins : (o c w : Bool) → (((o && c) && w) || ((o && w) && true)) ≡ ((o && (true || c)) && w)
@@ -75,10 +79,12 @@ done_committed S P n t x u = go (eqb t.0 u) refl ∙ sym (λ j. on_kept S (Done 
 
 module _ (S : Setup) (P : List Event) (n : ℕ) (a : Shown) (old : CommittedStand n a S P) where
   -- an event that changes neither
-  stays : (a' : Shown) (e : Event) → AreKept (committed_of a) (committed_of a') → a'.pending ≡ a.pending → ((x : Cell) (u : ℕ) → has_committed_in S (e ∷ P) n x u ≡ has_committed_in S P n x u) → pending_in S (e ∷ P) n ≡ pending_in S P n → CommittedStand n a' S (e ∷ P)
+  stays : (a' : Shown) (e : Event) → AreKept (committed_of a) (committed_of a') → a'.pending ≡ a.pending → ((x : Cell) (u : ℕ) → has_committed_in S (e ∷ P) n x u ≡ has_committed_in S P n x u)
+      → pending_in S (e ∷ P) n ≡ pending_in S P n → CommittedStand n a' S (e ∷ P)
   stays a' e k q h p = record { put = λ x u. ap (is_among u) (k x) ∙ old.put x u ∙ sym (h x u); pending = q ∙ old.pending ∙ sym p }
 
-  pub committed_began : (a' : Shown) → AreKept (committed_of a) (committed_of a') → a'.pending ≡ a.pending → (t : Txn) (s : Session) (k : Kind) (i : ℕ) → IsOrderly S P → MayNote S P n (Began t s k i) → CommittedStand n a' S (Began t s k i ∷ P)
+  pub committed_began : (a' : Shown) → AreKept (committed_of a) (committed_of a') → a'.pending ≡ a.pending → (t : Txn) (s : Session) (k : Kind) (i : ℕ) → IsOrderly S P → MayNote S P n (Began t s k i)
+      → CommittedStand n a' S (Began t s k i ∷ P)
   committed_began a' d q t s k i o m =
       let new : (x : Cell) → wrote P t.0 x ≡ false = λ x. (new_accesses_none S P t.0 x o m.0).0 in
       stays a' (Began t s k i) d q (began_committed S P n t s k i new) (pending_began S P n t s k i new)

@@ -47,7 +47,8 @@ unfolding own_events
 touch_own H a b [] = refl
 touch_own H a b (e ∷ P) = go (is_of a e) (touch_own H a b P)
   where
-    go : (z : Bool) → list_any (gets_put H b) (filter (is_of a) P) ≡ list_any (is_touch H a b) P → list_any (gets_put H b) (cond z (e ∷ filter (is_of a) P) (filter (is_of a) P)) ≡ ((z && gets_put H b e) || list_any (is_touch H a b) P)
+    go : (z : Bool) → list_any (gets_put H b) (filter (is_of a) P) ≡ list_any (is_touch H a b) P
+        → list_any (gets_put H b) (cond z (e ∷ filter (is_of a) P) (filter (is_of a) P)) ≡ ((z && gets_put H b e) || list_any (is_touch H a b) P)
     go true ih = ap (λ (z : Bool). gets_put H b e || z) ih
     go false ih = ih
 
@@ -78,7 +79,16 @@ record Touch (H : List Event) (a b : ℕ) : Type 0 where
 touch_is : (H : List Event) (a b : ℕ) (P : List Event) → length P ≤ length H → upto (length P) H ≡ P → list_any (is_touch H a b) P ≡ true → Touch H a b
 touch_is H a b [] h q e = absurd (cc)
 touch_is H a b (Got s x w v ∷ P) h q e = elim (or_cases (eqb s.0 a && wrote H b x) _ e) [
-  | inl f ↦ (let r = and_parts (eqb s.0 a) (wrote H b x) f in record { place = length P; txn = s; cell = x; from = w; value = v; is = suffix_got H s x w v P h q; reader = eqb-true s.0 a r.0; put = r.1 })
+  | inl f ↦ (let r = and_parts (eqb s.0 a) (wrote H b x) f in record {
+    place = length P;
+    txn = s;
+    cell = x;
+    from = w;
+    value = v;
+    is = suffix_got H s x w v P h q;
+    reader = eqb-true s.0 a r.0;
+    put = r.1;
+  })
   | inr f ↦ touch_is H a b P (omega arith) (suffix_next H (Got s x w v) P q) f
 ]
 touch_is H a b (Began s z k i ∷ P) h q e = touch_is H a b P (omega arith) (suffix_next H (Began s z k i) P q) (sym (ap (λ (t : Bool). t || list_any (is_touch H a b) P) (and_false (eqb s.0 a))) ∙ e)
@@ -112,7 +122,8 @@ begun_place H u h = ltb-true _ _ h
 
 module _ (S : Setup) (H : List Event) (n : ℕ) (l : Lawful S H) where
   -- two batches of different sides are concurrent where neither is closed before the other starts
-  concurrent_unless : (u w : ℕ) → began_at H u < length H → began_at H w < length H → on S H n u ≡ true → on S H n w ≡ true → (not (ltb (close S H n w) (start S H n u)) && not (ltb (close S H n u) (start S H n w))) ≡ concurrent S H n u w
+  concurrent_unless : (u w : ℕ) → began_at H u < length H → began_at H w < length H → on S H n u ≡ true → on S H n w ≡ true
+      → (not (ltb (close S H n w) (start S H n u)) && not (ltb (close S H n u) (start S H n w))) ≡ concurrent S H n u w
   unfolding concurrent
   concurrent_unless u w bu bw ou ow = λ j. open_ w u (start_not_close S H n u w l ou ow bu bw) j && open_ u w (start_not_close S H n w u l ow ou bw bu) j
     where
@@ -239,7 +250,8 @@ module _ (S : Setup) (H : List Event) (n : ℕ) (l : Lawful S H) (u w : ℕ) (bu
       ∙ ap (λ (z : Bool). not (eqb (start S H n u) (start S H n w)) && z) (concurrent_unless S H n l u w bu bw ou ow)
       ∙ elim (cases_Bool (concurrent S H n u w)) [
         | inl c ↦ ap (λ (z : Bool). z && concurrent S H n u w) (apart_meet c)
-        | inr c ↦ (λ j. not (eqb (start S H n u) (start S H n w)) && c j) ∙ and_false (not (eqb (start S H n u) (start S H n w))) ∙ sym (and_false (meets S H n u w)) ∙ (λ j. meets S H n u w && sym c j)
+        | inr c ↦ (λ j. not (eqb (start S H n u) (start S H n w)) && c j) ∙ and_false (not (eqb (start S H n u) (start S H n w))) ∙ sym (and_false (meets S H n u w))
+            ∙ (λ j. meets S H n u w && sym c j)
       ]
     where
       turn : (a x y : Bool) → ((a && x) && y) ≡ (a && (y && x))

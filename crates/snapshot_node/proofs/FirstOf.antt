@@ -18,7 +18,8 @@ pub among_from : (m u : ℕ) (xs : List Txn) → m ≤ u → is_among u xs ≡ t
 among_from m u [] l h = absurd (cc)
 among_from m u (x ∷ xs) l h = go (leb m x.0) refl (among_from m u xs l) (or_cases (eqb x.0 u) (is_among u xs) h)
   where
-    go : (b : Bool) → leb m x.0 ≡ b → (is_among u xs ≡ true → is_among u (filter (λ w. leb m w.0) xs) ≡ true) → (eqb x.0 u ≡ true) ⊎ (is_among u xs ≡ true) → is_among u (cond b (x ∷ filter (λ w. leb m w.0) xs) (filter (λ w. leb m w.0) xs)) ≡ true
+    go : (b : Bool) → leb m x.0 ≡ b → (is_among u xs ≡ true → is_among u (filter (λ w. leb m w.0) xs) ≡ true) → (eqb x.0 u ≡ true) ⊎ (is_among u xs ≡ true)
+        → is_among u (cond b (x ∷ filter (λ w. leb m w.0) xs) (filter (λ w. leb m w.0) xs)) ≡ true
     go true e ih (inl q) = or_left (eqb x.0 u) _ q
     go true e ih (inr j) = or_right (eqb x.0 u) _ (ih j)
     go false e ih (inl q) = absurd (both_ways (leb m x.0) e (le-leb m x.0 (let y = eqb-true x.0 u q in omega arith)))

@@ -73,7 +73,8 @@ module _ (S : Setup) (H : List Event) (n : ℕ) (t : Txn) (c : ℕ) where
       go : (o : Option Txn) → IsLeastAside S H n t.0 c o → IsLeast (Reaches S H n t.0 c) (lesser_of o (Some t))
       go None h = (reach, λ a r. (let q = h a r in omega arith))
       go (Some u) h = elim (cases_lt t.0 u.0) [
-        | inl l ↦ subst (λ (z : Bool). IsLeast (Reaches S H n t.0 c) (Some (cond z t u))) (sym (lt-ltb t.0 u.0 l)) (reach, λ a r. elim (cases_eq a t.0) [ inl q ↦ omega arith | inr ne ↦ (let z = h.1 a r ne in omega arith) ])
+        | inl l ↦ subst (λ (z : Bool). IsLeast (Reaches S H n t.0 c) (Some (cond z t u))) (sym (lt-ltb t.0 u.0 l))
+            (reach, λ a r. elim (cases_eq a t.0) [ inl q ↦ omega arith | inr ne ↦ (let z = h.1 a r ne in omega arith) ])
         | inr l ↦ subst (λ (z : Bool). IsLeast (Reaches S H n t.0 c) (Some (cond z t u))) (sym (le-ltb t.0 u.0 l)) (h.0, λ a r. elim (cases_eq a t.0) [ inl q ↦ omega arith | inr ne ↦ h.1 a r ne ])
       ]
 
@@ -115,7 +116,8 @@ module _ (S : Setup) (H : List Event) (n t b : ℕ) where
   module _ (l : Lawful S H) (o : IsOrderly S H) (runs : aborted H t ≡ false) where
     -- whoever has put a cell is among its writers
     pub mate_writers : (x : Cell) (p : Option Txn) → IsLeast (IsMateAmong S H n t b (writers_in S H n x)) p → IsLeast (IsMateByPut S H n t b x) p
-    mate_writers x p h = least_as (IsMateAmong S H n t b (writers_in S H n x)) (IsMateByPut S H n t b x) p (λ u y. (puts_across S H n t l o runs t x u y.0, y.1)) (λ u y. (listed_across S H n t l o runs t x u y.0, y.1)) h
+    mate_writers x p h = least_as (IsMateAmong S H n t b (writers_in S H n x)) (IsMateByPut S H n t b x) p (λ u y. (puts_across S H n t l o runs t x u y.0, y.1))
+        (λ u y. (listed_across S H n t l o runs t x u y.0, y.1)) h
 
     module _ (f : TreeFacts S) (k : (row S.tree n).control ≡ Snapshot) where
       pub along_behind : (c : ℕ) → Along (Both (Behind S H n t t) IsMateOf) (accesses_of H t) c → Leaves S H n t b c t

@@ -53,7 +53,8 @@ module _ (t : ℕ) where
       (part_from xs k (omega arith) (λ i d a b. h.0 (suc i) d (omega arith) (omega arith), λ i d a b. h.1 (suc i) d (omega arith) (omega arith)))
 
 -- where the one before place k is numbered below t, and the one there is not, those from t on start there
-pub parts_at : (t : ℕ) (xs : List Txn) (k : ℕ) (e : Txn) → IsAscendingBy number_of xs → 0 < k → k ≤ length xs → (get_or xs (k - 1) e).0 < t → (k < length xs → t ≤ (get_or xs k e).0) → drop k xs ≡ filter (λ u. leb t u.0) xs
+pub parts_at : (t : ℕ) (xs : List Txn) (k : ℕ) (e : Txn) → IsAscendingBy number_of xs → 0 < k → k ≤ length xs → (get_or xs (k - 1) e).0 < t → (k < length xs → t ≤ (get_or xs k e).0)
+    → drop k xs ≡ filter (λ u. leb t u.0) xs
 parts_at t xs k e a p l below from = part_from t xs k l (λ i d s m. lt-ltb _ _ (before i d m), λ i d s m. le-ltb _ _ (behind i d s m))
   where
     before : (i : ℕ) (d : Txn) → i < k → (get_or xs i d).0 < t
@@ -103,7 +104,8 @@ module _ (S : Setup) (H : List Event) (n m : ℕ) (x : Cell) (o : IsOrderly S H)
 -- the writers of a cell from the horizon m of t on
 module _ (f : Facts) (n m : ℕ) (x : Cell) (o : IsOrderly (setup_of f) (events_of f)) (ts : List Txn) (e : ts ≡ filter (λ u. leb m u.0) (writers_in (setup_of f) (events_of f) n x))
     (t : ℕ) (below : ClosedBelow (setup_of f) (events_of f) n t m) where
-  found_later : (p : Txn → Bool) → ((u : Txn) → is_among u.0 (writers_in (setup_of f) (events_of f) n x) ≡ true → p u ≡ true → leb m u.0 ≡ true) → find p ts ≡ find p (writers_in (setup_of f) (events_of f) n x)
+  found_later : (p : Txn → Bool) → ((u : Txn) → is_among u.0 (writers_in (setup_of f) (events_of f) n x) ≡ true → p u ≡ true → leb m u.0 ≡ true)
+      → find p ts ≡ find p (writers_in (setup_of f) (events_of f) n x)
   found_later p only = ap (λ (us : List Txn). find p us) e ∙ find_kept p (λ u. leb m u.0) (writers_in (setup_of f) (events_of f) n x) only
 
   -- the first one among them is the first one of all
@@ -111,5 +113,6 @@ module _ (f : Facts) (n m : ℕ) (x : Cell) (o : IsOrderly (setup_of f) (events_
   first_later = found_later (comes_first (setup_of f) (events_of f) n t) (first_late (setup_of f) (events_of f) n m x o t below)
 
   -- and so is the first unfinished one
-  pub met_later : IsNumbered (events_of f) → begun (events_of f) t ≡ true → find (is_met (setup_of f) (events_of f) n t) ts ≡ find (is_met (setup_of f) (events_of f) n t) (writers_in (setup_of f) (events_of f) n x)
+  pub met_later : IsNumbered (events_of f) → begun (events_of f) t ≡ true → find (is_met (setup_of f) (events_of f) n t) ts ≡ find (is_met (setup_of f) (events_of f) n t)
+      (writers_in (setup_of f) (events_of f) n x)
   met_later k b = found_later (is_met (setup_of f) (events_of f) n t) (λ u a. met_late (setup_of f) (events_of f) n m x o t below u a k b)

@@ -60,7 +60,8 @@ by_reads S f H n a l c =
     as_edge b false e = refl
 
 -- a committed one from which no edge is marked has none
-pub unmarked : (S : Setup) (f : TreeFacts S) (H : List Event) (n a : ℕ) (ms : List Mark) → Lawful S H → IsOrderly S H → (row S.tree n).control ≡ Snapshot → AreMarked S H n ms → committed H a ≡ true → is_ahead ms (place_of_txn a) ≡ false → false ≡ has_edge S H n a
+pub unmarked : (S : Setup) (f : TreeFacts S) (H : List Event) (n a : ℕ) (ms : List Mark) → Lawful S H → IsOrderly S H → (row S.tree n).control ≡ Snapshot → AreMarked S H n ms → committed H a ≡ true
+    → is_ahead ms (place_of_txn a) ≡ false → false ≡ has_edge S H n a
 unmarked S f H n a ms l o c m k none = sym (false_from_ne_true _ (λ q.
     let b = any_is _ (txns H) q in
     let p = and_parts (committed H b.0) (edge S H n a b.0) b.1 in

@@ -82,10 +82,12 @@ module _ {X : Type 0} (Q : X → ℕ → Type 0) (P : ℕ → Type 0) where
   remains_start all left e f g = λ o h. least_as (Along Q all) P o f g (subst (λ (xs : List X). IsLeast (Along Q xs) o) e h)
 
   pub remains_next : (x : X) (left rest : List X) (best o : Option Txn) → left ≡ x ∷ rest → Remains Q P left best → IsLeast (Q x) o → Remains Q P rest (lesser_of best o)
-  remains_next x left rest best o e h q = λ r k. subst (IsLeast P) (sym (lesser_three best o r)) (h (lesser_of o r) (subst (λ (xs : List X). IsLeast (Along Q xs) (lesser_of o r)) (sym e) (least_either (Q x) (Along Q rest) o r q k)))
+  remains_next x left rest best o e h q = λ r k. subst (IsLeast P) (sym (lesser_three best o r))
+      (h (lesser_of o r) (subst (λ (xs : List X). IsLeast (Along Q xs) (lesser_of o r)) (sym e) (least_either (Q x) (Along Q rest) o r q k)))
 
   pub remains_skip : (x : X) (left rest : List X) (best : Option Txn) → left ≡ x ∷ rest → Remains Q P left best → ((u : ℕ) → Q x u → ⊥) → Remains Q P rest best
-  remains_skip x left rest best e h none = λ r k. h r (subst (λ (xs : List X). IsLeast (Along Q xs) r) (sym e) (least_as (Along Q rest) (λ u. Q x u ⊎ Along Q rest u) r (λ u y. inr y) (λ u z. elim z [ inl q ↦ absurd (none u q) | inr y ↦ y ]) k))
+  remains_skip x left rest best e h none = λ r k. h r
+      (subst (λ (xs : List X). IsLeast (Along Q xs) r) (sym e) (least_as (Along Q rest) (λ u. Q x u ⊎ Along Q rest u) r (λ u y. inr y) (λ u z. elim z [ inl q ↦ absurd (none u q) | inr y ↦ y ]) k))
 
   pub remains_end : (left : List X) (best : Option Txn) → left ≡ [] → Remains Q P left best → IsLeast P best
   remains_end left best e h = subst (IsLeast P) (lesser_none best) (h None (subst (λ (xs : List X). IsLeast (Along Q xs) None) (sym e) (λ u y. y)))

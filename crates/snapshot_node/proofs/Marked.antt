@@ -52,15 +52,18 @@ got_before : (S : Setup) (H : List Event) (u : ℕ) (x : Cell) → Lawful S H �
 unfolding got got_at
 got_before S H u x l h = let r = ltb-true _ _ h in let f = event_first (is_got u x) H r in each f.event f.passes f.is r
   where
-    each : (e : Event) → is_got u x e ≡ true → upto (suc (first_event (is_got u x) H)) H ≡ e ∷ upto (first_event (is_got u x) H) H → first_event (is_got u x) H < length H → first_event (is_got u x) H < vouched_at H u
-    each (Got s y w v) p q r = subst (λ (z : ℕ). first_event (is_got u x) H < vouched_at H z) (eqb-true s.0 u (and_parts (eqb s.0 u) (same_cell y x) p).0) (got_vouched S H (first_event (is_got u x) H) s y w v l (record { place = r; is = q }))
+    each : (e : Event) → is_got u x e ≡ true → upto (suc (first_event (is_got u x) H)) H ≡ e ∷ upto (first_event (is_got u x) H) H → first_event (is_got u x) H < length H
+        → first_event (is_got u x) H < vouched_at H u
+    each (Got s y w v) p q r = subst (λ (z : ℕ). first_event (is_got u x) H < vouched_at H z) (eqb-true s.0 u (and_parts (eqb s.0 u) (same_cell y x) p).0)
+        (got_vouched S H (first_event (is_got u x) H) s y w v l (record { place = r; is = q }))
     each _ p q r = absurd (cc)
 
 put_before : (S : Setup) (H : List Event) (w : ℕ) (x : Cell) → Lawful S H → wrote H w x ≡ true → put_at H w x < vouched_at H w
 unfolding wrote
 put_before S H w x l h = put_vouched S H w x l (ltb-true _ _ h)
 
-concurrent_before : (S : Setup) (H : List Event) (i n u w : ℕ) → Lawful S H → i ≤ length H → began_at H u < i → began_at H w < i → on S H n u ≡ true → on S H n w ≡ true → concurrent S H n u w ≡ true → concurrent S (upto i H) n u w ≡ true
+concurrent_before : (S : Setup) (H : List Event) (i n u w : ℕ) → Lawful S H → i ≤ length H → began_at H u < i → began_at H w < i → on S H n u ≡ true → on S H n w ≡ true → concurrent S H n u w ≡ true
+    → concurrent S (upto i H) n u w ≡ true
 unfolding concurrent
 concurrent_before S H i n u w l h bu bw ou ow c =
     let q = and_parts (ltb (start S H n u) (close S H n w)) (ltb (start S H n w) (close S H n u)) c in
@@ -73,7 +76,8 @@ concurrent_before S H i n u w l h bu bw ou ow c =
     and_from _ _ (lt-ltb _ _ a) (lt-ltb _ _ b)
 
 -- two that were validated touched each other before
-touches_before : (S : Setup) (H : List Event) (i n u w : ℕ) → Lawful S H → i ≤ length H → IsVouched H u → IsVouched H w → vouched_at H u < i → vouched_at H w < i → Touches S H n u w → Touches S (upto i H) n u w
+touches_before : (S : Setup) (H : List Event) (i n u w : ℕ) → Lawful S H → i ≤ length H → IsVouched H u → IsVouched H w → vouched_at H u < i → vouched_at H w < i → Touches S H n u w
+    → Touches S (upto i H) n u w
 touches_before S H i n u w l h cu cw vu vw p =
     let tu = (vouched_time S H u l cu).0 in
     let tw = (vouched_time S H w l cw).0 in
@@ -126,7 +130,8 @@ module _ (S : Setup) (e : Event) (P : List Event) (n : ℕ) (old ms : List Mark)
       before : upto (length P) (e ∷ P) ≡ P
       before = upto_cons (length P) e P (le_refl _) ∙ upto_all (length P) P (le_refl _)
 
-      kept : Lawful S (e ∷ P) → (u w : ℕ) → IsVouched (e ∷ P) u → IsVouched (e ∷ P) w → vouched_at (e ∷ P) u < length P → vouched_at (e ∷ P) w < length P → Touches S (e ∷ P) n u w → IsTold S (e ∷ P) n ms u w
+      kept : Lawful S (e ∷ P) → (u w : ℕ) → IsVouched (e ∷ P) u → IsVouched (e ∷ P) w → vouched_at (e ∷ P) u < length P → vouched_at (e ∷ P) w < length P → Touches S (e ∷ P) n u w
+          → IsTold S (e ∷ P) n ms u w
       kept l u w cu cw vu vw t =
           let h : length P ≤ length (e ∷ P) = (let z : length P ≤ suc (length P) = omega arith in z) in
           let bu : began_at (e ∷ P) u < length P = (let z = (vouched_time S (e ∷ P) u l cu).0 in omega arith) in
@@ -161,7 +166,8 @@ module _ (S : Setup) (e : Event) (P : List Event) (n : ℕ) (old ms : List Mark)
           ]
 
 pub marked_none : (S : Setup) (H : List Event) (n : ℕ) (ms : List Mark) → H ≡ [] → AreMarked S H n ms
-marked_none S H n ms e = subst (λ (G : List Event). AreMarked S G n ms) (sym e) (record { long = (let z : 0 ≤ length ms = omega arith in z); told = λ l u w hu hw t. absurd (none (vouched S [] u l hu)) })
+marked_none S H n ms e = subst (λ (G : List Event). AreMarked S G n ms) (sym e)
+    (record { long = (let z : 0 ≤ length ms = omega arith in z); told = λ l u w hu hw t. absurd (none (vouched S [] u l hu)) })
   where
     none : {u : ℕ} → IsVouched [] u → ⊥
     none v = let z = v.vouched in absurd (omega arith)
@@ -189,7 +195,8 @@ abbrev pub TellsOf : Setup → List Event → ℕ → List Mark → ℕ → ℕ 
 TellsOf S H n ms t u = (Touches S H n t u → IsTold S H n ms t u) × (Touches S H n u t → IsTold S H n ms u t)
 
 -- one mark more, for the newest event, and then those that the event makes
-module _ (S : Setup) (H : List Event) (e : Event) (P : List Event) (h : H ≡ e ∷ P) (m n : ℕ) (same : m ≡ n) (old pushed ms : List Mark) (x : Mark) (push : pushed ≡ old ++ x ∷ []) (g : HaveGrown pushed ms) (marked : AreMarked S P n old) where
+module _ (S : Setup) (H : List Event) (e : Event) (P : List Event) (h : H ≡ e ∷ P) (m n : ℕ) (same : m ≡ n) (old pushed ms : List Mark) (x : Mark) (push : pushed ≡ old ++ x ∷ [])
+    (g : HaveGrown pushed ms) (marked : AreMarked S P n old) where
   pub marked_noted : ((t : Txn) → validated_txn e ≡ Some t → Lawful S H → (u : ℕ) → IsSettled H t.0 → IsSettled H u → TellsOf S H m ms t.0 u) → AreMarked S H m ms
   marked_noted f =
       let tells = subst (λ (G : List Event). (t : Txn) → validated_txn e ≡ Some t → Lawful S G → (u : ℕ) → IsSettled G t.0 → IsSettled G u → TellsOf S G m ms t.0 u) h f in

@@ -33,7 +33,8 @@ LeftAcross v among b = at v IsAcross v.t.0 among b × IsTrue (is_marked_left v b
 abbrev pub EnteredAcross : Validation → List Txn → ℕ → Type 0
 EnteredAcross v among a = at v IsAcross v.t.0 among a × IsTrue (is_marked_entered v a)
 
-module _ (S : Setup) (H : List Event) (n t : ℕ) (l : Lawful S H) (o : IsOrderly S H) (runs : aborted H t ≡ false) (i : IsSound S) (k : (row S.tree n).control ≡ Snapshot) (ms : List Mark) (m : AreMarked S H n ms) where
+module _ (S : Setup) (H : List Event) (n t : ℕ) (l : Lawful S H) (o : IsOrderly S H) (runs : aborted H t ≡ false) (i : IsSound S) (k : (row S.tree n).control ≡ Snapshot) (ms : List Mark)
+    (m : AreMarked S H n ms) where
   -- no edge leads from one to another of its batch
   apart : (b c : ℕ) → one_batch S H n b c ≡ true → edge S H n b c ≡ true → ⊥
   apart b c same e = (meets_parts S H n b c (edge_parts S H n b c e).0).2 (batch_parts S H n b c same).2

@@ -69,17 +69,21 @@ module _ (S : Setup) (P : List Event) (n : ℕ) (b : Book) (a : Shown) (old : Sn
   -- with the same accesses, and the same book of them
   kept : (e : Event) → is_began_event e ≡ false → MayNote S P n e → Passes S P n e → ((x : Cell) (u : ℕ) → has_read_in S (e ∷ P) n x u ≡ has_read_in S P n x u)
       → ((x : Cell) (u : ℕ) → has_put_in S (e ∷ P) n x u ≡ has_put_in S P n x u) → ((u : ℕ) → touched_at S (e ∷ P) n u ≡ touched_at S P n u) → SnapshotStand n b a S (e ∷ P)
-  kept e c m q r w t = made e b a m refl (passed e m q) old.filed (λ x u. old.read x u ∙ sym (r x u)) (λ x u. old.put x u ∙ sym (w x u)) (old.begun ∙ sym (count_kept e P c)) (λ u. old.touched u ∙ sym (t u))
+  kept e c m q r w t = made e b a m refl (passed e m q) old.filed (λ x u. old.read x u ∙ sym (r x u)) (λ x u. old.put x u ∙ sym (w x u)) (old.begun ∙ sym (count_kept e P c))
+      (λ u. old.touched u ∙ sym (t u))
 
   pub noted_ready : (t : Txn) → MayNote S P n (Ready t) → SnapshotStand n b a S (Ready t ∷ P)
-  noted_ready t m = kept (Ready t) refl m tt (λ x u. still_read S P n (Ready t) x u refl refl refl) (λ x u. still_put S P n (Ready t) x u refl refl refl refl) (λ u. still_touched S P n (Ready t) u refl (λ es. refl))
+  noted_ready t m = kept (Ready t) refl m tt (λ x u. still_read S P n (Ready t) x u refl refl refl) (λ x u. still_put S P n (Ready t) x u refl refl refl refl)
+      (λ u. still_touched S P n (Ready t) u refl (λ es. refl))
 
   pub noted_told : (t : Txn) → MayNote S P n (Told t) → SnapshotStand n b a S (Told t ∷ P)
-  noted_told t m = kept (Told t) refl m tt (λ x u. still_read S P n (Told t) x u refl refl refl) (λ x u. still_put S P n (Told t) x u refl refl refl refl) (λ u. still_touched S P n (Told t) u refl (λ es. refl))
+  noted_told t m = kept (Told t) refl m tt (λ x u. still_read S P n (Told t) x u refl refl refl) (λ x u. still_put S P n (Told t) x u refl refl refl refl)
+      (λ u. still_touched S P n (Told t) u refl (λ es. refl))
 
   module _ (t : Txn) (y : Cell) (w : Txn) (v : Option ℤ) (m : MayNote S P n (Got t y w v)) where
     pub noted_got : (a' : Shown) → has_joined b t.0 ≡ true → AreFiled a' → ((x : Cell) (u : ℕ) → is_accessor (readers_of a') x u ≡ (is_accessor (readers_of a) x u || (same_cell y x && eqb t.0 u)))
-        → AreKept (writers_of a) (writers_of a') → a'.begun ≡ a.begun → ((u : ℕ) → touched_of a' u ≡ cond (eqb t.0 u) (Reads y ∷ touched_of a u) (touched_of a u)) → SnapshotStand n b a' S (Got t y w v ∷ P)
+        → AreKept (writers_of a) (writers_of a') → a'.begun ≡ a.begun → ((u : ℕ) → touched_of a' u ≡ cond (eqb t.0 u) (Reads y ∷ touched_of a u) (touched_of a u))
+        → SnapshotStand n b a' S (Got t y w v ∷ P)
     noted_got a' j f r k c z =
         let o : on S P n t.0 ≡ true = here t.0 m.0 ∙ j in
         made (Got t y w v) b a' m refl (passed (Got t y w v) m tt) f
@@ -91,10 +95,12 @@ module _ (S : Setup) (P : List Event) (n : ℕ) (b : Book) (a : Shown) (old : Sn
     pub noted_got_off : has_joined b t.0 ≡ false → SnapshotStand n b a S (Got t y w v ∷ P)
     noted_got_off j =
         let o : on S P n t.0 ≡ false = here t.0 m.0 ∙ j in
-        kept (Got t y w v) refl m tt (λ x u. got_elsewhere S P n t y w v x u o) (λ x u. still_put S P n (Got t y w v) x u refl refl refl refl) (λ u. touched_elsewhere S P n (Got t y w v) (λ u. refl) u o)
+        kept (Got t y w v) refl m tt (λ x u. got_elsewhere S P n t y w v x u o) (λ x u. still_put S P n (Got t y w v) x u refl refl refl refl)
+        (λ u. touched_elsewhere S P n (Got t y w v) (λ u. refl) u o)
 
   module _ (t : Txn) (y : Cell) (v : Option ℤ) (m : MayNote S P n (Put t y v)) where
-    pub noted_put : (a' : Shown) → has_joined b t.0 ≡ true → AreFiled a' → AreKept (readers_of a) (readers_of a') → ((x : Cell) (u : ℕ) → is_accessor (writers_of a') x u ≡ (is_accessor (writers_of a) x u || (same_cell y x && eqb t.0 u)))
+    pub noted_put : (a' : Shown) → has_joined b t.0 ≡ true → AreFiled a' → AreKept (readers_of a) (readers_of a')
+        → ((x : Cell) (u : ℕ) → is_accessor (writers_of a') x u ≡ (is_accessor (writers_of a) x u || (same_cell y x && eqb t.0 u)))
         → a'.begun ≡ a.begun → ((u : ℕ) → touched_of a' u ≡ cond (eqb t.0 u) (Puts y ∷ touched_of a u) (touched_of a u)) → SnapshotStand n b a' S (Put t y v ∷ P)
     noted_put a' j f k w c z =
         let o : on S P n t.0 ≡ true = here t.0 m.0 ∙ j in
@@ -120,7 +126,8 @@ module _ (S : Setup) (P : List Event) (n : ℕ) (b : Book) (a : Shown) (old : Sn
     began_new = next_new b S P n t.0 old.batches m.0
 
     -- the book of accesses has noted it too
-    module _ (a' : Shown) (r : AreKept (readers_of a) (readers_of a')) (w : AreKept (writers_of a) (writers_of a')) (d : AreKept (committed_of a) (committed_of a')) (z : (u : ℕ) → touched_of a' u ≡ touched_of a u) (c : a'.begun ≡ a.begun + 1) where
+    module _ (a' : Shown) (r : AreKept (readers_of a) (readers_of a')) (w : AreKept (writers_of a) (writers_of a')) (d : AreKept (committed_of a) (committed_of a'))
+        (z : (u : ℕ) → touched_of a' u ≡ touched_of a u) (c : a'.begun ≡ a.begun + 1) where
       began : (b' : Book) → b'.size ≡ b.size → BatchesOf b' S (Began t s k i ∷ P) n → SnapshotStand n b' a' S (Began t s k i ∷ P)
       began b' l h =
           made (Began t s k i) b' a' m l h (filed_kept a a' r w d old.filed)
@@ -130,7 +137,8 @@ module _ (S : Setup) (P : List Event) (n : ℕ) (b : Book) (a : Shown) (old : Sn
           (λ u. z u ∙ old.touched u ∙ sym (began_touched S P n t s k i old.orderly m.0 u))
 
       pub noted_began : (b' : Book) (d at : ℕ) → on S (Began t s k i ∷ P) n t.0 ≡ true → d ≡ side S (Began t s k i ∷ P) n t.0 → at ≡ length P → b'.size ≡ b.size
-          → ((S : Setup) (P : List Event) (n : ℕ) (e : Event) → BatchesOf b S P n → MayCome P e → Joins S n d t.0 e → at ≡ length P → BatchesOf b' S (e ∷ P) n) → SnapshotStand n b' a' S (Began t s k i ∷ P)
+          → ((S : Setup) (P : List Event) (n : ℕ) (e : Event) → BatchesOf b S P n → MayCome P e → Joins S n d t.0 e → at ≡ length P → BatchesOf b' S (e ∷ P) n)
+          → SnapshotStand n b' a' S (Began t s k i ∷ P)
       noted_began b' d at o q l z f = began b' z (f S P n (Began t s k i) old.batches m.0 (refl, (sym on_now ∙ o), (sym side_now ∙ sym q)) l)
 
       pub noted_began_off : on S (Began t s k i ∷ P) n t.0 ≡ false → SnapshotStand n b a' S (Began t s k i ∷ P)
@@ -146,7 +154,8 @@ module _ (S : Setup) (P : List Event) (n : ℕ) (b : Book) (a : Shown) (old : Sn
         (λ x u. ap (is_among u) (w x) ∙ old.put x u ∙ sym (done_put S P n t x u m))
         (d ∙ old.begun ∙ sym (count_kept (Done t) P refl)) (λ u. k u ∙ old.touched u ∙ sym (still_touched S P n (Done t) u refl (λ es. refl)))
 
-    pub noted_gone : (c : Cause) → MayNote S P n (Gone t c) → ((x : Cell) (u : ℕ) → is_accessor (readers_of a') x u ≡ (is_accessor (readers_of a) x u && not (any_reads x (touched_of a t.0) && eqb t.0 u)))
+    pub noted_gone : (c : Cause) → MayNote S P n (Gone t c)
+        → ((x : Cell) (u : ℕ) → is_accessor (readers_of a') x u ≡ (is_accessor (readers_of a) x u && not (any_reads x (touched_of a t.0) && eqb t.0 u)))
         → ((x : Cell) (u : ℕ) → is_accessor (writers_of a') x u ≡ (is_accessor (writers_of a) x u && not (any_puts x (touched_of a t.0) && eqb t.0 u))) → SnapshotStand n b' a' S (Gone t c ∷ P)
     noted_gone c m r w =
         made (Gone t c) b' a' m z (h S P n (Gone t c) old.batches m refl l) f

@@ -75,11 +75,13 @@ module _ (S : Setup) (H : List Event) (n : ℕ) (l : Lawful S H) (c : (row S.tre
       let g = pw.stands in
       let ou = put_order S H u x l h in
       let ow = put_order S H w x l pw.put in
-      (snapshot_write S H (put_at H u x) n u w x l (let z : put_at H u x ≤ length H = omega arith in z) (put_granted S H u x l h) c m ou.0 (let y = ow.0 in let z : began_at H w < put_at H u x = omega arith in z) e
+      (snapshot_write S H (put_at H u x) n u w x l (let z : put_at H u x ≤ length H = omega arith in z) (put_granted S H u x l h) c m ou.0
+      (let y = ow.0 in let z : began_at H w < put_at H u x = omega arith in z) e
       (let z : put_at H u x ≤ gone_at H w = omega arith in z)).1
 
   -- two writers are of one batch, or one's batch is closed before the other's starts
-  one_or_behind : (u w : ℕ) (x : Cell) → Writer x u → Writer x w → ((side S H n u ≡ side S H n w) × (start S H n u ≡ start S H n w)) ⊎ ((close S H n u < start S H n w) ⊎ (close S H n w < start S H n u))
+  one_or_behind : (u w : ℕ) (x : Cell) → Writer x u → Writer x w → ((side S H n u ≡ side S H n w) × (start S H n u ≡ start S H n w))
+      ⊎ ((close S H n u < start S H n w) ⊎ (close S H n w < start S H n u))
   one_or_behind u w x pu pw = elim (cases_eq (side S H n u) (side S H n w)) [
     | inl e ↦ elim (apart_or_same S H n u w l (began u x pu) (began w x pw) pu.here pw.here e) [ inl q ↦ inl (e, q) | inr o ↦ inr o ]
     | inr ne ↦ (let m = meets_from S H n u w pu.here pw.here ne in

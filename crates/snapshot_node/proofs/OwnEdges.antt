@@ -131,7 +131,8 @@ module _ (v : Validation) (u : ℕ) where
           → (IsFalse found → (b : ℕ) → at v IsAcross u us b → IsTrue (is_marked_left v b) → ⊥) → LeftIn z left → LeftIn (z || found) rest
       left_next e late none h f =
           covers_next (at v Ahead u) (λ b. IsTrue (is_marked_left v b) → ⊥) (accesses_of H u) (Reads x) left rest e (h (or_none z found f).0)
-          (λ b q. none (or_none z found f).1 b (across_recent v.asked u (writers_in S H n x) us late (writers_here v.asked.facts.now n x v.asked.stands.orderly) v.t.0 b (listed_across S H n v.t.0 v.lawful v.asked.stands.orderly runs u x b q)))
+          (λ b q. none (or_none z found f).1 b (across_recent v.asked u (writers_in S H n x) us late (writers_here v.asked.facts.now n x v.asked.stands.orderly) v.t.0 b
+          (listed_across S H n v.t.0 v.lawful v.asked.stands.orderly runs u x b q)))
 
       pub entered_next : left ≡ Puts x ∷ rest → AreLate v.asked u (there v.asked readers_in x) us
           → (IsFalse found → (a : ℕ) → at v IsAcross u us a → IsTrue (is_marked_entered v a) → ⊥) → EnteredIn z left → EnteredIn (z || found) rest

@@ -76,7 +76,8 @@ module _ (S : Setup) (P : List Event) (n : ℕ) where
           count_step (is_pending S (e ∷ P) n) x Q ∙ (λ j. cond (same x (λ y. (parts y).0) j) 1 0 + along Q (λ y. (parts y).1) j) ∙ sym (count_step (is_pending S P n) x Q)
 
   -- t, which is unfinished, ends by an event
-  module _ (e : Event) (t : ℕ) (b : (u : ℕ) → is_began u e ≡ false) (none : is_pending S (e ∷ P) n e ≡ false) (run : unfinished P t ≡ true) (ends : (u : ℕ) → unfinished (e ∷ P) u ≡ (unfinished P u && not (eqb t u))) where
+  module _ (e : Event) (t : ℕ) (b : (u : ℕ) → is_began u e ≡ false) (none : is_pending S (e ∷ P) n e ≡ false) (run : unfinished P t ≡ true)
+      (ends : (u : ℕ) → unfinished (e ∷ P) u ≡ (unfinished P u && not (eqb t u))) where
     nothing : (o r : Bool) → 0 ≡ 0 + cond (o && (r && false)) 1 0
     nothing true true = refl
     nothing true false = refl

@@ -24,11 +24,13 @@ got_kept : (e : Event) (P : List Event) (u : ℕ) (x : Cell) → is_got u x e �
 got_kept e P u x h = got-cons e P u x ∙ ap (λ (b : Bool). b || got P u x) h
 
 -- an event that is none of u's Began, Got and Gone
-pub still_read : (S : Setup) (P : List Event) (n : ℕ) (e : Event) (x : Cell) (u : ℕ) → is_began u e ≡ false → is_got u x e ≡ false → is_gone u e ≡ false → has_read_in S (e ∷ P) n x u ≡ has_read_in S P n x u
+pub still_read : (S : Setup) (P : List Event) (n : ℕ) (e : Event) (x : Cell) (u : ℕ) → is_began u e ≡ false → is_got u x e ≡ false → is_gone u e ≡ false
+    → has_read_in S (e ∷ P) n x u ≡ has_read_in S P n x u
 still_read S P n e x u b g a = (λ j. on_kept S e P n u b j && not (aborted_kept e P u a j) && got_kept e P u x g j)
 
 -- t begins, and has read nothing yet
-pub began_read : (S : Setup) (P : List Event) (n : ℕ) (t : Txn) (s : Session) (k : Kind) (i : ℕ) → IsOrderly S P → t.0 ≡ suc (begun_count P) → (x : Cell) (u : ℕ) → has_read_in S (Began t s k i ∷ P) n x u ≡ has_read_in S P n x u
+pub began_read : (S : Setup) (P : List Event) (n : ℕ) (t : Txn) (s : Session) (k : Kind) (i : ℕ) → IsOrderly S P → t.0 ≡ suc (begun_count P) → (x : Cell) (u : ℕ)
+    → has_read_in S (Began t s k i ∷ P) n x u ≡ has_read_in S P n x u
 began_read S P n t s k i o new x u = elim (cases_Bool (eqb t.0 u)) [
   | inl q ↦ and_right _ _ (got_kept (Began t s k i) P u x refl ∙ none q) ∙ sym (and_right _ _ (none q))
   | inr q ↦ still_read S P n (Began t s k i) x u q refl refl
@@ -75,7 +77,8 @@ module _ (S : Setup) (P : List Event) (n : ℕ) (t : Txn) (y : Cell) (w : Txn) (
       go false q = refl
 
 -- t aborts, and counts as a reader no more
-pub gone_read : (S : Setup) (P : List Event) (n : ℕ) (t : Txn) (c : Cause) (x : Cell) (u : ℕ) → (has_read_in S P n x u && not ((on S P n t.0 && got P t.0 x) && eqb t.0 u)) ≡ has_read_in S (Gone t c ∷ P) n x u
+pub gone_read : (S : Setup) (P : List Event) (n : ℕ) (t : Txn) (c : Cause) (x : Cell) (u : ℕ) → (has_read_in S P n x u && not ((on S P n t.0 && got P t.0 x) && eqb t.0 u)) ≡ has_read_in S
+    (Gone t c ∷ P) n x u
 gone_read S P n t c x u = go (eqb t.0 u) refl
   where
     whole : has_read_in S (Gone t c ∷ P) n x u ≡ (on S P n u && not (eqb t.0 u || aborted P u) && got P u x)

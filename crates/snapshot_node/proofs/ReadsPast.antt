@@ -31,15 +31,18 @@ module _ (S : Setup) (a : TreeFacts S) (H : List Event) (n : ℕ) (l : Lawful S 
   earlier_closed u w x m h e g =
       let ou = put_order S H u x l h in
       let ow = put_order S H w x l (let z : put_at H w x < length H = omega arith in z) in
-      (snapshot_write S H (put_at H u x) n u w x l (let z : put_at H u x ≤ length H = omega arith in z) (put_granted S H u x l h) c m ou.0 (let y = ow.0 in let z : began_at H w < put_at H u x = omega arith in z) e (let z : put_at H u x ≤ gone_at H w = omega arith in z)).1
+      (snapshot_write S H (put_at H u x) n u w x l (let z : put_at H u x ≤ length H = omega arith in z) (put_granted S H u x l h) c m ou.0
+      (let y = ow.0 in let z : began_at H w < put_at H u x = omega arith in z) e (let z : put_at H u x ≤ gone_at H w = omega arith in z)).1
 
-  by_put : (m u w : ℕ) (x : Cell) → began_at H u < length H → began_at H w < length H → meets S H m u w ≡ true → is_timestamp (row S.tree m).control ≡ false → put_at H u x < put_at H w x → precedes S H x u w ≡ true
+  by_put : (m u w : ℕ) (x : Cell) → began_at H u < length H → began_at H w < length H → meets S H m u w ≡ true → is_timestamp (row S.tree m).control ≡ false → put_at H u x < put_at H w x
+      → precedes S H x u w ≡ true
   by_put m u w x bu bw k t e = precedes_at S a H m x u w l bu bw k ∙ orders_put S H m x u w t ∙ lt-ltb _ _ e
 
   not_stamps : is_timestamp (row S.tree n).control ≡ false
   not_stamps = ap is_timestamp c
 
-  visible_closed : (i t w : ℕ) (x : Cell) → i ≤ length H → began_at H t < i → began_at H w < i → on S H n t ≡ true → sees_by (row S.tree n).control S (upto i H) n x t w ≡ true → close S H n w < start S H n t
+  visible_closed : (i t w : ℕ) (x : Cell) → i ≤ length H → began_at H t < i → began_at H w < i → on S H n t ≡ true → sees_by (row S.tree n).control S (upto i H) n x t w ≡ true
+      → close S H n w < start S H n t
   visible_closed i t w x h bt bw o v =
       let q : close S (upto i H) n w < start S (upto i H) n t = ltb-true _ _ (sym (snapshot_sees (upto i H) t w x) ∙ v) in
       let z = close-upto S H i n w l h bw in
@@ -129,7 +132,8 @@ module _ (S : Setup) (a : TreeFacts S) (H : List Event) (n : ℕ) (l : Lawful S 
                     precedes_at S a H k x w.0 b l bw_all bb mk ∙ orders_start S H k x w.0 b (timestamp_is _ t) ∙ lt-ltb _ _ (omega arith))
                 | inr t ↦ (let ow = put_order S H w.0 x l pw_all in let ob = put_order S H b x l p in
                     let y1 = ow.0 in let y2 = ow.1 in let y3 = ow.2 in let y4 = ob.0 in
-                    let oc = open_while S H n w.0 (put_at H w.0 x) l up.0 y1 (let z : put_at H w.0 x ≤ length H = omega arith in z) (let z : put_at H w.0 x ≤ done_at H w.0 = omega arith in z) (let z : put_at H w.0 x ≤ gone_at H w.0 = omega arith in z) in
+                    let oc = open_while S H n w.0 (put_at H w.0 x) l up.0 y1 (let z : put_at H w.0 x ≤ length H = omega arith in z) (let z : put_at H w.0 x ≤ done_at H w.0 = omega arith in z)
+                    (let z : put_at H w.0 x ≤ gone_at H w.0 = omega arith in z) in
                     by_put k w.0 b x bw_all bb mk t (omega arith))
               ]
             ]
@@ -154,7 +158,8 @@ module _ (S : Setup) (a : TreeFacts S) (H : List Event) (n : ℕ) (l : Lawful S 
       | from_seen q o ↦ (
           let h : i ≤ length H = (let y = g.place in omega arith) in
           let s = seen_at S H i r.0 x w.0 l h o in
-          let look : meets S H n r.0 w.0 ≡ true → close S H n w.0 < start S H n r.0 = λ k. visible_closed i r.0 w.0 x h run.0 s.began here.0 (sym (visible_at S a H i n r.0 w.0 x l h run.0 s.began k) ∙ s.visible) in
+          let look : meets S H n r.0 w.0 ≡ true → close S H n w.0 < start S H n r.0 = λ k. visible_closed i r.0 w.0 x h run.0 s.began here.0
+          (sym (visible_at S a H i n r.0 w.0 x l h run.0 s.began k) ∙ s.visible) in
           elim (cases_eq w.0 b) [
             | inl e ↦ absurd (let z = look (subst (λ (z : ℕ). meets S H n r.0 z ≡ true) (sym e) m) in let y = ap (close S H n) e in omega arith)
             | inr ne ↦ met s.began s.put look ne

@@ -62,15 +62,18 @@ snapshot_start S H s n side size k inner a b =
     waited (Some u) = refl
 
 -- what it says of a write
-pub snapshot_first : (S : Setup) (H : List Event) (n t : ℕ) (x : Cell) (u : Txn) → (row S.tree n).control ≡ Snapshot → Some u ≡ some_txn (find (is_first S H n t x) (txns H)) → Break (First u x) ≡ on_access (row S.tree n).control S H n t x true
+pub snapshot_first : (S : Setup) (H : List Event) (n t : ℕ) (x : Cell) (u : Txn) → (row S.tree n).control ≡ Snapshot → Some u ≡ some_txn (find (is_first S H n t x) (txns H))
+    → Break (First u x) ≡ on_access (row S.tree n).control S H n t x true
 unfolding on_access
 snapshot_first S H n t x u k h = rw k (go (find (is_first S H n t x) (txns H)) h)
   where
-    go : (o : Option ℕ) → Some u ≡ some_txn o → Break (First u x) ≡ or_else (break_for o (λ u. First (record { 0 = u }) x)) (wait_for (find (λ u. unfinished H u && meets S H n t u && wrote H u x) (txns H)))
+    go : (o : Option ℕ) → Some u ≡ some_txn o → Break (First u x) ≡ or_else (break_for o (λ u. First (record { 0 = u }) x))
+        (wait_for (find (λ u. unfinished H u && meets S H n t u && wrote H u x) (txns H)))
     go (Some w) h = let e : u ≡ (let v : Txn = record { 0 = w } in v) = cc in ap (λ (v : Txn). Break (First v x)) e
     go None h = absurd (cc)
 
-pub snapshot_write : (S : Setup) (H : List Event) (n t : ℕ) (x : Cell) (o : Option Txn) → (row S.tree n).control ≡ Snapshot → None ≡ some_txn (find (is_first S H n t x) (txns H)) → o ≡ some_txn (find (λ u. unfinished H u && meets S H n t u && wrote H u x) (txns H))
+pub snapshot_write : (S : Setup) (H : List Event) (n t : ℕ) (x : Cell) (o : Option Txn) → (row S.tree n).control ≡ Snapshot → None ≡ some_txn (find (is_first S H n t x) (txns H))
+    → o ≡ some_txn (find (λ u. unfinished H u && meets S H n t u && wrote H u x) (txns H))
     → wait_for_txn o ≡ on_access (row S.tree n).control S H n t x true
 unfolding on_access
 snapshot_write S H n t x o k h w = rw k (ap wait_for_txn w ∙ waits _ ∙ go (find (is_first S H n t x) (txns H)) h)

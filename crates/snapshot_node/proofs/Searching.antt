@@ -47,12 +47,14 @@ first_filter N p (z ∷ zs) x t h = go (p z) refl h (first_filter N p zs x t)
     go false e h ih = elim h [ inl q ↦ absurd (both_ways (p x) (ap p (sym q) ∙ e) t) | inr r ↦ ih r.1 ]
 
 -- pairs stand in the order of their left parts, and those of one left part in the order of their right parts
-first_pairs : {X Y : Type 0} (h : X → List Y) (N : X → Type 0) (M : X × Y → Type 0) (xs : List X) (x : X) (y : Y) → First N xs x → ((z : X) → Has xs z → N z → (w : Y) → Has (h z) w → M (z, w)) → First (λ w. M (x, w)) (h x) y →
+first_pairs : {X Y : Type 0} (h : X → List Y) (N : X → Type 0) (M : X × Y → Type 0) (xs : List X) (x : X) (y : Y) → First N xs x → ((z : X) → Has xs z → N z → (w : Y) → Has (h z) w → M (z, w))
+    → First (λ w. M (x, w)) (h x) y →
     First M (flat_map (λ z. map (λ w. (z, w)) (h z)) xs) (x, y)
 first_pairs h N M [] x y f g k = f
 first_pairs h N M (z ∷ zs) x y f g k = elim f [
   | inl e ↦ first_left M (map (λ w. (z, w)) (h z)) _ (x, y) (subst (λ u. First M (map (λ w. (u, w)) (h u)) (x, y)) (sym e) (first_map (λ w. (x, w)) M (h x) y k))
-  | inr r ↦ first_right M (map (λ w. (z, w)) (h z)) _ (x, y) (λ q i. let s = Has-map_from (λ w. (z, w)) (h z) q i in subst M s.2 (g z (inl refl) r.0 s.0 s.1)) (first_pairs h N M zs x y r.1 (λ u i. g u (inr i)) k)
+  | inr r ↦ first_right M (map (λ w. (z, w)) (h z)) _ (x, y) (λ q i. let s = Has-map_from (λ w. (z, w)) (h z) q i in subst M s.2 (g z (inl refl) r.0 s.0 s.1))
+      (first_pairs h N M zs x y r.1 (λ u i. g u (inr i)) k)
 ]
 
 first_found : {X : Type 0} (p : X → Bool) (xs : List X) (x : X) → p x ≡ true → First (λ y. p y ≡ false) xs x → find p xs ≡ Some x
@@ -114,14 +116,16 @@ module _ (S : Setup) (H : List Event) (n t : ℕ) where
     first_edge a b e =
         let begun = edge_begun S H n a b o e.edge in
         first_pairs (λ z. filter (edge S H n z) (at_stake H t)) (λ y. y < a) (Before a b) (at_stake H t) a b (first_stake a begun.0 e.from) (λ z i l w j. inl l)
-        (first_by (λ y. y < b) (λ w. Before a b (a, w)) (filter (edge S H n a) (at_stake H t)) b (λ w i l. inr (refl, l)) (first_filter (λ y. y < b) (edge S H n a) (at_stake H t) b e.edge (first_stake b begun.1 e.to)))
+        (first_by (λ y. y < b) (λ w. Before a b (a, w)) (filter (edge S H n a) (at_stake H t)) b (λ w i l. inr (refl, l))
+        (first_filter (λ y. y < b) (edge S H n a) (at_stake H t) b e.edge (first_stake b begun.1 e.to)))
 
     module _ (a b c d : Txn) (first : IsLeast (IsFirst S H n t) (Some a)) (second : IsLeast (IsMiddle S H n t a.0) (Some b)) (out : IsLeastEdge S H n t b.0 (Some (c, d))) where
       -- another pair of edges before these is no pivot
       no_lesser : (e f : ℕ × ℕ) → Before a.0 b.0 e → Leads S H n t e.0 e.1 → Leads S H n t f.0 f.1 → one_batch S H n e.1 f.0 ≡ true → ⊥
       no_lesser e f r x y m = elim r [
         | inl l ↦ (let z = first.1 e.0 (record { second = e.1; third = f.0; fourth = f.1; pivot = record { into = x; out = record { batch = m; out = y } } }) in omega arith)
-        | inr q ↦ (let z = second.1 e.1 (record { into = subst (λ (u : ℕ). Leads S H n t u e.1) q.0 x; left = record { from = f.0; to = f.1; out = record { batch = m; out = y } } }) in let l = q.1 in omega arith)
+        | inr q ↦ (let z = second.1 e.1 (record { into = subst (λ (u : ℕ). Leads S H n t u e.1) q.0 x; left = record { from = f.0; to = f.1; out = record { batch = m; out = y } } }) in let l = q.1 in
+            omega arith)
       ]
 
       no_lesser_out : (f : ℕ × ℕ) → Before c.0 d.0 f → Leads S H n t f.0 f.1 → one_batch S H n b.0 f.0 ≡ true → ⊥

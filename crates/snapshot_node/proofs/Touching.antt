@@ -127,7 +127,8 @@ module _ (S : Setup) (P : List Event) (n : ℕ) where
     steps = λ j. cond (on_kept S e P n u (b u) j) (touched_step e P u j) []
 
     -- an access, where n is on its path
-    pub more_touched : (z : Touched) → ((es : List Event) → touched_in (e ∷ es) ≡ z ∷ touched_in es) → on S P n (event_txn e).0 ≡ true → touched_at S (e ∷ P) n u ≡ cond (is_of u e) (z ∷ touched_at S P n u) (touched_at S P n u)
+    pub more_touched : (z : Touched) → ((es : List Event) → touched_in (e ∷ es) ≡ z ∷ touched_in es) → on S P n (event_txn e).0 ≡ true
+        → touched_at S (e ∷ P) n u ≡ cond (is_of u e) (z ∷ touched_at S P n u) (touched_at S P n u)
     more_touched z a o = steps ∙ go (is_of u e) refl
       where
         go : (q : Bool) → is_of u e ≡ q → cond (on S P n u) (cond q (touched_in (e ∷ own_events P u)) (accesses_of P u)) [] ≡ cond q (z ∷ touched_at S P n u) (touched_at S P n u)

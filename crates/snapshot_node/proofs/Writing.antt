@@ -55,14 +55,16 @@ counts_gone P t c u run = elim (cases_Bool (eqb t.0 u)) [
     over q = committed_kept (Gone t c) P u refl ∙ ap (committed P) (sym (eqb-true t.0 u q)) ∙ (unfinished_parts P t.0 run).1
 
 -- an event that is none of u's Began, Put, Done and Gone
-pub still_put : (S : Setup) (P : List Event) (n : ℕ) (e : Event) (x : Cell) (u : ℕ) → is_began u e ≡ false → is_put u x e ≡ false → is_done u e ≡ false → is_gone u e ≡ false → has_put_in S (e ∷ P) n x u ≡ has_put_in S P n x u
+pub still_put : (S : Setup) (P : List Event) (n : ℕ) (e : Event) (x : Cell) (u : ℕ) → is_began u e ≡ false → is_put u x e ≡ false → is_done u e ≡ false → is_gone u e ≡ false
+    → has_put_in S (e ∷ P) n x u ≡ has_put_in S P n x u
 still_put S P n e x u b p d g = (λ j. on_kept S e P n u b j && counts_kept e P u b d g j && wrote_kept e P u x p j)
 
 pub done_put : (S : Setup) (P : List Event) (n : ℕ) (t : Txn) (x : Cell) (u : ℕ) → unfinished P t.0 ≡ true → has_put_in S (Done t ∷ P) n x u ≡ has_put_in S P n x u
 done_put S P n t x u run = (λ j. on_kept S (Done t) P n u refl j && counts_done P t u run j && wrote_kept (Done t) P u x refl j)
 
 -- t begins, and has put nothing yet
-pub began_put : (S : Setup) (P : List Event) (n : ℕ) (t : Txn) (s : Session) (k : Kind) (i : ℕ) → IsOrderly S P → t.0 ≡ suc (begun_count P) → (x : Cell) (u : ℕ) → has_put_in S (Began t s k i ∷ P) n x u ≡ has_put_in S P n x u
+pub began_put : (S : Setup) (P : List Event) (n : ℕ) (t : Txn) (s : Session) (k : Kind) (i : ℕ) → IsOrderly S P → t.0 ≡ suc (begun_count P) → (x : Cell) (u : ℕ)
+    → has_put_in S (Began t s k i ∷ P) n x u ≡ has_put_in S P n x u
 began_put S P n t s k i o new x u = elim (cases_Bool (eqb t.0 u)) [
   | inl q ↦ and_right _ _ (wrote_kept (Began t s k i) P u x refl ∙ none q) ∙ sym (and_right _ _ (none q))
   | inr q ↦ still_put S P n (Began t s k i) x u q refl refl refl
@@ -109,7 +111,8 @@ module _ (S : Setup) (P : List Event) (n : ℕ) (t : Txn) (y : Cell) (v : Option
       go false q = refl
 
 -- t, which is unfinished, aborts, and counts as a writer no more
-pub gone_put : (S : Setup) (P : List Event) (n : ℕ) (t : Txn) (c : Cause) (x : Cell) (u : ℕ) → unfinished P t.0 ≡ true → (has_put_in S P n x u && not ((on S P n t.0 && wrote P t.0 x) && eqb t.0 u)) ≡ has_put_in S (Gone t c ∷ P) n x u
+pub gone_put : (S : Setup) (P : List Event) (n : ℕ) (t : Txn) (c : Cause) (x : Cell) (u : ℕ) → unfinished P t.0 ≡ true
+    → (has_put_in S P n x u && not ((on S P n t.0 && wrote P t.0 x) && eqb t.0 u)) ≡ has_put_in S (Gone t c ∷ P) n x u
 gone_put S P n t c x u run = go (eqb t.0 u) refl
   where
     whole : has_put_in S (Gone t c ∷ P) n x u ≡ (on S P n u && (counts P u && not (eqb t.0 u)) && wrote P u x)

@@ -87,7 +87,8 @@ module _ {K V : Type 0} (R : K → K → Ordering) (total : IsTotalOrder R) (p :
       at_most false m n le = omega arith
 
   -- an edit that is made only where `joined` is true
-  pub joined_edit : (joined : Bool) (r : Bucket K V) (k : K) (ws : List V) → (joined ≡ true → IsEdited R p r k ws 1) → (joined ≡ false → r ≡ p) → IsEdited R p r k (cond joined ws (bucket_values R p k)) (cond joined 1 0)
+  pub joined_edit : (joined : Bool) (r : Bucket K V) (k : K) (ws : List V) → (joined ≡ true → IsEdited R p r k ws 1) → (joined ≡ false → r ≡ p)
+      → IsEdited R p r k (cond joined ws (bucket_values R p k)) (cond joined 1 0)
   joined_edit true r k ws edit kept = edit refl
   joined_edit false r k ws edit kept = subst (λ (b : Bucket K V). IsEdited R p b k (bucket_values R p k) 0) (sym (kept refl)) (left_alone k (bucket_values R p k) refl)
 
@@ -136,7 +137,8 @@ module _ {K V : Type 0} (R : K → K → Ordering) (total : IsTotalOrder R) (p :
     -- all values of k are taken out
     pub cut_edited : (start end : ℕ) → start ≡ lows R p.keys.items k → end ≡ tops R p.keys.items k
         → r.keys.items ≡ remove_range p.keys.items start end → r.values.items ≡ remove_range p.values.items start end
-        → vec_len r.keys + (end - start) ≡ vec_len p.keys → vec_len r.values + (end - start) ≡ vec_len p.values → vec_capacity p.keys ≤ vec_capacity r.keys → vec_capacity p.values ≤ vec_capacity r.values
+        → vec_len r.keys + (end - start) ≡ vec_len p.keys → vec_len r.values + (end - start) ≡ vec_len p.values → vec_capacity p.keys ≤ vec_capacity r.keys
+        → vec_capacity p.values ≤ vec_capacity r.values
         → IsEdited R p r k [] 0
     cut_edited start end low top kin vin klen vlen kcap vcap = record {
       sorted = record { ascends = subst (Ascends R) (sym kin) (ascends_cut R total ks start end (omega (arith, low, top, range_order k)) s.ascends); paired = omega (arith, klen, vlen, s.paired) };
@@ -169,13 +171,15 @@ module _ {K V : Type 0} (R : K → K → Ordering) (total : IsTotalOrder R) (p :
     pub put_found : IsFound R key p k (key v) at → IsEdited R p (record { keys = p.keys; values = with_item p.values at v }) k (put_by key v (bucket_values R p k)) 0
     put_found f = reworded _ k _ _ 0 (sym (put-set key v (bucket_values R p k) (at - lows R ks k) f.is)) (set_edited k at v f.low f.top)
 
-    pub put_missing : (r : Bucket K V) → IsMissing R key p k (key v) at → IsEdited R p r k (insert (bucket_values R p k) (at - lows R p.keys.items k) v) 1 → IsEdited R p r k (put_by key v (bucket_values R p k)) 1
+    pub put_missing : (r : Bucket K V) → IsMissing R key p k (key v) at → IsEdited R p r k (insert (bucket_values R p k) (at - lows R p.keys.items k) v) 1
+        → IsEdited R p r k (put_by key v (bucket_values R p k)) 1
     put_missing r f h = reworded r k _ _ 1 (sym (put-insert key v (bucket_values R p k) (at - lows R ks k) f.is)) h
 
   -- the one with a number is taken out
   module _ (key : V → ℕ) (k : K) (n at : ℕ) where
     module _ (a : IsAscendingBy key (bucket_values R p k)) where
-      pub take_found : (r : Bucket K V) → IsFound R key p k n at → IsEdited R p r k (remove (bucket_values R p k) (at - lows R p.keys.items k)) 0 → IsEdited R p r k (without key n (bucket_values R p k)) 0
+      pub take_found : (r : Bucket K V) → IsFound R key p k n at → IsEdited R p r k (remove (bucket_values R p k) (at - lows R p.keys.items k)) 0
+          → IsEdited R p r k (without key n (bucket_values R p k)) 0
       take_found r f h = reworded r k _ _ 0 (without_found key n (bucket_values R p k) (at - lows R ks k) a f.is) h
 
       pub take_missing : IsMissing R key p k n at → IsEdited R p p k (without key n (bucket_values R p k)) 0

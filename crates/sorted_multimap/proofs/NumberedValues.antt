@@ -24,10 +24,12 @@ module _ {V : Type 0} (key : V → ℕ) (n : ℕ) where
       later ih (Ok j) q e = absurd (cc)
       later ih (Err j) q e = ih j q
 
-      go : ((j : ℕ) → place_of key vs n ≡ Err j → vs ≡ without vs) → ((ltb (key v) n ≡ true) × (key v < n)) ⊎ ((ltb (key v) n ≡ false) × (n ≤ key v)) → ((eqb (key v) n ≡ true) × (key v ≡ n)) ⊎ ((eqb (key v) n ≡ false) × (key v ≢ n)) → v ∷ vs ≡ without (v ∷ vs)
+      go : ((j : ℕ) → place_of key vs n ≡ Err j → vs ≡ without vs) → ((ltb (key v) n ≡ true) × (key v < n)) ⊎ ((ltb (key v) n ≡ false) × (n ≤ key v)) → ((eqb (key v) n ≡ true) × (key v ≡ n))
+          ⊎ ((eqb (key v) n ≡ false) × (key v ≢ n)) → v ∷ vs ≡ without (v ∷ vs)
       go ih (inl p) (inl q) = absurd (omega (arith, p.1, q.1))
       go ih (inl p) (inr q) = ap (λ (l : List V). v ∷ l) (later ih (place_of key vs n) refl (rw p.0 at h)) ∙ sym (ap (λ (b : Bool). cond (not b) (v ∷ without vs) (without vs)) q.0)
-      go ih (inr p) (inl q) = absurd (let z : Ok 0 ≡ Err i = sym (ap (λ (b : Bool). cond b (next_place (place_of key vs n)) (cond (eqb (key v) n) (Ok 0) (Err 0))) p.0 ∙ ap (λ (b : Bool). cond b (Ok 0) (Err 0)) q.0) ∙ h in cc)
+      go ih (inr p) (inl q) = absurd
+          (let z : Ok 0 ≡ Err i = sym (ap (λ (b : Bool). cond b (next_place (place_of key vs n)) (cond (eqb (key v) n) (Ok 0) (Err 0))) p.0 ∙ ap (λ (b : Bool). cond b (Ok 0) (Err 0)) q.0) ∙ h in cc)
       go ih (inr p) (inr q) = without_above (v ∷ vs) ((let l : n < key v = omega (arith, p.1, q.1) in l), above-mono key n (key v) vs p.1 a.0)
 
   -- and one from which it is taken out
@@ -41,7 +43,8 @@ module _ {V : Type 0} (key : V → ℕ) (n : ℕ) where
           let s : suc j ≡ i = cc in
           subst (λ (k : ℕ). remove (v ∷ vs) k ≡ v ∷ without vs) s (ap (λ (l : List V). v ∷ l) (ih j q))
 
-      go : ((j : ℕ) → place_of key vs n ≡ Ok j → remove vs j ≡ without vs) → ((ltb (key v) n ≡ true) × (key v < n)) ⊎ ((ltb (key v) n ≡ false) × (n ≤ key v)) → ((eqb (key v) n ≡ true) × (key v ≡ n)) ⊎ ((eqb (key v) n ≡ false) × (key v ≢ n)) → remove (v ∷ vs) i ≡ without (v ∷ vs)
+      go : ((j : ℕ) → place_of key vs n ≡ Ok j → remove vs j ≡ without vs) → ((ltb (key v) n ≡ true) × (key v < n)) ⊎ ((ltb (key v) n ≡ false) × (n ≤ key v)) → ((eqb (key v) n ≡ true) × (key v ≡ n))
+          ⊎ ((eqb (key v) n ≡ false) × (key v ≢ n)) → remove (v ∷ vs) i ≡ without (v ∷ vs)
       go ih (inl p) (inl q) = absurd (omega (arith, p.1, q.1))
       go ih (inl p) (inr q) = later ih (place_of key vs n) refl (rw p.0 at h) ∙ sym (ap (λ (b : Bool). cond (not b) (v ∷ without vs) (without vs)) q.0)
       go ih (inr p) (inl q) =
@@ -49,4 +52,5 @@ module _ {V : Type 0} (key : V → ℕ) (n : ℕ) where
           let s : 0 ≡ i = cc in
           subst (λ (k : ℕ). remove (v ∷ vs) k ≡ without (v ∷ vs)) s
           (without_above vs (subst (λ (m : ℕ). AllAbove key m vs) q.1 a.0) ∙ sym (ap (λ (b : Bool). cond (not b) (v ∷ without vs) (without vs)) q.0))
-      go ih (inr p) (inr q) = absurd (let z : Err 0 ≡ Ok i = sym (ap (λ (b : Bool). cond b (next_place (place_of key vs n)) (cond (eqb (key v) n) (Ok 0) (Err 0))) p.0 ∙ ap (λ (b : Bool). cond b (Ok 0) (Err 0)) q.0) ∙ h in cc)
+      go ih (inr p) (inr q) = absurd
+          (let z : Err 0 ≡ Ok i = sym (ap (λ (b : Bool). cond b (next_place (place_of key vs n)) (cond (eqb (key v) n) (Ok 0) (Err 0))) p.0 ∙ ap (λ (b : Bool). cond b (Ok 0) (Err 0)) q.0) ∙ h in cc)

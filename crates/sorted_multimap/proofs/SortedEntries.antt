@@ -177,7 +177,8 @@ module _ {K : Type 0} (R : K → K → Ordering) (total : IsTotalOrder R) where
   values_range {V} (j ∷ js) (v ∷ vs) k a n = go (R j k) refl (values_range js vs k a.1 (omega arith))
     where
       go : (o : Ordering) → R j k ≡ o → take (tops R js k - lows R js k) (drop (lows R js k) vs) ≡ values_beside R js vs k
-          → take (cond (not (is_gt o)) (suc (tops R js k)) (tops R js k) - cond (is_lt o) (suc (lows R js k)) (lows R js k)) (drop (cond (is_lt o) (suc (lows R js k)) (lows R js k)) (v ∷ vs)) ≡ cond (is_eq o) (v ∷ values_beside R js vs k) (values_beside R js vs k)
+          → take (cond (not (is_gt o)) (suc (tops R js k)) (tops R js k) - cond (is_lt o) (suc (lows R js k)) (lows R js k)) (drop (cond (is_lt o) (suc (lows R js k)) (lows R js k)) (v ∷ vs)) ≡ cond
+          (is_eq o) (v ∷ values_beside R js vs k) (values_beside R js vs k)
       go Less e ih = let m : suc (tops R js k) - suc (lows R js k) ≡ tops R js k - lows R js k = omega arith in ap (λ (i : ℕ). take i (drop (lows R js k) vs)) m ∙ ih
       go Equal e ih =
           let z : lows R js k ≡ 0 = lows_rest j k js a.0 (ap is_lt e) in
@@ -204,13 +205,15 @@ module _ {K : Type 0} (R : K → K → Ordering) (total : IsTotalOrder R) where
       go Greater e ih = omega arith
 
   -- an edit at another key
-  pub values_insert_other : {V : Type 0} (ks : List K) (vs : List V) (p : ℕ) (k q : K) (v : V) → length ks ≡ length vs → p ≤ length ks → is_eq (R k q) ≡ false → values_beside R (insert ks p k) (insert vs p v) q ≡ values_beside R ks vs q
+  pub values_insert_other : {V : Type 0} (ks : List K) (vs : List V) (p : ℕ) (k q : K) (v : V) → length ks ≡ length vs → p ≤ length ks → is_eq (R k q) ≡ false
+      → values_beside R (insert ks p k) (insert vs p v) q ≡ values_beside R ks vs q
   values_insert_other ks vs zero k q v n le off = rw off refl
   values_insert_other [] vs (suc p) k q v n le off = absurd (omega arith)
   values_insert_other (j ∷ js) [] (suc p) k q v n le off = absurd (omega arith)
   values_insert_other {V} (j ∷ js) (w ∷ vs) (suc p) k q v n le off = ap (λ (r : List V). cond (is_eq (R j q)) (w ∷ r) r) (values_insert_other js vs p k q v (omega arith) (omega arith) off)
 
-  pub values_remove_other : {V : Type 0} (ks : List K) (vs : List V) (p : ℕ) (q d : K) → length ks ≡ length vs → p < length ks → is_eq (R (get_or ks p d) q) ≡ false → values_beside R (remove ks p) (remove vs p) q ≡ values_beside R ks vs q
+  pub values_remove_other : {V : Type 0} (ks : List K) (vs : List V) (p : ℕ) (q d : K) → length ks ≡ length vs → p < length ks → is_eq (R (get_or ks p d) q) ≡ false
+      → values_beside R (remove ks p) (remove vs p) q ≡ values_beside R ks vs q
   values_remove_other [] vs p q d n lt off = absurd (omega arith)
   values_remove_other (j ∷ js) [] p q d n lt off = absurd (omega arith)
   values_remove_other (j ∷ js) (w ∷ vs) zero q d n lt off = rw off refl
@@ -226,7 +229,8 @@ module _ {K : Type 0} (R : K → K → Ordering) (total : IsTotalOrder R) where
     where
       go : (o : Ordering) → R j k ≡ o → suc p ≡ cond (is_lt o) (suc (lows R js k)) (lows R js k) + i → suc p ≤ cond (not (is_gt o)) (suc (tops R js k)) (tops R js k)
           → ((h : ℕ) → p ≡ lows R js k + h → p ≤ tops R js k → values_beside R (insert js p k) (insert vs p v) k ≡ insert (values_beside R js vs k) h v)
-          → cond (is_eq o) (w ∷ values_beside R (insert js p k) (insert vs p v) k) (values_beside R (insert js p k) (insert vs p v) k) ≡ insert (cond (is_eq o) (w ∷ values_beside R js vs k) (values_beside R js vs k)) i v
+          → cond (is_eq o) (w ∷ values_beside R (insert js p k) (insert vs p v) k) (values_beside R (insert js p k) (insert vs p v) k) ≡ insert
+          (cond (is_eq o) (w ∷ values_beside R js vs k) (values_beside R js vs k)) i v
       go Less r e le ih = ih i (omega arith) (omega arith)
       go Equal r e le ih =
           let z : lows R js k ≡ 0 = lows_rest j k js a.0 (ap is_lt r) in
@@ -240,7 +244,8 @@ module _ {K : Type 0} (R : K → K → Ordering) (total : IsTotalOrder R) where
   values_remove_here (j ∷ js) [] p i k a n e lt = absurd (omega arith)
   values_remove_here {V} (j ∷ js) (w ∷ vs) zero i k a n e lt = go (R j k) refl e lt
     where
-      go : (o : Ordering) → R j k ≡ o → 0 ≡ cond (is_lt o) (suc (lows R js k)) (lows R js k) + i → 0 < cond (not (is_gt o)) (suc (tops R js k)) (tops R js k) → values_beside R js vs k ≡ remove (cond (is_eq o) (w ∷ values_beside R js vs k) (values_beside R js vs k)) i
+      go : (o : Ordering) → R j k ≡ o → 0 ≡ cond (is_lt o) (suc (lows R js k)) (lows R js k) + i → 0 < cond (not (is_gt o)) (suc (tops R js k)) (tops R js k)
+          → values_beside R js vs k ≡ remove (cond (is_eq o) (w ∷ values_beside R js vs k) (values_beside R js vs k)) i
       go Less r e lt = absurd (omega arith)
       go Equal r e lt = let z : i ≡ 0 = omega arith in rw z refl
       go Greater r e lt = let t : tops R js k ≡ 0 = tops_rest j k js a.0 r in absurd (omega arith)
@@ -248,7 +253,8 @@ module _ {K : Type 0} (R : K → K → Ordering) (total : IsTotalOrder R) where
     where
       go : (o : Ordering) → R j k ≡ o → suc p ≡ cond (is_lt o) (suc (lows R js k)) (lows R js k) + i → suc p < cond (not (is_gt o)) (suc (tops R js k)) (tops R js k)
           → ((h : ℕ) → p ≡ lows R js k + h → p < tops R js k → values_beside R (remove js p) (remove vs p) k ≡ remove (values_beside R js vs k) h)
-          → cond (is_eq o) (w ∷ values_beside R (remove js p) (remove vs p) k) (values_beside R (remove js p) (remove vs p) k) ≡ remove (cond (is_eq o) (w ∷ values_beside R js vs k) (values_beside R js vs k)) i
+          → cond (is_eq o) (w ∷ values_beside R (remove js p) (remove vs p) k) (values_beside R (remove js p) (remove vs p) k) ≡ remove
+          (cond (is_eq o) (w ∷ values_beside R js vs k) (values_beside R js vs k)) i
       go Less r e lt ih = ih i (omega arith) (omega arith)
       go Equal r e lt ih =
           let z : lows R js k ≡ 0 = lows_rest j k js a.0 (ap is_lt r) in
@@ -256,7 +262,8 @@ module _ {K : Type 0} (R : K → K → Ordering) (total : IsTotalOrder R) where
           rw m (ap (λ (xs : List V). w ∷ xs) (ih p (omega arith) (omega arith)))
       go Greater r e lt ih = let t : tops R js k ≡ 0 = tops_rest j k js a.0 r in absurd (omega arith)
 
-  pub values_set_other : {V : Type 0} (ks : List K) (vs : List V) (p : ℕ) (q d : K) (v : V) → p < length ks → is_eq (R (get_or ks p d) q) ≡ false → values_beside R ks (set vs p v) q ≡ values_beside R ks vs q
+  pub values_set_other : {V : Type 0} (ks : List K) (vs : List V) (p : ℕ) (q d : K) (v : V) → p < length ks → is_eq (R (get_or ks p d) q) ≡ false
+      → values_beside R ks (set vs p v) q ≡ values_beside R ks vs q
   values_set_other [] vs p q d v lt off = absurd (omega arith)
   values_set_other (j ∷ js) [] p q d v lt off = refl
   values_set_other (j ∷ js) (w ∷ vs) zero q d v lt off = rw off refl

@@ -16,7 +16,8 @@ module _ {K V : Type 0} (R : K → K → Ordering) where
   values_of-append [] fs q = refl
   values_of-append (e ∷ es) fs q = go (is_eq (R e.0 q)) (values_of-append es fs q)
     where
-      go : (b : Bool) → values_of R (es ++ fs) q ≡ values_of R es q ++ values_of R fs q → cond b (e.1 ∷ values_of R (es ++ fs) q) (values_of R (es ++ fs) q) ≡ cond b (e.1 ∷ values_of R es q) (values_of R es q) ++ values_of R fs q
+      go : (b : Bool) → values_of R (es ++ fs) q ≡ values_of R es q ++ values_of R fs q → cond b (e.1 ∷ values_of R (es ++ fs) q) (values_of R (es ++ fs) q) ≡ cond b (e.1 ∷ values_of R es q)
+          (values_of R es q) ++ values_of R fs q
       go true h = ap (λ (vs : List V). e.1 ∷ vs) h
       go false h = h
 
@@ -26,7 +27,8 @@ module _ {K V : Type 0} (R : K → K → Ordering) where
   values_of-beside (k ∷ ks) (v ∷ vs) q = ap (λ (r : List V). cond (is_eq (R k q)) (v ∷ r) r) (values_of-beside ks vs q)
 
   values_of-entries : (b : Bucket K V) (bs : List (Bucket K V)) (q : K) → values_of R (entries_of (b ∷ bs)) q ≡ bucket_values R b q ++ values_of R (entries_of bs) q
-  values_of-entries b bs q = values_of-append (beside b.keys.items b.values.items) (entries_of bs) q ∙ ap (λ (vs : List V). vs ++ values_of R (entries_of bs) q) (values_of-beside b.keys.items b.values.items q)
+  values_of-entries b bs q = values_of-append (beside b.keys.items b.values.items) (entries_of bs) q ∙ ap (λ (vs : List V). vs ++ values_of R (entries_of bs) q)
+      (values_of-beside b.keys.items b.values.items q)
 
   none_there : (bs : List (Bucket K V)) (q : K) → ((j : ℕ) (d : Bucket K V) → j < length bs → bucket_values R (get_or bs j d) q ≡ []) → values_of R (entries_of bs) q ≡ []
   none_there [] q h = refl
@@ -37,7 +39,8 @@ module _ {K V : Type 0} (R : K → K → Ordering) where
   append_none (v ∷ vs) ws e = ap (λ (us : List V). v ∷ us) (append_none vs ws e)
 
   -- where only one bucket has values of q, these are its values_of
-  one_there : (bs : List (Bucket K V)) (q : K) (i : ℕ) (d : Bucket K V) → i < length bs → ((j : ℕ) (d : Bucket K V) → j < length bs → j ≢ i → bucket_values R (get_or bs j d) q ≡ []) → values_of R (entries_of bs) q ≡ bucket_values R (get_or bs i d) q
+  one_there : (bs : List (Bucket K V)) (q : K) (i : ℕ) (d : Bucket K V) → i < length bs → ((j : ℕ) (d : Bucket K V) → j < length bs → j ≢ i → bucket_values R (get_or bs j d) q ≡ [])
+      → values_of R (entries_of bs) q ≡ bucket_values R (get_or bs i d) q
   one_there [] q i d lt h = absurd (omega arith)
   one_there (b ∷ bs) q zero d lt h = values_of-entries b bs q ∙ append_none (bucket_values R b q) _ (none_there bs q (λ j d lt. h (suc j) d (omega arith) (omega arith)))
   one_there (b ∷ bs) q (suc i) d lt h =
@@ -46,7 +49,8 @@ module _ {K V : Type 0} (R : K → K → Ordering) where
 
 module _ {K V : Type 0} (R : K → K → Ordering) (spread : K → ℕ) where
   -- the values of a key lie in its bucket
-  pub values_there : (bs : List (Bucket K V)) (n : ℕ) → IsSpread R spread bs n → (q : K) (i : ℕ) (d : Bucket K V) → i < length bs → i ≡ spread q % length bs → values_of R (entries_of bs) q ≡ bucket_values R (get_or bs i d) q
+  pub values_there : (bs : List (Bucket K V)) (n : ℕ) → IsSpread R spread bs n → (q : K) (i : ℕ) (d : Bucket K V) → i < length bs → i ≡ spread q % length bs
+      → values_of R (entries_of bs) q ≡ bucket_values R (get_or bs i d) q
   values_there bs n is q i d lt at = one_there R bs q i d lt (λ j d lt off. (is.each j d lt).own q (omega arith))
 
 module _ {K V : Type 0} (R : K → K → Ordering) where
@@ -68,7 +72,8 @@ module _ {K V : Type 0} (R : K → K → Ordering) where
   kept_at as_ bs n b d k lt h = record {
     len = length-set bs n b ∙ k.len;
     each = λ i e le. elim (eqb_tells i n) [
-      | inl (hit, same) ↦ subst (λ (x : Bucket K V). IsKept R (get_or as_ i e) x) (sym (get_or-set_at bs n i b e same (omega (arith, k.len)))) (kept_twice (get_or as_ i e) (get_or bs n d) b (subst (λ (x : Bucket K V). IsKept R (get_or as_ i e) x) (at_any i n e d same (omega (arith, k.len))) (k.each i e le)) h)
+      | inl (hit, same) ↦ subst (λ (x : Bucket K V). IsKept R (get_or as_ i e) x) (sym (get_or-set_at bs n i b e same (omega (arith, k.len))))
+          (kept_twice (get_or as_ i e) (get_or bs n d) b (subst (λ (x : Bucket K V). IsKept R (get_or as_ i e) x) (at_any i n e d same (omega (arith, k.len))) (k.each i e le)) h)
       | inr (miss, other) ↦ subst (λ (x : Bucket K V). IsKept R (get_or as_ i e) x) (sym (get_or-set_other bs n i b e other)) (k.each i e le)
     ];
   }
@@ -76,7 +81,8 @@ module _ {K V : Type 0} (R : K → K → Ordering) where
       at_any : (i n : ℕ) (e d : Bucket K V) → i ≡ n → n < length bs → get_or bs i e ≡ get_or bs n d
       at_any i n e d same lt = ap (λ (j : ℕ). get_or bs j e) same ∙ get_or_default bs n e d lt
 
-  pub made_more : (as_ bs : List (Bucket K V)) (n spare : ℕ) (b d : Bucket K V) → IsMade as_ bs n spare → n < length as_ → IsKept R (get_or bs n d) b → HasRoom b spare → IsMade as_ (set bs n b) (n + 1) spare
+  pub made_more : (as_ bs : List (Bucket K V)) (n spare : ℕ) (b d : Bucket K V) → IsMade as_ bs n spare → n < length as_ → IsKept R (get_or bs n d) b → HasRoom b spare
+      → IsMade as_ (set bs n b) (n + 1) spare
   made_more as_ bs n spare b d m lt h room = record {
     kept = kept_at as_ bs n b d m.kept lt h;
     room = λ i e le. elim (eqb_tells i n) [
@@ -135,17 +141,20 @@ module _ {K V : Type 0} (R : K → K → Ordering) (spread : K → ℕ) where
           room = room;
           own = λ q off. let out : spread q % length bs ≢ i = subst (λ (x : ℕ). spread q % length bs ≢ x) same off in edit q ∙ elsewhere q _ out ∙ (is.each i d lt).own q out;
         })
-        | inr (miss, other) ↦ subst (IsBucket R spread (length bs) j n) (sym (get_or-set_other bs i j b e other)) ((less_spread bs m n le is).each j e (subst (λ (x : ℕ). j < x) (length-set bs i b) lj))
+        | inr (miss, other) ↦ subst (IsBucket R spread (length bs) j n) (sym (get_or-set_other bs i j b e other))
+            ((less_spread bs m n le is).each j e (subst (λ (x : ℕ). j < x) (length-set bs i b) lj))
       ]);
     }
 
     pub edited_values : (q : K) → values_of R (entries_of edited) q ≡ f q (values_of R (entries_of bs) q)
     edited_values q = elim (eqb_tells (spread q % length bs) i) [
-      | inl (hit, same) ↦ values_there R spread edited n edited_spread q i b (rw (length-set bs i b) lt) (sym same ∙ ap (λ (x : ℕ). spread q % x) (sym (length-set bs i b))) ∙ ap (λ (x : Bucket K V). bucket_values R x q) (get_or-set_at bs i i b b refl lt) ∙ edit q ∙ ap (f q) (sym (values_there R spread bs m is q i d lt (sym same)))
+      | inl (hit, same) ↦ values_there R spread edited n edited_spread q i b (rw (length-set bs i b) lt) (sym same ∙ ap (λ (x : ℕ). spread q % x) (sym (length-set bs i b)))
+          ∙ ap (λ (x : Bucket K V). bucket_values R x q) (get_or-set_at bs i i b b refl lt) ∙ edit q ∙ ap (f q) (sym (values_there R spread bs m is q i d lt (sym same)))
       | inr (miss, other) ↦
           let j = spread q % length bs in
           let lj : j < length bs = omega arith in
-          values_there R spread edited n edited_spread q j d (rw (length-set bs i b) lj) (ap (λ (x : ℕ). spread q % x) (sym (length-set bs i b))) ∙ ap (λ (x : Bucket K V). bucket_values R x q) (get_or-set_other bs i j b d other)
+          values_there R spread edited n edited_spread q j d (rw (length-set bs i b) lj) (ap (λ (x : ℕ). spread q % x) (sym (length-set bs i b)))
+          ∙ ap (λ (x : Bucket K V). bucket_values R x q) (get_or-set_other bs i j b d other)
           ∙ sym (values_there R spread bs m is q j d lj refl) ∙ sym (elsewhere q _ other)
     ]
 
@@ -239,7 +248,8 @@ module _ {K V : Type 0} (R : K → K → Ordering) (spread : K → ℕ) where
   located_room bs m is k i b l = (located_bucket bs m is k i b l).room
 
   -- the values of k are edited in its bucket, of which `old` shows the values
-  module _ (agrees : (a b : K) → is_eq (R a b) ≡ true → spread a ≡ spread b) (bs : List (Bucket K V)) (m n i : ℕ) (b c : Bucket K V) (is : IsSpread R spread bs m) (le : n ≤ m) (sorted : IsSorted R c) (room : HasRoom c n) where
+  module _ (agrees : (a b : K) → is_eq (R a b) ≡ true → spread a ≡ spread b) (bs : List (Bucket K V)) (m n i : ℕ) (b c : Bucket K V) (is : IsSpread R spread bs m) (le : n ≤ m) (sorted : IsSorted R c)
+      (room : HasRoom c n) where
     module _ (k : K) (l : IsLocated spread bs k i b) (new : List V) (edit : (q : K) → bucket_values R c q ≡ cond (is_eq (R k q)) new (bucket_values R b q)) where
       there : (q : K) → bucket_values R c q ≡ cond (is_eq (R k q)) new (bucket_values R (get_or bs i b) q)
       there q = edit q ∙ ap (λ (x : Bucket K V). cond (is_eq (R k q)) new (bucket_values R x q)) l.is
@@ -256,7 +266,8 @@ module _ {K V : Type 0} (R : K → K → Ordering) (spread : K → ℕ) where
   located_shown bs m is k i b l old shown = sym (located_values bs m is k i b l) ∙ shown k
 
   -- they become what `new` makes of them, and a place of the room is taken where `taken` is true
-  module _ (agrees : (a b : K) → is_eq (R a b) ≡ true → spread a ≡ spread b) (bs : List (Bucket K V)) (m n i : ℕ) (b c : Bucket K V) (taken : Bool) (is : IsSpread R spread bs m) (some : 0 < m) (less : n ≡ bool_byte taken) where
+  module _ (agrees : (a b : K) → is_eq (R a b) ≡ true → spread a ≡ spread b) (bs : List (Bucket K V)) (m n i : ℕ) (b c : Bucket K V) (taken : Bool) (is : IsSpread R spread bs m) (some : 0 < m)
+      (less : n ≡ bool_byte taken) where
     module _ (k : K) (l : IsLocated spread bs k i b) (new : List V → List V) (edit : IsEdited R b c k (new (bucket_values R b k)) (cond taken 1 0)) where
       left : HasRoom c (m - n)
       left = edit.room m (m - n) (left_room taken m n some less) (located_room bs m is k i b l)

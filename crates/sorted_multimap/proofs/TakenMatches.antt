@@ -68,7 +68,8 @@ module _ {A : Type 0} (p : A → Bool) where
   count_last [] = refl
   count_last (x ∷ xs) = go (list_any p xs) refl (p x) refl (count_last xs)
     where
-      go : (a : Bool) → list_any p xs ≡ a → (b : Bool) → p x ≡ b → count_by p (without_last p xs) ≡ count_by p xs - 1 → count_by p (cond a (x ∷ without_last p xs) (cond b xs (x ∷ xs))) ≡ count_by p (x ∷ xs) - 1
+      go : (a : Bool) → list_any p xs ≡ a → (b : Bool) → p x ≡ b → count_by p (without_last p xs) ≡ count_by p xs - 1 → count_by p (cond a (x ∷ without_last p xs) (cond b xs (x ∷ xs))) ≡ count_by p
+          (x ∷ xs) - 1
       go true any true e ih = omega (arith, count_yes x xs e, count_yes x (without_last p xs) e, ih, count_some xs any)
       go true any false e ih = omega (arith, count_no x xs e, count_no x (without_last p xs) e, ih)
       go false any true e ih = omega (arith, count_yes x xs e)
@@ -79,7 +80,8 @@ module _ {A : Type 0} (p : A → Bool) where
   filter_last [] = refl
   filter_last (x ∷ xs) = go (list_any p xs) (p x) refl (filter_last xs)
     where
-      go : (a b : Bool) → p x ≡ b → filter (λ x. not (p x)) (without_last p xs) ≡ filter (λ x. not (p x)) xs → filter (λ x. not (p x)) (cond a (x ∷ without_last p xs) (cond b xs (x ∷ xs))) ≡ cond (not b) (x ∷ filter (λ x. not (p x)) xs) (filter (λ x. not (p x)) xs)
+      go : (a b : Bool) → p x ≡ b → filter (λ x. not (p x)) (without_last p xs) ≡ filter (λ x. not (p x)) xs → filter (λ x. not (p x)) (cond a (x ∷ without_last p xs) (cond b xs (x ∷ xs))) ≡ cond
+          (not b) (x ∷ filter (λ x. not (p x)) xs) (filter (λ x. not (p x)) xs)
       go true b e ih = λ j. cond (not (e j)) (x ∷ ih j) (ih j)
       go false true e ih = refl
       go false false e ih = ap (λ (b : Bool). cond (not b) (x ∷ filter (λ x. not (p x)) xs) (filter (λ x. not (p x)) xs)) e

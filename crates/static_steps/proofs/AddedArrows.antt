@@ -40,7 +40,8 @@ pub step_added : (steps : List (List ℕ)) (from : ℕ) (rows mid new : List ℕ
     (a b : ℕ) → leads_in new a b ≡ (leads_in rows a b || leads (drop from steps) a b)
 unfolding leads
 step_added steps from rows mid new tables own behind later h e o d l m n a b =
-    n a b ∙ rw (m a b, l b, o b, d b, drop_more steps from [] h, e) (regroup (leads_in rows a b) (leads (drop (from + 1) steps) a b) (among a (get_or steps from []) && (among b (get_or steps from []) || list_any (among b) (drop (from + 1) steps))))
+    n a b ∙ rw (m a b, l b, o b, d b, drop_more steps from [] h, e)
+    (regroup (leads_in rows a b) (leads (drop (from + 1) steps) a b) (among a (get_or steps from []) && (among b (get_or steps from []) || list_any (among b) (drop (from + 1) steps))))
 
 any-map : {X Y : Type 0} (p : Y → Bool) (h : X → Y) (xs : List X) → list_any p (map h xs) ≡ list_any (λ x. p (h x)) xs
 any-map p h [] = refl

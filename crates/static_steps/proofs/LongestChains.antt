@@ -17,14 +17,16 @@ pub longest_takes : (p : ℕ → Bool) (f : ℕ → ℕ) (n : ℕ) → p n ≡ t
 unfolding below
 longest_takes p f n e =
     let own : greatest (map f (filter p (n ∷ []))) ≡ f n = rw e (omega arith) in
-    rw add-one (ap greatest (ap (map f) (filter-append p (below n) (n ∷ [])) ∙ map-append f (filter p (below n)) (filter p (n ∷ []))) ∙ greatest-append (map f (filter p (below n))) (map f (filter p (n ∷ []))) ∙ ap (max (greatest (map f (filter p (below n))))) own)
+    rw add-one (ap greatest (ap (map f) (filter-append p (below n) (n ∷ [])) ∙ map-append f (filter p (below n)) (filter p (n ∷ [])))
+    ∙ greatest-append (map f (filter p (below n))) (map f (filter p (n ∷ []))) ∙ ap (max (greatest (map f (filter p (below n))))) own)
 
 -- and one that is not
 pub longest_keeps : (p : ℕ → Bool) (f : ℕ → ℕ) (n : ℕ) → p n ≡ false → greatest (map f (filter p (below (n + 1)))) ≡ greatest (map f (filter p (below n)))
 unfolding below
 longest_keeps p f n e =
     let own : greatest (map f (filter p (n ∷ []))) ≡ 0 = rw e refl in
-    rw add-one (ap greatest (ap (map f) (filter-append p (below n) (n ∷ [])) ∙ map-append f (filter p (below n)) (filter p (n ∷ []))) ∙ greatest-append (map f (filter p (below n))) (map f (filter p (n ∷ []))) ∙ ap (max (greatest (map f (filter p (below n))))) own ∙ max_none _)
+    rw add-one (ap greatest (ap (map f) (filter-append p (below n) (n ∷ [])) ∙ map-append f (filter p (below n)) (filter p (n ∷ [])))
+    ∙ greatest-append (map f (filter p (below n))) (map f (filter p (n ∷ []))) ∙ ap (max (greatest (map f (filter p (below n))))) own ∙ max_none _)
   where
     max_none : (x : ℕ) → max x 0 ≡ x
     max_none x = omega arith
@@ -52,7 +54,8 @@ map_below p f g (suc n) h =
     own false = refl
 
 -- one link more
-pub longest_more : (rows chains : List ℕ) (d b : ℕ) → ((a : ℕ) → a < length rows → get_or chains a 0 ≡ longest_in rows d a) → greatest (map (λ a. suc (get_or chains a 0)) (ahead_in rows b)) ≡ longest_in rows (d + 1) b
+pub longest_more : (rows chains : List ℕ) (d b : ℕ) → ((a : ℕ) → a < length rows → get_or chains a 0 ≡ longest_in rows d a)
+    → greatest (map (λ a. suc (get_or chains a 0)) (ahead_in rows b)) ≡ longest_in rows (d + 1) b
 unfolding longest_in ahead_in
 longest_more rows chains d b h = rw add-one (ap greatest (map_below (is_ahead rows b) (λ a. suc (get_or chains a 0)) (λ a. suc (longest_in rows d a)) (length rows) (λ a lt. ap suc (h a lt))))
 

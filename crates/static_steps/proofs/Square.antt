@@ -19,7 +19,8 @@ or_both false true false false = refl
 or_both false false m i = refl
 
 -- one row more has a set
-pub row_joined : (rows : List ℕ) (t r later : ℕ) → t < length rows → ((b : ℕ) → is_in r b ≡ (is_in (get_or rows t 0) b || is_in later b)) → (a b : ℕ) → leads_in (set rows t r) a b ≡ (leads_in rows a b || (eqb t a && is_in later b))
+pub row_joined : (rows : List ℕ) (t r later : ℕ) → t < length rows → ((b : ℕ) → is_in r b ≡ (is_in (get_or rows t 0) b || is_in later b)) → (a b : ℕ)
+    → leads_in (set rows t r) a b ≡ (leads_in rows a b || (eqb t a && is_in later b))
 unfolding leads_in
 row_joined rows t r later h f a b = elim (cases_eq t a) [
   | inl e ↦ (let s = get_or-set_same rows t r 0 h in rw (eq-eqb t a e, ← e, s) (f b))

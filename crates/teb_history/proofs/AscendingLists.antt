@@ -48,7 +48,8 @@ module _ {A : Type 0} (key : A → ℕ) where
       let below : key x < n = omega arith in
       ap next_place (found_at xs h.1 n i d (omega arith) e) ∙ sym (place_below x xs n below)
 
-  gap_at : (xs : List A) (n i : ℕ) → i ≤ length xs → ((k : ℕ) (d : A) → k < i → key (get_or xs k d) < n) → ((k : ℕ) (d : A) → i ≤ k → k < length xs → n < key (get_or xs k d)) → Err i ≡ place_of key xs n
+  gap_at : (xs : List A) (n i : ℕ) → i ≤ length xs → ((k : ℕ) (d : A) → k < i → key (get_or xs k d) < n) → ((k : ℕ) (d : A) → i ≤ k → k < length xs → n < key (get_or xs k d))
+      → Err i ≡ place_of key xs n
   gap_at [] n i l below above = ap (λ (j : ℕ). Err j) (let e : i ≡ 0 = omega arith in e)
   gap_at (x ∷ xs) n zero l below above = sym (place_above x xs n (above zero x (omega arith) (omega arith)))
   gap_at (x ∷ xs) n (suc i) l below above =
@@ -161,7 +162,8 @@ module _ {A : Type 0} (key : A → ℕ) where
   ascending-put a [] h = (tt, tt)
   ascending-put a (x ∷ xs) h = go (ltb_tells (key x) (key a)) (eqb_tells (key x) (key a)) (ascending-put a xs h.1)
     where
-      go : ((ltb (key x) (key a) ≡ true) × (key x < key a)) ⊎ ((ltb (key x) (key a) ≡ false) × (key a ≤ key x)) → ((eqb (key x) (key a) ≡ true) × (key x ≡ key a)) ⊎ ((eqb (key x) (key a) ≡ false) × (key x ≢ key a))
+      go : ((ltb (key x) (key a) ≡ true) × (key x < key a)) ⊎ ((ltb (key x) (key a) ≡ false) × (key a ≤ key x)) → ((eqb (key x) (key a) ≡ true) × (key x ≡ key a))
+          ⊎ ((eqb (key x) (key a) ≡ false) × (key x ≢ key a))
           → IsAscendingBy key (put_by key a xs) → IsAscendingBy key (put_by key a (x ∷ xs))
       go (inl p) q ih = rw p.0 (above-put (key x) a xs p.1 h.0, ih)
       go (inr p) (inl q) ih = rw (p.0, q.0) (above-mono (key a) (key x) xs p.1 h.0, h.1)
@@ -193,7 +195,8 @@ module _ {A : Type 0} (key : A → ℕ) where
   remove-filter [] a n i h = absurd (cc)
   remove-filter (x ∷ xs) a n i h = go (ltb (key x) n) refl (eqb (key x) n) refl (place_of key xs n) (λ j e. remove-filter xs a.1 n j e) h
     where
-      go : (b : Bool) → ltb (key x) n ≡ b → (c : Bool) → eqb (key x) n ≡ c → (r : Result ℕ ℕ) → ((j : ℕ) → r ≡ Ok j → remove xs j ≡ filter (λ x. not (eqb (key x) n)) xs) → cond b (next_place r) (cond c (Ok 0) (Err 0)) ≡ Ok i
+      go : (b : Bool) → ltb (key x) n ≡ b → (c : Bool) → eqb (key x) n ≡ c → (r : Result ℕ ℕ) → ((j : ℕ) → r ≡ Ok j → remove xs j ≡ filter (λ x. not (eqb (key x) n)) xs)
+          → cond b (next_place r) (cond c (Ok 0) (Err 0)) ≡ Ok i
           → remove (x ∷ xs) i ≡ cond (not c) (x ∷ filter (λ x. not (eqb (key x) n)) xs) (filter (λ x. not (eqb (key x) n)) xs)
       go true p true q r ih h = absurd (omega (arith, ltb-true _ _ p, eqb-true _ _ q))
       go true p false q (Ok j) ih h = let e : suc j ≡ i = cc in subst (λ (k : ℕ). remove (x ∷ xs) k ≡ x ∷ filter (λ x. not (eqb (key x) n)) xs) e (ap (λ (ys : List A). x ∷ ys) (ih j refl))
@@ -207,7 +210,8 @@ module _ {A : Type 0} (key : A → ℕ) where
   gap-filter [] a n i h = refl
   gap-filter (x ∷ xs) a n i h = go (ltb (key x) n) refl (eqb (key x) n) refl (place_of key xs n) (λ j e. gap-filter xs a.1 n j e) h
     where
-      go : (b : Bool) → ltb (key x) n ≡ b → (c : Bool) → eqb (key x) n ≡ c → (r : Result ℕ ℕ) → ((j : ℕ) → r ≡ Err j → xs ≡ filter (λ x. not (eqb (key x) n)) xs) → cond b (next_place r) (cond c (Ok 0) (Err 0)) ≡ Err i
+      go : (b : Bool) → ltb (key x) n ≡ b → (c : Bool) → eqb (key x) n ≡ c → (r : Result ℕ ℕ) → ((j : ℕ) → r ≡ Err j → xs ≡ filter (λ x. not (eqb (key x) n)) xs)
+          → cond b (next_place r) (cond c (Ok 0) (Err 0)) ≡ Err i
           → x ∷ xs ≡ cond (not c) (x ∷ filter (λ x. not (eqb (key x) n)) xs) (filter (λ x. not (eqb (key x) n)) xs)
       go true p true q r ih h = absurd (omega (arith, ltb-true _ _ p, eqb-true _ _ q))
       go true p false q (Ok j) ih h = absurd (cc)
@@ -233,7 +237,8 @@ module _ {A : Type 0} (key : A → ℕ) where
       above : key a ≤ key x → (y : A) → key x < key y → q y ≡ p y
       above le y l = same y (λ e. omega arith)
 
-      smaller : key x < key a → (b : Bool) → filter q (put_by key a xs) ≡ put_by key a (filter p xs) → cond b (x ∷ filter q (put_by key a xs)) (filter q (put_by key a xs)) ≡ put_by key a (cond b (x ∷ filter p xs) (filter p xs))
+      smaller : key x < key a → (b : Bool) → filter q (put_by key a xs) ≡ put_by key a (filter p xs) → cond b (x ∷ filter q (put_by key a xs)) (filter q (put_by key a xs)) ≡ put_by key a
+          (cond b (x ∷ filter p xs) (filter p xs))
       smaller l true ih = ap (λ (ys : List A). x ∷ ys) ih ∙ rw (lt-ltb (key x) (key a) l) refl
       smaller l false ih = ih
 
@@ -245,7 +250,8 @@ module _ {A : Type 0} (key : A → ℕ) where
       greater l true = rw (le-ltb (key x) (key a) (omega arith), ne_eqb (key x) (key a) (λ e. omega arith)) refl
       greater l false = sym (put-front a (filter p xs) (above-mono (key a) (key x) (filter p xs) (omega arith) (above-filter (key x) p xs h.0)))
 
-      go : ((ltb (key x) (key a) ≡ true) × (key x < key a)) ⊎ ((ltb (key x) (key a) ≡ false) × (key a ≤ key x)) → ((eqb (key x) (key a) ≡ true) × (key x ≡ key a)) ⊎ ((eqb (key x) (key a) ≡ false) × (key x ≢ key a))
+      go : ((ltb (key x) (key a) ≡ true) × (key x < key a)) ⊎ ((ltb (key x) (key a) ≡ false) × (key a ≤ key x)) → ((eqb (key x) (key a) ≡ true) × (key x ≡ key a))
+          ⊎ ((eqb (key x) (key a) ≡ false) × (key x ≢ key a))
           → filter q (put_by key a xs) ≡ put_by key a (filter p xs) → filter q (put_by key a (x ∷ xs)) ≡ put_by key a (filter p (x ∷ xs))
       go (inl l) e ih =
           ap (λ (b : Bool). filter q (cond b (x ∷ put_by key a xs) (a ∷ cond (eqb (key x) (key a)) xs (x ∷ xs)))) l.0
@@ -271,11 +277,13 @@ module _ {A : Type 0} (key : A → ℕ) where
       go false true e ih = ap (λ (b : Bool). cond b (a ∷ filter q xs) (filter q xs)) gone ∙ ap (λ (b : Bool). cond b (x ∷ filter q xs) (filter q xs)) (sym (ap q (one x (eqb-true _ _ e)) ∙ gone))
       go false false e ih = ap (λ (b : Bool). cond b (a ∷ filter q (x ∷ xs)) (filter q (x ∷ xs))) gone
 
-  filter-without : (a : A) (p q : A → Bool) → q a ≡ false → ((x : A) → key x ≢ key a → q x ≡ p x) → ((x : A) → key x ≡ key a → x ≡ a) → (xs : List A) → filter q xs ≡ filter (λ x. not (eqb (key x) (key a))) (filter p xs)
+  filter-without : (a : A) (p q : A → Bool) → q a ≡ false → ((x : A) → key x ≢ key a → q x ≡ p x) → ((x : A) → key x ≡ key a → x ≡ a) → (xs : List A)
+      → filter q xs ≡ filter (λ x. not (eqb (key x) (key a))) (filter p xs)
   filter-without a p q gone same one [] = refl
   filter-without a p q gone same one (x ∷ xs) = go (eqb_tells (key x) (key a)) (p x) refl (filter-without a p q gone same one xs)
     where
-      go : ((eqb (key x) (key a) ≡ true) × (key x ≡ key a)) ⊎ ((eqb (key x) (key a) ≡ false) × (key x ≢ key a)) → (b : Bool) → p x ≡ b → filter q xs ≡ filter (λ x. not (eqb (key x) (key a))) (filter p xs)
+      go : ((eqb (key x) (key a) ≡ true) × (key x ≡ key a)) ⊎ ((eqb (key x) (key a) ≡ false) × (key x ≢ key a)) → (b : Bool) → p x ≡ b → filter q xs ≡ filter (λ x. not (eqb (key x) (key a)))
+          (filter p xs)
           → cond (q x) (x ∷ filter q xs) (filter q xs) ≡ filter (λ x. not (eqb (key x) (key a))) (cond b (x ∷ filter p xs) (filter p xs))
       go (inl e) true r ih = ap (λ (b : Bool). cond b (x ∷ filter q xs) (filter q xs)) (ap q (one x e.1) ∙ gone) ∙ ih ∙ rw e.0 refl
       go (inl e) false r ih = ap (λ (b : Bool). cond b (x ∷ filter q xs) (filter q xs)) (ap q (one x e.1) ∙ gone) ∙ ih

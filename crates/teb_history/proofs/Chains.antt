@@ -94,7 +94,8 @@ links-at i (e ∷ P) d h = go (ltb_tells i (length P)) (links-at i P d)
     link : ℕ
     link = own_end P (event_txn e).0
 
-    older : i < length P → get_or (reverse (links P)) i 0 ≡ own_end (upto i P) (event_txn (get_or (reverse P) i d)).0 → get_or (reverse (link ∷ links P)) i 0 ≡ own_end (upto i (e ∷ P)) (event_txn (get_or (reverse (e ∷ P)) i d)).0
+    older : i < length P → get_or (reverse (links P)) i 0 ≡ own_end (upto i P) (event_txn (get_or (reverse P) i d)).0 → get_or (reverse (link ∷ links P)) i 0 ≡ own_end (upto i (e ∷ P))
+        (event_txn (get_or (reverse (e ∷ P)) i d)).0
     older l ih = get_or-reverse_older link (links P) i 0 (omega (arith, length-links P)) ∙ ih
         ∙ (λ j. own_end (sym (upto-older i e P (omega arith)) j) (event_txn (sym (get_or-reverse_older e P i d l) j)).0)
 
@@ -106,7 +107,8 @@ links-at i (e ∷ P) d h = go (ltb_tells i (length P)) (links-at i P d)
         ∙ (λ j. own_end (sym (upto-older (length P) e P (omega arith) ∙ upto-all P) j) (event_txn (sym (get_or-reverse_newest e P d) j)).0) in
         subst (λ (n : ℕ). get_or (reverse (link ∷ links P)) n 0 ≡ own_end (upto n (e ∷ P)) (event_txn (get_or (reverse (e ∷ P)) n d)).0) last this
 
-    go : ((ltb i (length P) ≡ true) × (i < length P)) ⊎ ((ltb i (length P) ≡ false) × (length P ≤ i)) → (i < length P → get_or (reverse (links P)) i 0 ≡ own_end (upto i P) (event_txn (get_or (reverse P) i d)).0)
+    go : ((ltb i (length P) ≡ true) × (i < length P)) ⊎ ((ltb i (length P) ≡ false) × (length P ≤ i))
+        → (i < length P → get_or (reverse (links P)) i 0 ≡ own_end (upto i P) (event_txn (get_or (reverse P) i d)).0)
         → get_or (reverse (link ∷ links P)) i 0 ≡ own_end (upto i (e ∷ P)) (event_txn (get_or (reverse (e ∷ P)) i d)).0
     go (inl q) ih = older q.1 (ih q.1)
     go (inr q) ih = newest q.1
@@ -117,7 +119,8 @@ unfolding newest_own own_end own_events upto
 newest_own-end [] t = refl
 newest_own-end (e ∷ P) t = go (is_of t e) refl (newest_own-end P t)
   where
-    go : (b : Bool) → is_of t e ≡ b → newest_own (upto (own_end P t) P) ≡ own_events P t → newest_own (upto (cond b (suc (length P)) (own_end P t)) (e ∷ P)) ≡ cond b (e ∷ filter (is_of t) P) (filter (is_of t) P)
+    go : (b : Bool) → is_of t e ≡ b → newest_own (upto (own_end P t) P) ≡ own_events P t → newest_own (upto (cond b (suc (length P)) (own_end P t)) (e ∷ P)) ≡ cond b (e ∷ filter (is_of t) P)
+        (filter (is_of t) P)
     go true q ih =
         let same : (event_txn e).0 ≡ t = eqb-true _ _ q in
         ap newest_own (upto-newest e P) ∙ ap (λ (n : ℕ). filter (is_of n) (e ∷ P)) same ∙ ap (λ (b : Bool). cond b (e ∷ filter (is_of t) P) (filter (is_of t) P)) q

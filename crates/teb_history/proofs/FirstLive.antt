@@ -56,7 +56,8 @@ numbered p (suc n) = go (find p (numbers n)) refl (numbered p n)
 
     go : (o : Option ℕ) → find p (numbers n) ≡ o → Numbered p n o → Numbered p (suc n) (find p (numbers n ++ suc n ∷ []))
     go None q h = subst (λ (o : Option ℕ). Numbered p (suc n) o) (sym (find_append_none p (numbers n) (suc n ∷ []) q)) (last (p (suc n)) refl h)
-    go (Some t) q h = subst (λ (o : Option ℕ). Numbered p (suc n) o) (sym (find_append_some p (numbers n) (suc n ∷ []) t q)) (record { passes = h.passes; above = h.above; within = omega (arith, h.within); first = h.first })
+    go (Some t) q h = subst (λ (o : Option ℕ). Numbered p (suc n) o) (sym (find_append_some p (numbers n) (suc n ∷ []) t q))
+        (record { passes = h.passes; above = h.above; within = omega (arith, h.within); first = h.first })
 
 -- the first of an ascending list that passes
 record IsFirstTxn (q : Txn → Bool) (ts : List Txn) (t : Txn) : Type 0 where
@@ -159,7 +160,8 @@ module _ (H : List Event) (p : ℕ → Bool) (lives : (t : ℕ) → p t ≡ true
 
   pub first_live : find (λ t. is_numbered H t && p t.0) (live_txns H) ≡ txn_of (find p (txns H))
   unfolding txns Numbered Listed
-  first_live = go (find p (numbers (begun_count H))) (find (λ t. is_numbered H t && p t.0) (live_txns H)) (numbered p (begun_count H)) (listed (λ t. is_numbered H t && p t.0) (live_txns H) (live-ascending H))
+  first_live = go (find p (numbers (begun_count H))) (find (λ t. is_numbered H t && p t.0) (live_txns H)) (numbered p (begun_count H))
+      (listed (λ t. is_numbered H t && p t.0) (live_txns H) (live-ascending H))
     where
       go : (o : Option ℕ) (r : Option Txn) → Numbered p (begun_count H) o → Listed (λ t. is_numbered H t && p t.0) (live_txns H) r → r ≡ txn_of o
       go None None a b = refl

@@ -54,7 +54,8 @@ module _ (t : ℕ) (x : Cell) where
   first_put_or_own [] d = refl
   first_put_or_own (e ∷ P) d = go (is_of t e) (put_own t x e) (first_put_or_own P d)
     where
-      go : (b : Bool) → is_put t x e ≡ (b && is_some (put_in x e)) → first_put_or P t x d ≡ first_put_or (upto (own_end P t) P) t x d → first_put_or (e ∷ P) t x d ≡ first_put_or (upto (cond b (suc (length P)) (own_end P t)) (e ∷ P)) t x d
+      go : (b : Bool) → is_put t x e ≡ (b && is_some (put_in x e)) → first_put_or P t x d ≡ first_put_or (upto (own_end P t) P) t x d
+          → first_put_or (e ∷ P) t x d ≡ first_put_or (upto (cond b (suc (length P)) (own_end P t)) (e ∷ P)) t x d
       go true q ih = ap (λ (Q : List Event). first_put_or Q t x d) (sym (upto-newest e P))
       go false q ih = ap (λ (b : Bool). first_put_or P t x (cond b (length P) d)) q ∙ ih ∙ ap (λ (Q : List Event). first_put_or Q t x d) (sym (upto-older (own_end P t) e P (own_end-le P t)))
 
@@ -85,7 +86,8 @@ module _ (t : ℕ) (x : Cell) where
       long : length P ≡ i
       long = ap (λ (Q : List Event). length Q) before ∙ length-upto i H (omega arith)
 
-      go : (b : Bool) → is_of t e ≡ b → is_put t x e ≡ (b && is_some (put_in x e)) → cond b (suc (length P)) (own_end P t) ≡ i + 1 → put_at H t x ≡ first_put_or P t x (cond (is_put t x e) (length P) first)
+      go : (b : Bool) → is_of t e ≡ b → is_put t x e ≡ (b && is_some (put_in x e)) → cond b (suc (length P)) (own_end P t) ≡ i + 1
+          → put_at H t x ≡ first_put_or P t x (cond (is_put t x e) (length P) first)
           → IsWalked H m (cond (is_some (put_in x e)) i first)
       go false q p n f = absurd (let z = own_end-le P t in omega (arith, long))
       go true q p n f =

@@ -31,10 +31,12 @@ module _ (events events' : List Event) (event : Event) (pushed : events' ≡ eve
   pushed_back = ap reverse pushed ∙ reverse-append events (event ∷ [])
 
   -- where the event's transaction stands then
-  pub standing_then : (before after : Standing) → before ≡ standing_of (reverse events) (event_txn event).0 → after ≡ standing_after event (length events') before → after ≡ standing_of (reverse events') (event_txn event).0
+  pub standing_then : (before after : Standing) → before ≡ standing_of (reverse events) (event_txn event).0 → after ≡ standing_after event (length events') before
+      → after ≡ standing_of (reverse events') (event_txn event).0
   standing_then before after b a =
       let t = (event_txn event).0 in
-      let more : length events' ≡ suc (length (reverse events)) = ap length pushed ∙ (let l : length (events ++ event ∷ []) ≡ suc (length (reverse events)) = omega (arith, length-append events (event ∷ []), length-reverse events) in l) in
+      let more : length events' ≡ suc (length (reverse events)) = ap length pushed
+      ∙ (let l : length (events ++ event ∷ []) ≡ suc (length (reverse events)) = omega (arith, length-append events (event ∷ []), length-reverse events) in l) in
       a ∙ (λ j. standing_after event (more j) (b j)) ∙ sym (standing_of-own event (reverse events) t (eq-eqb t t refl)) ∙ ap (λ (H : List Event). standing_of H t) (sym pushed_back)
 
   pub kept_push : (previous previous' : List ℕ) (kept kept' : List Standing) (live live' : List Txn) (n n' : ℕ) (before after : Standing)
@@ -53,8 +55,10 @@ module _ (events events' : List Event) (event : Event) (pushed : events' ≡ eve
       let then = standing_then before after b a in
       record {
         links = p ∙ (λ j. was.links j ++ (b j).end ∷ []) ∙ sym (reverse-append ((standing_of H t).end ∷ []) (links H)) ∙ ap (λ (es : List Event). reverse (links es)) (sym pushed_back);
-        standings = k ∙ (λ j. put_by standing_number ((then ∙ ap (λ (es : List Event). standing_of es t) pushed_back) j) (was.standings j)) ∙ sym (standings-cons event H) ∙ ap standings (sym pushed_back);
-        live = l ∙ (λ j. cond ((ap stands_live (then ∙ ap (λ (es : List Event). standing_of es t) pushed_back) ∙ live_standing (event ∷ H) t) j) (put_by number_of (event_txn event) (was.live j)) (filter (λ u. not (eqb u.0 (event_txn event).0)) (was.live j)))
+        standings = k ∙ (λ j. put_by standing_number ((then ∙ ap (λ (es : List Event). standing_of es t) pushed_back) j) (was.standings j)) ∙ sym (standings-cons event H)
+            ∙ ap standings (sym pushed_back);
+        live = l ∙ (λ j. cond ((ap stands_live (then ∙ ap (λ (es : List Event). standing_of es t) pushed_back) ∙ live_standing (event ∷ H) t) j) (put_by number_of (event_txn event) (was.live j))
+            (filter (λ u. not (eqb u.0 (event_txn event).0)) (was.live j)))
             ∙ sym (live-cons event H) ∙ ap live_txns (sym pushed_back);
         begun = c ∙ ap (λ (m : ℕ). m + from_bool (is_begin event)) was.begun ∙ counted (is_begin event) refl ∙ ap begun_count (sym pushed_back);
       }

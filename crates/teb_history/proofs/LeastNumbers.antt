@@ -30,7 +30,8 @@ find_end q (x ∷ xs) m = go (q x) (find_end q xs m)
 pub none_below : (q : ℕ → Bool) (w m : ℕ) → m < w → ((v : ℕ) → 0 < v → v < w → q v ≡ false) → find q (numbers m) ≡ None
 unfolding numbers first_or
 none_below q w zero lt f = refl
-none_below q w (suc m) lt f = find_end q (numbers m) (suc m) ∙ ap (first_or (q (suc m)) (suc m)) (none_below q w m (omega arith) f) ∙ ap (λ (o : Bool). cond o (Some (suc m)) None) (f (suc m) (omega arith) lt)
+none_below q w (suc m) lt f = find_end q (numbers m) (suc m) ∙ ap (first_or (q (suc m)) (suc m)) (none_below q w m (omega arith) f)
+    ∙ ap (λ (o : Bool). cond o (Some (suc m)) None) (f (suc m) (omega arith) lt)
 
 -- and w is found where it is the least that passes
 pub numbers_find : (q : ℕ → Bool) (n w : ℕ) → 0 < w → w ≤ n → q w ≡ true → ((v : ℕ) → 0 < v → v < w → q v ≡ false) → find q (numbers n) ≡ Some w

@@ -43,7 +43,8 @@ module _ (H : List Event) where
   at_place [] t i d h = absurd (cc)
   at_place (u ∷ us) t i d h = go (ltb u.0 t) (eqb u.0 t) refl (place_of standing_number (map (λ u. standing_of H u.0) us) t) (λ j e. at_place us t j d e) h
     where
-      go : (b c : Bool) → eqb u.0 t ≡ c → (r : Result ℕ ℕ) → ((j : ℕ) → r ≡ Ok j → get_or (map (λ u. standing_of H u.0) us) j d ≡ standing_of H t) → cond b (next_place r) (cond c (Ok 0) (Err 0)) ≡ Ok i
+      go : (b c : Bool) → eqb u.0 t ≡ c → (r : Result ℕ ℕ) → ((j : ℕ) → r ≡ Ok j → get_or (map (λ u. standing_of H u.0) us) j d ≡ standing_of H t)
+          → cond b (next_place r) (cond c (Ok 0) (Err 0)) ≡ Ok i
           → get_or (standing_of H u.0 ∷ map (λ u. standing_of H u.0) us) i d ≡ standing_of H t
       go true c q (Ok j) ih h = let e : suc j ≡ i = cc in subst (λ (k : ℕ). get_or (standing_of H u.0 ∷ map (λ u. standing_of H u.0) us) k d ≡ standing_of H t) e (ih j refl)
       go true c q (Err j) ih h = absurd (cc)
@@ -70,7 +71,8 @@ has-put t u (x ∷ xs) h = go (ltb x.0 u.0) (eqb x.0 u.0) refl h (has-put t u xs
     either true b h = absurd (cc)
     either false b h = (refl, h)
 
-    go : (b c : Bool) → eqb x.0 u.0 ≡ c → has t (cond b (x ∷ put_by number_of u xs) (u ∷ cond c xs (x ∷ xs))) ≡ false → (has t (put_by number_of u xs) ≡ false → (eqb u.0 t ≡ false) × (has t xs ≡ false))
+    go : (b c : Bool) → eqb x.0 u.0 ≡ c → has t (cond b (x ∷ put_by number_of u xs) (u ∷ cond c xs (x ∷ xs))) ≡ false
+        → (has t (put_by number_of u xs) ≡ false → (eqb u.0 t ≡ false) × (has t xs ≡ false))
         → (eqb u.0 t ≡ false) × (has t (x ∷ xs) ≡ false)
     go true c q h ih = let two = either _ _ h in let rest = ih two.1 in (rest.0, ap (λ b. b || has t xs) two.0 ∙ rest.1)
     go false true q h ih = let two = either _ _ h in (two.0, ap (λ (n : ℕ). eqb n t || has t xs) (eqb-true _ _ q) ∙ ap (λ b. b || has t xs) two.0 ∙ two.1)
@@ -96,11 +98,15 @@ unfolding has
 no_place H t [] a i h = refl
 no_place H t (u ∷ us) a i h = go (ltb_tells u.0 t) (eqb_tells u.0 t) (place_of standing_number (map (λ u. standing_of H u.0) us) t) refl (no_place H t us a.1)
   where
-    go : ((ltb u.0 t ≡ true) × (u.0 < t)) ⊎ ((ltb u.0 t ≡ false) × (t ≤ u.0)) → ((eqb u.0 t ≡ true) × (u.0 ≡ t)) ⊎ ((eqb u.0 t ≡ false) × (u.0 ≢ t)) → (r : Result ℕ ℕ) → place_of standing_number (map (λ u. standing_of H u.0) us) t ≡ r
+    go : ((ltb u.0 t ≡ true) × (u.0 < t)) ⊎ ((ltb u.0 t ≡ false) × (t ≤ u.0)) → ((eqb u.0 t ≡ true) × (u.0 ≡ t)) ⊎ ((eqb u.0 t ≡ false) × (u.0 ≢ t)) → (r : Result ℕ ℕ)
+        → place_of standing_number (map (λ u. standing_of H u.0) us) t ≡ r
         → ((j : ℕ) → place_of standing_number (map (λ u. standing_of H u.0) us) t ≡ Err j → has t us ≡ false) → has t (u ∷ us) ≡ false
     go (inl l) e (Err j) p ih = ap (λ b. b || has t us) (ne_eqb u.0 t (λ q. omega (arith, l.1))) ∙ ih j p
-    go (inl l) e (Ok j) p ih = absurd (one_place i (suc j) (place_of standing_number (map (λ u. standing_of H u.0) (u ∷ us)) t) (λ k. cond (l.0 k) (next_place (p k)) (cond (eqb u.0 t) (Ok 0) (Err 0))) h)
-    go (inr l) (inl e) r p ih = absurd (one_place i 0 (place_of standing_number (map (λ u. standing_of H u.0) (u ∷ us)) t) (λ k. cond (l.0 k) (next_place (place_of standing_number (map (λ u. standing_of H u.0) us) t)) (cond (e.0 k) (Ok 0) (Err 0))) h)
+    go (inl l) e (Ok j) p ih = absurd (one_place i (suc j) (place_of standing_number (map (λ u. standing_of H u.0) (u ∷ us)) t) (λ k. cond (l.0 k) (next_place (p k)) (cond (eqb u.0 t) (Ok 0) (Err 0)))
+        h)
+    go (inr l) (inl e) r p ih = absurd
+        (one_place i 0 (place_of standing_number (map (λ u. standing_of H u.0) (u ∷ us)) t)
+        (λ k. cond (l.0 k) (next_place (place_of standing_number (map (λ u. standing_of H u.0) us) t)) (cond (e.0 k) (Ok 0) (Err 0))) h)
     go (inr l) (inr e) r p ih = ap (λ b. b || has t us) e.0 ∙ above-has u.0 t us l.1 a.0
 
 pub standing-absent : (H : List Event) (t : Txn) (i : ℕ) → place_of standing_number (standings H) t.0 ≡ Err i → blank t ≡ standing_of H t.0
@@ -126,11 +132,13 @@ module _ (e : Event) (P : List Event) where
   map-above n [] l h = refl
   map-above n (u ∷ us) l h = λ j. same_stand u (λ q. omega (arith, h.0)) j ∷ map-above n us l h.1 j
 
-  map-put : (ts : List Txn) → IsAscendingBy number_of ts → map (λ u. standing_of (e ∷ P) u.0) (put_by number_of (event_txn e) ts) ≡ put_by standing_number (standing_of (e ∷ P) (event_txn e).0) (map (λ u. standing_of P u.0) ts)
+  map-put : (ts : List Txn) → IsAscendingBy number_of ts → map (λ u. standing_of (e ∷ P) u.0) (put_by number_of (event_txn e) ts) ≡ put_by standing_number (standing_of (e ∷ P) (event_txn e).0)
+      (map (λ u. standing_of P u.0) ts)
   map-put [] h = refl
   map-put (u ∷ us) h = go (ltb_tells u.0 (event_txn e).0) (eqb_tells u.0 (event_txn e).0) (map-put us h.1)
     where
-      go : ((ltb u.0 (event_txn e).0 ≡ true) × (u.0 < (event_txn e).0)) ⊎ ((ltb u.0 (event_txn e).0 ≡ false) × ((event_txn e).0 ≤ u.0)) → ((eqb u.0 (event_txn e).0 ≡ true) × (u.0 ≡ (event_txn e).0)) ⊎ ((eqb u.0 (event_txn e).0 ≡ false) × (u.0 ≢ (event_txn e).0))
+      go : ((ltb u.0 (event_txn e).0 ≡ true) × (u.0 < (event_txn e).0)) ⊎ ((ltb u.0 (event_txn e).0 ≡ false) × ((event_txn e).0 ≤ u.0)) → ((eqb u.0 (event_txn e).0 ≡ true) × (u.0 ≡ (event_txn e).0))
+          ⊎ ((eqb u.0 (event_txn e).0 ≡ false) × (u.0 ≢ (event_txn e).0))
           → map (λ u. standing_of (e ∷ P) u.0) (put_by number_of (event_txn e) us) ≡ put_by standing_number (standing_of (e ∷ P) (event_txn e).0) (map (λ u. standing_of P u.0) us)
           → map (λ u. standing_of (e ∷ P) u.0) (put_by number_of (event_txn e) (u ∷ us)) ≡ put_by standing_number (standing_of (e ∷ P) (event_txn e).0) (map (λ u. standing_of P u.0) (u ∷ us))
       go (inl l) q ih = rw l.0 (λ j. same_stand u (λ x. omega (arith, l.1)) j ∷ ih j)
@@ -146,6 +154,7 @@ module _ (e : Event) (P : List Event) where
   unfolding mentioned
   live-cons = go (is_live (e ∷ P) (event_txn e).0) refl
     where
-      go : (b : Bool) → is_live (e ∷ P) (event_txn e).0 ≡ b → filter (λ u. is_live (e ∷ P) u.0) (put_by number_of (event_txn e) (mentioned P)) ≡ cond b (put_by number_of (event_txn e) (live_txns P)) (filter (λ u. not (eqb u.0 (event_txn e).0)) (live_txns P))
+      go : (b : Bool) → is_live (e ∷ P) (event_txn e).0 ≡ b → filter (λ u. is_live (e ∷ P) u.0) (put_by number_of (event_txn e) (mentioned P)) ≡ cond b (put_by number_of (event_txn e) (live_txns P))
+          (filter (λ u. not (eqb u.0 (event_txn e).0)) (live_txns P))
       go true q = filter-put_in number_of (event_txn e) (λ u. is_live P u.0) (λ u. is_live (e ∷ P) u.0) q same_live (λ u x. one_of u (event_txn e) x) (mentioned P) (mentioned-ascending P)
       go false q = filter-put_away number_of (event_txn e) (λ u. is_live P u.0) (λ u. is_live (e ∷ P) u.0) q same_live (λ u x. one_of u (event_txn e) x) (mentioned P)

@@ -87,13 +87,15 @@ abbrev pub newest_in : {A : Type 0} → (Event → Option A) → List Event → 
 newest_in f [] = None
 newest_in f (e ∷ P) = let r = newest_in f P in option_or (f e) r
 
-newest_own_in : {A : Type 0} (t : ℕ) (f : Event → Option A) (last : List Event → Option A) → last [] ≡ None → ((e : Event) (P : List Event) → last (e ∷ P) ≡ cond (is_of t e) (option_or (f e) (last P)) (last P))
+newest_own_in : {A : Type 0} (t : ℕ) (f : Event → Option A) (last : List Event → Option A) → last [] ≡ None
+    → ((e : Event) (P : List Event) → last (e ∷ P) ≡ cond (is_of t e) (option_or (f e) (last P)) (last P))
     → (H : List Event) → newest_in f (own_events H t) ≡ last H
 unfolding own_events
 newest_own_in t f last none step [] = sym none
 newest_own_in t f last none step (e ∷ P) = go (is_of t e) (step e P) (newest_own_in t f last none step P)
   where
-    go : (b : Bool) → last (e ∷ P) ≡ cond b (option_or (f e) (last P)) (last P) → newest_in f (filter (is_of t) P) ≡ last P → newest_in f (cond b (e ∷ filter (is_of t) P) (filter (is_of t) P)) ≡ last (e ∷ P)
+    go : (b : Bool) → last (e ∷ P) ≡ cond b (option_or (f e) (last P)) (last P) → newest_in f (filter (is_of t) P) ≡ last P → newest_in f (cond b (e ∷ filter (is_of t) P) (filter (is_of t) P)) ≡ last
+        (e ∷ P)
     go true q h = ap (option_or (f e)) h ∙ sym q
     go false q h = h ∙ sym q
 

@@ -123,7 +123,8 @@ unfolding prepared
 prepared_standing H t = ap (λ b. b && came H (ready_at H t)) (unfinished_standing H t)
 
 pub phase_standing : (H : List Event) (t : ℕ) → standing_phase (standing_of H t) ≡ phase_of H t
-phase_standing H t = λ j. cond (committed H t) phase.Committed (cond (is_aborted_standing H t j) phase.Aborted (cond (not (has_begun_standing H t j)) phase.NotBegun (cond (came H (ready_at H t)) phase.Ready phase.Running)))
+phase_standing H t = λ j. cond (committed H t) phase.Committed
+    (cond (is_aborted_standing H t j) phase.Aborted (cond (not (has_begun_standing H t j)) phase.NotBegun (cond (came H (ready_at H t)) phase.Ready phase.Running)))
 
 -- the start, part by part
 pub start_spot : (H : List Event) (t : ℕ) → option_map (λ s. s.spot) (standing_of H t).start ≡ begun_spot H t
@@ -143,13 +144,15 @@ start_kind H t = go (begun H t)
 pub start_session : (H : List Event) (t : ℕ) → option_map (λ s. s.session) (standing_of H t).start ≡ begun_session H t
 start_session H t = go (begun H t)
   where
-    go : (b : Bool) → option_map (λ (s : Start). s.session) (cond b (Some (record { session = record { 0 = session_of H t }; spot = spot_of H t })) None) ≡ cond b (Some (record { 0 = session_of H t })) None
+    go : (b : Bool) → option_map (λ (s : Start). s.session) (cond b (Some (record { session = record { 0 = session_of H t }; spot = spot_of H t })) None) ≡ cond b
+        (Some (record { 0 = session_of H t })) None
     go true = refl
     go false = refl
 
 pub session_standing : (H : List Event) (t : ℕ) → stands_session (standing_of H t) ≡ session_of H t
 session_standing H t = go (begun H t) (unbegun-session H t)
   where
-    go : (b : Bool) → (b ≡ false → session_of H t ≡ 0) → option_map_or (λ (s : Start). s.session.0) (cond b (Some (record { session = record { 0 = session_of H t }; spot = spot_of H t })) None) 0 ≡ session_of H t
+    go : (b : Bool) → (b ≡ false → session_of H t ≡ 0) → option_map_or (λ (s : Start). s.session.0) (cond b (Some (record { session = record { 0 = session_of H t }; spot = spot_of H t })) None)
+        0 ≡ session_of H t
     go true h = refl
     go false h = sym (h refl)

@@ -21,7 +21,8 @@ put-there t (x ∷ xs) a h = go (ltb_tells x.0 t.0) (eqb_tells x.0 t.0) (put-the
     among : eqb x.0 t.0 ≡ false → has t.0 xs ≡ true
     among e = ap (λ (b : Bool). b || has t.0 xs) (sym e) ∙ h
 
-    go : ((ltb x.0 t.0 ≡ true) × (x.0 < t.0)) ⊎ ((ltb x.0 t.0 ≡ false) × (t.0 ≤ x.0)) → ((eqb x.0 t.0 ≡ true) × (x.0 ≡ t.0)) ⊎ ((eqb x.0 t.0 ≡ false) × (x.0 ≢ t.0)) → (has t.0 xs ≡ true → xs ≡ put_by number_of t xs)
+    go : ((ltb x.0 t.0 ≡ true) × (x.0 < t.0)) ⊎ ((ltb x.0 t.0 ≡ false) × (t.0 ≤ x.0)) → ((eqb x.0 t.0 ≡ true) × (x.0 ≡ t.0)) ⊎ ((eqb x.0 t.0 ≡ false) × (x.0 ≢ t.0))
+        → (has t.0 xs ≡ true → xs ≡ put_by number_of t xs)
         → x ∷ xs ≡ put_by number_of t (x ∷ xs)
     go (inl l) (inl e) ih = absurd (omega (arith, l.1, e.1))
     go (inl l) (inr e) ih = rw l.0 (ap (λ (ys : List Txn). x ∷ ys) (ih (among e.0)))
@@ -34,7 +35,8 @@ unfolding has
 filter-absent t [] h = refl
 filter-absent t (x ∷ xs) h = go (eqb x.0 t) h (filter-absent t xs)
   where
-    go : (b : Bool) → (b || has t xs) ≡ false → (has t xs ≡ false → xs ≡ filter (λ u. not (eqb u.0 t)) xs) → x ∷ xs ≡ cond (not b) (x ∷ filter (λ u. not (eqb u.0 t)) xs) (filter (λ u. not (eqb u.0 t)) xs)
+    go : (b : Bool) → (b || has t xs) ≡ false → (has t xs ≡ false → xs ≡ filter (λ u. not (eqb u.0 t)) xs) → x ∷ xs ≡ cond (not b) (x ∷ filter (λ u. not (eqb u.0 t)) xs)
+        (filter (λ u. not (eqb u.0 t)) xs)
     go true h ih = absurd (cc)
     go false h ih = ap (λ (ys : List Txn). x ∷ ys) (ih h)
 
@@ -50,7 +52,8 @@ live-kept H t = go (is_live H t.0) refl
     go false q = filter-absent t.0 (live_txns H) (absent (has t.0 (live_txns H)) refl q)
 
 -- an event that cannot change it leaves the list as it was
-pub turned-kept : (e : Event) (n : ℕ) (r : Standing) (t : Txn) (ts : List Txn) → ts ≡ kept_by (Some (stands_live r)) t ts → kept_by (turned e n r) t ts ≡ kept_by (Some (stands_live (standing_after e n r))) t ts
+pub turned-kept : (e : Event) (n : ℕ) (r : Standing) (t : Txn) (ts : List Txn) → ts ≡ kept_by (Some (stands_live r)) t ts
+    → kept_by (turned e n r) t ts ≡ kept_by (Some (stands_live (standing_after e n r))) t ts
 turned-kept (Began u s k i) n r t ts h = refl
 turned-kept (Got u x w v) n r t ts h = h
 turned-kept (Put u x v) n r t ts h = h

@@ -27,4 +27,5 @@ pub read_front : (left b new rest : List ℕ) (at n m : ℕ) → left ≡ drop a
 read_front left b new rest at n m is given same within =
     let copied : new ≡ take n (drop at b) = given ∙ ap (λ k. take k (drop at b)) same in
     let long : length new ≡ n = ap length copied ∙ length-take-le n (drop at b) (omega (arith, length-drop at b)) in
-    is ∙ sym (take-append-drop n (drop at b)) ∙ ap (λ l. l ++ drop n (drop at b)) (sym copied) ∙ ap (λ l. l ++ drop n (drop at b)) (sym (take_at new rest n long)) ∙ ap (λ l. take n (new ++ rest) ++ l) (drop-drop n at b)
+    is ∙ sym (take-append-drop n (drop at b)) ∙ ap (λ l. l ++ drop n (drop at b)) (sym copied) ∙ ap (λ l. l ++ drop n (drop at b)) (sym (take_at new rest n long))
+    ∙ ap (λ l. take n (new ++ rest) ++ l) (drop-drop n at b)

@@ -54,4 +54,7 @@ abbrev pub write_answer : SinkState → List ℕ → Result ℕ Failed
 write_answer s bytes = if write_fails s bytes then Err failed else Ok (write_count s (length bytes))
 
 abbrev pub after_write : SinkState → List ℕ → SinkState
-after_write s bytes = if write_fails s bytes then record s { calls = next s.calls; faults = next s.faults } else record s { written = s.written ++ take (write_count s (length bytes)) bytes; calls = next s.calls }
+after_write s bytes = if write_fails s bytes then record s { calls = next s.calls; faults = next s.faults } else record s {
+  written = s.written ++ take (write_count s (length bytes)) bytes;
+  calls = next s.calls;
+}

@@ -33,7 +33,7 @@ impl Model for MemSource {
 }
 
 impl MemSource {
-    /// A source of these bytes, which gives at most `piece` of them a call, and fails at the calls whose numbers stand in
+    /// Returns a source of these bytes, which gives at most `piece` of them a call, and fails at the calls whose numbers stand in
     /// `fail`, counted from 1.
     pub fn new(bytes: Vec<u8>, piece: usize, fail: Vec<u32>) -> MemSource
         requires { 0 < piece }
@@ -107,7 +107,7 @@ impl Model for MemSink {
 }
 
 impl MemSink {
-    /// A sink with room for `room` bytes, all of which is taken here. It fails at the calls whose numbers stand in `fail`,
+    /// Returns a sink with room for `room` bytes, all of which is taken here. It fails at the calls whose numbers stand in `fail`,
     /// counted from 1, and where its room is full.
     pub fn new(alloc: Global, room: usize, fail: Vec<u32>) -> Result<MemSink, AllocError>
         ensures { IfOk result (λ s. s ≡ record { written = []; room = room; fail = fail.items; calls = 0; faults = 0 }) }
@@ -122,7 +122,7 @@ impl MemSink {
         })
     }
 
-    /// The bytes that were written.
+    /// Returns the bytes that were written.
     pub fn bytes(&self) -> &[u8]
         ensures { result.now ≡ self.now.written }
     {

@@ -18,7 +18,7 @@ pub struct StdSource<R> {
 }
 
 impl<R: Read> StdSource<R> {
-    /// A source of what the reader gives, with no fault counted.
+    /// Returns a source of what the reader gives, with no fault counted.
     pub fn new(inner: R) -> StdSource<R>
         ensures reader { reader_of result ≡ inner }
         ensures faults { source_faults result ≡ 0 }
@@ -26,7 +26,7 @@ impl<R: Read> StdSource<R> {
         StdSource { inner, faults: 0 }
     }
 
-    /// The reader, as it stands.
+    /// Returns the reader, as it stands.
     pub fn into_inner(self) -> R
         ensures { result ≡ reader_of self }
     {
@@ -66,7 +66,7 @@ pub struct StdSink<W> {
 }
 
 impl<W: Write> StdSink<W> {
-    /// A sink that writes to the writer, with no fault counted.
+    /// Returns a sink that writes to the writer, with no fault counted.
     pub fn new(inner: W) -> StdSink<W>
         ensures writer { writer_of result ≡ inner }
         ensures faults { sink_faults result ≡ 0 }
@@ -74,7 +74,7 @@ impl<W: Write> StdSink<W> {
         StdSink { inner, faults: 0 }
     }
 
-    /// The writer, as it stands.
+    /// Returns the writer, as it stands.
     pub fn into_inner(self) -> W
         ensures { result ≡ writer_of self }
     {

@@ -34,9 +34,11 @@ use Rattle.teb_rules.specs.Versions.{value_left}
 
 -- what is asked of the control of node n: conflicts of two sides are ordered by rank, and a version that was read is final
 pub record NodeLaw (S : Setup) (H : List Event) (n : ℕ) : Type 0 where
-  pub write_write : (u w : ℕ) (x : Cell) → Commits H u → Commits H w → meets S H n u w ≡ true → put_at H u x < length H → put_at H w x < length H → orders S H n x u w ≡ true → rank S H n u < rank S H n w
+  pub write_write : (u w : ℕ) (x : Cell) → Commits H u → Commits H w → meets S H n u w ≡ true → put_at H u x < length H → put_at H w x < length H → orders S H n x u w ≡ true
+      → rank S H n u < rank S H n w
   pub write_read : (i : ℕ) (t : Txn) (x : Cell) (w : Txn) (v : Option ℤ) → GotAt H i t x w v → Commits H t.0 → Commits H w.0 → meets S H n t.0 w.0 ≡ true → rank S H n w.0 < rank S H n t.0
-  pub read_write : (i : ℕ) (t : Txn) (x : Cell) (w : Txn) (v : Option ℤ) (b : ℕ) → GotAt H i t x w v → w.0 ≢ t.0 → Commits H t.0 → Commits H b → meets S H n t.0 b ≡ true → put_at H b x < length H → precedes S H x w.0 b ≡ true → rank S H n t.0 < rank S H n b
+  pub read_write : (i : ℕ) (t : Txn) (x : Cell) (w : Txn) (v : Option ℤ) (b : ℕ) → GotAt H i t x w v → w.0 ≢ t.0 → Commits H t.0 → Commits H b → meets S H n t.0 b ≡ true → put_at H b x < length H
+      → precedes S H x w.0 b ≡ true → rank S H n t.0 < rank S H n b
   pub stable : (i : ℕ) (t : Txn) (x : Cell) (w : Txn) (v : Option ℤ) → GotAt H i t x w v → Commits H t.0 → Commits H w.0 → meets S H n t.0 w.0 ≡ true → last_put H w.0 x ≡ last_put (upto i H) w.0 x
 
 -- the order of versions is transitive on the writers of a cell
@@ -74,7 +76,8 @@ pub record SeenAt (S : Setup) (H : List Event) (i t : ℕ) (x : Cell) (w : ℕ) 
   pub visible : sees_by (row S.tree (meet S (upto i H) t w)).control S (upto i H) (meet S (upto i H) t w) x t w ≡ true
   pub top : (b : ℕ) → began_at H b < i → sees S (upto i H) x t b ≡ true → precedes S (upto i H) x w b ≡ false
 
-pub seen_at : (S : Setup) (H : List Event) (i t : ℕ) (x : Cell) (w : ℕ) → Lawful S H → i ≤ length H → latest S (upto i H) x (filter (sees S (upto i H) x t) (txns (upto i H))) ≡ Some w → SeenAt S H i t x w
+pub seen_at : (S : Setup) (H : List Event) (i t : ℕ) (x : Cell) (w : ℕ) → Lawful S H → i ≤ length H → latest S (upto i H) x (filter (sees S (upto i H) x t) (txns (upto i H))) ≡ Some w
+    → SeenAt S H i t x w
 seen_at S H i t x w l h e =
     let r = latest-some S (upto i H) x _ w e in
     let q = filter-In (sees S (upto i H) x t) w (txns (upto i H)) r.0 in
@@ -91,7 +94,8 @@ seen_at S H i t x w l h e =
     }
 
 -- whoever a committed t read from is committed before it
-pub read_done : (S : Setup) (a : TreeFacts S) (H : List Event) (i : ℕ) (t : Txn) (x : Cell) (w : Txn) (v : Option ℤ) → Lawful S H → GotAt H i t x w v → Commits H t.0 → SeenAt S H i t.0 x w.0 → done_at H w.0 < done_at H t.0
+pub read_done : (S : Setup) (a : TreeFacts S) (H : List Event) (i : ℕ) (t : Txn) (x : Cell) (w : Txn) (v : Option ℤ) → Lawful S H → GotAt H i t x w v → Commits H t.0 → SeenAt S H i t.0 x w.0
+    → done_at H w.0 < done_at H t.0
 read_done S a H i t x w v l g c s =
     let u = unfinished-upto H i t.0 (let z = g.place in let y : i ≤ length H = omega arith in y) (got_case S H i t x w v l g).0.unfinished in
     let d : i < done_at H t.0 = got_before_done H i t x w v g u.1 c in
@@ -114,7 +118,8 @@ read_done S a H i t x w v l g c s =
         (and_from _ _ (and_from _ _ (eq-eqb t.0 t.0 refl) (eq-eqb w.0 w.0 refl)) (not_from_false _ (ne_eqb t.0 w.0 (λ e. ne (sym e)))))
 
 -- two committed writers stand in the serial order as their versions do
-lt_writes : (S : Setup) (a : TreeFacts S) (H : List Event) (u w : ℕ) (x : Cell) → Lawful S H → ((n : ℕ) → NodeLaw S H n) → Commits H u → Commits H w → u ≢ w → put_at H u x < length H → put_at H w x < length H →
+lt_writes : (S : Setup) (a : TreeFacts S) (H : List Event) (u w : ℕ) (x : Cell) → Lawful S H → ((n : ℕ) → NodeLaw S H n) → Commits H u → Commits H w → u ≢ w → put_at H u x < length H
+    → put_at H w x < length H →
     precedes S H x u w ≡ true → serially S H u w ≡ true
 lt_writes S a H u w x l law cu cw ne pu pw e =
     let bu : began_at H u < length H = (let z = commits S H u l cu in omega arith) in
@@ -122,7 +127,8 @@ lt_writes S a H u w x l law cu cw ne pu pw e =
     let m = meets_exists S a H u w l bu bw ne in
     serial_from_rank S a H m.node u w l cu cw m.meet ((law m.node).write_write u w x cu cw m.meet pu pw (sym (precedes_at S a H m.node x u w l bu bw m.meet) ∙ e))
 
-lt_after_read : (S : Setup) (a : TreeFacts S) (H : List Event) (i : ℕ) (t : Txn) (x : Cell) (w : Txn) (v : Option ℤ) (b : ℕ) → Lawful S H → ((n : ℕ) → NodeLaw S H n) → GotAt H i t x w v → w.0 ≢ t.0 → Commits H t.0 → Commits H b → b ≢ t.0 →
+lt_after_read : (S : Setup) (a : TreeFacts S) (H : List Event) (i : ℕ) (t : Txn) (x : Cell) (w : Txn) (v : Option ℤ) (b : ℕ) → Lawful S H → ((n : ℕ) → NodeLaw S H n) → GotAt H i t x w v → w.0 ≢ t.0
+    → Commits H t.0 → Commits H b → b ≢ t.0 →
     put_at H b x < length H → precedes S H x w.0 b ≡ true → serially S H t.0 b ≡ true
 lt_after_read S a H i t x w v b l law g ne ct cb nb pb e =
     let bt : began_at H t.0 < length H = (let z = commits S H t.0 l ct in omega arith) in
@@ -134,14 +140,16 @@ commits_writes : (S : Setup) (H : List Event) (x : Cell) (u : ℕ) → Lawful S 
 commits_writes S H x u l c p = record { put = p; stands = (commits S H u l c).1 }
 
 -- each Got of a committed transaction is what the serial order gives
-got_well : (S : Setup) (a : TreeFacts S) (R : List (Cell × ℤ)) (H : List Event) (i : ℕ) (t : Txn) (x : Cell) (w : Txn) (v : Option ℤ) → (w.0 ≡ 0 → v ≡ row_of R x) → Lawful S H → ((n : ℕ) → NodeLaw S H n) → ((j : ℕ) → IsOrdered S (upto j H)) → GotAt H i t x w v → Commits H t.0 →
+got_well : (S : Setup) (a : TreeFacts S) (R : List (Cell × ℤ)) (H : List Event) (i : ℕ) (t : Txn) (x : Cell) (w : Txn) (v : Option ℤ) → (w.0 ≡ 0 → v ≡ row_of R x) → Lawful S H
+    → ((n : ℕ) → NodeLaw S H n) → ((j : ℕ) → IsOrdered S (upto j H)) → GotAt H i t x w v → Commits H t.0 →
     ReadWell (Commits H) (serially S H) (λ b. last_put H b x) t.0 (row_of R x) (last_put (upto i H) t.0 x) v
 got_well S a R H i t x w v zr l law ord g ct =
     let h : i ≤ length H = (let z = g.place in omega arith) in
     let gc = got_case S H i t x w v l g in
     let val = gc.2 in
     elim gc.1 [
-      | from_own p e ↦ (let pt = own_positive in let q : v ≡ value_left (upto i H) t.0 x = (val (let y = e in omega arith) ∙ ap (λ (z : ℕ). value_left (upto i H) z x) e) in let r = last_put-some (upto i H) t.0 x (unfold wrote in ltb-true _ _ p) in inl (own_is (last_put (upto i H) t.0 x) r.0 v r.1 q))
+      | from_own p e ↦ (let pt = own_positive in let q : v ≡ value_left (upto i H) t.0 x = (val (let y = e in omega arith) ∙ ap (λ (z : ℕ). value_left (upto i H) z x) e) in
+          let r = last_put-some (upto i H) t.0 x (unfold wrote in ltb-true _ _ p) in inl (own_is (last_put (upto i H) t.0 x) r.0 v r.1 q))
       | from_seen p e ↦ inr (
         last_put-none (upto i H) t.0 x (unfold wrote in ltb-false _ _ p),
         inr (
@@ -179,7 +187,8 @@ got_well S a R H i t x w v zr l law ord g ct =
           value = zr q;
           others = λ b cb nb. elim (cases_lt (put_at H b x) (length H)) [
             | inr k ↦ inl (last_put-none H b x k)
-            | inl k ↦ (let bb : began_at H b < length H = (let y = commits S H b l cb in omega arith) in let bt = (commits S H t.0 l ct).0 in let tp : 0 < t.0 = (begun_counted S H t.0 l (omega arith)).0 in
+            | inl k ↦ (let bb : began_at H b < length H = (let y = commits S H b l cb in omega arith) in let bt = (commits S H t.0 l ct).0 in
+                let tp : 0 < t.0 = (begun_counted S H t.0 l (omega arith)).0 in
                 inr (lt_after_read S a H i t x w v b l law g (λ y. let f = q in omega arith) ct cb nb k (rw q (precedes_row S H x b (begun_counted S H b l bb).0))))
           ];
         }),
@@ -197,12 +206,15 @@ same_txn t n e = ap (λ (z : ℕ). record { 0 = z }) e
 
 -- P is what H was before position `length P`
 pub suffix_next : (H : List Event) (e : Event) (P : List Event) → upto (length (e ∷ P)) H ≡ e ∷ P → upto (length P) H ≡ P
-suffix_next H e P q = sym (upto-upto (length P) (suc (length P)) H (let z : length P ≤ suc (length P) = omega arith in z)) ∙ ap (upto (length P)) q ∙ upto_cons (length P) e P (le_refl _) ∙ upto_all (length P) P (le_refl _)
+suffix_next H e P q = sym (upto-upto (length P) (suc (length P)) H (let z : length P ≤ suc (length P) = omega arith in z)) ∙ ap (upto (length P)) q ∙ upto_cons (length P) e P (le_refl _)
+    ∙ upto_all (length P) P (le_refl _)
 
-pub suffix_got : (H : List Event) (u : Txn) (x : Cell) (w : Txn) (v : Option ℤ) (P : List Event) → suc (length P) ≤ length H → upto (length (Got u x w v ∷ P)) H ≡ Got u x w v ∷ P → GotAt H (length P) u x w v
+pub suffix_got : (H : List Event) (u : Txn) (x : Cell) (w : Txn) (v : Option ℤ) (P : List Event) → suc (length P) ≤ length H → upto (length (Got u x w v ∷ P)) H ≡ Got u x w v ∷ P
+    → GotAt H (length P) u x w v
 suffix_got H u x w v P h q = record { place = h; is = q ∙ ap (λ (Q : List Event). Got u x w v ∷ Q) (sym (suffix_next H (Got u x w v) P q)) }
 
-all_well : (S : Setup) (a : TreeFacts S) (R : List (Cell × ℤ)) (H : List Event) (t : ℕ) → Lawful S H → ((n : ℕ) → NodeLaw S H n) → ((j : ℕ) → IsOrdered S (upto j H)) → Commits H t → (P : List Event) → ReadsRows R P → length P ≤ length H → upto (length P) H ≡ P →
+all_well : (S : Setup) (a : TreeFacts S) (R : List (Cell × ℤ)) (H : List Event) (t : ℕ) → Lawful S H → ((n : ℕ) → NodeLaw S H n) → ((j : ℕ) → IsOrdered S (upto j H)) → Commits H t → (P : List Event)
+    → ReadsRows R P → length P ≤ length H → upto (length P) H ≡ P →
     AllReadWell (Commits H) (serially S H) H (row_of R) t P
 unfolding ReadsRows
 all_well S a R H t l law ord c [] rr h q = tt
@@ -219,7 +231,8 @@ all_well S a R H t l law ord c (Gone u b ∷ P) rr h q = all_well S a R H t l la
 all_well S a R H t l law ord c (Told u ∷ P) rr h q = all_well S a R H t l law ord c P rr (omega arith) (suffix_next H (Told u) P q)
 
 -- the final table
-pub final_right : (X : Store) (a : TreeFacts X.setup) (H : List Event) → Lawful X.setup H → ((n : ℕ) → NodeLaw X.setup H n) → IsOrdered X.setup H → (x : Cell) → table_after H (serial_order X.setup H) (row_of X.rows) x ≡ final_table X H x
+pub final_right : (X : Store) (a : TreeFacts X.setup) (H : List Event) → Lawful X.setup H → ((n : ℕ) → NodeLaw X.setup H n) → IsOrdered X.setup H → (x : Cell)
+    → table_after H (serial_order X.setup H) (row_of X.rows) x ≡ final_table X H x
 unfolding final_table
 final_right X a H l law ord x = go (latest X.setup H x ws) refl
   where
@@ -227,17 +240,20 @@ final_right X a H l law ord x = go (latest X.setup H x ws) refl
     ws = filter (λ w. committed H w && wrote H w x) (txns H)
 
     member : (w : ℕ) → In w ws → Writes H x w × Commits H w
-    member w i = let p = and_parts _ _ (filter-In (λ w. committed H w && wrote H w x) w (txns H) i).1 in let c = commits_from H w p.0 in (commits_writes X.setup H x w l c (unfold wrote in ltb-true _ _ p.1), c)
+    member w i = let p = and_parts _ _ (filter-In (λ w. committed H w && wrote H w x) w (txns H) i).1 in let c = commits_from H w p.0 in
+        (commits_writes X.setup H x w l c (unfold wrote in ltb-true _ _ p.1), c)
 
     inside : (w : ℕ) → Commits H w → put_at H w x < length H → In w ws
-    inside w c p = In-filter (λ w. committed H w && wrote H w x) w (txns H) (In-txns X.setup H w l (let z = commits X.setup H w l c in omega arith)) (and_from _ _ (committed_from H w c) (unfold wrote in lt-ltb _ _ p))
+    inside w c p = In-filter (λ w. committed H w && wrote H w x) w (txns H) (In-txns X.setup H w l (let z = commits X.setup H w l c in omega arith))
+        (and_from _ _ (committed_from H w c) (unfold wrote in lt-ltb _ _ p))
 
     go : (o : Option ℕ) → latest X.setup H x ws ≡ o → table_after H (serial_order X.setup H) (row_of X.rows) x ≡ value_of X H x o
     go (Some w) e =
         let r = latest-some X.setup H x ws w e in
         let m = member w r.0 in
         let n = last_put-some H w x m.0.put in
-        left_last (Commits H) (serially X.setup H) (serial_strict X.setup a H l) H (row_of X.rows) (serial_order X.setup H) x w n.0 (order_each X.setup a H l) (order_all X.setup a H l) (order_sorted X.setup a H l) m.1 n.1
+        left_last (Commits H) (serially X.setup H) (serial_strict X.setup a H l) H (row_of X.rows) (serial_order X.setup H) x w n.0 (order_each X.setup a H l) (order_all X.setup a H l)
+        (order_sorted X.setup a H l) m.1 n.1
         (λ b cb. elim (cases_lt (put_at H b x) (length H)) [
           | inr k ↦ inl (last_put-none H b x k)
           | inl k ↦ elim (cases_eq b w) [
@@ -262,7 +278,8 @@ from_is t w (Got s y u v) h =
     (y, v, ap₂ (λ (a b : Txn). Got a y b v) (same_txn s t (eqb-true s.0 t q.0)) (same_txn u w (eqb-true u.0 w q.1)), eqb-false t w (not-true _ p.1))
 from_is t w _ h = absurd (cc)
 
-pub read_recoverable : (S : Setup) (a : TreeFacts S) (H : List Event) (t w : ℕ) → Lawful S H → Commits H t → 0 < w → (P : List Event) → length P ≤ length H → upto (length P) H ≡ P → list_any (is_from t w) P ≡ true → done_at H w < done_at H t
+pub read_recoverable : (S : Setup) (a : TreeFacts S) (H : List Event) (t w : ℕ) → Lawful S H → Commits H t → 0 < w → (P : List Event) → length P ≤ length H → upto (length P) H ≡ P
+    → list_any (is_from t w) P ≡ true → done_at H w < done_at H t
 read_recoverable S a H t w l c z [] h q i = absurd (cc)
 read_recoverable S a H t w l c z (e ∷ P) h q i = elim (or_cases (is_from t w e) (list_any (is_from t w) P) i) [
   | inl f ↦ (let r = from_is t w e f in go r.0 r.1 r.2 r.3)
@@ -280,17 +297,21 @@ read_recoverable S a H t w l c z (e ∷ P) h q i = elim (or_cases (is_from t w e
         ]
 
 -- From the laws of the nodes and the order of versions
-pub serializes : (X : Store) (a : TreeFacts X.setup) (H : List Event) → Lawful X.setup H → ReadsRows X.rows H → ((n : ℕ) → NodeLaw X.setup H n) → ((j : ℕ) → IsOrdered X.setup (upto j H)) → Serializes X H (serial_order X.setup H)
+pub serializes : (X : Store) (a : TreeFacts X.setup) (H : List Event) → Lawful X.setup H → ReadsRows X.rows H → ((n : ℕ) → NodeLaw X.setup H n) → ((j : ℕ) → IsOrdered X.setup (upto j H))
+    → Serializes X H (serial_order X.setup H)
 serializes X a H l rr law ord =
     let s = serial_strict X.setup a H l in
     let each = order_each X.setup a H l in
     let sorted = order_sorted X.setup a H l in
     record {
       each = λ t. ((λ i. committed_from H t (each t i)), (λ c. order_all X.setup a H l t (commits_from H t c)));
-      once = Pairs-weaker (λ t u. serially X.setup H t u ≡ true) (λ t u. t ≢ u) _ (λ t u i j h e. both_ways _ (s.irreflexive u (each u j)) (subst (λ (z : ℕ). serially X.setup H z u ≡ true) e h)) sorted;
-      reads = replays (Commits H) (serially X.setup H) s H (row_of X.rows) (serial_order X.setup H) each (order_all X.setup a H l) sorted (λ t c. all_well X.setup a X.rows H t l law ord c H rr (le_refl _) (upto_all (length H) H (le_refl _)));
+      once = Pairs-weaker (λ t u. serially X.setup H t u ≡ true) (λ t u. t ≢ u) _ (λ t u i j h e. both_ways _ (s.irreflexive u (each u j)) (subst (λ (z : ℕ). serially X.setup H z u ≡ true) e h))
+          sorted;
+      reads = replays (Commits H) (serially X.setup H) s H (row_of X.rows) (serial_order X.setup H) each (order_all X.setup a H l) sorted
+          (λ t c. all_well X.setup a X.rows H t l law ord c H rr (le_refl _) (upto_all (length H) H (le_refl _)));
       final = final_right X a H l law (subst (IsOrdered X.setup) (upto_all (length H) H (le_refl _)) (ord (length H)));
       nodes = λ n t u ct cu m r. let c = commits_from H t ct in let d = commits_from H u cu in
-          stands_sorted (serially X.setup H) (Commits H) s (serial_order X.setup H) t u each sorted (order_all X.setup a H l t c) (order_all X.setup a H l u d) (serial_from_rank X.setup a H n t u l c d m r);
+          stands_sorted (serially X.setup H) (Commits H) s (serial_order X.setup H) t u each sorted (order_all X.setup a H l t c) (order_all X.setup a H l u d)
+          (serial_from_rank X.setup a H n t u l c d m r);
       recoverable = λ t w ct rf z. read_recoverable X.setup a H t w l (commits_from H t ct) z H (le_refl _) (upto_all (length H) H (le_refl _)) (unfold read_from in rf);
     }

@@ -86,7 +86,8 @@ of_rows X H t (Add x v) g = refused_rows X H t x _ g (added_rows X.rows X.setup 
 of_rows X H t (Delete x) g = refused_rows X H t x _ g (put_rows X.rows X.setup H t x None g)
 of_rows X H t (Scan x n) g = refused_rows X H t x _ g (cond_rows X.rows (is_scan x n) (scan_values X H t x n) (refuse H Range)
     (stop_rows X.rows H t (scan_stop X.setup H t (cells_from x n)) _ g (reads_rows X t (cells_from x n) H g)) g)
-of_rows X H t Prepare g = cond_rows X.rows (prepared H t) (refuse H IsPrepared) (or_stop H t (prepare_stop X.setup H t) (Prepared, Ready (txn t) ∷ H)) g (stop_rows X.rows H t (prepare_stop X.setup H t) _ g g)
+of_rows X H t Prepare g = cond_rows X.rows (prepared H t) (refuse H IsPrepared) (or_stop H t (prepare_stop X.setup H t) (Prepared, Ready (txn t) ∷ H)) g
+    (stop_rows X.rows H t (prepare_stop X.setup H t) _ g g)
 of_rows X H t Commit g = stop_rows X.rows H t (commit_stop X.setup H t) _ g g
 of_rows X H t Abort g = abort_rows X.rows H t Asked g
 of_rows X H t End g = abort_rows X.rows H t Ended g

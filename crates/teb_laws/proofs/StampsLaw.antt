@@ -41,7 +41,8 @@ use Rattle.teb_laws.proofs.LocksLaw.{got_not_put}
 use Rattle.teb_rules.specs.declared.Broken.{Broken}
 
 -- a Got of t that the history P has
-has_read_at : (S : Setup) (Q : List Event) (P : List Event) (i : ℕ) (t : Txn) (x : Cell) (w : Txn) (v : Option ℤ) (b : ℕ) → i < length P → upto (suc i) P ≡ Got t x w v ∷ upto i P → (w.0 ≡ b) ⊎ (precedes S Q x w.0 b ≡ true) → has_read_before S Q P x b t.0 ≡ true
+has_read_at : (S : Setup) (Q : List Event) (P : List Event) (i : ℕ) (t : Txn) (x : Cell) (w : Txn) (v : Option ℤ) (b : ℕ) → i < length P → upto (suc i) P ≡ Got t x w v ∷ upto i P → (w.0 ≡ b)
+    ⊎ (precedes S Q x w.0 b ≡ true) → has_read_before S Q P x b t.0 ≡ true
 unfolding has_read_before
 has_read_at S Q [] i t x w v b h is o = absurd (omega arith)
 has_read_at S Q (e ∷ P) i t x w v b h is o = elim (cases_lt i (length P)) [
@@ -80,12 +81,14 @@ stamps_access : (S : Setup) (Q : List Event) (n b : ℕ) (x : Cell) → on_acces
 unfolding on_access
 stamps_access S Q n b x e = no_break _ _ e
 
-late_from : (S : Setup) (Q : List Event) (n b t : ℕ) (x : Cell) → meets S Q n b t ≡ true → aborted Q t ≡ false → start S Q n b < start S Q n t → has_read_before S Q Q x b t ≡ true → is_late S Q n b x t ≡ true
+late_from : (S : Setup) (Q : List Event) (n b t : ℕ) (x : Cell) → meets S Q n b t ≡ true → aborted Q t ≡ false → start S Q n b < start S Q n t → has_read_before S Q Q x b t ≡ true
+    → is_late S Q n b x t ≡ true
 unfolding is_late
 late_from S Q n b t x p q r s = and_from _ _ (and_from _ _ (and_from _ _ p (not_from_false _ q)) (lt-ltb _ _ r)) s
 
 -- a write of b that comes after t's Got, where t starts later and read what b's version follows, is late
-late_write : (S : Setup) (a : TreeFacts S) (H : List Event) (i j n : ℕ) (t : Txn) (x : Cell) (w : Txn) (v : Option ℤ) (b : ℕ) → Lawful S H → (row S.tree n).control ≡ Timestamp → GotAt H i t x w v → i < j → j ≤ length H → MayAccess S (upto j H) b x true →
+late_write : (S : Setup) (a : TreeFacts S) (H : List Event) (i j n : ℕ) (t : Txn) (x : Cell) (w : Txn) (v : Option ℤ) (b : ℕ) → Lawful S H → (row S.tree n).control ≡ Timestamp → GotAt H i t x w v
+    → i < j → j ≤ length H → MayAccess S (upto j H) b x true →
     meets S H n b t.0 ≡ true → began_at H t.0 < j → began_at H b < j → j ≤ gone_at H t.0 → start S H n b < start S H n t.0 → (w.0 ≡ b) ⊎ (precedes S (upto j H) x w.0 b ≡ true) → ⊥
 late_write S a H i j n t x w v b l c g ij h may m bt bb gt st o =
     let f = subst (λ (k : ControlKind). on_access k S (upto j H) n b x true ≡ Go) c (may.free n (on-upto S H j n b l h bb ∙ (meets_parts S H n b t.0 m).0)) in
@@ -102,7 +105,8 @@ sees_stamps : (S : Setup) (P : List Event) (n : ℕ) (x : Cell) (t b : ℕ) → 
 unfolding sees_by
 sees_stamps S P n x t b c = rw c refl
 
-stamps_visible : (S : Setup) (H : List Event) (i n t b : ℕ) (x : Cell) → Lawful S H → (row S.tree n).control ≡ Timestamp → i ≤ length H → began_at H t < i → began_at H b < i → sees_by (row S.tree n).control S (upto i H) n x t b ≡ ltb (start S H n b) (start S H n t)
+stamps_visible : (S : Setup) (H : List Event) (i n t b : ℕ) (x : Cell) → Lawful S H → (row S.tree n).control ≡ Timestamp → i ≤ length H → began_at H t < i → began_at H b < i
+    → sees_by (row S.tree n).control S (upto i H) n x t b ≡ ltb (start S H n b) (start S H n t)
 stamps_visible S H i n t b x l c h bt bb = sees_stamps S (upto i H) n x t b c ∙ ap₂ (λ (p q : ℕ). ltb p q) (start-upto S H i n b l h bb) (start-upto S H i n t l h bt)
 
 pub stamps_law : (S : Setup) (a : TreeFacts S) (H : List Event) (n : ℕ) → Lawful S H → ((j : ℕ) → IsOrdered S (upto j H)) → (row S.tree n).control ≡ Timestamp → NodeLaw S H n
@@ -147,10 +151,12 @@ stamps_law S a H n l ord c = record {
       ]);
 }
   where
-    before_put : (i : ℕ) (t : Txn) (x : Cell) (w : Txn) (v : Option ℤ) (b : ℕ) → GotAt H i t x w v → Commits H t.0 → i < put_at H b x → put_at H b x ≤ length H → began_at H b < put_at H b x → w.0 ≢ t.0 → precedes S H x w.0 b ≡ true → precedes S (upto (put_at H b x) H) x w.0 b ≡ true
+    before_put : (i : ℕ) (t : Txn) (x : Cell) (w : Txn) (v : Option ℤ) (b : ℕ) → GotAt H i t x w v → Commits H t.0 → i < put_at H b x → put_at H b x ≤ length H → began_at H b < put_at H b x
+        → w.0 ≢ t.0 → precedes S H x w.0 b ≡ true → precedes S (upto (put_at H b x) H) x w.0 b ≡ true
     before_put i t x w v b g ct ij h bb ne e = elim (got_case S H i t x w v l g).1 [
       | from_own f o ↦ absurd (ne o)
-      | from_row f o y ↦ (let p : 0 < b = (begun_counted S H b l (let d : began_at H b < length H = omega arith in d)).0 in subst (λ (z : ℕ). precedes S (upto (put_at H b x) H) x z b ≡ true) (sym y) (precedes_row S (upto (put_at H b x) H) x b p))
+      | from_row f o y ↦ (let p : 0 < b = (begun_counted S H b l (let d : began_at H b < length H = omega arith in d)).0 in
+          subst (λ (z : ℕ). precedes S (upto (put_at H b x) H) x z b ≡ true) (sym y) (precedes_row S (upto (put_at H b x) H) x b p))
       | from_seen f o ↦ (let r = seen_at S H i t.0 x w.0 l (let d = g.place in let q : i ≤ length H = omega arith in q) o in
           elim (cases_eq w.0 b) [
             | inl q ↦ absurd (both_ways _ (precedes_irreflexive S H x b) (subst (λ (z : ℕ). precedes S H x z b ≡ true) q e))

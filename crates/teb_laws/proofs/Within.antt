@@ -58,7 +58,8 @@ unfolding climb
 climb_below S a zero n lower h f m i = elim i [ inl e ↦ omega arith | inr j ↦ f m j ]
 climb_below S a (suc d) n lower h f m i = go (row S.tree n).parent refl (λ p. climb_below S a d p (n ∷ lower)) i
   where
-    go : (o : Option ℕ) → (row S.tree n).parent ≡ o → ((p : ℕ) → p < length S.tree → ((k : ℕ) → In k (n ∷ lower) → k < length S.tree) → (m : ℕ) → In m (climb S.tree d p (n ∷ lower)) → m < length S.tree) →
+    go : (o : Option ℕ) → (row S.tree n).parent ≡ o → ((p : ℕ) → p < length S.tree → ((k : ℕ) → In k (n ∷ lower) → k < length S.tree) → (m : ℕ) → In m (climb S.tree d p (n ∷ lower))
+        → m < length S.tree) →
         In m (elim o as (λ z. List ℕ) [ None ↦ n ∷ lower | Some p ↦ climb S.tree d p (n ∷ lower) ]) → m < length S.tree
     go None e ih j = elim j [ inl q ↦ omega arith | inr k ↦ f m k ]
     go (Some p) e ih j = ih p (let z : p < n = a.parents n p e in omega arith) (λ k q. elim q [ inl r ↦ omega arith | inr r ↦ f k r ]) m j

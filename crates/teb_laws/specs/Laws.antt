@@ -62,9 +62,11 @@ is_read t x w _ = false
 
 -- conflicts of committed transactions are ordered by their ranks at the node where they meet
 pub record OrdersConflicts (S : Setup) (H : List Event) : Type 0 where
-  pub writes : (n u w : ℕ) (x : Cell) → IsTrue (committed H u) → IsTrue (committed H w) → IsTrue (meets S H n u w) → IsTrue (wrote H u x) → IsTrue (wrote H w x) → IsTrue (precedes S H x u w) → rank S H n u < rank S H n w
+  pub writes : (n u w : ℕ) (x : Cell) → IsTrue (committed H u) → IsTrue (committed H w) → IsTrue (meets S H n u w) → IsTrue (wrote H u x) → IsTrue (wrote H w x) → IsTrue (precedes S H x u w)
+      → rank S H n u < rank S H n w
   pub reads : (n u w : ℕ) (x : Cell) → IsTrue (committed H u) → IsTrue (committed H w) → IsTrue (meets S H n u w) → IsTrue (list_any (is_read w x u) H) → rank S H n u < rank S H n w
-  pub overwrites : (n u w v : ℕ) (x : Cell) → IsTrue (committed H u) → IsTrue (committed H w) → IsTrue (meets S H n u w) → IsTrue (list_any (is_read u x v) H) → u ≢ v → IsTrue (wrote H w x) → IsTrue (precedes S H x v w) → rank S H n u < rank S H n w
+  pub overwrites : (n u w v : ℕ) (x : Cell) → IsTrue (committed H u) → IsTrue (committed H w) → IsTrue (meets S H n u w) → IsTrue (list_any (is_read u x v) H) → u ≢ v → IsTrue (wrote H w x)
+      → IsTrue (precedes S H x v w) → rank S H n u < rank S H n w
 
 -- e is an event of the history
 abbrev pub Stands : Event → List Event → Type 0
@@ -110,5 +112,6 @@ pub record OnlyGrows (X : Store) (H : List Event) : Type 0 where
 
 -- a transaction that runs alone is never told to wait, and nothing breaks it; and if no transaction is unfinished, one may begin
 pub record ServesAlone (X : Store) (H : List Event) : Type 0 where
-  pub alone : (s : Session) (t : ℕ) (r : Request) → IsTrue (leb 1 s.0 && leb s.0 SESSIONS) → held H s.0 ≡ Some t → IsTrue (unfinished H t) → IsTrue (is_alone H t) → IsTrue (is_served r (answer X H s r).0)
+  pub alone : (s : Session) (t : ℕ) (r : Request) → IsTrue (leb 1 s.0 && leb s.0 SESSIONS) → held H s.0 ≡ Some t → IsTrue (unfinished H t) → IsTrue (is_alone H t)
+      → IsTrue (is_served r (answer X H s r).0)
   pub begins : (s : Session) (k : Spot) → held H s.0 ≡ None → IsTrue (is_quiet H) → IsTrue (is_served (Begin k) (answer X H s (Begin k)).0)

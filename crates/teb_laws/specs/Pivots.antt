@@ -14,4 +14,5 @@ IsSettled H t = IsTrue (prepared H t || committed H t)
 
 -- at a snapshot node no edge of prepared or committed transactions leads into a batch that another such edge leaves
 abbrev pub HoldsNoPivot : Setup → List Event → Type 0
-HoldsNoPivot S H = (n a b c d : ℕ) → (row S.tree n).control ≡ Snapshot → IsSettled H a → IsSettled H b → IsSettled H c → IsSettled H d → IsTrue (edge S H n a b) → IsTrue (edge S H n c d) → IsFalse (one_batch S H n b c)
+HoldsNoPivot S H = (n a b c d : ℕ) → (row S.tree n).control ≡ Snapshot → IsSettled H a → IsSettled H b → IsSettled H c → IsSettled H d → IsTrue (edge S H n a b) → IsTrue (edge S H n c d)
+    → IsFalse (one_batch S H n b c)

@@ -1,6 +1,6 @@
 pub mod Ascending
 pub mod Bools
 pub mod CellOrder
-mod Padding
+pub mod Padding
 pub mod SameCells
 mod Texts

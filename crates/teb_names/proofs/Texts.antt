@@ -52,7 +52,8 @@ place_itself (x ∷ names) zero name apart is =
     rw met
 place_itself (x ∷ names) (suc i) name apart is =
     let other : bytes_eq name x ≡ false = nat_list_eq_equiv.symm name x ∙ apart_at x names i name (IsDistinct-head bytes_eq x names apart) is in
-    rw other (let next : 1 + position_or_len (bytes_eq name) names ≡ suc (position_or_len (bytes_eq name) names) = omega arith in next ∙ ap suc (place_itself names i name (IsDistinct-tail bytes_eq x names apart) is))
+    rw other (let next : 1 + position_or_len (bytes_eq name) names ≡ suc (position_or_len (bytes_eq name) names) = omega arith in
+    next ∙ ap suc (place_itself names i name (IsDistinct-tail bytes_eq x names apart) is))
 
 -- a name among distinct ones is found where it stands
 pub number_of_itself : (names : List (List ℕ)) (i : ℕ) (name : List ℕ) → IsDistinct bytes_eq names → slice_get names i ≡ Some name → number_of names name ≡ Some i

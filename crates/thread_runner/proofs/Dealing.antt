@@ -37,7 +37,8 @@ module _ {C : Type 0} {g : Ghosts C} (h : Hall C g) (x : Scripted) (w : ℕ) whe
   dealt_none hands n e = record { count = n; each = λ i d l. tasks_none h x (in_hand hands i d) (e i d (omega arith)) }
 
   -- one more is dealt
-  pub dealt_on : (rest : List ℕ) (s i : ℕ) (t : Task C g) (hands hands2 : List (Vec (Task C g) Global)) (u v : Vec (Task C g) Global) → AreDealt h x w rest hands → i ≡ hand_of x w s → i < w → IsTask h x t → number_in t ≡ s → u ≡ get_or hands i u → v.items ≡ u.items ++ t ∷ [] → hands2 ≡ set hands i v → AreDealt h x w (s ∷ rest) hands2
+  pub dealt_on : (rest : List ℕ) (s i : ℕ) (t : Task C g) (hands hands2 : List (Vec (Task C g) Global)) (u v : Vec (Task C g) Global) → AreDealt h x w rest hands → i ≡ hand_of x w s → i < w
+      → IsTask h x t → number_in t ≡ s → u ≡ get_or hands i u → v.items ≡ u.items ++ t ∷ [] → hands2 ≡ set hands i v → AreDealt h x w (s ∷ rest) hands2
   dealt_on rest s i t hands hands2 u v a e l k n read is to = record {
     count = ap length to ∙ (length-set hands i v ∙ a.count);
     each = λ j d m. subst (λ (hs : List (Vec (Task C g) Global)). AreTasks h x (held (hand_of x w) j (s ∷ rest)) (in_hand hs j d)) (sym to) (at j d m);
@@ -47,7 +48,8 @@ module _ {C : Type 0} {g : Ghosts C} (h : Hall C g) (x : Scripted) (w : ℕ) whe
       here d = tasks_as (held (hand_of x w) i rest ++ s ∷ []) (held (hand_of x w) i (s ∷ rest)) v.items (in_hand (set hands i v) i d)
           (held_here (hand_of x w) i s rest (sym e))
           (ap (λ (y : Vec (Task C g) Global). y.items) (get_or-set_same hands i v d (let z = a.count in omega arith)))
-          (tasks_push h x (held (hand_of x w) i rest) u.items v.items t s (tasks_as (held (hand_of x w) i rest) (held (hand_of x w) i rest) (in_hand hands i u) u.items refl (ap (λ (y : Vec (Task C g) Global). y.items) read) (a.each i u l)) k n is)
+          (tasks_push h x (held (hand_of x w) i rest) u.items v.items t s
+          (tasks_as (held (hand_of x w) i rest) (held (hand_of x w) i rest) (in_hand hands i u) u.items refl (ap (λ (y : Vec (Task C g) Global). y.items) read) (a.each i u l)) k n is)
 
       at : (j : ℕ) (d : Vec (Task C g) Global) → j < w → AreTasks h x (held (hand_of x w) j (s ∷ rest)) (in_hand (set hands i v) j d)
       at j d m = dite (ℕ_discrete j i)
@@ -58,10 +60,13 @@ module _ {C : Type 0} {g : Ghosts C} (h : Hall C g) (x : Scripted) (w : ℕ) whe
           (a.each j d m))
 
   -- the hand of the first that is still out
-  on_top : (rest : List ℕ) (s i : ℕ) (hands : List (Vec (Task C g) Global)) (u : Vec (Task C g) Global) → AreDealt h x w (s ∷ rest) hands → i ≡ hand_of x w s → i < w → u ≡ get_or hands i u → AreTasks h x (held (hand_of x w) i rest ++ s ∷ []) u.items
-  on_top rest s i hands u a e l read = tasks_as (held (hand_of x w) i (s ∷ rest)) (held (hand_of x w) i rest ++ s ∷ []) (in_hand hands i u) u.items (sym (held_here (hand_of x w) i s rest (sym e))) (ap (λ (y : Vec (Task C g) Global). y.items) read) (a.each i u l)
+  on_top : (rest : List ℕ) (s i : ℕ) (hands : List (Vec (Task C g) Global)) (u : Vec (Task C g) Global) → AreDealt h x w (s ∷ rest) hands → i ≡ hand_of x w s → i < w → u ≡ get_or hands i u
+      → AreTasks h x (held (hand_of x w) i rest ++ s ∷ []) u.items
+  on_top rest s i hands u a e l read = tasks_as (held (hand_of x w) i (s ∷ rest)) (held (hand_of x w) i rest ++ s ∷ []) (in_hand hands i u) u.items (sym (held_here (hand_of x w) i s rest (sym e)))
+      (ap (λ (y : Vec (Task C g) Global). y.items) read) (a.each i u l)
 
-  pub dealt_some : (rest : List ℕ) (s i : ℕ) (hands : List (Vec (Task C g) Global)) (u : Vec (Task C g) Global) → AreDealt h x w (s ∷ rest) hands → i ≡ hand_of x w s → i < w → u ≡ get_or hands i u → 0 < length u.items
+  pub dealt_some : (rest : List ℕ) (s i : ℕ) (hands : List (Vec (Task C g) Global)) (u : Vec (Task C g) Global) → AreDealt h x w (s ∷ rest) hands → i ≡ hand_of x w s → i < w → u ≡ get_or hands i u
+      → 0 < length u.items
   dealt_some rest s i hands u a e l read = tasks_some h x (held (hand_of x w) i rest) s u.items (on_top rest s i hands u a e l read)
 
   -- the first that is still out is taken from its hand
@@ -70,7 +75,8 @@ module _ {C : Type 0} {g : Ghosts C} (h : Hall C g) (x : Scripted) (w : ℕ) whe
     pub task : IsTask h x t
     pub session : number_in t ≡ s
 
-  pub dealt_out : (rest : List ℕ) (s i : ℕ) (t : Task C g) (hands hands2 : List (Vec (Task C g) Global)) (u v : Vec (Task C g) Global) → AreDealt h x w (s ∷ rest) hands → i ≡ hand_of x w s → i < w → u ≡ get_or hands i u → u.items ≡ v.items ++ t ∷ [] → hands2 ≡ set hands i v → TakenOut rest s t hands2
+  pub dealt_out : (rest : List ℕ) (s i : ℕ) (t : Task C g) (hands hands2 : List (Vec (Task C g) Global)) (u v : Vec (Task C g) Global) → AreDealt h x w (s ∷ rest) hands → i ≡ hand_of x w s → i < w
+      → u ≡ get_or hands i u → u.items ≡ v.items ++ t ∷ [] → hands2 ≡ set hands i v → TakenOut rest s t hands2
   dealt_out rest s i t hands hands2 u v a e l read is to = record {
     dealt = record {
       count = ap length to ∙ (length-set hands i v ∙ a.count);
@@ -95,23 +101,29 @@ module _ {C : Type 0} {g : Ghosts C} (h : Hall C g) (x : Scripted) (w : ℕ) whe
 
 -- the steps of the deal and of the gathering
 module _ {C : Type 0} {g : Ghosts C} (h : Hall C g) (x : Scripted) (w : ℕ) where
-  pub deal_step : (n k i : ℕ) (t : Task C g) (hands hands2 : List (Vec (Task C g) Global)) (u v : Vec (Task C g) Global) → n ≡ suc k → n ≤ SESSIONS → AreDealt h x w (count_from (suc n) (SESSIONS - n)) hands → i ≡ hand_of x w (suc k) → i < w → IsTask h x t → number_in t ≡ suc k → u ≡ get_or hands i u → v.items ≡ u.items ++ t ∷ [] → hands2 ≡ set hands i v → AreDealt h x w (count_from (suc k) (SESSIONS - k)) hands2
+  pub deal_step : (n k i : ℕ) (t : Task C g) (hands hands2 : List (Vec (Task C g) Global)) (u v : Vec (Task C g) Global) → n ≡ suc k → n ≤ SESSIONS
+      → AreDealt h x w (count_from (suc n) (SESSIONS - n)) hands → i ≡ hand_of x w (suc k) → i < w → IsTask h x t → number_in t ≡ suc k → u ≡ get_or hands i u → v.items ≡ u.items ++ t ∷ []
+      → hands2 ≡ set hands i v → AreDealt h x w (count_from (suc k) (SESSIONS - k)) hands2
   deal_step n k i t hands hands2 u v e b a q l task is read items to =
       subst (λ (ns : List ℕ). AreDealt h x w ns hands2) (sym (sessions_from k (omega arith)))
       (dealt_on h x w (count_from (suc (suc k)) (SESSIONS - suc k)) (suc k) i t hands hands2 u v
       (subst (λ (ns : List ℕ). AreDealt h x w ns hands) (ap (λ (p : ℕ × ℕ). count_from p.0 p.1) (λ j. (suc (e j), (let z : SESSIONS - n ≡ SESSIONS - suc k = omega arith in z) j))) a)
       q l task is read items to)
 
-  as_first : (k : ℕ) (hands : List (Vec (Task C g) Global)) → k < SESSIONS → AreDealt h x w (count_from (suc k) (SESSIONS - k)) hands → AreDealt h x w (suc k ∷ count_from (suc (suc k)) (SESSIONS - suc k)) hands
+  as_first : (k : ℕ) (hands : List (Vec (Task C g) Global)) → k < SESSIONS → AreDealt h x w (count_from (suc k) (SESSIONS - k)) hands
+      → AreDealt h x w (suc k ∷ count_from (suc (suc k)) (SESSIONS - suc k)) hands
   as_first k hands l a = subst (λ (ns : List ℕ). AreDealt h x w ns hands) (sessions_from k l) a
 
   its_hand : (k i m n : ℕ) → i ≡ hand_of x n m → n ≡ w → m ≡ k + 1 → i ≡ hand_of x w (suc k)
   its_hand k i m n q e f = q ∙ ap (λ (p : ℕ × ℕ). hand_of x p.0 p.1) (λ j. (e j, (let z : m ≡ suc k = omega arith in z) j))
 
-  pub gather_some : (k i m n : ℕ) (hands : List (Vec (Task C g) Global)) (u : Vec (Task C g) Global) → k < SESSIONS → AreDealt h x w (count_from (suc k) (SESSIONS - k)) hands → i ≡ hand_of x n m → n ≡ w → m ≡ k + 1 → i < n → u ≡ get_or hands i u → 0 < length u.items
+  pub gather_some : (k i m n : ℕ) (hands : List (Vec (Task C g) Global)) (u : Vec (Task C g) Global) → k < SESSIONS → AreDealt h x w (count_from (suc k) (SESSIONS - k)) hands → i ≡ hand_of x n m
+      → n ≡ w → m ≡ k + 1 → i < n → u ≡ get_or hands i u → 0 < length u.items
   gather_some k i m n hands u b a q e f l read = dealt_some h x w (count_from (suc (suc k)) (SESSIONS - suc k)) (suc k) i hands u (as_first k hands b a) (its_hand k i m n q e f) (omega arith) read
 
-  pub gather_step : (k i m n : ℕ) (t : Task C g) (hands hands2 : List (Vec (Task C g) Global)) (u v : Vec (Task C g) Global) → k < SESSIONS → AreDealt h x w (count_from (suc k) (SESSIONS - k)) hands → i ≡ hand_of x n m → n ≡ w → m ≡ k + 1 → i < n → u ≡ get_or hands i u → u.items ≡ v.items ++ t ∷ [] → hands2 ≡ set hands i v → TakenOut h x w (count_from (suc (k + 1)) (SESSIONS - (k + 1))) (suc k) t hands2
+  pub gather_step : (k i m n : ℕ) (t : Task C g) (hands hands2 : List (Vec (Task C g) Global)) (u v : Vec (Task C g) Global) → k < SESSIONS → AreDealt h x w (count_from (suc k) (SESSIONS - k)) hands
+      → i ≡ hand_of x n m → n ≡ w → m ≡ k + 1 → i < n → u ≡ get_or hands i u → u.items ≡ v.items ++ t ∷ [] → hands2 ≡ set hands i v → TakenOut h x w (count_from (suc (k + 1)) (SESSIONS - (k + 1)))
+      (suc k) t hands2
   gather_step k i m n t hands hands2 u v b a q e f l read items to =
       let o = dealt_out h x w (count_from (suc (suc k)) (SESSIONS - suc k)) (suc k) i t hands hands2 u v (as_first k hands b a) (its_hand k i m n q e f) (omega arith) read items to in record {
         dealt = subst (λ (ns : List ℕ). AreDealt h x w ns hands2) (from_next k b) o.dealt;
@@ -124,18 +136,30 @@ abbrev pub IsTakenOut : {C : Type 0} {g : Ghosts C} → List (Vec (Task C g) Glo
 IsTakenOut before hands = (t : _) → IsInHands hands t → IsInHands before t
 
 -- the last task of a hand is taken out of it
-module _ {C : Type 0} {g : Ghosts C} (before hands : List (Vec (Task C g) Global)) (i : ℕ) (t : Task C g) (u v : Vec (Task C g) Global) (out : IsTakenOut before hands) (low : i < length hands) (read : u ≡ get_or hands i u) (is : u.items ≡ v.items ++ t ∷ []) where
+module _ {C : Type 0} {g : Ghosts C} (before hands : List (Vec (Task C g) Global)) (i : ℕ) (t : Task C g) (u v : Vec (Task C g) Global) (out : IsTakenOut before hands) (low : i < length hands)
+    (read : u ≡ get_or hands i u) (is : u.items ≡ v.items ++ t ∷ []) where
   here : (d : Vec (Task C g) Global) → get_or hands i d ≡ u
   here d = get_or_default hands i d u low ∙ sym read
 
   pub lay : IsInHands before t
-  lay = out t (record { hand = i; within = low; lies = λ d. subst (λ (y : Vec (Task C g) Global). Contains y.items t) (sym (here d)) (subst (λ (ts : List (Task C g)). Contains ts t) (sym is) (Contains-push v.items t)) })
+  lay = out t (record {
+    hand = i;
+    within = low;
+    lies = λ d. subst (λ (y : Vec (Task C g) Global). Contains y.items t) (sym (here d))
+        (subst (λ (ts : List (Task C g)). Contains ts t) (sym is) (Contains-push v.items t));
+  })
 
   in_set : (s : Task C g) → IsInHands (set hands i v) s → IsInHands hands s
   in_set s a = dite (ℕ_discrete a.hand i)
       (λ (q : a.hand ≡ i).
-      let there : Contains v.items s = subst (λ (y : Vec (Task C g) Global). Contains y.items s) (get_or-set_same hands i v v low) (subst (λ (k : ℕ). Contains (get_or (set hands i v) k v).items s) q (a.lies v)) in
-      record { hand = i; within = low; lies = λ d. subst (λ (y : Vec (Task C g) Global). Contains y.items s) (sym (here d)) (subst (λ (ts : List (Task C g)). Contains ts s) (sym is) (Contains-append_left v.items (t ∷ []) s there)) })
+      let there : Contains v.items s = subst (λ (y : Vec (Task C g) Global). Contains y.items s) (get_or-set_same hands i v v low)
+      (subst (λ (k : ℕ). Contains (get_or (set hands i v) k v).items s) q (a.lies v)) in
+      record {
+        hand = i;
+        within = low;
+        lies = λ d. subst (λ (y : Vec (Task C g) Global). Contains y.items s) (sym (here d))
+            (subst (λ (ts : List (Task C g)). Contains ts s) (sym is) (Contains-append_left v.items (t ∷ []) s there));
+      })
       (λ (o : a.hand ≢ i). record {
         hand = a.hand;
         within = omega (arith, a.within, length-set hands i v);

@@ -61,10 +61,12 @@ module _ (t : Txn) (x : Cell) where
   own_reads [] = refl
   own_reads (Got s y w v ∷ P) = go (same_cell y x) (eqb s.0 t.0) refl refl (own_reads P)
     where
-      ended : (c : Bool) → eqb s.0 t.0 ≡ c → length (filter (is_by t) (all_reads P x ++ (s, w) ∷ [])) ≡ cond c (suc (length (filter (is_by t) (all_reads P x)))) (length (filter (is_by t) (all_reads P x)))
+      ended : (c : Bool) → eqb s.0 t.0 ≡ c → length (filter (is_by t) (all_reads P x ++ (s, w) ∷ [])) ≡ cond c (suc (length (filter (is_by t) (all_reads P x))))
+          (length (filter (is_by t) (all_reads P x)))
       ended c h = filter_end (is_by t) (all_reads P x) (s, w) ∙ ap (λ (o : Bool). cond o (suc (length (filter (is_by t) (all_reads P x)))) (length (filter (is_by t) (all_reads P x)))) h
 
-      newest : (b : Bool) → same_cell y x ≡ b → length (filter (gets x) (Got s y w v ∷ filter (is_of t.0) P)) ≡ cond b (suc (length (filter (gets x) (filter (is_of t.0) P)))) (length (filter (gets x) (filter (is_of t.0) P)))
+      newest : (b : Bool) → same_cell y x ≡ b → length (filter (gets x) (Got s y w v ∷ filter (is_of t.0) P)) ≡ cond b (suc (length (filter (gets x) (filter (is_of t.0) P))))
+          (length (filter (gets x) (filter (is_of t.0) P)))
       newest true h = ap (λ (o : Bool). length (cond (is_some (cond o (Some v) None)) (Got s y w v ∷ filter (gets x) (filter (is_of t.0) P)) (filter (gets x) (filter (is_of t.0) P)))) h
       newest false h = ap (λ (o : Bool). length (cond (is_some (cond o (Some v) None)) (Got s y w v ∷ filter (gets x) (filter (is_of t.0) P)) (filter (gets x) (filter (is_of t.0) P)))) h
 
@@ -81,7 +83,8 @@ module _ (t : Txn) (x : Cell) where
   forget_none H all h = record { left = ap (λ (l : List (Txn × Txn)). length l) h ∙ own_reads H; others = refl }
 
   -- another event takes none
-  pub forget_other : (e : Event) (es : List Event) (all rs : List (Txn × Txn)) → ((s : Txn) (y : Cell) (w : Txn) (v : Option ℤ) → e ≡ Got s y w v → ⊥) → IsForgetting (e ∷ es) all rs → IsForgetting es all rs
+  pub forget_other : (e : Event) (es : List Event) (all rs : List (Txn × Txn)) → ((s : Txn) (y : Cell) (w : Txn) (v : Option ℤ) → e ≡ Got s y w v → ⊥) → IsForgetting (e ∷ es) all rs
+      → IsForgetting es all rs
   forget_other e es all rs h was = record { left = was.left ∙ no_get e es true (no_got e h); others = was.others }
     where
       no_got : (e : Event) → ((s : Txn) (y : Cell) (w : Txn) (v : Option ℤ) → e ≡ Got s y w v → ⊥) → gets x e ≡ false

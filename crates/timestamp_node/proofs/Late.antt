@@ -97,7 +97,8 @@ module _ (S : Setup) (H : List Event) (n t : ℕ) (x : Cell) where
       parts false a true l w h = absurd (let z : false ≡ true = h refl in cc)
       parts false a false l w h = refl
 
-      same : (r : Txn × Txn) → (on S H n r.0.0 && not (aborted H r.0.0) && (eqb r.0.0 u && is_after S H n t x r)) ≡ (meets S H n t u && not (aborted H u) && ltb (start S H n t) (start S H n u) && (eqb r.0.0 u && old r))
+      same : (r : Txn × Txn) → (on S H n r.0.0 && not (aborted H r.0.0) && (eqb r.0.0 u && is_after S H n t x r)) ≡ (meets S H n t u && not (aborted H u) && ltb (start S H n t) (start S H n u) &&
+          (eqb r.0.0 u && old r))
       same r = elim (cases_Bool (eqb r.0.0 u)) [
         | inl e ↦ (let q = eqb-true r.0.0 u e in
             ap (λ (b : Bool). on S H n r.0.0 && not (aborted H r.0.0) && (b && is_after S H n t x r)) e

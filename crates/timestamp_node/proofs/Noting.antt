@@ -52,7 +52,8 @@ others t r = not (is_by t r)
 
 module _ (S : Setup) (P : List Event) (n : ℕ) where
   -- an event that is no Got, and aborts nobody
-  reads_kept : (e : Event) → IsOrderly S P → IsNumbered P → MayCome P e → ((x : Cell) → all_reads (e ∷ P) x ≡ all_reads P x) → ((u : ℕ) → is_gone u e ≡ false) → (x : Cell) → reads S P n x ≡ reads S (e ∷ P) n x
+  reads_kept : (e : Event) → IsOrderly S P → IsNumbered P → MayCome P e → ((x : Cell) → all_reads (e ∷ P) x ≡ all_reads P x) → ((u : ℕ) → is_gone u e ≡ false) → (x : Cell)
+      → reads S P n x ≡ reads S (e ∷ P) n x
   unfolding reads
   reads_kept e o l m a g x = sym (ap (filter (here S (e ∷ P) n)) (a x) ∙ filter_agree (here S (e ∷ P) n) (here S P n) (all_reads P x) (all_map _ _ same (all_reads P x) (all_got P x)))
     where
@@ -70,7 +71,8 @@ module _ (S : Setup) (P : List Event) (n : ℕ) where
     unfolding reads all_reads
     reads_got x h a = sym (filter_alike (here S (Got t y w v ∷ P) n) (here S P n) same_got (all_reads (Got t y w v ∷ P) x) ∙ go (same_cell y x))
       where
-        go : (b : Bool) → filter (here S P n) (cond b (all_reads P x ++ (t, w) ∷ []) (all_reads P x)) ≡ cond b (filter (here S P n) (all_reads P x) ++ (t, w) ∷ []) (filter (here S P n) (all_reads P x))
+        go : (b : Bool) → filter (here S P n) (cond b (all_reads P x ++ (t, w) ∷ []) (all_reads P x)) ≡ cond b (filter (here S P n) (all_reads P x) ++ (t, w) ∷ [])
+            (filter (here S P n) (all_reads P x))
         go true = filter_push (here S P n) (all_reads P x) (t, w) (and_from _ _ h (ap not a))
         go false = refl
 
@@ -164,7 +166,8 @@ module _ (S : Setup) (H : List Event) (n : ℕ) (e : Event) (is : H ≡ e ∷ dr
     pub began_on : (t : Txn) (s : Session) (k : Kind) (i : ℕ) → e ≡ Began t s k i → on S H n t.0 ≡ true → (b' : Book) (m at : ℕ) → m ≡ side S H n t.0 → at ≡ length (drop 1 H) → b'.size ≡ b.size
         → ((S : Setup) (Q : List Event) (n : ℕ) (d : Event) → BatchesOf b S Q n → MayCome Q d → Joins S n m t.0 d → at ≡ length Q → BatchesOf b' S (d ∷ Q) n) → StampsStand n o b' p S H
     unfolding on side
-    began_on t s k i q h b' m at side_is end z joined = next b' p z (joined S (drop 1 H) n e was.batches come joins end) (same_reads (λ x. ap (λ (d : Event). all_reads (d ∷ drop 1 H) x) q ∙ keeps x) (λ u. ap (is_gone u) q))
+    began_on t s k i q h b' m at side_is end z joined = next b' p z (joined S (drop 1 H) n e was.batches come joins end)
+        (same_reads (λ x. ap (λ (d : Event). all_reads (d ∷ drop 1 H) x) q ∙ keeps x) (λ u. ap (is_gone u) q))
       where
         keeps : (x : Cell) → all_reads (Began t s k i ∷ drop 1 H) x ≡ all_reads (drop 1 H) x
         keeps x = unfold all_reads in refl
@@ -177,7 +180,8 @@ module _ (S : Setup) (H : List Event) (n : ℕ) (e : Event) (is : H ≡ e ∷ dr
 
     pub began_off : (t : Txn) (s : Session) (k : Kind) (i : ℕ) → e ≡ Began t s k i → on S H n t.0 ≡ false → StampsStand n o b p S H
     unfolding on
-    began_off t s k i q h = next b p refl (same_batches (subst (Passes S (drop 1 H) n) (sym q) (ap (on_path S.tree n) (sym spot) ∙ h))) (same_reads (λ x. ap (λ (d : Event). all_reads (d ∷ drop 1 H) x) q ∙ keeps x) (λ u. ap (is_gone u) q))
+    began_off t s k i q h = next b p refl (same_batches (subst (Passes S (drop 1 H) n) (sym q) (ap (on_path S.tree n) (sym spot) ∙ h)))
+        (same_reads (λ x. ap (λ (d : Event). all_reads (d ∷ drop 1 H) x) q ∙ keeps x) (λ u. ap (is_gone u) q))
       where
         keeps : (x : Cell) → all_reads (Began t s k i ∷ drop 1 H) x ≡ all_reads (drop 1 H) x
         keeps x = unfold all_reads in refl
@@ -197,12 +201,14 @@ module _ (S : Setup) (H : List Event) (n : ℕ) (e : Event) (is : H ≡ e ∷ dr
     got_off t y w v q h =
         let u : unfinished (drop 1 H) t.0 ≡ true = (subst (λ (d : Event). MayNote S (drop 1 H) n d) q may).0 in
         let before = on_before t.0 u ∙ h in
-        next b p refl (same_batches (subst (Passes S (drop 1 H) n) (sym q) tt)) (subst (λ (d : Event). ReadsOf p S (d ∷ drop 1 H) n) (sym q) (λ x. was.reads x ∙ reads_got_off S (drop 1 H) n t y w v x before))
+        next b p refl (same_batches (subst (Passes S (drop 1 H) n) (sym q) tt))
+        (subst (λ (d : Event). ReadsOf p S (d ∷ drop 1 H) n) (sym q) (λ x. was.reads x ∙ reads_got_off S (drop 1 H) n t y w v x before))
 
     pub done : (t : Txn) → e ≡ Done t → (b' : Book) (at : ℕ) → at ≡ length (drop 1 H) → b'.size ≡ b.size
         → ((S : Setup) (Q : List Event) (n : ℕ) (d : Event) → BatchesOf b S Q n → MayCome Q d → Finishes t.0 d → at ≡ length Q → BatchesOf b' S (d ∷ Q) n) → StampsStand n o b' p S H
     done t q b' at end z finished =
-        next b' p z (finished S (drop 1 H) n e was.batches come (subst (Finishes t.0) (sym q) refl) end) (same_reads (λ x. ap (λ (d : Event). all_reads (d ∷ drop 1 H) x) q ∙ keeps x) (λ u. ap (is_gone u) q))
+        next b' p z (finished S (drop 1 H) n e was.batches come (subst (Finishes t.0) (sym q) refl) end)
+        (same_reads (λ x. ap (λ (d : Event). all_reads (d ∷ drop 1 H) x) q ∙ keeps x) (λ u. ap (is_gone u) q))
       where
         keeps : (x : Cell) → all_reads (Done t ∷ drop 1 H) x ≡ all_reads (drop 1 H) x
         keeps x = unfold all_reads in refl
@@ -234,7 +240,8 @@ module _ (S : Setup) (H : List Event) (n : ℕ) (e : Event) (is : H ≡ e ∷ dr
 
     -- an event that is of no concern
     pub idle : (d : Event) → e ≡ d → Passes S (drop 1 H) n d → ((x : Cell) → all_reads (d ∷ drop 1 H) x ≡ all_reads (drop 1 H) x) → ((u : ℕ) → is_gone u d ≡ false) → StampsStand n o b p S H
-    idle d q passes keeps g = next b p refl (same_batches (subst (Passes S (drop 1 H) n) (sym q) passes)) (same_reads (λ x. ap (λ (d : Event). all_reads (d ∷ drop 1 H) x) q ∙ keeps x) (λ u. ap (is_gone u) q ∙ g u))
+    idle d q passes keeps g = next b p refl (same_batches (subst (Passes S (drop 1 H) n) (sym q) passes))
+        (same_reads (λ x. ap (λ (d : Event). all_reads (d ∷ drop 1 H) x) q ∙ keeps x) (λ u. ap (is_gone u) q ∙ g u))
 
     pub put : (t : Txn) (x : Cell) (v : Option ℤ) → e ≡ Put t x v → StampsStand n o b p S H
     unfolding all_reads

@@ -41,7 +41,8 @@ close_grows S e P n u h =
 abbrev StartsBefore : Setup → List Event → ℕ → Txn × Txn → Txn × Txn → Type 0
 StartsBefore S H n a b = on S H n b.0.0 ≡ true → start S H n a.0.0 < close S H n b.0.0
 
-starts_kept : (S : Setup) (e : Event) (P : List Event) (n : ℕ) → IsNumbered (e ∷ P) → (a b : Txn × Txn) → begun P a.0.0 ≡ true → begun P b.0.0 ≡ true → StartsBefore S P n a b → StartsBefore S (e ∷ P) n a b
+starts_kept : (S : Setup) (e : Event) (P : List Event) (n : ℕ) → IsNumbered (e ∷ P) → (a b : Txn × Txn) → begun P a.0.0 ≡ true → begun P b.0.0 ≡ true → StartsBefore S P n a b
+    → StartsBefore S (e ∷ P) n a b
 unfolding IsNumbered
 starts_kept S e P n l a b f g h o =
     let ka = begins_once e P a.0.0 l.1 l.0 f in
@@ -67,7 +68,8 @@ all_ordered : (S : Setup) (n : ℕ) (P : List Event) (x : Cell) → IsNumbered P
 unfolding all_reads IsTimely IsNumbered
 all_ordered S n [] x l k = unfold IsOrderedBy in tt
 all_ordered S n (Got t y w v ∷ P) x l k =
-    go (same_cell y x) (ordered_map _ _ (StartsBefore S (Got t y w v ∷ P) n) (λ a b f g h. starts_kept S (Got t y w v) P n l a b f g h) (all_reads P x) (readers_begun P x k.1) (all_ordered S n P x l.1 k.1))
+    go (same_cell y x) (ordered_map _ _ (StartsBefore S (Got t y w v ∷ P) n) (λ a b f g h. starts_kept S (Got t y w v) P n l a b f g h) (all_reads P x) (readers_begun P x k.1)
+    (all_ordered S n P x l.1 k.1))
   where
     last : (a : Txn × Txn) → begun P a.0.0 ≡ true → StartsBefore S (Got t y w v ∷ P) n a (t, w)
     last a f o =
@@ -96,7 +98,8 @@ module _ (S : Setup) (H : List Event) (n : ℕ) (x : Cell) (t : ℕ) (l : IsNumb
   -- so t's write comes too late for none of them
   pub older_in_time : (front : List (Txn × Txn)) (r : Txn × Txn) (behind : List (Txn × Txn)) → reads S H n x ≡ front ++ r ∷ behind → close S H n r.0.0 < start S H n t
       → AllOf (λ u. is_after S H n t x u ≡ false) (front ++ r ∷ [])
-  older_in_time front r behind e c = all_map _ _ (λ u h. and_left _ (eqb u.1.0 t || precedes S H x u.1.0 t) (and_right (meets S H n t u.0.0) _ (le-ltb _ _ (omega (arith, h))))) (front ++ r ∷ []) (older_reads front r behind e c)
+  older_in_time front r behind e c = all_map _ _ (λ u h. and_left _ (eqb u.1.0 t || precedes S H x u.1.0 t) (and_right (meets S H n t u.0.0) _ (le-ltb _ _ (omega (arith, h))))) (front ++ r ∷ [])
+      (older_reads front r behind e c)
 
 -- and reads stay timely
 pub timely_next : (S : Setup) (P : List Event) (n : ℕ) (e : Event) → MayNote S P n e → IsTimely P → IsTimely (e ∷ P)

@@ -88,7 +88,8 @@ module _ (S : Setup) (H : List Event) (n : ℕ) (k : (row S.tree n).control ≡ 
       inner : eqb n (leaf S.tree s) ≡ false
       inner = elim (cases_Bool (eqb n (leaf S.tree s))) [ inl h ↦ absurd (ne (eqb-true n (leaf S.tree s) h)) | inr h ↦ h ]
 
-      go : cond (has_batches S.tree n && not (eqb n (leaf S.tree s))) (wait_for (full_at S H n (side_at S.tree n s 0) (row S.tree n).batch)) Go ≡ wait_for (full_at S H n (side_at S.tree n s 0) (row S.tree n).batch)
+      go : cond (has_batches S.tree n && not (eqb n (leaf S.tree s))) (wait_for (full_at S H n (side_at S.tree n s 0) (row S.tree n).batch)) Go ≡ wait_for
+          (full_at S H n (side_at S.tree n s 0) (row S.tree n).batch)
       go = λ j. cond (keeps j && not (inner j)) (wait_for (full_at S H n (side_at S.tree n s 0) (row S.tree n).batch)) Go
 
   gate_is : (t u : ℕ) (b : Bool) → b ≡ (row S.tree n).ordered → gate (row S.tree n).control S H n t u ≡ (b && unfinished H u && meets S H n t u && ltb (start S H n u) (start S H n t))
@@ -100,7 +101,8 @@ module _ (S : Setup) (H : List Event) (n : ℕ) (k : (row S.tree n).control ≡ 
   gate_open t o = ap wait_for (sym (find_alike _ (λ (u : ℕ). false) (λ u. gate_is t u false o) (txns H) ∙ nobody (txns H)))
 
   -- who holds t back is found among the live ones
-  pub gate_found : (t : ℕ) → IsOrderly S H → true ≡ (row S.tree n).ordered → (r : Option Txn) → r ≡ find (λ (u : Txn). holds_back S H n t u.0) (live_txns H) → wait_for_txn r ≡ wait_for (find (gate (row S.tree n).control S H n t) (txns H))
+  pub gate_found : (t : ℕ) → IsOrderly S H → true ≡ (row S.tree n).ordered → (r : Option Txn) → r ≡ find (λ (u : Txn). holds_back S H n t u.0) (live_txns H)
+      → wait_for_txn r ≡ wait_for (find (gate (row S.tree n).control S H n t) (txns H))
   gate_found t w o r h =
       ap wait_for_txn (h ∙ find_alike _ _ numbered (live_txns H) ∙ first_live H (holds_back S H n t) live)
       ∙ wait_txn (find (holds_back S H n t) (txns H)) ∙ ap wait_for (sym (find_alike _ _ (λ u. gate_is t u true o) (txns H)))
@@ -126,7 +128,8 @@ place_next (Some j) i e = (j, (let z : Some (suc j) ≡ Some i = e in cc), refl)
 pub found_place : (ws : List ℕ) (w i : ℕ) → first_place (λ v. eqb v w) ws ≡ Some i → (i < length ws) × (slice_get ws i ≡ Some w)
 found_place [] w i e = absurd (cc)
 found_place (v ∷ ws) w i e = elim (cases_Bool (eqb v w)) [
-  | inl h ↦ (let z : Some 0 ≡ Some i = rw h at e in let y : 0 ≡ i = cc in subst (λ (i : ℕ). (i < suc (length ws)) × (slice_get (v ∷ ws) i ≡ Some w)) y (omega arith, ap (λ (k : ℕ). Some k) (eqb-true v w h)))
+  | inl h ↦ (let z : Some 0 ≡ Some i = rw h at e in let y : 0 ≡ i = cc in
+      subst (λ (i : ℕ). (i < suc (length ws)) × (slice_get (v ∷ ws) i ≡ Some w)) y (omega arith, ap (λ (k : ℕ). Some k) (eqb-true v w h)))
   | inr h ↦ (let z : next_place (first_place (λ v. eqb v w) ws) ≡ Some i = rw h at e in
       let p = place_next (first_place (λ v. eqb v w) ws) i z in
       let r = found_place ws w p.0 p.2 in

@@ -170,7 +170,8 @@ fn lesser(least: Option<Txn>, t: Txn) -> Txn
 // Returns whether the version that was read is t's own or one before it. `at` is the place that t's has or would have; 0 wrote the starting row.
 fn is_at_most<C: Chains>(chains: &C, at: usize, t: Txn, cell: Cell, writer: Txn) -> bool
     requires { 0 < t.0 }
-    ensures { (S : Setup) (H : List Event) → HoldsVersions S H (C.lists chains.now) → IsPlaceOf S H cell t.0 at (writers_of (C.lists chains.now cell)) → (writer.0 ≡ 0) ⊎ IsTrue (has_version H cell writer.0) → result ≡ (eqb writer.0 t.0 || precedes S H cell writer.0 t.0) }
+    ensures { (S : Setup) (H : List Event) → HoldsVersions S H (C.lists chains.now) → IsPlaceOf S H cell t.0 at (writers_of (C.lists chains.now cell)) → (writer.0 ≡ 0)
+        ⊎ IsTrue (has_version H cell writer.0) → result ≡ (eqb writer.0 t.0 || precedes S H cell writer.0 t.0) }
 {
     if writer == t || writer.0 == 0 {
         return true;

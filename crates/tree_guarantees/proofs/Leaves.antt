@@ -53,7 +53,8 @@ one_missing p n m low e = go (list_all p (below m)) refl
     go true h = absurd (false≢true (sym e ∙ all_have p (below m) n h (among_below n m low)))
 
 -- the way to the leaf of an instance: that to one of the leaves of the type, or to the root
-found : (T : List NodeRow) (k i : ℕ) (ns : List ℕ) → way_has_batches T 0 ≡ true → list_all (has_batches_for T k) ns ≡ true → way_has_batches T (unwrap_or (find (λ n. houses (row T n) (spot k i)) ns) 0) ≡ true
+found : (T : List NodeRow) (k i : ℕ) (ns : List ℕ) → way_has_batches T 0 ≡ true → list_all (has_batches_for T k) ns ≡ true
+    → way_has_batches T (unwrap_or (find (λ n. houses (row T n) (spot k i)) ns) 0) ≡ true
 found T k i [] root all = root
 found T k i (n ∷ ns) root all =
     let parts = and_parts (has_batches_for T k n) (list_all (has_batches_for T k) ns) all in

@@ -18,7 +18,8 @@ of_its_path X H t r e = (
   λ free. e ∙ have_all (has_batches X.setup.tree) (path X.setup.tree (spot_of H t)) (λ n a. free n a),
 )
 
-pub reads_are_free : (X : Store) (H : List Event) (t : ℕ) (T : List NodeRow) (s : Spot) (r : Bool) → r ≡ list_all (has_batches T) (path T s) → X.setup.tree ≡ T → spot_of H t ≡ s → (IsTrue r ↔ ReadsFreely X H t)
+pub reads_are_free : (X : Store) (H : List Event) (t : ℕ) (T : List NodeRow) (s : Spot) (r : Bool) → r ≡ list_all (has_batches T) (path T s) → X.setup.tree ≡ T → spot_of H t ≡ s
+    → (IsTrue r ↔ ReadsFreely X H t)
 reads_are_free X H t T s r e p q =
     of_its_path X H t r (e ∙ ap (λ (U : List NodeRow). list_all (has_batches U) (path U s)) (sym p) ∙ ap (λ (z : Spot). list_all (has_batches X.setup.tree) (path X.setup.tree z)) (sym q))
 

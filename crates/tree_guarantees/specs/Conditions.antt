@@ -25,7 +25,8 @@ Guarantees T P = (X : Store) → X.setup.tree ≡ T → IsSound X.setup → (ask
 
 -- each read and each scan of a running transaction of this type and instance is granted at once, unless it is refused
 abbrev pub ServesReads : Spot → Store → List Event → Type 0
-ServesReads s X H = (c : Session) (t : ℕ) → held H c.0 ≡ Some t → IsTrue (unfinished H t) → spot_of H t ≡ s → (x : Cell) → IsTrue (is_served (Read x) (answer X H c (Read x)).0) × ((n : ℕ) → IsTrue (is_served (Scan x n) (answer X H c (Scan x n)).0))
+ServesReads s X H = (c : Session) (t : ℕ) → held H c.0 ≡ Some t → IsTrue (unfinished H t) → spot_of H t ≡ s → (x : Cell) → IsTrue (is_served (Read x) (answer X H c (Read x)).0)
+    × ((n : ℕ) → IsTrue (is_served (Scan x n) (answer X H c (Scan x n)).0))
 
 -- each node on the way to n keeps batches
 abbrev pub way_has_batches : List NodeRow → ℕ → Bool

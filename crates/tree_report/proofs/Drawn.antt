@@ -17,7 +17,8 @@ drop_nodes : (ns : List Node) (i : ℕ) → drop i (node_numbers ns) ≡ node_nu
 drop_nodes ns i = drop-map (λ (m : Node). m.0) i ns
 
 module _ (names : NameBook) (T : List NodeRow) (inner : List ℕ → ℕ → List ℕ) (prefix : List ℕ) where
-  pub one_more : (ns : List Node) (i : ℕ) (left : List Node) (n : ℕ) (stemmed below out mid new whole : List ℕ) → left ≡ drop i ns → IsBranch names T (node_numbers left) prefix out mid n stemmed → below ≡ stemmed → new ≡ mid ++ inner below n
+  pub one_more : (ns : List Node) (i : ℕ) (left : List Node) (n : ℕ) (stemmed below out mid new whole : List ℕ) → left ≡ drop i ns → IsBranch names T (node_numbers left) prefix out mid n stemmed
+      → below ≡ stemmed → new ≡ mid ++ inner below n
       → out ++ branches names T inner prefix (drop i (node_numbers ns)) ≡ whole → new ++ branches names T inner prefix (drop (i + 1) (node_numbers ns)) ≡ whole
   one_more ns i left n stemmed below out mid new whole left_is b same grown so_far =
       let here : drop i (node_numbers ns) ≡ n ∷ b.rest = drop_nodes ns i ∙ ap (λ (l : List Node). node_numbers l) (sym left_is) ∙ b.first in
@@ -48,7 +49,8 @@ all_drawn names T zero prefix p ns i old out some are past so_far = absurd (omeg
 all_drawn names T (suc d) prefix p ns i old out some are past so_far =
     let less : suc d - 1 ≡ d = omega arith in
     let none : drop i ns ≡ [] = drop_past ns i past in
-    let at : out ++ branches names T (drawn names T d) prefix (drop i ns) ≡ old ++ branches names T (drawn names T d) prefix ns = subst (λ (k : ℕ). out ++ branches names T (drawn names T k) prefix (drop i ns) ≡ old ++ branches names T (drawn names T k) prefix ns) less so_far in
+    let at : out ++ branches names T (drawn names T d) prefix (drop i ns) ≡ old ++ branches names T (drawn names T d) prefix ns = subst
+    (λ (k : ℕ). out ++ branches names T (drawn names T k) prefix (drop i ns) ≡ old ++ branches names T (drawn names T k) prefix ns) less so_far in
     sym (append-nil out) ∙ ap (λ (l : List ℕ). out ++ branches names T (drawn names T d) prefix l) (sym none) ∙ at ∙ ap (λ (l : List ℕ). old ++ branches names T (drawn names T d) prefix l) are
   where
     drop_past : (ms : List ℕ) (j : ℕ) → length ms ≤ j → drop j ms ≡ []

@@ -7,8 +7,10 @@ use Rattle.guarantees.specs.Shapes.{HidesUncommitted, keeps_time, orders_by_comm
 use Rattle.tree_guarantees.specs.Conditions.{IsCondition}
 use Rattle.tree_report.specs.Guarantees.{AreGuarantees, always_text, end_line, shape_text, types_text}
 
-pub told : {E : Type 0} (types : Words) (T : List NodeRow) (strict ordered alone : Bool) (old one two three new : List ℕ) (r : Result (Unit {0}) E) → IsCondition keeps_time T strict → IsCondition orders_by_commits T ordered
-    → ((S : Setup) → S.tree ≡ T → (IsTrue alone ↔ HidesUncommitted S)) → old ≡ [] → one ≡ old ++ always_text → two ≡ one ++ shape_text strict ordered alone → three ≡ two ++ types_text types T → OnOk r (new ≡ three ++ end_line)
+pub told : {E : Type 0} (types : Words) (T : List NodeRow) (strict ordered alone : Bool) (old one two three new : List ℕ) (r : Result (Unit {0}) E) → IsCondition keeps_time T strict
+    → IsCondition orders_by_commits T ordered
+    → ((S : Setup) → S.tree ≡ T → (IsTrue alone ↔ HidesUncommitted S)) → old ≡ [] → one ≡ old ++ always_text → two ≡ one ++ shape_text strict ordered alone → three ≡ two ++ types_text types T
+    → OnOk r (new ≡ three ++ end_line)
     → OnOk r (AreGuarantees types T new)
 told types T strict ordered alone old one two three new (Err e) a b c blank first second third fourth = tt
 told types T strict ordered alone old one two three new (Ok u) a b c blank first second third fourth =

@@ -6,7 +6,8 @@ use Rattle.engine_core.specs.EngineModel.{EngineModel, IsOfEngine}
 use Rattle.tree_switch.specs.Courses.{first_of, start_of, end_of, StartsWith, GoOn, IsCourse}
 
 -- the present phase, with another history
-further_on : (names : List (List ℕ)) (T : Values) (past : List EngineModel) (e f : EngineModel) → f.store ≡ e.store → f.names ≡ e.names → IsOfEngine f → GoOn names T (past ++ e ∷ []) → GoOn names T (past ++ f ∷ [])
+further_on : (names : List (List ℕ)) (T : Values) (past : List EngineModel) (e f : EngineModel) → f.store ≡ e.store → f.names ≡ e.names → IsOfEngine f → GoOn names T (past ++ e ∷ [])
+    → GoOn names T (past ++ f ∷ [])
 further_on names T [] e f s n i g = (
   record {
     engine = i;
@@ -17,7 +18,8 @@ further_on names T [] e f s n i g = (
 )
 further_on names T (d ∷ ds) e f s n i g = (g.0, further_on names (end_of d) ds e f s n i g.1)
 
-pub further : (past : List EngineModel) (e f : EngineModel) → f.store ≡ e.store → f.names ≡ e.names → IsOfEngine f → IsCourse (record { past = past; present = e }) → IsCourse (record { past = past; present = f })
+pub further : (past : List EngineModel) (e f : EngineModel) → f.store ≡ e.store → f.names ≡ e.names → IsOfEngine f → IsCourse (record { past = past; present = e })
+    → IsCourse (record { past = past; present = f })
 further [] e f s n i g = (record { engine = i; tables = refl; rows = λ x. refl }, tt)
 further (d ∷ ds) e f s n i g = further_on d.names.tables (start_of d) (d ∷ ds) e f s n i g
 
@@ -27,7 +29,8 @@ tables_last names T [] e g = g.0.tables
 tables_last names T (d ∷ ds) e g = tables_last names (end_of d) ds e g.1
 
 -- one phase more
-one_more : (names : List (List ℕ)) (T : Values) (past : List EngineModel) (e f : EngineModel) → StartsWith names (end_of e) f → GoOn names T (past ++ e ∷ []) → GoOn names T ((past ++ e ∷ []) ++ f ∷ [])
+one_more : (names : List (List ℕ)) (T : Values) (past : List EngineModel) (e f : EngineModel) → StartsWith names (end_of e) f → GoOn names T (past ++ e ∷ [])
+    → GoOn names T ((past ++ e ∷ []) ++ f ∷ [])
 one_more names T [] e f s g = (g.0, (s, tt))
 one_more names T (d ∷ ds) e f s g = (g.0, one_more names (end_of d) ds e f s g.1)
 
@@ -35,7 +38,8 @@ first_stays : (past : List EngineModel) (e f : EngineModel) → first_of (past +
 first_stays [] e f = refl
 first_stays (d ∷ ds) e f = refl
 
-pub followed : (past : List EngineModel) (e f : EngineModel) → IsOfEngine f → f.names.tables ≡ e.names.tables → ((x : Cell) → start_of f x ≡ end_of e x) → IsCourse (record { past = past; present = e }) → IsCourse (record { past = past ++ e ∷ []; present = f })
+pub followed : (past : List EngineModel) (e f : EngineModel) → IsOfEngine f → f.names.tables ≡ e.names.tables → ((x : Cell) → start_of f x ≡ end_of e x)
+    → IsCourse (record { past = past; present = e }) → IsCourse (record { past = past ++ e ∷ []; present = f })
 followed past e f i t r g =
     let d = first_of past e in
     subst (λ (c : EngineModel). GoOn c.names.tables (start_of c) ((past ++ e ∷ []) ++ f ∷ [])) (sym (first_stays past e f))

@@ -27,7 +27,8 @@ differ_at xs ys i x y a b d = not_same xs ys (λ e. both_ways _ d ((bytes_eq-Dec
     some_is x y e = cc
 
 -- and two that do not
-pub same_so_far : (xs ys : List (List ℕ)) (i : ℕ) (x y : List ℕ) → slice_get xs i ≡ Some x → slice_get ys i ≡ Some y → bytes_eq x y ≡ true → ((k : ℕ) → k < i → get_or xs k [] ≡ get_or ys k []) → (k : ℕ) → k < i + 1 → get_or xs k [] ≡ get_or ys k []
+pub same_so_far : (xs ys : List (List ℕ)) (i : ℕ) (x y : List ℕ) → slice_get xs i ≡ Some x → slice_get ys i ≡ Some y → bytes_eq x y ≡ true → ((k : ℕ) → k < i → get_or xs k [] ≡ get_or ys k [])
+    → (k : ℕ) → k < i + 1 → get_or xs k [] ≡ get_or ys k []
 same_so_far xs ys i x y a b s f k h = elim (cases_eq k i) [
   | inl e ↦ subst (λ (j : ℕ). get_or xs j [] ≡ get_or ys j []) (sym e) (get_or_from_slice_get xs i x [] a ∙ (bytes_eq-Decides x y).0 s ∙ sym (get_or_from_slice_get ys i y [] b))
   | inr n ↦ f k (omega (arith, h, n))

@@ -25,7 +25,8 @@ use Rattle.tree_switch.proofs.GoingOn.{followed}
 use Rattle.tree_switch.specs.Starts.{IsStarted}
 
 -- the rows that an engine leaves are of its tables, and so of those of a setup with the same
-pub left_within : (e : EngineModel) (s t : Setup) → IsOfEngine e → store_of s ≡ e.store → s.names ≡ e.names → IsWhole (setup_view s) → t.names.tables ≡ e.names.tables → (rows : List (Cell × ℤ)) → IsFinalRows e.store e.events rows
+pub left_within : (e : EngineModel) (s t : Setup) → IsOfEngine e → store_of s ≡ e.store → s.names ≡ e.names → IsWhole (setup_view s) → t.names.tables ≡ e.names.tables → (rows : List (Cell × ℤ))
+    → IsFinalRows e.store e.events rows
     → All (λ (r : Cell × ℤ). r.0.table.0 < length t.names.tables) rows
 left_within e s t i q n w same rows f =
     let within : All (λ (r : Cell × ℤ). r.0.table.0 < e.store.tables) rows = rows_within e.store e.events rows
@@ -35,7 +36,8 @@ left_within e s t i q n w same rows f =
     subst (λ (tables : ℕ). All (λ (r : Cell × ℤ). r.0.table.0 < tables) rows) count within
 
 -- a setup with rows of its tables in place of its own
-pub whole_with : (s t : Setup) → IsWhole (setup_view s) → t.names ≡ s.names → t.profiles.items ≡ s.profiles.items → t.tree ≡ s.tree → All (λ (r : Cell × ℤ). r.0.table.0 < length s.names.tables) t.rows → IsWhole (setup_view t)
+pub whole_with : (s t : Setup) → IsWhole (setup_view s) → t.names ≡ s.names → t.profiles.items ≡ s.profiles.items → t.tree ≡ s.tree → All (λ (r : Cell × ℤ). r.0.table.0 < length s.names.tables) t.rows
+    → IsWhole (setup_view t)
 whole_with s t w n p r cells = rw (n, p, r) (record { sound = w.sound; profiles = w.profiles; types = w.types; few_nodes = w.few_nodes; few_tables = w.few_tables; ranked = w.ranked; cells = cells })
 
 -- what has started is a phase
@@ -54,7 +56,8 @@ pub present : (past : List EngineModel) (e : EngineModel) → IsCourse (record {
 present past e g = present_of (first_of past e).names.tables (start_of (first_of past e)) past e g
 
 -- it stays an engine's after an answer, and where nothing has happened
-pub asked : (past : List EngineModel) (e f : EngineModel) (s : Session) (r : Request) → IsCourse (record { past = past; present = e }) → f.store ≡ e.store → f.events ≡ (answer e.store e.events s r).1 → IsOfEngine f
+pub asked : (past : List EngineModel) (e f : EngineModel) (s : Session) (r : Request) → IsCourse (record { past = past; present = e }) → f.store ≡ e.store → f.events ≡ (answer e.store e.events s r).1
+    → IsOfEngine f
 asked past e f s r g same step =
     let i = present past e g in
     record {
@@ -71,7 +74,8 @@ same_events past e f g same step =
     }
 
 -- and so is the course where the next phase has started
-pub moved_on : (s : Setup) (past later : List EngineModel) (e f : EngineModel) → IsWhole (setup_view s) → s.names.tables ≡ e.names.tables → IsStarted s e f → later ≡ past ++ e ∷ [] → IsCourse (record { past = past; present = e }) → IsCourse (record { past = later; present = f })
+pub moved_on : (s : Setup) (past later : List EngineModel) (e f : EngineModel) → IsWhole (setup_view s) → s.names.tables ≡ e.names.tables → IsStarted s e f → later ≡ past ++ e ∷ []
+    → IsCourse (record { past = past; present = e }) → IsCourse (record { past = later; present = f })
 moved_on s past later e f w t i l g =
     subst (λ (ps : List EngineModel). IsCourse (record { past = ps; present = f })) (sym l)
     (followed past e f (started s e f w i) (ap (λ (b : NameBook). b.tables) i.names ∙ t) (starts_at s e f i) g)

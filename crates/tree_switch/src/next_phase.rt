@@ -36,7 +36,7 @@ pub fn start<C: Chains>(
     Engine::new(alloc, with_rows(setup, rows), chains)
 }
 
-/// Returns the setup with these rows in place of its own.
+/// Returns the setup with these rows in place of those that it has.
 pub fn with_rows(mut setup: Setup, rows: Vec<(Cell, i64)>) -> Setup
     requires { IsAscending rows.items }
     ensures rows { result.rows ≡ rows.items }

@@ -91,7 +91,8 @@ unfolding node_names
 node_names_ok format ds names e = omega (arith, each_count length (node_name format) (node_name_ok format) 0 [] ds names e)
 
 -- the types of a node are among the types
-member_ok : (p : Place) (types : List (List ℕ)) (i : ℕ) (kinds : List ℕ) (d : Data) (new : List ℕ) → All (λ k. k < length types) kinds → member_in p types i kinds d ≡ Ok new → All (λ k. k < length types) new
+member_ok : (p : Place) (types : List (List ℕ)) (i : ℕ) (kinds : List ℕ) (d : Data) (new : List ℕ) → All (λ k. k < length types) kinds → member_in p types i kinds d ≡ Ok new
+    → All (λ k. k < length types) new
 member_ok p types i kinds d new all e =
     let made = bind_ok (at p (member_of types d)) _ new e in
     let name = bind_ok (formed (as_str d)) (numbered types) made.0 (at_ok p _ made.0 made.1) in
@@ -157,7 +158,8 @@ row_ok types nodes i d r e =
     let parent = bind_ok (at (place list.Nodes i key.Parent) (parent_of nodes ms.0)) _ r own.2 in
     leaf_ok types i control.0 parent.0 ms.0 r parent.2
 
-node_kept : (types nodes : List (List ℕ)) (i : ℕ) (rows : List NodeRow) (d : Data) (new : List NodeRow) → AreRows (length types) rows → node_in types nodes i rows d ≡ Ok new → AreRows (length types) new
+node_kept : (types nodes : List (List ℕ)) (i : ℕ) (rows : List NodeRow) (d : Data) (new : List NodeRow) → AreRows (length types) rows → node_in types nodes i rows d ≡ Ok new
+    → AreRows (length types) new
 node_kept types nodes i rows d new all e =
     let made = bind_ok (node_row types nodes i d) _ new e in
     rw (← ok_is _ _ new refl made.2) (All-push (IsRow (length types)) rows made.0 all (row_ok types nodes i d made.0 made.1))

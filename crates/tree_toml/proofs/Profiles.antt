@@ -64,7 +64,8 @@ unrepeated : (b : Bool) (w : FieldWhy) (xs ys : List ℕ) → (if b then Err w e
 unrepeated true w xs ys e = absurd (cc)
 unrepeated false w xs ys e = (refl, ok_is _ xs ys refl e)
 
-table_kept : (p : Place) (tables : List (List ℕ)) (i : ℕ) (seen : List ℕ) (d : Data) (new : List ℕ) → IsPart (length tables) seen → step_table_at p tables i seen d ≡ Ok new → IsPart (length tables) new
+table_kept : (p : Place) (tables : List (List ℕ)) (i : ℕ) (seen : List ℕ) (d : Data) (new : List ℕ) → IsPart (length tables) seen → step_table_at p tables i seen d ≡ Ok new
+    → IsPart (length tables) new
 table_kept p tables i seen d new part e =
     let made = bind_ok (formed (as_str d) >>= numbered tables) _ new (at_ok p _ new e) in
     let name = bind_ok (formed (as_str d)) (numbered tables) made.0 made.1 in
@@ -116,7 +117,8 @@ pub steps_within : (n : ℕ) (steps : List (List ℕ)) → AreSteps n steps → 
 steps_within n [] h = omega arith
 steps_within n (step ∷ steps) h = omega (arith, h.0.within, steps_within n steps h.1)
 
-step_kept : (p : Place) (tables : List (List ℕ)) (i : ℕ) (steps : List (List ℕ)) (d : Data) (new : List (List ℕ)) → AreSteps (length tables) steps → step_in p tables i steps d ≡ Ok new → AreSteps (length tables) new
+step_kept : (p : Place) (tables : List (List ℕ)) (i : ℕ) (steps : List (List ℕ)) (d : Data) (new : List (List ℕ)) → AreSteps (length tables) steps → step_in p tables i steps d ≡ Ok new
+    → AreSteps (length tables) new
 step_kept p tables i steps d new so_far e =
     let made = bind_ok (at p (formed (as_list d)) >>= step_from p tables) _ new e in
     let array = bind_ok (at p (formed (as_list d))) (step_from p tables) made.0 made.1 in

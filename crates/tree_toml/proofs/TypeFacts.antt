@@ -42,7 +42,8 @@ step_filled n (step ∷ steps) zero all h = all.0.some
 step_filled n (step ∷ steps) (suc i) all h = step_filled n steps i all.1 (omega arith)
 
 -- each step has a table, and each table is below n
-pub profile_filled : (n : ℕ) (profiles : List (List (List ℕ))) (k i : ℕ) → AreProfiles n profiles → k < length profiles → i < length (get_or profiles k []) → 0 < length (get_or (get_or profiles k []) i [])
+pub profile_filled : (n : ℕ) (profiles : List (List (List ℕ))) (k i : ℕ) → AreProfiles n profiles → k < length profiles → i < length (get_or profiles k [])
+    → 0 < length (get_or (get_or profiles k []) i [])
 profile_filled n [] k i all h g = absurd (omega arith)
 profile_filled n (steps ∷ profiles) zero i all h g = step_filled n steps i all.0.each_one g
 profile_filled n (steps ∷ profiles) (suc k) i all h g = profile_filled n profiles k i all.1 (omega arith) g
@@ -55,7 +56,8 @@ record AreTypes (n : ℕ) (types : TypeList) : Type 0 where
   profiles : AreProfiles n types.profiles
   same : length types.profiles ≡ length types.names
 
-type_kept : (tables : List (List ℕ)) → 0 < length tables → (i : ℕ) (types : TypeList) (d : Data) (new : TypeList) → AreTypes (length tables) types → type_in tables i types d ≡ Ok new → AreTypes (length tables) new
+type_kept : (tables : List (List ℕ)) → 0 < length tables → (i : ℕ) (types : TypeList) (d : Data) (new : TypeList) → AreTypes (length tables) types → type_in tables i types d ≡ Ok new
+    → AreTypes (length tables) new
 unfolding type_in
 type_kept tables some i types d new so_far e =
     let ms = bind_ok (table_entry list.Types 1 i d) _ new e in

@@ -26,7 +26,8 @@ known_keys l format [] = refl
 known_keys l format (e ∷ es) = ap (λ b. has (keys_of l format) (string_bytes e.0) && b) (known_keys l format es)
 
 -- a loop that tests each value: one that fails, one more
-pub all_fails : (p : Data → Bool) (vs : List Value) (k : ℕ) (x : Value) (whole : Bool) → list_all p (map view (drop k vs)) ≡ whole → x ≡ get_or vs k x → k < length vs → p (view x) ≡ false → false ≡ whole
+pub all_fails : (p : Data → Bool) (vs : List Value) (k : ℕ) (x : Value) (whole : Bool) → list_all p (map view (drop k vs)) ≡ whole → x ≡ get_or vs k x → k < length vs → p (view x) ≡ false
+    → false ≡ whole
 all_fails p vs k x whole so_far is h bad = (rw (drop_more vs k x h, ← is, bad) at so_far)
 
 pub all_more : (p : Data → Bool) (vs : List Value) (k : ℕ) (x : Value) (whole : Bool) → list_all p (map view (drop k vs)) ≡ whole → x ≡ get_or vs k x → k < length vs → p (view x) ≡ true

@@ -74,7 +74,8 @@ plain_read = record {
 }
 
 grown_by : (rows : List NodeRow) (types : ℕ) (tree : Grown) (o : Option (ℕ × Fault))
-    → elim o as (λ _. Result Grown TreeText) [ None ↦ Ok (record { rows = rows; types = types }) | Some w ↦ Err (shape_text w.0 w.1) ] ≡ Ok tree → (o ≡ None) × (record { rows = rows; types = types } ≡ tree)
+    → elim o as (λ _. Result Grown TreeText) [ None ↦ Ok (record { rows = rows; types = types }) | Some w ↦ Err (shape_text w.0 w.1) ] ≡ Ok tree → (o ≡ None)
+    × (record { rows = rows; types = types } ≡ tree)
 grown_by rows types tree None e = (refl, ok_is _ _ tree refl e)
 grown_by rows types tree (Some w) e = absurd (cc)
 

@@ -12,6 +12,8 @@ item_more {X = X} f xs i x is_first out new all read put so_far =
     let tail : List ℕ = items_text false (map f (drop (i + 1) xs)) in
     ap (λ (l : List ℕ). l ++ tail) put ∙ append_assoc out (separator is_first ++ f x) tail ∙ ap (λ (l : List X). out ++ items_text is_first (map f l)) (sym left) ∙ so_far
 
-pub row_more : {X : Type 0} (f : X → List ℕ) (xs : List X) (i : ℕ) (d : X) (out new all : List ℕ) → i < length xs → new ≡ out ++ f (get_or xs i d) → out ++ flat_map f (drop i xs) ≡ all → new ++ flat_map f (drop (i + 1) xs) ≡ all
+pub row_more : {X : Type 0} (f : X → List ℕ) (xs : List X) (i : ℕ) (d : X) (out new all : List ℕ) → i < length xs → new ≡ out ++ f (get_or xs i d) → out ++ flat_map f (drop i xs) ≡ all → new
+    ++ flat_map f (drop (i + 1) xs) ≡ all
 row_more {X = X} f xs i d out new all low put so_far =
-    ap (λ (l : List ℕ). l ++ flat_map f (drop (i + 1) xs)) put ∙ append_assoc out (f (get_or xs i d)) (flat_map f (drop (i + 1) xs)) ∙ ap (λ (l : List X). out ++ flat_map f l) (sym (drop_more xs i d low)) ∙ so_far
+    ap (λ (l : List ℕ). l ++ flat_map f (drop (i + 1) xs)) put ∙ append_assoc out (f (get_or xs i d)) (flat_map f (drop (i + 1) xs))
+    ∙ ap (λ (l : List X). out ++ flat_map f l) (sym (drop_more xs i d low)) ∙ so_far

@@ -22,10 +22,12 @@ or_zero None = 0
 
 module _ {T E B : Type 0} (entries : T → List E) (owner : E → ℕ) (note : T → ℕ → ℕ) (base_of : T → B) (base : B) (owners count : ℕ) where
   stepped_taking : (s : State (Option T) (View E B)) (id : ℕ) (c : List (ℕ × Option T)) (w : View E B) (a : Act (Option T)) (h : Holds entries owner note base_of base owners count s)
-      → Stands entries owner note base_of base owners h.next h.serving h.notes (homes_after s.homes c a) (set s.views id w) → Holds entries owner note base_of base owners count (stepped s 1 (get_or s.words 1 0) id c w a)
+      → Stands entries owner note base_of base owners h.next h.serving h.notes (homes_after s.homes c a) (set s.views id w) → Holds entries owner note base_of base owners count
+      (stepped s 1 (get_or s.words 1 0) id c w a)
   stepped_taking s id c w a h new = record { next = h.next; serving = h.serving; notes = h.notes; words = ap (λ (ws : List ℕ). set ws 1 (get_or ws 1 0)) h.words; counted = h.counted; stands = new }
 
-  pub looks : (slots id : ℕ) (m : Sat T E B) (t : ℕ) → m.0.ticket ≡ Some t → m.0.inside ≡ false → m.0.owners ≢ [] → Allows (Holds entries owner note base_of base owners count) slots id m 1 (λ n. n) (Looks entries owner note base_of m)
+  pub looks : (slots id : ℕ) (m : Sat T E B) (t : ℕ) → m.0.ticket ≡ Some t → m.0.inside ≡ false → m.0.owners ≢ [] → Allows (Holds entries owner note base_of base owners count) slots id m 1 (λ n. n)
+      (Looks entries owner note base_of m)
   looks slots id m t has out alive s k _ at _ = dite (ℕ_discrete t k.serving) served waits
     where
       h : Stands entries owner note base_of base owners k.next k.serving k.notes s.homes s.views
@@ -41,14 +43,16 @@ module _ {T E B : Type 0} (entries : T → List E) (owner : E → ℕ) (note : T
       now = ap (λ (ws : List ℕ). get_or ws 1 0) k.words
 
       Goal : Type 0
-      Goal = (w : View E B) × (a : Act (Option T)) × Valid s.homes m.1 a × Holds entries owner note base_of base owners count (stepped s 1 (get_or s.words 1 0) id m.1 w a) × Looks entries owner note base_of m (get_or s.words 1 0) (w, carried_after m.1 a)
+      Goal = (w : View E B) × (a : Act (Option T)) × Valid s.homes m.1 a × Holds entries owner note base_of base owners count (stepped s 1 (get_or s.words 1 0) id m.1 w a)
+          × Looks entries owner note base_of m (get_or s.words 1 0) (w, carried_after m.1 a)
 
       waits : t ≢ k.serving → Goal
       waits not = (
         v,
         keeps,
         tt,
-        stepped_load entries owner note base_of base owners count s id 1 m.1 v k (subst (Stands entries owner note base_of base owners k.next k.serving k.notes s.homes) (sym (set_again vs id v at)) h),
+        stepped_load entries owner note base_of base owners count s id 1 m.1 v k
+            (subst (Stands entries owner note base_of base owners k.next k.serving k.notes s.homes) (sym (set_again vs id v at)) h),
         ((λ e. absurd (not (ap or_zero (sym has ∙ e) ∙ now))), λ _. refl),
       )
 
@@ -78,7 +82,11 @@ module _ {T E B : Type 0} (entries : T → List E) (owner : E → ℕ) (note : T
           (λ _. record {
             value = x;
             notes = k.notes;
-            follows = record { has_base = (know.live alive).0 ∙ ap Some (sym a.has_base); goes = subst (λ l. GoesOn owner v.seen l v.owners) (sym a.has_left) know.goes; known = λ i some_. a.has_notes i ∙ know.known i some_ };
+            follows = record {
+              has_base = (know.live alive).0 ∙ ap Some (sym a.has_base);
+              goes = subst (λ l. GoesOn owner v.seen l v.owners) (sym a.has_left) know.goes;
+              known = λ i some_. a.has_notes i ∙ know.known i some_;
+            };
             has_notes = a.has_notes;
             is = refl;
           }),
@@ -88,4 +96,5 @@ module _ {T E B : Type 0} (entries : T → List E) (owner : E → ℕ) (note : T
 
       served : t ≡ k.serving → Goal
       served here = ⊎_elim (arrives here) (λ (a : IsAway entries owner note base_of s.homes vs). absurd (true≢false (sym a.inside
-          ∙ alone entries owner note base_of base owners k.next k.serving k.notes s.homes vs h id a.holder v a.view at a.there (apart vs id a.holder v a.view at a.there out a.inside) (has ∙ ap Some here)))) h.place
+          ∙ alone entries owner note base_of base owners k.next k.serving k.notes s.homes vs h id a.holder v a.view at a.there (apart vs id a.holder v a.view at a.there out a.inside)
+          (has ∙ ap Some here)))) h.place

@@ -49,13 +49,23 @@ times_without o k (x ∷ xs) h = dite (ℕ_discrete o x)
 pub once_up : (a b k t u : ℕ) → a ≤ b → IsOnceWithin a b k t → u ≡ t + same k b → IsOnceWithin a (b + 1) k u
 once_up a b k t u le s e = let in_ = s.0 in let below = s.1 in let above = s.2 in dite (ℕ_discrete k b)
     (λ (here : k ≡ b). let one = same_yes k b here in let none = above (omega arith) in ((λ _ _. omega arith), (λ h. absurd (omega arith)), λ h. absurd (omega arith)))
-    (λ (other : k ≢ b). let zero_ = same_no k b other in ((λ h i. let one = in_ h (omega arith) in omega arith), (λ h. let none = below h in omega arith), λ h. let none = above (omega arith) in omega arith))
+    (λ (other : k ≢ b). let zero_ = same_no k b other in (
+      (λ h i. let one = in_ h (omega arith) in omega arith),
+      (λ h. let none = below h in omega arith),
+      λ h. let none = above (omega arith) in
+          omega arith,
+    ))
 
 -- the first number leaves
 pub once_on : (a b k t u : ℕ) → a < b → IsOnceWithin a b k t → u + same k a ≡ t → IsOnceWithin (a + 1) b k u
 once_on a b k t u lt s e = let in_ = s.0 in let below = s.1 in let above = s.2 in dite (ℕ_discrete k a)
     (λ (here : k ≡ a). let one = same_yes k a here in let was = in_ (omega arith) (omega arith) in ((λ h _. absurd (omega arith)), (λ _. omega arith), λ h. absurd (omega arith)))
-    (λ (other : k ≢ a). let zero_ = same_no k a other in ((λ h i. let one = in_ (omega arith) i in omega arith), (λ h. let none = below (omega arith) in omega arith), λ h. let none = above h in omega arith))
+    (λ (other : k ≢ a). let zero_ = same_no k a other in (
+      (λ h i. let one = in_ (omega arith) i in omega arith),
+      (λ h. let none = below (omega arith) in omega arith),
+      λ h. let none = above h in
+          omega arith,
+    ))
 
 -- no number is counted twice
 pub once_most : (a b k t : ℕ) → IsOnceWithin a b k t → t ≤ 1
@@ -73,4 +83,5 @@ pub times-count_from : (n a o : ℕ) → IsOnceWithin a (a + n) o (times o (coun
 times-count_from zero a o = ((λ h i. absurd (omega arith)), (λ _. refl), λ _. refl)
 times-count_from (suc n) a o = let r = times-count_from n (suc a) o in let in_ = r.0 in let below = r.1 in let above = r.2 in dite (ℕ_discrete o a)
     (λ (here : o ≡ a). let one = same_yes o a here in let none_ = below (omega arith) in ((λ _ _. omega arith), (λ h. absurd (omega arith)), λ h. absurd (omega arith)))
-    (λ (other : o ≢ a). let zero_ = same_no o a other in ((λ h i. let one = in_ (omega arith) (omega arith) in omega arith), (λ h. let z = below (omega arith) in omega arith), λ h. let z = above (omega arith) in omega arith))
+    (λ (other : o ≢ a). let zero_ = same_no o a other in
+    ((λ h i. let one = in_ (omega arith) (omega arith) in omega arith), (λ h. let z = below (omega arith) in omega arith), λ h. let z = above (omega arith) in omega arith))

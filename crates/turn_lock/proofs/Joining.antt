@@ -18,7 +18,8 @@ use Rattle.turn_lock.proofs.Places.{no_ticket, place_stays}
 
 module _ {E B : Type 0} (owner : E → ℕ) (base : B) (left : List E) (notes : List ℕ) where
   more_heard : (a b : List ℕ) (hs : List (Heard E B)) → IsWithin a b → All (IsHeard owner base left notes a) hs → All (IsHeard owner base left notes b) hs
-  more_heard a b hs f = All_map (IsHeard owner base left notes a) (IsHeard owner base left notes b) hs (λ h p. record { has_base = p.has_base; goes = p.goes; known = p.known; among = λ o. let x = p.among o in let y = f o in omega arith })
+  more_heard a b hs f = All_map (IsHeard owner base left notes a) (IsHeard owner base left notes b) hs
+      (λ h p. record { has_base = p.has_base; goes = p.goes; known = p.known; among = λ o. let x = p.among o in let y = f o in omega arith })
 
   -- what a live view knows is heard of it
   hears : (serving : ℕ) (v : View E B) (owners : List ℕ) → v.owners ≢ [] → IsWithin v.owners owners → Knows owner base left notes serving v → IsHeard owner base left notes owners (heard_of v)
@@ -34,14 +35,16 @@ module _ {E B : Type 0} (owner : E → ℕ) (base : B) (left : List E) (notes : 
     at_turn = λ t. absurd (true≢false (sym t));
   }
 
-  both_know : (serving : ℕ) (v w : View E B) → v.inside ≡ false → v.owners ≢ [] → w.owners ≢ [] → Knows owner base left notes serving v → Knows owner base left notes serving w → Knows owner base left notes serving (both_views v w)
+  both_know : (serving : ℕ) (v w : View E B) → v.inside ≡ false → v.owners ≢ [] → w.owners ≢ [] → Knows owner base left notes serving v → Knows owner base left notes serving w
+      → Knows owner base left notes serving (both_views v w)
   both_know serving v w out alive alive' mine theirs = record {
     live = λ _. let x = mine.live alive in let y = theirs.live alive' in (x.0, merged_long v.notes w.notes (x.1 ∙ sym y.1) ∙ y.1);
     spent = λ e. absurd (alive (nil_left v.owners w.owners e));
     goes = goes_both owner v.seen w.seen left v.owners w.owners mine.goes theirs.goes;
     known = merged_known v.notes w.notes notes mine.known theirs.known;
     heard = All_cons P (heard_of w) (heard_of v ∷ (v.heard ++ w.heard)) (hears serving w all alive' grown' theirs)
-        (All_cons P (heard_of v) (v.heard ++ w.heard) (hears serving v all alive grown mine) (All-append P v.heard w.heard (more_heard v.owners all v.heard grown mine.heard) (more_heard w.owners all w.heard grown' theirs.heard)));
+        (All_cons P (heard_of v) (v.heard ++ w.heard) (hears serving v all alive grown mine)
+        (All-append P v.heard w.heard (more_heard v.owners all v.heard grown mine.heard) (more_heard w.owners all w.heard grown' theirs.heard)));
     at_turn = λ t. absurd (true≢false (sym t ∙ out));
   }
     where

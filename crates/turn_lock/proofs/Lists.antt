@@ -45,7 +45,8 @@ set_same (x ∷ xs) zero v w e = refl
 set_same (x ∷ xs) (suc i) v w e = set_same xs i v w e
 
 -- what holds of the new element and of the others holds of all
-pub all_set : {A : Type 0} (F : A → Type 0) (vs : List A) (me : ℕ) (w : A) → F w → ((j : ℕ) (u : A) → j ≢ me → get_elem? vs j ≡ some u → F u) → (j : ℕ) (u : A) → get_elem? (set vs me w) j ≡ some u → F u
+pub all_set : {A : Type 0} (F : A → Type 0) (vs : List A) (me : ℕ) (w : A) → F w → ((j : ℕ) (u : A) → j ≢ me → get_elem? vs j ≡ some u → F u) → (j : ℕ) (u : A) → get_elem? (set vs me w) j ≡ some u
+    → F u
 all_set F vs me w mine others j u e = ⊎_elim (λ t. subst F t.1 mine) (λ t. others j u t.0 t.1) (at_set vs me j w u e)
 
 pub only_at : {A : Type 0} (P : A → Type 0) (a : A) → P a → (j : ℕ) (b : A) → get_elem? (a ∷ []) j ≡ some b → P b

@@ -26,7 +26,8 @@ same_held x y c a b = ap (held_or x) (sym a ∙ b)
 
 module _ {T E B : Type 0} (entries : T → List E) (owner : E → ℕ) (note : T → ℕ → ℕ) (base_of : T → B) (base : B) (owners count : ℕ) where
   stepped_serving : (s : State (Option T) (View E B)) (id : ℕ) (c : List (ℕ × Option T)) (w : View E B) (h : Holds entries owner note base_of base owners count s) → h.serving < 35184372088832
-      → Stands entries owner note base_of base owners h.next (h.serving + 1) h.notes (homes_after s.homes c gives) (set s.views id w) → Holds entries owner note base_of base owners count (stepped s 1 ((get_or s.words 1 0 + 1) % 2 ^ 64) id c w gives)
+      → Stands entries owner note base_of base owners h.next (h.serving + 1) h.notes (homes_after s.homes c gives) (set s.views id w) → Holds entries owner note base_of base owners count
+      (stepped s 1 ((get_or s.words 1 0 + 1) % 2 ^ 64) id c w gives)
   stepped_serving s id c w h small new = record {
     next = h.next;
     serving = h.serving + 1;
@@ -37,9 +38,16 @@ module _ {T E B : Type 0} (entries : T → List E) (owner : E → ℕ) (note : T
   }
 
   -- what was heard stays so where seats of other owners add entries
-  heard_on : (left more : List E) (ns theirs mine : List ℕ) (y : Rattle.turn_lock.specs.declared.view.Heard.Heard E B) → ((o : ℕ) → times o theirs + times o mine ≤ 1) → All (λ e. Has mine (owner e)) more
+  heard_on : (left more : List E) (ns theirs mine : List ℕ) (y : Rattle.turn_lock.specs.declared.view.Heard.Heard E B) → ((o : ℕ) → times o theirs + times o mine ≤ 1)
+      → All (λ e. Has mine (owner e)) more
       → IsHeard owner base left ns theirs y → IsHeard owner base (left ++ more) ns theirs y
-  heard_on left more ns theirs mine y apart own q = record { has_base = q.has_base; goes = goes_on owner y.seen left more y.owners mine (λ o. let a = apart o in let b = q.among o in omega arith) own q.goes; known = q.known; among = q.among }
+  heard_on left more ns theirs mine y apart own q = record {
+    has_base = q.has_base;
+    goes = goes_on owner y.seen left more y.owners mine (λ o. let a = apart o in let b = q.among o in omega arith) own
+        q.goes;
+    known = q.known;
+    among = q.among;
+  }
 
   pub moves : (slots id : ℕ) (m : Sat T E B) (x : T) → m.1 ≡ (0, Some x) ∷ [] → m.0.inside ≡ true → m.0.owners ≢ [] → Adds entries owner note base_of m.0 x
       → Allows (Holds entries owner note base_of base owners count) slots id m 1 (λ n. (n + 1) % 2 ^ 64) (λ _ n. Moves entries m n)
@@ -73,7 +81,8 @@ module _ {T E B : Type 0} (entries : T → List E) (owner : E → ℕ) (note : T
       longer = adds.is ∙ ap (λ l. l ++ adds.more) (know.at_turn inside).1
 
       below : k.serving < k.next
-      below = let t = total_at (has_ticket k.serving) vs id v at in let a = the_ticket k.serving k.serving v mine in let b = same_yes k.serving k.serving refl in once_high k.serving k.next k.serving _ (h.tickets k.serving) (omega arith)
+      below = let t = total_at (has_ticket k.serving) vs id v at in let a = the_ticket k.serving k.serving v mine in let b = same_yes k.serving k.serving refl in
+          once_high k.serving k.next k.serving _ (h.tickets k.serving) (omega arith)
 
       out : (j : ℕ) (u : View E B) → j ≢ id → get_elem? vs j ≡ some u → u.inside ≡ false
       out j u other e = alone entries owner note base_of base owners k.next k.serving k.notes s.homes vs h id j v u at e other mine
@@ -82,27 +91,38 @@ module _ {T E B : Type 0} (entries : T → List E) (owner : E → ℕ) (note : T
       own_apart j u other e o = let two = total_two (has_owner o) vs j id u v other e at in let one = once_most 1 (suc owners) o _ (h.owned o) in omega arith
 
       own_within : (o : ℕ) → Has v.owners o → (1 ≤ o) × (o ≤ owners)
-      own_within o some_ = let t = total_at (has_owner o) vs id v at in let low = once_low 1 (suc owners) o _ (h.owned o) (omega arith) in let high = once_high 1 (suc owners) o _ (h.owned o) (omega arith) in (low, omega arith)
+      own_within o some_ = let t = total_at (has_owner o) vs id v at in let low = once_low 1 (suc owners) o _ (h.owned o) (omega arith) in
+          let high = once_high 1 (suc owners) o _ (h.owned o) (omega arith) in (low, omega arith)
 
       away : s.homes ≡ none ∷ []
-      away = ⊎_elim (λ (a : IsHome entries owner note base_of base h.left k.notes s.homes vs). absurd (true≢false (sym inside ∙ a.nobody id v at))) (λ (a : IsAway entries owner note base_of s.homes vs). a.away) h.place
+      away = ⊎_elim (λ (a : IsHome entries owner note base_of base h.left k.notes s.homes vs). absurd (true≢false (sym inside ∙ a.nobody id v at)))
+          (λ (a : IsAway entries owner note base_of s.homes vs). a.away) h.place
 
       new : Stands entries owner note base_of base owners k.next (k.serving + 1) k.notes (homes_after s.homes m.1 gives) (set vs id w)
       new = record {
         left = entries x;
-        of_owners = let P : E → Type 0 = λ e. (1 ≤ owner e) × (owner e ≤ owners) in subst (All P) (sym longer) (All-append P h.left adds.more h.of_owners (All_map (λ e. Has v.owners (owner e)) P adds.more (λ e l. own_within (owner e) l) adds.mine));
+        of_owners = let P : E → Type 0 = λ e. (1 ≤ owner e) × (owner e ≤ owners) in
+            subst (All P) (sym longer) (All-append P h.left adds.more h.of_owners (All_map (λ e. Has v.owners (owner e)) P adds.more (λ e l. own_within (owner e) l) adds.mine));
         turns = let sums = total_set turns_of vs id v w at in let all = h.turns in omega arith;
         in_order = let b = below in omega arith;
         tickets = λ n. let sums = total_set (has_ticket n) vs id v w at in let a = the_ticket n k.serving v mine in once_on k.serving k.next n _ _ below (h.tickets n) (omega arith);
         owned = λ o. let sums = total_set (has_owner o) vs id v w at in subst (IsOnceWithin 1 (suc owners) o) (omega arith) (h.owned o);
         each = all_set (Knows owner base (entries x) k.notes (k.serving + 1)) vs id w
-            record { live = know.live; spent = (λ e. ((know.spent e).0, refl)); goes = goes_none owner (entries x) v.owners; known = know.known; heard = All_none (IsHeard owner base (entries x) k.notes v.owners); at_turn = (λ e. absurd (true≢false (sym e))) }
+            record {
+              live = know.live;
+              spent = (λ e. ((know.spent e).0, refl));
+              goes = goes_none owner (entries x) v.owners;
+              known = know.known;
+              heard = All_none (IsHeard owner base (entries x) k.notes v.owners);
+              at_turn = (λ e. absurd (true≢false (sym e)));
+            }
             (λ j u other e. let theirs = h.each j u e in record {
               live = theirs.live;
               spent = theirs.spent;
               goes = subst (λ l. GoesOn owner u.seen l u.owners) (sym longer) (goes_on owner u.seen h.left adds.more u.owners v.owners (own_apart j u other e) adds.mine theirs.goes);
               known = theirs.known;
-              heard = subst (λ l. All (IsHeard owner base l k.notes u.owners) u.heard) (sym longer) (All_map (IsHeard owner base h.left k.notes u.owners) (IsHeard owner base (h.left ++ adds.more) k.notes u.owners) u.heard
+              heard = subst (λ l. All (IsHeard owner base l k.notes u.owners) u.heard) (sym longer)
+                  (All_map (IsHeard owner base h.left k.notes u.owners) (IsHeard owner base (h.left ++ adds.more) k.notes u.owners) u.heard
                   (λ y q. heard_on h.left adds.more k.notes u.owners v.owners y (own_apart j u other e) adds.mine q) theirs.heard);
               at_turn = λ t. absurd (true≢false (sym t ∙ out j u other e));
             });

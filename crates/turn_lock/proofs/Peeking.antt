@@ -13,8 +13,15 @@ use Rattle.turn_lock.proofs.Words.{noted_long, noted_same, noted_known, noted_at
 use Rattle.turn_lock.proofs.Places.{place_stays, stepped_load}
 
 module _ {T E B : Type 0} (entries : T → List E) (owner : E → ℕ) (note : T → ℕ → ℕ) (base_of : T → B) (base : B) (owners count : ℕ) where
-  pub peeks : (slots id : ℕ) (m : Sat T E B) (k : ℕ) → 2 ≤ k → k < count + 2 → m.0.owners ≢ [] → Allows (Holds entries owner note base_of base owners count) slots id m k (λ n. n) (Peeks (step slots k 0 0 none) m)
-  peeks slots id m k low high alive s q _ at _ = (w, keeps, tt, stepped_load entries owner note base_of base owners count s id k m.1 w q new, record { view = refl; known = λ some_. is ∙ know.known i some_; told = noted_at i r v.notes short (λ some_. is ∙ know.known i some_) })
+  pub peeks : (slots id : ℕ) (m : Sat T E B) (k : ℕ) → 2 ≤ k → k < count + 2 → m.0.owners ≢ [] → Allows (Holds entries owner note base_of base owners count) slots id m k (λ n. n)
+      (Peeks (step slots k 0 0 none) m)
+  peeks slots id m k low high alive s q _ at _ = (
+    w,
+    keeps,
+    tt,
+    stepped_load entries owner note base_of base owners count s id k m.1 w q new,
+    record { view = refl; known = λ some_. is ∙ know.known i some_; told = noted_at i r v.notes short (λ some_. is ∙ know.known i some_) },
+  )
     where
       h : Stands entries owner note base_of base owners q.next q.serving q.notes s.homes s.views
       h = q.stands

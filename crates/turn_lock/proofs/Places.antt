@@ -30,18 +30,22 @@ Homes T = List (mathlib_option.Option (Option T))
 
 module _ {T E B : Type 0} (entries : T → List E) (owner : E → ℕ) (note : T → ℕ → ℕ) (base_of : T → B) where
   -- a seat that has the ticket served is alone at the turn
-  pub alone : (base : B) (owners next serving : ℕ) (ns : List ℕ) (hs : Homes T) (vs : List (View E B)) (h : Stands entries owner note base_of base owners next serving ns hs vs) (i j : ℕ) (v u : View E B)
+  pub alone : (base : B) (owners next serving : ℕ) (ns : List ℕ) (hs : Homes T) (vs : List (View E B)) (h : Stands entries owner note base_of base owners next serving ns hs vs) (i j : ℕ)
+      (v u : View E B)
       → get_elem? vs i ≡ some v → get_elem? vs j ≡ some u → j ≢ i → v.ticket ≡ Some serving → u.inside ≡ false
   alone base owners next serving ns hs vs h i j v u a b other mine = go u.inside refl
     where
       go : (t : Bool) → u.inside ≡ t → u.inside ≡ false
       go false e = e
       go true e = let theirs = ((h.each j u b).at_turn e).0 in let two = total_two (has_ticket serving) vs i j v u (λ s. other (sym s)) a b in
-          let x = the_ticket serving serving v mine in let y = the_ticket serving serving u theirs in let z = same_yes serving serving refl in let one = once_most serving next serving _ (h.tickets serving) in absurd (omega arith)
+          let x = the_ticket serving serving v mine in let y = the_ticket serving serving u theirs in let z = same_yes serving serving refl in
+          let one = once_most serving next serving _ (h.tickets serving) in absurd (omega arith)
 
   -- a seat's view changes, but not whether it is at the turn; the words of the notes change only where it is
-  pub place_stays : (base : B) (left : List E) (ns ms : List ℕ) (hs : Homes T) (vs : List (View E B)) (id : ℕ) (v w : View E B) → get_elem? vs id ≡ some v → w.inside ≡ v.inside → (v.inside ≡ false → ms ≡ ns)
-      → IsHome entries owner note base_of base left ns hs vs ⊎ IsAway entries owner note base_of hs vs → IsHome entries owner note base_of base left ms hs (set vs id w) ⊎ IsAway entries owner note base_of hs (set vs id w)
+  pub place_stays : (base : B) (left : List E) (ns ms : List ℕ) (hs : Homes T) (vs : List (View E B)) (id : ℕ) (v w : View E B) → get_elem? vs id ≡ some v → w.inside ≡ v.inside
+      → (v.inside ≡ false → ms ≡ ns)
+      → IsHome entries owner note base_of base left ns hs vs ⊎ IsAway entries owner note base_of hs vs → IsHome entries owner note base_of base left ms hs (set vs id w)
+      ⊎ IsAway entries owner note base_of hs (set vs id w)
   place_stays base left ns ms hs vs id v w at stays notes_ p = ⊎_elim
       (λ (a : IsHome entries owner note base_of base left ns hs vs). let out = a.nobody id v at in inl record {
         value = a.value;
@@ -52,10 +56,17 @@ module _ {T E B : Type 0} (entries : T → List E) (owner : E → ℕ) (note : T
         nobody = all_set (λ u. u.inside ≡ false) vs id w (stays ∙ out) (λ j u _ e. a.nobody j u e);
       })
       (λ (a : IsAway entries owner note base_of hs vs). inr (dite (ℕ_discrete a.holder id)
-      (λ here. record { away = a.away; holder = id; view = w; there = set_same vs id v w at; inside = stays ∙ (ap (λ (x : View E B). x.inside) (some-injective v a.view (sym at ∙ ap (get_elem? vs) (sym here) ∙ a.there)) ∙ a.inside) })
+      (λ here. record {
+        away = a.away;
+        holder = id;
+        view = w;
+        there = set_same vs id v w at;
+        inside = stays ∙ (ap (λ (x : View E B). x.inside) (some-injective v a.view (sym at ∙ ap (get_elem? vs) (sym here) ∙ a.there)) ∙ a.inside);
+      })
       (λ other. record { away = a.away; holder = a.holder; view = a.view; there = set_else vs id a.holder w other ∙ a.there; inside = a.inside }))) p
 
   -- a step that leaves its word and takes or gives no slot
   pub stepped_load : (base : B) (owners count : ℕ) (s : State (Option T) (View E B)) (id k : ℕ) (c : List (ℕ × Option T)) (w : View E B) (h : Holds entries owner note base_of base owners count s)
-      → Stands entries owner note base_of base owners h.next h.serving h.notes s.homes (set s.views id w) → Holds entries owner note base_of base owners count (stepped s k (get_or s.words k 0) id c w keeps)
+      → Stands entries owner note base_of base owners h.next h.serving h.notes s.homes (set s.views id w) → Holds entries owner note base_of base owners count
+      (stepped s k (get_or s.words k 0) id c w keeps)
   stepped_load base owners count s id k c w h new = record { next = h.next; serving = h.serving; notes = h.notes; words = set-get_or s.words k 0 ∙ h.words; counted = h.counted; stands = new }

@@ -16,14 +16,21 @@ module _ {E : Type 0} (owner : E → ℕ) where
   goes_none xs owners = record { more = []; is = sym (append-nil xs); others = All_none (λ e. times (owner e) owners ≡ 0) }
 
   pub goes_fewer : (seen left : List E) (a b : List ℕ) → IsWithin a b → GoesOn owner seen left b → GoesOn owner seen left a
-  goes_fewer seen left a b f g = record { more = g.more; is = g.is; others = All_map (λ e. times (owner e) b ≡ 0) (λ e. times (owner e) a ≡ 0) g.more (λ e z. let h = f (owner e) in omega arith) g.others }
+  goes_fewer seen left a b f g = record {
+    more = g.more;
+    is = g.is;
+    others = All_map (λ e. times (owner e) b ≡ 0) (λ e. times (owner e) a ≡ 0) g.more (λ e z. let h = f (owner e) in omega arith)
+        g.others;
+  }
 
   -- another seat adds entries of its own
-  pub goes_on : (seen left more : List E) (theirs mine : List ℕ) → ((o : ℕ) → times o theirs + times o mine ≤ 1) → All (λ e. Has mine (owner e)) more → GoesOn owner seen left theirs → GoesOn owner seen (left ++ more) theirs
+  pub goes_on : (seen left more : List E) (theirs mine : List ℕ) → ((o : ℕ) → times o theirs + times o mine ≤ 1) → All (λ e. Has mine (owner e)) more → GoesOn owner seen left theirs
+      → GoesOn owner seen (left ++ more) theirs
   goes_on seen left more theirs mine apart own g = record {
     more = g.more ++ more;
     is = ap (λ l. l ++ more) g.is ∙ append_assoc seen g.more more;
-    others = All-append (λ e. times (owner e) theirs ≡ 0) g.more more g.others (All_map (λ e. Has mine (owner e)) (λ e. times (owner e) theirs ≡ 0) more (λ e l. let a = apart (owner e) in omega arith) own);
+    others = All-append (λ e. times (owner e) theirs ≡ 0) g.more more g.others
+        (All_map (λ e. Has mine (owner e)) (λ e. times (owner e) theirs ≡ 0) more (λ e l. let a = apart (owner e) in omega arith) own);
   }
 
   both_other : (a b : List ℕ) (more : List E) → All (λ e. times (owner e) a ≡ 0) more → All (λ e. times (owner e) b ≡ 0) more → All (λ e. times (owner e) (a ++ b) ≡ 0) more

@@ -62,7 +62,8 @@ module _ {T E B : Type 0} (entries : T → List E) (owner : E → ℕ) (note : T
       here = ap (λ (l : List ℕ). set l i n) (know.at_turn inside).2
 
       heard : (u : View E B) → All (IsHeard owner base h.left ns u.owners) u.heard → All (IsHeard owner base h.left (set ns i n) u.owners) u.heard
-      heard u = All_map (IsHeard owner base h.left ns u.owners) (IsHeard owner base h.left (set ns i n) u.owners) u.heard (λ y p. record { has_base = p.has_base; goes = p.goes; known = set_known i n y.notes ns was p.known; among = p.among })
+      heard u = All_map (IsHeard owner base h.left ns u.owners) (IsHeard owner base h.left (set ns i n) u.owners) u.heard
+          (λ y p. record { has_base = p.has_base; goes = p.goes; known = set_known i n y.notes ns was p.known; among = p.among })
 
       new : Stands entries owner note base_of base owners q.next q.serving (set ns i n) s.homes (set vs id w)
       new = record {
@@ -73,7 +74,14 @@ module _ {T E B : Type 0} (entries : T → List E) (owner : E → ℕ) (note : T
         tickets = λ x. let sums = total_set (has_ticket x) vs id v w at in subst (IsOnceWithin q.serving q.next x) (omega arith) (h.tickets x);
         owned = λ o. let sums = total_set (has_owner o) vs id v w at in subst (IsOnceWithin 1 (suc owners) o) (omega arith) (h.owned o);
         each = all_set (Knows owner base h.left (set ns i n) q.serving) vs id w
-            record { live = (λ x. ((know.live x).0, ap length here)); spent = know.spent; goes = know.goes; known = (λ j _. ap (λ (l : List ℕ). get_or l j 0) (sym here)); heard = heard v know.heard; at_turn = (λ _. (mine, (know.at_turn inside).1, here)) }
+            record {
+              live = (λ x. ((know.live x).0, ap length here));
+              spent = know.spent;
+              goes = know.goes;
+              known = (λ j _. ap (λ (l : List ℕ). get_or l j 0) (sym here));
+              heard = heard v know.heard;
+              at_turn = (λ _. (mine, (know.at_turn inside).1, here));
+            }
             (λ j u other e. let theirs = h.each j u e in record {
               live = λ x. ((theirs.live x).0, (theirs.live x).1 ∙ sym (length-set ns i n));
               spent = theirs.spent;

@@ -71,7 +71,8 @@ module _ {T E B : Type 0} (entries : T → List E) (owner : E → ℕ) (note : T
         in_order = h.in_order;
         tickets = λ x. subst (IsOnceWithin k.serving k.next x) (sym (sums (has_ticket x) (let a = no_ticket x v free in omega arith))) (h.tickets x);
         owned = λ x. subst (IsOnceWithin 1 (suc owners) x) (sym (sums (has_owner x) (let w = times_without o x v.owners has in let y = one x in omega arith))) (h.owned x);
-        each = λ j u e. ⊎_elim (all_set (Knows owner base h.left k.notes k.serving) vs id l left_knows (λ j u _ e. h.each j u e) j u) (λ (is : r ≡ u). subst (Knows owner base h.left k.notes k.serving) is right_knows) (at_snoc us r u j e);
+        each = λ j u e. ⊎_elim (all_set (Knows owner base h.left k.notes k.serving) vs id l left_knows (λ j u _ e. h.each j u e) j u)
+            (λ (is : r ≡ u). subst (Knows owner base h.left k.notes k.serving) is right_knows) (at_snoc us r u j e);
         place = ⊎_elim
             (λ (a : IsHome entries owner note base_of base h.left k.notes s.homes us). inl record {
               value = a.value;
@@ -81,6 +82,12 @@ module _ {T E B : Type 0} (entries : T → List E) (owner : E → ℕ) (note : T
               has_notes = a.has_notes;
               nobody = λ j u e. ⊎_elim (a.nobody j u) (λ (is : r ≡ u). ap (λ (x : View E B). x.inside) (sym is) ∙ out) (at_snoc us r u j e);
             })
-            (λ (a : IsAway entries owner note base_of s.homes us). inr record { away = a.away; holder = a.holder; view = a.view; there = at_longer us (r ∷ []) a.holder a.view a.there; inside = a.inside })
+            (λ (a : IsAway entries owner note base_of s.homes us). inr record {
+              away = a.away;
+              holder = a.holder;
+              view = a.view;
+              there = at_longer us (r ∷ []) a.holder a.view a.there;
+              inside = a.inside;
+            })
             (place_stays entries owner note base_of base h.left k.notes k.notes s.homes vs id v l at refl (λ _. refl) h.place);
       }

@@ -17,7 +17,8 @@ noted_same i (suc r) l e = ap (λ (x : ℕ). set l i x) e ∙ set-get_or l i 0
 
 pub noted_known : (i r : ℕ) (l ns : List ℕ) → i < length l → r ≡ get_or ns i 0 → IsKnown l (λ j. get_or ns j 0) → IsKnown (noted i r l) (λ j. get_or ns j 0)
 noted_known i zero l ns short e k j some_ = k j some_
-noted_known i (suc r) l ns short e k j some_ = dite (ℕ_discrete j i) (λ (here : j ≡ i). ap (λ (x : ℕ). get_or ns x 0) here ∙ (sym e ∙ (sym (get_or-set_same l i (suc r) 0 short) ∙ ap (λ (x : ℕ). get_or (set l i (suc r)) x 0) (sym here))))
+noted_known i (suc r) l ns short e k j some_ = dite (ℕ_discrete j i)
+    (λ (here : j ≡ i). ap (λ (x : ℕ). get_or ns x 0) here ∙ (sym e ∙ (sym (get_or-set_same l i (suc r) 0 short) ∙ ap (λ (x : ℕ). get_or (set l i (suc r)) x 0) (sym here))))
     (λ other. let z = get_or-set_other l i j (suc r) 0 other in k j (omega arith) ∙ sym z)
 
 -- what was found is known
@@ -27,10 +28,12 @@ noted_at i (suc r) l short e = get_or-set_same l i (suc r) 0 short
 
 -- a word that was 0 is set, and what is known stays
 pub set_known : (i n : ℕ) (l ns : List ℕ) → get_or ns i 0 ≡ 0 → IsKnown l (λ j. get_or ns j 0) → IsKnown l (λ j. get_or (set ns i n) j 0)
-set_known i n l ns was known j some_ = dite (ℕ_discrete j i) (λ (e : j ≡ i). let z : get_or ns j 0 ≡ 0 = ap (λ (x : ℕ). get_or ns x 0) e ∙ was in let y = known j some_ in absurd (omega arith)) (λ other. get_or-set_other ns i j n 0 other ∙ known j some_)
+set_known i n l ns was known j some_ = dite (ℕ_discrete j i) (λ (e : j ≡ i). let z : get_or ns j 0 ≡ 0 = ap (λ (x : ℕ). get_or ns x 0) e ∙ was in let y = known j some_ in absurd (omega arith))
+    (λ other. get_or-set_other ns i j n 0 other ∙ known j some_)
 
 max_known : (a b n : ℕ) → (0 < a → n ≡ a) → (0 < b → n ≡ b) → 0 < max a b → n ≡ max a b
-max_known a b n p q h = dite (dec_le 1 a) (λ pa. dite (dec_le 1 b) (λ pb. let x = p (omega arith) in let y = q (omega arith) in omega arith) (λ nb. let x = p (omega arith) in omega arith)) (λ na. let y = q (omega arith) in omega arith)
+max_known a b n p q h = dite (dec_le 1 a) (λ pa. dite (dec_le 1 b) (λ pb. let x = p (omega arith) in let y = q (omega arith) in omega arith) (λ nb. let x = p (omega arith) in omega arith))
+    (λ na. let y = q (omega arith) in omega arith)
 
 pub merged_known : (a b ns : List ℕ) → IsKnown a (λ j. get_or ns j 0) → IsKnown b (λ j. get_or ns j 0) → IsKnown (merged a b) (λ j. get_or ns j 0)
 merged_known [] b ns p q i h = q i h

@@ -21,7 +21,17 @@ longer xs ys = if leb (length ys) (length xs) then xs else ys
 module _ {E B : Type 0} where
   -- the first seat of a turn has all owners and all 2 ^ 45 turns
   abbrev pub first_view : B → ℕ → ℕ → View E B
-  first_view base notes owners = record { base = Some base; owners = count_from 1 owners; turns = 35184372088832; ticket = None; inside = false; seen = []; notes = replicate notes 0; looked = []; heard = [] }
+  first_view base notes owners = record {
+    base = Some base;
+    owners = count_from 1 owners;
+    turns = 35184372088832;
+    ticket = None;
+    inside = false;
+    seen = [];
+    notes = replicate notes 0;
+    looked = [];
+    heard = [];
+  }
 
   -- what is left of a seat that was joined into another
   abbrev pub spent_view : View E B
@@ -59,4 +69,10 @@ module _ {E B : Type 0} where
   heard_of v = record { base = v.base; owners = v.owners; seen = v.seen; notes = v.notes }
 
   abbrev pub both_views : View E B → View E B → View E B
-  both_views v w = record v { owners = v.owners ++ w.owners; turns = v.turns + w.turns; seen = longer v.seen w.seen; notes = merged v.notes w.notes; heard = heard_of w ∷ heard_of v ∷ (v.heard ++ w.heard) }
+  both_views v w = record v {
+    owners = v.owners ++ w.owners;
+    turns = v.turns + w.turns;
+    seen = longer v.seen w.seen;
+    notes = merged v.notes w.notes;
+    heard = heard_of w ∷ heard_of v ∷ (v.heard ++ w.heard);
+  }

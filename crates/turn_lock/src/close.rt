@@ -8,7 +8,7 @@ use crate::member::Member;
 use crate::turn::{Seat, SeatOf, Turn};
 
 impl<T: Member> Turn<T> {
-    /// The last value. The seats, none of them in the turn, have all owners together.
+    /// Returns the last value. The seats, none of them in the turn, have all owners together.
     ///
     /// For each seat the value begins with all that it had seen, and goes on by entries of other owners.
     pub fn close(self, mut seats: Vec<SeatOf<T>>) -> T
@@ -26,7 +26,7 @@ impl<T: Member> Turn<T> {
         self.end(first)
     }
 
-    /// The last value, where one seat has all owners. It tells the same of each seat that was joined into it, too.
+    /// Returns the last value, where one seat has all owners. It tells the same of each seat that was joined into it, too.
     pub fn end(self, seat: SeatOf<T>) -> T
         requires seat { IsOf self seat × IsOutside seat }
         requires all { HasAll (owner_count self) (view_of seat).owners }

@@ -1,6 +1,6 @@
 //! A ticket lock whose value travels with the turn.
 //!
-//! A [`Turn`] holds one value. A thread that enters takes the value out, changes it as a plain value of its own,
+//! A [`Turn`] holds one value. A thread that enters takes the value out, changes it as a plain value that only it has,
 //! and puts it back as it leaves. Turns go in the order of tickets, so that no two seats have the value at once.
 //! Beside the value stand the notes: words that are written once, at the turn, and that any seat may look at
 //! without entering.

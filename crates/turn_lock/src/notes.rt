@@ -24,7 +24,7 @@ impl<T: Member> Turn<T> {
         self.table.shared.store::<Publish>(&mut seat.seat, at, word);
     }
 
-    /// The word of a note, 0 while it is not published. It does not wait, and may be called in the turn or outside.
+    /// Returns the word of a note, 0 while it is not published. It does not wait, and may be called in the turn or outside.
     ///
     /// A word above 0 is that note in every value that the seat takes later, and is answered at each later look.
     pub fn look(&self, seat: &mut SeatOf<T>, note: u32) -> u64

@@ -10,7 +10,7 @@ use std::alloc::Global;
 use std::snapshot::Snapshot;
 
 impl<T: Member> Turn<T> {
-    /// A turn with this value, and its first seat, which has the owners 1 to `owners` and 2^45 turns.
+    /// Returns a turn with this value, and its first seat, which has the owners 1 to `owners` and 2^45 turns.
     ///
     /// At `Err` there was no memory, and the value comes back.
     pub fn new(alloc: Global, value: T, notes: u32, owners: u8) -> Result<(Turn<T>, SeatOf<T>), T>

@@ -10,7 +10,7 @@ use crate::turn::{Seat, SeatOf, Turn};
 use std::marker::Brand;
 
 impl<T: Member> Turn<T> {
-    /// A new seat with one owner and some turns of this seat, which has seen the same. At least one owner stays.
+    /// Returns a new seat with one owner and some turns of this seat, which has seen the same. At least one owner stays.
     pub fn split(&self, seat: &mut SeatOf<T>, owner: u8, turns: u64) -> SeatOf<T>
         requires seat { IsOf self.now seat.old × IsOutside seat.old }
         requires owner { Has (view_of seat.old).owners owner × (without owner (view_of seat.old).owners ≢ []) }

@@ -27,7 +27,8 @@ passed_over steps cursor a k f = go (leb cursor k) refl
     go false e = refl
 
 -- step i has the table, and none before it from the cursor on
-pub least_step_here : (steps : List (List ℕ)) (cursor i a : ℕ) → cursor ≤ i → i < length steps → among a (get_or steps i []) ≡ true → ((k : ℕ) → cursor ≤ k → k < i → among a (get_or steps k []) ≡ false) → least_step steps cursor a ≡ Some i
+pub least_step_here : (steps : List (List ℕ)) (cursor i a : ℕ) → cursor ≤ i → i < length steps → among a (get_or steps i []) ≡ true
+    → ((k : ℕ) → cursor ≤ k → k < i → among a (get_or steps k []) ≡ false) → least_step steps cursor a ≡ Some i
 unfolding least_step
 least_step_here steps cursor i a from within e f = first_below _ (length steps) i within (rw (le-leb cursor i from, e) refl) (λ k h. passed_over steps cursor a k (λ g. f k g h))
 

@@ -111,7 +111,8 @@ last_where_is vs p Answers agrees from r h = last_place_is from p (writers_of vs
     n = length-writers vs
 
     places : (r : Option ℕ) → MatchOption r ((j : ℕ) (d : Version) → from ≤ j → j < length vs → Answers (get_or vs j d).0 false)
-        (λ i. (from ≤ i) × (i < length vs) × ((d : Version) → Answers (get_or vs i d).0 true) × ((j : ℕ) (d : Version) → i < j → j < length vs → Answers (get_or vs j d).0 false)) → IsLastFrom from p (writers_of vs) r
+        (λ i. (from ≤ i) × (i < length vs) × ((d : Version) → Answers (get_or vs i d).0 true) × ((j : ℕ) (d : Version) → i < j → j < length vs → Answers (get_or vs j d).0 false))
+        → IsLastFrom from p (writers_of vs) r
     places None h = λ j le lt. let low : j < length vs = omega (arith, lt, n) in said j false low (λ d. h j d le low)
     places (Some i) h = (h.0, omega (arith, h.1, n), said i true h.1 h.2, λ j le lt. let low : j < length vs = omega (arith, lt, n) in said j false low (λ d. h.3 j d (omega (arith, le)) low))
 

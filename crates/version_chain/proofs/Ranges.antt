@@ -227,9 +227,12 @@ module _ (vs : List Stored) (x : Cell) (start len : ℕ) (r : IsRange vs x start
       let fits : start + i ≤ length vs = omega (arith, within, r.within) in
       let long = length-insert vs (start + i) v fits in
       let low : (j : ℕ) → j < start + i → (get_or (insert vs (start + i) v) j d).cell ≡ (get_or vs j d).cell = λ j h. ap (λ (w : Stored). w.cell) (get_or-insert_below vs (start + i) v d j h fits) in
-      let at : (j : ℕ) → j ≡ start + i → (get_or (insert vs (start + i) v) j d).cell ≡ x = λ j e. ap (λ m. (get_or (insert vs (start + i) v) m d).cell) e ∙ (ap (λ (w : Stored). w.cell) (get_or-insert_at vs (start + i) v d fits) ∙ mine) in
-      let high : (j : ℕ) → start + i ≤ j → (get_or (insert vs (start + i) v) (j + 1) d).cell ≡ (get_or vs j d).cell = λ j h. ap (λ (w : Stored). w.cell) (get_or-insert_above vs (start + i) v d j h fits) in
-      let two : (a b c e : Cell) → a ≡ c → b ≡ e → is_lt (cell_cmp c e) ≡ false → is_lt (cell_cmp a b) ≡ false = λ a b c e p q h. ap (λ (y : Cell). is_lt (cell_cmp y b)) p ∙ (ap (λ (y : Cell). is_lt (cell_cmp c y)) q ∙ h) in
+      let at : (j : ℕ) → j ≡ start + i → (get_or (insert vs (start + i) v) j d).cell ≡ x = λ j e. ap (λ m. (get_or (insert vs (start + i) v) m d).cell) e
+      ∙ (ap (λ (w : Stored). w.cell) (get_or-insert_at vs (start + i) v d fits) ∙ mine) in
+      let high : (j : ℕ) → start + i ≤ j → (get_or (insert vs (start + i) v) (j + 1) d).cell ≡ (get_or vs j d).cell = λ j h. ap (λ (w : Stored). w.cell)
+      (get_or-insert_above vs (start + i) v d j h fits) in
+      let two : (a b c e : Cell) → a ≡ c → b ≡ e → is_lt (cell_cmp c e) ≡ false → is_lt (cell_cmp a b) ≡ false = λ a b c e p q h. ap (λ (y : Cell). is_lt (cell_cmp y b)) p
+      ∙ (ap (λ (y : Cell). is_lt (cell_cmp c y)) q ∙ h) in
       elim (cases_lt k (start + i)) [
         | inl lo ↦ elim (cases_eq (k + 1) (start + i)) [
           | inl e ↦ two _ _ _ _ (at (k + 1) e) (low k lo) (not_above k d (omega (arith, lo, within)))
@@ -252,7 +255,8 @@ sorted-set vs k v e within same sorted j d zero_le lt =
       | inl e ↦ ap (λ m. (get_or (set vs k v) m d).cell) e ∙ (ap (λ (w : Stored). w.cell) (get_or-set_same vs k v d within) ∙ (sym at ∙ ap (λ m. (get_or vs m d).cell) (sym e)))
       | inr ne ↦ ap (λ (w : Stored). w.cell) (get_or-set_other vs k i v d ne)
     ] in
-    ap (λ (y : Cell). is_lt (cell_cmp y (get_or (set vs k v) j d).cell)) (cell (j + 1)) ∙ (ap (λ (y : Cell). is_lt (cell_cmp (get_or vs (j + 1) d).cell y)) (cell j) ∙ sorted j d zero_le (omega (arith, lt, long)))
+    ap (λ (y : Cell). is_lt (cell_cmp y (get_or (set vs k v) j d).cell)) (cell (j + 1))
+    ∙ (ap (λ (y : Cell). is_lt (cell_cmp (get_or vs (j + 1) d).cell y)) (cell j) ∙ sorted j d zero_le (omega (arith, lt, long)))
   where
     get_or-any : (ms : List Stored) (i : ℕ) (a b : Stored) → i < length ms → get_or ms i a ≡ get_or ms i b
     get_or-any [] i a b lt = absurd (omega (arith, lt))
@@ -268,7 +272,8 @@ of_cell-filter x t [] = refl
 of_cell-filter x t (v ∷ vs) = step (eqb v.writer.0 t) (is_of x v) refl refl (of_cell-filter x t vs)
   where
     step : (a b : Bool) → eqb v.writer.0 t ≡ a → is_of x v ≡ b → of_cell x (filter (λ v. not (eqb v.writer.0 t)) vs) ≡ without t (of_cell x vs) →
-        of_cell x (cond (not a) (v ∷ filter (λ v. not (eqb v.writer.0 t)) vs) (filter (λ v. not (eqb v.writer.0 t)) vs)) ≡ without t (map version (cond b (v ∷ filter (is_of x) vs) (filter (is_of x) vs)))
+        of_cell x (cond (not a) (v ∷ filter (λ v. not (eqb v.writer.0 t)) vs) (filter (λ v. not (eqb v.writer.0 t)) vs)) ≡ without t
+        (map version (cond b (v ∷ filter (is_of x) vs) (filter (is_of x) vs)))
     step true true e f ih = rw e ih
     step true false e f ih = ih
     step false true e f ih = rw (e, f) (ap (λ l. version v ∷ l) ih)

@@ -78,7 +78,10 @@ impl<K: Ord + Copy, V: Numbered> Bucket<K, V> {
         requires room { HasRoom self.old 1 }
         requires ascending { IsAscendingBy V.numbered_by (bucket_values K.cmp self.old key) }
         ensures held { result ≡ not (length (bucket_values K.cmp self.old key) == 0) }
-        ensures edited { IsTrue result → IsEdited K.cmp self.old self.new key (cond (replace || is_err (place_of V.numbered_by (bucket_values K.cmp self.old key) (V.numbered_by value))) (put_by V.numbered_by value (bucket_values K.cmp self.old key)) (bucket_values K.cmp self.old key)) 1 }
+        ensures edited { IsTrue result
+            → IsEdited K.cmp self.old self.new key
+            (cond (replace || is_err (place_of V.numbered_by (bucket_values K.cmp self.old key) (V.numbered_by value))) (put_by V.numbered_by value (bucket_values K.cmp self.old key))
+            (bucket_values K.cmp self.old key)) 1 }
         ensures kept { IsFalse result → self.new ≡ self.old }
     {
         if self.keys.is_empty() {
@@ -94,7 +97,10 @@ impl<K: Ord + Copy, V: Numbered> Bucket<K, V> {
         requires room { HasRoom self.old 1 }
         requires ascending { IsAscendingBy V.numbered_by (bucket_values K.cmp self.old key) }
         ensures held { result ≡ not (length (bucket_values K.cmp self.old key) == 0) }
-        ensures edited { IsTrue result → IsEdited K.cmp self.old self.new key (cond (replace || is_err (place_of V.numbered_by (bucket_values K.cmp self.old key) (V.numbered_by value))) (put_by V.numbered_by value (bucket_values K.cmp self.old key)) (bucket_values K.cmp self.old key)) 1 }
+        ensures edited { IsTrue result
+            → IsEdited K.cmp self.old self.new key
+            (cond (replace || is_err (place_of V.numbered_by (bucket_values K.cmp self.old key) (V.numbered_by value))) (put_by V.numbered_by value (bucket_values K.cmp self.old key))
+            (bucket_values K.cmp self.old key)) 1 }
         ensures kept { IsFalse result → self.new ≡ self.old }
     {
         let (held, place) = self.place_in(key, value.number());
@@ -130,7 +136,8 @@ impl<K: Ord + Copy, V: Numbered> Bucket<K, V> {
         requires room { HasRoom self.old 1 }
         requires place { MatchResult place (IsFound K.cmp V.numbered_by self.old key (V.numbered_by value)) (IsMissing K.cmp V.numbered_by self.old key (V.numbered_by value)) }
         ensures added { result ≡ is_err (place_of V.numbered_by (bucket_values K.cmp self.old key) (V.numbered_by value)) }
-        ensures edited { IsEdited K.cmp self.old self.new key (cond (replace || result) (put_by V.numbered_by value (bucket_values K.cmp self.old key)) (bucket_values K.cmp self.old key)) (cond result 1 0) }
+        ensures edited { IsEdited K.cmp self.old self.new key (cond (replace || result) (put_by V.numbered_by value (bucket_values K.cmp self.old key)) (bucket_values K.cmp self.old key))
+            (cond result 1 0) }
     {
         match place {
             Ok(at) if replace => {

@@ -33,7 +33,8 @@ impl<K: Key, V: Numbered> Multimap<K, V> {
         requires room { 0 < self.old.spare }
         requires ascending { IsAscendingBy V.numbered_by (values_in K.cmp self.old key) }
         ensures added { result ≡ is_err (place_of V.numbered_by (values_in K.cmp self.old key) (V.numbered_by value)) }
-        ensures values { (q : K) → values_in K.cmp self.new q ≡ cond (is_eq (K.cmp key q)) (cond result (put_by V.numbered_by value (values_in K.cmp self.old key)) (values_in K.cmp self.old key)) (values_in K.cmp self.old q) }
+        ensures values { (q : K) → values_in K.cmp self.new q ≡ cond (is_eq (K.cmp key q)) (cond result (put_by V.numbered_by value (values_in K.cmp self.old key)) (values_in K.cmp self.old key))
+            (values_in K.cmp self.old q) }
         ensures spare { self.old.spare ≡ self.new.spare + cond result 1 0 }
     {
         let at = place_of(&self.buckets, key);
@@ -43,13 +44,15 @@ impl<K: Key, V: Numbered> Multimap<K, V> {
     }
 
     /// Puts a value among those of a key, which ascend by number, if the key has any. It replaces the value with the same number if `replace`
-    /// is true, and else leaves that one. Returns whether the key has values; then it takes one place of the room, and else nothing changes.
+    /// is true, and else leaves it. Returns whether the key has values; then it takes one place of the room, and else nothing changes.
     #[inline(always)]
     pub fn join_by_number(&mut self, key: K, value: V, replace: bool) -> bool
         requires room { 0 < self.old.spare }
         requires ascending { IsAscendingBy V.numbered_by (values_in K.cmp self.old key) }
         ensures held { result ≡ not (length (values_in K.cmp self.old key) == 0) }
-        ensures values { IsTrue result → (q : K) → values_in K.cmp self.new q ≡ cond (is_eq (K.cmp key q)) (cond (replace || is_err (place_of V.numbered_by (values_in K.cmp self.old key) (V.numbered_by value))) (put_by V.numbered_by value (values_in K.cmp self.old key)) (values_in K.cmp self.old key)) (values_in K.cmp self.old q) }
+        ensures values { IsTrue result → (q : K) → values_in K.cmp self.new q ≡ cond (is_eq (K.cmp key q))
+            (cond (replace || is_err (place_of V.numbered_by (values_in K.cmp self.old key) (V.numbered_by value))) (put_by V.numbered_by value (values_in K.cmp self.old key))
+            (values_in K.cmp self.old key)) (values_in K.cmp self.old q) }
         ensures kept { IsFalse result → self.new ≡ self.old }
         ensures spare { self.old.spare ≡ self.new.spare + cond result 1 0 }
     {
@@ -63,7 +66,8 @@ impl<K: Key, V: Numbered> Multimap<K, V> {
     #[inline(always)]
     pub fn take_by_number(&mut self, key: K, number: u32)
         requires { IsAscendingBy V.numbered_by (values_in K.cmp self.old key) }
-        ensures values { (q : K) → values_in K.cmp self.new q ≡ cond (is_eq (K.cmp key q)) (filter (λ v. not (eqb (V.numbered_by v) number)) (values_in K.cmp self.old key)) (values_in K.cmp self.old q) }
+        ensures values { (q : K) → values_in K.cmp self.new q ≡ cond (is_eq (K.cmp key q)) (filter (λ v. not (eqb (V.numbered_by v) number)) (values_in K.cmp self.old key))
+            (values_in K.cmp self.old q) }
         ensures spare { self.new.spare ≡ self.old.spare }
     {
         if self.buckets.is_empty() {

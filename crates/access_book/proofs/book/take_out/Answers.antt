@@ -30,7 +30,8 @@ loop-touch-preserved c =
           let lt = at_all (λ z. touch_place z < length r0.lists) zs i none c.requires.readers_known c.loop-touch-test.true in
           let within : p < length r0.lists = omega (arith, lt, ap touch_place k.in-Read.is) in
           let m = ap puts_held q ∙ held_more (touch.Read p) rest in (
-            subst (λ b. IsTaking t.0 reads_here r0 b zs rest) (sym k.readers-is) (taking_one t reads_here r0 r k.take_by_number.new.self zs left rest (touch.Read p) p h.0 q (λ j. refl) k.take_by_number.ensures.lists k.take_by_number.ensures.spare within),
+            subst (λ b. IsTaking t.0 reads_here r0 b zs rest) (sym k.readers-is)
+                (taking_one t reads_here r0 r k.take_by_number.new.self zs left rest (touch.Read p) p h.0 q (λ j. refl) k.take_by_number.ensures.lists k.take_by_number.ensures.spare within),
             subst (λ b. IsTaking t.0 puts_here w0 b zs rest) (sym k.writers-is) (taking_skip t puts_here w0 w w zs left rest (touch.Read p) p h.1 q (λ j. refl)),
             (let n = h.2 in let e = k.puts-is in omega (arith, m, n, e)),
           )
@@ -41,7 +42,9 @@ loop-touch-preserved c =
           let within : p < length w0.lists = omega (arith, lt, ap touch_place k.in-Put.is) in
           let m = ap puts_held q ∙ held_more (touch.Put p) rest in (
             subst (λ b. IsTaking t.0 reads_here r0 b zs rest) (sym k.readers-is) (taking_skip t reads_here r0 r r zs left rest (touch.Put p) p h.0 q (λ j. refl)),
-            subst (λ b. IsTaking t.0 puts_here w0 b zs rest) (sym k.writers-is) (taking_one t puts_here w0 w k.take_by_number-in-Put.new.self zs left rest (touch.Put p) p h.1 q (λ j. refl) k.take_by_number-in-Put.ensures.lists k.take_by_number-in-Put.ensures.spare within),
+            subst (λ b. IsTaking t.0 puts_here w0 b zs rest) (sym k.writers-is)
+                (taking_one t puts_here w0 w k.take_by_number-in-Put.new.self zs left rest (touch.Put p) p h.1 q (λ j. refl) k.take_by_number-in-Put.ensures.lists k.take_by_number-in-Put.ensures.spare
+                within),
             (let n = h.2 in let e = k.puts-is in omega (arith, m, n, e)),
           )
     ]

@@ -24,5 +24,6 @@ loop-txn-preserved c =
     let marked : c.marked.result ≡ is_among (take i ts) t = c.marked.ensures ∙ ap (λ (bs : List Bool). is_marked bs t) c.deref.ensures.value ∙ c.loop-txn.invariant.marks t in
     record {
       marks = λ n. c.in_ok-mark.ensures n ∙ ap (λ b. t == n || b) (c.loop-txn.invariant.marks n) ∙ sym (among_more (is_marked c.args.done.now) ts i t c.loop-txn-test.true refl n);
-      right = one_more (is_marked c.args.done.now) ts i t c.loop-txn-test.true refl c.loop-txn.invariant.right (sym marked ∙ c.if-marked.false) (sym c.marked-else-marked.ensures ∙ c.if-not-marked.false);
+      right = one_more (is_marked c.args.done.now) ts i t c.loop-txn-test.true refl c.loop-txn.invariant.right (sym marked ∙ c.if-marked.false)
+          (sym c.marked-else-marked.ensures ∙ c.if-not-marked.false);
     }

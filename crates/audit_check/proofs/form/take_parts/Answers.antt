@@ -17,8 +17,11 @@ pub returns-then-not-branch-clause-lines : goal.returns-then-not-branch-clause-l
 returns-then-not-branch-clause-lines c =
     let refused : c.in_ok-take_part.field-0 ≡ false = search rules in
     let more : c.loop-i.i + 1 < length c.args.parts.now = omega (arith, c.loop-i-test.true) in
-    rw c.no.ensures
-    (sym c.loop-i.invariant.rest ∙ line_refused c.args.parts.now c.loop-i.i _ _ (views c.take_part.new.lines.items) _ more c.in_ok-take_part.ensures.fits refused ∙ ap (λ n. Err (n + 1)) c.loop-i.invariant.count, refl)
+    rw c.no.ensures (
+      sym c.loop-i.invariant.rest ∙ line_refused c.args.parts.now c.loop-i.i _ _ (views c.take_part.new.lines.items) _ more c.in_ok-take_part.ensures.fits refused
+          ∙ ap (λ n. Err (n + 1)) c.loop-i.invariant.count,
+      refl,
+    )
 
 pub loop-i-preserved : goal.loop-i-preserved
 loop-i-preserved c =
@@ -43,5 +46,8 @@ pub returns-else-is_over-clause-lines : goal.returns-else-is_over-clause-lines
 returns-else-is_over-clause-lines c =
     let at : c.loop-i.i ≡ length c.args.parts.now - 1 = omega (arith, c.loop-i-test.false, c.loop-i.auto.i-end) in
     let last : length c.args.parts.now - 1 + 1 ≡ length c.args.parts.now = omega (arith, c.requires.some) in
-    rw c.no-else-is_over.ensures
-    (sym c.loop-i.invariant.rest ∙ text_cut_at c.args.parts.now c.loop-i.i (length c.args.parts.now - 1) _ _ at last (rw c.deref.ensures.value at (sym c.is_over.ensures ∙ c.if-is_over.false)) ∙ ap (λ n. Err (n + 1)) (c.loop-i.invariant.count ∙ at), refl)
+    rw c.no-else-is_over.ensures (
+      sym c.loop-i.invariant.rest ∙ text_cut_at c.args.parts.now c.loop-i.i (length c.args.parts.now - 1) _ _ at last (rw c.deref.ensures.value at (sym c.is_over.ensures ∙ c.if-is_over.false))
+          ∙ ap (λ n. Err (n + 1)) (c.loop-i.invariant.count ∙ at),
+      refl,
+    )

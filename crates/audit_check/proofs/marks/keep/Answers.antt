@@ -7,5 +7,6 @@ pub returns : goal.returns
 returns c = λ n.
     let lists = c.grow.lists.items in
     let within : c.args.number < length lists = omega arith in
-    let kept : c.push-2.new.self.items ≡ list_at lists c.args.number ++ c.args.kept ∷ [] = c.in_ok-push-2.ensures.items ∙ ap (λ (l : List ℕ). l ++ c.args.kept ∷ []) (sym (list_read lists c.args.number c.index_mut.result.now within c.index_mut.ensures.value)) in
+    let kept : c.push-2.new.self.items ≡ list_at lists c.args.number ++ c.args.kept ∷ [] = c.in_ok-push-2.ensures.items
+    ∙ ap (λ (l : List ℕ). l ++ c.args.kept ∷ []) (sym (list_read lists c.args.number c.index_mut.result.now within c.index_mut.ensures.value)) in
     list_set lists c.args.number c.push-2.new.self (c.args.kept ∷ []) within kept n ∙ ap (λ (l : List ℕ). if c.args.number == n then l ++ c.args.kept ∷ [] else l) (c.grow.invariant n)

@@ -10,7 +10,8 @@ returns-in-Order c =
     let i = c.loop-i.i in
     let within : length lines - 1 - i < length lines = omega (arith, c.loop-i-test.true) in
     let next : length lines - i ≡ length lines - 1 - i + 1 = omega (arith, c.loop-i-test.true) in
-    c.as_slice.ensures.value ∙ sym (order_here lines (length lines - 1 - i) (length lines - i) c.index-lines-lines.result within c.index-lines-lines.is next c.in-Order.txns c.in-Order.is) ∙ c.loop-i.invariant
+    c.as_slice.ensures.value ∙ sym (order_here lines (length lines - 1 - i) (length lines - i) c.index-lines-lines.result within c.index-lines-lines.is next c.in-Order.txns c.in-Order.is)
+    ∙ c.loop-i.invariant
 
 pub loop-i-preserved : goal.loop-i-preserved
 loop-i-preserved c =

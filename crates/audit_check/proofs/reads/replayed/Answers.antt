@@ -10,7 +10,8 @@ loop-txn-init c =
     let unmarked : c.in_ok-vec.field-0.items ≡ replicate n false = c.in_ok-vec.ensures.items_if_clones_equal (λ y e. e) in
     record {
       all = ap (λ (bs : List Bool). length bs) unmarked ∙ length-replicate n false;
-      replays = replays_none c.args.lines.now c.in_ok-starting_table.field-0.values.entries c.in_ok-vec.field-0.items c.in_ok-starting_table.ensures (λ i. ap (λ (bs : List Bool). is_marked bs i) unmarked ∙ none_marked n i);
+      replays = replays_none c.args.lines.now c.in_ok-starting_table.field-0.values.entries c.in_ok-vec.field-0.items c.in_ok-starting_table.ensures
+          (λ i. ap (λ (bs : List Bool). is_marked bs i) unmarked ∙ none_marked n i);
     }
 
 pub loop-txn-preserved : goal.loop-txn-preserved

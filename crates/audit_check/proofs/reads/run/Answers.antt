@@ -17,7 +17,8 @@ bounds-lines-i c =
 
 pub step-requires : goal.step-requires
 step-requires c =
-    let within = next_within c.args.txn c.args.lines.now c.list_at-at-items.result.now c.loop-at.invariant.to c.loop-at.at-index c.loop-at.invariant.within c.loop-at.invariant.rest c.loop-at-test.true in
+    let within = next_within c.args.txn c.args.lines.now c.list_at-at-items.result.now c.loop-at.invariant.to c.loop-at.at-index c.loop-at.invariant.within c.loop-at.invariant.rest
+    c.loop-at-test.true in
     omega (arith, within, c.loop-at.invariant.all)
 
 pub loop-at-preserved : goal.loop-at-preserved

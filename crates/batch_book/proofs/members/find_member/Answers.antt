@@ -14,7 +14,8 @@ offset_bounds-members-i c =
     search (rules, within)
 
 pub returns-then-eq : goal.returns-then-eq
-returns-then-eq c = sym (placed member_number c.args.t.0 _ _ c.args.members.now (sym (found_at member_number _ c.requires _ _ _ c.if-first-members.true (eqb-true _ _ (sym c.eq.ensures ∙ c.if-eq.true)))))
+returns-then-eq c = sym (placed member_number c.args.t.0 _ _ c.args.members.now
+    (sym (found_at member_number _ c.requires _ _ _ c.if-first-members.true (eqb-true _ _ (sym c.eq.ensures ∙ c.if-eq.true)))))
 
 pub returns-in-Ok : goal.returns-in-Ok
 returns-in-Ok c = sym (placed member_number c.args.t.0 c.in-Ok.i _ c.args.members.now (sym c.search_member.ensures ∙ c.in-Ok.is))

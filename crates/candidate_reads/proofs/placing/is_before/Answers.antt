@@ -10,11 +10,13 @@ pub control_between-control-requires-clause-left : goal.control_between-control-
 control_between-control-requires-clause-left g c = writer_typed c.args.facts.now c.args.cell c.args.w.0 c.requires.asked.lawful c.requires.version
 
 pub orders-requires-clause-pair : goal.orders-requires-clause-pair
-orders-requires-clause-pair g c = pair_before c.args.facts.now c.args.cell (g.K.Control.node_number c.control_between-control.result.now) c.args.w.0 c.args.t.0 c.requires.asked.tree c.requires.asked.lawful c.requires.version c.requires.put.typed
+orders-requires-clause-pair g c = pair_before c.args.facts.now c.args.cell (g.K.Control.node_number c.control_between-control.result.now) c.args.w.0 c.args.t.0 c.requires.asked.tree
+    c.requires.asked.lawful c.requires.version c.requires.put.typed
     (unfinished_stands (events_of c.args.facts.now) c.args.t.0 c.requires.put.unfinished) c.control_between-control.ensures.meet
 
 pub returns-in-Timestamp : goal.returns-in-Timestamp
-returns-in-Timestamp g c = c.orders.ensures ∙ order_there c.args.facts.now c.args.cell (g.K.Control.node_number c.control_between-control.result.now) c.args.w.0 c.args.t.0 c.requires.asked.tree c.requires.asked.lawful c.requires.version c.requires.put.typed c.control_between-control.ensures.meet
+returns-in-Timestamp g c = c.orders.ensures ∙ order_there c.args.facts.now c.args.cell (g.K.Control.node_number c.control_between-control.result.now) c.args.w.0 c.args.t.0 c.requires.asked.tree
+    c.requires.asked.lawful c.requires.version c.requires.put.typed c.control_between-control.ensures.meet
 
 pub returns-in_default : goal.returns-in_default
 returns-in_default g c =

@@ -6,7 +6,8 @@ use Rattle.candidate_reads.proofs.placing.place_of.Goals as goal
 
 pub place_from-requires : goal.place_from-requires
 place_from-requires g c = subst (λ (n : ℕ). IfSome c.own_or_before-found.result (λ v. v.at ≤ n)) (sym c.begun.ensures)
-    (found_counted (setup_of c.args.facts.now) (events_of c.args.facts.now) (g.C.Chains.lists c.args.chains.now) c.requires.lawful c.requires.chains c.args.cell c.own_or_before-found.result c.own_or_before-found.ensures.version)
+    (found_counted (setup_of c.args.facts.now) (events_of c.args.facts.now) (g.C.Chains.lists c.args.chains.now) c.requires.lawful c.requires.chains c.args.cell c.own_or_before-found.result
+    c.own_or_before-found.ensures.version)
 
 pub returns : goal.returns
 returns g c =
@@ -16,5 +17,6 @@ returns g c =
     let x = c.args.cell in
     let t = c.args.t.0 in
     let found : IsFound S H x t (L x) c.own_or_before-found.result = (c.own_or_before-found.ensures.place, c.own_or_before-found.ensures.version) in
-    let p = subst (λ (p : Place). IsPlaced S H x t (L x) p) (sym c.place_from.ensures) (placed S H L c.requires.lawful c.requires.chains x c.requires.tree t c.requires.kept c.requires.writes c.own_or_before-found.result found) in
+    let p = subst (λ (p : Place). IsPlaced S H x t (L x) p) (sym c.place_from.ensures)
+    (placed S H L c.requires.lawful c.requires.chains x c.requires.tree t c.requires.kept c.requires.writes c.own_or_before-found.result found) in
     record { place = p.0; own = p.1; there = p.2 }

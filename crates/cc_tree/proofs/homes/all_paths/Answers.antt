@@ -7,4 +7,5 @@ pub loop-k-init : goal.loop-k-init
 loop-k-init c = map_none part_lists (λ k. part_paths (rows_of c.args.rows.now) k) c.in_ok-paths.paths.items c.in_ok-paths.ensures.items
 
 pub loop-k-preserved : goal.loop-k-preserved
-loop-k-preserved c = map_step part_lists (λ k. part_paths (rows_of c.args.rows.now) k) c.loop-k.k c.loop-k.paths.items c.push.new.self.items c.in_ok-part_paths.field-0 c.in_ok-push.ensures.items c.loop-k.invariant c.in_ok-part_paths.ensures
+loop-k-preserved c = map_step part_lists (λ k. part_paths (rows_of c.args.rows.now) k) c.loop-k.k c.loop-k.paths.items c.push.new.self.items c.in_ok-part_paths.field-0 c.in_ok-push.ensures.items
+    c.loop-k.invariant c.in_ok-part_paths.ensures

@@ -10,8 +10,10 @@ loop-part-init c = map_none node_numbers (λ i. path (rows_of c.args.rows.now) (
 
 pub loop-part-preserved : goal.loop-part-preserved
 unfolding path
-loop-part-preserved c = map_step node_numbers (λ i. path (rows_of c.args.rows.now) (spot_of c.args.k.0 i)) c.loop-part.part c.loop-part.paths.items c.push.new.self.items c.in_ok-way_to.field-0 c.in_ok-push.ensures.items c.loop-part.invariant
-    (c.in_ok-way_to.ensures ∙ ap (way (rows_of c.args.rows.now)) c.leaf_of.ensures ∙ ap (λ (i : ℕ). way (rows_of c.args.rows.now) (leaf (rows_of c.args.rows.now) (spot_of c.args.k.0 i))) c.from-in-loop-part.ensures)
+loop-part-preserved c = map_step node_numbers (λ i. path (rows_of c.args.rows.now) (spot_of c.args.k.0 i)) c.loop-part.part c.loop-part.paths.items c.push.new.self.items c.in_ok-way_to.field-0
+    c.in_ok-push.ensures.items c.loop-part.invariant
+    (c.in_ok-way_to.ensures ∙ ap (way (rows_of c.args.rows.now)) c.leaf_of.ensures ∙ ap (λ (i : ℕ). way (rows_of c.args.rows.now) (leaf (rows_of c.args.rows.now) (spot_of c.args.k.0 i)))
+    c.from-in-loop-part.ensures)
 
 pub returns : goal.returns
 unfolding part_paths

@@ -6,11 +6,13 @@ use Rattle.chain_pool.proofs.walks.last_accepted.Goals as goal
 
 pub pair_at-value-requires-clause-within : goal.pair_at-value-requires-clause-within
 pair_at-value-requires-clause-within g c =
-    subst (λ p. p < length c.args.places.now) (sym (c.loop-above.invariant.place (omega (arith, c.loop-above-test.true, c.saturating_sub-above-end.ensures)))) (c.requires.safe (suc c.loop-above.above) (omega (arith, c.loop-above-test.true, c.saturating_sub-above-end.ensures)))
+    subst (λ p. p < length c.args.places.now) (sym (c.loop-above.invariant.place (omega (arith, c.loop-above-test.true, c.saturating_sub-above-end.ensures))))
+    (c.requires.safe (suc c.loop-above.above) (omega (arith, c.loop-above-test.true, c.saturating_sub-above-end.ensures)))
 
 pub pair_at-value-requires-clause-used : goal.pair_at-value-requires-clause-used
 pair_at-value-requires-clause-used g c =
-    subst (λ p. IsSome (slot_at c.args.places.now p).version) (sym (c.loop-above.invariant.place (omega (arith, c.loop-above-test.true, c.saturating_sub-above-end.ensures)))) (c.requires.used (suc c.loop-above.above) (omega (arith, c.loop-above-test.true, c.saturating_sub-above-end.ensures)))
+    subst (λ p. IsSome (slot_at c.args.places.now p).version) (sym (c.loop-above.invariant.place (omega (arith, c.loop-above-test.true, c.saturating_sub-above-end.ensures))))
+    (c.requires.used (suc c.loop-above.above) (omega (arith, c.loop-above-test.true, c.saturating_sub-above-end.ensures)))
 
 pub accepts-requires : goal.accepts-requires
 accepts-requires g c =
@@ -33,7 +35,8 @@ returns-then-accepts-clause-found g c =
       subst (λ (u : Txn). g.F.Fn.post c.args.f.now (u, tt) true) (ap (λ v. v.0) same ∙ sym (ap (λ k. (pair_at ps (steps (previous_at ps) k c.args.chain.head.first)).0) n)) c.if-accepts.ensures,
       λ k above low.
           let m : c.args.chain.head.len - 1 - k + 1 ≡ c.args.chain.head.len - k = omega (arith, low) in
-          subst (λ i. g.F.Fn.post c.args.f.now ((pair_at ps (steps (previous_at ps) i c.args.chain.head.first)).0, tt) false) m (c.loop-above.invariant.refused (c.args.chain.head.len - 1 - k) (omega (arith, above, low, c.loop-above-test.true))),
+          subst (λ i. g.F.Fn.post c.args.f.now ((pair_at ps (steps (previous_at ps) i c.args.chain.head.first)).0, tt) false) m
+          (c.loop-above.invariant.refused (c.args.chain.head.len - 1 - k) (omega (arith, above, low, c.loop-above-test.true))),
     )
 
 pub returns-then-accepts-clause-version : goal.returns-then-accepts-clause-version
@@ -47,4 +50,5 @@ pub returns-clause-found : goal.returns-clause-found
 returns-clause-found g c k above low =
     let ps = c.args.places.now in
     let m : c.args.chain.head.len - 1 - k + 1 ≡ c.args.chain.head.len - k = omega (arith, low) in
-    subst (λ i. g.F.Fn.post c.args.f.now ((pair_at ps (steps (previous_at ps) i c.args.chain.head.first)).0, tt) false) m (c.loop-above.invariant.refused (c.args.chain.head.len - 1 - k) (omega (arith, above, low, c.loop-above-test.false, c.saturating_sub-above-end.ensures)))
+    subst (λ i. g.F.Fn.post c.args.f.now ((pair_at ps (steps (previous_at ps) i c.args.chain.head.first)).0, tt) false) m
+    (c.loop-above.invariant.refused (c.args.chain.head.len - 1 - k) (omega (arith, above, low, c.loop-above-test.false, c.saturating_sub-above-end.ensures)))

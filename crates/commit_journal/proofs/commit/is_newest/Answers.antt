@@ -21,7 +21,8 @@ returns-in-Some g c =
     let x = c.args.cell in
     let t = c.args.t.0 in
     let e = c.args.engine.now in
-    let place = is_last (counts e.events t) (writers_of (lists x)) (Some c.in-Some.i) (c.in-Some.ensures ∙ ap (λ (P : List Event). last_place (counts P t) (writers_of (lists x))) c.history.ensures.events) in
+    let place = is_last (counts e.events t) (writers_of (lists x)) (Some c.in-Some.i)
+    (c.in-Some.ensures ∙ ap (λ (P : List Event). last_place (counts P t) (writers_of (lists x))) c.history.ensures.events) in
     c.eq.ensures
     ∙ ap (λ (k : ℕ). eqb k t) (sym (at-writer (lists x) c.in-Some.i c.at.result c.at.ensures).0)
     ∙ sym (found e.store.setup e.events x lists c.history.ensures.lawful c.chains-chains.ensures t c.requires.put (unfinished_stands e.events t c.requires.unfinished) c.in-Some.i place)

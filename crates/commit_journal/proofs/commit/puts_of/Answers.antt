@@ -20,8 +20,10 @@ loop-event-init c =
 pub loop-event-preserved : goal.loop-event-preserved
 loop-event-preserved c = record {
   cells = c.in_ok-add_event.ensures.cells;
-  puts = one_event _ c.loop-event.puts.items c.add_event.new.puts.items c.loop-event.event-iterator c.next.new.self c.in-Some.event c.loop-event.invariant.puts c.in-Some.ensures.steps c.in_ok-add_event.ensures.puts;
+  puts = one_event _ c.loop-event.puts.items c.add_event.new.puts.items c.loop-event.event-iterator c.next.new.self c.in-Some.event c.loop-event.invariant.puts c.in-Some.ensures.steps
+      c.in_ok-add_event.ensures.puts;
 }
 
 pub returns : goal.returns
-returns c = sym (all_found _ c.loop-event.puts.items (subst (λ (es : List Event). AreSoFar (puts_of c.args.history.now.events c.args.t.0) es c.loop-event.puts.items) c.in-None.ensures.steps.0 c.loop-event.invariant.puts))
+returns c = sym (all_found _ c.loop-event.puts.items
+    (subst (λ (es : List Event). AreSoFar (puts_of c.args.history.now.events c.args.t.0) es c.loop-event.puts.items) c.in-None.ensures.steps.0 c.loop-event.invariant.puts))

@@ -22,7 +22,8 @@ loop-change-preserved g c =
         few = grown_few _ _ _ c.loop-change.change-index grown inv.few;
       })
       | else-is_newest w ↦ record {
-        chosen = ap (λ (v : Vec Change Global). v.items) w.changes-is ∙ chosen_more p c.args.puts.now c.loop-change.changes.items c.loop-change.change-index _ false c.loop-change-test.true (sym c.is_newest.ensures ∙ w.if-is_newest.false) inv.chosen;
+        chosen = ap (λ (v : Vec Change Global). v.items) w.changes-is ∙ chosen_more p c.args.puts.now c.loop-change.changes.items c.loop-change.change-index _ false c.loop-change-test.true
+            (sym c.is_newest.ensures ∙ w.if-is_newest.false) inv.chosen;
         few = omega (arith, ap (λ (v : Vec Change Global). length v.items) w.changes-is, inv.few);
       }
     ]

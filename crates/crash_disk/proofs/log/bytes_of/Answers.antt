@@ -16,7 +16,14 @@ split_at-requires-in-Write c =
     let cs = c.args.calls.now in
     let p = c.args.place in
     let rest = take_all (length cs - p) (drop p cs) (omega (arith, length-drop p cs)) in
-    omega (arith, starts_at cs p c.in-Write.at c.in-Write.len (c.requires.is ∙ ap (λ (d : Call). Some d) c.in-Write.is), ap total rest, c.start_of.ensures, ap length c.split_at.ensures.back, length-drop c.start_of.result c.args.bytes.now)
+    omega (
+      arith,
+      starts_at cs p c.in-Write.at c.in-Write.len (c.requires.is ∙ ap (λ (d : Call). Some d) c.in-Write.is),
+      ap total rest,
+      c.start_of.ensures,
+      ap length c.split_at.ensures.back,
+      length-drop c.start_of.result c.args.bytes.now,
+    )
 
 pub returns-in-Sync : goal.returns-in-Sync
 returns-in-Sync c =
@@ -31,5 +38,6 @@ returns-in-Write c =
     let piece = c.split_at-in-Write.result.0.now in
     let rest = take_all (length cs - p) (drop p cs) (omega (arith, length-drop p cs)) in
     subst (λ (d : Call). slice_get (steps cs bytes) p ≡ Some (step_of d piece)) (sym c.in-Write.is)
-    (wrote_at cs bytes p c.in-Write.at c.in-Write.len c.start_of.result piece c.requires.counted (c.requires.is ∙ ap (λ (d : Call). Some d) c.in-Write.is) (omega (arith, ap total rest, c.start_of.ensures))
+    (wrote_at cs bytes p c.in-Write.at c.in-Write.len c.start_of.result piece c.requires.counted (c.requires.is ∙ ap (λ (d : Call). Some d) c.in-Write.is)
+    (omega (arith, ap total rest, c.start_of.ensures))
     (c.split_at-in-Write.ensures.front ∙ ap (λ (l : List ℕ). take c.in-Write.len l) c.split_at.ensures.back))

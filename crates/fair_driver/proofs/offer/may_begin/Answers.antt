@@ -14,10 +14,12 @@ pub returns-then-is_chosen : goal.returns-then-is_chosen
 returns-then-is_chosen c =
     let cs = c.args.cursors.now in
     c.is_quiet.ensures
-    ∙ sym (begins_alone c.args.history.now.events (seats_in cs) (seat_of c.args.cursor.now) (sym (any_kept due cs) ∙ sym c.requires ∙ c.if-not-has_due.false) (sym c.is_chosen.ensures ∙ c.if-is_chosen.true))
+    ∙ sym (begins_alone c.args.history.now.events (seats_in cs) (seat_of c.args.cursor.now) (sym (any_kept due cs) ∙ sym c.requires ∙ c.if-not-has_due.false)
+    (sym c.is_chosen.ensures ∙ c.if-is_chosen.true))
 
 pub returns-else-is_chosen : goal.returns-else-is_chosen
 returns-else-is_chosen c =
     let cs = c.args.cursors.now in
     c.if-is_chosen.false
-    ∙ sym (begins_not c.args.history.now.events (seats_in cs) (seat_of c.args.cursor.now) (sym (any_kept due cs) ∙ sym c.requires ∙ c.if-not-has_due.false) (sym c.is_chosen.ensures ∙ c.if-is_chosen.false))
+    ∙ sym (begins_not c.args.history.now.events (seats_in cs) (seat_of c.args.cursor.now) (sym (any_kept due cs) ∙ sym c.requires ∙ c.if-not-has_due.false)
+    (sym c.is_chosen.ensures ∙ c.if-is_chosen.false))

@@ -21,4 +21,5 @@ returns-clause-holds c =
     (λ (hs : List Hold). accessed t wrote (accessed first.txn first.wrote hs)) c.clear.ensures.holds
     (twice c.args.cell (λ (x : Cell). values_in cell_cmp o x) (λ (x : Cell). values_in cell_cmp c.put_in.new.holds x) (λ (x : Cell). values_in cell_cmp c.put_in-2.new.holds x)
     (accessed first.txn first.wrote) (accessed t wrote) c.put_in.ensures.holds c.put_in-2.ensures.holds)
-    (ap (λ (hs : List Hold). accessed t wrote (accessed first.txn first.wrote hs)) none ∙ ap (accessed t wrote) (sym (held_anew first.txn first.wrote)) ∙ ap (λ (k : Option Hold). accessed t wrote (only_or k (values_in cell_cmp o c.args.cell))) (sym c.requires.first))
+    (ap (λ (hs : List Hold). accessed t wrote (accessed first.txn first.wrote hs)) none ∙ ap (accessed t wrote) (sym (held_anew first.txn first.wrote))
+    ∙ ap (λ (k : Option Hold). accessed t wrote (only_or k (values_in cell_cmp o c.args.cell))) (sym c.requires.first))

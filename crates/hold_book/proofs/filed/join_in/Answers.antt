@@ -16,4 +16,5 @@ returns-clause-holds c joined x =
     ∙ edited_cell f c.args.cell (accessed c.args.t c.args.wrote) _ (put_joined c.args.t c.args.wrote (f c.args.cell) (c.requires.filed.ascending c.args.cell)) x
 
 pub returns-clause-filed : goal.returns-clause-filed
-returns-clause-filed c = filed_join c.args.holds.now _ c.args.cell c.args.t c.args.wrote c.join_by_number.result c.requires.filed (λ joined x. returns-clause-holds c joined x) c.join_by_number.ensures.kept
+returns-clause-filed c = filed_join c.args.holds.now _ c.args.cell c.args.t c.args.wrote c.join_by_number.result c.requires.filed (λ joined x. returns-clause-holds c joined x)
+    c.join_by_number.ensures.kept

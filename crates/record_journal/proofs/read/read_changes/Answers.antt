@@ -5,17 +5,20 @@ use Rattle.record_journal.proofs.read.read_changes.Goals as goal
 
 pub returns-then-rest-lt-CHANGE_BYTES-clause-changes : goal.returns-then-rest-lt-CHANGE_BYTES-clause-changes
 returns-then-rest-lt-CHANGE_BYTES-clause-changes c =
-    short c.loop.changes.items (c.args.count - c.loop.counter) c.loop.rest.now (changes_of c.args.count c.args.bytes.now) (omega (arith, c.loop-test.true)) c.if-rest-lt-CHANGE_BYTES.true c.loop.invariant.so_far
+    short c.loop.changes.items (c.args.count - c.loop.counter) c.loop.rest.now (changes_of c.args.count c.args.bytes.now) (omega (arith, c.loop-test.true)) c.if-rest-lt-CHANGE_BYTES.true
+    c.loop.invariant.so_far
 
 pub returns-in-None-clause-changes : goal.returns-in-None-clause-changes
 returns-in-None-clause-changes c =
-    bad c.loop.changes.items (c.args.count - c.loop.counter) c.loop.rest.now (changes_of c.args.count c.args.bytes.now) (omega (arith, c.loop-test.true)) c.if-rest-lt-CHANGE_BYTES.false (sym (c.in-None.ensures ∙ ap change_of c.split_at.ensures.front)) c.loop.invariant.so_far
+    bad c.loop.changes.items (c.args.count - c.loop.counter) c.loop.rest.now (changes_of c.args.count c.args.bytes.now) (omega (arith, c.loop-test.true)) c.if-rest-lt-CHANGE_BYTES.false
+    (sym (c.in-None.ensures ∙ ap change_of c.split_at.ensures.front)) c.loop.invariant.so_far
 
 pub loop-preserved : goal.loop-preserved
 loop-preserved c = record {
   so_far =
       rw (c.in_ok-push-in-Some.ensures.items, c.split_at.ensures.back)
-      (next c.loop.changes.items (c.args.count - c.loop.counter) (c.args.count - (c.loop.counter + 1)) c.loop.rest.now _ (changes_of c.args.count c.args.bytes.now) (omega (arith, c.loop-test.true)) c.if-rest-lt-CHANGE_BYTES.false
+      (next c.loop.changes.items (c.args.count - c.loop.counter) (c.args.count - (c.loop.counter + 1)) c.loop.rest.now _ (changes_of c.args.count c.args.bytes.now) (omega (arith, c.loop-test.true))
+      c.if-rest-lt-CHANGE_BYTES.false
       (sym (c.in-Some.ensures ∙ ap change_of c.split_at.ensures.front)) c.loop.invariant.so_far);
   size =
       let pushed = ap length c.in_ok-push-in-Some.ensures.items in

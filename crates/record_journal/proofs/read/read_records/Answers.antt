@@ -25,7 +25,8 @@ loop-behind-preserved c =
     record {
       so_far =
           rw (c.in_ok-push-in-Some-2.ensures.items, record_lists-push, c.split_at.ensures.back)
-          (reads_on (record_lists l.records.items) c.in-Some-2.record.items (4 + 14 * c.len.result) l.at c.in-Some.behind.now (reading 0 0 c.args.bytes.now) (omega (arith, count)) found (omega (arith, count, long)) so_far);
+          (reads_on (record_lists l.records.items) c.in-Some-2.record.items (4 + 14 * c.len.result) l.at c.in-Some.behind.now (reading 0 0 c.args.bytes.now) (omega (arith, count)) found
+          (omega (arith, count, long)) so_far);
       place = omega (arith, back, begins, long, count, length-drop (4 + 14 * c.len.result) c.in-Some.behind.now, l.invariant.place);
       few = omega (arith, counted, length-append l.records.items (c.in-Some-2.record ∷ []), l.invariant.few);
     }

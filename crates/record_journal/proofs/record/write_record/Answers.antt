@@ -12,53 +12,72 @@ pub returns-in_err-write_at-clause-any_moment : goal.returns-in_err-write_at-cla
 returns-in_err-write_at-clause-any_moment g c room rs r within added at_rest only =
     let d = g.D.Disk in
     let old = c.args.disk.now in
-    wrote d.seen d.may_leave d.moment d.left_since room rs r c.args.end c.args.body.now old added at_rest within only c.write_at.new.self (g.met.D.Disk.only_now old) c.write_at.ensures.crash c.write_at.ensures.time
+    wrote d.seen d.may_leave d.moment d.left_since room rs r c.args.end c.args.body.now old added at_rest within only c.write_at.new.self (g.met.D.Disk.only_now old) c.write_at.ensures.crash
+    c.write_at.ensures.time
 
 pub returns-in_err-sync-clause-any_moment : goal.returns-in_err-sync-clause-any_moment
 returns-in_err-sync-clause-any_moment g c room rs r within added at_rest only =
     let d = g.D.Disk in
     let old = c.args.disk.now in
-    let one = wrote d.seen d.may_leave d.moment d.left_since room rs r c.args.end c.args.body.now old added at_rest within only c.write_at.new.self (g.met.D.Disk.only_now old) c.write_at.ensures.crash c.write_at.ensures.time in
-    synced d.seen d.may_leave d.moment d.left_since room rs r c.args.end c.args.body.now old added at_rest within only c.write_at.new.self c.sync.new.self one c.write_at.ensures.crash c.sync.ensures.crash c.sync.ensures.time
+    let one = wrote d.seen d.may_leave d.moment d.left_since room rs r c.args.end c.args.body.now old added at_rest within only c.write_at.new.self (g.met.D.Disk.only_now old) c.write_at.ensures.crash
+    c.write_at.ensures.time in
+    synced d.seen d.may_leave d.moment d.left_since room rs r c.args.end c.args.body.now old added at_rest within only c.write_at.new.self c.sync.new.self one c.write_at.ensures.crash
+    c.sync.ensures.crash c.sync.ensures.time
 
 pub returns-in_err-write_at-2-clause-any_moment : goal.returns-in_err-write_at-2-clause-any_moment
 returns-in_err-write_at-2-clause-any_moment g c room rs r within added at_rest only =
     let d = g.D.Disk in
     let old = c.args.disk.now in
-    let one = wrote d.seen d.may_leave d.moment d.left_since room rs r c.args.end c.args.body.now old added at_rest within only c.write_at.new.self (g.met.D.Disk.only_now old) c.write_at.ensures.crash c.write_at.ensures.time in
-    let two = synced d.seen d.may_leave d.moment d.left_since room rs r c.args.end c.args.body.now old added at_rest within only c.write_at.new.self c.sync.new.self one c.write_at.ensures.crash c.sync.ensures.crash c.sync.ensures.time in
-    let behind = staged d.seen d.may_leave d.moment d.left_since room rs r c.args.end c.args.body.now old added at_rest within only c.write_at.new.self c.sync.new.self c.write_at.ensures.torn c.in_ok-write_at.ensures.written c.sync.ensures.seen in
+    let one = wrote d.seen d.may_leave d.moment d.left_since room rs r c.args.end c.args.body.now old added at_rest within only c.write_at.new.self (g.met.D.Disk.only_now old) c.write_at.ensures.crash
+    c.write_at.ensures.time in
+    let two = synced d.seen d.may_leave d.moment d.left_since room rs r c.args.end c.args.body.now old added at_rest within only c.write_at.new.self c.sync.new.self one c.write_at.ensures.crash
+    c.sync.ensures.crash c.sync.ensures.time in
+    let behind = staged d.seen d.may_leave d.moment d.left_since room rs r c.args.end c.args.body.now old added at_rest within only c.write_at.new.self c.sync.new.self c.write_at.ensures.torn
+    c.in_ok-write_at.ensures.written c.sync.ensures.seen in
     let durable = subst (λ f. Only f (d.may_leave c.sync.new.self)) (sym c.sync.ensures.seen) c.in_ok-sync.ensures.durable in
-    opened d.seen d.may_leave d.moment d.left_since room rs r c.args.end c.args.body.now old added at_rest within only c.sync.new.self c.write_at-2.new.self two behind durable c.write_at-2.ensures.crash c.write_at-2.ensures.time
+    opened d.seen d.may_leave d.moment d.left_since room rs r c.args.end c.args.body.now old added at_rest within only c.sync.new.self c.write_at-2.new.self two behind durable
+    c.write_at-2.ensures.crash c.write_at-2.ensures.time
 
 pub returns-in_err-sync-2-clause-any_moment : goal.returns-in_err-sync-2-clause-any_moment
 returns-in_err-sync-2-clause-any_moment g c room rs r within added at_rest only =
     let d = g.D.Disk in
     let old = c.args.disk.now in
-    let one = wrote d.seen d.may_leave d.moment d.left_since room rs r c.args.end c.args.body.now old added at_rest within only c.write_at.new.self (g.met.D.Disk.only_now old) c.write_at.ensures.crash c.write_at.ensures.time in
-    let two = synced d.seen d.may_leave d.moment d.left_since room rs r c.args.end c.args.body.now old added at_rest within only c.write_at.new.self c.sync.new.self one c.write_at.ensures.crash c.sync.ensures.crash c.sync.ensures.time in
-    let behind = staged d.seen d.may_leave d.moment d.left_since room rs r c.args.end c.args.body.now old added at_rest within only c.write_at.new.self c.sync.new.self c.write_at.ensures.torn c.in_ok-write_at.ensures.written c.sync.ensures.seen in
+    let one = wrote d.seen d.may_leave d.moment d.left_since room rs r c.args.end c.args.body.now old added at_rest within only c.write_at.new.self (g.met.D.Disk.only_now old) c.write_at.ensures.crash
+    c.write_at.ensures.time in
+    let two = synced d.seen d.may_leave d.moment d.left_since room rs r c.args.end c.args.body.now old added at_rest within only c.write_at.new.self c.sync.new.self one c.write_at.ensures.crash
+    c.sync.ensures.crash c.sync.ensures.time in
+    let behind = staged d.seen d.may_leave d.moment d.left_since room rs r c.args.end c.args.body.now old added at_rest within only c.write_at.new.self c.sync.new.self c.write_at.ensures.torn
+    c.in_ok-write_at.ensures.written c.sync.ensures.seen in
     let durable = subst (λ f. Only f (d.may_leave c.sync.new.self)) (sym c.sync.ensures.seen) c.in_ok-sync.ensures.durable in
-    let three = opened d.seen d.may_leave d.moment d.left_since room rs r c.args.end c.args.body.now old added at_rest within only c.sync.new.self c.write_at-2.new.self two behind durable c.write_at-2.ensures.crash c.write_at-2.ensures.time in
-    ended d.seen d.may_leave d.moment d.left_since room rs r c.args.end c.args.body.now old added at_rest within only c.sync.new.self c.write_at-2.new.self c.sync-2.new.self three behind durable c.write_at-2.ensures.crash c.sync-2.ensures.crash c.sync-2.ensures.time
+    let three = opened d.seen d.may_leave d.moment d.left_since room rs r c.args.end c.args.body.now old added at_rest within only c.sync.new.self c.write_at-2.new.self two behind durable
+    c.write_at-2.ensures.crash c.write_at-2.ensures.time in
+    ended d.seen d.may_leave d.moment d.left_since room rs r c.args.end c.args.body.now old added at_rest within only c.sync.new.self c.write_at-2.new.self c.sync-2.new.self three behind durable
+    c.write_at-2.ensures.crash c.sync-2.ensures.crash c.sync-2.ensures.time
 
 pub returns-clause-any_moment : goal.returns-clause-any_moment
 returns-clause-any_moment g c room rs r within added at_rest only =
     let d = g.D.Disk in
     let old = c.args.disk.now in
-    let one = wrote d.seen d.may_leave d.moment d.left_since room rs r c.args.end c.args.body.now old added at_rest within only c.write_at.new.self (g.met.D.Disk.only_now old) c.write_at.ensures.crash c.write_at.ensures.time in
-    let two = synced d.seen d.may_leave d.moment d.left_since room rs r c.args.end c.args.body.now old added at_rest within only c.write_at.new.self c.sync.new.self one c.write_at.ensures.crash c.sync.ensures.crash c.sync.ensures.time in
-    let behind = staged d.seen d.may_leave d.moment d.left_since room rs r c.args.end c.args.body.now old added at_rest within only c.write_at.new.self c.sync.new.self c.write_at.ensures.torn c.in_ok-write_at.ensures.written c.sync.ensures.seen in
+    let one = wrote d.seen d.may_leave d.moment d.left_since room rs r c.args.end c.args.body.now old added at_rest within only c.write_at.new.self (g.met.D.Disk.only_now old) c.write_at.ensures.crash
+    c.write_at.ensures.time in
+    let two = synced d.seen d.may_leave d.moment d.left_since room rs r c.args.end c.args.body.now old added at_rest within only c.write_at.new.self c.sync.new.self one c.write_at.ensures.crash
+    c.sync.ensures.crash c.sync.ensures.time in
+    let behind = staged d.seen d.may_leave d.moment d.left_since room rs r c.args.end c.args.body.now old added at_rest within only c.write_at.new.self c.sync.new.self c.write_at.ensures.torn
+    c.in_ok-write_at.ensures.written c.sync.ensures.seen in
     let durable = subst (λ f. Only f (d.may_leave c.sync.new.self)) (sym c.sync.ensures.seen) c.in_ok-sync.ensures.durable in
-    let three = opened d.seen d.may_leave d.moment d.left_since room rs r c.args.end c.args.body.now old added at_rest within only c.sync.new.self c.write_at-2.new.self two behind durable c.write_at-2.ensures.crash c.write_at-2.ensures.time in
-    ended d.seen d.may_leave d.moment d.left_since room rs r c.args.end c.args.body.now old added at_rest within only c.sync.new.self c.write_at-2.new.self c.sync-2.new.self three behind durable c.write_at-2.ensures.crash c.sync-2.ensures.crash c.sync-2.ensures.time
+    let three = opened d.seen d.may_leave d.moment d.left_since room rs r c.args.end c.args.body.now old added at_rest within only c.sync.new.self c.write_at-2.new.self two behind durable
+    c.write_at-2.ensures.crash c.write_at-2.ensures.time in
+    ended d.seen d.may_leave d.moment d.left_since room rs r c.args.end c.args.body.now old added at_rest within only c.sync.new.self c.write_at-2.new.self c.sync-2.new.self three behind durable
+    c.write_at-2.ensures.crash c.sync-2.ensures.crash c.sync-2.ensures.time
 
 pub returns-clause-added : goal.returns-clause-added
 returns-clause-added g c room rs r within added at_rest only =
     let d = g.D.Disk in
     let old = c.args.disk.now in
-    let behind = staged d.seen d.may_leave d.moment d.left_since room rs r c.args.end c.args.body.now old added at_rest within only c.write_at.new.self c.sync.new.self c.write_at.ensures.torn c.in_ok-write_at.ensures.written c.sync.ensures.seen in (
-      rests d.seen d.may_leave d.moment d.left_since room rs r c.args.end c.args.body.now old added at_rest within only c.sync.new.self c.write_at-2.new.self c.sync-2.new.self behind c.write_at-2.ensures.torn c.in_ok-write_at-2.ensures.written c.sync-2.ensures.seen,
+    let behind = staged d.seen d.may_leave d.moment d.left_since room rs r c.args.end c.args.body.now old added at_rest within only c.write_at.new.self c.sync.new.self c.write_at.ensures.torn
+    c.in_ok-write_at.ensures.written c.sync.ensures.seen in (
+      rests d.seen d.may_leave d.moment d.left_since room rs r c.args.end c.args.body.now old added at_rest within only c.sync.new.self c.write_at-2.new.self c.sync-2.new.self behind
+          c.write_at-2.ensures.torn c.in_ok-write_at-2.ensures.written c.sync-2.ensures.seen,
       λ image left. c.in_ok-sync-2.ensures.durable image left ∙ sym c.sync-2.ensures.seen,
     )
 

@@ -17,5 +17,6 @@ loop-filled-preserved g c =
       front = filled_part (d.seen c.args.disk.now) l.buf c.read_at.new.buf _ l.filled c.in_ok-n.n i.front i.within read;
       faults = c.in_ok-n.ensures.no_fault ∙ i.faults;
       calls = record { made = omega (arith, both.made, some); written = both.written; promise = both.promise };
-      quiet = quieter d.seen d.may_leave d.moment d.left_since d.faults d.capacity _ l.disk c.read_at.new.self i.quiet c.read_at.ensures.seen c.read_at.ensures.crash c.read_at.ensures.time c.read_at.ensures.cause.later c.read_at.ensures.capacity;
+      quiet = quieter d.seen d.may_leave d.moment d.left_since d.faults d.capacity _ l.disk c.read_at.new.self i.quiet c.read_at.ensures.seen c.read_at.ensures.crash c.read_at.ensures.time
+          c.read_at.ensures.cause.later c.read_at.ensures.capacity;
     }

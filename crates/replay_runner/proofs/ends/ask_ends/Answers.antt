@@ -15,16 +15,19 @@ loop-session-preserved g c =
     record {
       store = e.store ∙ i.store;
       names = e.names ∙ i.names;
-      log = λ told t. one_told end_of c.args.holders.now l.session-index _ c.loop-session-test.true _ _ refl l.engine.store c.ask.new.engine.store l.engine.events c.ask.new.engine.events e.store e.events
+      log = λ told t. one_told end_of c.args.holders.now l.session-index _ c.loop-session-test.true _ _ refl l.engine.store c.ask.new.engine.store l.engine.events c.ask.new.engine.events e.store
+          e.events
           (g.L.Log.tells l.log) (g.L.Log.tells c.ask.new.log) l.engine.names c.args.engine.now.names _ i.names e.log (i.log told t);
-      events = one_after end_of c.args.holders.now l.session-index _ c.loop-session-test.true _ _ refl l.engine.store c.ask.new.engine.store l.engine.events c.ask.new.engine.events e.store e.events ∙ i.events;
+      events = one_after end_of c.args.holders.now l.session-index _ c.loop-session-test.true _ _ refl l.engine.store c.ask.new.engine.store l.engine.events c.ask.new.engine.events e.store e.events
+          ∙ i.events;
     }
 
 pub returns-clause-log : goal.returns-clause-log
 returns-clause-log g c = λ told t.
     let holders = c.args.holders.now in
     let end : length holders ≤ c.loop-session.session-index = omega (arith, c.loop-session-test.false) in
-    all_told (g.L.Log.tells c.loop-session.log c.args.engine.now.names) c.loop-session.engine.store c.loop-session.engine.events (map end_of (drop c.loop-session.session-index holders)) _ (ap (map end_of) (drop_all c.loop-session.session-index holders end))
+    all_told (g.L.Log.tells c.loop-session.log c.args.engine.now.names) c.loop-session.engine.store c.loop-session.engine.events (map end_of (drop c.loop-session.session-index holders)) _
+    (ap (map end_of) (drop_all c.loop-session.session-index holders end))
     (c.loop-session.invariant.log told t)
 
 pub returns-clause-events : goal.returns-clause-events

@@ -22,14 +22,16 @@ loop-line-preserved g c =
       names = e.names ∙ i.names;
       log = λ told t. one_told request_of c.args.lines.now l.line-index _ c.loop-line-test.true _ _ refl l.engine.store c.ask.new.engine.store l.engine.events c.ask.new.engine.events e.store e.events
           (g.L.Log.tells l.log) (g.L.Log.tells c.ask.new.log) l.engine.names c.args.engine.now.names _ i.names e.log (i.log told t);
-      events = one_after request_of c.args.lines.now l.line-index _ c.loop-line-test.true _ _ refl l.engine.store c.ask.new.engine.store l.engine.events c.ask.new.engine.events e.store e.events ∙ i.events;
+      events = one_after request_of c.args.lines.now l.line-index _ c.loop-line-test.true _ _ refl l.engine.store c.ask.new.engine.store l.engine.events c.ask.new.engine.events e.store e.events
+          ∙ i.events;
     }
 
 pub returns-clause-log : goal.returns-clause-log
 returns-clause-log g c = λ told t.
     let lines = c.args.lines.now in
     let end : length lines ≤ c.loop-line.line-index = omega (arith, c.loop-line-test.false) in
-    all_told (g.L.Log.tells c.loop-line.log c.args.engine.now.names) c.loop-line.engine.store c.loop-line.engine.events (requests_of (drop c.loop-line.line-index lines)) _ (ap requests_of (drop_all c.loop-line.line-index lines end))
+    all_told (g.L.Log.tells c.loop-line.log c.args.engine.now.names) c.loop-line.engine.store c.loop-line.engine.events (requests_of (drop c.loop-line.line-index lines)) _
+    (ap requests_of (drop_all c.loop-line.line-index lines end))
     (c.loop-line.invariant.log told t)
 
 pub returns-clause-events : goal.returns-clause-events

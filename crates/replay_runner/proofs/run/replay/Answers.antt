@@ -24,6 +24,7 @@ returns-clause-log g c =
     (λ _ ended told t.
     let asked = told ++ log_of X H (requests_of c.args.lines.now) in
     let m : Tells mid names asked = c.in_ok-ask_lines.ensures.log told t in
-    let n : Tells new names (asked ++ log_of Y G (ends_of G)) = subst (λ (b : NameBook). Tells new b (asked ++ log_of Y G (ends_of G))) same (ended asked (subst (λ (b : NameBook). Tells mid b asked) (sym same) m)) in
+    let n : Tells new names (asked ++ log_of Y G (ends_of G)) = subst (λ (b : NameBook). Tells new b (asked ++ log_of Y G (ends_of G))) same
+    (ended asked (subst (λ (b : NameBook). Tells mid b asked) (sym same) m)) in
     subst (λ (answers : List Answered). Tells new names answers)
     (replay_log X Y H G c.args.lines.now told asked (asked ++ log_of Y G (ends_of G)) c.in_ok-ask_lines.ensures.store c.in_ok-ask_lines.ensures.events refl refl) n) c.end_sessions.ensures.log

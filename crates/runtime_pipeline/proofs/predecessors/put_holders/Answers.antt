@@ -26,7 +26,11 @@ loop-hold-preserved c =
     let Next = λ (s : Bool) (b : Shown Txn Txn). IsPutting p c.args.t hs (drop (i + 1) hs) (i + 1) s c.args.lists.now b in
     let next : (s s' : Bool) (b b' : Shown Txn Txn) → s' ≡ s → b' ≡ b → Next s b → Next s' b' = λ s s' b b' e l h. subst (λ (s : Bool). Next s b') (sym e) (subst (Next s) (sym l) h) in
     elim c.if-is_in_the_way.branch [
-      | then-is_in_the_way w ↦ next _ _ _ _ w.some-is w.lists-is (putting_in p c.args.t hs c.args.lists.now c.loop-hold.lists w.put_by_number.new.self i d c.loop-hold.some c.loop-hold-test.true c.loop-hold.invariant (sym c.is_in_the_way.ensures ∙ w.if-is_in_the_way.true)
-          (λ v. w.put_by_number.ensures.values v ∙ edited f (λ (l : List Txn). put_by number_of (get_or hs i d).txn l) c.args.t v _ refl) (one_more _ _ w.put_by_number.result w.put_by_number.ensures.spare))
-      | else-is_in_the_way w ↦ next _ _ _ _ w.some-is w.lists-is (putting_none p c.args.t hs c.args.lists.now c.loop-hold.lists i d c.loop-hold.some c.loop-hold-test.true c.loop-hold.invariant (sym c.is_in_the_way.ensures ∙ w.if-is_in_the_way.false))
+      | then-is_in_the_way w ↦ next _ _ _ _ w.some-is w.lists-is
+          (putting_in p c.args.t hs c.args.lists.now c.loop-hold.lists w.put_by_number.new.self i d c.loop-hold.some c.loop-hold-test.true c.loop-hold.invariant
+          (sym c.is_in_the_way.ensures ∙ w.if-is_in_the_way.true)
+          (λ v. w.put_by_number.ensures.values v ∙ edited f (λ (l : List Txn). put_by number_of (get_or hs i d).txn l) c.args.t v _ refl)
+          (one_more _ _ w.put_by_number.result w.put_by_number.ensures.spare))
+      | else-is_in_the_way w ↦ next _ _ _ _ w.some-is w.lists-is (putting_none p c.args.t hs c.args.lists.now c.loop-hold.lists i d c.loop-hold.some c.loop-hold-test.true c.loop-hold.invariant
+          (sym c.is_in_the_way.ensures ∙ w.if-is_in_the_way.false))
     ]

@@ -14,6 +14,7 @@ returns-clause-behind c =
     let behind = c.args.behind.now.items in
     let lists = λ (v : Txn). values_of txn_cmp c.args.lists.now.entries v in (
     λ v n. c.clear_txn.ensures.values v
-    ∙ ap (λ (us : List Txn). cond (eqb t.0 v.0) [] us) (c.take_out.ensures.values v ∙ ap (λ (us : List Txn). cond (has v us) (without t.0 (lists v)) (lists v)) c.deref.ensures.value ∙ taken_out t behind lists c.requires.behind v)
+    ∙ ap (λ (us : List Txn). cond (eqb t.0 v.0) [] us) (c.take_out.ensures.values v ∙ ap (λ (us : List Txn). cond (has v us) (without t.0 (lists v)) (lists v)) c.deref.ensures.value
+    ∙ taken_out t behind lists c.requires.behind v)
     ∙ finished t behind lists c.requires.behind c.retain.new.self.items (filter_same _ (λ (u : Txn). not (eqb u.0 t.0)) _ (λ x b q called. search rules) _ _ c.retain.ensures.filtered) v n
     )

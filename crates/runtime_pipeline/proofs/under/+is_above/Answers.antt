@@ -14,7 +14,8 @@ pub returns-in-Some : goal.returns-in-Some
 returns-in-Some t c =
     let parent = ap (λ (r : NodeRow). r.parent) (sym c.row.ensures) in
     let next : c.args.parents ≡ c.args.parents - 1 + 1 = omega arith in
-    c.is_above.ensures ∙ sym (climb_up c.args.tree.now.rows c.args.node.0 c.args.parents (c.args.parents - 1) c.args.lower.0 c.in-Some.parent.0 (sym c.eq.ensures ∙ c.if-eq.false) (parent ∙ ap parent_number c.in-Some.is) next)
+    c.is_above.ensures ∙ sym (climb_up c.args.tree.now.rows c.args.node.0 c.args.parents (c.args.parents - 1) c.args.lower.0 c.in-Some.parent.0 (sym c.eq.ensures ∙ c.if-eq.false)
+    (parent ∙ ap parent_number c.in-Some.is) next)
 
 pub returns-in-None : goal.returns-in-None
 returns-in-None t c =

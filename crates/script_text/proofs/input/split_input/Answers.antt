@@ -9,7 +9,8 @@ returns-then-is_separator c =
 
 pub returns-then-len-rest : goal.returns-then-len-rest
 returns-then-len-rest c =
-    turn_none c.args.bytes.now c.after-rest.result.now c.loop-at.at c.line_len-len.result c.loop-at.invariant.rest c.after-rest.ensures c.line_len-len.ensures.end (omega arith) (sym c.is_separator.ensures ∙ c.if-is_separator.false)
+    turn_none c.args.bytes.now c.after-rest.result.now c.loop-at.at c.line_len-len.result c.loop-at.invariant.rest c.after-rest.ensures c.line_len-len.ensures.end (omega arith)
+    (sym c.is_separator.ensures ∙ c.if-is_separator.false)
 
 pub loop-at-preserved : goal.loop-at-preserved
 loop-at-preserved c = record {

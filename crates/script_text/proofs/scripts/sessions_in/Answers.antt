@@ -13,7 +13,8 @@ no_list c =
 pub loop-number-preserved : goal.loop-number-preserved
 loop-number-preserved c = elim c.if-not-is_empty.branch [
   | then-not-is_empty+in_ok-push w ↦
-      sessions_more (lists_in c.args.lists.now) _ _ c.loop-number.number false (no_list c ∙ w.if-not-is_empty.true) c.loop-number.invariant (ap (λ s. s.items) w.sessions-is ∙ w.in_ok-push.ensures.items)
+      sessions_more (lists_in c.args.lists.now) _ _ c.loop-number.number false (no_list c ∙ w.if-not-is_empty.true) c.loop-number.invariant
+      (ap (λ s. s.items) w.sessions-is ∙ w.in_ok-push.ensures.items)
   | else-not-is_empty w ↦
       sessions_more (lists_in c.args.lists.now) _ _ c.loop-number.number true (no_list c ∙ w.if-not-is_empty.false) c.loop-number.invariant (ap (λ s. s.items) w.sessions-is)
 ]

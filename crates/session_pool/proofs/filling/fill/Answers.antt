@@ -33,7 +33,8 @@ push_as-requires-clause-rule g c =
     let ws = c.loop-next.waiting in
     let us = c.pop_front.new.self in
     let less : deque_len ws ≡ deque_len us + 1 = (let z = c.in-Some.ensures.len in omega arith) in
-    let s = fill_step ns number_at (IsUnused g.J.Roster.hall) (deque_len ws) (deque_len us) ws.items us.items c.in-Some.next less inv.few inv.left (c.pop_front.ensures.items ∙ ap (λ o. option_to_list o ++ us.items) c.in-Some.is) inv.fits in
+    let s = fill_step ns number_at (IsUnused g.J.Roster.hall) (deque_len ws) (deque_len us) ws.items us.items c.in-Some.next less inv.few inv.left
+    (c.pop_front.ensures.items ∙ ap (λ o. option_to_list o ++ us.items) c.in-Some.is) inv.fits in
     let may : v.pushes ≡ true = ap (λ (u : Tally). u.pushes) inv.knows in
     let at : v.pushed ≡ length ns - deque_len ws = ap (λ (u : Tally). u.pushed) inv.knows in (
       pushes ns number_at (IsUnused g.J.Roster.hall) _ c.loop-next.token.id v c.in-Some.next may (rw at s.next) s.fit,
@@ -48,7 +49,8 @@ loop-next-preserved g c =
     let us = c.pop_front.new.self in
     let less : deque_len ws ≡ deque_len us + 1 = (let z = c.in-Some.ensures.len in omega arith) in
     let few = inv.few in
-    let s = fill_step ns number_at (IsUnused g.J.Roster.hall) (deque_len ws) (deque_len us) ws.items us.items c.in-Some.next less inv.few inv.left (c.pop_front.ensures.items ∙ ap (λ o. option_to_list o ++ us.items) c.in-Some.is) inv.fits in
+    let s = fill_step ns number_at (IsUnused g.J.Roster.hall) (deque_len ws) (deque_len us) ws.items us.items c.in-Some.next less inv.few inv.left
+    (c.pop_front.ensures.items ∙ ap (λ o. option_to_list o ++ us.items) c.in-Some.is) inv.fits in
     let pushed : view c.push_as.new.pass ≡ after_push (view c.loop-next.token) = rw c.in-Ok.is at c.push_as.ensures.rule in record {
       few = omega arith;
       token = (c.push_as.ensures.queue.0 ∙ inv.token.0, c.push_as.ensures.queue.2 ∙ inv.token.1);

@@ -15,7 +15,8 @@ fail-requires-clause-task g c =
     let h = c.args.run.now.hall.now in
     let x = c.args.run.now.scripts.now in
     let sorted = c.sort_unstable_by_key.new.self in
-    let all : All (IsTask h x) c.loop-i.tasks.items = subst (All (IsTask h x)) (sym c.loop-i.invariant.same) (All-permutation (IsTask h x) c.args.tasks.items sorted.items c.sort_unstable_by_key.ensures.permutation c.requires.tasks) in
+    let all : All (IsTask h x) c.loop-i.tasks.items = subst (All (IsTask h x)) (sym c.loop-i.invariant.same)
+    (All-permutation (IsTask h x) c.args.tasks.items sorted.items c.sort_unstable_by_key.ensures.permutation c.requires.tasks) in
     let same : length c.loop-i.tasks.items ≡ length sorted.items = ap length c.loop-i.invariant.same in
     let z = sorted.ok.0 in
     let y = c.len-i-end.ensures in
@@ -28,7 +29,8 @@ returns-clause-ok g c =
     let x = c.args.run.now.scripts.now in
     let sorted = c.sort_unstable_by_key.new.self in
     subst (AreTasks h x (numbers SESSIONS)) (sym (c.from.ensures.0 ∙ c.loop-i.invariant.same))
-    (put_in_order h x c.args.tasks.items sorted.items c.sort_unstable_by_key.ensures.permutation (IsNonDecreasingBy-from_sort_by_key number_in _ c.sort_unstable_by_key.ensures.sorted (λ a r q k. search rules)) c.requires.tasks c.requires.all)
+    (put_in_order h x c.args.tasks.items sorted.items c.sort_unstable_by_key.ensures.permutation
+    (IsNonDecreasingBy-from_sort_by_key number_in _ c.sort_unstable_by_key.ensures.sorted (λ a r q k. search rules)) c.requires.tasks c.requires.all)
 
 pub loop-i-init : goal.loop-i-init
 loop-i-init g c = record { same = refl; none = none_yet (OfTasks c.args.run.now.hall.now c.args.run.now.scripts.now c.args.tasks.items) 0 refl }
@@ -48,7 +50,9 @@ loop-i-preserved g c =
     record {
       same = inv.same;
       none = one_more (OfTasks h x us) i (i + 1) t inv.none (subst (OfTasks h x us) (sym is) (each_of h x us ts moved c.requires.tasks i t low)) c.in_default.not-Failed
-          (session_at h x us ts moved c.requires.tasks (put_in_order h x us ts moved (IsNonDecreasingBy-from_sort_by_key number_in _ c.sort_unstable_by_key.ensures.sorted (λ a r q k. search rules)) c.requires.tasks c.requires.all) i t low is) refl;
+          (session_at h x us ts moved c.requires.tasks
+          (put_in_order h x us ts moved (IsNonDecreasingBy-from_sort_by_key number_in _ c.sort_unstable_by_key.ensures.sorted (λ a r q k. search rules)) c.requires.tasks c.requires.all) i t low
+          is) refl;
     }
 
 pub returns-in-Failed-clause-first : goal.returns-in-Failed-clause-first
@@ -69,7 +73,8 @@ returns-in-Failed-clause-first g c =
     first_error (OfTasks h x us) i c.fail.result inv.none (record {
       task = t;
       is = subst (OfTasks h x us) (sym is) (each_of h x us ts moved c.requires.tasks i t low);
-      session = session_at h x us ts moved c.requires.tasks (put_in_order h x us ts moved (IsNonDecreasingBy-from_sort_by_key number_in _ c.sort_unstable_by_key.ensures.sorted (λ a r q k. search rules)) c.requires.tasks c.requires.all) i t low is;
+      session = session_at h x us ts moved c.requires.tasks
+          (put_in_order h x us ts moved (IsNonDecreasingBy-from_sort_by_key number_in _ c.sort_unstable_by_key.ensures.sorted (λ a r q k. search rules)) c.requires.tasks c.requires.all) i t low is;
       error = c.in-Failed.error;
       failed = c.in-Failed.is;
       told = c.fail.ensures.error ∙ ap (λ (q : Task g.row.C.Denot _). error_of q.pass c.in-Failed.error) taken;

@@ -44,7 +44,8 @@ loop-worker-preserved g c =
       parts = omega arith;
       pushes = ap (λ (v : Tally). v.pushes) rule ∙ inv.pushes;
       pushed = ap (λ (v : Tally). v.pushed) rule ∙ inv.pushed;
-      shared = λ weight. weight_on weight hs c.push_reserved.new.self.items w.hand (view c.loop-worker.token).taken (view w.token).taken (inv.shared weight) (ap (λ (v : Tally). v.taken) first.knows) c.push_reserved.ensures.items
+      shared = λ weight. weight_on weight hs c.push_reserved.new.self.items w.hand (view c.loop-worker.token).taken (view w.token).taken (inv.shared weight) (ap (λ (v : Tally). v.taken) first.knows)
+          c.push_reserved.ensures.items
           ∙ sym (ap (λ (v : Tally). total weight v.taken) rule);
       hands = ap (λ l. l ++ map (λ (v : Worker g.row.C.Denot _). v.hand) us.items) c.push_reserved.ensures.items
           ∙ (append_assoc hs (w.hand ∷ []) (map (λ (v : Worker g.row.C.Denot _). v.hand) us.items)

@@ -29,7 +29,8 @@ push_reserved-requires g c =
     let r = rw c.in-Some.is at c.pop_as.ensures.rule in
     let few = c.requires.suits.few in
     let less = r.2.0 in
-    let room = rest_room c.args.run.now.hall.now c.args.run.now.scripts.now c.loop-next.hand (view c.loop-next.token) c.loop-next.invariant.within (let z : length (view c.loop-next.token).taken < SESSIONS = omega arith in z) in
+    let room = rest_room c.args.run.now.hall.now c.args.run.now.scripts.now c.loop-next.hand (view c.loop-next.token) c.loop-next.invariant.within
+    (let z : length (view c.loop-next.token).taken < SESSIONS = omega arith in z) in
     let a = c.loop-next.invariant.room in
     let b = c.loop-next.hand.ok.0 in omega arith
 
@@ -38,10 +39,16 @@ loop-next-preserved g c =
     let inv = c.loop-next.invariant in
     let r = rw c.in-Some.is at c.pop_as.ensures.rule in
     let same : number_in c.begin.result ≡ number_at c.in-Some.next = ap (λ (s : Session). s.0) (c.begin.ensures.session ∙ r.1.session) in
-    let m = rest_on c.args.run.now.hall.now c.args.run.now.scripts.now c.loop-next.hand c.push_reserved.new.self (view c.loop-next.token) (view c.pop_as.new.pass) c.begin.result (number_at c.in-Some.next) (length g.J.Roster.numbers)
+    let m = rest_on c.args.run.now.hall.now c.args.run.now.scripts.now c.loop-next.hand c.push_reserved.new.self (view c.loop-next.token) (view c.pop_as.new.pass) c.begin.result
+    (number_at c.in-Some.next) (length g.J.Roster.numbers)
     inv.tasks inv.rising inv.within r.0 r.2 c.begin.ensures.task same c.push_reserved.ensures.items in record {
       token = (c.pop_as.ensures.queue.0 ∙ inv.token.0, c.pop_as.ensures.queue.2 ∙ inv.token.1);
-      whole = record { parts = ap (λ (v : Tally). v.parts) r.0 ∙ inv.whole.parts; pushes = ap (λ (v : Tally). v.pushes) r.0 ∙ inv.whole.pushes; all = ap (λ (v : Tally). v.pushed) r.0 ∙ inv.whole.all };
+      whole = record {
+        parts = ap (λ (v : Tally). v.parts) r.0 ∙ inv.whole.parts;
+        pushes = ap (λ (v : Tally). v.pushes) r.0 ∙ inv.whole.pushes;
+        all = ap (λ (v : Tally). v.pushed) r.0
+            ∙ inv.whole.all;
+      };
       tasks = m.tasks;
       rising = m.rising;
       within = m.within;

@@ -13,4 +13,5 @@ returns-then-is_empty g c =
     let z = ws.ok.0 in
     let none : deque_len ws ≡ 0 = eqb-true (deque_len ws) 0 (sym c.is_empty.ensures ∙ c.if-is_empty.true) in
     let empty : length ws.items ≡ 0 = omega arith in
-    no_hands_yet c.args.run.now.hall.now c.args.run.now.scripts.now c.args.workers (scripted c.args.run.now.scripts.now) c.empty_hands.result c.empty_hands.ensures.count c.empty_hands.ensures.empty (sym c.requires.waiting ∙ none_at ws.items empty)
+    no_hands_yet c.args.run.now.hall.now c.args.run.now.scripts.now c.args.workers (scripted c.args.run.now.scripts.now) c.empty_hands.result c.empty_hands.ensures.count c.empty_hands.ensures.empty
+    (sym c.requires.waiting ∙ none_at ws.items empty)

@@ -10,7 +10,8 @@ returns-clause-taken g c =
 
 pub returns-clause-tasks : goal.returns-clause-tasks
 returns-clause-tasks g c =
-    tasks_all (IsTask c.args.run.now.hall.now c.args.run.now.scripts.now) c.in_ok-divided.divided.idle.items c.in_ok-tasks.tasks.items c.in_ok-hands.hands.items c.in_ok-tasks.ensures c.in_ok-divided.ensures.idle c.in_ok-hands.ensures.tasks
+    tasks_all (IsTask c.args.run.now.hall.now c.args.run.now.scripts.now) c.in_ok-divided.divided.idle.items c.in_ok-tasks.tasks.items c.in_ok-hands.hands.items c.in_ok-tasks.ensures
+    c.in_ok-divided.ensures.idle c.in_ok-hands.ensures.tasks
 
 pub returns-clause-all : goal.returns-clause-all
 returns-clause-all g c = λ weight.

@@ -16,7 +16,8 @@ leave-requires-clause-adds g c =
       names = c.ask-answer.ensures.same.1;
       view = c.publish_since.ensures.view;
       tells = c.publish_since.ensures.known;
-      lasts = λ u. word_lasts (g.S.Server.store y.server).setup (g.S.Server.events x.server) (g.S.Server.events y.server) u c.history-2.ensures.lawful c.ask-answer.ensures.before c.ask-answer.ensures.length;
+      lasts = λ u. word_lasts (g.S.Server.store y.server).setup (g.S.Server.events x.server) (g.S.Server.events y.server) u c.history-2.ensures.lawful c.ask-answer.ensures.before
+          c.ask-answer.ensures.length;
     }
 
 pub returns-clause-turn : goal.returns-clause-turn
@@ -32,11 +33,13 @@ returns-clause-turn g c =
       names = c.ask-answer.ensures.same.1;
       view = c.publish_since.ensures.view;
       tells = c.publish_since.ensures.known;
-      lasts = λ u. word_lasts (g.S.Server.store y.server).setup (g.S.Server.events x.server) (g.S.Server.events y.server) u c.history-2.ensures.lawful c.ask-answer.ensures.before c.ask-answer.ensures.length;
+      lasts = λ u. word_lasts (g.S.Server.store y.server).setup (g.S.Server.events x.server) (g.S.Server.events y.server) u c.history-2.ensures.lawful c.ask-answer.ensures.before
+          c.ask-answer.ensures.length;
     } c.leave.ensures.view
 
 pub returns-clause-sees : goal.returns-clause-sees
-returns-clause-sees g c = sees c.args.seat.now.seat.me.0 c.enter-hosted.result c.ask-answer.new.self c.publish_since.new.seat.seat.me.0 c.leave.new.seat.seat.me.0 _ c.enter-hosted.ensures.follows.goes c.leave.ensures.view c.ask-answer.ensures.entries
+returns-clause-sees g c = sees c.args.seat.now.seat.me.0 c.enter-hosted.result c.ask-answer.new.self c.publish_since.new.seat.seat.me.0 c.leave.new.seat.seat.me.0 _ c.enter-hosted.ensures.follows.goes
+    c.leave.ensures.view c.ask-answer.ensures.entries
 
 pub returns-clause-waits : goal.returns-clause-waits
 returns-clause-waits g c r is =

@@ -49,4 +49,5 @@ returns-clause-told c l u p =
     let n = c.args.asked.now.register.now.node.0 in
     let t = c.args.t.0 in
     let ms = c.loop-u.marks in
-    each_all (λ (u : ℕ). Lawful S H × IsAcross S H n t t c.args.among.now u) (λ (u : ℕ). IsTold S H n ms u t) (record { 0 = 0 }) c.args.among.now c.loop-u.u-index u c.loop-u-test.false c.loop-u.invariant.told p.listed (l, p)
+    each_all (λ (u : ℕ). Lawful S H × IsAcross S H n t t c.args.among.now u) (λ (u : ℕ). IsTold S H n ms u t) (record { 0 = 0 }) c.args.among.now c.loop-u.u-index u c.loop-u-test.false
+    c.loop-u.invariant.told p.listed (l, p)

@@ -34,19 +34,23 @@ loop-access-init c =
     }
 
 pub among-requires-clause-ascending : goal.among-requires-clause-ascending
-among-requires-clause-ascending c = next_writers_ascend c.args.asked.now (reads_next c.args.asked.now c.loop-access.access-iterator c.next.new.self c.loop-access.invariant.book c.in-Some.access c.in-Some.ensures.steps c.in-Read.writers c.in-Read.is)
+among-requires-clause-ascending c = next_writers_ascend c.args.asked.now
+    (reads_next c.args.asked.now c.loop-access.access-iterator c.next.new.self c.loop-access.invariant.book c.in-Some.access c.in-Some.ensures.steps c.in-Read.writers c.in-Read.is)
 
 pub among-requires-clause-txns_here : goal.among-requires-clause-txns_here
-among-requires-clause-txns_here c = next_writers_here c.args.asked.now c.recent-recent.ensures.asked (reads_next c.args.asked.now c.loop-access.access-iterator c.next.new.self c.loop-access.invariant.book c.in-Some.access c.in-Some.ensures.steps c.in-Read.writers c.in-Read.is)
+among-requires-clause-txns_here c = next_writers_here c.args.asked.now c.recent-recent.ensures.asked
+    (reads_next c.args.asked.now c.loop-access.access-iterator c.next.new.self c.loop-access.invariant.book c.in-Some.access c.in-Some.ensures.steps c.in-Read.writers c.in-Read.is)
 
 pub mark_ahead-requires-clause-among_here : goal.mark_ahead-requires-clause-among_here
 mark_ahead-requires-clause-among_here c = subst (λ (a : Asked). AreThere a c.among.result.now) c.recent-recent.ensures.asked c.among.ensures.here
 
 pub among-requires-in-Put-clause-ascending : goal.among-requires-in-Put-clause-ascending
-among-requires-in-Put-clause-ascending c = next_readers_ascend c.args.asked.now (puts_next c.args.asked.now c.loop-access.access-iterator c.next.new.self c.loop-access.invariant.book c.in-Some.access c.in-Some.ensures.steps c.in-Put.readers c.in-Put.is)
+among-requires-in-Put-clause-ascending c = next_readers_ascend c.args.asked.now
+    (puts_next c.args.asked.now c.loop-access.access-iterator c.next.new.self c.loop-access.invariant.book c.in-Some.access c.in-Some.ensures.steps c.in-Put.readers c.in-Put.is)
 
 pub among-requires-in-Put-clause-txns_here : goal.among-requires-in-Put-clause-txns_here
-among-requires-in-Put-clause-txns_here c = next_readers_here c.args.asked.now c.recent-recent.ensures.asked (puts_next c.args.asked.now c.loop-access.access-iterator c.next.new.self c.loop-access.invariant.book c.in-Some.access c.in-Some.ensures.steps c.in-Put.readers c.in-Put.is)
+among-requires-in-Put-clause-txns_here c = next_readers_here c.args.asked.now c.recent-recent.ensures.asked
+    (puts_next c.args.asked.now c.loop-access.access-iterator c.next.new.self c.loop-access.invariant.book c.in-Some.access c.in-Some.ensures.steps c.in-Put.readers c.in-Put.is)
 
 pub mark_behind-requires-clause-among_here : goal.mark_behind-requires-clause-among_here
 mark_behind-requires-clause-among_here c = subst (λ (a : Asked). AreThere a c.among-in-Put.result.now) c.recent-recent.ensures.asked c.among-in-Put.ensures.here
@@ -72,9 +76,12 @@ loop-access-preserved-in-Read c =
     record {
       book = book_next a c.loop-access.access-iterator c.next.new.self c.loop-access.invariant.book c.in-Some.access c.in-Some.ensures.steps;
       grown = grown_then c.args.marks.now m k c.loop-access.invariant.grown grown;
-      ahead = λ q. covers_next (Ahead S H n t t) (A k) all (Reads x) left rest r.left (covers_more (Ahead S H n t t) (A m) all (A k) left (λ u y. told_still S H n m k t u grown y) (c.loop-access.invariant.ahead q))
-          (λ u y. c.mark_ahead.ensures.told q.lawful u (across_recent a t (writers_in S H n x) c.among.result.now late (writers_here a.facts.now n x a.stands.orderly) t u (listed_across S H n t q.lawful a.stands.orderly q.runs t x u y)));
-      behind = λ q. covers_next (Behind S H n t t) (B k) all (Reads x) left rest r.left (covers_more (Behind S H n t t) (B m) all (B k) left (λ u y. told_still S H n m k u t grown y) (c.loop-access.invariant.behind q)) (λ u y. absurd y);
+      ahead = λ q. covers_next (Ahead S H n t t) (A k) all (Reads x) left rest r.left
+          (covers_more (Ahead S H n t t) (A m) all (A k) left (λ u y. told_still S H n m k t u grown y) (c.loop-access.invariant.ahead q))
+          (λ u y. c.mark_ahead.ensures.told q.lawful u
+          (across_recent a t (writers_in S H n x) c.among.result.now late (writers_here a.facts.now n x a.stands.orderly) t u (listed_across S H n t q.lawful a.stands.orderly q.runs t x u y)));
+      behind = λ q. covers_next (Behind S H n t t) (B k) all (Reads x) left rest r.left
+          (covers_more (Behind S H n t t) (B m) all (B k) left (λ u y. told_still S H n m k u t grown y) (c.loop-access.invariant.behind q)) (λ u y. absurd y);
     }
 
 pub loop-access-preserved : goal.loop-access-preserved
@@ -98,8 +105,10 @@ loop-access-preserved c =
     record {
       book = book_next a c.loop-access.access-iterator c.next.new.self c.loop-access.invariant.book c.in-Some.access c.in-Some.ensures.steps;
       grown = grown_then c.args.marks.now m k c.loop-access.invariant.grown grown;
-      ahead = λ q. covers_next (Ahead S H n t t) (A k) all (Puts x) left rest r.left (covers_more (Ahead S H n t t) (A m) all (A k) left (λ u y. told_still S H n m k t u grown y) (c.loop-access.invariant.ahead q)) (λ u y. absurd y);
-      behind = λ q. covers_next (Behind S H n t t) (B k) all (Puts x) left rest r.left (covers_more (Behind S H n t t) (B m) all (B k) left (λ u y. told_still S H n m k u t grown y) (c.loop-access.invariant.behind q))
+      ahead = λ q. covers_next (Ahead S H n t t) (A k) all (Puts x) left rest r.left
+          (covers_more (Ahead S H n t t) (A m) all (A k) left (λ u y. told_still S H n m k t u grown y) (c.loop-access.invariant.ahead q)) (λ u y. absurd y);
+      behind = λ q. covers_next (Behind S H n t t) (B k) all (Puts x) left rest r.left
+          (covers_more (Behind S H n t t) (B m) all (B k) left (λ u y. told_still S H n m k u t grown y) (c.loop-access.invariant.behind q))
           (λ u y. c.mark_behind.ensures.told q.lawful u (across_recent a t (readers_in S H n x) c.among-in-Put.result.now late (readers_here a.facts.now n x a.stands.orderly) t u y));
     }
 
@@ -110,7 +119,8 @@ returns-clause-ahead c q u st p =
     let H = events_of a.facts.now in
     let n = a.register.now.node.0 in
     let t = c.args.t.0 in
-    covers_end (Ahead S H n t t) (λ (u : ℕ). IsTold S H n c.loop-access.marks t u) (accesses_of H t) c.loop-access.access-iterator.left (walk_end _ _ c.in-None.ensures.steps) (c.loop-access.invariant.ahead q) u
+    covers_end (Ahead S H n t t) (λ (u : ℕ). IsTold S H n c.loop-access.marks t u) (accesses_of H t) c.loop-access.access-iterator.left (walk_end _ _ c.in-None.ensures.steps)
+    (c.loop-access.invariant.ahead q) u
     (shared_ahead S H n t t u st p.across (record { cell = p.cell; read = p.read; put = p.put }))
 
 pub returns-clause-behind : goal.returns-clause-behind
@@ -120,5 +130,6 @@ returns-clause-behind c q u st p =
     let H = events_of a.facts.now in
     let n = a.register.now.node.0 in
     let t = c.args.t.0 in
-    covers_end (Behind S H n t t) (λ (u : ℕ). IsTold S H n c.loop-access.marks u t) (accesses_of H t) c.loop-access.access-iterator.left (walk_end _ _ c.in-None.ensures.steps) (c.loop-access.invariant.behind q) u
+    covers_end (Behind S H n t t) (λ (u : ℕ). IsTold S H n c.loop-access.marks u t) (accesses_of H t) c.loop-access.access-iterator.left (walk_end _ _ c.in-None.ensures.steps)
+    (c.loop-access.invariant.behind q) u
     (shared_behind S H n t a.stands.orderly t u (stake_stands S H t u q.lawful q.runs st) st p.across (record { cell = p.cell; read = p.read; put = p.put }))

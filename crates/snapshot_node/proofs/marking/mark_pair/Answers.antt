@@ -6,10 +6,12 @@ use Rattle.teb_history.proofs.Counting.{begun_fewer}
 use Rattle.snapshot_node.proofs.marking.mark_pair.Goals as goal
 
 pub start-requires : goal.start-requires
-start-requires c = joined_from _ (setup_of c.args.asked.now.facts.now) (events_of c.args.asked.now.facts.now) c.args.asked.now.register.now.node.0 c.args.u.0 c.args.asked.now.stands.batches c.requires.tail.typed.begun c.requires.tail.on
+start-requires c = joined_from _ (setup_of c.args.asked.now.facts.now) (events_of c.args.asked.now.facts.now) c.args.asked.now.register.now.node.0 c.args.u.0 c.args.asked.now.stands.batches
+    c.requires.tail.typed.begun c.requires.tail.on
 
 pub start-requires-2 : goal.start-requires-2
-start-requires-2 c = joined_from _ (setup_of c.args.asked.now.facts.now) (events_of c.args.asked.now.facts.now) c.args.asked.now.register.now.node.0 c.args.w.0 c.args.asked.now.stands.batches c.requires.head.typed.begun c.requires.head.on
+start-requires-2 c = joined_from _ (setup_of c.args.asked.now.facts.now) (events_of c.args.asked.now.facts.now) c.args.asked.now.register.now.node.0 c.args.w.0 c.args.asked.now.stands.batches
+    c.requires.head.typed.begun c.requires.head.on
 
 pub mark_edge-requires-clause-from : goal.mark_edge-requires-clause-from
 mark_edge-requires-clause-from c =

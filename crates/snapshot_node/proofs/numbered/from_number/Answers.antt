@@ -13,4 +13,5 @@ returns c =
     let at = c.partition_point-start.ensures in
     let p = λ (u : Txn). ltb u.0 t in
     take_all _ (drop c.partition_point-start.result us) (omega (arith, length-drop c.partition_point-start.result us))
-    ∙ part_from t us c.partition_point-start.result at.bound (IsPartitionPoint-from_clause p us c.partition_point-start.result at.partitioned (IsPartitionedBy-ltb number_of us t (numbers_rise us c.requires)) (λ a r f called. search rules))
+    ∙ part_from t us c.partition_point-start.result at.bound
+    (IsPartitionPoint-from_clause p us c.partition_point-start.result at.partitioned (IsPartitionedBy-ltb number_of us t (numbers_rise us c.requires)) (λ a r f called. search rules))

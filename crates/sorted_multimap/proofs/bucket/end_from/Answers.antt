@@ -18,7 +18,8 @@ pub returns-then-ne : goal.returns-then-ne
 returns-then-ne g c =
     let R = g.K.Ord.cmp in
     let off : is_eq (R c.index-keys-i.result c.args.key) ≡ false = search rules in
-    tied_ends R g.met.K.Ord.total c.args.keys.now c.args.key c.index-keys-i.result c.loop-i.i c.requires.ascends (search rules) off (omega (arith, c.requires.start, c.loop-i.auto.i)) c.loop-i.invariant
+    tied_ends R g.met.K.Ord.total c.args.keys.now c.args.key c.index-keys-i.result c.loop-i.i c.requires.ascends (search rules) off (omega (arith, c.requires.start, c.loop-i.auto.i))
+    c.loop-i.invariant
 
 pub returns : goal.returns
 returns g c = omega (arith, c.loop-i.invariant, c.loop-i-test.false, tops_length g.K.Ord.cmp g.met.K.Ord.total c.args.keys.now c.args.key)

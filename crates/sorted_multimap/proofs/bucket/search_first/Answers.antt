@@ -11,4 +11,5 @@ returns g c =
     let ks = c.args.keys.now in
     let at = c.partition_point.ensures in
     let p = λ (j : _). is_lt (R j c.args.key) in
-    passing_parted p ks c.partition_point.result at.bound (IsPartitionPoint-from_clause p ks c.partition_point.result at.partitioned (parted R total p (lows_fall R total c.args.key) ks c.requires) (λ a r f called. search rules))
+    passing_parted p ks c.partition_point.result at.bound (IsPartitionPoint-from_clause p ks c.partition_point.result at.partitioned (parted R total p (lows_fall R total c.args.key) ks c.requires)
+    (λ a r f called. search rules))

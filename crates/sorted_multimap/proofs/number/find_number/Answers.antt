@@ -10,7 +10,8 @@ returns-then-greatest-number g c =
     let vs = c.args.values.now in
     let n = c.args.number in
     gap_end by vs c.requires n
-    (λ d some. subst (λ v. by v < n) (sym (get_or_from_slice_get vs (length vs - 1) c.in-Some.last.now d (sym c.in-Some.ensures.value))) (omega (arith, c.number-greatest.ensures, c.if-greatest-number.true)))
+    (λ d some. subst (λ v. by v < n) (sym (get_or_from_slice_get vs (length vs - 1) c.in-Some.last.now d (sym c.in-Some.ensures.value)))
+    (omega (arith, c.number-greatest.ensures, c.if-greatest-number.true)))
 
 pub returns-then-greatest-number-2 : goal.returns-then-greatest-number-2
 returns-then-greatest-number-2 g c =

@@ -16,4 +16,5 @@ returns-then-from-len-clause-rows t c = λ a b. rw (drop_all c.args.from c.args.
 
 pub returns-clause-rows : goal.returns-clause-rows
 returns-clause-rows t c =
-    step_added c.args.profile.now c.args.from c.args.rows.now c.add_steps-behind.new.rows c.add_arrows.new.rows (numbers_of c.step-step.result.now) c.set_of.result c.add_steps-behind.result c.union-later.result (omega arith) c.step-step.ensures c.set_of.ensures c.add_steps-behind.ensures.later c.union-later.ensures c.add_steps-behind.ensures.rows c.add_arrows.ensures
+    step_added c.args.profile.now c.args.from c.args.rows.now c.add_steps-behind.new.rows c.add_arrows.new.rows (numbers_of c.step-step.result.now) c.set_of.result c.add_steps-behind.result
+    c.union-later.result (omega arith) c.step-step.ensures c.set_of.ensures c.add_steps-behind.ensures.later c.union-later.ensures c.add_steps-behind.ensures.rows c.add_arrows.ensures

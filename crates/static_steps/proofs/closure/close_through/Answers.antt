@@ -9,8 +9,10 @@ loop-row-preserved c =
     let old = c.args.rows.now in
     let rows = c.loop-row.rows in
     elim c.if-has.branch [
-      | then-has w ↦ rw w.rows-is (row_closed old rows c.loop-row.row-index c.args.through c.from.result w.union.result (omega arith) c.from.ensures c.loop-row.invariant.0 c.loop-row.invariant.1 (sym c.has.ensures ∙ w.if-has.true) w.union.ensures)
-      | else-has w ↦ rw (w.rows-is, set-get_or c.loop-row.rows c.loop-row.row-index 0) (row_kept old rows c.loop-row.row-index c.args.through c.loop-row.invariant.0 c.loop-row.invariant.1 (sym c.has.ensures ∙ w.if-has.false))
+      | then-has w ↦ rw w.rows-is (row_closed old rows c.loop-row.row-index c.args.through c.from.result w.union.result (omega arith) c.from.ensures c.loop-row.invariant.0 c.loop-row.invariant.1
+          (sym c.has.ensures ∙ w.if-has.true) w.union.ensures)
+      | else-has w ↦ rw (w.rows-is, set-get_or c.loop-row.rows c.loop-row.row-index 0)
+          (row_kept old rows c.loop-row.row-index c.args.through c.loop-row.invariant.0 c.loop-row.invariant.1 (sym c.has.ensures ∙ w.if-has.false))
     ]
 
 pub returns : goal.returns

@@ -11,4 +11,5 @@ returns c =
     let closed : c.deref.result.now ≡ c.close.new.rows = c.deref.ensures.value ∙ written_back rows.len c.close.new.rows rows.items long (omega (arith, rows.ok.0)) in
     let chains = rw closed at c.in_ok-ranks.ensures in
     rw c.new.ensures
-    (ranks_are (profiles_of c.args.profiles.now c.args.under.now) c.args.tables rows.items c.close.new.rows c.in_ok-ranks.ranks.items c.in_ok-rows.ensures.0 (long ∙ c.in_ok-rows.ensures.0) c.in_ok-rows.ensures.1 (rw c.deref_mut.ensures.value at c.close.ensures) chains.0 chains.1)
+    (ranks_are (profiles_of c.args.profiles.now c.args.under.now) c.args.tables rows.items c.close.new.rows c.in_ok-ranks.ranks.items c.in_ok-rows.ensures.0
+    (long ∙ c.in_ok-rows.ensures.0) c.in_ok-rows.ensures.1 (rw c.deref_mut.ensures.value at c.close.ensures) chains.0 chains.1)

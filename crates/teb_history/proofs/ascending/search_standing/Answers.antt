@@ -8,7 +8,8 @@ use Rattle.teb_history.proofs.ascending.search_standing.Goals as goal
 pub returns-in-Some : goal.returns-in-Some
 returns-in-Some c =
     let facts = c.binary_search_by_key.ensures in
-    searched standing_number c.args.standings.now c.requires c.args.t.0 c.binary_search_by_key.result facts.bound (facts.position standing_number (answers_always _ _ _ (λ f a r g called. search rules)))
+    searched standing_number c.args.standings.now c.requires c.args.t.0 c.binary_search_by_key.result facts.bound
+    (facts.position standing_number (answers_always _ _ _ (λ f a r g called. search rules)))
 
 pub returns-in_default : goal.returns-in_default
 returns-in_default c =

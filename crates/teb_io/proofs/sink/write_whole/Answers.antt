@@ -14,5 +14,6 @@ loop-done-preserved g c =
     record {
       later = omega (arith, c.loop-done.invariant.later, c.in-Ok.ensures.cause.later);
       within = omega (arith, bound, length-drop done bytes, c.loop-done-test.true);
-      front = appends_more _ _ _ bytes done count c.loop-done.invariant.front (subst (λ (l : List ℕ). Appends (g.K.Sink.written c.loop-done.out) (g.K.Sink.written c.write.new.self) (take count l)) rest c.in-Ok.ensures.bytes);
+      front = appends_more _ _ _ bytes done count c.loop-done.invariant.front
+          (subst (λ (l : List ℕ). Appends (g.K.Sink.written c.loop-done.out) (g.K.Sink.written c.write.new.self) (take count l)) rest c.in-Ok.ensures.bytes);
     }

@@ -28,7 +28,8 @@ begin-requires g c =
     let ps = c.loop-pass.passes in
     let qs = c.pop.new.self in
     let less : vec_len ps ≡ suc (vec_len qs) = (let z = c.in-Some.ensures.len in omega arith) in
-    (last_of c.args.run.now.hall.now ps.items qs.items c.in-Some.pass (vec_len ps) (vec_len qs) (c.pop.ensures.items ∙ ap (λ o. qs.items ++ option_to_list o) c.in-Some.is) less c.loop-pass.invariant.sessions c.loop-pass.invariant.new).last_new
+    (last_of c.args.run.now.hall.now ps.items qs.items c.in-Some.pass (vec_len ps) (vec_len qs) (c.pop.ensures.items ∙ ap (λ o. qs.items ++ option_to_list o) c.in-Some.is) less
+    c.loop-pass.invariant.sessions c.loop-pass.invariant.new).last_new
 
 pub loop-pass-preserved : goal.loop-pass-preserved
 loop-pass-preserved g c =
@@ -39,7 +40,8 @@ loop-pass-preserved g c =
     let qs = c.pop.new.self in
     let less : vec_len ps ≡ suc (vec_len qs) = (let z = c.in-Some.ensures.len in omega arith) in
     let few = c.loop-pass.invariant.few in
-    let l = last_of h ps.items qs.items c.in-Some.pass (vec_len ps) (vec_len qs) (c.pop.ensures.items ∙ ap (λ o. qs.items ++ option_to_list o) c.in-Some.is) less c.loop-pass.invariant.sessions c.loop-pass.invariant.new in record {
+    let l = last_of h ps.items qs.items c.in-Some.pass (vec_len ps) (vec_len qs) (c.pop.ensures.items ∙ ap (λ o. qs.items ++ option_to_list o) c.in-Some.is) less c.loop-pass.invariant.sessions
+    c.loop-pass.invariant.new in record {
       few = omega arith;
       sessions = l.sessions;
       new = l.new;

@@ -24,7 +24,8 @@ pub unwrap-task-requires : goal.unwrap-task-requires
 unwrap-task-requires g c =
     let inv = c.loop-passed.invariant in
     let u = c.index_mut.result.now in
-    let some_ : 0 < length u.items = gather_some c.args.run.now.hall.now c.args.run.now.scripts.now (vec_len c.args.hands) c.loop-passed.passed c.hand_of-hand.result (c.loop-passed.passed + 1) c.len.result c.loop-passed.hands.items u
+    let some_ : 0 < length u.items = gather_some c.args.run.now.hall.now c.args.run.now.scripts.now (vec_len c.args.hands) c.loop-passed.passed c.hand_of-hand.result
+    (c.loop-passed.passed + 1) c.len.result c.loop-passed.hands.items u
     c.loop-passed-test.true inv.dealt c.hand_of-hand.ensures.hand (c.len.ensures ∙ inv.count) refl c.hand_of-hand.ensures.within c.index_mut.ensures.value in
     search rules
 
@@ -32,7 +33,8 @@ pub fail-requires-clause-task : goal.fail-requires-clause-task
 fail-requires-clause-task g c =
     let inv = c.loop-passed.invariant in
     let v = c.pop.new.self in
-    (gather_step c.args.run.now.hall.now c.args.run.now.scripts.now (vec_len c.args.hands) c.loop-passed.passed c.hand_of-hand.result (c.loop-passed.passed + 1) c.len.result c.unwrap-task.result c.loop-passed.hands.items _ c.index_mut.result.now v
+    (gather_step c.args.run.now.hall.now c.args.run.now.scripts.now (vec_len c.args.hands) c.loop-passed.passed c.hand_of-hand.result (c.loop-passed.passed + 1) c.len.result c.unwrap-task.result
+    c.loop-passed.hands.items _ c.index_mut.result.now v
     c.loop-passed-test.true inv.dealt c.hand_of-hand.ensures.hand (c.len.ensures ∙ inv.count) refl c.hand_of-hand.ensures.within c.index_mut.ensures.value
     (c.pop.ensures.items ∙ ap (λ o. v.items ++ option_to_list o) c.unwrap-task.ensures) refl).task
 
@@ -52,7 +54,9 @@ loop-passed-preserved g c =
       len = c.push_back_reserved.ensures.len ∙ ap (λ (n : ℕ). n + 1) inv.len;
       room = c.push_back_reserved.ensures.capacity ∙ inv.room;
       tasks = gathered_on h x k c.loop-passed.tasks.items c.push_back_reserved.new.self.items t inv.tasks out.task out.session c.push_back_reserved.ensures.items;
-      none = one_more (OfHands h x c.args.hands.items) k (k + 1) t inv.none (out.task, lay c.args.hands.items c.loop-passed.hands.items c.hand_of-hand.result t c.index_mut.result.now v inv.out low c.index_mut.ensures.value is) c.in_default.not-Failed out.session refl;
+      none = one_more (OfHands h x c.args.hands.items) k (k + 1) t inv.none
+          (out.task, lay c.args.hands.items c.loop-passed.hands.items c.hand_of-hand.result t c.index_mut.result.now v inv.out low c.index_mut.ensures.value is) c.in_default.not-Failed out.session
+          refl;
       out = still_out c.args.hands.items c.loop-passed.hands.items c.hand_of-hand.result t c.index_mut.result.now v inv.out low c.index_mut.ensures.value is _ refl;
       count = inv.count;
       dealt = out.dealt;

@@ -7,7 +7,8 @@ use Rattle.timestamp_node.proofs.reads.forget_reads.Goals as goal
 
 pub loop-event-init : goal.loop-event-init
 loop-event-init c = record {
-  values = λ x. subst (λ (es : List Event). IsForgetting c.args.t x es (values_in cell_cmp c.args.reads.now x) (values_in cell_cmp c.args.reads.now x)) (sym (c.into_iter-event-iterator.ensures.into_iter_gives ∙ c.own_events-event-items.ensures))
+  values = λ x. subst (λ (es : List Event). IsForgetting c.args.t x es (values_in cell_cmp c.args.reads.now x) (values_in cell_cmp c.args.reads.now x))
+      (sym (c.into_iter-event-iterator.ensures.into_iter_gives ∙ c.own_events-event-items.ensures))
       (forget_none c.args.t x c.args.history.now.events (values_in cell_cmp c.args.reads.now x) (c.requires x));
   spare = refl;
 }

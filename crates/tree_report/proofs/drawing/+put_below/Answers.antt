@@ -10,10 +10,13 @@ returns-then-levels-eq0 t c = none_drawn c.args.names.now c.args.tree.now.rows c
 
 pub loop-i-preserved : goal.loop-i-preserved
 loop-i-preserved t c =
-    one_more c.args.names.now c.args.tree.now.rows (drawn c.args.names.now c.args.tree.now.rows (c.args.levels - 1)) c.args.prefix.now c.in_ok-nodes.nodes.items c.loop-i.i (take (length c.deref.result.now - c.loop-i.i) (drop c.loop-i.i c.deref.result.now)) c.in_ok-drawn.drawn.node.0 c.in_ok-drawn.drawn.stem.items c.deref-in-loop-i.result.now
-    c.loop-i.out.items c.put_branch.new.out.items c.put_below.new.out.items _ (from_on c.deref.result.now c.in_ok-nodes.nodes.items c.loop-i.i c.deref.ensures.value) c.in_ok-drawn.ensures c.deref-in-loop-i.ensures.value c.in_ok-put_below.ensures c.loop-i.invariant
+    one_more c.args.names.now c.args.tree.now.rows (drawn c.args.names.now c.args.tree.now.rows (c.args.levels - 1)) c.args.prefix.now c.in_ok-nodes.nodes.items c.loop-i.i
+    (take (length c.deref.result.now - c.loop-i.i) (drop c.loop-i.i c.deref.result.now)) c.in_ok-drawn.drawn.node.0 c.in_ok-drawn.drawn.stem.items c.deref-in-loop-i.result.now
+    c.loop-i.out.items c.put_branch.new.out.items c.put_below.new.out.items _ (from_on c.deref.result.now c.in_ok-nodes.nodes.items c.loop-i.i c.deref.ensures.value) c.in_ok-drawn.ensures
+    c.deref-in-loop-i.ensures.value c.in_ok-put_below.ensures c.loop-i.invariant
 
 pub returns : goal.returns
 returns t c =
-    all_drawn c.args.names.now c.args.tree.now.rows c.args.levels c.args.prefix.now c.args.node.0 (node_numbers c.in_ok-nodes.nodes.items) c.loop-i.i c.args.out.now.items c.loop-i.out.items (omega (arith, c.if-levels-eq0.false)) c.in_ok-nodes.ensures.nodes
+    all_drawn c.args.names.now c.args.tree.now.rows c.args.levels c.args.prefix.now c.args.node.0 (node_numbers c.in_ok-nodes.nodes.items) c.loop-i.i c.args.out.now.items c.loop-i.out.items
+    (omega (arith, c.if-levels-eq0.false)) c.in_ok-nodes.ensures.nodes
     (omega (arith, c.loop-i-test.false, length-map c.in_ok-nodes.nodes.items (λ m. m.0), c.len-i-end.ensures)) c.loop-i.invariant

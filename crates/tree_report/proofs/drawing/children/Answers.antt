@@ -16,10 +16,12 @@ loop-n-init c = record {
 
 pub loop-n-preserved : goal.loop-n-preserved
 loop-n-preserved c = record {
-  nodes = counted_more (one_child c.args.tree.now.rows c.args.node.0) c.loop-n.n [] (node_numbers c.loop-n.nodes.items) (node_numbers c.push_child.new.nodes.items) c.loop-n.invariant.nodes c.in_ok-push_child.ensures.nodes;
+  nodes = counted_more (one_child c.args.tree.now.rows c.args.node.0) c.loop-n.n [] (node_numbers c.loop-n.nodes.items) (node_numbers c.push_child.new.nodes.items) c.loop-n.invariant.nodes
+      c.in_ok-push_child.ensures.nodes;
   within = c.in_ok-push_child.ensures.within c.loop-n.invariant.within;
 }
 
 pub returns-clause-nodes : goal.returns-clause-nodes
 returns-clause-nodes c =
-    counted_all (one_child c.args.tree.now.rows c.args.node.0) c.loop-n.n _ [] (node_numbers c.loop-n.nodes.items) (omega (arith, c.loop-n-test.false, c.loop-n.auto.n-end, c.len-n-end.ensures.count)) c.loop-n.invariant.nodes
+    counted_all (one_child c.args.tree.now.rows c.args.node.0) c.loop-n.n _ [] (node_numbers c.loop-n.nodes.items) (omega (arith, c.loop-n-test.false, c.loop-n.auto.n-end, c.len-n-end.ensures.count))
+    c.loop-n.invariant.nodes

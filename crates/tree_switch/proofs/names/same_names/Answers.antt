@@ -4,11 +4,13 @@ use Rattle.tree_switch.proofs.names.same_names.Goals as goal
 
 pub returns-then-not-same_text : goal.returns-then-not-same_text
 returns-then-not-same_text c =
-    differ_at c.args.some.now c.args.other.now c.loop-i.i c.name.result.now c.name-in-loop-i.result.now c.name.ensures.name c.name-in-loop-i.ensures.name (sym c.same_text.ensures ∙ c.if-not-same_text.true)
+    differ_at c.args.some.now c.args.other.now c.loop-i.i c.name.result.now c.name-in-loop-i.result.now c.name.ensures.name c.name-in-loop-i.ensures.name
+    (sym c.same_text.ensures ∙ c.if-not-same_text.true)
 
 pub loop-i-preserved : goal.loop-i-preserved
 loop-i-preserved c =
-    same_so_far c.args.some.now c.args.other.now c.loop-i.i c.name.result.now c.name-in-loop-i.result.now c.name.ensures.name c.name-in-loop-i.ensures.name (sym c.same_text.ensures ∙ c.if-not-same_text.false) c.loop-i.invariant
+    same_so_far c.args.some.now c.args.other.now c.loop-i.i c.name.result.now c.name-in-loop-i.result.now c.name.ensures.name c.name-in-loop-i.ensures.name
+    (sym c.same_text.ensures ∙ c.if-not-same_text.false) c.loop-i.invariant
 
 pub returns : goal.returns
 returns c =

@@ -11,4 +11,5 @@ last_set xs ys x y z n e l s =
 
 pub returns-clause-past : goal.returns-clause-past
 returns-clause-past g c =
-    last_set c.args.past.now.items c.push.new.self.items c.args.next c.swap.new.x c.args.present.now c.len-last.result c.in_ok-push.ensures.items (omega (arith, c.len-last.ensures, c.push.new.self.ok.0)) c.swap.ensures.x_after
+    last_set c.args.past.now.items c.push.new.self.items c.args.next c.swap.new.x c.args.present.now c.len-last.result c.in_ok-push.ensures.items
+    (omega (arith, c.len-last.ensures, c.push.new.self.ok.0)) c.swap.ensures.x_after

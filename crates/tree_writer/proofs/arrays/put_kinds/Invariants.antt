@@ -6,4 +6,5 @@ use Rattle.tree_writer.proofs.arrays.put_kinds.Given as goal
 
 abbrev pub invariant-loop-kind : goal.invariant-loop-kind
 invariant-loop-kind l =
-    l.out.items ++ items_text l.is_first (map (λ n. quoted (name_of l.types n)) (kind_numbers (drop l.kind-index l.kinds))) ≡ l.fn.out.items ++ items_text true (map (λ n. quoted (name_of l.types n)) (kind_numbers l.kinds))
+    l.out.items ++ items_text l.is_first (map (λ n. quoted (name_of l.types n)) (kind_numbers (drop l.kind-index l.kinds))) ≡ l.fn.out.items
+    ++ items_text true (map (λ n. quoted (name_of l.types n)) (kind_numbers l.kinds))

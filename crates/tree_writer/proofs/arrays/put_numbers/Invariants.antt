@@ -6,4 +6,5 @@ use Rattle.tree_writer.proofs.arrays.put_numbers.Given as goal
 
 abbrev pub invariant-loop-table : goal.invariant-loop-table
 invariant-loop-table l =
-    l.out.items ++ items_text l.is_first (map (λ n. quoted (name_of l.names n)) (numbers_of (drop l.table-index l.tables))) ≡ l.fn.out.items ++ items_text true (map (λ n. quoted (name_of l.names n)) (numbers_of l.tables))
+    l.out.items ++ items_text l.is_first (map (λ n. quoted (name_of l.names n)) (numbers_of (drop l.table-index l.tables))) ≡ l.fn.out.items
+    ++ items_text true (map (λ n. quoted (name_of l.names n)) (numbers_of l.tables))

@@ -37,7 +37,8 @@ returns-then-accepts-clause-place g c p agrees =
       λ d. subst (λ (u : Txn). g.F.Fn.post c.args.f.now (u, tt) true) (sym (writer_of ms j m d lt)) c.if-accepts.ensures,
       λ k d above low.
           let inside : k < length ms = omega (arith, low, n) in
-          subst (λ (u : Txn). g.F.Fn.post c.args.f.now (u, tt) false) (sym (writer_of ms k (blank d) d inside)) (c.loop-end.invariant.refused k (blank d) (omega (arith, above, c.loop-end-test.true)) inside),
+          subst (λ (u : Txn). g.F.Fn.post c.args.f.now (u, tt) false) (sym (writer_of ms k (blank d) d inside))
+          (c.loop-end.invariant.refused k (blank d) (omega (arith, above, c.loop-end-test.true)) inside),
     )
 
 pub returns-clause-place : goal.returns-clause-place
@@ -46,7 +47,8 @@ returns-clause-place g c p agrees =
     let n = length-map ms version in
     last_where_is (map version ms) p (λ u b. g.F.Fn.post c.args.f.now (u, tt) b) agrees c.args.from None (λ k d above low.
     let inside : k < length ms = omega (arith, low, n) in
-    subst (λ (u : Txn). g.F.Fn.post c.args.f.now (u, tt) false) (sym (writer_of ms k (blank d) d inside)) (c.loop-end.invariant.refused k (blank d) (omega (arith, above, c.loop-end-test.false)) inside))
+    subst (λ (u : Txn). g.F.Fn.post c.args.f.now (u, tt) false) (sym (writer_of ms k (blank d) d inside))
+    (c.loop-end.invariant.refused k (blank d) (omega (arith, above, c.loop-end-test.false)) inside))
 
 pub returns-then-accepts-clause-within : goal.returns-then-accepts-clause-within
 returns-then-accepts-clause-within g c = omega (arith, c.loop-end.invariant.within, c.loop-end-test.true, length-map c.args.chain.now version)

@@ -11,7 +11,8 @@ use Rattle.version_chain.proofs.Ranges.{version_at}
 use Rattle.version_chain.proofs.sorted.place_of.Goals as goal
 
 as_versions : (ms : List Stored) (t : Txn) (r : Option ℕ)
-    → MatchOption r (AllWithin (λ (v : Stored). v.writer ≡ t → ⊥) ms 0 (length ms)) (λ i. (i < length ms) × HoldsAt (λ (v : Stored). v.writer ≡ t) ms i × AllWithin (λ (v : Stored). v.writer ≡ t → ⊥) ms 0 i)
+    → MatchOption r (AllWithin (λ (v : Stored). v.writer ≡ t → ⊥) ms 0 (length ms))
+    (λ i. (i < length ms) × HoldsAt (λ (v : Stored). v.writer ≡ t) ms i × AllWithin (λ (v : Stored). v.writer ≡ t → ⊥) ms 0 i)
     → MatchOption r ((j : ℕ) (d : Version) → j < length (map version ms) → (get_or (map version ms) j d).0 ≡ t → ⊥)
     (λ i. (i < length (map version ms)) × ((d : Version) → (get_or (map version ms) i d).0 ≡ t) × ((j : ℕ) (d : Version) → j < i → (get_or (map version ms) j d).0 ≡ t → ⊥))
 as_versions ms t r h = go r h
@@ -26,14 +27,21 @@ as_versions ms t r h = go r h
     writer j d lt = ap (λ (v : Version). v.0) (version_at ms j (blank d) d lt)
 
     go : (r : Option ℕ)
-        → MatchOption r (AllWithin (λ (v : Stored). v.writer ≡ t → ⊥) ms 0 (length ms)) (λ i. (i < length ms) × HoldsAt (λ (v : Stored). v.writer ≡ t) ms i × AllWithin (λ (v : Stored). v.writer ≡ t → ⊥) ms 0 i)
+        → MatchOption r (AllWithin (λ (v : Stored). v.writer ≡ t → ⊥) ms 0 (length ms))
+        (λ i. (i < length ms) × HoldsAt (λ (v : Stored). v.writer ≡ t) ms i × AllWithin (λ (v : Stored). v.writer ≡ t → ⊥) ms 0 i)
         → MatchOption r ((j : ℕ) (d : Version) → j < length (map version ms) → (get_or (map version ms) j d).0 ≡ t → ⊥)
         (λ i. (i < length (map version ms)) × ((d : Version) → (get_or (map version ms) i d).0 ≡ t) × ((j : ℕ) (d : Version) → j < i → (get_or (map version ms) j d).0 ≡ t → ⊥))
     go None h = λ j d lt e. let low : j < length ms = omega (arith, lt, n) in h j (blank d) (omega arith) low (sym (writer j d low) ∙ e)
-    go (Some i) h = (omega (arith, h.0, n), λ d. writer i d h.0 ∙ h.1 (blank d), λ j d lt e. let low : j < length ms = omega (arith, lt, h.0) in h.2 j (blank d) (omega arith) lt (sym (writer j d low) ∙ e))
+    go (Some i) h = (
+      omega (arith, h.0, n),
+      λ d. writer i d h.0 ∙ h.1 (blank d),
+      λ j d lt e. let low : j < length ms = omega (arith, lt, h.0) in
+          h.2 j (blank d) (omega arith) lt (sym (writer j d low) ∙ e),
+    )
 
 pub returns : goal.returns
 returns c =
     let ms = c.args.chain.now in
-    let found = IsFirst-from_position _ _ _ (λ v. v.writer ≡ c.args.t) (λ v. v.writer ≡ c.args.t → ⊥) c.position.ensures.ran (YieldsList-from_slice ms cc) (λ x q called. search rules) (λ x q called. search rules) in
+    let found = IsFirst-from_position _ _ _ (λ v. v.writer ≡ c.args.t) (λ v. v.writer ≡ c.args.t → ⊥) c.position.ensures.ran (YieldsList-from_slice ms cc) (λ x q called. search rules)
+    (λ x q called. search rules) in
     first_of_writer (map version ms) c.args.t c.position.result (as_versions ms c.args.t c.position.result found)

@@ -11,5 +11,11 @@ returns-in-len1-up-clause-steps c =
     let it = c.self.inside in
     let newest : Touch = get_or it.left.now (length it.left.now - 1) (touch.Read 0) in
     let z = touched_at it.book.now.cells newest in
-    let book = ap (λ s. s.book) c.self.view_is in
-    (book, (z, sym (ap (λ s. s.left) c.self.view_is) ∙ newest_first it.book.now.cells it.left.now (touch.Read 0) c.in-len1-up.len_at_least, subst (λ b. IsAccess b c.access.result z) book c.access.ensures))
+    let book = ap (λ s. s.book) c.self.view_is in (
+      book,
+      (
+        z,
+        sym (ap (λ s. s.left) c.self.view_is) ∙ newest_first it.book.now.cells it.left.now (touch.Read 0) c.in-len1-up.len_at_least,
+        subst (λ b. IsAccess b c.access.result z) book c.access.ensures,
+      ),
+    )

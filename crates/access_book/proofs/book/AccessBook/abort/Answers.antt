@@ -41,7 +41,8 @@ returns-clause-readers c x u =
     let zs = c.list-touches.result.now in
     let known = subst (AreKnown (length b.cells.cells)) (sym c.list-touches.ensures) (c.self.invariant.known (c.args.t.0 - 1)) in
     let shown : reads_at (place_in b.cells.cells x) zs ≡ any_reads x (list_by (map (all_touched b.cells.cells) b.touches.lists) c.args.t.0) =
-    sym (any_reads-is b.cells.cells c.self.invariant.unique x zs known) ∙ ap (λ ls. any_reads x (all_touched b.cells.cells ls)) c.list-touches.ensures ∙ ap (any_reads x) (sym (accesses_are b.cells.cells b.touches.lists c.args.t.0 c.requires.first)) in
+    sym (any_reads-is b.cells.cells c.self.invariant.unique x zs known) ∙ ap (λ ls. any_reads x (all_touched b.cells.cells ls)) c.list-touches.ensures
+    ∙ ap (any_reads x) (sym (accesses_are b.cells.cells b.touches.lists c.args.t.0 c.requires.first)) in
     ap (is_among u) (list_of-is b.cells.cells c.take_out.new.readers.lists x) ∙ c.take_out.ensures.readers (place_in b.cells.cells x) u
     ∙ (λ j. (is_among u (sym (list_of-is b.cells.cells b.readers.lists x) j) && not (shown j && eqb c.args.t.0 u)))
     ∙ ap (λ (s : Shown). (is_accessor (readers_of s) x u && not (any_reads x (touched_of s c.args.t.0) && eqb c.args.t.0 u))) c.self.view_is
@@ -52,7 +53,8 @@ returns-clause-writers c x u =
     let zs = c.list-touches.result.now in
     let known = subst (AreKnown (length b.cells.cells)) (sym c.list-touches.ensures) (c.self.invariant.known (c.args.t.0 - 1)) in
     let shown : puts_at (place_in b.cells.cells x) zs ≡ any_puts x (list_by (map (all_touched b.cells.cells) b.touches.lists) c.args.t.0) =
-    sym (any_puts-is b.cells.cells c.self.invariant.unique x zs known) ∙ ap (λ ls. any_puts x (all_touched b.cells.cells ls)) c.list-touches.ensures ∙ ap (any_puts x) (sym (accesses_are b.cells.cells b.touches.lists c.args.t.0 c.requires.first)) in
+    sym (any_puts-is b.cells.cells c.self.invariant.unique x zs known) ∙ ap (λ ls. any_puts x (all_touched b.cells.cells ls)) c.list-touches.ensures
+    ∙ ap (any_puts x) (sym (accesses_are b.cells.cells b.touches.lists c.args.t.0 c.requires.first)) in
     ap (is_among u) (list_of-is b.cells.cells c.take_out.new.writers.lists x) ∙ c.take_out.ensures.writers (place_in b.cells.cells x) u
     ∙ (λ j. (is_among u (sym (list_of-is b.cells.cells b.writers.lists x) j) && not (shown j && eqb c.args.t.0 u)))
     ∙ ap (λ (s : Shown). (is_accessor (writers_of s) x u && not (any_puts x (touched_of s c.args.t.0) && eqb c.args.t.0 u))) c.self.view_is

@@ -66,7 +66,8 @@ returns-clause-committed c x u =
     let zs = c.list-touches.result.now in
     let known = subst (AreKnown (length b.cells.cells)) (sym c.list-touches.ensures) (c.self.invariant.known (c.args.t.0 - 1)) in
     let shown : puts_at (place_in b.cells.cells x) zs ≡ any_puts x (list_by (map (all_touched b.cells.cells) b.touches.lists) c.args.t.0) =
-    sym (any_puts-is b.cells.cells c.self.invariant.unique x zs known) ∙ ap (λ ls. any_puts x (all_touched b.cells.cells ls)) c.list-touches.ensures ∙ ap (any_puts x) (sym (accesses_are b.cells.cells b.touches.lists c.args.t.0 c.requires.first)) in
+    sym (any_puts-is b.cells.cells c.self.invariant.unique x zs known) ∙ ap (λ ls. any_puts x (all_touched b.cells.cells ls)) c.list-touches.ensures
+    ∙ ap (any_puts x) (sym (accesses_are b.cells.cells b.touches.lists c.args.t.0 c.requires.first)) in
     ap (is_among u) (list_of-is b.cells.cells c.put_in.new.committed.lists x) ∙ c.put_in.ensures.lists (place_in b.cells.cells x) u
     ∙ (λ j. (is_among u (sym (list_of-is b.cells.cells b.committed.lists x) j) || (shown j && eqb c.args.t.0 u)))
     ∙ ap (λ (s : Shown). (is_accessor (committed_of s) x u || (any_puts x (touched_of s c.args.t.0) && eqb c.args.t.0 u))) c.self.view_is

@@ -11,11 +11,13 @@ begin-requires-clause-typed c =
     let H = events_of c.args.facts.now in
     let S = setup_of c.args.facts.now in
     typed_now c.args.facts.now c.in-Began.txn.0 (orderly_now S H _ c.args.e c.requires.newest.is c.requires.newest.may c.requires.stands.book.orderly)
-    (began_typed S H _ c.args.e c.requires.newest.is c.requires.newest.may c.args.self.now.here.items c.requires.stands.book.orderly c.requires.stands.here c.in-Began.txn c.in-Began.session c.in-Began.kind c.in-Began.instance c.in-Began.is)
+    (began_typed S H _ c.args.e c.requires.newest.is c.requires.newest.may c.args.self.now.here.items c.requires.stands.book.orderly c.requires.stands.here c.in-Began.txn c.in-Began.session
+    c.in-Began.kind c.in-Began.instance c.in-Began.is)
 
 pub returns-in-Began-clause-stands : goal.returns-in-Began-clause-stands
 returns-in-Began-clause-stands c = record {
-  book = rw (c.begin.ensures.node, c.begin.ensures.book) (began _ _ _ c.args.e c.requires.newest.is c.requires.newest.may c.args.self.now.book c.requires.stands.book c.in-Began.txn c.in-Began.session c.in-Began.kind c.in-Began.instance c.in-Began.is);
+  book = rw (c.begin.ensures.node, c.begin.ensures.book)
+      (began _ _ _ c.args.e c.requires.newest.is c.requires.newest.may c.args.self.now.book c.requires.stands.book c.in-Began.txn c.in-Began.session c.in-Began.kind c.in-Began.instance c.in-Began.is);
   here = rw c.begin.ensures.node (here_anew _ _ _ c.args.e c.requires.newest.is c.requires.newest.may c.args.self.now.here.items c.requires.stands.book.orderly c.requires.stands.here _
       c.in-Began.txn c.in-Began.session c.in-Began.kind c.in-Began.instance _ c.in-Began.is refl c.begin.ensures.here);
 }
@@ -23,7 +25,8 @@ returns-in-Began-clause-stands c = record {
 pub returns-then-is_here-2-clause-stands : goal.returns-then-is_here-2-clause-stands
 returns-then-is_here-2-clause-stands c =
     let t = c.in-Got.txn in
-    let told_here : is_here c.args.self.now.here.items t.0 ≡ on (setup_of c.args.facts.now) (events_of c.args.facts.now) c.args.self.now.node.0 t.0 = told_access _ _ _ c.args.e c.requires.newest.is c.requires.newest.may c.args.self.now.here.items c.requires.stands.book.orderly c.requires.stands.here t c.in-Got.cell c.in-Got.is in
+    let told_here : is_here c.args.self.now.here.items t.0 ≡ on (setup_of c.args.facts.now) (events_of c.args.facts.now) c.args.self.now.node.0 t.0 = told_access _ _ _ c.args.e c.requires.newest.is
+    c.requires.newest.may c.args.self.now.here.items c.requires.stands.book.orderly c.requires.stands.here t c.in-Got.cell c.in-Got.is in
     let on_path = sym told_here ∙ sym (c.is_here-in-Got.ensures ∙ ap (λ (l : List Bool). is_here l t.0) c.deref-in-Got.ensures.value) ∙ c.if-is_here-2.true in
     record {
       book = elim c.in-Got.is [
@@ -38,7 +41,8 @@ returns-then-is_here-2-clause-stands c =
 pub returns-else-is_here-2-clause-stands : goal.returns-else-is_here-2-clause-stands
 returns-else-is_here-2-clause-stands c =
     let t = c.in-Got.txn in
-    let told_here : is_here c.args.self.now.here.items t.0 ≡ on (setup_of c.args.facts.now) (events_of c.args.facts.now) c.args.self.now.node.0 t.0 = told_access _ _ _ c.args.e c.requires.newest.is c.requires.newest.may c.args.self.now.here.items c.requires.stands.book.orderly c.requires.stands.here t c.in-Got.cell c.in-Got.is in
+    let told_here : is_here c.args.self.now.here.items t.0 ≡ on (setup_of c.args.facts.now) (events_of c.args.facts.now) c.args.self.now.node.0 t.0 = told_access _ _ _ c.args.e c.requires.newest.is
+    c.requires.newest.may c.args.self.now.here.items c.requires.stands.book.orderly c.requires.stands.here t c.in-Got.cell c.in-Got.is in
     let off_path = sym told_here ∙ sym (c.is_here-in-Got.ensures ∙ ap (λ (l : List Bool). is_here l t.0) c.deref-in-Got.ensures.value) ∙ c.if-is_here-2.false in
     record {
       book = elim c.in-Got.is [
@@ -68,7 +72,8 @@ returns-then-is_here-clause-stands c = record {
 
 pub returns-else-is_here-clause-stands : goal.returns-else-is_here-clause-stands
 returns-else-is_here-clause-stands c =
-    let told_here : is_here c.args.self.now.here.items c.in-Done.txn.0 ≡ on (setup_of c.args.facts.now) (events_of c.args.facts.now) c.args.self.now.node.0 c.in-Done.txn.0 = told_end _ _ _ c.args.e c.requires.newest.is c.requires.newest.may c.args.self.now.here.items c.requires.stands.book.orderly c.requires.stands.here c.in-Done.txn c.in-Done.is in
+    let told_here : is_here c.args.self.now.here.items c.in-Done.txn.0 ≡ on (setup_of c.args.facts.now) (events_of c.args.facts.now) c.args.self.now.node.0 c.in-Done.txn.0 =
+    told_end _ _ _ c.args.e c.requires.newest.is c.requires.newest.may c.args.self.now.here.items c.requires.stands.book.orderly c.requires.stands.here c.in-Done.txn c.in-Done.is in
     record {
       book = finished_off _ _ _ c.args.e c.requires.newest.is c.requires.newest.may _ c.requires.stands.book c.in-Done.txn c.in-Done.is
           (sym told_here ∙ sym (c.is_here.ensures ∙ ap (λ (l : List Bool). is_here l c.in-Done.txn.0) c.deref.ensures.value) ∙ c.if-is_here.false);

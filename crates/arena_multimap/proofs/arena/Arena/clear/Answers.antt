@@ -16,5 +16,6 @@ returns-clause-segments g c j =
     let ss = c.args.self.now.segments.items in
     let lt : c.args.i < length ss = search rules in
     let is : c.index_mut.result.now ≡ segment_at ss c.args.i = read_is ss c.args.i c.index_mut.result.now lt c.index_mut.ensures.value in
-    let p = same_place ss _ c.args.self.now.debt c.args.i (record c.index_mut.result.now { len = 0 }) c.requires lt (ap (λ (r : Segment). r.start) is) (ap (λ (r : Segment). r.room) is) (omega arith) j in
+    let p = same_place ss _ c.args.self.now.debt c.args.i (record c.index_mut.result.now { len = 0 }) c.requires lt (ap (λ (r : Segment). r.start) is) (ap (λ (r : Segment). r.room) is)
+    (omega arith) j in
     p.1

@@ -17,7 +17,8 @@ returns-clause-values g c j =
     let is : c.index-segment.result.now ≡ segment_at ss i = read_is ss i c.index-segment.result.now lt c.index-segment.ensures in
     let was : list_at a i ≡ old ++ c.args.value ∷ [] = c.push.ensures.values i ∙ ap (λ (b : Bool). cond b (old ++ c.args.value ∷ []) old) (eq-eqb i i refl) in
     let same : length c.copy_within.new.self.items ≡ length a.values.items = search rules in
-    brought ss a.values.items a.debt i c.index-segment.result.now c.push.ensures.sound is c.copy_within.new.self.items c.args.at (c.start.result + c.args.at) (c.end-last.result - 1) c.args.value old was c.requires.at
+    brought ss a.values.items a.debt i c.index-segment.result.now c.push.ensures.sound is c.copy_within.new.self.items c.args.at (c.start.result + c.args.at) (c.end-last.result - 1) c.args.value old
+    was c.requires.at
     (ap (λ (p : ℕ). p + c.args.at) c.start.ensures) (ap (λ (q : ℕ). q - 1) c.end-last.ensures) same
     c.copy_within.ensures.by_index.0 c.copy_within.ensures.by_index.1 c.copy_within.ensures.by_index.2 j
     ∙ ap (λ (l : List _). cond (eqb j i) (insert old c.args.at c.args.value) l) (c.push.ensures.values j)

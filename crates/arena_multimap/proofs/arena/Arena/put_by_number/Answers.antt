@@ -26,7 +26,8 @@ returns-in-Ok-clause-values g c j =
     let by = g.V.Numbered.numbered_by in
     let L = list_at c.args.self.now c.args.i in
     c.replace.ensures.values j
-    ∙ ap (λ (l : List _). cond (eqb j c.args.i) l (list_at c.args.self.now j)) (sym (put-set by c.args.value L c.in-Ok.at (found by c.list.result.now L _ _ _ c.find_number.ensures c.list.ensures c.number.ensures ∙ c.in-Ok.is)))
+    ∙ ap (λ (l : List _). cond (eqb j c.args.i) l (list_at c.args.self.now j))
+    (sym (put-set by c.args.value L c.in-Ok.at (found by c.list.result.now L _ _ _ c.find_number.ensures c.list.ensures c.number.ensures ∙ c.in-Ok.is)))
 
 pub returns-in-Ok-clause-room : goal.returns-in-Ok-clause-room
 returns-in-Ok-clause-room g c n room = c.replace.ensures.room n (less_room room n n (omega arith) (omega arith))
@@ -36,4 +37,5 @@ returns-in-Err-clause-values g c j =
     let by = g.V.Numbered.numbered_by in
     let L = list_at c.args.self.now c.args.i in
     c.insert.ensures.values j
-    ∙ ap (λ (l : List _). cond (eqb j c.args.i) l (list_at c.args.self.now j)) (sym (put-insert by c.args.value L c.in-Err.at (found by c.list.result.now L _ _ _ c.find_number.ensures c.list.ensures c.number.ensures ∙ c.in-Err.is)))
+    ∙ ap (λ (l : List _). cond (eqb j c.args.i) l (list_at c.args.self.now j))
+    (sym (put-insert by c.args.value L c.in-Err.at (found by c.list.result.now L _ _ _ c.find_number.ensures c.list.ensures c.number.ensures ∙ c.in-Err.is)))

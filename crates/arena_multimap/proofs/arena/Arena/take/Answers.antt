@@ -25,7 +25,8 @@ returns-clause-segments g c j =
     let lt = known ss vs c.args.i c.args.at c.requires.at in
     let is : r ≡ segment_at ss c.args.i = read_is _ _ _ lt c.index_mut.ensures.value in
     let less_one : Segment = record { start = r.start; len = r.len - 1; room = r.room } in
-    let p = same_place ss (length vs) c.args.self.now.debt c.args.i less_one c.requires.sound lt (ap (λ (s : Segment). s.start) is) (ap (λ (s : Segment). s.room) is) (omega (arith, ap (λ (s : Segment). s.len) is)) j in
+    let p = same_place ss (length vs) c.args.self.now.debt c.args.i less_one c.requires.sound lt (ap (λ (s : Segment). s.start) is) (ap (λ (s : Segment). s.room) is)
+    (omega (arith, ap (λ (s : Segment). s.len) is)) j in
     p.1
 
 pub returns-clause-values : goal.returns-clause-values

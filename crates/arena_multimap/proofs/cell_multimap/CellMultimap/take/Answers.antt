@@ -12,7 +12,8 @@ take-requires-clause-at g c =
     let cells = c.self.inside.cells in
     let a = c.self.inside.lists in
     let cell = c.args.cell in
-    let here : list_at a (place_in cells.cells cell) ≡ values_in cell_cmp c.args.self.now cell = sym (shown cells a c.self.inside.spare c.self.invariant cell) ∙ ap (λ s. values_in cell_cmp s cell) c.self.view_is in
+    let here : list_at a (place_in cells.cells cell) ≡ values_in cell_cmp c.args.self.now cell = sym (shown cells a c.self.inside.spare c.self.invariant cell)
+    ∙ ap (λ s. values_in cell_cmp s cell) c.self.view_is in
     omega (arith, c.requires, ap length here, ap length (ap (list_at a) c.place-list.ensures))
 
 pub invariant_of-self : goal.invariant_of-self
@@ -21,7 +22,8 @@ invariant_of-self g c =
     let a = c.self.inside.lists in
     let a' = c.take.new.self in
     let edit = subst (λ (i : ℕ). (j : ℕ) → list_at a' j ≡ cond (eqb j i) (remove (list_at a i) c.args.i) (list_at a j)) c.place-list.ensures c.take.ensures.values in
-    kept_listed cells a c.self.inside.spare c.self.invariant a' c.args.cell (remove (list_at a (place_in cells.cells c.args.cell)) c.args.i) edit c.take.ensures.lists c.take.ensures.sound c.take.ensures.room
+    kept_listed cells a c.self.inside.spare c.self.invariant a' c.args.cell (remove (list_at a (place_in cells.cells c.args.cell)) c.args.i) edit c.take.ensures.lists c.take.ensures.sound
+    c.take.ensures.room
 
 pub returns-clause-values : goal.returns-clause-values
 returns-clause-values g c x =

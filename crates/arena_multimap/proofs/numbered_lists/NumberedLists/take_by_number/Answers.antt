@@ -47,5 +47,6 @@ returns-in_default-clause-lists g c =
     let missing = sym (c.find_number.ensures ∙ ap (λ (l : List _). place_of by l c.args.number) c.list.ensures) ∙ c.in_default.is in
     let ascends = subst (IsAscendingBy by) (sym here) c.requires in
     sym (ap (λ s. s.lists) c.self.view_is) ∙ sym (set-get_or (all_lists a) i [])
-    ∙ ap (λ (l : List _). set (all_lists a) i l) (one_of_all a i ∙ without_missing by c.args.number L c.in_default.field-0 ascends missing ∙ ap (λ (l : List _). filter (λ v. not (eqb (by v) c.args.number)) l) here)
+    ∙ ap (λ (l : List _). set (all_lists a) i l) (one_of_all a i ∙ without_missing by c.args.number L c.in_default.field-0 ascends missing
+    ∙ ap (λ (l : List _). filter (λ v. not (eqb (by v) c.args.number)) l) here)
     ∙ ap (λ s. set s.lists i (filter (λ v. not (eqb (by v) c.args.number)) (list_in c.args.self.now.lists i))) c.self.view_is

@@ -24,7 +24,8 @@ index-requires c =
     let B = c.self.inside.batches.items in
     let looked = λ (js : List Member). find (λ (m : Member). eqb m.txn.0 c.args.t.0) js in
     let found : looked J ≡ Some c.unwrap-member.result = ap looked (sym c.deref.ensures.value) ∙ sym c.find_member.ensures ∙ c.unwrap-member.ensures in
-    let within : c.unwrap-member.result.batch < length B = All-Has (λ (m : Member). m.batch < length B) c.unwrap-member.result J c.self.invariant.held.joined_within (found_Has (λ (m : Member). eqb m.txn.0 c.args.t.0) c.unwrap-member.result J found).0 in
+    let within : c.unwrap-member.result.batch < length B = All-Has (λ (m : Member). m.batch < length B) c.unwrap-member.result J c.self.invariant.held.joined_within
+    (found_Has (λ (m : Member). eqb m.txn.0 c.args.t.0) c.unwrap-member.result J found).0 in
     search (rules, within)
 
 pub returns-clause-start : goal.returns-clause-start
@@ -33,7 +34,8 @@ returns-clause-start c =
     let B = c.self.inside.batches.items in
     let looked = λ (js : List Member). find (λ (m : Member). eqb m.txn.0 c.args.t.0) js in
     let found : looked J ≡ Some c.unwrap-member.result = ap looked (sym c.deref.ensures.value) ∙ sym c.find_member.ensures ∙ c.unwrap-member.ensures in
-    let within : c.unwrap-member.result.batch < length B = All-Has (λ (m : Member). m.batch < length B) c.unwrap-member.result J c.self.invariant.held.joined_within (found_Has (λ (m : Member). eqb m.txn.0 c.args.t.0) c.unwrap-member.result J found).0 in
+    let within : c.unwrap-member.result.batch < length B = All-Has (λ (m : Member). m.batch < length B) c.unwrap-member.result J c.self.invariant.held.joined_within
+    (found_Has (λ (m : Member). eqb m.txn.0 c.args.t.0) c.unwrap-member.result J found).0 in
     let same : c.index.result.now ≡ batch_at B c.unwrap-member.result = c.index.ensures ∙ get_or_default B c.unwrap-member.result.batch c.index.result.now no_batch within in
     let row = ap (λ (b : Book). find (λ (r : Row). eqb r.txn c.args.t.0) b.rows) (sym c.self.view_is) ∙ found_shown (row_shown B) (λ (r : Row). eqb r.txn c.args.t.0) J c.unwrap-member.result found in
     λ S H n h. ap (λ (z : Batch). z.start) same ∙ ap (λ (r : Row). r.start) (row_tells c.args.self.now S H n c.args.t.0 (row_shown B c.unwrap-member.result) h row)
@@ -44,7 +46,8 @@ returns-clause-close c =
     let B = c.self.inside.batches.items in
     let looked = λ (js : List Member). find (λ (m : Member). eqb m.txn.0 c.args.t.0) js in
     let found : looked J ≡ Some c.unwrap-member.result = ap looked (sym c.deref.ensures.value) ∙ sym c.find_member.ensures ∙ c.unwrap-member.ensures in
-    let within : c.unwrap-member.result.batch < length B = All-Has (λ (m : Member). m.batch < length B) c.unwrap-member.result J c.self.invariant.held.joined_within (found_Has (λ (m : Member). eqb m.txn.0 c.args.t.0) c.unwrap-member.result J found).0 in
+    let within : c.unwrap-member.result.batch < length B = All-Has (λ (m : Member). m.batch < length B) c.unwrap-member.result J c.self.invariant.held.joined_within
+    (found_Has (λ (m : Member). eqb m.txn.0 c.args.t.0) c.unwrap-member.result J found).0 in
     let same : c.index.result.now ≡ batch_at B c.unwrap-member.result = c.index.ensures ∙ get_or_default B c.unwrap-member.result.batch c.index.result.now no_batch within in
     let row = ap (λ (b : Book). find (λ (r : Row). eqb r.txn c.args.t.0) b.rows) (sym c.self.view_is) ∙ found_shown (row_shown B) (λ (r : Row). eqb r.txn c.args.t.0) J c.unwrap-member.result found in
     λ S H n h. ap (λ (z : Batch). z.close) same ∙ ap (λ (r : Row). r.close) (row_tells c.args.self.now S H n c.args.t.0 (row_shown B c.unwrap-member.result) h row)

@@ -20,7 +20,8 @@ index_mut-requires c =
     let t = c.args.t.0 in
     let looked = λ (ms : List Member). find (λ (m : Member). eqb m.txn.0 c.args.t.0) ms in
     let found : looked R ≡ Some c.in-Some.member = sym c.take_out.ensures.member ∙ c.in-Some.is in
-    let within : c.in-Some.member.batch < length B = All-Has (λ (m : Member). m.batch < length B) c.in-Some.member R c.self.invariant.held.running_within (found_Has (λ (m : Member). eqb m.txn.0 c.args.t.0) c.in-Some.member R found).0 in
+    let within : c.in-Some.member.batch < length B = All-Has (λ (m : Member). m.batch < length B) c.in-Some.member R c.self.invariant.held.running_within
+    (found_Has (λ (m : Member). eqb m.txn.0 c.args.t.0) c.in-Some.member R found).0 in
     search (rules, within)
 
 pub invariant_of-self : goal.invariant_of-self
@@ -40,7 +41,8 @@ invariant_of-self c =
     let within : c.in-Some.member.batch < length B = All-Has (λ (m : Member). m.batch < length B) c.in-Some.member R c.self.invariant.held.running_within has in
     let there : left ≡ get_or B c.in-Some.member.batch no_batch = c.index_mut.ensures.value ∙ get_or_default B c.in-Some.member.batch left no_batch within in
     record {
-      held = subst (λ (ms : List Member). IsHeld J ms C) (sym c.take_out.ensures.items) (last_held J R B t c.self.invariant.held c.in-Some.member found none c.args.at c.index_mut.result.now c.index_mut.ensures.value);
+      held = subst (λ (ms : List Member). IsHeld J ms C) (sym c.take_out.ensures.items)
+          (last_held J R B t c.self.invariant.held c.in-Some.member found none c.args.at c.index_mut.result.now c.index_mut.ensures.value);
       settled = settled_closed J B c.in-Some.member.batch c.args.at left within there (c.self.invariant.held.unclosed c.in-Some.member has) c.self.invariant.settled;
     }
 
@@ -71,10 +73,12 @@ returns-then-not-is_any_of-clause-batches c =
     let any = λ (ms : List Member). list_any (λ (m : Member). eqb m.batch c.in-Some.member.batch) ms in
     let asked : c.is_any_of.result ≡ any (without t R) = c.is_any_of.ensures ∙ ap any (c.deref.ensures.value ∙ c.take_out.ensures.items) in
     let none : any (without t R) ≡ false = sym asked ∙ c.if-not-is_any_of.true in
-    let rows = last_rows J R B t c.self.invariant.held c.in-Some.member found none c.args.at c.index_mut.result.now c.index_mut.ensures.value ∙ ap (λ (b : Book). rows_finished b.running b.rows t c.args.at) c.self.view_is in
+    let rows = last_rows J R B t c.self.invariant.held c.in-Some.member found none c.args.at c.index_mut.result.now c.index_mut.ensures.value
+    ∙ ap (λ (b : Book). rows_finished b.running b.rows t c.args.at) c.self.view_is in
     let left : Batch = c.index_mut.result.now in
     let C : List Batch = set B c.in-Some.member.batch (record { side = left.side; start = left.start; close = Some c.args.at; admitted = left.admitted; settled = left.settled }) in
-    let running = ap (map (running_shown C)) c.take_out.ensures.items ∙ last_running J R B t c.self.invariant.held c.in-Some.member found none c.args.at c.index_mut.result.now c.index_mut.ensures.value ∙ ap (λ (b : Book). running_finished b.running t) c.self.view_is in
+    let running = ap (map (running_shown C)) c.take_out.ensures.items ∙ last_running J R B t c.self.invariant.held c.in-Some.member found none c.args.at c.index_mut.result.now
+    c.index_mut.ensures.value ∙ ap (λ (b : Book). running_finished b.running t) c.self.view_is in
     λ S P n e h m f q. batches_finished c.args.self.now _ S P n e t c.args.at h m f q rows running
 
 pub returns-else-not-is_any_of-clause-batches : goal.returns-else-not-is_any_of-clause-batches

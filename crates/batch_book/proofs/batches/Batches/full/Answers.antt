@@ -15,19 +15,24 @@ pub index-requires : goal.index-requires
 index-requires c =
     let B = c.self.inside.batches.items in
     let R = c.self.inside.running.items in
-    let found : find (λ (m : Member). eqb (batch_at B m).side c.args.side) R ≡ Some c.in-Some.first = sym (find_agree (λ (m : Member). eqb m.side c.args.side) (λ (m : Member). eqb (batch_at B m).side c.args.side) R (λ m h. ap (λ (a : ℕ). eqb a c.args.side) (c.self.invariant.held.sides m h)))
+    let found : find (λ (m : Member). eqb (batch_at B m).side c.args.side) R ≡ Some c.in-Some.first = sym
+    (find_agree (λ (m : Member). eqb m.side c.args.side) (λ (m : Member). eqb (batch_at B m).side c.args.side) R (λ m h. ap (λ (a : ℕ). eqb a c.args.side) (c.self.invariant.held.sides m h)))
     ∙ ap (λ (ms : List Member). find (λ (m : Member). eqb m.side c.args.side) ms) (sym c.deref.ensures.value) ∙ sym c.first_on.ensures ∙ c.in-Some.is in
-    let within : c.in-Some.first.batch < length B = All-Has (λ (m : Member). m.batch < length B) c.in-Some.first R c.self.invariant.held.running_within (found_Has (λ (m : Member). eqb (batch_at B m).side c.args.side) c.in-Some.first R found).0 in
+    let within : c.in-Some.first.batch < length B = All-Has (λ (m : Member). m.batch < length B) c.in-Some.first R c.self.invariant.held.running_within
+    (found_Has (λ (m : Member). eqb (batch_at B m).side c.args.side) c.in-Some.first R found).0 in
     search (rules, within)
 
 pub returns-in-Some : goal.returns-in-Some
 returns-in-Some c =
     let B = c.self.inside.batches.items in
     let R = c.self.inside.running.items in
-    let found : find (λ (m : Member). eqb (batch_at B m).side c.args.side) R ≡ Some c.in-Some.first = sym (find_agree (λ (m : Member). eqb m.side c.args.side) (λ (m : Member). eqb (batch_at B m).side c.args.side) R (λ m h. ap (λ (a : ℕ). eqb a c.args.side) (c.self.invariant.held.sides m h)))
+    let found : find (λ (m : Member). eqb (batch_at B m).side c.args.side) R ≡ Some c.in-Some.first = sym
+    (find_agree (λ (m : Member). eqb m.side c.args.side) (λ (m : Member). eqb (batch_at B m).side c.args.side) R (λ m h. ap (λ (a : ℕ). eqb a c.args.side) (c.self.invariant.held.sides m h)))
     ∙ ap (λ (ms : List Member). find (λ (m : Member). eqb m.side c.args.side) ms) (sym c.deref.ensures.value) ∙ sym c.first_on.ensures ∙ c.in-Some.is in
-    let within : c.in-Some.first.batch < length B = All-Has (λ (m : Member). m.batch < length B) c.in-Some.first R c.self.invariant.held.running_within (found_Has (λ (m : Member). eqb (batch_at B m).side c.args.side) c.in-Some.first R found).0 in
-    let same : c.index.result.now.admitted ≡ (batch_at B c.in-Some.first).admitted = ap (λ (z : Batch). z.admitted) (c.index.ensures ∙ get_or_default B c.in-Some.first.batch c.index.result.now no_batch within) in
+    let within : c.in-Some.first.batch < length B = All-Has (λ (m : Member). m.batch < length B) c.in-Some.first R c.self.invariant.held.running_within
+    (found_Has (λ (m : Member). eqb (batch_at B m).side c.args.side) c.in-Some.first R found).0 in
+    let same : c.index.result.now.admitted ≡ (batch_at B c.in-Some.first).admitted = ap (λ (z : Batch). z.admitted)
+    (c.index.ensures ∙ get_or_default B c.in-Some.first.batch c.index.result.now no_batch within) in
     let shown = ap (λ (b : Book). full_on b.size c.args.side b.running) (sym c.self.view_is) in
     let enough : c.self.inside.size ≤ (batch_at B c.in-Some.first).admitted = omega arith in
     let full = found_full B c.args.side R c.in-Some.first c.self.inside.size found ∙ ap (λ (b : Bool). cond b (Some c.in-Some.first.txn.0) None) (le-leb _ _ enough) in
@@ -37,10 +42,13 @@ pub returns-in_default : goal.returns-in_default
 returns-in_default c =
     let B = c.self.inside.batches.items in
     let R = c.self.inside.running.items in
-    let found : find (λ (m : Member). eqb (batch_at B m).side c.args.side) R ≡ Some c.in-Some.first = sym (find_agree (λ (m : Member). eqb m.side c.args.side) (λ (m : Member). eqb (batch_at B m).side c.args.side) R (λ m h. ap (λ (a : ℕ). eqb a c.args.side) (c.self.invariant.held.sides m h)))
+    let found : find (λ (m : Member). eqb (batch_at B m).side c.args.side) R ≡ Some c.in-Some.first = sym
+    (find_agree (λ (m : Member). eqb m.side c.args.side) (λ (m : Member). eqb (batch_at B m).side c.args.side) R (λ m h. ap (λ (a : ℕ). eqb a c.args.side) (c.self.invariant.held.sides m h)))
     ∙ ap (λ (ms : List Member). find (λ (m : Member). eqb m.side c.args.side) ms) (sym c.deref.ensures.value) ∙ sym c.first_on.ensures ∙ c.in-Some.is in
-    let within : c.in-Some.first.batch < length B = All-Has (λ (m : Member). m.batch < length B) c.in-Some.first R c.self.invariant.held.running_within (found_Has (λ (m : Member). eqb (batch_at B m).side c.args.side) c.in-Some.first R found).0 in
-    let same : c.index.result.now.admitted ≡ (batch_at B c.in-Some.first).admitted = ap (λ (z : Batch). z.admitted) (c.index.ensures ∙ get_or_default B c.in-Some.first.batch c.index.result.now no_batch within) in
+    let within : c.in-Some.first.batch < length B = All-Has (λ (m : Member). m.batch < length B) c.in-Some.first R c.self.invariant.held.running_within
+    (found_Has (λ (m : Member). eqb (batch_at B m).side c.args.side) c.in-Some.first R found).0 in
+    let same : c.index.result.now.admitted ≡ (batch_at B c.in-Some.first).admitted = ap (λ (z : Batch). z.admitted)
+    (c.index.ensures ∙ get_or_default B c.in-Some.first.batch c.index.result.now no_batch within) in
     let shown = ap (λ (b : Book). full_on b.size c.args.side b.running) (sym c.self.view_is) in
     let few : (batch_at B c.in-Some.first).admitted < c.self.inside.size = omega arith in
     let full = found_full B c.args.side R c.in-Some.first c.self.inside.size found ∙ ap (λ (b : Bool). cond b (Some c.in-Some.first.txn.0) None) (lt-leb _ _ few) in
@@ -50,7 +58,8 @@ pub returns-in_default-2 : goal.returns-in_default-2
 returns-in_default-2 c =
     let B = c.self.inside.batches.items in
     let R = c.self.inside.running.items in
-    let found : find (λ (m : Member). eqb (batch_at B m).side c.args.side) R ≡ None = sym (find_agree (λ (m : Member). eqb m.side c.args.side) (λ (m : Member). eqb (batch_at B m).side c.args.side) R (λ m h. ap (λ (a : ℕ). eqb a c.args.side) (c.self.invariant.held.sides m h)))
+    let found : find (λ (m : Member). eqb (batch_at B m).side c.args.side) R ≡ None = sym
+    (find_agree (λ (m : Member). eqb m.side c.args.side) (λ (m : Member). eqb (batch_at B m).side c.args.side) R (λ m h. ap (λ (a : ℕ). eqb a c.args.side) (c.self.invariant.held.sides m h)))
     ∙ ap (λ (ms : List Member). find (λ (m : Member). eqb m.side c.args.side) ms) (sym c.deref.ensures.value) ∙ sym c.first_on.ensures ∙ c.in_default.is in
     let shown = ap (λ (b : Book). full_on b.size c.args.side b.running) (sym c.self.view_is) in
     let full = unfound_full B c.args.side R c.self.inside.size found in

@@ -27,7 +27,8 @@ index-requires c =
     let B = c.self.inside.batches.items in
     let looked = λ (js : List Member). find (λ (m : Member). eqb m.txn.0 c.args.t.0) js in
     let found : looked J ≡ Some c.unwrap-member.result = ap looked (sym c.deref.ensures.value) ∙ sym c.find_member.ensures ∙ c.unwrap-member.ensures in
-    let within : c.unwrap-member.result.batch < length B = All-Has (λ (m : Member). m.batch < length B) c.unwrap-member.result J c.self.invariant.held.joined_within (found_Has (λ (m : Member). eqb m.txn.0 c.args.t.0) c.unwrap-member.result J found).0 in
+    let within : c.unwrap-member.result.batch < length B = All-Has (λ (m : Member). m.batch < length B) c.unwrap-member.result J c.self.invariant.held.joined_within
+    (found_Has (λ (m : Member). eqb m.txn.0 c.args.t.0) c.unwrap-member.result J found).0 in
     search (rules, within)
 
 pub index-requires-2 : goal.index-requires-2
@@ -36,7 +37,8 @@ index-requires-2 c =
     let B = c.self.inside.batches.items in
     let looked = λ (js : List Member). find (λ (m : Member). eqb m.txn.0 c.args.t.0) js in
     let found : looked J ≡ Some c.unwrap-member.result = ap looked (sym c.deref.ensures.value) ∙ sym c.find_member.ensures ∙ c.unwrap-member.ensures in
-    let within : c.unwrap-member.result.batch < length B = All-Has (λ (m : Member). m.batch < length B) c.unwrap-member.result J c.self.invariant.held.joined_within (found_Has (λ (m : Member). eqb m.txn.0 c.args.t.0) c.unwrap-member.result J found).0 in
+    let within : c.unwrap-member.result.batch < length B = All-Has (λ (m : Member). m.batch < length B) c.unwrap-member.result J c.self.invariant.held.joined_within
+    (found_Has (λ (m : Member). eqb m.txn.0 c.args.t.0) c.unwrap-member.result J found).0 in
     let same : c.index.result.now ≡ batch_at B c.unwrap-member.result = c.index.ensures ∙ get_or_default B c.unwrap-member.result.batch c.index.result.now no_batch within in
     let fewer : c.index.result.now.settled < length J = subst (λ (z : Batch). z.settled < length J) (sym same) (c.self.invariant.settled.fewer c.unwrap-member.result.batch within) in
     search (rules, fewer)
@@ -47,7 +49,8 @@ returns-clause-joined c =
     let B = c.self.inside.batches.items in
     let looked = λ (js : List Member). find (λ (m : Member). eqb m.txn.0 c.args.t.0) js in
     let found : looked J ≡ Some c.unwrap-member.result = ap looked (sym c.deref.ensures.value) ∙ sym c.find_member.ensures ∙ c.unwrap-member.ensures in
-    let within : c.unwrap-member.result.batch < length B = All-Has (λ (m : Member). m.batch < length B) c.unwrap-member.result J c.self.invariant.held.joined_within (found_Has (λ (m : Member). eqb m.txn.0 c.args.t.0) c.unwrap-member.result J found).0 in
+    let within : c.unwrap-member.result.batch < length B = All-Has (λ (m : Member). m.batch < length B) c.unwrap-member.result J c.self.invariant.held.joined_within
+    (found_Has (λ (m : Member). eqb m.txn.0 c.args.t.0) c.unwrap-member.result J found).0 in
     let same : c.index.result.now ≡ batch_at B c.unwrap-member.result = c.index.ensures ∙ get_or_default B c.unwrap-member.result.batch c.index.result.now no_batch within in
     let fewer : c.index.result.now.settled < length J = subst (λ (z : Batch). z.settled < length J) (sym same) (c.self.invariant.settled.fewer c.unwrap-member.result.batch within) in
     let first : c.index-2.result.now ≡ get_or J c.index.result.now.settled no_member = c.index-2.ensures ∙ get_or_default J c.index.result.now.settled c.index-2.result.now no_member fewer in
@@ -61,11 +64,13 @@ returns-clause-closed c =
     let B = c.self.inside.batches.items in
     let looked = λ (js : List Member). find (λ (m : Member). eqb m.txn.0 c.args.t.0) js in
     let found : looked J ≡ Some c.unwrap-member.result = ap looked (sym c.deref.ensures.value) ∙ sym c.find_member.ensures ∙ c.unwrap-member.ensures in
-    let within : c.unwrap-member.result.batch < length B = All-Has (λ (m : Member). m.batch < length B) c.unwrap-member.result J c.self.invariant.held.joined_within (found_Has (λ (m : Member). eqb m.txn.0 c.args.t.0) c.unwrap-member.result J found).0 in
+    let within : c.unwrap-member.result.batch < length B = All-Has (λ (m : Member). m.batch < length B) c.unwrap-member.result J c.self.invariant.held.joined_within
+    (found_Has (λ (m : Member). eqb m.txn.0 c.args.t.0) c.unwrap-member.result J found).0 in
     let same : c.index.result.now ≡ batch_at B c.unwrap-member.result = c.index.ensures ∙ get_or_default B c.unwrap-member.result.batch c.index.result.now no_batch within in
     let fewer : c.index.result.now.settled < length J = subst (λ (z : Batch). z.settled < length J) (sym same) (c.self.invariant.settled.fewer c.unwrap-member.result.batch within) in
     let first : c.index-2.result.now ≡ get_or J c.index.result.now.settled no_member = c.index-2.ensures ∙ get_or_default J c.index.result.now.settled c.index-2.result.now no_member fewer in
     let last : c.index-2.result.now ≡ get_or J (batch_at B c.unwrap-member.result).settled no_member = first ∙ ap (λ (z : Batch). get_or J z.settled no_member) same in
     let row = ap (λ (b : Book). find (λ (r : Row). eqb r.txn c.args.t.0) b.rows) (sym c.self.view_is) ∙ found_shown (row_shown B) (λ (r : Row). eqb r.txn c.args.t.0) J c.unwrap-member.result found in
     λ S H n h. subst (λ (m : Member). ClosedBelow S H n c.args.t.0 m.txn.0) (sym last)
-    (closed_below c.args.self.now J R B S H n c.args.t.0 c.unwrap-member.result c.self.invariant (ap (λ (b : Book). b.rows) c.self.view_is) h within (row_tells c.args.self.now S H n c.args.t.0 (row_shown B c.unwrap-member.result) h row))
+    (closed_below c.args.self.now J R B S H n c.args.t.0 c.unwrap-member.result c.self.invariant (ap (λ (b : Book). b.rows) c.self.view_is) h within
+    (row_tells c.args.self.now S H n c.args.t.0 (row_shown B c.unwrap-member.result) h row))

@@ -10,4 +10,5 @@ returns-in_ok-resize-clause-owners c x =
 pub returns-in_ok-resize-clause-paged : goal.returns-in_ok-resize-clause-paged
 returns-in_ok-resize-clause-paged c =
     paged_made c.args.self.now (record { owners = c.resize.new.self; numbers = c.reserve.new.self }) c.requires c.requires.few
-    (c.in_ok-resize.ensures.items ∙ ap (λ n. take slots c.args.self.now.owners.items ++ replicate (slots - n) None) c.args.self.now.owners.ok.0) c.reserve.ensures.items (omega (arith, c.in_ok-reserve.ensures.ok))
+    (c.in_ok-resize.ensures.items ∙ ap (λ n. take slots c.args.self.now.owners.items ++ replicate (slots - n) None) c.args.self.now.owners.ok.0) c.reserve.ensures.items
+    (omega (arith, c.in_ok-reserve.ensures.ok))

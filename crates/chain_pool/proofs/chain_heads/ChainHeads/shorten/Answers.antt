@@ -15,7 +15,8 @@ pub overflow_sub-head : goal.overflow_sub-head
 overflow_sub-head c =
     let h = c.self.inside in
     let lt = busy_at c.args.cell h.cells.cells h.chains.items c.self.invariant _ (ap (λ (v : CellHeads). v.entries) c.self.view_is) c.place-at.result c.place-at.ensures c.requires in
-    let is = chain_here c.args.cell h.cells.cells h.chains.items c.self.invariant _ (ap (λ (v : CellHeads). v.entries) c.self.view_is) c.place-at.result c.place-at.ensures c.index-was.result.now lt c.index-was.ensures in
+    let is = chain_here c.args.cell h.cells.cells h.chains.items c.self.invariant _ (ap (λ (v : CellHeads). v.entries) c.self.view_is) c.place-at.result c.place-at.ensures c.index-was.result.now lt
+    c.index-was.ensures in
     omega (arith, ap (λ (g : Chain). g.head.len) is, c.requires)
 
 pub index_mut-requires : goal.index_mut-requires
@@ -28,7 +29,8 @@ pub returns-clause-heads : goal.returns-clause-heads
 returns-clause-heads c x =
     let h = c.self.inside in
     let lt = busy_at c.args.cell h.cells.cells h.chains.items c.self.invariant _ (ap (λ (v : CellHeads). v.entries) c.self.view_is) c.place-at.result c.place-at.ensures c.requires in
-    let was = chain_here c.args.cell h.cells.cells h.chains.items c.self.invariant _ (ap (λ (v : CellHeads). v.entries) c.self.view_is) c.place-at.result c.place-at.ensures c.index-was.result.now lt c.index-was.ensures in
+    let was = chain_here c.args.cell h.cells.cells h.chains.items c.self.invariant _ (ap (λ (v : CellHeads). v.entries) c.self.view_is) c.place-at.result c.place-at.ensures c.index-was.result.now lt
+    c.index-was.ensures in
     let is = shortened c.args.cell h.cells.cells h.chains.items c.self.invariant _ (ap (λ (v : CellHeads). v.entries) c.self.view_is) c.place-at.result c.place-at.ensures lt _ x in
     let rest = chain_head c.args.self.now.entries x in
     field_chosen (λ (g : Chain). g.head) (same_cell c.args.cell x) _ _ (chain_at c.args.self.now.entries x) is
@@ -39,7 +41,8 @@ pub returns-clause-lasts : goal.returns-clause-lasts
 returns-clause-lasts c x =
     let h = c.self.inside in
     let lt = busy_at c.args.cell h.cells.cells h.chains.items c.self.invariant _ (ap (λ (v : CellHeads). v.entries) c.self.view_is) c.place-at.result c.place-at.ensures c.requires in
-    let was = chain_here c.args.cell h.cells.cells h.chains.items c.self.invariant _ (ap (λ (v : CellHeads). v.entries) c.self.view_is) c.place-at.result c.place-at.ensures c.index-was.result.now lt c.index-was.ensures in
+    let was = chain_here c.args.cell h.cells.cells h.chains.items c.self.invariant _ (ap (λ (v : CellHeads). v.entries) c.self.view_is) c.place-at.result c.place-at.ensures c.index-was.result.now lt
+    c.index-was.ensures in
     let is = shortened c.args.cell h.cells.cells h.chains.items c.self.invariant _ (ap (λ (v : CellHeads). v.entries) c.self.view_is) c.place-at.result c.place-at.ensures lt _ x in
     let rest = last_of c.args.self.now.entries x in
     field_chosen (λ (g : Chain). g.last) (same_cell c.args.cell x) _ _ (chain_at c.args.self.now.entries x) is

@@ -17,7 +17,8 @@ last_accepted-requires-clause-safe g c =
 pub last_accepted-requires-clause-last : goal.last_accepted-requires-clause-last
 last_accepted-requires-clause-last g c =
     let s = c.requires.sound in
-    read_last c.args.self.now.places.items _ _ c.args.self.now.unused s.linked c.deref.result.now c.deref.ensures.value c.requires.chain.0 c.args.chain.head c.requires.chain.1 (last_of c.args.self.now.cells.entries) s.lasts c.args.chain.last c.requires.chain.2
+    read_last c.args.self.now.places.items _ _ c.args.self.now.unused s.linked c.deref.result.now c.deref.ensures.value c.requires.chain.0 c.args.chain.head c.requires.chain.1
+    (last_of c.args.self.now.cells.entries) s.lasts c.args.chain.last c.requires.chain.2
 
 pub last_accepted-requires-clause-used : goal.last_accepted-requires-clause-used
 last_accepted-requires-clause-used g c =
@@ -26,7 +27,8 @@ last_accepted-requires-clause-used g c =
 pub last_accepted-requires-clause-callable : goal.last_accepted-requires-clause-callable
 last_accepted-requires-clause-callable g c j lt =
     let there = is_writer-nth c.args.self.now.places.items _ _ c.args.self.now.unused c.requires.sound.linked c.requires.chain.0 c.args.chain.head c.requires.chain.1 j lt in
-    let here = ap (λ (h : Head). is_writer (versions c.args.self.now.places.items h) (pair_at c.args.self.now.places.items (nth_place c.args.self.now.places.items c.args.chain.head j)).0.0) c.requires.chain.1 in
+    let here = ap (λ (h : Head). is_writer (versions c.args.self.now.places.items h) (pair_at c.args.self.now.places.items (nth_place c.args.self.now.places.items c.args.chain.head j)).0.0)
+    c.requires.chain.1 in
     subst (λ (ps : List Place). g.F.Fn.pre c.args.f.now ((pair_at ps (nth_place ps c.args.chain.head j)).0, tt)) (sym c.deref.ensures.value) (c.requires.callable _ (here ∙ there))
 
 pub returns-clause-place : goal.returns-clause-place
@@ -34,7 +36,8 @@ returns-clause-place g c p agrees =
     let is = c.requires.chain.1 in
     let ps = c.args.self.now.places.items in
     last_found ps _ _ c.args.self.now.unused c.requires.sound.linked c.requires.chain.0 c.args.chain.head is p (λ u b. g.F.Fn.post c.args.f.now (u, tt) b)
-    (λ u b there answers. agrees u b (ap (λ (h : Head). is_writer (versions ps h) u.0) is ∙ there) answers) c.args.from (option_map (λ v. v.at) c.last_accepted.result) (rw c.deref.ensures.value at c.last_accepted.ensures.found)
+    (λ u b there answers. agrees u b (ap (λ (h : Head). is_writer (versions ps h) u.0) is ∙ there) answers) c.args.from (option_map (λ v. v.at) c.last_accepted.result)
+    (rw c.deref.ensures.value at c.last_accepted.ensures.found)
     ∙ ap (λ (h : Head). unless_below c.args.from (last_place p (writers_of (versions ps h)))) (sym is)
 
 pub returns-clause-within : goal.returns-clause-within
@@ -48,4 +51,5 @@ returns-clause-within g c =
 pub returns-clause-version : goal.returns-clause-version
 returns-clause-version g c =
     let ps = c.args.self.now.places.items in
-    found_version ps _ _ c.args.self.now.unused c.requires.sound.linked c.requires.chain.0 c.args.chain.head c.requires.chain.1 c.last_accepted.result c.last_accepted.ensures.within (rw c.deref.ensures.value at c.last_accepted.ensures.version)
+    found_version ps _ _ c.args.self.now.unused c.requires.sound.linked c.requires.chain.0 c.args.chain.head c.requires.chain.1 c.last_accepted.result c.last_accepted.ensures.within
+    (rw c.deref.ensures.value at c.last_accepted.ensures.version)

@@ -31,4 +31,5 @@ pub returns-clause-within : goal.returns-clause-within
 returns-clause-within g c =
     let ps = c.args.self.now.places.items in
     let here = subst (λ (h : Head). IfSome c.last_in.result (λ v. v.at < length (versions ps h))) c.chain_at-chain.ensures.head c.last_in.ensures.within in
-    subst (λ (r : Option ℕ). IfSome r (λ i. i < length (chain_of c.args.self.now c.args.cell))) (sym c.place_of.ensures) (at_place (λ i. i < length (chain_of c.args.self.now c.args.cell)) c.last_in.result here)
+    subst (λ (r : Option ℕ). IfSome r (λ i. i < length (chain_of c.args.self.now c.args.cell))) (sym c.place_of.ensures)
+    (at_place (λ i. i < length (chain_of c.args.self.now c.args.cell)) c.last_in.result here)

@@ -19,7 +19,8 @@ no_thread mine next first len none nowhere = record {
   complete = λ p m. absurd (nowhere p m);
 }
 
-no_places : (ps : List Place) (chain : Cell → Head) (own : Txn → Head) (unused : Head) → ps ≡ [] → ((x : Cell) → (chain x).len ≡ 0) → ((t : Txn) → (own t).len ≡ 0) → unused.len ≡ 0 → Linked ps chain own unused
+no_places : (ps : List Place) (chain : Cell → Head) (own : Txn → Head) (unused : Head) → ps ≡ [] → ((x : Cell) → (chain x).len ≡ 0) → ((t : Txn) → (own t).len ≡ 0) → unused.len ≡ 0
+    → Linked ps chain own unused
 no_places ps chain own unused none chains owners frees = record {
   chains = λ x. record {
     thread = no_thread _ _ _ _ (chains x) (λ p m. nowhere p m.within);

@@ -18,7 +18,8 @@ pub place_of-place-requires-clause-last : goal.place_of-place-requires-clause-la
 place_of-place-requires-clause-last c =
     let s = c.requires.sound in
     let is = c.chain_at-chain.ensures in
-    read_last c.args.self.now.places.items _ _ c.args.self.now.unused s.linked c.deref.result.now c.deref.ensures.value c.args.cell c.chain_at-chain.result.head is.head (last_of c.args.self.now.cells.entries) s.lasts c.chain_at-chain.result.last is.last
+    read_last c.args.self.now.places.items _ _ c.args.self.now.unused s.linked c.deref.result.now c.deref.ensures.value c.args.cell c.chain_at-chain.result.head is.head
+    (last_of c.args.self.now.cells.entries) s.lasts c.chain_at-chain.result.last is.last
 
 pub place_of-place-requires-clause-within : goal.place_of-place-requires-clause-within
 place_of-place-requires-clause-within c =
@@ -43,10 +44,12 @@ returns-clause-sound c =
     let e : c.deref_mut.result.now ≡ c.args.self.now.places.items = c.deref_mut.ensures.value in
     let n : c.args.self.now.places.len ≡ length c.rewrite.new.places = sym c.deref_mut.ensures.len ∙ sym c.rewrite.auto.places in
     let new = written c.args.self.now.places.len c.rewrite.new.places c.args.self.now.places.items n in
-    let linked = rewritten c.args.self.now.places.items c.rewrite.new.places _ _ c.args.self.now.unused s.linked c.place_of-place.result c.args.value (c.rewrite.auto.places ∙ ap length e) (rw e at c.rewrite.ensures.next) (rw e at c.rewrite.ensures.previous) (rw e at c.rewrite.ensures.slot) in
+    let linked = rewritten c.args.self.now.places.items c.rewrite.new.places _ _ c.args.self.now.unused s.linked c.place_of-place.result c.args.value (c.rewrite.auto.places ∙ ap length e)
+    (rw e at c.rewrite.ensures.next) (rw e at c.rewrite.ensures.previous) (rw e at c.rewrite.ensures.slot) in
     record {
       linked = subst (λ (l : List Place). Linked l (chain_head c.args.self.now.cells.entries) (writer_head c.args.self.now.writers.entries) c.args.self.now.unused) (sym new) linked;
-      lasts = subst (λ (l : List Place). HasLasts l (chain_head c.args.self.now.cells.entries) (last_of c.args.self.now.cells.entries)) (sym new) (λ x some. s.lasts x some ∙ sym ((rw e at c.rewrite.ensures.previous) (chain_head c.args.self.now.cells.entries x).first));
+      lasts = subst (λ (l : List Place). HasLasts l (chain_head c.args.self.now.cells.entries) (last_of c.args.self.now.cells.entries)) (sym new)
+          (λ x some. s.lasts x some ∙ sym ((rw e at c.rewrite.ensures.previous) (chain_head c.args.self.now.cells.entries x).first));
       busy = s.busy;
     }
 
@@ -57,7 +60,8 @@ returns-clause-here c =
     let new = written c.args.self.now.places.len c.rewrite.new.places c.args.self.now.places.items n in
     let is = c.chain_at-chain.ensures.head in
     ap (λ (l : List Place). versions l (chain_head c.args.self.now.cells.entries c.args.cell)) new
-    ∙ rewritten_here c.args.self.now.places.items c.rewrite.new.places _ _ c.args.self.now.unused c.requires.sound.linked c.place_of-place.result c.args.value (c.rewrite.auto.places ∙ ap length e) (rw e at c.rewrite.ensures.next) (rw e at c.rewrite.ensures.previous) (rw e at c.rewrite.ensures.slot)
+    ∙ rewritten_here c.args.self.now.places.items c.rewrite.new.places _ _ c.args.self.now.unused c.requires.sound.linked c.place_of-place.result c.args.value (c.rewrite.auto.places ∙ ap length e)
+    (rw e at c.rewrite.ensures.next) (rw e at c.rewrite.ensures.previous) (rw e at c.rewrite.ensures.slot)
     c.args.cell c.args.i c.requires.within c.chain_at-chain.result.head is (rw c.deref.ensures.value at c.place_of-place.ensures.place)
 
 pub returns-clause-elsewhere : goal.returns-clause-elsewhere
@@ -67,5 +71,6 @@ returns-clause-elsewhere c x ne =
     let new = written c.args.self.now.places.len c.rewrite.new.places c.args.self.now.places.items n in
     let is = c.chain_at-chain.ensures.head in
     ap (λ (l : List Place). versions l (chain_head c.args.self.now.cells.entries x)) new
-    ∙ rewritten_else c.args.self.now.places.items c.rewrite.new.places _ _ c.args.self.now.unused c.requires.sound.linked c.place_of-place.result c.args.value (c.rewrite.auto.places ∙ ap length e) (rw e at c.rewrite.ensures.next) (rw e at c.rewrite.ensures.previous) (rw e at c.rewrite.ensures.slot)
+    ∙ rewritten_else c.args.self.now.places.items c.rewrite.new.places _ _ c.args.self.now.unused c.requires.sound.linked c.place_of-place.result c.args.value (c.rewrite.auto.places ∙ ap length e)
+    (rw e at c.rewrite.ensures.next) (rw e at c.rewrite.ensures.previous) (rw e at c.rewrite.ensures.slot)
     c.args.cell c.args.i c.requires.within c.chain_at-chain.result.head is (rw c.deref.ensures.value at c.place_of-place.ensures.place) x ne

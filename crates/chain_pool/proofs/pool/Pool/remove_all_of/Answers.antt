@@ -10,7 +10,11 @@ use Rattle.chain_pool.proofs.pool.Pool.remove_all_of.Goals as goal
 pub take_all-requires : goal.take_all-requires
 take_all-requires c =
     let p = c.args.self.now in
-    record { linked = taken_out p.places.items (chain_head p.cells.entries) p.unused c.args.t p.writers.entries c.swap_remove.new.self.entries c.in-Some.own c.requires.sound.linked (sym c.in-Some.ensures.value) c.swap_remove.ensures.updates.0; lasts = c.requires.sound.lasts }
+    record {
+      linked = taken_out p.places.items (chain_head p.cells.entries) p.unused c.args.t p.writers.entries c.swap_remove.new.self.entries c.in-Some.own c.requires.sound.linked
+          (sym c.in-Some.ensures.value) c.swap_remove.ensures.updates.0;
+      lasts = c.requires.sound.lasts;
+    }
 
 pub returns-in-Some-clause-sound : goal.returns-in-Some-clause-sound
 returns-in-Some-clause-sound c =

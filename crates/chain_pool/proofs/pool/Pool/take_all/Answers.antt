@@ -12,7 +12,8 @@ pub returns-clause-taken : goal.returns-clause-taken
 returns-clause-taken c x =
     let own = writer_head c.loop-version.self.writers.entries in
     let here = with_head-here c.args.t c.loop-version.left own in
-    sym (none_left _ _ (with_head c.args.t c.loop-version.left own) _ c.loop-version.invariant.linked c.args.t (omega (arith, ap (λ (h : Head). h.len) here, c.loop-version.invariant.count)) x) ∙ c.loop-version.invariant.kept x
+    sym (none_left _ _ (with_head c.args.t c.loop-version.left own) _ c.loop-version.invariant.linked c.args.t (omega (arith, ap (λ (h : Head). h.len) here, c.loop-version.invariant.count)) x)
+    ∙ c.loop-version.invariant.kept x
 
 pub loop-version-preserved : goal.loop-version-preserved
 loop-version-preserved c = record {

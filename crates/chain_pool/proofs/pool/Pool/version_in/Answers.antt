@@ -15,7 +15,8 @@ place_of-place-requires-clause-safe c =
 pub place_of-place-requires-clause-last : goal.place_of-place-requires-clause-last
 place_of-place-requires-clause-last c =
     let s = c.requires.sound in
-    read_last c.args.self.now.places.items _ _ c.args.self.now.unused s.linked c.deref.result.now c.deref.ensures.value c.requires.chain.0 c.args.chain.head c.requires.chain.1 (last_of c.args.self.now.cells.entries) s.lasts c.args.chain.last c.requires.chain.2
+    read_last c.args.self.now.places.items _ _ c.args.self.now.unused s.linked c.deref.result.now c.deref.ensures.value c.requires.chain.0 c.args.chain.head c.requires.chain.1
+    (last_of c.args.self.now.cells.entries) s.lasts c.args.chain.last c.requires.chain.2
 
 pub place_of-place-requires-clause-within : goal.place_of-place-requires-clause-within
 place_of-place-requires-clause-within c =

@@ -14,13 +14,15 @@ own_or_last-requires-clause-callable g c =
 
 pub own_or_last-requires-clause-absent : goal.own_or_last-requires-clause-absent
 own_or_last-requires-clause-absent g c =
-    on_true c.is_above-is_new.result (IsAbove c.self.inside.latest c.args.t.0 c.args.cell) (is_writer (chain_of c.self.inside.pool c.args.cell) c.args.t.0 ≡ false) c.is_above-is_new.ensures (c.self.invariant.marked c.args.t.0 c.args.cell)
+    on_true c.is_above-is_new.result (IsAbove c.self.inside.latest c.args.t.0 c.args.cell) (is_writer (chain_of c.self.inside.pool c.args.cell) c.args.t.0 ≡ false) c.is_above-is_new.ensures
+    (c.self.invariant.marked c.args.t.0 c.args.cell)
 
 pub returns-clause-place : goal.returns-clause-place
 returns-clause-place g c p agrees =
     let was = seen c.args.self.now c.self.inside.pool c.self.inside.spare c.self.view_is c.args.cell in
     subst (λ (l : List Version). option_map (λ v. v.at) c.own_or_last.result ≡ own_or_last c.args.t.0 p (writers_of l)) was
-    (c.own_or_last.ensures.place p (λ off u b there. agrees (subst (λ (l : List Version). is_writer l c.args.t.0 ≡ false) was off) u b (subst (λ (l : List Version). IsTrue (is_writer l u.0)) was there)))
+    (c.own_or_last.ensures.place p
+    (λ off u b there. agrees (subst (λ (l : List Version). is_writer l c.args.t.0 ≡ false) was off) u b (subst (λ (l : List Version). IsTrue (is_writer l u.0)) was there)))
 
 pub returns-clause-version : goal.returns-clause-version
 returns-clause-version g c =

@@ -23,7 +23,9 @@ pub invariant_of-self : goal.invariant_of-self
 invariant_of-self c = record {
   sound = c.place.ensures.sound;
   room = c.place.ensures.room _ (less_room _ c.self.inside.spare _ (omega (arith, ap (λ (v : View). v.spare) c.self.view_is, c.requires.room)) c.self.invariant.room);
-  marked = λ u x above. absent-put (chain_of c.self.inside.pool) (chain_of c.place.new.self) c.args.cell c.place.ensures.elsewhere u x (c.self.invariant.marked u x (c.mark.ensures.kept u x above)) c.args.i (c.args.t, c.args.value) c.place.ensures.here (λ e same. c.mark.ensures.marked (subst (λ n. IsAbove c.mark.new.latest n c.args.cell) (sym same) (subst (IsAbove c.mark.new.latest u) (sym e) above)));
+  marked = λ u x above. absent-put (chain_of c.self.inside.pool) (chain_of c.place.new.self) c.args.cell c.place.ensures.elsewhere u x (c.self.invariant.marked u x (c.mark.ensures.kept u x above))
+      c.args.i (c.args.t, c.args.value) c.place.ensures.here
+      (λ e same. c.mark.ensures.marked (subst (λ n. IsAbove c.mark.new.latest n c.args.cell) (sym same) (subst (IsAbove c.mark.new.latest u) (sym e) above)));
 }
 
 pub returns-clause-here : goal.returns-clause-here

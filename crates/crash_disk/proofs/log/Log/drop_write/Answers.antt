@@ -22,7 +22,8 @@ pub overflow_sub-kept : goal.overflow_sub-kept
 overflow_sub-kept c =
     let m = c.self.inside in
     let size : c.len.result ≡ length m.bytes.items = search rules in
-    let got : Some (call.Write c.in-Some-Write.field-0-0 c.in-Some-Write.len) ≡ slice_get m.calls.items (length m.calls.items - 1) = ap (λ (z : Call). Some z) (sym c.in-Some-Write.field-0-is) ∙ c.in-Some-Write.ensures.value ∙ ap (λ (l : List Call). slice_get l (length l - 1)) c.deref.ensures.value in
+    let got : Some (call.Write c.in-Some-Write.field-0-0 c.in-Some-Write.len) ≡ slice_get m.calls.items (length m.calls.items - 1) = ap (λ (z : Call). Some z) (sym c.in-Some-Write.field-0-is)
+    ∙ c.in-Some-Write.ensures.value ∙ ap (λ (l : List Call). slice_get l (length l - 1)) c.deref.ensures.value in
     omega (arith, size, write_within m.calls.items m.bytes.items c.in-Some-Write.field-0-0 c.in-Some-Write.len c.self.invariant.counted got)
 
 pub invariant_of-self : goal.invariant_of-self
@@ -32,10 +33,12 @@ invariant_of-self c =
     let n = c.in-Some-Write.len in
     let at = c.in-Some-Write.field-0-0 in
     let size : c.len.result ≡ length m.bytes.items = search rules in
-    let got : Some (call.Write at n) ≡ slice_get m.calls.items (length m.calls.items - 1) = ap (λ (z : Call). Some z) (sym c.in-Some-Write.field-0-is) ∙ c.in-Some-Write.ensures.value ∙ ap (λ (l : List Call). slice_get l (length l - 1)) c.deref.ensures.value in
+    let got : Some (call.Write at n) ≡ slice_get m.calls.items (length m.calls.items - 1) = ap (λ (z : Call). Some z) (sym c.in-Some-Write.field-0-is) ∙ c.in-Some-Write.ensures.value
+    ∙ ap (λ (l : List Call). slice_get l (length l - 1)) c.deref.ensures.value in
     let low = got_some m.calls.items (length m.calls.items - 1) (call.Write at n) got in
     let long : length m.calls.items ≡ vec_len m.calls = sym (ap length c.deref.ensures.value) ∙ c.deref.ensures.len in
-    let split = popped m.calls.items c.pop.new.self.items (length m.calls.items) (call.Write at n) refl (omega arith) got (c.pop.ensures.rest ∙ ap (λ (k : ℕ). take (k - 1) m.calls.items) (sym long)) in
+    let split = popped m.calls.items c.pop.new.self.items (length m.calls.items) (call.Write at n) refl (omega arith) got
+    (c.pop.ensures.rest ∙ ap (λ (k : ℕ). take (k - 1) m.calls.items) (sym long)) in
     let within = write_within m.calls.items m.bytes.items at n i.counted got in
     let fewer : length c.truncate.new.self.items ≡ length m.bytes.items - n = search rules in
     record {
@@ -51,8 +54,11 @@ returns-in-Some-Write-clause-dropped c is =
     let n = c.in-Some-Write.len in
     let at = c.in-Some-Write.field-0-0 in
     let size : c.len.result ≡ length m.bytes.items = search rules in
-    let got : Some (call.Write at n) ≡ slice_get m.calls.items (length m.calls.items - 1) = ap (λ (z : Call). Some z) (sym c.in-Some-Write.field-0-is) ∙ c.in-Some-Write.ensures.value ∙ ap (λ (l : List Call). slice_get l (length l - 1)) c.deref.ensures.value in
+    let got : Some (call.Write at n) ≡ slice_get m.calls.items (length m.calls.items - 1) = ap (λ (z : Call). Some z) (sym c.in-Some-Write.field-0-is) ∙ c.in-Some-Write.ensures.value
+    ∙ ap (λ (l : List Call). slice_get l (length l - 1)) c.deref.ensures.value in
     let low = got_some m.calls.items (length m.calls.items - 1) (call.Write at n) got in
     let long : length m.calls.items ≡ vec_len m.calls = sym (ap length c.deref.ensures.value) ∙ c.deref.ensures.len in
-    let split = popped m.calls.items c.pop.new.self.items (length m.calls.items) (call.Write at n) refl (omega arith) got (c.pop.ensures.rest ∙ ap (λ (k : ℕ). take (k - 1) m.calls.items) (sym long)) in
-    one_less_of m.calls.items c.pop.new.self.items m.bytes.items c.truncate.new.self.items at n c.args.self.now.steps split (c.truncate.ensures.items ∙ ap (λ (k : ℕ). take (k - n) m.bytes.items) size) c.self.invariant.counted (ap (λ (l : Logged). l.steps) c.self.view_is)
+    let split = popped m.calls.items c.pop.new.self.items (length m.calls.items) (call.Write at n) refl (omega arith) got
+    (c.pop.ensures.rest ∙ ap (λ (k : ℕ). take (k - 1) m.calls.items) (sym long)) in
+    one_less_of m.calls.items c.pop.new.self.items m.bytes.items c.truncate.new.self.items at n c.args.self.now.steps split (c.truncate.ensures.items ∙ ap (λ (k : ℕ). take (k - n) m.bytes.items) size)
+    c.self.invariant.counted (ap (λ (l : Logged). l.steps) c.self.view_is)

@@ -34,7 +34,14 @@ put-requires c =
     let at_hand = drop_more items c.loop-call.call-index (call.Write 0 0) c.loop-call-test.true ∙ ap (λ (z : Call). z ∷ drop (c.loop-call.call-index + 1) items) c.in-Write.is in
     let image = c.loop-call.image in
     let told = ap (λ (cs : List Call). after_steps image.items (steps cs c.loop-call.rest.now)) (sym at_hand) ∙ c.loop-call.invariant.told in
-    omega (arith, image.small, c.requires.room, c.loop-call.invariant.capacity, next_fits c.in-Write.at c.in-Write.len image.items c.loop-call.rest.now c.split_at.result.0.now (drop (c.loop-call.call-index + 1) items) (contents c.args.self.now.steps) told c.split_at.ensures.front)
+    omega (
+      arith,
+      image.small,
+      c.requires.room,
+      c.loop-call.invariant.capacity,
+      next_fits c.in-Write.at c.in-Write.len image.items c.loop-call.rest.now c.split_at.result.0.now
+          (drop (c.loop-call.call-index + 1) items) (contents c.args.self.now.steps) told c.split_at.ensures.front,
+    )
 
 pub unreachable-requires : goal.unreachable-requires
 unreachable-requires c =
@@ -42,7 +49,8 @@ unreachable-requires c =
     let at_hand = drop_more items c.loop-call.call-index (call.Write 0 0) c.loop-call-test.true ∙ ap (λ (z : Call). z ∷ drop (c.loop-call.call-index + 1) items) c.in-Write.is in
     let image = c.loop-call.image in
     let told = ap (λ (cs : List Call). after_steps image.items (steps cs c.loop-call.rest.now)) (sym at_hand) ∙ c.loop-call.invariant.told in
-    let fits = next_fits c.in-Write.at c.in-Write.len image.items c.loop-call.rest.now c.split_at.result.0.now (drop (c.loop-call.call-index + 1) items) (contents c.args.self.now.steps) told c.split_at.ensures.front in
+    let fits = next_fits c.in-Write.at c.in-Write.len image.items c.loop-call.rest.now c.split_at.result.0.now (drop (c.loop-call.call-index + 1) items) (contents c.args.self.now.steps) told
+    c.split_at.ensures.front in
     absurd (cc (c.in_default-put.ensures.sure (omega (arith, fits, c.requires.room, c.loop-call.invariant.capacity))))
 
 pub loop-call-preserved : goal.loop-call-preserved
@@ -64,7 +72,8 @@ loop-call-preserved c =
           let counted = ap total (sym at_hand) ∙ inv.counted in
           let rest_is = ap (λ (b : Bor (List ℕ)). b.now) w.rest-is ∙ w.split_at.ensures.back in record {
             told = replayed w.in-Write.at w.in-Write.len c.loop-call.image.items c.loop-call.rest.now c.match-call.image.items c.match-call.rest.now w.split_at.result.0.now (drop (i + 1) items) _
-                (ap (λ (cs : List Call). after_steps c.loop-call.image.items (steps cs c.loop-call.rest.now)) (sym at_hand) ∙ inv.told) w.split_at.ensures.front rest_is (ap (λ (v : Vec ℕ Global). v.items) w.image-is ∙ w.in-Ok.ensures.put);
+                (ap (λ (cs : List Call). after_steps c.loop-call.image.items (steps cs c.loop-call.rest.now)) (sym at_hand) ∙ inv.told) w.split_at.ensures.front rest_is
+                (ap (λ (v : Vec ℕ Global). v.items) w.image-is ∙ w.in-Ok.ensures.put);
             counted = omega (arith, counted, ap length rest_is, length-drop w.in-Write.len c.loop-call.rest.now);
             capacity = omega (arith, inv.capacity, ap (λ (v : Vec ℕ Global). vec_capacity v) w.image-is, w.put.ensures.capacity);
           })

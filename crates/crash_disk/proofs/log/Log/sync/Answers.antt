@@ -27,7 +27,8 @@ pub returns-clause-added : goal.returns-clause-added
 returns-clause-added c =
     let m = c.self.inside in
     let joined = joined_sync m.calls.items c.push.new.self.items m.bytes.items c.in_ok-push.ensures.items in
-    ap (λ (xs : List Step). record { steps = xs; room = m.room; sure_calls = m.sure_calls; sure_bytes = m.sure_bytes }) joined ∙ ap (λ (l : Logged). record l { steps = l.steps ++ Synced ∷ [] }) c.self.view_is
+    ap (λ (xs : List Step). record { steps = xs; room = m.room; sure_calls = m.sure_calls; sure_bytes = m.sure_bytes }) joined
+    ∙ ap (λ (l : Logged). record l { steps = l.steps ++ Synced ∷ [] }) c.self.view_is
 
 pub returns-clause-within : goal.returns-clause-within
 returns-clause-within c room =

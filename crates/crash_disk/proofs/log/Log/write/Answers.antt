@@ -10,7 +10,8 @@ returns-then-not-holds-clause-sure c room lt fits =
     let size = sizes m.calls.items m.bytes.items c.args.self.now.steps (ap (λ (l : Logged). l.steps) c.self.view_is) c.self.invariant.counted in
     let calls : c.len.result ≡ length m.calls.items = search rules in
     let bytes : c.len-before.result ≡ length m.bytes.items = search rules in
-    absurd (has_room m.room c.holds.result _ _ c.holds.ensures c.if-not-holds.true (ap (λ (l : Logged). l.room) c.self.view_is ∙ room) (omega (arith, calls, lt, size.0)) (omega (arith, bytes, fits, size.1)))
+    absurd (has_room m.room c.holds.result _ _ c.holds.ensures c.if-not-holds.true (ap (λ (l : Logged). l.room) c.self.view_is ∙ room) (omega (arith, calls, lt, size.0))
+    (omega (arith, bytes, fits, size.1)))
 
 pub invariant_of-self-in-Ok : goal.invariant_of-self-in-Ok
 invariant_of-self-in-Ok c =
@@ -32,8 +33,10 @@ invariant_of-self-in-Ok c =
 pub returns-in-Ok-clause-added : goal.returns-in-Ok-clause-added
 returns-in-Ok-clause-added c =
     let m = c.self.inside in
-    let joined = joined_write m.calls.items c.push.new.self.items m.bytes.items c.extend_from_slice.new.self.items c.args.bytes.now c.args.at c.self.invariant.counted c.in-Ok.ensures.items c.in_ok-extend_from_slice.ensures.items in
-    ap (λ (xs : List Step). record { steps = xs; room = m.room; sure_calls = m.sure_calls; sure_bytes = m.sure_bytes }) joined ∙ ap (λ (l : Logged). record l { steps = l.steps ++ Wrote c.args.at c.args.bytes.now ∷ [] }) c.self.view_is
+    let joined = joined_write m.calls.items c.push.new.self.items m.bytes.items c.extend_from_slice.new.self.items c.args.bytes.now c.args.at c.self.invariant.counted c.in-Ok.ensures.items
+    c.in_ok-extend_from_slice.ensures.items in
+    ap (λ (xs : List Step). record { steps = xs; room = m.room; sure_calls = m.sure_calls; sure_bytes = m.sure_bytes }) joined
+    ∙ ap (λ (l : Logged). record l { steps = l.steps ++ Wrote c.args.at c.args.bytes.now ∷ [] }) c.self.view_is
 
 pub returns-in-Ok-clause-within : goal.returns-in-Ok-clause-within
 returns-in-Ok-clause-within c room =

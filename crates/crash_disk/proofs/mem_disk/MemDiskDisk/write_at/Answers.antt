@@ -45,7 +45,8 @@ returns-in-Ok-clause-calls c =
     let piece = c.args.bytes.now in
     let added = c.in-Ok.ensures.log in
     call_ok _ m.counter.made c.call.new.self.made (byte_count m.log.steps) (byte_count c.write.new.log.steps) m.counter.stop c.call.new.self.stop (length piece) m.log.room c.write.new.log.room _
-    (ap (λ (l : Logged). l.room) added) c.call.ensures.made c.call.ensures.stop (omega (arith, ap (λ (l : Logged). byte_count l.steps) added, count-push m.log.steps c.args.at piece)) (λ f. absurd (cc (c.in_ok-call.ensures.stopped f)))
+    (ap (λ (l : Logged). l.room) added) c.call.ensures.made c.call.ensures.stop (omega (arith, ap (λ (l : Logged). byte_count l.steps) added, count-push m.log.steps c.args.at piece))
+    (λ f. absurd (cc (c.in_ok-call.ensures.stopped f)))
 
 pub returns-in_err-call-clause-memory : goal.returns-in_err-call-clause-memory
 returns-in_err-call-clause-memory c = uses_none _ _ _ _ _ _ _ refl c.call.ensures.no_refusal

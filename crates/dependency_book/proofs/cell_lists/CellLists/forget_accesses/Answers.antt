@@ -23,7 +23,8 @@ loop-event-preserved-in-Got c =
     record {
       readers = forgetting_next (λ (r : Txn × Txn). eqb r.0.0 t) reads (readers_of old) own (readers_of was.self) (readers_of new) was.event-iterator c.next.new.self e was.invariant.readers steps
           (λ x. c.forget_read.ensures.readers x ∙ sym (ap (λ (b : Bool). cond b (without_last (λ (r : Txn × Txn). eqb r.0.0 t) (readers_of was.self x)) (readers_of was.self x)) (reads_it x)));
-      writers = forgetting_other (λ (u : Txn). eqb u.0 t) puts (writers_of old) own (writers_of was.self) (writers_of new) was.event-iterator c.next.new.self e was.invariant.writers steps (λ x. ap (puts x) c.in-Got.is) c.forget_read.ensures.writers;
+      writers = forgetting_other (λ (u : Txn). eqb u.0 t) puts (writers_of old) own (writers_of was.self) (writers_of new) was.event-iterator c.next.new.self e was.invariant.writers steps
+          (λ x. ap (puts x) c.in-Got.is) c.forget_read.ensures.writers;
       room = c.forget_read.ensures.room ∙ was.invariant.room;
     }
 
@@ -38,7 +39,8 @@ loop-event-preserved-in-Put c =
     let steps = c.in-Some.ensures.steps in
     let puts_it : (x : Cell) → puts x e ≡ same_cell c.in-Put.cell x = λ x. ap (puts x) c.in-Put.is ∙ puts_if c.in-Put.txn c.in-Put.cell c.in-Put.value x in
     record {
-      readers = forgetting_other (λ (r : Txn × Txn). eqb r.0.0 t) reads (readers_of old) own (readers_of was.self) (readers_of new) was.event-iterator c.next.new.self e was.invariant.readers steps (λ x. ap (reads x) c.in-Put.is) c.forget_put.ensures.readers;
+      readers = forgetting_other (λ (r : Txn × Txn). eqb r.0.0 t) reads (readers_of old) own (readers_of was.self) (readers_of new) was.event-iterator c.next.new.self e was.invariant.readers steps
+          (λ x. ap (reads x) c.in-Put.is) c.forget_put.ensures.readers;
       writers = forgetting_next (λ (u : Txn). eqb u.0 t) puts (writers_of old) own (writers_of was.self) (writers_of new) was.event-iterator c.next.new.self e was.invariant.writers steps
           (λ x. c.forget_put.ensures.writers x ∙ sym (ap (λ (b : Bool). cond b (without_last (λ (u : Txn). eqb u.0 t) (writers_of was.self x)) (writers_of was.self x)) (puts_it x)));
       room = c.forget_put.ensures.room ∙ was.invariant.room;
@@ -53,15 +55,19 @@ loop-event-preserved c =
     let e = c.in-Some.event in
     let steps = c.in-Some.ensures.steps in
     record {
-      readers = forgetting_other (λ (r : Txn × Txn). eqb r.0.0 t) reads (readers_of old) own (readers_of was.self) (readers_of was.self) was.event-iterator c.next.new.self e was.invariant.readers steps (no_read e c.in_default.not-Got) (λ x. refl);
-      writers = forgetting_other (λ (u : Txn). eqb u.0 t) puts (writers_of old) own (writers_of was.self) (writers_of was.self) was.event-iterator c.next.new.self e was.invariant.writers steps (no_put e c.in_default.not-Put) (λ x. refl);
+      readers = forgetting_other (λ (r : Txn × Txn). eqb r.0.0 t) reads (readers_of old) own (readers_of was.self) (readers_of was.self) was.event-iterator c.next.new.self e was.invariant.readers
+          steps (no_read e c.in_default.not-Got) (λ x. refl);
+      writers = forgetting_other (λ (u : Txn). eqb u.0 t) puts (writers_of old) own (writers_of was.self) (writers_of was.self) was.event-iterator c.next.new.self e was.invariant.writers steps
+          (no_put e c.in_default.not-Put) (λ x. refl);
       room = was.invariant.room;
     }
 
 pub returns-clause-readers : goal.returns-clause-readers
 returns-clause-readers c =
-    forgotten (λ (r : Txn × Txn). eqb r.0.0 c.args.t.0) reads (readers_of c.args.self.now) (own_events c.args.history.now.events c.args.t.0) (readers_of c.loop-event.self) c.loop-event.event-iterator c.loop-event.invariant.readers c.in-None.ensures.steps.0
+    forgotten (λ (r : Txn × Txn). eqb r.0.0 c.args.t.0) reads (readers_of c.args.self.now) (own_events c.args.history.now.events c.args.t.0) (readers_of c.loop-event.self) c.loop-event.event-iterator
+    c.loop-event.invariant.readers c.in-None.ensures.steps.0
 
 pub returns-clause-writers : goal.returns-clause-writers
 returns-clause-writers c =
-    forgotten (λ (u : Txn). eqb u.0 c.args.t.0) puts (writers_of c.args.self.now) (own_events c.args.history.now.events c.args.t.0) (writers_of c.loop-event.self) c.loop-event.event-iterator c.loop-event.invariant.writers c.in-None.ensures.steps.0
+    forgotten (λ (u : Txn). eqb u.0 c.args.t.0) puts (writers_of c.args.self.now) (own_events c.args.history.now.events c.args.t.0) (writers_of c.loop-event.self) c.loop-event.event-iterator
+    c.loop-event.invariant.writers c.in-None.ensures.steps.0

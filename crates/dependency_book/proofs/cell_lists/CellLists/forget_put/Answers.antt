@@ -21,6 +21,7 @@ pub returns-in_default-clause-writers : goal.returns-in_default-clause-writers
 returns-in_default-clause-writers c x =
     let b = c.self.inside in
     let is_its = λ (u : Txn). eqb u.0 c.args.t.0 in
-    let here : c.list.result.now ≡ writers_of c.args.self.now c.args.cell = c.list.ensures ∙ ap (list_in b.writers.lists) c.place-place.ensures ∙ ap (λ (s : Shown). writers_of s c.args.cell) c.self.view_is in
+    let here : c.list.result.now ≡ writers_of c.args.self.now c.args.cell = c.list.ensures ∙ ap (list_in b.writers.lists) c.place-place.ensures
+    ∙ ap (λ (s : Shown). writers_of s c.args.cell) c.self.view_is in
     let none = subst (λ (l : List Txn). IsLastPlace is_its l None) here (subst (λ (o : Option ℕ). IsLastPlace is_its c.list.result.now o) c.in_default.is c.put_place.ensures) in
     taken_none is_its (writers_of c.args.self.now) c.args.cell x none

@@ -15,11 +15,13 @@ pub returns-clause-writers : goal.returns-clause-writers
 returns-clause-writers c x =
     let b = c.self.inside in
     let n = c.place_for-place in
-    pushed b.cells.cells b.writers.lists c.args.cell c.self.invariant.writers n.new.cells.cells n.new.writers.lists c.push.new.self.lists n.result c.args.t n.ensures.cells n.ensures.writers n.ensures.place c.push.ensures.lists x
+    pushed b.cells.cells b.writers.lists c.args.cell c.self.invariant.writers n.new.cells.cells n.new.writers.lists c.push.new.self.lists n.result c.args.t n.ensures.cells n.ensures.writers
+    n.ensures.place c.push.ensures.lists x
     ∙ ap (λ (s : Shown). cond (same_cell c.args.cell x) (writers_of s x ++ c.args.t ∷ []) (writers_of s x)) c.self.view_is
 
 pub returns-clause-readers : goal.returns-clause-readers
 returns-clause-readers c x =
     let b = c.self.inside in
     let n = c.place_for-place in
-    placed b.cells.cells b.readers.lists c.args.cell c.self.invariant.readers n.new.cells.cells n.new.readers.lists n.ensures.cells n.ensures.readers x ∙ ap (λ (s : Shown). readers_of s x) c.self.view_is
+    placed b.cells.cells b.readers.lists c.args.cell c.self.invariant.readers n.new.cells.cells n.new.readers.lists n.ensures.cells n.ensures.readers x
+    ∙ ap (λ (s : Shown). readers_of s x) c.self.view_is

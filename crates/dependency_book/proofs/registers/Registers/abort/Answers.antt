@@ -20,7 +20,8 @@ pub returns-clause-book : goal.returns-clause-book
 returns-clause-book c P cause now was may =
     let t = c.args.t in
     noted_gone _ _ P was t cause may
-    (λ y. c.forget_accesses.ensures.readers y ∙ ap (λ (es : List Event). without_lasts (count_by (reads y) (own_events es t.0)) (λ (r : Txn × Txn). eqb r.0.0 t.0) (readers_of c.args.self.now.cells y)) now)
+    (λ y. c.forget_accesses.ensures.readers y ∙ ap (λ (es : List Event). without_lasts (count_by (reads y) (own_events es t.0)) (λ (r : Txn × Txn). eqb r.0.0 t.0) (readers_of c.args.self.now.cells y))
+    now)
     (λ y. c.forget_accesses.ensures.writers y ∙ ap (λ (es : List Event). without_lasts (count_by (puts y) (own_events es t.0)) (λ (u : Txn). eqb u.0 t.0) (writers_of c.args.self.now.cells y)) now)
     c.clear_sources.ensures.lists c.clear_sources.ensures.values
     (c.remove_txn.ensures.items (unfinished_ascend _ P was))

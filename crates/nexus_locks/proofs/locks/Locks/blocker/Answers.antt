@@ -7,7 +7,8 @@ use Rattle.access_conflicts.proofs.Blockers.{holder, blocks_holds, blocks_held, 
 use Rattle.nexus_locks.proofs.locks.Locks.blocker.Goals as goal
 
 pub is_in_the_way-requires-clause-holder : goal.is_in_the_way-requires-clause-holder
-is_in_the_way-requires-clause-holder c = held_typed c.args.facts.now _ c.args.cell c.holds-hold-items.result.now c.loop-hold.hold-index _ c.requires.stands.register.book.orderly c.holds-hold-items.ensures c.loop-hold-test.true
+is_in_the_way-requires-clause-holder c = held_typed c.args.facts.now _ c.args.cell c.holds-hold-items.result.now c.loop-hold.hold-index _ c.requires.stands.register.book.orderly
+    c.holds-hold-items.ensures c.loop-hold-test.true
 
 pub returns-then-is_in_the_way : goal.returns-then-is_in_the_way
 returns-then-is_in_the_way c =
@@ -18,7 +19,8 @@ returns-then-is_in_the_way c =
     let hs = c.holds-hold-items.result.now in
     let i = c.loop-hold.hold-index in
     let d : Hold = record { txn = record { 0 = 0 }; wrote = false } in
-    let met : in_the_way S H n t c.args.write (get_or hs i d) ≡ true = ap (λ (m : Node). in_the_way S H m.0 t c.args.write (get_or hs i d)) (sym c.node-node.ensures) ∙ sym c.is_in_the_way.ensures ∙ c.if-is_in_the_way.true in
+    let met : in_the_way S H n t c.args.write (get_or hs i d) ≡ true = ap (λ (m : Node). in_the_way S H m.0 t c.args.write (get_or hs i d)) (sym c.node-node.ensures) ∙ sym c.is_in_the_way.ensures
+    ∙ c.if-is_in_the_way.true in
     ap holder (find_here (in_the_way S H n t c.args.write) hs i d c.loop-hold-test.true met c.loop-hold.invariant)
     ∙ ap (λ (l : List Hold). holder (find (in_the_way S H n t c.args.write) l)) c.holds-hold-items.ensures
     ∙ found_among_holders S H n c.args.cell _ (in_the_way S H n t c.args.write) (blocks_holds S H n t c.args.cell c.args.write) (blocks_held S H n t c.args.cell c.args.write)

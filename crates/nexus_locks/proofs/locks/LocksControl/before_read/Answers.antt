@@ -5,4 +5,5 @@ use Rattle.nexus_locks.proofs.Said.{locks_access}
 use Rattle.nexus_locks.proofs.locks.LocksControl.before_read.Goals as goal
 
 pub returns : goal.returns
-returns c = locks_access (setup_of c.args.facts.now) (events_of c.args.facts.now) c.args.self.now.register.node.0 c.args.t.0 c.args.cell false _ c.requires.stands.kind (c.wait_for.ensures ∙ ap wait_for_txn c.blocker.ensures)
+returns c = locks_access (setup_of c.args.facts.now) (events_of c.args.facts.now) c.args.self.now.register.node.0 c.args.t.0 c.args.cell false _ c.requires.stands.kind
+    (c.wait_for.ensures ∙ ap wait_for_txn c.blocker.ensures)

@@ -5,4 +5,5 @@ use Rattle.nexus_locks.proofs.Said.{locks_access}
 use Rattle.nexus_locks.proofs.locks.LocksControl.before_write.Goals as goal
 
 pub returns : goal.returns
-returns g c = locks_access (setup_of c.args.facts.now) (events_of c.args.facts.now) c.args.self.now.register.node.0 c.args.t.0 c.args.cell true _ c.requires.stands.kind (c.wait_for.ensures ∙ ap wait_for_txn c.blocker.ensures)
+returns g c = locks_access (setup_of c.args.facts.now) (events_of c.args.facts.now) c.args.self.now.register.node.0 c.args.t.0 c.args.cell true _ c.requires.stands.kind
+    (c.wait_for.ensures ∙ ap wait_for_txn c.blocker.ensures)

@@ -27,7 +27,9 @@ returns-in-Ok-clause-any_moment g c asked r added keeps =
     let before = keeps.running c.requires.running in
     let at_rest = subst (IsAtRest default_capacity asked c.args.self.now.progress.end) (sym c.adopt.ensures.seen) before.at_rest in
     let durable = still_only _ _ _ _ c.adopt.ensures.seen c.adopt.ensures.crash before.durable in
-    weaker d.moment d.left_since _ _ (IsBeforeOrAfter default_capacity asked r) _ (λ image. one_more default_capacity asked r c.args.self.now.progress.acknowledged image keeps.few) (since_before d.moment d.left_since _ _ _ _ c.adopt.ensures.clock c.adopt.ensures.time (c.write_record-added.ensures.any_moment default_capacity asked r (omega (arith, c.requires.room)) added at_rest durable))
+    weaker d.moment d.left_since _ _ (IsBeforeOrAfter default_capacity asked r) _ (λ image. one_more default_capacity asked r c.args.self.now.progress.acknowledged image keeps.few)
+    (since_before d.moment d.left_since _ _ _ _ c.adopt.ensures.clock c.adopt.ensures.time
+    (c.write_record-added.ensures.any_moment default_capacity asked r (omega (arith, c.requires.room)) added at_rest durable))
 
 pub returns-in-Err-clause-kept : goal.returns-in-Err-clause-kept
 returns-in-Err-clause-kept g c asked r added keeps =
@@ -35,10 +37,12 @@ returns-in-Err-clause-kept g c asked r added keeps =
     let before = keeps.running c.requires.running in
     let at_rest = subst (IsAtRest default_capacity asked c.args.self.now.progress.end) (sym c.adopt.ensures.seen) before.at_rest in
     let durable = still_only _ _ _ _ c.adopt.ensures.seen c.adopt.ensures.crash before.durable in
-    let only = since_before d.moment d.left_since c.args.self.now.disk _ _ _ c.adopt.ensures.clock c.adopt.ensures.time (c.write_record-added.ensures.any_moment default_capacity asked r (omega (arith, c.requires.room)) added at_rest durable) in
+    let only = since_before d.moment d.left_since c.args.self.now.disk _ _ _ c.adopt.ensures.clock c.adopt.ensures.time
+    (c.write_record-added.ensures.any_moment default_capacity asked r (omega (arith, c.requires.room)) added at_rest durable) in
     record {
       few = omega (arith, keeps.few, length-append asked (r ∷ []));
-      each = λ image left. one_more default_capacity asked r c.args.self.now.progress.acknowledged image keeps.few (only.each image (g.met.D.Disk.counts_now c.write_record-added.new.disk (d.moment c.args.self.now.disk) image only.later left));
+      each = λ image left. one_more default_capacity asked r c.args.self.now.progress.acknowledged image keeps.few
+          (only.each image (g.met.D.Disk.counts_now c.write_record-added.new.disk (d.moment c.args.self.now.disk) image only.later left));
       running = λ is. absurd (cc is);
     }
 
@@ -48,7 +52,9 @@ returns-in-Err-clause-any_moment g c asked r added keeps =
     let before = keeps.running c.requires.running in
     let at_rest = subst (IsAtRest default_capacity asked c.args.self.now.progress.end) (sym c.adopt.ensures.seen) before.at_rest in
     let durable = still_only _ _ _ _ c.adopt.ensures.seen c.adopt.ensures.crash before.durable in
-    weaker d.moment d.left_since _ _ (IsBeforeOrAfter default_capacity asked r) _ (λ image. one_more default_capacity asked r c.args.self.now.progress.acknowledged image keeps.few) (since_before d.moment d.left_since _ _ _ _ c.adopt.ensures.clock c.adopt.ensures.time (c.write_record-added.ensures.any_moment default_capacity asked r (omega (arith, c.requires.room)) added at_rest durable))
+    weaker d.moment d.left_since _ _ (IsBeforeOrAfter default_capacity asked r) _ (λ image. one_more default_capacity asked r c.args.self.now.progress.acknowledged image keeps.few)
+    (since_before d.moment d.left_since _ _ _ _ c.adopt.ensures.clock c.adopt.ensures.time
+    (c.write_record-added.ensures.any_moment default_capacity asked r (omega (arith, c.requires.room)) added at_rest durable))
 
 pub returns-in-Err-clause-not_added : goal.returns-in-Err-clause-not_added
 returns-in-Err-clause-not_added g c asked r added keeps =
@@ -58,7 +64,8 @@ returns-in-Err-clause-not_added g c asked r added keeps =
     let at_rest = subst (IsAtRest default_capacity asked c.args.self.now.progress.end) (sym c.adopt.ensures.seen) before.at_rest in
     let durable = still_only _ _ _ _ c.adopt.ensures.seen c.adopt.ensures.crash before.durable in
     c.write_record-added.ensures.not_added default_capacity asked r (omega (arith, c.requires.room)) added at_rest
-    (ap (recovered default_capacity) (c.adopt.ensures.safe ∙ before.durable (d.safe old.disk) (g.met.D.Disk.safe_is_left old.disk)) ∙ stands default_capacity asked old.progress.end (d.seen old.disk) before.at_rest)
+    (ap (recovered default_capacity) (c.adopt.ensures.safe ∙ before.durable (d.safe old.disk) (g.met.D.Disk.safe_is_left old.disk)) ∙ stands default_capacity asked old.progress.end
+    (d.seen old.disk) before.at_rest)
 
 pub returns-in-Ok-clause-memory : goal.returns-in-Ok-clause-memory
 returns-in-Ok-clause-memory g c covers = c.write_record-added.ensures.memory.enough (covers_more _ _ _ _ _ c.adopt.ensures.spare covers) ∙ c.adopt.ensures.refusals

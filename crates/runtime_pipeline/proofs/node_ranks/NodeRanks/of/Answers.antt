@@ -16,4 +16,5 @@ ranks-requires-clause-named c = omega (arith, some_below c.args.profiles.now c.d
 pub returns : goal.returns
 returns c =
     let S : Setup = record { types = c.args.tree.now.types; profiles = c.args.profiles.now; tree = c.args.tree.now.rows } in
-    ranks_are S c.args.node.0 c.ranked_tables-tables.result c.deref.result.now c.in_ok-ranks.ranks (ap (λ (l : List Kind). kind_numbers l) c.deref.ensures.value ∙ c.in_ok-under.ensures) c.ranked_tables-tables.ensures c.in_ok-ranks.ensures.0 c.in_ok-ranks.ensures.1
+    ranks_are S c.args.node.0 c.ranked_tables-tables.result c.deref.result.now c.in_ok-ranks.ranks (ap (λ (l : List Kind). kind_numbers l) c.deref.ensures.value ∙ c.in_ok-under.ensures)
+    c.ranked_tables-tables.ensures c.in_ok-ranks.ensures.0 c.in_ok-ranks.ensures.1

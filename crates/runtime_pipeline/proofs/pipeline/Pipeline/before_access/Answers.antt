@@ -25,7 +25,9 @@ returns c =
     let n = c.args.self.now.register.node.0 in
     let rank : c.rank-rank.result ≡ rank_of_table S n c.args.cell.table.0 = c.rank-rank.ensures ∙ c.requires.stands.ranks c.args.cell.table.0 in
     c.wait_for.ensures ∙ ap wait_for_txn c.first_holder.ensures ∙ elim c.if-enters.branch [
-      | then-enters+in_default w ↦ access_enters S H n c.requires.stands.kind c.args.t.0 c.args.cell c.args.write (ap (ltb (rank_of_step S n (kind_of H c.args.t.0) (cursor S H c.args.t.0))) (sym rank) ∙ sym c.enters.ensures ∙ w.if-enters.true)
+      | then-enters+in_default w ↦ access_enters S H n c.requires.stands.kind c.args.t.0 c.args.cell c.args.write (ap (ltb (rank_of_step S n (kind_of H c.args.t.0) (cursor S H c.args.t.0))) (sym rank)
+          ∙ sym c.enters.ensures ∙ w.if-enters.true)
           (sym w.in_default.is ∙ w.first_ahead.ensures ∙ ap (λ (k : ℕ). some_txn (find (holds_up S H n c.args.t.0 (Some k)) (txns H))) rank)
-      | else-enters w ↦ access_stays S H n c.requires.stands.kind c.args.t.0 c.args.cell c.args.write (ap (ltb (rank_of_step S n (kind_of H c.args.t.0) (cursor S H c.args.t.0))) (sym rank) ∙ sym c.enters.ensures ∙ w.if-enters.false)
+      | else-enters w ↦ access_stays S H n c.requires.stands.kind c.args.t.0 c.args.cell c.args.write (ap (ltb (rank_of_step S n (kind_of H c.args.t.0) (cursor S H c.args.t.0))) (sym rank)
+          ∙ sym c.enters.ensures ∙ w.if-enters.false)
     ]

@@ -21,7 +21,9 @@ returns c =
     let u = c.args.u.0 in
     let m = c.requires.stands.register.book.orderly.numbered u c.requires.typed.begun in
     let at : c.from.result ≡ kind_of H u = c.from.ensures ∙ ap (λ (k : Kind). k.0) (kind_is H u c.in-Some.kind c.requires.typed.begun (sym c.in-Some.is ∙ c.kind.ensures)) in
-    let steps : c.index-facts-from.result ≡ profile S (kind_of H u) = profile_is S (kind_of H u) c.from.result c.index-facts-from.result c.requires.stands.profiled c.requires.typed.kind at c.index-facts-from.is in
+    let steps : c.index-facts-from.result ≡ profile S (kind_of H u) = profile_is S (kind_of H u) c.from.result c.index-facts-from.result c.requires.stands.profiled c.requires.typed.kind at
+    c.index-facts-from.is in
     let step : c.cursor-step.result ≡ cursor S H u = c.cursor-step.ensures ∙ cursor_at _ S H u c.requires.stands.cursors m.0 m.1 in
-    let first = c.first_table.ensures ∙ ap (λ (p : List (List ℕ)). get_or (get_or p c.cursor-step.result []) 0 0) (sym c.index-facts-from.is ∙ steps) ∙ ap (λ (k : ℕ). get_or (get_or (profile S (kind_of H u)) k []) 0 0) step in
+    let first = c.first_table.ensures ∙ ap (λ (p : List (List ℕ)). get_or (get_or p c.cursor-step.result []) 0 0) (sym c.index-facts-from.is ∙ steps)
+    ∙ ap (λ (k : ℕ). get_or (get_or (profile S (kind_of H u)) k []) 0 0) step in
     c.rank.ensures ∙ c.requires.stands.ranks c.first_table.result.0 ∙ ap (rank_of_table S n) first

@@ -9,7 +9,8 @@ use Rattle.runtime_pipeline.proofs.pipeline.Pipeline.first_ahead.Goals as goal
 pub has_passed_some-requires-clause-typed : goal.has_passed_some-requires-clause-typed
 has_passed_some-requires-clause-typed c =
     let d : Txn = record { 0 = 0 } in
-    ahead_typed c.args.facts.now c.args.self.now.register.node.0 c.args.t.0 c.before-u-items.result.now c.loop-u.u-index d c.requires.stands.register.book.orderly c.before-u-items.ensures c.loop-u-test.true
+    ahead_typed c.args.facts.now c.args.self.now.register.node.0 c.args.t.0 c.before-u-items.result.now c.loop-u.u-index d c.requires.stands.register.book.orderly c.before-u-items.ensures
+    c.loop-u-test.true
 
 pub loop-u-preserved : goal.loop-u-preserved
 loop-u-preserved c =

@@ -12,10 +12,12 @@ use Rattle.runtime_pipeline.proofs.Said.{stops, first_stop}
 use Rattle.runtime_pipeline.proofs.pipeline.Pipeline.first_holder.Goals as goal
 
 pub is_in_the_way-requires-clause-holder : goal.is_in_the_way-requires-clause-holder
-is_in_the_way-requires-clause-holder c = held_typed c.args.facts.now _ c.args.cell c.holds-hold-items.result.now c.loop-hold.hold-index _ c.requires.stands.register.book.orderly c.holds-hold-items.ensures c.loop-hold-test.true
+is_in_the_way-requires-clause-holder c = held_typed c.args.facts.now _ c.args.cell c.holds-hold-items.result.now c.loop-hold.hold-index _ c.requires.stands.register.book.orderly
+    c.holds-hold-items.ensures c.loop-hold-test.true
 
 pub has_passed-requires-clause-typed : goal.has_passed-requires-clause-typed
-has_passed-requires-clause-typed c = held_typed c.args.facts.now _ c.args.cell c.holds-hold-items.result.now c.loop-hold.hold-index _ c.requires.stands.register.book.orderly c.holds-hold-items.ensures c.loop-hold-test.true
+has_passed-requires-clause-typed c = held_typed c.args.facts.now _ c.args.cell c.holds-hold-items.result.now c.loop-hold.hold-index _ c.requires.stands.register.book.orderly c.holds-hold-items.ensures
+    c.loop-hold-test.true
 
 pub returns-then-not-has_passed : goal.returns-then-not-has_passed
 returns-then-not-has_passed c =
@@ -28,7 +30,8 @@ returns-then-not-has_passed c =
     let d : Hold = record { txn = record { 0 = 0 }; wrote = false } in
     let rank : c.rank-rank.result ≡ rank_of_table S n c.args.cell.table.0 = c.rank-rank.ensures ∙ c.requires.stands.ranks c.args.cell.table.0 in
     let p = stops S H n t c.args.write c.rank-rank.result in
-    let met : in_the_way S H n t c.args.write (get_or hs i d) ≡ true = ap (λ (m : Node). in_the_way S H m.0 t c.args.write (get_or hs i d)) (sym c.node-node.ensures) ∙ sym c.is_in_the_way.ensures ∙ c.if-is_in_the_way.true in
+    let met : in_the_way S H n t c.args.write (get_or hs i d) ≡ true = ap (λ (m : Node). in_the_way S H m.0 t c.args.write (get_or hs i d)) (sym c.node-node.ensures) ∙ sym c.is_in_the_way.ensures
+    ∙ c.if-is_in_the_way.true in
     let free : passed S H n (get_or hs i d).txn.0 c.rank-rank.result ≡ false = sym c.has_passed.ensures ∙ c.if-not-has_passed.true in
     ap holder (find_here p hs i d c.loop-hold-test.true (λ j. met j && not (free j)) c.loop-hold.invariant)
     ∙ ap (λ (l : List Hold). holder (find p l)) c.holds-hold-items.ensures

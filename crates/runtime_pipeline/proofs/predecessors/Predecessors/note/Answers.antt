@@ -19,14 +19,16 @@ finish-requires-clause-ascending c v = lists_ascend _ _ _ c.args.self.now c.requ
 
 pub returns-in-Began-clause-stands : goal.returns-in-Began-clause-stands
 returns-in-Began-clause-stands c =
-    began_next _ _ _ c.args.e c.requires.newest.is c.requires.newest.may c.requires.orderly c.args.self.now c.requires.stands c.begin.new.self c.in-Began.txn c.in-Began.session c.in-Began.kind c.in-Began.instance c.in-Began.is c.begin.ensures.lists c.begin.ensures.unfinished
+    began_next _ _ _ c.args.e c.requires.newest.is c.requires.newest.may c.requires.orderly c.args.self.now c.requires.stands c.begin.new.self c.in-Began.txn c.in-Began.session c.in-Began.kind
+    c.in-Began.instance c.in-Began.is c.begin.ensures.lists c.begin.ensures.unfinished
 
 pub returns-in-Ready-clause-stands : goal.returns-in-Ready-clause-stands
 returns-in-Ready-clause-stands c = ready_next _ _ _ c.args.e c.requires.newest.is c.requires.newest.may c.requires.orderly c.args.self.now c.requires.stands c.in-Ready.is
 
 pub returns-in-Done-clause-stands : goal.returns-in-Done-clause-stands
 returns-in-Done-clause-stands c =
-    end_next _ _ _ c.args.e c.requires.newest.is c.requires.newest.may c.requires.orderly c.args.self.now c.requires.stands c.finish.new.self c.in-Done.txn c.in-Done.is c.finish.ensures.unfinished c.finish.ensures.lists
+    end_next _ _ _ c.args.e c.requires.newest.is c.requires.newest.may c.requires.orderly c.args.self.now c.requires.stands c.finish.new.self c.in-Done.txn c.in-Done.is c.finish.ensures.unfinished
+    c.finish.ensures.lists
 
 pub access-requires-clause-few : goal.access-requires-clause-few
 access-requires-clause-few c =

@@ -6,12 +6,17 @@ use Rattle.script_text.proofs.script.fronts.spaces_end.Goals as goal
 
 pub returns-then-others-ne0-clause-end : goal.returns-then-others-ne0-clause-end
 returns-then-others-ne0-clause-end c =
-    let stop = run_stops is_other c.args.text.now c.loop-at.at 32 (omega arith) (omega arith) (omega (arith, c.others_of-others.ensures)) ∙ ap (count_trailing_zeros 64) (sym c.others_of-others.ensures) in
+    let stop = run_stops is_other c.args.text.now c.loop-at.at 32 (omega arith) (omega arith) (omega (arith, c.others_of-others.ensures))
+    ∙ ap (count_trailing_zeros 64) (sym c.others_of-others.ensures) in
     omega (arith, stop, c.loop-at.invariant.rest)
 
 pub returns-then-others-ne0-clause-within : goal.returns-then-others-ne0-clause-within
 returns-then-others-ne0-clause-within c =
-    omega (arith, stop_within is_other c.args.text.now c.loop-at.at 32 (omega arith) (omega arith) (omega (arith, c.others_of-others.ensures)), ap (count_trailing_zeros 64) (sym c.others_of-others.ensures))
+    omega (
+      arith,
+      stop_within is_other c.args.text.now c.loop-at.at 32 (omega arith) (omega arith) (omega (arith, c.others_of-others.ensures)),
+      ap (count_trailing_zeros 64) (sym c.others_of-others.ensures),
+    )
 
 pub loop-at-preserved : goal.loop-at-preserved
 loop-at-preserved c =

@@ -7,7 +7,8 @@ use Rattle.script_text.proofs.script.words.blank_len.Goals as goal
 
 pub returns-then-inside-ne0-clause-end : goal.returns-then-inside-ne0-clause-end
 returns-then-inside-ne0-clause-end c =
-    let stop = run_stops is_inside c.args.text.now c.loop-at.at 16 (omega arith) (omega arith) (omega (arith, c.inside_of_half-inside.ensures)) ∙ ap (count_trailing_zeros 64) (sym c.inside_of_half-inside.ensures) in
+    let stop = run_stops is_inside c.args.text.now c.loop-at.at 16 (omega arith) (omega arith) (omega (arith, c.inside_of_half-inside.ensures))
+    ∙ ap (count_trailing_zeros 64) (sym c.inside_of_half-inside.ensures) in
     omega (arith, stop, c.loop-at.invariant.rest)
 
 pub returns-then-inside-ne0-clause-within : goal.returns-then-inside-ne0-clause-within
@@ -21,7 +22,8 @@ loop-at-preserved c =
 pub returns-then-inside-ne0-2-clause-end : goal.returns-then-inside-ne0-2-clause-end
 returns-then-inside-ne0-2-clause-end c =
     let here = looked_for_from is_inside c.args.text.now (length c.args.text.now - 16) (omega (arith, c.loop-at.invariant.rest)) in
-    let stop = run_stops is_inside c.args.text.now (length c.args.text.now - 16) 16 (omega arith) (omega arith) (omega (arith, c.inside_of_half-inside-2.ensures)) ∙ ap (count_trailing_zeros 64) (sym c.inside_of_half-inside-2.ensures) in
+    let stop = run_stops is_inside c.args.text.now (length c.args.text.now - 16) 16 (omega arith) (omega arith) (omega (arith, c.inside_of_half-inside-2.ensures))
+    ∙ ap (count_trailing_zeros 64) (sym c.inside_of_half-inside-2.ensures) in
     omega (arith, here, stop)
 
 pub returns-then-inside-ne0-2-clause-within : goal.returns-then-inside-ne0-2-clause-within

@@ -8,5 +8,7 @@ pub returns : goal.returns
 returns c =
     put_at_once _ _ _ _ _ c.extend_from_slice.ensures.items
     (c.as_bytes.ensures ∙ c.put_natural.ensures.text ∙ ap (λ n. decimal n ++ c.put-2.new.self) c.from.ensures
-    ∙ ap (λ l. decimal c.args.session.0 ++ l) (c.put-2.ensures ∙ ap (λ l. codes " values" ++ l) (c.put_values.ensures.text ∙ ap (λ l. spaced (map value_text c.args.values.now) ++ l) (c.put.ensures ∙ ap (λ l. codes "\n" ++ l) c.new-line.ensures)))
+    ∙ ap (λ l. decimal c.args.session.0 ++ l)
+    (c.put-2.ensures ∙ ap (λ l. codes " values" ++ l)
+    (c.put_values.ensures.text ∙ ap (λ l. spaced (map value_text c.args.values.now) ++ l) (c.put.ensures ∙ ap (λ l. codes "\n" ++ l) c.new-line.ensures)))
     ∙ whole_line (decimal c.args.session.0) (codes "values" ∷ map value_text c.args.values.now))

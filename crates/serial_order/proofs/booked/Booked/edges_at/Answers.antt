@@ -26,7 +26,9 @@ pub index_mut-requires : goal.index_mut-requires
 index_mut-requires c =
     let low = leads_within (setup_of c.args.self.now.facts.now) (events_of c.args.self.now.facts.now) 0 c.args.self.now.lawful (c.loop-k.k + 1) (sym c.leads_out.ensures ∙ c.if-leads_out.true) in
     let counted : vec_len c.loop-k.marks ≡ length c.loop-k.marks.items = search rules in
-    let y = c.start.ensures (setup_of c.args.self.now.facts.now) (events_of c.args.self.now.facts.now) 0 (root_batches (setup_of c.args.self.now.facts.now) (events_of c.args.self.now.facts.now) c.args.root.now c.requires.stands c.requires.root c.batches.result.now c.batches.ensures) in let z = c.loop-k.invariant.one_each in omega arith
+    let y = c.start.ensures (setup_of c.args.self.now.facts.now) (events_of c.args.self.now.facts.now) 0
+    (root_batches (setup_of c.args.self.now.facts.now) (events_of c.args.self.now.facts.now) c.args.root.now c.requires.stands c.requires.root c.batches.result.now c.batches.ensures) in
+    let z = c.loop-k.invariant.one_each in omega arith
 
 pub loop-k-preserved : goal.loop-k-preserved
 loop-k-preserved c = elim c.if-leads_out.branch [
@@ -34,13 +36,19 @@ loop-k-preserved c = elim c.if-leads_out.branch [
       let S = setup_of c.args.self.now.facts.now in
       let H = events_of c.args.self.now.facts.now in
       let leads = sym c.leads_out.ensures ∙ w.if-leads_out.true in
-      let low : start S H 0 (c.loop-k.k + 1) < length c.loop-k.marks.items = (let y = leads_within S H 0 c.args.self.now.lawful (c.loop-k.k + 1) leads in let z = c.loop-k.invariant.one_each in omega arith) in
-      subst (AreMarked S H 0 (numbers (c.loop-k.k + 1))) (sym (ap (λ (v : Vec Bool Global). v.items) w.marks-is ∙ ap (λ (i : ℕ). set c.loop-k.marks.items i true) (w.start.ensures S H 0 (root_batches S H c.args.root.now c.requires.stands c.requires.root w.batches.result.now w.batches.ensures))))
+      let low : start S H 0 (c.loop-k.k + 1) < length c.loop-k.marks.items = (let y = leads_within S H 0 c.args.self.now.lawful (c.loop-k.k + 1) leads in let z = c.loop-k.invariant.one_each in
+      omega arith) in
+      subst (AreMarked S H 0 (numbers (c.loop-k.k + 1)))
+      (sym (ap (λ (v : Vec Bool Global). v.items) w.marks-is ∙ ap (λ (i : ℕ). set c.loop-k.marks.items i true)
+      (w.start.ensures S H 0 (root_batches S H c.args.root.now c.requires.stands c.requires.root w.batches.result.now w.batches.ensures))))
       (marks_more S H 0 c.args.self.now.lawful c.loop-k.k c.loop-k.marks.items c.loop-k.invariant leads low)
       )
-  | else-leads_out w ↦ subst (AreMarked (setup_of c.args.self.now.facts.now) (events_of c.args.self.now.facts.now) 0 (numbers (c.loop-k.k + 1))) (sym (ap (λ (v : Vec Bool Global). v.items) w.marks-is))
-      (marks_same (setup_of c.args.self.now.facts.now) (events_of c.args.self.now.facts.now) 0 c.args.self.now.lawful c.loop-k.k c.loop-k.marks.items c.loop-k.invariant (sym c.leads_out.ensures ∙ w.if-leads_out.false))
+  | else-leads_out w ↦ subst (AreMarked (setup_of c.args.self.now.facts.now) (events_of c.args.self.now.facts.now) 0 (numbers (c.loop-k.k + 1)))
+      (sym (ap (λ (v : Vec Bool Global). v.items) w.marks-is))
+      (marks_same (setup_of c.args.self.now.facts.now) (events_of c.args.self.now.facts.now) 0 c.args.self.now.lawful c.loop-k.k c.loop-k.marks.items c.loop-k.invariant
+      (sym c.leads_out.ensures ∙ w.if-leads_out.false))
 ]
 
 pub returns : goal.returns
-returns c = marks_all (setup_of c.args.self.now.facts.now) (events_of c.args.self.now.facts.now) 0 c.args.self.now.lawful c.loop-k.marks.items c.loop-k.k (let z = c.begun-k-end.ensures in let y : c.loop-k.k ≡ begun_count (events_of c.args.self.now.facts.now) = omega arith in y) c.loop-k.invariant
+returns c = marks_all (setup_of c.args.self.now.facts.now) (events_of c.args.self.now.facts.now) 0 c.args.self.now.lawful c.loop-k.marks.items c.loop-k.k
+    (let z = c.begun-k-end.ensures in let y : c.loop-k.k ≡ begun_count (events_of c.args.self.now.facts.now) = omega arith in y) c.loop-k.invariant

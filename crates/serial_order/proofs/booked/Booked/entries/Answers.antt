@@ -9,14 +9,17 @@ use Rattle.serial_order.proofs.Walks.{done_here, typed_there}
 use Rattle.serial_order.proofs.booked.Booked.entries.Goals as goal
 
 pub push_key-requires-clause-typed : goal.push_key-requires-clause-typed
-push_key-requires-clause-typed c = typed_there c.args.self.now.facts.now c.loop-i.i c.in-Done.txn c.args.self.now.lawful (let z : c.loop-i.i < length (events_of c.args.self.now.facts.now) = omega arith in z) c.in-Done.ensures
+push_key-requires-clause-typed c = typed_there c.args.self.now.facts.now c.loop-i.i c.in-Done.txn c.args.self.now.lawful
+    (let z : c.loop-i.i < length (events_of c.args.self.now.facts.now) = omega arith in z) c.in-Done.ensures
 
 pub push_key-requires-clause-done : goal.push_key-requires-clause-done
-push_key-requires-clause-done c = (done_here (setup_of c.args.self.now.facts.now) (events_of c.args.self.now.facts.now) c.loop-i.i (Done c.in-Done.txn) c.args.self.now.lawful (let z : c.loop-i.i < length (events_of c.args.self.now.facts.now) = omega arith in z) c.in-Done.ensures c.in-Done.txn refl).0
+push_key-requires-clause-done c = (done_here (setup_of c.args.self.now.facts.now) (events_of c.args.self.now.facts.now) c.loop-i.i (Done c.in-Done.txn) c.args.self.now.lawful
+    (let z : c.loop-i.i < length (events_of c.args.self.now.facts.now) = omega arith in z) c.in-Done.ensures c.in-Done.txn refl).0
 
 pub loop-i-preserved-in_default : goal.loop-i-preserved-in_default
 loop-i-preserved-in_default c = record {
-  numbers = numbers_skip (entry_numbers c.loop-i.entries.items) (commits_in (reverse (events_of c.args.self.now.facts.now))) (reverse (events_of c.args.self.now.facts.now)) c.loop-i.i c.at.result c.at.ensures c.in_default.not-Done c.loop-i.invariant.numbers;
+  numbers = numbers_skip (entry_numbers c.loop-i.entries.items) (commits_in (reverse (events_of c.args.self.now.facts.now))) (reverse (events_of c.args.self.now.facts.now)) c.loop-i.i c.at.result
+      c.at.ensures c.in_default.not-Done c.loop-i.invariant.numbers;
   keys = c.loop-i.invariant.keys;
 }
 

@@ -10,7 +10,8 @@ returns-in-Locks c = c.requires.done ∙ sym (done_rank (setup_of c.args.self.no
     (elim c.in-Locks.is [ inl q ↦ inl (sym (ap (λ (r : NodeRow). r.control) c.row.ensures) ∙ q) | inr q ↦ inr (sym (ap (λ (r : NodeRow). r.control) c.row.ensures) ∙ q) ]))
 
 pub returns-in-Timestamp : goal.returns-in-Timestamp
-returns-in-Timestamp c = c.start_of.ensures ∙ sym (start_rank (setup_of c.args.self.now.facts.now) (events_of c.args.self.now.facts.now) c.args.n.0 c.args.t.0 (sym (ap (λ (r : NodeRow). r.control) c.row.ensures) ∙ c.in-Timestamp.is))
+returns-in-Timestamp c = c.start_of.ensures
+    ∙ sym (start_rank (setup_of c.args.self.now.facts.now) (events_of c.args.self.now.facts.now) c.args.n.0 c.args.t.0 (sym (ap (λ (r : NodeRow). r.control) c.row.ensures) ∙ c.in-Timestamp.is))
 
 pub returns-then-marks-start : goal.returns-then-marks-start
 returns-then-marks-start c =

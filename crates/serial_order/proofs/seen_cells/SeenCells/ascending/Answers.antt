@@ -12,5 +12,6 @@ returns-then-is_empty c = only_marked c.args.self c.in_ok-cells.cells.items c.re
 pub returns : goal.returns
 returns c = rw (dedup_is _ _ _ c.dedup.ensures.filtered) (all_sorted c.args.self c.in_ok-cells.cells.items c.sort_unstable.new.self.items c.sort.new.self.items c.requires c.in_ok-cells.ensures
     c.sort_unstable.ensures.permutation
-    (subst (λ (xs : List Cell). IsPermutation xs c.sort.new.self.items) (c.in_ok-extend_from_slice.ensures.items ∙ ap (λ (xs : List Cell). c.in_ok-cells.cells.items ++ xs) c.deref.ensures.value) c.in_ok-sort.ensures.permutation)
+    (subst (λ (xs : List Cell). IsPermutation xs c.sort.new.self.items) (c.in_ok-extend_from_slice.ensures.items ∙ ap (λ (xs : List Cell). c.in_ok-cells.cells.items ++ xs) c.deref.ensures.value)
+    c.in_ok-sort.ensures.permutation)
     c.in_ok-sort.ensures.sorted)

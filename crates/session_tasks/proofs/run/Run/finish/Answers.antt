@@ -45,9 +45,11 @@ loop-task-preserved g c =
     let step : suc k ≡ vec_len c.push_reserved.new.self = omega arith in record {
       few = omega arith;
       room = c.push_reserved.ensures.capacity ∙ inv.room;
-      sessions = sessions_on h c.loop-task.passes.items c.push_reserved.new.self.items p k inv.sessions (ap (λ (s : Session). s.0) c.in_ok-finish_task.ensures.session ∙ front.session) c.push_reserved.ensures.items ∙ ap numbers step;
+      sessions = sessions_on h c.loop-task.passes.items c.push_reserved.new.self.items p k inv.sessions (ap (λ (s : Session). s.0) c.in_ok-finish_task.ensures.session ∙ front.session)
+          c.push_reserved.ensures.items ∙ ap numbers step;
       served = subst (All (IsServed h x)) (sym c.push_reserved.ensures.items) (All-push (IsServed h x) c.loop-task.passes.items p inv.served c.in_ok-finish_task.ensures.served);
-      none = one_more (IsTask h x) k (vec_len c.push_reserved.new.self) u.0 inv.none u.1 (through_stands u.0 u.2) (ap (λ (q : _). q.session.0) u.3 ∙ (ap (λ (s : Session). s.0) c.in_ok-finish_task.ensures.session ∙ front.session)) more;
+      none = one_more (IsTask h x) k (vec_len c.push_reserved.new.self) u.0 inv.none u.1 (through_stands u.0 u.2)
+          (ap (λ (q : _). q.session.0) u.3 ∙ (ap (λ (s : Session). s.0) c.in_ok-finish_task.ensures.session ∙ front.session)) more;
       tasks = subst (λ (n : ℕ). AreTasks h x (count_from (suc n) (SESSIONS - n)) ts) (sym more) front.rest;
     }
 

@@ -22,7 +22,8 @@ returns-then-meet_at c =
     let us = c.args.among.now in
     let i = c.loop-u.u-index in
     let d : Txn = record { 0 = 0 } in
-    let met : is_met S H n t (get_or us i d) ≡ true = and_from (unfinished H (get_or us i d).0) (meets S H n t (get_or us i d).0) (sym c.is_unfinished.ensures ∙ c.if-is_unfinished.true) (sym c.meet_at.ensures ∙ c.if-meet_at.true) in
+    let met : is_met S H n t (get_or us i d) ≡ true = and_from (unfinished H (get_or us i d).0) (meets S H n t (get_or us i d).0) (sym c.is_unfinished.ensures ∙ c.if-is_unfinished.true)
+    (sym c.meet_at.ensures ∙ c.if-meet_at.true) in
     find_here (is_met S H n t) us i d c.loop-u-test.true met c.loop-u.invariant
 
 pub returns : goal.returns

@@ -5,7 +5,8 @@ use Rattle.snapshot_node.proofs.Closing.{close_told}
 use Rattle.snapshot_node.proofs.asked.Asked.close_of.Goals as goal
 
 pub close-requires : goal.close-requires
-close-requires c = joined_from _ (setup_of c.args.self.now.facts.now) (events_of c.args.self.now.facts.now) c.args.self.now.register.now.node.0 c.args.a.0 c.args.self.now.stands.batches c.requires.typed.begun c.requires.on
+close-requires c = joined_from _ (setup_of c.args.self.now.facts.now) (events_of c.args.self.now.facts.now) c.args.self.now.register.now.node.0 c.args.a.0 c.args.self.now.stands.batches
+    c.requires.typed.begun c.requires.on
 
 pub returns : goal.returns
 returns c =

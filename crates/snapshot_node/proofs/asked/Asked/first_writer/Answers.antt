@@ -26,8 +26,10 @@ returns-then-meet_at c =
     let us = c.args.among.now in
     let i = c.loop-u.u-index in
     let d : Txn = record { 0 = 0 } in
-    let late = and_from (committed H (get_or us i d).0) (not (ltb (close S H n (get_or us i d).0) (start S H n t))) (sym c.is_committed.ensures ∙ c.if-is_committed.true) (ap not (sym c.is_closed_before.ensures) ∙ not_from_false _ c.if-not-is_closed_before.true) in
-    let first : comes_first S H n t (get_or us i d) ≡ true = and_from (committed H (get_or us i d).0 && not (ltb (close S H n (get_or us i d).0) (start S H n t))) (meets S H n t (get_or us i d).0) late (sym c.meet_at.ensures ∙ c.if-meet_at.true) in
+    let late = and_from (committed H (get_or us i d).0) (not (ltb (close S H n (get_or us i d).0) (start S H n t))) (sym c.is_committed.ensures ∙ c.if-is_committed.true)
+    (ap not (sym c.is_closed_before.ensures) ∙ not_from_false _ c.if-not-is_closed_before.true) in
+    let first : comes_first S H n t (get_or us i d) ≡ true = and_from (committed H (get_or us i d).0 && not (ltb (close S H n (get_or us i d).0) (start S H n t))) (meets S H n t (get_or us i d).0)
+    late (sym c.meet_at.ensures ∙ c.if-meet_at.true) in
     find_here (comes_first S H n t) us i d c.loop-u-test.true first c.loop-u.invariant
 
 pub returns : goal.returns

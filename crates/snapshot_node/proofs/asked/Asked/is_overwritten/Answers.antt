@@ -9,7 +9,8 @@ use Rattle.snapshot_node.proofs.Overwritten.{started_among, none_committed, last
 use Rattle.snapshot_node.proofs.asked.Asked.is_overwritten.Goals as goal
 
 pub overlap-requires-clause-first : goal.overlap-requires-clause-first
-overlap-requires-clause-first c = joined_from _ (setup_of c.args.self.now.facts.now) (events_of c.args.self.now.facts.now) c.args.self.now.register.now.node.0 c.args.a.0 c.args.self.now.stands.batches c.requires.here.typed.begun c.requires.here.on
+overlap-requires-clause-first c = joined_from _ (setup_of c.args.self.now.facts.now) (events_of c.args.self.now.facts.now) c.args.self.now.register.now.node.0 c.args.a.0 c.args.self.now.stands.batches
+    c.requires.here.typed.begun c.requires.here.on
 
 pub overlap-requires-clause-second : goal.overlap-requires-clause-second
 overlap-requires-clause-second c =

@@ -18,19 +18,23 @@ loop-event-init c =
 pub returns-then-is_overwritten : goal.returns-then-is_overwritten
 returns-then-is_overwritten c =
     let p = gets_overwritten (setup_of c.args.self.now.facts.now) (events_of c.args.self.now.facts.now) c.args.self.now.register.now.node.0 c.args.a.0 in
-    any_first p c.in-Some.event c.next.new.self c.loop-event.event-iterator _ c.in-Some.ensures.steps c.loop-event.invariant (ap p c.in-Got.is ∙ sym c.is_overwritten.ensures ∙ c.if-is_overwritten.true)
+    any_first p c.in-Some.event c.next.new.self c.loop-event.event-iterator _ c.in-Some.ensures.steps c.loop-event.invariant
+    (ap p c.in-Got.is ∙ sym c.is_overwritten.ensures ∙ c.if-is_overwritten.true)
 
 pub loop-event-preserved-else-is_overwritten : goal.loop-event-preserved-else-is_overwritten
 loop-event-preserved-else-is_overwritten c =
     let p = gets_overwritten (setup_of c.args.self.now.facts.now) (events_of c.args.self.now.facts.now) c.args.self.now.register.now.node.0 c.args.a.0 in
-    any_later p c.in-Some.event c.next.new.self c.loop-event.event-iterator _ c.in-Some.ensures.steps c.loop-event.invariant (ap p c.in-Got.is ∙ sym c.is_overwritten.ensures ∙ c.if-is_overwritten.false)
+    any_later p c.in-Some.event c.next.new.self c.loop-event.event-iterator _ c.in-Some.ensures.steps c.loop-event.invariant
+    (ap p c.in-Got.is ∙ sym c.is_overwritten.ensures ∙ c.if-is_overwritten.false)
 
 pub loop-event-preserved : goal.loop-event-preserved
 loop-event-preserved c =
     let S = setup_of c.args.self.now.facts.now in
     let H = events_of c.args.self.now.facts.now in
     let n = c.args.self.now.register.now.node.0 in
-    any_later (gets_overwritten S H n c.args.a.0) c.in-Some.event c.next.new.self c.loop-event.event-iterator _ c.in-Some.ensures.steps c.loop-event.invariant (not_got S H n c.args.a.0 c.in-Some.event c.in_default.not-Got)
+    any_later (gets_overwritten S H n c.args.a.0) c.in-Some.event c.next.new.self c.loop-event.event-iterator _ c.in-Some.ensures.steps c.loop-event.invariant
+    (not_got S H n c.args.a.0 c.in-Some.event c.in_default.not-Got)
 
 pub returns : goal.returns
-returns c = sym (ap (list_any (gets_overwritten (setup_of c.args.self.now.facts.now) (events_of c.args.self.now.facts.now) c.args.self.now.register.now.node.0 c.args.a.0)) c.in-None.ensures.steps.0) ∙ c.loop-event.invariant
+returns c = sym (ap (list_any (gets_overwritten (setup_of c.args.self.now.facts.now) (events_of c.args.self.now.facts.now) c.args.self.now.register.now.node.0 c.args.a.0)) c.in-None.ensures.steps.0)
+    ∙ c.loop-event.invariant

@@ -20,7 +20,8 @@ start-requires c =
     let m = c.loop-first.first + (c.loop-first.end - c.loop-first.first) / 2 in
     let low : m < length all = (let y = c.loop-first.invariant.within in let z = c.loop-first-test.true in omega arith) in
     let h = writers_here f n c.args.cell c.args.self.now.stands.orderly (get_or all m d).0 (at_among all m d low) in
-    subst (λ (us : List Txn). has_joined c.args.self.now.register.now.batches (get_or us m d).0 ≡ true) (sym c.writers-writers.ensures) (joined_from _ S H n (get_or all m d).0 c.args.self.now.stands.batches h.typed.begun h.on)
+    subst (λ (us : List Txn). has_joined c.args.self.now.register.now.batches (get_or us m d).0 ≡ true) (sym c.writers-writers.ensures)
+    (joined_from _ S H n (get_or all m d).0 c.args.self.now.stands.batches h.typed.begun h.on)
 
 pub loop-first-preserved-then-start-at : goal.loop-first-preserved-then-start-at
 loop-first-preserved-then-start-at c =

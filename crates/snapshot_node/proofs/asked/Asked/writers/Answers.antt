@@ -10,4 +10,5 @@ returns c =
     let H = events_of c.args.self.now.facts.now in
     let n = c.args.self.now.register.now.node.0 in
     let x = c.args.cell in
-    c.writers.ensures ∙ listed (has_put_in S H n x) H c.args.self.now.stands.orderly (putter_begun S H n x c.args.self.now.stands.orderly) _ (c.args.self.now.stands.filed.writers x) (c.args.self.now.stands.put x)
+    c.writers.ensures ∙ listed (has_put_in S H n x) H c.args.self.now.stands.orderly (putter_begun S H n x c.args.self.now.stands.orderly) _ (c.args.self.now.stands.filed.writers x)
+    (c.args.self.now.stands.put x)

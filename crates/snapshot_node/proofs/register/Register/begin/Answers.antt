@@ -50,7 +50,8 @@ returns-then-is_on-clause-stands c =
     let q = c.requires.newest in
     let noted = c.begin.ensures in
     subst (λ (G : List Event). on S G n t.0 ≡ true → d ≡ side S G n t.0 → SnapshotStand n b' a' S G) (sym q.3.is)
-    (λ o e. noted_began S P n was.batches was.accesses c.requires.stands t q.0 q.1 q.2 q.3.may a' noted.readers noted.writers noted.committed noted.touched noted.begun b' d c.args.at o e c.requires.at c.join.ensures.size c.join.ensures.batches)
+    (λ o e. noted_began S P n was.batches was.accesses c.requires.stands t q.0 q.1 q.2 q.3.may a' noted.readers noted.writers noted.committed noted.touched noted.begun b' d c.args.at o e c.requires.at
+    c.join.ensures.size c.join.ensures.batches)
     (sym c.is_on.ensures ∙ c.if-is_on.true) c.side.ensures
 
 pub returns-else-is_on-clause-stands : goal.returns-else-is_on-clause-stands
@@ -75,7 +76,8 @@ returns-then-is_on-clause-committed c =
     let a' = c.begin.new.self in
     let q = c.requires.newest in
     subst (λ (G : List Event). CommittedStand was.node.0 a' S G) (sym q.3.is)
-    (committed_began S (drop 1 (events_of c.args.facts.now)) was.node.0 was.accesses c.requires.committed a' c.begin.ensures.committed c.begin.ensures.pending c.args.txn q.0 q.1 q.2 c.requires.stands.orderly q.3.may)
+    (committed_began S (drop 1 (events_of c.args.facts.now)) was.node.0 was.accesses c.requires.committed a' c.begin.ensures.committed c.begin.ensures.pending c.args.txn q.0 q.1 q.2
+    c.requires.stands.orderly q.3.may)
 
 pub returns-else-is_on-clause-committed : goal.returns-else-is_on-clause-committed
 returns-else-is_on-clause-committed c =
@@ -84,4 +86,5 @@ returns-else-is_on-clause-committed c =
     let a' = c.begin.new.self in
     let q = c.requires.newest in
     subst (λ (G : List Event). CommittedStand was.node.0 a' S G) (sym q.3.is)
-    (committed_began S (drop 1 (events_of c.args.facts.now)) was.node.0 was.accesses c.requires.committed a' c.begin.ensures.committed c.begin.ensures.pending c.args.txn q.0 q.1 q.2 c.requires.stands.orderly q.3.may)
+    (committed_began S (drop 1 (events_of c.args.facts.now)) was.node.0 was.accesses c.requires.committed a' c.begin.ensures.committed c.begin.ensures.pending c.args.txn q.0 q.1 q.2
+    c.requires.stands.orderly q.3.may)

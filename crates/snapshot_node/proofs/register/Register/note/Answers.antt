@@ -117,7 +117,8 @@ returns-then-has-clause-stands c =
     let m = subst (λ (d : Event). MayNote S P n d) c.in-Got.is c.requires.newest.may in
     let now = c.read.ensures in
     subst (λ (G : List Event). SnapshotStand n was.batches c.read.new.self S G) (sym (c.requires.newest.is ∙ ap (λ (d : Event). d ∷ P) c.in-Got.is))
-    (noted_got S P n was.batches was.accesses c.requires.stands c.in-Got.txn c.in-Got.cell c.in-Got.from c.in-Got.value m c.read.new.self (sym c.has.ensures.joined ∙ c.if-has.true) now.filed now.readers now.writers now.begun now.touched)
+    (noted_got S P n was.batches was.accesses c.requires.stands c.in-Got.txn c.in-Got.cell c.in-Got.from c.in-Got.value m c.read.new.self (sym c.has.ensures.joined ∙ c.if-has.true) now.filed
+    now.readers now.writers now.begun now.touched)
 
 pub returns-else-has-clause-stands : goal.returns-else-has-clause-stands
 returns-else-has-clause-stands c =
@@ -138,7 +139,8 @@ returns-then-has-2-clause-stands c =
     let m = subst (λ (d : Event). MayNote S P n d) c.in-Put.is c.requires.newest.may in
     let now = c.put.ensures in
     subst (λ (G : List Event). SnapshotStand n was.batches c.put.new.self S G) (sym (c.requires.newest.is ∙ ap (λ (d : Event). d ∷ P) c.in-Put.is))
-    (noted_put S P n was.batches was.accesses c.requires.stands c.in-Put.txn c.in-Put.cell c.in-Put.value m c.put.new.self (sym c.has-in-Put.ensures.joined ∙ c.if-has-2.true) now.filed now.readers now.writers now.begun now.touched)
+    (noted_put S P n was.batches was.accesses c.requires.stands c.in-Put.txn c.in-Put.cell c.in-Put.value m c.put.new.self (sym c.has-in-Put.ensures.joined ∙ c.if-has-2.true) now.filed now.readers
+    now.writers now.begun now.touched)
 
 pub returns-else-has-2-clause-stands : goal.returns-else-has-2-clause-stands
 returns-else-has-2-clause-stands c =
@@ -161,7 +163,8 @@ returns-in-Done-clause-stands c =
     let l : c.len-at.result - 1 ≡ length P = omega (arith, c.len-at.ensures, z) in
     let now = c.commit.ensures in
     subst (λ (G : List Event). SnapshotStand n c.finish.new.self c.commit.new.self S G) (sym (c.requires.newest.is ∙ ap (λ (d : Event). d ∷ P) c.in-Done.is))
-    (noted_done S P n was.batches was.accesses c.requires.stands c.in-Done.txn c.finish.new.self (c.len-at.result - 1) l c.finish.ensures.size c.finish.ensures.batches c.commit.new.self now.filed now.begun now.touched m now.readers now.writers)
+    (noted_done S P n was.batches was.accesses c.requires.stands c.in-Done.txn c.finish.new.self (c.len-at.result - 1) l c.finish.ensures.size c.finish.ensures.batches c.commit.new.self now.filed
+    now.begun now.touched m now.readers now.writers)
 
 pub returns-in-Gone-clause-stands : goal.returns-in-Gone-clause-stands
 returns-in-Gone-clause-stands c =
@@ -174,7 +177,8 @@ returns-in-Gone-clause-stands c =
     let l : c.len-at.result - 1 ≡ length P = omega (arith, c.len-at.ensures, z) in
     let now = c.abort.ensures in
     subst (λ (G : List Event). SnapshotStand n c.finish-in-Gone.new.self c.abort.new.self S G) (sym (c.requires.newest.is ∙ ap (λ (d : Event). d ∷ P) c.in-Gone.is))
-    (noted_gone S P n was.batches was.accesses c.requires.stands c.in-Gone.txn c.finish-in-Gone.new.self (c.len-at.result - 1) l c.finish-in-Gone.ensures.size c.finish-in-Gone.ensures.batches c.abort.new.self now.filed now.begun now.touched c.in-Gone.cause m now.readers now.writers)
+    (noted_gone S P n was.batches was.accesses c.requires.stands c.in-Gone.txn c.finish-in-Gone.new.self (c.len-at.result - 1) l c.finish-in-Gone.ensures.size c.finish-in-Gone.ensures.batches
+    c.abort.new.self now.filed now.begun now.touched c.in-Gone.cause m now.readers now.writers)
 
 pub returns-in-Ready-clause-stands : goal.returns-in-Ready-clause-stands
 returns-in-Ready-clause-stands c =
@@ -182,7 +186,8 @@ returns-in-Ready-clause-stands c =
     let P = drop 1 (events_of c.args.facts.now) in
     let was = c.args.self.now in
     let n = was.node.0 in
-    let now = λ (d : Event) (q : c.args.e ≡ d) (k : SnapshotStand n was.batches was.accesses S (d ∷ P)). subst (λ (G : List Event). SnapshotStand n was.batches was.accesses S G) (sym (c.requires.newest.is ∙ ap (λ (d : Event). d ∷ P) q)) k in
+    let now = λ (d : Event) (q : c.args.e ≡ d) (k : SnapshotStand n was.batches was.accesses S (d ∷ P)). subst (λ (G : List Event). SnapshotStand n was.batches was.accesses S G)
+    (sym (c.requires.newest.is ∙ ap (λ (d : Event). d ∷ P) q)) k in
     let may = λ (d : Event) (q : c.args.e ≡ d). subst (λ (d : Event). MayNote S P n d) q c.requires.newest.may in
     elim c.in-Ready.is [
       | inl q ↦ now _ q.1 (noted_ready S P n was.batches was.accesses c.requires.stands q.0 (may _ q.1))
@@ -215,7 +220,8 @@ returns-then-has-2-clause-committed c =
     let n = was.node.0 in
     let m = subst (λ (d : Event). MayNote S P n d) c.in-Put.is c.requires.newest.may in
     subst (λ (G : List Event). CommittedStand n c.put.new.self S G) (sym (c.requires.newest.is ∙ ap (λ (d : Event). d ∷ P) c.in-Put.is))
-    (committed_put S P n was.accesses c.requires.committed c.in-Put.txn c.in-Put.cell c.in-Put.value m.0 c.put.new.self (here S P n was.batches was.accesses c.requires.stands c.in-Put.txn.0 m.0 ∙ sym c.has-in-Put.ensures.joined ∙ c.if-has-2.true) c.put.ensures.committed c.put.ensures.pending)
+    (committed_put S P n was.accesses c.requires.committed c.in-Put.txn c.in-Put.cell c.in-Put.value m.0 c.put.new.self (here S P n was.batches was.accesses c.requires.stands c.in-Put.txn.0 m.0
+    ∙ sym c.has-in-Put.ensures.joined ∙ c.if-has-2.true) c.put.ensures.committed c.put.ensures.pending)
 
 pub returns-else-has-2-clause-committed : goal.returns-else-has-2-clause-committed
 returns-else-has-2-clause-committed c =
@@ -225,7 +231,8 @@ returns-else-has-2-clause-committed c =
     let n = was.node.0 in
     let m = subst (λ (d : Event). MayNote S P n d) c.in-Put.is c.requires.newest.may in
     subst (λ (G : List Event). CommittedStand n was.accesses S G) (sym (c.requires.newest.is ∙ ap (λ (d : Event). d ∷ P) c.in-Put.is))
-    (committed_put_off S P n was.accesses c.requires.committed c.in-Put.txn c.in-Put.cell c.in-Put.value m.0 (here S P n was.batches was.accesses c.requires.stands c.in-Put.txn.0 m.0 ∙ sym c.has-in-Put.ensures.joined ∙ c.if-has-2.false))
+    (committed_put_off S P n was.accesses c.requires.committed c.in-Put.txn c.in-Put.cell c.in-Put.value m.0 (here S P n was.batches was.accesses c.requires.stands c.in-Put.txn.0 m.0
+    ∙ sym c.has-in-Put.ensures.joined ∙ c.if-has-2.false))
 
 pub returns-in-Done-clause-committed : goal.returns-in-Done-clause-committed
 returns-in-Done-clause-committed c =
@@ -245,7 +252,8 @@ returns-in-Gone-clause-committed c =
     let n = was.node.0 in
     let m = subst (λ (d : Event). MayNote S P n d) c.in-Gone.is c.requires.newest.may in
     subst (λ (G : List Event). CommittedStand n c.abort.new.self S G) (sym (c.requires.newest.is ∙ ap (λ (d : Event). d ∷ P) c.in-Gone.is))
-    (committed_gone S P n was.accesses c.requires.committed c.in-Gone.txn m (c.requires.stands.touched c.in-Gone.txn.0) c.abort.new.self c.in-Gone.cause c.abort.ensures.committed c.abort.ensures.pending)
+    (committed_gone S P n was.accesses c.requires.committed c.in-Gone.txn m (c.requires.stands.touched c.in-Gone.txn.0) c.abort.new.self c.in-Gone.cause c.abort.ensures.committed
+    c.abort.ensures.pending)
 
 pub returns-in-Ready-clause-committed : goal.returns-in-Ready-clause-committed
 returns-in-Ready-clause-committed c =
@@ -253,7 +261,8 @@ returns-in-Ready-clause-committed c =
     let P = drop 1 (events_of c.args.facts.now) in
     let was = c.args.self.now in
     let n = was.node.0 in
-    let now = λ (d : Event) (q : c.args.e ≡ d) (k : CommittedStand n was.accesses S (d ∷ P)). subst (λ (G : List Event). CommittedStand n was.accesses S G) (sym (c.requires.newest.is ∙ ap (λ (d : Event). d ∷ P) q)) k in
+    let now = λ (d : Event) (q : c.args.e ≡ d) (k : CommittedStand n was.accesses S (d ∷ P)). subst (λ (G : List Event). CommittedStand n was.accesses S G)
+    (sym (c.requires.newest.is ∙ ap (λ (d : Event). d ∷ P) q)) k in
     elim c.in-Ready.is [
       | inl q ↦ now _ q.1 (committed_ready S P n was.accesses c.requires.committed q.0)
       | inr q ↦ now _ q.1 (committed_told S P n was.accesses c.requires.committed q.0)

@@ -11,5 +11,6 @@ pub returns-then-not-mark_at : goal.returns-then-not-mark_at
 returns-then-not-mark_at c =
     let S = setup_of c.args.facts.now in
     let stands = c.requires.stands in
-    unmarked S (tree_facts S c.requires.sound) (events_of c.args.facts.now) c.args.self.now.register.node.0 c.args.a.0 c.args.self.now.marks.items c.requires.lawful stands.register.orderly stands.register.kind stands.marked c.requires.committed
+    unmarked S (tree_facts S c.requires.sound) (events_of c.args.facts.now) c.args.self.now.register.node.0 c.args.a.0 c.args.self.now.marks.items c.requires.lawful stands.register.orderly
+    stands.register.kind stands.marked c.requires.committed
     (sym (ap₂ is_ahead c.deref.ensures.value c.place_of.ensures) ∙ sym (ap (λ (m : Mark). m.ahead) c.mark_at.ensures) ∙ false_from_ne_true _ (λ e. both_ways _ (ap not e) c.if-not-mark_at.true))

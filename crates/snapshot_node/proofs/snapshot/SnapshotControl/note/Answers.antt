@@ -43,7 +43,10 @@ returns-then-has-clause-stands c =
           (λ t q l u a b. let z : Some c.in-Some.t ≡ Some t = sym (sym c.validated.ensures ∙ c.in-Some.is) ∙ q in
           let is : c.in-Some.t ≡ t = cc in
           let st = stake_settled H c.in-Some.t.0 u b in
-          subst (λ (s : Txn). TellsOf S H m ms s.0 u) is ((λ p. c.mark_edges.ensures.ahead (record { lawful = l; runs = settled_stands S H c.in-Some.t.0 l (subst (λ (s : Txn). IsSettled H s.0) (sym is) a) }) u st p), (λ p. c.mark_edges.ensures.behind (record { lawful = l; runs = settled_stands S H c.in-Some.t.0 l (subst (λ (s : Txn). IsSettled H s.0) (sym is) a) }) u st p)));
+          subst (λ (s : Txn). TellsOf S H m ms s.0 u) is (
+            (λ p. c.mark_edges.ensures.ahead (record { lawful = l; runs = settled_stands S H c.in-Some.t.0 l (subst (λ (s : Txn). IsSettled H s.0) (sym is) a) }) u st p),
+            (λ p. c.mark_edges.ensures.behind (record { lawful = l; runs = settled_stands S H c.in-Some.t.0 l (subst (λ (s : Txn). IsSettled H s.0) (sym is) a) }) u st p),
+          ));
     })
 
 pub returns-else-has-clause-stands : goal.returns-else-has-clause-stands
@@ -56,7 +59,8 @@ returns-else-has-clause-stands c =
     let pushed = c.push.new.self.items in
     let same : m ≡ c.args.self.now.register.node.0 = ap (λ (k : Node). k.0) c.note.ensures.node in
     let push : pushed ≡ old ++ no_mark ∷ [] = rw (c.push.ensures.succeeds (omega arith)) at c.push.ensures.items in
-    let begun : begun H c.in-Some.t.0 ≡ true = ap (λ (G : List Event). begun G c.in-Some.t.0) c.requires.newest.is ∙ validated_begun S (drop 1 H) c.args.self.now.register.node.0 c.args.e c.in-Some.t c.requires.newest.may (sym c.in-Some.ensures) in
+    let begun : begun H c.in-Some.t.0 ≡ true = ap (λ (G : List Event). begun G c.in-Some.t.0) c.requires.newest.is ∙ validated_begun S (drop 1 H) c.args.self.now.register.node.0 c.args.e c.in-Some.t
+    c.requires.newest.may (sym c.in-Some.ensures) in
     let off : on S H m c.in-Some.t.0 ≡ false = on_joined c.note.new.self.batches S H m c.in-Some.t.0 c.note.ensures.stands.batches begun ∙ sym c.has.ensures.joined ∙ c.if-has.false in
     record {
       register = c.note.ensures.stands;

@@ -15,5 +15,6 @@ pub returns-clause-stands : goal.returns-clause-stands
 returns-clause-stands c S H h = record {
   register = c.reserve.ensures.stands S H h.register;
   committed = c.reserve.ensures.committed S H h.committed;
-  marked = subst (λ (ms : List Mark). AreMarked S H c.reserve.new.self.node.0 ms) (sym c.make_wide_room.ensures.items) (subst (λ (m : Node). AreMarked S H m.0 c.args.self.now.marks.items) (sym c.reserve.ensures.node) h.marked);
+  marked = subst (λ (ms : List Mark). AreMarked S H c.reserve.new.self.node.0 ms) (sym c.make_wide_room.ensures.items)
+      (subst (λ (m : Node). AreMarked S H m.0 c.args.self.now.marks.items) (sym c.reserve.ensures.node) h.marked);
 }

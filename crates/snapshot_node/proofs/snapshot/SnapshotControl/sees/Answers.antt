@@ -11,4 +11,5 @@ pub is_closed_before-requires-clause-right : goal.is_closed_before-requires-clau
 is_closed_before-requires-clause-right c = record { typed = c.requires.pair.left; on = (meets_parts _ _ _ _ _ c.requires.pair.meet).0 }
 
 pub returns : goal.returns
-returns c = c.is_closed_before.ensures ∙ snapshot_sees (setup_of c.args.facts.now) (events_of c.args.facts.now) c.args.self.now.register.node.0 c.args.reader.0 c.args.writer.0 c.args._cell c.requires.stands.register.kind
+returns c = c.is_closed_before.ensures ∙ snapshot_sees (setup_of c.args.facts.now) (events_of c.args.facts.now) c.args.self.now.register.node.0 c.args.reader.0 c.args.writer.0 c.args._cell
+    c.requires.stands.register.kind

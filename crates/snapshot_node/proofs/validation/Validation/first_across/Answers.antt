@@ -9,7 +9,8 @@ use Rattle.snapshot_node.proofs.validation.Validation.first_across.Goals as goal
 use Rattle.snapshot_node.proofs.validation.Validation.first_across.Goals.{else-is_at_stake-via-then-is_at_stake+else-are_across, else-is_at_stake-via-else-is_at_stake}
 
 pub loop-v-init : goal.loop-v-init
-loop-v-init c = none_yet (IsAcross (setup_of c.args.self.now.asked.facts.now) (events_of c.args.self.now.asked.facts.now) c.args.self.now.asked.register.now.node.0 c.args.self.now.t.0 c.args.u.0 c.args.among.now) (record { 0 = 0 }) c.args.among.now
+loop-v-init c = none_yet (IsAcross (setup_of c.args.self.now.asked.facts.now) (events_of c.args.self.now.asked.facts.now) c.args.self.now.asked.register.now.node.0 c.args.self.now.t.0 c.args.u.0
+    c.args.among.now) (record { 0 = 0 }) c.args.among.now
 
 pub are_across-requires-clause-right : goal.are_across-requires-clause-right
 are_across-requires-clause-right c = c.requires.among_here _ (at_among c.args.among.now c.loop-v.v-index _ c.loop-v-test.true)

@@ -22,7 +22,8 @@ returns-then-is_some c =
     let n = v.asked.register.now.node.0 in
     let t = v.t.0 in
     subst (IsLeast (ComesBefore S H n t)) (sym c.lesser.ensures)
-    (least_with (ComesIn S H n t) (λ (a : ℕ). Leads S H n t a t) (IsLeft S H n t t) _ _ (is_left S H n t t _ _ c.is_some.ensures c.if-is_some.true c.edge_out.ensures) c.least_before-least.ensures c.requires.behind)
+    (least_with (ComesIn S H n t) (λ (a : ℕ). Leads S H n t a t) (IsLeft S H n t t) _ _ (is_left S H n t t _ _ c.is_some.ensures c.if-is_some.true c.edge_out.ensures) c.least_before-least.ensures
+    c.requires.behind)
 
 pub returns : goal.returns
 returns c =

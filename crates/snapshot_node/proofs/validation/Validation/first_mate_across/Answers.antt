@@ -9,7 +9,8 @@ use Rattle.snapshot_node.proofs.validation.Validation.first_mate_across.Goals as
 use Rattle.snapshot_node.proofs.validation.Validation.first_mate_across.Goals.{else-are_one_batch-via-then-are_one_batch+then-is_at_stake+else-are_across, else-are_one_batch-via-then-are_one_batch+else-is_at_stake, else-are_one_batch-via-else-are_one_batch}
 
 pub loop-u-init : goal.loop-u-init
-loop-u-init c = none_yet (IsMateAmong (setup_of c.args.self.now.asked.facts.now) (events_of c.args.self.now.asked.facts.now) c.args.self.now.asked.register.now.node.0 c.args.self.now.t.0 c.args.b.0 c.args.among.now) (record { 0 = 0 }) c.args.among.now
+loop-u-init c = none_yet (IsMateAmong (setup_of c.args.self.now.asked.facts.now) (events_of c.args.self.now.asked.facts.now) c.args.self.now.asked.register.now.node.0 c.args.self.now.t.0 c.args.b.0
+    c.args.among.now) (record { 0 = 0 }) c.args.among.now
 
 pub are_one_batch-requires-clause-begun_b : goal.are_one_batch-requires-clause-begun_b
 are_one_batch-requires-clause-begun_b c = c.requires.here.typed.begun

@@ -13,7 +13,8 @@ returns-then-mark_of c =
     let S = setup_of v.asked.facts.now in
     let H = events_of v.asked.facts.now in
     let n = v.asked.register.now.node.0 in
-    into_known S H n v.t c.args.c.0 (may_be_led_to v) (led_to_only S H n v.t.0 v.lawful v.asked.stands.orderly (unfinished_parts H v.t.0 v.unfinished).2 v.tree v.asked.stands.kind v.marks.now v.marked) _ c.known_into.ensures
+    into_known S H n v.t c.args.c.0 (may_be_led_to v)
+    (led_to_only S H n v.t.0 v.lawful v.asked.stands.orderly (unfinished_parts H v.t.0 v.unfinished).2 v.tree v.asked.stands.kind v.marks.now v.marked) _ c.known_into.ensures
 
 pub returns-then-not-are_one_batch : goal.returns-then-not-are_one_batch
 returns-then-not-are_one_batch c =
@@ -21,7 +22,8 @@ returns-then-not-are_one_batch c =
     let S = setup_of v.asked.facts.now in
     let H = events_of v.asked.facts.now in
     let n = v.asked.register.now.node.0 in
-    let mine = entered_only S H n v.t.0 v.lawful v.asked.stands.orderly (unfinished_parts H v.t.0 v.unfinished).2 v.tree v.asked.stands.kind v.marks.now v.marked c.args.c.0 (ap (λ (m : Mark). m.entered) (sym c.mark_of.ensures) ∙ c.if-mark_of.false) in
+    let mine = entered_only S H n v.t.0 v.lawful v.asked.stands.orderly (unfinished_parts H v.t.0 v.unfinished).2 v.tree v.asked.stands.kind v.marks.now v.marked c.args.c.0
+    (ap (λ (m : Mark). m.entered) (sym c.mark_of.ensures) ∙ c.if-mark_of.false) in
     into_none S H n v.t c.args.c.0 mine (sym c.are_one_batch.ensures ∙ c.if-not-are_one_batch.true)
 
 pub returns : goal.returns
@@ -30,5 +32,6 @@ returns c =
     let S = setup_of v.asked.facts.now in
     let H = events_of v.asked.facts.now in
     let n = v.asked.register.now.node.0 in
-    let mine = entered_only S H n v.t.0 v.lawful v.asked.stands.orderly (unfinished_parts H v.t.0 v.unfinished).2 v.tree v.asked.stands.kind v.marks.now v.marked c.args.c.0 (ap (λ (m : Mark). m.entered) (sym c.mark_of.ensures) ∙ c.if-mark_of.false) in
+    let mine = entered_only S H n v.t.0 v.lawful v.asked.stands.orderly (unfinished_parts H v.t.0 v.unfinished).2 v.tree v.asked.stands.kind v.marks.now v.marked c.args.c.0
+    (ap (λ (m : Mark). m.entered) (sym c.mark_of.ensures) ∙ c.if-mark_of.false) in
     into_own S H n v.t c.args.c.0 mine _ (sym c.are_one_batch.ensures ∙ c.if-not-are_one_batch.false) c.requires.own.behind

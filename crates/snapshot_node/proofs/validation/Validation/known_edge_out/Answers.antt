@@ -9,11 +9,13 @@ use Rattle.snapshot_node.proofs.validation.Validation.known_edge_out.Goals.{else
 use Rattle.snapshot_node.proofs.validation.Validation.known_edge_out.Goals as goal
 
 pub horizon-first-requires : goal.horizon-first-requires
-horizon-first-requires c = joined_from _ (setup_of c.args.self.now.asked.facts.now) (events_of c.args.self.now.asked.facts.now) c.args.self.now.asked.register.now.node.0 c.args.b.0 c.args.self.now.asked.stands.batches c.requires.typed.begun c.requires.on
+horizon-first-requires c = joined_from _ (setup_of c.args.self.now.asked.facts.now) (events_of c.args.self.now.asked.facts.now) c.args.self.now.asked.register.now.node.0 c.args.b.0
+    c.args.self.now.asked.stands.batches c.requires.typed.begun c.requires.on
 
 pub overflow_step-i : goal.overflow_step-i
 overflow_step-i c =
-    let g = joined_began _ (setup_of c.args.self.now.asked.facts.now) (events_of c.args.self.now.asked.facts.now) c.args.self.now.asked.register.now.node.0 c.horizon-first.result.0 c.args.self.now.asked.stands.batches c.horizon-first.ensures.joined in
+    let g = joined_began _ (setup_of c.args.self.now.asked.facts.now) (events_of c.args.self.now.asked.facts.now) c.args.self.now.asked.register.now.node.0 c.horizon-first.result.0
+    c.args.self.now.asked.stands.batches c.horizon-first.ensures.joined in
     (c.args.self.now.asked.stands.orderly.numbered c.horizon-first.result.0 g.0).0
 
 pub loop-i-init : goal.loop-i-init
@@ -26,10 +28,12 @@ loop-i-init c =
     leave_above S H n t c.args.b.0 (may_lead v) c.horizon-first.result.0 v.lawful v.asked.stands.orderly (c.horizon-first.ensures.closed S H n v.asked.stands.batches)
 
 pub is_mate-requires-clause-begun_u : goal.is_mate-requires-clause-begun_u
-is_mate-requires-clause-begun_u c = begun_all (events_of c.args.self.now.asked.facts.now) (c.loop-i.i + 1) c.args.self.now.asked.stands.batches.numbered (omega arith) (let e = c.begun-i-end.ensures in let l = c.loop-i-test.true in omega arith)
+is_mate-requires-clause-begun_u c = begun_all (events_of c.args.self.now.asked.facts.now) (c.loop-i.i + 1) c.args.self.now.asked.stands.batches.numbered (omega arith)
+    (let e = c.begun-i-end.ensures in let l = c.loop-i-test.true in omega arith)
 
 pub least_ahead-requires-clause-here : goal.least_ahead-requires-clause-here
-least_ahead-requires-clause-here c = mate_here c.args.self.now.asked.facts.now c.args.self.now.asked.register.now.node.0 c.args.self.now.t.0 c.args.b.0 c.loop-i.i c.args.self.now.asked.stands.batches.numbered c.args.self.now.asked.stands.orderly
+least_ahead-requires-clause-here c = mate_here c.args.self.now.asked.facts.now c.args.self.now.asked.register.now.node.0 c.args.self.now.t.0 c.args.b.0 c.loop-i.i
+    c.args.self.now.asked.stands.batches.numbered c.args.self.now.asked.stands.orderly
     (let e = c.begun-i-end.ensures in let l = c.loop-i-test.true in omega arith) (sym c.is_mate.ensures ∙ c.if-is_mate.true)
 
 pub returns-in-loop-i : goal.returns-in-loop-i
@@ -53,7 +57,8 @@ loop-i-preserved c =
     elim c.else-may_lead.branch [
       | else-may_lead-via-else-may_lead w ↦ leave_unknown S H n t b (may_lead v) i c.loop-i.invariant (sym c.may_lead.ensures ∙ w.if-may_lead.false)
       | else-may_lead-via-then-may_lead+else-is_mate w ↦ leave_apart S H n t b (may_lead v) i c.loop-i.invariant (sym w.is_mate.ensures ∙ w.if-is_mate.false)
-      | else-may_lead-via-then-may_lead+then-is_mate+in-None-1 w ↦ (let e : w.least_ahead.result ≡ None = cc in leave_none S H n t b (may_lead v) i c.loop-i.invariant (subst (IsLeast (Leads S H n t (i + 1))) e w.least_ahead.ensures))
+      | else-may_lead-via-then-may_lead+then-is_mate+in-None-1 w ↦ (let e : w.least_ahead.result ≡ None = cc in
+          leave_none S H n t b (may_lead v) i c.loop-i.invariant (subst (IsLeast (Leads S H n t (i + 1))) e w.least_ahead.ensures))
     ]
 
 pub returns : goal.returns

@@ -9,11 +9,13 @@ use Rattle.snapshot_node.proofs.validation.Validation.known_into.Goals.{then-may
 use Rattle.snapshot_node.proofs.validation.Validation.known_into.Goals as goal
 
 pub horizon-first-requires : goal.horizon-first-requires
-horizon-first-requires c = joined_from _ (setup_of c.args.self.now.asked.facts.now) (events_of c.args.self.now.asked.facts.now) c.args.self.now.asked.register.now.node.0 c.args.c.0 c.args.self.now.asked.stands.batches c.requires.typed.begun c.requires.on
+horizon-first-requires c = joined_from _ (setup_of c.args.self.now.asked.facts.now) (events_of c.args.self.now.asked.facts.now) c.args.self.now.asked.register.now.node.0 c.args.c.0
+    c.args.self.now.asked.stands.batches c.requires.typed.begun c.requires.on
 
 pub overflow_step-i : goal.overflow_step-i
 overflow_step-i c =
-    let g = joined_began _ (setup_of c.args.self.now.asked.facts.now) (events_of c.args.self.now.asked.facts.now) c.args.self.now.asked.register.now.node.0 c.horizon-first.result.0 c.args.self.now.asked.stands.batches c.horizon-first.ensures.joined in
+    let g = joined_began _ (setup_of c.args.self.now.asked.facts.now) (events_of c.args.self.now.asked.facts.now) c.args.self.now.asked.register.now.node.0 c.horizon-first.result.0
+    c.args.self.now.asked.stands.batches c.horizon-first.ensures.joined in
     (c.args.self.now.asked.stands.orderly.numbered c.horizon-first.result.0 g.0).0
 
 pub loop-i-init : goal.loop-i-init
@@ -26,10 +28,12 @@ loop-i-init c =
     reach_start S H n t (may_be_led_to v) c.args.c.0 c.horizon-first.result.0 v.lawful v.asked.stands.orderly (c.horizon-first.ensures.closed S H n v.asked.stands.batches)
 
 pub is_mate-requires-clause-begun_u : goal.is_mate-requires-clause-begun_u
-is_mate-requires-clause-begun_u c = begun_all (events_of c.args.self.now.asked.facts.now) (c.loop-i.i + 1) c.args.self.now.asked.stands.batches.numbered (omega arith) (let e = c.begun-i-end.ensures in let l = c.loop-i-test.true in omega arith)
+is_mate-requires-clause-begun_u c = begun_all (events_of c.args.self.now.asked.facts.now) (c.loop-i.i + 1) c.args.self.now.asked.stands.batches.numbered (omega arith)
+    (let e = c.begun-i-end.ensures in let l = c.loop-i-test.true in omega arith)
 
 pub least_behind-requires-clause-here : goal.least_behind-requires-clause-here
-least_behind-requires-clause-here c = mate_here c.args.self.now.asked.facts.now c.args.self.now.asked.register.now.node.0 c.args.self.now.t.0 c.args.c.0 c.loop-i.i c.args.self.now.asked.stands.batches.numbered c.args.self.now.asked.stands.orderly
+least_behind-requires-clause-here c = mate_here c.args.self.now.asked.facts.now c.args.self.now.asked.register.now.node.0 c.args.self.now.t.0 c.args.c.0 c.loop-i.i
+    c.args.self.now.asked.stands.batches.numbered c.args.self.now.asked.stands.orderly
     (let e = c.begun-i-end.ensures in let l = c.loop-i-test.true in omega arith) (sym c.is_mate.ensures ∙ c.if-is_mate.true)
 
 pub loop-i-preserved : goal.loop-i-preserved
@@ -44,7 +48,8 @@ loop-i-preserved c =
     let R = IsLeast (ReachesBy S H n t p c.args.c.0 (i + 1)) in
     elim c.if-may_be_led_to.branch [
       | then-may_be_led_to+then-is_mate w ↦ subst R (sym (w.least-is ∙ w.lesser-least.ensures))
-          (reach_here S H n t p c.args.c.0 i c.loop-i.least w.least_behind.result (sym c.may_be_led_to.ensures ∙ w.if-may_be_led_to.true) (sym w.is_mate.ensures ∙ w.if-is_mate.true) c.loop-i.invariant w.least_behind.ensures)
+          (reach_here S H n t p c.args.c.0 i c.loop-i.least w.least_behind.result (sym c.may_be_led_to.ensures ∙ w.if-may_be_led_to.true) (sym w.is_mate.ensures ∙ w.if-is_mate.true) c.loop-i.invariant
+          w.least_behind.ensures)
       | else-may_be_led_to w ↦ subst R (sym w.least-is) (elim w.else-may_be_led_to.branch as (λ x. R c.loop-i.least) [
         | else-may_be_led_to-via-then-may_be_led_to+else-is_mate u ↦ reach_apart S H n t p c.args.c.0 i c.loop-i.least (sym u.is_mate.ensures ∙ u.if-is_mate.false) c.loop-i.invariant
         | else-may_be_led_to-via-else-may_be_led_to u ↦ reach_unknown S H n t p c.args.c.0 i c.loop-i.least (sym c.may_be_led_to.ensures ∙ u.if-may_be_led_to.false) c.loop-i.invariant

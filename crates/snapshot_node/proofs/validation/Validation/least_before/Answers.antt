@@ -25,14 +25,17 @@ loop-access-init c =
     record {
       book = w.book;
       least = remains_start (ComesBy S H n t) (ComesIn S H n t) (accesses_of H t) c.into_iter-access-iterator.result.left w.left
-          (along_comes S H n t v.lawful v.asked.stands.orderly (unfinished_parts H t v.unfinished).2 (tree_facts S v.tree) v.asked.stands.kind) (comes_along S H n t v.lawful v.asked.stands.orderly (unfinished_parts H t v.unfinished).2 (tree_facts S v.tree) v.asked.stands.kind);
+          (along_comes S H n t v.lawful v.asked.stands.orderly (unfinished_parts H t v.unfinished).2 (tree_facts S v.tree) v.asked.stands.kind)
+          (comes_along S H n t v.lawful v.asked.stands.orderly (unfinished_parts H t v.unfinished).2 (tree_facts S v.tree) v.asked.stands.kind);
     }
 
 pub among-requires-clause-ascending : goal.among-requires-clause-ascending
-among-requires-clause-ascending c = next_readers_ascend c.args.self.now.asked (puts_next c.args.self.now.asked c.loop-access.access-iterator c.next.new.self c.loop-access.invariant.book c.in-Some.access c.in-Some.ensures.steps c.in-Put.readers c.in-Put.is)
+among-requires-clause-ascending c = next_readers_ascend c.args.self.now.asked
+    (puts_next c.args.self.now.asked c.loop-access.access-iterator c.next.new.self c.loop-access.invariant.book c.in-Some.access c.in-Some.ensures.steps c.in-Put.readers c.in-Put.is)
 
 pub among-requires-clause-txns_here : goal.among-requires-clause-txns_here
-among-requires-clause-txns_here c = next_readers_here c.args.self.now.asked c.recent-recent.ensures.asked (puts_next c.args.self.now.asked c.loop-access.access-iterator c.next.new.self c.loop-access.invariant.book c.in-Some.access c.in-Some.ensures.steps c.in-Put.readers c.in-Put.is)
+among-requires-clause-txns_here c = next_readers_here c.args.self.now.asked c.recent-recent.ensures.asked
+    (puts_next c.args.self.now.asked c.loop-access.access-iterator c.next.new.self c.loop-access.invariant.book c.in-Some.access c.in-Some.ensures.steps c.in-Put.readers c.in-Put.is)
 
 pub least_before_by-requires-clause-among_here : goal.least_before_by-requires-clause-among_here
 least_before_by-requires-clause-among_here c = subst (λ (a : Asked). AreThere a c.among.result.now) c.recent-recent.ensures.asked c.among.ensures.here

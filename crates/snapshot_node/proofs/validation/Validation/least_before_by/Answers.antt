@@ -50,17 +50,22 @@ loop-c-preserved c =
     let next : drop i cs ≡ u ∷ drop (i + 1) cs = rw (add-one, drop-cons cs i (record { 0 = 0 })) refl in
     let R = λ (last : Txn) (best : Option Txn). record { remains : Remains Q P (drop (i + 1) cs) best; last : IsLast S H n t last best } in
     elim c.if-is_at_stake.branch [
-      | then-is_at_stake+then-are_across+then-not-are_one_batch w ↦ subst (λ (z : Txn). R z c.if-is_at_stake.least) (sym w.last-is) (subst (λ (y : Option Txn). R u y) (sym (w.least-is ∙ w.lesser-least.ensures)) (record {
-        remains = remains_next Q P u (drop i cs) (drop (i + 1) cs) c.loop-c.least w.least_into.result next c.loop-c.invariant.remains
-            (least_as (Reaches S H n t u.0) (Q u) w.least_into.result (λ a r. (sym c.is_at_stake.ensures ∙ w.if-is_at_stake.true, sym w.are_across.ensures ∙ w.if-are_across.true, r)) (λ a q. q.2) w.least_into.ensures);
-        last = last_next S H n t u c.loop-c.least w.least_into.result here.typed.begun w.least_into.ensures;
-      }))
+      | then-is_at_stake+then-are_across+then-not-are_one_batch w ↦ subst (λ (z : Txn). R z c.if-is_at_stake.least) (sym w.last-is)
+          (subst (λ (y : Option Txn). R u y) (sym (w.least-is ∙ w.lesser-least.ensures)) (record {
+            remains = remains_next Q P u (drop i cs) (drop (i + 1) cs) c.loop-c.least w.least_into.result next c.loop-c.invariant.remains
+                (least_as (Reaches S H n t u.0) (Q u) w.least_into.result (λ a r. (sym c.is_at_stake.ensures ∙ w.if-is_at_stake.true, sym w.are_across.ensures ∙ w.if-are_across.true, r))
+                (λ a q. q.2) w.least_into.ensures);
+            last = last_next S H n t u c.loop-c.least w.least_into.result here.typed.begun w.least_into.ensures;
+          }))
       | else-is_at_stake w ↦ subst (λ (z : Txn). R z c.if-is_at_stake.least) (sym w.last-is) (subst (λ (y : Option Txn). R c.loop-c.last y) (sym w.least-is) (record {
         remains = elim w.else-is_at_stake.branch as (λ x. Remains Q P (drop (i + 1) cs) c.loop-c.least) [
-          | else-is_at_stake-via-then-is_at_stake+then-are_across+else-not-are_one_batch v ↦ remains_mate S H n t P c.loop-c.last u c.loop-c.least (drop i cs) (drop (i + 1) cs) next c.loop-c.invariant.last (sym v.are_one_batch.ensures ∙ v.if-not-are_one_batch.false)
+          | else-is_at_stake-via-then-is_at_stake+then-are_across+else-not-are_one_batch v ↦ remains_mate S H n t P c.loop-c.last u c.loop-c.least (drop i cs)
+              (drop (i + 1) cs) next c.loop-c.invariant.last (sym v.are_one_batch.ensures ∙ v.if-not-are_one_batch.false)
               (sym c.is_at_stake.ensures ∙ v.if-is_at_stake.true) (sym v.are_across.ensures ∙ v.if-are_across.true) c.loop-c.invariant.remains
-          | else-is_at_stake-via-then-is_at_stake+else-are_across v ↦ remains_skip Q P u (drop i cs) (drop (i + 1) cs) c.loop-c.least next c.loop-c.invariant.remains (λ a q. both_ways _ (sym v.are_across.ensures ∙ v.if-are_across.false) q.1)
-          | else-is_at_stake-via-else-is_at_stake v ↦ remains_skip Q P u (drop i cs) (drop (i + 1) cs) c.loop-c.least next c.loop-c.invariant.remains (λ a q. both_ways _ (sym c.is_at_stake.ensures ∙ v.if-is_at_stake.false) q.0)
+          | else-is_at_stake-via-then-is_at_stake+else-are_across v ↦ remains_skip Q P u (drop i cs) (drop (i + 1) cs) c.loop-c.least next c.loop-c.invariant.remains
+              (λ a q. both_ways _ (sym v.are_across.ensures ∙ v.if-are_across.false) q.1)
+          | else-is_at_stake-via-else-is_at_stake v ↦ remains_skip Q P u (drop i cs) (drop (i + 1) cs) c.loop-c.least next c.loop-c.invariant.remains
+              (λ a q. both_ways _ (sym c.is_at_stake.ensures ∙ v.if-is_at_stake.false) q.0)
         ];
         last = c.loop-c.invariant.last;
       }))

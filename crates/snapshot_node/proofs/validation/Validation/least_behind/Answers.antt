@@ -12,10 +12,12 @@ loop-access-init c =
     record { book = w.book; least = behind_start c.args.self.now c.args.b.0 c.requires.stake c.into_iter-access-iterator.result.left w.left }
 
 pub among-requires-clause-ascending : goal.among-requires-clause-ascending
-among-requires-clause-ascending c = next_readers_ascend c.args.self.now.asked (puts_next c.args.self.now.asked c.loop-access.access-iterator c.next.new.self c.loop-access.invariant.book c.in-Some.access c.in-Some.ensures.steps c.in-Put.readers c.in-Put.is)
+among-requires-clause-ascending c = next_readers_ascend c.args.self.now.asked
+    (puts_next c.args.self.now.asked c.loop-access.access-iterator c.next.new.self c.loop-access.invariant.book c.in-Some.access c.in-Some.ensures.steps c.in-Put.readers c.in-Put.is)
 
 pub among-requires-clause-txns_here : goal.among-requires-clause-txns_here
-among-requires-clause-txns_here c = next_readers_here c.args.self.now.asked c.recent-recent.ensures.asked (puts_next c.args.self.now.asked c.loop-access.access-iterator c.next.new.self c.loop-access.invariant.book c.in-Some.access c.in-Some.ensures.steps c.in-Put.readers c.in-Put.is)
+among-requires-clause-txns_here c = next_readers_here c.args.self.now.asked c.recent-recent.ensures.asked
+    (puts_next c.args.self.now.asked c.loop-access.access-iterator c.next.new.self c.loop-access.invariant.book c.in-Some.access c.in-Some.ensures.steps c.in-Put.readers c.in-Put.is)
 
 pub first_across-requires-clause-among_here : goal.first_across-requires-clause-among_here
 first_across-requires-clause-among_here c = subst (λ (a : Asked). AreThere a c.among.result.now) c.recent-recent.ensures.asked c.among.ensures.here

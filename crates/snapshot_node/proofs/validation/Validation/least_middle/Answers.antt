@@ -27,14 +27,17 @@ loop-access-init c =
     record {
       book = w.book;
       least = remains_start (Both (Ahead S H n t a) (IsLeft S H n t)) (IsMiddle S H n t a) (accesses_of H a) c.into_iter-access-iterator.result.left w.left
-          (along_middle S H n t v.lawful v.asked.stands.orderly (unfinished_parts H t v.unfinished).2 (tree_facts S v.tree) v.asked.stands.kind a c.requires.stake) (middle_along S H n t v.lawful v.asked.stands.orderly (unfinished_parts H t v.unfinished).2 (tree_facts S v.tree) v.asked.stands.kind a);
+          (along_middle S H n t v.lawful v.asked.stands.orderly (unfinished_parts H t v.unfinished).2 (tree_facts S v.tree) v.asked.stands.kind a c.requires.stake)
+          (middle_along S H n t v.lawful v.asked.stands.orderly (unfinished_parts H t v.unfinished).2 (tree_facts S v.tree) v.asked.stands.kind a);
     }
 
 pub among-requires-clause-ascending : goal.among-requires-clause-ascending
-among-requires-clause-ascending c = next_writers_ascend c.args.self.now.asked (reads_next c.args.self.now.asked c.loop-access.access-iterator c.next.new.self c.loop-access.invariant.book c.in-Some.access c.in-Some.ensures.steps c.in-Read.writers c.in-Read.is)
+among-requires-clause-ascending c = next_writers_ascend c.args.self.now.asked
+    (reads_next c.args.self.now.asked c.loop-access.access-iterator c.next.new.self c.loop-access.invariant.book c.in-Some.access c.in-Some.ensures.steps c.in-Read.writers c.in-Read.is)
 
 pub among-requires-clause-txns_here : goal.among-requires-clause-txns_here
-among-requires-clause-txns_here c = next_writers_here c.args.self.now.asked c.recent-recent.ensures.asked (reads_next c.args.self.now.asked c.loop-access.access-iterator c.next.new.self c.loop-access.invariant.book c.in-Some.access c.in-Some.ensures.steps c.in-Read.writers c.in-Read.is)
+among-requires-clause-txns_here c = next_writers_here c.args.self.now.asked c.recent-recent.ensures.asked
+    (reads_next c.args.self.now.asked c.loop-access.access-iterator c.next.new.self c.loop-access.invariant.book c.in-Some.access c.in-Some.ensures.steps c.in-Read.writers c.in-Read.is)
 
 pub middle_by-requires-clause-among_here : goal.middle_by-requires-clause-among_here
 middle_by-requires-clause-among_here c = subst (λ (a : Asked). AreThere a c.among.result.now) c.recent-recent.ensures.asked c.among.ensures.here
@@ -55,7 +58,8 @@ loop-access-preserved-in-Read c =
     record {
       book = book_next v.asked c.loop-access.access-iterator c.next.new.self c.loop-access.invariant.book c.in-Some.access c.in-Some.ensures.steps;
       least = subst (Remains (Both (Ahead S H n t a) (IsLeft S H n t)) (IsMiddle S H n t a) rest) (sym c.lesser-least.ensures)
-          (remains_next (Both (Ahead S H n t a) (IsLeft S H n t)) (IsMiddle S H n t a) (Reads x) c.loop-access.access-iterator.left rest c.loop-access.least c.middle_by.result r.left c.loop-access.invariant.least
+          (remains_next (Both (Ahead S H n t a) (IsLeft S H n t)) (IsMiddle S H n t a) (Reads x) c.loop-access.access-iterator.left rest c.loop-access.least c.middle_by.result r.left
+          c.loop-access.invariant.least
           (middle_writers S H n t v.lawful v.asked.stands.orderly (unfinished_parts H t v.unfinished).2 a x c.middle_by.result
           (middle_recent v.asked a (writers_in S H n x) us late (writers_here v.asked.facts.now n x v.asked.stands.orderly) t c.middle_by.result c.middle_by.ensures)));
     }
@@ -71,7 +75,8 @@ loop-access-preserved c =
     let r = puts_else v.asked c.loop-access.access-iterator c.next.new.self c.loop-access.invariant.book c.in-Some.access c.in-Some.ensures.steps c.in_default.not-Read in
     record {
       book = book_next v.asked c.loop-access.access-iterator c.next.new.self c.loop-access.invariant.book c.in-Some.access c.in-Some.ensures.steps;
-      least = remains_skip (Both (Ahead S H n t a) (IsLeft S H n t)) (IsMiddle S H n t a) (Puts r.0) c.loop-access.access-iterator.left c.next.new.self.left c.loop-access.least r.1 c.loop-access.invariant.least (λ u q. q.0);
+      least = remains_skip (Both (Ahead S H n t a) (IsLeft S H n t)) (IsMiddle S H n t a) (Puts r.0) c.loop-access.access-iterator.left c.next.new.self.left c.loop-access.least r.1
+          c.loop-access.invariant.least (λ u q. q.0);
     }
 
 pub returns : goal.returns
@@ -82,4 +87,5 @@ returns c =
     let n = v.asked.register.now.node.0 in
     let t = v.t.0 in
     let a = c.args.a.0 in
-    remains_end (Both (Ahead S H n t a) (IsLeft S H n t)) (IsMiddle S H n t a) c.loop-access.access-iterator.left c.loop-access.least (walk_end _ _ c.in-None.ensures.steps) c.loop-access.invariant.least
+    remains_end (Both (Ahead S H n t a) (IsLeft S H n t)) (IsMiddle S H n t a) c.loop-access.access-iterator.left c.loop-access.least (walk_end _ _ c.in-None.ensures.steps)
+    c.loop-access.invariant.least

@@ -10,7 +10,8 @@ use Rattle.snapshot_node.proofs.validation.Validation.middle_by.Goals as goal
 use Rattle.snapshot_node.proofs.validation.Validation.middle_by.Goals.{else-is_at_stake-via-then-is_at_stake+then-are_across+else-is_some, else-is_at_stake-via-then-is_at_stake+else-are_across, else-is_at_stake-via-else-is_at_stake}
 
 pub loop-b-init : goal.loop-b-init
-loop-b-init c = none_yet (IsMiddleAmong (setup_of c.args.self.now.asked.facts.now) (events_of c.args.self.now.asked.facts.now) c.args.self.now.asked.register.now.node.0 c.args.self.now.t.0 c.args.a.0 c.args.among.now) (record { 0 = 0 }) c.args.among.now
+loop-b-init c = none_yet (IsMiddleAmong (setup_of c.args.self.now.asked.facts.now) (events_of c.args.self.now.asked.facts.now) c.args.self.now.asked.register.now.node.0 c.args.self.now.t.0 c.args.a.0
+    c.args.among.now) (record { 0 = 0 }) c.args.among.now
 
 pub are_across-requires-clause-right : goal.are_across-requires-clause-right
 are_across-requires-clause-right c = c.requires.among_here _ (at_among c.args.among.now c.loop-b.b-index _ c.loop-b-test.true)
@@ -44,7 +45,8 @@ loop-b-preserved c =
     let P = IsMiddleAmong S H n c.args.self.now.t.0 c.args.a.0 c.args.among.now in
     none_more P (record { 0 = 0 }) c.args.among.now c.loop-b.b-index c.loop-b.invariant
     (λ p. elim c.else-is_at_stake.branch [
-      | else-is_at_stake-via-then-is_at_stake+then-are_across+else-is_some w ↦ not_left S H n c.args.self.now.t.0 _ w.edge_out.result w.is_some.result w.is_some.ensures w.if-is_some.false w.edge_out.ensures p.left
+      | else-is_at_stake-via-then-is_at_stake+then-are_across+else-is_some w ↦ not_left S H n c.args.self.now.t.0 _ w.edge_out.result w.is_some.result w.is_some.ensures w.if-is_some.false
+          w.edge_out.ensures p.left
       | else-is_at_stake-via-then-is_at_stake+else-are_across w ↦ both_ways _ (sym w.are_across.ensures ∙ w.if-are_across.false) p.across.across
       | else-is_at_stake-via-else-is_at_stake w ↦ both_ways _ (sym c.is_at_stake.ensures ∙ w.if-is_at_stake.false) p.across.stake
     ])

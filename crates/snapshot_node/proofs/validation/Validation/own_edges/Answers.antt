@@ -18,19 +18,23 @@ loop-access-init c =
     record { book = w.book; ahead = ahead_start v t stake all w.left; behind = behind_start v t stake all w.left; left = left_start v t all false w.left; entered = entered_start v t all false w.left }
 
 pub among-requires-clause-ascending : goal.among-requires-clause-ascending
-among-requires-clause-ascending c = next_writers_ascend c.args.self.now.asked (reads_next c.args.self.now.asked c.loop-access.access-iterator c.next.new.self c.loop-access.invariant.book c.in-Some.access c.in-Some.ensures.steps c.in-Read.writers c.in-Read.is)
+among-requires-clause-ascending c = next_writers_ascend c.args.self.now.asked
+    (reads_next c.args.self.now.asked c.loop-access.access-iterator c.next.new.self c.loop-access.invariant.book c.in-Some.access c.in-Some.ensures.steps c.in-Read.writers c.in-Read.is)
 
 pub among-requires-clause-txns_here : goal.among-requires-clause-txns_here
-among-requires-clause-txns_here c = next_writers_here c.args.self.now.asked c.recent-recent.ensures.asked (reads_next c.args.self.now.asked c.loop-access.access-iterator c.next.new.self c.loop-access.invariant.book c.in-Some.access c.in-Some.ensures.steps c.in-Read.writers c.in-Read.is)
+among-requires-clause-txns_here c = next_writers_here c.args.self.now.asked c.recent-recent.ensures.asked
+    (reads_next c.args.self.now.asked c.loop-access.access-iterator c.next.new.self c.loop-access.invariant.book c.in-Some.access c.in-Some.ensures.steps c.in-Read.writers c.in-Read.is)
 
 pub heads_among-first-requires-clause-among_here : goal.heads_among-first-requires-clause-among_here
 heads_among-first-requires-clause-among_here c = subst (λ (a : Asked). AreThere a c.among.result.now) c.recent-recent.ensures.asked c.among.ensures.here
 
 pub among-requires-in-Put-clause-ascending : goal.among-requires-in-Put-clause-ascending
-among-requires-in-Put-clause-ascending c = next_readers_ascend c.args.self.now.asked (puts_next c.args.self.now.asked c.loop-access.access-iterator c.next.new.self c.loop-access.invariant.book c.in-Some.access c.in-Some.ensures.steps c.in-Put.readers c.in-Put.is)
+among-requires-in-Put-clause-ascending c = next_readers_ascend c.args.self.now.asked
+    (puts_next c.args.self.now.asked c.loop-access.access-iterator c.next.new.self c.loop-access.invariant.book c.in-Some.access c.in-Some.ensures.steps c.in-Put.readers c.in-Put.is)
 
 pub among-requires-in-Put-clause-txns_here : goal.among-requires-in-Put-clause-txns_here
-among-requires-in-Put-clause-txns_here c = next_readers_here c.args.self.now.asked c.recent-recent.ensures.asked (puts_next c.args.self.now.asked c.loop-access.access-iterator c.next.new.self c.loop-access.invariant.book c.in-Some.access c.in-Some.ensures.steps c.in-Put.readers c.in-Put.is)
+among-requires-in-Put-clause-txns_here c = next_readers_here c.args.self.now.asked c.recent-recent.ensures.asked
+    (puts_next c.args.self.now.asked c.loop-access.access-iterator c.next.new.self c.loop-access.invariant.book c.in-Some.access c.in-Some.ensures.steps c.in-Put.readers c.in-Put.is)
 
 pub tails_among-first-requires-clause-among_here : goal.tails_among-first-requires-clause-among_here
 tails_among-first-requires-clause-among_here c = subst (λ (a : Asked). AreThere a c.among-in-Put.result.now) c.recent-recent.ensures.asked c.among-in-Put.ensures.here
@@ -45,7 +49,8 @@ loop-access-preserved-in-Read c =
     let late = late_as c.recent-recent.ensures.asked c.recent-recent.ensures.t r.those c.among.ensures.late in
     record {
       book = book_next v.asked c.loop-access.access-iterator c.next.new.self c.loop-access.invariant.book c.in-Some.access c.in-Some.ensures.steps;
-      ahead = subst (AheadIn v t rest) (sym c.lesser-ahead.ensures) (ahead_next v t r.cell left rest c.among.result.now c.loop-access.ahead c.heads_among-first.result.0 c.heads_among-first.ensures.least r.left late c.loop-access.invariant.ahead);
+      ahead = subst (AheadIn v t rest) (sym c.lesser-ahead.ensures)
+          (ahead_next v t r.cell left rest c.among.result.now c.loop-access.ahead c.heads_among-first.result.0 c.heads_among-first.ensures.least r.left late c.loop-access.invariant.ahead);
       behind = behind_skip v t left c.loop-access.behind r.cell rest r.left c.loop-access.invariant.behind;
       left = left_next v t left c.loop-access.left r.cell rest c.among.result.now c.heads_among-first.result.1 r.left late c.heads_among-first.ensures.left c.loop-access.invariant.left;
       entered = entered_skip v t left c.loop-access.entered r.cell rest r.left c.loop-access.invariant.entered;
@@ -62,9 +67,11 @@ loop-access-preserved c =
     record {
       book = book_next v.asked c.loop-access.access-iterator c.next.new.self c.loop-access.invariant.book c.in-Some.access c.in-Some.ensures.steps;
       ahead = ahead_skip v t left c.loop-access.ahead r.cell rest r.left c.loop-access.invariant.ahead;
-      behind = subst (BehindIn v t rest) (sym c.lesser-behind.ensures) (behind_next v t r.cell left rest c.among-in-Put.result.now c.loop-access.behind c.tails_among-first.result.0 c.tails_among-first.ensures.least r.left late c.loop-access.invariant.behind);
+      behind = subst (BehindIn v t rest) (sym c.lesser-behind.ensures)
+          (behind_next v t r.cell left rest c.among-in-Put.result.now c.loop-access.behind c.tails_among-first.result.0 c.tails_among-first.ensures.least r.left late c.loop-access.invariant.behind);
       left = left_skip v t left c.loop-access.left r.cell rest r.left c.loop-access.invariant.left;
-      entered = entered_next v t left c.loop-access.entered r.cell rest c.among-in-Put.result.now c.tails_among-first.result.1 r.left late c.tails_among-first.ensures.entered c.loop-access.invariant.entered;
+      entered = entered_next v t left c.loop-access.entered r.cell rest c.among-in-Put.result.now c.tails_among-first.result.1 r.left late c.tails_among-first.ensures.entered
+          c.loop-access.invariant.entered;
     }
 
 pub returns : goal.returns

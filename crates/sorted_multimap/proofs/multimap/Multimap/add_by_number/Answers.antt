@@ -9,25 +9,29 @@ pub add_by_number-added-requires-clause-ascending : goal.add_by_number-added-req
 add_by_number-added-requires-clause-ascending g c =
     let R = g.K.Ord.cmp in
     let l = located R g.K.Key.spread_of _ _ c.args.key _ _ c.deref.ensures.value c.place_of-at.ensures.at c.place_of-at.ensures.within c.index_mut.ensures.value in
-    subst (IsAscendingBy g.V.Numbered.numbered_by) (sym (located_shown R g.K.Key.spread_of _ _ c.self.invariant _ _ _ l (values_in R c.args.self.now) (λ q. ap (λ s. values_in R s q) c.self.view_is))) c.requires.ascending
+    subst (IsAscendingBy g.V.Numbered.numbered_by) (sym (located_shown R g.K.Key.spread_of _ _ c.self.invariant _ _ _ l (values_in R c.args.self.now) (λ q. ap (λ s. values_in R s q) c.self.view_is)))
+    c.requires.ascending
 
 pub invariant_of-self : goal.invariant_of-self
 invariant_of-self g c =
     let R = g.K.Ord.cmp in
     let by = g.V.Numbered.numbered_by in
     let l = located R g.K.Key.spread_of _ _ c.args.key _ _ c.deref.ensures.value c.place_of-at.ensures.at c.place_of-at.ensures.within c.index_mut.ensures.value in
-    taken_spread R g.K.Key.spread_of g.met.K.Key.agrees _ _ _ _ _ _ _ c.self.invariant (omega (arith, c.requires.room, ap (λ s. s.spare) c.self.view_is)) c.from.ensures _ l (λ vs. cond c.add_by_number-added.result (put_by by c.args.value vs) vs) c.add_by_number-added.ensures.edited
+    taken_spread R g.K.Key.spread_of g.met.K.Key.agrees _ _ _ _ _ _ _ c.self.invariant (omega (arith, c.requires.room, ap (λ s. s.spare) c.self.view_is)) c.from.ensures _ l
+    (λ vs. cond c.add_by_number-added.result (put_by by c.args.value vs) vs) c.add_by_number-added.ensures.edited
 
 pub returns-clause-added : goal.returns-clause-added
 returns-clause-added g c =
     let R = g.K.Ord.cmp in
     let by = g.V.Numbered.numbered_by in
     let l = located R g.K.Key.spread_of _ _ c.args.key _ _ c.deref.ensures.value c.place_of-at.ensures.at c.place_of-at.ensures.within c.index_mut.ensures.value in
-    c.add_by_number-added.ensures.added ∙ ap (λ (vs : List _). is_err (place_of by vs (by c.args.value))) (located_shown R g.K.Key.spread_of _ _ c.self.invariant _ _ _ l (values_in R c.args.self.now) (λ q. ap (λ s. values_in R s q) c.self.view_is))
+    c.add_by_number-added.ensures.added ∙ ap (λ (vs : List _). is_err (place_of by vs (by c.args.value)))
+    (located_shown R g.K.Key.spread_of _ _ c.self.invariant _ _ _ l (values_in R c.args.self.now) (λ q. ap (λ s. values_in R s q) c.self.view_is))
 
 pub returns-clause-values : goal.returns-clause-values
 returns-clause-values g c q =
     let R = g.K.Ord.cmp in
     let by = g.V.Numbered.numbered_by in
     let l = located R g.K.Key.spread_of _ _ c.args.key _ _ c.deref.ensures.value c.place_of-at.ensures.at c.place_of-at.ensures.within c.index_mut.ensures.value in
-    taken_values R g.K.Key.spread_of g.met.K.Key.agrees _ _ _ _ _ _ _ c.self.invariant (omega (arith, c.requires.room, ap (λ s. s.spare) c.self.view_is)) c.from.ensures _ l (λ vs. cond c.add_by_number-added.result (put_by by c.args.value vs) vs) c.add_by_number-added.ensures.edited (values_in R c.args.self.now) (λ p. ap (λ s. values_in R s p) c.self.view_is) q
+    taken_values R g.K.Key.spread_of g.met.K.Key.agrees _ _ _ _ _ _ _ c.self.invariant (omega (arith, c.requires.room, ap (λ s. s.spare) c.self.view_is)) c.from.ensures _ l
+    (λ vs. cond c.add_by_number-added.result (put_by by c.args.value vs) vs) c.add_by_number-added.ensures.edited (values_in R c.args.self.now) (λ p. ap (λ s. values_in R s p) c.self.view_is) q

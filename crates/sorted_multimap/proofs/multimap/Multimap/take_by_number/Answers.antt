@@ -32,5 +32,6 @@ returns-clause-values g c q =
     let here = located_values R g.K.Key.spread_of _ _ c.self.invariant _ _ _ l in
     let shown = ap (λ s. values_in R s c.args.key) c.self.view_is in
     let room = c.take_by_number.ensures.room c.self.inside.spare c.self.inside.spare (omega arith) (located_room R g.K.Key.spread_of _ _ c.self.invariant _ _ _ l) in
-    put_values R g.K.Key.spread_of g.met.K.Key.agrees _ _ _ _ _ _ c.self.invariant (omega arith) c.take_by_number.ensures.sorted room _ l _ c.take_by_number.ensures.values (values_in R c.args.self.now) (λ p. ap (λ s. values_in R s p) c.self.view_is) q
+    put_values R g.K.Key.spread_of g.met.K.Key.agrees _ _ _ _ _ _ c.self.invariant (omega arith) c.take_by_number.ensures.sorted room _ l _ c.take_by_number.ensures.values
+    (values_in R c.args.self.now) (λ p. ap (λ s. values_in R s p) c.self.view_is) q
     ∙ ap (λ (vs : List _). cond (is_eq (R c.args.key q)) (filter (λ v. not (eqb (by v) c.args.number)) vs) (values_in R c.args.self.now q)) (sym here ∙ shown)

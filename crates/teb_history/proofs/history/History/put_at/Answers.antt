@@ -12,7 +12,8 @@ use Rattle.teb_history.proofs.history.History.put_at.Goals.{then-is_some, else-i
 pub loop-end-init : goal.loop-end-init
 loop-end-init c =
     let events = c.self.inside.events.items in
-    let end : c.standing-end.result.end ≡ own_end (reverse events) c.args.t.0 = ap (λ (r : Standing). r.end) c.standing-end.ensures ∙ ap (λ (w : Written). own_end w.events c.args.t.0) (sym c.self.view_is) in
+    let end : c.standing-end.result.end ≡ own_end (reverse events) c.args.t.0 = ap (λ (r : Standing). r.end) c.standing-end.ensures ∙ ap (λ (w : Written). own_end w.events c.args.t.0)
+    (sym c.self.view_is) in
     let counted : vec_len c.self.inside.events ≡ length events = search rules in
     let len : c.len-first.result ≡ length (reverse events) = c.len-first.ensures ∙ counted ∙ sym (length-reverse events) in
     let begins = walk_begins c.args.t.0 c.args.cell (reverse events) in
@@ -31,14 +32,16 @@ index-end-requires c =
 
 pub loop-end-smaller : goal.loop-end-smaller
 loop-end-smaller c =
-    let there : c.loop-end.end - 1 < length c.self.inside.previous.items = walk_in_links c.args.t.0 c.args.cell c.self.inside.events.items _ c.self.invariant.kept.links _ c.loop-end-test.true _ c.loop-end.invariant in
+    let there : c.loop-end.end - 1 < length c.self.inside.previous.items = walk_in_links c.args.t.0 c.args.cell c.self.inside.events.items _ c.self.invariant.kept.links _ c.loop-end-test.true _
+    c.loop-end.invariant in
     let link : c.index-end.result.now ≡ get_or c.self.inside.previous.items (c.loop-end.end - 1) 0 = c.index-end.ensures ∙ get_or_default_zero _ _ _ there in
     let falls = walk_falls c.args.t.0 c.args.cell c.self.inside.events.items _ c.self.invariant.kept.links _ c.loop-end-test.true _ c.loop-end.invariant _ c.index.ensures in
     omega (arith, link, falls)
 
 pub loop-end-preserved : goal.loop-end-preserved
 loop-end-preserved c =
-    let there : c.loop-end.end - 1 < length c.self.inside.previous.items = walk_in_links c.args.t.0 c.args.cell c.self.inside.events.items _ c.self.invariant.kept.links _ c.loop-end-test.true _ c.loop-end.invariant in
+    let there : c.loop-end.end - 1 < length c.self.inside.previous.items = walk_in_links c.args.t.0 c.args.cell c.self.inside.events.items _ c.self.invariant.kept.links _ c.loop-end-test.true _
+    c.loop-end.invariant in
     let link : c.index-end.result.now ≡ get_or c.self.inside.previous.items (c.loop-end.end - 1) 0 = c.index-end.ensures ∙ get_or_default_zero _ _ _ there in
     let tested = ap (λ (v : Option (Option ℤ)). is_some v) (sym c.put_in.ensures) ∙ sym c.is_some.ensures in
     let found : cond (is_some (put_in c.args.cell c.index.result.now)) (c.loop-end.end - 1) c.loop-end.first ≡ c.if-is_some.first =

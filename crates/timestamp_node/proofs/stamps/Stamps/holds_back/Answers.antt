@@ -12,7 +12,8 @@ start-requires c =
     let f = c.args.facts.now in
     let n = c.args.self.now.node.0 in
     here_joined f n c.args.self.now.batches c.args.u.0 c.requires.stands.batches (elim c.if-is_unfinished.branch [
-      | then-is_unfinished w ↦ right_here f n c.args.t.0 c.args.u.0 (unfinished_typed f n c.args.u.0 c.requires.stands.orderly (sym c.is_unfinished.ensures ∙ w.if-is_unfinished.true)) (sym w.meet_at.ensures ∙ sym w.value-is ∙ c.if-meet_at.true)
+      | then-is_unfinished w ↦ right_here f n c.args.t.0 c.args.u.0 (unfinished_typed f n c.args.u.0 c.requires.stands.orderly (sym c.is_unfinished.ensures ∙ w.if-is_unfinished.true))
+          (sym w.meet_at.ensures ∙ sym w.value-is ∙ c.if-meet_at.true)
       | else-is_unfinished w ↦ absurd (both_ways _ (w.value-is ∙ w.if-is_unfinished.false) c.if-meet_at.true)
     ])
 

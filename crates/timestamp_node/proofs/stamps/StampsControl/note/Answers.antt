@@ -18,7 +18,8 @@ begin-requires-clause-newest c =
 
 pub begin-requires-clause-at : goal.begin-requires-clause-at
 begin-requires-clause-at c =
-    at_end (setup_of c.args.facts.now) (events_of c.args.facts.now) c.args.self.now.node.0 c.args.e c.requires.newest.is c.requires.newest.may (c.len-at.result - 1) c.len-at.result c.len-at.ensures refl
+    at_end (setup_of c.args.facts.now) (events_of c.args.facts.now) c.args.self.now.node.0 c.args.e c.requires.newest.is c.requires.newest.may (c.len-at.result - 1) c.len-at.result c.len-at.ensures
+    refl
 
 pub returns-then-has-clause-stands : goal.returns-then-has-clause-stands
 returns-then-has-clause-stands c =
@@ -27,7 +28,8 @@ returns-then-has-clause-stands c =
     let n = c.args.self.now.node.0 in
     let is = c.requires.newest.is in
     let may = c.requires.newest.may in
-    got_on S H n c.args.e is may c.args.self.now.ordered c.args.self.now.batches c.args.self.now.reads c.requires.stands c.in-Got.txn c.in-Got.cell c.in-Got.from c.in-Got.value c.in-Got.is (sym c.has.ensures.joined ∙ c.if-has.true) c.push_read.new.reads c.push_read.ensures.values
+    got_on S H n c.args.e is may c.args.self.now.ordered c.args.self.now.batches c.args.self.now.reads c.requires.stands c.in-Got.txn c.in-Got.cell c.in-Got.from c.in-Got.value c.in-Got.is
+    (sym c.has.ensures.joined ∙ c.if-has.true) c.push_read.new.reads c.push_read.ensures.values
 
 pub returns-else-has-clause-stands : goal.returns-else-has-clause-stands
 returns-else-has-clause-stands c =
@@ -36,7 +38,8 @@ returns-else-has-clause-stands c =
     let n = c.args.self.now.node.0 in
     let is = c.requires.newest.is in
     let may = c.requires.newest.may in
-    got_off S H n c.args.e is may c.args.self.now.ordered c.args.self.now.batches c.args.self.now.reads c.requires.stands c.in-Got.txn c.in-Got.cell c.in-Got.from c.in-Got.value c.in-Got.is (sym c.has.ensures.joined ∙ c.if-has.false)
+    got_off S H n c.args.e is may c.args.self.now.ordered c.args.self.now.batches c.args.self.now.reads c.requires.stands c.in-Got.txn c.in-Got.cell c.in-Got.from c.in-Got.value c.in-Got.is
+    (sym c.has.ensures.joined ∙ c.if-has.false)
 
 pub returns-in-Done-clause-stands : goal.returns-in-Done-clause-stands
 returns-in-Done-clause-stands c =
@@ -55,7 +58,8 @@ forget_reads-requires c =
     let n = c.args.self.now.node.0 in
     let is = c.requires.newest.is in
     let may = c.requires.newest.may in
-    gone_read S H n c.args.e is may c.args.self.now.ordered c.args.self.now.batches c.args.self.now.reads c.requires.stands c.in-Gone.txn c.in-Gone.cause c.in-Gone.is (sym c.has-in-Gone.ensures.joined ∙ c.if-has-2.true)
+    gone_read S H n c.args.e is may c.args.self.now.ordered c.args.self.now.batches c.args.self.now.reads c.requires.stands c.in-Gone.txn c.in-Gone.cause c.in-Gone.is
+    (sym c.has-in-Gone.ensures.joined ∙ c.if-has-2.true)
 
 pub returns-after-has-2-clause-stands : goal.returns-after-has-2-clause-stands
 returns-after-has-2-clause-stands c =
@@ -70,11 +74,14 @@ returns-after-has-2-clause-stands c =
     let at = c.len-at.result - 1 in
     let end = at_end S H n c.args.e is may at c.len-at.result c.len-at.ensures refl in
     let K = λ (s : Stamps). b'.size ≡ s.batches.size
-    → ((S : Setup) (Q : List Event) (n : ℕ) (d : Event) → BatchesOf s.batches S Q n → MayCome Q d → Finishes t.0 d → at ≡ length Q → BatchesOf b' S (d ∷ Q) n) → StampsStand s.node.0 s.ordered b' s.reads S H in
+    → ((S : Setup) (Q : List Event) (n : ℕ) (d : Event) → BatchesOf s.batches S Q n → MayCome Q d → Finishes t.0 d → at ≡ length Q → BatchesOf b' S (d ∷ Q) n)
+    → StampsStand s.node.0 s.ordered b' s.reads S H in
     elim c.if-has-2.branch [
-      | then-has-2 w ↦ subst K (sym w.self-is) (λ z f. gone_on S H n c.args.e is may was.ordered was.batches was.reads c.requires.stands t c.in-Gone.cause c.in-Gone.is b' at end z f w.forget_reads.new.reads w.forget_reads.ensures.values)
+      | then-has-2 w ↦ subst K (sym w.self-is)
+          (λ z f. gone_on S H n c.args.e is may was.ordered was.batches was.reads c.requires.stands t c.in-Gone.cause c.in-Gone.is b' at end z f w.forget_reads.new.reads w.forget_reads.ensures.values)
           c.finish-in-Gone.ensures.size c.finish-in-Gone.ensures.batches
-      | else-has-2 w ↦ subst K (sym w.self-is) (λ z f. gone_off S H n c.args.e is may was.ordered was.batches was.reads c.requires.stands t c.in-Gone.cause c.in-Gone.is (sym c.has-in-Gone.ensures.joined ∙ w.if-has-2.false) b' at end z f)
+      | else-has-2 w ↦ subst K (sym w.self-is) (λ z f. gone_off S H n c.args.e is may was.ordered was.batches was.reads c.requires.stands t c.in-Gone.cause c.in-Gone.is
+          (sym c.has-in-Gone.ensures.joined ∙ w.if-has-2.false) b' at end z f)
           c.finish-in-Gone.ensures.size c.finish-in-Gone.ensures.batches
     ]
 

@@ -6,4 +6,5 @@ pub invariant_of-self : goal.invariant_of-self
 invariant_of-self g c =
     let e = c.self.inside.present in
     let f = c.ready.new.self in
-    further c.self.inside.past.items e f c.ready.ensures.store c.ready.ensures.names (same_events c.self.inside.past.items e f c.self.invariant c.ready.ensures.store c.ready.ensures.events) c.self.invariant
+    further c.self.inside.past.items e f c.ready.ensures.store c.ready.ensures.names (same_events c.self.inside.past.items e f c.self.invariant c.ready.ensures.store c.ready.ensures.events)
+    c.self.invariant

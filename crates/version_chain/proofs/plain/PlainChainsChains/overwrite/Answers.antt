@@ -37,7 +37,8 @@ returns-clause-here c =
     let within = subst (λ (v : Plain). c.args.i < length (of_cell c.args.cell v.versions)) (sym c.self.view_is) c.requires in
     let n = length-of_cell c.self.inside.versions.items c.args.cell _ _ r in
     let is = c.index_mut.ensures.value in
-    of_cell-set c.self.inside.versions.items c.args.cell _ _ r c.args.i _ c.index_mut.result.now (ap (λ (v : Stored). v.cell) is ∙ r.here _ _ (omega arith) (omega (arith, within, n))) (ap (λ (v : Stored). v.writer) is) (omega (arith, within, n))
+    of_cell-set c.self.inside.versions.items c.args.cell _ _ r c.args.i _ c.index_mut.result.now (ap (λ (v : Stored). v.cell) is ∙ r.here _ _ (omega arith) (omega (arith, within, n)))
+    (ap (λ (v : Stored). v.writer) is) (omega (arith, within, n))
     ∙ ap (λ (v : Plain). set_value c.args.i c.args.value (of_cell c.args.cell v.versions)) c.self.view_is
 
 pub returns-clause-elsewhere : goal.returns-clause-elsewhere

@@ -35,7 +35,8 @@ returns-clause-here c =
     let within = subst (λ (v : Plain). c.args.i ≤ length (of_cell c.args.cell v.versions)) (sym c.self.view_is) c.requires.within in
     let n = length-of_cell c.self.inside.versions.items c.args.cell _ _ r in
     ap (of_cell c.args.cell) c.put_in.ensures.items
-    ∙ (of_cell-insert c.self.inside.versions.items c.args.cell _ _ r c.args.i _ refl (omega (arith, within, n)) ∙ ap (λ (v : Plain). insert (of_cell c.args.cell v.versions) c.args.i (c.args.t, c.args.value)) c.self.view_is)
+    ∙ (of_cell-insert c.self.inside.versions.items c.args.cell _ _ r c.args.i _ refl (omega (arith, within, n))
+    ∙ ap (λ (v : Plain). insert (of_cell c.args.cell v.versions) c.args.i (c.args.t, c.args.value)) c.self.view_is)
 
 pub returns-clause-elsewhere : goal.returns-clause-elsewhere
 returns-clause-elsewhere c x other =

@@ -11,7 +11,8 @@ returns-then-len-text-clause-steps c =
 some_line : (c : goal.Joined-else-is_empty) → lines_of c.args.self.now.0.now ≡ c.without_return-line.result.now ∷ lines_of c.after_line-self.result.now
 some_line c =
     rw (c.after_line-self.ensures, c.without_return-line.ensures)
-    (lines_next _ _ c.line_len-len.ensures.end c.line_len-len.ensures.within c.is_empty.result (sym (ap (λ l. length l == 0) c.without_return-line.ensures) ∙ sym c.is_empty.ensures) c.else-is_empty.either)
+    (lines_next _ _ c.line_len-len.ensures.end c.line_len-len.ensures.within c.is_empty.result (sym (ap (λ l. length l == 0) c.without_return-line.ensures) ∙ sym c.is_empty.ensures)
+    c.else-is_empty.either)
 
 pub returns-else-is_empty-clause-steps : goal.returns-else-is_empty-clause-steps
 returns-else-is_empty-clause-steps c = some_line c
