@@ -19,7 +19,10 @@ use Rattle.cc_tree.specs.Grown.{node_numbers}
 use Rattle.phase_api.specs.declared.facts.Facts.{Facts}
 use Rattle.phase_api.specs.FactsView.{setup_of, events_of, IsTyped}
 use Rattle.phase_api.specs.Calls.{IsHere}
+use Rattle.version_chain.specs.Lists.{Version}
 use Rattle.candidate_reads.proofs.InOrder.{among_In}
+use Rattle.engine_core.specs.declared.questions.Question.{Question}
+use Rattle.engine_core.specs.Questions.{CanAsk, MayAsk}
 use Rattle.std.proofs.lemmas.List.Elements.{All-from_get_or}
 
 among_at : (ns : List Node) (k : ℕ) (d : Node) → k < length ns → among (get_or ns k d).0 (node_numbers ns) ≡ true
@@ -27,27 +30,39 @@ among_at [] k d h = absurd (omega arith)
 among_at (n ∷ ns) zero d h = or_left (eqb n.0 n.0) (among n.0 (node_numbers ns)) (eq-eqb n.0 n.0 refl)
 among_at (n ∷ ns) (suc k) d h = or_right (eqb n.0 (get_or ns k d).0) (among (get_or ns k d).0 (node_numbers ns)) (among_at ns k d (omega arith))
 
-pub on_at : (S : Setup) (s : Spot) (ns : List Node) (k : ℕ) (d : Node) → node_numbers ns ≡ path S.tree s → k < length ns → on_path S.tree (get_or ns k d).0 s ≡ true
+on_at : (S : Setup) (s : Spot) (ns : List Node) (k : ℕ) (d : Node) → node_numbers ns ≡ path S.tree s → k < length ns → on_path S.tree (get_or ns k d).0 s ≡ true
 unfolding on_path
 on_at S s ns k d e h = subst (λ (ps : List ℕ). among (get_or ns k d).0 ps ≡ true) e (among_at ns k d h)
 
-pub here_at : (f : Facts) (t : ℕ) (ns : List Node) (k : ℕ) (d : Node) → IsTyped f t → node_numbers ns ≡ path (setup_of f).tree (spot_of (events_of f) t) → k < length ns → IsHere f (get_or ns k d).0 t
+-- t has begun, and n is on its path
+pub here_on : (f : Facts) (t n : ℕ) → IsTyped f t → on_path (setup_of f).tree n (spot_of (events_of f) t) ≡ true → IsHere f n t
 unfolding on
-here_at f t ns k d ty e h = record { typed = ty; on = on_at (setup_of f) (spot_of (events_of f) t) ns k d e h }
+here_on f t n ty o = record { typed = ty; on = o }
 
-pub node_at : (S : Setup) → IsSound S → (s : Spot) (ns : List Node) → node_numbers ns ≡ path S.tree s → (k : ℕ) (d : Node) → k < length ns → (get_or ns k d).0 < length S.tree
-node_at S sound s ns e k d h = path-below S (tree_facts S sound) s (get_or ns k d).0 (among_In (get_or ns k d).0 (path S.tree s) (subst (λ (ps : List ℕ). among (get_or ns k d).0 ps ≡ true) e (among_at ns k d h)))
+node_at : (S : Setup) → IsSound S → (s : Spot) (ns : List Node) → node_numbers ns ≡ path S.tree s → (k : ℕ) (d : Node) → k < length ns → (get_or ns k d).0 < length S.tree
+node_at S sound s ns e k d h = path-below S (tree_facts S sound) s (get_or ns k d).0
+    (among_In (get_or ns k d).0 (path S.tree s) (subst (λ (ps : List ℕ). among (get_or ns k d).0 ps ≡ true) e (among_at ns k d h)))
 
 -- all nodes of a path are nodes of the tree
 pub within : (S : Setup) → IsSound S → (s : Spot) (ns : List Node) → node_numbers ns ≡ path S.tree s → All (λ n. n.0 < length S.tree) ns
 within S sound s ns e = All-from_get_or (λ n. n.0 < length S.tree) ns (record { 0 = 0 }) (λ k h. node_at S sound s ns e k (record { 0 = 0 }) h)
 
+-- all nodes of a path may be asked
+pub asked_along : (f : Facts) (L : Cell → List Version) (q : Question) (s : Spot) (ns : List Node) → IsSound (setup_of f) → node_numbers ns ≡ path (setup_of f).tree s
+    → ((n : ℕ) → on_path (setup_of f).tree n s ≡ true → MayAsk L f q n)
+    → All (CanAsk L f q) ns
+asked_along f L q s ns sound e may =
+    let d : Node = record { 0 = 0 } in
+    All-from_get_or (CanAsk L f q) ns d (λ k h. (node_at (setup_of f) sound s ns e k d h, may (get_or ns k d).0 (on_at (setup_of f) s ns k d e h)))
+
 -- the stops of the rules, along the path
-pub access_along : (S : Setup) (H : List Event) (t : ℕ) (x : Cell) (write : Bool) (ns : List ℕ) (s : Stop) → ns ≡ path S.tree (spot_of H t) → s ≡ stop_of (λ n. on_access (row S.tree n).control S H n t x write) ns → s ≡ access_stop S H t x write
+pub access_along : (S : Setup) (H : List Event) (t : ℕ) (x : Cell) (write : Bool) (ns : List ℕ) (s : Stop) → ns ≡ path S.tree (spot_of H t)
+    → s ≡ stop_of (λ n. on_access (row S.tree n).control S H n t x write) ns → s ≡ access_stop S H t x write
 unfolding access_stop
 access_along S H t x write ns s e k = k ∙ ap (stop_of (λ n. on_access (row S.tree n).control S H n t x write)) e
 
-pub prepare_along : (S : Setup) (H : List Event) (t : ℕ) (ns : List ℕ) (s : Stop) → ns ≡ path S.tree (spot_of H t) → s ≡ stop_of (λ n. validate (row S.tree n).control S H n t) ns → s ≡ prepare_stop S H t
+pub prepare_along : (S : Setup) (H : List Event) (t : ℕ) (ns : List ℕ) (s : Stop) → ns ≡ path S.tree (spot_of H t) → s ≡ stop_of (λ n. validate (row S.tree n).control S H n t) ns
+    → s ≡ prepare_stop S H t
 unfolding prepare_stop
 prepare_along S H t ns s e k = k ∙ ap (stop_of (λ n. validate (row S.tree n).control S H n t)) e
 

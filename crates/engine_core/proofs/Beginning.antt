@@ -32,7 +32,8 @@ unfolding stop_of
 goes f [] p w = refl
 goes f (n ∷ ns) p w = step (f n) (p n) (goes f ns p) w
   where
-    step : (v : Verdict) → Passes v → (((u : Txn) (m : Node) → stop_of f ns ≡ stop.Wait u m → ⊥) → stop_of f ns ≡ stop.Go) → ((u : Txn) (m : Node) → stop_with n v (stop_of f ns) ≡ stop.Wait u m → ⊥) → stop_with n v (stop_of f ns) ≡ stop.Go
+    step : (v : Verdict) → Passes v → (((u : Txn) (m : Node) → stop_of f ns ≡ stop.Wait u m → ⊥) → stop_of f ns ≡ stop.Go) → ((u : Txn) (m : Node) → stop_with n v (stop_of f ns) ≡ stop.Wait u m → ⊥)
+        → stop_with n v (stop_of f ns) ≡ stop.Go
     step Go q ih w = ih w
     step (Wait u) q ih w = absurd (w u (record { 0 = n }) refl)
     step (Break b) q ih w = absurd q

@@ -44,6 +44,7 @@ unfolding Lawful
 leads_granted S P e l = l.0
 
 -- the history of an answer is lawful
-pub leads_on : (X : Store) (H : List Event) (s : Session) (r : Request) → IsSound X.setup → Lawful X.setup H → Settled H → (d : Decision) → carried X H d ≡ answer X H s r → Lawful X.setup (carried X H d).1
+pub leads_on : (X : Store) (H : List Event) (s : Session) (r : Request) → IsSound X.setup → Lawful X.setup H → Settled H → (d : Decision) → carried X H d ≡ answer X H s r
+    → Lawful X.setup (carried X H d).1
 leads_on X H s r sound l t d e =
     subst (λ (a : Answered). Lawful X.setup a.1) (sym e) (answer_good X (tree_facts X.setup sound) sound.profiles H s r (record { legal = l; settled = t })).legal

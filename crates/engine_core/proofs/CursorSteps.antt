@@ -77,18 +77,23 @@ pub record IsMover (f : Facts) (cs : List ℕ) (t : ℕ) : Type 0 where
   pub above : 0 < t
   pub begun : t ≤ length cs
 
-mover : (f : Facts) (e : Event) (P : List Event) (cs : List ℕ) (t : ℕ) → events_of f ≡ e ∷ P → Lawful (setup_of f) (e ∷ P) → CursorsOf cs (setup_of f) P → unfinished P t ≡ true → begun (e ∷ P) t ≡ begun P t → kind_of (e ∷ P) t ≡ kind_of P t → IsMover f cs t
+mover : (f : Facts) (e : Event) (P : List Event) (cs : List ℕ) (t : ℕ) → events_of f ≡ e ∷ P → Lawful (setup_of f) (e ∷ P) → CursorsOf cs (setup_of f) P → unfinished P t ≡ true
+    → begun (e ∷ P) t ≡ begun P t → kind_of (e ∷ P) t ≡ kind_of P t → IsMover f cs t
 mover f e P cs t n l c u b k =
     let S = setup_of f in
     let q = unfinished_numbered S P t (lawful_before S e P l) u in
     let m = length-cursors cs S P c in
     record {
-      typed = record { begun = ap (λ (H : List Event). begun H t) n ∙ b ∙ begun_unfinished P t u; kind = subst (λ (z : ℕ). z < S.types) (sym (ap (λ (H : List Event). kind_of H t) n ∙ k)) (unfinished_typed S P t (lawful_before S e P l) u) };
+      typed = record {
+        begun = ap (λ (H : List Event). begun H t) n ∙ b ∙ begun_unfinished P t u;
+        kind = subst (λ (z : ℕ). z < S.types) (sym (ap (λ (H : List Event). kind_of H t) n ∙ k)) (unfinished_typed S P t (lawful_before S e P l) u);
+      };
       above = q.0;
       begun = (let h = q.1 in omega arith);
     }
 
-module _ (f : Facts) (e : Event) (cs : List ℕ) (newest : events_of f ≡ e ∷ drop 1 (events_of f)) (lawful : Lawful (setup_of f) (events_of f)) (stood : CursorsOf cs (setup_of f) (drop 1 (events_of f))) where
+module _ (f : Facts) (e : Event) (cs : List ℕ) (newest : events_of f ≡ e ∷ drop 1 (events_of f)) (lawful : Lawful (setup_of f) (events_of f))
+    (stood : CursorsOf cs (setup_of f) (drop 1 (events_of f))) where
   lawful_with : (d : Event) → e ≡ d → Lawful (setup_of f) (d ∷ drop 1 (events_of f))
   lawful_with d q = subst (λ (H : List Event). Lawful (setup_of f) H) (newest ∙ ap (λ (d : Event). d ∷ drop 1 (events_of f)) q) lawful
 
@@ -103,21 +108,25 @@ module _ (f : Facts) (e : Event) (cs : List ℕ) (newest : events_of f ≡ e ∷
   with_newest : (d : Event) (ds : List ℕ) → e ≡ d → CursorsOf ds (setup_of f) (d ∷ drop 1 (events_of f)) → CursorsOf ds (setup_of f) (events_of f)
   with_newest d ds q h = subst (λ (H : List Event). CursorsOf ds (setup_of f) H) (sym (newest ∙ ap (λ (d : Event). d ∷ drop 1 (events_of f)) q)) h
 
-  got_moves : (t w : Txn) (x : Cell) (v : Option ℤ) (ds : List ℕ) → e ≡ Got t x w v → ds ≡ moved cs t.0 (profile (setup_of f) (kind_of (events_of f) t.0)) x.table.0 → CursorsOf ds (setup_of f) (events_of f)
+  got_moves : (t w : Txn) (x : Cell) (v : Option ℤ) (ds : List ℕ) → e ≡ Got t x w v → ds ≡ moved cs t.0 (profile (setup_of f) (kind_of (events_of f) t.0)) x.table.0
+      → CursorsOf ds (setup_of f) (events_of f)
   got_moves t w x v ds q k =
       let S = setup_of f in
       let P = drop 1 (events_of f) in
       let n = unfinished_numbered S P t.0 (lawful_before S _ P (lawful_with (Got t x w v) q)) (got_unfinished S P t w x v (lawful_with (Got t x w v) q)) in
       let same : kind_of (events_of f) t.0 ≡ kind_of P t.0 = ap (λ (H : List Event). kind_of H t.0) (newest ∙ ap (λ (d : Event). d ∷ P) q) ∙ got_kind P t w x v t.0 in
-      with_newest (Got t x w v) ds q (subst (λ (ds : List ℕ). CursorsOf ds S (Got t x w v ∷ P)) (sym (k ∙ ap (λ (z : ℕ). moved cs t.0 (profile S z) x.table.0) same)) (cursors_got cs S P t x stood n.0 n.1 w v))
+      with_newest (Got t x w v) ds q (subst (λ (ds : List ℕ). CursorsOf ds S (Got t x w v ∷ P)) (sym (k ∙ ap (λ (z : ℕ). moved cs t.0 (profile S z) x.table.0) same))
+      (cursors_got cs S P t x stood n.0 n.1 w v))
 
-  put_moves : (t : Txn) (x : Cell) (v : Option ℤ) (ds : List ℕ) → e ≡ Put t x v → ds ≡ moved cs t.0 (profile (setup_of f) (kind_of (events_of f) t.0)) x.table.0 → CursorsOf ds (setup_of f) (events_of f)
+  put_moves : (t : Txn) (x : Cell) (v : Option ℤ) (ds : List ℕ) → e ≡ Put t x v → ds ≡ moved cs t.0 (profile (setup_of f) (kind_of (events_of f) t.0)) x.table.0
+      → CursorsOf ds (setup_of f) (events_of f)
   put_moves t x v ds q k =
       let S = setup_of f in
       let P = drop 1 (events_of f) in
       let n = unfinished_numbered S P t.0 (lawful_before S _ P (lawful_with (Put t x v) q)) (put_unfinished S P t x v (lawful_with (Put t x v) q)) in
       let same : kind_of (events_of f) t.0 ≡ kind_of P t.0 = ap (λ (H : List Event). kind_of H t.0) (newest ∙ ap (λ (d : Event). d ∷ P) q) ∙ put_kind P t x v t.0 in
-      with_newest (Put t x v) ds q (subst (λ (ds : List ℕ). CursorsOf ds S (Put t x v ∷ P)) (sym (k ∙ ap (λ (z : ℕ). moved cs t.0 (profile S z) x.table.0) same)) (cursors_put cs S P t x stood n.0 n.1 v))
+      with_newest (Put t x v) ds q (subst (λ (ds : List ℕ). CursorsOf ds S (Put t x v ∷ P)) (sym (k ∙ ap (λ (z : ℕ). moved cs t.0 (profile S z) x.table.0) same))
+      (cursors_put cs S P t x stood n.0 n.1 v))
 
   -- the newest event is an access of x by t
   abbrev pub IsAccess : Txn → Cell → Type 0
@@ -135,12 +144,17 @@ module _ (f : Facts) (e : Event) (cs : List ℕ) (newest : events_of f ≡ e ∷
   began_stands t s k i ds q m =
       let S = setup_of f in
       let P = drop 1 (events_of f) in
-      with_newest (Began t s k i) ds q (subst (λ (ds : List ℕ). CursorsOf ds S (Began t s k i ∷ P)) (sym m) (cursors_began cs S P t s k i stood (idle_cursor S P (suc (begun_count P)) (lawful_before S _ P (lawful_with (Began t s k i) q)) (unbegun S P (lawful_before S _ P (lawful_with (Began t s k i) q))))))
+      with_newest (Began t s k i) ds q
+      (subst (λ (ds : List ℕ). CursorsOf ds S (Began t s k i ∷ P)) (sym m)
+      (cursors_began cs S P t s k i stood
+      (idle_cursor S P (suc (begun_count P)) (lawful_before S _ P (lawful_with (Began t s k i) q)) (unbegun S P (lawful_before S _ P (lawful_with (Began t s k i) q))))))
 
-  pub others_stand : ((t : Txn) (s : Session) (k : Kind) (i : ℕ) → e ≡ Began t s k i → ⊥) → ((t : Txn) (x : Cell) (w : Txn) (v : Option ℤ) → e ≡ Got t x w v → ⊥) → ((t : Txn) (x : Cell) (v : Option ℤ) → e ≡ Put t x v → ⊥) → CursorsOf cs (setup_of f) (events_of f)
+  pub others_stand : ((t : Txn) (s : Session) (k : Kind) (i : ℕ) → e ≡ Began t s k i → ⊥) → ((t : Txn) (x : Cell) (w : Txn) (v : Option ℤ) → e ≡ Got t x w v → ⊥)
+      → ((t : Txn) (x : Cell) (v : Option ℤ) → e ≡ Put t x v → ⊥) → CursorsOf cs (setup_of f) (events_of f)
   others_stand b r w = subst (λ (H : List Event). CursorsOf cs (setup_of f) H) (sym newest) (go e b r w)
     where
-      go : (d : Event) → ((t : Txn) (s : Session) (k : Kind) (i : ℕ) → d ≡ Began t s k i → ⊥) → ((t : Txn) (x : Cell) (w : Txn) (v : Option ℤ) → d ≡ Got t x w v → ⊥) → ((t : Txn) (x : Cell) (v : Option ℤ) → d ≡ Put t x v → ⊥) → CursorsOf cs (setup_of f) (d ∷ drop 1 (events_of f))
+      go : (d : Event) → ((t : Txn) (s : Session) (k : Kind) (i : ℕ) → d ≡ Began t s k i → ⊥) → ((t : Txn) (x : Cell) (w : Txn) (v : Option ℤ) → d ≡ Got t x w v → ⊥)
+          → ((t : Txn) (x : Cell) (v : Option ℤ) → d ≡ Put t x v → ⊥) → CursorsOf cs (setup_of f) (d ∷ drop 1 (events_of f))
       go (Began t s k i) b r w = absurd (b t s k i refl)
       go (Got t x w' v) b r w = absurd (r t x w' v refl)
       go (Put t x v) b r w = absurd (w t x v refl)

@@ -24,7 +24,7 @@ use Rattle.teb_rules.specs.declared.Stop.{Stop}
 use Rattle.teb_rules.specs.declared.Stop.TheVariants as stop
 use Rattle.teb_rules.specs.Answer.{Answered, or_stop, or_refused, refuse, is_scan, answer, answer_to, answer_of, answer_new, begin_or_wait}
 use Rattle.engine_core.specs.declared.engine_view.EngineView.{EngineView}
-use Rattle.engine_core.specs.Wholes.{store_in, events_in}
+use Rattle.engine_core.specs.Views.{store_in, events_in}
 use Rattle.engine_core.specs.declared.decision.Decision.{Decision}
 use Rattle.engine_core.specs.declared.decision.Decision.TheVariants.{Answer}
 use Rattle.short_reply.specs.declared.ShortReply.TheVariants as short
@@ -38,7 +38,8 @@ pub goes : (X : Store) (H : List Event) (t : ℕ) (s r : Stop) (granted : Answer
 goes X H t s r granted e q = ap (λ (z : Stop). or_stop H t z granted) (sym q ∙ e)
 
 -- an access that is refused, and one that is not
-pub is_refused : (X : Store) (H : List Event) (t : ℕ) (x : Cell) (o : Option Refusal) (why : Refusal) (d : Decision) (granted : Answered) → IsRefusal X H t x o → o ≡ Some why → d ≡ Answer (short.Refused why) → carried X H d ≡ or_refused X H t x granted
+pub is_refused : (X : Store) (H : List Event) (t : ℕ) (x : Cell) (o : Option Refusal) (why : Refusal) (d : Decision) (granted : Answered) → IsRefusal X H t x o → o ≡ Some why
+    → d ≡ Answer (short.Refused why) → carried X H d ≡ or_refused X H t x granted
 is_refused X H t x o why d granted k q e = let f = subst (IsRefusal X H t x) q k in ap (carried X H) e ∙ sym (f granted)
 
 pub is_not_refused : (X : Store) (H : List Event) (t : ℕ) (x : Cell) (o : Option Refusal) (granted : Answered) → IsRefusal X H t x o → o ≡ None → or_refused X H t x granted ≡ granted
@@ -53,11 +54,13 @@ pub begins_full : (S : Setup) (H : List Event) (s : Session) (k : Spot) → ltb 
 unfolding answer_new
 begins_full S H s k e f = rw (e, le-leb MOST_TXNS (begun_count H) f) refl
 
-pub begins_late : (S : Setup) (H : List Event) (s : Session) (k : Spot) (u : Txn) (n : Node) → ltb k.kind.0 S.types ≡ true → begun_count H < MOST_TXNS → stop.Wait u n ≡ begin_stop S H k → answer_new S H s (Begin k) ≡ (Again u n, H)
+pub begins_late : (S : Setup) (H : List Event) (s : Session) (k : Spot) (u : Txn) (n : Node) → ltb k.kind.0 S.types ≡ true → begun_count H < MOST_TXNS → stop.Wait u n ≡ begin_stop S H k
+    → answer_new S H s (Begin k) ≡ (Again u n, H)
 unfolding answer_new
 begins_late S H s k u n e f w = rw (e, lt-leb MOST_TXNS (begun_count H) f, ← w) refl
 
-pub begins : (S : Setup) (H : List Event) (s : Session) (k : Spot) (t : Txn) → ltb k.kind.0 S.types ≡ true → begun_count H < MOST_TXNS → ((u : Txn) (n : Node) → begin_stop S H k ≡ stop.Wait u n → ⊥) → t.0 ≡ suc (begun_count H) →
+pub begins : (S : Setup) (H : List Event) (s : Session) (k : Spot) (t : Txn) → ltb k.kind.0 S.types ≡ true → begun_count H < MOST_TXNS → ((u : Txn) (n : Node) → begin_stop S H k ≡ stop.Wait u n → ⊥)
+    → t.0 ≡ suc (begun_count H) →
     answer_new S H s (Begin k) ≡ (Begun t, Began t s k.kind k.instance ∷ H)
 unfolding answer_new
 begins S H s k t e f w q = rw (e, lt-leb MOST_TXNS (begun_count H) f) (go (begin_stop S H k) w ∙ ap (λ (n : ℕ). (Begun (txn n), Began (txn n) s k.kind k.instance ∷ H)) (sym q))
@@ -105,14 +108,17 @@ somebody_held H s t e = go (held H s.0) e
 pub nothing_held : (X : Store) (H : List Event) (s : Session) (r : Request) → (leb 1 s.0 && leb s.0 SESSIONS) ≡ true → held_txn H s ≡ None → answer X H s r ≡ answer_new X.setup H s r
 nothing_held X H s r b e = good_session X H s r b ∙ ap (answer_to X H s r) (nobody_held H s e)
 
-pub aborted_held : (X : Store) (H : List Event) (s : Session) (r : Request) (t : Txn) → (leb 1 s.0 && leb s.0 SESSIONS) ≡ true → held_txn H s ≡ Some t → aborted H t.0 ≡ true → answer X H s r ≡ told H t.0
+pub aborted_held : (X : Store) (H : List Event) (s : Session) (r : Request) (t : Txn) → (leb 1 s.0 && leb s.0 SESSIONS) ≡ true → held_txn H s ≡ Some t → aborted H t.0 ≡ true
+    → answer X H s r ≡ told H t.0
 aborted_held X H s r t b e a = good_session X H s r b ∙ ap (answer_to X H s r) (somebody_held H s t e) ∙ rw a refl
 
-pub running_held : (X : Store) (H : List Event) (s : Session) (r : Request) (t : Txn) → (leb 1 s.0 && leb s.0 SESSIONS) ≡ true → held_txn H s ≡ Some t → aborted H t.0 ≡ false → answer X H s r ≡ answer_of X H t.0 r
+pub running_held : (X : Store) (H : List Event) (s : Session) (r : Request) (t : Txn) → (leb 1 s.0 && leb s.0 SESSIONS) ≡ true → held_txn H s ≡ Some t → aborted H t.0 ≡ false
+    → answer X H s r ≡ answer_of X H t.0 r
 running_held X H s r t b e a = good_session X H s r b ∙ ap (answer_to X H s r) (somebody_held H s t e) ∙ rw a refl
 
 -- the answer to who asks, by what it looks at
-pub asked_of : {K C : Type 0} (p q : EngineView K C) (t u : Txn) (d : Decision) (r : Request) → p ≡ q → t ≡ u → carried (store_in p) (events_in p) d ≡ answer_of (store_in p) (events_in p) t.0 r → carried (store_in q) (events_in q) d ≡ answer_of (store_in q) (events_in q) u.0 r
-asked_of {K} {C} p q t u d r e k h =
-    subst (λ (w : EngineView K C). carried (store_in w) (events_in w) d ≡ answer_of (store_in w) (events_in w) u.0 r) e
+pub asked_of : {C : Type 0} {g : _} (p q : EngineView C g) (t u : Txn) (d : Decision) (r : Request) → p ≡ q → t ≡ u → carried (store_in p) (events_in p) d ≡ answer_of (store_in p) (events_in p) t.0 r
+    → carried (store_in q) (events_in q) d ≡ answer_of (store_in q) (events_in q) u.0 r
+asked_of {C} {g} p q t u d r e k h =
+    subst (λ (w : EngineView C g). carried (store_in w) (events_in w) d ≡ answer_of (store_in w) (events_in w) u.0 r) e
     (subst (λ (v : Txn). carried (store_in p) (events_in p) d ≡ answer_of (store_in p) (events_in p) v.0 r) k h)

@@ -2,7 +2,6 @@
 use Rattle.std.proofs.Common.{◌≡◌, ℕ, zero, suc, ◌+◌, ◌≤◌, true, List, [], ◌∷◌, length, map, drop, slice_get, Some, refl, sym, ap, ◌∙◌, subst, arith}
 use Rattle.teb_names.specs.declared.Cause.{Cause}
 use Rattle.teb_names.specs.declared.Cause.TheVariants.{After}
-use Rattle.teb_names.specs.declared.Cell.{Cell}
 use Rattle.teb_names.specs.declared.Txn.{Txn}
 use Rattle.teb_history.specs.declared.Event.{Event}
 use Rattle.teb_history.specs.declared.Event.TheVariants.{Gone}
@@ -13,17 +12,13 @@ use Rattle.teb_laws.specs.TreeFacts.{TreeFacts}
 use Rattle.teb_laws.specs.Lawful.{Lawful}
 use Rattle.teb_laws.proofs.Answers.{Good}
 use Rattle.teb_laws.proofs.Cascades.{abort_good}
-use Rattle.version_chain.specs.Lists.{Version}
 use Rattle.abort_cascade.specs.Rounds.{blames}
 use Rattle.engine_core.specs.declared.engine_state.EngineState.{EngineState}
-use Rattle.engine_core.specs.Wholes.{StateIsWhole, HasRoom}
 
 -- how far an abort of t has come: whom the state was at first, and what it is once i of those that fall with t have fallen
-pub record HasFallen {K C : Type 0} (node_number : K → ℕ) (stands : K → Setup → List Event → Type 0) (lists : C → Cell → List Version) (spare : K → ℕ) (chain_spare : C → ℕ) (first now : EngineState K C) (t : ℕ) (c : Cause) (i : ℕ) : Type 0 where
-  pub whole : StateIsWhole node_number stands lists now
+pub record HasFallen {C : Type 0} {g : _} (first now : EngineState C g) (t : ℕ) (c : Cause) (i : ℕ) : Type 0 where
   pub events : fall_in_turn first.history.events t (drop i (cascade first.history.events t)) now.history.events ≡ abort first.history.events t c
   pub setup : now.setup ≡ first.setup
-  pub room : HasRoom spare chain_spare now
   pub left : length (cascade first.history.events t) ≤ i + now.room
 
 -- the i-th that falls
@@ -56,11 +51,13 @@ unfolding Lawful
 fall_unfinished S H t u us P l = (fall_before S H t us (Gone (txn u) (After (txn (blamed H t u))) ∷ P) (subst (Lawful S) (fall_cons H t u us P) l)).0
 
 -- one more falls: it was unfinished
-pub next_unfinished : (S : Setup) (a : TreeFacts S) (H P : List Event) (t : ℕ) (c : Cause) (i : ℕ) (p : Txn × Txn) → Good S H → unfinished H t ≡ true → fall_in_turn H t (drop i (cascade H t)) P ≡ abort H t c → IsNext H t i p → unfinished P p.0.0 ≡ true
+pub next_unfinished : (S : Setup) (a : TreeFacts S) (H P : List Event) (t : ℕ) (c : Cause) (i : ℕ) (p : Txn × Txn) → Good S H → unfinished H t ≡ true
+    → fall_in_turn H t (drop i (cascade H t)) P ≡ abort H t c → IsNext H t i p → unfinished P p.0.0 ≡ true
 next_unfinished S a H P t c i p g u e n = fall_unfinished S H t p.0.0 (drop (i + 1) (cascade H t)) P
     (subst (λ (us : List ℕ). Lawful S (fall_in_turn H t us P)) n.rest (subst (Lawful S) (sym e) (abort_good S a H t c g u).legal))
 
-pub next_events : (H P G : List Event) (t : ℕ) (c : Cause) (i : ℕ) (p : Txn × Txn) → fall_in_turn H t (drop i (cascade H t)) P ≡ abort H t c → IsNext H t i p → G ≡ Gone p.0 (After p.1) ∷ P → fall_in_turn H t (drop (i + 1) (cascade H t)) G ≡ abort H t c
+pub next_events : (H P G : List Event) (t : ℕ) (c : Cause) (i : ℕ) (p : Txn × Txn) → fall_in_turn H t (drop i (cascade H t)) P ≡ abort H t c → IsNext H t i p → G ≡ Gone p.0 (After p.1) ∷ P
+    → fall_in_turn H t (drop (i + 1) (cascade H t)) G ≡ abort H t c
 next_events H P G t c i p e n q =
     ap (fall_in_turn H t (drop (i + 1) (cascade H t))) (q ∙ ap (λ (w : Txn). Gone p.0 (After w) ∷ P) n.blame)
     ∙ sym (fall_cons H t p.0.0 (drop (i + 1) (cascade H t)) P)

@@ -12,10 +12,8 @@ use Rattle.teb_rules.specs.Cascade.{txn}
 use Rattle.teb_rules.specs.Versions.{read}
 use Rattle.teb_rules.specs.Answer.{cells_from, read_all}
 use Rattle.teb_laws.specs.Lawful.{Granted, Lawful, MayAccess}
-use Rattle.version_chain.specs.Lists.{Version}
 use Rattle.engine_core.specs.declared.engine_state.EngineState.{EngineState}
 use Rattle.store_setup.specs.Stores.{store_of}
-use Rattle.engine_core.specs.Wholes.{StateIsWhole, HasRoom}
 use Rattle.engine_core.specs.Cells.{cell_at}
 
 -- the cells of a scan that are left after the first i
@@ -50,11 +48,14 @@ pub stop_none : (S : Setup) (H : List Event) (t : ℕ) (x : Cell) (n : ℕ) → 
 unfolding scan_stop
 stop_none S H t x n = ap (scan_stop S H t) (rest_none x n)
 
-pub goes_on : (S : Setup) (H : List Event) (t : ℕ) (x : Cell) (n i : ℕ) (s : Stop) → i < n → s ≡ access_stop S H t (cell_at x i) false → s ≡ stop.Go → scan_stop S H t (rest_of x n i) ≡ scan_stop S H t (rest_of x n (i + 1))
-goes_on S H t x n i s h e g = ap (scan_stop S H t) (rest_more x n i h) ∙ stop_cons S H t (cell_at x i) (rest_of x n (i + 1)) ∙ ap (λ (z : Stop). or_stop_of z (scan_stop S H t (rest_of x n (i + 1)))) (sym e ∙ g)
+pub goes_on : (S : Setup) (H : List Event) (t : ℕ) (x : Cell) (n i : ℕ) (s : Stop) → i < n → s ≡ access_stop S H t (cell_at x i) false → s ≡ stop.Go
+    → scan_stop S H t (rest_of x n i) ≡ scan_stop S H t (rest_of x n (i + 1))
+goes_on S H t x n i s h e g = ap (scan_stop S H t) (rest_more x n i h) ∙ stop_cons S H t (cell_at x i) (rest_of x n (i + 1))
+    ∙ ap (λ (z : Stop). or_stop_of z (scan_stop S H t (rest_of x n (i + 1)))) (sym e ∙ g)
 
 pub stops_here : (S : Setup) (H : List Event) (t : ℕ) (x : Cell) (n i : ℕ) (s : Stop) → i < n → s ≡ access_stop S H t (cell_at x i) false → (s ≡ stop.Go → ⊥) → scan_stop S H t (rest_of x n i) ≡ s
-stops_here S H t x n i s h e g = ap (scan_stop S H t) (rest_more x n i h) ∙ stop_cons S H t (cell_at x i) (rest_of x n (i + 1)) ∙ ap (λ (z : Stop). or_stop_of z (scan_stop S H t (rest_of x n (i + 1)))) (sym e) ∙ first s (scan_stop S H t (rest_of x n (i + 1))) g
+stops_here S H t x n i s h e g = ap (scan_stop S H t) (rest_more x n i h) ∙ stop_cons S H t (cell_at x i) (rest_of x n (i + 1))
+    ∙ ap (λ (z : Stop). or_stop_of z (scan_stop S H t (rest_of x n (i + 1)))) (sym e) ∙ first s (scan_stop S H t (rest_of x n (i + 1))) g
   where
     first : (s r : Stop) → (s ≡ stop.Go → ⊥) → or_stop_of s r ≡ s
     first stop.Go r g = absurd (g refl)
@@ -85,18 +86,22 @@ read_one : (X : Store) (H : List Event) (t : Txn) (x : Cell) (n : ℕ) (values :
     (from.0, v) ≡ read X.setup X.rows P t.0 (cell_at x i) → G ≡ Got t (cell_at x i) from v ∷ P → HasRead X H t.0 x n (values ++ v ∷ []) G (i + 1)
 read_one X H t x n values P G i from v r h e q =
     let w = read X.setup X.rows P t.0 (cell_at x i) in
-    let step : read_all X P t.0 (rest_of x n i) ≡ (w.1 ∷ (read_all X (Got t (cell_at x i) (txn w.0) w.1 ∷ P) t.0 (rest_of x n (i + 1))).0, (read_all X (Got t (cell_at x i) (txn w.0) w.1 ∷ P) t.0 (rest_of x n (i + 1))).1) =
+    let step : read_all X P t.0 (rest_of x n i) ≡
+    (w.1 ∷ (read_all X (Got t (cell_at x i) (txn w.0) w.1 ∷ P) t.0 (rest_of x n (i + 1))).0, (read_all X (Got t (cell_at x i) (txn w.0) w.1 ∷ P) t.0 (rest_of x n (i + 1))).1) =
     ap (read_all X P t.0) (rest_more x n i h) ∙ all_cons X P t.0 (cell_at x i) (rest_of x n (i + 1)) in
-    let to : (z : ℕ × Option ℤ) → List (Option ℤ) × List Event = λ z. (z.1 ∷ (read_all X (Got t (cell_at x i) (txn z.0) z.1 ∷ P) t.0 (rest_of x n (i + 1))).0, (read_all X (Got t (cell_at x i) (txn z.0) z.1 ∷ P) t.0 (rest_of x n (i + 1))).1) in
+    let to : (z : ℕ × Option ℤ) → List (Option ℤ) × List Event = λ z.
+    (z.1 ∷ (read_all X (Got t (cell_at x i) (txn z.0) z.1 ∷ P) t.0 (rest_of x n (i + 1))).0, (read_all X (Got t (cell_at x i) (txn z.0) z.1 ∷ P) t.0 (rest_of x n (i + 1))).1) in
     let same : read_all X P t.0 (rest_of x n i) ≡ to (from.0, v) = step ∙ ap to (sym e) in
     record {
-      found = r.found ∙ ap (λ (p : List (Option ℤ) × List Event). values ++ p.0) same ∙ sym (append_assoc values (v ∷ []) _) ∙ ap (λ (E : List Event). (values ++ v ∷ []) ++ (read_all X E t.0 (rest_of x n (i + 1))).0) (sym q);
+      found = r.found ∙ ap (λ (p : List (Option ℤ) × List Event). values ++ p.0) same ∙ sym (append_assoc values (v ∷ []) _)
+          ∙ ap (λ (E : List Event). (values ++ v ∷ []) ++ (read_all X E t.0 (rest_of x n (i + 1))).0) (sym q);
       events = r.events ∙ ap (λ (p : List (Option ℤ) × List Event). p.1) same ∙ ap (λ (E : List Event). (read_all X E t.0 (rest_of x n (i + 1))).1) (sym q);
       count = (let c = r.count in let z = length-append values (v ∷ []) in omega arith);
     }
 
 -- a scan after its last read
-pub read_whole : (X : Store) (H : List Event) (t : ℕ) (x : Cell) (n : ℕ) (values : List (Option ℤ)) (P : List Event) → HasRead X H t x n values P n → (values ≡ (read_all X H t (cells_from x n)).0) × (P ≡ (read_all X H t (cells_from x n)).1)
+pub read_whole : (X : Store) (H : List Event) (t : ℕ) (x : Cell) (n : ℕ) (values : List (Option ℤ)) (P : List Event) → HasRead X H t x n values P n
+    → (values ≡ (read_all X H t (cells_from x n)).0) × (P ≡ (read_all X H t (cells_from x n)).1)
 unfolding read_all
 read_whole X H t x n values P r =
     (sym (r.found ∙ ap (λ (cs : List Cell). values ++ (read_all X P t cs).0) (rest_none x n) ∙ append-nil values), sym (r.events ∙ ap (λ (cs : List Cell). (read_all X P t cs).1) (rest_none x n)))
@@ -107,7 +112,8 @@ unfolding read_all Lawful
 lawful_before X H t [] l = l
 lawful_before X H t (x ∷ xs) l = let r = read X.setup X.rows H t x in (lawful_before X (Got (txn t) x (txn r.0) r.1 ∷ H) t xs l).1
 
-first_granted : (X : Store) (H : List Event) (t : ℕ) (x : Cell) (xs : List Cell) → Lawful X.setup (read_all X H t (x ∷ xs)).1 → let r = read X.setup X.rows H t x in Granted X.setup H (Got (txn t) x (txn r.0) r.1)
+first_granted : (X : Store) (H : List Event) (t : ℕ) (x : Cell) (xs : List Cell) → Lawful X.setup (read_all X H t (x ∷ xs)).1
+    → let r = read X.setup X.rows H t x in Granted X.setup H (Got (txn t) x (txn r.0) r.1)
 unfolding read_all Lawful
 first_granted X H t x xs l = let r = read X.setup X.rows H t x in (lawful_before X (Got (txn t) x (txn r.0) r.1 ∷ H) t xs l).0
 
@@ -143,9 +149,7 @@ module _ (X Y : Store) (same : Y ≡ X) (H P : List Event) (t : Txn) (x : Cell) 
         (read_one X H t x n values P G i from v r h (ap₂ (λ (w : ℕ) (u : Option ℤ). (w, u)) from_here value_here) (q ∙ ap (λ (z : Cell). Got t z from v ∷ P) c))
 
 -- how far a scan has come: what the state was at first, and what it is once i cells are read
-pub record IsReading {K C : Type 0} (node_number : K → ℕ) (stands : K → Setup → List Event → Type 0) (lists : C → Cell → List Version) (spare : K → ℕ) (chain_spare : C → ℕ) (first now : EngineState K C) (t : ℕ) (x : Cell) (n : ℕ) (values : List (Option ℤ)) (i : ℕ) : Type 0 where
-  pub whole : StateIsWhole node_number stands lists now
+pub record IsReading {C : Type 0} {g : _} (first now : EngineState C g) (t : ℕ) (x : Cell) (n : ℕ) (values : List (Option ℤ)) (i : ℕ) : Type 0 where
   pub read : HasRead (store_of first.setup) first.history.events t x n values now.history.events i
   pub setup : now.setup ≡ first.setup
-  pub room : HasRoom spare chain_spare now
   pub left : n ≤ i + now.room

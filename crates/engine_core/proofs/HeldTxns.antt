@@ -41,7 +41,8 @@ latest-session S (Began t a k i ∷ P) s l h = go (eqb a.0 s) refl h (latest-ses
     older : (latest_txn P s).0 ≤ begun_count P → t.0 ≡ suc (begun_count P) → t.0 ≡ (latest_txn P s).0 → ⊥
     older b n e = absurd (omega arith)
 
-    go : (b : Bool) → eqb a.0 s ≡ b → 0 < (cond b t (latest_txn P s)).0 → (0 < (latest_txn P s).0 → session_of P (latest_txn P s).0 ≡ s) → cond (eqb t.0 (cond b t (latest_txn P s)).0) a.0 (session_of P (cond b t (latest_txn P s)).0) ≡ s
+    go : (b : Bool) → eqb a.0 s ≡ b → 0 < (cond b t (latest_txn P s)).0 → (0 < (latest_txn P s).0 → session_of P (latest_txn P s).0 ≡ s)
+        → cond (eqb t.0 (cond b t (latest_txn P s)).0) a.0 (session_of P (cond b t (latest_txn P s)).0) ≡ s
     go true q h ih = rw (eq-eqb t.0 t.0 refl) (eqb-true _ _ q)
     go false q h ih = rw (ne_eqb t.0 (latest_txn P s).0 (older (latest-begun S P s l.1) l.0.0)) (ih h)
 latest-session S (Got u x w z ∷ P) s l h = latest-session S P s l.1 h
@@ -95,7 +96,8 @@ pub held_txn-latest : (S : Setup) (H : List Event) (s : Session) → Lawful S H 
 held_txn-latest S H s l = go (is_live H (latest_txn H s.0).0) refl (held H s.0) refl
   where
     numbered : is_live H (latest_txn H s.0).0 ≡ true → 0 < (latest_txn H s.0).0
-    numbered q = (begun_counted S H (latest_txn H s.0).0 l (held_began S H (session_of H (latest_txn H s.0).0) (latest_txn H s.0).0 l (and_from _ _ (eq-eqb (session_of H (latest_txn H s.0).0) (session_of H (latest_txn H s.0).0) refl) q))).0
+    numbered q = (begun_counted S H (latest_txn H s.0).0 l
+        (held_began S H (session_of H (latest_txn H s.0).0) (latest_txn H s.0).0 l (and_from _ _ (eq-eqb (session_of H (latest_txn H s.0).0) (session_of H (latest_txn H s.0).0) refl) q))).0
 
     go : (b : Bool) → is_live H (latest_txn H s.0).0 ≡ b → (o : Option ℕ) → held H s.0 ≡ o → txn_of o ≡ cond b (Some (latest_txn H s.0)) None
     go true q (Some v) e = ap (λ (n : ℕ). Some (record { 0 = n })) (held-latest S H s.0 v l (held_holds H s.0 v e))

@@ -74,7 +74,8 @@ module _ {K : Type 0} (node_number : K → ℕ) (stands : K → Setup → List E
     | inr le ↦ record { before = c; there = a.left n c (omega arith) e; numbered = refl; stood = λ S H x. x }
   ]
 
-  pub roomy_standing : length new ≡ length old → ((n : ℕ) (c : K) → slice_get new n ≡ Some c → IsRoomy node_number stands old n c) → (S : Setup) (H : List Event) → StandAll node_number stands old S H → StandAll node_number stands new S H
+  pub roomy_standing : length new ≡ length old → ((n : ℕ) (c : K) → slice_get new n ≡ Some c → IsRoomy node_number stands old n c) → (S : Setup) (H : List Event) → StandAll node_number stands old S H
+      → StandAll node_number stands new S H
   roomy_standing l f S H a = record {
     one_each = l ∙ a.one_each;
     each_numbered = λ n c e. let r = f n c e in r.numbered ∙ a.each_numbered n r.before r.there;
@@ -118,9 +119,11 @@ module _ (f : Facts) (S : Setup) (H : List Event) (s : setup_of f ≡ S) (h : ev
   pub told_standing : {K : Type 0} (stands : K → Setup → List Event → Type 0) (c : K) → stands c S (drop 1 H) → stands c (setup_of f) (drop 1 (events_of f))
   told_standing stands c x = subst (λ (T : Setup). stands c T (drop 1 (events_of f))) (sym s) (subst (λ (P : List Event). stands c S (drop 1 P)) (sym h) x)
 
-  pub all_standing : {K : Type 0} (node_number : K → ℕ) (stands : K → Setup → List Event → Type 0) (spare : K → ℕ) (old new : List K) (i : ℕ) → AreDone (HasNoted node_number stands spare (setup_of f) (events_of f) old) old new i → length new ≤ i → length old ≡ length S.tree → StandAll node_number stands new S H
+  pub all_standing : {K : Type 0} (node_number : K → ℕ) (stands : K → Setup → List Event → Type 0) (spare : K → ℕ) (old new : List K) (i : ℕ)
+      → AreDone (HasNoted node_number stands spare (setup_of f) (events_of f) old) old new i → length new ≤ i → length old ≡ length S.tree → StandAll node_number stands new S H
   all_standing {K} node_number stands spare old new i a all l =
-      let noted : (n : ℕ) (c : K) → slice_get new n ≡ Some c → HasNoted node_number stands spare (setup_of f) (events_of f) old n c = λ n c e. a.done n c (let w = slice_get_within new n c e in omega arith) e in
+      let noted : (n : ℕ) (c : K) → slice_get new n ≡ Some c → HasNoted node_number stands spare (setup_of f) (events_of f) old n c =
+      λ n c e. a.done n c (let w = slice_get_within new n c e in omega arith) e in
       record {
         one_each = a.len ∙ l;
         each_numbered = λ n c e. (noted n c e).numbered;

@@ -1,26 +1,24 @@
 -- Histories that requests lead to, and what holds of them.
-use Rattle.std.proofs.Common.{◌≡◌, ℕ, Bool, false, List, [], ◌∷◌, ◌++◌, refl, sym, ◌∙◌, ap, subst}
-use Rattle.teb_names.specs.declared.Cell.{Cell}
+use Rattle.std.proofs.Common.{◌≡◌, Bool, true, false, List, [], ◌∷◌, ◌++◌, refl, sym, ◌∙◌, ap, subst}
 use Rattle.teb_names.specs.declared.Session.{Session}
 use Rattle.teb_names.specs.declared.Request.{Request}
 use Rattle.teb_history.specs.declared.Event.{Event}
 use Rattle.teb_rules.specs.Accepted.{IsSound}
 use Rattle.teb_rules.specs.Answer.{answer}
 use Rattle.teb_rules.specs.Run.{history_after}
-use Rattle.teb_rules.specs.Setup.{Setup, Store}
+use Rattle.teb_rules.specs.Setup.{Store}
 use Rattle.teb_laws.specs.Laws.{OfEveryStore}
 use Rattle.teb_laws.specs.Lawful.{Settled}
 use Rattle.teb_laws.proofs.Reachable.{run_good, empty_good}
 use Rattle.teb_laws.proofs.Runs.{history_after-append}
 use Rattle.teb_laws.proofs.Sound.{tree_facts}
-use Rattle.version_chain.specs.Lists.{Version}
 use Rattle.store_setup.specs.declared.Setup as kept
 use Rattle.store_setup.specs.SetupView.{setup_view}
 use Rattle.store_setup.specs.Sound.{IsWhole}
 use Rattle.engine_core.specs.declared.engine_state.EngineState.{EngineState}
 use Rattle.engine_core.specs.EngineModel.{IsReached, IsEngine}
 use Rattle.store_setup.specs.Stores.{store_of}
-use Rattle.engine_core.specs.Wholes.{StateIsWhole, HasRoom}
+use Rattle.engine_core.specs.States.{IsReady}
 
 -- no request leads to nothing
 pub reached_none : (X : Store) (H : List Event) → H ≡ [] → IsReached X H
@@ -43,18 +41,18 @@ pub settled_of : (X : Store) (H : List Event) → IsSound X.setup → IsReached 
 settled_of X H = law_of (λ Y G. Settled G) (λ Y sound asked. (run_good Y (tree_facts Y.setup sound) sound.profiles asked [] (empty_good Y.setup)).settled) X H
 
 -- what an engine keeps, as its box lends it
-pub lent_engine : {K C : Type 0} {node_number : K → ℕ} {stands : K → Setup → List Event → Type 0} {spare : K → ℕ} {lists : C → Cell → List Version} {chain_spare : C → ℕ} {ready : Bool} {boxed lent : EngineState K C} →
-    IsEngine node_number stands spare lists chain_spare boxed ready → lent ≡ boxed → IsEngine node_number stands spare lists chain_spare lent ready
-lent_engine {K} {C} {node_number} {stands} {spare} {lists} {chain_spare} {ready} was same = subst (λ (k : EngineState K C). IsEngine node_number stands spare lists chain_spare k ready) (sym same) was
+pub lent_engine : {C : Type 0} {g : _} {ready : Bool} {boxed lent : EngineState C g} → IsEngine boxed ready → lent ≡ boxed → IsEngine lent ready
+lent_engine {C} {g} {ready} was same = subst (λ (k : EngineState C g). IsEngine k ready) (sym same) was
+
+-- an engine that is ready may answer
+pub ready_engine : {C : Type 0} {g : _} (k : EngineState C g) (ready : Bool) → IsEngine k ready → ready ≡ true → IsReady k
+ready_engine k ready was e = record { settled = settled_of (store_of k.setup) k.history.events k.whole.sound was.reached; room = was.enough e }
 
 -- what an engine keeps, after an answer
-pub answered_engine : {K C : Type 0} (node_number : K → ℕ) (stands : K → Setup → List Event → Type 0) (spare : K → ℕ) (lists : C → Cell → List Version) (chain_spare : C → ℕ) (old new : EngineState K C) (ready : Bool) (s : Session) (r : Request) →
-    IsEngine node_number stands spare lists chain_spare old ready → new.setup ≡ old.setup → StateIsWhole node_number stands lists new → HasRoom spare chain_spare new → new.history.events ≡ (answer (store_of old.setup) old.history.events s r).1 →
-    IsEngine node_number stands spare lists chain_spare new false
-answered_engine node_number stands spare lists chain_spare old new ready s r was same whole room next = record {
+pub answered_engine : {C : Type 0} {g : _} (old new : EngineState C g) (ready : Bool) (s : Session) (r : Request) → IsEngine old ready → new.setup ≡ old.setup
+    → new.history.events ≡ (answer (store_of old.setup) old.history.events s r).1 → IsEngine new false
+answered_engine old new ready s r was same next = record {
   setup = subst (λ (u : kept.Setup). IsWhole (setup_view u)) (sym same) was.setup;
-  whole = whole;
   reached = subst (λ (u : kept.Setup). IsReached (store_of u) new.history.events) (sym same) (reached_more (store_of old.setup) old.history.events s r was.reached new.history.events next);
-  room = room;
   enough = λ f. absurd (cc);
 }

@@ -10,15 +10,16 @@ use Rattle.version_chain.specs.Lists.{Version, writers_of, is_writer}
 use Rattle.phase_api.specs.Standing.{StandAll}
 use Rattle.phase_api.specs.Versions.{HoldsVersions, HaveLastValues}
 use Rattle.dependency_book.specs.Books.{Lists}
-use Rattle.engine_core.specs.declared.engine_state.EngineState.{EngineState}
-use Rattle.engine_core.specs.Wholes.{IsWhole, RoomFor, HasRoomFor}
+use Rattle.engine_core.specs.declared.any_control.AnyControl.{AnyControl}
+use Rattle.engine_core.specs.AnyControls.{any_node_number, any_stands}
+use Rattle.engine_core.specs.Wholes.{IsWhole, RoomFor, HaveRoom}
 
 -- less room
 pub less_room : {K : Type 0} (spare : K → ℕ) (j k : ℕ) (cs : List K) → j ≤ k → RoomFor spare k cs → RoomFor spare j cs
 less_room spare j k cs h r = record { each = λ n c e. let a : k ≤ spare c = r.each n c e in omega arith }
 
-pub no_room : {K C : Type 0} (control_spare : K → ℕ) (chain_spare : C → ℕ) (c : EngineState K C) → HasRoomFor control_spare chain_spare 0 c
-no_room control_spare chain_spare c = record {
+pub no_room : (events : ℕ) (cs : List AnyControl) (notes places steps : ℕ) → HaveRoom 0 events cs notes places steps
+no_room events cs notes places steps = record {
   history = omega arith;
   controls = record { each = λ n k e. omega arith };
   book = omega arith;
@@ -33,12 +34,12 @@ same_versions S H L M m h = record {
   order = λ x. subst (λ (vs : List Version). Pairs (λ u w. (precedes S H x u w ≡ true) × (precedes S H x w u ≡ false)) (writers_of vs)) (sym (m x)) (h.order x);
 }
 
-pub still_whole : {K : Type 0} (node_number : K → ℕ) (stands : K → Setup → List Event → Type 0) (X : Store) (H G : List Event) (cs ds : List K) (L M : Cell → List Version) (b d : Lists) (steps more : List ℕ) (latest : List Txn) →
-    IsWhole node_number stands X H cs L b steps latest → G ≡ H → StandAll node_number stands ds X.setup H → ((x : Cell) → M x ≡ L x) → d ≡ b → more ≡ steps → IsWhole node_number stands X G ds M d more latest
-still_whole node_number stands X H G cs ds L M b d steps more latest w q sa m k c =
-    subst (λ (P : List Event). IsWhole node_number stands X P ds M d more latest) (sym q)
-    (subst (λ (l : Lists). IsWhole node_number stands X H ds M l more latest) (sym k)
-    (subst (λ (ns : List ℕ). IsWhole node_number stands X H ds M b ns latest) (sym c) (record {
+pub still_whole : (X : Store) (H G : List Event) (cs ds : List AnyControl) (L M : Cell → List Version) (b d : Lists) (steps more : List ℕ) (latest : List Txn) →
+    IsWhole X H cs L b steps latest → G ≡ H → StandAll any_node_number any_stands ds X.setup H → ((x : Cell) → M x ≡ L x) → d ≡ b → more ≡ steps → IsWhole X G ds M d more latest
+still_whole X H G cs ds L M b d steps more latest w q sa m k c =
+    subst (λ (P : List Event). IsWhole X P ds M d more latest) (sym q)
+    (subst (λ (l : Lists). IsWhole X H ds M l more latest) (sym k)
+    (subst (λ (ns : List ℕ). IsWhole X H ds M b ns latest) (sym c) (record {
       sound = w.sound;
       profiled = w.profiled;
       nodes = w.nodes;

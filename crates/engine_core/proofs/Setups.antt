@@ -19,6 +19,8 @@ use Rattle.store_setup.specs.SetupView.{setup_view}
 use Rattle.store_setup.specs.Sound as SetUp
 use Rattle.engine_core.specs.Latest.{AreLatest}
 use Rattle.store_setup.specs.Stores.{store_of}
+use Rattle.engine_core.specs.declared.any_control.AnyControl.{AnyControl}
+use Rattle.engine_core.specs.AnyControls.{any_node_number, any_stands}
 use Rattle.engine_core.specs.Wholes.{IsWhole}
 
 pub sound_rules : (s : Setup) → SetUp.IsWhole (setup_view s) → IsSound (store_of s).setup
@@ -28,7 +30,8 @@ pub enough_profiles : (s : Setup) (F : Rules) → F ≡ (store_of s).setup → S
 enough_profiles s F q w = subst (λ (S : Rules). S.types ≤ length S.profiles) (sym q) (let a = w.profiles in let b = w.types in omega arith)
 
 pub few_ranked : (s : Setup) (F : Rules) → F ≡ (store_of s).setup → SetUp.IsWhole (setup_view s) → above_profiles F.profiles ≤ 64
-few_ranked s F q w = subst (λ (S : Rules). above_profiles S.profiles ≤ 64) (sym q) (let a : above_profiles s.profiles.items ≤ length s.names.tables = w.ranked in let b : length s.names.tables ≤ 64 = w.few_tables in omega arith)
+few_ranked s F q w = subst (λ (S : Rules). above_profiles S.profiles ≤ 64) (sym q)
+    (let a : above_profiles s.profiles.items ≤ length s.names.tables = w.ranked in let b : length s.names.tables ≤ 64 = w.few_tables in omega arith)
 
 none_begun : begun_count [] ≤ MOST_TXNS
 unfolding begun_count
@@ -37,17 +40,17 @@ none_begun = omega arith
 lawful_none : (S : Rules) → Lawful S []
 lawful_none S = (empty_good S).legal
 
-pub whole_from_nothing : {K : Type 0} (node_number : K → ℕ) (stands : K → Rules → List Event → Type 0) (s : Setup) (H : List Event) (cs : List K) (L : Cell → List Version) (b : Lists) (steps : List ℕ) (latest : List Txn) → SetUp.IsWhole (setup_view s) → H ≡ [] →
-    StandAll node_number stands cs (store_of s).setup H → ((x : Cell) → L x ≡ []) → BookOf b [] → steps ≡ [] → AreLatest latest [] → IsWhole node_number stands (store_of s) H cs L b steps latest
-whole_from_nothing {K} node_number stands s H cs L b steps latest w q sa l bo cu la =
-    subst (λ (P : List Event). IsWhole node_number stands (store_of s) P cs L b steps latest) (sym q)
-    (subst (λ (ns : List ℕ). IsWhole node_number stands (store_of s) [] cs L b ns latest) (sym cu) (record {
+pub whole_from_nothing : (s : Setup) (H : List Event) (cs : List AnyControl) (L : Cell → List Version) (b : Lists) (steps : List ℕ) (latest : List Txn) → SetUp.IsWhole (setup_view s) → H ≡ [] →
+    StandAll any_node_number any_stands cs (store_of s).setup H → ((x : Cell) → L x ≡ []) → BookOf b [] → steps ≡ [] → AreLatest latest [] → IsWhole (store_of s) H cs L b steps latest
+whole_from_nothing s H cs L b steps latest w q sa l bo cu la =
+    subst (λ (P : List Event). IsWhole (store_of s) P cs L b steps latest) (sym q)
+    (subst (λ (ns : List ℕ). IsWhole (store_of s) [] cs L b ns latest) (sym cu) (record {
       sound = sound_rules s w;
       profiled = w.profiles ∙ sym w.types;
       nodes = w.few_nodes;
       lawful = lawful_none (store_of s).setup;
       few = none_begun;
-      controls = subst (StandAll node_number stands cs (store_of s).setup) q sa;
+      controls = subst (StandAll any_node_number any_stands cs (store_of s).setup) q sa;
       versions = versions_none (store_of s).setup L l;
       book = bo;
       cursors = cursors_none (store_of s).setup;

@@ -1,5 +1,5 @@
 -- A decision, and the answer that it carries out.
-use Rattle.std.specs.Prelude.{◌≡◌, ◌≤◌, ◌<◌, ◌+◌, ◌^◌, ℕ, List, ◌∷◌, Option, Some, None, unwrap_or, cond, ℤ, ◌+ℤ◌}
+use Rattle.std.specs.Prelude.{◌≡◌, ◌<◌, ℕ, List, ◌∷◌, Option, Some, None, unwrap_or, cond, ℤ, ◌+ℤ◌}
 use Rattle.teb_names.specs.declared.TheConstants.{MOST_TXNS}
 use Rattle.teb_names.specs.declared.Cause.TheVariants.{Asked}
 use Rattle.teb_names.specs.declared.Reply.TheVariants as reply
@@ -17,6 +17,7 @@ use Rattle.teb_rules.specs.Cascade.{txn}
 use Rattle.teb_rules.specs.Answer.{Answered, cells_from, read_all, got_values, broken_off, refuse, or_stop, or_refused, fits}
 use Rattle.version_chain.specs.Lists.{Version}
 use Rattle.short_reply.specs.ShortReplies.{full_reply}
+use Rattle.engine_core.specs.Cells.{HasKeys}
 use Rattle.engine_core.specs.Keeping.{IsPlaced}
 use Rattle.engine_core.specs.declared.decision.Decision.{Decision}
 use Rattle.engine_core.specs.declared.decision.Decision.TheVariants.{Answer, Grant, Put, Scan, Fall}
@@ -43,7 +44,7 @@ IsNoPut _ = Unit {0}
 abbrev pub IsBounded : (Cell → List Version) → Setup → List Event → Decision → Type 0
 IsBounded L S H (Grant r e) = MayBegin S H e × IsNoPut e
 IsBounded L S H (Put t x v p) = IsPlaced S H L t.0 x p
-IsBounded L S H (Scan t x n) = (n ≤ 16) × (x.key + n ≤ 2 ^ 32)
+IsBounded L S H (Scan t x n) = HasKeys x n
 IsBounded L S H _ = Unit {0}
 
 -- the decision is no scan

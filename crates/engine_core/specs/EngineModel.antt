@@ -1,20 +1,17 @@
 -- What contracts see of an engine, and what holds of each.
-use Rattle.std.specs.Prelude.{◌≡◌, ◌≤◌, ℕ, Bool, true, List}
-use Rattle.teb_names.specs.declared.Cell.{Cell}
+use Rattle.std.specs.Prelude.{◌≡◌, ◌≤◌, Bool, true, List}
 use Rattle.teb_names.specs.declared.Session.{Session}
 use Rattle.teb_names.specs.declared.Request.{Request}
 use Rattle.teb_names.specs.declared.naming.NameBook.{NameBook}
 use Rattle.teb_history.specs.declared.Event.{Event}
-use Rattle.teb_rules.specs.Setup.{Setup, Store}
+use Rattle.teb_rules.specs.Setup.{Store}
 use Rattle.teb_rules.specs.Accepted.{IsSound}
 use Rattle.teb_laws.specs.Laws.{reached}
-use Rattle.version_chain.specs.Lists.{Version}
 use Rattle.store_setup.specs.SetupView.{setup_view}
 use Rattle.store_setup.specs.Sound as SetUp
 use Rattle.engine_core.specs.declared.room.TheConstants.{MOST_EVENTS}
 use Rattle.engine_core.specs.declared.engine_state.EngineState.{EngineState}
 use Rattle.store_setup.specs.Stores.{store_of}
-use Rattle.engine_core.specs.Wholes.{StateIsWhole, HasRoom}
 
 -- the store, its names, its history, the newest event first, and whether there is room for the events of one answer
 pub record EngineModel : Type 0 where
@@ -32,11 +29,9 @@ pub record IsOfEngine (e : EngineModel) : Type 0 where
   pub sound : IsSound e.store.setup
   pub reached : IsReached e.store e.events
 
--- the setup is one that a store can be set up with, the state is whole, its history is one that requests lead to, there is the room that
--- is counted, and if it is ready there is room for an answer
-pub record IsEngine {K C : Type 0} (node_number : K → ℕ) (stands : K → Setup → List Event → Type 0) (spare : K → ℕ) (lists : C → Cell → List Version) (chain_spare : C → ℕ) (k : EngineState K C) (ready : Bool) : Type 0 where
+-- the setup is one that a store can be set up with, the history is one that requests lead to, and if the engine is ready there is room for an
+-- answer
+pub record IsEngine {C : Type 0} {g : _} (k : EngineState C g) (ready : Bool) : Type 0 where
   pub setup : SetUp.IsWhole (setup_view k.setup)
-  pub whole : StateIsWhole node_number stands lists k
   pub reached : IsReached (store_of k.setup) k.history.events
-  pub room : HasRoom spare chain_spare k
   pub enough : ready ≡ true → MOST_EVENTS ≤ k.room

@@ -1,7 +1,10 @@
 pub mod EngineModel
 pub mod Latest
 pub mod Wholes
+pub mod States
+pub mod Views
 pub mod Asking
+pub mod Questions
 pub mod HeldBy
 pub mod Stopping
 pub mod Cells
@@ -9,3 +12,6 @@ pub mod Decisions
 pub mod Responses
 pub mod Keeping
 pub mod AnyControls
+pub mod Starts
+pub mod Props
+pub mod Appends

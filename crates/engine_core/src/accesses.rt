@@ -4,15 +4,15 @@ ghost use Rattle.std.specs.Prelude.{◌≡◌, None};
 ghost use Rattle.teb_names.specs.declared.Request.TheVariants as request;
 ghost use Rattle.teb_rules.specs.Answer.{answer_of, got_value, or_refused, put_value};
 ghost use Rattle.teb_rules.specs.Versions.{read};
-ghost use Rattle.engine_core.specs.Wholes.{store_in, events_in, ViewIsWhole};
+ghost use Rattle.engine_core.specs.Views.{store_in, events_in};
 ghost use Rattle.engine_core.specs.Asking.{IsAsking};
 ghost use Rattle.engine_core.specs.Decisions.{carried, IsBounded, IsRefusal};
 
+use crate::access::Access;
 use crate::asking::Asking;
 use crate::decision::{Decision, refused, stopped};
 use crate::put_places::{asked_place, at_of, granted_place};
 use crate::stops::{read_stop, write_stop};
-use phase_api::Control;
 use short_reply::ShortReply;
 use teb_history::Event;
 use teb_names::{Cell, Refusal};
@@ -20,24 +20,24 @@ use teb_rules::Stop;
 use version_chain::Chains;
 
 /// Reads a cell.
-pub fn decide_read<K: Control, C: Chains>(asking: &Asking<'_, K, C>, cell: Cell) -> Decision
-    requires whole { ViewIsWhole K.node_number K.stands C.lists asking.now.view.now }
-    ensures answer { carried (store_in asking.now.view.now) (events_in asking.now.view.now) result ≡ answer_of (store_in asking.now.view.now) (events_in asking.now.view.now) asking.now.txn.0 (request.Read cell) }
+pub fn decide_read<C: Chains>(asking: &Asking<'_, C>, cell: Cell) -> Decision
+    ensures answer { carried (store_in asking.now.view.now) (events_in asking.now.view.now) result ≡ answer_of (store_in asking.now.view.now) (events_in asking.now.view.now) asking.now.txn.0
+        (request.Read cell) }
     ensures bounded { IsBounded (C.lists asking.now.view.now.state.now.chains) (store_in asking.now.view.now).setup (events_in asking.now.view.now) result }
 {
     if let Some(why) = refusal(asking, cell) {
         return refused(why);
     }
-    match read_stop(asking, cell) {
+    match read_stop(&Access { asking, cell }) {
         Stop::Go => got(asking, cell),
         stop => stopped(asking.txn, stop),
     }
 }
 
 /// Decides a read that does not stop.
-fn got<K: Control, C: Chains>(asking: &Asking<'_, K, C>, cell: Cell) -> Decision
-    requires { ViewIsWhole K.node_number K.stands C.lists asking.now.view.now }
-    ensures answer { carried (store_in asking.now.view.now) (events_in asking.now.view.now) result ≡ got_value (events_in asking.now.view.now) asking.now.txn.0 cell (read (store_in asking.now.view.now).setup (store_in asking.now.view.now).rows (events_in asking.now.view.now) asking.now.txn.0 cell) }
+fn got<C: Chains>(asking: &Asking<'_, C>, cell: Cell) -> Decision
+    ensures answer { carried (store_in asking.now.view.now) (events_in asking.now.view.now) result ≡ got_value (events_in asking.now.view.now) asking.now.txn.0 cell
+        (read (store_in asking.now.view.now).setup (store_in asking.now.view.now).rows (events_in asking.now.view.now) asking.now.txn.0 cell) }
     ensures bounded { IsBounded (C.lists asking.now.view.now.state.now.chains) (store_in asking.now.view.now).setup (events_in asking.now.view.now) result }
 {
     let (from, value) = asking.view.read(asking.txn, cell);
@@ -53,34 +53,27 @@ fn got<K: Control, C: Chains>(asking: &Asking<'_, K, C>, cell: Cell) -> Decision
 }
 
 /// Decides a put of a value, or a deletion of the row if there is no value.
-pub fn decide_write<K: Control, C: Chains>(
-    asking: &Asking<'_, K, C>,
-    cell: Cell,
-    value: Option<i64>,
-) -> Decision
-    requires whole { ViewIsWhole K.node_number K.stands C.lists asking.now.view.now }
-    ensures answer { carried (store_in asking.now.view.now) (events_in asking.now.view.now) result ≡ or_refused (store_in asking.now.view.now) (events_in asking.now.view.now) asking.now.txn.0 cell (put_value (store_in asking.now.view.now).setup (events_in asking.now.view.now) asking.now.txn.0 cell value) }
+pub fn decide_write<C: Chains>(asking: &Asking<'_, C>, cell: Cell, value: Option<i64>) -> Decision
+    ensures answer { carried (store_in asking.now.view.now) (events_in asking.now.view.now) result ≡ or_refused (store_in asking.now.view.now) (events_in asking.now.view.now) asking.now.txn.0 cell
+        (put_value (store_in asking.now.view.now).setup (events_in asking.now.view.now) asking.now.txn.0 cell value) }
     ensures bounded { IsBounded (C.lists asking.now.view.now.state.now.chains) (store_in asking.now.view.now).setup (events_in asking.now.view.now) result }
 {
     match refusal(asking, cell) {
         Some(why) => refused(why),
-        None => put(asking, cell, value),
+        None => put(&Access { asking, cell }, value),
     }
 }
 
 /// Decides a Put that is not refused.
-pub fn put<K: Control, C: Chains>(
-    asking: &Asking<'_, K, C>,
-    cell: Cell,
-    value: Option<i64>,
-) -> Decision
-    requires whole { ViewIsWhole K.node_number K.stands C.lists asking.now.view.now }
-    requires asks { IsAsking (store_in asking.now.view.now).setup (events_in asking.now.view.now) asking.now.txn.0 cell }
-    ensures answer { carried (store_in asking.now.view.now) (events_in asking.now.view.now) result ≡ put_value (store_in asking.now.view.now).setup (events_in asking.now.view.now) asking.now.txn.0 cell value }
-    ensures bounded { IsBounded (C.lists asking.now.view.now.state.now.chains) (store_in asking.now.view.now).setup (events_in asking.now.view.now) result }
+pub fn put<C: Chains>(access: &Access<'_, C>, value: Option<i64>) -> Decision
+    ensures answer { carried (store_in access.now.asking.now.view.now) (events_in access.now.asking.now.view.now) result ≡ put_value (store_in access.now.asking.now.view.now).setup
+        (events_in access.now.asking.now.view.now) access.now.asking.now.txn.0 access.now.cell value }
+    ensures bounded { IsBounded (C.lists access.now.asking.now.view.now.state.now.chains) (store_in access.now.asking.now.view.now).setup (events_in access.now.asking.now.view.now) result }
 {
+    let asking = access.asking;
+    let cell = access.cell;
     let asked = asked_place(asking, cell);
-    match write_stop(asking, cell, at_of(asked)) {
+    match write_stop(access, at_of(asked)) {
         Stop::Go => Decision::Put {
             txn: asking.txn,
             cell,
@@ -92,8 +85,7 @@ pub fn put<K: Control, C: Chains>(
 }
 
 /// Why an access is refused.
-pub fn refusal<K: Control, C: Chains>(asking: &Asking<'_, K, C>, cell: Cell) -> Option<Refusal>
-    requires whole { ViewIsWhole K.node_number K.stands C.lists asking.now.view.now }
+pub fn refusal<C: Chains>(asking: &Asking<'_, C>, cell: Cell) -> Option<Refusal>
     ensures refusal { IsRefusal (store_in asking.now.view.now) (events_in asking.now.view.now) asking.now.txn.0 cell result }
     ensures asks { result ≡ None → IsAsking (store_in asking.now.view.now).setup (events_in asking.now.view.now) asking.now.txn.0 cell }
 {

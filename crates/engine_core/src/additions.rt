@@ -4,24 +4,20 @@ ghost use Rattle.std.specs.Prelude.{◌≡◌};
 ghost use Rattle.teb_names.specs.declared.Request.TheVariants as request;
 ghost use Rattle.teb_history.specs.Accesses.{last_put, last_got};
 ghost use Rattle.teb_rules.specs.Answer.{answer_of, add_base};
-ghost use Rattle.engine_core.specs.Wholes.{store_in, events_in, ViewIsWhole};
+ghost use Rattle.engine_core.specs.Views.{store_in, events_in};
 ghost use Rattle.engine_core.specs.Decisions.{carried, sum_of, IsBounded};
 
+use crate::access::Access;
 use crate::accesses::{put, refusal};
 use crate::asking::Asking;
 use crate::decision::{Decision, refused};
-use phase_api::Control;
 use teb_names::{Cell, Refusal};
 use version_chain::Chains;
 
 /// Adds to the value that the transaction has put or read.
-pub fn decide_add<K: Control, C: Chains>(
-    asking: &Asking<'_, K, C>,
-    cell: Cell,
-    number: i64,
-) -> Decision
-    requires whole { ViewIsWhole K.node_number K.stands C.lists asking.now.view.now }
-    ensures answer { carried (store_in asking.now.view.now) (events_in asking.now.view.now) result ≡ answer_of (store_in asking.now.view.now) (events_in asking.now.view.now) asking.now.txn.0 (request.Add cell number) }
+pub fn decide_add<C: Chains>(asking: &Asking<'_, C>, cell: Cell, number: i64) -> Decision
+    ensures answer { carried (store_in asking.now.view.now) (events_in asking.now.view.now) result ≡ answer_of (store_in asking.now.view.now) (events_in asking.now.view.now) asking.now.txn.0
+        (request.Add cell number) }
     ensures bounded { IsBounded (C.lists asking.now.view.now.state.now.chains) (store_in asking.now.view.now).setup (events_in asking.now.view.now) result }
 {
     if let Some(why) = refusal(asking, cell) {
@@ -31,13 +27,13 @@ pub fn decide_add<K: Control, C: Chains>(
         return refused(Refusal::NotRead);
     };
     match sum_of(base, number) {
-        Some(sum) => put(asking, cell, Some(sum)),
+        Some(sum) => put(&Access { asking, cell }, Some(sum)),
         None => refused(Refusal::Overflow),
     }
 }
 
 /// Returns the value that an addition starts from: the value of the transaction's own last Put, or else what it last read; no row counts as 0.
-fn add_base<K: Control, C: Chains>(asking: &Asking<'_, K, C>, cell: Cell) -> Option<i64>
+fn add_base<C: Chains>(asking: &Asking<'_, C>, cell: Cell) -> Option<i64>
     ensures { result ≡ add_base (last_put (events_in asking.now.view.now) asking.now.txn.0 cell) (last_got (events_in asking.now.view.now) asking.now.txn.0 cell) }
 {
     let view = asking.view;

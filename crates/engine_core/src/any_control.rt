@@ -1,10 +1,10 @@
 //! The control of a node, of whichever kind.
 
-ghost use Rattle.std.specs.Prelude.{◌≡◌, ◌<◌, ◌≤◌, [], length, IfOk};
-ghost use Rattle.teb_rules.specs.Setup.{above_profiles};
+ghost use Rattle.std.specs.Prelude.{◌≡◌, ◌<◌, length, IfOk};
 ghost use Rattle.phase_api.specs.FactsView.{setup_of, events_of};
 ghost use Rattle.phase_api.specs.Standing.{StandAll};
 ghost use Rattle.engine_core.specs.AnyControls.{any_node_number, any_stands};
+ghost use Rattle.engine_core.specs.Starts.{IsAtStart};
 
 use nexus_locks::Locks;
 use phase_api::{Control, Facts};
@@ -28,9 +28,7 @@ pub enum AnyControl {
 
 /// Returns a control for each node of the tree, for an empty history.
 pub fn controls_of(alloc: Global, facts: &Facts) -> Result<Vec<AnyControl>, AllocError>
-    requires profiled { (setup_of facts.now).types ≤ length (setup_of facts.now).profiles }
-    requires few { above_profiles (setup_of facts.now).profiles ≤ 64 }
-    requires empty { events_of facts.now ≡ [] }
+    requires { IsAtStart facts.now }
     ensures { IfOk result (λ v. StandAll any_node_number any_stands v.items (setup_of facts.now) (events_of facts.now)) }
 {
     let mut controls = Vec::new(alloc);
@@ -42,9 +40,7 @@ pub fn controls_of(alloc: Global, facts: &Facts) -> Result<Vec<AnyControl>, Allo
 
 fn control_of(alloc: Global, node: Node, facts: &Facts) -> Result<AnyControl, AllocError>
     requires node { node.0 < length (setup_of facts.now).tree }
-    requires profiled { (setup_of facts.now).types ≤ length (setup_of facts.now).profiles }
-    requires few { above_profiles (setup_of facts.now).profiles ≤ 64 }
-    requires empty { events_of facts.now ≡ [] }
+    requires start { IsAtStart facts.now }
     ensures node_number { IfOk result (λ c. any_node_number c ≡ node.0) }
     ensures stands { IfOk result (λ c. any_stands c (setup_of facts.now) (events_of facts.now)) }
 {

@@ -6,17 +6,16 @@ ghost use Rattle.teb_rules.specs.Setup.{profile};
 ghost use Rattle.teb_rules.specs.Steps.{least_step, cursor};
 ghost use Rattle.teb_rules.specs.Tree.{path};
 ghost use Rattle.cc_tree.specs.Grown.{node_numbers};
-ghost use Rattle.engine_core.specs.Wholes.{store_in, events_in, ViewIsWhole};
+ghost use Rattle.engine_core.specs.Views.{store_in, events_in};
 
 use crate::engine_view::EngineView;
-use phase_api::Control;
 use teb_names::{Node, Spot, Table, Txn};
 use version_chain::Chains;
 
 /// An unfinished transaction that asks, and what the decision looks at. It is looked up once a request.
 #[derive(Drop)]
-pub struct Asking<'a, K: Control, C: Chains> {
-    pub view: &'a EngineView<'a, K, C>,
+pub struct Asking<'a, C: Chains> {
+    pub view: &'a EngineView<'a, C>,
     pub txn: Txn,
     pub is_prepared: bool,
     pub spot: Spot,
@@ -28,16 +27,17 @@ pub struct Asking<'a, K: Control, C: Chains> {
     ghost way: { node_numbers nodes.now ≡ path (store_in view.now).setup.tree (spot_of (events_in view.now) txn.0) },
 }
 
-impl<'a, K: Control, C: Chains> Asking<'a, K, C> {
+impl<'a, C: Chains> Asking<'a, C> {
     /// Returns the asking of an unfinished transaction, which may be prepared.
-    pub fn of(view: &'a EngineView<'a, K, C>, txn: Txn, is_prepared: bool) -> Self
-        requires whole { ViewIsWhole K.node_number K.stands C.lists view.now }
+    pub fn of(view: &'a EngineView<'a, C>, txn: Txn, is_prepared: bool) -> Self
         requires unfinished { IsTrue (unfinished (events_in view.now) txn.0) }
         requires prepared { is_prepared ≡ prepared (events_in view.now) txn.0 }
         ensures view { result.view.now ≡ view.now }
         ensures txn { result.txn ≡ txn }
     {
-        let spot = view.spot_of(txn);
+        let Some(spot) = view.facts.spot(txn) else {
+            unreachable!()
+        };
         Asking {
             view,
             txn,
@@ -49,8 +49,9 @@ impl<'a, K: Control, C: Chains> Asking<'a, K, C> {
 
     /// Returns whether the profile has a step on a table, from the transaction's current step on.
     pub fn has_step(&self, table: Table) -> bool
-        requires { ViewIsWhole K.node_number K.stands C.lists self.now.view.now }
-        ensures { result ≡ is_some (least_step (profile (store_in self.now.view.now).setup (kind_of (events_in self.now.view.now) self.now.txn.0)) (cursor (store_in self.now.view.now).setup (events_in self.now.view.now) self.now.txn.0) table.0) }
+        ensures { result ≡ is_some
+            (least_step (profile (store_in self.now.view.now).setup (kind_of (events_in self.now.view.now) self.now.txn.0))
+            (cursor (store_in self.now.view.now).setup (events_in self.now.view.now) self.now.txn.0) table.0) }
     {
         let view = self.view;
         let profile = &view.facts.profiles[usize::from(self.spot.kind.0)];

@@ -1,20 +1,19 @@
 //! Carrying out a decision.
 
-ghost use Rattle.std.specs.Prelude.{◌≡◌, ◌≤◌, ◌+◌, ◌^◌};
-ghost use Rattle.teb_laws.specs.Lawful.{Lawful, Settled};
+ghost use Rattle.std.specs.Prelude.{◌≡◌};
+ghost use Rattle.teb_laws.specs.Lawful.{Lawful};
 ghost use Rattle.short_reply.specs.ShortReplies.{full_reply};
 ghost use Rattle.engine_core.specs.Decisions.{carried, IsBounded, IsShort};
+ghost use Rattle.engine_core.specs.Cells.{HasKeys};
 ghost use Rattle.store_setup.specs.Stores.{store_of};
-ghost use Rattle.engine_core.specs.Wholes.{StateIsWhole, HasRoom};
+ghost use Rattle.engine_core.specs.States.{IsReady};
 
 use crate::append_event::append_event;
 use crate::decision::Decision;
 use crate::engine_state::EngineState;
 use crate::falls::fall;
 use crate::read_cells::read_cells;
-use crate::room::MOST_EVENTS;
 use candidate_reads::Place;
-use phase_api::Control;
 use short_reply::ShortReply;
 use teb_history::Event;
 use teb_names::{Cell, Reply, Txn};
@@ -22,41 +21,26 @@ use version_chain::Chains;
 
 /// Reads the cells of a scan, and replies with their values. It is not inlined, since scans are rare and their reply is long.
 #[inline(never)]
-pub fn scan<K: Control, C: Chains>(
-    state: &mut EngineState<K, C>,
-    t: Txn,
-    first: Cell,
-    count: u8,
-) -> Reply
-    requires whole { StateIsWhole K.node_number K.stands C.lists state.old }
+pub fn scan<C: Chains>(state: &mut EngineState<C>, t: Txn, first: Cell, count: u8) -> Reply
     requires leads { Lawful (store_of state.old.setup).setup (carried (store_of state.old.setup) state.old.history.events (Decision.Scan t first count)).1 }
-    requires few { count ≤ 16 }
-    requires keys { first.key + count ≤ 2 ^ 32 }
-    requires room { HasRoom K.spare C.spare state.old }
-    requires enough { MOST_EVENTS ≤ state.old.room }
+    requires keys { HasKeys first count }
+    requires ready { IsReady state.old }
     ensures reply { result ≡ (carried (store_of state.old.setup) state.old.history.events (Decision.Scan t first count)).0 }
     ensures events { state.new.history.events ≡ (carried (store_of state.old.setup) state.old.history.events (Decision.Scan t first count)).1 }
-    ensures whole { StateIsWhole K.node_number K.stands C.lists state.new }
     ensures setup { state.new.setup ≡ state.old.setup }
-    ensures room { HasRoom K.spare C.spare state.new }
 {
     Reply::Values(read_cells(state, t, first, count))
 }
 
 /// Writes the events of a decision that is no scan, and returns the reply as a short one, which is moved at little cost.
-pub fn write<K: Control, C: Chains>(decision: Decision, state: &mut EngineState<K, C>) -> ShortReply
+pub fn write<C: Chains>(decision: Decision, state: &mut EngineState<C>) -> ShortReply
     requires short { IsShort decision }
-    requires whole { StateIsWhole K.node_number K.stands C.lists state.old }
-    requires settled { Settled state.old.history.events }
     requires leads { Lawful (store_of state.old.setup).setup (carried (store_of state.old.setup) state.old.history.events decision).1 }
     requires bounded { IsBounded (C.lists state.old.chains) (store_of state.old.setup).setup state.old.history.events decision }
-    requires room { HasRoom K.spare C.spare state.old }
-    requires enough { MOST_EVENTS ≤ state.old.room }
+    requires ready { IsReady state.old }
     ensures reply { full_reply result ≡ (carried (store_of state.old.setup) state.old.history.events decision).0 }
     ensures events { state.new.history.events ≡ (carried (store_of state.old.setup) state.old.history.events decision).1 }
-    ensures whole { StateIsWhole K.node_number K.stands C.lists state.new }
     ensures setup { state.new.setup ≡ state.old.setup }
-    ensures room { HasRoom K.spare C.spare state.new }
 {
     match decision {
         Decision::Answer(reply) => reply,

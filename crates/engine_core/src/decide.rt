@@ -2,7 +2,7 @@
 
 ghost use Rattle.std.specs.Prelude.{◌≡◌, ◌&&◌, leb};
 ghost use Rattle.teb_rules.specs.Answer.{answer, answer_new, answer_of};
-ghost use Rattle.engine_core.specs.Wholes.{store_in, events_in, ViewIsWhole};
+ghost use Rattle.engine_core.specs.Views.{store_in, events_in};
 ghost use Rattle.engine_core.specs.Decisions.{carried, told, IsBounded};
 
 use crate::accesses::{decide_read, decide_write};
@@ -13,7 +13,6 @@ use crate::engine_view::EngineView;
 use crate::holding::{Holding, held};
 use crate::scans::decide_scan;
 use crate::stops::{begin_stop, commit_stop, prepare_stop};
-use phase_api::Control;
 use short_reply::ShortReply;
 use teb_history::Event;
 use teb_names::{Cause, MOST_TXNS, Refusal, Request, SESSIONS, Session, Spot, Txn};
@@ -21,12 +20,7 @@ use teb_rules::Stop;
 use version_chain::Chains;
 
 /// Decides a request of a session.
-pub fn decide<K: Control, C: Chains>(
-    view: &EngineView<K, C>,
-    session: Session,
-    request: Request,
-) -> Decision
-    requires { ViewIsWhole K.node_number K.stands C.lists view.now }
+pub fn decide<C: Chains>(view: &EngineView<C>, session: Session, request: Request) -> Decision
     ensures answer { carried (store_in view.now) (events_in view.now) result ≡ answer (store_in view.now) (events_in view.now) session request }
     ensures bounded { IsBounded (C.lists view.now.state.now.chains) (store_in view.now).setup (events_in view.now) result }
 {
@@ -50,12 +44,7 @@ fn is_session(session: Session) -> bool
 }
 
 /// Decides a request of a session that holds nothing.
-fn decide_new<K: Control, C: Chains>(
-    view: &EngineView<K, C>,
-    session: Session,
-    request: Request,
-) -> Decision
-    requires { ViewIsWhole K.node_number K.stands C.lists view.now }
+fn decide_new<C: Chains>(view: &EngineView<C>, session: Session, request: Request) -> Decision
     ensures answer { carried (store_in view.now) (events_in view.now) result ≡ answer_new (store_in view.now).setup (events_in view.now) session request }
     ensures bounded { IsBounded (C.lists view.now.state.now.chains) (store_in view.now).setup (events_in view.now) result }
 {
@@ -65,12 +54,7 @@ fn decide_new<K: Control, C: Chains>(
     }
 }
 
-fn decide_begin<K: Control, C: Chains>(
-    view: &EngineView<K, C>,
-    session: Session,
-    spot: Spot,
-) -> Decision
-    requires { ViewIsWhole K.node_number K.stands C.lists view.now }
+fn decide_begin<C: Chains>(view: &EngineView<C>, session: Session, spot: Spot) -> Decision
     ensures answer { carried (store_in view.now) (events_in view.now) result ≡ answer_new (store_in view.now).setup (events_in view.now) session (Request.Begin spot) }
     ensures bounded { IsBounded (C.lists view.now.state.now.chains) (store_in view.now).setup (events_in view.now) result }
 {
@@ -97,8 +81,7 @@ fn decide_begin<K: Control, C: Chains>(
 }
 
 /// Decides that a session is told of an abort by a cascade.
-fn tell<K: Control, C: Chains>(view: &EngineView<K, C>, t: Txn) -> Decision
-    requires { ViewIsWhole K.node_number K.stands C.lists view.now }
+fn tell<C: Chains>(view: &EngineView<C>, t: Txn) -> Decision
     ensures answer { carried (store_in view.now) (events_in view.now) result ≡ told (events_in view.now) t.0 }
     ensures bounded { IsBounded (C.lists view.now.state.now.chains) (store_in view.now).setup (events_in view.now) result }
 {
@@ -107,8 +90,7 @@ fn tell<K: Control, C: Chains>(view: &EngineView<K, C>, t: Txn) -> Decision
 }
 
 /// Decides a request of an unfinished transaction.
-fn decide_of<K: Control, C: Chains>(asking: &Asking<'_, K, C>, request: Request) -> Decision
-    requires whole { ViewIsWhole K.node_number K.stands C.lists asking.now.view.now }
+fn decide_of<C: Chains>(asking: &Asking<'_, C>, request: Request) -> Decision
     ensures answer { carried (store_in asking.now.view.now) (events_in asking.now.view.now) result ≡ answer_of (store_in asking.now.view.now) (events_in asking.now.view.now) asking.now.txn.0 request }
     ensures bounded { IsBounded (C.lists asking.now.view.now.state.now.chains) (store_in asking.now.view.now).setup (events_in asking.now.view.now) result }
 {
@@ -126,9 +108,9 @@ fn decide_of<K: Control, C: Chains>(asking: &Asking<'_, K, C>, request: Request)
     }
 }
 
-fn decide_prepare<K: Control, C: Chains>(asking: &Asking<'_, K, C>) -> Decision
-    requires whole { ViewIsWhole K.node_number K.stands C.lists asking.now.view.now }
-    ensures answer { carried (store_in asking.now.view.now) (events_in asking.now.view.now) result ≡ answer_of (store_in asking.now.view.now) (events_in asking.now.view.now) asking.now.txn.0 Request.Prepare }
+fn decide_prepare<C: Chains>(asking: &Asking<'_, C>) -> Decision
+    ensures answer { carried (store_in asking.now.view.now) (events_in asking.now.view.now) result ≡ answer_of (store_in asking.now.view.now) (events_in asking.now.view.now) asking.now.txn.0
+        Request.Prepare }
     ensures bounded { IsBounded (C.lists asking.now.view.now.state.now.chains) (store_in asking.now.view.now).setup (events_in asking.now.view.now) result }
 {
     if asking.is_prepared {
@@ -140,9 +122,9 @@ fn decide_prepare<K: Control, C: Chains>(asking: &Asking<'_, K, C>) -> Decision
     }
 }
 
-fn decide_commit<K: Control, C: Chains>(asking: &Asking<'_, K, C>) -> Decision
-    requires whole { ViewIsWhole K.node_number K.stands C.lists asking.now.view.now }
-    ensures answer { carried (store_in asking.now.view.now) (events_in asking.now.view.now) result ≡ answer_of (store_in asking.now.view.now) (events_in asking.now.view.now) asking.now.txn.0 Request.Commit }
+fn decide_commit<C: Chains>(asking: &Asking<'_, C>) -> Decision
+    ensures answer { carried (store_in asking.now.view.now) (events_in asking.now.view.now) result ≡ answer_of (store_in asking.now.view.now) (events_in asking.now.view.now) asking.now.txn.0
+        Request.Commit }
     ensures bounded { IsBounded (C.lists asking.now.view.now.state.now.chains) (store_in asking.now.view.now).setup (events_in asking.now.view.now) result }
 {
     match commit_stop(asking) {

@@ -12,7 +12,7 @@ ghost use Rattle.short_reply.specs.ShortReplies.{full_reply, IsNoScan};
 ghost use Rattle.store_setup.specs.SetupView.{setup_view};
 ghost use Rattle.store_setup.specs.Sound.{IsWhole};
 ghost use Rattle.store_setup.specs.Stores.{store_of};
-ghost use Rattle.engine_core.specs.AnyControls.{any_node_number, any_spare, any_stands};
+ghost use Rattle.engine_core.specs.AnyControls.{any_node_number, any_stands};
 ghost use Rattle.engine_core.specs.EngineModel.{IsEngine, IsOfEngine};
 
 use crate::any_control::{AnyControl, controls_of};
@@ -34,7 +34,7 @@ use version_chain::Chains;
 /// A store with its history, which answers requests. Contracts see the store, its names, the events, the
 /// newest first, and whether there is room for an answer.
 pub struct Engine<C: Chains> {
-    state: Box<EngineState<AnyControl, C>>,
+    state: Box<EngineState<C>>,
     ready: bool,
 }
 
@@ -50,14 +50,13 @@ impl<C: Chains> Drop for Engine<C> {
 
 impl<C: Chains> Model for Engine<C> {
     ghost use Rattle.store_setup.specs.Stores.{store_of};
-    ghost use Rattle.engine_core.specs.AnyControls.{any_node_number, any_stands, any_spare};
     ghost use Rattle.engine_core.specs.EngineModel.{EngineModel, IsEngine};
 
     ghost Value = { EngineModel };
 
     ghost view = { λ e. record { store = store_of e.state.value.setup; names = e.state.value.setup.names; events = e.state.value.history.events; ready = e.ready } };
 
-    ghost invariant = { λ e. IsEngine any_node_number any_stands any_spare C.lists C.spare e.state.value e.ready };
+    ghost invariant = { λ e. IsEngine e.state.value e.ready };
 }
 
 impl<C: Chains> Engine<C> {
@@ -206,10 +205,10 @@ fn new_state<C: Chains>(
     alloc: Global,
     setup: Setup,
     chains: C,
-) -> Result<EngineState<AnyControl, C>, AllocError>
+) -> Result<EngineState<C>, AllocError>
     requires setup { IsWhole (setup_view setup) }
     requires chains { (x : Cell) → C.lists chains x ≡ [] }
-    ensures kept { IfOk result (λ k. IsEngine any_node_number any_stands any_spare C.lists C.spare k false) }
+    ensures kept { IfOk result (λ k. IsEngine k false) }
     ensures events { IfOk result (λ k. k.history.events ≡ []) }
     ensures setup { IfOk result (λ k. k.setup ≡ setup) }
 {

@@ -1,45 +1,53 @@
 //! What an engine keeps: `Engine` holds it in a box, `EngineView` lends it.
 
-ghost use Rattle.std.specs.Prelude.{◌≡◌, IsTrue};
-ghost use Rattle.teb_history.specs.Phases.{unfinished};
-ghost use Rattle.teb_rules.specs.Answer.{answer};
-ghost use Rattle.teb_rules.specs.Versions.{read};
-ghost use Rattle.teb_laws.specs.Lawful.{Settled};
+ghost use Rattle.std.specs.Prelude.{◌≡◌};
 ghost use Rattle.phase_api.specs.FactsView.{setup_of};
 ghost use Rattle.store_setup.specs.Stores.{store_of};
-ghost use Rattle.engine_core.specs.Decisions.{carried, IsBounded};
+ghost use Rattle.engine_core.specs.Wholes.{IsWhole, HaveRoom};
+ghost use Rattle.engine_core.specs.Props.{kept};
 
+use crate::any_control::AnyControl;
 use crate::decide::decide;
 use crate::decision::Decision;
 use crate::engine_view::EngineView;
 use crate::latest_txns::LatestTxns;
 use cursor_book::Cursors;
 use dependency_book::Book;
-use phase_api::{Control, Facts};
+use phase_api::Facts;
 use store_setup::Setup;
 use teb_history::History;
 use teb_names::{Cell, Request, Session, Txn};
 use version_chain::Chains;
 
 /// A store with its history, and what is kept of the history: a control for each node, the versions, the dependencies, the
-/// cursor of each transaction, which one each session began last, and for how many more events there is room in all of it.
+/// cursor of each transaction, which one each session began last, and for how many more events there is room in all of it. All of it
+/// stands for the history, and has that room, whenever a function is given it.
 #[derive(Drop)]
-pub struct EngineState<K: Control, C: Chains> {
+pub struct EngineState<C: Chains> {
     pub setup: Setup,
     pub history: History,
-    pub controls: Vec<K>,
+    pub controls: Vec<AnyControl>,
     pub chains: C,
     pub book: Book,
     pub cursors: Cursors,
     pub latest: LatestTxns,
     pub room: usize,
+    ghost whole: { IsWhole (store_of setup) history.events controls.items (C.lists chains) book.lists cursors.cursors latest } by { Prim.hlevel kept },
+    ghost has_room: { HaveRoom room history.spare controls.items book.spare (C.spare chains) cursors.spare } by { Prim.hlevel kept },
 }
 
-impl<K: Control, C: Chains> EngineState<K, C> {
-    ghost use Rattle.engine_core.specs.Wholes.{store_in, StateIsWhole};
+impl<C: Chains> EngineState<C> {
+    ghost use Rattle.std.specs.Prelude.{IsTrue};
+    ghost use Rattle.teb_history.specs.Phases.{unfinished};
+    ghost use Rattle.teb_rules.specs.Answer.{answer};
+    ghost use Rattle.teb_rules.specs.Versions.{read};
+    ghost use Rattle.teb_laws.specs.Lawful.{Settled};
+    ghost use Rattle.engine_core.specs.Decisions.{carried, IsBounded};
+    ghost use Rattle.engine_core.specs.Views.{store_in};
 
-    /// Lends all of it, to be read.
-    pub fn view(&self) -> EngineView<'_, K, C>
+    /// Lends all of it, to be read, between two answers.
+    pub fn view(&self) -> EngineView<'_, C>
+        requires { Settled self.now.history.events }
         ensures store { store_in result ≡ store_of self.now.setup }
         ensures history { result.facts.history.now ≡ self.now.history }
         ensures state { result.state.now ≡ self.now }
@@ -52,7 +60,6 @@ impl<K: Control, C: Chains> EngineState<K, C> {
 
     /// Decides a request of a session.
     pub fn decide(&self, session: Session, request: Request) -> Decision
-        requires whole { StateIsWhole K.node_number K.stands C.lists self.now }
         requires settled { Settled self.now.history.events }
         ensures answer { carried (store_of self.now.setup) self.now.history.events result ≡ answer (store_of self.now.setup) self.now.history.events session request }
         ensures bounded { IsBounded (C.lists self.now.chains) (store_of self.now.setup).setup self.now.history.events result }
@@ -62,7 +69,6 @@ impl<K: Control, C: Chains> EngineState<K, C> {
 
     /// Returns what an unfinished transaction reads of a cell: the writer, and the value.
     pub fn read(&self, t: Txn, cell: Cell) -> (Txn, Option<i64>)
-        requires whole { StateIsWhole K.node_number K.stands C.lists self.now }
         requires settled { Settled self.now.history.events }
         requires unfinished { IsTrue (unfinished self.now.history.events t.0) }
         ensures source { result.0.0 ≡ (read (store_of self.now.setup).setup (store_of self.now.setup).rows self.now.history.events t.0 cell).0 }

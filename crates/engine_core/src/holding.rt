@@ -1,10 +1,9 @@
 //! What a session holds.
 
-ghost use Rattle.engine_core.specs.Wholes.{events_in, ViewIsWhole};
+ghost use Rattle.engine_core.specs.Views.{events_in};
 ghost use Rattle.engine_core.specs.HeldBy.{IsHeld};
 
 use crate::engine_view::EngineView;
-use phase_api::Control;
 use teb_history::Phase;
 use teb_names::{Session, Txn};
 use version_chain::Chains;
@@ -21,8 +20,7 @@ pub enum Holding {
 }
 
 /// Returns what a session holds: the transaction that it began last, if that is live. It costs one look.
-pub fn held<K: Control, C: Chains>(view: &EngineView<K, C>, session: Session) -> Holding
-    requires { ViewIsWhole K.node_number K.stands C.lists view.now }
+pub fn held<C: Chains>(view: &EngineView<C>, session: Session) -> Holding
     ensures { IsHeld (events_in view.now) session result }
 {
     let txn = view.state.latest.of(session);

@@ -1,16 +1,17 @@
 //! Noting an event in the versions and the cursors.
 
-ghost use Rattle.std.specs.Prelude.{◌≡◌, ◌<◌, ◌≤◌, ◌+◌, ◌∷◌, List, length, drop};
+ghost use Rattle.std.specs.Prelude.{◌≡◌, ◌<◌, ◌≤◌, ◌+◌, ◌∷◌, List};
 ghost use Rattle.teb_history.specs.declared.Event.{Event};
 ghost use Rattle.teb_rules.specs.Setup.{Setup};
 ghost use Rattle.teb_laws.specs.TreeFacts.{TreeFacts};
 ghost use Rattle.teb_laws.specs.Lawful.{Lawful};
 ghost use Rattle.teb_history.specs.Phases.{kind_of};
 ghost use Rattle.teb_rules.specs.Setup.{profile};
-ghost use Rattle.phase_api.specs.FactsView.{setup_of, events_of, IsTyped};
+ghost use Rattle.phase_api.specs.FactsView.{setup_of, events_of};
 ghost use Rattle.phase_api.specs.Versions.{HoldsVersions};
 ghost use Rattle.cursor_book.specs.Cursors.{CursorsOf, moved};
 ghost use Rattle.engine_core.specs.Keeping.{HasPlace, PutsAt};
+ghost use Rattle.engine_core.specs.Appends.{AreBehind, HasCursor};
 
 use candidate_reads::Place;
 use cursor_book::Cursors;
@@ -26,7 +27,8 @@ pub fn keep_versions<C: Chains>(chains: &mut C, event: Event, place: Place)
     requires room { 0 < C.spare chains.old }
     requires place { HasPlace (C.lists chains.old) event place }
     ensures spare { C.spare chains.old ≤ C.spare chains.new + 1 }
-    ensures versions { (S : Setup) (P : List Event) → TreeFacts S → Lawful S (event ∷ P) → HoldsVersions S P (C.lists chains.old) → PutsAt S P (C.lists chains.old) event place → HoldsVersions S (event ∷ P) (C.lists chains.new) }
+    ensures versions { (S : Setup) (P : List Event) → TreeFacts S → Lawful S (event ∷ P) → HoldsVersions S P (C.lists chains.old) → PutsAt S P (C.lists chains.old) event place
+        → HoldsVersions S (event ∷ P) (C.lists chains.new) }
 {
     match event {
         Event::Put { txn, cell, value } => {
@@ -44,11 +46,7 @@ pub fn keep_versions<C: Chains>(chains: &mut C, event: Event, place: Place)
 /// Notes the newest event in the cursors: a transaction that begins is at step 0, and an access moves its transaction.
 #[inline(always)]
 pub fn keep_cursors(cursors: &mut Cursors, facts: &Facts, event: Event)
-    requires newest { events_of facts.now ≡ event ∷ drop 1 (events_of facts.now) }
-    requires lawful { Lawful (setup_of facts.now) (events_of facts.now) }
-    requires profiled { length (setup_of facts.now).profiles ≡ (setup_of facts.now).types }
-    requires cursors { CursorsOf cursors.old.cursors (setup_of facts.now) (drop 1 (events_of facts.now)) }
-    requires room { 0 < cursors.old.spare }
+    requires { AreBehind (setup_of facts.now) (events_of facts.now) event cursors.old }
     ensures spare { cursors.old.spare ≤ cursors.new.spare + 1 }
     ensures cursors { CursorsOf cursors.new.cursors (setup_of facts.now) (events_of facts.now) }
 {
@@ -64,10 +62,7 @@ pub fn keep_cursors(cursors: &mut Cursors, facts: &Facts, event: Event)
 /// An access of a cell moves a transaction that was unfinished before it.
 #[inline(always)]
 fn move_cursor(cursors: &mut Cursors, facts: &Facts, t: Txn, cell: Cell)
-    requires typed { IsTyped facts.now t.0 }
-    requires profiled { length (setup_of facts.now).profiles ≡ (setup_of facts.now).types }
-    requires above { 0 < t.0 }
-    requires begun { t.0 ≤ length cursors.old.cursors }
+    requires { HasCursor facts.now cursors.old t.0 }
     ensures spare { cursors.new.spare ≡ cursors.old.spare }
     ensures cursors { cursors.new.cursors ≡ moved cursors.old.cursors t.0 (profile (setup_of facts.now) (kind_of (events_of facts.now) t.0)) cell.table.0 }
 {

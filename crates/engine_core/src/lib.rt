@@ -28,6 +28,7 @@
 //! `session_server` shares one among threads.
 #![tactic(auto)]
 
+mod access;
 mod accesses;
 mod additions;
 mod any_control;
@@ -45,6 +46,7 @@ mod keeping;
 mod latest_txns;
 mod notes;
 mod put_places;
+mod questions;
 mod read_cells;
 mod respond;
 mod room;

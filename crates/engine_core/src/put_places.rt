@@ -7,25 +7,29 @@ ghost use Rattle.teb_rules.specs.Tree.{row, is_timestamp};
 ghost use Rattle.cc_tree.specs.Grown.{node_numbers};
 ghost use Rattle.version_chain.specs.Lists.{writers_of};
 ghost use Rattle.engine_core.specs.Keeping.{IsPlaced};
-ghost use Rattle.engine_core.specs.Wholes.{store_in, events_in, ViewIsWhole};
+ghost use Rattle.engine_core.specs.Views.{store_in, events_in};
 ghost use Rattle.engine_core.specs.Stopping.{at_of, AreTold};
 
 use crate::asking::Asking;
-use candidate_reads::{Place, place_behind};
+use candidate_reads::{Place, place_behind, place_of};
 use cc_tree::Tree;
-use phase_api::Control;
 use teb_names::{Cell, ControlKind, Node};
 use version_chain::Chains;
 
 /// Returns the place of t's version of a cell, if a timestamp node is on t's path.
-pub fn asked_place<K: Control, C: Chains>(asking: &Asking<'_, K, C>, cell: Cell) -> Option<Place>
-    requires whole { ViewIsWhole K.node_number K.stands C.lists asking.now.view.now }
+pub fn asked_place<C: Chains>(asking: &Asking<'_, C>, cell: Cell) -> Option<Place>
     ensures placed { IfSome result (λ p. IsPlaced (store_in asking.now.view.now).setup (events_in asking.now.view.now) (C.lists asking.now.view.now.state.now.chains) asking.now.txn.0 cell p) }
     ensures told { AreTold (store_in asking.now.view.now).setup (events_in asking.now.view.now) cell asking.now.txn.0 (at_of result) (writers_of (C.lists asking.now.view.now.state.now.chains cell)) }
 {
     let view = asking.view;
     if has_timestamp(view.facts.tree, asking.nodes) {
-        Some(view.place_of(asking.txn, cell))
+        Some(place_of(
+            &view.state.controls,
+            &view.state.chains,
+            &view.facts,
+            asking.txn,
+            cell,
+        ))
     } else {
         None
     }
@@ -40,12 +44,7 @@ pub fn at_of(asked: Option<Place>) -> Option<usize>
 
 /// Returns the place of t's version of a cell, which was asked for already if a timestamp node is on t's path. If none is, no control has
 /// to be asked.
-pub fn granted_place<K: Control, C: Chains>(
-    asking: &Asking<'_, K, C>,
-    asked: Option<Place>,
-    cell: Cell,
-) -> Place
-    requires whole { ViewIsWhole K.node_number K.stands C.lists asking.now.view.now }
+pub fn granted_place<C: Chains>(asking: &Asking<'_, C>, asked: Option<Place>, cell: Cell) -> Place
     requires asked { IfSome asked (λ p. IsPlaced (store_in asking.now.view.now).setup (events_in asking.now.view.now) (C.lists asking.now.view.now.state.now.chains) asking.now.txn.0 cell p) }
     requires told { AreTold (store_in asking.now.view.now).setup (events_in asking.now.view.now) cell asking.now.txn.0 (at_of asked) (writers_of (C.lists asking.now.view.now.state.now.chains cell)) }
     ensures { IsPlaced (store_in asking.now.view.now).setup (events_in asking.now.view.now) (C.lists asking.now.view.now.state.now.chains) asking.now.txn.0 cell result }

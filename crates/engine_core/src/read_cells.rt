@@ -1,39 +1,28 @@
 //! Reading the cells of a scan.
 
-ghost use Rattle.std.specs.Prelude.{◌≡◌, ◌≤◌, ◌+◌, ◌^◌};
+ghost use Rattle.std.specs.Prelude.{◌≡◌};
 ghost use Rattle.teb_rules.specs.Answer.{cells_from, read_all};
 ghost use Rattle.teb_laws.specs.Lawful.{Lawful};
+ghost use Rattle.engine_core.specs.Cells.{HasKeys};
 ghost use Rattle.store_setup.specs.Stores.{store_of};
-ghost use Rattle.engine_core.specs.Wholes.{StateIsWhole, HasRoom};
+ghost use Rattle.engine_core.specs.States.{IsReady};
 
 use crate::append_event::append_event;
 use crate::engine_state::EngineState;
-use crate::room::MOST_EVENTS;
 use crate::scans::cell_at;
 use candidate_reads::Place;
-use phase_api::Control;
 use teb_history::Event;
 use teb_names::{Cell, ScanList, Txn};
 use version_chain::Chains;
 
 /// Reads the cells one after the other, and returns their values. Each is read in the history with the reads before it.
-pub fn read_cells<K: Control, C: Chains>(
-    state: &mut EngineState<K, C>,
-    t: Txn,
-    first: Cell,
-    count: u8,
-) -> ScanList
-    requires whole { StateIsWhole K.node_number K.stands C.lists state.old }
+pub fn read_cells<C: Chains>(state: &mut EngineState<C>, t: Txn, first: Cell, count: u8) -> ScanList
     requires leads { Lawful (store_of state.old.setup).setup (read_all (store_of state.old.setup) state.old.history.events t.0 (cells_from first count)).1 }
-    requires few { count ≤ 16 }
-    requires keys { first.key + count ≤ 2 ^ 32 }
-    requires room { HasRoom K.spare C.spare state.old }
-    requires enough { MOST_EVENTS ≤ state.old.room }
+    requires keys { HasKeys first count }
+    requires ready { IsReady state.old }
     ensures values { result ≡ (read_all (store_of state.old.setup) state.old.history.events t.0 (cells_from first count)).0 }
-    ensures whole { StateIsWhole K.node_number K.stands C.lists state.new }
     ensures events { state.new.history.events ≡ (read_all (store_of state.old.setup) state.old.history.events t.0 (cells_from first count)).1 }
     ensures setup { state.new.setup ≡ state.old.setup }
-    ensures room { HasRoom K.spare C.spare state.new }
 {
     let mut values = ScanList::new();
     for i in 0..count {

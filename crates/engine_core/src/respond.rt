@@ -1,17 +1,14 @@
 //! The answer to a request, all but the cells of a scan.
 
-ghost use Rattle.std.specs.Prelude.{◌≡◌, ◌≤◌};
+ghost use Rattle.std.specs.Prelude.{◌≡◌};
 ghost use Rattle.teb_rules.specs.Answer.{answer};
-ghost use Rattle.teb_laws.specs.Lawful.{Settled};
 ghost use Rattle.engine_core.specs.Responses.{IsResponse};
 ghost use Rattle.store_setup.specs.Stores.{store_of};
-ghost use Rattle.engine_core.specs.Wholes.{StateIsWhole, HasRoom};
+ghost use Rattle.engine_core.specs.States.{IsReady};
 
 use crate::carry_out::write;
 use crate::decision::Decision;
 use crate::engine_state::EngineState;
-use crate::room::MOST_EVENTS;
-use phase_api::Control;
 use short_reply::ShortReply;
 use teb_names::{Cell, Request, Session, Txn};
 use version_chain::Chains;
@@ -28,19 +25,14 @@ pub enum Response {
 /// Answers a request, all but the cells of a scan. The request is lent, so that no call writes a copy of it. No other function
 /// decides or writes, so that both can be inlined here.
 #[inline(never)]
-pub fn respond<K: Control, C: Chains>(
-    state: &mut EngineState<K, C>,
+pub fn respond<C: Chains>(
+    state: &mut EngineState<C>,
     session: Session,
     request: &Request,
 ) -> Response
-    requires whole { StateIsWhole K.node_number K.stands C.lists state.old }
-    requires settled { Settled state.old.history.events }
-    requires room { HasRoom K.spare C.spare state.old }
-    requires enough { MOST_EVENTS ≤ state.old.room }
+    requires ready { IsReady state.old }
     ensures answer { IsResponse state.old state.new (answer (store_of state.old.setup) state.old.history.events session request.now) result }
-    ensures whole { StateIsWhole K.node_number K.stands C.lists state.new }
     ensures setup { state.new.setup ≡ state.old.setup }
-    ensures room { HasRoom K.spare C.spare state.new }
 {
     let decision = state.decide(session, *request);
     if let Decision::Scan(t, first, count) = decision {

@@ -4,28 +4,23 @@ ghost use Rattle.std.specs.Prelude.{◌≡◌, ◌≤◌, ◌<◌, ◌+◌, ◌^
 ghost use Rattle.teb_names.specs.declared.Request.TheVariants as request;
 ghost use Rattle.teb_rules.specs.Stops.{scan_stop};
 ghost use Rattle.teb_rules.specs.Answer.{answer_of, cells_from, is_scan};
-ghost use Rattle.engine_core.specs.Wholes.{store_in, events_in, ViewIsWhole};
-ghost use Rattle.engine_core.specs.Asking.{IsAsking};
+ghost use Rattle.engine_core.specs.Views.{store_in, events_in};
 ghost use Rattle.engine_core.specs.Cells.{cell_at};
 ghost use Rattle.engine_core.specs.Decisions.{carried, IsBounded};
 
+use crate::access::Access;
 use crate::accesses::refusal;
 use crate::asking::Asking;
 use crate::decision::{Decision, refused, stopped};
 use crate::stops::read_stop;
-use phase_api::Control;
 use teb_names::{Cell, Refusal};
 use teb_rules::Stop;
 use version_chain::Chains;
 
 /// Decides a scan of `count` cells.
-pub fn decide_scan<K: Control, C: Chains>(
-    asking: &Asking<'_, K, C>,
-    first: Cell,
-    count: u8,
-) -> Decision
-    requires whole { ViewIsWhole K.node_number K.stands C.lists asking.now.view.now }
-    ensures answer { carried (store_in asking.now.view.now) (events_in asking.now.view.now) result ≡ answer_of (store_in asking.now.view.now) (events_in asking.now.view.now) asking.now.txn.0 (request.Scan first count) }
+pub fn decide_scan<C: Chains>(asking: &Asking<'_, C>, first: Cell, count: u8) -> Decision
+    ensures answer { carried (store_in asking.now.view.now) (events_in asking.now.view.now) result ≡ answer_of (store_in asking.now.view.now) (events_in asking.now.view.now) asking.now.txn.0
+        (request.Scan first count) }
     ensures bounded { IsBounded (C.lists asking.now.view.now.state.now.chains) (store_in asking.now.view.now).setup (events_in asking.now.view.now) result }
 {
     if let Some(why) = refusal(asking, first) {
@@ -34,7 +29,13 @@ pub fn decide_scan<K: Control, C: Chains>(
     if !is_scan(first, count) {
         return refused(Refusal::Range);
     }
-    match scan_stop(asking, first, count) {
+    match scan_stop(
+        &Access {
+            asking,
+            cell: first,
+        },
+        count,
+    ) {
         Stop::Go => Decision::Scan(asking.txn, first, count),
         stop => stopped(asking.txn, stop),
     }
@@ -60,14 +61,14 @@ pub fn cell_at(first: Cell, i: u8) -> Cell
 }
 
 /// Returns the stop of a scan: that of the first cell whose read stops.
-fn scan_stop<K: Control, C: Chains>(asking: &Asking<'_, K, C>, first: Cell, count: u8) -> Stop
-    requires whole { ViewIsWhole K.node_number K.stands C.lists asking.now.view.now }
-    requires asks { IsAsking (store_in asking.now.view.now).setup (events_in asking.now.view.now) asking.now.txn.0 first }
-    requires keys { first.key + count ≤ 2 ^ 32 }
-    ensures { result ≡ scan_stop (store_in asking.now.view.now).setup (events_in asking.now.view.now) asking.now.txn.0 (cells_from first count) }
+fn scan_stop<C: Chains>(first: &Access<'_, C>, count: u8) -> Stop
+    requires keys { first.now.cell.key + count ≤ 2 ^ 32 }
+    ensures { result ≡ scan_stop (store_in first.now.asking.now.view.now).setup (events_in first.now.asking.now.view.now) first.now.asking.now.txn.0 (cells_from first.now.cell count) }
 {
+    let asking = first.asking;
     for i in 0..count {
-        match read_stop(asking, cell_at(first, i)) {
+        let cell = cell_at(first.cell, i);
+        match read_stop(&Access { asking, cell }) {
             Stop::Go => {}
             stop => return stop,
         }

@@ -15,9 +15,11 @@ place-requires-clause-absent g c =
     sym p.2 ∙ c.if-place.false
 
 pub returns-then-place-clause-versions : goal.returns-then-place-clause-versions
-returns-then-place-clause-versions g c = λ S P a l h q.
+returns-then-place-clause-versions g c =
+    λ S P a l h q.
     let p = subst (λ (e : Event). HasPlace (g.C.Chains.lists c.args.chains.now) e c.args.place) c.in-Put.is c.requires.place in
-    after_overwrite c.args.event c.args.place _ _ S P a l h c.in-Put.txn c.in-Put.cell c.in-Put.value c.in-Put.is (p.1 (sym p.2 ∙ c.if-place.true)) c.overwrite.ensures.here c.overwrite.ensures.elsewhere
+    after_overwrite c.args.event c.args.place _ _ S P a l h c.in-Put.txn c.in-Put.cell c.in-Put.value c.in-Put.is (p.1 (sym p.2 ∙ c.if-place.true)) c.overwrite.ensures.here
+    c.overwrite.ensures.elsewhere
 
 pub returns-else-place-clause-versions : goal.returns-else-place-clause-versions
 returns-else-place-clause-versions g c = λ S P a l h q.

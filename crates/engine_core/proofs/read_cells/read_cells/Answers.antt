@@ -4,43 +4,57 @@ use Rattle.engine_core.proofs.Gathering.{HasRead, read_none, read_whole, may_rea
 use Rattle.engine_core.proofs.read_cells.read_cells.Goals as goal
 
 pub loop-i-init : goal.loop-i-init
-loop-i-init g c = record {
-  whole = c.requires.whole;
-  read = subst (λ (vs : List (Option ℤ)). HasRead (store_of c.args.state.now.setup) c.args.state.now.history.events c.args.t.0 c.args.first c.args.count vs c.args.state.now.history.events 0) (sym c.new-values.ensures)
-      (read_none (store_of c.args.state.now.setup) c.args.state.now.history.events c.args.t.0 c.args.first c.args.count);
-  setup = refl;
-  room = c.requires.room;
-  left = (let few = c.requires.few in let enough = c.requires.enough in omega arith);
-}
+loop-i-init g c =
+    let X = store_of c.args.state.now.setup in
+    let H = c.args.state.now.history.events in
+    record {
+      read = subst (λ (vs : List (Option ℤ)). HasRead X H c.args.t.0 c.args.first c.args.count vs H 0) (sym c.new-values.ensures)
+          (read_none X H c.args.t.0 c.args.first c.args.count);
+      setup = refl;
+      left = (let few = c.requires.keys.0 in let enough = c.requires.ready.room in omega arith);
+    }
 
 pub read-value-requires-clause-settled : goal.read-value-requires-clause-settled
-read-value-requires-clause-settled g c = (may_read (store_of c.args.state.now.setup) (store_of c.loop-i.state.setup) (ap store_of c.loop-i.invariant.setup) c.args.state.now.history.events c.loop-i.state.history.events c.args.t c.args.first c.args.count c.loop-i.i c.loop-i.values c.loop-i.invariant.read c.loop-i-test.true c.requires.leads).settled
+read-value-requires-clause-settled g c =
+    let X = store_of c.args.state.now.setup in
+    let H = c.args.state.now.history.events in
+    (may_read X (store_of c.loop-i.state.setup) (ap store_of c.loop-i.invariant.setup) H c.loop-i.state.history.events c.args.t c.args.first c.args.count c.loop-i.i c.loop-i.values
+    c.loop-i.invariant.read c.loop-i-test.true c.requires.leads).settled
 
 pub read-value-requires-clause-unfinished : goal.read-value-requires-clause-unfinished
-read-value-requires-clause-unfinished g c = (may_read (store_of c.args.state.now.setup) (store_of c.loop-i.state.setup) (ap store_of c.loop-i.invariant.setup) c.args.state.now.history.events c.loop-i.state.history.events c.args.t c.args.first c.args.count c.loop-i.i c.loop-i.values c.loop-i.invariant.read c.loop-i-test.true c.requires.leads).unfinished
+read-value-requires-clause-unfinished g c =
+    let X = store_of c.args.state.now.setup in
+    let H = c.args.state.now.history.events in
+    (may_read X (store_of c.loop-i.state.setup) (ap store_of c.loop-i.invariant.setup) H c.loop-i.state.history.events c.args.t c.args.first c.args.count c.loop-i.i c.loop-i.values
+    c.loop-i.invariant.read c.loop-i-test.true c.requires.leads).unfinished
 
-pub append_event-requires-clause-granted : goal.append_event-requires-clause-granted
-append_event-requires-clause-granted g c = got_granted (store_of c.args.state.now.setup) (store_of c.loop-i.state.setup) (ap store_of c.loop-i.invariant.setup) c.args.state.now.history.events c.loop-i.state.history.events c.args.t c.args.first c.args.count c.loop-i.i c.loop-i.values c.loop-i.invariant.read c.loop-i-test.true
-    c.cell_at-cell.result c.read-value.result.0 c.read-value.result.1 c.cell_at-cell.ensures c.read-value.ensures.source c.read-value.ensures.value c.requires.leads
-
-pub append_event-requires-clause-room : goal.append_event-requires-clause-room
-append_event-requires-clause-room g c = c.loop-i.invariant.room
-
-pub append_event-requires-clause-some : goal.append_event-requires-clause-some
-append_event-requires-clause-some g c =
-    let h : c.loop-i.i < c.args.count = c.loop-i-test.true in
-    let left = c.loop-i.invariant.left in
-    omega arith
+pub append_event-requires : goal.append_event-requires
+append_event-requires g c =
+    let H = c.args.state.now.history.events in
+    let X = store_of c.args.state.now.setup in
+    let now = c.loop-i.state in
+    record {
+      granted = got_granted X (store_of now.setup) (ap store_of c.loop-i.invariant.setup) H now.history.events c.args.t c.args.first c.args.count c.loop-i.i c.loop-i.values c.loop-i.invariant.read
+          c.loop-i-test.true
+          c.cell_at-cell.result c.read-value.result.0 c.read-value.result.1 c.cell_at-cell.ensures c.read-value.ensures.source c.read-value.ensures.value c.requires.leads;
+      begins = tt;
+      place = tt;
+      order = tt;
+      some = (let h : c.loop-i.i < c.args.count = c.loop-i-test.true in let left = c.loop-i.invariant.left in omega arith);
+    }
 
 pub loop-i-preserved : goal.loop-i-preserved
-loop-i-preserved g c = record {
-  whole = c.append_event.ensures.whole;
-  read = read_next (store_of c.args.state.now.setup) (store_of c.loop-i.state.setup) (ap store_of c.loop-i.invariant.setup) c.args.state.now.history.events c.loop-i.state.history.events c.args.t c.args.first c.args.count c.loop-i.i c.loop-i.values c.loop-i.invariant.read c.loop-i-test.true
-      c.cell_at-cell.result c.read-value.result.0 c.read-value.result.1 c.cell_at-cell.ensures c.read-value.ensures.source c.read-value.ensures.value c.push.new.self c.append_event.new.state.history.events c.append_event.ensures.events c.push.ensures;
-  setup = c.append_event.ensures.setup ∙ c.loop-i.invariant.setup;
-  room = c.append_event.ensures.room;
-  left = (let left = c.loop-i.invariant.left in let one = c.append_event.ensures.left in omega arith);
-}
+loop-i-preserved g c =
+    let X = store_of c.args.state.now.setup in
+    let H = c.args.state.now.history.events in
+    record {
+      read = read_next X (store_of c.loop-i.state.setup) (ap store_of c.loop-i.invariant.setup) H c.loop-i.state.history.events c.args.t c.args.first c.args.count c.loop-i.i c.loop-i.values
+          c.loop-i.invariant.read c.loop-i-test.true
+          c.cell_at-cell.result c.read-value.result.0 c.read-value.result.1 c.cell_at-cell.ensures c.read-value.ensures.source c.read-value.ensures.value c.push.new.self
+          c.append_event.new.state.history.events c.append_event.ensures.events c.push.ensures;
+      setup = c.append_event.ensures.setup ∙ c.loop-i.invariant.setup;
+      left = (let left = c.loop-i.invariant.left in let one = c.append_event.ensures.left in omega arith);
+    }
 
 pub returns-clause-values : goal.returns-clause-values
 returns-clause-values g c =

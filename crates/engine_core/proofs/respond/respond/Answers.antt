@@ -7,4 +7,6 @@ write-requires-clause-short g c = is_short c.decide-decision.result c.in_default
 
 pub write-requires-clause-leads : goal.write-requires-clause-leads
 write-requires-clause-leads g c =
-    leads_on (store_of c.args.state.now.setup) c.args.state.now.history.events c.args.session c.args.request.now c.requires.whole.sound c.requires.whole.lawful c.requires.settled c.decide-decision.result c.decide-decision.ensures.answer
+    let X = store_of c.args.state.now.setup in
+    let H = c.args.state.now.history.events in
+    leads_on X H c.args.session c.args.request.now c.args.state.now.whole.sound c.args.state.now.whole.lawful c.requires.ready.settled c.decide-decision.result c.decide-decision.ensures.answer

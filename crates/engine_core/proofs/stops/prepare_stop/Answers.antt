@@ -1,26 +1,20 @@
-use Rattle.std.proofs.Common.{◌∙◌, ℕ, sym, ap, subst}
 use Rattle.teb_history.specs.Phases.{spot_of}
-use Rattle.teb_rules.specs.Tree.{row}
-use Rattle.teb_rules.specs.Controls.{validate}
-use Rattle.phase_api.specs.Calls.{IsHere}
-use Rattle.phase_api.proofs.StopAlong.{stop_next, stop_here, stop_end}
-use Rattle.engine_core.specs.Wholes.{store_in, events_in}
 use Rattle.commit_gate.proofs.CommitWaits.{typed_now}
-use Rattle.engine_core.proofs.Along.{here_at, node_at, prepare_along}
+use Rattle.engine_core.specs.declared.questions.Question.TheVariants as question
+use Rattle.engine_core.specs.Views.{store_in, events_in}
+use Rattle.engine_core.proofs.Along.{asked_along, here_on, prepare_along}
 use Rattle.engine_core.proofs.stops.prepare_stop.Goals as goal
 
-pub control_at-requires-clause-node : goal.control_at-requires-clause-node
-control_at-requires-clause-node g c = node_at (store_in c.args.asking.now.view.now).setup c.requires.whole.whole.sound (spot_of (events_in c.args.asking.now.view.now) c.args.asking.now.txn.0) c.args.asking.now.nodes.now c.args.asking.now.way c.loop-node.node-index _ c.loop-node-test.true
-
-pub validate-requires-clause-here : goal.validate-requires-clause-here
-validate-requires-clause-here g c = subst (λ (n : ℕ). IsHere c.args.asking.now.view.now.facts n c.args.asking.now.txn.0) (sym c.control_at.ensures.node_number)
-    (here_at c.args.asking.now.view.now.facts c.args.asking.now.txn.0 c.args.asking.now.nodes.now c.loop-node.node-index _ (typed_now c.args.asking.now.view.now.facts c.args.asking.now.txn.0 c.requires.whole.whole.lawful c.args.asking.now.runs) c.args.asking.now.way c.loop-node-test.true)
-
-pub loop-node-preserved : goal.loop-node-preserved
-loop-node-preserved g c = stop_next (λ (n : ℕ). validate (row (store_in c.args.asking.now.view.now).setup.tree n).control (store_in c.args.asking.now.view.now).setup (events_in c.args.asking.now.view.now) n c.args.asking.now.txn.0) c.args.asking.now.nodes.now c.loop-node.node-index _ _ c.loop-node-test.true (c.validate.ensures ∙ ap (λ (n : ℕ). validate (row (store_in c.args.asking.now.view.now).setup.tree n).control (store_in c.args.asking.now.view.now).setup (events_in c.args.asking.now.view.now) n c.args.asking.now.txn.0) c.control_at.ensures.node_number) c.in-Go.is c.loop-node.invariant
-
-pub returns-in_default : goal.returns-in_default
-returns-in_default g c = prepare_along (store_in c.args.asking.now.view.now).setup (events_in c.args.asking.now.view.now) c.args.asking.now.txn.0 _ _ c.args.asking.now.way (c.stop_at.ensures ∙ stop_here (λ (n : ℕ). validate (row (store_in c.args.asking.now.view.now).setup.tree n).control (store_in c.args.asking.now.view.now).setup (events_in c.args.asking.now.view.now) n c.args.asking.now.txn.0) c.args.asking.now.nodes.now c.loop-node.node-index _ _ c.loop-node-test.true (c.validate.ensures ∙ ap (λ (n : ℕ). validate (row (store_in c.args.asking.now.view.now).setup.tree n).control (store_in c.args.asking.now.view.now).setup (events_in c.args.asking.now.view.now) n c.args.asking.now.txn.0) c.control_at.ensures.node_number) c.in_default.not-Go c.loop-node.invariant)
+pub first_stop-requires : goal.first_stop-requires
+first_stop-requires g c =
+    let asking = c.args.asking.now in
+    let view = asking.view.now in
+    let f = view.facts in
+    let t = asking.txn.0 in
+    asked_along f (g.C.Chains.lists view.state.now.chains) (question.Prepare asking.txn) (spot_of (events_in view) t) asking.nodes.now view.whole.whole.sound asking.way
+    (λ n o. (here_on f t n (typed_now f t view.whole.whole.lawful asking.runs) o, asking.runs))
 
 pub returns : goal.returns
-returns g c = prepare_along (store_in c.args.asking.now.view.now).setup (events_in c.args.asking.now.view.now) c.args.asking.now.txn.0 _ _ c.args.asking.now.way (stop_end (λ (n : ℕ). validate (row (store_in c.args.asking.now.view.now).setup.tree n).control (store_in c.args.asking.now.view.now).setup (events_in c.args.asking.now.view.now) n c.args.asking.now.txn.0) c.args.asking.now.nodes.now c.loop-node.node-index c.loop-node-test.false c.loop-node.invariant)
+returns g c =
+    let asking = c.args.asking.now in
+    prepare_along (store_in asking.view.now).setup (events_in asking.view.now) asking.txn.0 _ _ asking.way c.first_stop.ensures

@@ -1,18 +1,18 @@
-use Rattle.std.proofs.Common.{subst}
+use Rattle.std.proofs.Common.{subst, ap, ◌∙◌}
 use Rattle.engine_core.specs.declared.decision.Decision.TheVariants as decision
-use Rattle.engine_core.specs.AnyControls.{any_node_number, any_spare, any_stands}
 use Rattle.engine_core.specs.Decisions.{carried}
+use Rattle.engine_core.specs.EngineModel.{EngineModel}
 use Rattle.engine_core.specs.Responses.{IsResponse}
 use Rattle.store_setup.specs.Stores.{store_of}
 use Rattle.teb_rules.specs.Answer.{answer}
 use Rattle.engine_core.proofs.NoScans.{no_scan}
-use Rattle.engine_core.proofs.Reached.{answered_engine, lent_engine, settled_of}
+use Rattle.engine_core.proofs.Reached.{answered_engine, lent_engine, ready_engine}
 use Rattle.engine_core.proofs.engine.Engine.ask_short.Goals as goal
 
-pub respond-requires-clause-settled : goal.respond-requires-clause-settled
-respond-requires-clause-settled g c =
+pub respond-requires : goal.respond-requires
+respond-requires g c =
     let was = lent_engine c.self.invariant c.deref_mut-state.ensures.value in
-    settled_of (store_of c.deref_mut-state.result.now.setup) c.deref_mut-state.result.now.history.events was.whole.sound was.reached
+    record { ready = ready_engine c.deref_mut-state.result.now c.self.inside.ready was (ap (λ (m : EngineModel). m.ready) c.self.view_is ∙ c.requires.ready) }
 
 pub unreachable-requires : goal.unreachable-requires
 unreachable-requires g c =
@@ -25,5 +25,5 @@ pub invariant_of-self : goal.invariant_of-self
 invariant_of-self g c =
     let old = c.deref_mut-state.result.now in
     let reply = subst (IsResponse old c.respond.new.state (answer (store_of old.setup) old.history.events c.args.session c.args.request.now)) c.in-Reply.is c.respond.ensures.answer in
-    answered_engine any_node_number any_stands any_spare g.C.Chains.lists g.C.Chains.spare old c.respond.new.state c.self.inside.ready c.args.session c.args.request.now
-    (lent_engine c.self.invariant c.deref_mut-state.ensures.value) c.respond.ensures.setup c.respond.ensures.whole c.respond.ensures.room reply.1
+    answered_engine old c.respond.new.state c.self.inside.ready c.args.session c.args.request.now
+    (lent_engine c.self.invariant c.deref_mut-state.ensures.value) c.respond.ensures.setup reply.1

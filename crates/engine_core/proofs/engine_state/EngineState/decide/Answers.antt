@@ -7,13 +7,8 @@ use Rattle.version_chain.specs.Lists.{Version}
 use Rattle.engine_core.specs.declared.engine_state.EngineState.{EngineState}
 use Rattle.engine_core.specs.Decisions.{carried, IsBounded}
 use Rattle.store_setup.specs.Stores.{store_of}
-use Rattle.engine_core.specs.Wholes.{events_in}
-use Rattle.engine_core.proofs.Appending.{view_whole}
+use Rattle.engine_core.specs.Views.{events_in}
 use Rattle.engine_core.proofs.engine_state.EngineState.decide.Goals as goal
-
-pub decide-requires : goal.decide-requires
-decide-requires g c = view_whole g.K.Control.node_number g.K.Control.stands g.C.Chains.lists c.args.self.now c.view.result
-    c.view.ensures.store c.view.ensures.history c.view.ensures.state c.requires.whole c.requires.settled
 
 pub returns-clause-answer : goal.returns-clause-answer
 returns-clause-answer g c =
@@ -22,6 +17,7 @@ returns-clause-answer g c =
 
 pub returns-clause-bounded : goal.returns-clause-bounded
 returns-clause-bounded g c =
-    subst (λ (L : Cell → List Version). IsBounded L (store_of c.args.self.now.setup).setup c.args.self.now.history.events c.decide.result) (ap (λ (k : EngineState g.row.K.Denot g.row.C.Denot). g.C.Chains.lists k.chains) c.view.ensures.state)
-    (subst (λ (h : Written). IsBounded (g.C.Chains.lists c.view.result.state.now.chains) (store_of c.args.self.now.setup).setup h.events c.decide.result) c.view.ensures.history
+    let S = (store_of c.args.self.now.setup).setup in
+    subst (λ (L : Cell → List Version). IsBounded L S c.args.self.now.history.events c.decide.result) (ap (λ (k : EngineState g.row.C.Denot _). g.C.Chains.lists k.chains) c.view.ensures.state)
+    (subst (λ (h : Written). IsBounded (g.C.Chains.lists c.view.result.state.now.chains) S h.events c.decide.result) c.view.ensures.history
     (subst (λ (X : Store). IsBounded (g.C.Chains.lists c.view.result.state.now.chains) X.setup (events_in c.view.result) c.decide.result) c.view.ensures.store c.decide.ensures.bounded))
