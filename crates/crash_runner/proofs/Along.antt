@@ -18,7 +18,8 @@ use Rattle.crash_runner.specs.Underway.{HasAsked, StopsAt, weight}
 pub asked_none : (X : Store) (log : List Answered) (H : List Event) → HasAsked X [] log H log H
 asked_none X log H = record { replies = sym (append-nil log); events = sym (history_none X H) }
 
-pub asked_one : (X : Store) (s : Session) (r : Request) (log now : List Answered) (H K : List Event) → now ≡ log ++ record { session = s; reply = (answer X H s r).0 } ∷ [] → K ≡ (answer X H s r).1 → HasAsked X ((s, r) ∷ []) log H now K
+pub asked_one : (X : Store) (s : Session) (r : Request) (log now : List Answered) (H K : List Event) → now ≡ log ++ record { session = s; reply = (answer X H s r).0 } ∷ [] → K ≡ (answer X H s r).1
+    → HasAsked X ((s, r) ∷ []) log H now K
 asked_one X s r log now H K replies events = record { replies = replies; events = events ∙ sym (history_step X H (s, r) [] ∙ history_none X (answer X H s r).1) }
 
 pub asked_then : (X : Store) (xs ys : Requests) (log mid now : List Answered) (H K L : List Event) → HasAsked X xs log H mid K → HasAsked X ys mid K now L → HasAsked X (xs ++ ys) log H now L
@@ -55,11 +56,13 @@ module _ {A : Type 0} (f : A → Session × Request) (xs : List A) (i : ℕ) (d 
   -- one request more was answered
   pub one_more : (now : List Answered) (L : List Event) → HasAsked Y (a ∷ []) mid K now L → HasAsked X (map f (take (i + 1) xs)) log H now L
   one_more now L one =
-      let here : HasAsked X (f (get_or xs i d) ∷ []) mid K now L = subst (λ (b : Session × Request). HasAsked X (b ∷ []) mid K now L) is (subst (λ (Z : Store). HasAsked Z (a ∷ []) mid K now L) same one) in
+      let here : HasAsked X (f (get_or xs i d) ∷ []) mid K now L = subst (λ (b : Session × Request). HasAsked X (b ∷ []) mid K now L) is
+      (subst (λ (Z : Store). HasAsked Z (a ∷ []) mid K now L) same one) in
       subst (λ (rs : Requests). HasAsked X rs log H now L) (sym (more_of f xs i d lt)) (asked_then X (map f (take i xs)) (f (get_or xs i d) ∷ []) log mid now H K L so_far here)
 
   -- the run stopped at it
-  pub stopped_at : (p q : Promise) (rest : Requests) (given : List Answered) (t : Tally) (safe : List ℕ) → q ≡ p → StopsAt q Y (mid ++ log_of Y K (a ∷ (map f (drop (i + 1) xs) ++ rest))) (history_after Y K (a ∷ (map f (drop (i + 1) xs) ++ rest))) given t safe
+  pub stopped_at : (p q : Promise) (rest : Requests) (given : List Answered) (t : Tally) (safe : List ℕ) → q ≡ p → StopsAt q Y (mid ++ log_of Y K (a ∷ (map f (drop (i + 1) xs) ++ rest)))
+      (history_after Y K (a ∷ (map f (drop (i + 1) xs) ++ rest))) given t safe
       → StopsAt p X (log ++ log_of X H (map f xs ++ rest)) (history_after X H (map f xs ++ rest)) given t safe
   stopped_at p q rest given t safe promised stops =
       let behind = map f (drop (i + 1) xs) ++ rest in
@@ -79,7 +82,8 @@ module _ (X : Store) (lines : List Line) (mid : List Answered) (K : List Event) 
 
   pub whole_stops : (p : Promise) (given : List Answered) (t : Tally) (safe : List ℕ) → StopsAt p X (mid ++ log_of X K (ends_of K)) (history_after X K (ends_of K)) given t safe
       → StopsAt p X (log_of X [] (replayed X [] lines)) (history_after X [] (replayed X [] lines)) given t safe
-  whole_stops p given t safe stops = stops_behind p X (requests_of lines) (ends_of K) (replayed X [] lines) [] mid given [] K t safe (ap (λ (es : Requests). requests_of lines ++ es) (sym ends)) asked stops
+  whole_stops p given t safe stops = stops_behind p X (requests_of lines) (ends_of K) (replayed X [] lines) [] mid given [] K t safe (ap (λ (es : Requests). requests_of lines ++ es) (sym ends)) asked
+      stops
 
 pub light : (r : Request) → weight r ≤ 1
 light (Begin k) = omega arith

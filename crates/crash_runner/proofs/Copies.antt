@@ -13,7 +13,8 @@ none_before p [] (suc i) d h lt = absurd (omega arith)
 none_before p (x ∷ xs) (suc i) d h lt = ap₂ (λ (a b : Bool). a || b) (h zero (omega arith)) (none_before p xs i d (λ k low. h (suc k) (omega arith)) (omega arith))
 
 -- the first names, and the next one behind them
-pub copied_more : (names old new : List (List ℕ)) (i : ℕ) (name : List ℕ) (added : Bool) → old ≡ take i names → slice_get names i ≡ Some name → number_of names name ≡ Some i → added ≡ not (has old name)
+pub copied_more : (names old new : List (List ℕ)) (i : ℕ) (name : List ℕ) (added : Bool) → old ≡ take i names → slice_get names i ≡ Some name → number_of names name ≡ Some i
+    → added ≡ not (has old name)
     → new ≡ (if added then old ++ name ∷ [] else old) → new ≡ take (i + 1) names
 copied_more names old new i name added is at number fresh adds =
     let first = position-Some (bytes_eq name) names i [] number in

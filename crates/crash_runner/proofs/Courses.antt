@@ -83,7 +83,8 @@ went_through p tally safe k X lines log store u asked room =
       before = k.events;
       reached = subst (λ (Y : Store). IsReached Y k.events) store u.reached;
       course = Through (subst (λ (H : List Event). IsBefore p.stop (calls_of (commit_count H))) asked.events u.passed) asked.replies refl (sym count);
-      first = sym (ap (λ (H : List Event). take (commit_count k.events) (records_of X.setup H)) (sym asked.events) ∙ take_all (commit_count k.events) (records_of X.setup k.events) (omega (arith, count_records)));
+      first = sym (ap (λ (H : List Event). take (commit_count k.events) (records_of X.setup H)) (sym asked.events) ∙ take_all (commit_count k.events) (records_of X.setup k.events)
+          (omega (arith, count_records)));
       kept = subst (λ (Y : Store). recovered default_capacity (safe k.disk) ≡ Whole (records_of Y.setup k.events)) store u.kept;
       room = room;
     }
@@ -100,7 +101,13 @@ was_stopped p X lines given t safe s =
       before = s.before;
       reached = s.reached;
       course = AtCommit (omega (arith, s.late)) (omega (arith, s.soon, counts, ap commit_count s.events)) (quarter p.stop (commit_count s.before) s.late s.soon)
-          (record { commit = record { session = s.commit.0; reply = (answer X s.before s.commit.0 s.commit.1).0 }; behind = log_of X (answer X s.before s.commit.0 s.commit.1).1 s.rest; parts = s.replies; committed = s.granted; earlier = s.earlier })
+          (record {
+            commit = record { session = s.commit.0; reply = (answer X s.before s.commit.0 s.commit.1).0 };
+            behind = log_of X (answer X s.before s.commit.0 s.commit.1).1 s.rest;
+            parts = s.replies;
+            committed = s.granted;
+            earlier = s.earlier;
+          })
           refl;
       first = first_records X asked s.before ∙ ap (λ (H : List Event). take (commit_count s.before) (records_of X.setup H)) (sym s.events);
       kept = s.kept;
@@ -110,7 +117,8 @@ was_stopped p X lines given t safe s =
 none_reached : (X : Store) → IsReached X []
 none_reached X = ([], sym (history_none X []))
 
-pub never_began : (stop : ℕ) (X : Store) (lines : List Line) (t : Tally) (safe : List ℕ) → 0 < stop → stop ≤ 2 → recovered default_capacity safe ≡ Whole [] → HasRoom t → IsRunOn stop X lines [] true t safe
+pub never_began : (stop : ℕ) (X : Store) (lines : List Line) (t : Tally) (safe : List ℕ) → 0 < stop → stop ≤ 2 → recovered default_capacity safe ≡ Whole [] → HasRoom t
+    → IsRunOn stop X lines [] true t safe
 unfolding commit_count records_of
 never_began stop X lines t safe some low none room = record {
   before = [];
@@ -131,7 +139,13 @@ module _ (stop : ℕ) (X : Store) (lines : List Line) (given : List Answered) (s
   pub rows_are_after : AreRowsAfter X H (commit_count run.before) rows
   rows_are_after =
       let lawful = lawful_of X H sound (replayed X [] lines, refl) in
-      let few : commit_count run.before ≤ commit_count H = omega (arith, length-records X.setup run.before, length-records X.setup H, ap length run.first, length-take (commit_count run.before) (records_of X.setup H)) in
+      let few : commit_count run.before ≤ commit_count H = omega (
+        arith,
+        length-records X.setup run.before,
+        length-records X.setup H,
+        ap length run.first,
+        length-take (commit_count run.before) (records_of X.setup H),
+      ) in
       record {
         ascending = ascending;
         each = λ x. after x ∙ ap (λ (rs : List Record). after_records rs (row_of X.rows) x) run.first ∙ records_leave_the_rows X H sound lawful (commit_count run.before) few x;

@@ -95,7 +95,8 @@ of_held X H t (Write x v) = accessed 1 H X t x _ (put_adds X.setup H t x (Some v
 of_held X H t (Add x v) = accessed 1 H X t x _ (added_adds X.setup H t x v (add_base (last_put H t x) (last_got H t x)))
 of_held X H t (Delete x) = accessed 1 H X t x _ (put_adds X.setup H t x None)
 of_held X H t (Scan x n) = accessed 1 H X t x _
-    (either 1 H (is_scan x n) (scan_values X H t x n) (refuse H Range) (stopped 1 H t (scan_stop X.setup H t (cells_from x n)) (got_values (read_all X H t (cells_from x n))) (omega (arith, effects_read X t (cells_from x n) H))) (refused 1 H Range))
+    (either 1 H (is_scan x n) (scan_values X H t x n) (refuse H Range)
+    (stopped 1 H t (scan_stop X.setup H t (cells_from x n)) (got_values (read_all X H t (cells_from x n))) (omega (arith, effects_read X t (cells_from x n) H))) (refused 1 H Range))
 of_held X H t Prepare = either 1 H (prepared H t) (refuse H IsPrepared) (or_stop H t (prepare_stop X.setup H t) (Prepared, Ready (txn t) ∷ H)) (refused 1 H IsPrepared)
     (stopped 1 H t (prepare_stop X.setup H t) (Prepared, Ready (txn t) ∷ H) (omega arith))
 

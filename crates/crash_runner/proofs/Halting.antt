@@ -1,8 +1,9 @@
 -- Errors of a run.
-use Rattle.std.proofs.Common.{◌≡◌, Result, Ok, Err, OnOk, refl, sym, subst}
-use Rattle.std.specs.Prelude.{IsErrOf, IsOk, IsErr}
+use Rattle.std.proofs.Common.{◌≡◌, Result, Ok, Err, OnOk, inl, inr, refl, sym, subst}
+use Rattle.std.specs.Prelude.{◌⊎◌, IfErr, IsErrOf, IsOk, IsErr}
 use Rattle.commit_journal.specs.declared.error.CreateError.{CreateError}
 use Rattle.commit_journal.specs.declared.error.DurableError.{DurableError}
+use Rattle.commit_journal.specs.declared.error.DurableError.TheVariants as errors
 use Rattle.record_journal.proofs.Counting.{never_fails}
 use Rattle.crash_runner.specs.declared.halt.Halt.{Halt}
 
@@ -27,3 +28,13 @@ not_ok_and_err {T = T} {E = E} r v is f = never_fails r (subst (λ (q : Result T
 
 pub not_err_and_ok : {T E : Type 0} (r : Result T E) (e : E) → r ≡ Err e → IsOk r → ⊥
 not_err_and_ok {T = T} {E = E} r e is f = never_fails r f (subst (λ (q : Result T E). IsErr q) (sym is) refl)
+
+-- an error that is handed on holds of what held
+pub halted : {T : Type 0} (r : Result T Halt) (h k : Halt) (P : Halt → Type 0) → r ≡ Err h → h ≡ k → P k → IfErr r P
+halted {T = T} r h k P is same p = subst (λ (q : Result T Halt). IfErr q P) (sym is) (subst P (sym same) p)
+
+pub fault_or_not : (e : DurableError) → (e ≡ errors.DiskFault) ⊎ (e ≡ errors.DiskFault → ⊥)
+fault_or_not errors.Stopped = inr (λ p. absurd (cc))
+fault_or_not errors.Full = inr (λ p. absurd (cc))
+fault_or_not errors.DiskFault = inl refl
+fault_or_not errors.OutOfMemory = inr (λ p. absurd (cc))

@@ -97,7 +97,8 @@ before_more stop made t is-stop is-made small never = elim (cases_lt (made + 4) 
     go (suc n) e le = absurd (never (record { from = (omega (arith, e), omega (arith, e, le, is-made)); small = omega (arith, is-made, small) }))
 
 -- calls that are not sure, and yet promised: the stop is one of them
-stop_among : (most n k : ℕ) (t : Tally) → t.made + k ≤ most → t.written + n ≤ t.promise.bytes → IsBefore t.promise.stop t.made → (AreSure most k n t → ⊥) → (t.made < t.promise.stop) × (t.promise.stop ≤ t.made + k)
+stop_among : (most n k : ℕ) (t : Tally) → t.made + k ≤ most → t.written + n ≤ t.promise.bytes → IsBefore t.promise.stop t.made → (AreSure most k n t → ⊥) → (t.made < t.promise.stop)
+    × (t.promise.stop ≤ t.made + k)
 stop_among most n k t promised fits (inl none) never = absurd (never (record { before = inl none; promised = promised; fits = fits }))
 stop_among most n k t promised fits (inr lt) never = elim (cases_lt (t.made + k) t.promise.stop) [
   | inl after ↦ absurd (never (record { before = inr after; promised = promised; fits = fits }))
@@ -115,19 +116,22 @@ module _ {D : Type 0} (tally : D → Tally) (safe : D → List ℕ) (may_leave :
 
   -- there is room for a commit
   fits_more : (k : Kept D) (log : List Answered) (s : Session) (r : Request) (t : ℕ) → Goes k log → weight r + effects k.events ≤ 65536 → committing k.events s r ≡ Some t
-      → (k.end + (6 + 14 * length (puts_of k.events t)) ≤ default_capacity) × ((tally k.disk).written + (6 + 14 * length (puts_of k.events t)) ≤ reserved_bytes) × ((tally k.disk).made + 4 < reserved_calls)
+      → (k.end + (6 + 14 * length (puts_of k.events t)) ≤ default_capacity) × ((tally k.disk).written + (6 + 14 * length (puts_of k.events t)) ≤ reserved_bytes)
+      × ((tally k.disk).made + 4 < reserved_calls)
   fits_more k log s r t u few asked =
       let room = journal_room k.store.setup k.events (lawful_of k.store k.events u.sound u.reached) t (committing_unfinished k.events s r t asked) in
       let one = weighs k.events s r t asked in
       let low : weight r + (commit_count k.events + put_count k.events) ≤ 65536 = few in
       (omega (arith, room, low, one, u.end), omega (arith, room, low, one, u.end, u.written), omega (arith, low, one, u.made))
 
-  pub never_full : (k : Kept D) (log : List Answered) (s : Session) (r : Request) → Goes k log → weight r + effects k.events ≤ 65536 → (capacity : ℕ) → default_capacity ≤ capacity → IsFull k.events (room_of capacity - k.end) s r → ⊥
+  pub never_full : (k : Kept D) (log : List Answered) (s : Session) (r : Request) → Goes k log → weight r + effects k.events ≤ 65536 → (capacity : ℕ) → default_capacity ≤ capacity
+      → IsFull k.events (room_of capacity - k.end) s r → ⊥
   never_full k log s r u few capacity wide full = let fits = (fits_more k log s r full.txn u few full.commits).0 in omega (arith, fits, full.full)
 
   module _ (old new : Kept D) (log : List Answered) (s : Session) (r : Request) (u : Goes old log) (few : weight r + effects old.events ≤ 65536) (same : IsSameStore old new) where
     -- an answer was given
-    module _ (y : Reply) (says : y ≡ (answer old.store old.events s r).0) (events : new.events ≡ (answer old.store old.events s r).1) (runs : new.stopped ≡ false) (all : new.acknowledged ≡ commit_count new.events)
+    module _ (y : Reply) (says : y ≡ (answer old.store old.events s r).0) (events : new.events ≡ (answer old.store old.events s r).1) (runs : new.stopped ≡ false)
+        (all : new.acknowledged ≡ commit_count new.events)
         (end : new.end ≡ length (records (records_of new.store.setup new.events))) (images : (image : List ℕ) → may_leave new.disk image → HasFirst new.store new.events new.acknowledged image)
         (untouched : (y ≡ reply.Committed → ⊥) → new.disk ≡ old.disk) (counted : y ≡ reply.Committed → (tally old.disk).made + 4 < 2 ^ 64 → (tally new.disk).made ≡ (tally old.disk).made + 4)
         (written : (tally new.disk).written + old.end ≤ (tally old.disk).written + new.end + 1)
@@ -188,7 +192,8 @@ module _ {D : Type 0} (tally : D → Tally) (safe : D → List ℕ) (may_leave :
             room = u.room;
             made = omega (arith, made, u.made, four);
             written = omega (arith, written, u.written, count);
-            passed = subst (IsBefore p.stop) four (before_more p.stop (calls_of (commit_count old.events)) (tally old.disk) (ap (λ (q : Promise). q.stop) u.promised) u.made (omega (arith, small, u.made)) (λ f. fails f is));
+            passed = subst (IsBefore p.stop) four (before_more p.stop (calls_of (commit_count old.events)) (tally old.disk) (ap (λ (q : Promise). q.stop) u.promised) u.made
+                (omega (arith, small, u.made)) (λ f. fails f is));
             kept = safe_now new images all;
           }
 
@@ -210,7 +215,8 @@ module _ {D : Type 0} (tally : D → Tally) (safe : D → List ℕ) (may_leave :
         let calls = up_to now.0 asked in
         let promised = u.promised in
         let passed = subst₂ IsBefore (ap (λ (q : Promise). q.stop) (sym promised)) (sym u.made) u.passed in
-        let at = stop_among (tally old.disk).promise.writes (6 + 14 * length (puts_of old.events now.0)) 4 (tally old.disk) (omega (arith, fits.2, u.room.writes, ap (λ (q : Promise). q.writes) promised)) (omega (arith, fits.1, u.room.bytes, ap (λ (q : Promise). q.bytes) promised)) passed (never now.0 asked) in
+        let at = stop_among (tally old.disk).promise.writes (6 + 14 * length (puts_of old.events now.0)) 4 (tally old.disk)
+        (omega (arith, fits.2, u.room.writes, ap (λ (q : Promise). q.writes) promised)) (omega (arith, fits.1, u.room.bytes, ap (λ (q : Promise). q.bytes) promised)) passed (never now.0 asked) in
         let is-stop = ap (λ (q : Promise). q.stop) promised in
         record {
           before = old.events;
@@ -232,7 +238,8 @@ module _ {D : Type 0} (tally : D → Tally) (safe : D → List ℕ) (may_leave :
         }
 
 -- what is left of the promised calls when a run is through
-pub room_left : {D : Type 0} (tally : D → Tally) (safe : D → List ℕ) (p : Promise) (k : Kept D) (log : List Answered) → IsUnderway p tally safe k log → effects k.events ≤ 65536 → HasRoom (tally k.disk)
+pub room_left : {D : Type 0} (tally : D → Tally) (safe : D → List ℕ) (p : Promise) (k : Kept D) (log : List Answered) → IsUnderway p tally safe k log → effects k.events ≤ 65536
+    → HasRoom (tally k.disk)
 room_left tally safe p k log u few =
     let low : commit_count k.events + put_count k.events ≤ 65536 = few in
     let long = journal_length k.store.setup k.events (lawful_of k.store k.events u.sound u.reached) in
@@ -247,7 +254,8 @@ room_left tally safe p k log u few =
 module _ {D : Type 0} (tally : D → Tally) (safe : D → List ℕ) (may_leave : D → List ℕ → Type 0) (safe_is_left : (disk : D) → may_leave disk (safe disk)) (disk : D)
     (none : (tally disk).made ≡ 0) (empty : (tally disk).written ≡ 0) (room : IsRoomy (tally disk).promise) where
   pub begins : (k : Kept D) → IsSound k.store.setup → k.events ≡ [] → k.end ≡ 0 → k.stopped ≡ false → ((image : List ℕ) → may_leave k.disk image → HasFirst k.store k.events 0 image)
-      → IsUpTo 2 1 (tally disk) (tally k.disk) → ((tally disk).made + 2 < 2 ^ 64 → (tally k.disk).made ≡ (tally disk).made + 2) → (Fails 2 (tally disk) → ⊥) → IsUnderway (tally k.disk).promise tally safe k []
+      → IsUpTo 2 1 (tally disk) (tally k.disk) → ((tally disk).made + 2 < 2 ^ 64 → (tally k.disk).made ≡ (tally disk).made + 2) → (Fails 2 (tally disk) → ⊥)
+      → IsUnderway (tally k.disk).promise tally safe k []
   unfolding commit_count records_of
   begins k sound new start runs images calls counted fails =
       let rs : records_of k.store.setup k.events ≡ [] = ap (records_of k.store.setup) new in

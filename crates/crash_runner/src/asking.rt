@@ -1,6 +1,6 @@
 //! One request of a run on a disk.
 
-ghost use Rattle.std.specs.Prelude.{◌≡◌, ◌+◌, ◌≤◌, ◌++◌, ◌∷◌, [], OnOk, IsErrOf};
+ghost use Rattle.std.specs.Prelude.{◌≡◌, ◌↔◌, ◌+◌, ◌≤◌, ◌++◌, ◌∷◌, [], true, IfErr, OnOk, IsErrOf};
 ghost use Rattle.teb_rules.specs.Run.{history_after};
 ghost use Rattle.crash_disk.specs.Sizes.{default_capacity};
 ghost use Rattle.commit_journal.specs.Kept.{IsSameStore};
@@ -36,8 +36,10 @@ pub(crate) fn ask<C: Chains, D: Disk>(
     ensures one { OnOk result (effects durable.new.events ≤ 1 + effects durable.old.events) }
     // For any further requests.
     ensures stopped { (rest : Requests) → IsErrOf result halts.Stopped
-        → StopsAt (D.tally durable.old.disk).promise durable.old.store (log.old.items ++ log_of durable.old.store durable.old.events ((session, request) ∷ rest)) (history_after durable.old.store durable.old.events ((session, request) ∷ rest))
+        → StopsAt (D.tally durable.old.disk).promise durable.old.store (log.old.items ++ log_of durable.old.store durable.old.events ((session, request) ∷ rest))
+        (history_after durable.old.store durable.old.events ((session, request) ∷ rest))
         log.new.items (D.tally durable.new.disk) (D.safe durable.new.disk) }
+    ensures halts { IfErr result (λ halt. (halt ≡ halts.Stopped) ↔ (durable.new.stopped ≡ true)) }
 {
     match durable.ask(alloc, session, request) {
         Ok(reply) => {
@@ -52,7 +54,7 @@ pub(crate) fn ask<C: Chains, D: Disk>(
 fn halt_of(error: DurableError) -> Halt
     requires running { error ≡ errors.Stopped → ⊥ }
     requires room { error ≡ errors.Full → ⊥ }
-    ensures { result ≡ halts.Stopped → error ≡ errors.DiskFault }
+    ensures { (result ≡ halts.Stopped) ↔ (error ≡ errors.DiskFault) }
 {
     match error {
         DurableError::DiskFault => Halt::Stopped,

@@ -1,6 +1,6 @@
 //! End, asked on a disk for the sessions that hold a transaction.
 
-ghost use Rattle.std.specs.Prelude.{◌≡◌, ◌≤◌, ◌++◌, map, OnOk, IsErrOf};
+ghost use Rattle.std.specs.Prelude.{◌≡◌, ◌↔◌, ◌≤◌, ◌++◌, map, true, IfErr, OnOk, IsErrOf};
 ghost use Rattle.teb_rules.specs.Run.{history_after};
 ghost use Rattle.crash_disk.specs.Sizes.{default_capacity};
 ghost use Rattle.commit_journal.specs.Kept.{IsSameStore};
@@ -35,8 +35,10 @@ pub(crate) fn ask_ends<C: Chains, D: Disk>(
     ensures few { OnOk result (effects durable.new.events ≤ MOST_LINES) }
     // For any further requests.
     ensures stopped { (rest : Requests) → IsErrOf result halts.Stopped
-        → StopsAt (D.tally durable.old.disk).promise durable.old.store (log.old.items ++ log_of durable.old.store durable.old.events (map end_of holders.now ++ rest)) (history_after durable.old.store durable.old.events (map end_of holders.now ++ rest))
+        → StopsAt (D.tally durable.old.disk).promise durable.old.store (log.old.items ++ log_of durable.old.store durable.old.events (map end_of holders.now ++ rest))
+        (history_after durable.old.store durable.old.events (map end_of holders.now ++ rest))
         log.new.items (D.tally durable.new.disk) (D.safe durable.new.disk) }
+    ensures halts { IfErr result (λ halt. (halt ≡ halts.Stopped) ↔ (durable.new.stopped ≡ true)) }
 {
     for session in holders {
         ask(alloc, durable, *session, Request::End, log)?;

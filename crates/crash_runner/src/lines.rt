@@ -1,6 +1,6 @@
 //! The lines of a script, asked in order on a disk.
 
-ghost use Rattle.std.specs.Prelude.{◌≡◌, ◌+◌, ◌≤◌, ◌++◌, length, OnOk, IsErrOf};
+ghost use Rattle.std.specs.Prelude.{◌≡◌, ◌↔◌, ◌+◌, ◌≤◌, ◌++◌, length, true, IfErr, OnOk, IsErrOf};
 ghost use Rattle.teb_rules.specs.Run.{history_after};
 ghost use Rattle.crash_disk.specs.Sizes.{default_capacity};
 ghost use Rattle.commit_journal.specs.Kept.{IsSameStore};
@@ -33,8 +33,10 @@ pub(crate) fn ask_lines<C: Chains, D: Disk>(
     ensures few { OnOk result (effects durable.new.events ≤ length lines.now + effects durable.old.events) }
     // For any further requests.
     ensures stopped { (rest : Requests) → IsErrOf result halts.Stopped
-        → StopsAt (D.tally durable.old.disk).promise durable.old.store (log.old.items ++ log_of durable.old.store durable.old.events (requests_of lines.now ++ rest)) (history_after durable.old.store durable.old.events (requests_of lines.now ++ rest))
+        → StopsAt (D.tally durable.old.disk).promise durable.old.store (log.old.items ++ log_of durable.old.store durable.old.events (requests_of lines.now ++ rest))
+        (history_after durable.old.store durable.old.events (requests_of lines.now ++ rest))
         log.new.items (D.tally durable.new.disk) (D.safe durable.new.disk) }
+    ensures halts { IfErr result (λ halt. (halt ≡ halts.Stopped) ↔ (durable.new.stopped ≡ true)) }
 {
     for line in lines {
         ask(alloc, durable, line.session, line.request, log)?;

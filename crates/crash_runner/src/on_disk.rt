@@ -1,6 +1,6 @@
 //! A replay whose commits are kept on a disk.
 
-ghost use Rattle.std.specs.Prelude.{◌≡◌, ◌≤◌, [], length, OnOk, IfOk, IsErrOf};
+ghost use Rattle.std.specs.Prelude.{◌≡◌, ◌↔◌, ◌≤◌, [], length, true, OnOk, IfErr, IfOk, IsErrOf};
 ghost use Rattle.teb_rules.specs.Run.{history_after};
 ghost use Rattle.store_setup.specs.SetupView.{setup_view};
 ghost use Rattle.store_setup.specs.Sound.{IsWhole};
@@ -99,8 +99,10 @@ fn ask_all<C: Chains, D: Disk>(
     ensures few { OnOk result (effects durable.new.events ≤ MOST_LINES) }
     ensures asked { OnOk result (HasAsked durable.old.store (replayed durable.old.store [] lines.now) [] [] log.new.items durable.new.events) }
     ensures stopped { IsErrOf result halts.Stopped
-        → StopsAt (D.tally durable.old.disk).promise durable.old.store (log_of durable.old.store [] (replayed durable.old.store [] lines.now)) (history_after durable.old.store [] (replayed durable.old.store [] lines.now))
+        → StopsAt (D.tally durable.old.disk).promise durable.old.store (log_of durable.old.store [] (replayed durable.old.store [] lines.now))
+        (history_after durable.old.store [] (replayed durable.old.store [] lines.now))
         log.new.items (D.tally durable.new.disk) (D.safe durable.new.disk) }
+    ensures halts { IfErr result (λ halt. (halt ≡ halts.Stopped) ↔ (durable.new.stopped ≡ true)) }
 {
     ask_lines(alloc, durable, lines, log)?;
     let holders = holding_sessions(alloc, durable.engine().history())?;

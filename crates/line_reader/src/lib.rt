@@ -12,17 +12,17 @@
 //! - The bytes *ahead* are those that were read and not yet taken, and then what is left of the source (`ahead`).
 //!
 //! **What is proved.** Each call takes the next line off the bytes ahead, and leaves none out; `None` is returned only if no byte
-//! is ahead (`next_line`, clause `taken`). A line has at most 65,536 bytes (`short`). `ReadFault` is returned only if the source's
-//! count of faults rose (`fault`). A call reads only while no whole line is ahead: that holds by inspection of the code, and no
-//! contract states it.
+//! is ahead (`next_line`, clause `taken`). A line has at most 65,536 bytes (`short`). `TooLong` is returned only if the next line has
+//! more (`too_long`), and such a line is never taken (`long`). `ReadFault` is returned only if the source's count of faults rose
+//! (`fault`). A call reads only while no whole line is ahead: that holds by inspection of the code, and no contract states it.
 //!
 //! **Not claimed**: that a read returns, or when.
 #![tactic(auto)]
 
-ghost use Rattle.std.specs.Prelude.{◌≡◌, ◌≢◌, [], ◌∷◌, ◌++◌, ◌≤◌, IfErr, IfOk, IfSome, IsErrOf, length, MatchOption, OnErr, OnOk};
+ghost use Rattle.std.specs.Prelude.{◌≡◌, ◌≢◌, [], ◌∷◌, ◌++◌, ◌≤◌, IfErr, IfOk, IfSome, IsErr, IsErrOf, length, MatchOption, OnErr, OnOk};
 ghost use Rattle.std.specs.Io.KnownBytes.{Consumes, IsAtEnd};
 ghost use Rattle.teb_io.specs.Faults.{Rose};
-ghost use Rattle.line_reader.specs.Lines.{ahead, IsFirstFeed, IsLine, TakesNext};
+ghost use Rattle.line_reader.specs.Lines.{ahead, IsFirstFeed, IsLine, IsTooLong, TakesNext};
 
 use memchr::memchr;
 use std::alloc::{AllocError, Global};
@@ -57,7 +57,7 @@ impl Model for LineReader {
 }
 
 impl LineReader {
-    /// A reader that has read nothing. Takes no memory.
+    /// Returns a reader that has read nothing. Takes no memory.
     pub fn new(alloc: Global) -> LineReader
         ensures { result ≡ [] }
     {
@@ -92,6 +92,7 @@ impl LineReader {
     ///
     /// # Errors
     /// `ReadFault` if a read fails, `TooLong` if the next line has more than `MOST_LINE_BYTES` bytes, `OutOfMemory`. No line is taken.
+    /// After `ReadFault` and `TooLong` the bytes ahead are as they were.
     pub fn next_line<S: Source>(
         &mut self,
         alloc: Global,
@@ -99,6 +100,9 @@ impl LineReader {
     ) -> Result<Option<Vec<u8>>, ReadError>
         ensures taken { IfOk result (TakesNext (ahead self.old (S.left source.old)) (ahead self.new (S.left source.new))) }
         ensures short { IfOk result (λ o. IfSome o (λ line. length line.items ≤ MOST_LINE_BYTES)) }
+        ensures too_long { IsErrOf result ReadError.TooLong → IfSome (ahead self.old (S.left source.old)) IsTooLong }
+        ensures long { IfSome (ahead self.old (S.left source.old)) (λ bytes. IsTooLong bytes → IsErr result) }
+        ensures kept { IfErr result (λ e. (e ≡ ReadError.OutOfMemory → ⊥) → Consumes (ahead self.old (S.left source.old)) (ahead self.new (S.left source.new)) []) }
         ensures fault { IsErrOf result ReadError.ReadFault → Rose (S.faults source.old) (S.faults source.new) }
         ensures no_fault { OnOk result (S.faults source.new ≡ S.faults source.old) }
         ensures no_other_fault { IfErr result (λ e. (e ≡ ReadError.ReadFault → ⊥) → S.faults source.new ≡ S.faults source.old) }
@@ -120,6 +124,8 @@ impl LineReader {
     ) -> Result<Option<usize>, ReadError>
         ensures kept { OnOk result (Consumes (ahead self.old (S.left source.old)) (ahead self.new (S.left source.new)) []) }
         ensures found { IfOk result (λ o. MatchOption o (IsLine self.new × IsAtEnd (S.left source.new) × (length self.new ≤ MOST_LINE_BYTES)) (IsFirstFeed self.new)) }
+        ensures too_long { IsErrOf result ReadError.TooLong → IfSome (ahead self.old (S.left source.old)) IsTooLong }
+        ensures failed { IfErr result (λ e. (e ≡ ReadError.OutOfMemory → ⊥) → Consumes (ahead self.old (S.left source.old)) (ahead self.new (S.left source.new)) []) }
         ensures fault { IsErrOf result ReadError.ReadFault → Rose (S.faults source.old) (S.faults source.new) }
         ensures no_fault { OnOk result (S.faults source.new ≡ S.faults source.old) }
         ensures no_other_fault { IfErr result (λ e. (e ≡ ReadError.ReadFault → ⊥) → S.faults source.new ≡ S.faults source.old) }
@@ -141,7 +147,7 @@ impl LineReader {
         }
     }
 
-    /// The bytes that are not yet taken.
+    /// Returns the bytes that are not yet taken.
     fn rest(&self) -> &[u8]
         ensures { result.now ≡ self.now }
     {
@@ -187,7 +193,7 @@ impl LineReader {
     }
 }
 
-/// The place of the first line feed.
+/// Returns the place of the first line feed.
 fn first_feed(bytes: &[u8]) -> Option<usize>
     ensures { MatchOption result (IsLine bytes.now) (IsFirstFeed bytes.now) }
 {

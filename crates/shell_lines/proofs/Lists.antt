@@ -16,7 +16,8 @@ pub names_more : (word : List ℕ) (names : List (List ℕ)) (i : ℕ) (name out
     → out ++ flat_map (λ (n : List ℕ). line_text (word ∷ n ∷ [])) (drop i names) ≡ all → new ++ flat_map (λ (n : List ℕ). line_text (word ∷ n ∷ [])) (drop (i + 1) names) ≡ all
 names_more word names i name out new all read put so_far =
     let f : List ℕ → List ℕ = λ n. line_text (word ∷ n ∷ []) in
-    let left : drop i names ≡ name ∷ drop (i + 1) names = drop_more names i name (slice_get_within names i name read) ∙ ap (λ w. w ∷ drop (i + 1) names) (get_or_from_slice_get names i name name read) in
+    let left : drop i names ≡ name ∷ drop (i + 1) names = drop_more names i name (slice_get_within names i name read)
+    ∙ ap (λ w. w ∷ drop (i + 1) names) (get_or_from_slice_get names i name name read) in
     ap (λ l. l ++ flat_map f (drop (i + 1) names)) put ∙ append_assoc out (f name) (flat_map f (drop (i + 1) names)) ∙ ap (λ (l : List (List ℕ)). out ++ flat_map f l) (sym left) ∙ so_far
 
 first_named : (names : NameBook) (count : Option ℕ) (rows : List (Cell × ℤ)) → RowsNamed names rows → RowsNamed names (at_most count rows)
@@ -24,7 +25,8 @@ first_named names None rows h = h
 first_named names (Some n) rows h = All-take (λ (r : Cell × ℤ). CellNamed names r.0) n rows h
 
 -- the rows that are asked for have names
-pub asked_named : (names : NameBook) (range : RowRange) (rows asked mid first : List (Cell × ℤ)) → asked ≡ filter (λ (r : Cell × ℤ). is_selected range r.0) rows → mid ≡ asked → first ≡ at_most range.count mid
+pub asked_named : (names : NameBook) (range : RowRange) (rows asked mid first : List (Cell × ℤ)) → asked ≡ filter (λ (r : Cell × ℤ). is_selected range r.0) rows → mid ≡ asked
+    → first ≡ at_most range.count mid
     → RowsNamed names rows → RowsNamed names first
 asked_named names range rows asked mid first e f g h =
     let all : RowsNamed names mid = subst (RowsNamed names) (sym (f ∙ e)) (All-filter (λ (r : Cell × ℤ). is_selected range r.0) (λ (r : Cell × ℤ). CellNamed names r.0) rows h) in

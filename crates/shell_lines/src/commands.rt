@@ -29,7 +29,7 @@ pub(crate) enum Dot {
     Quit,
 }
 
-/// What a line of these words asks, of which the first begins with a dot.
+/// Returns what a line of these words asks, of which the first begins with a dot.
 pub(crate) fn command_of(names: &NameBook, words: &[&[u8]]) -> ShellLine
     ensures { result ≡ command_of names.now (nows words.now) }
 {
@@ -106,7 +106,7 @@ fn arguments_of(names: &NameBook, dot: Dot, words: &[&[u8]]) -> ShellLine
     }
 }
 
-/// The line, if no word follows.
+/// Returns the line, if no word follows.
 fn lone(line: ShellLine, words: &[&[u8]]) -> ShellLine
     ensures { result ≡ lone line (nows words.now) }
 {
@@ -116,7 +116,7 @@ fn lone(line: ShellLine, words: &[&[u8]]) -> ShellLine
     }
 }
 
-/// A line that reads a file, if one word follows.
+/// Returns a line that reads a file, if one word follows.
 fn with_file(words: &[&[u8]]) -> ShellLine
     ensures { result ≡ with_file (nows words.now) }
 {
@@ -177,7 +177,7 @@ fn table_at(tables: &Names, word: &[u8]) -> Result<Table, LineWhy>
     }
 }
 
-/// The place of a word among names.
+/// Returns the place of a word among names.
 fn place_of(names: &Names, word: &[u8]) -> Option<u8>
     ensures { result ≡ number_of names.now word.now }
 {

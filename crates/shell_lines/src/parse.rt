@@ -38,7 +38,7 @@ pub fn second_word(alloc: Global, text: &[u8]) -> Result<Vec<u8>, AllocError>
     second_of(&words).to_vec(alloc)
 }
 
-/// The second of the words; nothing if there is none.
+/// Returns the second of the words; nothing if there is none.
 fn second_of<'a>(words: &[&'a [u8]]) -> &'a [u8]
     ensures { result.now ≡ second_word (nows words.now) }
 {
@@ -48,7 +48,7 @@ fn second_of<'a>(words: &[&'a [u8]]) -> &'a [u8]
     }
 }
 
-/// What a line of a script asks.
+/// Returns what a line of a script asks.
 fn asked(alloc: Global, names: &NameBook, format: u8, text: &[u8]) -> Result<ShellLine, AllocError>
     requires { length (lines_of text.now) < 2 ^ 32 }
     ensures { IfOk result (λ line. line ≡ asked names.now format text.now) }
@@ -66,7 +66,7 @@ fn asked(alloc: Global, names: &NameBook, format: u8, text: &[u8]) -> Result<She
     }
 }
 
-/// The words of a line.
+/// Returns the words of a line.
 #[tactic(auto, unfolding(script_text::specs::Words::words_of))]
 fn words_in(alloc: Global, line: &[u8]) -> Result<Vec<&[u8]>, AllocError>
     ensures { IfOk result (λ words. nows words.items ≡ words_of line.now) }
@@ -75,7 +75,7 @@ fn words_in(alloc: Global, line: &[u8]) -> Result<Vec<&[u8]>, AllocError>
     filled(alloc, &parts)
 }
 
-/// What is between spaces and tabs.
+/// Returns what is between spaces and tabs.
 fn parts_of(alloc: Global, line: &[u8]) -> Result<Vec<&[u8]>, AllocError>
     ensures { IfOk result (λ parts. nows parts.items ≡ slice_split is_blank line.now) }
 {
@@ -111,7 +111,7 @@ fn begins_with_dot(words: &[&[u8]]) -> bool
     }
 }
 
-/// The line without the one carriage return at its end.
+/// Returns the line without the one carriage return at its end.
 fn without_return(line: &[u8]) -> &[u8]
     ensures { result.now ≡ strip_carriage_return line.now }
 {

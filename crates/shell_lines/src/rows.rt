@@ -26,7 +26,7 @@ pub fn put_rows(
     put_line(out, &Word::Text("end"), &[])
 }
 
-/// The rows that are asked for, whatever their number.
+/// Returns the rows that are asked for, whatever their number.
 fn asked_for(
     alloc: Global,
     range: RowRange,
@@ -56,7 +56,7 @@ fn is_of_table(table: Option<Table>, cell: Cell) -> bool
     }
 }
 
-/// The first of the rows, so many as are asked for.
+/// Returns the first rows, at most as many as are asked for.
 fn first_of(rows: &[(Cell, i64)], count: Option<u32>) -> &[(Cell, i64)]
     ensures { result.now ≡ at_most count rows.now }
 {

@@ -130,7 +130,7 @@ fn put_standing(
     }
 }
 
-/// Appends for whom a session waits, each word after a space.
+/// Appends the transaction that a session waits for, each word after a space.
 fn put_wait(out: &mut Vec<u8>, nodes: &Names, wait: Wait) -> Result<(), AllocError>
     ensures { OnOk result (out.new.items ≡ out.old.items ++ spaced (wait_words nodes.now wait)) }
 {

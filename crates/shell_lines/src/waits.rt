@@ -1,4 +1,4 @@
-//! For whom the sessions wait.
+//! Which transaction each session waits for.
 
 ghost use Rattle.std.specs.Prelude.{◌≡◌, ◌≤◌};
 ghost use Rattle.teb_names.specs.declared.TheConstants.{SESSIONS as MOST};
@@ -7,7 +7,7 @@ ghost use Rattle.shell_lines.specs.Sessions.{is_session, no_waits, noted, wait_i
 use crate::StoreReply;
 use teb_names::{Node, Reply, SESSIONS, Session, Txn};
 
-/// For whom a session was told to wait, and the node where the two meet.
+/// The transaction that a session was told to wait for, and the node where the two meet.
 #[derive(Clone, Copy)]
 pub struct Wait {
     pub who: Txn,
@@ -55,7 +55,7 @@ fn is_session(session: Session) -> bool
     1 <= session.0 && session.0 <= SESSIONS
 }
 
-/// For whom a reply tells its session to wait.
+/// Returns the transaction that a reply tells its session to wait for.
 fn wait_in(reply: &StoreReply) -> Option<Wait>
     ensures { result ≡ wait_in reply.now }
 {

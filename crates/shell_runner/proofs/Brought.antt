@@ -1,8 +1,9 @@
 -- A line that is read, and the text that it brings.
-use Rattle.std.proofs.Common.{◌≡◌, ℕ, List, [], ◌++◌, Option, Some, None, Result, Ok, Err, inl, inr, refl, ap, ◌∙◌, append_assoc}
+use Rattle.std.proofs.Common.{◌≡◌, ℕ, ◌≤◌, List, [], ◌++◌, Option, Some, None, Result, Ok, Err, inl, inr, refl, ap, ◌∙◌, append_assoc, length}
 use Rattle.std.specs.Prelude.{IfOk, OnOk}
 use Rattle.std.specs.Io.KnownBytes.{prepend_known}
 use Rattle.line_reader.specs.Lines.{TakesLine, ahead}
+use Rattle.line_reader.specs.declared.TheConstants.{MOST_LINE_BYTES}
 use Rattle.teb_names.specs.declared.naming.NameBook.{NameBook}
 use Rattle.shell_lines.specs.Lines.{shell_line}
 use Rattle.shell_lines.specs.declared.line.ShellLine.{ShellLine}
@@ -13,12 +14,20 @@ ahead_more : (file mid new : List ℕ) (left : Option (List ℕ)) → new ≡ fi
 ahead_more file mid new None e = refl
 ahead_more file mid new (Some bytes) e = ap (λ (l : List ℕ). Some (l ++ bytes)) e ∙ ap Some (append_assoc file mid bytes)
 
-pub asks_next : (names : NameBook) (format : ℕ) (asks : ShellLine) (line mid new : List ℕ) (before left : Option (List ℕ)) → asks ≡ shell_line names format line → (file : List ℕ) × Brings asks file × (new ≡ file ++ mid) → TakesLine before (ahead mid left) line
+pub asks_next : (names : NameBook) (format : ℕ) (asks : ShellLine) (line mid new : List ℕ) (before left : Option (List ℕ)) → asks ≡ shell_line names format line → (file : List ℕ) × Brings asks file
+    × (new ≡ file ++ mid) → TakesLine before (ahead mid left) line → length line ≤ MOST_LINE_BYTES
     → AsksNext names format asks before (ahead new left)
-asks_next names format asks line mid new before left is brought takes =
-    record { line = line; file = brought.0; is = is; brings = brought.1; takes = record { after = ahead mid left; takes = takes; brought = ahead_more brought.0 mid new left brought.2 } }
+asks_next names format asks line mid new before left is brought takes short =
+    record {
+      line = line;
+      file = brought.0;
+      is = is;
+      brings = brought.1;
+      takes = record { after = ahead mid left; short = short; takes = takes; brought = ahead_more brought.0 mid new left brought.2 };
+    }
 
-pub file_read : {X E : Type 0} (asks : ShellLine) (old new : List ℕ) (r : Result X E) → asks ≡ Read → IfOk r (λ (x : X). (file : List ℕ) × (new ≡ file ++ old)) → IfOk r (λ (x : X). (file : List ℕ) × Brings asks file × (new ≡ file ++ old))
+pub file_read : {X E : Type 0} (asks : ShellLine) (old new : List ℕ) (r : Result X E) → asks ≡ Read → IfOk r (λ (x : X). (file : List ℕ) × (new ≡ file ++ old))
+    → IfOk r (λ (x : X). (file : List ℕ) × Brings asks file × (new ≡ file ++ old))
 file_read asks old new (Ok x) is h = (h.0, inl is, h.1)
 file_read asks old new (Err e) is h = tt
 

@@ -38,7 +38,8 @@ end_released s t session reached holds asked = subst (IsReleased session.0 s.eve
     go None e h = absurd (cc)
     go (Some n) e h = released s.store s.events session n reached.sound reached.asked reached.leads e
 
-told_released : (s t : State) (session : Session) (r : StoreReply) → IsReached s.stored → IsTrue (is_some (held s.stored.events session.0)) → IsTold s session request.End r t → IsReleased session.0 s.stored.events t.stored.events
+told_released : (s t : State) (session : Session) (r : StoreReply) → IsReached s.stored → IsTrue (is_some (held s.stored.events session.0)) → IsTold s session request.End r t
+    → IsReleased session.0 s.stored.events t.stored.events
 told_released s t session (reply.Reply r) reached holds h = end_released s.stored t.stored session reached holds h.0.1
 told_released s t session reply.Later reached holds h = absurd h
 told_released s t session reply.Full reached holds h = absurd (let e = h.0.1.asks in cc)
@@ -50,7 +51,8 @@ reply_released s t session text (Ok a) h reached holds = told_released s t sessi
 reply_released s t session text (Err e) h reached holds = tt
 
 -- the end of a session asks for no end of the run
-pub end_goes_on : (s t : State) (session : Session) (after : After) (now later : Option (List ℕ)) → Answers 1 s (line.Ask session request.End) after t now later → (after ≡ Stopped → ⊥) → GoesOnAfter after
+pub end_goes_on : (s t : State) (session : Session) (after : After) (now later : Option (List ℕ)) → Answers 1 s (line.Ask session request.End) after t now later → (after ≡ Stopped → ⊥)
+    → GoesOnAfter after
 end_goes_on s t session Next now later a going = tt
 end_goes_on s t session Bad now later a going = tt
 end_goes_on s t session Quit now later a going = absurd (let e = quits 1 s (line.Ask session request.End) a.text t a.answered in cc)
@@ -82,15 +84,23 @@ more_numbers (suc m) k h = elim (cases_eq k (suc m)) [
 -- the sessions that are left after k
 left_over : (H : List Event) (k : ℕ) → k ≤ SESSIONS → (more : List ℕ) × (map end_of (filter (is_holder H) (numbers k)) ++ map end_of more ≡ map end_of (holders H))
 left_over H k h =
-    let r = more_numbers SESSIONS k h in
-    (filter (is_holder H) r.0, sym (map-append end_of (filter (is_holder H) (numbers k)) (filter (is_holder H) r.0)) ∙ ap (map end_of) (sym (filter-append (is_holder H) (numbers k) r.0) ∙ ap (filter (is_holder H)) (sym r.1)))
+    let r = more_numbers SESSIONS k h in (
+      filter (is_holder H) r.0,
+      sym (map-append end_of (filter (is_holder H) (numbers k)) (filter (is_holder H) r.0))
+          ∙ ap (map end_of) (sym (filter-append (is_holder H) (numbers k) r.0) ∙ ap (filter (is_holder H)) (sym r.1)),
+    )
 
 one_asked : (step : Step) (ends : List Step) (k : ℕ) → asked_by step ≡ end_of (suc k) → map asked_by (reverse (step ∷ ends)) ≡ map asked_by (reverse ends) ++ map end_of (suc k ∷ [])
-one_asked step ends k e = ap (map asked_by) (reverse-append (step ∷ []) ends) ∙ map-append asked_by (reverse ends) (step ∷ []) ∙ ap (λ (x : Option (List ℕ) × ShellLine). map asked_by (reverse ends) ++ x ∷ []) e
+one_asked step ends k e = ap (map asked_by) (reverse-append (step ∷ []) ends) ∙ map-append asked_by (reverse ends) (step ∷ [])
+    ∙ ap (λ (x : Option (List ℕ) × ShellLine). map asked_by (reverse ends) ++ x ∷ []) e
 
 done_status : (b : Bool) → IsDone (if b then 7 else 0)
 done_status true = inr refl
 done_status false = inl refl
+
+done_not_five : (status : ℕ) → IsDone status → status ≢ 5
+done_not_five status (inl e) p = omega (arith, e, p)
+done_not_five status (inr e) p = omega (arith, e, p)
 
 -- sessions 1 to k were ended if they held a transaction
 pub record EndsSoFar {T : Type 0} (stored : T → Stored) (safe : T → T → Type 0) (mid : Shell T) (k : ℕ) (last : Shell T) (before now : Option (List ℕ)) : Type 0 where
@@ -103,7 +113,15 @@ pub record EndsSoFar {T : Type 0} (stored : T → Stored) (safe : T → T → Ty
   pub written : Appends before now (said ends)
 
 pub no_end_yet : {T : Type 0} (stored : T → Stored) (safe : T → T → Type 0) (mid : Shell T) (now : Option (List ℕ)) → EndsSoFar stored safe mid 0 mid now now
-no_end_yet stored safe mid now = record { ends = []; going = tt; run = refl; asked = unfold numbers in refl; none = λ n a b. absurd (omega (arith, a, b)); others = λ n a. refl; written = Appends-nil now }
+no_end_yet stored safe mid now = record {
+  ends = [];
+  going = tt;
+  run = refl;
+  asked = unfold numbers in refl;
+  none = λ n a b. absurd (omega (arith, a, b));
+  others = λ n a. refl;
+  written = Appends-nil now;
+}
 
 module _ {T : Type 0} (stored : T → Stored) (safe : T → T → Type 0) (mid : Shell T) (before : Option (List ℕ)) where
   module _ (k : ℕ) (s t : Shell T) (now later : Option (List ℕ)) (r : EndsSoFar stored safe mid k s before now) where
@@ -123,11 +141,13 @@ module _ {T : Type 0} (stored : T → Stored) (safe : T → T → Type 0) (mid :
     abbrev end_step : List ℕ → After → Step
     end_step text after = record { line = None; asks = line.Ask (record { 0 = suc k }) request.End; file = []; text = text; after = after }
 
-    more_ends : (text : List ℕ) (after : After) → IsTrue (is_some (held (stored s.store).events (suc k))) → IsAnswered 1 (state_of stored s) (line.Ask (record { 0 = suc k }) request.End) text after (state_of stored t) → IsSafely safe s t
+    more_ends : (text : List ℕ) (after : After) → IsTrue (is_some (held (stored s.store).events (suc k))) → IsAnswered 1 (state_of stored s) (line.Ask (record { 0 = suc k }) request.End) text after
+        (state_of stored t) → IsSafely safe s t
         → IsRun stored safe mid (end_step text after ∷ r.ends) t
     more_ends text after holds answered between = (s, r.run, r.going, record { asks = (record { 0 = suc k }, refl, holds); brings = inr refl; answered = answered; safely = between })
 
-    pub more_asked : (text : List ℕ) (after : After) → IsTrue (is_some (held (stored s.store).events (suc k))) → map asked_by (reverse (end_step text after ∷ r.ends)) ≡ map end_of (filter (is_holder (stored mid.store).events) (numbers (suc k)))
+    pub more_asked : (text : List ℕ) (after : After) → IsTrue (is_some (held (stored s.store).events (suc k))) → map asked_by (reverse (end_step text after ∷ r.ends)) ≡ map end_of
+        (filter (is_holder (stored mid.store).events) (numbers (suc k)))
     more_asked text after holds =
         one_asked (end_step text after) r.ends k refl ∙ ap (λ (l : List (Option (List ℕ) × ShellLine)). l ++ map end_of (suc k ∷ [])) r.asked
         ∙ sym (ap (map end_of) (next_number (is_holder (stored mid.store).events) k true (was ∙ holds)) ∙ map-append end_of (filter (is_holder (stored mid.store).events) (numbers k)) (suc k ∷ []))
@@ -148,7 +168,8 @@ module _ {T : Type 0} (stored : T → Stored) (safe : T → T → Type 0) (mid :
       ends = r.ends;
       going = r.going;
       run = subst (IsRun stored safe mid r.ends) (sym e.same) r.run;
-      asked = r.asked ∙ ap (map end_of) (sym (next_number (is_holder (stored mid.store).events) k false (was ∙ ap (λ (o : Option ℕ). is_some o) e.holds) ∙ append-nil (filter (is_holder (stored mid.store).events) (numbers k))));
+      asked = r.asked ∙ ap (map end_of)
+          (sym (next_number (is_holder (stored mid.store).events) k false (was ∙ ap (λ (o : Option ℕ). is_some o) e.holds) ∙ append-nil (filter (is_holder (stored mid.store).events) (numbers k))));
       none = none_of rel;
       others = others_of rel;
       written = subst (λ (w : Option (List ℕ)). Appends before w (said r.ends)) (sym e.unwritten) r.written;
@@ -169,10 +190,12 @@ module _ {T : Type 0} (stored : T → Stored) (safe : T → T → Type 0) (mid :
 
     -- the run ends at the end of a session
     module _ (status : ℕ) (fails : IsFailure status) where
-      cut_off : (ends : List Step) (last end : Shell T) (now : Option (List ℕ)) (k : ℕ) → k ≤ SESSIONS → IsRun stored safe mid ends last → map asked_by (reverse ends) ≡ map end_of (filter (is_holder (stored mid.store).events) (numbers k))
-          → ((status ≢ 4) × Appends start now (said read.steps ++ said ends)) ⊎ ((status ≡ 4) × AppendsFront start now (said read.steps ++ said ends)) → (status ≡ 15 → HasStopped ends) → (status ≢ 8 → end ≡ last) → IsSafely safe last end
+      cut_off : (ends : List Step) (last end : Shell T) (now : Option (List ℕ)) (k : ℕ) → k ≤ SESSIONS → IsRun stored safe mid ends last
+          → map asked_by (reverse ends) ≡ map end_of (filter (is_holder (stored mid.store).events) (numbers k))
+          → ((status ≢ 4) × Appends start now (said read.steps ++ said ends)) ⊎ ((status ≡ 4) × AppendsFront start now (said read.steps ++ said ends)) → (status ≡ 15 → HasStopped ends) → status ≢ 5
+          → (status ≢ 8 → end ≡ last) → IsSafely safe last end
           → HasEnded stored safe first left start status end now
-      cut_off ends last end now k low run asked written stops same safely =
+      cut_off ends last end now k low run asked written stops five same safely =
           let l = left_over (stored mid.store).events k low in
           record {
             kind = inr fails;
@@ -190,26 +213,38 @@ module _ {T : Type 0} (stored : T → Stored) (safe : T → T → Type 0) (mid :
             closed = λ d. absurd (not_done status fails d);
             written = written;
             stopped = λ e. inr (stops e);
+            too_long = λ e. absurd (five e);
             same = same;
             safely = safely;
           }
 
-    pub stopped_at : (k : ℕ) (s t : Shell T) (now later : Option (List ℕ)) (status : ℕ) → k < SESSIONS → EndsSoFar stored safe mid k s before now → EndsAtEnd stored safe (record { 0 = suc k }) status s t now later → HasEnded stored safe first left start status t later
+    pub stopped_at : (k : ℕ) (s t : Shell T) (now later : Option (List ℕ)) (status : ℕ) → k < SESSIONS → EndsSoFar stored safe mid k s before now
+        → EndsAtEnd stored safe (record { 0 = suc k }) status s t now later → HasEnded stored safe first left start status t later
     stopped_at k s t now later status low r e = go e.stops
       where
-        go : StopsAt 1 (state_of stored s) (line.Ask (record { 0 = suc k }) request.End) status (state_of stored t) now later ⊎ ((status ≡ 15) × Answers 1 (state_of stored s) (line.Ask (record { 0 = suc k }) request.End) Stopped (state_of stored t) now later)
+        go : StopsAt 1 (state_of stored s) (line.Ask (record { 0 = suc k }) request.End) status (state_of stored t) now later
+            ⊎ ((status ≡ 15) × Answers 1 (state_of stored s) (line.Ask (record { 0 = suc k }) request.End) Stopped (state_of stored t) now later)
             → HasEnded stored safe first left start status t later
         go (inl (inl (four, a))) =
-            cut_off status (inr (inl four)) (end_step k s t now later r a.text a.after ∷ r.ends) t t later (suc k) (omega (arith, low)) (more_ends k s t now later r a.text a.after e.holds a.answered e.safely)
-            (more_asked k s t now later r a.text a.after e.holds) (inr (four, front later (end_step k s t now later r a.text a.after ∷ r.ends) (appends_front before now later (said r.ends) a.text r.written a.written))) (λ p. absurd (omega (arith, four, p)))
-            (λ _. refl) (unmoved safe t)
+            cut_off status (inr (inl four)) (end_step k s t now later r a.text a.after ∷ r.ends) t t later (suc k) (omega (arith, low))
+            (more_ends k s t now later r a.text a.after e.holds a.answered e.safely)
+            (more_asked k s t now later r a.text a.after e.holds)
+            (inr (four, front later (end_step k s t now later r a.text a.after ∷ r.ends) (appends_front before now later (said r.ends) a.text r.written a.written)))
+            (λ p. absurd (omega (arith, four, p)))
+            (λ p. omega (arith, four, p)) (λ _. refl) (unmoved safe t)
         go (inl (inr (eight, kept))) =
-            cut_off status (inl (inr (inr eight))) r.ends s t later k (omega (arith, low)) r.run r.asked (inl ((λ p. absurd (omega (arith, eight, p))), whole later r.ends (Appends-kept before now later (said r.ends) r.written kept)))
-            (λ p. absurd (omega (arith, eight, p))) (λ p. absurd (p eight)) e.safely
+            cut_off status (inl (inr (inr eight))) r.ends s t later k (omega (arith, low)) r.run r.asked
+            (inl ((λ p. absurd (omega (arith, eight, p))), whole later r.ends (Appends-kept before now later (said r.ends) r.written kept)))
+            (λ p. absurd (omega (arith, eight, p))) (λ p. omega (arith, eight, p)) (λ p. absurd (p eight)) e.safely
         go (inr (fifteen, a)) =
-            cut_off status (inr (inr fifteen)) (end_step k s t now later r a.text Stopped ∷ r.ends) t t later (suc k) (omega (arith, low)) (more_ends k s t now later r a.text Stopped e.holds a.answered e.safely)
+            cut_off status (inr (inr fifteen)) (end_step k s t now later r a.text Stopped ∷ r.ends) t t later (suc k) (omega (arith, low))
+            (more_ends k s t now later r a.text Stopped e.holds a.answered e.safely)
             (more_asked k s t now later r a.text Stopped e.holds)
-            (inl ((λ p. absurd (omega (arith, fifteen, p))), whole later (end_step k s t now later r a.text Stopped ∷ r.ends) (Appends-trans before now later (said r.ends) a.text r.written a.written))) (λ _. refl) (λ _. refl) (unmoved safe t)
+            (inl (
+              (λ p. absurd (omega (arith, fifteen, p))),
+              whole later (end_step k s t now later r a.text Stopped ∷ r.ends) (Appends-trans before now later (said r.ends) a.text r.written a.written),
+            )) (λ _. refl)
+            (λ p. omega (arith, fifteen, p)) (λ _. refl) (unmoved safe t)
 
     -- all sessions were ended
     pub all_ended : (s : Shell T) (now : Option (List ℕ)) → so_far ≢ 4 → so_far ≢ 15 → EndsSoFar stored safe mid SESSIONS s before now → HasEnded stored safe first left start so_far s now
@@ -229,26 +264,31 @@ module _ {T : Type 0} (stored : T → Stored) (safe : T → T → Type 0) (mid :
       closed = λ _. (refl, no_number (is_holder (stored s.store).events) SESSIONS (λ n a b. ap (λ (o : Option ℕ). is_some o) (r.none n a b)));
       written = inl (four, whole now r.ends r.written);
       stopped = λ p. absurd (fifteen p);
+      too_long = λ p. absurd (done_not_five so_far (subst IsDone (sym read.status) (done_status (list_any (λ (step : Step). is_bad step.after) read.steps))) p);
       same = λ _. refl;
       safely = unmoved safe s;
     }
 
 -- the same, by the number of the session
 module _ {T : Type 0} (stored : T → Stored) (safe : T → T → Type 0) (mid : Shell T) (before : Option (List ℕ)) where
-  pub passing : (number k : ℕ) (s t : Shell T) (now later : Option (List ℕ)) → number ≡ k + 1 → EndsSoFar stored safe mid k s before now → EndsIfHeld stored safe (record { 0 = number }) s t now later → IsReleased number (stored s.store).events (stored t.store).events
+  pub passing : (number k : ℕ) (s t : Shell T) (now later : Option (List ℕ)) → number ≡ k + 1 → EndsSoFar stored safe mid k s before now → EndsIfHeld stored safe (record { 0 = number }) s t now later
+      → IsReleased number (stored s.store).events (stored t.store).events
       → EndsSoFar stored safe mid (suc k) t before later
   passing number k s t now later e r ends rel =
       let is : number ≡ suc k = omega (arith, e) in
-      passed stored safe mid before k s t now later r (subst (λ (n : ℕ). EndsIfHeld stored safe (record { 0 = n }) s t now later) is ends) (subst (λ (n : ℕ). IsReleased n (stored s.store).events (stored t.store).events) is rel)
+      passed stored safe mid before k s t now later r (subst (λ (n : ℕ). EndsIfHeld stored safe (record { 0 = n }) s t now later) is ends)
+      (subst (λ (n : ℕ). IsReleased n (stored s.store).events (stored t.store).events) is rel)
 
-  pub ending : (first : Shell T) (left start : Option (List ℕ)) (so_far : ℕ) → HasRead stored safe first left start so_far mid before → (number k : ℕ) (s t : Shell T) (now later : Option (List ℕ)) (status : ℕ) → number ≡ k + 1 → k < SESSIONS
+  pub ending : (first : Shell T) (left start : Option (List ℕ)) (so_far : ℕ) → HasRead stored safe first left start so_far mid before → (number k : ℕ) (s t : Shell T) (now later : Option (List ℕ))
+      (status : ℕ) → number ≡ k + 1 → k < SESSIONS
       → EndsSoFar stored safe mid k s before now → EndsAtEnd stored safe (record { 0 = number }) status s t now later → HasEnded stored safe first left start status t later
   ending first left start so_far read number k s t now later status e low r ends =
       let is : number ≡ suc k = omega (arith, e) in
       stopped_at stored safe mid before first left start so_far read k s t now later status low r (subst (λ (n : ℕ). EndsAtEnd stored safe (record { 0 = n }) status s t now later) is ends)
 
 -- what holds of an answer that was written
-pub same_result : {E : Type 0} (W P : Type 0) (answered : Result After E) (r : Result After ℕ) → IfOk r (λ (a : After). (answered ≡ Ok a) × W) → IfOk answered (λ (a : After). P) → IfOk r (λ (a : After). P)
+pub same_result : {E : Type 0} (W P : Type 0) (answered : Result After E) (r : Result After ℕ) → IfOk r (λ (a : After). (answered ≡ Ok a) × W) → IfOk answered (λ (a : After). P)
+    → IfOk r (λ (a : After). P)
 same_result W P (Ok b) (Ok a) w h = h
 same_result W P (Err e) (Ok a) w h = absurd (let q = w.0 in cc)
 same_result W P answered (Err e) w h = tt
@@ -256,19 +296,35 @@ same_result W P answered (Err e) w h = tt
 -- a session that is ended, or whose answer is the last
 module _ {T : Type 0} (stored : T → Stored) (safe : T → T → Type 0) (session : Session) (s t : Shell T) (now later : Option (List ℕ)) where
   pub ends_or_stops : (a : Result After ℕ) (d : Result (Unit {0}) ℕ) → IsTrue (is_some (held (stored s.store).events session.0))
-      → MatchResult a (λ (after : After). Answers 1 (state_of stored s) (line.Ask session request.End) after (state_of stored t) now later) (λ (status : ℕ). StopsAt 1 (state_of stored s) (line.Ask session request.End) status (state_of stored t) now later)
+      → MatchResult a (λ (after : After). Answers 1 (state_of stored s) (line.Ask session request.End) after (state_of stored t) now later)
+      (λ (status : ℕ). StopsAt 1 (state_of stored s) (line.Ask session request.End) status (state_of stored t) now later)
       → IsSafely safe s t → MatchResult d (λ (u : Unit {0}). (b : After) × (a ≡ Ok b) × (b ≡ Stopped → ⊥)) (λ (status : ℕ). (a ≡ Err status) ⊎ ((a ≡ Ok Stopped) × (status ≡ 15)))
       → MatchResult d (λ (u : Unit {0}). EndsIfHeld stored safe session s t now later) (λ (status : ℕ). EndsAtEnd stored safe session status s t now later)
   ends_or_stops a (Ok u) holds m between g =
-      let n = MatchResult-at_ok (λ (after : After). Answers 1 (state_of stored s) (line.Ask session request.End) after (state_of stored t) now later) (λ (status : ℕ). StopsAt 1 (state_of stored s) (line.Ask session request.End) status (state_of stored t) now later) g.0 g.1 m in
+      let n = MatchResult-at_ok (λ (after : After). Answers 1 (state_of stored s) (line.Ask session request.End) after (state_of stored t) now later)
+      (λ (status : ℕ). StopsAt 1 (state_of stored s) (line.Ask session request.End) status (state_of stored t) now later) g.0 g.1 m in
       inl (record { after = g.0; goes_on = end_goes_on (state_of stored s) (state_of stored t) session g.0 now later n g.2; holds = holds; answers = n; safely = between })
   ends_or_stops a (Err status) holds m between (inl g) =
-      record { holds = holds; stops = inl (MatchResult-at_err (λ (after : After). Answers 1 (state_of stored s) (line.Ask session request.End) after (state_of stored t) now later) (λ (status : ℕ). StopsAt 1 (state_of stored s) (line.Ask session request.End) status (state_of stored t) now later) status g m); safely = between }
+      record {
+        holds = holds;
+        stops = inl (MatchResult-at_err (λ (after : After). Answers 1 (state_of stored s) (line.Ask session request.End) after (state_of stored t) now later)
+            (λ (status : ℕ). StopsAt 1 (state_of stored s) (line.Ask session request.End) status (state_of stored t) now later) status g m);
+        safely = between;
+      }
   ends_or_stops a (Err status) holds m between (inr g) =
-      record { holds = holds; stops = inr (g.1, MatchResult-at_ok (λ (after : After). Answers 1 (state_of stored s) (line.Ask session request.End) after (state_of stored t) now later) (λ (status : ℕ). StopsAt 1 (state_of stored s) (line.Ask session request.End) status (state_of stored t) now later) Stopped g.0 m); safely = between }
+      record {
+        holds = holds;
+        stops = inr (
+          g.1,
+          MatchResult-at_ok (λ (after : After). Answers 1 (state_of stored s) (line.Ask session request.End) after (state_of stored t) now later)
+              (λ (status : ℕ). StopsAt 1 (state_of stored s) (line.Ask session request.End) status (state_of stored t) now later) Stopped g.0 m,
+        );
+        safely = between;
+      }
 
 -- what holds of each answer holds of one that goes on
-pub on_result : (P : Type 0) (a : Result After ℕ) (d : Result (Unit {0}) ℕ) → MatchResult d (λ (u : Unit {0}). (b : After) × (a ≡ Ok b) × (b ≡ Stopped → ⊥)) (λ (status : ℕ). (a ≡ Err status) ⊎ ((a ≡ Ok Stopped) × (status ≡ 15)))
+pub on_result : (P : Type 0) (a : Result After ℕ) (d : Result (Unit {0}) ℕ) → MatchResult d (λ (u : Unit {0}). (b : After) × (a ≡ Ok b) × (b ≡ Stopped → ⊥))
+    (λ (status : ℕ). (a ≡ Err status) ⊎ ((a ≡ Ok Stopped) × (status ≡ 15)))
     → IfOk a (λ (after : After). P) → IfOk d (λ (u : Unit {0}). P)
 on_result P (Ok b) (Ok u) g h = h
 on_result P (Err e) (Ok u) g h = absurd (let q = g.1 in cc)

@@ -1,13 +1,13 @@
 -- A run goes on by a step, or ends.
 use Rattle.std.proofs.Common.{◌≡◌, ◌≢◌, ℕ, ◌+◌, ◌^◌, ◌≤◌, List, [], ◌∷◌, ◌++◌, length, take, Option, Some, None, Result, Ok, Err, IsTrue, is_some, inl, inr, refl, sym, ap, ◌∙◌, subst, arith, length-append}
-use Rattle.std.specs.Prelude.{◌⊎◌, Bool, true, false, if◌then◌else◌, nat_le, IfErr, IfOk, IsErr, IsOk, MatchResult}
+use Rattle.std.specs.Prelude.{◌⊎◌, Bool, true, false, if◌then◌else◌, nat_le, IfErr, IfOk, IfSome, IsErr, IsOk, MatchResult}
 use Rattle.std.proofs.lemmas.Result.{MatchResult-at_err, MatchResult-at_ok}
 use Rattle.std.specs.Io.KnownBytes.{Appends, Consumes, IsAtEnd, Keeps}
 use Rattle.std.proofs.KnownBytes.{Appends-kept, Appends-nil, Appends-trans, Consumes-nil, prepend_known-nil}
 use Rattle.std.proofs.Math.Seq.{take-append-add}
 use Rattle.std.proofs.lemmas.List.{append-nil}
 use Rattle.teb_io.specs.Bytes.{AppendsFront}
-use Rattle.line_reader.specs.Lines.{ahead}
+use Rattle.line_reader.specs.Lines.{IsTooLong, ahead}
 use Rattle.teb_names.specs.declared.Request.TheVariants as request
 use Rattle.teb_names.specs.declared.Txn.{Txn}
 use Rattle.teb_names.specs.declared.naming.NameBook.{NameBook}
@@ -58,7 +58,8 @@ ends_answered n s t session items text (Ok a) e h = subst (λ (x : List ℕ). Is
 ends_answered n s t session items text (Err x) e h = tt
 
 -- the same text by another name
-pub answered_by : {E : Type 0} (n : ℕ) (s t : State) (l : ShellLine) (items text : List ℕ) (answered : Result After E) → text ≡ items → IfOk answered (λ (after : After). IsAnswered n s l items after t)
+pub answered_by : {E : Type 0} (n : ℕ) (s t : State) (l : ShellLine) (items text : List ℕ) (answered : Result After E) → text ≡ items
+    → IfOk answered (λ (after : After). IsAnswered n s l items after t)
     → IfOk answered (λ (after : After). IsAnswered n s l text after t)
 answered_by n s t l items text answered e h = subst (λ (x : List ℕ). IfOk answered (λ (after : After). IsAnswered n s l x after t)) (sym e) h
 
@@ -118,11 +119,16 @@ not_done status fails (inl p) = failure_not status 0 fails (omega arith) (omega 
 not_done status fails (inr p) = failure_not status 7 fails (omega arith) (omega arith) (omega arith) (omega arith) (omega arith) p
 
 -- an answer that is written, whole or in part, or not for want of memory
-pub writes : {E : Type 0} (n : ℕ) (s t : State) (asks : ShellLine) (text : List ℕ) (answered : Result After E) (r : Result After ℕ) (now later : Option (List ℕ)) → IfOk answered (λ (after : After). IsAnswered n s asks text after t)
+pub writes : {E : Type 0} (n : ℕ) (s t : State) (asks : ShellLine) (text : List ℕ) (answered : Result After E) (r : Result After ℕ) (now later : Option (List ℕ))
+    → IfOk answered (λ (after : After). IsAnswered n s asks text after t)
     → IfOk r (λ (a : After). (answered ≡ Ok a) × Appends now later text)
     → IfErr r (λ (status : ℕ). ((status ≡ 8) × IsErr answered × Keeps now later) ⊎ ((status ≡ 4) × IsOk answered × AppendsFront now later text))
     → MatchResult r (λ (after : After). Answers n s asks after t now later) (λ (status : ℕ). StopsAt n s asks status t now later)
-writes n s t asks text answered (Ok a) now later h w e = record { text = text; answered = MatchResult-at_ok (λ (after : After). IsAnswered n s asks text after t) (λ _. Unit {0}) a w.0 h; written = w.1 }
+writes n s t asks text answered (Ok a) now later h w e = record {
+  text = text;
+  answered = MatchResult-at_ok (λ (after : After). IsAnswered n s asks text after t) (λ _. Unit {0}) a w.0 h;
+  written = w.1;
+}
 writes n s t asks text answered (Err status) now later h w (inl p) = inr (p.0, p.2)
 writes n s t asks text (Ok a) (Err status) now later h w (inr p) = inl (p.0, record { text = text; after = a; answered = h; written = p.2 })
 writes n s t asks text (Err e) (Err status) now later h w (inr p) = absurd (not_ok e p.1)
@@ -134,9 +140,10 @@ writes n s t asks text (Err e) (Err status) now later h w (inr p) = absurd (not_
 module _ {T : Type 0} (stored : T → Stored) (safe : T → T → Type 0) (first : Shell T) (left before : Option (List ℕ)) where
   -- a run that ends amid its lines
   pub amid : (lines : List Step) (mid end : Shell T) (rest now : Option (List ℕ)) (status : ℕ) → IsRun stored safe first lines mid → IsTaken left rest lines → IsFailure status
-      → ((status ≢ 4) × Appends before now (said lines)) ⊎ ((status ≡ 4) × AppendsFront before now (said lines)) → (status ≡ 15 → HasStopped lines) → (status ≢ 8 → end ≡ mid) → IsSafely safe mid end
+      → ((status ≢ 4) × Appends before now (said lines)) ⊎ ((status ≡ 4) × AppendsFront before now (said lines)) → (status ≡ 15 → HasStopped lines) → (status ≡ 5 → IfSome rest IsTooLong)
+      → (status ≢ 8 → end ≡ mid) → IsSafely safe mid end
       → HasEnded stored safe first left before status end now
-  amid lines mid end rest now status run taken fails written stops same safely = record {
+  amid lines mid end rest now status run taken fails written stops long same safely = record {
     kind = inr fails;
     lines = lines;
     mid = mid;
@@ -155,17 +162,21 @@ module _ {T : Type 0} (stored : T → Stored) (safe : T → T → Type 0) (first
       | inr w ↦ inr (w.0, subst (AppendsFront before now) (sym (append-nil (said lines))) w.1)
     ];
     stopped = λ e. inl (stops e);
+    too_long = long;
     same = same;
     safely = safely;
   }
 
   -- a run that ends before its next line
-  pub ended_before : (n so_far : ℕ) (s : Shell T) (rest now : Option (List ℕ)) (status : ℕ) → HasRun stored safe first left before n so_far s rest now → IsUnread status → HasEnded stored safe first left before status s now
-  ended_before n so_far s rest now status r why =
-      amid r.steps s s rest now status r.run r.taken (inl why) (inl (not_of status 4 why (omega arith) (omega arith) (omega arith), r.written)) (λ e. absurd (not_of status 15 why (omega arith) (omega arith) (omega arith) e)) (λ _. refl) (unmoved safe s)
+  pub ended_before : (n so_far : ℕ) (s : Shell T) (rest now : Option (List ℕ)) (status : ℕ) → HasRun stored safe first left before n so_far s rest now → IsUnread status
+      → (status ≡ 5 → IfSome rest IsTooLong) → HasEnded stored safe first left before status s now
+  ended_before n so_far s rest now status r why long =
+      amid r.steps s s rest now status r.run r.taken (inl why) (inl (not_of status 4 why (omega arith) (omega arith) (omega arith), r.written))
+      (λ e. absurd (not_of status 15 why (omega arith) (omega arith) (omega arith) e)) long (λ _. refl) (unmoved safe s)
 
   -- a run at the end of its input
-  pub read_out : (n so_far : ℕ) (s : Shell T) (rest now : Option (List ℕ)) (r : HasRun stored safe first left before n so_far s rest now) → IsAtEnd rest ⊎ (2 ^ 64 ≤ n + 2) → HasRead stored safe first left before so_far s now
+  pub read_out : (n so_far : ℕ) (s : Shell T) (rest now : Option (List ℕ)) (r : HasRun stored safe first left before n so_far s rest now) → IsAtEnd rest ⊎ (2 ^ 64 ≤ n + 2)
+      → HasRead stored safe first left before so_far s now
   read_out n so_far s rest now r end = record {
     steps = r.steps;
     rest = rest;
@@ -177,12 +188,23 @@ module _ {T : Type 0} (stored : T → Stored) (safe : T → T → Type 0) (first
   }
 
   -- the next line is taken
-  module _ (n so_far : ℕ) (s t : Shell T) (mid rest now later : Option (List ℕ)) (asks : ShellLine) (r : HasRun stored safe first left before n so_far s mid now) (next : AsksNext (stored s.store).names s.format asks mid rest) (between : IsSafely safe s t) where
+  module _ (n so_far : ℕ) (s t : Shell T) (mid rest now later : Option (List ℕ)) (asks : ShellLine) (r : HasRun stored safe first left before n so_far s mid now)
+      (next : AsksNext (stored s.store).names s.format asks mid rest) (between : IsSafely safe s t) where
     abbrev one_more : List ℕ → After → Step
     one_more text after = record { line = Some next.line; asks = asks; file = next.file; text = text; after = after }
 
     more_run : (text : List ℕ) (after : After) → IsAnswered (n + 1) (state_of stored s) asks text after (state_of stored t) → IsRun stored safe first (one_more text after ∷ r.steps) t
-    more_run text after answered = (s, r.run, r.going, record { asks = next.is; brings = next.brings; answered = subst (λ (k : ℕ). IsAnswered (k + 1) (state_of stored s) asks text after (state_of stored t)) r.count answered; safely = between })
+    more_run text after answered = (
+      s,
+      r.run,
+      r.going,
+      record {
+        asks = next.is;
+        brings = next.brings;
+        answered = subst (λ (k : ℕ). IsAnswered (k + 1) (state_of stored s) asks text after (state_of stored t)) r.count answered;
+        safely = between;
+      },
+    )
 
     more_taken : (text : List ℕ) (after : After) → IsTaken left rest (one_more text after ∷ r.steps)
     more_taken text after = (mid, r.taken, next.takes)
@@ -219,17 +241,18 @@ module _ {T : Type 0} (stored : T → Stored) (safe : T → T → Type 0) (first
     -- the disk failed at it
     pub failed : (status : ℕ) → status ≡ 15 → Answers (n + 1) (state_of stored s) asks Stopped (state_of stored t) now later → HasEnded stored safe first left before status t later
     failed status e a =
-        amid (one_more a.text Stopped ∷ r.steps) t t rest later status (more_run a.text Stopped a.answered) (more_taken a.text Stopped) (inr (inr e)) (inl ((λ p. absurd (omega (arith, e, p))), more_written Stopped a))
-        (λ _. refl) (λ _. refl) (unmoved safe t)
+        amid (one_more a.text Stopped ∷ r.steps) t t rest later status (more_run a.text Stopped a.answered) (more_taken a.text Stopped) (inr (inr e))
+        (inl ((λ p. absurd (omega (arith, e, p))), more_written Stopped a))
+        (λ _. refl) (λ p. absurd (omega (arith, e, p))) (λ _. refl) (unmoved safe t)
 
     -- its text is not written whole, or memory ran out
     pub broken_off : (status : ℕ) → StopsAt (n + 1) (state_of stored s) asks status (state_of stored t) now later → HasEnded stored safe first left before status t later
     broken_off status (inl (e, a)) =
         amid (one_more a.text a.after ∷ r.steps) t t rest later status (more_run a.text a.after a.answered) (more_taken a.text a.after) (inr (inl e))
-        (inr (e, appends_front before now later (said r.steps) a.text r.written a.written)) (λ p. absurd (omega (arith, e, p))) (λ _. refl) (unmoved safe t)
+        (inr (e, appends_front before now later (said r.steps) a.text r.written a.written)) (λ p. absurd (omega (arith, e, p))) (λ p. absurd (omega (arith, e, p))) (λ _. refl) (unmoved safe t)
     broken_off status (inr (e, kept)) =
         amid r.steps s t mid later status r.run r.taken (inl (inr (inr e))) (inl ((λ p. absurd (omega (arith, e, p))), Appends-kept before now later (said r.steps) r.written kept))
-        (λ p. absurd (omega (arith, e, p))) (λ p. absurd (p e)) between
+        (λ p. absurd (omega (arith, e, p))) (λ p. absurd (omega (arith, e, p))) (λ p. absurd (p e)) between
 
     -- it was answered, and nothing is said yet of what follows
     flow_on : (flow : Flow) → Answers (n + 1) (state_of stored s) asks (after_of flow) (state_of stored t) now later → GoesOn stored safe first left before (n + 1) so_far flow t rest later
@@ -237,23 +260,34 @@ module _ {T : Type 0} (stored : T → Stored) (safe : T → T → Type 0) (first
     flow_on flow.Bad a = on Bad a 7 tt refl
     flow_on flow.End a = last_one Quit a r.status (quits (n + 1) (state_of stored s) asks a.text (state_of stored t) a.answered)
 
-    pub flowed_on : (a : Result After ℕ) (f : Result Flow ℕ) → MatchResult a (λ (after : After). Answers (n + 1) (state_of stored s) asks after (state_of stored t) now later) (λ (status : ℕ). StopsAt (n + 1) (state_of stored s) asks status (state_of stored t) now later)
+    pub flowed_on : (a : Result After ℕ) (f : Result Flow ℕ) → MatchResult a (λ (after : After). Answers (n + 1) (state_of stored s) asks after (state_of stored t) now later)
+        (λ (status : ℕ). StopsAt (n + 1) (state_of stored s) asks status (state_of stored t) now later)
         → MatchResult f (λ (flow : Flow). a ≡ Ok (after_of flow)) (λ (status : ℕ). (a ≡ Err status) ⊎ ((a ≡ Ok Stopped) × (status ≡ 15)))
         → MatchResult f (λ (flow : Flow). GoesOn stored safe first left before (n + 1) so_far flow t rest later) (λ (status : ℕ). HasEnded stored safe first left before status t later)
-    flowed_on a (Ok flow) m g = flow_on flow (MatchResult-at_ok (λ (after : After). Answers (n + 1) (state_of stored s) asks after (state_of stored t) now later) (λ (status : ℕ). StopsAt (n + 1) (state_of stored s) asks status (state_of stored t) now later) (after_of flow) g m)
-    flowed_on a (Err status) m (inl g) = broken_off status (MatchResult-at_err (λ (after : After). Answers (n + 1) (state_of stored s) asks after (state_of stored t) now later) (λ (status : ℕ). StopsAt (n + 1) (state_of stored s) asks status (state_of stored t) now later) status g m)
-    flowed_on a (Err status) m (inr g) = failed status g.1 (MatchResult-at_ok (λ (after : After). Answers (n + 1) (state_of stored s) asks after (state_of stored t) now later) (λ (status : ℕ). StopsAt (n + 1) (state_of stored s) asks status (state_of stored t) now later) Stopped g.0 m)
+    flowed_on a (Ok flow) m g = flow_on flow
+        (MatchResult-at_ok (λ (after : After). Answers (n + 1) (state_of stored s) asks after (state_of stored t) now later)
+        (λ (status : ℕ). StopsAt (n + 1) (state_of stored s) asks status (state_of stored t) now later) (after_of flow) g m)
+    flowed_on a (Err status) m (inl g) = broken_off status
+        (MatchResult-at_err (λ (after : After). Answers (n + 1) (state_of stored s) asks after (state_of stored t) now later)
+        (λ (status : ℕ). StopsAt (n + 1) (state_of stored s) asks status (state_of stored t) now later) status g m)
+    flowed_on a (Err status) m (inr g) = failed status g.1
+        (MatchResult-at_ok (λ (after : After). Answers (n + 1) (state_of stored s) asks after (state_of stored t) now later)
+        (λ (status : ℕ). StopsAt (n + 1) (state_of stored s) asks status (state_of stored t) now later) Stopped g.0 m)
 
   -- a line was read, answered and written: the run goes on, or ends
-  pub flowed : (number n so_far : ℕ) (s t : Shell T) (names : NameBook) (asks : ShellLine) (mid rest now later : Option (List ℕ)) (a : Result After ℕ) (f : Result Flow ℕ) → number ≡ n + 1 → HasRun stored safe first left before n so_far s mid now
+  pub flowed : (number n so_far : ℕ) (s t : Shell T) (names : NameBook) (asks : ShellLine) (mid rest now later : Option (List ℕ)) (a : Result After ℕ) (f : Result Flow ℕ) → number ≡ n + 1
+      → HasRun stored safe first left before n so_far s mid now
       → names ≡ (stored s.store).names → AsksNext names s.format asks mid rest
-      → MatchResult a (λ (after : After). Answers number (state_of stored s) asks after (state_of stored t) now later) (λ (status : ℕ). StopsAt number (state_of stored s) asks status (state_of stored t) now later)
+      → MatchResult a (λ (after : After). Answers number (state_of stored s) asks after (state_of stored t) now later)
+      (λ (status : ℕ). StopsAt number (state_of stored s) asks status (state_of stored t) now later)
       → IsSafely safe s t → MatchResult f (λ (flow : Flow). a ≡ Ok (after_of flow)) (λ (status : ℕ). (a ≡ Err status) ⊎ ((a ≡ Ok Stopped) × (status ≡ 15)))
       → MatchResult f (λ (flow : Flow). GoesOn stored safe first left before number so_far flow t rest later) (λ (status : ℕ). HasEnded stored safe first left before status t later)
   flowed number n so_far s t names asks mid rest now later a f e r called next m between g =
-      subst (λ (k : ℕ). MatchResult f (λ (flow : Flow). GoesOn stored safe first left before k so_far flow t rest later) (λ (status : ℕ). HasEnded stored safe first left before status t later)) (sym e)
+      subst (λ (k : ℕ). MatchResult f (λ (flow : Flow). GoesOn stored safe first left before k so_far flow t rest later) (λ (status : ℕ). HasEnded stored safe first left before status t later))
+      (sym e)
       (flowed_on n so_far s t mid rest now later asks r (subst (λ (b : NameBook). AsksNext b s.format asks mid rest) called next) between a f
-      (subst (λ (k : ℕ). MatchResult a (λ (after : After). Answers k (state_of stored s) asks after (state_of stored t) now later) (λ (status : ℕ). StopsAt k (state_of stored s) asks status (state_of stored t) now later)) e m) g)
+      (subst (λ (k : ℕ). MatchResult a (λ (after : After). Answers k (state_of stored s) asks after (state_of stored t) now later)
+      (λ (status : ℕ). StopsAt k (state_of stored s) asks status (state_of stored t) now later)) e m) g)
 
 -- a session holds a transaction
 pub held_some : (H K : List Event) (s : Session) (t : Txn) → K ≡ H → Some t ≡ held_txn K s → IsTrue (is_some (held H s.0))

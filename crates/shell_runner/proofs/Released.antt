@@ -40,7 +40,8 @@ same_holder S H s t v l a b =
     holds_one S H t v l (held_began S H s t l a) (held_began S H s v l b) p.1 q.1 (eqb-true _ _ p.0 ∙ sym (eqb-true _ _ q.0))
 
 -- s held t, and nobody holds t any more; all else is held as before
-module _ (S : Setup) (H K : List Event) (s t : ℕ) (l : Lawful S H) (h : held H s ≡ Some t) (count : begun_count K ≡ begun_count H) (gone : (n : ℕ) → Holds K n t ≡ false) (kept : (n v : ℕ) → t ≢ v → Holds K n v ≡ Holds H n v) where
+module _ (S : Setup) (H K : List Event) (s t : ℕ) (l : Lawful S H) (h : held H s ≡ Some t) (count : begun_count K ≡ begun_count H) (gone : (n : ℕ) → Holds K n t ≡ false)
+    (kept : (n v : ℕ) → t ≢ v → Holds K n v ≡ Holds H n v) where
   is_held : Holds H s t ≡ true
   is_held = held_holds H s t h
 
@@ -84,7 +85,8 @@ unfolding answer answer_of
 ended X H s t l h = rw (holder_range X.setup H s.0 t l h, h) refl
 
 -- a session that holds a transaction holds none after its end, and all others hold what they held
-pub released : (X : Store) (H : List Event) (s : Session) (t : ℕ) → IsSound X.setup → (asked : List (Session × Request)) → H ≡ reached X asked → held H s.0 ≡ Some t → IsReleased s.0 H (answer X H s request.End).1
+pub released : (X : Store) (H : List Event) (s : Session) (t : ℕ) → IsSound X.setup → (asked : List (Session × Request)) → H ≡ reached X asked → held H s.0 ≡ Some t
+    → IsReleased s.0 H (answer X H s request.End).1
 released X H s t sound asked leads h =
     let g = good X H sound asked leads in
     subst (λ (a : Answered). IsReleased s.0 H a.1) (sym (ended X H s t g.legal h)) (go (aborted H t) refl g)
@@ -97,4 +99,5 @@ released X H s t sound asked leads h =
     go false e g =
         let u : unfinished H t ≡ true = elim (holds_cases H s.0 t holds) [ inl u ↦ u | inr w ↦ absurd (both_ways _ e (untold_gone H t w)) ] in
         let a = tree_facts X.setup sound in
-        released_by X.setup H (abort H t Ended) s.0 t g.legal h (count_abort H t Ended) (λ n. holds_abort_self X.setup a H t Ended g u refl n) (λ n v ne. holds_abort_other X.setup a H t Ended g u n v ne)
+        released_by X.setup H (abort H t Ended) s.0 t g.legal h (count_abort H t Ended) (λ n. holds_abort_self X.setup a H t Ended g u refl n)
+        (λ n v ne. holds_abort_other X.setup a H t Ended g u n v ne)

@@ -41,7 +41,8 @@ replied_of_tree tree s session request a t of h = of_tree_along tree s t (same_t
 pub node_names : (tree : List ℕ) (s : Stored) → IsOfTree tree s → HasNodeNames s
 node_names tree s of = ap (λ (S : Setup). length S.tree) of.setup ∙ of.nodes ∙ sym (ap (λ (n : NameBook). length n.nodes) of.names)
 
-pub told : (s t : State) (session : Session) (request : Request) (a : StoreReply) → IsReplied s.stored session request a t.stored → t.epoch ≡ s.epoch → t.format ≡ s.format → t.waits ≡ noted s.waits session a → IsTold s session request a t
+pub told : (s t : State) (session : Session) (request : Request) (a : StoreReply) → IsReplied s.stored session request a t.stored → t.epoch ≡ s.epoch → t.format ≡ s.format
+    → t.waits ≡ noted s.waits session a → IsTold s session request a t
 told s t session request (Reply r) h e f w = (h, e, f, w)
 told s t session request Later h e f w = absurd h
 told s t session request Full h e f w = (h, e, f, w)
@@ -49,7 +50,8 @@ told s t session request Unsure h e f w = (h, e, f, w)
 
 -- the next epoch has begun under the same tree
 module _ (tree : List ℕ) (s t : Stored) (m : SetupView) (of : IsOfTree tree s) (same : of.view ≡ m) (n : IsNext m s t) where
-  pub turned : (e f : ℕ) (format : ℕ) (waits : Waits) → IsDrained s.events → f ≡ next_number e → HasTurned (record { stored = s; epoch = e; format = format; waits = waits }) (record { stored = t; epoch = f; format = format; waits = waits })
+  pub turned : (e f : ℕ) (format : ℕ) (waits : Waits) → IsDrained s.events → f ≡ next_number e → HasTurned (record { stored = s; epoch = e; format = format; waits = waits })
+      (record { stored = t; epoch = f; format = format; waits = waits })
   turned e f format waits drained next = record {
     setup = n.setup ∙ ap (λ (v : SetupView). (store_of_view v).setup) (sym same) ∙ sym of.setup;
     tables = n.tables ∙ ap (λ (v : SetupView). (store_of_view v).tables) (sym same) ∙ sym of.tables;

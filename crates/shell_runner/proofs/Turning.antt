@@ -28,16 +28,19 @@ hinders H turn.DiskFault h is = absurd is
 hinders H turn.OutOfMemory h is = absurd is
 
 module _ {E : Type 0} (s : State) (session : Session) (request : Request) (text : List ℕ) where
-  pub asked_now : (t : State) (r : Result After E) → (BeginsAtEnd s.stored session request → ⊥) → IfOk r (λ (a : After). ShowsReply s session request text a t) → IfOk r (λ (a : After). IsAsked s session request text a t)
+  pub asked_now : (t : State) (r : Result After E) → (BeginsAtEnd s.stored session request → ⊥) → IfOk r (λ (a : After). ShowsReply s session request text a t)
+      → IfOk r (λ (a : After). IsAsked s session request text a t)
   asked_now t (Ok a) goes h = inl (record { goes_on = goes; replied = h })
   asked_now t (Err e) goes h = tt
 
-  pub asked_after : (mid t : State) (r : Result After E) → BeginsAtEnd s.stored session request → IsDrained s.stored.events → HasTurned s mid ⊎ (mid ≡ s) → IfOk r (λ (a : After). ShowsReply mid session request text a t)
+  pub asked_after : (mid t : State) (r : Result After E) → BeginsAtEnd s.stored session request → IsDrained s.stored.events → HasTurned s mid ⊎ (mid ≡ s)
+      → IfOk r (λ (a : After). ShowsReply mid session request text a t)
       → IfOk r (λ (a : After). IsAsked s session request text a t)
   asked_after mid t (Ok a) begins drained turned h = inr (inr (inl (record { at_end = begins; drained = drained; mid = mid; turned = turned; replied = h })))
   asked_after mid t (Err e) begins drained turned h = tt
 
   pub told_later : (t : State) (names : NameBook) (r : Result After E) → BeginsAtEnd s.stored session request → IsHindered s.stored.events → t ≡ s → names ≡ s.stored.names
       → IfOk r (λ (a : After). (a ≡ Next) × (text ≡ reply_line names session Later)) → IfOk r (λ (a : After). IsAsked s session request text a t)
-  told_later t names (Ok a) begins hindered same called h = inr (inl (record { at_end = begins; hindered = hindered; same = same; shown = h.1 ∙ ap (λ (n : NameBook). reply_line n session Later) called; goes_on = h.0 }))
+  told_later t names (Ok a) begins hindered same called h = inr
+      (inl (record { at_end = begins; hindered = hindered; same = same; shown = h.1 ∙ ap (λ (n : NameBook). reply_line n session Later) called; goes_on = h.0 }))
   told_later t names (Err e) begins hindered same called h = tt

@@ -1,5 +1,5 @@
 -- A run: lines, each answered before the next one is read, and then the ends of the sessions that hold a transaction.
-use Rattle.std.specs.Prelude.{◌≡◌, ◌≢◌, ◌⊎◌, ℕ, ◌+◌, ◌^◌, ◌≤◌, Bool, true, false, if◌then◌else◌, List, [], ◌∷◌, ◌++◌, length, map, reverse, Option, Some, None, IsTrue, is_some}
+use Rattle.std.specs.Prelude.{◌≡◌, ◌≢◌, ◌⊎◌, ℕ, ◌+◌, ◌^◌, ◌≤◌, Bool, true, false, if◌then◌else◌, List, [], ◌∷◌, ◌++◌, length, map, reverse, Option, Some, None, IfSome, IsTrue, is_some}
 use Rattle.std.specs.List.{list_any}
 use Rattle.std.specs.Io.KnownBytes.{Appends, Consumes, IsAtEnd, Keeps, prepend_known}
 use Rattle.teb_io.specs.Bytes.{AppendsFront}
@@ -7,7 +7,8 @@ use Rattle.teb_names.specs.declared.Session.{Session}
 use Rattle.teb_names.specs.declared.naming.NameBook.{NameBook}
 use Rattle.teb_names.specs.declared.Request.TheVariants as request
 use Rattle.teb_history.specs.Phases.{held}
-use Rattle.line_reader.specs.Lines.{TakesLine}
+use Rattle.line_reader.specs.Lines.{IsTooLong, TakesLine}
+use Rattle.line_reader.specs.declared.TheConstants.{MOST_LINE_BYTES}
 use Rattle.shell_lines.specs.Lines.{shell_line}
 use Rattle.shell_lines.specs.declared.line.ShellLine.{ShellLine}
 use Rattle.shell_lines.specs.declared.line.ShellLine.TheVariants as line
@@ -18,7 +19,7 @@ use Rattle.shell_runner.specs.declared.shell.Shell.{Shell}
 use Rattle.shell_runner.specs.declared.running.Flow.{Flow}
 use Rattle.shell_runner.specs.declared.running.Flow.TheVariants as flow
 use Rattle.shell_runner.specs.declared.step.After.{After}
-use Rattle.shell_runner.specs.declared.step.After.TheVariants.{Next, Bad, Quit, Stopped}
+use Rattle.shell_runner.specs.declared.step.After.TheVariants.{Bad, Quit, Stopped}
 
 -- a line of the input, or none at the end of a session; what it asks; the text of a file that it brought in its place; the text that answers it; and what follows it
 pub record Step : Type 0 where
@@ -78,9 +79,10 @@ abbrev pub said : List Step → List ℕ
 said [] = []
 said (step ∷ older) = said older ++ step.text
 
--- a line is the next one of the known bytes, and the text of a file that it brings goes before the others
+-- a line is the next one of the known bytes, and not too long; the text of a file that it brings goes before the others
 pub record TakesStep (line file : List ℕ) (mid rest : Option (List ℕ)) : Type 0 where
   pub after : Option (List ℕ)
+  pub short : length line ≤ MOST_LINE_BYTES
   pub takes : TakesLine mid after line
   pub brought : rest ≡ prepend_known file after
 
@@ -149,14 +151,15 @@ abbrev pub AreEnds : Stored → List Step → List ℕ → Type 0
 AreEnds s steps more = map asked_by (reverse steps) ++ map end_of more ≡ map end_of (holders s.events)
 
 -- a run so far: its n steps have led to this shell, and their text is written
-pub record HasRun {T : Type 0} (stored : T → Stored) (safe : T → T → Type 0) (first : Shell T) (left before : Option (List ℕ)) (n so_far : ℕ) (last : Shell T) (rest now : Option (List ℕ)) : Type 0 where
-  pub steps : List Step
-  pub count : n ≡ length steps
-  pub status : so_far ≡ status_of steps
-  pub going : IsGoing steps
-  pub run : IsRun stored safe first steps last
-  pub taken : IsTaken left rest steps
-  pub written : Appends before now (said steps)
+pub record HasRun {T : Type 0} (stored : T → Stored) (safe : T → T → Type 0) (first : Shell T) (left before : Option (List ℕ)) (n so_far : ℕ) (last : Shell T) (rest now : Option (List ℕ)) : Type 0
+  where
+    pub steps : List Step
+    pub count : n ≡ length steps
+    pub status : so_far ≡ status_of steps
+    pub going : IsGoing steps
+    pub run : IsRun stored safe first steps last
+    pub taken : IsTaken left rest steps
+    pub written : Appends before now (said steps)
 
 -- a run whose last line was answered
 pub record HasRead {T : Type 0} (stored : T → Stored) (safe : T → T → Type 0) (first : Shell T) (left before : Option (List ℕ)) (so_far : ℕ) (last : Shell T) (now : Option (List ℕ)) : Type 0 where
@@ -174,8 +177,10 @@ GoesOn stored safe first left before number status flow.Next last ahead now = Ha
 GoesOn stored safe first left before number status flow.Bad last ahead now = HasRun stored safe first left before number 7 last ahead now
 GoesOn stored safe first left before number status flow.End last ahead now = HasRead stored safe first left before status last now
 
--- a run at its end: the steps of lines, and then those that end sessions. With status 0 or 7 no line is left, or the last one asked for the end; 7 if a line was bad; each session that held a transaction was ended, and none holds
--- one. The text of all steps is written, or a prefix of it and the status is 4; with 15 the disk failed at the last step; where memory ran out (8), the shell may have asked one line more, and a crash leaves what it may
+-- a run at its end: the steps of lines, and then those that end sessions. With status 0 or 7 no line is left, or the last one asked for the end; 7 if a line
+-- was bad; each session that held a transaction was ended, and none holds
+-- one. The text of all steps is written, or a prefix of it and the status is 4; with 15 the disk failed at the last step; where memory ran out (8), the shell
+-- may have asked one line more, and a crash leaves what it may. Status 5 has one cause: the next line is too long
 pub record HasEnded {T : Type 0} (stored : T → Stored) (safe : T → T → Type 0) (first : Shell T) (left before : Option (List ℕ)) (status : ℕ) (end : Shell T) (now : Option (List ℕ)) : Type 0 where
   pub kind : IsDone status ⊎ IsFailure status
   pub lines : List Step
@@ -192,6 +197,7 @@ pub record HasEnded {T : Type 0} (stored : T → Stored) (safe : T → T → Typ
   pub closed : IsDone status → (more ≡ []) × (holders (stored last.store).events ≡ [])
   pub written : ((status ≢ 4) × Appends before now (said lines ++ said ends)) ⊎ ((status ≡ 4) × AppendsFront before now (said lines ++ said ends))
   pub stopped : status ≡ 15 → HasStopped lines ⊎ HasStopped ends
+  pub too_long : status ≡ 5 → IfSome rest IsTooLong
   pub same : status ≢ 8 → end ≡ last
   pub safely : IsSafely safe last end
 

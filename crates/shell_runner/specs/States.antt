@@ -80,7 +80,8 @@ pub record HasAsked (s : Stored) (session : Session) (request : Request) (t : St
 
 -- what the store makes of a request: the rules answer it; it is a commit that does not fit, and nothing is asked; or it is a commit at which the disk failed
 abbrev pub IsReplied : Stored → Session → Request → StoreReply → Stored → Type 0
-IsReplied s session request (Reply r) t = (r ≡ (answer s.store s.events session request).0) × HasAsked s session request t × (r ≡ Committed → t.commits ≡ s.commits + 1) × (r ≢ Committed → t.commits ≡ s.commits)
+IsReplied s session request (Reply r) t = (r ≡ (answer s.store s.events session request).0) × HasAsked s session request t × (r ≡ Committed → t.commits ≡ s.commits + 1)
+    × (r ≢ Committed → t.commits ≡ s.commits)
 IsReplied s session request Later t = ⊥
 IsReplied s session request Full t = (t ≡ s) × LacksRoom s session request
 IsReplied s session request Unsure t = ((answer s.store s.events session request).0 ≡ Committed) × HasAsked s session request t × (t.commits ≡ s.commits)

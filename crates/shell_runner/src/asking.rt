@@ -1,11 +1,11 @@
 //! What the next line asks.
 
-ghost use Rattle.std.specs.Prelude.{◌≡◌, ◌≢◌, ◌↔◌, ◌<◌, ◌≤◌, ◌^◌, ◌++◌, IfErr, IfOk, List, MatchOption, OnOk, length, ℕ};
+ghost use Rattle.std.specs.Prelude.{◌≡◌, ◌≢◌, ◌↔◌, ◌<◌, ◌≤◌, ◌^◌, ◌++◌, IfErr, IfOk, IfSome, List, MatchOption, OnOk, length, ℕ};
 ghost use Rattle.std.specs.Io.KnownBytes.{IsAtEnd};
 ghost use Rattle.script_text.specs.Lines.{lines_of};
 ghost use Rattle.teb_io.specs.Faults.{Rose};
 ghost use Rattle.teb_io.specs.declared.source.ReadError.TheVariants as reads;
-ghost use Rattle.line_reader.specs.Lines.{ahead};
+ghost use Rattle.line_reader.specs.Lines.{IsTooLong, ahead};
 ghost use Rattle.shell_lines.specs.Lines.{shell_line};
 ghost use Rattle.shell_runner.specs.Runs.{AsksNext, Brings, IsUnread};
 
@@ -38,6 +38,7 @@ pub(crate) fn next_asked<H: Host, S: Source>(
     ensures next { IfOk result (λ o. MatchOption o (IsAtEnd (ahead reader.old (S.left input.old)))
         (λ asked. AsksNext names.now format asked.asks (ahead reader.old (S.left input.old)) (ahead reader.new (S.left input.new)))) }
     ensures unread { IfErr result IsUnread }
+    ensures too_long { IfErr result (λ status. status ≡ 5 → IfSome (ahead reader.old (S.left input.old)) IsTooLong) }
     ensures fault { IfErr result (λ status. status ≡ 3 → Rose (S.faults input.old) (S.faults input.new)) }
     ensures no_fault { OnOk result (S.faults input.new ≡ S.faults input.old) }
     ensures no_other_fault { IfErr result (λ status. status ≢ 3 → S.faults input.new ≡ S.faults input.old) }
@@ -52,7 +53,7 @@ pub(crate) fn next_asked<H: Host, S: Source>(
     Ok(Some(asked))
 }
 
-/// What a line asks, and the file that it names. An `Err` is the status of a run that ends at once.
+/// Returns what a line asks, and the file that it names. An `Err` is the status of a run that ends at once.
 fn read_asked<H: Host>(
     alloc: Global,
     host: &mut H,
@@ -72,7 +73,7 @@ fn read_asked<H: Host>(
     }
 }
 
-/// What a line asks, and the file that it names.
+/// Returns what a line asks, and the file that it names.
 fn parsed<H: Host>(
     alloc: Global,
     host: &mut H,
@@ -92,6 +93,7 @@ fn parsed<H: Host>(
 
 fn read_status(error: ReadError) -> u8
     ensures fault { (result ≡ 3) ↔ (error ≡ reads.ReadFault) }
+    ensures too_long { (result ≡ 5) ↔ (error ≡ reads.TooLong) }
     ensures unread { IsUnread result }
 {
     match error {

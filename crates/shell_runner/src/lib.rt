@@ -25,7 +25,8 @@
 //! only if the disk failed at the last step (`stopped`). Whatever a crash leaves between two states has the commits that the text
 //! before it acknowledges (`safe` of [`ShellStore`], in each `IsStep`). Status 3 and status 4 are left only if the source's or the
 //! sink's count of faults rose (`read_fault`, `write_fault`); with another status than 3 the source's count is as it was
-//! (`no_read_fault`).
+//! (`no_read_fault`). Status 5 is left only if the next line is too long (`too_long` of `HasEnded`), and no line that is answered is
+//! (`short` of `TakesStep`).
 //!
 //! **Not claimed**: that an input ends. After status 8 the shell may have asked the last line without an answer.
 #![tactic(auto)]

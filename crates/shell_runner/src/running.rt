@@ -154,7 +154,7 @@ fn take_line<T: ShellStore, K: Sink>(
     (shell, write_step(out, after, &text))
 }
 
-/// What follows a line that was answered.
+/// Returns what follows a line that was answered.
 fn flow_of(after: Result<After, u8>) -> Result<Flow, u8>
     ensures { MatchResult result (λ flow. (after ≡ Ok (after_of flow))) (λ status. (after ≡ Err status) ⊎ ((after ≡ Ok afters.Stopped) × (status ≡ 15))) }
 {

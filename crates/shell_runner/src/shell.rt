@@ -13,12 +13,12 @@ pub struct Shell<T> {
     pub epoch: u64,
     /// The format of the tree text.
     pub format: u8,
-    /// For whom the sessions wait.
+    /// Which transaction each session waits for.
     pub waits: Waits,
 }
 
 impl<T> Shell<T> {
-    /// The shell over a store that was opened just now.
+    /// Returns the shell over a store that was opened just now.
     pub fn new(store: T, format: u8) -> Shell<T>
         ensures store { result.store ≡ store }
         ensures epoch { result.epoch ≡ 1 }

@@ -1,4 +1,4 @@
-//! What the shell asks of the store that it stands on.
+//! What the shell asks of its store.
 
 ghost use Rattle.std.specs.Prelude.{◌≡◌, All, IfErr, IfOk, OnErr, OnOk, false, length, map, reverse};
 ghost use Rattle.teb_rules.specs.Ranks.{serial_order};
@@ -38,37 +38,37 @@ pub trait ShellStore: Drop {
     /// none but those of the second.
     ghost safe: { Self → Self → Type 0 };
 
-    /// The names of the tree.
+    /// Returns the names of the tree.
     fn names(&self) -> &NameBook
         ensures { result.now ≡ (stored self.now).names };
 
-    /// What has happened in this epoch.
+    /// Returns what has happened in this epoch.
     fn history(&self) -> &History
         ensures events { result.now.events ≡ (stored self.now).events }
         ensures reached { IsReached (stored self.now) }
         ensures named { HasNodeNames (stored self.now) → All (EventNamed (stored self.now).names) (reverse (stored self.now).events) };
 
-    /// What the store is set up with.
+    /// Returns what the store is set up with.
     fn setup(&self) -> &Setup
         ensures names { result.now.names ≡ (stored self.now).names }
         ensures profiles { result.now.profiles.items ≡ (stored self.now).store.setup.profiles }
         ensures tree { result.now.tree.rows ≡ (stored self.now).store.setup.tree }
         ensures types { length result.now.profiles.items ≡ length result.now.names.types };
 
-    /// How many commits of this epoch were answered.
+    /// Returns how many commits of this epoch were answered.
     fn commits(&self) -> u64
         ensures { result ≡ (stored self.now).commits };
 
-    /// How many bytes are left for the commits of this epoch.
+    /// Returns how many bytes are left for the commits of this epoch.
     fn left(&self) -> u64
         ensures { result ≡ (stored self.now).left };
 
-    /// The committed rows, in ascending order of cells.
+    /// Returns the committed rows, in ascending order of cells.
     fn rows(&self, alloc: Global) -> Result<Vec<(Cell, i64)>, AllocError>
         ensures rows { IfOk result (λ v. AreFinalRows (stored self.now).store (stored self.now).events v.items) }
         ensures named { IfOk result (λ v. RowsNamed (stored self.now).names v.items) };
 
-    /// The committed transactions in the serial order.
+    /// Returns the committed transactions in the serial order.
     fn order(&self, alloc: Global) -> Result<Vec<Txn>, AllocError>
         ensures { IfOk result (λ v. map (λ t. t.0) v.items ≡ serial_order (stored self.now).store.setup (stored self.now).events) };
 

@@ -17,7 +17,8 @@ pub(crate) fn write_step<K: Sink>(
     text: &[u8],
 ) -> Result<After, u8>
     ensures written { IfOk result (λ a. (after ≡ Ok a) × Appends (K.written out.old) (K.written out.new) text.now) }
-    ensures not_written { IfErr result (λ status. ((status ≡ 8) × IsErr after × Keeps (K.written out.old) (K.written out.new)) ⊎ ((status ≡ 4) × IsOk after × AppendsFront (K.written out.old) (K.written out.new) text.now)) }
+    ensures not_written { IfErr result (λ status. ((status ≡ 8) × IsErr after × Keeps (K.written out.old) (K.written out.new))
+        ⊎ ((status ≡ 4) × IsOk after × AppendsFront (K.written out.old) (K.written out.new) text.now)) }
     ensures fault { IfErr result (λ status. status ≡ 4 → Rose (K.faults out.old) (K.faults out.new)) }
     ensures later { K.faults out.old ≤ K.faults out.new }
 {

@@ -69,7 +69,8 @@ pub same_tables : (e : EngineModel) (s : Setup) → store_of s ≡ e.store → s
 same_tables e s store names = sym (ap (λ (X : Store). X.tables) store) ∙ ap (λ (n : NameBook). length n.tables) names
 
 -- the final rows
-pub final_named : (e : EngineModel) (s : Setup) (rows : List (Cell × ℤ)) → store_of s ≡ e.store → s.names ≡ e.names → IsWhole (setup_view s) → IsOfEngine e → IsFinalRows e.store e.events rows → RowsNamed e.names rows
+pub final_named : (e : EngineModel) (s : Setup) (rows : List (Cell × ℤ)) → store_of s ≡ e.store → s.names ≡ e.names → IsWhole (setup_view s) → IsOfEngine e → IsFinalRows e.store e.events rows
+    → RowsNamed e.names rows
 final_named e s rows store names whole of final =
     let starts : (x : Cell) (v : ℤ) → row_of e.store.rows x ≡ Some v → CellWithin e.store x =
     subst (λ (X : Store). (x : Cell) (v : ℤ) → row_of X.rows x ≡ Some v → CellWithin X x) store (λ x v. row_within (length s.names.tables) s.rows x v whole.cells) in
@@ -99,6 +100,7 @@ module _ (X : Store) (names : NameBook) (nodes : length X.setup.tree ≡ length 
       subst (All (EventNamed names)) (sym (reverse-append (ev ∷ []) P)) (All-append (EventNamed names) (reverse P) (ev ∷ []) (all_named P h.1) (one_named ev (event_named ev h.0)))
 
 -- the events of a history, where each node has a name
-pub events_named : (e : EngineModel) (s : Setup) → store_of s ≡ e.store → s.names ≡ e.names → IsWhole (setup_view s) → IsOfEngine e → length e.store.setup.tree ≡ length e.names.nodes → All (EventNamed e.names) (reverse e.events)
+pub events_named : (e : EngineModel) (s : Setup) → store_of s ≡ e.store → s.names ≡ e.names → IsWhole (setup_view s) → IsOfEngine e → length e.store.setup.tree ≡ length e.names.nodes
+    → All (EventNamed e.names) (reverse e.events)
 events_named e s store names whole of nodes =
     all_named e.store e.names nodes (same_tables e s store names) (same_types e s store names whole) e.events (within e of).events

@@ -19,12 +19,14 @@ use Rattle.engine_store.specs.Telling.{AllTellCommits, TellsCommits}
 use Rattle.tebaldi_shell.specs.Kept.{KeptModel}
 use Rattle.tebaldi_shell.specs.Serving.{HasOpened}
 
-pub opens : {D : Type 0} (seen : D → List ℕ) (may_leave : D → List ℕ → Type 0) (faults : D → ℕ) (moment : D → ℕ) (left_since : D → ℕ → List ℕ → Type 0) (capacity : ℕ) (tree : List ℕ) (disk : D) (setup : Setup) (s : KeptModel D)
+pub opens : {D : Type 0} (seen : D → List ℕ) (may_leave : D → List ℕ → Type 0) (faults : D → ℕ) (moment : D → ℕ) (left_since : D → ℕ → List ℕ → Type 0) (capacity : ℕ) (tree : List ℕ) (disk : D)
+    (setup : Setup) (s : KeptModel D)
     → setup_of_text tree ≡ Ok (setup_view setup) → IsNamed (setup_view setup) → IsBeginning setup s.engine → s.journal.stopped ≡ false
     → HasTable (layout_of capacity setup) (row_of setup.rows) (row_of s.engine.store.rows) (seen disk)
     → ((X : Store) (H : List Event) (least : ℕ) → IsSound X.setup → Lawful X.setup H → AllTellCommits may_leave (layout_of capacity setup) X H least disk
     → (k : ℕ) × (least ≤ k) × (k ≤ commit_count H) × ((x : Cell) → row_of s.engine.store.rows x ≡ rows_after X H k x))
-    → ((X : Store) (H : List Event) (least : ℕ) → AllTellCommits may_leave (layout_of capacity setup) X H least disk → LeavesOnly moment left_since disk s.journal.disk (TellsCommits (layout_of capacity setup) X H least))
+    → ((X : Store) (H : List Event) (least : ℕ) → AllTellCommits may_leave (layout_of capacity setup) X H least disk → LeavesOnly moment left_since disk s.journal.disk
+    (TellsCommits (layout_of capacity setup) X H least))
     → HasOpened seen may_leave faults moment left_since capacity tree disk (setup_view setup) s
 opens seen may_leave faults moment left_since capacity tree disk setup s read named begun running rows found opening = record {
   ready = record {

@@ -19,7 +19,8 @@ use Rattle.tebaldi_shell.specs.Kept.{IsTurnError, KeptModel, stored_of}
 pub drained : (H : List Event) → Switch.IsDrained H → IsDrained H
 drained H d = record { finished = d.finished; told = λ s u. d.told s.0 (record { txn = u.txn; holds = u.holds; gone = u.gone }) }
 
-pub turn_refused : (l : Layout) (e : EngineModel) (tables : List (List ℕ)) (why : NextError) (w : TurnError) → IsCause l e tables why → IsTurnError why w → (why ≡ next.Stopped → ⊥) → IsTurnRefused e.events w
+pub turn_refused : (l : Layout) (e : EngineModel) (tables : List (List ℕ)) (why : NextError) (w : TurnError) → IsCause l e tables why → IsTurnError why w → (why ≡ next.Stopped → ⊥)
+    → IsTurnRefused e.events w
 turn_refused l e tables next.Stopped w cause is not = absurd (not refl)
 turn_refused l e tables (next.Again t) w cause is not = subst (IsTurnRefused e.events) (sym is) cause.0
 turn_refused l e tables (next.Untold s) w cause is not = subst (IsTurnRefused e.events) (sym is) (let u = cause.1.0 in record { txn = u.txn; holds = u.holds; gone = u.gone })
@@ -47,7 +48,8 @@ commit_of H s request.Commit txn e = go (held H s.0) refl e
 commit_of H s _ txn e = absurd (cc)
 
 -- a commit that does not fit
-pub lacks_room : {D : Type 0} (s : KeptModel D) (session : Session) (r : Request) → IsFull s.engine.events (half_size s.journal.layout.capacity - s.journal.end) session r → LacksRoom (stored_of s) session r
+pub lacks_room : {D : Type 0} (s : KeptModel D) (session : Session) (r : Request) → IsFull s.engine.events (half_size s.journal.layout.capacity - s.journal.end) session r
+    → LacksRoom (stored_of s) session r
 lacks_room s session r full =
     let c = commit_of s.engine.events session r full.txn full.commits in
     record { txn = full.txn; asks = c.asks; holds = c.holds; unfinished = c.running; full = full.full }

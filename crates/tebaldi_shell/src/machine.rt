@@ -16,7 +16,7 @@ pub struct Machine<'a> {
 }
 
 impl<'a> Machine<'a> {
-    /// The machine of a process. It shows a prompt if standard input is a terminal.
+    /// Returns the machine of a process. It shows a prompt if standard input is a terminal.
     pub fn new(rt: &'a HostRuntime) -> Machine<'a> {
         let is_prompted = rt.stdin().is_terminal();
         Machine { rt, is_prompted }

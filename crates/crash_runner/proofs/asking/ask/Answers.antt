@@ -1,11 +1,12 @@
-use Rattle.std.proofs.Common.{◌∙◌, ◌≤◌, ◌+◌, ◌++◌, ◌∷◌, [], List, sym, ap, subst, arith}
+use Rattle.std.proofs.Common.{inl, inr, ◌∙◌, ◌≤◌, ◌+◌, ◌++◌, ◌∷◌, [], List, sym, ap, subst, arith}
 use Rattle.std.proofs.lemmas.Bool.{both_ways}
 use Rattle.teb_names.specs.declared.Reply.{Reply}
 use Rattle.teb_history.specs.declared.Event.{Event}
+use Rattle.commit_journal.specs.Kept.{Kept}
 use Rattle.crash_runner.specs.Underway.{IsUnderway, effects, weight}
 use Rattle.crash_runner.proofs.Effects.{adds_few}
 use Rattle.crash_runner.proofs.Along.{asked_one, light}
-use Rattle.crash_runner.proofs.Halting.{as_error, of_halt}
+use Rattle.crash_runner.proofs.Halting.{as_error, fault_or_not, of_halt}
 use Rattle.crash_runner.proofs.Steps.{goes_on, stops_here, never_full}
 use Rattle.crash_runner.proofs.asking.ask.Goals as goal
 
@@ -15,8 +16,10 @@ returns-in_ok-push-in-Ok-clause-underway g c =
     let old = c.args.durable.now in
     let new = c.ask.new.self in
     subst (IsUnderway (d.tally old.disk).promise d.tally d.safe new) (sym c.in_ok-push-in-Ok.ensures.items)
-    (goes_on d.tally d.safe d.may_leave g.met.D.Disk.safe_is_left (d.tally old.disk).promise old new c.args.log.now.items c.args.session c.args.request c.requires.underway c.requires.few c.in-Ok.ensures.store
-    c.in-Ok.reply c.in-Ok.ensures.reply c.in-Ok.ensures.events c.in-Ok.ensures.goes_on (c.in-Ok.ensures.all c.in-Ok.ensures.goes_on) (c.in-Ok.ensures.end c.in-Ok.ensures.goes_on) c.in-Ok.ensures.images c.in-Ok.ensures.untouched c.in-Ok.ensures.counted c.in-Ok.ensures.written c.in-Ok.ensures.up_to c.in-Ok.ensures.fails)
+    (goes_on d.tally d.safe d.may_leave g.met.D.Disk.safe_is_left (d.tally old.disk).promise old new c.args.log.now.items c.args.session c.args.request c.requires.underway c.requires.few
+    c.in-Ok.ensures.store
+    c.in-Ok.reply c.in-Ok.ensures.reply c.in-Ok.ensures.events c.in-Ok.ensures.goes_on (c.in-Ok.ensures.all c.in-Ok.ensures.goes_on) (c.in-Ok.ensures.end c.in-Ok.ensures.goes_on)
+    c.in-Ok.ensures.images c.in-Ok.ensures.untouched c.in-Ok.ensures.counted c.in-Ok.ensures.written c.in-Ok.ensures.up_to c.in-Ok.ensures.fails)
 
 pub returns-in_ok-push-in-Ok-clause-asked : goal.returns-in_ok-push-in-Ok-clause-asked
 returns-in_ok-push-in-Ok-clause-asked g c =
@@ -42,12 +45,24 @@ pub halt_of-requires-clause-room : goal.halt_of-requires-clause-room
 halt_of-requires-clause-room g c is =
     let d = g.D.Disk in
     let old = c.args.durable.now in
-    never_full d.tally d.safe d.may_leave g.met.D.Disk.safe_is_left (d.tally old.disk).promise old c.args.log.now.items c.args.session c.args.request c.requires.underway c.requires.few (d.capacity old.disk) c.requires.wide (c.in-Err.ensures.full (as_error c.in-Err.error _ is))
+    never_full d.tally d.safe d.may_leave g.met.D.Disk.safe_is_left (d.tally old.disk).promise old c.args.log.now.items c.args.session c.args.request c.requires.underway c.requires.few
+    (d.capacity old.disk) c.requires.wide (c.in-Err.ensures.full (as_error c.in-Err.error _ is))
 
 pub returns-in-Err-clause-stopped : goal.returns-in-Err-clause-stopped
 returns-in-Err-clause-stopped g c rest is =
     let d = g.D.Disk in
     let old = c.args.durable.now in
-    let fault = as_error c.in-Err.error _ (c.halt_of.ensures (of_halt c.halt_of.result _ is)) in
-    stops_here d.tally d.safe d.may_leave g.met.D.Disk.safe_is_left (d.tally old.disk).promise old c.ask.new.self c.args.log.now.items c.args.session c.args.request c.requires.underway c.requires.few c.in-Err.ensures.store rest
+    let fault = as_error c.in-Err.error _ (c.halt_of.ensures.0 (of_halt c.halt_of.result _ is)) in
+    stops_here d.tally d.safe d.may_leave g.met.D.Disk.safe_is_left (d.tally old.disk).promise old c.ask.new.self c.args.log.now.items c.args.session c.args.request c.requires.underway c.requires.few
+    c.in-Err.ensures.store rest
     (c.in-Err.ensures.at_commit fault).0 (c.in-Err.ensures.not_added fault) c.in-Err.ensures.up_to (λ t asked sure. c.in-Err.ensures.sure t asked sure fault)
+
+pub returns-in-Err-clause-halts : goal.returns-in-Err-clause-halts
+returns-in-Err-clause-halts g c =
+    let e = c.in-Err.ensures in (
+      λ is. (e.at_commit (as_error c.in-Err.error _ (c.halt_of.ensures.0 is))).3,
+      λ stopped. elim (fault_or_not c.in-Err.error) [
+        | inl fault ↦ c.halt_of.ensures.1 fault
+        | inr other ↦ absurd (both_ways _ c.requires.underway.runs (sym (ap (λ (k : Kept _). k.stopped) (e.not_asked other)) ∙ stopped))
+      ],
+    )

@@ -20,8 +20,10 @@ text_of-requires-clause-replies c =
     let whole = subst IsWhole is setup.ensures.whole in
     let nodes = subst IsNamed is setup.ensures.named in
     let named = c.in_ok-start.ensures.names ∙ ap names_of is in
-    let run = subst₂ (λ (n : SetupView) (lines : List Line). IsRunOn c.args.stop (store_of_view n) lines made.given.items made.stopped (tally_of made.disk) (safe_of made.disk)) is (c.deref.ensures.value ∙ setup.ensures.lines.0) c.in_ok-run.ensures in
-    replies_named c.args.stop c.args.input whole nodes c.in_ok-start.start.names named made.given.items made.stopped (tally_of made.disk) (safe_of made.disk) run c.deref-2.result.now c.deref-2.ensures.value
+    let run = subst₂ (λ (n : SetupView) (lines : List Line). IsRunOn c.args.stop (store_of_view n) lines made.given.items made.stopped (tally_of made.disk) (safe_of made.disk)) is
+    (c.deref.ensures.value ∙ setup.ensures.lines.0) c.in_ok-run.ensures in
+    replies_named c.args.stop c.args.input whole nodes c.in_ok-start.start.names named made.given.items made.stopped (tally_of made.disk) (safe_of made.disk) run c.deref-2.result.now
+    c.deref-2.ensures.value
 
 pub text_of-requires-clause-rows : goal.text_of-requires-clause-rows
 text_of-requires-clause-rows c =
@@ -32,9 +34,11 @@ text_of-requires-clause-rows c =
     let whole = subst IsWhole is setup.ensures.whole in
     let nodes = subst IsNamed is setup.ensures.named in
     let named = c.in_ok-start.ensures.names ∙ ap names_of is in
-    let run = subst₂ (λ (n : SetupView) (lines : List Line). IsRunOn c.args.stop (store_of_view n) lines made.given.items made.stopped (tally_of made.disk) (safe_of made.disk)) is (c.deref.ensures.value ∙ setup.ensures.lines.0) c.in_ok-run.ensures in
+    let run = subst₂ (λ (n : SetupView) (lines : List Line). IsRunOn c.args.stop (store_of_view n) lines made.given.items made.stopped (tally_of made.disk) (safe_of made.disk)) is
+    (c.deref.ensures.value ∙ setup.ensures.lines.0) c.in_ok-run.ensures in
     rows_named c.args.stop c.args.input whole nodes c.in_ok-start.start.names named made.given.items made.stopped (tally_of made.disk) (safe_of made.disk) run
-    c.in_ok-found.found.commits c.in_ok-found.found.rows.items c.in_ok-start.start.rows (c.in_ok-start.ensures.rows ∙ ap (λ (n : SetupView). n.rows) is) c.in_ok-found.ensures.ascending (λ rs e. c.in_ok-found.ensures.found rs (run.kept ∙ ap Whole (sym e)))
+    c.in_ok-found.found.commits c.in_ok-found.found.rows.items c.in_ok-start.start.rows (c.in_ok-start.ensures.rows ∙ ap (λ (n : SetupView). n.rows) is) c.in_ok-found.ensures.ascending
+    (λ rs e. c.in_ok-found.ensures.found rs (run.kept ∙ ap Whole (sym e)))
 
 pub returns-clause-shown : goal.returns-clause-shown
 returns-clause-shown c =
@@ -45,8 +49,10 @@ returns-clause-shown c =
     let whole = subst IsWhole is setup.ensures.whole in
     let nodes = subst IsNamed is setup.ensures.named in
     let named = c.in_ok-start.ensures.names ∙ ap names_of is in
-    let run = subst₂ (λ (n : SetupView) (lines : List Line). IsRunOn c.args.stop (store_of_view n) lines made.given.items made.stopped (tally_of made.disk) (safe_of made.disk)) is (c.deref.ensures.value ∙ setup.ensures.lines.0) c.in_ok-run.ensures in
+    let run = subst₂ (λ (n : SetupView) (lines : List Line). IsRunOn c.args.stop (store_of_view n) lines made.given.items made.stopped (tally_of made.disk) (safe_of made.disk)) is
+    (c.deref.ensures.value ∙ setup.ensures.lines.0) c.in_ok-run.ensures in
     is_crash c.args.stop c.args.input whole nodes c.in_ok-start.start.names named made.given.items made.stopped (tally_of made.disk) (safe_of made.disk) run
-    c.in_ok-found.found.commits c.in_ok-found.found.rows.items c.in_ok-start.start.rows (c.in_ok-start.ensures.rows ∙ ap (λ (n : SetupView). n.rows) is) c.in_ok-found.ensures.ascending (λ rs e. c.in_ok-found.ensures.found rs (run.kept ∙ ap Whole (sym e)))
+    c.in_ok-found.found.commits c.in_ok-found.found.rows.items c.in_ok-start.start.rows (c.in_ok-start.ensures.rows ∙ ap (λ (n : SetupView). n.rows) is) c.in_ok-found.ensures.ascending
+    (λ rs e. c.in_ok-found.ensures.found rs (run.kept ∙ ap Whole (sym e)))
     c.new.result c.in_ok-text.text.items c.new.ensures
     (c.in_ok-text.ensures ∙ ap (λ (given : List Answered). crash_text c.in_ok-start.start.names given made.stopped c.in_ok-found.found.commits c.in_ok-found.found.rows.items) c.deref-2.ensures.value)

@@ -1,10 +1,13 @@
-use Rattle.std.proofs.Common.{◌∙◌, ◌+◌, ◌≤◌, ◌++◌, refl, sym, subst, arith, map, drop}
+use Rattle.std.proofs.Common.{◌≡◌, ◌∙◌, ◌+◌, ◌≤◌, ◌++◌, refl, sym, subst, arith, map, drop}
+use Rattle.std.specs.Prelude.{◌↔◌, true}
 use Rattle.std.proofs.lemmas.Result.{err_from_is_err_and}
 use Rattle.crash_disk.specs.Calls.{Promise}
 use Rattle.replay_runner.specs.Holders.{end_of}
+use Rattle.crash_runner.specs.declared.halt.Halt.{Halt}
+use Rattle.crash_runner.specs.declared.halt.Halt.TheVariants as halts
 use Rattle.crash_runner.specs.Underway.{IsUnderway, effects}
 use Rattle.crash_runner.proofs.Along.{asked_none, one_more, stopped_at}
-use Rattle.crash_runner.proofs.Halting.{as_halt, of_halt}
+use Rattle.crash_runner.proofs.Halting.{as_halt, halted, of_halt}
 use Rattle.crash_runner.proofs.ends.ask_ends.Goals as goal
 
 pub loop-session-init : goal.loop-session-init
@@ -39,7 +42,13 @@ loop-session-preserved g c =
       store = record { store = c.in_ok-ask.ensures.store.store ∙ i.store.store; names = c.in_ok-ask.ensures.store.names ∙ i.store.names };
       capacity = c.ask.ensures.capacity ∙ i.capacity;
       underway = subst (λ (p : Promise). IsUnderway p d.tally d.safe c.ask.new.durable c.ask.new.log.items) i.underway.promised c.in_ok-ask.ensures.underway;
-      asked = one_more end_of c.args.holders.now l.session-index _ c.loop-session-test.true _ refl old.store l.durable.store i.store.store c.args.log.now.items l.log.items old.events l.durable.events i.asked
+      asked = one_more end_of c.args.holders.now l.session-index _ c.loop-session-test.true _ refl old.store l.durable.store i.store.store c.args.log.now.items l.log.items old.events l.durable.events
+          i.asked
           c.ask.new.log.items c.ask.new.durable.events c.in_ok-ask.ensures.asked;
       few = omega (arith, none, i.few);
     }
+
+pub returns-in_err-ask-clause-halts : goal.returns-in_err-ask-clause-halts
+returns-in_err-ask-clause-halts g c =
+    let p = err_from_is_err_and c.from_residual.result c.from_residual.ensures.1 in
+    halted c.from_residual.result p.0 c.in_err-ask.field-0.0 (λ (h : Halt). (h ≡ halts.Stopped) ↔ (c.ask.new.durable.stopped ≡ true)) p.1 p.2 c.in_err-ask.ensures.halts

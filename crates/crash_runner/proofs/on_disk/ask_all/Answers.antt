@@ -28,9 +28,12 @@ returns-clause-asked g c =
     let K = c.ask_lines.new.durable.events in
     let now = c.ask_ends.new.log.items in
     let L = c.ask_ends.new.durable.events in
-    let ends : map end_of c.deref.result.now ≡ ends_of K = ap (map end_of) (c.deref.ensures.value ∙ c.in_ok-holders.ensures) ∙ ends_of_holders c.history.result.now.events ∙ ap ends_of (c.history.ensures.events ∙ c.engine.ensures.events) in
-    let first : HasAsked X (requests_of lines) [] [] mid K = subst₂ (λ (w : List Answered) (H : List Event). HasAsked X (requests_of lines) w H mid K) c.requires.none c.requires.new c.in_ok-ask_lines.ensures.asked in
-    on_ok c.ask_ends.result (λ two. whole_asked X lines mid K first now L (subst₂ (λ (Z : Store) (rs : Requests). HasAsked Z rs mid K now L) c.ask_lines.ensures.store.store ends two)) c.ask_ends.ensures.asked
+    let ends : map end_of c.deref.result.now ≡ ends_of K = ap (map end_of) (c.deref.ensures.value ∙ c.in_ok-holders.ensures) ∙ ends_of_holders c.history.result.now.events
+    ∙ ap ends_of (c.history.ensures.events ∙ c.engine.ensures.events) in
+    let first : HasAsked X (requests_of lines) [] [] mid K = subst₂ (λ (w : List Answered) (H : List Event). HasAsked X (requests_of lines) w H mid K) c.requires.none c.requires.new
+    c.in_ok-ask_lines.ensures.asked in
+    on_ok c.ask_ends.result (λ two. whole_asked X lines mid K first now L (subst₂ (λ (Z : Store) (rs : Requests). HasAsked Z rs mid K now L) c.ask_lines.ensures.store.store ends two))
+    c.ask_ends.ensures.asked
 
 pub returns-clause-stopped : goal.returns-clause-stopped
 returns-clause-stopped g c is =
@@ -42,8 +45,11 @@ returns-clause-stopped g c is =
     let given = c.ask_ends.new.log.items in
     let disk = c.ask_ends.new.durable.disk in
     let p = (d.tally c.args.durable.now.disk).promise in
-    let ends : map end_of c.deref.result.now ++ [] ≡ ends_of K = append-nil (map end_of c.deref.result.now) ∙ ap (map end_of) (c.deref.ensures.value ∙ c.in_ok-holders.ensures) ∙ ends_of_holders c.history.result.now.events ∙ ap ends_of (c.history.ensures.events ∙ c.engine.ensures.events) in
-    let first : HasAsked X (requests_of lines) [] [] mid K = subst₂ (λ (w : List Answered) (H : List Event). HasAsked X (requests_of lines) w H mid K) c.requires.none c.requires.new c.in_ok-ask_lines.ensures.asked in
-    let of_p = subst₂ (λ (q : Promise) (rs : Requests). StopsAt q c.ask_lines.new.durable.store (mid ++ log_of c.ask_lines.new.durable.store K rs) (history_after c.ask_lines.new.durable.store K rs) given (d.tally disk) (d.safe disk)) c.in_ok-ask_lines.ensures.underway.promised ends (c.ask_ends.ensures.stopped [] is) in
+    let ends : map end_of c.deref.result.now ++ [] ≡ ends_of K = append-nil (map end_of c.deref.result.now) ∙ ap (map end_of) (c.deref.ensures.value ∙ c.in_ok-holders.ensures)
+    ∙ ends_of_holders c.history.result.now.events ∙ ap ends_of (c.history.ensures.events ∙ c.engine.ensures.events) in
+    let first : HasAsked X (requests_of lines) [] [] mid K = subst₂ (λ (w : List Answered) (H : List Event). HasAsked X (requests_of lines) w H mid K) c.requires.none c.requires.new
+    c.in_ok-ask_lines.ensures.asked in
+    let of_p = subst₂ (λ (q : Promise) (rs : Requests). StopsAt q c.ask_lines.new.durable.store (mid ++ log_of c.ask_lines.new.durable.store K rs) (history_after c.ask_lines.new.durable.store K rs)
+    given (d.tally disk) (d.safe disk)) c.in_ok-ask_lines.ensures.underway.promised ends (c.ask_ends.ensures.stopped [] is) in
     whole_stops X lines mid K first p given (d.tally disk) (d.safe disk)
     (subst (λ (Z : Store). StopsAt p Z (mid ++ log_of Z K (ends_of K)) (history_after Z K (ends_of K)) given (d.tally disk) (d.safe disk)) c.ask_lines.ensures.store.store of_p)

@@ -15,7 +15,9 @@ returns g c =
     subst (λ disk. IsRunOn p.stop old.store c.args.lines.now c.ask_all.new.log.items c.match-ask_all.stopped (d.tally disk) (d.safe disk)) (sym c.into_disk.ensures)
     (elim c.match-ask_all.branch [
       | in-Ok w ↦ subst (λ (b : Bool). IsRunOn p.stop old.store c.args.lines.now c.ask_all.new.log.items b (d.tally k.disk) (d.safe k.disk)) (sym w.stopped-is)
-          (went_through p d.tally d.safe k old.store c.args.lines.now c.ask_all.new.log.items c.ask_all.ensures.store.store w.in-Ok.ensures.underway w.in-Ok.ensures.asked (room_left d.tally d.safe p k c.ask_all.new.log.items w.in-Ok.ensures.underway w.in-Ok.ensures.few))
+          (went_through p d.tally d.safe k old.store c.args.lines.now c.ask_all.new.log.items c.ask_all.ensures.store.store w.in-Ok.ensures.underway w.in-Ok.ensures.asked
+          (room_left d.tally d.safe p k c.ask_all.new.log.items w.in-Ok.ensures.underway w.in-Ok.ensures.few))
       | in-Err-Stopped w ↦ subst (λ (b : Bool). IsRunOn p.stop old.store c.args.lines.now c.ask_all.new.log.items b (d.tally k.disk) (d.safe k.disk)) (sym w.stopped-is)
-          (was_stopped p old.store c.args.lines.now c.ask_all.new.log.items (d.tally k.disk) (d.safe k.disk) (w.in-Err-Stopped.ensures.stopped (as_halt w.in-Err-Stopped.field-0 _ w.in-Err-Stopped.field-0-is)))
+          (was_stopped p old.store c.args.lines.now c.ask_all.new.log.items (d.tally k.disk) (d.safe k.disk)
+          (w.in-Err-Stopped.ensures.stopped (as_halt w.in-Err-Stopped.field-0 _ w.in-Err-Stopped.field-0-is)))
     ])

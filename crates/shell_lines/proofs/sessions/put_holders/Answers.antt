@@ -7,7 +7,9 @@ pub loop-i-init : goal.loop-i-init
 loop-i-init c = counted_none (λ i. session_text c.args.history.now.events c.args.names.now c.args.waits.now (i + 1)) c.args.out.now.items
 
 pub loop-i-preserved : goal.loop-i-preserved
-loop-i-preserved c = counted_more (λ i. session_text c.args.history.now.events c.args.names.now c.args.waits.now (i + 1)) c.loop-i.i c.args.out.now.items c.loop-i.out.items c.put_session.new.out.items c.loop-i.invariant c.in_ok-put_session.ensures
+loop-i-preserved c = counted_more (λ i. session_text c.args.history.now.events c.args.names.now c.args.waits.now (i + 1)) c.loop-i.i c.args.out.now.items c.loop-i.out.items c.put_session.new.out.items
+    c.loop-i.invariant c.in_ok-put_session.ensures
 
 pub returns : goal.returns
-returns c = counted_all (λ i. session_text c.args.history.now.events c.args.names.now c.args.waits.now (i + 1)) c.loop-i.i _ c.args.out.now.items c.loop-i.out.items (omega (arith, c.loop-i-test.false, c.loop-i.auto.i-end)) c.loop-i.invariant
+returns c = counted_all (λ i. session_text c.args.history.now.events c.args.names.now c.args.waits.now (i + 1)) c.loop-i.i _ c.args.out.now.items c.loop-i.out.items
+    (omega (arith, c.loop-i-test.false, c.loop-i.auto.i-end)) c.loop-i.invariant

@@ -5,7 +5,8 @@ use Rattle.shell_runner.proofs.ends.end_if_held.Goals as goal
 
 pub returns-in-Some-clause-ended : goal.returns-in-Some-clause-ended
 returns-in-Some-clause-ended g c =
-    ends_or_stops g.T.ShellStore.stored g.T.ShellStore.safe c.args.session c.args.shell c.end_session-shell.result.0 (g.K.Sink.written c.args.out.now) (g.K.Sink.written c.end_session-shell.new.out) c.end_session-shell.result.1 c.goes_on.result
+    ends_or_stops g.T.ShellStore.stored g.T.ShellStore.safe c.args.session c.args.shell c.end_session-shell.result.0 (g.K.Sink.written c.args.out.now) (g.K.Sink.written c.end_session-shell.new.out)
+    c.end_session-shell.result.1 c.goes_on.result
     (held_some _ _ c.args.session c.in-Some.field-0 c.history.ensures.events c.in-Some.ensures) c.end_session-shell.ensures.step c.end_session-shell.ensures.safe c.goes_on.ensures
 
 pub returns-in-Some-clause-released : goal.returns-in-Some-clause-released

@@ -11,7 +11,8 @@ returns-then-not-has_to_turn-clause-safe g c = once g.T.ShellStore.safe c.args.s
 
 pub returns-then-not-has_to_turn-clause-asked : goal.returns-then-not-has_to_turn-clause-asked
 returns-then-not-has_to_turn-clause-asked g c =
-    asked_now (state_of g.T.ShellStore.stored c.args.shell) c.args.session c.args.request c.ask_store.new.out.items (state_of g.T.ShellStore.stored c.ask_store.result.0) c.ask_store.result.1 (λ b. search (rules, c.has_to_turn.ensures.1 b)) c.ask_store.ensures.replied
+    asked_now (state_of g.T.ShellStore.stored c.args.shell) c.args.session c.args.request c.ask_store.new.out.items (state_of g.T.ShellStore.stored c.ask_store.result.0) c.ask_store.result.1
+    (λ b. search (rules, c.has_to_turn.ensures.1 b)) c.ask_store.ensures.replied
 
 pub returns-in-Ok-clause-safe : goal.returns-in-Ok-clause-safe
 returns-in-Ok-clause-safe g c = record { mid = c.turn-shell.result.0; first = c.turn-shell.ensures.safe; second = c.ask_store-in-Ok.ensures.safe }
@@ -31,8 +32,10 @@ pub returns-in-Err-Unfinished-clause-asked : goal.returns-in-Err-Unfinished-clau
 returns-in-Err-Unfinished-clause-asked g c =
     let kept : c.turn-shell.result.0 ≡ c.args.shell = search rules in
     let why : c.in-Err-Unfinished.field-0 ≡ turn.Unfinished c.in-Err-Unfinished.field-0-0 = search (rules, c.in-Err-Unfinished.field-0-is) in
-    told_later (state_of g.T.ShellStore.stored c.args.shell) c.args.session c.args.request c.answer_later.new.out.items (state_of g.T.ShellStore.stored c.answer_later.result.0) (g.T.ShellStore.stored c.turn-shell.result.0.store).names c.answer_later.result.1
-    (c.has_to_turn.ensures.0 (search rules)) (hinders _ c.in-Err-Unfinished.field-0 (MatchResult-at_err _ _ c.in-Err-Unfinished.field-0 c.in-Err-Unfinished.is c.turn-shell.ensures.refused) (subst IsSomebodys (sym why) tt)) (ap (state_of g.T.ShellStore.stored) (c.answer_later.ensures.same ∙ kept)) (ap (λ s. (g.T.ShellStore.stored s.store).names) kept) c.answer_later.ensures.said
+    told_later (state_of g.T.ShellStore.stored c.args.shell) c.args.session c.args.request c.answer_later.new.out.items (state_of g.T.ShellStore.stored c.answer_later.result.0)
+    (g.T.ShellStore.stored c.turn-shell.result.0.store).names c.answer_later.result.1
+    (c.has_to_turn.ensures.0 (search rules)) (hinders _ c.in-Err-Unfinished.field-0 (MatchResult-at_err _ _ c.in-Err-Unfinished.field-0 c.in-Err-Unfinished.is c.turn-shell.ensures.refused)
+    (subst IsSomebodys (sym why) tt)) (ap (state_of g.T.ShellStore.stored) (c.answer_later.ensures.same ∙ kept)) (ap (λ s. (g.T.ShellStore.stored s.store).names) kept) c.answer_later.ensures.said
 
 pub returns-in-Err-Untold-clause-safe : goal.returns-in-Err-Untold-clause-safe
 returns-in-Err-Untold-clause-safe g c =
@@ -43,5 +46,8 @@ pub returns-in-Err-Untold-clause-asked : goal.returns-in-Err-Untold-clause-asked
 returns-in-Err-Untold-clause-asked g c =
     let kept : c.turn-shell.result.0 ≡ c.args.shell = search rules in
     let why : c.in-Err-Untold.field-0 ≡ turn.Untold c.in-Err-Untold.field-0-0 = search (rules, c.in-Err-Untold.field-0-is) in
-    told_later (state_of g.T.ShellStore.stored c.args.shell) c.args.session c.args.request c.answer_later-in-Err-Untold.new.out.items (state_of g.T.ShellStore.stored c.answer_later-in-Err-Untold.result.0) (g.T.ShellStore.stored c.turn-shell.result.0.store).names c.answer_later-in-Err-Untold.result.1
-    (c.has_to_turn.ensures.0 (search rules)) (hinders _ c.in-Err-Untold.field-0 (MatchResult-at_err _ _ c.in-Err-Untold.field-0 c.in-Err-Untold.is c.turn-shell.ensures.refused) (subst IsSomebodys (sym why) tt)) (ap (state_of g.T.ShellStore.stored) (c.answer_later-in-Err-Untold.ensures.same ∙ kept)) (ap (λ s. (g.T.ShellStore.stored s.store).names) kept) c.answer_later-in-Err-Untold.ensures.said
+    told_later (state_of g.T.ShellStore.stored c.args.shell) c.args.session c.args.request c.answer_later-in-Err-Untold.new.out.items
+    (state_of g.T.ShellStore.stored c.answer_later-in-Err-Untold.result.0) (g.T.ShellStore.stored c.turn-shell.result.0.store).names c.answer_later-in-Err-Untold.result.1
+    (c.has_to_turn.ensures.0 (search rules)) (hinders _ c.in-Err-Untold.field-0 (MatchResult-at_err _ _ c.in-Err-Untold.field-0 c.in-Err-Untold.is c.turn-shell.ensures.refused)
+    (subst IsSomebodys (sym why) tt)) (ap (state_of g.T.ShellStore.stored) (c.answer_later-in-Err-Untold.ensures.same ∙ kept)) (ap (λ s. (g.T.ShellStore.stored s.store).names) kept)
+    c.answer_later-in-Err-Untold.ensures.said

@@ -11,7 +11,8 @@ pub returns-in-Ok-End-clause-read : goal.returns-in-Ok-End-clause-read
 returns-in-Ok-End-clause-read g c =
     let r = c.loop-number.invariant.run in
     let at_end : c.in-Ok-End.field-0 ≡ flow.End = search (rules, c.in-Ok-End.field-0-is) in
-    subst (λ (f : Flow). GoesOn g.T.ShellStore.stored g.T.ShellStore.safe c.args.shell (g.S.Source.left c.args.input.now) (g.K.Sink.written c.args.out.now) c.loop-number.number c.loop-number.status f c.next_step-next.result.0 (ahead c.next_step-next.new.reader (g.S.Source.left c.next_step-next.new.input)) (g.K.Sink.written c.next_step-next.new.out)) at_end
+    subst (λ (f : Flow). GoesOn g.T.ShellStore.stored g.T.ShellStore.safe c.args.shell (g.S.Source.left c.args.input.now) (g.K.Sink.written c.args.out.now) c.loop-number.number c.loop-number.status f
+    c.next_step-next.result.0 (ahead c.next_step-next.new.reader (g.S.Source.left c.next_step-next.new.input)) (g.K.Sink.written c.next_step-next.new.out)) at_end
     (MatchResult-at_ok _ _ _ c.in-Ok-End.is (c.next_step-next.ensures.next c.args.shell (g.S.Source.left c.args.input.now) (g.K.Sink.written c.args.out.now) r.0 c.loop-number.status r.1 r.2))
 
 pub returns-in-Err-clause-ended : goal.returns-in-Err-clause-ended

@@ -9,7 +9,8 @@ abbrev pub invariant-loop-number : goal.invariant-loop-number
 invariant-loop-number g l = record {
   ready : IsReady l.tree (g.T.ShellStore.stored l.last.store);
   status : (l.status ≢ 3) × (l.status ≢ 4) × (l.status ≢ 8) × (l.status ≢ 15);
-  run : (n : ℕ) × (l.number ≡ n + 1) × HasRun g.T.ShellStore.stored g.T.ShellStore.safe l.fn.shell (g.S.Source.left l.fn.input) (g.K.Sink.written l.fn.out) n l.status l.last (ahead l.reader (g.S.Source.left l.input)) (g.K.Sink.written l.out);
+  run : (n : ℕ) × (l.number ≡ n + 1) × HasRun g.T.ShellStore.stored g.T.ShellStore.safe l.fn.shell (g.S.Source.left l.fn.input) (g.K.Sink.written l.fn.out) n l.status l.last
+      (ahead l.reader (g.S.Source.left l.input)) (g.K.Sink.written l.out);
   reads : g.S.Source.faults l.input ≡ g.S.Source.faults l.fn.input;
   writes : g.K.Sink.faults l.fn.out ≤ g.K.Sink.faults l.out;
 }

@@ -13,6 +13,7 @@ returns-in-Ok-opened-clause-served g c =
       epoch = c.new.ensures.epoch;
       format = c.new.ensures.format;
       waits = c.new.ensures.waits;
-      opened = subst (HasOpened d.seen d.may_leave d.faults d.moment d.left_since (d.capacity c.args.disk) c.args.tree.now c.args.disk (setup_view c.in-Ok.setup)) (sym c.new.ensures.store) c.in-Ok-opened.ensures.opened;
+      opened = subst (HasOpened d.seen d.may_leave d.faults d.moment d.left_since (d.capacity c.args.disk) c.args.tree.now c.args.disk (setup_view c.in-Ok.setup))
+          (sym c.new.ensures.store) c.in-Ok-opened.ensures.opened;
       ended = c.run.ensures.ended;
     }

@@ -11,7 +11,8 @@ use Rattle.tebaldi_shell.proofs.kept_store.KeptStoreShellStore.history.Goals as 
 pub returns-clause-named : goal.returns-clause-named
 returns-clause-named g c =
     let e = c.engine-engine.result.now in
-    subst (λ (x : EngineModel). length x.store.setup.tree ≡ length x.names.nodes → All (EventNamed x.names) (reverse x.events)) (c.engine-engine.ensures.engine ∙ ap (λ (s : KeptModel _). s.engine) c.self.view_is)
+    subst (λ (x : EngineModel). length x.store.setup.tree ≡ length x.names.nodes → All (EventNamed x.names) (reverse x.events))
+    (c.engine-engine.ensures.engine ∙ ap (λ (s : KeptModel _). s.engine) c.self.view_is)
     (events_named e c.setup-setup.result.now c.setup-setup.ensures.store c.setup-setup.ensures.names c.setup-setup.ensures.whole c.history.ensures.reached)
 
 pub returns-clause-reached : goal.returns-clause-reached
